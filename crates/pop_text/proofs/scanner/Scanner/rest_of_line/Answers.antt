@@ -1,0 +1,44 @@
+use Rattle.std.proofs.Common.{◌∙◌, ap, arith}
+use Rattle.pop_text.specs.Words.{without_trailing}
+use Rattle.pop_text.proofs.Using.{ends_then, failures_then}
+use Rattle.pop_text.proofs.Lines.{line_more, line_ends, input_ends, line_fault, no_ten}
+use Rattle.pop_text.proofs.scanner.Scanner.rest_of_line.Goals as goal
+
+pub line-preserved : goal.line-preserved
+line-preserved g c =
+    let i = c.line.invariant in
+    record {
+      line = rw c.keep.ensures (line_more c.args.self.now c.line.self c.peek.new.self c.advance-in-Ok-Some.new.self (g.S.Source.remaining c.args.source.now) (g.S.Source.remaining c.line.source) (g.S.Source.remaining c.peek.new.source) c.line.kept.items
+          i.line c.peek.ensures.uses c.in-Ok-Some.byte (rw c.in-Ok-Some.field-0-is at c.in-Ok-Some.ensures.at) (no_ten c.in-Ok-Some.byte c.in-Ok-Some.byte-test.1) (c.advance-in-Ok-Some.ensures.uses _));
+      seen = λ s. rw c.advance-in-Ok-Some.ensures.end (c.peek.ensures.seen (i.seen s));
+      ends = rw c.advance-in-Ok-Some.ensures.end (ends_then _ _ _ i.ends c.peek.ensures.ends);
+      counted = rw c.advance-in-Ok-Some.ensures.end (failures_then _ _ _ _ _ _ i.ends c.peek.ensures.ends i.counted c.peek.ensures.counted);
+    }
+
+pub returns-in-Ok-Some-eq10-clause-text : goal.returns-in-Ok-Some-eq10-clause-text
+returns-in-Ok-Some-eq10-clause-text g c keyword =
+    let i = c.line.invariant in
+    let at = rw (c.in-Ok-Some-eq10.field-0-is, c.in-Ok-Some-eq10.field-0-0-test) at c.in-Ok-Some-eq10.ensures.at in (
+      i.line.bytes,
+      line_ends c.args.self.now c.line.self c.peek.new.self c.advance.new.self (g.S.Source.remaining c.args.source.now) (g.S.Source.remaining c.line.source) (g.S.Source.remaining c.peek.new.source) c.line.kept.items
+          i.line c.peek.ensures.uses keyword at (omega (arith, c.advance.ensures.used, at.2)) (c.advance.ensures.uses _),
+      c.trimmed.ensures ∙ ap without_trailing i.line.first,
+      omega (arith, i.line.uses.used, c.peek.ensures.uses.used, c.advance.ensures.used),
+      omega (arith, c.advance.ensures.used, at.2),
+    )
+
+pub returns-in-Ok-None-clause-text : goal.returns-in-Ok-None-clause-text
+returns-in-Ok-None-clause-text g c keyword =
+    let i = c.line.invariant in (
+      i.line.bytes,
+      input_ends c.args.self.now c.line.self c.peek.new.self c.peek.new.self (g.S.Source.remaining c.args.source.now) (g.S.Source.remaining c.line.source) (g.S.Source.remaining c.peek.new.source) c.line.kept.items
+          i.line c.peek.ensures.uses keyword (rw c.in-Ok-None.field-0-is at c.in-Ok-None.ensures.at),
+      c.trimmed-in-Ok-None.ensures ∙ ap without_trailing i.line.first,
+      omega (arith, i.line.uses.used, c.peek.ensures.uses.used),
+      (rw c.in-Ok-None.field-0-is at c.in-Ok-None.ensures.at).2,
+    )
+
+pub returns-in-Err-clause-text : goal.returns-in-Err-clause-text
+returns-in-Err-clause-text g c keyword =
+    line_fault c.args.self.now c.line.self c.peek.new.self c.peek.new.self (g.S.Source.remaining c.args.source.now) (g.S.Source.remaining c.line.source) (g.S.Source.remaining c.peek.new.source) c.line.kept.items
+    c.line.invariant.line c.peek.ensures.uses keyword c.in-Err.fault c.in-Err.ensures.at

@@ -1,0 +1,10 @@
+use Rattle.std.proofs.Common.{◌≡◌, length}
+use Rattle.pop_text.specs.Words.{without_trailing}
+use Rattle.pop_text.proofs.text.Text.trimmed.Given as goal
+
+-- only trailing blanks are gone
+abbrev pub invariant-trim : goal.invariant-trim
+invariant-trim l = without_trailing l.kept.items ≡ without_trailing l.fn.kept.items
+
+abbrev pub decreases-trim : goal.decreases-trim
+decreases-trim l = length l.kept.items

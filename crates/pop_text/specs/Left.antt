@@ -1,0 +1,87 @@
+-- The words still to come from a place, and what a call of the scanner takes of them.
+use Rattle.std.specs.Prelude.{◌≡◌, ◌<◌, ◌≤◌, ℕ, ◌+◌, ◌-◌, List, [], ◌∷◌, ◌++◌, length, take, Option, None, Some, Result, Ok, Err, Bool, true, false}
+use Rattle.pop_text.specs.Bytes.{Consumes}
+use Rattle.pop_text.specs.Words.{Input, Clean, Failed, Words, Token, Word, TextLine, Tail, End as AtEnd, Long, Broken as Failing, limit, words_from, is_text_word, text_of_line}
+use Rattle.pop_text.specs.Reading.{Reading}
+use Rattle.pop_text.specs.declared.scanner.End.{End}
+use Rattle.pop_text.specs.declared.scanner.End.TheVariants.{Open, Ended, Broken}
+use Rattle.pop_text.specs.declared.read_fault.ReadFault.{ReadFault}
+use Rattle.pop_text.specs.declared.read_fault.ReadFault.TheVariants.{TooLong, InputTooLong, Device}
+use Rattle.pop_text.specs.declared.word.Word.{Word as Read}
+use Rattle.pop_text.specs.declared.text.Text.{Text}
+
+-- the input that begins with these bytes and goes on so
+abbrev pub after : List ℕ → Input → Input
+after bytes rest = record { bytes = bytes ++ rest.bytes; ending = rest.ending }
+
+-- what the source may still give
+abbrev pub MayFollow : End → Input → Type 0
+MayFollow Open rest = Unit {0}
+MayFollow Ended rest = rest ≡ record { bytes = []; ending = Clean }
+MayFollow Broken rest = rest ≡ record { bytes = []; ending = Failed }
+
+-- the words still to come from a place, behind a text word of its line or behind none, where the source goes on so
+abbrev pub words_left : Option (List ℕ) → Reading → Input → Words
+words_left behind place rest = words_from behind (limit - place.used) place.line (after place.window rest)
+
+-- tokens before the words still to come
+abbrev pub put_before : List Token → Words → Words
+put_before tokens words = record { tokens = tokens ++ words.tokens; tail = words.tail; tail_line = words.tail_line }
+
+-- a place, and the text word behind which it is
+pub record Spot : Type 0 where
+  pub behind : Option (List ℕ)
+  pub at : Reading
+
+-- From old to new these tokens were taken: some bytes were taken from the source, and however it goes on, the tokens begin the words still to come.
+pub record Takes (old new : Spot) (had left : Option (List ℕ)) (tokens : List Token) : Type 0 where
+  pub bytes : List ℕ
+  pub taken : Consumes had left bytes
+  pub follows : (rest : Input) → MayFollow new.at.end rest → MayFollow old.at.end (after bytes rest)
+  pub begin : (rest : Input) → MayFollow new.at.end rest → words_left old.behind old.at (after bytes rest) ≡ put_before tokens (words_left new.behind new.at rest)
+  pub amount : length bytes + (old.at.used + length old.at.window) ≡ new.at.used + length new.at.window
+
+abbrev pub among : Reading → Spot
+among place = record { behind = None; at = place }
+
+abbrev pub behind_word : List ℕ → Reading → Spot
+behind_word keyword place = record { behind = Some keyword; at = place }
+
+-- no word is still to come
+abbrev pub no_words : Tail → ℕ → Words
+no_words tail line = record { tokens = []; tail = tail; tail_line = line }
+
+-- however the source goes on, the input ends here so
+abbrev pub IsOver : Reading → Tail → Type 0
+IsOver place tail = (rest : Input) → MayFollow place.end rest → words_left None place rest ≡ no_words tail place.line
+
+-- a word was taken, or the place is now behind it if it is a text word
+abbrev pub TakesWord : Bool → Reading → Reading → Option (List ℕ) → Option (List ℕ) → ℕ → List ℕ → Type 0
+TakesWord true old new had left line text = Takes (among old) (behind_word text new) had left []
+TakesWord false old new had left line text = Takes (among old) (among new) had left (Word line text ∷ [])
+
+abbrev pub TakesNone : Spot → Reading → Option (List ℕ) → Option (List ℕ) → ReadFault → Type 0
+TakesNone old new had left (TooLong line) = ⊥
+TakesNone old new had left (InputTooLong line) = Takes old (among new) had left [] × IsOver new Long × (line ≡ new.line)
+TakesNone old new had left (Device line) = Takes old (among new) had left [] × IsOver new Failing × (line ≡ new.line)
+
+-- bytes were used, within the limit
+abbrev pub GoesOn : Reading → Reading → Type 0
+GoesOn old new = (old.used < new.used) × (new.used ≤ limit)
+
+-- what next_word does
+abbrev pub NextWord : Reading → Reading → Option (List ℕ) → Option (List ℕ) → Result (Option Read) ReadFault → Type 0
+NextWord old new had left (Ok None) = Takes (among old) (among new) had left [] × IsOver new AtEnd
+NextWord old new had left (Ok (Some word)) = TakesWord (is_text_word word.bytes.items) old new had left word.line word.bytes.items × (0 < length word.bytes.items) × GoesOn old new
+NextWord old new had left (Err (TooLong line)) = (text : List ℕ) × (160 < length text) × Takes (among old) (among new) had left (Word line text ∷ []) × GoesOn old new
+NextWord old new had left (Err (InputTooLong line)) = TakesNone (among old) new had left (InputTooLong line)
+NextWord old new had left (Err (Device line)) = TakesNone (among old) new had left (Device line)
+
+-- the bytes of a text
+abbrev pub bytes_of : Text → List ℕ
+bytes_of text = take text.length text.cells
+
+-- what rest_of_line does behind a text word, whichever it is
+abbrev pub RestOfLine : List ℕ → Reading → Reading → Option (List ℕ) → Option (List ℕ) → Result Text ReadFault → Type 0
+RestOfLine keyword old new had left (Ok text) = (line : List ℕ) × Takes (behind_word keyword old) (among new) had left (TextLine old.line keyword line ∷ []) × (bytes_of text ≡ text_of_line line) × (old.used ≤ new.used) × (new.used ≤ limit)
+RestOfLine keyword old new had left (Err fault) = TakesNone (behind_word keyword old) new had left fault

@@ -1,0 +1,43 @@
+-- What a scanner has read and not used.
+use Rattle.std.specs.Prelude.{◌≡◌, ℕ, ◌+◌, List, [], ◌++◌, length, count_by, Option, Bool, true, ◌⊎◌}
+use Rattle.std.specs.List.{list_all}
+use Rattle.pop_text.specs.Words.{is_line_end}
+use Rattle.pop_text.specs.Bytes.{Consumes, IsAtEnd}
+use Rattle.pop_text.specs.declared.scanner.End.{End}
+use Rattle.pop_text.specs.declared.scanner.End.TheVariants.{Open, Ended, Broken}
+
+-- the bytes that were taken and are not used, how many are used, the line of the next byte, and how the input ends as far as that is known
+pub record Reading : Type 0 where
+  pub window : List ℕ
+  pub used : ℕ
+  pub line : ℕ
+  pub end : End
+
+abbrev pub beginning : Reading
+beginning = record { window = []; used = 0; line = 1; end = Open }
+
+-- Between old and new these bytes were used: some bytes were taken from the source, and the unread bytes begin with those used.
+pub record Uses (old new : Reading) (had left : Option (List ℕ)) (bytes : List ℕ) : Type 0 where
+  pub taken : List ℕ
+  pub consumed : Consumes had left taken
+  pub unread : old.window ++ taken ≡ bytes ++ new.window
+  pub used : new.used ≡ old.used + length bytes
+  pub line : new.line ≡ old.line + count_by is_line_end bytes
+  pub still : old.end ≡ Open ⊎ ((taken ≡ []) × (new.end ≡ old.end))
+
+-- Between old and new bytes were used that pass the test.
+pub record UsesAll (test : ℕ → Bool) (old new : Reading) (had left : Option (List ℕ)) : Type 0 where
+  pub bytes : List ℕ
+  pub all : list_all test bytes ≡ true
+  pub uses : Uses old new had left bytes
+
+-- a seen end is one
+abbrev pub IsSeen : End → Option (List ℕ) → Type 0
+IsSeen Open left = Unit {0}
+IsSeen Ended left = IsAtEnd left
+IsSeen Broken left = Unit {0}
+
+-- the count of failures grows where the input breaks off
+abbrev pub failures_after : End → End → ℕ → ℕ
+failures_after Open Broken n = n + 1
+failures_after _ _ n = n

@@ -1,0 +1,43 @@
+-- The next word.
+use Rattle.std.specs.Prelude.{◌≡◌, ◌<◌, ◌≤◌, ℕ, ◌+◌, List, [], ◌∷◌, ◌++◌, length, take, nat_lt, Option, Some, None, Result, Ok, Err, Bool, true, ◌⊎◌}
+use Rattle.std.specs.List.{list_all}
+use Rattle.pop_text.specs.Reading.{Reading, Uses, UsesAll}
+use Rattle.pop_text.specs.Words.{is_line_end, is_gap, is_in_word, limit}
+use Rattle.pop_text.specs.declared.scanner.End.TheVariants.{Ended, Broken}
+use Rattle.pop_text.specs.declared.read_fault.ReadFault.{ReadFault}
+use Rattle.pop_text.specs.declared.read_fault.ReadFault.TheVariants.{TooLong, InputTooLong, Device}
+use Rattle.std.specs.Prelude.{count_by}
+
+-- what stands at the place
+abbrev pub Peeks : Reading → Result (Option ℕ) ReadFault → Type 0
+Peeks new (Ok (Some b)) = (rest : List ℕ) × (new.window ≡ b ∷ rest) × (new.used < limit)
+Peeks new (Ok None) = (new.window ≡ []) × (new.end ≡ Ended) × (new.used ≤ limit)
+Peeks new (Err (InputTooLong line)) = (0 < length new.window) × (new.used ≡ limit) × (line ≡ new.line)
+Peeks new (Err (TooLong line)) = ⊥
+Peeks new (Err (Device line)) = (new.window ≡ []) × (new.end ≡ Broken) × (line ≡ new.line) × (new.used ≤ limit)
+
+-- a run is over: a gap follows it, or nothing does
+abbrev pub IsRunOver : Reading → Type 0
+IsRunOver new = ((b : ℕ) × (rest : List ℕ) × (new.window ≡ b ∷ rest) × (is_gap b ≡ true) × (new.used < limit)) ⊎ ((new.window ≡ []) × (new.end ≡ Ended) × (new.used ≤ limit))
+
+-- Bytes of a run were used. The word has the first of them, at most 160, and fits where it has all.
+pub record Runs (old new : Reading) (had left : Option (List ℕ)) (kept : List ℕ) (fits : Bool) : Type 0 where
+  pub run : List ℕ
+  pub all : list_all is_in_word run ≡ true
+  pub uses : Uses old new had left run
+  pub first : kept ≡ take 160 run
+  pub whole : fits ≡ nat_lt (length run) 161
+
+-- a whole run was used, or a beginning of one up to a fault
+abbrev pub RunsTo : Reading → Reading → Option (List ℕ) → Option (List ℕ) → List ℕ → Result Bool ReadFault → Type 0
+RunsTo old new had left kept (Ok fits) = Runs old new had left kept fits × IsRunOver new
+RunsTo old new had left kept (Err fault) = UsesAll is_in_word old new had left × Peeks new (Err fault)
+
+-- a gap and a run behind it were used
+pub record UsesRun (old new : Reading) (had left : Option (List ℕ)) (number : ℕ) : Type 0 where
+  pub gap : List ℕ
+  pub run : List ℕ
+  pub blank : list_all is_gap gap ≡ true
+  pub solid : list_all is_in_word run ≡ true
+  pub uses : Uses old new had left (gap ++ run)
+  pub line : number ≡ old.line + count_by is_line_end gap

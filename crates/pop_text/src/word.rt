@@ -1,0 +1,9 @@
+//! A word of the input.
+use arrayvec::ArrayVec;
+
+/// A word as it was written, and the number of its line, counted from 1.
+#[derive(Drop)]
+pub struct Word {
+    pub bytes: ArrayVec<u8, 160>,
+    pub line: u64,
+}

@@ -1,0 +1,53 @@
+//! A writer of the standard library as a sink.
+ghost use Rattle.std.specs.Prelude.{◌≡◌, ℕ, List, ◌<◌, ◌≤◌, ◌+◌, ◌^◌, ◌-◌, Option, IfOk, IsOk, IsErr, OnErr, OnOk, length};
+ghost use Rattle.std.specs.Io.{WritesAtMost};
+ghost use Rattle.pop_text.specs.Bytes.{Keeps, Appends, WriteAppends, count_after, greatest, Writes, joined};
+
+use crate::sink::{Sink, SinkFault};
+use std::io::Write;
+
+/// Any writer of the standard library, with a count of failures. An interrupted call is a failure,
+/// and so is one that takes nothing of a text.
+#[derive(Drop)]
+pub struct WriteSink<W> {
+    writer: W,
+    failures: u64,
+}
+
+impl<W: Write + Drop> WriteSink<W> {
+    pub fn new(writer: W) -> WriteSink<W>
+        ensures taken { ⟦<WriteSink<W> as Sink>⟧.taken result ≡ W.contents writer }
+        ensures failures { ⟦<WriteSink<W> as Sink>⟧.failures result ≡ 0 }
+    {
+        WriteSink {
+            writer,
+            failures: 0,
+        }
+    }
+
+    pub fn into_inner(self) -> W
+        ensures { W.contents result ≡ ⟦<WriteSink<W> as Sink>⟧.taken self }
+    {
+        let WriteSink {
+            writer,
+            failures: _,
+        } = self;
+        writer
+    }
+}
+
+impl<W: Write + Drop> Sink for WriteSink<W> {
+    ghost taken = { λ s. W.contents s.writer };
+
+    ghost failures = { λ s. s.failures };
+
+    fn write(&mut self, text: &[u8]) -> Result<usize, SinkFault> {
+        match self.writer.write(text) {
+            Ok(n) if n > 0 || text.is_empty() => Ok(n),
+            _ => {
+                self.failures += 1;
+                Err(SinkFault)
+            }
+        }
+    }
+}
