@@ -1,0 +1,2 @@
+pub mod Stipulations
+pub mod Posed

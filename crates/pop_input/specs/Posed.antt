@@ -1,0 +1,42 @@
+-- A problem as it is posed.
+use Rattle.std.specs.Prelude.{◌≡◌, ◌≤◌, ℕ, Bool, true, false, Option, Some, None, is_some}
+use Rattle.chess_core.specs.Diagrams.{Setup, position_of}
+use Rattle.chess_core.specs.Position.{king_square, other}
+use Rattle.chess_core.specs.WellFormed.{IsWellFormed}
+use Rattle.chess_rules.specs.Attacks.{in_check}
+use Rattle.chess_rules.specs.RuleSet.{RuleSet, orthodox, circe, madrasi}
+use Rattle.pop_text.specs.declared.text.Text.{Text}
+use Rattle.pop_input.specs.Stipulations.{starts, mated, is_in_range}
+use Rattle.pop_input.specs.declared.condition.Condition.{Condition}
+use Rattle.pop_input.specs.declared.condition.Condition.TheVariants.{Circe, Madrasi}
+use Rattle.pop_input.specs.declared.stipulation.Stipulation.{Stipulation}
+
+-- all that a problem says
+pub record Posed : Type 0 where
+  pub diagram : Setup
+  pub stipulation : Stipulation
+  pub condition : Option Condition
+  pub set_play : Bool
+  pub variation : Bool
+  pub no_board : Bool
+  pub max_solutions : ℕ
+  pub title : Text
+  pub author : Text
+
+-- the rules under which a condition has a problem played
+abbrev pub rule_of : Option Condition → RuleSet
+rule_of None = orthodox
+rule_of (Some Circe) = circe
+rule_of (Some Madrasi) = madrasi
+
+-- What holds of every problem that is read: a position to play from, the side to move and the number of moves as the
+-- stipulation has them, a limit of solutions from 1 to 4,000,000,000 (own), a king of the side that is to be mated, and
+-- no check to the side that isn't to move (FIDE Laws 3.9), under the problem's condition.
+pub record IsSound (posed : Posed) : Type 0 where
+  pub well_formed : IsWellFormed (position_of posed.diagram)
+  pub turn : posed.diagram.turn ≡ starts posed.stipulation.form
+  pub range : is_in_range posed.stipulation ≡ true
+  pub some_solution : 1 ≤ posed.max_solutions
+  pub limit : posed.max_solutions ≤ 4000000000
+  pub mated : is_some (king_square posed.diagram.men (mated posed.stipulation.form)) ≡ true
+  pub quiet : in_check (rule_of posed.condition) posed.diagram.men (other posed.diagram.turn) ≡ false

@@ -1,0 +1,62 @@
+-- What the forms of stipulation say (Codex; Popeye manual; the range of n is this project's own).
+use Rattle.std.specs.Prelude.{ℕ, ◌+◌, ◌-◌, ◌*◌, nat_le, Bool, true, false, ◌&&◌}
+use Rattle.chess_core.specs.declared.man.Colour.{Colour}
+use Rattle.chess_core.specs.declared.man.Colour.TheVariants.{White, Black}
+use Rattle.pop_input.specs.declared.stipulation.Form.{Form}
+use Rattle.pop_input.specs.declared.stipulation.Form.TheVariants.{Direct, SelfMate, Help, HelpHalf}
+use Rattle.pop_input.specs.declared.stipulation.Stipulation.{Stipulation}
+
+-- both sides help
+abbrev pub is_help : Form → Bool
+is_help Direct = false
+is_help SelfMate = false
+is_help Help = true
+is_help HelpHalf = true
+
+-- White is to be mated
+abbrev pub is_selfmate : Form → Bool
+is_selfmate Direct = false
+is_selfmate SelfMate = true
+is_selfmate Help = false
+is_selfmate HelpHalf = false
+
+-- the side that makes the first half-move of the play
+abbrev pub starts : Form → Colour
+starts Direct = White
+starts SelfMate = White
+starts Help = Black
+starts HelpHalf = White
+
+-- the side that is to be mated
+abbrev pub mated : Form → Colour
+mated Direct = Black
+mated SelfMate = White
+mated Help = Black
+mated HelpHalf = Black
+
+-- the number of the play's first half-move: 2 where Black's half of the first move is left out
+abbrev pub first_half : Form → ℕ
+first_half Direct = 1
+first_half SelfMate = 1
+first_half Help = 1
+first_half HelpHalf = 2
+
+-- the half-moves of a form with this number of moves
+abbrev pub half_moves_of : Form → ℕ → ℕ
+half_moves_of Direct n = 2 * n - 1
+half_moves_of SelfMate n = 2 * n
+half_moves_of Help n = 2 * n
+half_moves_of HelpHalf n = 2 * n + 1
+
+abbrev pub half_moves : Stipulation → ℕ
+half_moves stipulation = half_moves_of stipulation.form stipulation.n
+
+-- the numbers that a form may have
+abbrev pub may_have : Form → ℕ → Bool
+may_have Direct n = nat_le 1 n && nat_le n 8
+may_have SelfMate n = nat_le 1 n && nat_le n 8
+may_have Help n = nat_le 1 n && nat_le n 8
+may_have HelpHalf n = nat_le n 7
+
+abbrev pub is_in_range : Stipulation → Bool
+is_in_range stipulation = may_have stipulation.form stipulation.n

@@ -1,0 +1,104 @@
+//! A sound problem.
+ghost use Rattle.std.specs.Prelude.{◌≡◌};
+ghost use Rattle.pop_input.specs.Posed.{IsSound};
+
+use crate::condition::Condition;
+use crate::stipulation::Stipulation;
+use chess_core::diagram::Diagram;
+use pop_text::text::Text;
+use std::marker::Model;
+
+/// A problem that was read without a fault: it can be set up and solved.
+/// Contracts see the record `Posed`, and `IsSound` holds of each.
+#[derive(Clone, Copy)]
+pub struct Problem {
+    setup: Diagram,
+    aim: Stipulation,
+    fairy: Option<Condition>,
+    with_set_play: bool,
+    with_variation: bool,
+    without_board: bool,
+    limit: u32,
+    named: Text,
+    composer: Text,
+}
+
+impl Model for Problem {
+    ghost use Rattle.pop_input.specs.Posed.{IsSound, Posed};
+
+    ghost Value = { Posed };
+
+    ghost view = { λ p. record { diagram = p.setup; stipulation = p.aim; condition = p.fairy; set_play = p.with_set_play; variation = p.with_variation; no_board = p.without_board; max_solutions = p.limit; title = p.named; author = p.composer } };
+
+    ghost invariant = { λ p. IsSound (record { diagram = p.setup; stipulation = p.aim; condition = p.fairy; set_play = p.with_set_play; variation = p.with_variation; no_board = p.without_board; max_solutions = p.limit; title = p.named; author = p.composer }) };
+
+    ghost inverse = { λ v. record { setup = v.diagram; aim = v.stipulation; fairy = v.condition; with_set_play = v.set_play; with_variation = v.variation; without_board = v.no_board; limit = v.max_solutions; named = v.title; composer = v.author } };
+}
+
+impl Problem {
+    /// The men, the side that starts, the castling squares that count as unmoved, and the square that a pawn has just crossed.
+    pub fn diagram(&self) -> Diagram
+        ensures diagram { result ≡ self.now.diagram }
+        ensures sound { IsSound self.now }
+    {
+        self.setup
+    }
+
+    /// What is asked for.
+    pub fn stipulation(&self) -> Stipulation
+        ensures stipulation { result ≡ self.now.stipulation }
+        ensures sound { IsSound self.now }
+    {
+        self.aim
+    }
+
+    /// The condition, if there is one.
+    pub fn condition(&self) -> Option<Condition>
+        ensures { result ≡ self.now.condition }
+    {
+        self.fairy
+    }
+
+    /// Whether set play comes before the play.
+    pub fn set_play(&self) -> bool
+        ensures { result ≡ self.now.set_play }
+    {
+        self.with_set_play
+    }
+
+    /// Whether the defences are shown, and what follows on them.
+    pub fn variation(&self) -> bool
+        ensures { result ≡ self.now.variation }
+    {
+        self.with_variation
+    }
+
+    /// Whether the board is left out.
+    pub fn no_board(&self) -> bool
+        ensures { result ≡ self.now.no_board }
+    {
+        self.without_board
+    }
+
+    /// After how many solutions a phase ends: 1 to 4,000,000,000, the greatest where nothing was said.
+    pub fn max_solutions(&self) -> u32
+        ensures limit { result ≡ self.now.max_solutions }
+        ensures sound { IsSound self.now }
+    {
+        self.limit
+    }
+
+    /// The last title, empty where there is none.
+    pub fn title(&self) -> &Text
+        ensures { result.now ≡ self.now.title }
+    {
+        &self.named
+    }
+
+    /// The last author, empty where there is none.
+    pub fn author(&self) -> &Text
+        ensures { result.now ≡ self.now.author }
+    {
+        &self.composer
+    }
+}
