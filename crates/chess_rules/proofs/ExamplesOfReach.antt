@@ -1,0 +1,47 @@
+-- How men go and give check, computed from the definitions.
+use Rattle.std.proofs.Common.{true, false, List, [], ◌∷◌, Option, ◌≡◌, refl}
+use Rattle.chess_core.specs.Position.{king_square, with_man}
+use Rattle.chess_core.specs.Squares.{squares, some_square}
+use Rattle.chess_core.specs.Steps.{along}
+use Rattle.chess_core.specs.declared.man.Colour.TheVariants.{White, Black}
+use Rattle.chess_core.specs.declared.man.Man.{Man}
+use Rattle.chess_core.specs.declared.man.Kind.TheVariants.{King, Rook, Knight, Pawn, Grasshopper, Nightrider}
+use Rattle.chess_rules.specs.Attacks.{attacked, faces, faces_its_like, in_check, paralysed, strikes}
+use Rattle.chess_rules.specs.Reaches.{hops, is_clear, leaps, reaches, reaches_as, rides}
+use Rattle.chess_rules.specs.RuleSet.{madrasi, orthodox}
+use Rattle.chess_rules.proofs.Typed.{man, on, set_up}
+use Rattle.chess_rules.proofs.SquareNames.{a1, e1, f1, a3, d3, a4, e4, a5, d5, e5, a6, d7, b8}
+
+-- White rook a1 and grasshopper a4, Black king e1
+abbrev three : List (Option Man)
+three = set_up (on White Rook a1 ∷ on White Grasshopper a4 ∷ on Black King e1 ∷ [])
+
+-- the rook gets to the king, and not past it
+rook_rides : (reaches three a1 e1 ≡ true) × (reaches three a1 f1 ≡ false)
+unfolding reaches reaches_as rides hops leaps is_clear along
+rook_rides = (refl, refl)
+
+-- the grasshopper has nothing to hop over towards a6; with a pawn on a5 it gets there
+grasshopper_hops : (reaches three a4 a6 ≡ false) × (reaches (with_man three a5 (man Black Pawn)) a4 a6 ≡ true)
+unfolding reaches reaches_as rides hops leaps is_clear along
+grasshopper_hops = (refl, refl)
+
+-- a nightrider rides from a1 over b3 and c5 to d7
+nightrider_rides : reaches (with_man three a1 (man White Nightrider)) a1 d7 ≡ true
+unfolding reaches reaches_as rides hops leaps is_clear along
+nightrider_rides = refl
+
+-- a white pawn on e4 reaches d5 and f5, and neither e5 nor d3
+pawn_captures_forward : (reaches (set_up (on White Pawn e4 ∷ [])) e4 d5 ≡ true) × (reaches (set_up (on White Pawn e4 ∷ [])) e4 e5 ≡ false) × (reaches (set_up (on White Pawn e4 ∷ [])) e4 d3 ≡ false)
+unfolding reaches reaches_as rides hops leaps is_clear along
+pawn_captures_forward = (refl, refl, refl)
+
+-- the rook gives check to the king; in Madrasi too where a black rook on b8 is far from it
+rook_checks : (in_check orthodox three Black ≡ true) × (in_check madrasi (with_man three b8 (man Black Rook)) Black ≡ true)
+unfolding reaches reaches_as rides hops leaps is_clear along squares some_square king_square faces_its_like faces strikes paralysed attacked in_check
+rook_checks = (refl, refl)
+
+-- but not where a black rook on a3 paralyses it
+paralysed_rook : in_check madrasi (with_man (with_man three a4 (man White Knight)) a3 (man Black Rook)) Black ≡ false
+unfolding reaches reaches_as rides hops leaps is_clear along squares some_square king_square faces_its_like faces strikes paralysed attacked in_check
+paralysed_rook = refl

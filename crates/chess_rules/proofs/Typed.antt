@@ -1,0 +1,43 @@
+-- Positions and moves typed in for the examples.
+use Rattle.std.proofs.Common.{ℕ, false, List, [], ◌∷◌, Option, Some, None}
+use Rattle.std.specs.List.{repeat}
+use Rattle.chess_core.specs.Castling.{none_unmoved}
+use Rattle.chess_core.specs.Position.{Position, with_man}
+use Rattle.chess_core.specs.declared.man.Colour.{Colour}
+use Rattle.chess_core.specs.declared.man.Kind.{Kind}
+use Rattle.chess_core.specs.declared.man.Man.{Man}
+use Rattle.chess_core.specs.declared.man.Move.{Move}
+
+abbrev pub man : Colour → Kind → Man
+man c k = record { colour = c; kind = k }
+
+-- a man on a square
+pub record Placed : Type 0 where
+  pub square : ℕ
+  pub man : Man
+
+-- a man of colour c and kind k on square s
+abbrev pub on : Colour → Kind → ℕ → Placed
+on c k s = record { square = s; man = man c k }
+
+-- these men on the empty board
+abbrev pub set_up : List Placed → List (Option Man)
+set_up [] = repeat 64 (None ∷ [])
+set_up (x ∷ xs) = with_man (set_up xs) x.square x.man
+
+-- these men, with a side to move and nothing else
+abbrev pub position : List Placed → Colour → Position
+position xs c = record {
+  men = set_up xs;
+  turn = c;
+  unmoved = none_unmoved;
+  crossed = None;
+  grasshoppers = false;
+  nightriders = false;
+}
+
+abbrev pub go : ℕ → ℕ → Move
+go a b = record { from = a; to = b; promo = None }
+
+abbrev pub promoting : ℕ → ℕ → Kind → Move
+promoting a b k = record { from = a; to = b; promo = Some k }
