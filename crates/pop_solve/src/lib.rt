@@ -1,0 +1,5 @@
+//! The search for the solutions of a chess problem: help play, direct mate and selfmate over one board and explicit frames.
+#![tactic(auto)]
+
+pub mod event;
+pub mod shown;
