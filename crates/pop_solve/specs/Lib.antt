@@ -1,1 +1,8 @@
+pub mod Game
+pub mod Tree
 pub mod Shown
+pub mod Chess
+pub mod Problems
+pub mod Events
+pub mod Values
+pub mod Frames

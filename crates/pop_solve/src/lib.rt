@@ -1,5 +1,8 @@
 //! The search for the solutions of a chess problem: help play, direct mate and selfmate over one board and explicit frames.
 #![tactic(auto)]
 
+mod chess;
 pub mod event;
+pub mod frame;
+pub mod problem;
 pub mod shown;

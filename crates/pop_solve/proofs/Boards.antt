@@ -1,0 +1,18 @@
+-- What the calls of the rules say in the words of the search.
+use Rattle.std.proofs.Common.{◌≡◌, not, eqb, List, [], ◌∷◌, length, refl, arith}
+use Rattle.std.proofs.lemmas.Bool.Decides.{nat_tests}
+use Rattle.chess_core.specs.Position.{Position}
+use Rattle.chess_core.specs.Triple.{Triple}
+use Rattle.chess_rules.specs.Legal.{is_nil, moves}
+use Rattle.chess_rules.specs.RuleSet.{RuleSet}
+use Rattle.pop_solve.specs.Chess.{chess}
+use Rattle.pop_solve.specs.Game.{can_move}
+
+is_nil-length : (ms : List Triple) → not (is_nil ms) ≡ not (eqb (length ms) 0)
+is_nil-length [] = refl
+is_nil-length (m ∷ ms) = grind (arith, nat_tests)
+
+pub can_move-is : (rule : RuleSet) (p : Position) → not (is_nil (moves rule p)) ≡ can_move (chess rule) p
+can_move-is rule p = is_nil-length (moves rule p)
+
+pub ruleset some_move = (can_move-is)

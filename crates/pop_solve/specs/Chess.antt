@@ -1,0 +1,80 @@
+-- Chess as a game of two sides, and how its moves are shown.
+use Rattle.std.specs.Prelude.{ℕ, Bool, false, not, ◌&&◌, nat_lt, Option, Some, None, is_some, if◌then◌else◌}
+use Rattle.chess_core.specs.Position.{Position, man_on, other}
+use Rattle.chess_core.specs.Triple.{Triple}
+use Rattle.chess_core.specs.declared.man.Colour.TheVariants.{White}
+use Rattle.chess_core.specs.declared.man.Kind.TheVariants.{King}
+use Rattle.chess_core.specs.declared.man.Man.{Man}
+use Rattle.chess_rules.specs.Attacks.{in_check}
+use Rattle.chess_rules.specs.Legal.{is_goal, moves}
+use Rattle.chess_rules.specs.Loss.{Loss}
+use Rattle.chess_rules.specs.Play.{after, is_castling, undo_of}
+use Rattle.chess_rules.specs.RuleSet.{RuleSet}
+use Rattle.pop_solve.specs.Game.{Game}
+use Rattle.pop_solve.specs.Shown.{Shown}
+use Rattle.pop_solve.specs.declared.shown.Mark.{Mark}
+use Rattle.pop_solve.specs.declared.shown.Mark.TheVariants.{Plain, Check, Mate}
+use Rattle.pop_solve.specs.declared.shown.Side.{Side}
+use Rattle.pop_solve.specs.declared.shown.Side.TheVariants.{A, H}
+
+-- chess under a set of rules, played for mate
+abbrev pub chess : RuleSet → Game Position Triple
+chess rule = record { moves = moves rule; after = after rule; goal = is_goal rule }
+
+-- what a move has done to the side that is to move in q
+unfoldable pub mark_of : RuleSet → Position → Mark
+mark_of rule q = if is_goal rule q then Mate else (if in_check rule q.men q.turn then Check else Plain)
+
+-- to which side the man castles, if it does
+abbrev pub castling_side : Man → Triple → Option Side
+castling_side x m = if is_castling x m then Some (if nat_lt m.from m.to then H else A) else None
+
+-- the reborn man and his square, if he is reborn
+abbrev pub reborn : Option Man → Option ℕ → Option (Man × ℕ)
+reborn (Some y) (Some r) = Some (y, r)
+reborn _ _ = None
+
+-- the move of x, where `there` stands on the arrival before it, `lost` is what the move destroys and `mark` its mark:
+-- en passant a man is captured, but not on the arrival
+abbrev pub shown_by : Man → Option Man → Triple → Loss → Mark → Shown
+shown_by x there m lost mark = record {
+  man = x;
+  from = m.from;
+  to = m.to;
+  capture = is_some lost.captured;
+  ep = is_some lost.captured && not (is_some there);
+  promo = m.promo;
+  castling = castling_side x m;
+  rebirth = reborn lost.captured lost.rebirth;
+  mark = mark;
+}
+
+-- the move of no man, which never is shown
+abbrev pub nothing_shown : Shown
+nothing_shown = record {
+  man = record { colour = White; kind = King };
+  from = 0;
+  to = 0;
+  capture = false;
+  ep = false;
+  promo = None;
+  castling = None;
+  rebirth = None;
+  mark = Plain;
+}
+
+unfoldable pub shown_of : Option Man → Option Man → Triple → Loss → Mark → Shown
+shown_of None there m lost mark = nothing_shown
+shown_of (Some x) there m lost mark = shown_by x there m lost mark
+
+-- the move m as it is shown, read off the position before it and the position after it
+unfoldable pub show : RuleSet → Position → Triple → Shown
+show rule p m = shown_of (man_on p.men m.from) (man_on p.men m.to) m (undo_of rule p m) (mark_of rule (after rule p m))
+
+-- the first position of set play: the other side is to move, and no square is crossed
+abbrev pub set_start : Position → Position
+set_start p = record p { turn = other p.turn; crossed = None }
+
+-- whether it can't stand: the side that isn't to move is in check
+unfoldable pub is_impossible : RuleSet → Position → Bool
+is_impossible rule p = in_check rule p.men (other p.turn)

@@ -1,0 +1,134 @@
+-- The events of a problem.
+use Rattle.std.specs.Prelude.{◌≡◌, ℕ, ◌+◌, ◌-◌, ◌==◌, Bool, true, false, ◌&&◌, if◌then◌else◌, List, [], ◌∷◌, ◌++◌, map, take, length}
+use Rattle.std.specs.List.{flat_map}
+use Rattle.chess_core.specs.Diagrams.{position_of}
+use Rattle.chess_core.specs.Position.{Position}
+use Rattle.chess_core.specs.Triple.{Triple}
+use Rattle.chess_rules.specs.RuleSet.{RuleSet}
+use Rattle.pop_solve.specs.Game.{help_lines, reach, walk_count}
+use Rattle.pop_solve.specs.Tree.{tree, set_tree}
+use Rattle.pop_solve.specs.Problems.{Posed, is_help, is_selfmate, first_half, half_moves, rule_of}
+use Rattle.pop_solve.specs.Chess.{chess, is_impossible, nothing_shown, set_start, show}
+use Rattle.pop_solve.specs.Shown.{Shown}
+use Rattle.pop_solve.specs.declared.event.Event.{Event}
+use Rattle.pop_solve.specs.declared.event.Event.TheVariants.{Phase, Line, Node, Impossible, Total}
+use Rattle.pop_solve.specs.declared.event.Phase.TheVariants.{Set, Play}
+
+-- what a search gives, before it is shown; a path stands with its phase, true for set play
+pub data Step : Type 0 where
+  phase : Bool → Step
+  impossible : Step
+  line : Bool → List Triple → Step
+  tree_node : Bool → List Triple → Step
+  total : ℕ → Bool → Step
+
+-- the first position of the play
+abbrev pub start : Posed → Position
+start problem = position_of problem.diagram
+
+-- the first position of a phase
+abbrev pub phase_start : Posed → Bool → Position
+phase_start problem in_set = if in_set then set_start (start problem) else start problem
+
+-- its half-moves: set play drops the first
+abbrev pub phase_half_moves : Posed → Bool → ℕ
+phase_half_moves problem in_set = if in_set then half_moves problem - 1 else half_moves problem
+
+-- its solutions, each a list of paths: a line, or a node with all below it
+unfoldable pub solutions : RuleSet → Posed → Bool → List (List (List Triple))
+solutions rule problem in_set =
+    let h = phase_half_moves problem in_set in
+    let p = phase_start problem in_set in
+    if is_help problem.stipulation.form then map (λ path. path ∷ []) (help_lines (chess rule) h p)
+    else (if in_set then set_tree (is_selfmate problem.stipulation.form) (chess rule) problem.variation problem.stipulation.n h p
+    else tree (is_selfmate problem.stipulation.form) (chess rule) problem.variation problem.stipulation.n h p)
+
+-- a phase with set play's first position is barred where that can't stand
+abbrev pub is_barred : RuleSet → Posed → Bool → Bool
+is_barred rule problem in_set = in_set && is_impossible rule (set_start (start problem))
+
+-- a path as a step
+abbrev pub step_of : Posed → Bool → List Triple → Step
+step_of problem in_set path = if is_help problem.stipulation.form then line in_set path else tree_node in_set path
+
+-- how many solutions a phase has, up to the limit
+abbrev pub counted : RuleSet → Posed → Bool → ℕ
+counted rule problem in_set = length (take problem.max_solutions (solutions rule problem in_set))
+
+-- a phase: its name; then that it is barred, or its first solutions, whole, and their number
+unfoldable pub phase_steps : RuleSet → Posed → Bool → List Step
+phase_steps rule problem in_set =
+    phase in_set ∷ (if is_barred rule problem in_set then impossible ∷ []
+    else map (step_of problem in_set) (flat_map (λ solution. solution) (take problem.max_solutions (solutions rule problem in_set)))
+    ++ total (counted rule problem in_set) (counted rule problem in_set == problem.max_solutions) ∷ [])
+
+-- the steps from a phase on
+abbrev pub steps_from : RuleSet → Posed → Bool → List Step
+steps_from rule problem in_set =
+    if in_set then phase_steps rule problem true ++ phase_steps rule problem false else phase_steps rule problem false
+
+-- all steps of a problem
+abbrev pub events : RuleSet → Posed → List Step
+events rule problem = steps_from rule problem problem.set_play
+
+-- the moves of a path from p as they are shown, and the last of them
+abbrev pub shown_along : RuleSet → Position → List Triple → List Shown
+shown_along rule p [] = []
+shown_along rule p (m ∷ path) = show rule p m ∷ shown_along rule ((chess rule).after p m) path
+
+abbrev pub shown_last : RuleSet → Position → List Triple → Shown
+shown_last rule p [] = nothing_shown
+shown_last rule p (m ∷ []) = show rule p m
+shown_last rule p (m ∷ (n ∷ path)) = shown_last rule ((chess rule).after p m) (n ∷ path)
+
+-- the number of a phase's first half-move
+abbrev pub phase_half : Posed → Bool → ℕ
+phase_half problem in_set = if in_set then first_half problem.stipulation.form + 1 else first_half problem.stipulation.form
+
+-- the event of a step
+abbrev pub event_of : RuleSet → Posed → Step → Event
+event_of rule problem (phase in_set) = Phase (if in_set then Set else Play)
+event_of rule problem impossible = Impossible
+event_of rule problem (line in_set path) =
+    Line (phase_half problem in_set) (record { items = shown_along rule (phase_start problem in_set) path })
+event_of rule problem (tree_node in_set path) =
+    Node (length path - 1) (phase_half problem in_set + (length path - 1)) (shown_last rule (phase_start problem in_set) path)
+event_of rule problem (total count stopped) = Total count stopped
+
+-- all events of a problem, under its own condition
+unfoldable pub events_of : Posed → List Event
+events_of problem = map (event_of (rule_of problem.condition) problem) (events (rule_of problem.condition) problem)
+
+-- after a step: the board where its path leads, and one frame more than the path has moves
+abbrev pub StandsOn : RuleSet → Posed → Step → Position → ℕ → Type 0
+StandsOn rule problem (phase in_set) board depth = Unit {0}
+StandsOn rule problem impossible board depth = Unit {0}
+StandsOn rule problem (line in_set path) board depth = (board ≡ reach (chess rule) (phase_start problem in_set) path) × (depth ≡ length path + 1)
+StandsOn rule problem (tree_node in_set path) board depth = (board ≡ reach (chess rule) (phase_start problem in_set) path) × (depth ≡ length path + 1)
+StandsOn rule problem (total count stopped) board depth = Unit {0}
+
+-- how many lists of fewer moves than its half-moves a phase has, none where it is barred
+abbrev pub phase_walk : RuleSet → Posed → Bool → ℕ
+phase_walk rule problem in_set =
+    if is_barred rule problem in_set then 0
+    else walk_count (chess rule) (phase_half_moves problem in_set) (phase_start problem in_set)
+
+-- the same of all phases from one on
+abbrev pub walk_from : RuleSet → Posed → Bool → ℕ
+walk_from rule problem in_set =
+    if in_set then phase_walk rule problem true + phase_walk rule problem false else phase_walk rule problem false
+
+abbrev pub whole_walk : RuleSet → Posed → ℕ
+whole_walk rule problem = walk_from rule problem problem.set_play
+
+-- what a contract sees of a search
+pub record Seen : Type 0 where
+  pub problem : Posed
+  -- the steps still to come
+  pub left : List Step
+  -- the position on the board, and the frames in use
+  pub board : Position
+  pub depth : ℕ
+  -- the events given and the frames opened so far, each up to the greatest u64
+  pub given : ℕ
+  pub opened : ℕ

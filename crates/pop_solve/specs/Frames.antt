@@ -1,0 +1,136 @@
+-- What the frames of a search stand for.
+use Rattle.std.specs.Prelude.{◌≡◌, ◌<◌, Bool, true, false, Option, Some, None, ℕ, zero, suc, ◌+◌, ◌≤◌, List, [], ◌∷◌, length, take, drop, reverse}
+use Rattle.std.specs.List.{sum_by}
+use Rattle.chess_core.specs.Position.{Position}
+use Rattle.chess_core.specs.Triple.{Triple}
+use Rattle.chess_core.specs.WellFormed.{IsWellFormed}
+use Rattle.chess_rules.specs.Legal.{legal}
+use Rattle.chess_rules.specs.Loss.{Loss}
+use Rattle.chess_rules.specs.Places.{moves_behind}
+use Rattle.chess_rules.specs.Play.{undo_of}
+use Rattle.chess_rules.specs.RuleSet.{RuleSet}
+use Rattle.pop_solve.specs.Chess.{chess}
+use Rattle.pop_solve.specs.Game.{walk_count}
+use Rattle.pop_solve.specs.Values.{seeks, join, joined}
+use Rattle.pop_solve.specs.Shown.{Shown}
+
+-- a frame: the place up to which the moves of its position have been tried, the move that led there and what it
+-- destroyed, the half-moves that are tried there, and the move as it is shown
+pub record Frame : Type 0 where
+  pub place : ℕ
+  pub by : Triple
+  pub undo : Loss
+  pub left : ℕ
+  pub shown : Shown
+
+-- Frames are listed from the top down. The position on the top frame, the lowest being at p
+unfoldable pub position : RuleSet → Position → List Frame → Position
+position rule p [] = p
+position rule p (f ∷ []) = p
+position rule p (f ∷ (g ∷ below)) = (chess rule).after (position rule p (g ∷ below)) f.by
+
+-- each frame but the lowest is reached by a legal move of the one below, and holds what undoes it
+unfoldable pub IsLinked : RuleSet → Position → List Frame → Type 0
+IsLinked rule p [] = Unit {0}
+IsLinked rule p (f ∷ []) = Unit {0}
+IsLinked rule p (f ∷ (g ∷ below)) =
+    IsWellFormed (position rule p (g ∷ below))
+    × (legal rule (position rule p (g ∷ below)) f.by ≡ true)
+    × (f.undo ≡ undo_of rule (position rule p (g ∷ below)) f.by)
+    × IsLinked rule p (g ∷ below)
+
+-- what the value of the lowest position will be, once that of the top position is known
+unfoldable pub deliver : RuleSet → Bool → Position → List Frame → Bool → Bool
+deliver rule selfmate p [] v = v
+deliver rule selfmate p (f ∷ below) v =
+    deliver rule selfmate p below (join (seeks selfmate f.left) v
+    (joined selfmate (chess rule) f.left (position rule p (f ∷ below)) (moves_behind rule (position rule p (f ∷ below)) f.place)))
+
+-- the same before the next move of the top frame is tried: the answer for its last move may be known
+unfoldable pub pending : RuleSet → Bool → Position → List Frame → Option Bool → Bool
+pending rule selfmate p [] answer = false
+pending rule selfmate p (f ∷ below) (Some v) = deliver rule selfmate p (f ∷ below) v
+pending rule selfmate p (f ∷ below) None =
+    deliver rule selfmate p below
+    (joined selfmate (chess rule) f.left (position rule p (f ∷ below)) (moves_behind rule (position rule p (f ∷ below)) f.place))
+
+-- the steps that a test takes, which falls at each one
+unfoldable pub steps : RuleSet → ℕ → Position → ℕ
+steps rule zero p = 1
+steps rule (suc h) p = 1 + sum_by (λ m. 1 + steps rule h ((chess rule).after p m)) ((chess rule).moves p)
+
+unfoldable pub steps_behind : RuleSet → ℕ → Position → ℕ → ℕ
+steps_behind rule zero p place = 0
+steps_behind rule (suc h) p place =
+    sum_by (λ m. 1 + steps rule h ((chess rule).after p m)) (moves_behind rule p place)
+
+unfoldable pub work : RuleSet → Position → List Frame → ℕ
+work rule p [] = 0
+work rule p (f ∷ below) = 1 + steps_behind rule f.left (position rule p (f ∷ below)) f.place + work rule p below
+
+-- the most frames that the moves behind the places can still open
+unfoldable pub walk_behind : RuleSet → ℕ → Position → ℕ → ℕ
+walk_behind rule zero p place = 0
+walk_behind rule (suc h) p place =
+    sum_by (λ m. walk_count (chess rule) h ((chess rule).after p m)) (moves_behind rule p place)
+
+unfoldable pub to_open : RuleSet → Position → List Frame → ℕ
+to_open rule p [] = 0
+to_open rule p (f ∷ below) =
+    walk_behind rule f.left (position rule p (f ∷ below)) f.place + to_open rule p below
+
+-- from the top down each frame has a half-move to make, and one less than the frame below it
+unfoldable pub IsCut : List Frame → Type 0
+IsCut [] = Unit {0}
+IsCut (f ∷ []) = 0 < f.left
+IsCut (f ∷ (g ∷ below)) = (0 < f.left) × (f.left + 1 ≡ g.left) × IsCut (g ∷ below)
+
+-- the board stands on the top frame of a test
+pub record IsTesting (rule : RuleSet) (p : Position) (frames : List Frame) (board : Position) : Type 0 where
+  pub linked : IsLinked rule p frames
+  pub cut : IsCut frames
+  pub sound : IsWellFormed board
+  pub board_at : board ≡ position rule p frames
+
+-- the move led from the position p to the board, and its undo leads back
+pub record CameBy (rule : RuleSet) (by : Triple) (undo : Loss) (board p : Position) : Type 0 where
+  pub sound : IsWellFormed p
+  pub legal : legal rule p by ≡ true
+  pub led : board ≡ (chess rule).after p by
+  pub undone : undo ≡ undo_of rule p by
+
+-- the same of the move of a frame
+abbrev pub CameFromAt : RuleSet → Frame → Position → Position → Type 0
+CameFromAt rule f board p = CameBy rule f.by f.undo board p
+
+-- it led there from some position
+abbrev pub CameFrom : RuleSet → Frame → Position → Type 0
+CameFrom rule f board = (p : Position) × CameFromAt rule f board p
+
+-- the frames from the floor up, listed from the top down
+unfoldable pub tests : ℕ → List Frame → List Frame
+tests floor frames = reverse (drop floor frames)
+
+-- what one turn of a test leaves: another state with the same value to come, or the value
+pub record Turns (rule : RuleSet) (selfmate : Bool) (floor : ℕ) (p : Position) (old new : List Frame) (was is : Option Bool) (board : Position) (before after : ℕ) : Type 0 where
+  pub testing : IsTesting rule p (tests floor new) board
+  pub same : pending rule selfmate p (tests floor old) was ≡ pending rule selfmate p (tests floor new) is
+  pub falls : work rule p (tests floor new) < work rule p (tests floor old)
+  pub above : floor < length new
+  pub base : take floor new ≡ take floor old
+  pub counted : after + to_open rule p (tests floor new) ≤ before + to_open rule p (tests floor old)
+
+pub record Ends (rule : RuleSet) (selfmate : Bool) (floor : ℕ) (p : Position) (old new : List Frame) (was : Option Bool) (board : Position) (before after : ℕ) (v : Bool) : Type 0 where
+  pub value : pending rule selfmate p (tests floor old) was ≡ v
+  pub back : board ≡ p
+  pub base : new ≡ take floor old
+  pub counted : after ≤ before + to_open rule p (tests floor old)
+
+-- the frame of a position that a move has reached, of which no move has been tried
+abbrev pub opened : Triple → Loss → Shown → ℕ → Frame
+opened by undo shown left = record { place = 0; by = by; undo = undo; left = left; shown = shown }
+
+-- the half-moves left at the top frame
+abbrev pub top_left : List Frame → ℕ
+top_left [] = 0
+top_left (f ∷ below) = f.left

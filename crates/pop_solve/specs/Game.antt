@@ -1,0 +1,62 @@
+-- A game of two sides, by what its solutions are made of: nothing here is chess.
+use Rattle.std.specs.Prelude.{ℕ, zero, suc, ◌+◌, ◌-◌, ◌==◌, Bool, false, not, ◌&&◌, ◌||◌, if◌then◌else◌, List, [], ◌∷◌, map, length}
+use Rattle.std.specs.List.{list_any, list_all, flat_map, sum_by}
+
+-- the legal moves of a position in order, the position after a move, and whether the goal is reached
+pub record Game (P M : Type 0) : Type 0 where
+  pub moves : P → List M
+  pub after : P → M → P
+  pub goal : P → Bool
+
+module _ {P M : Type 0} where
+  -- there is a legal move
+  abbrev pub can_move : Game P M → P → Bool
+  can_move game p = not (length (game.moves p) == 0)
+
+  -- some legal move leads to a position that passes the test
+  abbrev pub some_move : Game P M → (P → Bool) → P → Bool
+  some_move game test p = list_any (λ m. test (game.after p m)) (game.moves p)
+
+  -- every legal move does
+  abbrev pub every_move : Game P M → (P → Bool) → P → Bool
+  every_move game test p = list_all (λ m. test (game.after p m)) (game.moves p)
+
+  -- Direct play. The side to move in q is mated within j further moves of the other side, against every defence
+  unfoldable pub lost : Game P M → ℕ → P → Bool
+  lost game zero q = game.goal q
+  lost game (suc j) q = game.goal q || (can_move game q && every_move game (some_move game (lost game j)) q)
+
+  -- the side to move in p mates within k moves
+  unfoldable pub wins : Game P M → ℕ → P → Bool
+  wins game zero p = false
+  wins game (suc k) p = some_move game (lost game k) p
+
+  -- Selfmate. The side to move in p forces the other side to reach the goal within k moves
+  unfoldable pub self_wins : Game P M → ℕ → P → Bool
+  self_wins game zero p = false
+  self_wins game (suc k) p =
+      some_move game (λ q. can_move game q && every_move game (λ r. game.goal r || self_wins game k r) q) p
+
+  -- after a move of that side to q, j moves with it: there is a move, and each one reaches the goal or leaves a win
+  unfoldable pub self_lost : Game P M → ℕ → P → Bool
+  self_lost game j q = can_move game q && every_move game (λ r. game.goal r || self_wins game (j - 1) r) q
+
+  -- Help play. All lists of h moves, each legal where it stands, whose last position has the goal
+  unfoldable pub lines_to_goal : Game P M → ℕ → P → List (List M)
+  lines_to_goal game zero p = if game.goal p then [] ∷ [] else []
+  lines_to_goal game (suc h) p =
+      flat_map (λ m. map (λ line. m ∷ line) (lines_to_goal game h (game.after p m))) (game.moves p)
+
+  unfoldable pub help_lines : Game P M → ℕ → P → List (List M)
+  help_lines game zero p = []
+  help_lines game (suc h) p = lines_to_goal game (suc h) p
+
+  -- how many lists of fewer than r moves there are, each legal where it stands
+  unfoldable pub walk_count : Game P M → ℕ → P → ℕ
+  walk_count game zero p = 0
+  walk_count game (suc r) p = 1 + sum_by (λ m. walk_count game r (game.after p m)) (game.moves p)
+
+  -- the position to which a path leads
+  abbrev pub reach : Game P M → P → List M → P
+  reach game p [] = p
+  reach game p (m ∷ path) = reach game (game.after p m) path

@@ -1,0 +1,120 @@
+//! What the search does on the board.
+ghost use Rattle.std.specs.Prelude.{◌≡◌, not, ◌==◌, length};
+ghost use Rattle.chess_core.specs.Position.{Position};
+ghost use Rattle.chess_core.specs.WellFormed.{IsWellFormed};
+ghost use Rattle.chess_rules.specs.Attacks.{in_check};
+ghost use Rattle.chess_rules.specs.Legal.{is_goal, moves};
+ghost use Rattle.pop_solve.specs.Chess.{castling_side, chess, is_impossible, mark_of, reborn, set_start, shown_by, shown_of};
+ghost use Rattle.pop_solve.specs.Frames.{CameBy};
+ghost use Rattle.pop_solve.specs.Game.{can_move as has_move};
+
+use crate::shown::{Mark, Shown, Side};
+use chess_core::board::Board;
+use chess_core::man::{Man, Move};
+use chess_core::square::Square;
+use chess_rules::moves::has_legal_move;
+use chess_rules::play::{Undo, is_castling};
+use chess_rules::rules::{Rules, in_check};
+
+/// Whether the side to move has a legal move.
+#[tactic(auto, using(crate::proofs::Boards::some_move))]
+pub fn can_move<R: Rules>(board: &mut Board) -> bool
+    requires well_formed { IsWellFormed board.old }
+    ensures unchanged { board.new ≡ board.old }
+    ensures moves { result ≡ has_move (chess R.rule) board.old }
+{
+    has_legal_move::<R>(board)
+}
+
+/// Takes a move back.
+#[tactic(auto, using(chess_rules::proofs::Calls::playing))]
+pub fn take_back<R: Rules>(board: &mut Board, by: Move, undo: Undo)
+    requires came { (p : Position) × CameBy R.rule by undo board.old p }
+    ensures before { (p : Position) → CameBy R.rule by undo board.old p → board.new ≡ p }
+{
+    R::unplay(board, by, undo);
+}
+
+/// What a move has done to the side that is to move now.
+#[tactic(auto, unfolding(crate::specs::Chess::mark_of, chess_rules::specs::Legal::is_goal))]
+fn mark_of<R: Rules>(board: &mut Board) -> Mark
+    requires well_formed { IsWellFormed board.old }
+    ensures unchanged { board.new ≡ board.old }
+    ensures mark { result ≡ mark_of R.rule board.old }
+{
+    if !in_check::<R>(board, board.turn()) {
+        return Mark::Plain;
+    }
+    if has_legal_move::<R>(board) {
+        Mark::Check
+    } else {
+        Mark::Mate
+    }
+}
+
+/// To which side the man castles, if it does.
+fn castling_side(man: Man, by: &Move) -> Option<Side>
+    ensures { result ≡ castling_side man by.now }
+{
+    if !is_castling(man, by) {
+        return None;
+    }
+    Some(if by.from < by.to { Side::H } else { Side::A })
+}
+
+/// The reborn man and his square, if he is reborn.
+fn reborn(man: Option<Man>, square: Option<Square>) -> Option<(Man, Square)>
+    ensures { result ≡ reborn man square }
+{
+    match (man, square) {
+        (Some(man), Some(square)) => Some((man, square)),
+        _ => None,
+    }
+}
+
+/// The move of the man as it is shown, once it is played: `there` stood on the arrival before.
+#[tactic(auto, unfolding(crate::specs::Chess::shown_of))]
+pub fn shown_of<R: Rules>(
+    man: Option<Man>,
+    there: Option<Man>,
+    by: &Move,
+    undo: &Undo,
+    board: &mut Board,
+) -> Shown
+    requires well_formed { IsWellFormed board.old }
+    ensures unchanged { board.new ≡ board.old }
+    ensures shown { result ≡ shown_of man there by.now undo.now (mark_of R.rule board.old) }
+{
+    let mark = mark_of::<R>(board);
+    let Some(man) = man else {
+        return Shown::default();
+    };
+    let capture = undo.captured.is_some();
+    Shown {
+        man,
+        from: by.from,
+        to: by.to,
+        capture,
+        ep: capture && there.is_none(),
+        promo: by.promo,
+        castling: castling_side(man, by),
+        rebirth: reborn(undo.captured, undo.rebirth),
+        mark,
+    }
+}
+
+/// Gives the move to the other side, for set play.
+pub fn turn_over(board: &mut Board)
+    ensures { board.new ≡ set_start board.old }
+{
+    board.set_turn(board.turn().other());
+    board.set_crossed(None);
+}
+
+/// Whether the position can't stand in set play: the side that isn't to move is in check.
+#[tactic(auto, unfolding(crate::specs::Chess::is_impossible))]
+pub fn is_impossible<R: Rules>(board: &Board) -> bool
+    ensures { result ≡ is_impossible R.rule board.now }
+{
+    in_check::<R>(board, board.turn().other())
+}

@@ -1,0 +1,43 @@
+//! Frames.
+use crate::shown::Shown;
+use chess_core::man::Move;
+use chess_rules::moves::Moves;
+use chess_rules::play::Undo;
+use std::marker::Model;
+
+/// A position on the way from a phase's first position, whose moves are tried in turn. Contracts see the record `Frame`
+/// of the same fields.
+#[derive(Clone, Copy)]
+pub struct Frame<R> {
+    /// The moves up to here have been tried.
+    pub place: Moves<R>,
+    /// The move that led here, and what it destroyed.
+    pub by: Move,
+    pub undo: Undo,
+    /// The half-moves that are tried from here.
+    pub left: usize,
+    /// The move that led here, as it is shown.
+    pub shown: Shown,
+}
+
+impl<R> Model for Frame<R> {
+    ghost use Rattle.pop_solve.specs.Frames.{Frame as Level};
+
+    ghost Value = { Level };
+
+    ghost view = { λ f. record { place = f.place; by = f.by; undo = f.undo; left = f.left; shown = f.shown } };
+
+    ghost inverse = { λ v. record { place = v.place; by = v.by; undo = v.undo; left = v.left; shown = v.shown } };
+}
+
+impl<R> Default for Frame<R> {
+    fn default() -> Self {
+        Frame {
+            place: Moves::start(),
+            by: Move::default(),
+            undo: Undo::default(),
+            left: 0,
+            shown: Shown::default(),
+        }
+    }
+}
