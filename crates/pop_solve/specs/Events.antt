@@ -7,7 +7,8 @@ use Rattle.chess_core.specs.Triple.{Triple}
 use Rattle.chess_rules.specs.RuleSet.{RuleSet}
 use Rattle.pop_solve.specs.Game.{help_lines, reach, walk_count}
 use Rattle.pop_solve.specs.Tree.{tree, set_tree}
-use Rattle.pop_solve.specs.Problems.{Posed, is_help, is_selfmate, first_half, half_moves, rule_of}
+use Rattle.pop_input.specs.Posed.{Posed, rule_of}
+use Rattle.pop_input.specs.Stipulations.{is_help, is_selfmate, first_half, half_moves}
 use Rattle.pop_solve.specs.Chess.{chess, is_impossible, nothing_shown, set_start, show}
 use Rattle.pop_solve.specs.Shown.{Shown}
 use Rattle.pop_solve.specs.declared.event.Event.{Event}
@@ -32,7 +33,7 @@ phase_start problem in_set = if in_set then set_start (start problem) else start
 
 -- its half-moves: set play drops the first
 abbrev pub phase_half_moves : Posed → Bool → ℕ
-phase_half_moves problem in_set = if in_set then half_moves problem - 1 else half_moves problem
+phase_half_moves problem in_set = if in_set then half_moves problem.stipulation - 1 else half_moves problem.stipulation
 
 -- its solutions, each a list of paths: a line, or a node with all below it
 unfoldable pub solutions : RuleSet → Posed → Bool → List (List (List Triple))

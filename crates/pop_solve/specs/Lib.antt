@@ -2,7 +2,6 @@ pub mod Game
 pub mod Tree
 pub mod Shown
 pub mod Chess
-pub mod Problems
 pub mod Events
 pub mod Values
 pub mod Frames

@@ -4,5 +4,4 @@
 mod chess;
 pub mod event;
 pub mod frame;
-pub mod problem;
 pub mod shown;
