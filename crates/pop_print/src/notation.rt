@@ -1,0 +1,57 @@
+//! Squares and men as they are written.
+ghost use Rattle.std.specs.Prelude.{◌≡◌, ◌<◌, ◌≤◌, ◌+◌, ◌++◌, [], ◌∷◌, length};
+ghost use Rattle.pop_print.specs.Room.{room};
+ghost use Rattle.pop_print.specs.Notation.{colour_letter as letter_of_colour, letter_of as letter_of_kind, man_text, square_text};
+
+use crate::line::LineBuffer;
+use chess_core::man::{Colour, Kind};
+use chess_core::square::Square;
+
+/// The capital letter of a kind of man; S is the knight.
+pub fn letter_of(kind: Kind) -> u8
+    ensures { result ≡ letter_of_kind kind }
+{
+    match kind {
+        Kind::King => b'K',
+        Kind::Queen => b'Q',
+        Kind::Rook => b'R',
+        Kind::Bishop => b'B',
+        Kind::Knight => b'S',
+        Kind::Pawn => b'P',
+        Kind::Grasshopper => b'G',
+        Kind::Nightrider => b'N',
+    }
+}
+
+/// The letter of a colour: w or b.
+pub fn colour_letter(colour: Colour) -> u8
+    ensures { result ≡ letter_of_colour colour }
+{
+    match colour {
+        Colour::White => b'w',
+        Colour::Black => b'b',
+    }
+}
+
+impl LineBuffer {
+    /// Adds a square, as `a1`.
+    pub fn add_square(&mut self, square: Square)
+        requires { length self.old + 2 ≤ room }
+        ensures text { self.new ≡ self.old ++ square_text square }
+        ensures short { length self.new ≤ length self.old + 2 }
+    {
+        self.add(&[b'a' - 1 + square.file(), b'0' + square.rank()]);
+    }
+
+    /// Adds the letter of a man that moves: none for a pawn.
+    pub fn add_man(&mut self, kind: Kind)
+        requires { length self.old + 1 ≤ room }
+        ensures text { self.new ≡ self.old ++ man_text kind }
+        ensures short { length self.new ≤ length self.old + 1 }
+    {
+        match kind {
+            Kind::Pawn => self.add(b""),
+            kind => self.add_byte(letter_of(kind)),
+        }
+    }
+}

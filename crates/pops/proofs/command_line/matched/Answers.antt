@@ -1,0 +1,32 @@
+use Rattle.std.proofs.Common.{rules, ap, ap₂, refl, sym, codes, true, map, List, ◌≡◌, ◌∙◌}
+use Rattle.std.proofs.lemmas.Result.{IfErr-weaker, IfOk-weaker}
+use Rattle.clap.specs.Walk.{Rule, Text, rule_of}
+use Rattle.clap.specs.Simple.{App, app_of, is_simple, new_app, new_rule, matches_of, with_rule}
+use Rattle.clap.specs.Takes.{takes}
+use Rattle.clap.proofs.OnLiterals.{clap_on_literals}
+use Rattle.pops.specs.CommandLine.{check, no_board, command}
+use Rattle.pops.proofs.command_line.matched.Goals as goal
+
+is_simple_command : is_simple command ≡ true
+unfolding clap_on_literals
+is_simple_command = refl
+
+command_is : (c : goal.After-try_get_matches_from) → app_of c.in_ok-command.command ≡ command
+command_is c =
+    let check_is : rule_of c.action-check.result ≡ check = search rules in
+    let no_board_is : rule_of c.action-no_board.result ≡ no_board = search rules in
+    let file_is : rule_of c.new-file.result ≡ new_rule (codes "file") = search rules in
+    c.in_ok-command.ensures.shape (search rules)
+    ∙ ap₂ with_rule (c.in_ok-arg-2.ensures.shape (search rules) ∙ ap₂ with_rule (c.in_ok-arg.ensures.shape (search rules) ∙ ap₂ with_rule c.new-3.ensures.app check_is) no_board_is) file_is
+
+pub returns-clause-rows : goal.returns-clause-rows
+returns-clause-rows c =
+    let parse = c.try_get_matches_from in
+    let is = command_is c in
+    IfOk-weaker parse.result _ _ (λ m h. (h (ap is_simple is ∙ is_simple_command)).0 ∙ ap (λ a. matches_of a (map (λ s. s.now) c.args.words.now)) is) parse.ensures.matches
+
+pub returns-clause-passes : goal.returns-clause-passes
+returns-clause-passes c =
+    let parse = c.try_get_matches_from in
+    let is = command_is c in
+    IfErr-weaker parse.result _ _ (λ e h taken. h (ap (λ a. takes a (map (λ s. s.now) c.args.words.now)) is ∙ taken)) parse.ensures.passes

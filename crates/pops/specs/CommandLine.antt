@@ -1,0 +1,30 @@
+-- The command line `pops [--check] [--no-board] [FILE]`, and the settings of its words (own).
+use Rattle.std.specs.Prelude.{◌≡◌, List, codes, Option, Some, None, Bool, true, false, option_map, string_bytes}
+use Rattle.clap.specs.Walk.{Rule, Text, first_of, one_of}
+use Rattle.clap.specs.Simple.{App, new_app, new_rule, with_rule, matches_of}
+use Rattle.clap.specs.declared.builder.action.ArgAction.TheVariants.{SetTrue}
+use Rattle.pops.specs.declared.settings.Settings.{Settings}
+
+-- the option --check
+abbrev pub check : Rule
+check = record (new_rule (codes "check")) { long = Some (codes "check"); action = Some SetTrue }
+
+-- the option --no-board
+abbrev pub no_board : Rule
+no_board = record (new_rule (codes "no-board")) { long = Some (codes "no-board"); action = Some SetTrue }
+
+-- pops [--check] [--no-board] [FILE]
+abbrev pub command : App
+command = with_rule (with_rule (with_rule (new_app (codes "pops")) check) no_board) (new_rule (codes "file"))
+
+-- a flag as clap reads its text
+pub record IsFlag (text : Option Text) (flag : Bool) : Type 0 where
+  pub absent : text ≡ None → flag ≡ false
+  pub set : text ≡ Some (codes "true") → flag ≡ true
+  pub unset : text ≡ Some (codes "false") → flag ≡ false
+
+-- the settings are the matches that clap defines for the words, of which the first is the program's name
+pub record IsSettings (words : List Text) (s : Settings) : Type 0 where
+  pub file : option_map string_bytes s.file ≡ first_of (codes "file") (matches_of command words)
+  pub check : IsFlag (one_of (codes "check") (matches_of command words)) s.check
+  pub no_board : IsFlag (one_of (codes "no-board") (matches_of command words)) s.no_board

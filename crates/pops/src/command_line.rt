@@ -1,0 +1,63 @@
+//! The command line `pops [--check] [--no-board] [FILE]`.
+ghost use Rattle.std.specs.Prelude.{◌≡◌, IfErr, IfOk, true, map};
+ghost use Rattle.clap.specs.Values.{kind_of};
+ghost use Rattle.clap.specs.Walk.{rows_of};
+ghost use Rattle.clap.specs.Matches.{found_of};
+ghost use Rattle.clap.specs.Simple.{matches_of};
+ghost use Rattle.clap.specs.Takes.{takes};
+ghost use Rattle.pops.specs.CommandLine.{command, IsSettings};
+
+use crate::settings::{ArgFault, Settings};
+use clap::error::ErrorKind;
+use clap::{Arg, ArgAction, ArgMatches, Command, Error};
+use std::alloc::Global;
+
+/// The settings of the words, of which the first is the program's name.
+///
+/// `Usage` is all that clap refuses for another cause than memory: an unknown option, an option given twice, a
+/// second FILE, `--help`. `Memory` comes where a growth was refused.
+pub fn settings(alloc: Global, words: &[&str]) -> Result<Settings, ArgFault>
+    ensures chosen { IfOk result (IsSettings (map (λ s. s.now) words.now)) }
+    ensures memory { IfErr result (λ e. takes command (map (λ s. s.now) words.now) ≡ true → e ≡ ArgFault.Memory) }
+{
+    let matches = match matched(alloc, words) {
+        Ok(matches) => matches,
+        Err(error) => {
+            return Err(match error.kind() {
+                ErrorKind::OutOfMemory => ArgFault::Memory,
+                _ => ArgFault::Usage,
+            });
+        }
+    };
+    let file = match matches.get_str("file") {
+        Some(file) => match String::from_str(alloc, file) {
+            Ok(file) => Some(file),
+            Err(_) => return Err(ArgFault::Memory),
+        },
+        None => None,
+    };
+    Ok(Settings {
+        file,
+        check: matches.get_flag("check"),
+        no_board: matches.get_flag("no-board"),
+    })
+}
+
+// The words as clap matches them.
+fn matched<'a>(alloc: Global, words: &'a [&'a str]) -> Result<ArgMatches<'a>, Error>
+    ensures rows { IfOk result (λ m. rows_of (found_of m) ≡ matches_of command (map (λ s. s.now) words.now)) }
+    ensures passes { IfErr result (λ e. takes command (map (λ s. s.now) words.now) ≡ true → kind_of e ≡ ErrorKind.OutOfMemory) }
+{
+    let check = Arg::new(alloc, "check")
+        .long("check")
+        .action(ArgAction::SetTrue);
+    let no_board = Arg::new(alloc, "no-board")
+        .long("no-board")
+        .action(ArgAction::SetTrue);
+    let file = Arg::new(alloc, "file");
+    let command = Command::new(alloc, "pops")
+        .arg(check)?
+        .arg(no_board)?
+        .arg(file)?;
+    command.try_get_matches_from(words)
+}
