@@ -1,2 +1,4 @@
 pub mod Room
 pub mod Notation
+pub mod Moves
+pub mod Events

@@ -5,3 +5,5 @@
 
 pub mod line;
 pub mod notation;
+pub mod events;
+pub mod moves;

@@ -1,0 +1,54 @@
+-- How moves are written (own layout; Popeye manual: English letters, ep.; Circe's rebirth in brackets).
+use Rattle.std.specs.Prelude.{ℕ, List, [], ◌∷◌, ◌++◌, Bool, true, false, Option, Some, None, codes}
+use Rattle.chess_core.specs.declared.man.Man.{Man}
+use Rattle.chess_core.specs.declared.man.Kind.{Kind}
+use Rattle.pop_solve.specs.declared.shown.Side.{Side}
+use Rattle.pop_solve.specs.declared.shown.Side.TheVariants.{A, H}
+use Rattle.pop_solve.specs.declared.shown.Mark.{Mark}
+use Rattle.pop_solve.specs.declared.shown.Mark.TheVariants.{Plain, Check, Mate}
+use Rattle.pop_solve.specs.declared.shown.Shown.{Shown}
+use Rattle.pop_print.specs.Notation.{colour_letter, letter_of, man_text, square_text}
+
+-- castling to the h side or to the a side
+abbrev pub castling_text : Side → List ℕ
+castling_text H = codes "0-0"
+castling_text A = codes "0-0-0"
+
+-- between origin and arrival: a capture or none
+abbrev pub step_text : Bool → List ℕ
+step_text true = codes "*"
+step_text false = codes "-"
+
+abbrev pub en_passant_text : Bool → List ℕ
+en_passant_text true = codes " ep."
+en_passant_text false = []
+
+abbrev pub promotion_text : Option Kind → List ℕ
+promotion_text None = []
+promotion_text (Some kind) = 61 ∷ letter_of kind ∷ []
+
+-- the reborn man and its square
+abbrev pub rebirth_text : Option (Man × ℕ) → List ℕ
+rebirth_text None = []
+rebirth_text (Some reborn) =
+    codes "[+" ++ colour_letter reborn.0.colour ∷ letter_of reborn.0.kind ∷ [] ++ square_text reborn.1 ++ codes "]"
+
+-- mate, a check that isn't mate, or neither
+abbrev pub mark_text : Mark → List ℕ
+mark_text Mate = codes "#"
+mark_text Check = codes "+"
+mark_text Plain = []
+
+-- a move that isn't castling, without its mark
+abbrev pub way_text : Shown → List ℕ
+way_text shown =
+    man_text shown.man.kind ++ square_text shown.from ++ step_text shown.capture ++ square_text shown.to
+    ++ en_passant_text shown.ep ++ promotion_text shown.promo ++ rebirth_text shown.rebirth
+
+abbrev pub path_text : Option Side → Shown → List ℕ
+path_text (Some side) shown = castling_text side
+path_text None shown = way_text shown
+
+-- a move
+unfoldable pub move_text : Shown → List ℕ
+move_text shown = path_text shown.castling shown ++ mark_text shown.mark

@@ -1,0 +1,174 @@
+//! Events as they are written.
+ghost use Rattle.std.specs.Prelude.{◌≡◌, ◌<◌, ◌≤◌, ◌+◌, ◌++◌, [], ◌∷◌, ◌^◌, length, replicate, codes, true};
+ghost use Rattle.pop_text.specs.Bytes.{Writes, count_after, greatest};
+ghost use Rattle.pop_print.specs.Room.{room};
+ghost use Rattle.pop_print.specs.Moves.{move_text};
+ghost use Rattle.pop_print.specs.Events.{event_text, lead_text, line_text, moves_text, node_text, prefix_text, stopped_text as text_of_stopped, total_text};
+
+use crate::line::LineBuffer;
+use pop_solve::event::{Event, Phase};
+use pop_solve::shown::Shown;
+use pop_text::sink::{Sink, SinkFault, put_all};
+
+/// Writes an event: one line, in one write.
+#[tactic(auto, unfolding(crate::specs::Events::event_text))]
+pub fn print_event<W: Sink>(sink: &mut W, event: &Event) -> Result<(), SinkFault>
+    requires { W.failures sink.old < greatest }
+    ensures bytes { Writes (W.taken sink.old) (W.taken sink.new) (event_text event.now) result }
+    ensures counted { W.failures sink.new ≡ count_after result (W.failures sink.old) }
+{
+    match event {
+        Event::Phase(Phase::Set) => put_all(sink, b"set\n"),
+        Event::Phase(Phase::Play) => put_all(sink, b"play\n"),
+        Event::Line { half, moves } => print_line(sink, *half, moves.as_slice()),
+        Event::Node { depth, half, shown } => print_node(sink, *depth, *half, shown),
+        Event::Impossible => put_all(sink, b"not possible\n"),
+        Event::Total { count, stopped } => print_total(sink, *count, *stopped),
+    }
+}
+
+// The moves of a help line.
+fn print_line<W: Sink>(sink: &mut W, half: u32, moves: &[Shown]) -> Result<(), SinkFault>
+    requires sink { W.failures sink.old < greatest }
+    requires room { length moves.now ≤ 16 }
+    ensures bytes { Writes (W.taken sink.old) (W.taken sink.new) (line_text half moves.now) result }
+    ensures counted { W.failures sink.new ≡ count_after result (W.failures sink.old) }
+{
+    let mut line = LineBuffer::new();
+    line.add_line(half, moves);
+    line.put(sink)
+}
+
+// A node of battle play. Blanks past those of any problem's deepest node are written apart.
+fn print_node<W: Sink>(sink: &mut W, depth: u32, half: u32, shown: &Shown) -> Result<(), SinkFault>
+    requires { W.failures sink.old < greatest }
+    ensures bytes { Writes (W.taken sink.old) (W.taken sink.new) (node_text depth half shown.now) result }
+    ensures counted { W.failures sink.new ≡ count_after result (W.failures sink.old) }
+{
+    let blanks = 2 * u64::from(depth);
+    let apart = blanks.saturating_sub(64);
+    put_blanks(sink, apart)?;
+    let mut line = LineBuffer::new();
+    line.add_node(blanks - apart, half, shown);
+    line.put(sink)
+}
+
+fn put_blanks<W: Sink>(sink: &mut W, count: u64) -> Result<(), SinkFault>
+    requires { W.failures sink.old < greatest }
+    ensures bytes { Writes (W.taken sink.old) (W.taken sink.new) (replicate count 32) result }
+    ensures counted { W.failures sink.new ≡ count_after result (W.failures sink.old) }
+{
+    for _blank in 0..count {
+        put_all(sink, b" ")?;
+    }
+    Ok(())
+}
+
+fn print_total<W: Sink>(sink: &mut W, count: u32, stopped: bool) -> Result<(), SinkFault>
+    requires { W.failures sink.old < greatest }
+    ensures bytes { Writes (W.taken sink.old) (W.taken sink.new) (total_text count stopped) result }
+    ensures counted { W.failures sink.new ≡ count_after result (W.failures sink.old) }
+{
+    let mut line = LineBuffer::new();
+    line.add_total(count, stopped);
+    line.put(sink)
+}
+
+fn stopped_text(stopped: bool) -> &'static [u8]
+    ensures text { result.now ≡ text_of_stopped stopped }
+    ensures short { length result.now ≤ 10 }
+{
+    if stopped { b", stopped\n" } else { b"\n" }
+}
+
+impl LineBuffer {
+    // Adds the number of a half-move.
+    fn add_prefix(&mut self, half: u64)
+        requires room { length self.old + 23 ≤ room }
+        requires half { half < 2 ^ 33 }
+        ensures text { self.new ≡ self.old ++ prefix_text half }
+        ensures short { length self.new ≤ length self.old + 23 }
+    {
+        if half % 2 == 1 {
+            self.add_number((half + 1) / 2);
+            self.add(b".");
+        } else {
+            self.add_number(half / 2);
+            self.add(b"...");
+        }
+    }
+
+    // Adds what stands before a move of a line.
+    fn add_lead(&mut self, first: bool, half: u64)
+        requires room { length self.old + 24 ≤ room }
+        requires half { half < 2 ^ 33 }
+        ensures text { self.new ≡ self.old ++ lead_text first half }
+        ensures short { length self.new ≤ length self.old + 24 }
+    {
+        if first {
+            self.add_prefix(half);
+            return;
+        }
+        self.add(b" ");
+        if half % 2 == 1 {
+            self.add_prefix(half);
+        }
+    }
+
+    // Adds the moves of a line, the first of which is the half-move `half`.
+    fn add_moves(&mut self, half: u64, moves: &[Shown])
+        requires room { length self.old + 704 ≤ room }
+        requires moves { length moves.now ≤ 16 }
+        requires half { half < 2 ^ 32 }
+        ensures text { self.new ≡ self.old ++ moves_text true half moves.now }
+        ensures short { length self.new ≤ length self.old + 704 }
+    {
+        let mut number = half;
+        let mut first = true;
+        'moves: for shown in moves {
+            self.add_lead(first, number);
+            self.add_move(shown);
+            first = false;
+            number += 1;
+        }
+    }
+
+    // Adds a line of help play.
+    fn add_line(&mut self, half: u32, moves: &[Shown])
+        requires room { length self.old + 705 ≤ room }
+        requires moves { length moves.now ≤ 16 }
+        ensures { self.new ≡ self.old ++ line_text half moves.now }
+    {
+        self.add_moves(u64::from(half), moves);
+        self.add(b"\n");
+    }
+
+    // Adds a node of battle play behind so many blanks.
+    fn add_node(&mut self, blanks: u64, half: u32, shown: &Shown)
+        requires { length self.old + blanks + 44 ≤ room }
+        ensures { self.new ≡ self.old ++ (replicate blanks 32 ++ prefix_text half ++ move_text shown.now ++ codes "\n") }
+    {
+        self.add_blanks(blanks);
+        self.add_prefix(u64::from(half));
+        self.add_move(shown);
+        self.add(b"\n");
+    }
+
+    fn add_total(&mut self, count: u32, stopped: bool)
+        requires { length self.old + 41 ≤ room }
+        ensures { self.new ≡ self.old ++ total_text count stopped }
+    {
+        self.add(b"solutions: ");
+        self.add_number(u64::from(count));
+        self.add(stopped_text(stopped));
+    }
+
+    fn add_blanks(&mut self, count: u64)
+        requires { length self.old + count ≤ room }
+        ensures { self.new ≡ self.old ++ replicate count 32 }
+    {
+        'blanks: for _blank in 0..count {
+            self.add_byte(b' ');
+        }
+    }
+}

@@ -1,0 +1,105 @@
+//! Moves as they are written.
+ghost use Rattle.std.specs.Prelude.{◌≡◌, ◌≤◌, ◌+◌, ◌++◌, [], ◌∷◌, length};
+ghost use Rattle.pop_print.specs.Room.{room};
+ghost use Rattle.pop_print.specs.Moves.{castling_text as text_of_castling, en_passant_text as text_of_en_passant, mark_text as text_of_mark, move_text, promotion_text, rebirth_text, step_text as text_of_step, way_text};
+
+use crate::line::LineBuffer;
+use crate::notation::{colour_letter, letter_of};
+use chess_core::man::{Kind, Man};
+use chess_core::square::Square;
+use pop_solve::shown::{Mark, Shown, Side};
+
+fn castling_text(side: Side) -> &'static [u8]
+    ensures text { result.now ≡ text_of_castling side }
+    ensures short { length result.now ≤ 5 }
+{
+    match side {
+        Side::H => b"0-0",
+        Side::A => b"0-0-0",
+    }
+}
+
+fn step_text(capture: bool) -> u8
+    ensures { result ∷ [] ≡ text_of_step capture }
+{
+    if capture { b'*' } else { b'-' }
+}
+
+fn mark_text(mark: Mark) -> &'static [u8]
+    ensures text { result.now ≡ text_of_mark mark }
+    ensures short { length result.now ≤ 1 }
+{
+    match mark {
+        Mark::Mate => b"#",
+        Mark::Check => b"+",
+        Mark::Plain => b"",
+    }
+}
+
+fn en_passant_text(ep: bool) -> &'static [u8]
+    ensures text { result.now ≡ text_of_en_passant ep }
+    ensures short { length result.now ≤ 4 }
+{
+    if ep { b" ep." } else { b"" }
+}
+
+impl LineBuffer {
+    /// Adds a move, in at most twenty bytes, as `Ra1*a8[+bBc8]`.
+    #[tactic(auto, unfolding(crate::specs::Moves::move_text))]
+    pub fn add_move(&mut self, shown: &Shown)
+        requires { length self.old + 20 ≤ room }
+        ensures text { self.new ≡ self.old ++ move_text shown.now }
+        ensures short { length self.new ≤ length self.old + 20 }
+    {
+        match shown.castling {
+            Some(side) => self.add(castling_text(side)),
+            None => self.add_way(shown),
+        }
+        self.add(mark_text(shown.mark));
+    }
+
+    // Adds a move that isn't castling, without its mark.
+    fn add_way(&mut self, shown: &Shown)
+        requires { length self.old + 19 ≤ room }
+        ensures text { self.new ≡ self.old ++ way_text shown.now }
+        ensures short { length self.new ≤ length self.old + 19 }
+    {
+        self.add_man(shown.man.kind);
+        self.add_square(shown.from);
+        self.add_byte(step_text(shown.capture));
+        self.add_square(shown.to);
+        self.add(en_passant_text(shown.ep));
+        self.add_promotion(shown.promo);
+        self.add_rebirth(shown.rebirth);
+    }
+
+    fn add_promotion(&mut self, promo: Option<Kind>)
+        requires { length self.old + 2 ≤ room }
+        ensures text { self.new ≡ self.old ++ promotion_text promo }
+        ensures short { length self.new ≤ length self.old + 2 }
+    {
+        match promo {
+            Some(kind) => self.add(&[b'=', letter_of(kind)]),
+            None => self.add(b""),
+        }
+    }
+
+    fn add_rebirth(&mut self, rebirth: Option<(Man, Square)>)
+        requires { length self.old + 7 ≤ room }
+        ensures text { self.new ≡ self.old ++ rebirth_text rebirth }
+        ensures short { length self.new ≤ length self.old + 7 }
+    {
+        match rebirth {
+            Some((man, square)) => self.add(&[
+                b'[',
+                b'+',
+                colour_letter(man.colour),
+                letter_of(man.kind),
+                b'a' - 1 + square.file(),
+                b'0' + square.rank(),
+                b']',
+            ]),
+            None => self.add(b""),
+        }
+    }
+}
