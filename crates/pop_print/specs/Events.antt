@@ -1,6 +1,6 @@
 -- How the events of a solution are written (own layout).
 use Rattle.std.specs.Prelude.{ℕ, ◌+◌, ◌*◌, ◌/◌, ◌%◌, ◌==◌, List, [], ◌∷◌, ◌++◌, Bool, true, false, if◌then◌else◌, codes, decimal, replicate}
-use Rattle.pop_solve.specs.declared.shown.Shown.{Shown}
+use Rattle.pop_solve.specs.Shown.{Shown}
 use Rattle.pop_solve.specs.declared.event.Phase.{Phase as PhaseOf}
 use Rattle.pop_solve.specs.declared.event.Phase.TheVariants.{Set, Play}
 use Rattle.pop_solve.specs.declared.event.Event.{Event}

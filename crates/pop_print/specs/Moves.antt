@@ -6,7 +6,7 @@ use Rattle.pop_solve.specs.declared.shown.Side.{Side}
 use Rattle.pop_solve.specs.declared.shown.Side.TheVariants.{A, H}
 use Rattle.pop_solve.specs.declared.shown.Mark.{Mark}
 use Rattle.pop_solve.specs.declared.shown.Mark.TheVariants.{Plain, Check, Mate}
-use Rattle.pop_solve.specs.declared.shown.Shown.{Shown}
+use Rattle.pop_solve.specs.Shown.{Shown}
 use Rattle.pop_print.specs.Notation.{colour_letter, letter_of, man_text, square_text}
 
 -- castling to the h side or to the a side

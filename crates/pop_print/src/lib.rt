@@ -3,7 +3,13 @@
 //! Each printer puts whole lines together in fixed room and hands them to the sink in one write.
 #![tactic(auto)]
 
-pub mod line;
-pub mod notation;
-pub mod events;
-pub mod moves;
+mod events;
+mod faults;
+mod heads;
+mod line;
+mod moves;
+mod notation;
+
+pub use events::print_event;
+pub use faults::print_fault;
+pub use heads::print_head;

@@ -10,7 +10,7 @@ use std::marker::Model;
 
 /// Text that is put together piece by piece and then written at once. Contracts see its bytes, at most 1,024.
 #[derive(Drop)]
-pub struct LineBuffer {
+pub(crate) struct LineBuffer {
     text: ArrayVec<u8, 1024>,
 }
 
@@ -24,7 +24,7 @@ impl Model for LineBuffer {
 
 impl LineBuffer {
     /// Room without text.
-    pub fn new() -> LineBuffer
+    pub(crate) fn new() -> LineBuffer
         ensures { result ≡ [] }
     {
         LineBuffer {
@@ -33,7 +33,7 @@ impl LineBuffer {
     }
 
     /// Adds bytes.
-    pub fn add(&mut self, piece: &[u8])
+    pub(crate) fn add(&mut self, piece: &[u8])
         requires { length self.old + length piece.now ≤ room }
         ensures { self.new ≡ self.old ++ piece.now }
     {
@@ -41,7 +41,7 @@ impl LineBuffer {
     }
 
     /// Adds one byte.
-    pub fn add_byte(&mut self, byte: u8)
+    pub(crate) fn add_byte(&mut self, byte: u8)
         requires { length self.old < room }
         ensures { self.new ≡ self.old ++ byte ∷ [] }
     {
@@ -49,7 +49,7 @@ impl LineBuffer {
     }
 
     /// Adds a number in decimal digits, at most twenty.
-    pub fn add_number(&mut self, number: u64)
+    pub(crate) fn add_number(&mut self, number: u64)
         requires { length self.old + 20 ≤ room }
         ensures text { self.new ≡ self.old ++ decimal number }
         ensures short { length self.new ≤ length self.old + 20 }
@@ -59,7 +59,7 @@ impl LineBuffer {
     }
 
     /// Writes the text, or a beginning of it at a fault.
-    pub fn put<W: Sink>(&self, sink: &mut W) -> Result<(), SinkFault>
+    pub(crate) fn put<W: Sink>(&self, sink: &mut W) -> Result<(), SinkFault>
         requires { W.failures sink.old < greatest }
         ensures bytes { Writes (W.taken sink.old) (W.taken sink.new) self.now result }
         ensures counted { W.failures sink.new ≡ count_after result (W.failures sink.old) }

@@ -46,7 +46,7 @@ fn en_passant_text(ep: bool) -> &'static [u8]
 impl LineBuffer {
     /// Adds a move, in at most twenty bytes, as `Ra1*a8[+bBc8]`.
     #[tactic(auto, unfolding(crate::specs::Moves::move_text))]
-    pub fn add_move(&mut self, shown: &Shown)
+    pub(crate) fn add_move(&mut self, shown: &Shown)
         requires { length self.old + 20 ≤ room }
         ensures text { self.new ≡ self.old ++ move_text shown.now }
         ensures short { length self.new ≤ length self.old + 20 }

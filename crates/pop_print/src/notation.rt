@@ -8,7 +8,7 @@ use chess_core::man::{Colour, Kind};
 use chess_core::square::Square;
 
 /// The capital letter of a kind of man; S is the knight.
-pub fn letter_of(kind: Kind) -> u8
+pub(crate) fn letter_of(kind: Kind) -> u8
     ensures { result ≡ letter_of_kind kind }
 {
     match kind {
@@ -24,7 +24,7 @@ pub fn letter_of(kind: Kind) -> u8
 }
 
 /// The letter of a colour: w or b.
-pub fn colour_letter(colour: Colour) -> u8
+pub(crate) fn colour_letter(colour: Colour) -> u8
     ensures { result ≡ letter_of_colour colour }
 {
     match colour {
@@ -35,7 +35,7 @@ pub fn colour_letter(colour: Colour) -> u8
 
 impl LineBuffer {
     /// Adds a square, as `a1`.
-    pub fn add_square(&mut self, square: Square)
+    pub(crate) fn add_square(&mut self, square: Square)
         requires { length self.old + 2 ≤ room }
         ensures text { self.new ≡ self.old ++ square_text square }
         ensures short { length self.new ≤ length self.old + 2 }
@@ -44,7 +44,7 @@ impl LineBuffer {
     }
 
     /// Adds the letter of a man that moves: none for a pawn.
-    pub fn add_man(&mut self, kind: Kind)
+    pub(crate) fn add_man(&mut self, kind: Kind)
         requires { length self.old + 1 ≤ room }
         ensures text { self.new ≡ self.old ++ man_text kind }
         ensures short { length self.new ≤ length self.old + 1 }

@@ -1,4 +1,3 @@
-use Rattle.std.proofs.Common.{◌≡◌}
 use Rattle.std.proofs.lemmas.Result.{err_from_is_err_and}
 use Rattle.pop_print.proofs.Blanks.{blanks_begin}
 use Rattle.pop_print.proofs.events.put_blanks.Goals as goal

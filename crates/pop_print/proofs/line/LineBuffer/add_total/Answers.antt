@@ -1,4 +1,4 @@
-use Rattle.std.proofs.Common.{◌≡◌, ◌++◌, append_assoc, refl}
+use Rattle.std.proofs.Common.{append_assoc, refl}
 use Rattle.pop_print.proofs.line.LineBuffer.add_total.Goals as goal
 
 pub returns : goal.returns

@@ -1,0 +1,68 @@
+-- How the head of a sound problem is written: all up to the stipulation (own layout; words of the Popeye manual).
+use Rattle.std.specs.Prelude.{ℕ, ◌+◌, ◌*◌, List, [], ◌∷◌, ◌++◌, map, Bool, ◌||◌, if◌then◌else◌, Option, Some, None, codes, decimal}
+use Rattle.std.specs.List.{flat_map}
+use Rattle.chess_core.specs.Position.{man_on}
+use Rattle.chess_core.specs.declared.man.Man.{Man}
+use Rattle.chess_core.specs.declared.man.Colour.{Colour}
+use Rattle.chess_core.specs.declared.man.Colour.TheVariants.{White, Black}
+use Rattle.pop_text.specs.Left.{bytes_of}
+use Rattle.pop_input.specs.Posed.{Posed}
+use Rattle.pop_input.specs.declared.stipulation.Form.{Form}
+use Rattle.pop_input.specs.declared.stipulation.Form.TheVariants.{Direct, SelfMate, Help, HelpHalf}
+use Rattle.pop_input.specs.declared.condition.Condition.{Condition}
+use Rattle.pop_input.specs.declared.condition.Condition.TheVariants.{Circe, Madrasi}
+use Rattle.pop_print.specs.Notation.{letter_of}
+
+-- a man's letter on the board: a capital one for White, the small one for Black
+abbrev pub cell_by : Colour → ℕ → ℕ
+cell_by White letter = letter
+cell_by Black letter = letter + 32
+
+-- a square of the board: its man, or a point where it is empty
+abbrev pub cell_of : Option Man → ℕ
+cell_of None = 46
+cell_of (Some man) = cell_by man.colour (letter_of man.kind)
+
+-- a rank, counted from 0: its digit, a blank, its eight squares
+unfoldable pub rank_text : List (Option Man) → ℕ → List ℕ
+rank_text men rank = (49 + rank) ∷ 32 ∷ map (λ file. cell_of (man_on men (8 * rank + file))) (0 ∷ 1 ∷ 2 ∷ 3 ∷ 4 ∷ 5 ∷ 6 ∷ 7 ∷ []) ++ 10 ∷ []
+
+-- the board: rank 8 first, and the line of the files
+abbrev pub board_text : List (Option Man) → List ℕ
+board_text men = flat_map (rank_text men) (7 ∷ 6 ∷ 5 ∷ 4 ∷ 3 ∷ 2 ∷ 1 ∷ 0 ∷ []) ++ codes "  abcdefgh\n"
+
+-- a title or an author behind its label, where there is one
+abbrev pub labelled : List ℕ → List ℕ → List ℕ
+labelled label [] = []
+labelled label (byte ∷ text) = label ++ (byte ∷ text) ++ codes "\n"
+
+-- the stipulation's word
+abbrev pub aim_text : Form → ℕ → List ℕ
+aim_text Direct n = codes "#" ++ decimal n
+aim_text SelfMate n = codes "s#" ++ decimal n
+aim_text Help n = codes "h#" ++ decimal n
+aim_text HelpHalf n = codes "h#" ++ decimal n ++ codes ".5"
+
+-- the condition's word behind a blank
+abbrev pub condition_text : Option Condition → List ℕ
+condition_text None = []
+condition_text (Some Circe) = codes " Circe"
+condition_text (Some Madrasi) = codes " Madrasi"
+
+-- the first line of an item
+unfoldable pub item_line : ℕ → List ℕ
+item_line number = codes "problem " ++ decimal number ++ codes "\n"
+
+-- title and author
+unfoldable pub names_text : Posed → List ℕ
+names_text posed = labelled (codes "title: ") (bytes_of posed.title) ++ labelled (codes "author: ") (bytes_of posed.author)
+
+-- the line of the stipulation
+unfoldable pub task_line : Posed → List ℕ
+task_line posed = aim_text posed.stipulation.form posed.stipulation.n ++ condition_text posed.condition ++ codes "\n"
+
+-- the head of a sound item, with its board unless the problem or the settings leave it out
+unfoldable pub head_text : ℕ → Posed → Bool → List ℕ
+head_text number posed no_board =
+    item_line number ++ names_text posed ++ (if no_board || posed.no_board then [] else board_text posed.diagram.men)
+    ++ task_line posed

@@ -1,0 +1,220 @@
+//! The head of a sound problem as it is written.
+ghost use Rattle.std.specs.Prelude.{◌≡◌, ◌<◌, ◌≤◌, ◌+◌, ◌++◌, ◌||◌, List, ℕ, [], length, codes, if◌then◌else◌};
+ghost use Rattle.chess_core.specs.Position.{man_on};
+ghost use Rattle.pop_text.specs.Bytes.{Writes, count_after, greatest};
+ghost use Rattle.pop_text.specs.Left.{bytes_of};
+ghost use Rattle.pop_print.specs.Room.{room};
+ghost use Rattle.pop_print.specs.Heads.{aim_text, board_text, cell_of as letter_on, condition_text as text_of_condition, head_text, item_line, labelled, names_text, rank_text, task_line};
+
+use crate::line::LineBuffer;
+use crate::notation::letter_of;
+use chess_core::diagram::Diagram;
+use chess_core::man::{Colour, Man};
+use chess_core::square::Square;
+use pop_input::condition::Condition;
+use pop_input::problem::Problem;
+use pop_input::stipulation::{Form, Stipulation};
+use pop_text::sink::{Sink, SinkFault};
+use pop_text::text::Text;
+
+/// Writes the head of a sound item, in one write: its number, title and author where there are any, the board unless
+/// the problem or `no_board` leaves it out, and the stipulation with its condition.
+pub fn print_head<W: Sink>(
+    sink: &mut W,
+    number: u64,
+    problem: &Problem,
+    no_board: bool,
+) -> Result<(), SinkFault>
+    requires { W.failures sink.old < greatest }
+    ensures bytes { Writes (W.taken sink.old) (W.taken sink.new) (head_text number problem.now no_board) result }
+    ensures counted { W.failures sink.new ≡ count_after result (W.failures sink.old) }
+{
+    let mut lines = LineBuffer::new();
+    lines.add_head(number, problem, no_board);
+    lines.put(sink)
+}
+
+impl LineBuffer {
+    #[tactic(auto, unfolding(crate::specs::Heads::head_text))]
+    fn add_head(&mut self, number: u64, problem: &Problem, no_board: bool)
+        requires { length self.old + 600 ≤ room }
+        ensures { self.new ≡ self.old ++ head_text number problem.now no_board }
+    {
+        self.add_item_line(number);
+        self.add_names(problem);
+        self.add_board_unless(is_left_out(no_board, problem), &problem.diagram());
+        self.add_task(problem);
+    }
+
+    // Adds the first line of an item.
+    #[tactic(auto, unfolding(crate::specs::Heads::item_line))]
+    pub(crate) fn add_item_line(&mut self, number: u64)
+        requires { length self.old + 29 ≤ room }
+        ensures text { self.new ≡ self.old ++ item_line number }
+        ensures short { length self.new ≤ length self.old + 29 }
+    {
+        self.add(b"problem ");
+        self.add_number(number);
+        self.add(b"\n");
+    }
+
+    // Adds title and author.
+    #[tactic(auto, unfolding(crate::specs::Heads::names_text))]
+    fn add_names(&mut self, problem: &Problem)
+        requires { length self.old + 417 ≤ room }
+        ensures text { self.new ≡ self.old ++ names_text problem.now }
+        ensures short { length self.new ≤ length self.old + 417 }
+    {
+        self.add_labelled(b"title: ", problem.title());
+        self.add_labelled(b"author: ", problem.author());
+    }
+
+    // Adds the line of the stipulation.
+    #[tactic(auto, unfolding(crate::specs::Heads::task_line))]
+    fn add_task(&mut self, problem: &Problem)
+        requires { length self.old + 33 ≤ room }
+        ensures { self.new ≡ self.old ++ task_line problem.now }
+    {
+        self.add_stipulation(problem.stipulation());
+        self.add(condition_text(problem.condition()));
+        self.add(b"\n");
+    }
+
+    // Adds a title or an author, where there is one.
+    fn add_labelled(&mut self, label: &[u8], text: &Text)
+        requires { length self.old + length label.now + 201 ≤ room }
+        ensures text { self.new ≡ self.old ++ labelled label.now (bytes_of text.now) }
+        ensures short { length self.new ≤ length self.old + length label.now + 201 }
+    {
+        let bytes = text.bytes();
+        if !bytes.is_empty() {
+            self.add(label);
+            self.add(bytes);
+            self.add(b"\n");
+        }
+    }
+
+    fn add_board_unless(&mut self, left_out: bool, diagram: &Diagram)
+        requires { length self.old + 99 ≤ room }
+        ensures text { self.new ≡ self.old ++ (if left_out then [] else board_text diagram.now.men) }
+        ensures short { length self.new ≤ length self.old + 99 }
+    {
+        if !left_out {
+            self.add_board(diagram);
+        }
+    }
+
+    // Adds the board, rank 8 first.
+    fn add_board(&mut self, diagram: &Diagram)
+        requires { length self.old + 99 ≤ room }
+        ensures text { self.new ≡ self.old ++ board_text diagram.now.men }
+        ensures short { length self.new ≤ length self.old + 99 }
+    {
+        self.add_rank(diagram, 7);
+        self.add_rank(diagram, 6);
+        self.add_rank(diagram, 5);
+        self.add_rank(diagram, 4);
+        self.add_rank(diagram, 3);
+        self.add_rank(diagram, 2);
+        self.add_rank(diagram, 1);
+        self.add_rank(diagram, 0);
+        self.add(b"  abcdefgh\n");
+    }
+
+    // Adds a rank, counted from 0.
+    fn add_rank(&mut self, diagram: &Diagram, rank: u8)
+        requires room { length self.old + 11 ≤ room }
+        requires rank { rank < 8 }
+        ensures text { self.new ≡ self.old ++ rank_text diagram.now.men rank }
+        ensures short { length self.new ≤ length self.old + 11 }
+    {
+        self.add(&rank_line(diagram, rank));
+    }
+
+    // Adds the stipulation's word.
+    fn add_stipulation(&mut self, stipulation: Stipulation)
+        requires { length self.old + 24 ≤ room }
+        ensures text { self.new ≡ self.old ++ aim_text stipulation.form stipulation.n }
+        ensures short { length self.new ≤ length self.old + 24 }
+    {
+        let n = u64::from(stipulation.n);
+        match stipulation.form {
+            Form::Direct => {
+                self.add(b"#");
+                self.add_number(n);
+            }
+            Form::SelfMate => {
+                self.add(b"s#");
+                self.add_number(n);
+            }
+            Form::Help => {
+                self.add(b"h#");
+                self.add_number(n);
+            }
+            Form::HelpHalf => {
+                self.add(b"h#");
+                self.add_number(n);
+                self.add(b".5");
+            }
+        }
+    }
+}
+
+fn condition_text(condition: Option<Condition>) -> &'static [u8]
+    ensures text { result.now ≡ text_of_condition condition }
+    ensures short { length result.now ≤ 8 }
+{
+    match condition {
+        None => b"",
+        Some(Condition::Circe) => b" Circe",
+        Some(Condition::Madrasi) => b" Madrasi",
+    }
+}
+
+fn is_left_out(no_board: bool, problem: &Problem) -> bool
+    ensures { result ≡ no_board || problem.now.no_board }
+{
+    no_board || problem.no_board()
+}
+
+// A rank, counted from 0.
+#[tactic(auto, unfolding(crate::specs::Heads::rank_text))]
+fn rank_line(diagram: &Diagram, rank: u8) -> [u8; 11]
+    requires { rank < 8 }
+    ensures { result ≡ rank_text diagram.now.men rank }
+{
+    let first = 8 * rank;
+    [
+        b'1' + rank,
+        b' ',
+        cell(diagram, first),
+        cell(diagram, first + 1),
+        cell(diagram, first + 2),
+        cell(diagram, first + 3),
+        cell(diagram, first + 4),
+        cell(diagram, first + 5),
+        cell(diagram, first + 6),
+        cell(diagram, first + 7),
+        b'\n',
+    ]
+}
+
+fn cell(diagram: &Diagram, number: u8) -> u8
+    requires { number < 64 }
+    ensures { result ≡ letter_on (man_on diagram.now.men number) }
+{
+    match diagram.man_at(Square::numbered(number)) {
+        Some(man) => coloured_letter(man),
+        None => b'.',
+    }
+}
+
+// A capital letter for a white man, a small one for a black man.
+fn coloured_letter(man: Man) -> u8
+    ensures { result ≡ letter_on (Some man) }
+{
+    match man.colour {
+        Colour::White => letter_of(man.kind),
+        Colour::Black => letter_of(man.kind).to_ascii_lowercase(),
+    }
+}
