@@ -1,0 +1,159 @@
+-- Laws of words: their bits, one bit set or cleared, two words joined.
+use Rattle.std.proofs.Common.{◌≡◌, ℕ, zero, suc, ◌+◌, ◌-◌, ◌*◌, ◌/◌, ◌%◌, ◌^◌, ◌<◌, min, max, Bool, true, false, ◌&&◌, ◌||◌, not, List, [], ◌∷◌, length, get_or, set, refl, sym, ap, ◌∙◌, subst, arith, inl, inr}
+use Rattle.std.specs.Int.{bit_at, bit_not, w64, trailing_zeros}
+use Rattle.std.specs.Int.Bits.{bit_and, bit_or}
+use Rattle.std.proofs.lemmas.Bool.{cases_eq}
+use Rattle.std.proofs.lemmas.List.{length-set, get_or-set_same, get_or-set_other}
+use Rattle.std.proofs.lemmas.Nat.{or_lt, and_le_l}
+use Rattle.std.proofs.lemmas.Nat.Bits.{bit_at_lowest, bit_at-suc, bit_at_and, bit_at_not, bit_at_or, bit_at-zero, bit_at-trailing_zeros, same_from_bits_below, bit_at_set_same, bit_at_set_other, bit_at_clear_same, bit_at_clear_other}
+use Rattle.std.proofs.lemmas.List.FromFn.{get_or-range_with_len}
+use Rattle.chess_core.specs.Squares.{squares, some_square}
+use Rattle.chess_core.proofs.Ranges.{some_square_true, some_square_false}
+use Rattle.chess_core.specs.Words.{bit_of, word_of, word}
+
+low : (b : Bool) (n : ℕ) → ((bit_of b + 2 * n) % 2 ≡ bit_of b) × ((bit_of b + 2 * n) / 2 ≡ n)
+low true n = omega arith
+low false n = omega arith
+
+small : (b : Bool) (n k : ℕ) → n < 2 ^ k → bit_of b + 2 * n < 2 ^ suc k
+small true n k h = omega arith
+small false n k h = omega arith
+
+pub word_small : {X : Type 0} (test : X → Bool) (xs : List X) → word_of test xs < 2 ^ length xs
+unfolding word_of
+word_small test [] = omega arith
+word_small test (x ∷ xs) = small (test x) (word_of test xs) (length xs) (word_small test xs)
+
+-- bit i of a word
+pub word_bit : {X : Type 0} (test : X → Bool) (xs : List X) (d : X) (i : ℕ) → i < length xs → bit_at (word_of test xs) i ≡ bit_of (test (get_or xs i d))
+unfolding word_of
+word_bit test [] d i h = absurd (omega arith)
+word_bit test (x ∷ xs) d zero h = bit_at_lowest (bit_of (test x) + 2 * word_of test xs) ∙ (low (test x) (word_of test xs)).0
+word_bit test (x ∷ xs) d (suc i) h =
+    bit_at-suc (bit_of (test x) + 2 * word_of test xs) i ∙ ap (λ n. bit_at n i) (low (test x) (word_of test xs)).1 ∙ word_bit test xs d i (omega arith)
+
+-- a number of 64 bits with these bits is the word
+pub word_from_bits : {X : Type 0} (test : X → Bool) (xs : List X) (d : X) (n : ℕ) → length xs ≡ 64 → n < 2 ^ 64 → ((i : ℕ) → i < 64 → bit_at n i ≡ bit_of (test (get_or xs i d))) → n ≡ word_of test xs
+word_from_bits test xs d n l b h =
+    let w : word_of test xs < 2 ^ 64 = subst (λ k. word_of test xs < 2 ^ k) l (word_small test xs) in
+    same_from_bits_below 64 n (word_of test xs) b w (λ i p. h i p ∙ sym (word_bit test xs d i (omega arith)))
+
+-- a member is put in that passes the test
+pub word_with : {X : Type 0} (test : X → Bool) (xs : List X) (s : ℕ) (y : X) → length xs ≡ 64 → s < 64 → test y ≡ true → bit_or (word_of test xs) (1 * 2 ^ s % 2 ^ 64) ≡ word_of test (set xs s y)
+word_with test xs s y l p h =
+    let w : word_of test xs < 2 ^ 64 = subst (λ k. word_of test xs < 2 ^ k) l (word_small test xs) in
+    word_from_bits test (set xs s y) y _ (length-set xs s y ∙ l) (or_lt 64 _ _ w (omega arith))
+    (λ i q. elim (cases_eq i s) [
+      | inl e ↦ rw e (bit_at_set_same w64 (word_of test xs) s p ∙ sym (ap (λ x. bit_of (test x)) (get_or-set_same xs s y y (omega arith)) ∙ ap bit_of h))
+      | inr ne ↦ bit_at_set_other w64 (word_of test xs) s p i ne ∙ word_bit test xs y i (omega arith) ∙ sym (ap (λ x. bit_of (test x)) (get_or-set_other xs s i y y ne))
+    ])
+
+-- a member is put in that does not
+pub word_without : {X : Type 0} (test : X → Bool) (xs : List X) (s : ℕ) (y : X) → length xs ≡ 64 → s < 64 → test y ≡ false → bit_and (word_of test xs) (bit_not w64 (1 * 2 ^ s % 2 ^ 64)) ≡ word_of test (set xs s y)
+word_without test xs s y l p h =
+    let w : word_of test xs < 2 ^ 64 = subst (λ k. word_of test xs < 2 ^ k) l (word_small test xs) in
+    word_from_bits test (set xs s y) y _ (length-set xs s y ∙ l) (omega (arith, and_le_l (word_of test xs) (bit_not w64 (1 * 2 ^ s % 2 ^ 64))))
+    (λ i q. elim (cases_eq i s) [
+      | inl e ↦ rw e (bit_at_clear_same w64 (word_of test xs) s p ∙ sym (ap (λ x. bit_of (test x)) (get_or-set_same xs s y y (omega arith)) ∙ ap bit_of h))
+      | inr ne ↦ bit_at_clear_other w64 (word_of test xs) s p i q ne ∙ word_bit test xs y i (omega arith) ∙ sym (ap (λ x. bit_of (test x)) (get_or-set_other xs s i y y ne))
+    ])
+
+-- a member is put in that the test cannot tell from the one before
+pub word_same : {X : Type 0} (test : X → Bool) (xs : List X) (s : ℕ) (y d : X) → test (get_or xs s d) ≡ test y → word_of test (set xs s y) ≡ word_of test xs
+unfolding word_of
+word_same test [] s y d h = refl
+word_same test (x ∷ xs) zero y d h = ap (λ b. bit_of b + 2 * word_of test xs) (sym h)
+word_same test (x ∷ xs) (suc s) y d h = ap (λ n. bit_of (test x) + 2 * n) (word_same test xs s y d h)
+
+both : (a b : Bool) → min (bit_of a) (bit_of b) ≡ bit_of (a && b)
+both true true = refl
+both true false = refl
+both false true = refl
+both false false = refl
+
+-- what passes both tests
+pub word_both : {X : Type 0} (p q r : X → Bool) (xs : List X) (d : X) → length xs ≡ 64 → ((x : X) → (p x && q x) ≡ r x) → bit_and (word_of p xs) (word_of q xs) ≡ word_of r xs
+word_both p q r xs d l h =
+    let w : word_of p xs < 2 ^ 64 = subst (λ k. word_of p xs < 2 ^ k) l (word_small p xs) in
+    word_from_bits r xs d _ l (omega (arith, and_le_l (word_of p xs) (word_of q xs)))
+    (λ i b. bit_at_and (word_of p xs) (word_of q xs) i
+    ∙ (λ j. min (word_bit p xs d i (omega arith) j) (word_bit q xs d i (omega arith) j))
+    ∙ both (p (get_or xs i d)) (q (get_or xs i d)) ∙ ap bit_of (h (get_or xs i d)))
+
+-- the same word by the numbers of the squares
+pub squares_at : (i : ℕ) → i < 64 → get_or squares i 0 ≡ i
+unfolding squares
+squares_at i p = get_or-range_with_len 0 64 i 0 p ∙ omega arith
+
+pub word_on : {X : Type 0} (test : X → Bool) (xs : List X) (d : X) → length xs ≡ 64 → word_of test xs ≡ word (λ s. test (get_or xs s d))
+unfolding word squares
+word_on test xs d l =
+    word_from_bits (λ s. test (get_or xs s d)) squares 0 (word_of test xs) refl (subst (λ k. word_of test xs < 2 ^ k) l (word_small test xs))
+    (λ i p. word_bit test xs d i (omega arith) ∙ ap (λ n. bit_of (test (get_or xs n d))) (sym (squares_at i p)))
+
+-- bit s of a word of squares
+pub square_bit : (test : ℕ → Bool) (s : ℕ) → s < 64 → bit_at (word test) s ≡ bit_of (test s)
+unfolding word squares
+square_bit test s p = word_bit test squares 0 s p ∙ ap (λ n. bit_of (test n)) (squares_at s p)
+
+pub square_word_small : (test : ℕ → Bool) → word test < 2 ^ 64
+unfolding word squares
+square_word_small test = word_small test squares
+
+-- a number of 64 bits with these bits is the word of squares
+pub square_word : (test : ℕ → Bool) (n : ℕ) → n < 2 ^ 64 → ((s : ℕ) → s < 64 → bit_at n s ≡ bit_of (test s)) → n ≡ word test
+unfolding word squares
+square_word test n fits h = word_from_bits test squares 0 n refl fits (λ s p. h s p ∙ ap (λ m. bit_of (test m)) (sym (squares_at s p)))
+
+either : (a b : Bool) → max (bit_of a) (bit_of b) ≡ bit_of (a || b)
+either true true = refl
+either true false = refl
+either false true = refl
+either false false = refl
+
+pub squares_either : (p q : ℕ → Bool) → bit_or (word p) (word q) ≡ word (λ s. p s || q s)
+squares_either p q =
+    square_word (λ s. p s || q s) _ (or_lt 64 _ _ (square_word_small p) (square_word_small q))
+    (λ s b. bit_at_or (word p) (word q) s ∙ (λ j. max (square_bit p s b j) (square_bit q s b j)) ∙ either (p s) (q s))
+
+pub squares_both : (p q : ℕ → Bool) → bit_and (word p) (word q) ≡ word (λ s. p s && q s)
+squares_both p q =
+    square_word (λ s. p s && q s) _ (omega (arith, and_le_l (word p) (word q), square_word_small p))
+    (λ s b. bit_at_and (word p) (word q) s ∙ (λ j. min (square_bit p s b j) (square_bit q s b j)) ∙ both (p s) (q s))
+
+-- a word is 0 where no square passes
+no_bit : (b : Bool) → bit_of b ≡ 0 → b ≡ false
+no_bit true h = absurd (omega arith)
+no_bit false h = refl
+
+pub squares_none : (test : ℕ → Bool) → word test ≡ 0 → some_square test ≡ false
+squares_none test h =
+    some_square_false test 64 (omega arith) (record { fails = λ s p. no_bit (test s) (sym (square_bit test s p) ∙ ap (λ n. bit_at n s) h ∙ bit_at-zero s) })
+
+yes_bit : (b : Bool) → bit_of b ≡ 1 → b ≡ true
+yes_bit true h = refl
+yes_bit false h = absurd (omega arith)
+
+pub squares_some : (test : ℕ → Bool) → 0 < word test → some_square test ≡ true
+squares_some test h =
+    let w = bit_at-trailing_zeros w64 (word test) h (square_word_small test) in
+    some_square_true test (trailing_zeros w64 (word test)) w.0 (yes_bit _ (sym (square_bit test (trailing_zeros w64 (word test)) w.0) ∙ w.1))
+
+negated : (b : Bool) → 1 - bit_of b ≡ bit_of (not b)
+negated true = refl
+negated false = refl
+
+pub squares_not : (p : ℕ → Bool) → bit_not w64 (word p) ≡ word (λ s. not (p s))
+squares_not p =
+    square_word (λ s. not (p s)) _ (omega (arith, square_word_small p))
+    (λ s b. bit_at_not w64 (word p) s (square_word_small p) b ∙ ap (λ n. 1 - n) (square_bit p s b) ∙ negated (p s))
+
+pub squares_same : (p q : ℕ → Bool) → ((s : ℕ) → s < 64 → p s ≡ q s) → word p ≡ word q
+squares_same p q h = square_word q (word p) (square_word_small p) (λ s b. square_bit p s b ∙ ap bit_of (h s b))
+
+-- a bit that is 0, a bit that is 1
+pub square_unset : (test : ℕ → Bool) (s : ℕ) → s < 64 → bit_at (word test) s ≡ 0 → test s ≡ false
+square_unset test s p h = no_bit (test s) (sym (square_bit test s p) ∙ h)
+
+pub square_set : (test : ℕ → Bool) (s : ℕ) → s < 64 → bit_at (word test) s ≡ 1 → test s ≡ true
+square_set test s p h = yes_bit (test s) (sym (square_bit test s p) ∙ h)
