@@ -1,11 +1,10 @@
 -- A problem as it is posed.
-use Rattle.std.specs.Prelude.{◌≡◌, ◌≤◌, ℕ, Bool, true, false, Option, Some, None, is_some}
+use Rattle.std.specs.Prelude.{◌≡◌, ◌≤◌, ℕ, Bool, true, false, List, Option, Some, None, is_some}
 use Rattle.chess_core.specs.Diagrams.{Setup, position_of}
 use Rattle.chess_core.specs.Position.{king_square, other}
 use Rattle.chess_core.specs.WellFormed.{IsWellFormed}
 use Rattle.chess_rules.specs.Attacks.{in_check}
 use Rattle.chess_rules.specs.RuleSet.{RuleSet, orthodox, circe, madrasi}
-use Rattle.pop_text.specs.declared.text.Text.{Text}
 use Rattle.pop_input.specs.Stipulations.{starts, mated, is_in_range}
 use Rattle.pop_input.specs.declared.condition.Condition.{Condition}
 use Rattle.pop_input.specs.declared.condition.Condition.TheVariants.{Circe, Madrasi}
@@ -20,8 +19,8 @@ pub record Posed : Type 0 where
   pub variation : Bool
   pub no_board : Bool
   pub max_solutions : ℕ
-  pub title : Text
-  pub author : Text
+  pub title : List ℕ
+  pub author : List ℕ
 
 -- the rules under which a condition has a problem played
 abbrev pub rule_of : Option Condition → RuleSet

@@ -5,7 +5,6 @@ use Rattle.chess_core.specs.Position.{man_on}
 use Rattle.chess_core.specs.declared.man.Man.{Man}
 use Rattle.chess_core.specs.declared.man.Colour.{Colour}
 use Rattle.chess_core.specs.declared.man.Colour.TheVariants.{White, Black}
-use Rattle.pop_text.specs.Left.{bytes_of}
 use Rattle.pop_input.specs.Posed.{Posed}
 use Rattle.pop_input.specs.declared.stipulation.Form.{Form}
 use Rattle.pop_input.specs.declared.stipulation.Form.TheVariants.{Direct, SelfMate, Help, HelpHalf}
@@ -55,7 +54,7 @@ item_line number = codes "problem " ++ decimal number ++ codes "\n"
 
 -- title and author
 unfoldable pub names_text : Posed → List ℕ
-names_text posed = labelled (codes "title: ") (bytes_of posed.title) ++ labelled (codes "author: ") (bytes_of posed.author)
+names_text posed = labelled (codes "title: ") posed.title ++ labelled (codes "author: ") posed.author
 
 -- the line of the stipulation
 unfoldable pub task_line : Posed → List ℕ

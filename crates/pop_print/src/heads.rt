@@ -2,7 +2,6 @@
 ghost use Rattle.std.specs.Prelude.{◌≡◌, ◌<◌, ◌≤◌, ◌+◌, ◌++◌, ◌||◌, List, ℕ, [], length, codes, if◌then◌else◌};
 ghost use Rattle.chess_core.specs.Position.{man_on};
 ghost use Rattle.pop_text.specs.Bytes.{Writes, count_after, greatest};
-ghost use Rattle.pop_text.specs.Left.{bytes_of};
 ghost use Rattle.pop_print.specs.Room.{room};
 ghost use Rattle.pop_print.specs.Heads.{aim_text, board_text, cell_of as letter_on, condition_text as text_of_condition, head_text, item_line, labelled, names_text, rank_text, task_line};
 
@@ -83,7 +82,7 @@ impl LineBuffer {
     // Adds a title or an author, where there is one.
     fn add_labelled(&mut self, label: &[u8], text: &Text)
         requires { length self.old + length label.now + 201 ≤ room }
-        ensures text { self.new ≡ self.old ++ labelled label.now (bytes_of text.now) }
+        ensures text { self.new ≡ self.old ++ labelled label.now text.now }
         ensures short { length self.new ≤ length self.old + length label.now + 201 }
     {
         let bytes = text.bytes();

@@ -1,5 +1,5 @@
 -- The words still to come from a place, and what a call of the scanner takes of them.
-use Rattle.std.specs.Prelude.{◌≡◌, ◌<◌, ◌≤◌, ℕ, ◌+◌, ◌-◌, List, [], ◌∷◌, ◌++◌, length, take, Option, None, Some, Result, Ok, Err, Bool, true, false}
+use Rattle.std.specs.Prelude.{◌≡◌, ◌<◌, ◌≤◌, ℕ, ◌+◌, ◌-◌, List, [], ◌∷◌, ◌++◌, length, Option, None, Some, Result, Ok, Err, Bool, true, false}
 use Rattle.pop_text.specs.Bytes.{Consumes}
 use Rattle.pop_text.specs.Words.{Input, Clean, Failed, Words, Token, Word, TextLine, Tail, End as AtEnd, Long, Broken as Failing, limit, words_from, is_text_word, text_of_line}
 use Rattle.pop_text.specs.Reading.{Reading}
@@ -77,11 +77,7 @@ NextWord old new had left (Err (TooLong line)) = (text : List ℕ) × (160 < len
 NextWord old new had left (Err (InputTooLong line)) = TakesNone (among old) new had left (InputTooLong line)
 NextWord old new had left (Err (Device line)) = TakesNone (among old) new had left (Device line)
 
--- the bytes of a text
-abbrev pub bytes_of : Text → List ℕ
-bytes_of text = take text.length text.cells
-
 -- what rest_of_line does behind a text word, whichever it is
 abbrev pub RestOfLine : List ℕ → Reading → Reading → Option (List ℕ) → Option (List ℕ) → Result Text ReadFault → Type 0
-RestOfLine keyword old new had left (Ok text) = (line : List ℕ) × Takes (behind_word keyword old) (among new) had left (TextLine old.line keyword line ∷ []) × (bytes_of text ≡ text_of_line line) × (old.used ≤ new.used) × (new.used ≤ limit)
+RestOfLine keyword old new had left (Ok text) = (line : List ℕ) × Takes (behind_word keyword old) (among new) had left (TextLine old.line keyword line ∷ []) × (text ≡ text_of_line line) × (old.used ≤ new.used) × (new.used ≤ limit)
 RestOfLine keyword old new had left (Err fault) = TakesNone (behind_word keyword old) new had left fault

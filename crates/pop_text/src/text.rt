@@ -1,39 +1,57 @@
 //! The text behind a text word.
-ghost use Rattle.std.specs.Prelude.{◌≡◌, ◌≤◌, ℕ, List, [], take, length};
+ghost use Rattle.std.specs.Prelude.{◌≡◌, ◌≤◌, ℕ, List, [], length};
 ghost use Rattle.pop_text.specs.Words.{is_blank, without_trailing};
 ghost use Rattle.pop_text.specs.Texts.{with_byte};
 
 use arrayvec::ArrayVec;
+use std::marker::Model;
 
-/// At most 200 bytes of a line, in its own room.
+/// At most 200 bytes of a line, in its own room. Contracts see the bytes.
 #[derive(Clone, Copy)]
 pub struct Text {
     cells: [u8; 200],
-    length: u8,
-    ghost within: { length ≤ 200 },
+    size: u8,
+}
+
+impl Model for Text {
+    ghost use Rattle.std.specs.Prelude.{ℕ, List, length, take};
+    ghost use Rattle.std.proofs.Common.{ap₂};
+    ghost use Rattle.pop_text.specs.Texts.{IsPadded, padded};
+
+    ghost Value = { List ℕ };
+
+    ghost view = { λ t. take t.size t.cells };
+
+    // The cells behind the bytes are 0, so that the bytes say all.
+    ghost invariant = { λ t. IsPadded t.cells t.size };
+
+    ghost inverse = { λ bytes. record { cells = padded bytes; size = length bytes } };
+
+    ghost inverse_ok = { λ t kept. ap₂ (λ (cells : List ℕ) (size : ℕ). record { cells = cells; size = size }) kept.cells_are kept.size_is };
 }
 
 impl Text {
     /// No byte.
     pub fn empty() -> Text
-        ensures { take result.length result.cells ≡ [] }
+        ensures { result ≡ [] }
     {
         Text {
             cells: [0; 200],
-            length: 0,
+            size: 0,
         }
     }
 
     /// Its bytes.
     pub fn bytes(&self) -> &[u8]
-        ensures { result.now ≡ take self.now.length self.now.cells }
+        ensures bytes { result.now ≡ self.now }
+        ensures short { length result.now ≤ 200 }
     {
-        &self.cells[..self.length as usize]
+        &self.cells[..self.size as usize]
     }
 
     // The bytes without their trailing blanks.
     pub fn trimmed(mut kept: ArrayVec<u8, 200>) -> Text
-        ensures { take result.length result.cells ≡ without_trailing kept.items }
+        ensures { result ≡ without_trailing kept.items }
     {
         'trim: while let Some(&byte) = kept.as_slice().last() {
             if !is_blank_byte(byte) {
@@ -41,12 +59,18 @@ impl Text {
             }
             let _ = kept.pop();
         }
+        Text::of(&kept)
+    }
+
+    fn of(bytes: &ArrayVec<u8, 200>) -> Text
+        ensures { result ≡ bytes.now.items }
+    {
         let mut cells = [0; 200];
-        let length = kept.len();
-        cells[..length].copy_from_slice(kept.as_slice());
+        let size = bytes.len();
+        cells[..size].copy_from_slice(bytes.as_slice());
         Text {
             cells,
-            length: length as u8,
+            size: size as u8,
         }
     }
 }
