@@ -4,6 +4,7 @@ use Rattle.std.proofs.lemmas.Bool.Decides.{nat_tests}
 use Rattle.chess_core.specs.Position.{Position}
 use Rattle.chess_core.specs.Triple.{Triple}
 use Rattle.chess_rules.specs.Legal.{is_nil, moves}
+use Rattle.chess_rules.specs.Places.{moves_behind}
 use Rattle.chess_rules.specs.RuleSet.{RuleSet}
 use Rattle.pop_solve.specs.Chess.{chess}
 use Rattle.pop_solve.specs.Game.{can_move}
@@ -14,5 +15,10 @@ is_nil-length (m ∷ ms) = grind (arith, nat_tests)
 
 pub can_move-is : (rule : RuleSet) (p : Position) → not (is_nil (moves rule p)) ≡ can_move (chess rule) p
 can_move-is rule p = is_nil-length (moves rule p)
+
+-- before all triples all moves are to come
+pub behind_start : (rule : RuleSet) (p : Position) → moves_behind rule p 0 ≡ moves rule p
+unfolding moves_behind moves
+behind_start rule p = refl
 
 pub ruleset some_move = (can_move-is)

@@ -1,1 +1,9 @@
 pub mod Boards
+pub mod Values
+pub mod Tests
+pub mod Battles
+pub mod Lengths
+pub mod Least
+pub mod Walking
+pub mod Paths
+pub mod Trees

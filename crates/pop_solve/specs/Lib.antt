@@ -5,3 +5,4 @@ pub mod Chess
 pub mod Events
 pub mod Values
 pub mod Frames
+pub mod Walk

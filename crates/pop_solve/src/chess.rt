@@ -1,18 +1,21 @@
 //! What the search does on the board.
-ghost use Rattle.std.specs.Prelude.{◌≡◌, not, ◌==◌, length};
+ghost use Rattle.std.specs.Prelude.{◌≡◌, ◌∷◌, [], MatchOption, true};
+ghost use Rattle.chess_core.specs.Diagrams.{position_of};
 ghost use Rattle.chess_core.specs.Position.{Position};
 ghost use Rattle.chess_core.specs.WellFormed.{IsWellFormed};
 ghost use Rattle.chess_rules.specs.Attacks.{in_check};
-ghost use Rattle.chess_rules.specs.Legal.{is_goal, moves};
+ghost use Rattle.chess_rules.specs.Legal.{legal};
+ghost use Rattle.chess_rules.specs.Places.{moves_behind};
 ghost use Rattle.pop_solve.specs.Chess.{castling_side, chess, is_impossible, mark_of, reborn, set_start, shown_by, shown_of};
 ghost use Rattle.pop_solve.specs.Frames.{CameBy};
 ghost use Rattle.pop_solve.specs.Game.{can_move as has_move};
 
 use crate::shown::{Mark, Shown, Side};
 use chess_core::board::Board;
+use chess_core::diagram::Diagram;
 use chess_core::man::{Man, Move};
 use chess_core::square::Square;
-use chess_rules::moves::has_legal_move;
+use chess_rules::moves::{Moves, has_legal_move};
 use chess_rules::play::{Undo, is_castling};
 use chess_rules::rules::{Rules, in_check};
 
@@ -26,9 +29,20 @@ pub fn can_move<R: Rules>(board: &mut Board) -> bool
     has_legal_move::<R>(board)
 }
 
+/// The next legal move behind the place, which moves on to it.
+pub fn next_move<R: Rules>(place: &mut Moves<R>, board: &mut Board) -> Option<Move>
+    requires well_formed { IsWellFormed board.old }
+    ensures unchanged { board.new ≡ board.old }
+    ensures next { MatchOption result (moves_behind R.rule board.old place.old ≡ [])
+        (λ m. (moves_behind R.rule board.old place.old ≡ m ∷ moves_behind R.rule board.old place.new)
+        × (legal R.rule board.old m ≡ true)) }
+{
+    place.next(board)
+}
+
 /// Takes a move back.
 #[tactic(auto, using(chess_rules::proofs::Calls::playing))]
-pub fn take_back<R: Rules>(board: &mut Board, by: Move, undo: Undo)
+pub fn retract<R: Rules>(board: &mut Board, by: Move, undo: Undo)
     requires came { (p : Position) × CameBy R.rule by undo board.old p }
     ensures before { (p : Position) → CameBy R.rule by undo board.old p → board.new ≡ p }
 {
@@ -109,6 +123,16 @@ pub fn turn_over(board: &mut Board)
 {
     board.set_turn(board.turn().other());
     board.set_crossed(None);
+}
+
+/// Gives it back: the position is that of the diagram again.
+#[tactic(auto, unfolding(chess_core::specs::Diagrams::position_of))]
+pub fn turn_back(board: &mut Board, diagram: &Diagram)
+    requires { board.old ≡ set_start (position_of diagram.now) }
+    ensures { board.new ≡ position_of diagram.now }
+{
+    board.set_turn(diagram.turn);
+    board.set_crossed(diagram.crossed);
 }
 
 /// Whether the position can't stand in set play: the side that isn't to move is in check.

@@ -3,12 +3,13 @@ use crate::shown::Shown;
 use chess_core::man::Move;
 use chess_rules::moves::Moves;
 use chess_rules::play::Undo;
+use chess_rules::rules::Rules;
 use std::marker::Model;
 
 /// A position on the way from a phase's first position, whose moves are tried in turn. Contracts see the record `Frame`
 /// of the same fields.
 #[derive(Clone, Copy)]
-pub struct Frame<R> {
+pub struct Frame<R: Rules> {
     /// The moves up to here have been tried.
     pub place: Moves<R>,
     /// The move that led here, and what it destroyed.
@@ -20,7 +21,7 @@ pub struct Frame<R> {
     pub shown: Shown,
 }
 
-impl<R> Model for Frame<R> {
+impl<R: Rules> Model for Frame<R> {
     ghost use Rattle.pop_solve.specs.Frames.{Frame as Level};
 
     ghost Value = { Level };
@@ -30,7 +31,7 @@ impl<R> Model for Frame<R> {
     ghost inverse = { λ v. record { place = v.place; by = v.by; undo = v.undo; left = v.left; shown = v.shown } };
 }
 
-impl<R> Default for Frame<R> {
+impl<R: Rules> Default for Frame<R> {
     fn default() -> Self {
         Frame {
             place: Moves::start(),

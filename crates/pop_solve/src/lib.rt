@@ -5,3 +5,5 @@ mod chess;
 pub mod event;
 pub mod frame;
 pub mod shown;
+mod value;
+mod walk;

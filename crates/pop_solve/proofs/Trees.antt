@@ -1,0 +1,330 @@
+-- What the walk shows is the tree that the definitions name.
+use Rattle.std.proofs.Common.{◌≡◌, ℕ, zero, suc, ◌+◌, ◌-◌, ◌*◌, ◌/◌, ◌%◌, ◌<◌, ◌≤◌, Bool, true, false, not, ◌&&◌, ◌||◌, eqb, cond, List, [], ◌∷◌, ◌++◌, length, map, refl, sym, ◌∙◌, ap, arith, ◌⊎◌, inl, inr}
+use Rattle.std.specs.Prelude.{◌==◌, if◌then◌else◌}
+use Rattle.std.specs.List.{flat_map, filter, list_all, position_or_len, range_with_len}
+use Rattle.std.proofs.lemmas.List.{append-nil}
+use Rattle.std.proofs.lemmas.List.Concat.{flat_map_single}
+use Rattle.std.proofs.lemmas.Bool.Decides.{nat_tests}
+use Rattle.pop_solve.specs.Game.{Game, can_move, every_move, lost, wins, self_wins, self_lost, lines_to_goal, help_lines}
+use Rattle.pop_solve.specs.Values.{seeks, value}
+use Rattle.pop_solve.specs.Tree.{node, keeps, wins_in, least, best, below, answers, tree, set_shows, set_tree}
+use Rattle.pop_solve.specs.Walk.{fewest, first_from, open_length, follows, gives, goes_on, shown}
+use Rattle.pop_solve.specs.declared.walk.Way.{Way}
+use Rattle.pop_solve.proofs.Battles.{value-lost, value-wins, value-self_wins, value-self_lost}
+use Rattle.pop_solve.proofs.Lengths.{length-more}
+use Rattle.pop_solve.proofs.Walking.{length_most, goes_on-keys}
+use Rattle.pop_solve.proofs.Least.{least-direct, least-selfmate}
+
+-- the half-moves of a battle of so many moves
+abbrev pub halves : Bool → ℕ → ℕ
+halves selfmate k = if selfmate then 2 * k else 2 * k - 1
+
+-- lists
+module _ {A B : Type 0} where
+  pub flat-same : (F G : A → List B) (xs : List A) → ((x : A) → F x ≡ G x) → flat_map F xs ≡ flat_map G xs
+  flat-same F G [] e = refl
+  flat-same F G (x ∷ xs) e = rw (e x, flat-same F G xs e) refl
+
+  -- where all pass the test
+  pub flat-all : (test : A → Bool) (F G : A → List B) (xs : List A) → list_all test xs ≡ true → ((x : A) → test x ≡ true → F x ≡ G x) → flat_map F xs ≡ flat_map G xs
+  flat-all test F G [] t e = refl
+  flat-all test F G (x ∷ xs) t e =
+      let b = both (test x) (list_all test xs) t in rw (e x b.0, flat-all test F G xs b.1 e) refl
+    where
+      both : (a b : Bool) → (a && b) ≡ true → (a ≡ true) × (b ≡ true)
+      both true b e = (refl, e)
+      both false b e = absurd cc
+
+  -- by those that pass it
+  pub flat-filter : (test other : A → Bool) (F G : A → List B) (xs : List A) → ((x : A) → test x ≡ other x) → ((x : A) → test x ≡ true → F x ≡ G x) → flat_map (λ x. cond (test x) (F x) []) xs ≡ flat_map G (filter other xs)
+  flat-filter test other F G [] s e = refl
+  flat-filter test other F G (x ∷ xs) s e =
+      rw (flat-filter test other F G xs s e, ← s x) (split (test x) refl)
+    where
+      split : (b : Bool) → test x ≡ b → cond b (F x) [] ++ flat_map G (filter other xs) ≡ flat_map G (cond b (x ∷ filter other xs) (filter other xs))
+      split true t = ap (λ ys. ys ++ flat_map G (filter other xs)) (e x t)
+      split false t = refl
+
+module _ {P M : Type 0} (game : Game P M) where
+  pub shown-zero : (way : Way) (root : Bool) (k : ℕ) (p : P) (ms : List M) → shown way game root k 0 p ms ≡ []
+  unfolding shown
+  shown-zero way root zero p ms = refl
+  shown-zero way root (suc k) p ms = refl
+
+  -- help play
+  module _ (way : Way) (help : way.help ≡ true) where
+    -- the lines by a move
+    by_move : (tested b : Bool) (m : M) (xs ys : List (List M)) → cond b ([] ∷ []) [] ++ xs ≡ ys → cond (way.help || tested) (cond (not way.help || b) ((m ∷ []) ∷ []) [] ++ map (λ line. m ∷ line) xs) [] ≡ map (λ line. m ∷ line) ys
+    by_move tested true m xs ys e = rw help (ap (map (λ line. m ∷ line)) e)
+    by_move tested false m xs ys e = rw help (ap (map (λ line. m ∷ line)) e)
+
+    goes_on-whole : (t : ℕ) (q : P) → goes_on way game t q ≡ t
+    unfolding goes_on
+    goes_on-whole t q = rw help refl
+
+    not_yet : (k : ℕ) (g : Bool) (xs ys : List (List M)) → xs ≡ ys → cond (eqb (suc k) 0 && g) ([] ∷ []) [] ++ xs ≡ ys
+    not_yet k g xs ys e = let z : eqb (suc k) 0 ≡ false = grind (arith, nat_tests) in rw z e
+
+    pub shown-help : (root : Bool) (k : ℕ) (p : P) → shown way game root (suc k) (suc k) p (game.moves p) ≡ lines_to_goal game (suc k) p
+    unfolding shown follows gives lines_to_goal
+    shown-help root zero p =
+        flat-same _ _ (game.moves p) (λ m. by_move _ (game.goal (game.after p m)) m [] _ (append-nil _))
+    shown-help root (suc k) p =
+        flat-same _ _ (game.moves p) (λ m. by_move _ (eqb (suc k) 0 && game.goal (game.after p m)) m _ _
+        (not_yet k (game.goal (game.after p m)) _ _ (ap (λ t. shown way game false (suc k) t (game.after p m) (game.moves (game.after p m))) (goes_on-whole (suc k) (game.after p m)) ∙ shown-help false k (game.after p m))))
+
+  -- battle play: parities
+  pub seeks-step : (selfmate : Bool) (t : ℕ) → seeks selfmate (t + 1) ≡ not (seeks selfmate t)
+  seeks-step true t = parity (t % 2) (t + 1) refl
+    where
+      parity : (r n : ℕ) → t % 2 ≡ r → eqb ((t + 1) % 2) 0 ≡ not (eqb (t % 2) 0)
+      parity r n e = grind (arith, nat_tests)
+  seeks-step false t = parity (t % 2) (t + 1) refl
+    where
+      parity : (r n : ℕ) → t % 2 ≡ r → eqb ((t + 1) % 2) 1 ≡ not (eqb (t % 2) 1)
+      parity r n e = grind (arith, nat_tests)
+
+  seeks-halves : (selfmate : Bool) (t : ℕ) → seeks selfmate t ≡ true → 0 < t → (k : ℕ) × (t ≡ halves selfmate (suc k))
+  seeks-halves true t s some = let e : t % 2 ≡ 0 = grind (arith, nat_tests) in (t / 2 - 1, omega (arith, e, some))
+  seeks-halves false t s some = let e : t % 2 ≡ 1 = grind (arith, nat_tests) in (t / 2, omega (arith, e))
+
+  -- the test of a move of White
+  pub keeps-value : (selfmate : Bool) (k : ℕ) (q : P) → keeps selfmate game (suc k) q ≡ value selfmate game (halves selfmate (suc k) - 1) q
+  keeps-value false k q = let n : suc k - 1 ≡ k = omega arith in let h : 2 * suc k - 1 - 1 ≡ 2 * k = omega arith in rw (n, h) (sym (value-lost game k q))
+  keeps-value true k q = let h : 2 * suc k - 1 ≡ suc (2 * k) = omega arith in rw h (sym (value-self_lost game k q))
+
+  -- the least length by half-moves is that of the least number of moves
+  least-halves : (selfmate : Bool) (n t : ℕ) (q : P) → seeks selfmate t ≡ true → 0 < t → t ≤ 2 * n → game.goal q ≡ false → value selfmate game t q ≡ true → first_from selfmate game q ((t - fewest selfmate) / 2) (fewest selfmate) ≡ halves selfmate (least selfmate game n q)
+  least-halves true zero t q s some most open_yet v = absurd (omega (arith, some, most))
+  least-halves true (suc n) t q s some most open_yet v =
+      let k = seeks-halves true t s some in
+      let a : (t - 2) / 2 ≡ k.0 = omega (arith, k.1) in
+      let b : 2 + (k.0 + k.0) ≡ t = omega (arith, k.1) in
+      let m : first_from true game q n 2 ≡ first_from true game q k.0 2 = length-more true game q k.0 n 2 (rw b v) (omega (arith, k.1, most)) in
+      rw a (sym m ∙ least-selfmate game q open_yet n)
+  least-halves false zero t q s some most open_yet v = absurd (omega (arith, some, most))
+  least-halves false (suc n) t q s some most open_yet v =
+      let k = seeks-halves false t s some in
+      let a : (t - 1) / 2 ≡ k.0 = omega (arith, k.1) in
+      let b : 1 + (k.0 + k.0) ≡ t = omega (arith, k.1) in
+      let m : first_from false game q n 1 ≡ first_from false game q k.0 1 = length-more false game q k.0 n 1 (rw b v) (omega (arith, k.1, most)) in
+      rw a (sym m ∙ omega (arith, least-direct game q n))
+
+  half-some : (selfmate : Bool) (k l : ℕ) → suc l ≡ halves selfmate k → (j : ℕ) × (k ≡ suc j)
+  half-some true zero l e = absurd (omega (arith, e))
+  half-some false zero l e = absurd (omega (arith, e))
+  half-some selfmate (suc j) l e = (j, refl)
+
+  -- the value of Black's position holds after each of his moves
+  value-black : (selfmate : Bool) (t : ℕ) (q : P) → game.goal q ≡ false → seeks selfmate (suc t) ≡ false → value selfmate game (suc t) q ≡ true → every_move game (value selfmate game t) q ≡ true
+  unfolding value
+  value-black selfmate t q g s v = last (eqb (suc t % 2) 0) (game.goal q) (seeks selfmate (suc t)) _ (can_move game q) _ g s v
+    where
+      last : (e g s a c b : Bool) → g ≡ false → s ≡ false → ((e && g) || cond s a (c && b)) ≡ true → b ≡ true
+      last true false false a true b x y v = v
+      last true false false a false b x y v = absurd cc
+      last false false false a true b x y v = v
+      last false false false a false b x y v = absurd cc
+      last e true s a c b x y v = absurd cc
+      last e false true a c b x y v = absurd cc
+
+  -- nothing stands below the goal
+  nothing : (n k : ℕ) (q : P) → game.goal q ≡ true → (selfmate : Bool) (s : Bool) → cond s (answers selfmate game n k q) (below selfmate game n k q) ≡ []
+  unfolding answers below
+  nothing n zero q g selfmate true = refl
+  nothing n zero q g selfmate false = refl
+  nothing n (suc k) q g selfmate true = rw g refl
+  nothing n (suc k) q g selfmate false = rw g refl
+
+  first_from-least : (selfmate : Bool) (q : P) (n a : ℕ) → a ≤ first_from selfmate game q n a
+  unfolding first_from
+  first_from-least selfmate q zero a = omega arith
+  first_from-least selfmate q (suc n) a = elim (value selfmate game a q) as (λ b. a ≤ cond b a (first_from selfmate game q n (a + 2))) [ true ↦ omega arith | false ↦ omega (arith, first_from-least selfmate q n (a + 2)) ]
+
+  fewest-some : (selfmate : Bool) → 1 ≤ fewest selfmate
+  fewest-some true = omega arith
+  fewest-some false = omega arith
+
+  pub halves-seek : (selfmate : Bool) (k : ℕ) → seeks selfmate (halves selfmate (suc k)) ≡ true
+  halves-seek true k = let e : 2 * suc k % 2 ≡ 0 = omega arith in rw e refl
+  halves-seek false k = let e : (2 * suc k - 1) % 2 ≡ 1 = omega arith in rw e refl
+
+  pub flip : (b : Bool) → not b ≡ true → b ≡ false
+  flip true e = absurd cc
+  flip false e = refl
+
+  pub unflip : (b : Bool) → not b ≡ false → b ≡ true
+  unflip true e = refl
+  unflip false e = absurd cc
+
+  value-end-zero : (selfmate : Bool) (q : P) → value selfmate game 0 q ≡ game.goal q
+  unfolding value
+  value-end-zero selfmate q = refl
+
+  -- in battle play
+  module _ (way : Way) (battle : way.help ≡ false) where
+    -- a move that is tested, and one that isn't
+    pub by_test : (root : Bool) (t : ℕ) (q : P) → (root || seeks way.selfmate (t + 1)) ≡ true → follows way game root t q ≡ value way.selfmate game t q
+    unfolding follows
+    by_test root t q s = rw (battle, s) refl
+
+    by_none : (t : ℕ) (q : P) → seeks way.selfmate (t + 1) ≡ false → follows way game false t q ≡ true
+    unfolding follows
+    by_none t q s = rw (battle, s) refl
+
+    given_always : (t : ℕ) (q : P) → gives way game t q ≡ true
+    unfolding gives
+    given_always t q = rw battle refl
+
+    -- what the walk shows by some moves, as nodes
+    abbrev pub beneath : ℕ → ℕ → P → List (List M)
+    beneath k t q = shown way game false k (goes_on way game t q) q (game.moves q)
+
+    pub as_nodes : (root : Bool) (k t : ℕ) (p : P) (ms : List M) → shown way game root (suc k) (suc t) p ms ≡ flat_map (λ m. cond (follows way game root t (game.after p m)) (node m (beneath k t (game.after p m))) []) ms
+    unfolding shown
+    as_nodes root k t p ms =
+        flat-same _ _ ms (λ m. ap (λ b. cond (follows way game root t (game.after p m)) (cond b ((m ∷ []) ∷ []) [] ++ map (λ line. m ∷ line) (beneath k t (game.after p m))) []) (given_always t (game.after p m)))
+
+    -- the moves of White in his least length, over anything
+    white : (n k t : ℕ) (q : P) (G : M → List (List M)) → seeks way.selfmate t ≡ true → 0 < t → t ≤ 2 * n → t ≤ suc k → game.goal q ≡ false → value way.selfmate game t q ≡ true
+        → ((l : ℕ) (m : M) → seeks way.selfmate (l + 1) ≡ true → l + 1 ≤ t → value way.selfmate game l (game.after q m) ≡ true → node m (beneath k l (game.after q m)) ≡ G m)
+        → shown way game false (suc k) (open_length way.selfmate game t q) q (game.moves q) ≡ flat_map G (best way.selfmate game n q)
+    unfolding open_length
+    white n k zero q G s some most room open_yet v each = absurd (omega (arith, some))
+    white n k (suc t) q G s some most room open_yet v each =
+        let z : eqb (suc t) 0 ≡ false = grind (arith, nat_tests) in
+        let L = first_from way.selfmate game q ((suc t - fewest way.selfmate) / 2) (fewest way.selfmate) in
+        let h : L ≡ halves way.selfmate (least way.selfmate game n q) = least-halves way.selfmate n (suc t) q s some most open_yet v in
+        rw (z, open_yet, s) (go L refl h)
+      where
+        z0 : eqb (suc t) 0 ≡ false
+        z0 = grind (arith, nat_tests)
+
+        L0 : ℕ
+        L0 = first_from way.selfmate game q ((suc t - fewest way.selfmate) / 2) (fewest way.selfmate)
+
+        go : (x : ℕ) → L0 ≡ x → x ≡ halves way.selfmate (least way.selfmate game n q) → shown way game false (suc k) x q (game.moves q) ≡ flat_map G (best way.selfmate game n q)
+        go zero e h = absurd (omega (arith, e, first_from-least way.selfmate q ((suc t - fewest way.selfmate) / 2) (fewest way.selfmate), fewest-some way.selfmate))
+        go (suc l) e h =
+            let j = half-some way.selfmate _ l h in
+            let h2 : suc l ≡ halves way.selfmate (suc j.0) = h ∙ ap (halves way.selfmate) j.1 in
+            let n2 : l + 1 ≡ halves way.selfmate (suc j.0) = omega (arith, h2) in
+            let l2 : halves way.selfmate (suc j.0) - 1 ≡ l = omega (arith, h2) in
+            let s2 : seeks way.selfmate (l + 1) ≡ true = rw n2 (halves-seek way.selfmate j.0) in
+            let most2 : L0 ≤ suc t = length_most game way.selfmate (suc t) q false true false z0 s in
+            as_nodes false k l q (game.moves q)
+            ∙ flat-filter _ (λ m. keeps way.selfmate game (least way.selfmate game n q) (game.after q m)) _ G (game.moves q)
+            (λ m. by_test false l (game.after q m) s2 ∙ sym (ap (λ x. keeps way.selfmate game x (game.after q m)) j.1 ∙ keeps-value way.selfmate j.0 (game.after q m) ∙ ap (λ x. value way.selfmate game x (game.after q m)) l2))
+            (λ m v2. each l m s2 (omega (arith, e, most2)) (sym (by_test false l (game.after q m) s2) ∙ v2))
+
+    open-goal : (k : ℕ) (q : P) → game.goal q ≡ true → shown way game false k (open_length way.selfmate game k q) q (game.moves q) ≡ []
+    unfolding open_length
+    open-goal k q g =
+        let none : (eqb k 0 || game.goal q) ≡ true = rw g (or_true (eqb k 0)) in
+        rw none (shown-zero way false k q (game.moves q))
+      where
+        or_true : (b : Bool) → (b || true) ≡ true
+        or_true true = refl
+        or_true false = refl
+
+    clash : {b : Bool} → b ≡ false → b ≡ true → ⊥
+    clash f t = cc
+
+    module _ (variation : way.variation ≡ true) where
+      beneath-is : (k t : ℕ) (q : P) → beneath k t q ≡ shown way game false k (open_length way.selfmate game t q) q (game.moves q)
+      unfolding goes_on
+      beneath-is k t q = rw (battle, variation) refl
+
+      abbrev pub Tie : ℕ → ℕ → ℕ → P → Type 0
+      Tie n k t q = shown way game false k (open_length way.selfmate game t q) q (game.moves q) ≡ cond (seeks way.selfmate t) (answers way.selfmate game n k q) (below way.selfmate game n k q)
+
+      tie-goal : (n k t : ℕ) (q : P) → game.goal q ≡ true → Tie n k t q
+      unfolding open_length
+      tie-goal n k t q g =
+          let none : (eqb t 0 || game.goal q) ≡ true = rw g (or_true (eqb t 0)) in
+          rw none (shown-zero way false k q (game.moves q) ∙ sym (nothing n k q g way.selfmate (seeks way.selfmate t)))
+        where
+          or_true : (b : Bool) → (b || true) ≡ true
+          or_true true = refl
+          or_true false = refl
+
+      tie-white : (n k t : ℕ) (q : P) → ((l : ℕ) (r : P) → value way.selfmate game l r ≡ true → l ≤ k → l ≤ 2 * n → Tie n k l r) → value way.selfmate game (suc t) q ≡ true → suc t ≤ suc k → suc t ≤ 2 * n → game.goal q ≡ false → seeks way.selfmate (suc t) ≡ true → Tie n (suc k) (suc t) q
+      unfolding answers
+      tie-white n k t q ih v room most g s =
+          rw (s, g) (white n k (suc t) q _ s (omega arith) most room g v
+          (λ l m s2 less v2.
+          let b : seeks way.selfmate l ≡ false = flip _ (sym (seeks-step way.selfmate l) ∙ s2) in
+          ap (node m) (beneath-is k l (game.after q m) ∙ ih l (game.after q m) v2 (omega (arith, less, room)) (omega (arith, less, most)) ∙ ap (λ x. cond x (answers way.selfmate game n k (game.after q m)) (below way.selfmate game n k (game.after q m))) b)))
+
+      tie-black : (n k t : ℕ) (q : P) → ((l : ℕ) (r : P) → value way.selfmate game l r ≡ true → l ≤ k → l ≤ 2 * n → Tie n k l r) → value way.selfmate game (suc t) q ≡ true → suc t ≤ suc k → suc t ≤ 2 * n → game.goal q ≡ false → seeks way.selfmate (suc t) ≡ false → Tie n (suc k) (suc t) q
+      unfolding below open_length
+      tie-black n k t q ih v room most g s =
+          let z : eqb (suc t) 0 ≡ false = grind (arith, nat_tests) in
+          let one : suc t ≡ t + 1 = omega arith in
+          let s1 : seeks way.selfmate (t + 1) ≡ false = (rw (← one) s) in
+          let w : seeks way.selfmate t ≡ true = unflip _ (sym (seeks-step way.selfmate t) ∙ s1) in
+          rw (z, g, s) (as_nodes false k t q (game.moves q)
+          ∙ flat-all (λ d. value way.selfmate game t (game.after q d)) _ _ (game.moves q) (value-black way.selfmate t q g s v)
+          (λ d v2. ap (λ b. cond b (node d (beneath k t (game.after q d))) []) (by_none t (game.after q d) s1)
+          ∙ ap (node d) (beneath-is k t (game.after q d) ∙ ih t (game.after q d) v2 (omega (arith, room)) (omega (arith, most)) ∙ ap (λ x. cond x (answers way.selfmate game n k (game.after q d)) (below way.selfmate game n k (game.after q d))) w)))
+
+      -- what the walk shows below a move that is shown
+      pub tie : (n k t : ℕ) (q : P) → value way.selfmate game t q ≡ true → t ≤ k → t ≤ 2 * n → Tie n k t q
+      tie n k zero q v room most = tie-goal n k 0 q (sym (value-end-zero way.selfmate q) ∙ v)
+      tie n zero (suc t) q v room most = absurd (omega (arith, room))
+      tie n (suc k) (suc t) q v room most =
+          split (game.goal q) refl (tie-goal n (suc k) (suc t) q) (tie-white n k t q (λ l r a b c. tie n k l r a b c) v room most) (tie-black n k t q (λ l r a b c. tie n k l r a b c) v room most)
+        where
+          split : (g : Bool) → game.goal q ≡ g → (game.goal q ≡ true → Tie n (suc k) (suc t) q) → (game.goal q ≡ false → seeks way.selfmate (suc t) ≡ true → Tie n (suc k) (suc t) q) → (game.goal q ≡ false → seeks way.selfmate (suc t) ≡ false → Tie n (suc k) (suc t) q) → Tie n (suc k) (suc t) q
+          split true e a b c = a e
+          split false e a b c = side (seeks way.selfmate (suc t)) refl
+            where
+              side : (s : Bool) → seeks way.selfmate (suc t) ≡ s → Tie n (suc k) (suc t) q
+              side true f = b e f
+              side false f = c e f
+
+    -- where no variations are shown, nothing stands below a move of White
+    beneath-none : (k t : ℕ) (q : P) → way.variation ≡ false → seeks way.selfmate (t + 1) ≡ true → beneath k t q ≡ []
+    beneath-none k t q v s = ap (λ x. shown way game false k x q (game.moves q)) (goes_on-keys way game t q battle v s) ∙ shown-zero way false k q (game.moves q)
+
+    beneath-set : (k t : ℕ) (q : P) → seeks way.selfmate (t + 1) ≡ false → beneath k t q ≡ shown way game false k (open_length way.selfmate game t q) q (game.moves q)
+    unfolding goes_on
+    beneath-set k t q s = rw (battle, s, off way.variation) refl
+      where
+        off : (v : Bool) → (not v && false) ≡ false
+        off true = refl
+        off false = refl
+
+    -- below a key
+    pub below-key : (n h : ℕ) (q : P) → seeks way.selfmate (suc h) ≡ true → suc h ≤ 2 * n → value way.selfmate game h q ≡ true → beneath h h q ≡ cond way.variation (below way.selfmate game n h q) []
+    below-key n h q s most v = go way.variation refl
+      where
+        s1 : seeks way.selfmate (h + 1) ≡ true
+        s1 = let one : suc h ≡ h + 1 = omega arith in rw (← one) s
+
+        go : (b : Bool) → way.variation ≡ b → beneath h h q ≡ cond b (below way.selfmate game n h q) []
+        go true e =
+            beneath-is e h h q ∙ tie e n h h q v (omega arith) (omega (arith, most))
+            ∙ ap (λ x. cond x (answers way.selfmate game n h q) (below way.selfmate game n h q)) (flip _ (sym (seeks-step way.selfmate h) ∙ s1))
+        go false e = beneath-none h h q e s1
+
+    -- below a first move of Black in set play
+    pub below-set : (n h : ℕ) (r : P) → seeks way.selfmate h ≡ true → h ≤ 2 * n → value way.selfmate game h r ≡ true → beneath h h r ≡ cond way.variation (answers way.selfmate game n h r) (cond (game.goal r) [] (map (λ m. m ∷ []) (best way.selfmate game n r)))
+    below-set n h r s most v = go way.variation refl
+      where
+        s1 : seeks way.selfmate (h + 1) ≡ false
+        s1 = seeks-step way.selfmate h ∙ ap not s
+
+        no_variation : way.variation ≡ false → (h2 : ℕ) → h ≡ h2 → (g : Bool) → game.goal r ≡ g → shown way game false h2 (open_length way.selfmate game h2 r) r (game.moves r) ≡ cond g [] (map (λ m. m ∷ []) (best way.selfmate game n r))
+        no_variation e h2 i true g = open-goal h2 r g
+        no_variation e zero i false g = absurd (clash g (sym (value-end-zero way.selfmate r) ∙ (rw i at v)))
+        no_variation e (suc k) i false g =
+            white n k (suc k) r (λ m. (m ∷ []) ∷ []) (rw i at s) (omega arith) (rw i at most) (omega arith) g (rw i at v)
+            (λ l m s2 less v2. ap (node m) (beneath-none k l (game.after r m) e s2))
+            ∙ flat_map_single (λ m. m ∷ []) (best way.selfmate game n r)
+
+        go : (b : Bool) → way.variation ≡ b → beneath h h r ≡ cond b (answers way.selfmate game n h r) (cond (game.goal r) [] (map (λ m. m ∷ []) (best way.selfmate game n r)))
+        go true e =
+            beneath-is e h h r ∙ tie e n h h r v (omega arith) most
+            ∙ ap (λ x. cond x (answers way.selfmate game n h r) (below way.selfmate game n h r)) s
+        go false e = beneath-set h h r s1 ∙ no_variation e h refl (game.goal r) refl

@@ -1,0 +1,35 @@
+-- The value of a position by what its tests say.
+use Rattle.std.proofs.Common.{◌≡◌, ℕ, zero, suc, ◌+◌, ◌%◌, ◌<◌, Bool, true, false, ◌&&◌, ◌||◌, eqb, cond, List, [], ◌∷◌, refl, sym, ◌∙◌, ap, arith, rules}
+use Rattle.std.specs.Prelude.{◌==◌, if◌then◌else◌}
+use Rattle.std.specs.List.{list_any, list_all}
+use Rattle.pop_solve.specs.Game.{Game, can_move, some_move, every_move}
+use Rattle.pop_solve.specs.Values.{seeks, join, value, joined}
+
+module _ {P M : Type 0} (selfmate : Bool) (game : Game P M) where
+  cases : (e s c a b : Bool) → e ≡ false → (s || c) ≡ true → (e || cond s a (c && b)) ≡ cond s a b
+  cases e true c a b h k = rw h refl
+  cases e false c a b h k = rw (h, k) refl
+
+  stuck : (e s c a b : Bool) → e ≡ false → (s || c) ≡ false → (e || cond s a (c && b)) ≡ false
+  stuck e true c a b h k = cc
+  stuck e false c a b h k = rw (h, k) refl
+
+  pub value-end : (t : ℕ) (p : P) → (t % 2 == 0 && game.goal p) ≡ true → value selfmate game t p ≡ true
+  unfolding value
+  value-end zero p e = e
+  value-end (suc t) p e = rw e refl
+
+  pub value-last : (t : ℕ) (p : P) → t ≡ 0 → (t % 2 == 0 && game.goal p) ≡ false → value selfmate game t p ≡ false
+  unfolding value
+  value-last zero p z e = e
+  value-last (suc t) p z e = absurd (omega (arith, z))
+
+  pub value-stuck : (t : ℕ) (p : P) → 0 < t → (t % 2 == 0 && game.goal p) ≡ false → (seeks selfmate t || can_move game p) ≡ false → value selfmate game t p ≡ false
+  unfolding value
+  value-stuck zero p some e k = absurd (omega (arith, some))
+  value-stuck (suc t) p some e k = stuck _ (seeks selfmate (suc t)) _ _ _ e k
+
+  pub value-open : (t : ℕ) (p : P) → 0 < t → (t % 2 == 0 && game.goal p) ≡ false → (seeks selfmate t || can_move game p) ≡ true → value selfmate game t p ≡ joined selfmate game t p (game.moves p)
+  unfolding value joined
+  value-open zero p some e k = absurd (omega (arith, some))
+  value-open (suc t) p some e k = cases _ (seeks selfmate (suc t)) _ _ _ e k

@@ -1,0 +1,434 @@
+-- One step of a walk over frames.
+use Rattle.std.proofs.Common.{◌≡◌, ℕ, zero, suc, ◌+◌, ◌-◌, ◌*◌, ◌/◌, ◌%◌, ◌<◌, ◌≤◌, ◌^◌, min, Bool, true, false, not, ◌&&◌, ◌||◌, eqb, cond, List, [], ◌∷◌, ◌++◌, length, map, reverse, refl, sym, ◌∙◌, ap, append_assoc, arith, subst, ◌⊎◌, inl, inr}
+use Rattle.std.specs.Prelude.{◌==◌, if◌then◌else◌}
+use Rattle.std.specs.List.{flat_map, list_all, sum_by}
+use Rattle.std.proofs.lemmas.List.{map-append, append-nil, reverse-append, length-reverse, length-append}
+use Rattle.std.proofs.lemmas.List.Sums.{sum_by-cons}
+use Rattle.std.proofs.lemmas.Bool.Decides.{nat_tests}
+use Rattle.chess_core.specs.Position.{Position}
+use Rattle.chess_core.specs.Triple.{Triple}
+use Rattle.chess_core.specs.WellFormed.{IsWellFormed}
+use Rattle.chess_rules.proofs.Calls.{pseudo-from_legal}
+use Rattle.chess_rules.proofs.Stays.{after_well_formed}
+use Rattle.chess_rules.specs.Legal.{legal}
+use Rattle.chess_rules.specs.Loss.{Loss}
+use Rattle.chess_rules.specs.Places.{moves_behind}
+use Rattle.chess_rules.specs.Play.{undo_of}
+use Rattle.chess_rules.specs.RuleSet.{RuleSet}
+use Rattle.pop_solve.specs.Chess.{chess, show}
+use Rattle.pop_solve.proofs.Boards.{behind_start}
+use Rattle.pop_solve.specs.Game.{Game, walk_count}
+use Rattle.pop_solve.specs.Values.{seeks, value}
+use Rattle.pop_solve.specs.Frames.{Frame, position, IsLinked, CameFromAt, CameFrom, opened, opened as opened_frame, steps, steps_behind, walk_behind, to_open}
+use Rattle.pop_solve.specs.Walk.{fewest, first_from, open_length, follows, gives, goes_on, shown, path, IsShowing, to_come, IsRoomy, IsWalking, turns, IsCounted, IsWhites, Steps}
+use Rattle.pop_solve.specs.Shown.{Shown}
+use Rattle.pop_solve.specs.declared.walk.Way.{Way}
+use Rattle.pop_solve.proofs.Tests.{moved}
+
+pub cases : (b : Bool) → (b ≡ false) ⊎ (b ≡ true)
+cases false = inl refl
+cases true = inr refl
+
+no_zero : (k : ℕ) → eqb (suc k) 0 ≡ false
+no_zero k = grind (arith, nat_tests)
+
+-- a path, where it is given
+abbrev pub given_path : Bool → List Triple → List (List Triple)
+given_path b L = cond b (L ∷ []) []
+
+map-path : (L : List Triple) (m : Triple) (xs : List (List Triple)) → map (λ line. L ++ line) (map (λ line. m ∷ line) xs) ≡ map (λ line. (L ++ m ∷ []) ++ line) xs
+map-path L m [] = refl
+map-path L m (x ∷ xs) = rw (append_assoc L (m ∷ []) x, map-path L m xs)
+
+-- the paths by a move and by the others, seen from the path before them
+turn : (b : Bool) (L : List Triple) (m : Triple) (xs ys rest : List (List Triple)) → map (λ line. L ++ line) ((given_path b (m ∷ []) ++ map (λ line. m ∷ line) xs) ++ ys) ++ rest ≡ given_path b (L ++ m ∷ []) ++ (map (λ line. (L ++ m ∷ []) ++ line) xs ++ (map (λ line. L ++ line) ys ++ rest))
+turn true L m xs ys rest =
+    rw (map-append (λ line. L ++ line) (map (λ line. m ∷ line) xs) ys, map-path L m xs) (ap (λ zs. (L ++ m ∷ []) ∷ zs) (append_assoc (map (λ line. (L ++ m ∷ []) ++ line) xs) (map (λ line. L ++ line) ys) rest))
+turn false L m xs ys rest =
+    rw (map-append (λ line. L ++ line) (map (λ line. m ∷ line) xs) ys, map-path L m xs) (append_assoc (map (λ line. (L ++ m ∷ []) ++ line) xs) (map (λ line. L ++ line) ys) rest)
+
+module _ {P M : Type 0} (game : Game P M) where
+  -- the number of half-moves with which the next frame is opened is at most what is left
+  first_from-most : (selfmate : Bool) (q : P) (n a t : ℕ) → a + 2 * n ≤ t → first_from selfmate game q n a ≤ t
+  unfolding first_from
+  first_from-most selfmate q zero a t h = omega (arith, h)
+  first_from-most selfmate q (suc n) a t h = elim (value selfmate game a q) as (λ b. cond b a (first_from selfmate game q n (a + 2)) ≤ t) [ true ↦ omega (arith, h) | false ↦ first_from-most selfmate q n (a + 2) t (omega (arith, h)) ]
+
+  even_two : (t : ℕ) → eqb (t % 2) 0 ≡ true → eqb t 0 ≡ false → 2 ≤ t
+  even_two t e n = grind (arith, nat_tests)
+
+  some_one : (t : ℕ) → eqb t 0 ≡ false → 1 ≤ t
+  some_one t n = grind (arith, nat_tests)
+
+  pub length_most : (selfmate : Bool) (t : ℕ) (q : P) (z s goal : Bool) → eqb t 0 ≡ z → seeks selfmate t ≡ s → cond (z || goal) 0 (cond s (first_from selfmate game q ((t - fewest selfmate) / 2) (fewest selfmate)) t) ≤ t
+  length_most selfmate t q true s goal e u = omega arith
+  length_most selfmate t q false s true e u = omega arith
+  length_most selfmate t q false false false e u = omega arith
+  length_most true t q false true false e u = let two = even_two t u e in first_from-most true q ((t - 2) / 2) 2 t (omega (arith, two))
+  length_most false t q false true false e u = let one = some_one t e in first_from-most false q ((t - 1) / 2) 1 t (omega (arith, one))
+
+  open_length-most : (selfmate : Bool) (t : ℕ) (q : P) → open_length selfmate game t q ≤ t
+  unfolding open_length
+  open_length-most selfmate t q = length_most selfmate t q (eqb t 0) (seeks selfmate t) (game.goal q) refl refl
+
+  pub goes_on-most : (way : Way) (t : ℕ) (q : P) → goes_on way game t q ≤ t
+  unfolding goes_on
+  goes_on-most way t q = most way.help (not way.variation && seeks way.selfmate (t + 1)) _ (open_length-most way.selfmate t q)
+    where
+      most : (help keys : Bool) (n : ℕ) → n ≤ t → cond help t (cond keys 0 n) ≤ t
+      most true keys n e = omega arith
+      most false true n e = omega arith
+      most false false n e = e
+
+module _ (rule : RuleSet) (way : Way) where
+  -- what the place of the top frame leaves as it is
+  IsLinked-moved : (p : Position) (f : Frame) (place : ℕ) (below : List Frame) → IsLinked rule p (f ∷ below) → IsLinked rule p (moved f place ∷ below)
+  unfolding IsLinked
+  IsLinked-moved p f place [] l = tt
+  IsLinked-moved p f place (g ∷ below) l = l
+
+  IsShowing-moved : (p : Position) (f : Frame) (place : ℕ) (below : List Frame) → IsShowing rule p (f ∷ below) → IsShowing rule p (moved f place ∷ below)
+  unfolding IsShowing
+  IsShowing-moved p f place [] l = tt
+  IsShowing-moved p f place (g ∷ below) l = l
+
+  position-moved : (p : Position) (f : Frame) (place : ℕ) (below : List Frame) → position rule p (moved f place ∷ below) ≡ position rule p (f ∷ below)
+  unfolding position
+  position-moved p f place [] = refl
+  position-moved p f place (g ∷ below) = refl
+
+  -- the paths by the next move, and by the others
+  shown-next : (root : Bool) (k t : ℕ) (P : Position) (m : Triple) (ms : List Triple) → shown way (chess rule) root (suc k) (suc t) P (m ∷ ms) ≡ cond (follows way (chess rule) root t ((chess rule).after P m)) (given_path (gives way (chess rule) t ((chess rule).after P m)) (m ∷ []) ++ map (λ line. m ∷ line) (shown way (chess rule) false k (goes_on way (chess rule) t ((chess rule).after P m)) ((chess rule).after P m) ((chess rule).moves ((chess rule).after P m)))) [] ++ shown way (chess rule) root (suc k) (suc t) P ms
+  unfolding shown
+  shown-next root k t P m ms = refl
+
+  shown-none : (root : Bool) (k left : ℕ) (P : Position) (ms : List Triple) → (left ≡ 0) ⊎ (ms ≡ []) → shown way (chess rule) root k left P ms ≡ []
+  unfolding shown
+  shown-none root zero left P ms e = refl
+  shown-none root (suc k) zero P ms e = refl
+  shown-none root (suc k) (suc t) P ms (inl e) = cc
+  shown-none root (suc k) (suc t) P ms (inr e) = rw e refl
+
+  steps-start : (k : ℕ) (q : Position) → steps rule k q ≡ 1 + steps_behind rule k q 0
+  unfolding steps steps_behind
+  steps-start zero q = refl
+  steps-start (suc k) q = rw (behind_start rule q) refl
+
+  steps_behind-next : (k : ℕ) (P : Position) (place next : ℕ) (m : Triple) → moves_behind rule P place ≡ m ∷ moves_behind rule P next → steps_behind rule (suc k) P place ≡ (1 + steps rule k ((chess rule).after P m)) + steps_behind rule (suc k) P next
+  unfolding steps_behind
+  steps_behind-next k P place next m e = rw e (sum_by-cons (λ x. 1 + steps rule k ((chess rule).after P x)) m (moves_behind rule P next))
+
+  walk_behind-next : (k : ℕ) (P : Position) (place next : ℕ) (m : Triple) → moves_behind rule P place ≡ m ∷ moves_behind rule P next → walk_behind rule (suc k) P place ≡ walk_count (chess rule) k ((chess rule).after P m) + walk_behind rule (suc k) P next
+  unfolding walk_behind
+  walk_behind-next k P place next m e = rw e (sum_by-cons (λ x. walk_count (chess rule) k ((chess rule).after P x)) m (moves_behind rule P next))
+
+  walk_behind-none : (k : ℕ) (P : Position) (place : ℕ) → (k ≡ 0) ⊎ (moves_behind rule P place ≡ []) → walk_behind rule k P place ≡ 0
+  unfolding walk_behind
+  walk_behind-none zero P place e = refl
+  walk_behind-none (suc k) P place (inl e) = cc
+  walk_behind-none (suc k) P place (inr e) = rw e refl
+
+  -- a frame counts where it has half-moves below it
+  abbrev pub one : ℕ → ℕ
+  one zero = 0
+  one (suc k) = 1
+
+  pub walk_count-start : (k : ℕ) (q : Position) → walk_count (chess rule) k q ≡ one k + walk_behind rule k q 0
+  unfolding walk_count walk_behind
+  walk_count-start zero q = refl
+  walk_count-start (suc k) q = rw (behind_start rule q) refl
+
+  module _ (h : ℕ) (p : Position) (f : Frame) (next : ℕ) (m : Triple) (below : List Frame) (k t : ℕ) (fuel : h - length below ≡ suc k) (left : f.left ≡ suc t) (e : moves_behind rule (position rule p (f ∷ below)) f.place ≡ m ∷ moves_behind rule (position rule p (f ∷ below)) next) where
+    -- the position after the move
+    abbrev q : Position
+    q = (chess rule).after (position rule p (f ∷ below)) m
+
+    abbrev root : Bool
+    root = eqb (length below) 0
+
+    -- a move that is not followed is passed over
+    come-pass : follows way (chess rule) root t q ≡ false → to_come rule way h p (f ∷ below) ≡ to_come rule way h p (moved f next ∷ below)
+    unfolding to_come position path
+    come-pass b = rw (fuel, left, e, shown-next root k t (position rule p (f ∷ below)) m (moves_behind rule (position rule p (f ∷ below)) next), b) refl
+
+    -- a move that is followed: its path, where that is given, and what stands below it
+    come-enter : (undo : Loss) (s : Shown) → follows way (chess rule) root t q ≡ true → to_come rule way h p (f ∷ below) ≡ given_path (gives way (chess rule) t q) (path (opened m undo s (goes_on way (chess rule) t q) ∷ (moved f next ∷ below))) ++ to_come rule way h p (opened m undo s (goes_on way (chess rule) t q) ∷ (moved f next ∷ below))
+    unfolding to_come position path
+    come-enter undo s b =
+        let less : h - suc (length below) ≡ k = omega arith in
+        let P = position rule p (f ∷ below) in
+        rw (fuel, less, left, e, shown-next root k t P m (moves_behind rule P next), b, behind_start rule q, no_zero (length below))
+        (turn (gives way (chess rule) t q) (path (f ∷ below)) m
+        (shown way (chess rule) false k (goes_on way (chess rule) t q) q ((chess rule).moves q))
+        (shown way (chess rule) root (suc k) (suc t) P (moves_behind rule P next)) (to_come rule way h p below))
+
+    turns-pass : turns rule h p (moved f next ∷ below) < turns rule h p (f ∷ below)
+    unfolding turns position
+    turns-pass = rw (fuel, steps_behind-next k (position rule p (f ∷ below)) f.place next m e) (omega arith)
+
+    turns-enter : (undo : Loss) (s : Shown) (tried : ℕ) → turns rule h p (opened m undo s tried ∷ (moved f next ∷ below)) < turns rule h p (f ∷ below)
+    unfolding turns position
+    turns-enter undo s tried =
+        let less : h - suc (length below) ≡ k = omega arith in
+        rw (fuel, less, steps_behind-next k (position rule p (f ∷ below)) f.place next m e, steps-start k q) (omega arith)
+
+    open-next : to_open rule p (f ∷ below) ≡ walk_count (chess rule) t q + to_open rule p (moved f next ∷ below)
+    unfolding to_open position
+    open-next = rw (left, walk_behind-next t (position rule p (f ∷ below)) f.place next m e) (omega arith)
+
+    open-enter : (undo : Loss) (s : Shown) (tried : ℕ) → to_open rule p (opened m undo s tried ∷ (moved f next ∷ below)) ≡ walk_behind rule tried q 0 + to_open rule p (moved f next ∷ below)
+    unfolding to_open position
+    open-enter undo s tried = refl
+
+  come-close : (h : ℕ) (p : Position) (f : Frame) (below : List Frame) → (f.left ≡ 0) ⊎ (moves_behind rule (position rule p (f ∷ below)) f.place ≡ []) → to_come rule way h p (f ∷ below) ≡ to_come rule way h p below
+  unfolding to_come
+  come-close h p f below e = rw (shown-none (eqb (length below) 0) (h - length below) f.left (position rule p (f ∷ below)) _ e) refl
+
+  turns-close : (h : ℕ) (p : Position) (f : Frame) (below : List Frame) → turns rule h p below < turns rule h p (f ∷ below)
+  unfolding turns
+  turns-close h p f below = omega arith
+
+  open-close : (p : Position) (f : Frame) (below : List Frame) → (f.left ≡ 0) ⊎ (moves_behind rule (position rule p (f ∷ below)) f.place ≡ []) → to_open rule p (f ∷ below) ≡ to_open rule p below
+  unfolding to_open
+  open-close p f below e = omega (arith, walk_behind-none f.left (position rule p (f ∷ below)) f.place e)
+
+-- what undoes the top frame
+module _ (rule : RuleSet) (h : ℕ) (p : Position) where
+  CameFrom-top : (f g : Frame) (below : List Frame) (board : Position) → IsWalking rule h p (f ∷ (g ∷ below)) board → CameFromAt rule f board (position rule p (g ∷ below))
+  unfolding IsLinked position
+  CameFrom-top f g below board r = record { sound = r.linked.0; legal = r.linked.1; led = r.board_at; undone = r.linked.2 }
+
+  pub CameFrom-deep : (f : Frame) (below : List Frame) (board : Position) → IsWalking rule h p (f ∷ below) board → 0 < length below → CameFrom rule f board
+  CameFrom-deep f [] board r deep = absurd (omega (arith, deep))
+  CameFrom-deep f (g ∷ below) board r deep = (position rule p (g ∷ below), CameFrom-top f g below board r)
+
+  pub walking-close : (f : Frame) (below : List Frame) (board after : Position) → IsWalking rule h p (f ∷ below) board → (length below ≡ 0 → after ≡ board) → ((q : Position) → 0 < length below → CameFromAt rule f board q → after ≡ q) → IsWalking rule h p below after
+  unfolding IsLinked IsShowing IsRoomy position
+  walking-close f [] board after r lowest before =
+      record { linked = tt; showing = tt; roomy = tt; sound = rw (lowest refl) r.sound; board_at = lowest refl ∙ r.board_at }
+  walking-close f (g ∷ below) board after r lowest before =
+      let back = before _ (omega arith) (CameFrom-top f g below board r) in
+      record { linked = r.linked.3; showing = r.showing.1; roomy = r.roomy.1; sound = rw back r.linked.0; board_at = back }
+
+  pub top_room : (f : Frame) (below : List Frame) (board : Position) → IsWalking rule h p (f ∷ below) board → f.left + length below ≤ h
+  unfolding IsRoomy
+  top_room f below board r = r.roomy.0
+
+  walking-moved : (way : Way) (f : Frame) (next : ℕ) (below : List Frame) (board after : Position) → IsWalking rule h p (f ∷ below) board → after ≡ board → IsWalking rule h p (moved f next ∷ below) after
+  unfolding IsRoomy
+  walking-moved way f next below board after r e =
+      record {
+        linked = IsLinked-moved rule way p f next below r.linked;
+        showing = IsShowing-moved rule way p f next below r.showing;
+        roomy = r.roomy;
+        sound = rw e r.sound;
+        board_at = e ∙ r.board_at ∙ sym (position-moved rule way p f next below);
+      }
+
+  walking-enter : (way : Way) (f : Frame) (next : ℕ) (m : Triple) (tried : ℕ) (below : List Frame) (board after : Position) → IsWalking rule h p (f ∷ below) board → tried < f.left → legal rule board m ≡ true → after ≡ (chess rule).after board m → IsWalking rule h p (opened m (undo_of rule board m) (show rule board m) tried ∷ (moved f next ∷ below)) after
+  unfolding IsLinked IsShowing IsRoomy position
+  walking-enter way f next m tried below board after r less lawful e =
+      let s = walking-moved way f next below board board r refl in
+      let at : board ≡ position rule p (moved f next ∷ below) = s.board_at in
+      record {
+        linked = (rw (← at) s.sound, rw (← at) lawful, ap (λ b. undo_of rule b m) at, s.linked);
+        showing = (ap (λ b. show rule b m) at, s.showing);
+        roomy = (omega (arith, less, r.roomy.0), s.roomy);
+        sound = rw e (after_well_formed rule board m r.sound (pseudo-from_legal rule board m lawful));
+        board_at = e ∙ ap (λ b. (chess rule).after b m) at;
+      }
+
+-- where keys alone are shown
+whites-cut : (selfmate : Bool) (f : Frame) (below : List Frame) → IsWhites selfmate (f ∷ below) ≡ true → IsWhites selfmate below ≡ true
+unfolding IsWhites
+whites-cut selfmate f below e = second (eqb f.left 0 || seeks selfmate f.left) _ e
+  where
+    second : (a b : Bool) → (a && b) ≡ true → b ≡ true
+    second true b e = e
+    second false b e = absurd cc
+
+whites-top : (selfmate : Bool) (f : Frame) (below : List Frame) (t : ℕ) → f.left ≡ suc t → IsWhites selfmate (f ∷ below) ≡ true → seeks selfmate (t + 1) ≡ true
+unfolding IsWhites
+whites-top selfmate f below t left e =
+    let n : t + 1 ≡ f.left = omega (arith, left) in
+    rw n (first (eqb f.left 0) (seeks selfmate f.left) _ (rw left (no_zero t)) e)
+  where
+    first : (z s b : Bool) → z ≡ false → ((z || s) && b) ≡ true → s ≡ true
+    first true s b n e = absurd cc
+    first false true b n e = refl
+    first false false b n e = absurd cc
+
+whites-moved : (selfmate : Bool) (f : Frame) (place : ℕ) (below : List Frame) → IsWhites selfmate (f ∷ below) ≡ true → IsWhites selfmate (moved f place ∷ below) ≡ true
+unfolding IsWhites
+whites-moved selfmate f place below e = e
+
+whites-none : (selfmate : Bool) (m : Triple) (undo : Loss) (s : Shown) (tried : ℕ) (below : List Frame) → tried ≡ 0 → IsWhites selfmate below ≡ true → IsWhites selfmate (opened m undo s tried ∷ below) ≡ true
+unfolding IsWhites
+whites-none selfmate m undo s tried below z e = rw z e
+
+pub goes_on-keys : {P M : Type 0} (way : Way) (game : Game P M) (t : ℕ) (q : P) → way.help ≡ false → way.variation ≡ false → seeks way.selfmate (t + 1) ≡ true → goes_on way game t q ≡ 0
+unfolding goes_on
+goes_on-keys way game t q a b c = rw (a, b, c) refl
+
+goes_on-help : {P M : Type 0} (way : Way) (game : Game P M) (t : ℕ) (q : P) → way.help ≡ true → goes_on way game t q ≡ t
+unfolding goes_on
+goes_on-help way game t q a = rw a refl
+
+follows-help : {P M : Type 0} (way : Way) (game : Game P M) (root : Bool) (t : ℕ) (q : P) → way.help ≡ true → follows way game root t q ≡ true
+unfolding follows
+follows-help way game root t q a = rw a refl
+
+both : (b : Bool) → b ≡ true → b ≡ false → ⊥
+both b t f = cc
+
+counted_by : (rule : RuleSet) (way : Way) (t walk opened opened2 before after : ℕ) → before ≡ one rule way t + after → (0 < t → opened2 ≡ min (opened + 1) (2 ^ 64 - 1)) → (t ≡ 0 → opened2 ≡ opened) → IsCounted walk opened before → IsCounted walk opened2 after
+counted_by rule way zero walk opened opened2 before after e more same c =
+    let s : opened2 ≡ opened = same refl in
+    record { within = omega (arith, c.within); counts = omega (arith, c.within, c.counts) }
+counted_by rule way (suc k) walk opened opened2 before after e more same c =
+    let s : opened2 ≡ min (opened + 1) (2 ^ 64 - 1) = more (omega arith) in
+    record { within = omega (arith, c.within); counts = omega (arith, c.within, c.counts) }
+
+-- the outcomes of a step, for frames listed from the top down
+module _ (rule : RuleSet) (way : Way) (h : ℕ) (p : Position) (f : Frame) (below : List Frame) (board : Position) (r : IsWalking rule h p (f ∷ below) board) where
+  pub steps-close : (after : Position) (count : ℕ) → (f.left ≡ 0) ⊎ (moves_behind rule board f.place ≡ []) → (length below ≡ 0 → after ≡ board) → ((q : Position) → 0 < length below → CameFromAt rule f board q → after ≡ q) → Steps rule way h p (f ∷ below) below after count count false
+  steps-close after count e lowest before =
+      let here : (f.left ≡ 0) ⊎ (moves_behind rule (position rule p (f ∷ below)) f.place ≡ []) = rw (← r.board_at) e in
+      let o = open-close rule way p f below here in
+      record {
+        walking = walking-close rule h p f below board after r lowest before;
+        come = come-close rule way h p f below here;
+        deep = λ g. absurd cc;
+        falls = turns-close rule way h p f below;
+        whites = λ a b w. whites-cut way.selfmate f below w;
+        most = λ a b w. omega (arith, o);
+        counted = λ a walk c. (let T : ℕ → Type 0 = λ n. IsCounted walk count n in subst T o c);
+      }
+
+  module _ (next : ℕ) (m : Triple) (t : ℕ) (left : f.left ≡ suc t) (e : moves_behind rule board f.place ≡ m ∷ moves_behind rule board next) where
+    here : moves_behind rule (position rule p (f ∷ below)) f.place ≡ m ∷ moves_behind rule (position rule p (f ∷ below)) next
+    here = rw (← r.board_at) e
+
+    after_here : (chess rule).after board m ≡ (chess rule).after (position rule p (f ∷ below)) m
+    after_here = ap (λ b. (chess rule).after b m) r.board_at
+
+    fuel : h - length below ≡ suc (h - length below - 1)
+    fuel = omega (arith, top_room rule h p f below board r, left)
+
+    pub steps-pass : (after : Position) (opened opened2 : ℕ) → follows way (chess rule) (eqb (length below) 0) t ((chess rule).after board m) ≡ false → after ≡ board → (way.help ≡ false → way.variation ≡ false → seeks way.selfmate (t + 1) ≡ true → opened2 ≤ opened + walk_count (chess rule) t ((chess rule).after board m)) → Steps rule way h p (f ∷ below) (moved f next ∷ below) after opened opened2 false
+    steps-pass after opened opened2 b at keys =
+        let o = open-next rule way h p f next m below _ t fuel left here in
+        record {
+          walking = walking-moved rule h p way f next below board after r at;
+          come = come-pass rule way h p f next m below _ t fuel left here (rw (← after_here) b);
+          deep = λ g. absurd cc;
+          falls = turns-pass rule way h p f next m below _ t fuel left here;
+          whites = λ a c w. whites-moved way.selfmate f next below w;
+          most = λ a c w. omega (arith, o, ap (walk_count (chess rule) t) after_here, keys a c (whites-top way.selfmate f below t left w));
+          counted = λ a walk c. absurd (both _ (follows-help way (chess rule) (eqb (length below) 0) t ((chess rule).after board m) a) b);
+        }
+
+    pub steps-enter : (after : Position) (opened opened2 : ℕ) → legal rule board m ≡ true → follows way (chess rule) (eqb (length below) 0) t ((chess rule).after board m) ≡ true → after ≡ (chess rule).after board m → (way.help ≡ true → 0 < t → opened2 ≡ min (opened + 1) (2 ^ 64 - 1)) → (way.help ≡ true → t ≡ 0 → opened2 ≡ opened) → (way.help ≡ false → way.variation ≡ false → seeks way.selfmate (t + 1) ≡ true → opened2 ≤ opened + walk_count (chess rule) t ((chess rule).after board m)) → Steps rule way h p (f ∷ below) (opened_frame m (undo_of rule board m) (show rule board m) (goes_on way (chess rule) t ((chess rule).after board m)) ∷ (moved f next ∷ below)) after opened opened2 (gives way (chess rule) t ((chess rule).after board m))
+    steps-enter after opened opened2 lawful b at more same keys =
+        let o = open-next rule way h p f next m below _ t fuel left here in
+        let u = undo_of rule board m in
+        let s = show rule board m in
+        let q = (chess rule).after (position rule p (f ∷ below)) m in
+        let tried = goes_on way (chess rule) t ((chess rule).after board m) in
+        let n = open-enter rule way h p f next m below _ t fuel left here u s tried in
+        record {
+          walking = walking-enter rule h p way f next m tried below board after r (omega (arith, left, goes_on-most (chess rule) way t ((chess rule).after board m))) lawful at;
+          come = rw after_here (come-enter rule way h p f next m below _ t fuel left here u s (rw (← after_here) b));
+          deep = λ g. omega arith;
+          falls = turns-enter rule way h p f next m below _ t fuel left here u s tried;
+          whites = λ a c w. whites-none way.selfmate m u s tried _ (goes_on-keys way (chess rule) t _ a c (whites-top way.selfmate f below t left w)) (whites-moved way.selfmate f next below w);
+          most = λ a c w.
+              let z : tried ≡ 0 = goes_on-keys way (chess rule) t _ a c (whites-top way.selfmate f below t left w) in
+              let none : walk_behind rule tried q 0 ≡ 0 = walk_behind-none rule way tried q 0 (inl z) in
+              omega (arith, o, n, none, ap (walk_count (chess rule) t) after_here, keys a c (whites-top way.selfmate f below t left w));
+          counted = λ a walk c.
+              let z : tried ≡ t = goes_on-help way (chess rule) t _ a in
+              let w : walk_behind rule tried q 0 ≡ walk_behind rule t q 0 = ap (λ x. walk_behind rule x q 0) z in
+              counted_by rule way t walk opened opened2 _ _ (omega (arith, o, n, w, walk_count-start rule way t q)) (more a) (same a) c;
+        }
+
+-- a push, and the frames before a frame was taken off, seen from the top
+pub reverse-push : (xs : List Frame) (x : Frame) → reverse (xs ++ x ∷ []) ≡ x ∷ reverse xs
+reverse-push xs x = reverse-append xs (x ∷ [])
+
+pub popped : (old new : List Frame) (x : Frame) → old ≡ new ++ x ∷ [] → reverse old ≡ x ∷ reverse new
+popped old new x e = ap reverse e ∙ reverse-push new x
+
+zero_test : (d n : ℕ) → d ≡ n → eqb d 0 ≡ eqb n 0
+zero_test d n e = ap (λ x. eqb x 0) e
+
+-- the same outcomes, for frames listed from the bottom up, as the code holds them
+module _ (rule : RuleSet) (way : Way) (h : ℕ) (top : Frame) (old new : List Frame) (taken : old ≡ new ++ top ∷ []) where
+  depth_is : length (reverse new) ≡ length new
+  depth_is = length-reverse new
+
+  walking_top : (p board now : Position) → IsWalking rule h p (reverse old) board → now ≡ board → IsWalking rule h p (top ∷ reverse new) now
+  walking_top p board now r e =
+      let T : List Frame → Type 0 = λ fs. IsWalking rule h p fs board in
+      let s = subst T (popped old new top taken) r in
+      record { linked = s.linked; showing = s.showing; roomy = s.roomy; sound = rw e s.sound; board_at = e ∙ s.board_at }
+
+  pub close_asks : (p board now : Position) (depth : ℕ) → IsWalking rule h p (reverse old) board → now ≡ board → depth ≡ length new → 0 < depth → CameFrom rule top now
+  close_asks p board now depth r e d deep = CameFrom-deep rule h p top (reverse new) now (walking_top p board now r e) (omega (arith, depth_is, d, deep))
+
+  pub close_steps : (p board now after : Position) (depth count : ℕ) → IsWalking rule h p (reverse old) board → now ≡ board → depth ≡ length new → (top.left ≡ 0) ⊎ (moves_behind rule board top.place ≡ []) → (depth ≡ 0 → after ≡ now) → ((q : Position) → 0 < depth → CameFromAt rule top now q → after ≡ q) → Steps rule way h p (reverse old) (reverse new) after count count false
+  close_steps p board now after depth count r e d none lowest before =
+      rw (popped old new top taken) (steps-close rule way h p top (reverse new) now (walking_top p board now r e) after count (rw e none)
+      (λ z. lowest (omega (arith, depth_is, d, z))) (λ q z cf. before q (omega (arith, depth_is, d, z)) cf))
+
+  pub room_left : (p board : Position) → IsWalking rule h p (reverse old) board → top.left + length new ≤ h
+  room_left p board r = omega (arith, top_room rule h p top (reverse new) board (walking_top p board board r refl), depth_is)
+
+  module _ (place : ℕ) (m : Triple) (board now : Position) (depth : ℕ) (mid last : List Frame) (at : now ≡ board) (d : depth ≡ length new) (some : (0 < top.left) × (moves_behind rule board top.place ≡ m ∷ moves_behind rule board place) × (legal rule board m ≡ true)) (put : mid ≡ new ++ moved top place ∷ []) where
+    abbrev behind : ℕ
+    behind = top.left - 1
+
+    abbrev arrived : Position
+    arrived = (chess rule).after now m
+
+    mid_is : reverse mid ≡ moved top place ∷ reverse new
+    mid_is = popped mid new _ put
+
+    pub enter_steps : (root given : Bool) (after : Position) (opened opened2 : ℕ) → root ≡ eqb depth 0
+        → (follows way (chess rule) root behind arrived ≡ false → (given ≡ false) × (after ≡ now) × (last ≡ mid))
+        → (follows way (chess rule) root behind arrived ≡ true → (given ≡ gives way (chess rule) behind arrived) × (after ≡ arrived) × (last ≡ mid ++ opened_frame m (undo_of rule now m) (show rule now m) (goes_on way (chess rule) behind arrived) ∷ []))
+        → (way.help ≡ true → 0 < behind → opened2 ≡ min (opened + 1) (2 ^ 64 - 1)) → (way.help ≡ true → behind ≡ 0 → opened2 ≡ opened)
+        → (way.help ≡ false → way.variation ≡ false → seeks way.selfmate (behind + 1) ≡ true → opened2 ≤ opened + walk_count (chess rule) behind arrived)
+        → (p : Position) → IsWalking rule h p (reverse old) board → Steps rule way h p (reverse old) (reverse last) after opened opened2 given
+    enter_steps root given after opened opened2 flag passes enters more none keys p r =
+        let left : top.left ≡ suc behind = omega (arith, some.0) in
+        let r2 = walking_top p board now r at in
+        let flag2 : eqb (length (reverse new)) 0 ≡ root = zero_test _ _ (depth_is ∙ sym d) ∙ sym flag in
+        let lawful : legal rule now m ≡ true = rw at some.2 in
+        let next : moves_behind rule now top.place ≡ m ∷ moves_behind rule now place = rw at some.1 in
+        elim (cases (follows way (chess rule) root behind arrived)) [
+          | inl passed ↦
+              let x = passes passed in
+              rw (popped old new top taken, x.2, mid_is, x.0) (steps-pass rule way h p top (reverse new) now r2 place m behind left next after opened opened2 (rw flag2 passed) x.1 keys)
+          | inr entered ↦
+              let x = enters entered in
+              rw (popped old new top taken, x.2, reverse-push mid, mid_is, x.0) (steps-enter rule way h p top (reverse new) now r2 place m behind left next after opened opened2 lawful (rw flag2 entered) x.1 more none keys)
+        ]
+
+-- a frame is closed, whatever is walked
+module _ (rule : RuleSet) (h : ℕ) (top : Frame) (old new : List Frame) (taken : old ≡ new ++ top ∷ []) where
+  walking_popped : (p board : Position) → IsWalking rule h p (reverse old) board → IsWalking rule h p (top ∷ reverse new) board
+  walking_popped p board r = let T : List Frame → Type 0 = λ fs. IsWalking rule h p fs board in subst T (popped old new top taken) r
+
+  pub back_asks : (p board : Position) (depth : ℕ) → IsWalking rule h p (reverse old) board → depth ≡ length new → 0 < depth → CameFrom rule top board
+  back_asks p board depth r d deep = CameFrom-deep rule h p top (reverse new) board (walking_popped p board r) (omega (arith, length-reverse new, d, deep))
+
+  pub back_walking : (p board after : Position) (depth : ℕ) → IsWalking rule h p (reverse old) board → depth ≡ length new → (depth ≡ 0 → after ≡ board) → ((q : Position) → 0 < depth → CameFromAt rule top board q → after ≡ q) → IsWalking rule h p (reverse new) after
+  back_walking p board after depth r d lowest before =
+      walking-close rule h p top (reverse new) board after (walking_popped p board r) (λ z. lowest (omega (arith, length-reverse new, d, z))) (λ q z cf. before q (omega (arith, length-reverse new, d, z)) cf)
+
+-- with no frame left the board stands on the first position
+pub walking_back : (rule : RuleSet) (h : ℕ) (p board : Position) (frames : List Frame) → IsWalking rule h p (reverse frames) board → length frames ≡ 0 → board ≡ p
+unfolding position
+walking_back rule h p board [] r none = r.board_at
+walking_back rule h p board (f ∷ frames) r none = absurd (omega (arith, none))

@@ -1,0 +1,67 @@
+use Rattle.std.proofs.Common.{◌≡◌, ℕ, ◌+◌, ◌<◌, ◌≤◌, ◌⊎◌, Option, Some, None, not, ◌∙◌, ap, refl, sym, arith, rules}
+use Rattle.pop_solve.specs.Frames.{Frame}
+use Rattle.pop_solve.specs.Values.{seeks}
+use Rattle.pop_solve.proofs.Tests as test
+use Rattle.pop_solve.proofs.value.turn.Goals as goal
+
+pub close-requires : goal.close-requires
+close-requires g c = λ deep.
+    test.close_asks g.R.Rules.rule c.args.selfmate _ _ _ _ c.in-Some.ensures.items c.requires.above _ _ _ c.len-depth.ensures.value c.requires.testing.1 deep
+
+pub returns-then-decided-clause-room : goal.returns-then-decided-clause-room
+returns-then-decided-clause-room g c =
+    test.close_room g.R.Rules.rule c.args.selfmate _ _ _ _ c.in-Some.ensures.items c.requires.above _ _ _ _ c.args.answer.now _ _ c.len-depth.ensures.value c.close.ensures.lowest c.close.ensures.above c.close.ensures.before _ _ c.requires.testing.1 c.requires.room
+
+pub returns-then-decided-clause-next : goal.returns-then-decided-clause-next
+returns-then-decided-clause-next g c = λ p r.
+    let seek : c.seeking-seek.result ≡ seeks c.args.selfmate c.in-Some.top.left = c.seeking-seek.ensures ∙ ap (λ (f : Frame). seeks c.args.selfmate f.left) c.top.view_is in
+    let s : c.args.answer.now ≡ Some (seeks c.args.selfmate c.in-Some.top.left) = rw (← seek) c.if-decided.ensures in
+    test.close_turns g.R.Rules.rule c.args.selfmate _ _ _ _ c.in-Some.ensures.items c.requires.above _ _ _ _ _ _ _ c.len-depth.ensures.value c.close.ensures.lowest c.close.ensures.above c.close.ensures.before _ p r
+    (rw seek (test.decided_value g.R.Rules.rule c.args.selfmate _ _ _ _ c.in-Some.ensures.items c.requires.above p _ s))
+
+pub close-requires-in_default-next_move : goal.close-requires-in_default-next_move
+close-requires-in_default-next_move g c = λ deep.
+    test.close_asks g.R.Rules.rule c.args.selfmate _ _ _ _ c.in-Some.ensures.items c.requires.above _ _ _ c.len-depth.ensures.value (test.testing_same _ _ _ _ _ c.requires.testing.1 c.next_move.ensures.unchanged) deep
+
+pub returns-in_default-next_move-clause-room : goal.returns-in_default-next_move-clause-room
+returns-in_default-next_move-clause-room g c =
+    test.close_room g.R.Rules.rule c.args.selfmate _ _ _ _ c.in-Some.ensures.items c.requires.above _ _ _ _ c.args.answer.now _ _ c.len-depth.ensures.value c.close-in_default-next_move.ensures.lowest c.close-in_default-next_move.ensures.above c.close-in_default-next_move.ensures.before _ _ (test.testing_same _ _ _ _ _ c.requires.testing.1 c.next_move.ensures.unchanged) c.requires.room
+
+pub returns-in_default-next_move-clause-next : goal.returns-in_default-next_move-clause-next
+returns-in_default-next_move-clause-next g c = λ p r.
+    let seek : c.seeking-seek.result ≡ seeks c.args.selfmate c.in-Some.top.left = c.seeking-seek.ensures ∙ ap (λ (f : Frame). seeks c.args.selfmate f.left) c.top.view_is in
+    let place : c.top.inside.place ≡ c.in-Some.top.place = ap (λ (f : Frame). f.place) c.top.view_is in
+    let u : (c.args.answer.now ≡ None) ⊎ (c.args.answer.now ≡ Some (not (seeks c.args.selfmate c.in-Some.top.left))) = rw (← seek) c.if-decided.ensures in
+    test.close_turns g.R.Rules.rule c.args.selfmate _ _ _ _ c.in-Some.ensures.items c.requires.above _ _ _ _ _ _ _ c.len-depth.ensures.value c.close-in_default-next_move.ensures.lowest c.close-in_default-next_move.ensures.above c.close-in_default-next_move.ensures.before _ p (test.testing_same _ _ _ _ _ r c.next_move.ensures.unchanged)
+    (rw seek (test.exhausted_value g.R.Rules.rule c.args.selfmate _ _ _ _ c.in-Some.ensures.items c.requires.above p _ _ r u (rw place at c.in_default-next_move.ensures.next)))
+
+pub descend-requires : goal.descend-requires
+descend-requires g c =
+    let taken = rw (← c.top.view_is) at c.in-Some.ensures.items in
+    (
+  search rules,
+  (
+    rw c.next_move.ensures.unchanged c.requires.well_formed,
+  (
+    test.top_some g.R.Rules.rule c.args.selfmate _ _ _ _ taken c.requires.above _ _ c.requires.testing.1,
+    (
+      test.top_room g.R.Rules.rule c.args.selfmate _ _ _ _ taken c.requires.above _ c.requires.room,
+      rw c.next_move.ensures.unchanged c.in-Some-next_move.ensures.next.1,
+    ),
+  ),
+  ),
+)
+
+pub returns-clause-room : goal.returns-clause-room
+returns-clause-room g c =
+    let taken = rw (← c.top.view_is) at c.in-Some.ensures.items in
+    let u : (c.args.answer.now ≡ None) ⊎ (c.args.answer.now ≡ Some (not (seeks c.args.selfmate c.top.inside.left))) = rw (← c.seeking-seek.ensures) c.if-decided.ensures in
+    let some = test.top_some g.R.Rules.rule c.args.selfmate _ _ _ _ taken c.requires.above _ _ c.requires.testing.1 in
+    test.descend_room g.R.Rules.rule c.args.selfmate _ _ _ _ taken c.requires.above _ _ _ _ _ _ _ some u c.in-Some-next_move.ensures.next.0 c.in-Some-next_move.ensures.next.1 c.descend.new.answer (rw c.next_move.ensures.unchanged at c.descend.ensures.answer) c.requires.room
+
+pub returns-clause-next : goal.returns-clause-next
+returns-clause-next g c = λ p r.
+    let taken = rw (← c.top.view_is) at c.in-Some.ensures.items in
+    let u : (c.args.answer.now ≡ None) ⊎ (c.args.answer.now ≡ Some (not (seeks c.args.selfmate c.top.inside.left))) = rw (← c.seeking-seek.ensures) c.if-decided.ensures in
+    let some = test.top_some g.R.Rules.rule c.args.selfmate _ _ _ _ taken c.requires.above _ _ r in
+    test.descend_turns g.R.Rules.rule c.args.selfmate _ _ _ _ taken c.requires.above _ _ _ _ 0 _ _ some u c.in-Some-next_move.ensures.next.0 c.in-Some-next_move.ensures.next.1 c.descend.new.answer (rw c.next_move.ensures.unchanged at c.descend.ensures.answer) _ _ c.descend.ensures.opened p r

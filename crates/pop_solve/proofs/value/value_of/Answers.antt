@@ -1,0 +1,7 @@
+use Rattle.std.proofs.Common.{◌≡◌, ℕ, ◌+◌, ◌<◌, ◌≤◌, ◌∙◌, ap, refl, sym, arith, rules}
+use Rattle.pop_solve.proofs.Tests as test
+use Rattle.pop_solve.proofs.value.value_of.Goals as goal
+
+pub loop-known-init : goal.loop-known-init
+loop-known-init g c =
+    test.begins g.R.Rules.rule c.args.selfmate _ _ _ _ _ _ _ _ _ _ _ _ c.len-floor.ensures.value (rw c.start.ensures at c.push-2.ensures.items) (rw c.len-floor.ensures.value c.requires.room) (omega arith) c.settled.ensures.unchanged (rw c.settled.ensures.unchanged c.requires.well_formed) c.in_default.ensures.value

@@ -1,0 +1,14 @@
+use Rattle.std.proofs.Common.{◌≡◌, ◌+◌, length}
+use Rattle.pop_solve.specs.Chess.{chess}
+use Rattle.pop_solve.specs.Game.{walk_count}
+use Rattle.pop_solve.specs.Frames.{work, tests}
+use Rattle.pop_solve.specs.Values.{value}
+use Rattle.pop_solve.proofs.Tests.{IsUnderway}
+use Rattle.pop_solve.proofs.value.value_of.Given as goal
+
+abbrev pub invariant-loop-known : goal.invariant-loop-known
+invariant-loop-known g l =
+    IsUnderway g.R.Rules.rule l.selfmate l.floor l.fn.board g.row.N (value l.selfmate (chess g.R.Rules.rule) l.left l.fn.board) l.fn.frames.items l.frames.items l.answer l.board l.opened (l.fn.opened + walk_count (chess g.R.Rules.rule) l.left l.fn.board)
+
+abbrev pub decreases-loop-known : goal.decreases-loop-known
+decreases-loop-known g l = work g.R.Rules.rule l.fn.board (tests l.floor l.frames.items)

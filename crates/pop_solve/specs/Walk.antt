@@ -1,0 +1,122 @@
+-- What the frames of a walk stand for.
+use Rattle.std.specs.Prelude.{◌≡◌, ℕ, zero, suc, ◌+◌, ◌-◌, ◌/◌, ◌%◌, ◌≤◌, ◌<◌, ◌^◌, min, ◌==◌, Bool, true, false, not, ◌&&◌, ◌||◌, if◌then◌else◌, List, [], ◌∷◌, ◌++◌, map, length, reverse}
+use Rattle.std.specs.List.{flat_map, filter, sum_by, list_all}
+use Rattle.chess_core.specs.Position.{Position}
+use Rattle.chess_core.specs.Triple.{Triple}
+use Rattle.chess_core.specs.WellFormed.{IsWellFormed}
+use Rattle.chess_rules.specs.Places.{moves_behind}
+use Rattle.chess_rules.specs.RuleSet.{RuleSet}
+use Rattle.pop_solve.specs.Game.{Game}
+use Rattle.pop_solve.specs.Values.{seeks, value}
+use Rattle.pop_solve.specs.Chess.{chess, show}
+use Rattle.pop_solve.specs.Frames.{Frame, position, IsLinked, steps_behind, to_open}
+use Rattle.pop_solve.specs.Shown.{Shown}
+use Rattle.pop_solve.specs.declared.walk.Way.{Way}
+
+-- the fewest half-moves with which a move of White is tried
+abbrev pub fewest : Bool → ℕ
+fewest selfmate = if selfmate then 2 else 1
+
+module _ {P M : Type 0} where
+  -- the first of n + 1 numbers of half-moves, from a on by twos, with which White reaches his aim; the last untried
+  unfoldable pub first_from : Bool → Game P M → P → ℕ → ℕ → ℕ
+  first_from selfmate game q zero a = a
+  first_from selfmate game q (suc n) a = if value selfmate game a q then a else first_from selfmate game q n (a + 2)
+
+  -- with how many half-moves the moves of q are shown in battle play, where t are left: 0 for none
+  unfoldable pub open_length : Bool → Game P M → ℕ → P → ℕ
+  open_length selfmate game t q =
+      if t == 0 || game.goal q then 0
+      else (if seeks selfmate t then first_from selfmate game q ((t - fewest selfmate) / 2) (fewest selfmate) else t)
+
+  -- whether the walk follows a move to q, with t half-moves left there: moves of White and those of a root are tested
+  unfoldable pub follows : Way → Game P M → Bool → ℕ → P → Bool
+  follows way game root t q =
+      way.help || (not (root || seeks way.selfmate (t + 1)) || value way.selfmate game t q)
+
+  -- whether it gives the path to q: in help play where the last half-move reaches the goal
+  unfoldable pub gives : Way → Game P M → ℕ → P → Bool
+  gives way game t q = not way.help || (t == 0 && game.goal q)
+
+  -- with how many half-moves the walk goes on from q
+  unfoldable pub goes_on : Way → Game P M → ℕ → P → ℕ
+  goes_on way game t q =
+      if way.help then t
+      else (if not way.variation && seeks way.selfmate (t + 1) then 0 else open_length way.selfmate game t q)
+
+  -- the paths that the walk gives from P by these moves, with `left` half-moves; `fuel` is at least `left`
+  unfoldable pub shown : Way → Game P M → Bool → ℕ → ℕ → P → List M → List (List M)
+  shown way game root zero left p ms = []
+  shown way game root (suc fuel) zero p ms = []
+  shown way game root (suc fuel) (suc t) p ms =
+      flat_map (λ m. let q = game.after p m in
+      if follows way game root t q
+      then (if gives way game t q then (m ∷ []) ∷ [] else [])
+      ++ map (λ path. m ∷ path) (shown way game false fuel (goes_on way game t q) q (game.moves q))
+      else []) ms
+
+-- the moves that lead to the top frame
+unfoldable pub path : List Frame → List Triple
+path [] = []
+path (f ∷ []) = []
+path (f ∷ (g ∷ below)) = path (g ∷ below) ++ f.by ∷ []
+
+-- the same moves as they are shown
+unfoldable pub shows : List Frame → List Shown
+shows [] = []
+shows (f ∷ []) = []
+shows (f ∷ (g ∷ below)) = shows (g ∷ below) ++ f.shown ∷ []
+
+-- each frame but the lowest holds its move as it is shown
+unfoldable pub IsShowing : RuleSet → Position → List Frame → Type 0
+IsShowing rule p [] = Unit {0}
+IsShowing rule p (f ∷ []) = Unit {0}
+IsShowing rule p (f ∷ (g ∷ below)) =
+    (f.shown ≡ show rule (position rule p (g ∷ below)) f.by) × IsShowing rule p (g ∷ below)
+
+-- the paths still to come from all frames, in order
+unfoldable pub to_come : RuleSet → Way → ℕ → Position → List Frame → List (List Triple)
+to_come rule way h p [] = []
+to_come rule way h p (f ∷ below) =
+    map (λ line. path (f ∷ below) ++ line)
+    (shown way (chess rule) (length below == 0) (h - length below) f.left (position rule p (f ∷ below)) (moves_behind rule (position rule p (f ∷ below)) f.place))
+    ++ to_come rule way h p below
+
+-- each frame has room for its half-moves
+unfoldable pub IsRoomy : ℕ → List Frame → Type 0
+IsRoomy h [] = Unit {0}
+IsRoomy h (f ∷ below) = (f.left + length below ≤ h) × IsRoomy h below
+
+-- the board stands on the top frame of a walk
+pub record IsWalking (rule : RuleSet) (h : ℕ) (p : Position) (frames : List Frame) (board : Position) : Type 0 where
+  pub linked : IsLinked rule p frames
+  pub showing : IsShowing rule p frames
+  pub roomy : IsRoomy h frames
+  pub sound : IsWellFormed board
+  pub board_at : board ≡ position rule p frames
+
+-- the turns that a walk can still take, which fall at each one
+unfoldable pub turns : RuleSet → ℕ → Position → List Frame → ℕ
+turns rule h p [] = 0
+turns rule h p (f ∷ below) =
+    1 + steps_behind rule (h - length below) (position rule p (f ∷ below)) f.place + turns rule h p below
+
+-- of `walk` frames all but `rest` have been opened, counted up to the greatest u64
+pub record IsCounted (walk opened rest : ℕ) : Type 0 where
+  pub within : rest ≤ walk
+  pub counts : opened ≡ min (walk - rest) (2 ^ 64 - 1)
+
+-- at each frame White is to move, or nothing is tried
+unfoldable pub IsWhites : Bool → List Frame → Bool
+IsWhites selfmate frames = list_all (λ f. f.left == 0 || seeks selfmate f.left) frames
+
+-- what one step of a walk leaves, for frames listed from the top down; `given` says whether the path to the new top is given
+pub record Steps (rule : RuleSet) (way : Way) (h : ℕ) (p : Position) (old new : List Frame) (board : Position) (before after : ℕ) (given : Bool) : Type 0 where
+  pub walking : IsWalking rule h p new board
+  pub come : to_come rule way h p old ≡ (if given then path new ∷ [] else []) ++ to_come rule way h p new
+  pub deep : given ≡ true → length new ≡ length old + 1
+  pub falls : turns rule h p new < turns rule h p old
+  -- the frames opened and still to be opened grow by no step: in help play, and where keys alone are shown
+  pub whites : way.help ≡ false → way.variation ≡ false → IsWhites way.selfmate old ≡ true → IsWhites way.selfmate new ≡ true
+  pub most : way.help ≡ false → way.variation ≡ false → IsWhites way.selfmate old ≡ true → after + to_open rule p new ≤ before + to_open rule p old
+  pub counted : way.help ≡ true → (walk : ℕ) → IsCounted walk before (to_open rule p old) → IsCounted walk after (to_open rule p new)

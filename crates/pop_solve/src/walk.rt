@@ -1,0 +1,245 @@
+//! The walk over the moves of a phase, on frames.
+ghost use Rattle.std.specs.Prelude.{◌≡◌, ◌+◌, ◌<◌, ◌≤◌, ◌/◌, ℕ, List, [], ◌∷◌, ◌++◌, length, reverse, IsTrue, true, false, if◌then◌else◌, MatchOption, ◌⊎◌, not, ◌&&◌, ◌||◌, ◌==◌, ◌-◌, ◌^◌, min};
+ghost use Rattle.chess_core.specs.Position.{Position};
+ghost use Rattle.chess_core.specs.WellFormed.{IsWellFormed};
+ghost use Rattle.chess_rules.specs.Legal.{legal};
+ghost use Rattle.chess_rules.specs.Places.{moves_behind};
+ghost use Rattle.chess_rules.specs.Play.{undo_of};
+ghost use Rattle.arrayvec.specs.ArrayVec.{array_vec_len};
+ghost use Rattle.pop_solve.specs.Frames.{CameFrom, CameFromAt, opened as opened_frame};
+ghost use Rattle.pop_solve.specs.Chess.{chess, show};
+ghost use Rattle.pop_solve.specs.Game.{walk_count};
+ghost use Rattle.pop_solve.specs.Values.{seeks};
+ghost use Rattle.pop_solve.specs.Walk.{fewest as fewest_of, first_from, open_length, follows as is_followed, gives as is_given, goes_on, IsWalking, Steps};
+
+use crate::chess::{next_move, retract, shown_of};
+use crate::frame::Frame;
+use crate::value::{seeking, value_of};
+use arrayvec::ArrayVec;
+use chess_core::board::Board;
+use chess_core::man::Move;
+use chess_rules::moves::{Moves, is_mate};
+use chess_rules::rules::Rules;
+
+/// What is walked: help play, or one of the battles with or without variations.
+#[derive(Clone, Copy)]
+pub struct Way {
+    pub help: bool,
+    pub selfmate: bool,
+    pub variation: bool,
+}
+
+/// The fewest half-moves with which a move of White is tried.
+fn fewest(selfmate: bool) -> usize
+    ensures { result ≡ fewest_of selfmate }
+{
+    if selfmate { 2 } else { 1 }
+}
+
+/// The least number of half-moves, by rising lengths, with which White to move reaches his aim; the last, `left`, untried.
+fn least_length<R: Rules, const N: usize>(
+    selfmate: bool,
+    left: usize,
+    board: &mut Board,
+    frames: &mut ArrayVec<Frame<R>, N>,
+    opened: &mut u64,
+) -> usize
+    requires well_formed { IsWellFormed board.old }
+    requires room { array_vec_len frames.old + left ≤ N }
+    ensures least { result ≡ first_from selfmate (chess R.rule) board.old ((left - fewest_of selfmate) / 2) (fewest_of selfmate) }
+    ensures board { board.new ≡ board.old }
+    ensures frames { frames.new.items ≡ frames.old.items }
+{
+    let mut tried = fewest(selfmate);
+    while left >= 2 && tried <= left - 2 {
+        if value_of::<R, N>(selfmate, tried, board, frames, opened) {
+            return tried;
+        }
+        tried += 2;
+    }
+    tried
+}
+
+/// With how many half-moves the moves of the board's position are shown in battle play, where `left` are left.
+#[tactic(auto, unfolding(crate::specs::Walk::open_length))]
+fn length_shown<R: Rules, const N: usize>(
+    selfmate: bool,
+    left: usize,
+    board: &mut Board,
+    frames: &mut ArrayVec<Frame<R>, N>,
+    opened: &mut u64,
+) -> usize
+    requires well_formed { IsWellFormed board.old }
+    requires room { array_vec_len frames.old + left ≤ N }
+    ensures length { result ≡ open_length selfmate (chess R.rule) left board.old }
+    ensures board { board.new ≡ board.old }
+    ensures frames { frames.new.items ≡ frames.old.items }
+{
+    if left == 0 || is_mate::<R>(board) {
+        return 0;
+    }
+    if !seeking(selfmate, left) {
+        return left;
+    }
+    least_length::<R, N>(selfmate, left, board, frames, opened)
+}
+
+/// With how many half-moves the walk goes on from the board's position, where `left` are left.
+#[tactic(auto, unfolding(crate::specs::Walk::goes_on))]
+fn length_below<R: Rules, const N: usize>(
+    way: Way,
+    left: usize,
+    board: &mut Board,
+    frames: &mut ArrayVec<Frame<R>, N>,
+    opened: &mut u64,
+) -> usize
+    requires well_formed { IsWellFormed board.old }
+    requires room { array_vec_len frames.old + left ≤ N }
+    ensures length { result ≡ goes_on way (chess R.rule) left board.old }
+    ensures board { board.new ≡ board.old }
+    ensures frames { frames.new.items ≡ frames.old.items }
+    ensures opened { way.help ≡ true → opened.new ≡ opened.old }
+    ensures keys_alone { IsTrue (not way.variation && seeks way.selfmate (left + 1)) → opened.new ≡ opened.old }
+{
+    if way.help {
+        return left;
+    }
+    if !way.variation && seeking(way.selfmate, left + 1) {
+        return 0;
+    }
+    length_shown::<R, N>(way.selfmate, left, board, frames, opened)
+}
+
+/// Whether a move is tested before it is followed, where `left` half-moves are left with it: in battle play the
+/// moves of White and those of the phase's first position.
+fn is_tested(way: Way, root: bool, left: usize) -> bool
+    ensures { result ≡ (not way.help && (root || seeks way.selfmate left)) }
+{
+    !way.help && (root || seeking(way.selfmate, left))
+}
+
+/// Whether the path to the board's position is given.
+#[tactic(auto, unfolding(crate::specs::Walk::gives))]
+fn gives<R: Rules>(way: Way, left: usize, board: &mut Board) -> bool
+    requires well_formed { IsWellFormed board.old }
+    ensures unchanged { board.new ≡ board.old }
+    ensures gives { result ≡ is_given way (chess R.rule) left board.old }
+{
+    !way.help || left == 0 && is_mate::<R>(board)
+}
+
+/// The count of opened frames once a frame has been opened that has `tried` half-moves below it. One with none isn't
+/// counted, and one that a test has opened was counted there.
+pub fn opened_by(opened: u64, tried: usize, tested: bool) -> u64
+    ensures more { 0 < tried → tested ≡ false → result ≡ min (opened + 1) (2 ^ 64 - 1) }
+    ensures none { tried ≡ 0 → result ≡ opened }
+    ensures tested { tested ≡ true → result ≡ opened }
+{
+    if tried > 0 && !tested {
+        opened.saturating_add(1)
+    } else {
+        opened
+    }
+}
+
+/// Plays a legal move, after which `left` half-moves are left, and opens the frame of the position after it where the
+/// walk follows the move. Answers whether its path is given.
+#[tactic(auto, using(chess_rules::proofs::Calls::playing), unfolding(crate::specs::Walk::follows, crate::specs::Walk::goes_on, crate::specs::Chess::show))]
+fn enter<R: Rules, const N: usize>(
+    way: Way,
+    root: bool,
+    left: usize,
+    by: Move,
+    board: &mut Board,
+    frames: &mut ArrayVec<Frame<R>, N>,
+    opened: &mut u64,
+) -> bool
+    requires well_formed { IsWellFormed board.old }
+    requires room { array_vec_len frames.old + left < N }
+    requires legal { legal R.rule board.old by ≡ true }
+    ensures passes { is_followed way (chess R.rule) root left ((chess R.rule).after board.old by) ≡ false
+        → (result ≡ false) × (board.new ≡ board.old) × (frames.new.items ≡ frames.old.items) }
+    ensures enters { is_followed way (chess R.rule) root left ((chess R.rule).after board.old by) ≡ true
+        → (result ≡ is_given way (chess R.rule) left ((chess R.rule).after board.old by))
+        × (board.new ≡ (chess R.rule).after board.old by)
+        × (frames.new.items ≡ frames.old.items ++ opened_frame by (undo_of R.rule board.old by)
+        (show R.rule board.old by) (goes_on way (chess R.rule) left ((chess R.rule).after board.old by)) ∷ []) }
+    ensures more { way.help ≡ true → 0 < left → opened.new ≡ min (opened.old + 1) (2 ^ 64 - 1) }
+    ensures none { way.help ≡ true → left ≡ 0 → opened.new ≡ opened.old }
+    ensures keys { way.help ≡ false → way.variation ≡ false → seeks way.selfmate (left + 1) ≡ true
+        → opened.new ≤ opened.old + walk_count (chess R.rule) left ((chess R.rule).after board.old by) }
+{
+    let man = board.man_at(by.from);
+    let there = board.man_at(by.to);
+    let undo = R::play(board, by);
+    let tested = is_tested(way, root, left + 1);
+    if tested && !value_of::<R, N>(way.selfmate, left, board, frames, opened) {
+        retract::<R>(board, by, undo);
+        return false;
+    }
+    let shown = shown_of::<R>(man, there, &by, &undo, board);
+    let tried = length_below::<R, N>(way, left, board, frames, opened);
+    frames.push(Frame {
+        place: Moves::start(),
+        by,
+        undo,
+        left: tried,
+        shown,
+    });
+    *opened = opened_by(*opened, tried, tested);
+    gives::<R>(way, left, board)
+}
+
+/// The next move behind a place, in a position from which `left` half-moves are tried.
+fn next_of<R: Rules>(left: usize, place: &mut Moves<R>, board: &mut Board) -> Option<Move>
+    requires well_formed { IsWellFormed board.old }
+    ensures unchanged { board.new ≡ board.old }
+    ensures next { MatchOption result ((left ≡ 0) ⊎ (moves_behind R.rule board.old place.old ≡ []))
+        (λ m. (0 < left) × (moves_behind R.rule board.old place.old ≡ m ∷ moves_behind R.rule board.old place.new)
+        × (legal R.rule board.old m ≡ true)) }
+{
+    if left == 0 {
+        return None;
+    }
+    next_move::<R>(place, board)
+}
+
+/// Takes back the move of a frame that is closed, unless it is the lowest.
+pub fn step_back<R: Rules>(depth: usize, top: Frame<R>, board: &mut Board)
+    requires { 0 < depth → CameFrom R.rule top board.old }
+    ensures lowest { depth ≡ 0 → board.new ≡ board.old }
+    ensures before { (p : Position) → 0 < depth → CameFromAt R.rule top board.old p → board.new ≡ p }
+{
+    if depth > 0 {
+        retract::<R>(board, top.by, top.undo);
+    }
+}
+
+/// One step of the walk: the next move of the top frame is played, or the frame is closed. Answers whether the path
+/// to the new top frame is given.
+pub fn step<R: Rules, const N: usize>(
+    way: Way,
+    half_moves: usize,
+    board: &mut Board,
+    frames: &mut ArrayVec<Frame<R>, N>,
+    opened: &mut u64,
+) -> bool
+    requires well_formed { IsWellFormed board.old }
+    requires room { half_moves < N }
+    requires open { 0 < array_vec_len frames.old }
+    requires walking { (p : Position) × IsWalking R.rule half_moves p (reverse frames.old.items) board.old }
+    ensures steps { (p : Position) → IsWalking R.rule half_moves p (reverse frames.old.items) board.old
+        → Steps R.rule way half_moves p (reverse frames.old.items) (reverse frames.new.items) board.new opened.old opened.new result }
+{
+    let Some(top) = frames.pop() else {
+        return false;
+    };
+    let depth = frames.len();
+    let mut place = top.place;
+    let Some(by) = next_of::<R>(top.left, &mut place, board) else {
+        step_back::<R>(depth, top, board);
+        return false;
+    };
+    frames.push(Frame { place, ..top });
+    enter::<R, N>(way, depth == 0, top.left - 1, by, board, frames, opened)
+}
