@@ -7,3 +7,7 @@ pub mod Least
 pub mod Walking
 pub mod Paths
 pub mod Trees
+pub mod Kept
+pub mod Sound
+pub mod Events
+pub mod Solved

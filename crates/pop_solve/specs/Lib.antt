@@ -6,3 +6,4 @@ pub mod Events
 pub mod Values
 pub mod Frames
 pub mod Walk
+pub mod Phases

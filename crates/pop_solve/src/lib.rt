@@ -7,3 +7,4 @@ pub mod frame;
 pub mod shown;
 mod value;
 mod walk;
+mod phases;

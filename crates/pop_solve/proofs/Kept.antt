@@ -1,0 +1,167 @@
+-- The first solutions of a phase, by the paths that begin them.
+use Rattle.std.proofs.Common.{◌≡◌, ℕ, zero, suc, ◌+◌, ◌-◌, ◌<◌, ◌≤◌, Bool, true, false, not, ◌&&◌, ◌||◌, eqb, cond, List, [], ◌∷◌, ◌++◌, length, map, reverse, refl, sym, ◌∙◌, ap, subst, arith, ◌⊎◌, inl, inr}
+use Rattle.std.specs.Prelude.{◌==◌, if◌then◌else◌}
+use Rattle.std.proofs.lemmas.List.{append-nil, length-reverse}
+use Rattle.std.proofs.lemmas.Bool.Decides.{nat_tests}
+use Rattle.chess_core.specs.Position.{Position}
+use Rattle.chess_core.specs.Triple.{Triple}
+use Rattle.chess_rules.specs.Places.{moves_behind}
+use Rattle.chess_rules.specs.RuleSet.{RuleSet}
+use Rattle.pop_solve.specs.Chess.{chess}
+use Rattle.pop_solve.specs.Game.{Game}
+use Rattle.pop_solve.specs.Frames.{Frame, position}
+use Rattle.pop_solve.specs.Walk.{follows, gives, goes_on, shown, path, to_come, IsWalking, Steps}
+use Rattle.pop_solve.specs.Phases.{begins, keep, started, Walks}
+use Rattle.pop_solve.specs.declared.walk.Way.{Way}
+use Rattle.pop_solve.proofs.Paths.{path-length}
+
+pub started-nil : (M : Type 0) (help : Bool) (n : ℕ) → started {M = M} help n [] ≡ 0
+unfolding started
+started-nil M help zero = refl
+started-nil M help (suc n) = refl
+
+module _ {M : Type 0} where
+  pub keep-nil : (help : Bool) (n : ℕ) → keep {M = M} help n [] ≡ []
+  unfolding keep
+  keep-nil help zero = refl
+  keep-nil help (suc n) = refl
+
+  pub keep-next : (help : Bool) (n : ℕ) (x : List M) (xs : List (List M)) (b : Bool) → begins help x ≡ b → (b ≡ true → 0 < n) → keep help n (x ∷ xs) ≡ x ∷ keep help (n - cond b 1 0) xs
+  unfolding keep
+  keep-next help zero x xs true e some = absurd (omega (arith, some refl))
+  keep-next help zero x xs false e some = rw e refl
+  keep-next help (suc n) x xs true e some = let z : suc n - 1 ≡ n = omega arith in rw (e, z) refl
+  keep-next help (suc n) x xs false e some = let z : suc n - 0 ≡ suc n = omega arith in rw (e, z) refl
+
+  pub started-next : (help : Bool) (n : ℕ) (x : List M) (xs : List (List M)) (b : Bool) → begins help x ≡ b → (b ≡ true → 0 < n) → started help n (x ∷ xs) ≡ cond b 1 0 + started help (n - cond b 1 0) xs
+  unfolding started
+  started-next help zero x xs true e some = absurd (omega (arith, some refl))
+  started-next help zero x xs false e some = rw e (omega arith)
+  started-next help (suc n) x xs true e some = let z : suc n - 1 ≡ n = omega arith in rw (e, z) refl
+  started-next help (suc n) x xs false e some = let z : suc n - 0 ≡ suc n = omega arith in rw (e, z) (omega arith)
+
+  -- where every path begins a solution, none is kept with none to begin
+  pub keep-help : (xs : List (List M)) → keep true 0 xs ≡ []
+  unfolding keep
+  keep-help [] = refl
+  keep-help (x ∷ xs) = refl
+
+  pub started-help : (xs : List (List M)) → started true 0 xs ≡ 0
+  unfolding started
+  started-help [] = refl
+  started-help (x ∷ xs) = refl
+
+  map-same : (xs : List (List M)) → map (λ line. [] ++ line) xs ≡ xs
+  map-same [] = refl
+  map-same (x ∷ xs) = ap (λ ys. x ∷ ys) (map-same xs)
+
+  pub root-same : (xs : List (List M)) → map (λ line. [] ++ line) xs ++ [] ≡ xs
+  root-same xs = append-nil (map (λ line. [] ++ line) xs) ∙ map-same xs
+
+-- the first path by the moves of a root in battle play begins a solution
+module _ {P M : Type 0} (way : Way) (game : Game P M) (battle : way.help ≡ false) where
+  pub gives-battle : (t : ℕ) (q : P) → gives way game t q ≡ true
+  unfolding gives
+  gives-battle t q = rw battle refl
+
+  keep-shown : (root : Bool) (k left : ℕ) (p : P) (ms : List M) → keep false 0 (shown way game root k left p ms) ≡ []
+  unfolding shown keep
+  keep-shown root zero left p ms = keep-nil false 0
+  keep-shown root (suc k) zero p ms = keep-nil false 0
+  keep-shown root (suc k) (suc t) p [] = keep-nil false 0
+  keep-shown root (suc k) (suc t) p (m ∷ ms) =
+      rw (gives-battle t (game.after p m)) (split (follows way game root t (game.after p m)) _ (keep-shown root (suc k) (suc t) p ms))
+    where
+      split : (b : Bool) (xs : List (List M)) → keep false 0 (shown way game root (suc k) (suc t) p ms) ≡ [] → keep false 0 (cond b ((m ∷ []) ∷ xs) [] ++ shown way game root (suc k) (suc t) p ms) ≡ []
+      split true xs e = refl
+      split false xs e = e
+
+  started-shown : (root : Bool) (k left : ℕ) (p : P) (ms : List M) → started false 0 (shown way game root k left p ms) ≡ 0
+  unfolding shown started
+  started-shown root zero left p ms = started-nil M false 0
+  started-shown root (suc k) zero p ms = started-nil M false 0
+  started-shown root (suc k) (suc t) p [] = started-nil M false 0
+  started-shown root (suc k) (suc t) p (m ∷ ms) =
+      rw (gives-battle t (game.after p m)) (split (follows way game root t (game.after p m)) _ (started-shown root (suc k) (suc t) p ms))
+    where
+      split : (b : Bool) (xs : List (List M)) → started false 0 (shown way game root (suc k) (suc t) p ms) ≡ 0 → started false 0 (cond b ((m ∷ []) ∷ xs) [] ++ shown way game root (suc k) (suc t) p ms) ≡ 0
+      split true xs e = refl
+      split false xs e = e
+
+one_frame : (frames : List Frame) → eqb (length frames) 1 ≡ true → (f : Frame) × (frames ≡ f ∷ [])
+one_frame [] e = absurd (grind (arith, nat_tests))
+one_frame (f ∷ []) e = (f, refl)
+one_frame (f ∷ (g ∷ below)) e = absurd (grind (arith, nat_tests))
+
+module _ (rule : RuleSet) (way : Way) (h : ℕ) (p : Position) where
+  pub to_come-root : (f : Frame) → to_come rule way h p (f ∷ []) ≡ shown way (chess rule) true (h - 0) f.left p (moves_behind rule p f.place)
+  unfolding to_come path position
+  to_come-root f = root-same _
+
+  -- with none to begin, and none on the way
+  full : (frames : List Frame) → (way.help || eqb (length frames) 1) ≡ true → (keep way.help 0 (to_come rule way h p frames) ≡ []) × (started way.help 0 (to_come rule way h p frames) ≡ 0)
+  full frames e = go way.help refl e
+    where
+      go : (help : Bool) → way.help ≡ help → (help || eqb (length frames) 1) ≡ true → (keep help 0 (to_come rule way h p frames) ≡ []) × (started help 0 (to_come rule way h p frames) ≡ 0)
+      go true b e = (keep-help _, started-help _)
+      go false b e =
+          let one = one_frame frames e in
+          rw (one.1, to_come-root one.0) (keep-shown way (chess rule) b true (h - 0) one.0.left p _, started-shown way (chess rule) b true (h - 0) one.0.left p _)
+
+  none : (frames : List Frame) → length frames ≡ 0 → to_come rule way h p frames ≡ []
+  unfolding to_come
+  none [] e = refl
+  none (f ∷ below) e = absurd (omega (arith, e))
+
+  module _ (old mid : List Frame) (same : to_come rule way h p old ≡ to_come rule way h p mid) where
+    pub walks_none : (limit : ℕ) (board : Position) → IsWalking rule h p mid board → length mid ≡ 0 → Walks rule way h p limit old mid board false
+    walks_none limit board r e = record {
+      walking = r;
+      come = λ g. absurd cc;
+      starts = λ g. absurd cc;
+      within = λ g. absurd cc;
+      deep = λ g. absurd cc;
+      ended = λ g. rw (same, none mid e) (keep-nil way.help limit);
+      none = λ g. rw (same, none mid e) (started-nil Triple way.help limit);
+    }
+
+    both_true : (a b : Bool) → (a && b) ≡ true → (a ≡ true) × (b ≡ true)
+    both_true true b e = (refl, e)
+    both_true false b e = absurd cc
+
+    pub walks_full : (limit : ℕ) (board : Position) → IsWalking rule h p mid board → (eqb limit 0 && (way.help || eqb (length mid) 1)) ≡ true → Walks rule way h p limit old mid board false
+    walks_full limit board r e =
+        let x = both_true (eqb limit 0) (way.help || eqb (length mid) 1) e in
+        let z : limit ≡ 0 = grind (arith, nat_tests, x.0) in
+        let f = full mid x.1 in record {
+          walking = r;
+          come = λ g. absurd cc;
+          starts = λ g. absurd cc;
+          within = λ g. absurd cc;
+          deep = λ g. absurd cc;
+          ended = λ g. rw (same, z) f.0;
+          none = λ g. rw (same, z) f.1;
+        }
+
+    room : (n : ℕ) (b : Bool) → (eqb n 0 && b) ≡ false → b ≡ true → 0 < n
+    room zero b e t = absurd cc
+    room (suc n) b e t = omega arith
+
+    most_one : (b : Bool) (n : ℕ) → (b ≡ true → 0 < n) → cond b 1 0 ≤ n
+    most_one true n e = omega (arith, e refl)
+    most_one false n e = omega arith
+
+    pub walks_given : (limit : ℕ) (new : List Frame) (board : Position) (before after : ℕ) (given : Bool) → Steps rule way h p mid new board before after given → given ≡ true → 0 < length mid → (eqb limit 0 && (way.help || eqb (length mid) 1)) ≡ false → Walks rule way h p limit old new board true
+    walks_given limit new board before after given made is some e =
+        let s : Steps rule way h p mid new board before after true = (let T : Bool → Type 0 = λ x. Steps rule way h p mid new board before after x in subst T is made) in
+        let l : length (path new) ≡ length mid = omega (arith, path-length new, s.deep refl) in
+        let b : (way.help || eqb (length mid) 1) ≡ begins way.help (path new) = ap (λ n. way.help || eqb n 1) (sym l) in
+        let r : begins way.help (path new) ≡ true → 0 < limit = room limit _ (rw b at e) in record {
+          walking = s.walking;
+          come = λ g. rw (same, s.come) (keep-next way.help limit (path new) _ _ refl r);
+          starts = λ g. rw (same, s.come) (started-next way.help limit (path new) _ _ refl r);
+          within = λ g. most_one _ limit r;
+          deep = λ g. omega (arith, s.deep refl, some);
+          ended = λ g. absurd cc;
+          none = λ g. absurd cc;
+        }

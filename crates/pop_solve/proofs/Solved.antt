@@ -1,0 +1,228 @@
+-- What is to come from the root frame of a phase is the phase's solutions.
+use Rattle.std.proofs.Common.{◌≡◌, ℕ, zero, suc, ◌+◌, ◌-◌, ◌*◌, ◌%◌, ◌<◌, ◌≤◌, Bool, true, false, not, ◌&&◌, ◌||◌, eqb, cond, List, [], ◌∷◌, ◌++◌, length, map, take, refl, sym, ◌∙◌, ap, append_assoc, arith}
+use Rattle.std.specs.Prelude.{◌==◌, if◌then◌else◌}
+use Rattle.std.specs.List.{flat_map, filter, list_all}
+use Rattle.std.proofs.lemmas.Bool.Decides.{nat_tests}
+use Rattle.pop_solve.specs.Game.{Game, help_lines, wins, self_wins}
+use Rattle.pop_solve.specs.Values.{seeks, value}
+use Rattle.chess_core.specs.Position.{Position}
+use Rattle.chess_core.specs.Triple.{Triple}
+use Rattle.chess_core.specs.WellFormed.{IsWellFormed}
+use Rattle.chess_rules.specs.Places.{moves_behind}
+use Rattle.chess_rules.specs.RuleSet.{RuleSet}
+use Rattle.pop_input.specs.Posed.{Posed, IsSound}
+use Rattle.pop_solve.specs.Chess.{chess, show}
+use Rattle.pop_input.specs.Stipulations.{is_help, is_selfmate, half_moves_of, half_moves}
+use Rattle.pop_solve.proofs.Sound.{some_way}
+use Rattle.pop_solve.specs.Frames.{Frame, }
+use Rattle.pop_solve.specs.Tree.{node, keeps, best, below, answers, tree, set_shows, set_tree}
+use Rattle.pop_solve.specs.Walk.{follows, gives, goes_on, shown, to_come}
+use Rattle.pop_solve.specs.Events.{solutions, phase_start, phase_half_moves}
+use Rattle.pop_solve.specs.Phases.{way_of, begins, keep, started, phase_paths}
+use Rattle.pop_input.specs.declared.stipulation.Form.{Form}
+use Rattle.pop_input.specs.declared.stipulation.Form.TheVariants.{Direct, SelfMate, Help, HelpHalf}
+use Rattle.pop_solve.specs.declared.walk.Way.{Way}
+use Rattle.pop_solve.proofs.Battles.{value-wins, value-self_wins}
+use Rattle.pop_solve.proofs.Trees.{flat-filter, shown-zero, shown-help, halves, keeps-value, halves-seek, seeks-step, flip, unflip, beneath, as_nodes, by_test, below-key, below-set}
+use Rattle.pop_solve.proofs.Kept.{keep-nil, started-nil, to_come-root}
+
+-- what is kept of a list of paths, and the solutions begun: `sols` are its solutions
+pub record IsCutInto {M : Type 0} (help : Bool) (n : ℕ) (paths : List (List M)) (sols : List (List (List M))) : Type 0 where
+  pub kept : keep help n paths ≡ flat_map (λ solution. solution) (take n sols)
+  pub begun : started help n paths ≡ length (take n sols)
+
+-- help play: each path is a solution
+lines-kept : {M : Type 0} (n : ℕ) (xs : List (List M)) → keep true n xs ≡ flat_map (λ solution. solution) (take n (map (λ x. x ∷ []) xs))
+unfolding keep
+lines-kept zero [] = refl
+lines-kept zero (x ∷ xs) = refl
+lines-kept (suc n) [] = refl
+lines-kept (suc n) (x ∷ xs) = ap (λ ys. x ∷ ys) (lines-kept n xs)
+
+lines-begun : {M : Type 0} (n : ℕ) (xs : List (List M)) → started true n xs ≡ length (take n (map (λ x. x ∷ []) xs))
+unfolding started
+lines-begun zero [] = refl
+lines-begun zero (x ∷ xs) = refl
+lines-begun (suc n) [] = refl
+lines-begun (suc n) (x ∷ xs) = omega (arith, lines-begun n xs)
+
+-- battle play: each node of one move begins a solution
+abbrev some : {M : Type 0} → List M → Bool
+some [] = false
+some (x ∷ xs) = true
+
+both : (a b : Bool) → (a && b) ≡ true → (a ≡ true) × (b ≡ true)
+both true b e = (refl, e)
+both false b e = absurd cc
+
+module _ {M : Type 0} where
+  over-kept : (n : ℕ) (m : M) (ys rest : List (List M)) → list_all some ys ≡ true → keep false n (map (λ path. m ∷ path) ys ++ rest) ≡ map (λ path. m ∷ path) ys ++ keep false n rest
+  unfolding keep
+  over-kept n m [] rest a = refl
+  over-kept n m ([] ∷ ys) rest a = absurd cc
+  over-kept zero m ((y ∷ z) ∷ ys) rest a = let e : eqb (length (m ∷ (y ∷ z))) 1 ≡ false = grind (arith, nat_tests) in rw e (ap (λ xs. (m ∷ (y ∷ z)) ∷ xs) (over-kept zero m ys rest a))
+  over-kept (suc n) m ((y ∷ z) ∷ ys) rest a = let e : eqb (length (m ∷ (y ∷ z))) 1 ≡ false = grind (arith, nat_tests) in rw e (ap (λ xs. (m ∷ (y ∷ z)) ∷ xs) (over-kept (suc n) m ys rest a))
+
+  over-begun : (n : ℕ) (m : M) (ys rest : List (List M)) → list_all some ys ≡ true → started false n (map (λ path. m ∷ path) ys ++ rest) ≡ started false n rest
+  unfolding started
+  over-begun n m [] rest a = refl
+  over-begun n m ([] ∷ ys) rest a = absurd cc
+  over-begun zero m ((y ∷ z) ∷ ys) rest a = let e : eqb (length (m ∷ (y ∷ z))) 1 ≡ false = grind (arith, nat_tests) in rw e (over-begun zero m ys rest a)
+  over-begun (suc n) m ((y ∷ z) ∷ ys) rest a = let e : eqb (length (m ∷ (y ∷ z))) 1 ≡ false = grind (arith, nat_tests) in rw e (over-begun (suc n) m ys rest a)
+
+  nodes-kept : (X : M → List (List M)) → ((m : M) → list_all some (X m) ≡ true) → (n : ℕ) (ms : List M) → keep false n (flat_map (λ m. node m (X m)) ms) ≡ flat_map (λ solution. solution) (take n (map (λ m. node m (X m)) ms))
+  unfolding keep
+  nodes-kept X full zero [] = refl
+  nodes-kept X full zero (m ∷ ms) = refl
+  nodes-kept X full (suc n) [] = refl
+  nodes-kept X full (suc n) (m ∷ ms) =
+      ap (λ ys. (m ∷ []) ∷ ys) (over-kept n m (X m) (flat_map (λ x. node x (X x)) ms) (full m) ∙ ap (λ ys. map (λ path. m ∷ path) (X m) ++ ys) (nodes-kept X full n ms))
+
+  nodes-begun : (X : M → List (List M)) → ((m : M) → list_all some (X m) ≡ true) → (n : ℕ) (ms : List M) → started false n (flat_map (λ m. node m (X m)) ms) ≡ length (take n (map (λ m. node m (X m)) ms))
+  unfolding started
+  nodes-begun X full zero [] = refl
+  nodes-begun X full zero (m ∷ ms) = refl
+  nodes-begun X full (suc n) [] = refl
+  nodes-begun X full (suc n) (m ∷ ms) = omega (arith, over-begun n m (X m) (flat_map (λ x. node x (X x)) ms) (full m), nodes-begun X full n ms)
+
+  all-append : (xs ys : List (List M)) → list_all some xs ≡ true → list_all some ys ≡ true → list_all some (xs ++ ys) ≡ true
+  all-append [] ys a b = b
+  all-append (x ∷ xs) ys a b = let c = both (some x) (list_all some xs) a in rw c.0 (all-append xs ys c.1 b)
+
+  all-over : (m : M) (xs : List (List M)) → list_all some (map (λ path. m ∷ path) xs) ≡ true
+  all-over m [] = refl
+  all-over m (x ∷ xs) = all-over m xs
+
+  map-filter : {B : Type 0} (test other : M → Bool) (F G : M → B) (xs : List M) → ((x : M) → test x ≡ other x) → ((x : M) → test x ≡ true → F x ≡ G x) → map F (filter test xs) ≡ map G (filter other xs)
+  map-filter test other F G [] s e = refl
+  map-filter test other F G (x ∷ xs) s e = rw (← s x) (split (test x) refl (map-filter test other F G xs s e))
+    where
+      split : (b : Bool) → test x ≡ b → map F (filter test xs) ≡ map G (filter other xs) → map F (cond b (x ∷ filter test xs) (filter test xs)) ≡ map G (cond b (x ∷ filter other xs) (filter other xs))
+      split true t h = rw (e x t, h) refl
+      split false t h = h
+
+module _ {P M : Type 0} (game : Game P M) (way : Way) where
+  -- no path that the walk gives is empty
+  shown-full : (root : Bool) (k left : ℕ) (p : P) (ms : List M) → list_all some (shown way game root k left p ms) ≡ true
+  unfolding shown
+  shown-full root zero left p ms = refl
+  shown-full root (suc k) zero p ms = refl
+  shown-full root (suc k) (suc t) p [] = refl
+  shown-full root (suc k) (suc t) p (m ∷ ms) =
+      split (follows way game root t (game.after p m)) (gives way game t (game.after p m)) (shown-full root (suc k) (suc t) p ms)
+    where
+      split : (f g : Bool) → list_all some (shown way game root (suc k) (suc t) p ms) ≡ true → list_all some (cond f (cond g ((m ∷ []) ∷ []) [] ++ map (λ path. m ∷ path) (shown way game false k (goes_on way game t (game.after p m)) (game.after p m) (game.moves (game.after p m)))) [] ++ shown way game root (suc k) (suc t) p ms) ≡ true
+      split true true h = all-append (map (λ path. m ∷ path) (shown way game false k (goes_on way game t (game.after p m)) (game.after p m) (game.moves (game.after p m)))) (shown way game root (suc k) (suc t) p ms) (all-over m (shown way game false k (goes_on way game t (game.after p m)) (game.after p m) (game.moves (game.after p m)))) h
+      split true false h = all-append (map (λ path. m ∷ path) (shown way game false k (goes_on way game t (game.after p m)) (game.after p m) (game.moves (game.after p m)))) (shown way game root (suc k) (suc t) p ms) (all-over m (shown way game false k (goes_on way game t (game.after p m)) (game.after p m) (game.moves (game.after p m)))) h
+      split false g h = h
+
+  -- the root in battle play: its moves that pass the test, each with what stands below it
+  root-cut : (battle : way.help ≡ false) (h n : ℕ) (p : P) (other : M → Bool) (G : M → List (List M)) → ((m : M) → value way.selfmate game h (game.after p m) ≡ other m) → ((m : M) → value way.selfmate game h (game.after p m) ≡ true → beneath game way battle h h (game.after p m) ≡ G m)
+      → IsCutInto false n (shown way game true (suc h) (suc h) p (game.moves p)) (map (λ m. node m (G m)) (filter other (game.moves p)))
+  root-cut battle h n p other G same each =
+      let T : M → Bool = λ m. value way.selfmate game h (game.after p m) in
+      let X : M → List (List M) = λ m. beneath game way battle h h (game.after p m) in
+      let a : shown way game true (suc h) (suc h) p (game.moves p) ≡ flat_map (λ m. node m (X m)) (filter T (game.moves p)) =
+      as_nodes game way battle true h h p (game.moves p)
+      ∙ flat-filter _ T (λ m. node m (X m)) (λ m. node m (X m)) (game.moves p) (λ m. by_test game way battle true h (game.after p m) refl) (λ m t. refl) in
+      let b : map (λ m. node m (X m)) (filter T (game.moves p)) ≡ map (λ m. node m (G m)) (filter other (game.moves p)) =
+      map-filter T other _ _ (game.moves p) same (λ m t. ap (node m) (each m t)) in
+      let full : (m : M) → list_all some (X m) ≡ true = λ m. shown-full false h (goes_on way game h (game.after p m)) (game.after p m) (game.moves (game.after p m)) in
+      record {
+        kept = rw (a, ← b) (nodes-kept X full n (filter T (game.moves p)));
+        begun = rw (a, ← b) (nodes-begun X full n (filter T (game.moves p)));
+      }
+
+-- half-moves of a battle
+halves-form : (form : Form) (n : ℕ) → is_help form ≡ false → half_moves_of form n ≡ halves (is_selfmate form) n
+halves-form Direct n e = refl
+halves-form SelfMate n e = refl
+halves-form Help n e = absurd cc
+halves-form HelpHalf n e = absurd cc
+
+module _ {P M : Type 0} (game : Game P M) (way : Way) (battle : way.help ≡ false) where
+  set_value : (selfmate : Bool) (n h : ℕ) (r : P) → suc h ≡ halves selfmate n - 1 → value selfmate game h r ≡ set_shows selfmate game n r
+  set_value false n h r e =
+      let k : h ≡ suc (2 * (n - 2)) = omega (arith, e) in
+      let m : n - 1 ≡ suc (n - 2) = omega (arith, e) in
+      rw (k, m) (value-wins game (n - 2) r)
+  set_value true n h r e =
+      let k : h ≡ 2 * (n - 1) = omega (arith, e) in rw k (value-self_wins game (n - 1) r)
+
+  halves-most : (selfmate : Bool) (n h : ℕ) → suc h ≡ halves selfmate n → suc h ≤ 2 * n
+  halves-most true n h e = omega (arith, e)
+  halves-most false n h e = omega (arith, e)
+
+  set-most : (selfmate : Bool) (n h : ℕ) → suc h ≡ halves selfmate n - 1 → h ≤ 2 * n
+  set-most true n h e = omega (arith, e)
+  set-most false n h e = omega (arith, e)
+
+  set-some : (selfmate : Bool) (n h : ℕ) → suc h ≡ halves selfmate n - 1 → (k : ℕ) × (n ≡ suc k)
+  set-some true zero h e = absurd (omega (arith, e))
+  set-some false zero h e = absurd (omega (arith, e))
+  set-some selfmate (suc k) h e = (k, refl)
+
+  key-some : (selfmate : Bool) (n h : ℕ) → suc h ≡ halves selfmate n → (k : ℕ) × (n ≡ suc k)
+  key-some true zero h e = absurd (omega (arith, e))
+  key-some false zero h e = absurd (omega (arith, e))
+  key-some selfmate (suc k) h e = (k, refl)
+
+  -- the play: the tree
+  pub tree-cut : (n h max : ℕ) (p : P) → suc h ≡ halves way.selfmate n → IsCutInto false max (shown way game true (suc h) (suc h) p (game.moves p)) (tree way.selfmate game way.variation n (suc h) p)
+  tree-cut n h max p e =
+      let k = key-some way.selfmate n h e in
+      let e2 : suc h ≡ halves way.selfmate (suc k.0) = e ∙ ap (halves way.selfmate) k.1 in
+      let l : halves way.selfmate (suc k.0) - 1 ≡ h = omega (arith, e2) in
+      let one : suc h - 1 ≡ h = omega arith in
+      let s : seeks way.selfmate (suc h) ≡ true = rw e2 (halves-seek game way.selfmate k.0) in
+      let same : (m : M) → value way.selfmate game h (game.after p m) ≡ keeps way.selfmate game n (game.after p m) =
+      λ m. sym (ap (λ x. keeps way.selfmate game x (game.after p m)) k.1 ∙ keeps-value game way.selfmate k.0 (game.after p m) ∙ ap (λ x. value way.selfmate game x (game.after p m)) l) in
+      rw one (root-cut game way battle h max p _ _ same (λ m v. below-key game way battle n h (game.after p m) s (halves-most way.selfmate n h e) v))
+
+  -- set play
+  pub set-cut : (n h max : ℕ) (p : P) → suc h ≡ halves way.selfmate n - 1 → IsCutInto false max (shown way game true (suc h) (suc h) p (game.moves p)) (set_tree way.selfmate game way.variation n (suc h) p)
+  unfolding set_tree
+  set-cut n h max p e =
+      let k = set-some way.selfmate n h e in
+      let e2 : suc h + 1 ≡ halves way.selfmate (suc k.0) = omega (arith, e, ap (halves way.selfmate) k.1) in
+      let s : seeks way.selfmate (suc h + 1) ≡ true = rw e2 (halves-seek game way.selfmate k.0) in
+      let s1 : seeks way.selfmate (suc h) ≡ false = flip game _ (sym (seeks-step game way.selfmate (suc h)) ∙ s) in
+      let one : suc h ≡ h + 1 = omega arith in
+      let s2 : seeks way.selfmate (h + 1) ≡ false = rw (← one) s1 in
+      let s3 : seeks way.selfmate h ≡ true = unflip game _ (sym (seeks-step game way.selfmate h) ∙ s2) in
+      root-cut game way battle h max p _ _ (λ m. set_value way.selfmate n h (game.after p m) e)
+      (λ m v. below-set game way battle n h (game.after p m) s3 (set-most way.selfmate n h e) v)
+
+-- a phase of no half-moves
+none-cut : {M : Type 0} (help : Bool) (n : ℕ) → IsCutInto {M = M} help n [] []
+none-cut {M = M} help n = record { kept = keep-nil help n ∙ none n; begun = started-nil M help n ∙ zero_of n }
+  where
+    none : (n : ℕ) → [] ≡ flat_map {X = List (List M)} {A = List M} (λ solution. solution) (take n [])
+    none zero = refl
+    none (suc n) = refl
+
+    zero_of : (n : ℕ) → 0 ≡ length {A = List (List M)} (take n [])
+    zero_of zero = refl
+    zero_of (suc n) = refl
+
+module _ (rule : RuleSet) (problem : Posed) (stated : IsSound problem) where
+  abbrev way : Way
+  way = way_of problem
+
+  cut : (in_set help : Bool) → is_help problem.stipulation.form ≡ help → (h : ℕ) → phase_half_moves problem in_set ≡ h → IsCutInto help problem.max_solutions (shown way (chess rule) true h h (phase_start problem in_set) ((chess rule).moves (phase_start problem in_set))) (cond help (map (λ path. path ∷ []) (help_lines (chess rule) h (phase_start problem in_set))) (cond in_set (set_tree (is_selfmate problem.stipulation.form) (chess rule) problem.variation problem.stipulation.n h (phase_start problem in_set)) (tree (is_selfmate problem.stipulation.form) (chess rule) problem.variation problem.stipulation.n h (phase_start problem in_set))))
+  unfolding help_lines set_tree
+  cut in_set true e zero z = rw (shown-zero (chess rule) way true 0 (phase_start problem in_set) ((chess rule).moves (phase_start problem in_set))) (none-cut true problem.max_solutions)
+  cut in_set true e (suc h) z =
+      rw (shown-help (chess rule) way e true h (phase_start problem in_set)) (record { kept = lines-kept problem.max_solutions _; begun = lines-begun problem.max_solutions _ })
+  cut true false e zero z = rw (shown-zero (chess rule) way true 0 (phase_start problem true) ((chess rule).moves (phase_start problem true))) (none-cut false problem.max_solutions)
+  cut true false e (suc h) z = set-cut (chess rule) way e problem.stipulation.n h problem.max_solutions (phase_start problem true) (sym z ∙ ap (λ x. x - 1) (halves-form problem.stipulation.form problem.stipulation.n e))
+  cut false false e zero z = absurd (omega (arith, z, some_way problem stated))
+  cut false false e (suc h) z = tree-cut (chess rule) way e problem.stipulation.n h problem.max_solutions (phase_start problem false) (sym z ∙ halves-form problem.stipulation.form problem.stipulation.n e)
+
+  -- what is to come from the root frame of a phase
+  pub root-solutions : (in_set : Bool) (f : Frame) → f.left ≡ phase_half_moves problem in_set → moves_behind rule (phase_start problem in_set) f.place ≡ (chess rule).moves (phase_start problem in_set) → IsCutInto (is_help problem.stipulation.form) problem.max_solutions (phase_paths rule problem in_set (f ∷ [])) (solutions rule problem in_set)
+  unfolding solutions
+  root-solutions in_set f l b =
+      let h : phase_half_moves problem in_set - 0 ≡ phase_half_moves problem in_set = omega arith in
+      let r = to_come-root rule way (phase_half_moves problem in_set) (phase_start problem in_set) f in
+      rw (r, h, l, b) (cut in_set (is_help problem.stipulation.form) refl (phase_half_moves problem in_set) refl)

@@ -1,0 +1,44 @@
+-- What a sound problem's play rests on.
+use Rattle.std.proofs.Common.{◌≡◌, ℕ, ◌+◌, ◌-◌, ◌*◌, ◌≤◌, Bool, true, false, Option, None, nat_le, refl, sym, ap, arith}
+use Rattle.std.proofs.lemmas.Bool.Decides.{nat_tests}
+use Rattle.std.proofs.lemmas.Bool.{and_parts}
+use Rattle.chess_core.specs.Diagrams.{position_of}
+use Rattle.chess_core.specs.Position.{Position, other}
+use Rattle.chess_core.specs.WellFormed.{IsWellFormed, is_crossed_right}
+use Rattle.pop_input.specs.Posed.{Posed, IsSound}
+use Rattle.pop_input.specs.Stipulations.{half_moves, half_moves_of, is_in_range, may_have}
+use Rattle.pop_input.specs.declared.stipulation.Form.{Form}
+use Rattle.pop_input.specs.declared.stipulation.Form.TheVariants.{Direct, SelfMate, Help, HelpHalf}
+use Rattle.pop_solve.specs.Chess.{set_start}
+use Rattle.pop_solve.specs.Events.{start, phase_start}
+
+halves-some : (form : Form) (n : ℕ) → may_have form n ≡ true → 1 ≤ half_moves_of form n
+halves-some Direct n e = let a = (and_parts (nat_le 1 n) (nat_le n 8) e).0 in grind (arith, nat_tests, a)
+halves-some SelfMate n e = let a = (and_parts (nat_le 1 n) (nat_le n 8) e).0 in grind (arith, nat_tests, a)
+halves-some Help n e = let a = (and_parts (nat_le 1 n) (nat_le n 8) e).0 in grind (arith, nat_tests, a)
+halves-some HelpHalf n e = omega arith
+
+halves-most : (form : Form) (n : ℕ) → may_have form n ≡ true → half_moves_of form n ≤ 16
+halves-most Direct n e = let a = (and_parts (nat_le 1 n) (nat_le n 8) e).1 in grind (arith, nat_tests, a)
+halves-most SelfMate n e = let a = (and_parts (nat_le 1 n) (nat_le n 8) e).1 in grind (arith, nat_tests, a)
+halves-most Help n e = let a = (and_parts (nat_le 1 n) (nat_le n 8) e).1 in grind (arith, nat_tests, a)
+halves-most HelpHalf n e = grind (arith, nat_tests, e)
+
+-- a problem has 1 to 16 half-moves
+pub some_way : (problem : Posed) → IsSound problem → 1 ≤ half_moves problem.stipulation
+some_way problem s = halves-some problem.stipulation.form problem.stipulation.n s.range
+
+pub in_range : (problem : Posed) → IsSound problem → half_moves problem.stipulation ≤ 16
+in_range problem s = halves-most problem.stipulation.form problem.stipulation.n s.range
+
+-- set play's first position is well formed
+nothing_crossed : (p : Position) → is_crossed_right p.men (other p.turn) None ≡ true
+unfolding is_crossed_right
+nothing_crossed p = refl
+
+set_sound : (p : Position) → IsWellFormed p → IsWellFormed (set_start p)
+set_sound p w = record { size = w.size; kings = w.kings; pawns = w.pawns; homes = w.homes; crossed = nothing_crossed p }
+
+pub start_sound : (problem : Posed) → IsSound problem → (in_set : Bool) → IsWellFormed (phase_start problem in_set)
+start_sound problem s true = set_sound (start problem) s.well_formed
+start_sound problem s false = s.well_formed

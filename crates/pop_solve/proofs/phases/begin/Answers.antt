@@ -1,0 +1,34 @@
+use Rattle.std.proofs.Common.{◌≡◌, ℕ, ◌∙◌, ap, refl, sym, arith, rules, reverse, not, Bool, true, false, ◌∷◌, []}
+use Rattle.pop_solve.specs.Phases.{IsStanding}
+use Rattle.pop_solve.proofs.Walking as walking
+use Rattle.pop_solve.proofs.Events as events
+use Rattle.pop_solve.proofs.Solved as solved
+use Rattle.pop_solve.proofs.Boards.{behind_start}
+use Rattle.pop_solve.proofs.Sound.{start_sound}
+use Rattle.pop_solve.proofs.phases.begin.Goals as goal
+
+barred : (b r : Bool) → r ≡ not b → r ≡ false → b ≡ true
+barred true r e f = refl
+barred false r e f = cc
+
+open_yet : (b r : Bool) → r ≡ not b → r ≡ true → b ≡ false
+open_yet true r e f = cc
+open_yet false r e f = refl
+
+pub returns-then-not-set_up-clause-left : goal.returns-then-not-set_up-clause-left
+returns-then-not-set_up-clause-left g c =
+    events.left-barred g.R.Rules.rule c.args.problem.now c.args.in_set _ (barred _ _ c.set_up.ensures.possible c.if-not-set_up.true)
+
+pub returns-clause-standing : goal.returns-clause-standing
+unfolding IsStanding
+returns-clause-standing g c =
+    let set = rw c.if-not-set_up.false at c.set_up.ensures.board in
+    rw (c.push-2.ensures.items, walking.reverse-push, c.requires.standing.0)
+    (events.standing-begun g.R.Rules.rule c.args.problem.now c.args.in_set _ _ c.phase_half_moves-left.ensures set (rw set (start_sound c.args.problem.now c.requires.sound c.args.in_set)))
+
+pub returns-clause-left : goal.returns-clause-left
+unfolding IsStanding
+returns-clause-left g c =
+    let cut = solved.root-solutions g.R.Rules.rule c.args.problem.now c.requires.sound c.args.in_set _ c.phase_half_moves-left.ensures (rw c.start.ensures (behind_start g.R.Rules.rule _)) in
+    rw (c.push-2.ensures.items, walking.reverse-push, c.requires.standing.0)
+    (events.left-begun g.R.Rules.rule c.args.problem.now c.args.in_set _ _ (open_yet _ _ c.set_up.ensures.possible c.if-not-set_up.false) cut.kept cut.begun)

@@ -1,0 +1,12 @@
+use Rattle.std.proofs.Common.{◌≡◌, ℕ, length, reverse}
+use Rattle.chess_core.specs.Position.{Position}
+use Rattle.pop_solve.specs.Walk.{IsWalking}
+use Rattle.pop_solve.proofs.phases.close_all.Given as goal
+
+abbrev pub invariant-loop-top : goal.invariant-loop-top
+invariant-loop-top g l =
+    (p : Position) → IsWalking g.R.Rules.rule l.half_moves p (reverse l.fn.frames.items) l.fn.board
+    → IsWalking g.R.Rules.rule l.half_moves p (reverse l.frames.items) l.board
+
+abbrev pub decreases-loop-top : goal.decreases-loop-top
+decreases-loop-top g l = length l.frames.items

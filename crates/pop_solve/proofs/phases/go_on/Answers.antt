@@ -1,0 +1,42 @@
+use Rattle.std.proofs.Common.{◌≡◌, ℕ, ◌+◌, ◌-◌, ◌<◌, ◌≤◌, ◌∙◌, ap, refl, sym, arith, rules}
+use Rattle.pop_solve.specs.Phases.{IsStanding}
+use Rattle.pop_solve.proofs.Events as events
+use Rattle.pop_solve.proofs.phases.go_on.Goals as goal
+
+pub walk_on-requires : goal.walk_on-requires
+unfolding IsStanding
+walk_on-requires g c = (search rules, (c.requires.sound, (c.requires.room, c.requires.standing.0)))
+
+pub count_with-count-requires-clause-begins : goal.count_with-count-requires-clause-begins
+unfolding IsStanding
+count_with-count-requires-clause-begins g c =
+    rw c.len.ensures.value (events.room-given g.R.Rules.rule c.args.problem.now c.args.in_set _ _ _ _ c.requires.standing.1 (rw c.max_solutions-max_solutions.ensures.limit at c.if-walk_on.ensures.walks))
+
+pub event_at-requires : goal.event_at-requires
+unfolding IsStanding
+event_at-requires g c = (
+  search rules,
+  (
+    events.deep-given g.R.Rules.rule c.args.problem.now c.args.in_set _ _ _ _ c.requires.standing.1 (rw c.max_solutions-max_solutions.ensures.limit at c.if-walk_on.ensures.walks),
+    events.shallow-given g.R.Rules.rule c.args.problem.now c.args.in_set _ _ _ _ c.requires.standing.1 (rw c.max_solutions-max_solutions.ensures.limit at c.if-walk_on.ensures.walks) c.requires.sound,
+  ),
+)
+
+pub returns-then-walk_on-clause-standing : goal.returns-then-walk_on-clause-standing
+unfolding IsStanding
+returns-then-walk_on-clause-standing g c =
+    events.standing-given g.R.Rules.rule c.args.problem.now c.args.in_set _ _ _ _ c.requires.standing.1 (rw c.max_solutions-max_solutions.ensures.limit at c.if-walk_on.ensures.walks) _ (rw c.len.ensures.value at c.count_with-count.ensures)
+
+pub returns-then-walk_on-clause-gives : goal.returns-then-walk_on-clause-gives
+unfolding IsStanding
+returns-then-walk_on-clause-gives g c =
+    events.gives-given g.R.Rules.rule c.args.problem.now c.args.in_set _ _ _ _ c.requires.standing.1 (rw c.max_solutions-max_solutions.ensures.limit at c.if-walk_on.ensures.walks) _ _ (rw c.len.ensures.value at c.count_with-count.ensures)
+    (c.event_at.ensures c.if-walk_on.ensures.walks.walking.showing)
+
+pub returns-clause-standing : goal.returns-clause-standing
+returns-clause-standing g c =
+    events.standing-ended g.R.Rules.rule c.args.problem.now c.args.in_set _ _ _ c.end.ensures.stage c.end.ensures.none c.end.ensures.board
+
+pub returns-clause-gives : goal.returns-clause-gives
+returns-clause-gives g c =
+    rw c.max_solutions-max_solutions.ensures.limit (events.gives-ended g.R.Rules.rule c.args.problem.now c.args.in_set _ _ _ c.end.ensures.stage c.end.ensures.none _ _ _ _ _ (rw c.max_solutions-max_solutions.ensures.limit at c.if-walk_on.ensures.walks))

@@ -1,0 +1,29 @@
+use Rattle.std.proofs.Common.{◌≡◌, ℕ, ◌+◌, ◌-◌, ◌<◌, ◌≤◌, ◌∙◌, ap, refl, sym, arith, rules, length, reverse}
+use Rattle.std.proofs.lemmas.List.{length-reverse}
+use Rattle.std.proofs.lemmas.Bool.Decides.{nat_tests}
+use Rattle.pop_solve.proofs.Kept as kept
+use Rattle.pop_solve.proofs.phases.walk_on.Goals as goal
+
+pub returns-then-step : goal.returns-then-step
+returns-then-step g c =
+    let l = length-reverse c.loop-frames.frames.items in
+    let some : 0 < length c.loop-frames.frames.items = grind (arith, nat_tests) in
+    record {
+      walks = rw (← c.way_of-way.ensures, ← c.phase_half_moves-half_moves.ensures)
+          (kept.walks_given g.R.Rules.rule _ _ _ _ _ c.loop-frames.invariant.1 _ _ _ _ _ _ (c.step.ensures.steps _ c.loop-frames.invariant.0) c.if-step.true
+          (omega (arith, l, some)) (rw (l, ← c.len.ensures.value) (sym c.is_full.ensures ∙ c.if-not-is_full.true)));
+    }
+
+pub returns-else-not-is_full : goal.returns-else-not-is_full
+returns-else-not-is_full g c =
+    let l = length-reverse c.loop-frames.frames.items in
+    record {
+      walks = rw (← c.way_of-way.ensures, ← c.phase_half_moves-half_moves.ensures)
+          (kept.walks_full g.R.Rules.rule _ _ _ _ _ c.loop-frames.invariant.1 _ _ c.loop-frames.invariant.0
+          (rw (l, ← c.len.ensures.value) (sym c.is_full.ensures ∙ c.if-not-is_full.false)));
+    }
+
+pub returns-after-loop-frames : goal.returns-after-loop-frames
+returns-after-loop-frames g c =
+    let none : length c.loop-frames.frames.items ≡ 0 = grind (arith, nat_tests) in
+    record { walks = rw (← c.way_of-way.ensures, ← c.phase_half_moves-half_moves.ensures) (kept.walks_none g.R.Rules.rule _ _ _ _ _ c.loop-frames.invariant.1 _ _ c.loop-frames.invariant.0 (omega (arith, none, length-reverse c.loop-frames.frames.items))) }

@@ -1,0 +1,83 @@
+-- What a search that stands in a phase has still to give.
+use Rattle.std.specs.Prelude.{◌≡◌, ℕ, zero, suc, ◌+◌, ◌-◌, ◌≤◌, ◌^◌, min, ◌==◌, Bool, true, false, not, ◌&&◌, ◌||◌, if◌then◌else◌, List, [], ◌∷◌, ◌++◌, map, length}
+use Rattle.chess_core.specs.Position.{Position}
+use Rattle.chess_core.specs.Triple.{Triple}
+use Rattle.chess_rules.specs.RuleSet.{RuleSet}
+use Rattle.pop_input.specs.Posed.{Posed}
+use Rattle.pop_input.specs.Stipulations.{is_help, is_selfmate}
+use Rattle.pop_solve.specs.Frames.{Frame}
+use Rattle.pop_solve.specs.Walk.{path, to_come, IsWalking}
+use Rattle.pop_solve.specs.Events.{Step, impossible, total, start, steps_from, step_of, phase_start, phase_half_moves, event_of, StandsOn, events}
+use Rattle.pop_solve.specs.declared.event.Event.{Event}
+use Rattle.pop_solve.specs.declared.phases.Stage.{Stage}
+use Rattle.pop_solve.specs.declared.phases.Stage.TheVariants.{Before, Barred, Within, Behind}
+use Rattle.pop_solve.specs.declared.walk.Way.{Way}
+
+-- how a problem is walked
+abbrev pub way_of : Posed → Way
+way_of problem = record { help = is_help problem.stipulation.form; selfmate = is_selfmate problem.stipulation.form; variation = problem.variation }
+
+module _ {M : Type 0} where
+  -- whether a path begins a solution: each line does, and each node above which none stands
+  abbrev pub begins : Bool → List M → Bool
+  begins help path = help || length path == 1
+
+  -- the paths of the first n solutions, where the paths before the first beginning belong to one that was begun earlier
+  unfoldable pub keep : Bool → ℕ → List (List M) → List (List M)
+  keep help n [] = []
+  keep help zero (x ∷ xs) = if begins help x then [] else x ∷ keep help zero xs
+  keep help (suc n) (x ∷ xs) = x ∷ (if begins help x then keep help n xs else keep help (suc n) xs)
+
+  -- how many solutions begin among them
+  unfoldable pub started : Bool → ℕ → List (List M) → ℕ
+  started help n [] = 0
+  started help zero (x ∷ xs) = if begins help x then 0 else started help zero xs
+  started help (suc n) (x ∷ xs) = if begins help x then 1 + started help n xs else started help (suc n) xs
+
+-- the paths to come from the frames of a phase
+abbrev pub phase_paths : RuleSet → Posed → Bool → List Frame → List (List Triple)
+phase_paths rule problem in_set frames =
+    to_come rule (way_of problem) (phase_half_moves problem in_set) (phase_start problem in_set) frames
+
+-- the steps still to come
+unfoldable pub left_of : RuleSet → Posed → Stage → List Frame → List Step
+left_of rule problem (Before in_set) frames = steps_from rule problem in_set
+left_of rule problem Barred frames = impossible ∷ steps_from rule problem false
+left_of rule problem (Within in_set count) frames =
+    let paths = phase_paths rule problem in_set frames in
+    let limit = problem.max_solutions - count in
+    let all = count + started (is_help problem.stipulation.form) limit paths in
+    map (step_of problem in_set) (keep (is_help problem.stipulation.form) limit paths)
+    ++ total all (all == problem.max_solutions) ∷ (if in_set then steps_from rule problem false else [])
+left_of rule problem Behind frames = []
+
+-- what holds of board and frames at a stage
+unfoldable pub IsStanding : RuleSet → Posed → Stage → List Frame → Position → Type 0
+IsStanding rule problem (Before in_set) frames board = (frames ≡ []) × (board ≡ start problem)
+IsStanding rule problem Barred frames board = (frames ≡ []) × (board ≡ start problem)
+IsStanding rule problem (Within in_set count) frames board =
+    IsWalking rule (phase_half_moves problem in_set) (phase_start problem in_set) frames board
+    × (count ≤ problem.max_solutions)
+IsStanding rule problem Behind frames board = (frames ≡ []) × (board ≡ start problem)
+
+-- what walking on in a phase leaves, at most `limit` solutions being still to begin
+pub record Walks (rule : RuleSet) (way : Way) (h : ℕ) (p : Position) (limit : ℕ) (old new : List Frame) (board : Position) (given : Bool) : Type 0 where
+  pub walking : IsWalking rule h p new board
+  pub come : given ≡ true → keep way.help limit (to_come rule way h p old) ≡ path new ∷ keep way.help (limit - (if begins way.help (path new) then 1 else 0)) (to_come rule way h p new)
+  pub starts : given ≡ true → started way.help limit (to_come rule way h p old) ≡ (if begins way.help (path new) then 1 else 0) + started way.help (limit - (if begins way.help (path new) then 1 else 0)) (to_come rule way h p new)
+  pub within : given ≡ true → (if begins way.help (path new) then 1 else 0) ≤ limit
+  pub deep : given ≡ true → 2 ≤ length new
+  pub ended : given ≡ false → keep way.help limit (to_come rule way h p old) ≡ []
+  pub none : given ≡ false → started way.help limit (to_come rule way h p old) ≡ 0
+
+-- what a call gives: the first step still to come, as an event, with board and frames where that step stands
+pub record Gives (rule : RuleSet) (problem : Posed) (old new : List Step) (event : Event) (board : Position) (depth : ℕ) : Type 0 where
+  pub step : Step
+  pub left : old ≡ step ∷ new
+  pub event_is : event ≡ event_of rule problem step
+  pub stands : StandsOn rule problem step board depth
+
+-- the events given, counted up to the greatest u64; the steps still to come are an ending of all
+pub record IsGiven (rule : RuleSet) (problem : Posed) (left : List Step) (given : ℕ) : Type 0 where
+  pub within : length left ≤ length (events rule problem)
+  pub counts : given ≡ min (length (events rule problem) - length left) (2 ^ 64 - 1)

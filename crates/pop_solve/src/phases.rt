@@ -1,0 +1,341 @@
+//! The phases of a search.
+ghost use Rattle.std.specs.Prelude.{◌≡◌, ◌+◌, ◌<◌, ◌≤◌, ℕ, List, [], ◌∷◌, ◌++◌, length, reverse, IsTrue, true, false, if◌then◌else◌, MatchOption, Some, None, not, ◌&&◌, ◌||◌, ◌==◌, ◌-◌, ◌^◌, min, slice_get, drop};
+ghost use Rattle.arrayvec.specs.ArrayVec.{array_vec_len};
+ghost use Rattle.chess_core.specs.Diagrams.{position_of};
+ghost use Rattle.chess_core.specs.Position.{Position};
+ghost use Rattle.chess_core.specs.WellFormed.{IsWellFormed};
+ghost use Rattle.chess_rules.specs.RuleSet.{RuleSet};
+ghost use Rattle.pop_input.specs.Posed.{IsSound};
+ghost use Rattle.pop_input.specs.Stipulations.{half_moves, is_help, is_selfmate};
+ghost use Rattle.pop_solve.specs.Chess.{set_start};
+ghost use Rattle.pop_solve.specs.Events.{start, phase_half_moves as half_moves_of_phase, phase_start, phase_half as half_of_phase, event_of, is_barred, step_of, phase};
+ghost use Rattle.pop_solve.specs.Walk.{IsWalking, IsShowing, shows, path};
+ghost use Rattle.pop_solve.specs.Phases.{way_of as way_of_problem, left_of, IsStanding, Walks, Gives};
+ghost use Rattle.pop_solve.specs.declared.phases.Stage.TheVariants.{Before, Within, Behind};
+
+use crate::chess::{is_impossible, turn_back, turn_over};
+use crate::event::{Event, Phase};
+use crate::frame::Frame;
+use crate::shown::Shown;
+use crate::walk::{Way, opened_by, step, step_back};
+use arrayvec::ArrayVec;
+use chess_core::board::Board;
+use chess_rules::moves::Moves;
+use chess_rules::rules::Rules;
+use pop_input::problem::Problem;
+use pop_input::stipulation::Form;
+
+/// Where a search stands among its phases; a phase is set play or the play.
+#[derive(Clone, Copy)]
+pub enum Stage {
+    /// Before a phase.
+    Before { in_set: bool },
+    /// In set play, which isn't possible.
+    Barred,
+    /// Within a phase, of which `count` solutions have begun.
+    Within { in_set: bool, count: u32 },
+    /// Behind the last.
+    Behind,
+}
+
+/// Whether both sides help.
+fn is_help(problem: &Problem) -> bool
+    ensures { result ≡ is_help problem.now.stipulation.form }
+{
+    match problem.stipulation().form {
+        Form::Direct | Form::SelfMate => false,
+        Form::Help | Form::HelpHalf => true,
+    }
+}
+
+/// How a problem is walked.
+fn way_of(problem: &Problem) -> Way
+    ensures { result ≡ way_of_problem problem.now }
+{
+    Way {
+        help: is_help(problem),
+        selfmate: problem.stipulation().form == Form::SelfMate,
+        variation: problem.variation(),
+    }
+}
+
+/// The half-moves of the play.
+fn half_moves(problem: &Problem) -> usize
+    ensures value { result ≡ half_moves problem.now.stipulation }
+    ensures some { 1 ≤ result }
+{
+    let stipulation = problem.stipulation();
+    let n = stipulation.n as usize;
+    match stipulation.form {
+        Form::Direct => 2 * n - 1,
+        Form::SelfMate | Form::Help => 2 * n,
+        Form::HelpHalf => 2 * n + 1,
+    }
+}
+
+/// The half-moves of a phase: set play drops the first.
+fn phase_half_moves(problem: &Problem, in_set: bool) -> usize
+    ensures { result ≡ half_moves_of_phase problem.now in_set }
+{
+    if in_set {
+        half_moves(problem) - 1
+    } else {
+        half_moves(problem)
+    }
+}
+
+/// The number of a phase's first half-move.
+fn phase_half(problem: &Problem, in_set: bool) -> u32
+    ensures { result ≡ half_of_phase problem.now in_set }
+{
+    let first = match problem.stipulation().form {
+        Form::Direct | Form::SelfMate | Form::Help => 1,
+        Form::HelpHalf => 2,
+    };
+    if in_set { first + 1 } else { first }
+}
+
+/// The move that led to a frame, as it is shown.
+fn shown_at<R: Rules>(frame: &Frame<R>) -> Shown
+    ensures { result ≡ frame.now.shown }
+{
+    frame.shown
+}
+
+/// The moves that lead to the top frame, as they are shown.
+fn line<R: Rules, const N: usize>(frames: &ArrayVec<Frame<R>, N>) -> ArrayVec<Shown, 16>
+    requires { array_vec_len frames.now ≤ 17 }
+    ensures { result.items ≡ shows (reverse frames.now.items) }
+{
+    let frames = frames.as_slice();
+    let mut line = ArrayVec::new();
+    for k in 1..frames.len() {
+        line.push(shown_at(&frames[k]));
+    }
+    line
+}
+
+/// Whether a phase ends before another solution begins: so many have begun, and none is on the way.
+fn is_full(way: Way, depth: usize, limit: u32) -> bool
+    ensures { result ≡ ((limit == 0) && (way.help || (depth == 1))) }
+{
+    limit == 0 && (way.help || depth == 1)
+}
+
+/// Walks on to the next path that is given, in a phase in which `limit` solutions are still to begin. Answers whether
+/// there is one.
+fn walk_on<R: Rules, const N: usize>(
+    problem: &Problem,
+    in_set: bool,
+    limit: u32,
+    board: &mut Board,
+    frames: &mut ArrayVec<Frame<R>, N>,
+    opened: &mut u64,
+) -> bool
+    requires sound { IsSound problem.now }
+    requires room { half_moves problem.now.stipulation < N }
+    requires walking { IsWalking R.rule (half_moves_of_phase problem.now in_set) (phase_start problem.now in_set)
+        (reverse frames.old.items) board.old }
+    ensures walks { Walks R.rule (way_of_problem problem.now) (half_moves_of_phase problem.now in_set)
+        (phase_start problem.now in_set) limit (reverse frames.old.items) (reverse frames.new.items) board.new result }
+{
+    let way = way_of(problem);
+    let half_moves = phase_half_moves(problem, in_set);
+    while !frames.is_empty() && !is_full(way, frames.len(), limit) {
+        if step::<R, N>(way, half_moves, board, frames, opened) {
+            return true;
+        }
+    }
+    false
+}
+
+/// Closes all frames.
+fn close_all<R: Rules, const N: usize>(
+    half_moves: usize,
+    board: &mut Board,
+    frames: &mut ArrayVec<Frame<R>, N>,
+)
+    requires walking { (p : Position) × IsWalking R.rule half_moves p (reverse frames.old.items) board.old }
+    ensures none { frames.new.items ≡ [] }
+    ensures back { (p : Position) → IsWalking R.rule half_moves p (reverse frames.old.items) board.old → board.new ≡ p }
+{
+    while let Some(top) = frames.pop() {
+        step_back::<R>(frames.len(), top, board);
+    }
+}
+
+/// The event of the path to the top frame.
+fn event_at<R: Rules, const N: usize>(problem: &Problem, in_set: bool, frames: &ArrayVec<Frame<R>, N>) -> Event
+    requires deep { 2 ≤ array_vec_len frames.now }
+    requires shallow { array_vec_len frames.now ≤ 17 }
+    ensures { IsShowing R.rule (phase_start problem.now in_set) (reverse frames.now.items)
+        → result ≡ event_of R.rule problem.now (step_of problem.now in_set (path (reverse frames.now.items))) }
+{
+    let half = phase_half(problem, in_set);
+    if is_help(problem) {
+        return Event::Line {
+            half,
+            moves: line::<R, N>(frames),
+        };
+    }
+    let frames = frames.as_slice();
+    let last = frames.len() - 1;
+    let depth = (last - 1) as u32;
+    Event::Node {
+        depth,
+        half: half + depth,
+        shown: shown_at(&frames[last]),
+    }
+}
+
+/// Puts the first position of a phase on the board, or finds that it isn't possible and leaves the board.
+fn set_up<R: Rules>(problem: &Problem, in_set: bool, board: &mut Board) -> bool
+    requires { board.old ≡ start problem.now }
+    ensures possible { result ≡ not (is_barred R.rule problem.now in_set) }
+    ensures board { board.new ≡ (if result then phase_start problem.now in_set else start problem.now) }
+{
+    if !in_set {
+        return true;
+    }
+    turn_over(board);
+    if !is_impossible::<R>(board) {
+        return true;
+    }
+    turn_back(board, &problem.diagram());
+    false
+}
+
+/// Begins a phase, or finds that it isn't possible.
+#[tactic(auto, unfolding(crate::specs::Phases::IsStanding))]
+fn begin<R: Rules, const N: usize>(
+    problem: &Problem,
+    in_set: bool,
+    board: &mut Board,
+    frames: &mut ArrayVec<Frame<R>, N>,
+    opened: &mut u64,
+) -> Stage
+    requires sound { IsSound problem.now }
+    requires room { half_moves problem.now.stipulation < N }
+    requires standing { IsStanding R.rule problem.now (Before in_set) (reverse frames.old.items) board.old }
+    ensures standing { IsStanding R.rule problem.now result (reverse frames.new.items) board.new }
+    ensures left { left_of R.rule problem.now (Before in_set) (reverse frames.old.items)
+        ≡ phase in_set ∷ left_of R.rule problem.now result (reverse frames.new.items) }
+{
+    if !set_up::<R>(problem, in_set, board) {
+        return Stage::Barred;
+    }
+    let left = phase_half_moves(problem, in_set);
+    frames.push(Frame {
+        place: Moves::start(),
+        left,
+        ..Frame::default()
+    });
+    *opened = opened_by(*opened, left, false);
+    Stage::Within { in_set, count: 0 }
+}
+
+/// Ends a phase: closes its frames and puts the first position of the play on the board.
+fn end<R: Rules, const N: usize>(
+    problem: &Problem,
+    in_set: bool,
+    board: &mut Board,
+    frames: &mut ArrayVec<Frame<R>, N>,
+) -> Stage
+    requires sound { IsSound problem.now }
+    requires walking { IsWalking R.rule (half_moves_of_phase problem.now in_set) (phase_start problem.now in_set)
+        (reverse frames.old.items) board.old }
+    ensures stage { result ≡ (if in_set then Before false else Behind) }
+    ensures none { frames.new.items ≡ [] }
+    ensures board { board.new ≡ start problem.now }
+{
+    close_all::<R, N>(phase_half_moves(problem, in_set), board, frames);
+    if in_set {
+        turn_back(board, &problem.diagram());
+        Stage::Before { in_set: false }
+    } else {
+        Stage::Behind
+    }
+}
+
+/// Goes on within a phase, of which `count` solutions have begun.
+#[tactic(auto, unfolding(crate::specs::Phases::IsStanding))]
+fn go_on<R: Rules, const N: usize>(
+    problem: &Problem,
+    in_set: bool,
+    count: u32,
+    stage: &mut Stage,
+    board: &mut Board,
+    frames: &mut ArrayVec<Frame<R>, N>,
+    opened: &mut u64,
+) -> Event
+    requires sound { IsSound problem.now }
+    requires room { half_moves problem.now.stipulation < N }
+    requires standing { IsStanding R.rule problem.now (Within in_set count) (reverse frames.old.items) board.old }
+    ensures standing { IsStanding R.rule problem.now stage.new (reverse frames.new.items) board.new }
+    ensures gives { Gives R.rule problem.now
+        (left_of R.rule problem.now (Within in_set count) (reverse frames.old.items))
+        (left_of R.rule problem.now stage.new (reverse frames.new.items)) result board.new (array_vec_len frames.new) }
+{
+    let max_solutions = problem.max_solutions();
+    let limit = max_solutions - count;
+    if walk_on::<R, N>(problem, in_set, limit, board, frames, opened) {
+        let count = count_with(problem, frames.len(), count);
+        *stage = Stage::Within { in_set, count };
+        return event_at::<R, N>(problem, in_set, frames);
+    }
+    *stage = end::<R, N>(problem, in_set, board, frames);
+    Event::Total {
+        count,
+        stopped: count == max_solutions,
+    }
+}
+
+/// The count of solutions, with one that begins at a path to the top of so many frames.
+fn count_with(problem: &Problem, depth: usize, count: u32) -> u32
+    requires sound { IsSound problem.now }
+    requires begins { (if is_help problem.now.stipulation.form || (depth == 2) then 1 else 0) ≤ problem.now.max_solutions - count }
+    requires most { count ≤ problem.now.max_solutions }
+    ensures { result ≡ count + (if is_help problem.now.stipulation.form || (depth == 2) then 1 else 0) }
+{
+    if is_help(problem) || depth == 2 {
+        count + 1
+    } else {
+        count
+    }
+}
+
+/// The next event of a search, whose stage moves on.
+#[tactic(auto, unfolding(crate::specs::Phases::IsStanding, crate::specs::Phases::left_of))]
+pub fn advance<R: Rules, const N: usize>(
+    problem: &Problem,
+    stage: &mut Stage,
+    board: &mut Board,
+    frames: &mut ArrayVec<Frame<R>, N>,
+    opened: &mut u64,
+) -> Option<Event>
+    requires sound { IsSound problem.now }
+    requires room { half_moves problem.now.stipulation < N }
+    requires standing { IsStanding R.rule problem.now stage.old (reverse frames.old.items) board.old }
+    ensures standing { IsStanding R.rule problem.now stage.new (reverse frames.new.items) board.new }
+    ensures gives { MatchOption result
+        ((left_of R.rule problem.now stage.old (reverse frames.old.items) ≡ []) × (board.new ≡ start problem.now)
+        × (left_of R.rule problem.now stage.new (reverse frames.new.items) ≡ []))
+        (λ event. Gives R.rule problem.now
+        (left_of R.rule problem.now stage.old (reverse frames.old.items))
+        (left_of R.rule problem.now stage.new (reverse frames.new.items)) event board.new (array_vec_len frames.new)) }
+{
+    match *stage {
+        Stage::Before { in_set } => {
+            *stage = begin::<R, N>(problem, in_set, board, frames, opened);
+            Some(Event::Phase(if in_set { Phase::Set } else { Phase::Play }))
+        }
+        Stage::Barred => {
+            *stage = Stage::Before { in_set: false };
+            Some(Event::Impossible)
+        }
+        Stage::Within { in_set, count } => {
+            Some(go_on::<R, N>(problem, in_set, count, stage, board, frames, opened))
+        }
+        Stage::Behind => None,
+    }
+}
