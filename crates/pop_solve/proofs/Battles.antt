@@ -1,9 +1,8 @@
 -- The value by half-moves is what the battle definitions say.
-use Rattle.std.proofs.Common.{◌≡◌, ℕ, zero, suc, ◌+◌, ◌*◌, ◌-◌, ◌%◌, ◌<◌, Bool, true, false, not, ◌&&◌, ◌||◌, eqb, cond, List, [], ◌∷◌, refl, sym, ◌∙◌, ap, arith, rules}
-use Rattle.std.specs.Prelude.{◌==◌, if◌then◌else◌}
-use Rattle.std.proofs.lemmas.Bool.Decides.{nat_tests}
+use Rattle.std.proofs.Common.{◌≡◌, ℕ, zero, suc, ◌*◌, ◌-◌, ◌%◌, Bool, true, false, ◌&&◌, ◌||◌, refl, ◌∙◌, ap, arith}
+use Rattle.std.specs.Prelude.{◌==◌}
 use Rattle.pop_solve.specs.Game.{Game, can_move, some_move, every_move, lost, wins, self_wins, self_lost}
-use Rattle.pop_solve.specs.Values.{seeks, value}
+use Rattle.pop_solve.specs.Values.{value}
 
 even-is : (t : ℕ) → t % 2 ≡ 0 → (t % 2 == 0) ≡ true
 even-is t e = rw e refl

@@ -1,7 +1,5 @@
 -- What a call gives.
-use Rattle.std.proofs.Common.{◌≡◌, ℕ, zero, suc, ◌+◌, ◌-◌, ◌<◌, ◌≤◌, Bool, true, false, not, ◌&&◌, ◌||◌, eqb, cond, List, [], ◌∷◌, ◌++◌, length, map, take, reverse, get_or, refl, sym, ◌∙◌, ap, subst, append_assoc, arith}
-use Rattle.std.specs.Prelude.{◌==◌, if◌then◌else◌, Option, Some, None, slice_get, drop}
-use Rattle.std.specs.Option.{option_map}
+use Rattle.std.proofs.Common.{◌≡◌, ℕ, suc, ◌+◌, ◌-◌, ◌<◌, ◌≤◌, Bool, true, false, ◌||◌, eqb, cond, List, [], ◌∷◌, length, map, take, reverse, get_or, refl, sym, ◌∙◌, ap, subst, append_assoc, arith}
 use Rattle.std.specs.List.{flat_map}
 use Rattle.std.proofs.lemmas.Bool.Decides.{nat_tests}
 use Rattle.std.proofs.lemmas.List.{length-reverse, take_more, take_all}
@@ -9,20 +7,19 @@ use Rattle.arrayvec.specs.ArrayVec.{ArrayVec}
 use Rattle.chess_core.specs.Position.{Position}
 use Rattle.chess_core.specs.Triple.{Triple}
 use Rattle.chess_core.specs.WellFormed.{IsWellFormed}
-use Rattle.chess_rules.specs.Places.{moves_behind}
 use Rattle.chess_rules.specs.RuleSet.{RuleSet}
 use Rattle.pop_input.specs.Posed.{Posed, IsSound}
-use Rattle.pop_solve.specs.Chess.{chess, show}
+use Rattle.pop_solve.specs.Chess.{chess}
 use Rattle.pop_input.specs.Stipulations.{is_help, half_moves}
 use Rattle.pop_solve.proofs.Sound.{in_range}
-use Rattle.pop_solve.specs.Frames.{Frame, position, IsLinked, opened}
+use Rattle.pop_solve.specs.Frames.{Frame, position, IsLinked}
 use Rattle.pop_solve.specs.Game.{reach}
-use Rattle.pop_solve.specs.Walk.{path, shows, to_come, IsShowing, IsWalking, IsRoomy}
-use Rattle.pop_solve.specs.Events.{Step, start, phase, impossible, line, tree_node, total, step_of, event_of, StandsOn, phase_start, phase_half_moves, phase_half, shown_along, shown_last, steps_from, phase_steps, is_barred, counted, solutions}
+use Rattle.pop_solve.specs.Walk.{path, shows, IsShowing, IsWalking, IsRoomy}
+use Rattle.pop_solve.specs.Events.{start, phase, line, tree_node, total, step_of, event_of, StandsOn, phase_start, phase_half_moves, phase_half, shown_along, shown_last, steps_from, phase_steps, is_barred, counted, solutions}
 use Rattle.pop_solve.specs.Phases.{way_of, begins, keep, started, left_of, IsStanding, Walks, Gives, phase_paths}
 use Rattle.pop_solve.specs.Shown.{Shown}
 use Rattle.pop_solve.specs.declared.event.Event.{Event}
-use Rattle.pop_solve.specs.declared.event.Event.TheVariants.{Phase, Line, Node, Impossible, Total}
+use Rattle.pop_solve.specs.declared.event.Event.TheVariants.{Line, Node, Total}
 use Rattle.pop_solve.specs.declared.phases.Stage.{Stage}
 use Rattle.pop_solve.specs.declared.phases.Stage.TheVariants.{Before, Barred, Within, Behind}
 use Rattle.pop_solve.proofs.Walking.{reverse-push}

@@ -1,7 +1,6 @@
 -- The first solutions of a phase, by the paths that begin them.
-use Rattle.std.proofs.Common.{◌≡◌, ℕ, zero, suc, ◌+◌, ◌-◌, ◌<◌, ◌≤◌, Bool, true, false, not, ◌&&◌, ◌||◌, eqb, cond, List, [], ◌∷◌, ◌++◌, length, map, reverse, refl, sym, ◌∙◌, ap, subst, arith, ◌⊎◌, inl, inr}
-use Rattle.std.specs.Prelude.{◌==◌, if◌then◌else◌}
-use Rattle.std.proofs.lemmas.List.{append-nil, length-reverse}
+use Rattle.std.proofs.Common.{◌≡◌, ℕ, zero, suc, ◌+◌, ◌-◌, ◌<◌, ◌≤◌, Bool, true, false, ◌&&◌, ◌||◌, eqb, cond, List, [], ◌∷◌, ◌++◌, length, map, refl, sym, ◌∙◌, ap, subst, arith}
+use Rattle.std.proofs.lemmas.List.{append-nil}
 use Rattle.std.proofs.lemmas.Bool.Decides.{nat_tests}
 use Rattle.chess_core.specs.Position.{Position}
 use Rattle.chess_core.specs.Triple.{Triple}
@@ -10,7 +9,7 @@ use Rattle.chess_rules.specs.RuleSet.{RuleSet}
 use Rattle.pop_solve.specs.Chess.{chess}
 use Rattle.pop_solve.specs.Game.{Game}
 use Rattle.pop_solve.specs.Frames.{Frame, position}
-use Rattle.pop_solve.specs.Walk.{follows, gives, goes_on, shown, path, to_come, IsWalking, Steps}
+use Rattle.pop_solve.specs.Walk.{follows, gives, shown, path, to_come, IsWalking, Steps}
 use Rattle.pop_solve.specs.Phases.{begins, keep, started, Walks}
 use Rattle.pop_solve.specs.declared.walk.Way.{Way}
 use Rattle.pop_solve.proofs.Paths.{path-length}

@@ -1,10 +1,10 @@
 -- The least length by half-moves is the least number of moves.
-use Rattle.std.proofs.Common.{◌≡◌, ℕ, zero, suc, ◌+◌, ◌-◌, ◌*◌, ◌/◌, ◌%◌, ◌<◌, ◌≤◌, Bool, true, false, not, ◌||◌, cond, List, [], ◌∷◌, refl, sym, ◌∙◌, ap, arith, add-one}
+use Rattle.std.proofs.Common.{◌≡◌, ℕ, zero, suc, ◌+◌, ◌*◌, Bool, true, false, not, ◌||◌, cond, refl, ◌∙◌, ap, arith, add-one}
 use Rattle.std.specs.List.{position_or_len, range_with_len}
-use Rattle.pop_solve.specs.Game.{Game, lost, wins, self_wins}
+use Rattle.pop_solve.specs.Game.{Game, wins, self_wins}
 use Rattle.pop_solve.specs.Values.{value}
 use Rattle.pop_solve.specs.Walk.{first_from}
-use Rattle.pop_solve.specs.Tree.{wins_in, least}
+use Rattle.pop_solve.specs.Tree.{least}
 use Rattle.pop_solve.proofs.Battles.{value-wins, value-self_wins}
 
 -- the first number from a on that passes, or the n-th after a

@@ -1,5 +1,5 @@
 -- Rising lengths.
-use Rattle.std.proofs.Common.{◌≡◌, ℕ, zero, suc, ◌+◌, ◌-◌, ◌/◌, ◌<◌, ◌≤◌, Bool, true, false, cond, refl, sym, ◌∙◌, ap, arith}
+use Rattle.std.proofs.Common.{◌≡◌, ℕ, zero, suc, ◌+◌, ◌-◌, ◌/◌, ◌<◌, ◌≤◌, Bool, true, false, cond, refl, sym, ap, arith}
 use Rattle.pop_solve.specs.Game.{Game}
 use Rattle.pop_solve.specs.Values.{value}
 use Rattle.pop_solve.specs.Walk.{first_from}

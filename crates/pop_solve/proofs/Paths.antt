@@ -1,6 +1,6 @@
 -- The path to the top frame, and what is shown of it.
-use Rattle.std.proofs.Common.{◌≡◌, ℕ, zero, suc, ◌+◌, ◌-◌, ◌<◌, ◌≤◌, List, [], ◌∷◌, ◌++◌, length, take, get_or, reverse, refl, sym, ◌∙◌, ap, append_assoc, arith, length-append, length-take}
-use Rattle.std.proofs.lemmas.List.{reverse-append, length-reverse, take_more}
+use Rattle.std.proofs.Common.{◌≡◌, ℕ, ◌+◌, ◌-◌, ◌<◌, List, [], ◌∷◌, ◌++◌, length, take, get_or, reverse, refl, sym, ◌∙◌, ap, arith, length-append, length-take}
+use Rattle.std.proofs.lemmas.List.{length-reverse, take_more}
 use Rattle.chess_core.specs.Position.{Position}
 use Rattle.chess_core.specs.Triple.{Triple}
 use Rattle.chess_rules.specs.RuleSet.{RuleSet}
@@ -9,7 +9,6 @@ use Rattle.pop_solve.specs.Game.{reach}
 use Rattle.pop_solve.specs.Frames.{Frame, position}
 use Rattle.pop_solve.specs.Walk.{path, shows, IsShowing}
 use Rattle.pop_solve.specs.Events.{shown_along, shown_last}
-use Rattle.pop_solve.specs.Shown.{Shown}
 use Rattle.pop_solve.proofs.Walking.{reverse-push}
 
 shows-top : (x : Frame) (fs : List Frame) → 0 < length fs → shows (x ∷ fs) ≡ shows fs ++ x.shown ∷ []

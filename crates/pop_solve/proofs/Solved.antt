@@ -1,24 +1,20 @@
 -- What is to come from the root frame of a phase is the phase's solutions.
-use Rattle.std.proofs.Common.{◌≡◌, ℕ, zero, suc, ◌+◌, ◌-◌, ◌*◌, ◌%◌, ◌<◌, ◌≤◌, Bool, true, false, not, ◌&&◌, ◌||◌, eqb, cond, List, [], ◌∷◌, ◌++◌, length, map, take, refl, sym, ◌∙◌, ap, append_assoc, arith}
-use Rattle.std.specs.Prelude.{◌==◌, if◌then◌else◌}
+use Rattle.std.proofs.Common.{◌≡◌, ℕ, zero, suc, ◌+◌, ◌-◌, ◌*◌, ◌≤◌, Bool, true, false, ◌&&◌, eqb, cond, List, [], ◌∷◌, ◌++◌, length, map, take, refl, sym, ◌∙◌, ap, arith}
 use Rattle.std.specs.List.{flat_map, filter, list_all}
 use Rattle.std.proofs.lemmas.Bool.Decides.{nat_tests}
-use Rattle.pop_solve.specs.Game.{Game, help_lines, wins, self_wins}
+use Rattle.pop_solve.specs.Game.{Game, help_lines}
 use Rattle.pop_solve.specs.Values.{seeks, value}
-use Rattle.chess_core.specs.Position.{Position}
-use Rattle.chess_core.specs.Triple.{Triple}
-use Rattle.chess_core.specs.WellFormed.{IsWellFormed}
 use Rattle.chess_rules.specs.Places.{moves_behind}
 use Rattle.chess_rules.specs.RuleSet.{RuleSet}
 use Rattle.pop_input.specs.Posed.{Posed, IsSound}
-use Rattle.pop_solve.specs.Chess.{chess, show}
-use Rattle.pop_input.specs.Stipulations.{is_help, is_selfmate, half_moves_of, half_moves}
+use Rattle.pop_solve.specs.Chess.{chess}
+use Rattle.pop_input.specs.Stipulations.{is_help, is_selfmate, half_moves_of}
 use Rattle.pop_solve.proofs.Sound.{some_way}
-use Rattle.pop_solve.specs.Frames.{Frame, }
-use Rattle.pop_solve.specs.Tree.{node, keeps, best, below, answers, tree, set_shows, set_tree}
-use Rattle.pop_solve.specs.Walk.{follows, gives, goes_on, shown, to_come}
+use Rattle.pop_solve.specs.Frames.{Frame}
+use Rattle.pop_solve.specs.Tree.{node, keeps, tree, set_shows, set_tree}
+use Rattle.pop_solve.specs.Walk.{follows, gives, goes_on, shown}
 use Rattle.pop_solve.specs.Events.{solutions, phase_start, phase_half_moves}
-use Rattle.pop_solve.specs.Phases.{way_of, begins, keep, started, phase_paths}
+use Rattle.pop_solve.specs.Phases.{way_of, keep, started, phase_paths}
 use Rattle.pop_input.specs.declared.stipulation.Form.{Form}
 use Rattle.pop_input.specs.declared.stipulation.Form.TheVariants.{Direct, SelfMate, Help, HelpHalf}
 use Rattle.pop_solve.specs.declared.walk.Way.{Way}

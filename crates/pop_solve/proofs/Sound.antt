@@ -1,12 +1,11 @@
 -- What a sound problem's play rests on.
-use Rattle.std.proofs.Common.{◌≡◌, ℕ, ◌+◌, ◌-◌, ◌*◌, ◌≤◌, Bool, true, false, Option, None, nat_le, refl, sym, ap, arith}
+use Rattle.std.proofs.Common.{◌≡◌, ℕ, ◌≤◌, Bool, true, false, None, nat_le, refl, arith}
 use Rattle.std.proofs.lemmas.Bool.Decides.{nat_tests}
 use Rattle.std.proofs.lemmas.Bool.{and_parts}
-use Rattle.chess_core.specs.Diagrams.{position_of}
 use Rattle.chess_core.specs.Position.{Position, other}
 use Rattle.chess_core.specs.WellFormed.{IsWellFormed, is_crossed_right}
 use Rattle.pop_input.specs.Posed.{Posed, IsSound}
-use Rattle.pop_input.specs.Stipulations.{half_moves, half_moves_of, is_in_range, may_have}
+use Rattle.pop_input.specs.Stipulations.{half_moves, half_moves_of, may_have}
 use Rattle.pop_input.specs.declared.stipulation.Form.{Form}
 use Rattle.pop_input.specs.declared.stipulation.Form.TheVariants.{Direct, SelfMate, Help, HelpHalf}
 use Rattle.pop_solve.specs.Chess.{set_start}

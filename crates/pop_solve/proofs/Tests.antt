@@ -1,6 +1,5 @@
 -- One turn of a test over frames.
-use Rattle.std.proofs.Common.{◌≡◌, ℕ, zero, suc, ◌+◌, ◌-◌, ◌<◌, ◌≤◌, Bool, true, false, not, ◌&&◌, ◌||◌, cond, Option, Some, None, List, [], ◌∷◌, ◌++◌, length, take, drop, reverse, refl, sym, ◌∙◌, ap, append_assoc, arith, subst, ◌⊎◌, inl, inr, MatchOption, IfNone}
-use Rattle.std.specs.List.{list_any, list_all, sum_by}
+use Rattle.std.proofs.Common.{◌≡◌, ℕ, zero, suc, ◌+◌, ◌-◌, ◌<◌, ◌≤◌, Bool, true, false, not, ◌&&◌, ◌||◌, cond, Option, Some, None, List, [], ◌∷◌, ◌++◌, length, take, drop, reverse, refl, sym, ◌∙◌, ap, arith, subst, ◌⊎◌, inl, inr, MatchOption, IfNone}
 use Rattle.std.proofs.lemmas.List.{reverse-append, length-reverse, length-drop, length-append, drop-append-le, take-append-le, take_all}
 use Rattle.std.proofs.lemmas.Bool.{cases_lt}
 use Rattle.std.proofs.lemmas.List.Sums.{sum_by-cons}
@@ -149,7 +148,7 @@ module _ (rule : RuleSet) (p : Position) where
   pub testing-close : (f : Frame) (below : List Frame) (board after : Position) → IsTesting rule p (f ∷ below) board → 0 < length below → ((q : Position) → CameFromAt rule f board q → after ≡ q) → IsTesting rule p below after
   unfolding IsLinked IsCut position
   testing-close f [] board after r deep before = absurd (omega (arith, deep))
-  testing-close f (g ∷ below) board after r deep before = 
+  testing-close f (g ∷ below) board after r deep before =
       let back = before _ (CameFrom-top f g below board r) in
       record { linked = r.linked.3; cut = r.cut.2; sound = rw back r.linked.0; board_at = back }
 

@@ -1,16 +1,16 @@
 -- What the walk shows is the tree that the definitions name.
-use Rattle.std.proofs.Common.{◌≡◌, ℕ, zero, suc, ◌+◌, ◌-◌, ◌*◌, ◌/◌, ◌%◌, ◌<◌, ◌≤◌, Bool, true, false, not, ◌&&◌, ◌||◌, eqb, cond, List, [], ◌∷◌, ◌++◌, length, map, refl, sym, ◌∙◌, ap, arith, ◌⊎◌, inl, inr}
-use Rattle.std.specs.Prelude.{◌==◌, if◌then◌else◌}
-use Rattle.std.specs.List.{flat_map, filter, list_all, position_or_len, range_with_len}
+use Rattle.std.proofs.Common.{◌≡◌, ℕ, zero, suc, ◌+◌, ◌-◌, ◌*◌, ◌/◌, ◌%◌, ◌<◌, ◌≤◌, Bool, true, false, not, ◌&&◌, ◌||◌, eqb, cond, List, [], ◌∷◌, ◌++◌, map, refl, sym, ◌∙◌, ap, arith}
+use Rattle.std.specs.Prelude.{if◌then◌else◌}
+use Rattle.std.specs.List.{flat_map, filter, list_all}
 use Rattle.std.proofs.lemmas.List.{append-nil}
 use Rattle.std.proofs.lemmas.List.Concat.{flat_map_single}
 use Rattle.std.proofs.lemmas.Bool.Decides.{nat_tests}
-use Rattle.pop_solve.specs.Game.{Game, can_move, every_move, lost, wins, self_wins, self_lost, lines_to_goal, help_lines}
+use Rattle.pop_solve.specs.Game.{Game, can_move, every_move, lines_to_goal}
 use Rattle.pop_solve.specs.Values.{seeks, value}
-use Rattle.pop_solve.specs.Tree.{node, keeps, wins_in, least, best, below, answers, tree, set_shows, set_tree}
+use Rattle.pop_solve.specs.Tree.{node, keeps, least, best, below, answers}
 use Rattle.pop_solve.specs.Walk.{fewest, first_from, open_length, follows, gives, goes_on, shown}
 use Rattle.pop_solve.specs.declared.walk.Way.{Way}
-use Rattle.pop_solve.proofs.Battles.{value-lost, value-wins, value-self_wins, value-self_lost}
+use Rattle.pop_solve.proofs.Battles.{value-lost, value-self_lost}
 use Rattle.pop_solve.proofs.Lengths.{length-more}
 use Rattle.pop_solve.proofs.Walking.{length_most, goes_on-keys}
 use Rattle.pop_solve.proofs.Least.{least-direct, least-selfmate}

@@ -1,9 +1,8 @@
 -- The value of a position by what its tests say.
-use Rattle.std.proofs.Common.{◌≡◌, ℕ, zero, suc, ◌+◌, ◌%◌, ◌<◌, Bool, true, false, ◌&&◌, ◌||◌, eqb, cond, List, [], ◌∷◌, refl, sym, ◌∙◌, ap, arith, rules}
-use Rattle.std.specs.Prelude.{◌==◌, if◌then◌else◌}
-use Rattle.std.specs.List.{list_any, list_all}
-use Rattle.pop_solve.specs.Game.{Game, can_move, some_move, every_move}
-use Rattle.pop_solve.specs.Values.{seeks, join, value, joined}
+use Rattle.std.proofs.Common.{◌≡◌, ℕ, zero, suc, ◌%◌, ◌<◌, Bool, true, false, ◌&&◌, ◌||◌, cond, refl, arith}
+use Rattle.std.specs.Prelude.{◌==◌}
+use Rattle.pop_solve.specs.Game.{Game, can_move}
+use Rattle.pop_solve.specs.Values.{seeks, value, joined}
 
 module _ {P M : Type 0} (selfmate : Bool) (game : Game P M) where
   cases : (e s c a b : Bool) → e ≡ false → (s || c) ≡ true → (e || cond s a (c && b)) ≡ cond s a b

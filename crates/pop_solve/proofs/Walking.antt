@@ -1,13 +1,10 @@
 -- One step of a walk over frames.
 use Rattle.std.proofs.Common.{◌≡◌, ℕ, zero, suc, ◌+◌, ◌-◌, ◌*◌, ◌/◌, ◌%◌, ◌<◌, ◌≤◌, ◌^◌, min, Bool, true, false, not, ◌&&◌, ◌||◌, eqb, cond, List, [], ◌∷◌, ◌++◌, length, map, reverse, refl, sym, ◌∙◌, ap, append_assoc, arith, subst, ◌⊎◌, inl, inr}
-use Rattle.std.specs.Prelude.{◌==◌, if◌then◌else◌}
-use Rattle.std.specs.List.{flat_map, list_all, sum_by}
-use Rattle.std.proofs.lemmas.List.{map-append, append-nil, reverse-append, length-reverse, length-append}
+use Rattle.std.proofs.lemmas.List.{map-append, reverse-append, length-reverse}
 use Rattle.std.proofs.lemmas.List.Sums.{sum_by-cons}
 use Rattle.std.proofs.lemmas.Bool.Decides.{nat_tests}
 use Rattle.chess_core.specs.Position.{Position}
 use Rattle.chess_core.specs.Triple.{Triple}
-use Rattle.chess_core.specs.WellFormed.{IsWellFormed}
 use Rattle.chess_rules.proofs.Calls.{pseudo-from_legal}
 use Rattle.chess_rules.proofs.Stays.{after_well_formed}
 use Rattle.chess_rules.specs.Legal.{legal}

@@ -1,5 +1,5 @@
 -- What a search that stands in a phase has still to give.
-use Rattle.std.specs.Prelude.{◌≡◌, ℕ, zero, suc, ◌+◌, ◌-◌, ◌≤◌, ◌^◌, min, ◌==◌, Bool, true, false, not, ◌&&◌, ◌||◌, if◌then◌else◌, List, [], ◌∷◌, ◌++◌, map, length}
+use Rattle.std.specs.Prelude.{◌≡◌, ℕ, zero, suc, ◌+◌, ◌-◌, ◌≤◌, ◌^◌, min, ◌==◌, Bool, true, false, ◌||◌, if◌then◌else◌, List, [], ◌∷◌, ◌++◌, map, length}
 use Rattle.chess_core.specs.Position.{Position}
 use Rattle.chess_core.specs.Triple.{Triple}
 use Rattle.chess_rules.specs.RuleSet.{RuleSet}

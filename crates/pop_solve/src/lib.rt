@@ -4,7 +4,8 @@
 mod chess;
 pub mod event;
 pub mod frame;
+mod phases;
+pub mod search;
 pub mod shown;
 mod value;
 mod walk;
-mod phases;

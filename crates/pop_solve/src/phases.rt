@@ -165,7 +165,11 @@ fn close_all<R: Rules, const N: usize>(
 }
 
 /// The event of the path to the top frame.
-fn event_at<R: Rules, const N: usize>(problem: &Problem, in_set: bool, frames: &ArrayVec<Frame<R>, N>) -> Event
+fn event_at<R: Rules, const N: usize>(
+    problem: &Problem,
+    in_set: bool,
+    frames: &ArrayVec<Frame<R>, N>,
+) -> Event
     requires deep { 2 ≤ array_vec_len frames.now }
     requires shallow { array_vec_len frames.now ≤ 17 }
     ensures { IsShowing R.rule (phase_start problem.now in_set) (reverse frames.now.items)

@@ -1,4 +1,4 @@
-use Rattle.std.proofs.Common.{◌≡◌, ℕ, ◌∙◌, ap, refl, sym, arith, rules, reverse, not, Bool, true, false, ◌∷◌, []}
+use Rattle.std.proofs.Common.{◌≡◌, refl, not, Bool, true, false}
 use Rattle.pop_solve.specs.Phases.{IsStanding}
 use Rattle.pop_solve.proofs.Walking as walking
 use Rattle.pop_solve.proofs.Events as events

@@ -1,4 +1,4 @@
-use Rattle.std.proofs.Common.{◌≡◌, ℕ, ◌+◌, ◌-◌, ◌<◌, ◌≤◌, ◌∙◌, ap, refl, sym, arith, rules, length}
+use Rattle.std.proofs.Common.{arith}
 use Rattle.pop_solve.proofs.Walking as walking
 use Rattle.pop_solve.proofs.phases.close_all.Goals as goal
 

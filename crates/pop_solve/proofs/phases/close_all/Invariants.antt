@@ -1,4 +1,4 @@
-use Rattle.std.proofs.Common.{◌≡◌, ℕ, length, reverse}
+use Rattle.std.proofs.Common.{length, reverse}
 use Rattle.chess_core.specs.Position.{Position}
 use Rattle.pop_solve.specs.Walk.{IsWalking}
 use Rattle.pop_solve.proofs.phases.close_all.Given as goal

@@ -1,4 +1,4 @@
-use Rattle.std.proofs.Common.{◌≡◌, ℕ, ◌∙◌, ap, refl, sym, arith, rules}
+use Rattle.std.proofs.Common.{◌∙◌, ap, sym, arith}
 use Rattle.pop_solve.specs.Frames.{Frame}
 use Rattle.pop_solve.proofs.Events as events
 use Rattle.pop_solve.proofs.phases.event_at.Goals as goal

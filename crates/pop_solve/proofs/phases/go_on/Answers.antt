@@ -1,4 +1,4 @@
-use Rattle.std.proofs.Common.{◌≡◌, ℕ, ◌+◌, ◌-◌, ◌<◌, ◌≤◌, ◌∙◌, ap, refl, sym, arith, rules}
+use Rattle.std.proofs.Common.{rules}
 use Rattle.pop_solve.specs.Phases.{IsStanding}
 use Rattle.pop_solve.proofs.Events as events
 use Rattle.pop_solve.proofs.phases.go_on.Goals as goal

@@ -1,4 +1,4 @@
-use Rattle.std.proofs.Common.{◌≡◌, ℕ, ◌∙◌, ap, refl, sym, arith, rules, reverse, List, ◌++◌, ◌∷◌, []}
+use Rattle.std.proofs.Common.{◌∙◌, ap, refl, sym, arith}
 use Rattle.pop_solve.specs.Frames.{Frame}
 use Rattle.pop_solve.proofs.Paths as paths
 use Rattle.pop_solve.proofs.phases.line.Goals as goal
@@ -8,9 +8,8 @@ loop-k-init g c = (rw c.new-line.ensures (sym (paths.shows-one _)), rw c.new-lin
 
 pub loop-k-preserved : goal.loop-k-preserved
 loop-k-preserved g c =
-    let shown = c.shown_at.ensures ∙ ap (λ (f : Frame). f.shown) c.index-frames-k.is in
-    (
+    let shown = c.shown_at.ensures ∙ ap (λ (f : Frame). f.shown) c.index-frames-k.is in (
       rw (c.push.ensures.items, shown, c.loop-k.invariant.0)
-      (sym (paths.shows-more _ _ c.index-frames-k.result c.loop-k.auto.k c.loop-k-test.true)),
+          (sym (paths.shows-more _ _ c.index-frames-k.result c.loop-k.auto.k c.loop-k-test.true)),
       omega (arith, c.push.ensures.len, c.loop-k.invariant.1),
     )

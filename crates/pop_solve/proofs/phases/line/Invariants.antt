@@ -1,4 +1,4 @@
-use Rattle.std.proofs.Common.{◌≡◌, ◌+◌, ◌≤◌, length, reverse, take}
+use Rattle.std.proofs.Common.{◌≡◌, ◌+◌, reverse, take}
 use Rattle.arrayvec.specs.ArrayVec.{array_vec_len}
 use Rattle.pop_solve.specs.Walk.{shows}
 use Rattle.pop_solve.proofs.phases.line.Given as goal

@@ -1,4 +1,4 @@
-use Rattle.std.proofs.Common.{◌≡◌, ℕ, ◌∙◌, ap, refl, sym, arith, rules}
+use Rattle.std.proofs.Common.{sym, arith}
 use Rattle.pop_solve.proofs.Values as values
 use Rattle.pop_solve.proofs.value.settled.Goals as goal
 

@@ -1,4 +1,4 @@
-use Rattle.std.proofs.Common.{◌≡◌, ℕ, ◌+◌, ◌<◌, ◌≤◌, ◌⊎◌, Option, Some, None, not, ◌∙◌, ap, refl, sym, arith, rules}
+use Rattle.std.proofs.Common.{◌≡◌, ◌⊎◌, Some, None, not, ◌∙◌, ap, rules}
 use Rattle.pop_solve.specs.Frames.{Frame}
 use Rattle.pop_solve.specs.Values.{seeks}
 use Rattle.pop_solve.proofs.Tests as test
@@ -37,20 +37,19 @@ returns-in_default-next_move-clause-next g c = λ p r.
 
 pub descend-requires : goal.descend-requires
 descend-requires g c =
-    let taken = rw (← c.top.view_is) at c.in-Some.ensures.items in
-    (
-  search rules,
-  (
-    rw c.next_move.ensures.unchanged c.requires.well_formed,
-  (
-    test.top_some g.R.Rules.rule c.args.selfmate _ _ _ _ taken c.requires.above _ _ c.requires.testing.1,
-    (
-      test.top_room g.R.Rules.rule c.args.selfmate _ _ _ _ taken c.requires.above _ c.requires.room,
-      rw c.next_move.ensures.unchanged c.in-Some-next_move.ensures.next.1,
-    ),
-  ),
-  ),
-)
+    let taken = rw (← c.top.view_is) at c.in-Some.ensures.items in (
+      search rules,
+      (
+        rw c.next_move.ensures.unchanged c.requires.well_formed,
+        (
+          test.top_some g.R.Rules.rule c.args.selfmate _ _ _ _ taken c.requires.above _ _ c.requires.testing.1,
+          (
+            test.top_room g.R.Rules.rule c.args.selfmate _ _ _ _ taken c.requires.above _ c.requires.room,
+            rw c.next_move.ensures.unchanged c.in-Some-next_move.ensures.next.1,
+          ),
+        ),
+      ),
+    )
 
 pub returns-clause-room : goal.returns-clause-room
 returns-clause-room g c =

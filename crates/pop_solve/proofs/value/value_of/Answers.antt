@@ -1,4 +1,4 @@
-use Rattle.std.proofs.Common.{◌≡◌, ℕ, ◌+◌, ◌<◌, ◌≤◌, ◌∙◌, ap, refl, sym, arith, rules}
+use Rattle.std.proofs.Common.{arith}
 use Rattle.pop_solve.proofs.Tests as test
 use Rattle.pop_solve.proofs.value.value_of.Goals as goal
 

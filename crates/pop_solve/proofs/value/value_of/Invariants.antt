@@ -1,4 +1,4 @@
-use Rattle.std.proofs.Common.{◌≡◌, ◌+◌, length}
+use Rattle.std.proofs.Common.{◌+◌}
 use Rattle.pop_solve.specs.Chess.{chess}
 use Rattle.pop_solve.specs.Game.{walk_count}
 use Rattle.pop_solve.specs.Frames.{work, tests}

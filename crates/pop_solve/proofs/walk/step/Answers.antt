@@ -1,4 +1,4 @@
-use Rattle.std.proofs.Common.{◌≡◌, ℕ, ◌+◌, ◌-◌, ◌<◌, ◌≤◌, ◌∙◌, ap, refl, sym, arith, rules}
+use Rattle.std.proofs.Common.{◌≡◌, ap, refl, arith, rules}
 use Rattle.pop_solve.specs.Frames.{Frame}
 use Rattle.pop_solve.proofs.Walking as walking
 use Rattle.pop_solve.proofs.walk.step.Goals as goal

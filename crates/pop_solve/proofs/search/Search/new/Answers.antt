@@ -1,0 +1,18 @@
+use Rattle.std.proofs.Common.{◌∙◌, ap, refl, arith}
+use Rattle.chess_core.specs.Diagrams.{position_of}
+use Rattle.pop_solve.specs.Events.{steps_from}
+use Rattle.pop_solve.specs.Phases.{IsStanding, left_of}
+use Rattle.pop_solve.proofs.search.Search.new.Goals as goal
+
+pub invariant_of-result : goal.invariant_of-result
+unfolding IsStanding left_of
+invariant_of-result g c = (
+  c.diagram.ensures.sound,
+  c.requires.room,
+  rw c.new.ensures (refl, c.of.ensures ∙ ap position_of c.diagram.ensures.diagram),
+  rw c.set_play.ensures (record { within = omega arith; counts = omega arith }),
+)
+
+pub returns-clause-left : goal.returns-clause-left
+unfolding left_of
+returns-clause-left g c = ap (steps_from g.R.Rules.rule c.args.problem.now) c.set_play.ensures

@@ -1,0 +1,116 @@
+//! Searches.
+use crate::event::Event;
+use crate::frame::Frame;
+use crate::phases::{Stage, advance};
+use arrayvec::ArrayVec;
+use chess_core::board::Board;
+use chess_rules::rules::Rules;
+use pop_input::problem::Problem;
+use std::marker::Model;
+
+/// A search for the solutions of a problem, which gives its events one by one and goes on from its frames.
+#[derive(Drop)]
+pub struct Search<R: Rules, const N: usize> {
+    problem: Problem,
+    stage: Stage,
+    board: Board,
+    frames: ArrayVec<Frame<R>, N>,
+    given: u64,
+    opened: u64,
+}
+
+impl<R: Rules, const N: usize> Model for Search<R, N> {
+    ghost use Rattle.std.specs.Prelude.{◌≡◌, ◌<◌, ◌≤◌, ◌-◌, ◌^◌, min, length, reverse};
+    ghost use Rattle.arrayvec.specs.ArrayVec.{array_vec_len};
+    ghost use Rattle.pop_input.specs.Posed.{IsSound};
+    ghost use Rattle.pop_input.specs.Stipulations.{half_moves};
+    ghost use Rattle.pop_solve.specs.Events.{Seen, events};
+    ghost use Rattle.pop_solve.specs.Phases.{left_of, IsStanding, IsGiven};
+
+    ghost Value = { Seen };
+
+    ghost view = { λ s. record {
+      problem = s.problem;
+      left = left_of R.rule s.problem s.stage (reverse s.frames.items);
+      board = s.board;
+      depth = array_vec_len s.frames;
+      given = s.given;
+      opened = s.opened;
+    } };
+
+    ghost invariant = { λ s. IsSound s.problem
+        × (half_moves s.problem.stipulation < N)
+        × IsStanding R.rule s.problem s.stage (reverse s.frames.items) s.board
+        × IsGiven R.rule s.problem (left_of R.rule s.problem s.stage (reverse s.frames.items)) s.given };
+}
+
+impl<R: Rules, const N: usize> Search<R, N> {
+    ghost use Rattle.std.specs.Prelude.{◌≡◌, ◌+◌, ◌-◌, ◌<◌, ◌≤◌, ◌^◌, min, MatchOption, slice_get, drop, length};
+    ghost use Rattle.std.specs.Option.{option_map};
+    ghost use Rattle.pop_input.specs.Posed.{rule_of};
+    ghost use Rattle.pop_input.specs.Stipulations.{half_moves};
+    ghost use Rattle.pop_solve.specs.Events.{events, event_of, start, StandsOn};
+
+    /// A search that has given nothing.
+    pub fn new(problem: &Problem) -> Self
+        requires room { half_moves problem.now.stipulation < N }
+        requires rule { R.rule ≡ rule_of problem.now.condition }
+        ensures problem { result.problem ≡ problem.now }
+        ensures left { result.left ≡ events R.rule problem.now }
+    {
+        Search {
+            problem: *problem,
+            stage: Stage::Before {
+                in_set: problem.set_play(),
+            },
+            board: Board::of(&problem.diagram()),
+            frames: ArrayVec::new(),
+            given: 0,
+            opened: 0,
+        }
+    }
+
+    /// The next event. After a line or node the board stands where its path leads; after the last event it stands on
+    /// the play's first position.
+    pub fn next(&mut self) -> Option<Event>
+        ensures event { result ≡ option_map (event_of R.rule self.old.problem) (slice_get self.old.left 0) }
+        ensures left { self.new.left ≡ drop 1 self.old.left }
+        ensures board { MatchOption (slice_get self.old.left 0) (self.new.board ≡ start self.old.problem)
+            (λ step. StandsOn R.rule self.old.problem step self.new.board self.new.depth) }
+        ensures problem { self.new.problem ≡ self.old.problem }
+    {
+        let event = advance::<R, N>(
+            &self.problem,
+            &mut self.stage,
+            &mut self.board,
+            &mut self.frames,
+            &mut self.opened,
+        );
+        if event.is_some() {
+            self.given = self.given.saturating_add(1);
+        }
+        event
+    }
+
+    /// The frames in use.
+    pub fn depth(&self) -> usize
+        ensures depth { result ≡ self.now.depth }
+        ensures most { result ≤ half_moves self.now.problem.stipulation + 1 }
+    {
+        self.frames.len()
+    }
+
+    /// The events given so far, up to the greatest u64.
+    pub fn given(&self) -> u64
+        ensures { result ≡ min (length (events R.rule self.now.problem) - length self.now.left) (2 ^ 64 - 1) }
+    {
+        self.given
+    }
+
+    /// The frames opened for a half-move so far, up to the greatest u64.
+    pub fn opened(&self) -> u64
+        ensures { result ≡ self.now.opened }
+    {
+        self.opened
+    }
+}
