@@ -1,2 +1,6 @@
 pub mod Stipulations
 pub mod Posed
+pub mod Names
+pub mod Values
+pub mod State
+pub mod WordFaults

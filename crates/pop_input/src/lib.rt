@@ -3,5 +3,8 @@
 
 pub mod condition;
 pub mod item;
+pub mod names;
+pub mod place;
 pub mod problem;
 pub mod stipulation;
+pub mod values;

@@ -1,0 +1,67 @@
+-- Named words (Popeye manual), and their short forms (own).
+use Rattle.std.specs.Prelude.{ℕ, ◌==◌, ◌&&◌, length, nat_le, nat_eq, List, [], ◌∷◌, Bool, true, false, codes, find, map, Option, Some, None, option_map, if◌then◌else◌}
+use Rattle.std.specs.Char.{to_ascii_lowercase}
+use Rattle.std.specs.List.{starts_with}
+use Rattle.chess_core.specs.declared.man.Colour.{Colour}
+use Rattle.chess_core.specs.declared.man.Colour.TheVariants.{White, Black}
+use Rattle.chess_core.specs.declared.man.Kind.{Kind}
+use Rattle.chess_core.specs.declared.man.Kind.TheVariants.{King, Queen, Rook, Bishop, Knight, Pawn, Grasshopper, Nightrider}
+use Rattle.pop_text.specs.Words.{is_short_form}
+use Rattle.pop_input.specs.declared.condition.Condition.{Condition}
+use Rattle.pop_input.specs.declared.condition.Condition.TheVariants.{Circe, Madrasi}
+use Rattle.pop_input.specs.declared.names.Section.{Section}
+use Rattle.pop_input.specs.declared.names.Section.TheVariants.{Pieces, Stipulation, Condition as Conditions, Options}
+use Rattle.pop_input.specs.declared.names.Command.{Command}
+use Rattle.pop_input.specs.declared.names.Command.TheVariants.{Begin, Enter, Next, Last}
+use Rattle.pop_input.specs.declared.names.OptionWord.{OptionWord}
+use Rattle.pop_input.specs.declared.names.OptionWord.TheVariants.{SetPlay, Variation, NoBoard, Awaits}
+use Rattle.pop_input.specs.declared.names.Awaited.{Awaited}
+use Rattle.pop_input.specs.declared.names.Awaited.TheVariants.{Number, OneSquare, Squares}
+use Rattle.pop_input.specs.declared.names.TextWord.{TextWord}
+use Rattle.pop_input.specs.declared.names.TextWord.TheVariants.{Title, Author, Origin, Remark}
+
+-- the entry of a table of which the word is a short form
+abbrev pub look_up : {A : Type 0} → List (List ℕ × A) → List ℕ → Option A
+look_up table text = option_map (λ entry. entry.1) (find (λ entry. is_short_form entry.0 text) table)
+
+abbrev pub or_else : {A : Type 0} → Option A → Option A → Option A
+or_else None later = later
+or_else (Some a) later = Some a
+
+unfoldable pub section_of : List ℕ → Option Section
+section_of text = look_up ((codes "pieces", Pieces) ∷ (codes "stipulation", Stipulation) ∷ (codes "condition", Conditions) ∷ (codes "option", Options) ∷ []) text
+
+unfoldable pub command_of : List ℕ → Option Command
+command_of text = or_else (look_up ((codes "beginproblem", Begin) ∷ (codes "nextproblem", Next) ∷ (codes "endproblem", Last) ∷ []) text) (option_map Enter (section_of text))
+
+unfoldable pub text_word_of : List ℕ → Option TextWord
+text_word_of text = look_up ((codes "title", Title) ∷ (codes "author", Author) ∷ (codes "origin", Origin) ∷ (codes "remark", Remark) ∷ []) text
+
+unfoldable pub condition_of : List ℕ → Option Condition
+condition_of text = look_up ((codes "circe", Circe) ∷ (codes "madrasi", Madrasi) ∷ []) text
+
+-- what the options that await a value await
+unfoldable pub awaited_of : List ℕ → Option Awaited
+awaited_of text = look_up ((codes "maxsolutions", Number) ∷ (codes "enpassant", OneSquare) ∷ (codes "nocastling", Squares) ∷ []) text
+
+unfoldable pub option_of : List ℕ → Option OptionWord
+option_of text = or_else (look_up ((codes "setplay", SetPlay) ∷ (codes "variation", Variation) ∷ (codes "noboard", NoBoard) ∷ []) text) (option_map Awaits (awaited_of text))
+
+-- one letter or more with which the colour's name begins, in capitals or not
+abbrev pub is_colour : List ℕ → List ℕ → Bool
+is_colour name text = nat_le 1 (length text) && starts_with nat_eq name (map to_ascii_lowercase text)
+
+unfoldable pub colour_of : List ℕ → Option Colour
+colour_of text = if is_colour (codes "white") text then Some White else (if is_colour (codes "black") text then Some Black else None)
+
+-- the kind of a man's letter, in capitals or not
+unfoldable pub kind_of : ℕ → Option Kind
+kind_of letter =
+    let small = to_ascii_lowercase letter in
+    if small == 107 then Some King else (if small == 113 then Some Queen else (if small == 114 then Some Rook else (if small == 98 then Some Bishop else (if small == 115 then Some Knight else (if small == 112 then Some Pawn else (if small == 103 then Some Grasshopper else (if small == 110 then Some Nightrider else None)))))))
+
+-- whether a command closes a block
+abbrev pub closes : Option Command → Bool
+closes (Some Next) = true
+closes (Some Last) = true
+closes _ = false

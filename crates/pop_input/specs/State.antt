@@ -1,0 +1,197 @@
+-- What the words of a problem before a place say, and the fault of a word there.
+-- The words before are listed newest first.
+use Rattle.std.specs.Prelude.{ℕ, List, [], ◌∷◌, length, nat_le, nat_lt, not, ◌&&◌, Bool, true, false, if◌then◌else◌, Option, Some, None, is_some, unwrap_or, fold}
+use Rattle.std.specs.List.{list_any, list_all, repeat}
+use Rattle.chess_core.specs.Castling.{none_unmoved, with_unmoved}
+use Rattle.chess_core.specs.Position.{king_square, man_on, same_kind, with_man}
+use Rattle.chess_core.specs.WellFormed.{is_pawn_inside}
+use Rattle.chess_core.specs.declared.man.Colour.{Colour}
+use Rattle.chess_core.specs.declared.man.Kind.{Kind}
+use Rattle.chess_core.specs.declared.man.Kind.TheVariants.{King}
+use Rattle.chess_core.specs.declared.man.Man.{Man}
+use Rattle.chess_core.specs.declared.man.Unmoved.{Unmoved}
+use Rattle.pop_input.specs.Names.{command_of, colour_of, kind_of, condition_of, option_of, or_else}
+use Rattle.pop_input.specs.Values.{squares_of, only, is_digit, limit_of, most_solutions, stipulation_of}
+use Rattle.pop_input.specs.declared.condition.Condition.{Condition}
+use Rattle.pop_input.specs.declared.place.Role.{Role}
+use Rattle.pop_input.specs.declared.place.Role.TheVariants.{Limit, CrossedSquare, BarredSquares, Control, Within}
+use Rattle.pop_input.specs.declared.place.Place.{Place}
+use Rattle.pop_input.specs.declared.names.Section.{Section}
+use Rattle.pop_input.specs.declared.names.Section.TheVariants.{Pieces, Stipulation as Stipulations, Condition as Conditions, Options}
+use Rattle.pop_input.specs.declared.names.Command.{Command}
+use Rattle.pop_input.specs.declared.names.Command.TheVariants.{Begin, Enter, Next, Last}
+use Rattle.pop_input.specs.declared.names.OptionWord.{OptionWord}
+use Rattle.pop_input.specs.declared.names.OptionWord.TheVariants.{SetPlay, Variation, NoBoard, Awaits}
+use Rattle.pop_input.specs.declared.names.Awaited.{Awaited}
+use Rattle.pop_input.specs.declared.names.Awaited.TheVariants.{Number, OneSquare, Squares, MoreSquares}
+use Rattle.pop_input.specs.declared.stipulation.Stipulation.{Stipulation}
+
+-- The place of a word: the section, and what an option awaits.
+
+-- what a word that no option awaits is
+abbrev pub plain_role : Option Command → Option Section → Role
+plain_role (Some command) section = Control command
+plain_role None section = Within section
+
+abbrev pub role_by : Option Awaited → Place → List ℕ → Role
+role_by (Some Number) place text = Limit
+role_by (Some OneSquare) place text = CrossedSquare
+role_by (Some Squares) place text = BarredSquares
+role_by (Some MoreSquares) place text = if is_some (squares_of text) then BarredSquares else plain_role (command_of text) place.section
+role_by None place text = plain_role (command_of text) place.section
+
+-- what a word at a place is: an awaited value, a command or a word of the section
+abbrev pub role_of : Place → List ℕ → Role
+role_of place text = role_by place.awaited place text
+
+abbrev pub opened_by : Option Section → Role → Option Section
+opened_by section (Control (Enter opened)) = Some opened
+opened_by section _ = section
+
+abbrev pub awaited_by : Option OptionWord → Option Awaited
+awaited_by (Some (Awaits awaited)) = Some awaited
+awaited_by _ = None
+
+abbrev pub awaited_after : Role → List ℕ → Option Awaited
+awaited_after BarredSquares text = Some MoreSquares
+awaited_after (Within (Some Options)) text = awaited_by (option_of text)
+awaited_after _ text = None
+
+abbrev pub place_after : Role → Place → List ℕ → Place
+place_after role place text = record { section = opened_by place.section role; awaited = awaited_after role text }
+
+-- the place behind words
+abbrev pub place_at : List (List ℕ) → Place
+place_at [] = record { section = None; awaited = None }
+place_at (text ∷ before) = place_after (role_of (place_at before) text) (place_at before) text
+
+-- what a word was
+abbrev pub role_at : List (List ℕ) → List ℕ → Role
+role_at before text = role_of (place_at before) text
+
+-- What was given.
+
+abbrev pub colour_by : Role → List ℕ → Option Colour → Option Colour
+colour_by (Control command) text old = None
+colour_by (Within (Some Pieces)) text old = or_else (colour_of text) old
+colour_by _ text old = old
+
+-- the last colour since the last command
+abbrev pub colour_at : List (List ℕ) → Option Colour
+colour_at [] = None
+colour_at (text ∷ before) = colour_by (role_at before text) text (colour_at before)
+
+-- men put on squares in turn
+abbrev pub put_men : List (Option Man) → Man → List ℕ → List (Option Man)
+put_men men man [] = men
+put_men men man (square ∷ squares) = put_men (with_man men square man) man squares
+
+abbrev pub put_kind : Option Colour → Option Kind → List ℕ → List (Option Man) → List (Option Man)
+put_kind (Some colour) (Some kind) squares men = put_men men (record { colour = colour; kind = kind }) squares
+put_kind _ _ squares men = men
+
+-- the men with those that a word of a letter and squares puts
+abbrev pub put_word : Option Colour → List ℕ → List (Option Man) → List (Option Man)
+put_word colour [] men = men
+put_word colour (letter ∷ text) men = if is_some (colour_of (letter ∷ text)) then men else put_kind colour (kind_of letter) (unwrap_or (squares_of text) []) men
+
+abbrev pub men_by : Role → Option Colour → List ℕ → List (Option Man) → List (Option Man)
+men_by (Within (Some Pieces)) colour text men = put_word colour text men
+men_by _ colour text men = men
+
+abbrev pub no_men : List (Option Man)
+no_men = repeat 64 (None ∷ [])
+
+-- all men put so far, square by square
+abbrev pub men_at : List (List ℕ) → List (Option Man)
+men_at [] = no_men
+men_at (text ∷ before) = men_by (role_at before text) (colour_at before) text (men_at before)
+
+abbrev pub stipulation_by : Role → List ℕ → Option Stipulation → Option Stipulation
+stipulation_by (Within (Some Stipulations)) text old = or_else old (stipulation_of text)
+stipulation_by _ text old = old
+
+abbrev pub stipulation_at : List (List ℕ) → Option Stipulation
+stipulation_at [] = None
+stipulation_at (text ∷ before) = stipulation_by (role_at before text) text (stipulation_at before)
+
+abbrev pub condition_by : Role → List ℕ → Option Condition → Option Condition
+condition_by (Within (Some Conditions)) text old = or_else old (condition_of text)
+condition_by _ text old = old
+
+abbrev pub condition_at : List (List ℕ) → Option Condition
+condition_at [] = None
+condition_at (text ∷ before) = condition_by (role_at before text) text (condition_at before)
+
+-- the three options that hold or do not
+pub record Shows : Type 0 where
+  pub set_play : Bool
+  pub variation : Bool
+  pub no_board : Bool
+
+abbrev pub shows_with : Option OptionWord → Shows → Shows
+shows_with (Some SetPlay) old = record old { set_play = true }
+shows_with (Some Variation) old = record old { variation = true }
+shows_with (Some NoBoard) old = record old { no_board = true }
+shows_with (Some (Awaits awaited)) old = old
+shows_with None old = old
+
+abbrev pub shows_by : Role → List ℕ → Shows → Shows
+shows_by (Within (Some Options)) text old = shows_with (option_of text) old
+shows_by _ text old = old
+
+abbrev pub shows_at : List (List ℕ) → Shows
+shows_at [] = record { set_play = false; variation = false; no_board = false }
+shows_at (text ∷ before) = shows_by (role_at before text) text (shows_at before)
+
+abbrev pub limit_by : Role → List ℕ → ℕ → ℕ
+limit_by Limit text old = unwrap_or (limit_of text) old
+limit_by _ text old = old
+
+-- the limit of the last MaxSolutions, the greatest where there is none
+abbrev pub limit_at : List (List ℕ) → ℕ
+limit_at [] = most_solutions
+limit_at (text ∷ before) = limit_by (role_at before text) text (limit_at before)
+
+abbrev pub crossed_by : Role → List ℕ → Option ℕ → Option ℕ
+crossed_by CrossedSquare text old = or_else (only (squares_of text)) old
+crossed_by _ text old = old
+
+-- the square of the last EnPassant
+abbrev pub crossed_at : List (List ℕ) → Option ℕ
+crossed_at [] = None
+crossed_at (text ∷ before) = crossed_by (role_at before text) text (crossed_at before)
+
+abbrev pub barred_by : Role → List ℕ → Unmoved → Unmoved
+barred_by BarredSquares text old = fold with_unmoved old (unwrap_or (squares_of text) [])
+barred_by _ text old = old
+
+-- the castling squares that NoCastling names
+abbrev pub barred_at : List (List ℕ) → Unmoved
+barred_at [] = none_unmoved
+barred_at (text ∷ before) = barred_by (role_at before text) text (barred_at before)
+
+-- all that the words say
+pub record State : Type 0 where
+  pub place : Place
+  pub colour : Option Colour
+  pub men : List (Option Man)
+  pub stipulation : Option Stipulation
+  pub condition : Option Condition
+  pub shows : Shows
+  pub limit : ℕ
+  pub crossed : Option ℕ
+  pub barred : Unmoved
+
+abbrev pub state_of : List (List ℕ) → State
+state_of before = record {
+  place = place_at before;
+  colour = colour_at before;
+  men = men_at before;
+  stipulation = stipulation_at before;
+  condition = condition_at before;
+  shows = shows_at before;
+  limit = limit_at before;
+  crossed = crossed_at before;
+  barred = barred_at before;
+}

@@ -1,0 +1,66 @@
+-- Words that are values: squares, numbers, stipulations.
+use Rattle.std.specs.Prelude.{ℕ, ◌+◌, ◌-◌, ◌*◌, ◌==◌, ◌&&◌, nat_le, List, [], ◌∷◌, map, fold, Bool, true, false, if◌then◌else◌, Option, Some, None}
+use Rattle.std.specs.Char.{to_ascii_lowercase}
+use Rattle.std.specs.List.{list_all}
+use Rattle.chess_core.specs.Squares.{square_at}
+use Rattle.pop_input.specs.Stipulations.{may_have}
+use Rattle.pop_input.specs.declared.stipulation.Form.{Form}
+use Rattle.pop_input.specs.declared.stipulation.Form.TheVariants.{Direct, SelfMate, Help, HelpHalf}
+use Rattle.pop_input.specs.declared.stipulation.Stipulation.{Stipulation}
+
+-- the square that a letter, in capitals or not, and a digit name
+abbrev pub square_by : ℕ → ℕ → Option ℕ
+square_by letter digit = square_at (to_ascii_lowercase letter - 96) (digit - 48)
+
+abbrev pub before_squares : Option ℕ → Option (List ℕ) → Option (List ℕ)
+before_squares (Some square) (Some squares) = Some (square ∷ squares)
+before_squares (Some square) None = None
+before_squares None squares = None
+
+abbrev pub squares_from : List ℕ → Option (List ℕ)
+squares_from [] = Some []
+squares_from (letter ∷ []) = None
+squares_from (letter ∷ digit ∷ text) = before_squares (square_by letter digit) (squares_from text)
+
+-- the squares of a word that is one or more squares and nothing else
+unfoldable pub squares_of : List ℕ → Option (List ℕ)
+squares_of [] = None
+squares_of (b ∷ text) = squares_from (b ∷ text)
+
+abbrev pub only : Option (List ℕ) → Option ℕ
+only (Some (square ∷ [])) = Some square
+only (Some []) = None
+only (Some (square ∷ other ∷ squares)) = None
+only None = None
+
+abbrev pub is_digit : ℕ → Bool
+is_digit b = nat_le 48 b && nat_le b 57
+
+-- the number that digits write
+abbrev pub value_of : List ℕ → ℕ
+value_of text = fold (λ value digit. 10 * value + (digit - 48)) 0 text
+
+-- the most solutions that can be asked for (own)
+abbrev pub most_solutions : ℕ
+most_solutions = 4000000000
+
+-- a limit of solutions, in digits
+unfoldable pub limit_of : List ℕ → Option ℕ
+limit_of text = if list_all is_digit text && (nat_le 1 (value_of text) && nat_le (value_of text) most_solutions) then Some (value_of text) else None
+
+abbrev pub stated : Form → ℕ → Option Stipulation
+stated form digit = if is_digit digit && may_have form (digit - 48) then Some (record { form = form; n = digit - 48 }) else None
+
+-- `#n`, `s#n`, `h#n` and `h#n.5`, in small letters
+abbrev pub stipulation_by : List ℕ → Option Stipulation
+stipulation_by [] = None
+stipulation_by (a ∷ []) = None
+stipulation_by (a ∷ n ∷ []) = if a == 35 then stated Direct n else None
+stipulation_by (a ∷ b ∷ n ∷ []) = if b == 35 then (if a == 115 then stated SelfMate n else (if a == 104 then stated Help n else None)) else None
+stipulation_by (a ∷ b ∷ n ∷ c ∷ []) = None
+stipulation_by (a ∷ b ∷ n ∷ c ∷ d ∷ []) = if ((a == 104) && (b == 35)) && ((c == 46) && (d == 53)) then stated HelpHalf n else None
+stipulation_by (a ∷ b ∷ n ∷ c ∷ d ∷ e ∷ text) = None
+
+-- the stipulation that a word states
+unfoldable pub stipulation_of : List ℕ → Option Stipulation
+stipulation_of text = stipulation_by (map to_ascii_lowercase text)

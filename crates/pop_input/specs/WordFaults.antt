@@ -1,0 +1,108 @@
+-- The fault of a word, by its number: what the words before say decides (own).
+use Rattle.std.specs.Prelude.{ℕ, List, [], ◌∷◌, length, nat_le, nat_lt, not, ◌&&◌, Bool, true, false, if◌then◌else◌, Option, Some, None, is_some}
+use Rattle.std.specs.Prelude.{◌==◌}
+use Rattle.std.specs.List.{list_any, list_all}
+use Rattle.chess_core.specs.Position.{king_square, man_on, same_kind, with_man}
+use Rattle.chess_core.specs.WellFormed.{is_pawn_inside}
+use Rattle.chess_core.specs.declared.man.Colour.{Colour}
+use Rattle.chess_core.specs.declared.man.Kind.{Kind}
+use Rattle.chess_core.specs.declared.man.Kind.TheVariants.{King}
+use Rattle.chess_core.specs.declared.man.Man.{Man}
+use Rattle.pop_input.specs.Names.{command_of, colour_of, kind_of, condition_of, option_of, or_else}
+use Rattle.pop_input.specs.Values.{squares_of, only, is_digit, limit_of, stipulation_of}
+use Rattle.pop_input.specs.State.{State, role_of}
+use Rattle.pop_input.specs.declared.condition.Condition.{Condition}
+use Rattle.pop_input.specs.declared.place.Role.{Role}
+use Rattle.pop_input.specs.declared.place.Role.TheVariants.{Limit, CrossedSquare, BarredSquares, Control, Within}
+use Rattle.pop_input.specs.declared.names.Section.{Section}
+use Rattle.pop_input.specs.declared.names.Section.TheVariants.{Pieces, Stipulation as Stipulations, Condition as Conditions, Options}
+use Rattle.pop_input.specs.declared.names.Command.{Command}
+use Rattle.pop_input.specs.declared.names.Command.TheVariants.{Begin, Enter, Next, Last}
+use Rattle.pop_input.specs.declared.stipulation.Stipulation.{Stipulation}
+
+abbrev pub fault_if : Bool → ℕ → Option ℕ
+fault_if holds number = if holds then Some number else None
+
+-- a castling square
+abbrev pub is_castling : ℕ → Bool
+is_castling square = list_any (λ s. s == square) (0 ∷ 4 ∷ 7 ∷ 56 ∷ 60 ∷ 63 ∷ [])
+
+abbrev pub barred_fault : Option (List ℕ) → Option ℕ
+barred_fault None = Some 14
+barred_fault (Some squares) = fault_if (not (list_all is_castling squares)) 16
+
+abbrev pub control_fault : Command → Option ℕ
+control_fault Begin = Some 2
+control_fault (Enter section) = None
+control_fault Next = None
+control_fault Last = None
+
+-- a man stands there already, a pawn on rank 1 or 8, a second king
+abbrev pub man_fault : List (Option Man) → Man → ℕ → Option ℕ
+man_fault men man square =
+    if is_some (man_on men square) then Some 5
+    else (if not (is_pawn_inside (Some man) square) then Some 6
+    else fault_if (same_kind man.kind King && is_some (king_square men man.colour)) 7)
+
+-- the fault of squares on which a man is put in turn
+abbrev pub men_fault : List (Option Man) → Man → List ℕ → Option ℕ
+men_fault men man [] = None
+men_fault men man (square ∷ squares) = or_else (man_fault men man square) (men_fault (with_man men square man) man squares)
+
+abbrev pub put_fault : List (Option Man) → Option Colour → Kind → Option (List ℕ) → Option ℕ
+put_fault men None kind squares = Some 4
+put_fault men (Some colour) kind None = Some 14
+put_fault men (Some colour) kind (Some squares) = men_fault men (record { colour = colour; kind = kind }) squares
+
+-- two bytes or more, and no digit among them: such a word is none of a man and squares at all
+abbrev pub is_foreign : List ℕ → Bool
+is_foreign text = nat_le 2 (length text) && not (list_any is_digit text)
+
+abbrev pub letter_fault : State → Option Kind → List ℕ → Option ℕ
+letter_fault state None text = Some 2
+letter_fault state (Some kind) text =
+    if not (is_some (squares_of text)) && is_foreign text then Some 2 else put_fault state.men state.colour kind (squares_of text)
+
+abbrev pub pieces_fault : State → List ℕ → Option ℕ
+pieces_fault state [] = None
+pieces_fault state (letter ∷ text) = if is_some (colour_of (letter ∷ text)) then None else letter_fault state (kind_of letter) text
+
+-- where one was given: a second one holds the sign #
+abbrev pub stipulation_fault : Option Stipulation → List ℕ → Option ℕ
+stipulation_fault None text = fault_if (not (is_some (stipulation_of text))) 8
+stipulation_fault (Some given) text = if list_any (λ b. b == 35) text then Some 9 else Some 2
+
+abbrev pub condition_fault : Option Condition → List ℕ → Option ℕ
+condition_fault given text = if not (is_some (condition_of text)) then Some 2 else fault_if (is_some given) 12
+
+abbrev pub section_fault : State → Option Section → List ℕ → Option ℕ
+section_fault state None text = Some 2
+section_fault state (Some Pieces) text = pieces_fault state text
+section_fault state (Some Stipulations) text = stipulation_fault state.stipulation text
+section_fault state (Some Conditions) text = condition_fault state.condition text
+section_fault state (Some Options) text = fault_if (not (is_some (option_of text))) 2
+
+abbrev pub role_fault : State → Role → List ℕ → Option ℕ
+role_fault state Limit text = fault_if (not (is_some (limit_of text))) 13
+role_fault state CrossedSquare text = fault_if (not (is_some (only (squares_of text)))) 14
+role_fault state BarredSquares text = barred_fault (squares_of text)
+role_fault state (Control command) text = control_fault command
+role_fault state (Within section) text = section_fault state section text
+
+-- the fault of a word of at most 160 bytes in a problem
+abbrev pub fault_in : State → List ℕ → Option ℕ
+fault_in state text = role_fault state (role_of state.place text) text
+
+-- and of the first word of the input, which has to be BeginProblem
+abbrev pub begin_fault : Option Command → Option ℕ
+begin_fault (Some Begin) = None
+begin_fault (Some (Enter section)) = Some 1
+begin_fault (Some Next) = Some 1
+begin_fault (Some Last) = Some 1
+begin_fault None = Some 1
+
+-- the fault of a word, in a problem that has begun or before the first
+abbrev pub fault_of : Bool → State → List ℕ → Option ℕ
+fault_of begun state text =
+    if nat_lt 160 (length text) then Some 3
+    else (if begun then fault_in state text else begin_fault (command_of text))

@@ -1,0 +1,57 @@
+//! What a word at a place is.
+ghost use Rattle.std.specs.Prelude.{◌≡◌, ◌≤◌, length};
+ghost use Rattle.pop_input.specs.Names.{command_of};
+ghost use Rattle.pop_input.specs.State.{role_of, plain_role};
+
+use crate::names::{Awaited, Command, Section, command_of};
+use crate::values::squares_of;
+
+/// The section, and what an option awaits.
+#[derive(Clone, Copy, Debug, PartialEq, Eq)]
+pub struct Place {
+    pub section: Option<Section>,
+    pub awaited: Option<Awaited>,
+}
+
+/// A value that an option awaits, a command, or another word in its section.
+#[derive(Clone, Copy, Debug, PartialEq, Eq)]
+pub enum Role {
+    Limit,
+    CrossedSquare,
+    BarredSquares,
+    Control(Command),
+    Within(Option<Section>),
+}
+
+impl Place {
+    /// What the word is at this place.
+    pub fn role_of(&self, word: &[u8]) -> Role
+        requires { length word.now ≤ 160 }
+        ensures { result ≡ role_of self.now word.now }
+    {
+        match self.awaited {
+            Some(Awaited::Number) => Role::Limit,
+            Some(Awaited::OneSquare) => Role::CrossedSquare,
+            Some(Awaited::Squares) => Role::BarredSquares,
+            Some(Awaited::MoreSquares) => {
+                if squares_of(word).is_some() {
+                    Role::BarredSquares
+                } else {
+                    self.plain_role_of(word)
+                }
+            }
+            None => self.plain_role_of(word),
+        }
+    }
+
+    // What it is where it is no awaited value.
+    fn plain_role_of(&self, word: &[u8]) -> Role
+        requires { length word.now ≤ 160 }
+        ensures { result ≡ plain_role (command_of word.now) self.now.section }
+    {
+        match command_of(word) {
+            Some(command) => Role::Control(command),
+            None => Role::Within(self.section),
+        }
+    }
+}
