@@ -1,0 +1,47 @@
+-- Squares and numbers, byte by byte.
+use Rattle.std.proofs.Common.{◌≡◌, ◌≤◌, ◌<◌, ℕ, ◌+◌, ◌-◌, ◌*◌, List, [], ◌∷◌, ◌++◌, length, drop, take, Option, Some, None, Bool, true, false, refl, sym, ◌∙◌, ap, arith, append_assoc, get_or}
+use Rattle.std.specs.List.{list_all}
+use Rattle.std.specs.Prelude.{nat_le, fold}
+use Rattle.std.proofs.lemmas.List.{drop_more}
+use Rattle.std.proofs.Math.Seq.{drop-length}
+use Rattle.std.proofs.lemmas.List.Folds.{list_all-append}
+use Rattle.std.proofs.lemmas.List.Sums.{fold-append}
+use Rattle.pop_input.specs.Values.{squares_from, squares_of, square_by, before_squares, is_digit, value_of, most_solutions}
+
+-- squares before those of a text
+abbrev pub with_front : List ℕ → Option (List ℕ) → Option (List ℕ)
+with_front done None = None
+with_front done (Some squares) = Some (done ++ squares)
+
+pub front_none : (squares : Option (List ℕ)) → with_front [] squares ≡ squares
+front_none None = refl
+front_none (Some squares) = refl
+
+pub front_more : (done : List ℕ) (square : ℕ) (squares : Option (List ℕ)) → with_front done (before_squares (Some square) squares) ≡ with_front (done ++ square ∷ []) squares
+front_more done square None = refl
+front_more done square (Some squares) = ap (λ (l : List ℕ). Some l) (sym (append_assoc done (square ∷ []) squares))
+
+-- a word that isn't empty
+pub some_squares : (word : List ℕ) → 0 < length word → squares_of word ≡ squares_from word
+unfolding squares_of
+some_squares [] h = absurd (omega arith)
+some_squares (b ∷ word) h = refl
+
+-- This much of a number is read: it is known as far as it is no more than the greatest limit.
+pub record DigitsSoFar (text : List ℕ) (value : ℕ) : Type 0 where
+  pub digits : list_all is_digit text ≡ true
+  pub same : value ≤ most_solutions → value ≡ value_of text
+  pub more : most_solutions < value → most_solutions < value_of text
+  pub room : value ≤ 10 * most_solutions + 9
+
+-- a last byte alone
+pub odd_end : (word : List ℕ) (at : ℕ) → at < length word → at + 1 ≡ length word → squares_from (drop at word) ≡ None
+odd_end word at lt e =
+    let past : drop (at + 1) word ≡ [] = rw e (drop-length word) in
+    rw (drop_more word at 0 lt, past) refl
+
+-- two bytes that name a square
+pub pair_step : (word : List ℕ) (at square : ℕ) → at + 1 < length word → square_by (get_or word at 0) (get_or word (at + 1) 0) ≡ Some square → squares_from (drop at word) ≡ before_squares (Some square) (squares_from (drop (at + 2) word))
+pair_step word at square lt e =
+    let two : (at + 1) + 1 ≡ at + 2 = omega arith in
+    rw (drop_more word at 0 (omega arith), drop_more word (at + 1) 0 lt, e, two) refl

@@ -1,0 +1,9 @@
+use Rattle.std.proofs.Common.{take}
+use Rattle.pop_input.proofs.Parsing.{DigitsSoFar}
+use Rattle.pop_input.proofs.values.limit_of.Given as goal
+
+-- the digits so far are read
+abbrev pub invariant-digits : goal.invariant-digits
+invariant-digits l = record {
+  read : DigitsSoFar (take l.byte-index l.word) l.value;
+}

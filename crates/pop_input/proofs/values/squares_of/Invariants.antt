@@ -1,0 +1,15 @@
+use Rattle.std.proofs.Common.{length, ◌-◌, ◌≡◌, ◌≤◌, ◌*◌, drop}
+use Rattle.pop_input.specs.Values.{squares_from, squares_of}
+use Rattle.pop_input.proofs.Parsing.{with_front}
+use Rattle.pop_input.proofs.values.squares_of.Given as goal
+
+-- the squares of the bytes before `at` are listed
+abbrev pub invariant-pairs : goal.invariant-pairs
+invariant-pairs l = record {
+  within : l.at ≤ length l.word;
+  room : 2 * length l.squares.items ≤ l.at;
+  rest : squares_of l.word ≡ with_front l.squares.items (squares_from (drop l.at l.word));
+}
+
+abbrev pub decreases-pairs : goal.decreases-pairs
+decreases-pairs l = length l.word - l.at
