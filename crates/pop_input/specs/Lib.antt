@@ -4,3 +4,4 @@ pub mod Names
 pub mod Values
 pub mod State
 pub mod WordFaults
+pub mod Ends

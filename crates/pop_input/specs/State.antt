@@ -25,6 +25,7 @@ use Rattle.pop_input.specs.declared.names.OptionWord.TheVariants.{SetPlay, Varia
 use Rattle.pop_input.specs.declared.names.Awaited.{Awaited}
 use Rattle.pop_input.specs.declared.names.Awaited.TheVariants.{Number, OneSquare, Squares, MoreSquares}
 use Rattle.pop_input.specs.declared.stipulation.Stipulation.{Stipulation}
+use Rattle.pop_input.specs.declared.switches.Switches.{Switches}
 
 -- The place of a word: the section, and what an option awaits.
 
@@ -123,26 +124,21 @@ abbrev pub condition_at : List (List ℕ) → Option Condition
 condition_at [] = None
 condition_at (text ∷ before) = condition_by (role_at before text) text (condition_at before)
 
--- the three options that hold or do not
-pub record Shows : Type 0 where
-  pub set_play : Bool
-  pub variation : Bool
-  pub no_board : Bool
+-- the options that hold or do not
+abbrev pub switches_with : Option OptionWord → Switches → Switches
+switches_with (Some SetPlay) old = record old { set_play = true }
+switches_with (Some Variation) old = record old { variation = true }
+switches_with (Some NoBoard) old = record old { no_board = true }
+switches_with (Some (Awaits awaited)) old = old
+switches_with None old = old
 
-abbrev pub shows_with : Option OptionWord → Shows → Shows
-shows_with (Some SetPlay) old = record old { set_play = true }
-shows_with (Some Variation) old = record old { variation = true }
-shows_with (Some NoBoard) old = record old { no_board = true }
-shows_with (Some (Awaits awaited)) old = old
-shows_with None old = old
+abbrev pub switches_by : Role → List ℕ → Switches → Switches
+switches_by (Within (Some Options)) text old = switches_with (option_of text) old
+switches_by _ text old = old
 
-abbrev pub shows_by : Role → List ℕ → Shows → Shows
-shows_by (Within (Some Options)) text old = shows_with (option_of text) old
-shows_by _ text old = old
-
-abbrev pub shows_at : List (List ℕ) → Shows
-shows_at [] = record { set_play = false; variation = false; no_board = false }
-shows_at (text ∷ before) = shows_by (role_at before text) text (shows_at before)
+abbrev pub switches_at : List (List ℕ) → Switches
+switches_at [] = record { set_play = false; variation = false; no_board = false }
+switches_at (text ∷ before) = switches_by (role_at before text) text (switches_at before)
 
 abbrev pub limit_by : Role → List ℕ → ℕ → ℕ
 limit_by Limit text old = unwrap_or (limit_of text) old
@@ -178,7 +174,7 @@ pub record State : Type 0 where
   pub men : List (Option Man)
   pub stipulation : Option Stipulation
   pub condition : Option Condition
-  pub shows : Shows
+  pub switches : Switches
   pub limit : ℕ
   pub crossed : Option ℕ
   pub barred : Unmoved
@@ -190,8 +186,25 @@ state_of before = record {
   men = men_at before;
   stipulation = stipulation_at before;
   condition = condition_at before;
-  shows = shows_at before;
+  switches = switches_at before;
   limit = limit_at before;
   crossed = crossed_at before;
   barred = barred_at before;
 }
+
+-- what they say with one more, which has this role
+abbrev pub state_by : Role → State → List ℕ → State
+state_by role state text = record {
+  place = place_after role state.place text;
+  colour = colour_by role text state.colour;
+  men = men_by role state.colour text state.men;
+  stipulation = stipulation_by role text state.stipulation;
+  condition = condition_by role text state.condition;
+  switches = switches_by role text state.switches;
+  limit = limit_by role text state.limit;
+  crossed = crossed_by role text state.crossed;
+  barred = barred_by role text state.barred;
+}
+
+abbrev pub state_after : State → List ℕ → State
+state_after state text = state_by (role_of state.place text) state text

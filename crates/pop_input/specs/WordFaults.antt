@@ -2,7 +2,8 @@
 use Rattle.std.specs.Prelude.{ℕ, List, [], ◌∷◌, length, nat_le, nat_lt, not, ◌&&◌, Bool, true, false, if◌then◌else◌, Option, Some, None, is_some}
 use Rattle.std.specs.Prelude.{◌==◌}
 use Rattle.std.specs.List.{list_any, list_all}
-use Rattle.chess_core.specs.Position.{king_square, man_on, same_kind, with_man}
+use Rattle.chess_core.specs.Position.{is_man, man_on, same_kind, with_man}
+use Rattle.chess_core.specs.Squares.{some_square}
 use Rattle.chess_core.specs.WellFormed.{is_pawn_inside}
 use Rattle.chess_core.specs.declared.man.Colour.{Colour}
 use Rattle.chess_core.specs.declared.man.Kind.{Kind}
@@ -37,12 +38,20 @@ control_fault (Enter section) = None
 control_fault Next = None
 control_fault Last = None
 
+-- the man on this square is of this colour and kind
+unfoldable pub is_there : List (Option Man) → Colour → Kind → ℕ → Bool
+is_there men colour man_kind square = is_man (man_on men square) colour man_kind
+
+-- a man of this colour and kind stands somewhere
+unfoldable pub stands : List (Option Man) → Colour → Kind → Bool
+stands men colour man_kind = some_square (is_there men colour man_kind)
+
 -- a man stands there already, a pawn on rank 1 or 8, a second king
 abbrev pub man_fault : List (Option Man) → Man → ℕ → Option ℕ
 man_fault men man square =
     if is_some (man_on men square) then Some 5
     else (if not (is_pawn_inside (Some man) square) then Some 6
-    else fault_if (same_kind man.kind King && is_some (king_square men man.colour)) 7)
+    else fault_if (same_kind man.kind King && stands men man.colour King) 7)
 
 -- the fault of squares on which a man is put in turn
 abbrev pub men_fault : List (Option Man) → Man → List ℕ → Option ℕ
@@ -50,9 +59,9 @@ men_fault men man [] = None
 men_fault men man (square ∷ squares) = or_else (man_fault men man square) (men_fault (with_man men square man) man squares)
 
 abbrev pub put_fault : List (Option Man) → Option Colour → Kind → Option (List ℕ) → Option ℕ
-put_fault men None kind squares = Some 4
-put_fault men (Some colour) kind None = Some 14
-put_fault men (Some colour) kind (Some squares) = men_fault men (record { colour = colour; kind = kind }) squares
+put_fault men None man_kind squares = Some 4
+put_fault men (Some colour) man_kind None = Some 14
+put_fault men (Some colour) man_kind (Some squares) = men_fault men (record { colour = colour; kind = man_kind }) squares
 
 -- two bytes or more, and no digit among them: such a word is none of a man and squares at all
 abbrev pub is_foreign : List ℕ → Bool
@@ -60,8 +69,8 @@ is_foreign text = nat_le 2 (length text) && not (list_any is_digit text)
 
 abbrev pub letter_fault : State → Option Kind → List ℕ → Option ℕ
 letter_fault state None text = Some 2
-letter_fault state (Some kind) text =
-    if not (is_some (squares_of text)) && is_foreign text then Some 2 else put_fault state.men state.colour kind (squares_of text)
+letter_fault state (Some letter) text =
+    if not (is_some (squares_of text)) && is_foreign text then Some 2 else put_fault state.men state.colour letter (squares_of text)
 
 abbrev pub pieces_fault : State → List ℕ → Option ℕ
 pieces_fault state [] = None

@@ -2,9 +2,11 @@
 #![tactic(auto)]
 
 pub mod condition;
+mod draft;
 pub mod item;
-pub mod names;
-pub mod place;
+mod names;
+mod place;
 pub mod problem;
 pub mod stipulation;
-pub mod values;
+mod switches;
+mod values;

@@ -4,6 +4,7 @@ ghost use Rattle.pop_input.specs.Posed.{IsSound};
 
 use crate::condition::Condition;
 use crate::stipulation::Stipulation;
+use crate::switches::Switches;
 use chess_core::diagram::Diagram;
 use pop_text::text::Text;
 use std::marker::Model;
@@ -15,9 +16,7 @@ pub struct Problem {
     setup: Diagram,
     aim: Stipulation,
     fairy: Option<Condition>,
-    with_set_play: bool,
-    with_variation: bool,
-    without_board: bool,
+    switches: Switches,
     limit: u32,
     named: Text,
     composer: Text,
@@ -28,14 +27,38 @@ impl Model for Problem {
 
     ghost Value = { Posed };
 
-    ghost view = { λ p. record { diagram = p.setup; stipulation = p.aim; condition = p.fairy; set_play = p.with_set_play; variation = p.with_variation; no_board = p.without_board; max_solutions = p.limit; title = p.named; author = p.composer } };
+    ghost view = { λ p. record { diagram = p.setup; stipulation = p.aim; condition = p.fairy; set_play = p.switches.set_play; variation = p.switches.variation; no_board = p.switches.no_board; max_solutions = p.limit; title = p.named; author = p.composer } };
 
-    ghost invariant = { λ p. IsSound (record { diagram = p.setup; stipulation = p.aim; condition = p.fairy; set_play = p.with_set_play; variation = p.with_variation; no_board = p.without_board; max_solutions = p.limit; title = p.named; author = p.composer }) };
+    ghost invariant = { λ p. IsSound (record { diagram = p.setup; stipulation = p.aim; condition = p.fairy; set_play = p.switches.set_play; variation = p.switches.variation; no_board = p.switches.no_board; max_solutions = p.limit; title = p.named; author = p.composer }) };
 
-    ghost inverse = { λ v. record { setup = v.diagram; aim = v.stipulation; fairy = v.condition; with_set_play = v.set_play; with_variation = v.variation; without_board = v.no_board; limit = v.max_solutions; named = v.title; composer = v.author } };
+    ghost inverse = { λ v. record { setup = v.diagram; aim = v.stipulation; fairy = v.condition; switches = record { set_play = v.set_play; variation = v.variation; no_board = v.no_board }; limit = v.max_solutions; named = v.title; composer = v.author } };
 }
 
 impl Problem {
+    // What was read, where it is sound.
+    pub(crate) fn new(
+        diagram: &Diagram,
+        stipulation: Stipulation,
+        condition: Option<Condition>,
+        switches: Switches,
+        max_solutions: u32,
+        title: &Text,
+        author: &Text,
+    ) -> Problem
+        requires { IsSound (record { diagram = diagram.now; stipulation = stipulation; condition = condition; set_play = switches.set_play; variation = switches.variation; no_board = switches.no_board; max_solutions = max_solutions; title = title.now; author = author.now }) }
+        ensures { result ≡ record { diagram = diagram.now; stipulation = stipulation; condition = condition; set_play = switches.set_play; variation = switches.variation; no_board = switches.no_board; max_solutions = max_solutions; title = title.now; author = author.now } }
+    {
+        Problem {
+            setup: *diagram,
+            aim: stipulation,
+            fairy: condition,
+            switches,
+            limit: max_solutions,
+            named: *title,
+            composer: *author,
+        }
+    }
+
     /// The men, the side that starts, the castling squares that count as unmoved, and the square that a pawn has just crossed.
     pub fn diagram(&self) -> Diagram
         ensures diagram { result ≡ self.now.diagram }
@@ -63,21 +86,21 @@ impl Problem {
     pub fn set_play(&self) -> bool
         ensures { result ≡ self.now.set_play }
     {
-        self.with_set_play
+        self.switches.set_play
     }
 
     /// Whether the defences are shown, and what follows on them.
     pub fn variation(&self) -> bool
         ensures { result ≡ self.now.variation }
     {
-        self.with_variation
+        self.switches.variation
     }
 
     /// Whether the board is left out.
     pub fn no_board(&self) -> bool
         ensures { result ≡ self.now.no_board }
     {
-        self.without_board
+        self.switches.no_board
     }
 
     /// After how many solutions a phase ends: 1 to 4,000,000,000, the greatest where nothing was said.

@@ -1,5 +1,6 @@
 //! Words that are values: squares, numbers, stipulations.
-ghost use Rattle.std.specs.Prelude.{◌≡◌, ◌≤◌, ℕ, length, option_map};
+ghost use Rattle.std.specs.Prelude.{◌≡◌, ◌≤◌, ℕ, IfSome, length, option_map, true};
+ghost use Rattle.pop_input.specs.Ends.{is_stated};
 ghost use Rattle.pop_input.specs.Values.{is_digit, limit_of, most_solutions, only, square_by, squares_of, stated, stipulation_of};
 
 use crate::names::small_letters;
@@ -66,6 +67,7 @@ pub fn is_digit(byte: u8) -> bool
 #[tactic(auto, unfolding(crate::specs::Values::limit_of))]
 pub fn limit_of(word: &[u8]) -> Option<u32>
     ensures value { result ≡ limit_of word.now }
+    ensures range { IfSome result (λ limit. (1 ≤ limit) × (limit ≤ most_solutions)) }
 {
     let mut value = 0u64;
     'digits: for &byte in word {
@@ -85,7 +87,8 @@ pub fn limit_of(word: &[u8]) -> Option<u32>
 
 // A form with a digit for its number of moves.
 fn stated(form: Form, digit: u8) -> Option<Stipulation>
-    ensures { result ≡ stated form digit }
+    ensures value { result ≡ stated form digit }
+    ensures range { is_stated result ≡ true }
 {
     if !is_digit(digit) {
         return None;
@@ -106,7 +109,8 @@ fn stated(form: Form, digit: u8) -> Option<Stipulation>
 #[tactic(auto, unfolding(crate::specs::Values::stipulation_of))]
 pub fn stipulation_of(word: &[u8]) -> Option<Stipulation>
     requires { length word.now ≤ 160 }
-    ensures { result ≡ stipulation_of word.now }
+    ensures value { result ≡ stipulation_of word.now }
+    ensures range { is_stated result ≡ true }
 {
     let letters = small_letters(word);
     match letters.as_slice() {

@@ -1,0 +1,117 @@
+-- The problem that words pose is sound where no test at their end fails.
+use Rattle.std.proofs.Common.{◌≡◌, ◌≤◌, ℕ, List, length, Option, Some, None, Bool, true, false, refl, sym, ◌∙◌, ap, arith, ◌⊎◌, inl, inr, not, ◌&&◌, ◌==◌, if◌then◌else◌, is_some}
+use Rattle.std.proofs.lemmas.Bool.{cases_Bool, cases_eq, and_parts, cond-true, cond-false}
+use Rattle.chess_core.specs.Castling.{has_unmoved, mark_unmoved, none_unmoved}
+use Rattle.chess_core.specs.Diagrams.{Setup, position_of}
+use Rattle.chess_core.specs.Position.{man_on, king_square, other}
+use Rattle.chess_core.specs.Squares.{some_square}
+use Rattle.chess_core.specs.WellFormed.{IsWellFormed, is_crossed_right, is_home}
+use Rattle.chess_core.specs.declared.man.Man.{Man}
+use Rattle.chess_core.specs.declared.man.Unmoved.{Unmoved}
+use Rattle.chess_rules.specs.Attacks.{in_check}
+use Rattle.pop_text.specs.declared.text.Text.{Text}
+use Rattle.pop_input.specs.Posed.{IsSound, rule_of}
+use Rattle.pop_input.specs.State.{State}
+use Rattle.pop_input.specs.Stipulations.{mated, starts, is_in_range}
+use Rattle.pop_input.specs.Ends.{ArePut, counts, is_stated, is_taken, posed_of, setup_fault, setup_of, unmoved_of}
+use Rattle.pop_input.specs.Values.{most_solutions}
+use Rattle.pop_input.specs.declared.stipulation.Form.{Form}
+use Rattle.pop_input.specs.declared.stipulation.Stipulation.{Stipulation}
+
+module _ (men : List (Option Man)) (barred : Unmoved) where
+  home_or : (s n : ℕ) (rest : Bool) → (if s == n then counts men barred n else rest) ≡ true → (is_home (man_on men s) s ≡ true) ⊎ (rest ≡ true)
+  home_or s n rest h = elim (cases_eq s n) [
+    | inl e ↦
+        let at : counts men barred s ≡ true = rw (e, ← cond-true (n == n) (counts men barred n) rest (grind arith)) (rw e at h) in
+        inl (and_parts (is_home (man_on men s) s) (not (has_unmoved barred s)) at).0
+    | inr ne ↦ inr (sym (cond-false (s == n) (counts men barred n) rest (grind arith)) ∙ h)
+  ]
+
+  -- the man that castles from it stands on each square that counts as unmoved
+  pub homes : (s : ℕ) → has_unmoved (unmoved_of men barred) s ≡ true → is_home (man_on men s) s ≡ true
+  unfolding has_unmoved mark_unmoved none_unmoved unmoved_of
+  homes s h = elim (home_or s 0 _ h) [
+    | inl home ↦ home
+    | inr h4 ↦ elim (home_or s 4 _ h4) [
+      | inl home ↦ home
+      | inr h7 ↦ elim (home_or s 7 _ h7) [
+        | inl home ↦ home
+        | inr h56 ↦ elim (home_or s 56 _ h56) [
+          | inl home ↦ home
+          | inr h60 ↦ elim (home_or s 60 _ h60) [
+            | inl home ↦ home
+            | inr h63 ↦ elim (home_or s 63 false h63) [ inl home ↦ home | inr bad ↦ cc ]
+          ]
+        ]
+      ]
+    ]
+  ]
+
+-- well formed but for the crossed square
+well_formed_by : (state : State) (form : Form) → ArePut state.men → is_crossed_right state.men (starts form) state.crossed ≡ true → IsWellFormed (position_of (setup_of state form))
+unfolding position_of
+well_formed_by state form put right = record { size = put.size; kings = put.kings; pawns = put.pawns; homes = homes state.men state.barred; crossed = right }
+
+-- where it isn't, the crossed square cannot be
+pub crossed_wrong : (state : State) (form : Form) → ArePut state.men → (IsWellFormed (position_of (setup_of state form)) → ⊥) → is_crossed_right state.men (starts form) state.crossed ≡ false
+crossed_wrong state form put ill = elim (cases_Bool (is_crossed_right state.men (starts form) state.crossed)) [
+  | inl right ↦ absurd (ill (well_formed_by state form put right))
+  | inr wrong ↦ wrong
+]
+
+pub crossed_fine : (setup : Setup) → IsWellFormed (position_of setup) → is_crossed_right setup.men setup.turn setup.crossed ≡ true
+unfolding position_of
+crossed_fine setup well = well.crossed
+
+-- The faults.
+
+abbrev pub check_number : Bool → Option ℕ
+check_number check = if check then Some 18 else None
+
+pub shown_men : (setup : Setup) → (position_of setup).men ≡ setup.men
+unfolding position_of
+shown_men setup = refl
+
+module _ (state : State) (form : Form) (setup : Setup) (is : setup ≡ setup_of state form) (put : ArePut state.men) (some : some_square (is_taken setup.men) ≡ true) where
+  pub ill_fault : (IsWellFormed (position_of setup) → ⊥) → Some 15 ≡ setup_fault state form setup
+  ill_fault ill =
+      let wrong : is_crossed_right setup.men setup.turn setup.crossed ≡ false = rw is (crossed_wrong state form put (rw is at ill)) in
+      rw (some, wrong) refl
+
+  module _ (well : IsWellFormed (position_of setup)) where
+    right : is_crossed_right setup.men setup.turn setup.crossed ≡ true
+    right = crossed_fine setup well
+
+    pub king_fault : is_some (king_square setup.men (mated form)) ≡ false → Some 17 ≡ setup_fault state form setup
+    king_fault none = rw (some, right, none) refl
+
+    pub check_fault : (check : Bool) → is_some (king_square setup.men (mated form)) ≡ true → check ≡ in_check (rule_of state.condition) setup.men (other (starts form)) → check_number check ≡ setup_fault state form setup
+    check_fault check king at =
+        let turn : setup.turn ≡ starts form = ap (λ s. s.turn) is in
+        rw (some, right, king, turn, ← at) refl
+
+abbrev tests_by : Bool → Bool → Bool → Bool → Option ℕ
+tests_by some right king check = if not some then Some 11 else (if not right then Some 15 else (if not king then Some 17 else (if check then Some 18 else None)))
+
+passed : (some right king check : Bool) → tests_by some right king check ≡ None → (king ≡ true) × (check ≡ false)
+passed false right king check h = cc
+passed true false king check h = cc
+passed true true false check h = cc
+passed true true true true h = cc
+passed true true true false h = (refl, refl)
+
+-- a problem whose words have no fault, nor their end
+pub sound_by : (state : State) (stipulation : Stipulation) (title author : Text) → state.stipulation ≡ Some stipulation → is_stated state.stipulation ≡ true → 1 ≤ state.limit → state.limit ≤ most_solutions
+    → IsWellFormed (position_of (setup_of state stipulation.form)) → setup_fault state stipulation.form (setup_of state stipulation.form) ≡ None → IsSound (posed_of state stipulation title author)
+sound_by state stipulation title author is stated low high well none =
+    let setup = setup_of state stipulation.form in
+    let tests = passed (some_square (is_taken setup.men)) (is_crossed_right setup.men setup.turn setup.crossed) (is_some (king_square setup.men (mated stipulation.form))) (in_check (rule_of state.condition) setup.men (other setup.turn)) none in
+    record {
+      well_formed = well;
+      turn = refl;
+      range = rw is at stated;
+      some_solution = low;
+      limit = high;
+      mated = tests.0;
+      quiet = tests.1;
+    }

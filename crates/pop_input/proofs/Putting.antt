@@ -1,0 +1,74 @@
+-- Men that are put without a fault.
+use Rattle.std.proofs.Common.{◌≡◌, ◌≢◌, ◌<◌, ℕ, zero, suc, List, [], ◌∷◌, length, Option, Some, None, Bool, true, false, refl, sym, ◌∙◌, ap, arith, get_or, not, ◌&&◌, if◌then◌else◌, Result, Ok, Err, IsSome, ◌⊎◌, inl, inr, is_some}
+use Rattle.std.specs.List.{repeat}
+use Rattle.std.specs.Prelude.{MatchResult}
+use Rattle.std.proofs.lemmas.List.{length-set, set_past}
+use Rattle.std.proofs.lemmas.Bool.{cases_Bool, cases_eq, cases_lt}
+use Rattle.std.proofs.Math.ListN.{get_or-eq_default}
+use Rattle.chess_core.specs.Position.{AtMostOneKing, HasNoKing, is_man, man_on, same_kind, with_man}
+use Rattle.chess_core.specs.WellFormed.{is_pawn_inside}
+use Rattle.chess_core.specs.Diagrams.{Setup}
+use Rattle.chess_core.specs.declared.diagram.Taken.{Taken}
+use Rattle.chess_core.specs.declared.man.Man.{Man}
+use Rattle.chess_core.specs.declared.man.Colour.{Colour}
+use Rattle.chess_core.specs.declared.man.Kind.{Kind}
+use Rattle.chess_core.specs.declared.man.Kind.TheVariants.{King}
+use Rattle.chess_core.proofs.Men.{AtMostOneKing-with, man_on-with_same, man_on-with_other}
+use Rattle.chess_core.proofs.Ranges.{some_square_true}
+use Rattle.pop_input.specs.Ends.{ArePut}
+use Rattle.pop_input.specs.State.{no_men}
+use Rattle.pop_input.specs.WordFaults.{fault_if, is_there, man_fault, stands}
+
+nobody : (n s : ℕ) → ◌≡◌ {A = Option Man} (get_or (repeat n (None ∷ [])) s None) None
+nobody zero s = refl
+nobody (suc n) zero = refl
+nobody (suc n) (suc s) = nobody n s
+
+-- nobody stands on an empty board
+pub none_put : ArePut no_men
+none_put = record {
+  size = refl;
+  kings = record { same = λ c s t hs ht. let e : man_on no_men s ≡ None = nobody 64 s in let bad : is_man None c King ≡ true = rw e at hs in cc };
+  pawns = λ s. let e : man_on no_men s ≡ None = nobody 64 s in rw e refl;
+}
+
+-- no king is found, so there is none
+no_king : (men : List (Option Man)) (colour : Colour) → length men ≡ 64 → stands men colour King ≡ false → HasNoKing men colour
+unfolding stands is_there
+no_king men colour size none s = elim (cases_lt s 64) [
+  | inl lt ↦ elim (cases_Bool (is_there men colour King s)) [
+    | inl here ↦ let found = some_square_true (is_there men colour King) s lt here in cc
+    | inr absent ↦ absent
+  ]
+  | inr ge ↦ let gone : man_on men s ≡ None = get_or-eq_default men None (omega (arith, size, ge)) in rw gone refl
+]
+
+-- one more man
+more_put : (men : List (Option Man)) (man : Man) (square : ℕ) → ArePut men → is_pawn_inside (Some man) square ≡ true → (same_kind man.kind King ≡ true → stands men man.colour King ≡ false) → ArePut (with_man men square man)
+more_put men man square put inside king = record {
+  size = length-set men square (Some man) ∙ put.size;
+  kings = AtMostOneKing-with men square man put.kings (λ is. no_king men man.colour put.size (king is));
+  pawns = λ s. elim (cases_eq s square) [
+    | inl same ↦ elim (cases_lt square (length men)) [
+      | inl lt ↦ let e : man_on (with_man men square man) square ≡ Some man = man_on-with_same men square man lt in rw (same, e) inside
+      | inr ge ↦ let e : with_man men square man ≡ men = set_past men square (Some man) ge in rw e (put.pawns s)
+    ]
+    | inr ne ↦ let e : man_on (with_man men square man) s ≡ man_on men s = man_on-with_other men square s man ne in rw e (put.pawns s)
+  ];
+}
+
+fits_by : (taken inside king second : Bool) → (if taken then Some 5 else (if not inside then Some 6 else fault_if (king && second) 7)) ≡ None → (inside ≡ true) × (king ≡ true → second ≡ false)
+fits_by true inside king second h = cc
+fits_by false false king second h = cc
+fits_by false true false second h = (refl, λ is. cc)
+fits_by false true true true h = cc
+fits_by false true true false h = (refl, λ is. refl)
+
+-- a man that is put without a fault, or not put
+pub put_keeps : (r : Result (Unit {0}) Taken) (old new : Setup) (square : ℕ) (man : Man)
+    → MatchResult r (λ _. (man_on old.men square ≡ None) × (new ≡ record old { men = with_man old.men square man })) (λ _. IsSome (man_on old.men square) × (new ≡ old))
+    → man_fault old.men man square ≡ None → ArePut old.men → ArePut new.men
+put_keeps (Ok done) old new square man did none put =
+    let fits = fits_by (is_some (man_on old.men square)) (is_pawn_inside (Some man) square) (same_kind man.kind King) (stands old.men man.colour King) none in
+    rw did.1 (more_put old.men man square put fits.0 fits.1)
+put_keeps (Err taken) old new square man did none put = rw did.1 put

@@ -1,0 +1,80 @@
+-- The problem that the words of a block pose, and the tests at its end.
+use Rattle.std.specs.Prelude.{◌≡◌, ◌≤◌, ℕ, List, [], ◌∷◌, length, fold, not, ◌&&◌, Bool, true, false, if◌then◌else◌, Option, Some, None, is_some}
+use Rattle.chess_core.specs.Castling.{has_unmoved, mark_unmoved, none_unmoved}
+use Rattle.chess_core.specs.Diagrams.{Setup}
+use Rattle.chess_core.specs.Position.{AtMostOneKing, king_square, man_on, other}
+use Rattle.chess_core.specs.Squares.{some_square}
+use Rattle.chess_core.specs.WellFormed.{is_crossed_right, is_home, is_pawn_inside}
+use Rattle.chess_core.specs.declared.man.Man.{Man}
+use Rattle.chess_core.specs.declared.man.Unmoved.{Unmoved}
+use Rattle.chess_rules.specs.Attacks.{in_check}
+use Rattle.pop_text.specs.declared.text.Text.{Text}
+use Rattle.pop_input.specs.Posed.{Posed, rule_of}
+use Rattle.pop_input.specs.State.{State}
+use Rattle.pop_input.specs.Stipulations.{starts, mated, is_in_range}
+use Rattle.pop_input.specs.declared.stipulation.Form.{Form}
+use Rattle.pop_input.specs.declared.stipulation.Stipulation.{Stipulation}
+
+-- The diagram.
+
+-- whether a square counts as unmoved: the king or rook that castles from it stands there, and NoCastling does not name it (Codex)
+abbrev pub counts : List (Option Man) → Unmoved → ℕ → Bool
+counts men barred square = is_home (man_on men square) square && not (has_unmoved barred square)
+
+-- the castling squares that count as unmoved
+unfoldable pub unmoved_of : List (Option Man) → Unmoved → Unmoved
+unmoved_of men barred = fold (λ set square. mark_unmoved set square (counts men barred square)) none_unmoved (0 ∷ 4 ∷ 7 ∷ 56 ∷ 60 ∷ 63 ∷ [])
+
+abbrev pub setup_of : State → Form → Setup
+setup_of state form = record { men = state.men; turn = starts form; unmoved = unmoved_of state.men state.barred; crossed = state.crossed }
+
+-- the problem, with this stipulation, title and author
+abbrev pub posed_of : State → Stipulation → Text → Text → Posed
+posed_of state stipulation title author = record {
+  diagram = setup_of state stipulation.form;
+  stipulation = stipulation;
+  condition = state.condition;
+  set_play = state.switches.set_play;
+  variation = state.switches.variation;
+  no_board = state.switches.no_board;
+  max_solutions = state.limit;
+  title = title;
+  author = author;
+}
+
+-- The tests, in their order.
+
+unfoldable pub is_taken : List (Option Man) → ℕ → Bool
+is_taken men square = is_some (man_on men square)
+
+-- no men, en passant not possible, no king to be mated, the side that isn't to move in check
+abbrev pub setup_fault : State → Form → Setup → Option ℕ
+setup_fault state form setup =
+    if not (some_square (is_taken setup.men)) then Some 11
+    else (if not (is_crossed_right setup.men setup.turn setup.crossed) then Some 15
+    else (if not (is_some (king_square setup.men (mated form))) then Some 17
+    else (if in_check (rule_of state.condition) setup.men (other setup.turn) then Some 18 else None)))
+
+abbrev pub stated_fault : State → Option Stipulation → Option ℕ
+stated_fault state None = Some 10
+stated_fault state (Some stipulation) = setup_fault state stipulation.form (setup_of state stipulation.form)
+
+-- the fault at the end of a block whose words have none
+unfoldable pub end_fault_in : State → Option ℕ
+end_fault_in state = stated_fault state state.stipulation
+
+-- What words without a fault keep.
+
+-- the men put: at most one king a colour, and no pawn on ranks 1 and 8
+pub record ArePut (men : List (Option Man)) : Type 0 where
+  pub size : length men ≡ 64
+  pub kings : AtMostOneKing men
+  pub pawns : (s : ℕ) → is_pawn_inside (man_on men s) s ≡ true
+
+abbrev pub is_stated : Option Stipulation → Bool
+is_stated None = true
+is_stated (Some stipulation) = is_in_range stipulation
+
+-- The problem is the one that the words pose, with a title and an author.
+abbrev pub IsPosed : State → Text → Text → Posed → Type 0
+IsPosed state title author posed = (stipulation : Stipulation) × (state.stipulation ≡ Some stipulation) × (posed ≡ posed_of state stipulation title author)
