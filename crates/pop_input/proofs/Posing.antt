@@ -1,5 +1,5 @@
 -- The problem that words pose is sound where no test at their end fails.
-use Rattle.std.proofs.Common.{◌≡◌, ◌≤◌, ℕ, List, length, Option, Some, None, Bool, true, false, refl, sym, ◌∙◌, ap, arith, ◌⊎◌, inl, inr, not, ◌&&◌, ◌==◌, if◌then◌else◌, is_some}
+use Rattle.std.proofs.Common.{◌≡◌, ◌≤◌, ℕ, List, Option, Some, None, Bool, true, false, refl, sym, ◌∙◌, ap, arith, ◌⊎◌, inl, inr, not, ◌==◌, if◌then◌else◌, is_some}
 use Rattle.std.proofs.lemmas.Bool.{cases_Bool, cases_eq, and_parts, cond-true, cond-false}
 use Rattle.chess_core.specs.Castling.{has_unmoved, mark_unmoved, none_unmoved}
 use Rattle.chess_core.specs.Diagrams.{Setup, position_of}
@@ -12,7 +12,7 @@ use Rattle.chess_rules.specs.Attacks.{in_check}
 use Rattle.pop_text.specs.declared.text.Text.{Text}
 use Rattle.pop_input.specs.Posed.{IsSound, rule_of}
 use Rattle.pop_input.specs.State.{State}
-use Rattle.pop_input.specs.Stipulations.{mated, starts, is_in_range}
+use Rattle.pop_input.specs.Stipulations.{mated, starts}
 use Rattle.pop_input.specs.Ends.{ArePut, counts, is_stated, is_taken, posed_of, setup_fault, setup_of, unmoved_of}
 use Rattle.pop_input.specs.Values.{most_solutions}
 use Rattle.pop_input.specs.declared.stipulation.Form.{Form}

@@ -1,17 +1,16 @@
 -- Men that are put without a fault.
-use Rattle.std.proofs.Common.{◌≡◌, ◌≢◌, ◌<◌, ℕ, zero, suc, List, [], ◌∷◌, length, Option, Some, None, Bool, true, false, refl, sym, ◌∙◌, ap, arith, get_or, not, ◌&&◌, if◌then◌else◌, Result, Ok, Err, IsSome, ◌⊎◌, inl, inr, is_some}
+use Rattle.std.proofs.Common.{◌≡◌, ℕ, zero, suc, List, [], ◌∷◌, length, Option, Some, None, Bool, true, false, refl, ◌∙◌, arith, get_or, not, ◌&&◌, if◌then◌else◌, Result, Ok, Err, IsSome, inl, inr, is_some}
 use Rattle.std.specs.List.{repeat}
 use Rattle.std.specs.Prelude.{MatchResult}
 use Rattle.std.proofs.lemmas.List.{length-set, set_past}
 use Rattle.std.proofs.lemmas.Bool.{cases_Bool, cases_eq, cases_lt}
 use Rattle.std.proofs.Math.ListN.{get_or-eq_default}
-use Rattle.chess_core.specs.Position.{AtMostOneKing, HasNoKing, is_man, man_on, same_kind, with_man}
+use Rattle.chess_core.specs.Position.{HasNoKing, is_man, man_on, same_kind, with_man}
 use Rattle.chess_core.specs.WellFormed.{is_pawn_inside}
 use Rattle.chess_core.specs.Diagrams.{Setup}
 use Rattle.chess_core.specs.declared.diagram.Taken.{Taken}
 use Rattle.chess_core.specs.declared.man.Man.{Man}
 use Rattle.chess_core.specs.declared.man.Colour.{Colour}
-use Rattle.chess_core.specs.declared.man.Kind.{Kind}
 use Rattle.chess_core.specs.declared.man.Kind.TheVariants.{King}
 use Rattle.chess_core.proofs.Men.{AtMostOneKing-with, man_on-with_same, man_on-with_other}
 use Rattle.chess_core.proofs.Ranges.{some_square_true}

@@ -1,5 +1,5 @@
 -- The problem that the words of a block pose, and the tests at its end.
-use Rattle.std.specs.Prelude.{◌≡◌, ◌≤◌, ℕ, List, [], ◌∷◌, length, fold, not, ◌&&◌, Bool, true, false, if◌then◌else◌, Option, Some, None, is_some}
+use Rattle.std.specs.Prelude.{◌≡◌, ℕ, List, [], ◌∷◌, length, fold, not, ◌&&◌, Bool, true, if◌then◌else◌, Option, Some, None, is_some}
 use Rattle.chess_core.specs.Castling.{has_unmoved, mark_unmoved, none_unmoved}
 use Rattle.chess_core.specs.Diagrams.{Setup}
 use Rattle.chess_core.specs.Position.{AtMostOneKing, king_square, man_on, other}

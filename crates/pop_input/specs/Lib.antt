@@ -5,3 +5,7 @@ pub mod Values
 pub mod State
 pub mod WordFaults
 pub mod Ends
+pub mod Blocks
+pub mod Closings
+pub mod Tokens
+pub mod Standing

@@ -1,17 +1,15 @@
 -- What the words of a problem before a place say, and the fault of a word there.
 -- The words before are listed newest first.
-use Rattle.std.specs.Prelude.{ℕ, List, [], ◌∷◌, length, nat_le, nat_lt, not, ◌&&◌, Bool, true, false, if◌then◌else◌, Option, Some, None, is_some, unwrap_or, fold}
-use Rattle.std.specs.List.{list_any, list_all, repeat}
+use Rattle.std.specs.Prelude.{ℕ, List, [], ◌∷◌, true, false, if◌then◌else◌, Option, Some, None, is_some, unwrap_or, fold}
+use Rattle.std.specs.List.{repeat}
 use Rattle.chess_core.specs.Castling.{none_unmoved, with_unmoved}
-use Rattle.chess_core.specs.Position.{king_square, man_on, same_kind, with_man}
-use Rattle.chess_core.specs.WellFormed.{is_pawn_inside}
+use Rattle.chess_core.specs.Position.{with_man}
 use Rattle.chess_core.specs.declared.man.Colour.{Colour}
 use Rattle.chess_core.specs.declared.man.Kind.{Kind}
-use Rattle.chess_core.specs.declared.man.Kind.TheVariants.{King}
 use Rattle.chess_core.specs.declared.man.Man.{Man}
 use Rattle.chess_core.specs.declared.man.Unmoved.{Unmoved}
 use Rattle.pop_input.specs.Names.{command_of, colour_of, kind_of, condition_of, option_of, or_else}
-use Rattle.pop_input.specs.Values.{squares_of, only, is_digit, limit_of, most_solutions, stipulation_of}
+use Rattle.pop_input.specs.Values.{squares_of, only, limit_of, most_solutions, stipulation_of}
 use Rattle.pop_input.specs.declared.condition.Condition.{Condition}
 use Rattle.pop_input.specs.declared.place.Role.{Role}
 use Rattle.pop_input.specs.declared.place.Role.TheVariants.{Limit, CrossedSquare, BarredSquares, Control, Within}
@@ -19,7 +17,7 @@ use Rattle.pop_input.specs.declared.place.Place.{Place}
 use Rattle.pop_input.specs.declared.names.Section.{Section}
 use Rattle.pop_input.specs.declared.names.Section.TheVariants.{Pieces, Stipulation as Stipulations, Condition as Conditions, Options}
 use Rattle.pop_input.specs.declared.names.Command.{Command}
-use Rattle.pop_input.specs.declared.names.Command.TheVariants.{Begin, Enter, Next, Last}
+use Rattle.pop_input.specs.declared.names.Command.TheVariants.{Enter}
 use Rattle.pop_input.specs.declared.names.OptionWord.{OptionWord}
 use Rattle.pop_input.specs.declared.names.OptionWord.TheVariants.{SetPlay, Variation, NoBoard, Awaits}
 use Rattle.pop_input.specs.declared.names.Awaited.{Awaited}

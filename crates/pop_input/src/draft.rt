@@ -17,7 +17,9 @@ ghost use Rattle.pop_input.specs.declared.place.Role.TheVariants.{BarredSquares,
 ghost use Rattle.pop_input.specs.declared.names.Section.TheVariants.{Condition as Conditions, Options, Pieces, Stipulation as Stipulations};
 
 use crate::condition::Condition;
-use crate::names::{Awaited, Command, OptionWord, Section, colour_of, condition_of, kind_of, option_of};
+use crate::names::{
+    Awaited, Command, OptionWord, Section, colour_of, condition_of, kind_of, option_of,
+};
 use crate::place::{Place, Role};
 use crate::problem::Problem;
 use crate::stipulation::{Form, Stipulation};
@@ -186,7 +188,11 @@ impl Draft {
         ensures state { result ≡ None → self.new ≡ state_by (Within (Some Stipulations)) self.old word.now }
     {
         if self.stipulation.is_some() {
-            return if word.contains(&b'#') { Some(9) } else { Some(2) };
+            return if word.contains(&b'#') {
+                Some(9)
+            } else {
+                Some(2)
+            };
         }
         match stipulation_of(word) {
             Some(stipulation) => {

@@ -11,7 +11,7 @@ use Rattle.pop_text.specs.declared.read_fault.ReadFault.TheVariants.{TooLong, In
 use Rattle.pop_text.proofs.Left.{end_takes, end_over, cut_takes, word_takes, run_some, run_within, long_no_text, fault_over}
 
 pub next_none : (old new : Reading) (had left : Option (List ℕ)) → UsesAll is_gap old new had left → Peeks new (Ok None) → NextWord old new had left (Ok None)
-next_none old new had left p at = (end_takes old new had left p at.0 at.1 at.2, end_over new at.0 at.1)
+next_none old new had left p at = (end_takes old new had left p at.0 at.1 at.2, end_over new at.0 at.1, (omega (arith, p.uses.used), at.2))
 
 module _ (old mid new : Reading) (had met left : Option (List ℕ)) (p : UsesAll is_gap old mid had met) where
   pub next_fits : (b : ℕ) → Peeks mid (Ok (Some b)) → is_gap b ≡ false → (kept : List ℕ) (line : ℕ) → Runs mid new met left kept true → IsRunOver new → line ≡ mid.line → TakesWord (is_text_word kept) old new had left line kept × (0 < length kept) × GoesOn old new
@@ -28,5 +28,5 @@ module _ (old mid new : Reading) (had met left : Option (List ℕ)) (p : UsesAll
 
   pub next_cut : (fault : ReadFault) → UsesAll is_in_word mid new met left → Peeks new (Err fault) → NextWord old new had left (Err fault)
   next_cut (TooLong l) q at = absurd at
-  next_cut (InputTooLong l) q at = (cut_takes old mid new had met left p q (InputTooLong l) (omega (arith, at.1)) at, fault_over (InputTooLong l) new at, at.2)
-  next_cut (Device l) q at = (cut_takes old mid new had met left p q (Device l) at.3 at, fault_over (Device l) new at, at.2)
+  next_cut (InputTooLong l) q at = (cut_takes old mid new had met left p q (InputTooLong l) (omega (arith, at.1)) at, fault_over (InputTooLong l) new at, at.2, (omega (arith, p.uses.used, q.uses.used), omega (arith, at.1)))
+  next_cut (Device l) q at = (cut_takes old mid new had met left p q (Device l) at.3 at, fault_over (Device l) new at, at.2, (omega (arith, p.uses.used, q.uses.used), at.3))

@@ -60,10 +60,15 @@ abbrev pub TakesWord : Bool → Reading → Reading → Option (List ℕ) → Op
 TakesWord true old new had left line text = Takes (among old) (behind_word text new) had left []
 TakesWord false old new had left line text = Takes (among old) (among new) had left (Word line text ∷ [])
 
+-- the place is not before the old one, and within the limit
+abbrev pub StaysWithin : Reading → Reading → Type 0
+StaysWithin old new = (old.used ≤ new.used) × (new.used ≤ limit)
+
+-- no word is taken, and none is left
 abbrev pub TakesNone : Spot → Reading → Option (List ℕ) → Option (List ℕ) → ReadFault → Type 0
 TakesNone old new had left (TooLong line) = ⊥
-TakesNone old new had left (InputTooLong line) = Takes old (among new) had left [] × IsOver new Long × (line ≡ new.line)
-TakesNone old new had left (Device line) = Takes old (among new) had left [] × IsOver new Failing × (line ≡ new.line)
+TakesNone old new had left (InputTooLong line) = Takes old (among new) had left [] × IsOver new Long × (line ≡ new.line) × StaysWithin old.at new
+TakesNone old new had left (Device line) = Takes old (among new) had left [] × IsOver new Failing × (line ≡ new.line) × StaysWithin old.at new
 
 -- bytes were used, within the limit
 abbrev pub GoesOn : Reading → Reading → Type 0
@@ -71,7 +76,7 @@ GoesOn old new = (old.used < new.used) × (new.used ≤ limit)
 
 -- what next_word does
 abbrev pub NextWord : Reading → Reading → Option (List ℕ) → Option (List ℕ) → Result (Option Read) ReadFault → Type 0
-NextWord old new had left (Ok None) = Takes (among old) (among new) had left [] × IsOver new AtEnd
+NextWord old new had left (Ok None) = Takes (among old) (among new) had left [] × IsOver new AtEnd × StaysWithin old new
 NextWord old new had left (Ok (Some word)) = TakesWord (is_text_word word.bytes.items) old new had left word.line word.bytes.items × (0 < length word.bytes.items) × GoesOn old new
 NextWord old new had left (Err (TooLong line)) = (text : List ℕ) × (160 < length text) × Takes (among old) (among new) had left (Word line text ∷ []) × GoesOn old new
 NextWord old new had left (Err (InputTooLong line)) = TakesNone (among old) new had left (InputTooLong line)

@@ -1,0 +1,173 @@
+-- The item at the end of a block.
+use Rattle.std.proofs.Common.{◌≡◌, ℕ, List, [], ◌∷◌, ◌++◌, Option, None, Some, Bool, true, false, refl, sym, ◌∙◌, ap, subst}
+use Rattle.std.proofs.lemmas.List.{append-nil}
+use Rattle.pop_text.specs.Words.{Input, Token as Part, Word, Tail, End as AtEnd, Long, Broken as Failing}
+use Rattle.pop_text.specs.Reading.{Reading}
+use Rattle.pop_text.specs.Left.{after, MayFollow, words_left, put_before, no_words, Takes, among, IsOver, bytes_of}
+use Rattle.pop_text.specs.declared.read_fault.ReadFault.{ReadFault}
+use Rattle.pop_text.specs.declared.read_fault.ReadFault.TheVariants.{TooLong, InputTooLong, Device}
+use Rattle.pop_input.specs.Names.{command_of}
+use Rattle.pop_input.specs.Names.{or_else}
+use Rattle.pop_input.specs.Blocks.{at_line, fault_at, has_begun, inside, block_fault, Entry, Faulty as FaultyEntry, entry_of, closed_entry, entries_by, entries_of, tail_fault, more_entries}
+use Rattle.pop_input.specs.Tokens.{CutsOff, TakesPart, TakesNothing}
+use Rattle.pop_input.specs.Closings.{Closes, closing_fault, ended_by, ended_item, cut_fault, last_of}
+use Rattle.pop_input.specs.Ends.{IsPosed, end_fault_in, posed_of}
+use Rattle.pop_input.specs.Posed.{Posed}
+use Rattle.pop_input.specs.Standing.{Standing, entries_at, entries_left, Reads, IsProblem, NextItem, next_behind}
+use Rattle.pop_input.specs.declared.block.Block.{Block}
+use Rattle.pop_input.specs.declared.item.Item.{Item}
+use Rattle.pop_input.specs.declared.item.Fault.{Fault}
+use Rattle.pop_input.specs.declared.item.Item.TheVariants.{Sound as SoundItem, Faulty as FaultyItem, End as NoItem}
+use Rattle.pop_input.specs.declared.item.Last.{Last}
+use Rattle.pop_input.specs.declared.item.Last.TheVariants.{Yes, No}
+use Rattle.pop_input.specs.declared.names.Command.TheVariants.{Next as NextProblem, Last as EndProblem, Begin, Enter}
+use Rattle.pop_input.specs.declared.names.Command.{Command}
+use Rattle.pop_input.specs.declared.reader.Next.{Next}
+use Rattle.pop_input.specs.declared.reader.Next.TheVariants.{First, Later, Nothing}
+use Rattle.pop_input.proofs.Taking.{takes_then}
+use Rattle.pop_input.proofs.Blocks.{said, next_entries, last_entries, ended_entries}
+use Rattle.pop_input.proofs.Items.{BlockSoFar, Tells, or_first, ReadsWord, word_read, takes_more}
+
+long_tail : (begun : Bool) → tail_fault begun Long ≡ 20
+long_tail true = refl
+long_tail false = refl
+
+failing_tail : (begun : Bool) → tail_fault begun Failing ≡ 21
+failing_tail true = refl
+failing_tail false = refl
+
+-- the block that is read first, or a later one
+abbrev pub block_of : Bool → Next
+block_of true = First
+block_of false = Later
+
+entries_start : (first : Bool) (next : Next) (place : Reading) (rest : Input) → next ≡ block_of first → entries_at next place rest ≡ entries_of first (words_left None place rest)
+entries_start true next place rest is = rw is refl
+entries_start false next place rest is = rw is refl
+
+module _ (first : Bool) (old new : Standing) (had left : Option (List ℕ)) (starts : old.next ≡ block_of first) where
+  -- items of tokens that were taken
+  reads_by : (done : List Part) → Takes (among old.at) (among new.at) had left done → (entries : List Entry)
+      → ((rest : Input) → MayFollow new.at.end rest → entries_of first (put_before done (words_left None new.at rest)) ≡ entries ++ entries_left new rest) → Reads old new had left entries
+  reads_by done t entries is = record {
+    bytes = t.bytes;
+    taken = t.taken;
+    follows = t.follows;
+    amount = t.amount;
+    begin = λ rest may. entries_start first old.next old.at (after t.bytes rest) starts ∙ ap (entries_of first) (t.begin rest may) ∙ is rest may;
+  }
+
+  -- Closing words.
+
+  -- The item of a block that is closed.
+
+  module _ (block : Block) (full : List Part) (line : ℕ) (fault : block.fault ≡ block_fault first full) (told : block.fault ≡ None → Tells first block full) where
+    ending_by : (f : Option Fault) → block.fault ≡ f → or_else f (at_line line (end_fault_in block.draft)) ≡ or_else f (at_line line (end_fault_in (said first full)))
+    ending_by None is = let k = told is in ap (λ s. at_line line (end_fault_in s)) k.draft
+    ending_by (Some f) is = refl
+
+    ending_is : closing_fault block line ≡ or_else (block_fault first full) (at_line line (end_fault_in (said first full)))
+    ending_is = ending_by block.fault refl ∙ ap (λ f. or_else f (at_line line (end_fault_in (said first full)))) fault
+
+    closes_entry : (f : Option Fault) → closing_fault block line ≡ f → Reads old new had left (closed_entry (block_fault first full) line (inside first full) ∷ []) → Reads old new had left (entry_of f (inside first full) ∷ [])
+    closes_entry f is reads = subst (λ e. Reads old new had left (entry_of e (inside first full) ∷ [])) (sym ending_is ∙ is) reads
+
+    is_problem : (problem : Posed) → closing_fault block line ≡ None → IsPosed block.draft block.title block.author problem → IsProblem problem (inside first full)
+    is_problem problem none posed =
+        let k = told (or_first block.fault (at_line line (end_fault_in block.draft)) none) in
+        let says : problem ≡ posed_of (said first full) posed.0 block.title block.author = posed.2 ∙ ap (λ s. posed_of s posed.0 block.title block.author) k.draft in
+        record {
+          stated = ap (λ s. s.stipulation) (sym k.draft) ∙ posed.1 ∙ ap (λ p. Some p.stipulation) (sym says);
+          says = rw says refl;
+          title = ap (λ p. bytes_of p.title) says ∙ k.title;
+          author = ap (λ p. bytes_of p.author) says ∙ k.author;
+        }
+
+    closed_item : (item : Item) (last : Last) → Closes block line last item → new.next ≡ next_behind last → Reads old new had left (closed_entry (block_fault first full) line (inside first full) ∷ []) → NextItem old new had left item
+    closed_item (SoundItem problem answered) last c next reads = (inside first full, closes_entry None c.0 reads, is_problem problem c.0 c.1, next ∙ ap next_behind (sym c.2))
+    closed_item (FaultyItem f answered) last c next reads = (closes_entry (Some f) c.0 reads, next ∙ ap next_behind (sym c.1))
+    closed_item NoItem last c next reads = absurd c
+
+  module _ (mid : Reading) (met : Option (List ℕ)) (block next : Block) (b : BlockSoFar first old.at mid had met block) (line : ℕ) (text : List ℕ) (t : TakesPart mid new.at met left (Word line text)) (r : ReadsWord first old.at mid new.at had met left block next b line text) where
+    abbrev full : List Part
+    full = b.done ++ Word line text ∷ []
+
+    taken : Takes (among old.at) (among new.at) had left full
+    taken = takes_more first old.at mid new.at had met left block next b (Word line text) t
+
+    closed_reads : (item : Item) (last : Last) → Closes next line last item → new.next ≡ next_behind last → Reads old new had left (closed_entry (block_fault first full) line (inside first full) ∷ []) → NextItem old new had left item
+    closed_reads item last c is reads = let w = word_read first old.at mid new.at had met left block next b line text r in closed_item next full line w.0 w.1 item last c is reads
+
+    next_closes : (item : Item) → Closes next line No item → command_of text ≡ Some NextProblem → new.next ≡ Later → NextItem old new had left item
+    next_closes item c is later = closed_reads item No c later (reads_by full taken _ (λ rest may.
+        next_entries first b.done line text b.plain (words_left None new.at rest) is ∙ ap (λ n. closed_entry (block_fault first full) line (inside first full) ∷ entries_at n new.at rest) (sym later)))
+
+    last_closes : (item : Item) → Closes next line Yes item → command_of text ≡ Some EndProblem → new.next ≡ Nothing → NextItem old new had left item
+    last_closes item c is over = closed_reads item Yes c over (reads_by full taken _ (λ rest may.
+        last_entries first b.done line text b.plain (words_left None new.at rest) is ∙ ap (λ n. closed_entry (block_fault first full) line (inside first full) ∷ entries_at n new.at rest) (sym over)))
+
+    pub word_closes : (item : Item) (last : Last) (c : Option Command) → Closes next line last item → command_of text ≡ c → last_of c ≡ Some last → new.next ≡ next_behind last → NextItem old new had left item
+    word_closes item No (Some NextProblem) how is e behind = next_closes item how is behind
+    word_closes item Yes (Some EndProblem) how is e behind = last_closes item how is behind
+    word_closes item Yes (Some NextProblem) how is e behind = cc
+    word_closes item No (Some EndProblem) how is e behind = cc
+    word_closes item last (Some Begin) how is e behind = cc
+    word_closes item last (Some (Enter section)) how is e behind = cc
+    word_closes item last None how is e behind = cc
+
+  -- Ends of the input.
+
+  module _ (mid : Reading) (met : Option (List ℕ)) (block : Block) (b : BlockSoFar first old.at mid had met block) where
+    left_over : (tail : Tail) → IsOver new.at tail → (rest : Input) → MayFollow new.at.end rest → entries_of first (put_before b.done (words_left None new.at rest)) ≡ entries_by (block_fault first b.done) None first tail new.at.line b.done
+    left_over tail over rest may = ap (λ w. entries_of first (put_before b.done w)) (over rest may) ∙ ended_entries first b.done tail new.at.line b.plain
+
+    all_taken : Takes (among mid) (among new.at) met left [] → Takes (among old.at) (among new.at) had left b.done
+    all_taken t = subst (λ d. Takes (among old.at) (among new.at) had left d) (append-nil b.done) (takes_then (among old.at) (among mid) (among new.at) had met left b.done [] b.takes t)
+
+    begun_is : block.fault ≡ None → block.begun ≡ has_begun first b.done
+    begun_is none = let k = b.told none in k.begun
+
+    ended_by_fault : (f : Option Fault) (line : ℕ) → block.fault ≡ f → line ≡ new.at.line → entries_by f None first AtEnd new.at.line b.done ≡ FaultyEntry (ended_by f (fault_at (tail_fault block.begun AtEnd) line)) ∷ []
+    ended_by_fault (Some fault) line is here = refl
+    ended_by_fault None line is here = rw (begun_is is, here) refl
+
+    -- the input ends in a block
+    pub input_ends : (line : ℕ) → TakesNothing mid new.at met left AtEnd line → new.next ≡ Nothing → NextItem old new had left (ended_item block line)
+    input_ends line t over = (
+      reads_by b.done (all_taken t.0) _ (λ rest may.
+          left_over AtEnd t.1 rest may
+          ∙ ap (λ f. entries_by f None first AtEnd new.at.line b.done) (sym b.fault)
+          ∙ ended_by_fault block.fault line refl t.2
+          ∙ ap (λ n. FaultyEntry (ended_by block.fault (fault_at (tail_fault block.begun AtEnd) line)) ∷ entries_at n new.at rest) (sym over)),
+      over,
+    )
+
+    -- the input is cut off in a block with a fault
+    fault_then_cut : (fault : Fault) (tail : Tail) → block.fault ≡ Some fault → Takes (among mid) (among new.at) met left [] → IsOver new.at tail → more_entries tail new.at.line ≡ entries_of false (no_words tail new.at.line) → new.next ≡ Later → NextItem old new had left (FaultyItem fault No)
+    fault_then_cut fault tail is t over more later = (
+      reads_by b.done (all_taken t) _ (λ rest may.
+          left_over tail over rest may
+          ∙ ap (λ f. entries_by f None first tail new.at.line b.done) (sym b.fault ∙ is)
+          ∙ ap (λ es. FaultyEntry fault ∷ es) (more ∙ ap (entries_of false) (sym (over rest may)) ∙ ap (λ n. entries_at n new.at rest) (sym later))),
+      later,
+    )
+
+    pub cut_with_fault : (fault : Fault) (cut : ReadFault) → block.fault ≡ Some fault → CutsOff mid new.at met left cut → new.next ≡ Later → NextItem old new had left (FaultyItem fault No)
+    cut_with_fault fault (TooLong line) is t later = absurd t
+    cut_with_fault fault (InputTooLong line) is t later = fault_then_cut fault Long is t.0 t.1 refl later
+    cut_with_fault fault (Device line) is t later = fault_then_cut fault Failing is t.0 t.1 refl later
+
+    -- and in one without
+    cut_alone : (number line : ℕ) (tail : Tail) → block.fault ≡ None → Takes (among mid) (among new.at) met left [] → IsOver new.at tail → line ≡ new.at.line → ((begun : Bool) → tail_fault begun tail ≡ number) → new.next ≡ Nothing → NextItem old new had left (FaultyItem (fault_at number line) Yes)
+    cut_alone number line tail is t over here tails nothing = (
+      reads_by b.done (all_taken t) _ (λ rest may.
+          left_over tail over rest may
+          ∙ ap (λ f. entries_by f None first tail new.at.line b.done) (sym b.fault ∙ is)
+          ∙ rw (tails (has_begun first b.done), here) (ap (λ n. FaultyEntry (fault_at number new.at.line) ∷ entries_at n new.at rest) (sym nothing))),
+      nothing,
+    )
+
+    pub cut_without_fault : (cut : ReadFault) → block.fault ≡ None → CutsOff mid new.at met left cut → new.next ≡ Nothing → NextItem old new had left (FaultyItem (cut_fault cut) Yes)
+    cut_without_fault (TooLong line) is t nothing = absurd t
+    cut_without_fault (InputTooLong line) is t nothing = cut_alone 20 line Long is t.0 t.1 t.2 long_tail nothing
+    cut_without_fault (Device line) is t nothing = cut_alone 21 line Failing is t.0 t.1 t.2 failing_tail nothing

@@ -1,0 +1,52 @@
+-- Calls that take tokens, one after another.
+use Rattle.std.proofs.Common.{◌≡◌, ℕ, List, [], ◌∷◌, ◌++◌, Option, None, Some, true, refl, ◌∙◌, ap, arith, append_assoc, length-append, subst, Ok, Err}
+use Rattle.pop_text.specs.Bytes.{Consumes}
+use Rattle.pop_text.specs.Words.{Input, Words, Token as Part, TextLine, is_text_word}
+use Rattle.pop_text.specs.Reading.{Reading}
+use Rattle.pop_text.specs.Left.{after, words_left, put_before, Spot, Takes, among, behind_word, TakesWord, GoesOn, RestOfLine}
+use Rattle.pop_text.specs.declared.read_fault.ReadFault.{ReadFault}
+use Rattle.pop_text.specs.declared.read_fault.ReadFault.TheVariants.{TooLong, InputTooLong, Device}
+use Rattle.pop_text.specs.declared.text.Text.{Text}
+use Rattle.pop_input.specs.Names.{text_word_of}
+use Rattle.pop_input.specs.Tokens.{NextToken}
+use Rattle.pop_input.specs.declared.names.TextWord.{TextWord}
+use Rattle.pop_input.specs.declared.token.Token.TheVariants.{Line, Cut}
+
+pub consumes_then : (a b c : Option (List ℕ)) (xs ys : List ℕ) → Consumes a b xs → Consumes b c ys → Consumes a c (xs ++ ys)
+consumes_then None b c xs ys p q = tt
+consumes_then (Some a) None c xs ys p q = absurd p
+consumes_then (Some a) (Some b) None xs ys p q = absurd q
+consumes_then (Some a) (Some b) (Some c) xs ys p q = rw (p, q, append_assoc) refl
+
+pub after_both : (xs ys : List ℕ) (rest : Input) → after (xs ++ ys) rest ≡ after xs (after ys rest)
+after_both xs ys rest = rw (append_assoc xs ys rest.bytes) refl
+
+put_both : (xs ys : List Part) (words : Words) → put_before xs (put_before ys words) ≡ put_before (xs ++ ys) words
+put_both xs ys words = rw (append_assoc xs ys words.tokens) refl
+
+pub takes_then : (a b c : Spot) (had mid left : Option (List ℕ)) (xs ys : List Part) → Takes a b had mid xs → Takes b c mid left ys → Takes a c had left (xs ++ ys)
+takes_then a b c had mid left xs ys p q = record {
+  bytes = p.bytes ++ q.bytes;
+  taken = consumes_then had mid left p.bytes q.bytes p.taken q.taken;
+  amount = omega (arith, p.amount, q.amount, length-append p.bytes q.bytes);
+  follows = λ rest may. rw (after_both p.bytes q.bytes rest) (p.follows (after q.bytes rest) (q.follows rest may));
+  begin = λ rest may.
+      ap (words_left a.behind a.at) (after_both p.bytes q.bytes rest)
+      ∙ p.begin (after q.bytes rest) (q.follows rest may)
+      ∙ ap (put_before xs) (q.begin rest may)
+      ∙ put_both xs ys (words_left c.behind c.at rest);
+}
+
+module _ (old mid new : Reading) (had met left : Option (List ℕ)) (line : ℕ) (name : List ℕ) (keyword : TextWord) (word : TakesWord (is_text_word name) old mid had met line name) (is : text_word_of name ≡ Some keyword) (text : is_text_word name ≡ true) where
+  behind : Takes (among old) (behind_word name mid) had met []
+  behind = subst (λ t. TakesWord t old mid had met line name) text word
+
+  -- a text word, and the rest of its line
+  pub line_token : (kept : Text) → GoesOn old mid → RestOfLine name mid new met left (Ok kept) → NextToken old new had left (Line keyword kept)
+  line_token kept goes rest =
+      (mid.line, name, rest.0, (takes_then (among old) (behind_word name mid) (among new) had met left [] (TextLine mid.line name rest.0 ∷ []) behind rest.1, (omega (arith, goes.0, rest.3), rest.4)), is, rest.2)
+
+  pub cut_token : (fault : ReadFault) → GoesOn old mid → RestOfLine name mid new met left (Err fault) → NextToken old new had left (Cut fault)
+  cut_token (TooLong number) goes rest = absurd rest
+  cut_token (InputTooLong number) goes rest = (takes_then (among old) (behind_word name mid) (among new) had met left [] [] behind rest.0, rest.1, rest.2, (let on = goes.0 in let further = rest.3.0 in omega (arith, on, further), rest.3.1))
+  cut_token (Device number) goes rest = (takes_then (among old) (behind_word name mid) (among new) had met left [] [] behind rest.0, rest.1, rest.2, (let on = goes.0 in let further = rest.3.0 in omega (arith, on, further), rest.3.1))

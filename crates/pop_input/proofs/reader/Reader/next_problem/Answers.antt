@@ -1,0 +1,90 @@
+use Rattle.std.proofs.Common.{◌≡◌, ◌∙◌, refl, sym, ap, inr, Some, None}
+use Rattle.pop_text.proofs.Using.{ends_then, failures_then, failures_same}
+use Rattle.pop_input.specs.Names.{command_of}
+use Rattle.pop_input.specs.Closings.{last_of}
+use Rattle.pop_input.specs.Standing.{Standing}
+use Rattle.pop_input.specs.declared.reader.Next.TheVariants.{Later, Nothing}
+use Rattle.pop_input.proofs.Items.{block_starts, line_read, long_read, open_read, not_closing}
+use Rattle.pop_input.proofs.Ends.{word_closes, input_ends, cut_with_fault, cut_without_fault}
+use Rattle.pop_input.proofs.reader.Reader.next_problem.Goals as goal
+use Rattle.pop_input.proofs.reader.Reader.next_problem.Goals.{in-First, in-Later}
+
+pub words-init : goal.words-init
+words-init g c = rw (← c.self.view_is) (record {
+  block = block_starts c.match-self.first c.self.inside.scanner (g.S.Source.remaining c.args.source.now) c.new-block.result c.new-block.ensures.fault c.new-block.ensures.begun c.new-block.ensures.draft c.new-block.ensures.title c.new-block.ensures.author;
+  starts = elim c.match-self.branch [ in-First w ↦ rw w.first-is w.in-First.is | in-Later w ↦ rw w.first-is w.in-Later.is ];
+  seen = λ s. s;
+  ends = inr refl;
+  counted = sym (failures_same c.self.inside.scanner.end (g.S.Source.failures c.args.source.now));
+})
+
+pub words-preserved-in-Line : goal.words-preserved-in-Line
+words-preserved-in-Line g c =
+    let i = c.words.invariant in
+    let t = c.in-Line.ensures.token in
+    record {
+      block = line_read c.match-self.first c.args.self.now.at c.words.self-inside.scanner c.next_token.new.scanner (g.S.Source.remaining c.args.source.now) (g.S.Source.remaining c.words.source) (g.S.Source.remaining c.next_token.new.source) c.words.block c.note.new.self i.block
+          t.0 t.1 t.2 c.in-Line.keyword c.in-Line.text t.3 t.4 t.5 c.note.ensures.fault c.note.ensures.begun c.note.ensures.draft c.note.ensures.title c.note.ensures.author;
+      starts = i.starts;
+      seen = λ s. c.next_token.ensures.seen (i.seen s);
+      ends = ends_then _ _ _ i.ends c.next_token.ensures.ends;
+      counted = failures_then _ _ _ _ _ _ i.ends c.next_token.ensures.ends i.counted c.next_token.ensures.counted;
+    }
+
+pub words-preserved-in-TooLong : goal.words-preserved-in-TooLong
+words-preserved-in-TooLong g c =
+    let i = c.words.invariant in
+    let t = c.in-TooLong.ensures.token in
+    record {
+      block = long_read c.match-self.first c.args.self.now.at c.words.self-inside.scanner c.next_token.new.scanner (g.S.Source.remaining c.args.source.now) (g.S.Source.remaining c.words.source) (g.S.Source.remaining c.next_token.new.source) c.words.block c.read_long.new.self i.block
+          c.in-TooLong.line t.0 t.1 t.2 c.read_long.ensures.fault;
+      starts = i.starts;
+      seen = λ s. c.next_token.ensures.seen (i.seen s);
+      ends = ends_then _ _ _ i.ends c.next_token.ensures.ends;
+      counted = failures_then _ _ _ _ _ _ i.ends c.next_token.ensures.ends i.counted c.next_token.ensures.counted;
+    }
+
+pub words-preserved : goal.words-preserved
+words-preserved g c =
+    let i = c.words.invariant in
+    let t = c.in-Word.ensures.token in
+    let is : last_of (command_of c.in-Word.word.bytes.items) ≡ None = ap (λ text. last_of (command_of text)) (sym c.as_slice.ensures.value) ∙ sym c.closing_of.ensures ∙ c.in-None.is in
+    record {
+      block = open_read c.match-self.first c.args.self.now.at c.words.self-inside.scanner c.next_token.new.scanner (g.S.Source.remaining c.args.source.now) (g.S.Source.remaining c.words.source) (g.S.Source.remaining c.next_token.new.source) c.words.block c.read.new.self i.block
+          c.in-Word.word.line c.in-Word.word.bytes.items t.0 (not_closing _ is) (c.read.ensures.fault, λ none. (c.read.ensures.begun none, c.read.ensures.draft none, c.read.ensures.title, c.read.ensures.author));
+      starts = i.starts;
+      seen = λ s. c.next_token.ensures.seen (i.seen s);
+      ends = ends_then _ _ _ i.ends c.next_token.ensures.ends;
+      counted = failures_then _ _ _ _ _ _ i.ends c.next_token.ensures.ends i.counted c.next_token.ensures.counted;
+    }
+
+pub returns-in-Some-clause-item : goal.returns-in-Some-clause-item
+returns-in-Some-clause-item g c =
+    let i = c.words.invariant in
+    let t = c.in-Word.ensures.token in
+    let is : last_of (command_of c.in-Word.word.bytes.items) ≡ Some c.in-Some.last = ap (λ text. last_of (command_of text)) (sym c.as_slice.ensures.value) ∙ sym c.closing_of.ensures ∙ c.in-Some.is in
+    let new : Standing = record { next = c.next_behind-self-inside.result; at = c.next_token.new.scanner } in
+    (word_closes c.match-self.first c.args.self.now new (g.S.Source.remaining c.args.source.now) (g.S.Source.remaining c.next_token.new.source) i.starts
+    c.words.self-inside.scanner (g.S.Source.remaining c.words.source) c.words.block c.read.new.self i.block c.in-Word.word.line c.in-Word.word.bytes.items t.0
+    (c.read.ensures.fault, λ none. (c.read.ensures.begun none, c.read.ensures.draft none, c.read.ensures.title, c.read.ensures.author)) c.closed.result c.in-Some.last (command_of c.in-Word.word.bytes.items) c.closed.ensures refl is c.next_behind-self-inside.ensures)
+
+pub returns-in-Ended-clause-item : goal.returns-in-Ended-clause-item
+returns-in-Ended-clause-item g c =
+    let i = c.words.invariant in
+    let new : Standing = record { next = Nothing; at = c.next_token.new.scanner } in
+    rw c.ended.ensures (input_ends c.match-self.first c.args.self.now new (g.S.Source.remaining c.args.source.now) (g.S.Source.remaining c.next_token.new.source) i.starts
+    c.words.self-inside.scanner (g.S.Source.remaining c.words.source) c.words.block i.block c.in-Ended.line c.in-Ended.ensures.token refl)
+
+pub returns-in-Some-fault-clause-item : goal.returns-in-Some-fault-clause-item
+returns-in-Some-fault-clause-item g c =
+    let i = c.words.invariant in
+    let new : Standing = record { next = Later; at = c.next_token.new.scanner } in
+    cut_with_fault c.match-self.first c.args.self.now new (g.S.Source.remaining c.args.source.now) (g.S.Source.remaining c.next_token.new.source) i.starts
+    c.words.self-inside.scanner (g.S.Source.remaining c.words.source) c.words.block i.block c.in-Some-fault.fault c.in-Cut.cut c.in-Some-fault.is c.in-Cut.ensures.token refl
+
+pub returns-in-None-fault-clause-item : goal.returns-in-None-fault-clause-item
+returns-in-None-fault-clause-item g c =
+    let i = c.words.invariant in
+    let new : Standing = record { next = Nothing; at = c.next_token.new.scanner } in
+    rw c.fault_of_cut.ensures (cut_without_fault c.match-self.first c.args.self.now new (g.S.Source.remaining c.args.source.now) (g.S.Source.remaining c.next_token.new.source) i.starts
+    c.words.self-inside.scanner (g.S.Source.remaining c.words.source) c.words.block i.block c.in-Cut.cut c.in-None-fault.is c.in-Cut.ensures.token refl)

@@ -1,0 +1,136 @@
+-- The blocks of an input, and the entry of each (own; commands of the Popeye manual).
+use Rattle.std.specs.Prelude.{ℕ, List, [], ◌∷◌, ◌++◌, Bool, true, false, Option, Some, None, option_map}
+use Rattle.std.specs.List.{onto_first}
+use Rattle.pop_text.specs.Words.{Words, Token, Word, TextLine, Tail, End, Long, Broken, text_of_line}
+use Rattle.pop_input.specs.Names.{command_of, text_word_of, closes, or_else}
+use Rattle.pop_input.specs.State.{state_of}
+use Rattle.pop_input.specs.WordFaults.{fault_of}
+use Rattle.pop_input.specs.Ends.{end_fault_in}
+use Rattle.pop_input.specs.declared.item.Fault.{Fault}
+use Rattle.pop_input.specs.declared.names.Command.{Command}
+use Rattle.pop_input.specs.declared.names.Command.TheVariants.{Begin, Enter, Next, Last}
+use Rattle.pop_input.specs.declared.names.TextWord.{TextWord}
+use Rattle.pop_input.specs.declared.names.TextWord.TheVariants.{Title, Author}
+
+abbrev pub fault_at : ℕ → ℕ → Fault
+fault_at number line = record { number = number; line = line }
+
+-- a fault's number with its line
+abbrev pub at_line : ℕ → Option ℕ → Option Fault
+at_line line number = option_map (λ n. fault_at n line) number
+
+-- the words of tokens after others, the newest first
+abbrev pub words_before : List (List ℕ) → List Token → List (List ℕ)
+words_before before [] = before
+words_before before ((Word line text) ∷ tokens) = words_before (text ∷ before) tokens
+words_before before ((TextLine line keyword text) ∷ tokens) = words_before before tokens
+
+-- The words and text lines of a problem: those of its block, in the first block those after the first word, which is BeginProblem.
+
+abbrev pub has_begun : Bool → List Token → Bool
+has_begun false tokens = true
+has_begun true [] = false
+has_begun true ((Word line text) ∷ tokens) = true
+has_begun true ((TextLine line keyword text) ∷ tokens) = has_begun true tokens
+
+abbrev pub inside : Bool → List Token → List Token
+inside false tokens = tokens
+inside true [] = []
+inside true ((Word line text) ∷ tokens) = tokens
+inside true ((TextLine line keyword text) ∷ tokens) = inside true tokens
+
+-- The first fault of the words of a problem after the words before, and of those of a block.
+
+abbrev pub first_fault : List (List ℕ) → List Token → Option Fault
+first_fault before [] = None
+first_fault before ((Word line text) ∷ tokens) = or_else (at_line line (fault_of true (state_of before) text)) (first_fault (text ∷ before) tokens)
+first_fault before ((TextLine line keyword text) ∷ tokens) = first_fault before tokens
+
+abbrev pub block_fault : Bool → List Token → Option Fault
+block_fault false tokens = first_fault [] tokens
+block_fault true [] = None
+block_fault true ((Word line text) ∷ tokens) = or_else (at_line line (fault_of false (state_of []) text)) (first_fault [] tokens)
+block_fault true ((TextLine line keyword text) ∷ tokens) = block_fault true tokens
+
+-- whether a token closes its block
+abbrev pub closing_of : Token → Option Command
+closing_of (Word line text) = command_of text
+closing_of (TextLine line keyword text) = None
+
+abbrev pub cut_by : Option Command → Token → List (List Token) → List (List Token)
+cut_by (Some Next) token blocks = (token ∷ []) ∷ blocks
+cut_by (Some Last) token blocks = (token ∷ []) ∷ []
+cut_by (Some Begin) token blocks = onto_first token blocks
+cut_by (Some (Enter section)) token blocks = onto_first token blocks
+cut_by None token blocks = onto_first token blocks
+
+-- cut after each NextProblem and EndProblem, up to the first EndProblem
+abbrev pub blocks_of : List Token → List (List Token)
+blocks_of [] = [] ∷ []
+blocks_of (token ∷ tokens) = cut_by (closing_of token) token (blocks_of tokens)
+
+abbrev pub line_of : Token → ℕ
+line_of (Word line text) = line
+line_of (TextLine line keyword text) = line
+
+abbrev pub line_if : Bool → ℕ → Option ℕ
+line_if true line = Some line
+line_if false line = None
+
+-- the line of the word that closes a block
+abbrev pub closing_line : List Token → Option ℕ
+closing_line [] = None
+closing_line (token ∷ tokens) = or_else (closing_line tokens) (line_if (closes (closing_of token)) (line_of token))
+
+-- a sound problem by its words and text lines, or a fault
+pub data Entry : Type 0 where
+  Sound : List Token → Entry
+  Faulty : Fault → Entry
+
+-- the fault of a tail
+abbrev pub tail_fault : Bool → Tail → ℕ
+tail_fault true End = 19
+tail_fault false End = 1
+tail_fault begun Long = 20
+tail_fault begun Broken = 21
+
+abbrev pub more_entries : Tail → ℕ → List Entry
+more_entries End line = []
+more_entries Long line = Faulty (fault_at 20 line) ∷ []
+more_entries Broken line = Faulty (fault_at 21 line) ∷ []
+
+abbrev pub entry_of : Option Fault → List Token → Entry
+entry_of None tokens = Sound tokens
+entry_of (Some fault) tokens = Faulty fault
+
+-- the entry of a block that a word in this line closes: its first fault, or that of its end, or none
+abbrev pub closed_entry : Option Fault → ℕ → List Token → Entry
+closed_entry fault line tokens = entry_of (or_else fault (at_line line (end_fault_in (state_of (words_before [] tokens))))) tokens
+
+-- by the word fault, and the line of the closing word
+abbrev pub entries_by : Option Fault → Option ℕ → Bool → Tail → ℕ → List Token → List Entry
+entries_by fault (Some line) first tail tail_line block = closed_entry fault line (inside first block) ∷ []
+entries_by (Some fault) None first tail tail_line block = Faulty fault ∷ more_entries tail tail_line
+entries_by None None first tail tail_line block = Faulty (fault_at (tail_fault (has_begun first block) tail) tail_line) ∷ []
+
+abbrev pub block_entries : Bool → Tail → ℕ → List (List Token) → List Entry
+block_entries first tail tail_line [] = []
+block_entries first tail tail_line (block ∷ blocks) =
+    entries_by (block_fault first block) (closing_line block) first tail tail_line block ++ block_entries false tail tail_line blocks
+
+-- the entries of words from the start of a block on, the first block or a later one
+abbrev pub entries_of : Bool → Words → List Entry
+entries_of first words = block_entries first words.tail words.tail_line (blocks_of words.tokens)
+
+-- The text lines of a problem.
+
+abbrev pub text_after : TextWord → List ℕ → Option TextWord → List ℕ → List ℕ
+text_after Title old (Some Title) line = text_of_line line
+text_after Author old (Some Author) line = text_of_line line
+text_after _ old _ line = old
+
+-- the last text behind such a text word, after another one
+abbrev pub last_text : TextWord → List ℕ → List Token → List ℕ
+last_text wanted old [] = old
+last_text wanted old ((Word line text) ∷ tokens) = last_text wanted old tokens
+last_text wanted old ((TextLine line keyword text) ∷ tokens) = last_text wanted (text_after wanted old (text_word_of keyword) text) tokens

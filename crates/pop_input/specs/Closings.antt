@@ -1,0 +1,68 @@
+-- The item of a block that ends.
+use Rattle.std.specs.Prelude.{◌≡◌, ℕ, Bool, true, false, Option, None, Some}
+use Rattle.pop_text.specs.Words.{End}
+use Rattle.pop_text.specs.declared.read_fault.ReadFault.{ReadFault}
+use Rattle.pop_text.specs.declared.read_fault.ReadFault.TheVariants.{TooLong, InputTooLong, Device}
+use Rattle.pop_text.specs.declared.text.Text.{Text}
+use Rattle.pop_input.specs.Names.{or_else}
+use Rattle.pop_input.specs.Blocks.{at_line, fault_at, tail_fault}
+use Rattle.pop_input.specs.Ends.{IsPosed, end_fault_in}
+use Rattle.pop_input.specs.State.{State, state_after}
+use Rattle.pop_input.specs.declared.block.Block.{Block}
+use Rattle.pop_input.specs.declared.item.Fault.{Fault}
+use Rattle.pop_input.specs.declared.item.Item.{Item}
+use Rattle.pop_input.specs.declared.item.Item.TheVariants.{Sound, Faulty, End as NoItem}
+use Rattle.pop_input.specs.declared.item.Last.{Last}
+use Rattle.pop_input.specs.declared.item.Last.TheVariants.{Yes, No}
+use Rattle.pop_input.specs.declared.names.Command.{Command}
+use Rattle.pop_input.specs.declared.names.Command.TheVariants.{Next as NextProblem, Last as EndProblem, Begin, Enter}
+use Rattle.pop_input.specs.declared.names.TextWord.{TextWord}
+use Rattle.pop_input.specs.declared.names.TextWord.TheVariants.{Title, Author}
+use Rattle.std.specs.Prelude.{List}
+
+-- what is said with one more word: the first one of the input says nothing
+abbrev pub said_after : Bool → State → List ℕ → State
+said_after true state text = state_after state text
+said_after false state text = state
+
+-- the text behind a text word, after one more text line
+abbrev pub text_with : TextWord → Text → TextWord → Text → Text
+text_with Title old Title text = text
+text_with Author old Author text = text
+text_with _ old _ text = old
+
+-- a text line before the first problem has no effect
+abbrev pub noted : Bool → TextWord → Text → TextWord → Text → Text
+noted true wanted old keyword text = text_with wanted old keyword text
+noted false wanted old keyword text = old
+
+-- the fault of a block that a word in this line closes
+abbrev pub closing_fault : Block → ℕ → Option Fault
+closing_fault block line = or_else block.fault (at_line line (end_fault_in block.draft))
+
+-- what is answered of it
+abbrev pub Closes : Block → ℕ → Last → Item → Type 0
+Closes block line last (Sound problem answered) = (closing_fault block line ≡ None) × IsPosed block.draft block.title block.author problem × (answered ≡ last)
+Closes block line last (Faulty fault answered) = (closing_fault block line ≡ Some fault) × (answered ≡ last)
+Closes block line last NoItem = ⊥
+
+abbrev pub ended_by : Option Fault → Fault → Fault
+ended_by (Some fault) other = fault
+ended_by None other = other
+
+-- and of one in which the input ends
+abbrev pub ended_item : Block → ℕ → Item
+ended_item block line = Faulty (ended_by block.fault (fault_at (tail_fault block.begun End) line)) Yes
+
+abbrev pub cut_fault : ReadFault → Fault
+cut_fault (TooLong line) = fault_at 20 line
+cut_fault (InputTooLong line) = fault_at 20 line
+cut_fault (Device line) = fault_at 21 line
+
+-- whether the item of a block that such a word closes is the last
+abbrev pub last_of : Option Command → Option Last
+last_of (Some NextProblem) = Some No
+last_of (Some EndProblem) = Some Yes
+last_of (Some Begin) = None
+last_of (Some (Enter section)) = None
+last_of None = None

@@ -1,0 +1,75 @@
+-- Where a reader stands among the items, and what it reads of them.
+use Rattle.std.specs.Prelude.{◌≡◌, ℕ, List, [], ◌∷◌, ◌++◌, Option, None, Some, Bool, true, false, ◌+◌, ◌-◌, length}
+use Rattle.pop_text.specs.Bytes.{Consumes}
+use Rattle.pop_text.specs.Words.{Input, Token, limit}
+use Rattle.pop_text.specs.Reading.{Reading, beginning}
+use Rattle.pop_text.specs.Left.{after, MayFollow, words_left, bytes_of}
+use Rattle.pop_input.specs.Blocks.{Entry, Sound as SoundBlock, Faulty as FaultyBlock, entries_of, last_text, words_before}
+use Rattle.pop_input.specs.Ends.{posed_of}
+use Rattle.pop_input.specs.Posed.{Posed}
+use Rattle.pop_input.specs.State.{state_of}
+use Rattle.pop_input.specs.declared.item.Last.{Last}
+use Rattle.pop_input.specs.declared.item.Last.TheVariants.{Yes, No}
+use Rattle.pop_input.specs.declared.item.Item.{Item}
+use Rattle.pop_input.specs.declared.item.Item.TheVariants.{Sound, Faulty, End}
+use Rattle.pop_input.specs.declared.names.TextWord.TheVariants.{Title, Author}
+use Rattle.pop_input.specs.declared.reader.Next.{Next}
+use Rattle.pop_input.specs.declared.reader.Next.TheVariants.{First, Later, Nothing}
+
+-- which block is next, and the place in the input
+pub record Standing : Type 0 where
+  pub next : Next
+  pub at : Reading
+
+-- before all items
+abbrev pub start : Standing
+start = record { next = First; at = beginning }
+
+abbrev pub entries_at : Next → Reading → Input → List Entry
+entries_at First place rest = entries_of true (words_left None place rest)
+entries_at Later place rest = entries_of false (words_left None place rest)
+entries_at Nothing place rest = []
+
+-- the items still to come, where the source goes on so
+abbrev pub entries_left : Standing → Input → List Entry
+entries_left standing rest = entries_at standing.next standing.at rest
+
+-- From old to new these items were read: some bytes were taken from the source, and however it goes on, they begin the items still to come.
+pub record Reads (old new : Standing) (had left : Option (List ℕ)) (entries : List Entry) : Type 0 where
+  pub bytes : List ℕ
+  pub taken : Consumes had left bytes
+  pub follows : (rest : Input) → MayFollow new.at.end rest → MayFollow old.at.end (after bytes rest)
+  pub begin : (rest : Input) → MayFollow new.at.end rest → entries_left old (after bytes rest) ≡ entries ++ entries_left new rest
+  pub amount : length bytes + (old.at.used + length old.at.window) ≡ new.at.used + length new.at.window
+
+-- A problem is the one that these words and text lines pose.
+pub record IsProblem (problem : Posed) (tokens : List Token) : Type 0 where
+  pub stated : (state_of (words_before [] tokens)).stipulation ≡ Some problem.stipulation
+  pub says : problem ≡ posed_of (state_of (words_before [] tokens)) problem.stipulation problem.title problem.author
+  pub title : bytes_of problem.title ≡ last_text Title [] tokens
+  pub author : bytes_of problem.author ≡ last_text Author [] tokens
+
+-- which block is next behind an item
+abbrev pub next_behind : Last → Next
+next_behind Yes = Nothing
+next_behind No = Later
+
+-- what next_problem does
+abbrev pub NextItem : Standing → Standing → Option (List ℕ) → Option (List ℕ) → Item → Type 0
+NextItem old new had left (Sound problem last) = (tokens : List Token) × Reads old new had left (SoundBlock tokens ∷ []) × IsProblem problem tokens × (new.next ≡ next_behind last)
+NextItem old new had left (Faulty fault last) = Reads old new had left (FaultyBlock fault ∷ []) × (new.next ≡ next_behind last)
+NextItem old new had left End = (old.next ≡ Nothing) × (new ≡ old) × Reads old new had left []
+
+-- how much may still be read: it falls with every item
+abbrev pub work_by : Next → ℕ → ℕ
+work_by Nothing used = 0
+work_by First used = limit - used + 1
+work_by Later used = limit - used + 1
+
+abbrev pub work_left : Standing → ℕ
+work_left standing = work_by standing.next standing.at.used
+
+abbrev pub is_item : Item → Bool
+is_item End = false
+is_item (Sound problem last) = true
+is_item (Faulty fault last) = true

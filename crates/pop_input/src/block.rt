@@ -1,0 +1,137 @@
+//! A block as far as it is read: the words up to NextProblem or EndProblem.
+ghost use Rattle.std.specs.Prelude.{◌≡◌, ◌≤◌, ℕ, List, [], length, None, Some, not, true};
+ghost use Rattle.pop_text.specs.Left.{bytes_of};
+ghost use Rattle.pop_input.specs.Names.{or_else};
+ghost use Rattle.pop_input.specs.Blocks.{at_line, fault_at};
+ghost use Rattle.pop_input.specs.Closings.{Closes, ended_item, noted, said_after};
+ghost use Rattle.pop_input.specs.State.{state_of};
+ghost use Rattle.pop_input.specs.WordFaults.{fault_of};
+ghost use Rattle.pop_input.specs.declared.names.TextWord.TheVariants.{Title, Author};
+
+use crate::draft::Draft;
+use crate::item::{Fault, Item, Last};
+use crate::names::{Command, TextWord, command_of};
+use pop_text::text::Text;
+use pop_text::word::Word;
+
+/// What is known of a block: its first fault, whether its problem has begun, what its words say, and its texts.
+#[derive(Drop)]
+pub struct Block {
+    pub fault: Option<Fault>,
+    pub begun: bool,
+    pub draft: Draft,
+    pub title: Text,
+    pub author: Text,
+}
+
+impl Block {
+    /// Nothing is read yet. In the first block the problem begins with BeginProblem.
+    pub fn new(first: bool) -> Block
+        ensures fault { result.fault ≡ None }
+        ensures begun { result.begun ≡ not first }
+        ensures draft { result.draft ≡ state_of [] }
+        ensures title { bytes_of result.title ≡ [] }
+        ensures author { bytes_of result.author ≡ [] }
+    {
+        Block {
+            fault: None,
+            begun: !first,
+            draft: Draft::new(),
+            title: Text::empty(),
+            author: Text::empty(),
+        }
+    }
+
+    /// Reads a word, unless a fault has been met.
+    pub fn read(&mut self, word: &Word)
+        requires { length word.now.bytes.items ≤ 160 }
+        ensures fault { self.new.fault ≡ or_else self.old.fault (at_line word.now.line (fault_of self.old.begun self.old.draft word.now.bytes.items)) }
+        ensures begun { self.new.fault ≡ None → self.new.begun ≡ true }
+        ensures draft { self.new.fault ≡ None → self.new.draft ≡ said_after self.old.begun self.old.draft word.now.bytes.items }
+        ensures title { self.new.title ≡ self.old.title }
+        ensures author { self.new.author ≡ self.old.author }
+    {
+        if self.fault.is_none() {
+            if let Some(number) = self.take(word.bytes.as_slice()) {
+                self.fault = Some(Fault {
+                    number,
+                    line: word.line,
+                });
+            }
+        }
+    }
+
+    // Takes a word, or answers its fault's number.
+    fn take(&mut self, word: &[u8]) -> Option<u8>
+        requires { length word.now ≤ 160 }
+        ensures number { result ≡ fault_of self.old.begun self.old.draft word.now }
+        ensures begun { result ≡ None → self.new.begun ≡ true }
+        ensures draft { result ≡ None → self.new.draft ≡ said_after self.old.begun self.old.draft word.now }
+        ensures fault { self.new.fault ≡ self.old.fault }
+        ensures title { self.new.title ≡ self.old.title }
+        ensures author { self.new.author ≡ self.old.author }
+    {
+        if self.begun {
+            return self.draft.take(word);
+        }
+        match command_of(word) {
+            Some(Command::Begin) => {
+                self.begun = true;
+                None
+            }
+            _ => Some(1),
+        }
+    }
+
+    /// A word in this line was too long.
+    pub fn read_long(&mut self, line: u64)
+        ensures fault { self.new.fault ≡ or_else self.old.fault (Some (fault_at 3 line)) }
+    {
+        if self.fault.is_none() {
+            self.fault = Some(Fault { number: 3, line });
+        }
+    }
+
+    /// Takes a text line, which has no effect before the first problem.
+    pub fn note(&mut self, keyword: TextWord, text: Text)
+        ensures fault { self.new.fault ≡ self.old.fault }
+        ensures begun { self.new.begun ≡ self.old.begun }
+        ensures draft { self.new.draft ≡ self.old.draft }
+        ensures title { self.new.title ≡ noted self.old.begun Title self.old.title keyword text }
+        ensures author { self.new.author ≡ noted self.old.begun Author self.old.author keyword text }
+    {
+        if self.begun {
+            match keyword {
+                TextWord::Title => self.title = text,
+                TextWord::Author => self.author = text,
+                TextWord::Origin | TextWord::Remark => {}
+            }
+        }
+    }
+
+    /// The item, where a closing word stands in this line.
+    pub fn closed(&self, line: u64, last: Last) -> Item
+        ensures { Closes self.now line last result }
+    {
+        if let Some(fault) = self.fault {
+            return Item::Faulty(fault, last);
+        }
+        match self.draft.posed(&self.title, &self.author) {
+            Ok(problem) => Item::Sound(problem, last),
+            Err(number) => Item::Faulty(Fault { number, line }, last),
+        }
+    }
+
+    /// The item, where the input ends in this line.
+    pub fn ended(&self, line: u64) -> Item
+        ensures { result ≡ ended_item self.now line }
+    {
+        match self.fault {
+            Some(fault) => Item::Faulty(fault, Last::Yes),
+            None => {
+                let number = if self.begun { 19 } else { 1 };
+                Item::Faulty(Fault { number, line }, Last::Yes)
+            }
+        }
+    }
+}

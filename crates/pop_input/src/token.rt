@@ -1,0 +1,45 @@
+//! Words and text lines of the source.
+ghost use Rattle.std.specs.Prelude.{◌≡◌, ◌<◌, ◌⊎◌};
+ghost use Rattle.pop_text.specs.Bytes.{greatest};
+ghost use Rattle.pop_text.specs.Reading.{IsSeen, failures_after};
+ghost use Rattle.pop_text.specs.declared.scanner.End.{End};
+ghost use Rattle.pop_input.specs.Tokens.{NextToken};
+
+use crate::names::{TextWord, text_word_of};
+use pop_text::read_fault::ReadFault;
+use pop_text::scanner::Scanner;
+use pop_text::source::Source;
+use pop_text::text::Text;
+use pop_text::word::Word;
+
+/// What comes next in the input. The numbers are those of lines.
+#[derive(Drop)]
+pub enum Token {
+    Word(Word),
+    TooLong(u64),
+    Line(TextWord, Text),
+    Ended(u64),
+    Cut(ReadFault),
+}
+
+/// The next word or text line.
+pub fn next_token<S: Source>(scanner: &mut Scanner, source: &mut S) -> Token
+    requires { scanner.old.end ≡ End.Open → S.failures source.old < greatest }
+    ensures token { NextToken scanner.old scanner.new (S.remaining source.old) (S.remaining source.new) result }
+    ensures seen { IsSeen scanner.old.end (S.remaining source.old) → IsSeen scanner.new.end (S.remaining source.new) }
+    ensures ends { scanner.old.end ≡ End.Open ⊎ scanner.new.end ≡ scanner.old.end }
+    ensures counted { S.failures source.new ≡ failures_after scanner.old.end scanner.new.end (S.failures source.old) }
+{
+    match scanner.next_word(source) {
+        Ok(None) => Token::Ended(scanner.line()),
+        Err(ReadFault::TooLong(line)) => Token::TooLong(line),
+        Err(fault) => Token::Cut(fault),
+        Ok(Some(word)) => match text_word_of(word.bytes.as_slice()) {
+            None => Token::Word(word),
+            Some(keyword) => match scanner.rest_of_line(source) {
+                Ok(text) => Token::Line(keyword, text),
+                Err(fault) => Token::Cut(fault),
+            },
+        },
+    }
+}
