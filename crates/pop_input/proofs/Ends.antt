@@ -3,17 +3,16 @@ use Rattle.std.proofs.Common.{◌≡◌, ℕ, List, [], ◌∷◌, ◌++◌, Opt
 use Rattle.std.proofs.lemmas.List.{append-nil}
 use Rattle.pop_text.specs.Words.{Input, Token as Part, Word, Tail, End as AtEnd, Long, Broken as Failing}
 use Rattle.pop_text.specs.Reading.{Reading}
-use Rattle.pop_text.specs.Left.{after, MayFollow, words_left, put_before, no_words, Takes, among, IsOver, bytes_of}
+use Rattle.pop_text.specs.Left.{after, MayFollow, words_left, put_before, no_words, Takes, among, IsOver}
 use Rattle.pop_text.specs.declared.read_fault.ReadFault.{ReadFault}
 use Rattle.pop_text.specs.declared.read_fault.ReadFault.TheVariants.{TooLong, InputTooLong, Device}
 use Rattle.pop_input.specs.Names.{command_of}
 use Rattle.pop_input.specs.Names.{or_else}
-use Rattle.pop_input.specs.Blocks.{at_line, fault_at, has_begun, inside, block_fault, Entry, Faulty as FaultyEntry, entry_of, closed_entry, entries_by, entries_of, tail_fault, more_entries}
+use Rattle.pop_input.specs.Blocks.{at_line, fault_at, has_begun, inside, block_fault, Entry, Faulty as FaultyEntry, Sound as SoundEntry, entry_of, problem_of, closed_entry, entries_by, entries_of, tail_fault, more_entries}
 use Rattle.pop_input.specs.Tokens.{CutsOff, TakesPart, TakesNothing}
 use Rattle.pop_input.specs.Closings.{Closes, closing_fault, ended_by, ended_item, cut_fault, last_of}
-use Rattle.pop_input.specs.Ends.{IsPosed, end_fault_in, posed_of}
-use Rattle.pop_input.specs.Posed.{Posed}
-use Rattle.pop_input.specs.Standing.{Standing, entries_at, entries_left, Reads, IsProblem, NextItem, next_behind}
+use Rattle.pop_input.specs.Ends.{end_fault_in, posed_of}
+use Rattle.pop_input.specs.Standing.{Standing, entries_at, entries_left, Reads, NextItem, next_behind}
 use Rattle.pop_input.specs.declared.block.Block.{Block}
 use Rattle.pop_input.specs.declared.item.Item.{Item}
 use Rattle.pop_input.specs.declared.item.Fault.{Fault}
@@ -69,22 +68,17 @@ module _ (first : Bool) (old new : Standing) (had left : Option (List ℕ)) (sta
     ending_is : closing_fault block line ≡ or_else (block_fault first full) (at_line line (end_fault_in (said first full)))
     ending_is = ending_by block.fault refl ∙ ap (λ f. or_else f (at_line line (end_fault_in (said first full)))) fault
 
-    closes_entry : (f : Option Fault) → closing_fault block line ≡ f → Reads old new had left (closed_entry (block_fault first full) line (inside first full) ∷ []) → Reads old new had left (entry_of f (inside first full) ∷ [])
-    closes_entry f is reads = subst (λ e. Reads old new had left (entry_of e (inside first full) ∷ [])) (sym ending_is ∙ is) reads
+    closes_entry : (f : Option Fault) → closing_fault block line ≡ f → Reads old new had left (closed_entry (block_fault first full) line (inside first full) ∷ []) → Reads old new had left (entry_of f (problem_of (inside first full)) ∷ [])
+    closes_entry f is reads = subst (λ e. Reads old new had left (entry_of e (problem_of (inside first full)) ∷ [])) (sym ending_is ∙ is) reads
 
-    is_problem : (problem : Posed) → closing_fault block line ≡ None → IsPosed block.draft block.title block.author problem → IsProblem problem (inside first full)
-    is_problem problem none posed =
+    problem_is : closing_fault block line ≡ None → posed_of block.draft block.title block.author ≡ problem_of (inside first full)
+    problem_is none =
         let k = told (or_first block.fault (at_line line (end_fault_in block.draft)) none) in
-        let says : problem ≡ posed_of (said first full) posed.0 block.title block.author = posed.2 ∙ ap (λ s. posed_of s posed.0 block.title block.author) k.draft in
-        record {
-          stated = ap (λ s. s.stipulation) (sym k.draft) ∙ posed.1 ∙ ap (λ p. Some p.stipulation) (sym says);
-          says = rw says refl;
-          title = ap (λ p. bytes_of p.title) says ∙ k.title;
-          author = ap (λ p. bytes_of p.author) says ∙ k.author;
-        }
+        rw (k.draft, k.title, k.author) refl
 
     closed_item : (item : Item) (last : Last) → Closes block line last item → new.next ≡ next_behind last → Reads old new had left (closed_entry (block_fault first full) line (inside first full) ∷ []) → NextItem old new had left item
-    closed_item (SoundItem problem answered) last c next reads = (inside first full, closes_entry None c.0 reads, is_problem problem c.0 c.1, next ∙ ap next_behind (sym c.2))
+    closed_item (SoundItem problem answered) last c next reads =
+        (subst (λ p. Reads old new had left (SoundEntry p ∷ [])) (sym (c.1 ∙ problem_is c.0)) (closes_entry None c.0 reads), next ∙ ap next_behind (sym c.2))
     closed_item (FaultyItem f answered) last c next reads = (closes_entry (Some f) c.0 reads, next ∙ ap next_behind (sym c.1))
     closed_item NoItem last c next reads = absurd c
 
@@ -155,7 +149,7 @@ module _ (first : Bool) (old new : Standing) (had left : Option (List ℕ)) (sta
     pub cut_with_fault : (fault : Fault) (cut : ReadFault) → block.fault ≡ Some fault → CutsOff mid new.at met left cut → new.next ≡ Later → NextItem old new had left (FaultyItem fault No)
     cut_with_fault fault (TooLong line) is t later = absurd t
     cut_with_fault fault (InputTooLong line) is t later = fault_then_cut fault Long is t.0 t.1 refl later
-    cut_with_fault fault (Device line) is t later = fault_then_cut fault Failing is t.0 t.1 refl later
+    cut_with_fault fault (Device line) is t later = fault_then_cut fault Failing is t.0.0 t.0.1 refl later
 
     -- and in one without
     cut_alone : (number line : ℕ) (tail : Tail) → block.fault ≡ None → Takes (among mid) (among new.at) met left [] → IsOver new.at tail → line ≡ new.at.line → ((begun : Bool) → tail_fault begun tail ≡ number) → new.next ≡ Nothing → NextItem old new had left (FaultyItem (fault_at number line) Yes)
@@ -170,4 +164,4 @@ module _ (first : Bool) (old new : Standing) (had left : Option (List ℕ)) (sta
     pub cut_without_fault : (cut : ReadFault) → block.fault ≡ None → CutsOff mid new.at met left cut → new.next ≡ Nothing → NextItem old new had left (FaultyItem (cut_fault cut) Yes)
     cut_without_fault (TooLong line) is t nothing = absurd t
     cut_without_fault (InputTooLong line) is t nothing = cut_alone 20 line Long is t.0 t.1 t.2 long_tail nothing
-    cut_without_fault (Device line) is t nothing = cut_alone 21 line Failing is t.0 t.1 t.2 failing_tail nothing
+    cut_without_fault (Device line) is t nothing = cut_alone 21 line Failing is t.0.0 t.0.1 t.0.2 failing_tail nothing

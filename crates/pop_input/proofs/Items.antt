@@ -8,8 +8,7 @@ use Rattle.std.proofs.lemmas.List.Folds.{list_all-append}
 use Rattle.pop_text.specs.Bytes.{Consumes}
 use Rattle.pop_text.specs.Words.{Token as Part, Word, TextLine, text_of_line}
 use Rattle.pop_text.specs.Reading.{Reading}
-use Rattle.pop_text.specs.Left.{Takes, among, bytes_of}
-use Rattle.pop_text.specs.declared.text.Text.{Text}
+use Rattle.pop_text.specs.Left.{Takes, among}
 use Rattle.pop_input.specs.Names.{command_of, section_of, text_word_of, closes, or_else}
 use Rattle.pop_input.specs.State.{State, state_of}
 use Rattle.pop_input.specs.WordFaults.{fault_of}
@@ -29,8 +28,8 @@ use Rattle.pop_input.proofs.Blocks.{is_open, said, block_more, block_line, begun
 pub record Tells (first : Bool) (block : Block) (done : List Part) : Type 0 where
   pub begun : block.begun ≡ has_begun first done
   pub draft : block.draft ≡ said first done
-  pub title : bytes_of block.title ≡ last_text Title [] (inside first done)
-  pub author : bytes_of block.author ≡ last_text Author [] (inside first done)
+  pub title : block.title ≡ last_text Title [] (inside first done)
+  pub author : block.author ≡ last_text Author [] (inside first done)
 
 -- these tokens of the block are read, and it says what they say
 pub record BlockSoFar (first : Bool) (old new : Reading) (had left : Option (List ℕ)) (block : Block) : Type 0 where
@@ -49,7 +48,7 @@ keeps_bytes (Some bytes) = refl
 pub takes_none : (place : Reading) (had : Option (List ℕ)) → Takes (among place) (among place) had had []
 takes_none place had = record { bytes = []; amount = omega arith; taken = keeps_bytes had; follows = λ rest may. may; begin = λ rest may. refl }
 
-pub block_starts : (first : Bool) (place : Reading) (had : Option (List ℕ)) (block : Block) → block.fault ≡ None → block.begun ≡ not first → block.draft ≡ state_of [] → bytes_of block.title ≡ [] → bytes_of block.author ≡ [] → BlockSoFar first place place had had block
+pub block_starts : (first : Bool) (place : Reading) (had : Option (List ℕ)) (block : Block) → block.fault ≡ None → block.begun ≡ not first → block.draft ≡ state_of [] → block.title ≡ [] → block.author ≡ [] → BlockSoFar first place place had had block
 block_starts true place had block fault begun says title author =
     record { done = []; takes = takes_none place had; plain = refl; fault = fault; told = λ _. record { begun = begun; draft = says; title = title; author = author }; on = omega arith; further = inl fault }
 block_starts false place had block fault begun says title author =
@@ -80,13 +79,13 @@ long_no_command text long =
 long_fault : (begun : Bool) (state : State) (text : List ℕ) → 160 < length text → fault_of begun state text ≡ Some 3
 long_fault begun state text long = rw (lt-ltb 160 (length text) long) refl
 
-title_with : (k : TextWord) (text : Text) (rest : List ℕ) (had : Text) (before : List ℕ) → bytes_of text ≡ text_of_line rest → bytes_of had ≡ before → bytes_of (text_with Title had k text) ≡ text_after Title before (Some k) rest
+title_with : (k : TextWord) (text : List ℕ) (rest : List ℕ) (had : List ℕ) (before : List ℕ) → text ≡ text_of_line rest → had ≡ before → text_with Title had k text ≡ text_after Title before (Some k) rest
 title_with Title text rest had before p q = p
 title_with Author text rest had before p q = q
 title_with Origin text rest had before p q = q
 title_with Remark text rest had before p q = q
 
-author_with : (k : TextWord) (text : Text) (rest : List ℕ) (had : Text) (before : List ℕ) → bytes_of text ≡ text_of_line rest → bytes_of had ≡ before → bytes_of (text_with Author had k text) ≡ text_after Author before (Some k) rest
+author_with : (k : TextWord) (text : List ℕ) (rest : List ℕ) (had : List ℕ) (before : List ℕ) → text ≡ text_of_line rest → had ≡ before → text_with Author had k text ≡ text_after Author before (Some k) rest
 author_with Title text rest had before p q = q
 author_with Author text rest had before p q = p
 author_with Origin text rest had before p q = q
@@ -94,8 +93,8 @@ author_with Remark text rest had before p q = q
 
 -- Texts behind one more token.
 
-title_line : (first : Bool) (done : List Part) (line : ℕ) (name rest : List ℕ) (keyword : TextWord) (text had : Text) (begun : Bool) → begun ≡ has_begun first done → text_word_of name ≡ Some keyword → bytes_of text ≡ text_of_line rest
-    → bytes_of had ≡ last_text Title [] (inside first done) → bytes_of (noted begun Title had keyword text) ≡ last_text Title [] (inside first (done ++ TextLine line name rest ∷ []))
+title_line : (first : Bool) (done : List Part) (line : ℕ) (name rest : List ℕ) (keyword : TextWord) (text had : List ℕ) (begun : Bool) → begun ≡ has_begun first done → text_word_of name ≡ Some keyword → text ≡ text_of_line rest
+    → had ≡ last_text Title [] (inside first done) → noted begun Title had keyword text ≡ last_text Title [] (inside first (done ++ TextLine line name rest ∷ []))
 title_line first done line name rest keyword text had true begun is bytes title =
     title_with keyword text rest had (last_text Title [] (inside first done)) bytes title
     ∙ sym (text_line Title [] (inside first done) line name rest ∙ ap (λ k. text_after Title (last_text Title [] (inside first done)) k rest) is)
@@ -103,8 +102,8 @@ title_line first done line name rest keyword text had true begun is bytes title 
 title_line first done line name rest keyword text had false begun is bytes title =
     title ∙ ap (last_text Title []) (inside_none first done (sym begun) ∙ sym (inside_first first done (TextLine line name rest) (sym begun)))
 
-author_line : (first : Bool) (done : List Part) (line : ℕ) (name rest : List ℕ) (keyword : TextWord) (text had : Text) (begun : Bool) → begun ≡ has_begun first done → text_word_of name ≡ Some keyword → bytes_of text ≡ text_of_line rest
-    → bytes_of had ≡ last_text Author [] (inside first done) → bytes_of (noted begun Author had keyword text) ≡ last_text Author [] (inside first (done ++ TextLine line name rest ∷ []))
+author_line : (first : Bool) (done : List Part) (line : ℕ) (name rest : List ℕ) (keyword : TextWord) (text had : List ℕ) (begun : Bool) → begun ≡ has_begun first done → text_word_of name ≡ Some keyword → text ≡ text_of_line rest
+    → had ≡ last_text Author [] (inside first done) → noted begun Author had keyword text ≡ last_text Author [] (inside first (done ++ TextLine line name rest ∷ []))
 author_line first done line name rest keyword text had true begun is bytes author =
     author_with keyword text rest had (last_text Author [] (inside first done)) bytes author
     ∙ sym (text_line Author [] (inside first done) line name rest ∙ ap (λ k. text_after Author (last_text Author [] (inside first done)) k rest) is)
@@ -139,7 +138,7 @@ module _ (first : Bool) (old mid new : Reading) (had met left : Option (List ℕ
   goes_on part t = let on = b.on in let step = t.1.0 in omega (arith, on, step)
 
   -- a text line
-  pub line_read : (line : ℕ) (name rest : List ℕ) (keyword : TextWord) (text : Text) → TakesPart mid new met left (TextLine line name rest) → text_word_of name ≡ Some keyword → bytes_of text ≡ text_of_line rest
+  pub line_read : (line : ℕ) (name rest : List ℕ) (keyword : TextWord) (text : List ℕ) → TakesPart mid new met left (TextLine line name rest) → text_word_of name ≡ Some keyword → text ≡ text_of_line rest
       → next.fault ≡ block.fault → next.begun ≡ block.begun → next.draft ≡ block.draft → next.title ≡ noted block.begun Title block.title keyword text → next.author ≡ noted block.begun Author block.author keyword text → BlockSoFar first old new had left next
   line_read line name rest keyword text t is bytes fault begun says title author = record {
     done = b.done ++ TextLine line name rest ∷ [];
@@ -151,8 +150,8 @@ module _ (first : Bool) (old mid new : Reading) (had met left : Option (List ℕ
         record {
           begun = begun ∙ k.begun ∙ sym (begun_line first b.done line name rest);
           draft = says ∙ k.draft ∙ words_inside first b.done line name rest block.begun k.begun;
-          title = ap bytes_of title ∙ title_line first b.done line name rest keyword text block.title block.begun k.begun is bytes k.title;
-          author = ap bytes_of author ∙ author_line first b.done line name rest keyword text block.author block.begun k.begun is bytes k.author;
+          title = title ∙ title_line first b.done line name rest keyword text block.title block.begun k.begun is bytes k.title;
+          author = author ∙ author_line first b.done line name rest keyword text block.author block.begun k.begun is bytes k.author;
         };
     on = let h = goes_on (TextLine line name rest) t in omega (arith, h);
     further = inr (goes_on (TextLine line name rest) t);
@@ -178,8 +177,8 @@ module _ (first : Bool) (old mid new : Reading) (had met left : Option (List ℕ
         record {
           begun = w.0 ∙ sym (begun_word first b.done line text);
           draft = w.1 ∙ ap (λ s. said_after block.begun s text) k.draft ∙ said_word first b.done line text block.begun k.begun;
-          title = ap bytes_of w.2 ∙ k.title ∙ text_word Title first b.done line text block.begun k.begun;
-          author = ap bytes_of w.3 ∙ k.author ∙ text_word Author first b.done line text block.begun k.begun;
+          title = w.2 ∙ k.title ∙ text_word Title first b.done line text block.begun k.begun;
+          author = w.3 ∙ k.author ∙ text_word Author first b.done line text block.begun k.begun;
         },
   )
 

@@ -9,11 +9,10 @@ use Rattle.chess_core.specs.WellFormed.{IsWellFormed, is_crossed_right, is_home}
 use Rattle.chess_core.specs.declared.man.Man.{Man}
 use Rattle.chess_core.specs.declared.man.Unmoved.{Unmoved}
 use Rattle.chess_rules.specs.Attacks.{in_check}
-use Rattle.pop_text.specs.declared.text.Text.{Text}
 use Rattle.pop_input.specs.Posed.{IsSound, rule_of}
 use Rattle.pop_input.specs.State.{State}
 use Rattle.pop_input.specs.Stipulations.{mated, starts}
-use Rattle.pop_input.specs.Ends.{ArePut, counts, is_stated, is_taken, posed_of, setup_fault, setup_of, unmoved_of}
+use Rattle.pop_input.specs.Ends.{ArePut, counts, is_stated, is_taken, posed_by, setup_fault, setup_of, unmoved_of}
 use Rattle.pop_input.specs.Values.{most_solutions}
 use Rattle.pop_input.specs.declared.stipulation.Form.{Form}
 use Rattle.pop_input.specs.declared.stipulation.Stipulation.{Stipulation}
@@ -101,8 +100,8 @@ passed true true true true h = cc
 passed true true true false h = (refl, refl)
 
 -- a problem whose words have no fault, nor their end
-pub sound_by : (state : State) (stipulation : Stipulation) (title author : Text) → state.stipulation ≡ Some stipulation → is_stated state.stipulation ≡ true → 1 ≤ state.limit → state.limit ≤ most_solutions
-    → IsWellFormed (position_of (setup_of state stipulation.form)) → setup_fault state stipulation.form (setup_of state stipulation.form) ≡ None → IsSound (posed_of state stipulation title author)
+pub sound_by : (state : State) (stipulation : Stipulation) (title author : List ℕ) → state.stipulation ≡ Some stipulation → is_stated state.stipulation ≡ true → 1 ≤ state.limit → state.limit ≤ most_solutions
+    → IsWellFormed (position_of (setup_of state stipulation.form)) → setup_fault state stipulation.form (setup_of state stipulation.form) ≡ None → IsSound (posed_by state stipulation title author)
 sound_by state stipulation title author is stated low high well none =
     let setup = setup_of state stipulation.form in
     let tests = passed (some_square (is_taken setup.men)) (is_crossed_right setup.men setup.turn setup.crossed) (is_some (king_square setup.men (mated stipulation.form))) (in_check (rule_of state.condition) setup.men (other setup.turn)) none in

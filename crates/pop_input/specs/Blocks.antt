@@ -5,7 +5,8 @@ use Rattle.pop_text.specs.Words.{Words, Token, Word, TextLine, Tail, End, Long, 
 use Rattle.pop_input.specs.Names.{command_of, text_word_of, closes, or_else}
 use Rattle.pop_input.specs.State.{state_of}
 use Rattle.pop_input.specs.WordFaults.{fault_of}
-use Rattle.pop_input.specs.Ends.{end_fault_in}
+use Rattle.pop_input.specs.Ends.{end_fault_in, posed_of}
+use Rattle.pop_input.specs.Posed.{Posed}
 use Rattle.pop_input.specs.declared.item.Fault.{Fault}
 use Rattle.pop_input.specs.declared.names.Command.{Command}
 use Rattle.pop_input.specs.declared.names.Command.TheVariants.{Begin, Enter, Next, Last}
@@ -82,9 +83,26 @@ abbrev pub closing_line : List Token → Option ℕ
 closing_line [] = None
 closing_line (token ∷ tokens) = or_else (closing_line tokens) (line_if (closes (closing_of token)) (line_of token))
 
--- a sound problem by its words and text lines, or a fault
+-- The text lines of a problem.
+
+abbrev pub text_after : TextWord → List ℕ → Option TextWord → List ℕ → List ℕ
+text_after Title old (Some Title) line = text_of_line line
+text_after Author old (Some Author) line = text_of_line line
+text_after _ old _ line = old
+
+-- the last text behind such a text word, after another one
+abbrev pub last_text : TextWord → List ℕ → List Token → List ℕ
+last_text wanted old [] = old
+last_text wanted old ((Word line text) ∷ tokens) = last_text wanted old tokens
+last_text wanted old ((TextLine line keyword text) ∷ tokens) = last_text wanted (text_after wanted old (text_word_of keyword) text) tokens
+
+-- the problem that words and text lines pose
+abbrev pub problem_of : List Token → Posed
+problem_of tokens = posed_of (state_of (words_before [] tokens)) (last_text Title [] tokens) (last_text Author [] tokens)
+
+-- a sound problem, or a fault
 pub data Entry : Type 0 where
-  Sound : List Token → Entry
+  Sound : Posed → Entry
   Faulty : Fault → Entry
 
 -- the fault of a tail
@@ -99,13 +117,13 @@ more_entries End line = []
 more_entries Long line = Faulty (fault_at 20 line) ∷ []
 more_entries Broken line = Faulty (fault_at 21 line) ∷ []
 
-abbrev pub entry_of : Option Fault → List Token → Entry
-entry_of None tokens = Sound tokens
-entry_of (Some fault) tokens = Faulty fault
+abbrev pub entry_of : Option Fault → Posed → Entry
+entry_of None problem = Sound problem
+entry_of (Some fault) problem = Faulty fault
 
 -- the entry of a block that a word in this line closes: its first fault, or that of its end, or none
 abbrev pub closed_entry : Option Fault → ℕ → List Token → Entry
-closed_entry fault line tokens = entry_of (or_else fault (at_line line (end_fault_in (state_of (words_before [] tokens))))) tokens
+closed_entry fault line tokens = entry_of (or_else fault (at_line line (end_fault_in (state_of (words_before [] tokens))))) (problem_of tokens)
 
 -- by the word fault, and the line of the closing word
 abbrev pub entries_by : Option Fault → Option ℕ → Bool → Tail → ℕ → List Token → List Entry
@@ -121,16 +139,3 @@ block_entries first tail tail_line (block ∷ blocks) =
 -- the entries of words from the start of a block on, the first block or a later one
 abbrev pub entries_of : Bool → Words → List Entry
 entries_of first words = block_entries first words.tail words.tail_line (blocks_of words.tokens)
-
--- The text lines of a problem.
-
-abbrev pub text_after : TextWord → List ℕ → Option TextWord → List ℕ → List ℕ
-text_after Title old (Some Title) line = text_of_line line
-text_after Author old (Some Author) line = text_of_line line
-text_after _ old _ line = old
-
--- the last text behind such a text word, after another one
-abbrev pub last_text : TextWord → List ℕ → List Token → List ℕ
-last_text wanted old [] = old
-last_text wanted old ((Word line text) ∷ tokens) = last_text wanted old tokens
-last_text wanted old ((TextLine line keyword text) ∷ tokens) = last_text wanted (text_after wanted old (text_word_of keyword) text) tokens

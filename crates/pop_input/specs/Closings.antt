@@ -3,10 +3,9 @@ use Rattle.std.specs.Prelude.{◌≡◌, ℕ, Bool, true, false, Option, None, S
 use Rattle.pop_text.specs.Words.{End}
 use Rattle.pop_text.specs.declared.read_fault.ReadFault.{ReadFault}
 use Rattle.pop_text.specs.declared.read_fault.ReadFault.TheVariants.{TooLong, InputTooLong, Device}
-use Rattle.pop_text.specs.declared.text.Text.{Text}
 use Rattle.pop_input.specs.Names.{or_else}
 use Rattle.pop_input.specs.Blocks.{at_line, fault_at, tail_fault}
-use Rattle.pop_input.specs.Ends.{IsPosed, end_fault_in}
+use Rattle.pop_input.specs.Ends.{end_fault_in, posed_of}
 use Rattle.pop_input.specs.State.{State, state_after}
 use Rattle.pop_input.specs.declared.block.Block.{Block}
 use Rattle.pop_input.specs.declared.item.Fault.{Fault}
@@ -26,13 +25,13 @@ said_after true state text = state_after state text
 said_after false state text = state
 
 -- the text behind a text word, after one more text line
-abbrev pub text_with : TextWord → Text → TextWord → Text → Text
+abbrev pub text_with : TextWord → List ℕ → TextWord → List ℕ → List ℕ
 text_with Title old Title text = text
 text_with Author old Author text = text
 text_with _ old _ text = old
 
 -- a text line before the first problem has no effect
-abbrev pub noted : Bool → TextWord → Text → TextWord → Text → Text
+abbrev pub noted : Bool → TextWord → List ℕ → TextWord → List ℕ → List ℕ
 noted true wanted old keyword text = text_with wanted old keyword text
 noted false wanted old keyword text = old
 
@@ -42,7 +41,7 @@ closing_fault block line = or_else block.fault (at_line line (end_fault_in block
 
 -- what is answered of it
 abbrev pub Closes : Block → ℕ → Last → Item → Type 0
-Closes block line last (Sound problem answered) = (closing_fault block line ≡ None) × IsPosed block.draft block.title block.author problem × (answered ≡ last)
+Closes block line last (Sound problem answered) = (closing_fault block line ≡ None) × (problem ≡ posed_of block.draft block.title block.author) × (answered ≡ last)
 Closes block line last (Faulty fault answered) = (closing_fault block line ≡ Some fault) × (answered ≡ last)
 Closes block line last NoItem = ⊥
 

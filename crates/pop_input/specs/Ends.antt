@@ -1,5 +1,5 @@
 -- The problem that the words of a block pose, and the tests at its end.
-use Rattle.std.specs.Prelude.{◌≡◌, ℕ, List, [], ◌∷◌, length, fold, not, ◌&&◌, Bool, true, if◌then◌else◌, Option, Some, None, is_some}
+use Rattle.std.specs.Prelude.{◌≡◌, ℕ, List, [], ◌∷◌, length, fold, not, ◌&&◌, Bool, true, if◌then◌else◌, Option, Some, None, is_some, unwrap_or}
 use Rattle.chess_core.specs.Castling.{has_unmoved, mark_unmoved, none_unmoved}
 use Rattle.chess_core.specs.Diagrams.{Setup}
 use Rattle.chess_core.specs.Position.{AtMostOneKing, king_square, man_on, other}
@@ -8,11 +8,11 @@ use Rattle.chess_core.specs.WellFormed.{is_crossed_right, is_home, is_pawn_insid
 use Rattle.chess_core.specs.declared.man.Man.{Man}
 use Rattle.chess_core.specs.declared.man.Unmoved.{Unmoved}
 use Rattle.chess_rules.specs.Attacks.{in_check}
-use Rattle.pop_text.specs.declared.text.Text.{Text}
 use Rattle.pop_input.specs.Posed.{Posed, rule_of}
 use Rattle.pop_input.specs.State.{State}
 use Rattle.pop_input.specs.Stipulations.{starts, mated, is_in_range}
 use Rattle.pop_input.specs.declared.stipulation.Form.{Form}
+use Rattle.pop_input.specs.declared.stipulation.Form.TheVariants.{Direct}
 use Rattle.pop_input.specs.declared.stipulation.Stipulation.{Stipulation}
 
 -- The diagram.
@@ -28,9 +28,12 @@ unmoved_of men barred = fold (λ set square. mark_unmoved set square (counts men
 abbrev pub setup_of : State → Form → Setup
 setup_of state form = record { men = state.men; turn = starts form; unmoved = unmoved_of state.men state.barred; crossed = state.crossed }
 
--- the problem, with this stipulation, title and author
-abbrev pub posed_of : State → Stipulation → Text → Text → Posed
-posed_of state stipulation title author = record {
+-- for words without one
+abbrev pub no_stipulation : Stipulation
+no_stipulation = record { form = Direct; n = 1 }
+
+abbrev pub posed_by : State → Stipulation → List ℕ → List ℕ → Posed
+posed_by state stipulation title author = record {
   diagram = setup_of state stipulation.form;
   stipulation = stipulation;
   condition = state.condition;
@@ -41,6 +44,10 @@ posed_of state stipulation title author = record {
   title = title;
   author = author;
 }
+
+-- the problem that words pose, with a title and an author
+abbrev pub posed_of : State → List ℕ → List ℕ → Posed
+posed_of state title author = posed_by state (unwrap_or state.stipulation no_stipulation) title author
 
 -- The tests, in their order.
 
@@ -74,7 +81,3 @@ pub record ArePut (men : List (Option Man)) : Type 0 where
 abbrev pub is_stated : Option Stipulation → Bool
 is_stated None = true
 is_stated (Some stipulation) = is_in_range stipulation
-
--- The problem is the one that the words pose, with a title and an author.
-abbrev pub IsPosed : State → Text → Text → Posed → Type 0
-IsPosed state title author posed = (stipulation : Stipulation) × (state.stipulation ≡ Some stipulation) × (posed ≡ posed_of state stipulation title author)

@@ -1,18 +1,15 @@
 -- Where a reader stands among the items, and what it reads of them.
-use Rattle.std.specs.Prelude.{◌≡◌, ℕ, List, [], ◌∷◌, ◌++◌, Option, None, Some, Bool, true, false, ◌+◌, ◌-◌, length}
+use Rattle.std.specs.Prelude.{◌≡◌, ◌≤◌, ℕ, List, [], ◌∷◌, ◌++◌, Option, None, Bool, true, false, ◌+◌, ◌-◌, length}
 use Rattle.pop_text.specs.Bytes.{Consumes}
-use Rattle.pop_text.specs.Words.{Input, Token, limit}
+use Rattle.pop_text.specs.Words.{Input, limit}
 use Rattle.pop_text.specs.Reading.{Reading, beginning}
-use Rattle.pop_text.specs.Left.{after, MayFollow, words_left, bytes_of}
-use Rattle.pop_input.specs.Blocks.{Entry, Sound as SoundBlock, Faulty as FaultyBlock, entries_of, last_text, words_before}
-use Rattle.pop_input.specs.Ends.{posed_of}
-use Rattle.pop_input.specs.Posed.{Posed}
-use Rattle.pop_input.specs.State.{state_of}
+use Rattle.pop_text.specs.Left.{after, MayFollow, words_left}
+use Rattle.pop_input.specs.Blocks.{Entry, Sound as SoundEntry, Faulty as FaultyEntry, entries_of}
 use Rattle.pop_input.specs.declared.item.Last.{Last}
 use Rattle.pop_input.specs.declared.item.Last.TheVariants.{Yes, No}
 use Rattle.pop_input.specs.declared.item.Item.{Item}
 use Rattle.pop_input.specs.declared.item.Item.TheVariants.{Sound, Faulty, End}
-use Rattle.pop_input.specs.declared.names.TextWord.TheVariants.{Title, Author}
+use Rattle.pop_text.specs.declared.scanner.End.TheVariants.{Broken}
 use Rattle.pop_input.specs.declared.reader.Next.{Next}
 use Rattle.pop_input.specs.declared.reader.Next.TheVariants.{First, Later, Nothing}
 
@@ -42,13 +39,6 @@ pub record Reads (old new : Standing) (had left : Option (List ℕ)) (entries : 
   pub begin : (rest : Input) → MayFollow new.at.end rest → entries_left old (after bytes rest) ≡ entries ++ entries_left new rest
   pub amount : length bytes + (old.at.used + length old.at.window) ≡ new.at.used + length new.at.window
 
--- A problem is the one that these words and text lines pose.
-pub record IsProblem (problem : Posed) (tokens : List Token) : Type 0 where
-  pub stated : (state_of (words_before [] tokens)).stipulation ≡ Some problem.stipulation
-  pub says : problem ≡ posed_of (state_of (words_before [] tokens)) problem.stipulation problem.title problem.author
-  pub title : bytes_of problem.title ≡ last_text Title [] tokens
-  pub author : bytes_of problem.author ≡ last_text Author [] tokens
-
 -- which block is next behind an item
 abbrev pub next_behind : Last → Next
 next_behind Yes = Nothing
@@ -56,8 +46,8 @@ next_behind No = Later
 
 -- what next_problem does
 abbrev pub NextItem : Standing → Standing → Option (List ℕ) → Option (List ℕ) → Item → Type 0
-NextItem old new had left (Sound problem last) = (tokens : List Token) × Reads old new had left (SoundBlock tokens ∷ []) × IsProblem problem tokens × (new.next ≡ next_behind last)
-NextItem old new had left (Faulty fault last) = Reads old new had left (FaultyBlock fault ∷ []) × (new.next ≡ next_behind last)
+NextItem old new had left (Sound problem last) = Reads old new had left (SoundEntry problem ∷ []) × (new.next ≡ next_behind last)
+NextItem old new had left (Faulty fault last) = Reads old new had left (FaultyEntry fault ∷ []) × (new.next ≡ next_behind last)
 NextItem old new had left End = (old.next ≡ Nothing) × (new ≡ old) × Reads old new had left []
 
 -- how much may still be read: it falls with every item
@@ -73,3 +63,9 @@ abbrev pub is_item : Item → Bool
 is_item End = false
 is_item (Sound problem last) = true
 is_item (Faulty fault last) = true
+
+-- The fault of an item has one of the 21 numbers, and number 21 where the source has failed.
+abbrev pub IsNumbered : Reading → Item → Type 0
+IsNumbered place (Sound problem last) = Unit {0}
+IsNumbered place (Faulty fault last) = (1 ≤ fault.number) × (fault.number ≤ 21) × (fault.number ≡ 21 → place.end ≡ Broken)
+IsNumbered place End = Unit {0}

@@ -2,8 +2,9 @@
 use Rattle.std.specs.Prelude.{◌≡◌, ◌<◌, ◌≤◌, ℕ, List, [], ◌∷◌, length, Option, Some}
 use Rattle.pop_text.specs.Words.{Token as Part, Word, TextLine, Tail, End as AtEnd, Long, Broken as Failing, text_of_line}
 use Rattle.pop_text.specs.Reading.{Reading}
-use Rattle.pop_text.specs.Left.{Takes, among, IsOver, GoesOn, StaysWithin, bytes_of}
+use Rattle.pop_text.specs.Left.{Takes, among, IsOver, GoesOn, StaysWithin}
 use Rattle.pop_text.specs.declared.read_fault.ReadFault.{ReadFault}
+use Rattle.pop_text.specs.declared.scanner.End.TheVariants.{Broken}
 use Rattle.pop_text.specs.declared.read_fault.ReadFault.TheVariants.{TooLong as LongWord, InputTooLong, Device}
 use Rattle.pop_input.specs.Names.{text_word_of}
 use Rattle.pop_input.specs.declared.token.Token.{Token}
@@ -20,11 +21,11 @@ TakesNothing old new had left tail line = Takes (among old) (among new) had left
 abbrev pub CutsOff : Reading → Reading → Option (List ℕ) → Option (List ℕ) → ReadFault → Type 0
 CutsOff old new had left (LongWord line) = ⊥
 CutsOff old new had left (InputTooLong line) = TakesNothing old new had left Long line
-CutsOff old new had left (Device line) = TakesNothing old new had left Failing line
+CutsOff old new had left (Device line) = TakesNothing old new had left Failing line × (new.end ≡ Broken)
 
 abbrev pub NextToken : Reading → Reading → Option (List ℕ) → Option (List ℕ) → Token → Type 0
 NextToken old new had left (AWord word) = TakesPart old new had left (Word word.line word.bytes.items) × (length word.bytes.items ≤ 160)
 NextToken old new had left (TooLong line) = (text : List ℕ) × TakesPart old new had left (Word line text) × (160 < length text)
-NextToken old new had left (Line keyword text) = (line : ℕ) × (name : List ℕ) × (rest : List ℕ) × TakesPart old new had left (TextLine line name rest) × (text_word_of name ≡ Some keyword) × (bytes_of text ≡ text_of_line rest)
+NextToken old new had left (Line keyword text) = (line : ℕ) × (name : List ℕ) × (rest : List ℕ) × TakesPart old new had left (TextLine line name rest) × (text_word_of name ≡ Some keyword) × (text ≡ text_of_line rest)
 NextToken old new had left (Ended line) = TakesNothing old new had left AtEnd line
 NextToken old new had left (Cut fault) = CutsOff old new had left fault

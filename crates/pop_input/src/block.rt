@@ -1,6 +1,5 @@
 //! A block as far as it is read: the words up to NextProblem or EndProblem.
 ghost use Rattle.std.specs.Prelude.{◌≡◌, ◌≤◌, ℕ, List, [], length, None, Some, not, true};
-ghost use Rattle.pop_text.specs.Left.{bytes_of};
 ghost use Rattle.pop_input.specs.Names.{or_else};
 ghost use Rattle.pop_input.specs.Blocks.{at_line, fault_at};
 ghost use Rattle.pop_input.specs.Closings.{Closes, ended_item, noted, said_after};
@@ -30,8 +29,8 @@ impl Block {
         ensures fault { result.fault ≡ None }
         ensures begun { result.begun ≡ not first }
         ensures draft { result.draft ≡ state_of [] }
-        ensures title { bytes_of result.title ≡ [] }
-        ensures author { bytes_of result.author ≡ [] }
+        ensures title { result.title ≡ [] }
+        ensures author { result.author ≡ [] }
     {
         Block {
             fault: None,

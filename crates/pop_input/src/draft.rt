@@ -8,7 +8,7 @@ ghost use Rattle.chess_core.specs.Diagrams.{position_of};
 ghost use Rattle.chess_core.specs.WellFormed.{IsWellFormed, is_home};
 ghost use Rattle.chess_rules.specs.Attacks.{in_check};
 ghost use Rattle.pop_input.specs.Posed.{rule_of};
-ghost use Rattle.pop_input.specs.Ends.{IsPosed, counts, end_fault_in, is_taken, setup_fault, setup_of, unmoved_of};
+ghost use Rattle.pop_input.specs.Ends.{counts, end_fault_in, is_taken, posed_of, setup_fault, setup_of, unmoved_of};
 ghost use Rattle.pop_input.specs.Names.{kind_of};
 ghost use Rattle.pop_input.specs.Values.{is_digit, squares_of};
 ghost use Rattle.pop_input.specs.State.{State, awaited_by, put_kind, put_men, state_after, state_by, state_of, switches_with};
@@ -350,7 +350,7 @@ impl Draft {
     #[tactic(auto, unfolding(crate::specs::Ends::end_fault_in))]
     pub fn posed(&self, title: &Text, author: &Text) -> Result<Problem, u8>
         ensures { MatchResult result
-            (λ problem. (end_fault_in self.now ≡ None) × IsPosed self.now title.now author.now problem)
+            (λ problem. (end_fault_in self.now ≡ None) × (problem ≡ posed_of self.now title.now author.now))
             (λ number. end_fault_in self.now ≡ Some number) }
     {
         let Some(stipulation) = self.stipulation else {

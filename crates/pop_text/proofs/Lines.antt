@@ -154,7 +154,7 @@ module _ (old mid here new : Reading) (had met now : Option (List ℕ)) (kept : 
   pub line_fault : (keyword : List ℕ) (fault : ReadFault) → Peeks here (Err fault) → TakesNone (behind_word keyword old) here had now fault
   line_fault keyword (TooLong number) at = absurd at
   line_fault keyword (InputTooLong number) at = (line_cut keyword (InputTooLong number) (omega (arith, at.1)) at, fault_over (InputTooLong number) here at, at.2, (omega (arith, peeked.used), omega (arith, at.1)))
-  line_fault keyword (Device number) at = (line_cut keyword (Device number) at.3 at, fault_over (Device number) here at, at.2, (omega (arith, peeked.used), at.3))
+  line_fault keyword (Device number) at = (line_cut keyword (Device number) at.3 at, fault_over (Device number) here at, at.2, (omega (arith, peeked.used), at.3), at.1)
 
 -- a byte that is not 10 is no line end
 pub no_ten : (b : ℕ) → (b ≡ 10 → ⊥) → is_line_end b ≡ false

@@ -29,4 +29,4 @@ module _ (old mid new : Reading) (had met left : Option (List ℕ)) (p : UsesAll
   pub next_cut : (fault : ReadFault) → UsesAll is_in_word mid new met left → Peeks new (Err fault) → NextWord old new had left (Err fault)
   next_cut (TooLong l) q at = absurd at
   next_cut (InputTooLong l) q at = (cut_takes old mid new had met left p q (InputTooLong l) (omega (arith, at.1)) at, fault_over (InputTooLong l) new at, at.2, (omega (arith, p.uses.used, q.uses.used), omega (arith, at.1)))
-  next_cut (Device l) q at = (cut_takes old mid new had met left p q (Device l) at.3 at, fault_over (Device l) new at, at.2, (omega (arith, p.uses.used, q.uses.used), at.3))
+  next_cut (Device l) q at = (cut_takes old mid new had met left p q (Device l) at.3 at, fault_over (Device l) new at, at.2, (omega (arith, p.uses.used, q.uses.used), at.3), at.1)

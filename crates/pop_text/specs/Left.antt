@@ -68,7 +68,7 @@ StaysWithin old new = (old.used ≤ new.used) × (new.used ≤ limit)
 abbrev pub TakesNone : Spot → Reading → Option (List ℕ) → Option (List ℕ) → ReadFault → Type 0
 TakesNone old new had left (TooLong line) = ⊥
 TakesNone old new had left (InputTooLong line) = Takes old (among new) had left [] × IsOver new Long × (line ≡ new.line) × StaysWithin old.at new
-TakesNone old new had left (Device line) = Takes old (among new) had left [] × IsOver new Failing × (line ≡ new.line) × StaysWithin old.at new
+TakesNone old new had left (Device line) = Takes old (among new) had left [] × IsOver new Failing × (line ≡ new.line) × StaysWithin old.at new × (new.end ≡ Broken)
 
 -- bytes were used, within the limit
 abbrev pub GoesOn : Reading → Reading → Type 0
