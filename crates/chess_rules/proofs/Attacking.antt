@@ -1,0 +1,149 @@
+-- Attack looked for outward from the square.
+use Rattle.std.proofs.Common.{◌≡◌, ℕ, ◌+◌, ◌<◌, Bool, true, false, ◌&&◌, ◌||◌, ◌==◌, not, List, [], length, get_or, take, refl, sym, ap, ◌∙◌, arith, inl, inr, Option, Some, None}
+use Rattle.std.specs.Int.{bit_at}
+use Rattle.std.specs.Int.Bits.{bit_or, bit_and}
+use Rattle.std.specs.List.{list_any}
+use Rattle.std.proofs.lemmas.Bool.{false≢true}
+use Rattle.std.proofs.lemmas.List.Folds.{list_any_more}
+use Rattle.chess_core.specs.Kept.{kinds}
+use Rattle.chess_core.specs.Position.{is_man, is_side, man_on, other, same_colour, same_kind}
+use Rattle.chess_core.specs.Squares.{some_square}
+use Rattle.chess_core.specs.Steps.{diagonal_steps, knight_steps, pawn_captures, queen_steps, straight_steps}
+use Rattle.chess_core.specs.Words.{squares_of, word}
+use Rattle.chess_core.specs.declared.man.Colour.{Colour}
+use Rattle.chess_core.specs.declared.man.Kind.{Kind}
+use Rattle.chess_core.specs.declared.man.Kind.TheVariants.{King, Queen, Rook, Bishop, Knight, Pawn, Grasshopper, Nightrider}
+use Rattle.chess_core.specs.declared.man.Man.{Man}
+use Rattle.chess_core.proofs.Kept.{same_kind-is}
+use Rattle.chess_core.proofs.Men.{same_colour-true}
+use Rattle.chess_core.proofs.Ranges.{some_square_true, some_square_false}
+use Rattle.chess_core.proofs.Words.{squares_both, squares_either, squares_same}
+use Rattle.chess_rules.specs.Attacks.{attacked, faces, faces_its_like, paralysed, strikes}
+use Rattle.chess_rules.specs.Outward.{hopped_from}
+use Rattle.chess_rules.specs.Reaches.{leaps, reaches, reaches_as, reaches_of, rides}
+use Rattle.chess_rules.specs.RuleSet.{RuleSet}
+use Rattle.chess_rules.proofs.Bits.{not_zero, word_empty, word_has}
+use Rattle.chess_rules.proofs.Flips.{diagonal-back, grasshopper-back, king-back, knight-back, nightrider-back, pawn-back, queen_rides-back, straight-back}
+use Rattle.chess_rules.proofs.Tests.{any_range_cases, first_of_and, second_of_and}
+
+-- a list of tests, each a word, joined one by one
+pub join_none : {X : Type 0} (test : X → ℕ → Bool) → 0 ≡ word (λ t. list_any (λ x. test x t) [])
+join_none test = word_empty (λ t. list_any (λ x. test x t) []) (λ s b. refl)
+
+pub join_more : {X : Type 0} (test : X → ℕ → Bool) (w n i : ℕ) (d x : X) (xs : List X) → i < length xs → x ≡ get_or xs i d → w ≡ word (λ t. list_any (λ y. test y t) (take i xs)) → n ≡ word (λ t. test x t)
+    → bit_or w n ≡ word (λ t. list_any (λ y. test y t) (take (i + 1) xs))
+join_more test w n i d x xs p e h r =
+    (λ j. bit_or (h j) (r j)) ∙ squares_either (λ t. list_any (λ y. test y t) (take i xs)) (λ t. test x t)
+    ∙ (λ j. word (λ t. list_any (λ y. test y t) (take i xs) || test (e j) t))
+    ∙ sym (λ j. word (λ t. list_any_more (λ y. test y t) xs i d p j))
+
+-- tests that agree on the squares
+pub some_square_same : (p q : ℕ → Bool) → ((s : ℕ) → s < 64 → p s ≡ q s) → some_square p ≡ some_square q
+some_square_same p q h = elim (any_range_cases p 0 64) [
+  | inl w ↦ some_square_true p w.0 (omega (arith, w.2)) w.3 ∙ sym (some_square_true q w.0 (omega (arith, w.2)) (sym (h w.0 (omega (arith, w.2))) ∙ w.3))
+  | inr none ↦
+      some_square_false p 64 (omega arith) (record { fails = λ s b. none s (omega arith) b })
+      ∙ sym (some_square_false q 64 (omega arith) (record { fails = λ s b. sym (h s b) ∙ none s (omega arith) b }))
+]
+
+-- the squares from which each kind comes
+pub comes_king : (men : List (Option Man)) (c : Colour) (t : ℕ) → t < 64 → word (λ s. list_any (leaps t s) queen_steps) ≡ word (λ s. reaches_as men c King s t)
+unfolding reaches_as
+comes_king men c t q = squares_same _ _ (λ s p. king-back t s q p)
+
+pub comes_queen : (men : List (Option Man)) (c : Colour) (t : ℕ) → t < 64 → word (λ s. list_any (rides men t s) queen_steps) ≡ word (λ s. reaches_as men c Queen s t)
+unfolding reaches_as
+comes_queen men c t q = squares_same _ _ (λ s p. queen_rides-back men t s q p)
+
+pub comes_rook : (men : List (Option Man)) (c : Colour) (t : ℕ) → t < 64 → word (λ s. list_any (rides men t s) straight_steps) ≡ word (λ s. reaches_as men c Rook s t)
+unfolding reaches_as
+comes_rook men c t q = squares_same _ _ (λ s p. straight-back men t s q p)
+
+pub comes_bishop : (men : List (Option Man)) (c : Colour) (t : ℕ) → t < 64 → word (λ s. list_any (rides men t s) diagonal_steps) ≡ word (λ s. reaches_as men c Bishop s t)
+unfolding reaches_as
+comes_bishop men c t q = squares_same _ _ (λ s p. diagonal-back men t s q p)
+
+pub comes_knight : (men : List (Option Man)) (c : Colour) (t : ℕ) → t < 64 → word (λ s. list_any (leaps t s) knight_steps) ≡ word (λ s. reaches_as men c Knight s t)
+unfolding reaches_as
+comes_knight men c t q = squares_same _ _ (λ s p. knight-back t s q p)
+
+pub comes_pawn : (men : List (Option Man)) (c : Colour) (t : ℕ) → t < 64 → word (λ s. list_any (leaps t s) (pawn_captures (other c))) ≡ word (λ s. reaches_as men c Pawn s t)
+unfolding reaches_as
+comes_pawn men c t q = squares_same _ _ (λ s p. sym (pawn-back c s t p q))
+
+pub comes_grasshopper : (men : List (Option Man)) (c : Colour) (t : ℕ) → t < 64 → word (λ s. list_any (hopped_from men t s) queen_steps) ≡ word (λ s. reaches_as men c Grasshopper s t)
+unfolding reaches_as
+comes_grasshopper men c t q = squares_same _ _ (λ s p. sym (grasshopper-back men s t p q))
+
+pub comes_nightrider : (men : List (Option Man)) (c : Colour) (t : ℕ) → t < 64 → word (λ s. list_any (rides men t s) knight_steps) ≡ word (λ s. reaches_as men c Nightrider s t)
+unfolding reaches_as
+comes_nightrider men c t q = squares_same _ _ (λ s p. nightrider-back men t s q p)
+
+-- a man of this colour and kind goes as such men go
+reaches_of_man : (men : List (Option Man)) (o : Option Man) (c : Colour) (k : Kind) (s t : ℕ) → is_man o c k ≡ true → reaches_of men o s t ≡ reaches_as men c k s t
+reaches_of_man men None c k s t h = absurd (false≢true h)
+reaches_of_man men (Some x) c k s t h =
+    (λ j. reaches_as men (same_colour-true x.colour c (first_of_and _ _ h) j) (same_kind-is x.kind k (second_of_and (same_colour x.colour c) _ h) j) s t)
+
+only_then : (a b c : Bool) → (a ≡ true → b ≡ c) → (a && b) ≡ (a && c)
+only_then true b c h = h refl
+only_then false b c h = refl
+
+pub reached : (men : List (Option Man)) (c : Colour) (k : Kind) (t w n : ℕ) → w ≡ squares_of men c k → n ≡ word (λ s. reaches_as men c k s t) → bit_and w n ≡ word (λ s. is_man (man_on men s) c k && reaches men s t)
+unfolding reaches squares_of
+reached men c k t w n h r =
+    (λ j. bit_and (h j) (r j)) ∙ squares_both (λ s. is_man (man_on men s) c k) (λ s. reaches_as men c k s t)
+    ∙ squares_same _ _ (λ s b. only_then (is_man (man_on men s) c k) (reaches_as men c k s t) (reaches men s t) (λ h. sym (reaches_of_man men (man_on men s) c k s t h)))
+
+fails_first : (a b : Bool) → a ≡ false → (a && b) ≡ false
+fails_first true b h = absurd (cc)
+fails_first false b h = refl
+
+pub reached_none : (men : List (Option Man)) (c : Colour) (k : Kind) (t w : ℕ) → w ≡ squares_of men c k → w ≡ 0 → 0 ≡ word (λ s. is_man (man_on men s) c k && reaches men s t)
+unfolding squares_of
+reached_none men c k t w h z =
+    let e : word (λ s. is_man (man_on men s) c k) ≡ word (λ s. false) = sym h ∙ z ∙ word_empty (λ s. false) (λ s b. refl) in
+    word_empty _ (λ s b. fails_first (is_man (man_on men s) c k) (reaches men s t) (sym (word_has (λ s. is_man (man_on men s) c k) (word (λ s. is_man (man_on men s) c k)) s refl b) ∙ word_has (λ s. false) (word (λ s. is_man (man_on men s) c k)) s e b))
+
+-- a man is of one of the kinds
+one_of_all : (b : Bool) (k : Kind) (r : Bool) → list_any (λ j. (b && same_kind k j) && r) kinds ≡ (b && r)
+one_of_all true King true = refl
+one_of_all true King false = refl
+one_of_all true Queen true = refl
+one_of_all true Queen false = refl
+one_of_all true Rook true = refl
+one_of_all true Rook false = refl
+one_of_all true Bishop true = refl
+one_of_all true Bishop false = refl
+one_of_all true Knight true = refl
+one_of_all true Knight false = refl
+one_of_all true Pawn true = refl
+one_of_all true Pawn false = refl
+one_of_all true Grasshopper true = refl
+one_of_all true Grasshopper false = refl
+one_of_all true Nightrider true = refl
+one_of_all true Nightrider false = refl
+one_of_all false k r = refl
+
+of_some_kind : (o : Option Man) (c : Colour) (r : Bool) → list_any (λ k. is_man o c k && r) kinds ≡ (is_side o c && r)
+of_some_kind None c r = refl
+of_some_kind (Some x) c r = one_of_all (same_colour x.colour c) x.kind r
+
+last_two : (a b c : Bool) → ((a && b) && c) ≡ ((a && c) && b)
+last_two true true true = refl
+last_two true true false = refl
+last_two true false true = refl
+last_two true false false = refl
+last_two false b c = refl
+
+-- attack by the men that reach the square and aren't paralysed
+pub attacked_by : (rule : RuleSet) (men : List (Option Man)) (t w : ℕ) (c : Colour) → w ≡ word (λ s. list_any (λ k. is_man (man_on men s) c k && reaches men s t) kinds) → some_square (λ s. bit_at w s == 1 && not (paralysed rule men s)) ≡ attacked rule men t c
+unfolding attacked strikes
+attacked_by rule men t w c h =
+    some_square_same _ _ (λ s b.
+    ap (λ x. x && not (paralysed rule men s)) (word_has _ w s h b ∙ of_some_kind (man_on men s) c (reaches men s t))
+    ∙ last_two (is_side (man_on men s) c) (reaches men s t) (not (paralysed rule men s)))
+
+pub faced : (men : List (Option Man)) (x : Man) (t w : ℕ) → w ≡ word (λ s. is_man (man_on men s) (other x.colour) x.kind && reaches men s t) → not (w == 0) ≡ faces_its_like men x t
+unfolding faces_its_like faces
+faced men x t w h = ap (λ n. not (n == 0)) h ∙ not_zero (λ s. is_man (man_on men s) (other x.colour) x.kind && reaches men s t)

@@ -1,0 +1,100 @@
+-- Bits of words: the first from a place on, one alone, and words that are not 0.
+use Rattle.std.proofs.Common.{◌≡◌, ℕ, zero, suc, ◌+◌, ◌-◌, ◌*◌, ◌%◌, ◌^◌, ◌<◌, ◌≤◌, Bool, true, false, ◌==◌, not, cond, refl, sym, ap, ◌∙◌, arith, ◌⊎◌, inl, inr, Some, None, find}
+use Rattle.std.specs.Int.{bit_at, w64, trailing_zeros}
+use Rattle.std.specs.Int.Bits.{bit_and}
+use Rattle.std.specs.List.{range_with_len}
+use Rattle.std.proofs.lemmas.Bool.{cases_lt, eq-eqb}
+use Rattle.std.proofs.lemmas.Nat.Bits.{bit_at_and, bit_at-zero, bit_at_mask_inside, bit_at_mask_below, bit_at-trailing_zeros, ones_shl, bit_at-lt}
+use Rattle.std.proofs.lemmas.Nat.{one_shl}
+use Rattle.std.proofs.lemmas.Nat.Bits.{bit_at-pow_same, bit_at-pow_other}
+use Rattle.std.proofs.lemmas.Bool.{cases_eq}
+use Rattle.chess_core.specs.Squares.{is_square, some_square}
+use Rattle.chess_core.specs.Words.{bit_of, word}
+use Rattle.chess_core.proofs.Ranges.{find_range_some, find_range_none}
+use Rattle.chess_core.proofs.Words.{square_bit, square_word, squares_none, squares_some}
+use Rattle.chess_rules.proofs.Tests.{differs}
+
+abbrev pub from_on : ℕ → ℕ → ℕ
+from_on word from = bit_and word ((2 ^ 64 - 1) * 2 ^ from % 2 ^ 64)
+
+bit_from_on : (word from i : ℕ) → from ≤ i → i < 64 → bit_at (from_on word from) i ≡ bit_at word i
+bit_from_on word from i lo hi =
+    ap (λ m. bit_at (bit_and word m) i) (ones_shl 64 from (omega arith)) ∙ bit_at_and word (2 ^ 64 - 2 ^ from) i
+    ∙ omega (arith, bit_at_mask_inside from 64 i lo hi, bit_at-lt word i)
+
+bit_below : (word from i : ℕ) → from ≤ 64 → i < from → bit_at (from_on word from) i ≡ 0
+bit_below word from i le lt =
+    ap (λ m. bit_at (bit_and word m) i) (ones_shl 64 from le) ∙ bit_at_and word (2 ^ 64 - 2 ^ from) i
+    ∙ omega (arith, bit_at_mask_below from 64 i lt)
+
+not_set : (n : ℕ) → n ≡ 0 → (n == 1) ≡ false
+not_set n h = rw h refl
+
+pub next_none : (word from : ℕ) → from < 64 → from_on word from ≡ 0 → find (λ s. bit_at word s == 1) (range_with_len from (64 - from)) ≡ None
+next_none word from p h =
+    find_range_none (λ s. bit_at word s == 1) from (64 - from)
+    (λ k lo hi. not_set (bit_at word k) (sym (bit_from_on word from k lo (omega arith)) ∙ ap (λ n. bit_at n k) h ∙ bit_at-zero k))
+
+pub next_past : (word from : ℕ) → 64 ≤ from → find (λ s. bit_at word s == 1) (range_with_len from (64 - from)) ≡ None
+next_past word from p = find_range_none (λ s. bit_at word s == 1) from (64 - from) (λ k lo hi. absurd (omega arith))
+
+pub next_low : (word from : ℕ) → from < 64 → 0 < from_on word from → from_on word from < 2 ^ 64 → from ≤ trailing_zeros w64 (from_on word from)
+next_low word from p pos fits =
+    let t = trailing_zeros w64 (from_on word from) in
+    let w = bit_at-trailing_zeros w64 (from_on word from) pos fits in
+    elim (cases_lt t from) [
+      | inl q ↦ absurd (let z : ◌≡◌ {A = ℕ} 0 1 = sym (bit_below word from t (omega arith) q) ∙ w.1 in omega arith)
+      | inr q ↦ q
+    ]
+
+pub next_some : (word from : ℕ) → from < 64 → 0 < from_on word from → from_on word from < 2 ^ 64 → find (λ s. bit_at word s == 1) (range_with_len from (64 - from)) ≡ Some (trailing_zeros w64 (from_on word from))
+next_some word from p pos fits =
+    let t = trailing_zeros w64 (from_on word from) in
+    let w = bit_at-trailing_zeros w64 (from_on word from) pos fits in
+    let lo : from ≤ t = next_low word from p pos fits in
+    find_range_some (λ s. bit_at word s == 1) from (64 - from) t lo (omega (arith, w.0))
+    (eq-eqb (bit_at word t) 1 (sym (bit_from_on word from t lo w.0) ∙ w.1))
+    (λ j a b. not_set (bit_at word j) (sym (bit_from_on word from j a (omega (arith, w.0))) ∙ w.2 j b))
+
+pub find_same : (p q : ℕ → Bool) (a n : ℕ) → ((k : ℕ) → a ≤ k → k < a + n → p k ≡ q k) → find p (range_with_len a n) ≡ find q (range_with_len a n)
+find_same p q a zero h = refl
+find_same p q a (suc n) h =
+    let r : find p (range_with_len (a + 1) n) ≡ find q (range_with_len (a + 1) n) = find_same p q (a + 1) n (λ k lo hi. h k (omega arith) (omega arith)) in
+    (λ j. cond (h a (omega arith) (omega arith) j) (Some a) (r j))
+
+is_bit : (b : Bool) → (bit_of b == 1) ≡ b
+is_bit true = refl
+is_bit false = refl
+
+pub find_bit : (test : ℕ → Bool) (w number : ℕ) → w ≡ word test → find (λ s. bit_at w s == 1) (range_with_len number (64 - number)) ≡ find test (range_with_len number (64 - number))
+find_bit test w number h =
+    find_same (λ s. bit_at w s == 1) test number (64 - number)
+    (λ k lo hi. ap (λ n. bit_at n k == 1) h ∙ ap (λ n. n == 1) (square_bit test k (omega arith)) ∙ is_bit (test k))
+
+-- a word that isn't 0 has a square
+zero_or : (n : ℕ) → (n ≡ 0) ⊎ (0 < n)
+zero_or zero = inl refl
+zero_or (suc n) = inr (omega arith)
+
+pub not_zero : (test : ℕ → Bool) → not (word test == 0) ≡ some_square test
+not_zero test = elim (zero_or (word test)) [
+  | inl z ↦ ap (λ n. not (n == 0)) z ∙ sym (squares_none test z)
+  | inr p ↦ ap not (differs (word test) 0 (λ e. absurd (omega arith))) ∙ sym (squares_some test p)
+]
+
+-- a word of no squares
+pub word_empty : (test : ℕ → Bool) → ((s : ℕ) → s < 64 → test s ≡ false) → 0 ≡ word test
+word_empty test h = square_word test 0 (omega arith) (λ s b. bit_at-zero s ∙ sym (ap bit_of (h s b)))
+
+-- a word of one
+pub word_only : (s : ℕ) → s < 64 → 1 * 2 ^ s % 2 ^ 64 ≡ word (λ t. is_square (Some s) t)
+word_only s p =
+    square_word (λ t. is_square (Some s) t) _ (omega arith)
+    (λ t b. ap (λ n. bit_at n t) (one_shl s 64 p) ∙ elim (cases_eq t s) [
+      | inl e ↦ rw e (bit_at-pow_same s ∙ sym (ap bit_of (eq-eqb s s refl)))
+      | inr ne ↦ bit_at-pow_other s t ne ∙ sym (ap bit_of (differs s t (λ e. ne (sym e))))
+    ])
+
+-- a bit of a word says whether the square passes
+pub word_has : (test : ℕ → Bool) (w s : ℕ) → w ≡ word test → s < 64 → (bit_at w s == 1) ≡ test s
+word_has test w s h b = ap (λ n. bit_at n s == 1) h ∙ ap (λ n. n == 1) (square_bit test s b) ∙ is_bit (test s)

@@ -1,0 +1,105 @@
+-- Lines looked at from their other end.
+use Rattle.std.proofs.Common.{◌≡◌, ℕ, ◌+◌, ◌-◌, ◌*◌, ◌<◌, ◌≤◌, Bool, true, false, ◌&&◌, nat_le, cond, List, refl, sym, ap, ◌∙◌, arith, Option, Some, None}
+use Rattle.std.specs.List.{range_with_len, list_any}
+use Rattle.std.proofs.Math.Nat.{add-mul}
+use Rattle.std.proofs.lemmas.Bool.{and_from, eq-eqb, eqb-true, false≢true, leb-true, le-leb}
+use Rattle.chess_core.specs.Squares.{is_square, is_on_board, square_at, file_of, rank_of}
+use Rattle.chess_core.specs.Steps.{along}
+use Rattle.chess_core.specs.declared.step.Step.{Step}
+use Rattle.chess_core.specs.declared.man.Man.{Man}
+use Rattle.chess_core.proofs.Ranges.{all_range_true}
+use Rattle.chess_rules.specs.Reaches.{is_vacant, is_clear, rides}
+use Rattle.chess_rules.proofs.Tests.{all_at, first_of_and, same_Bool, second_of_and}
+
+-- the step the other way
+abbrev pub back : Step → Step
+back d = record { right = d.left; left = d.right; up = d.down; down = d.up }
+
+-- what a square's file and rank are
+pub record Placed (f r t : ℕ) : Type 0 where
+  pub f_low : 1 ≤ f
+  pub f_high : f ≤ 8
+  pub r_low : 1 ≤ r
+  pub r_high : r ≤ 8
+  pub file : file_of t ≡ f
+  pub rank : rank_of t ≡ r
+
+placed_at : (f r t : ℕ) → 1 ≤ f → f ≤ 8 → 1 ≤ r → r ≤ 8 → 8 * (r - 1) + (f - 1) ≡ t → Placed f r t
+placed_at f r t a b c d e = record { f_low = a; f_high = b; r_low = c; r_high = d; file = omega arith; rank = omega arith }
+
+some_is : (a b : ℕ) → Some a ≡ Some b → a ≡ b
+some_is a b h = cc
+
+placed_by : (f r t : ℕ) (b : Bool) → (is_on_board f && is_on_board r) ≡ b → cond b (Some (8 * (r - 1) + (f - 1))) None ≡ Some t → Placed f r t
+placed_by f r t true on h =
+    let bf : is_on_board f ≡ true = first_of_and _ _ on in
+    let br : is_on_board r ≡ true = second_of_and (is_on_board f) _ on in
+    placed_at f r t (leb-true 1 f (first_of_and _ _ bf)) (leb-true f 8 (second_of_and (nat_le 1 f) _ bf)) (leb-true 1 r (first_of_and _ _ br)) (leb-true r 8 (second_of_and (nat_le 1 r) _ br)) (some_is _ _ h)
+placed_by f r t false on h = absurd (cc)
+
+pub placed_from : (f r t : ℕ) → square_at f r ≡ Some t → Placed f r t
+placed_from f r t h = placed_by f r t (is_on_board f && is_on_board r) refl h
+
+-- i steps on from one end and k - i steps back from the other
+part : (f k i r l : ℕ) → i ≤ k → 1 ≤ f + k * r - k * l → f + k * r - k * l + (k - i) * l - (k - i) * r ≡ f + i * r - i * l
+part f k i r l le on =
+    let e : k ≡ i + (k - i) = omega arith in
+    let a : k * r ≡ i * r + (k - i) * r = ap (λ n. n * r) e ∙ add-mul i (k - i) r in
+    let b : k * l ≡ i * l + (k - i) * l = ap (λ n. n * l) e ∙ add-mul i (k - i) l in
+    omega arith
+
+pub between : (s t : ℕ) (d : Step) (k i : ℕ) → i ≤ k → along s d k ≡ Some t → along t (back d) (k - i) ≡ along s d i
+unfolding along
+between s t d k i le h =
+    let p : Placed (file_of s + k * d.right - k * d.left) (rank_of s + k * d.up - k * d.down) t = placed_from _ _ t h in
+    let f : file_of t + (k - i) * d.left - (k - i) * d.right ≡ file_of s + i * d.right - i * d.left = rw p.file (part (file_of s) k i d.right d.left le p.f_low) in
+    let r : rank_of t + (k - i) * d.down - (k - i) * d.up ≡ rank_of s + i * d.up - i * d.down = rw p.rank (part (rank_of s) k i d.up d.down le p.r_low) in
+    (λ j. square_at (f j) (r j))
+
+pub on_board : (x : ℕ) → 1 ≤ x → x ≤ 8 → is_on_board x ≡ true
+on_board x a b = and_from _ _ (le-leb 1 x a) (le-leb x 8 b)
+
+pub cond-on : (b : Bool) (s n : ℕ) → b ≡ true → n ≡ s → cond b (Some n) None ≡ Some s
+cond-on true s n h e = ap (λ (m : ℕ). Some m) e
+cond-on false s n h e = absurd (false≢true h)
+
+pub stays : (s : ℕ) (d : Step) → s < 64 → along s d 0 ≡ Some s
+unfolding along
+stays s d p =
+    let f : file_of s + 0 * d.right - 0 * d.left ≡ file_of s = omega arith in
+    let r : rank_of s + 0 * d.up - 0 * d.down ≡ rank_of s = omega arith in
+    (λ j. square_at (f j) (r j)) ∙ cond-on (is_on_board (file_of s) && is_on_board (rank_of s)) s (8 * (rank_of s - 1) + (file_of s - 1))
+    (and_from _ _ (on_board (file_of s) (omega arith) (omega arith)) (on_board (rank_of s) (omega arith) (omega arith))) (omega arith)
+
+pub square_is : (o : Option ℕ) (t : ℕ) → is_square o t ≡ true → o ≡ Some t
+square_is None t h = absurd (false≢true h)
+square_is (Some s) t h = ap (λ (n : ℕ). Some n) (eqb-true s t h)
+
+pub returns_to : (s t : ℕ) (d : Step) (k : ℕ) → s < 64 → is_square (along s d k) t ≡ true → is_square (along t (back d) k) s ≡ true
+returns_to s t d k p h =
+    let at : along s d k ≡ Some t = square_is _ t h in
+    let e : k - 0 ≡ k = omega arith in
+    let b : along t (back d) k ≡ Some s = ap (along t (back d)) (sym e) ∙ between s t d k 0 (omega arith) at ∙ stays s d p in
+    ap (λ o. is_square o s) b ∙ eq-eqb s s refl
+
+clear_back : (men : List (Option Man)) (s t : ℕ) (d : Step) (k : ℕ) → along s d k ≡ Some t → is_clear men s d (k - 1) ≡ true → is_clear men t (back d) (k - 1) ≡ true
+unfolding is_clear
+clear_back men s t d k at h =
+    all_range_true (λ i. is_vacant men (along t (back d) i)) 1 (k - 1)
+    (λ i lo hi.
+    let e : i ≡ k - (k - i) = omega arith in
+    ap (λ n. is_vacant men (along t (back d) n)) e ∙ ap (is_vacant men) (between s t d k (k - i) (omega arith) at)
+    ∙ all_at (λ i. is_vacant men (along s d i)) 1 (k - 1) (k - i) h (omega arith) (omega arith))
+
+ride_test : (men : List (Option Man)) (s t : ℕ) (d : Step) (k : ℕ) → s < 64 → (is_square (along s d k) t && is_clear men s d (k - 1)) ≡ true → (is_square (along t (back d) k) s && is_clear men t (back d) (k - 1)) ≡ true
+ride_test men s t d k p h =
+    let here : is_square (along s d k) t ≡ true = first_of_and _ _ h in
+    and_from _ _ (returns_to s t d k p here) (clear_back men s t d k (square_is _ t here) (second_of_and (is_square (along s d k) t) _ h))
+
+-- a ride is seen from both ends
+pub rides-back : (men : List (Option Man)) (s t : ℕ) (d : Step) → s < 64 → t < 64 → rides men s t d ≡ rides men t s (back d)
+unfolding rides
+rides-back men s t d p q =
+    let test : (k : ℕ) → (is_square (along s d k) t && is_clear men s d (k - 1)) ≡ (is_square (along t (back d) k) s && is_clear men t (back d) (k - 1)) =
+    λ k. same_Bool _ _ (ride_test men s t d k p) (ride_test men t s (back d) k q) in
+    (λ j. list_any (λ k. test k j) (range_with_len 1 7))

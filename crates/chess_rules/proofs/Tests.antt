@@ -1,0 +1,102 @@
+-- Tests joined, and tests over ranges of numbers.
+use Rattle.std.proofs.Common.{◌≡◌, ℕ, zero, suc, ◌+◌, ◌<◌, ◌≤◌, Bool, true, false, ◌&&◌, ◌||◌, ◌==◌, refl, sym, arith, ◌⊎◌, inl, inr, ◌∙◌, ◌-◌, Some, None, find}
+use Rattle.std.specs.List.{range_with_len, list_all, list_any}
+use Rattle.std.proofs.lemmas.Bool.{and_left, cases_eq, cases_lt, cases_Bool, cond-true, cond-false, eqb-true, false≢true}
+use Rattle.chess_core.proofs.Ranges.{NoneBelow}
+
+pub first_of_and : (a b : Bool) → (a && b) ≡ true → a ≡ true
+first_of_and true b h = refl
+first_of_and false b h = h
+
+pub second_of_and : (a b : Bool) → (a && b) ≡ true → b ≡ true
+second_of_and true b h = h
+second_of_and false b h = absurd (false≢true h)
+
+pub all_at : (p : ℕ → Bool) (a n k : ℕ) → list_all p (range_with_len a n) ≡ true → a ≤ k → k < a + n → p k ≡ true
+all_at p a zero k h lo hi = absurd (omega arith)
+all_at p a (suc n) k h lo hi = elim (cases_eq k a) [
+  | inl e ↦ rw e (first_of_and (p a) _ h)
+  | inr ne ↦ all_at p (a + 1) n k (second_of_and (p a) _ h) (omega arith) (omega arith)
+]
+
+pub same_Bool : (a b : Bool) → (a ≡ true → b ≡ true) → (b ≡ true → a ≡ true) → a ≡ b
+same_Bool true b f g = sym (f refl)
+same_Bool false true f g = g refl
+same_Bool false false f g = refl
+
+pub and_case : (a b c : Bool) → (b ≡ true → a ≡ c) → (a && b) ≡ (b && c)
+and_case true true c h = h refl
+and_case false true c h = h refl
+and_case true false c h = refl
+and_case false false c h = refl
+
+pub differs : (a b : ℕ) → (a ≡ b → ⊥) → (a == b) ≡ false
+differs a b ne = elim (cases_Bool (a == b)) [
+  | inl y ↦ absurd (ne (eqb-true a b y))
+  | inr n ↦ n
+]
+
+-- either some number of the range passes or none does
+pub any_range_cases : (p : ℕ → Bool) (a n : ℕ) → ((k : ℕ) × (a ≤ k) × (k < a + n) × (p k ≡ true)) ⊎ ((k : ℕ) → a ≤ k → k < a + n → p k ≡ false)
+any_range_cases p a zero = inr (λ k lo hi. absurd (omega arith))
+any_range_cases p a (suc n) = elim (cases_Bool (p (a + n))) [
+  | inl y ↦ inl (a + n, omega arith, omega arith, y)
+  | inr fail ↦ elim (any_range_cases p a n) [
+    | inl w ↦ inl (w.0, w.1, omega (arith, w.2), w.3)
+    | inr none ↦ inr (λ k lo hi. elim (cases_eq k (a + n)) [ inl e ↦ rw e fail | inr ne ↦ none k lo (omega arith) ])
+  ]
+]
+
+-- tests that agree on a range
+pub any_range_same : (p q : ℕ → Bool) (a n : ℕ) → ((k : ℕ) → a ≤ k → k < a + n → p k ≡ q k) → list_any p (range_with_len a n) ≡ list_any q (range_with_len a n)
+any_range_same p q a zero h = refl
+any_range_same p q a (suc n) h =
+    let r : list_any p (range_with_len (a + 1) n) ≡ list_any q (range_with_len (a + 1) n) = any_range_same p q (a + 1) n (λ k lo hi. h k (omega arith) (omega arith)) in
+    (λ j. h a (omega arith) (omega arith) j || r j)
+
+-- k is the first number of the range that passes
+pub record IsFirst (p : ℕ → Bool) (a n k : ℕ) : Type 0 where
+  pub low : a ≤ k
+  pub high : k < a + n
+  pub here : p k ≡ true
+  pub before : (j : ℕ) → a ≤ j → j < k → p j ≡ false
+
+some_is : (a b : ℕ) → Some a ≡ Some b → a ≡ b
+some_is a b h = cc
+
+pub find_first : (p : ℕ → Bool) (a n k : ℕ) → find p (range_with_len a n) ≡ Some k → IsFirst p a n k
+find_first p a zero k h = absurd (let bad : None ≡ Some k = h in cc)
+find_first p a (suc n) k h = elim (cases_Bool (p a)) [
+  | inl y ↦
+      let e : a ≡ k = some_is a k (sym (cond-true (p a) (Some a) (find p (range_with_len (a + 1) n)) y) ∙ h) in
+      record { low = omega arith; high = omega arith; here = rw e at y; before = λ j lo hi. absurd (omega arith) }
+  | inr fail ↦
+      let r : IsFirst p (a + 1) n k = find_first p (a + 1) n k (sym (cond-false (p a) (Some a) (find p (range_with_len (a + 1) n)) fail) ∙ h) in
+      record {
+        low = omega (arith, r.low);
+        high = omega (arith, r.high);
+        here = r.here;
+        before = λ j lo hi. elim (cases_eq j a) [ inl e ↦ rw e fail | inr ne ↦ r.before j (omega arith) hi ];
+      }
+]
+
+pub find_no : (p : ℕ → Bool) (a n k : ℕ) → find p (range_with_len a n) ≡ None → a ≤ k → k < a + n → p k ≡ false
+find_no p a zero k h lo hi = absurd (omega arith)
+find_no p a (suc n) k h lo hi = elim (cases_Bool (p a)) [
+  | inl y ↦ absurd (let bad : Some a ≡ None = sym (cond-true (p a) (Some a) (find p (range_with_len (a + 1) n)) y) ∙ h in cc)
+  | inr fail ↦ elim (cases_eq k a) [
+    | inl e ↦ rw e fail
+    | inr ne ↦ find_no p (a + 1) n k (sym (cond-false (p a) (Some a) (find p (range_with_len (a + 1) n)) fail) ∙ h) (omega arith) (omega arith)
+  ]
+]
+
+-- what fails the first test fails both
+pub skipped : (p r : ℕ → Bool) (a n k : ℕ) → NoneBelow (λ s. p s && r s) a → IsFirst p a n k → NoneBelow (λ s. p s && r s) k
+skipped p r a n k past f = record {
+  fails = λ j b. elim (cases_lt j a) [ inl lt ↦ past.fails j lt | inr ge ↦ and_left (p j) (r j) (f.before j ge b) ];
+}
+
+pub skipped_all : (p r : ℕ → Bool) (a : ℕ) → NoneBelow (λ s. p s && r s) a → find p (range_with_len a (64 - a)) ≡ None → NoneBelow (λ s. p s && r s) 64
+skipped_all p r a past h = record {
+  fails = λ j b. elim (cases_lt j a) [ inl lt ↦ past.fails j lt | inr ge ↦ and_left (p j) (r j) (find_no p a (64 - a) j h ge (omega arith)) ];
+}

@@ -1,0 +1,11 @@
+use Rattle.std.proofs.Common.{◌-◌, ◌==◌, ◌&&◌, not}
+use Rattle.std.specs.Int.{bit_at}
+use Rattle.chess_core.proofs.Ranges.{NoneBelow}
+use Rattle.chess_rules.specs.Attacks.{paralysed}
+use Rattle.chess_rules.proofs.outward.some_free.Given as goal
+
+abbrev pub invariant-loop-square : goal.invariant-loop-square
+invariant-loop-square g l = NoneBelow (λ s. bit_at l.word s == 1 && not (paralysed g.R.Rules.rule l.board.men s)) l.number
+
+abbrev pub decreases-loop-square : goal.decreases-loop-square
+decreases-loop-square g l = 64 - l.number

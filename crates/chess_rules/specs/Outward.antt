@@ -1,0 +1,26 @@
+-- Lines looked at from the square of arrival, and the ways along them (own).
+use Rattle.std.specs.Prelude.{ℕ, ◌-◌, Bool, ◌&&◌, List, Option}
+use Rattle.std.specs.List.{list_any, list_all, range_with_len}
+use Rattle.chess_core.specs.Squares.{is_square}
+use Rattle.chess_core.specs.Steps.{along}
+use Rattle.chess_core.specs.declared.man.Man.{Man}
+use Rattle.chess_core.specs.declared.step.Step.{Step}
+use Rattle.chess_rules.specs.Reaches.{hops, is_occupied, is_vacant, leaps, rides}
+use Rattle.chess_rules.specs.declared.reach.Way.{Way}
+use Rattle.chess_rules.specs.declared.reach.Way.TheVariants.{Ride, Leap, Hop, HopBack}
+
+-- t is at least f steps from s, and every square from the f-th on is empty up to it
+unfoldable pub rides_on : ℕ → List (Option Man) → ℕ → ℕ → Step → Bool
+rides_on f men s t d =
+    list_any (λ k. is_square (along s d k) t && list_all (λ i. is_vacant men (along s d i)) (range_with_len f (k - f))) (range_with_len f (8 - f))
+
+-- a grasshopper on s hops to t against this step: a man stands next to t, and s is behind it
+unfoldable pub hopped_from : List (Option Man) → ℕ → ℕ → Step → Bool
+hopped_from men t s d = is_occupied men (along t d 1) && rides_on 2 men t s d
+
+-- whether this way leads from s to t by this step
+abbrev pub goes_by : Way → List (Option Man) → ℕ → ℕ → Step → Bool
+goes_by Ride men s t d = rides men s t d
+goes_by Leap men s t d = leaps s t d
+goes_by Hop men s t d = hops men s t d
+goes_by HopBack men s t d = hopped_from men s t d

@@ -1,0 +1,48 @@
+//! Sets of squares as words of 64 bits, and their squares in order.
+ghost use Rattle.std.specs.Prelude.{◌≡◌, ℕ, ◌<◌, ◌≤◌, ◌-◌, ◌==◌, IfSome, find};
+ghost use Rattle.std.specs.Int.{bit_at, trailing_zeros, w64};
+ghost use Rattle.std.specs.List.{range_with_len};
+ghost use Rattle.chess_core.specs.Squares.{is_square};
+ghost use Rattle.chess_core.specs.Words.{word};
+
+use chess_core::square::Square;
+
+// The word of this square alone, or of none.
+pub(crate) fn only(square: Option<Square>) -> u64
+    ensures { result ≡ word (λ t. is_square square t) }
+{
+    match square {
+        Some(square) => 1u64 << square.index(),
+        None => 0,
+    }
+}
+
+// Whether the word has the square.
+pub(crate) fn contains(word: u64, square: Square) -> bool
+    ensures { result ≡ (bit_at word square == 1) }
+{
+    word >> square.index() & 1 == 1
+}
+
+// The first square of the word from this number on.
+pub(crate) fn next_bit(word: u64, from: u8) -> Option<Square>
+    ensures value { result ≡ find (λ s. bit_at word s == 1) (range_with_len from (64 - from)) }
+    ensures behind { IfSome result (λ s. from ≤ s) }
+{
+    if from >= 64 {
+        return None;
+    }
+    let rest = word & (u64::MAX << from);
+    if rest == 0 {
+        return None;
+    }
+    Some(lowest(rest))
+}
+
+// The square of the lowest bit.
+fn lowest(word: u64) -> Square
+    requires { 0 < word }
+    ensures { result ≡ trailing_zeros w64 word }
+{
+    Square::numbered(word.trailing_zeros() as u8)
+}
