@@ -1,5 +1,5 @@
 -- What a call gives.
-use Rattle.std.proofs.Common.{◌≡◌, ℕ, suc, ◌+◌, ◌-◌, ◌<◌, ◌≤◌, Bool, true, false, ◌||◌, eqb, cond, List, [], ◌∷◌, length, map, take, reverse, get_or, refl, sym, ◌∙◌, ap, subst, append_assoc, arith}
+use Rattle.std.proofs.Common.{◌≡◌, ℕ, zero, suc, ◌+◌, ◌-◌, ◌<◌, ◌≤◌, Bool, true, false, ◌||◌, eqb, cond, List, [], ◌∷◌, length, map, take, drop, reverse, get_or, refl, sym, ◌∙◌, ap, subst, append_assoc, arith, ◌^◌, min, Option, Some, None, MatchOption, is_some}
 use Rattle.std.specs.List.{flat_map}
 use Rattle.std.proofs.lemmas.Bool.Decides.{nat_tests}
 use Rattle.std.proofs.lemmas.List.{length-reverse, take_more, take_all}
@@ -15,8 +15,8 @@ use Rattle.pop_solve.proofs.Sound.{in_range}
 use Rattle.pop_solve.specs.Frames.{Frame, position, IsLinked}
 use Rattle.pop_solve.specs.Game.{reach}
 use Rattle.pop_solve.specs.Walk.{path, shows, IsShowing, IsWalking, IsRoomy}
-use Rattle.pop_solve.specs.Events.{start, phase, line, tree_node, total, step_of, event_of, StandsOn, phase_start, phase_half_moves, phase_half, shown_along, shown_last, steps_from, phase_steps, is_barred, counted, solutions}
-use Rattle.pop_solve.specs.Phases.{way_of, begins, keep, started, left_of, IsStanding, Walks, Gives, phase_paths}
+use Rattle.pop_solve.specs.Events.{Step, start, phase, line, tree_node, total, step_of, event_of, StandsOn, phase_start, phase_half_moves, phase_half, shown_along, shown_last, steps_from, phase_steps, is_barred, counted, solutions, events}
+use Rattle.pop_solve.specs.Phases.{way_of, begins, keep, started, left_of, IsStanding, IsGiven, Walks, Gives, phase_paths}
 use Rattle.pop_solve.specs.Shown.{Shown}
 use Rattle.pop_solve.specs.declared.event.Event.{Event}
 use Rattle.pop_solve.specs.declared.event.Event.TheVariants.{Line, Node, Total}
@@ -189,3 +189,34 @@ depth-most rule problem (Within in_set count) frames board s =
     phase-most : (problem : Posed) (in_set : Bool) → phase_half_moves problem in_set ≤ half_moves problem.stipulation
     phase-most problem true = omega arith
     phase-most problem false = omega arith
+
+-- the steps still to come after a call
+drop-next : {A : Type 0} (k : ℕ) (xs : List A) (y : A) (ys : List A) → y ∷ ys ≡ drop k xs → ys ≡ drop (suc k) xs
+drop-next zero [] y ys e = absurd cc
+drop-next zero (x ∷ xs) y ys e = cc
+drop-next (suc k) [] y ys e = absurd cc
+drop-next (suc k) (x ∷ xs) y ys e = drop-next k xs y ys e
+
+pub given-next : (rule : RuleSet) (problem : Posed) (old new : List Step) (step : Step) (given given2 : ℕ) → old ≡ step ∷ new → given2 ≡ min (given + 1) (2 ^ 64 - 1) → IsGiven rule problem old given → IsGiven rule problem new given2
+given-next rule problem old new step given given2 e more g =
+    let n = length (events rule problem) in
+    let l : length old ≡ length new + 1 = omega (arith, ap length e) in
+    let k : n - length new ≡ suc (n - length old) = omega (arith, l, g.within) in
+    record {
+      within = omega (arith, l, g.within);
+      ending = rw k (drop-next (n - length old) (events rule problem) step new (sym e ∙ g.ending));
+      counts = omega (arith, more, l, g.within, g.counts);
+    }
+
+pub given-all : (rule : RuleSet) (problem : Posed) → IsGiven rule problem (events rule problem) 0
+given-all rule problem =
+    let z : length (events rule problem) - length (events rule problem) ≡ 0 = omega arith in
+    record { within = omega arith; ending = rw z refl; counts = omega arith }
+
+pub given-event : (rule : RuleSet) (problem : Posed) (event : Option Event) (old new : List Step) (board : Position) (depth given given2 : ℕ) → is_some event ≡ true → MatchOption event ((old ≡ []) × (board ≡ start problem) × (new ≡ [])) (λ e. Gives rule problem old new e board depth) → given2 ≡ min (given + 1) (2 ^ 64 - 1) → IsGiven rule problem old given → IsGiven rule problem new given2
+given-event rule problem None old new board depth given given2 some x more g = absurd cc
+given-event rule problem (Some e) old new board depth given given2 some x more g = given-next rule problem old new x.step given given2 x.left more g
+
+pub given-none : (rule : RuleSet) (problem : Posed) (event : Option Event) (old new : List Step) (board : Position) (depth given : ℕ) → is_some event ≡ false → MatchOption event ((old ≡ []) × (board ≡ start problem) × (new ≡ [])) (λ e. Gives rule problem old new e board depth) → IsGiven rule problem old given → IsGiven rule problem new given
+given-none rule problem None old new board depth given none x g = let e : old ≡ new = x.0 ∙ sym x.2 in rw (← e) g
+given-none rule problem (Some e) old new board depth given none x g = absurd cc

@@ -1,5 +1,5 @@
 -- The first solutions of a phase, by the paths that begin them.
-use Rattle.std.proofs.Common.{◌≡◌, ℕ, zero, suc, ◌+◌, ◌-◌, ◌<◌, ◌≤◌, Bool, true, false, ◌&&◌, ◌||◌, eqb, cond, List, [], ◌∷◌, ◌++◌, length, map, refl, sym, ◌∙◌, ap, subst, arith}
+use Rattle.std.proofs.Common.{◌≡◌, ℕ, zero, suc, ◌+◌, ◌-◌, ◌<◌, ◌≤◌, Bool, true, false, ◌&&◌, ◌||◌, eqb, cond, List, [], ◌∷◌, ◌++◌, length, map, refl, sym, ◌∙◌, ap, subst, arith, inl, inr}
 use Rattle.std.proofs.lemmas.List.{append-nil}
 use Rattle.std.proofs.lemmas.Bool.Decides.{nat_tests}
 use Rattle.chess_core.specs.Position.{Position}
@@ -92,6 +92,10 @@ one_frame [] e = absurd (grind (arith, nat_tests))
 one_frame (f ∷ []) e = (f, refl)
 one_frame (f ∷ (g ∷ below)) e = absurd (grind (arith, nat_tests))
 
+no_frame : (frames : List Frame) → length frames ≡ 0 → frames ≡ []
+no_frame [] e = refl
+no_frame (f ∷ below) e = absurd (omega (arith, e))
+
 module _ (rule : RuleSet) (way : Way) (h : ℕ) (p : Position) where
   pub to_come-root : (f : Frame) → to_come rule way h p (f ∷ []) ≡ shown way (chess rule) true (h - 0) f.left p (moves_behind rule p f.place)
   unfolding to_come path position
@@ -121,6 +125,7 @@ module _ (rule : RuleSet) (way : Way) (h : ℕ) (p : Position) where
       within = λ g. absurd cc;
       deep = λ g. absurd cc;
       ended = λ g. rw (same, none mid e) (keep-nil way.help limit);
+      over = λ g. inl (no_frame mid e);
       none = λ g. rw (same, none mid e) (started-nil Triple way.help limit);
     }
 
@@ -139,6 +144,7 @@ module _ (rule : RuleSet) (way : Way) (h : ℕ) (p : Position) where
           within = λ g. absurd cc;
           deep = λ g. absurd cc;
           ended = λ g. rw (same, z) f.0;
+          over = λ g. inr z;
           none = λ g. rw (same, z) f.1;
         }
 
@@ -162,5 +168,6 @@ module _ (rule : RuleSet) (way : Way) (h : ℕ) (p : Position) where
           within = λ g. most_one _ limit r;
           deep = λ g. omega (arith, s.deep refl, some);
           ended = λ g. absurd cc;
+          over = λ g. absurd cc;
           none = λ g. absurd cc;
         }

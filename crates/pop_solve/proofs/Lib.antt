@@ -11,3 +11,4 @@ pub mod Kept
 pub mod Sound
 pub mod Events
 pub mod Solved
+pub mod Opened

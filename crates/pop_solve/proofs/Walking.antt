@@ -278,13 +278,17 @@ follows-help way game root t q a = rw a refl
 both : (b : Bool) → b ≡ true → b ≡ false → ⊥
 both b t f = cc
 
-counted_by : (rule : RuleSet) (way : Way) (t walk opened opened2 before after : ℕ) → before ≡ one rule way t + after → (0 < t → opened2 ≡ min (opened + 1) (2 ^ 64 - 1)) → (t ≡ 0 → opened2 ≡ opened) → IsCounted walk opened before → IsCounted walk opened2 after
+pub counted_by : (rule : RuleSet) (way : Way) (t walk opened opened2 before after : ℕ) → before ≡ one rule way t + after → (0 < t → opened2 ≡ min (opened + 1) (2 ^ 64 - 1)) → (t ≡ 0 → opened2 ≡ opened) → IsCounted walk opened before → IsCounted walk opened2 after
 counted_by rule way zero walk opened opened2 before after e more same c =
     let s : opened2 ≡ opened = same refl in
     record { within = omega (arith, c.within); counts = omega (arith, c.within, c.counts) }
 counted_by rule way (suc k) walk opened opened2 before after e more same c =
     let s : opened2 ≡ min (opened + 1) (2 ^ 64 - 1) = more (omega arith) in
     record { within = omega (arith, c.within); counts = omega (arith, c.within, c.counts) }
+
+pub opened-most : (rule : RuleSet) (way : Way) (t opened opened2 : ℕ) → (0 < t → opened2 ≡ min (opened + 1) (2 ^ 64 - 1)) → (t ≡ 0 → opened2 ≡ opened) → opened2 ≤ opened + one rule way t
+opened-most rule way zero opened opened2 more same = let s : opened2 ≡ opened = same refl in omega (arith, s)
+opened-most rule way (suc t) opened opened2 more same = let s : opened2 ≡ min (opened + 1) (2 ^ 64 - 1) = more (omega arith) in omega (arith, s)
 
 -- the outcomes of a step, for frames listed from the top down
 module _ (rule : RuleSet) (way : Way) (h : ℕ) (p : Position) (f : Frame) (below : List Frame) (board : Position) (r : IsWalking rule h p (f ∷ below) board) where
@@ -297,9 +301,12 @@ module _ (rule : RuleSet) (way : Way) (h : ℕ) (p : Position) (f : Frame) (belo
         come = come-close rule way h p f below here;
         deep = λ g. absurd cc;
         falls = turns-close rule way h p f below;
-        whites = λ a b w. whites-cut way.selfmate f below w;
-        most = λ a b w. omega (arith, o);
-        counted = λ a walk c. (let T : ℕ → Type 0 = λ n. IsCounted walk count n in subst T o c);
+        opens = record {
+          whites = λ a b w. whites-cut way.selfmate f below w;
+          most = λ a b w. omega (arith, o);
+          helped = λ a. omega (arith, o);
+          counted = λ a walk c. (let T : ℕ → Type 0 = λ n. IsCounted walk count n in subst T o c);
+        };
       }
 
   module _ (next : ℕ) (m : Triple) (t : ℕ) (left : f.left ≡ suc t) (e : moves_behind rule board f.place ≡ m ∷ moves_behind rule board next) where
@@ -320,9 +327,12 @@ module _ (rule : RuleSet) (way : Way) (h : ℕ) (p : Position) (f : Frame) (belo
           come = come-pass rule way h p f next m below _ t fuel left here (rw (← after_here) b);
           deep = λ g. absurd cc;
           falls = turns-pass rule way h p f next m below _ t fuel left here;
-          whites = λ a c w. whites-moved way.selfmate f next below w;
-          most = λ a c w. omega (arith, o, ap (walk_count (chess rule) t) after_here, keys a c (whites-top way.selfmate f below t left w));
-          counted = λ a walk c. absurd (both _ (follows-help way (chess rule) (eqb (length below) 0) t ((chess rule).after board m) a) b);
+          opens = record {
+            whites = λ a c w. whites-moved way.selfmate f next below w;
+            most = λ a c w. omega (arith, o, ap (walk_count (chess rule) t) after_here, keys a c (whites-top way.selfmate f below t left w));
+            helped = λ a. absurd (both _ (follows-help way (chess rule) (eqb (length below) 0) t ((chess rule).after board m) a) b);
+            counted = λ a walk c. absurd (both _ (follows-help way (chess rule) (eqb (length below) 0) t ((chess rule).after board m) a) b);
+          };
         }
 
     pub steps-enter : (after : Position) (opened opened2 : ℕ) → legal rule board m ≡ true → follows way (chess rule) (eqb (length below) 0) t ((chess rule).after board m) ≡ true → after ≡ (chess rule).after board m → (way.help ≡ true → 0 < t → opened2 ≡ min (opened + 1) (2 ^ 64 - 1)) → (way.help ≡ true → t ≡ 0 → opened2 ≡ opened) → (way.help ≡ false → way.variation ≡ false → seeks way.selfmate (t + 1) ≡ true → opened2 ≤ opened + walk_count (chess rule) t ((chess rule).after board m)) → Steps rule way h p (f ∷ below) (opened_frame m (undo_of rule board m) (show rule board m) (goes_on way (chess rule) t ((chess rule).after board m)) ∷ (moved f next ∷ below)) after opened opened2 (gives way (chess rule) t ((chess rule).after board m))
@@ -338,15 +348,21 @@ module _ (rule : RuleSet) (way : Way) (h : ℕ) (p : Position) (f : Frame) (belo
           come = rw after_here (come-enter rule way h p f next m below _ t fuel left here u s (rw (← after_here) b));
           deep = λ g. omega arith;
           falls = turns-enter rule way h p f next m below _ t fuel left here u s tried;
-          whites = λ a c w. whites-none way.selfmate m u s tried _ (goes_on-keys way (chess rule) t _ a c (whites-top way.selfmate f below t left w)) (whites-moved way.selfmate f next below w);
-          most = λ a c w.
-              let z : tried ≡ 0 = goes_on-keys way (chess rule) t _ a c (whites-top way.selfmate f below t left w) in
-              let none : walk_behind rule tried q 0 ≡ 0 = walk_behind-none rule way tried q 0 (inl z) in
-              omega (arith, o, n, none, ap (walk_count (chess rule) t) after_here, keys a c (whites-top way.selfmate f below t left w));
-          counted = λ a walk c.
-              let z : tried ≡ t = goes_on-help way (chess rule) t _ a in
-              let w : walk_behind rule tried q 0 ≡ walk_behind rule t q 0 = ap (λ x. walk_behind rule x q 0) z in
-              counted_by rule way t walk opened opened2 _ _ (omega (arith, o, n, w, walk_count-start rule way t q)) (more a) (same a) c;
+          opens = record {
+            whites = λ a c w. whites-none way.selfmate m u s tried _ (goes_on-keys way (chess rule) t _ a c (whites-top way.selfmate f below t left w)) (whites-moved way.selfmate f next below w);
+            most = λ a c w.
+                let z : tried ≡ 0 = goes_on-keys way (chess rule) t _ a c (whites-top way.selfmate f below t left w) in
+                let none : walk_behind rule tried q 0 ≡ 0 = walk_behind-none rule way tried q 0 (inl z) in
+                omega (arith, o, n, none, ap (walk_count (chess rule) t) after_here, keys a c (whites-top way.selfmate f below t left w));
+            helped = λ a.
+                let z : tried ≡ t = goes_on-help way (chess rule) t _ a in
+                let w : walk_behind rule tried q 0 ≡ walk_behind rule t q 0 = ap (λ x. walk_behind rule x q 0) z in
+                omega (arith, o, n, w, walk_count-start rule way t q, opened-most rule way t opened opened2 (more a) (same a));
+            counted = λ a walk c.
+                let z : tried ≡ t = goes_on-help way (chess rule) t _ a in
+                let w : walk_behind rule tried q 0 ≡ walk_behind rule t q 0 = ap (λ x. walk_behind rule x q 0) z in
+                counted_by rule way t walk opened opened2 _ _ (omega (arith, o, n, w, walk_count-start rule way t q)) (more a) (same a) c;
+          };
         }
 
 -- a push, and the frames before a frame was taken off, seen from the top

@@ -1,6 +1,6 @@
 -- The events of a problem.
-use Rattle.std.specs.Prelude.{◌≡◌, ℕ, ◌+◌, ◌-◌, ◌==◌, Bool, true, false, ◌&&◌, if◌then◌else◌, List, [], ◌∷◌, ◌++◌, map, take, length}
-use Rattle.std.specs.List.{flat_map}
+use Rattle.std.specs.Prelude.{◌≡◌, ℕ, ◌+◌, ◌-◌, ◌==◌, Bool, true, false, not, ◌&&◌, ◌||◌, if◌then◌else◌, List, [], ◌∷◌, ◌++◌, map, take, length}
+use Rattle.std.specs.List.{flat_map, list_all}
 use Rattle.chess_core.specs.Diagrams.{position_of}
 use Rattle.chess_core.specs.Position.{Position}
 use Rattle.chess_core.specs.Triple.{Triple}
@@ -121,6 +121,24 @@ walk_from rule problem in_set =
 
 abbrev pub whole_walk : RuleSet → Posed → ℕ
 whole_walk rule problem = walk_from rule problem problem.set_play
+
+-- whether the limit of solutions ended a phase
+abbrev pub is_stop : Step → Bool
+is_stop (phase in_set) = false
+is_stop impossible = false
+is_stop (line in_set path) = false
+is_stop (tree_node in_set path) = false
+is_stop (total count stopped) = stopped
+
+abbrev pub is_unstopped : List Step → Bool
+is_unstopped steps = list_all (λ step. not (is_stop step)) steps
+
+abbrev pub is_never_stopped : RuleSet → Posed → Bool
+is_never_stopped rule problem = is_unstopped (events rule problem)
+
+-- problems whose walk makes no move twice: help play, and keys alone
+abbrev pub is_walked_once : Posed → Bool
+is_walked_once problem = is_help problem.stipulation.form || (not problem.variation && not problem.set_play)
 
 -- what a contract sees of a search
 pub record Seen : Type 0 where

@@ -1,13 +1,13 @@
 -- What a search that stands in a phase has still to give.
-use Rattle.std.specs.Prelude.{◌≡◌, ℕ, zero, suc, ◌+◌, ◌-◌, ◌≤◌, ◌^◌, min, ◌==◌, Bool, true, false, ◌||◌, if◌then◌else◌, List, [], ◌∷◌, ◌++◌, map, length}
+use Rattle.std.specs.Prelude.{◌≡◌, ℕ, zero, suc, ◌+◌, ◌-◌, ◌≤◌, ◌^◌, min, ◌==◌, Bool, true, false, ◌||◌, if◌then◌else◌, List, [], ◌∷◌, ◌++◌, map, length, drop, ◌⊎◌}
 use Rattle.chess_core.specs.Position.{Position}
 use Rattle.chess_core.specs.Triple.{Triple}
 use Rattle.chess_rules.specs.RuleSet.{RuleSet}
 use Rattle.pop_input.specs.Posed.{Posed}
 use Rattle.pop_input.specs.Stipulations.{is_help, is_selfmate}
-use Rattle.pop_solve.specs.Frames.{Frame}
-use Rattle.pop_solve.specs.Walk.{path, to_come, IsWalking}
-use Rattle.pop_solve.specs.Events.{Step, impossible, total, start, steps_from, step_of, phase_start, phase_half_moves, event_of, StandsOn, events}
+use Rattle.pop_solve.specs.Frames.{Frame, to_open}
+use Rattle.pop_solve.specs.Walk.{path, to_come, IsWalking, IsCounted, IsWhites}
+use Rattle.pop_solve.specs.Events.{Step, impossible, total, is_never_stopped, is_unstopped, is_walked_once, start, walk_from, whole_walk, steps_from, step_of, phase_start, phase_half_moves, event_of, StandsOn, events}
 use Rattle.pop_solve.specs.declared.event.Event.{Event}
 use Rattle.pop_solve.specs.declared.phases.Stage.{Stage}
 use Rattle.pop_solve.specs.declared.phases.Stage.TheVariants.{Before, Barred, Within, Behind}
@@ -68,6 +68,7 @@ pub record Walks (rule : RuleSet) (way : Way) (h : ℕ) (p : Position) (limit : 
   pub within : given ≡ true → (if begins way.help (path new) then 1 else 0) ≤ limit
   pub deep : given ≡ true → 2 ≤ length new
   pub ended : given ≡ false → keep way.help limit (to_come rule way h p old) ≡ []
+  pub over : given ≡ false → (new ≡ []) ⊎ (limit ≡ 0)
   pub none : given ≡ false → started way.help limit (to_come rule way h p old) ≡ 0
 
 -- what a call gives: the first step still to come, as an event, with board and frames where that step stands
@@ -77,7 +78,43 @@ pub record Gives (rule : RuleSet) (problem : Posed) (old new : List Step) (event
   pub event_is : event ≡ event_of rule problem step
   pub stands : StandsOn rule problem step board depth
 
+-- the frames that can still be opened
+unfoldable pub rest_open : RuleSet → Posed → Stage → List Frame → ℕ
+rest_open rule problem (Before in_set) frames = walk_from rule problem in_set
+rest_open rule problem Barred frames = walk_from rule problem false
+rest_open rule problem (Within in_set count) frames =
+    to_open rule (phase_start problem in_set) frames + (if in_set then walk_from rule problem false else 0)
+rest_open rule problem Behind frames = 0
+
+-- the play of a battle, whose keys alone are shown
+pub record IsKeys (problem : Posed) (in_set : Bool) : Type 0 where
+  pub battle : is_help problem.stipulation.form ≡ false
+  pub keys : problem.variation ≡ false
+  pub play : in_set ≡ false
+
+-- help play, or keys alone, for which White alone has frames
+unfoldable pub IsNarrow : Posed → Stage → List Frame → Type 0
+IsNarrow problem (Before in_set) frames = (is_help problem.stipulation.form ≡ true) ⊎ IsKeys problem in_set
+IsNarrow problem Barred frames = is_help problem.stipulation.form ≡ true
+IsNarrow problem (Within in_set count) frames =
+    (is_help problem.stipulation.form ≡ true)
+    ⊎ (IsKeys problem in_set × (IsWhites (is_selfmate problem.stipulation.form) frames ≡ true))
+IsNarrow problem Behind frames = Unit {0}
+
+-- what a call opens, `left` being the steps still to come before it
+pub record OpensOn (rule : RuleSet) (problem : Posed) (old new : Stage) (frames last : List Frame) (before after : ℕ) (left : List Step) : Type 0 where
+  pub narrow : IsNarrow problem old frames → IsNarrow problem new last
+  pub most : IsNarrow problem old frames → after + rest_open rule problem new last ≤ before + rest_open rule problem old frames
+  pub counted : is_help problem.stipulation.form ≡ true → is_unstopped left ≡ true → (walk : ℕ) → IsCounted walk before (rest_open rule problem old frames) → IsCounted walk after (rest_open rule problem new last)
+
+-- the frames opened so far: never too many, and in help play exactly those that aren't still to be opened
+pub record IsOpened (rule : RuleSet) (problem : Posed) (stage : Stage) (frames : List Frame) (opened : ℕ) : Type 0 where
+  pub narrow : is_walked_once problem ≡ true → IsNarrow problem stage frames
+  pub most : is_walked_once problem ≡ true → opened + rest_open rule problem stage frames ≤ whole_walk rule problem
+  pub counted : is_help problem.stipulation.form ≡ true → is_never_stopped rule problem ≡ true → IsCounted (whole_walk rule problem) opened (rest_open rule problem stage frames)
+
 -- the events given, counted up to the greatest u64; the steps still to come are an ending of all
 pub record IsGiven (rule : RuleSet) (problem : Posed) (left : List Step) (given : ℕ) : Type 0 where
   pub within : length left ≤ length (events rule problem)
+  pub ending : left ≡ drop (length (events rule problem) - length left) (events rule problem)
   pub counts : given ≡ min (length (events rule problem) - length left) (2 ^ 64 - 1)

@@ -110,13 +110,18 @@ pub record IsCounted (walk opened rest : ℕ) : Type 0 where
 unfoldable pub IsWhites : Bool → List Frame → Bool
 IsWhites selfmate frames = list_all (λ f. f.left == 0 || seeks selfmate f.left) frames
 
+-- the frames opened and still to be opened, before a part of a walk and after it: in help play and where keys alone are
+-- shown they grow by nothing
+pub record Opens (rule : RuleSet) (way : Way) (p : Position) (old new : List Frame) (before after : ℕ) : Type 0 where
+  pub whites : way.help ≡ false → way.variation ≡ false → IsWhites way.selfmate old ≡ true → IsWhites way.selfmate new ≡ true
+  pub most : way.help ≡ false → way.variation ≡ false → IsWhites way.selfmate old ≡ true → after + to_open rule p new ≤ before + to_open rule p old
+  pub helped : way.help ≡ true → after + to_open rule p new ≤ before + to_open rule p old
+  pub counted : way.help ≡ true → (walk : ℕ) → IsCounted walk before (to_open rule p old) → IsCounted walk after (to_open rule p new)
+
 -- what one step of a walk leaves, for frames listed from the top down; `given` says whether the path to the new top is given
 pub record Steps (rule : RuleSet) (way : Way) (h : ℕ) (p : Position) (old new : List Frame) (board : Position) (before after : ℕ) (given : Bool) : Type 0 where
   pub walking : IsWalking rule h p new board
   pub come : to_come rule way h p old ≡ (if given then path new ∷ [] else []) ++ to_come rule way h p new
   pub deep : given ≡ true → length new ≡ length old + 1
   pub falls : turns rule h p new < turns rule h p old
-  -- the frames opened and still to be opened grow by no step: in help play, and where keys alone are shown
-  pub whites : way.help ≡ false → way.variation ≡ false → IsWhites way.selfmate old ≡ true → IsWhites way.selfmate new ≡ true
-  pub most : way.help ≡ false → way.variation ≡ false → IsWhites way.selfmate old ≡ true → after + to_open rule p new ≤ before + to_open rule p old
-  pub counted : way.help ≡ true → (walk : ℕ) → IsCounted walk before (to_open rule p old) → IsCounted walk after (to_open rule p new)
+  pub opens : Opens rule way p old new before after

@@ -9,8 +9,8 @@ ghost use Rattle.pop_input.specs.Posed.{IsSound};
 ghost use Rattle.pop_input.specs.Stipulations.{half_moves, is_help, is_selfmate};
 ghost use Rattle.pop_solve.specs.Chess.{set_start};
 ghost use Rattle.pop_solve.specs.Events.{start, phase_half_moves as half_moves_of_phase, phase_start, phase_half as half_of_phase, event_of, is_barred, step_of, phase};
-ghost use Rattle.pop_solve.specs.Walk.{IsWalking, IsShowing, shows, path};
-ghost use Rattle.pop_solve.specs.Phases.{way_of as way_of_problem, left_of, IsStanding, Walks, Gives};
+ghost use Rattle.pop_solve.specs.Walk.{IsWalking, IsShowing, Opens, shows, path};
+ghost use Rattle.pop_solve.specs.Phases.{way_of as way_of_problem, left_of, IsStanding, Walks, Gives, OpensOn};
 ghost use Rattle.pop_solve.specs.declared.phases.Stage.TheVariants.{Before, Within, Behind};
 
 use crate::chess::{is_impossible, turn_back, turn_over};
@@ -138,6 +138,8 @@ fn walk_on<R: Rules, const N: usize>(
         (reverse frames.old.items) board.old }
     ensures walks { Walks R.rule (way_of_problem problem.now) (half_moves_of_phase problem.now in_set)
         (phase_start problem.now in_set) limit (reverse frames.old.items) (reverse frames.new.items) board.new result }
+    ensures opens { Opens R.rule (way_of_problem problem.now) (phase_start problem.now in_set) (reverse frames.old.items)
+        (reverse frames.new.items) opened.old opened.new }
 {
     let way = way_of(problem);
     let half_moves = phase_half_moves(problem, in_set);
@@ -224,6 +226,8 @@ fn begin<R: Rules, const N: usize>(
     ensures standing { IsStanding R.rule problem.now result (reverse frames.new.items) board.new }
     ensures left { left_of R.rule problem.now (Before in_set) (reverse frames.old.items)
         ≡ phase in_set ∷ left_of R.rule problem.now result (reverse frames.new.items) }
+    ensures opens { OpensOn R.rule problem.now (Before in_set) result (reverse frames.old.items) (reverse frames.new.items)
+        opened.old opened.new (left_of R.rule problem.now (Before in_set) (reverse frames.old.items)) }
 {
     if !set_up::<R>(problem, in_set, board) {
         return Stage::Barred;
@@ -279,6 +283,9 @@ fn go_on<R: Rules, const N: usize>(
     ensures gives { Gives R.rule problem.now
         (left_of R.rule problem.now (Within in_set count) (reverse frames.old.items))
         (left_of R.rule problem.now stage.new (reverse frames.new.items)) result board.new (array_vec_len frames.new) }
+    ensures opens { OpensOn R.rule problem.now (Within in_set count) stage.new (reverse frames.old.items)
+        (reverse frames.new.items) opened.old opened.new
+        (left_of R.rule problem.now (Within in_set count) (reverse frames.old.items)) }
 {
     let max_solutions = problem.max_solutions();
     let limit = max_solutions - count;
@@ -327,6 +334,8 @@ pub fn advance<R: Rules, const N: usize>(
         (λ event. Gives R.rule problem.now
         (left_of R.rule problem.now stage.old (reverse frames.old.items))
         (left_of R.rule problem.now stage.new (reverse frames.new.items)) event board.new (array_vec_len frames.new)) }
+    ensures opens { OpensOn R.rule problem.now stage.old stage.new (reverse frames.old.items) (reverse frames.new.items)
+        opened.old opened.new (left_of R.rule problem.now stage.old (reverse frames.old.items)) }
 {
     match *stage {
         Stage::Before { in_set } => {

@@ -25,7 +25,7 @@ impl<R: Rules, const N: usize> Model for Search<R, N> {
     ghost use Rattle.pop_input.specs.Posed.{IsSound};
     ghost use Rattle.pop_input.specs.Stipulations.{half_moves};
     ghost use Rattle.pop_solve.specs.Events.{Seen, events};
-    ghost use Rattle.pop_solve.specs.Phases.{left_of, IsStanding, IsGiven};
+    ghost use Rattle.pop_solve.specs.Phases.{left_of, IsStanding, IsGiven, IsOpened};
 
     ghost Value = { Seen };
 
@@ -41,15 +41,16 @@ impl<R: Rules, const N: usize> Model for Search<R, N> {
     ghost invariant = { λ s. IsSound s.problem
         × (half_moves s.problem.stipulation < N)
         × IsStanding R.rule s.problem s.stage (reverse s.frames.items) s.board
-        × IsGiven R.rule s.problem (left_of R.rule s.problem s.stage (reverse s.frames.items)) s.given };
+        × IsGiven R.rule s.problem (left_of R.rule s.problem s.stage (reverse s.frames.items)) s.given
+        × IsOpened R.rule s.problem s.stage (reverse s.frames.items) s.opened };
 }
 
 impl<R: Rules, const N: usize> Search<R, N> {
-    ghost use Rattle.std.specs.Prelude.{◌≡◌, ◌+◌, ◌-◌, ◌<◌, ◌≤◌, ◌^◌, min, MatchOption, slice_get, drop, length};
+    ghost use Rattle.std.specs.Prelude.{[], true, ◌≡◌, ◌+◌, ◌-◌, ◌<◌, ◌≤◌, ◌^◌, min, MatchOption, slice_get, drop, length};
     ghost use Rattle.std.specs.Option.{option_map};
     ghost use Rattle.pop_input.specs.Posed.{rule_of};
-    ghost use Rattle.pop_input.specs.Stipulations.{half_moves};
-    ghost use Rattle.pop_solve.specs.Events.{events, event_of, start, StandsOn};
+    ghost use Rattle.pop_input.specs.Stipulations.{half_moves, is_help};
+    ghost use Rattle.pop_solve.specs.Events.{events, event_of, is_never_stopped, is_walked_once, start, whole_walk, StandsOn};
 
     /// A search that has given nothing.
     pub fn new(problem: &Problem) -> Self
@@ -102,14 +103,19 @@ impl<R: Rules, const N: usize> Search<R, N> {
 
     /// The events given so far, up to the greatest u64.
     pub fn given(&self) -> u64
-        ensures { result ≡ min (length (events R.rule self.now.problem) - length self.now.left) (2 ^ 64 - 1) }
+        ensures ending { self.now.left ≡ drop (length (events R.rule self.now.problem) - length self.now.left) (events R.rule self.now.problem) }
+        ensures given { result ≡ min (length (events R.rule self.now.problem) - length self.now.left) (2 ^ 64 - 1) }
     {
         self.given
     }
 
-    /// The frames opened for a half-move so far, up to the greatest u64.
+    /// The frames opened for a half-move so far, the test of mate apart, up to the greatest u64. In help play, and where
+    /// keys alone are shown, no line of moves is walked twice.
     pub fn opened(&self) -> u64
-        ensures { result ≡ self.now.opened }
+        ensures opened { result ≡ self.now.opened }
+        ensures most { is_walked_once self.now.problem ≡ true → result ≤ whole_walk R.rule self.now.problem }
+        ensures all { is_help self.now.problem.stipulation.form ≡ true → is_never_stopped R.rule self.now.problem ≡ true
+            → self.now.left ≡ [] → result ≡ min (whole_walk R.rule self.now.problem) (2 ^ 64 - 1) }
     {
         self.opened
     }

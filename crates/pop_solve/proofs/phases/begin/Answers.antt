@@ -2,6 +2,7 @@ use Rattle.std.proofs.Common.{◌≡◌, refl, not, Bool, true, false}
 use Rattle.pop_solve.specs.Phases.{IsStanding}
 use Rattle.pop_solve.proofs.Walking as walking
 use Rattle.pop_solve.proofs.Events as events
+use Rattle.pop_solve.proofs.Opened as opened
 use Rattle.pop_solve.proofs.Solved as solved
 use Rattle.pop_solve.proofs.Boards.{behind_start}
 use Rattle.pop_solve.proofs.Sound.{start_sound}
@@ -32,3 +33,13 @@ returns-clause-left g c =
     let cut = solved.root-solutions g.R.Rules.rule c.args.problem.now c.requires.sound c.args.in_set _ c.phase_half_moves-left.ensures (rw c.start.ensures (behind_start g.R.Rules.rule _)) in
     rw (c.push-2.ensures.items, walking.reverse-push, c.requires.standing.0)
     (events.left-begun g.R.Rules.rule c.args.problem.now c.args.in_set _ _ (open_yet _ _ c.set_up.ensures.possible c.if-not-set_up.false) cut.kept cut.begun)
+
+pub returns-then-not-set_up-clause-opens : goal.returns-then-not-set_up-clause-opens
+returns-then-not-set_up-clause-opens g c =
+    opened.opens-barred g.R.Rules.rule c.args.problem.now c.args.in_set _ _ _ _ (barred _ _ c.set_up.ensures.possible c.if-not-set_up.true)
+
+pub returns-clause-opens : goal.returns-clause-opens
+unfolding IsStanding
+returns-clause-opens g c =
+    rw (c.push-2.ensures.items, walking.reverse-push, c.requires.standing.0)
+    (opened.opens-begun g.R.Rules.rule c.args.problem.now c.requires.sound c.args.in_set _ c.phase_half_moves-left.ensures c.start.ensures (open_yet _ _ c.set_up.ensures.possible c.if-not-set_up.false) _ _ _ _ (λ some. c.opened_by.ensures.more some refl) c.opened_by.ensures.none)

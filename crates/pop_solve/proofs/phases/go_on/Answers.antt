@@ -1,6 +1,7 @@
-use Rattle.std.proofs.Common.{rules}
+use Rattle.std.proofs.Common.{refl, rules}
 use Rattle.pop_solve.specs.Phases.{IsStanding}
 use Rattle.pop_solve.proofs.Events as events
+use Rattle.pop_solve.proofs.Opened as opened
 use Rattle.pop_solve.proofs.phases.go_on.Goals as goal
 
 pub walk_on-requires : goal.walk_on-requires
@@ -40,3 +41,14 @@ returns-clause-standing g c =
 pub returns-clause-gives : goal.returns-clause-gives
 returns-clause-gives g c =
     rw c.max_solutions-max_solutions.ensures.limit (events.gives-ended g.R.Rules.rule c.args.problem.now c.args.in_set _ _ _ c.end.ensures.stage c.end.ensures.none _ _ _ _ _ (rw c.max_solutions-max_solutions.ensures.limit at c.if-walk_on.ensures.walks))
+
+pub returns-then-walk_on-clause-opens : goal.returns-then-walk_on-clause-opens
+returns-then-walk_on-clause-opens g c =
+    opened.opens-given g.R.Rules.rule c.args.problem.now c.args.in_set _ _ _ _ _ c.walk_on.ensures.opens _ _
+
+pub returns-clause-opens : goal.returns-clause-opens
+unfolding IsStanding
+returns-clause-opens g c =
+    let w = rw c.max_solutions-max_solutions.ensures.limit at c.if-walk_on.ensures.walks in
+    rw (events.left-ended g.R.Rules.rule c.args.problem.now c.args.in_set _ _ _ _ w)
+    (opened.opens-ended g.R.Rules.rule c.args.problem.now c.args.in_set _ _ _ _ _ c.walk_on.ensures.opens _ _ _ c.end.ensures.stage c.requires.standing.1 (w.over refl))

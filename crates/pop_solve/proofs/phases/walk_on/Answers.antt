@@ -1,8 +1,20 @@
-use Rattle.std.proofs.Common.{◌≡◌, ◌<◌, ◌∙◌, sym, arith, length}
+use Rattle.std.proofs.Common.{◌≡◌, ◌<◌, ◌∙◌, refl, sym, arith, length}
 use Rattle.std.proofs.lemmas.List.{length-reverse}
 use Rattle.std.proofs.lemmas.Bool.Decides.{nat_tests}
 use Rattle.pop_solve.proofs.Kept as kept
+use Rattle.pop_solve.proofs.Opened as opened
 use Rattle.pop_solve.proofs.phases.walk_on.Goals as goal
+
+pub loop-frames-init : goal.loop-frames-init
+loop-frames-init g c = (rw c.phase_half_moves-half_moves.ensures c.requires.walking, refl, opened.opens-none _ _ _ _ _)
+
+pub loop-frames-preserved : goal.loop-frames-preserved
+loop-frames-preserved g c =
+    let s = c.step.ensures.steps _ c.loop-frames.invariant.0 in (
+      s.walking,
+      c.loop-frames.invariant.1 ∙ (rw c.if-step.false at s.come),
+      opened.opens-then _ _ _ _ _ _ _ _ _ c.loop-frames.invariant.2 s.opens,
+    )
 
 pub returns-then-step : goal.returns-then-step
 returns-then-step g c =
@@ -12,6 +24,8 @@ returns-then-step g c =
       walks = rw (← c.way_of-way.ensures, ← c.phase_half_moves-half_moves.ensures)
           (kept.walks_given g.R.Rules.rule _ _ _ _ _ c.loop-frames.invariant.1 _ _ _ _ _ _ (c.step.ensures.steps _ c.loop-frames.invariant.0) c.if-step.true
           (omega (arith, l, some)) (rw (l, ← c.len.ensures.value) (sym c.is_full.ensures ∙ c.if-not-is_full.true)));
+      opens = rw (← c.way_of-way.ensures)
+          (opened.opens-then _ _ _ _ _ _ _ _ _ c.loop-frames.invariant.2 (c.step.ensures.steps _ c.loop-frames.invariant.0).opens);
     }
 
 pub returns-else-not-is_full : goal.returns-else-not-is_full
@@ -21,9 +35,14 @@ returns-else-not-is_full g c =
       walks = rw (← c.way_of-way.ensures, ← c.phase_half_moves-half_moves.ensures)
           (kept.walks_full g.R.Rules.rule _ _ _ _ _ c.loop-frames.invariant.1 _ _ c.loop-frames.invariant.0
           (rw (l, ← c.len.ensures.value) (sym c.is_full.ensures ∙ c.if-not-is_full.false)));
+      opens = rw (← c.way_of-way.ensures) c.loop-frames.invariant.2;
     }
 
 pub returns-after-loop-frames : goal.returns-after-loop-frames
 returns-after-loop-frames g c =
     let none : length c.loop-frames.frames.items ≡ 0 = grind (arith, nat_tests) in
-    record { walks = rw (← c.way_of-way.ensures, ← c.phase_half_moves-half_moves.ensures) (kept.walks_none g.R.Rules.rule _ _ _ _ _ c.loop-frames.invariant.1 _ _ c.loop-frames.invariant.0 (omega (arith, none, length-reverse c.loop-frames.frames.items))) }
+    record {
+      walks = rw (← c.way_of-way.ensures, ← c.phase_half_moves-half_moves.ensures)
+          (kept.walks_none g.R.Rules.rule _ _ _ _ _ c.loop-frames.invariant.1 _ _ c.loop-frames.invariant.0 (omega (arith, none, length-reverse c.loop-frames.frames.items)));
+      opens = rw (← c.way_of-way.ensures) c.loop-frames.invariant.2;
+    }

@@ -1,7 +1,9 @@
-use Rattle.std.proofs.Common.{◌∙◌, ap, refl, arith}
+use Rattle.std.proofs.Common.{◌∙◌, ap, refl}
 use Rattle.chess_core.specs.Diagrams.{position_of}
 use Rattle.pop_solve.specs.Events.{steps_from}
 use Rattle.pop_solve.specs.Phases.{IsStanding, left_of}
+use Rattle.pop_solve.proofs.Events.{given-all}
+use Rattle.pop_solve.proofs.Opened.{opened-start}
 use Rattle.pop_solve.proofs.search.Search.new.Goals as goal
 
 pub invariant_of-result : goal.invariant_of-result
@@ -10,7 +12,8 @@ invariant_of-result g c = (
   c.diagram.ensures.sound,
   c.requires.room,
   rw c.new.ensures (refl, c.of.ensures ∙ ap position_of c.diagram.ensures.diagram),
-  rw c.set_play.ensures (record { within = omega arith; counts = omega arith }),
+  rw c.set_play.ensures (given-all g.R.Rules.rule c.args.problem.now),
+  rw c.set_play.ensures (opened-start g.R.Rules.rule c.args.problem.now _),
 )
 
 pub returns-clause-left : goal.returns-clause-left

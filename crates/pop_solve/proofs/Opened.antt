@@ -1,0 +1,205 @@
+-- How many frames a search opens.
+use Rattle.std.proofs.Common.{◌≡◌, ℕ, zero, suc, ◌+◌, ◌-◌, ◌*◌, ◌%◌, ◌<◌, ◌≤◌, ◌^◌, min, Bool, true, false, not, ◌&&◌, ◌||◌, eqb, cond, List, [], ◌∷◌, ◌++◌, drop, refl, ◌∙◌, ap, arith, ◌⊎◌, inl, inr}
+use Rattle.std.proofs.lemmas.Bool.Decides.{nat_tests}
+use Rattle.chess_core.specs.Position.{Position}
+use Rattle.chess_rules.specs.RuleSet.{RuleSet}
+use Rattle.pop_input.specs.Posed.{Posed, IsSound}
+use Rattle.pop_input.specs.Stipulations.{is_help, is_selfmate, half_moves, half_moves_of}
+use Rattle.pop_input.specs.declared.stipulation.Form.{Form}
+use Rattle.pop_input.specs.declared.stipulation.Form.TheVariants.{Direct, SelfMate, Help, HelpHalf}
+use Rattle.pop_solve.specs.Events.{Step, total, is_stop, is_unstopped, is_barred, events, phase_start, phase_half_moves, phase_steps, phase_walk, walk_from, whole_walk}
+use Rattle.pop_solve.specs.Frames.{Frame, position, to_open}
+use Rattle.pop_solve.specs.Phases.{way_of, left_of, rest_open, IsKeys, IsNarrow, IsGiven, IsOpened, OpensOn}
+use Rattle.pop_solve.specs.Values.{seeks}
+use Rattle.pop_solve.specs.Walk.{IsCounted, IsWhites, Opens}
+use Rattle.pop_solve.specs.declared.phases.Stage.{Stage}
+use Rattle.pop_solve.specs.declared.phases.Stage.TheVariants.{Before, Barred, Within, Behind}
+use Rattle.pop_solve.specs.declared.walk.Way.{Way}
+use Rattle.pop_solve.proofs.Sound.{some_way}
+use Rattle.pop_solve.proofs.Walking.{counted_by, one, opened-most, walk_count-start}
+
+-- one part of a walk after another
+module _ (rule : RuleSet) (way : Way) (p : Position) where
+  pub opens-none : (frames : List Frame) (count : ℕ) → Opens rule way p frames frames count count
+  opens-none frames count = record { whites = λ a b w. w; most = λ a b w. omega arith; helped = λ a. omega arith; counted = λ a walk c. c }
+
+  pub opens-then : (old mid new : List Frame) (a b c : ℕ) → Opens rule way p old mid a b → Opens rule way p mid new b c → Opens rule way p old new a c
+  opens-then old mid new a b c x y = record {
+    whites = λ h v w. y.whites h v (x.whites h v w);
+    most = λ h v w. omega (arith, x.most h v w, y.most h v (x.whites h v w));
+    helped = λ h. omega (arith, x.helped h, y.helped h);
+    counted = λ h walk k. y.counted h walk (x.counted h walk k);
+  }
+
+-- what is opened in a later phase, counted apart
+counted-apart : (walk later opened rest : ℕ) → IsCounted walk opened (rest + later) → IsCounted (walk - later) opened rest
+counted-apart walk later opened rest c =
+    record { within = omega (arith, c.within); counts = omega (arith, c.within, c.counts) }
+
+counted-along : (walk later opened rest : ℕ) → later ≤ walk → IsCounted (walk - later) opened rest → IsCounted walk opened (rest + later)
+counted-along walk later opened rest l c =
+    record { within = omega (arith, l, c.within); counts = omega (arith, l, c.within, c.counts) }
+
+-- White is to move in the first position of a battle
+white-starts : (form : Form) (n : ℕ) → is_help form ≡ false → 1 ≤ half_moves_of form n → seeks (is_selfmate form) (half_moves_of form n) ≡ true
+white-starts Direct n e some = let m : (2 * n - 1) % 2 ≡ 1 = omega (arith, some) in rw m refl
+white-starts SelfMate n e some = let m : 2 * n % 2 ≡ 0 = omega arith in rw m refl
+white-starts Help n e some = absurd cc
+white-starts HelpHalf n e some = absurd cc
+
+whites-root : (selfmate : Bool) (f : Frame) → seeks selfmate f.left ≡ true → IsWhites selfmate (f ∷ []) ≡ true
+unfolding IsWhites
+whites-root selfmate f e = rw e (or_true (eqb f.left 0))
+  where
+    or_true : (b : Bool) → ((b || true) && true) ≡ true
+    or_true true = refl
+    or_true false = refl
+
+module _ (rule : RuleSet) (problem : Posed) where
+  -- the frames of the phases behind one
+  abbrev later : Bool → ℕ
+  later in_set = cond in_set (phase_walk rule problem false) 0
+
+  -- a phase that isn't possible
+  pub opens-barred : (in_set : Bool) (old new : List Frame) (count : ℕ) (left : List Step) → is_barred rule problem in_set ≡ true → OpensOn rule problem (Before in_set) Barred old new count count left
+  unfolding rest_open IsNarrow
+  opens-barred true old new count left e = record {
+    narrow = λ n. narrowed n;
+    most = λ n. rw e (omega arith);
+    counted = λ h u walk c. (let z : 0 + phase_walk rule problem false ≡ phase_walk rule problem false = omega arith in rw (e, z) at c);
+  }
+    where
+      narrowed : (is_help problem.stipulation.form ≡ true) ⊎ IsKeys problem true → is_help problem.stipulation.form ≡ true
+      narrowed (inl h) = h
+      narrowed (inr k) = let f : true ≡ false = k.play in absurd cc
+  opens-barred false old new count left e = absurd cc
+
+  -- a phase begins: its root is opened
+  module _ (sound : IsSound problem) (in_set : Bool) (f : Frame) (left_is : f.left ≡ phase_half_moves problem in_set) (place_is : f.place ≡ 0) (possible : is_barred rule problem in_set ≡ false) where
+    abbrev way : Way
+    way = way_of problem
+
+    root-open : phase_walk rule problem in_set ≡ one rule way f.left + to_open rule (phase_start problem in_set) (f ∷ [])
+    unfolding to_open position
+    root-open = rw (possible, place_is, ← left_is) (omega (arith, walk_count-start rule way f.left (phase_start problem in_set)))
+
+    from-open : walk_from rule problem in_set ≡ one rule way f.left + (to_open rule (phase_start problem in_set) (f ∷ []) + later in_set)
+    from-open = go in_set root-open
+      where
+        go : (b : Bool) → phase_walk rule problem b ≡ one rule way f.left + to_open rule (phase_start problem in_set) (f ∷ []) → walk_from rule problem b ≡ one rule way f.left + (to_open rule (phase_start problem in_set) (f ∷ []) + later b)
+        go true e = rw e (omega arith)
+        go false e = omega (arith, e)
+
+    pub opens-begun : (old : List Frame) (count count2 : ℕ) (left : List Step) → (0 < f.left → count2 ≡ min (count + 1) (2 ^ 64 - 1)) → (f.left ≡ 0 → count2 ≡ count) → OpensOn rule problem (Before in_set) (Within in_set 0) old (f ∷ []) count count2 left
+    unfolding rest_open IsNarrow
+    opens-begun old count count2 left more same = record {
+      narrow = λ n. narrowed n;
+      most = λ n. omega (arith, from-open, opened-most rule way f.left count count2 more same);
+      counted = λ h u walk c. counted_by rule way f.left walk count count2 _ _ from-open more same c;
+    }
+      where
+        narrowed : (is_help problem.stipulation.form ≡ true) ⊎ IsKeys problem in_set → (is_help problem.stipulation.form ≡ true) ⊎ (IsKeys problem in_set × (IsWhites (is_selfmate problem.stipulation.form) (f ∷ []) ≡ true))
+        narrowed (inl h) = inl h
+        narrowed (inr k) =
+            let l : f.left ≡ half_moves problem.stipulation = left_is ∙ ap (λ b. cond b (half_moves problem.stipulation - 1) (half_moves problem.stipulation)) k.play in
+            inr (k, whites-root (is_selfmate problem.stipulation.form) f (rw l (white-starts problem.stipulation.form problem.stipulation.n k.battle (some_way problem sound))))
+
+  -- within a phase
+  module _ (in_set : Bool) (count : ℕ) (old new : List Frame) (before after : ℕ) (x : Opens rule (way_of problem) (phase_start problem in_set) old new before after) where
+    walked-most : (is_help problem.stipulation.form ≡ true) ⊎ (IsKeys problem in_set × (IsWhites (is_selfmate problem.stipulation.form) old ≡ true)) → after + to_open rule (phase_start problem in_set) new ≤ before + to_open rule (phase_start problem in_set) old
+    walked-most (inl h) = x.helped h
+    walked-most (inr k) = x.most k.0.battle k.0.keys k.1
+
+    walked-counted : is_help problem.stipulation.form ≡ true → (walk : ℕ) → IsCounted walk before (to_open rule (phase_start problem in_set) old + later in_set) → IsCounted walk after (to_open rule (phase_start problem in_set) new + later in_set)
+    walked-counted h walk c =
+        counted-along walk (later in_set) after _ (omega (arith, c.within)) (x.counted h (walk - later in_set) (counted-apart walk (later in_set) before _ c))
+
+    pub opens-given : (next : ℕ) (left : List Step) → OpensOn rule problem (Within in_set count) (Within in_set next) old new before after left
+    unfolding rest_open IsNarrow
+    opens-given next left = record {
+      narrow = λ n. narrowed n;
+      most = λ n. omega (arith, walked-most n);
+      counted = λ h u walk c. walked-counted h walk c;
+    }
+      where
+        narrowed : (is_help problem.stipulation.form ≡ true) ⊎ (IsKeys problem in_set × (IsWhites (is_selfmate problem.stipulation.form) old ≡ true)) → (is_help problem.stipulation.form ≡ true) ⊎ (IsKeys problem in_set × (IsWhites (is_selfmate problem.stipulation.form) new ≡ true))
+        narrowed (inl h) = inl h
+        narrowed (inr k) = inr (k.0, x.whites k.0.battle k.0.keys k.1)
+
+    -- its end: where no phase is stopped, nothing is left to open
+    nothing_open : (left : List Step) → is_unstopped (total count (eqb count problem.max_solutions) ∷ left) ≡ true → count ≤ problem.max_solutions → (new ≡ []) ⊎ (problem.max_solutions - count ≡ 0) → to_open rule (phase_start problem in_set) new ≡ 0
+    unfolding to_open
+    nothing_open left u most (inl none) = rw none refl
+    nothing_open left u most (inr full) =
+        let e : count ≡ problem.max_solutions = omega (arith, full, most) in
+        let t : eqb count problem.max_solutions ≡ true = grind (arith, nat_tests, e) in
+        let f : false ≡ true = rw t at u in absurd cc
+
+    pub opens-ended : (stage : Stage) (last : List Frame) (left : List Step) → stage ≡ cond in_set (Before false) Behind → count ≤ problem.max_solutions → (new ≡ []) ⊎ (problem.max_solutions - count ≡ 0) → OpensOn rule problem (Within in_set count) stage old last before after (total count (eqb count problem.max_solutions) ∷ left)
+    unfolding rest_open IsNarrow
+    opens-ended stage last left at most over = record {
+      narrow = λ n. rw at (narrowed in_set n);
+      most = λ n. rw (at, rest-is in_set) (omega (arith, walked-most n));
+      counted = λ h u walk c. rw (at, rest-is in_set) (let w = walked-counted h walk c in let z = nothing_open left u most over in record { within = omega (arith, w.within); counts = omega (arith, z, w.counts) });
+    }
+      where
+        rest-is : (b : Bool) → rest_open rule problem (cond b (Before false) Behind) last ≡ later b
+        rest-is true = refl
+        rest-is false = refl
+
+        narrowed : (b : Bool) → (is_help problem.stipulation.form ≡ true) ⊎ (IsKeys problem b × (IsWhites (is_selfmate problem.stipulation.form) old ≡ true)) → IsNarrow problem (cond b (Before false) Behind) last
+        narrowed true (inl h) = inl h
+        narrowed true (inr k) = let f : true ≡ false = k.0.play in absurd cc
+        narrowed false n = tt
+
+  -- before the play where set play isn't possible, and behind all
+  pub opens-play : (frames : List Frame) (count : ℕ) (left : List Step) → OpensOn rule problem Barred (Before false) frames frames count count left
+  unfolding rest_open IsNarrow
+  opens-play frames count left = record { narrow = λ h. inl h; most = λ n. omega arith; counted = λ h u walk c. c }
+
+  pub opens-behind : (stage : Stage) (frames : List Frame) (count : ℕ) (left : List Step) → OpensOn rule problem stage stage frames frames count count left
+  opens-behind stage frames count left = record { narrow = λ n. n; most = λ n. omega arith; counted = λ h u walk c. c }
+
+  -- a search that has opened nothing
+  pub opened-start : (frames : List Frame) → IsOpened rule problem (Before problem.set_play) frames 0
+  unfolding rest_open IsNarrow
+  opened-start frames = record {
+    narrow = λ w. narrowed (is_help problem.stipulation.form) problem.variation problem.set_play refl refl refl w;
+    most = λ w. omega arith;
+    counted = λ h u. record { within = omega arith; counts = omega arith };
+  }
+    where
+      narrowed : (h v s : Bool) → is_help problem.stipulation.form ≡ h → problem.variation ≡ v → problem.set_play ≡ s → (h || (not v && not s)) ≡ true → (is_help problem.stipulation.form ≡ true) ⊎ IsKeys problem problem.set_play
+      narrowed true v s a b c w = inl a
+      narrowed false true s a b c w = absurd cc
+      narrowed false false true a b c w = absurd cc
+      narrowed false false false a b c w = inr (record { battle = a; keys = b; play = c })
+
+  all-drop : (k : ℕ) (xs : List Step) → is_unstopped xs ≡ true → is_unstopped (drop k xs) ≡ true
+  all-drop zero xs e = e
+  all-drop (suc k) [] e = e
+  all-drop (suc k) (x ∷ xs) e = all-drop k xs (second (not (is_stop x)) (is_unstopped xs) e)
+    where
+      second : (a b : Bool) → (a && b) ≡ true → b ≡ true
+      second true b e = e
+      second false b e = absurd cc
+
+  pub opened-on : (old new : Stage) (frames last : List Frame) (before after given : ℕ) (left : List Step) → IsGiven rule problem left given → OpensOn rule problem old new frames last before after left → IsOpened rule problem old frames before → IsOpened rule problem new last after
+  opened-on old new frames last before after given left g x o = record {
+    narrow = λ w. x.narrow (o.narrow w);
+    most = λ w. omega (arith, x.most (o.narrow w), o.most w);
+    counted = λ h u. x.counted h (rw g.ending (all-drop _ (events rule problem) u)) (whole_walk rule problem) (o.counted h u);
+  }
+
+  -- at the end nothing is to be opened
+  pub rest-none : (stage : Stage) (frames : List Frame) → left_of rule problem stage frames ≡ [] → rest_open rule problem stage frames ≡ 0
+  unfolding left_of rest_open phase_steps
+  rest-none (Before true) frames e = absurd cc
+  rest-none (Before false) frames e = absurd cc
+  rest-none Barred frames e = absurd cc
+  rest-none (Within in_set count) frames e = absurd (some _ _ _ e)
+    where
+      some : (xs : List Step) (y : Step) (ys : List Step) → (xs ++ y ∷ ys) ≡ [] → ⊥
+      some [] y ys e = cc
+      some (x ∷ xs) y ys e = cc
+  rest-none Behind frames e = refl
