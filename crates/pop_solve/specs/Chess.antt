@@ -1,4 +1,4 @@
--- Chess as a game of two sides, and how its moves are shown.
+-- Chess as a game of two sides, and how its moves are shown (FIDE Laws, appendix C; rebirths by the Popeye manual).
 use Rattle.std.specs.Prelude.{ℕ, Bool, false, not, ◌&&◌, nat_lt, Option, Some, None, is_some, if◌then◌else◌}
 use Rattle.chess_core.specs.Position.{Position, man_on, other}
 use Rattle.chess_core.specs.Triple.{Triple}
@@ -71,7 +71,7 @@ shown_of (Some x) there m lost mark = shown_by x there m lost mark
 unfoldable pub show : RuleSet → Position → Triple → Shown
 show rule p m = shown_of (man_on p.men m.from) (man_on p.men m.to) m (undo_of rule p m) (mark_of rule (after rule p m))
 
--- the first position of set play: the other side is to move, and no square is crossed
+-- the first position of set play (own): the other side is to move, and no square is crossed
 abbrev pub set_start : Position → Position
 set_start p = record p { turn = other p.turn; crossed = None }
 

@@ -1,4 +1,5 @@
--- The events of a problem.
+-- The events of a problem: its phases, their solutions and their totals. Set play, the limit of solutions and the order
+-- of events are this project's own; half-moves are numbered as in the Popeye manual.
 use Rattle.std.specs.Prelude.{◌≡◌, ℕ, ◌+◌, ◌-◌, ◌==◌, Bool, true, false, not, ◌&&◌, ◌||◌, if◌then◌else◌, List, [], ◌∷◌, ◌++◌, map, take, length}
 use Rattle.std.specs.List.{flat_map, list_all}
 use Rattle.chess_core.specs.Diagrams.{position_of}
@@ -108,7 +109,7 @@ StandsOn rule problem (line in_set path) board depth = (board ≡ reach (chess r
 StandsOn rule problem (tree_node in_set path) board depth = (board ≡ reach (chess rule) (phase_start problem in_set) path) × (depth ≡ length path + 1)
 StandsOn rule problem (total count stopped) board depth = Unit {0}
 
--- how many lists of fewer moves than its half-moves a phase has, none where it is barred
+-- how many lists of fewer moves than its half-moves, each legal where it stands, a phase has: none where it is barred
 abbrev pub phase_walk : RuleSet → Posed → Bool → ℕ
 phase_walk rule problem in_set =
     if is_barred rule problem in_set then 0

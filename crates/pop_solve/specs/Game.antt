@@ -1,4 +1,5 @@
--- A game of two sides, by what its solutions are made of: nothing here is chess.
+-- A game of two sides, by what its solutions are made of: nothing here is chess. What a direct mate, a selfmate and a
+-- helpmate ask for is as in the Codex for Chess Composition and the Popeye manual.
 use Rattle.std.specs.Prelude.{ℕ, zero, suc, ◌+◌, ◌-◌, ◌==◌, Bool, false, not, ◌&&◌, ◌||◌, if◌then◌else◌, List, [], ◌∷◌, map, length}
 use Rattle.std.specs.List.{list_any, list_all, flat_map, sum_by}
 
@@ -41,7 +42,7 @@ module _ {P M : Type 0} where
   unfoldable pub self_lost : Game P M → ℕ → P → Bool
   self_lost game j q = can_move game q && every_move game (λ r. game.goal r || self_wins game (j - 1) r) q
 
-  -- Help play. All lists of h moves, each legal where it stands, whose last position has the goal
+  -- Help play. In the order of moves, all lists of h moves, each legal where it stands, whose last position has the goal
   unfoldable pub lines_to_goal : Game P M → ℕ → P → List (List M)
   lines_to_goal game zero p = if game.goal p then [] ∷ [] else []
   lines_to_goal game (suc h) p =

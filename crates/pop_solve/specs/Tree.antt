@@ -1,4 +1,5 @@
--- The tree of a battle problem.
+-- The tree of a battle problem: its keys, all defences, and the continuations of least length. That a tree shows just
+-- these, in the order of moves, and what set play is, are this project's own; key and defence are the Codex's.
 use Rattle.std.specs.Prelude.{ℕ, zero, suc, ◌-◌, Bool, true, false, ◌||◌, if◌then◌else◌, List, [], ◌∷◌, map}
 use Rattle.std.specs.List.{filter, flat_map, position_or_len, range_with_len}
 use Rattle.pop_solve.specs.Game.{Game, lost, wins, self_wins, self_lost}
