@@ -1,5 +1,5 @@
 -- Chess as a game of two sides, and how its moves are shown (FIDE Laws, appendix C; rebirths by the Popeye manual).
-use Rattle.std.specs.Prelude.{ℕ, Bool, false, not, ◌&&◌, nat_lt, Option, Some, None, is_some, if◌then◌else◌}
+use Rattle.std.specs.Prelude.{ℕ, Bool, false, true, not, ◌&&◌, nat_lt, Option, Some, None, is_some, if◌then◌else◌}
 use Rattle.chess_core.specs.Position.{Position, man_on, other}
 use Rattle.chess_core.specs.Triple.{Triple}
 use Rattle.chess_core.specs.declared.man.Colour.TheVariants.{White}
@@ -24,6 +24,11 @@ chess rule = record { moves = moves rule; after = after rule; goal = is_goal rul
 -- what a move has done to the side that is to move in q
 unfoldable pub mark_of : RuleSet → Position → Mark
 mark_of rule q = if is_goal rule q then Mate else (if in_check rule q.men q.turn then Check else Plain)
+
+abbrev pub is_mate_mark : Mark → Bool
+is_mate_mark Plain = false
+is_mate_mark Check = false
+is_mate_mark Mate = true
 
 -- to which side the man castles, if it does
 abbrev pub castling_side : Man → Triple → Option Side

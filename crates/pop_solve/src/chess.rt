@@ -4,9 +4,10 @@ ghost use Rattle.chess_core.specs.Diagrams.{position_of};
 ghost use Rattle.chess_core.specs.Position.{Position};
 ghost use Rattle.chess_core.specs.WellFormed.{IsWellFormed};
 ghost use Rattle.chess_rules.specs.Attacks.{in_check};
-ghost use Rattle.chess_rules.specs.Legal.{legal};
+ghost use Rattle.chess_rules.specs.Legal.{is_goal, legal};
 ghost use Rattle.chess_rules.specs.Places.{moves_behind};
-ghost use Rattle.pop_solve.specs.Chess.{castling_side, chess, is_impossible, mark_of, reborn, set_start, shown_by, shown_of};
+ghost use Rattle.chess_rules.specs.RuleSet.{RuleSet};
+ghost use Rattle.pop_solve.specs.Chess.{castling_side, chess, is_impossible, is_mate_mark, mark_of, reborn, set_start, shown_by, shown_of};
 ghost use Rattle.pop_solve.specs.Frames.{CameBy};
 ghost use Rattle.pop_solve.specs.Game.{can_move as has_move};
 
@@ -51,7 +52,7 @@ pub fn retract<R: Rules>(board: &mut Board, by: Move, undo: Undo)
 
 /// What a move has done to the side that is to move now.
 #[tactic(auto, unfolding(crate::specs::Chess::mark_of, chess_rules::specs::Legal::is_goal))]
-fn mark_of<R: Rules>(board: &mut Board) -> Mark
+pub fn mark_of<R: Rules>(board: &mut Board) -> Mark
     requires well_formed { IsWellFormed board.old }
     ensures unchanged { board.new ≡ board.old }
     ensures mark { result ≡ mark_of R.rule board.old }
@@ -64,6 +65,23 @@ fn mark_of<R: Rules>(board: &mut Board) -> Mark
     } else {
         Mark::Mate
     }
+}
+
+/// Whether it has mated.
+fn is_mate_mark(mark: Mark) -> bool
+    ensures { result ≡ is_mate_mark mark }
+{
+    match mark {
+        Mark::Plain | Mark::Check => false,
+        Mark::Mate => true,
+    }
+}
+
+/// Whether the side that is to move is mated, read off the mark of the move before.
+pub fn has_mated(mark: Mark) -> bool
+    ensures { (rule : RuleSet) (q : Position) → mark ≡ mark_of rule q → result ≡ is_goal rule q }
+{
+    is_mate_mark(mark)
 }
 
 /// To which side the man castles, if it does.
@@ -88,18 +106,15 @@ fn reborn(man: Option<Man>, square: Option<Square>) -> Option<(Man, Square)>
 
 /// The move of the man as it is shown, once it is played: `there` stood on the arrival before.
 #[tactic(auto, unfolding(crate::specs::Chess::shown_of))]
-pub fn shown_of<R: Rules>(
+pub fn shown_of(
     man: Option<Man>,
     there: Option<Man>,
     by: &Move,
     undo: &Undo,
-    board: &mut Board,
+    mark: Mark,
 ) -> Shown
-    requires well_formed { IsWellFormed board.old }
-    ensures unchanged { board.new ≡ board.old }
-    ensures shown { result ≡ shown_of man there by.now undo.now (mark_of R.rule board.old) }
+    ensures { result ≡ shown_of man there by.now undo.now mark }
 {
-    let mark = mark_of::<R>(board);
     let Some(man) = man else {
         return Shown::default();
     };

@@ -9,3 +9,8 @@ pub mod search;
 pub mod shown;
 mod value;
 mod walk;
+
+pub use event::{Event, Phase};
+pub use frame::Frame;
+pub use search::Search;
+pub use shown::{Mark, Shown, Side};

@@ -5,15 +5,17 @@ ghost use Rattle.chess_core.specs.WellFormed.{IsWellFormed};
 ghost use Rattle.chess_rules.specs.Legal.{legal};
 ghost use Rattle.chess_rules.specs.Places.{moves_behind};
 ghost use Rattle.chess_rules.specs.Play.{undo_of};
+ghost use Rattle.chess_rules.specs.RuleSet.{RuleSet};
 ghost use Rattle.arrayvec.specs.ArrayVec.{array_vec_len};
 ghost use Rattle.pop_solve.specs.Frames.{CameFrom, CameFromAt, opened as opened_frame};
-ghost use Rattle.pop_solve.specs.Chess.{chess, show};
+ghost use Rattle.pop_solve.specs.Chess.{chess, mark_of, show};
 ghost use Rattle.pop_solve.specs.Game.{walk_count};
 ghost use Rattle.pop_solve.specs.Values.{seeks};
 ghost use Rattle.pop_solve.specs.Walk.{fewest as fewest_of, first_from, open_length, follows as is_followed, gives as is_given, goes_on, IsWalking, Steps};
 
-use crate::chess::{next_move, retract, shown_of};
+use crate::chess::{has_mated, mark_of, next_move, retract, shown_of};
 use crate::frame::Frame;
+use crate::shown::Mark;
 use crate::value::{seeking, value_of};
 use arrayvec::ArrayVec;
 use chess_core::board::Board;
@@ -118,14 +120,12 @@ fn is_tested(way: Way, root: bool, left: usize) -> bool
     !way.help && (root || seeking(way.selfmate, left))
 }
 
-/// Whether the path to the board's position is given.
+/// Whether the path by a move with this mark is given, after which `left` half-moves are left.
 #[tactic(auto, unfolding(crate::specs::Walk::gives))]
-fn gives<R: Rules>(way: Way, left: usize, board: &mut Board) -> bool
-    requires well_formed { IsWellFormed board.old }
-    ensures unchanged { board.new ≡ board.old }
-    ensures gives { result ≡ is_given way (chess R.rule) left board.old }
+fn gives(way: Way, left: usize, mark: Mark) -> bool
+    ensures { (rule : RuleSet) (q : Position) → mark ≡ mark_of rule q → result ≡ is_given way (chess rule) left q }
 {
-    !way.help || left == 0 && is_mate::<R>(board)
+    !way.help || left == 0 && has_mated(mark)
 }
 
 /// The count of opened frames once a frame has been opened that has `tried` half-moves below it. One with none isn't
@@ -177,7 +177,8 @@ fn enter<R: Rules, const N: usize>(
         retract::<R>(board, by, undo);
         return false;
     }
-    let shown = shown_of::<R>(man, there, &by, &undo, board);
+    let mark = mark_of::<R>(board);
+    let shown = shown_of(man, there, &by, &undo, mark);
     let tried = length_below::<R, N>(way, left, board, frames, opened);
     frames.push(Frame {
         place: Moves::start(),
@@ -187,7 +188,7 @@ fn enter<R: Rules, const N: usize>(
         shown,
     });
     *opened = opened_by(*opened, tried, tested);
-    gives::<R>(way, left, board)
+    gives(way, left, mark)
 }
 
 /// The next move behind a place, in a position from which `left` half-moves are tried.
