@@ -1,4 +1,4 @@
-use Rattle.std.proofs.Common.{◌≡◌, ◌∙◌, ap}
+use Rattle.std.proofs.Common.{◌∙◌, ap}
 use Rattle.pop_solve.specs.Chess.{is_mate_mark}
 use Rattle.pop_solve.proofs.Boards.{mate-is}
 use Rattle.pop_solve.proofs.chess.has_mated.Goals as goal
