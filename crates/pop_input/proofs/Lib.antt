@@ -5,3 +5,5 @@ pub mod Taking
 pub mod Blocks
 pub mod Items
 pub mod Ends
+pub mod Numbers
+pub mod Numbered

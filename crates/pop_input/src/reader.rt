@@ -3,7 +3,7 @@ ghost use Rattle.std.specs.Prelude.{◌≡◌, ◌<◌, ◌≤◌, ◌⊎◌, le
 ghost use Rattle.pop_text.specs.Bytes.{greatest};
 ghost use Rattle.pop_text.specs.Reading.{IsSeen, failures_after};
 ghost use Rattle.pop_text.specs.declared.scanner.End.{End};
-ghost use Rattle.pop_input.specs.Standing.{NextItem, is_item, next_behind as behind, start, work_left};
+ghost use Rattle.pop_input.specs.Standing.{IsNumbered, NextItem, is_item, next_behind as behind, start, work_left};
 ghost use Rattle.pop_input.specs.Closings.{cut_fault, last_of};
 ghost use Rattle.pop_input.specs.Names.{command_of};
 
@@ -55,6 +55,7 @@ impl Reader {
         ensures seen { IsSeen self.old.at.end (S.remaining source.old) → IsSeen self.new.at.end (S.remaining source.new) }
         ensures ends { self.old.at.end ≡ End.Open ⊎ self.new.at.end ≡ self.old.at.end }
         ensures counted { S.failures source.new ≡ failures_after self.old.at.end self.new.at.end (S.failures source.old) }
+        ensures numbered { IsNumbered self.new.at result }
         ensures less { is_item result ≡ true → work_left self.new < work_left self.old }
     {
         let first = match self.next_block {

@@ -1,4 +1,4 @@
-use Rattle.std.proofs.Common.{◌≡◌, ◌∙◌, refl, sym, ap, inr, Some, None}
+use Rattle.std.proofs.Common.{◌≡◌, ◌∙◌, refl, sym, ap, inr, Some, None, subst}
 use Rattle.pop_text.proofs.Using.{ends_then, failures_then, failures_same}
 use Rattle.pop_input.specs.Names.{command_of}
 use Rattle.pop_input.specs.Closings.{last_of}
@@ -6,6 +6,9 @@ use Rattle.pop_input.specs.Standing.{Standing}
 use Rattle.pop_input.specs.declared.reader.Next.TheVariants.{Later, Nothing}
 use Rattle.pop_input.proofs.Items.{block_starts, line_read, long_read, open_read, not_closing}
 use Rattle.pop_input.proofs.Ends.{word_closes, input_ends, cut_with_fault, cut_without_fault}
+use Rattle.pop_input.specs.declared.item.Last.TheVariants.{No}
+use Rattle.pop_input.proofs.Numbers.{SmallFault, small_item, ended_numbered, cut_numbered}
+use Rattle.pop_input.proofs.Numbered.{block_fault_small, word_numbered}
 use Rattle.pop_input.proofs.reader.Reader.next_problem.Goals as goal
 use Rattle.pop_input.proofs.reader.Reader.next_problem.Goals.{in-First, in-Later}
 
@@ -88,3 +91,24 @@ returns-in-None-fault-clause-item g c =
     let new : Standing = record { next = Nothing; at = c.next_token.new.scanner } in
     rw c.fault_of_cut.ensures (cut_without_fault c.match-self.first c.args.self.now new (g.S.Source.remaining c.args.source.now) (g.S.Source.remaining c.next_token.new.source) i.starts
     c.words.self-inside.scanner (g.S.Source.remaining c.words.source) c.words.block i.block c.in-Cut.cut c.in-None-fault.is c.in-Cut.ensures.token refl)
+
+pub returns-in-Some-clause-numbered : goal.returns-in-Some-clause-numbered
+returns-in-Some-clause-numbered g c =
+    let i = c.words.invariant in
+    let t = c.in-Word.ensures.token in
+    word_numbered c.match-self.first c.args.self.now c.words.self-inside.scanner c.next_token.new.scanner (g.S.Source.remaining c.args.source.now) (g.S.Source.remaining c.words.source) (g.S.Source.remaining c.next_token.new.source) c.words.block c.read.new.self i.block c.in-Word.word.line c.in-Word.word.bytes.items t.0
+    (c.read.ensures.fault, λ none. (c.read.ensures.begun none, c.read.ensures.draft none, c.read.ensures.title, c.read.ensures.author)) c.closed.result c.in-Some.last c.closed.ensures
+
+pub returns-in-Ended-clause-numbered : goal.returns-in-Ended-clause-numbered
+returns-in-Ended-clause-numbered g c =
+    let i = c.words.invariant in
+    rw c.ended.ensures (ended_numbered c.next_token.new.scanner c.words.block c.in-Ended.line (block_fault_small _ _ _ _ _ _ i.block))
+
+pub returns-in-Some-fault-clause-numbered : goal.returns-in-Some-fault-clause-numbered
+returns-in-Some-fault-clause-numbered g c =
+    let i = c.words.invariant in
+    small_item c.next_token.new.scanner c.in-Some-fault.fault No (subst SmallFault c.in-Some-fault.is (block_fault_small _ _ _ _ _ _ i.block))
+
+pub returns-in-None-fault-clause-numbered : goal.returns-in-None-fault-clause-numbered
+returns-in-None-fault-clause-numbered g c =
+    rw c.fault_of_cut.ensures (cut_numbered c.words.self-inside.scanner c.next_token.new.scanner (g.S.Source.remaining c.words.source) (g.S.Source.remaining c.next_token.new.source) c.in-Cut.cut c.in-Cut.ensures.token)
