@@ -1,11 +1,11 @@
 -- What is used of a line, and what rest_of_line answers.
-use Rattle.std.proofs.Common.{◌≡◌, ◌<◌, ◌≤◌, ℕ, ◌+◌, ◌-◌, suc, List, [], ◌∷◌, ◌++◌, length, length-append, length-take, take, Option, None, Some, Bool, true, false, not, refl, sym, ◌∙◌, ap, arith, append_assoc, ◌⊎◌, inl, inr, count_by, subst, cond, Err, Ok}
+use Rattle.std.proofs.Common.{◌≡◌, ◌<◌, ◌≤◌, ℕ, ◌+◌, ◌-◌, suc, List, [], ◌∷◌, ◌++◌, length, length-append, length-take, take, Option, None, Some, Bool, true, false, not, refl, sym, ◌∙◌, ap, arith, append_assoc, ◌⊎◌, inl, inr, count_by, subst, cond, Err, Ok, fold}
 use Rattle.std.specs.List.{list_all}
 use Rattle.std.proofs.lemmas.List.{append-nil, take_all, take-append-le}
 use Rattle.std.proofs.lemmas.List.Folds.{list_all-append}
 use Rattle.std.proofs.lemmas.List.Sums.{sum_by-append}
 use Rattle.std.proofs.lemmas.Bool.{lt-ltb, le-ltb, cases_lt}
-use Rattle.pop_text.specs.Words.{TextLine, Tail, End as AtEnd, words_by, is_cut, is_line_end, is_blank, limit, without_leading}
+use Rattle.pop_text.specs.Words.{TextLine, Tail, End as AtEnd, words_by, is_cut, is_in_line, is_line_end, is_blank, limit, without_leading}
 use Rattle.pop_text.proofs.WordLaws.{all_parts, take_line, take_last_line}
 use Rattle.pop_text.specs.Reading.{Reading, Uses}
 use Rattle.pop_text.specs.Runs.{Peeks}
@@ -15,9 +15,6 @@ use Rattle.pop_text.specs.declared.read_fault.ReadFault.{ReadFault}
 use Rattle.pop_text.specs.declared.read_fault.ReadFault.TheVariants.{TooLong, InputTooLong, Device}
 use Rattle.pop_text.proofs.Using.{uses_then, keeps_bytes, amount_is}
 use Rattle.pop_text.proofs.Left.{view_at, tail_at, left_is, follows_is, same_words, count_then, ended_view, fault_view, fault_over, fault_tail, cut_by_fault}
-
-abbrev pub is_in_line : ℕ → Bool
-is_in_line b = not (is_line_end b)
 
 -- bytes of a line were used, and of its text the first 200 kept
 pub record LineSoFar (old new : Reading) (had left : Option (List ℕ)) (kept : List ℕ) : Type 0 where
@@ -50,13 +47,19 @@ module _ (m : ℕ) where
   kept_more [] c = first_kept c (is_blank c) refl
   kept_more (b ∷ bytes) c = kept_by (is_blank b) b c bytes refl (kept_more bytes c)
 
+-- more bytes of a line
+pub kept_all : (bytes part : List ℕ) → fold (with_byte 200) (take 200 (without_leading bytes)) part ≡ take 200 (without_leading (bytes ++ part))
+kept_all bytes [] = ap (λ bs. take 200 (without_leading bs)) (sym (append-nil bytes))
+kept_all bytes (c ∷ part) =
+    ap (λ kept. fold (with_byte 200) kept part) (kept_more 199 bytes c) ∙ kept_all (bytes ++ c ∷ []) part ∙ ap (λ bs. take 200 (without_leading bs)) (append_assoc bytes (c ∷ []) part)
+
 -- Text lines of a view.
 
 line_byte : (b : ℕ) → is_in_line b ≡ true → is_line_end b ≡ false
 line_byte b h = grind arith
 
 -- a line's bytes hold no line end
-line_lines : (bytes : List ℕ) → list_all is_in_line bytes ≡ true → count_by is_line_end bytes ≡ 0
+pub line_lines : (bytes : List ℕ) → list_all is_in_line bytes ≡ true → count_by is_line_end bytes ≡ 0
 line_lines [] h = refl
 line_lines (b ∷ bytes) h =
     let p : (is_in_line b ≡ true) × (list_all is_in_line bytes ≡ true) = all_parts is_in_line b bytes h in
@@ -105,12 +108,12 @@ module _ (old mid here new : Reading) (had met now : Option (List ℕ)) (kept : 
   used_one : (b : ℕ) (rest : List ℕ) → here.window ≡ b ∷ rest → Uses here new now now (take 1 here.window) → Uses old new had now (l.bytes ++ b ∷ [])
   used_one b rest at u = uses_then old here new had now now l.bytes (b ∷ []) peeked (subst (λ bs. Uses here new now now (take 1 bs)) at u)
 
-  pub line_more : (b : ℕ) → Peeks here (Ok (Some b)) → is_line_end b ≡ false → Uses here new now now (take 1 here.window) → LineSoFar old new had now (with_byte 200 kept b)
-  line_more b at out u = record {
-    bytes = l.bytes ++ b ∷ [];
-    all = list_all-append is_in_line l.bytes (b ∷ []) ∙ rw (l.all, out) refl;
-    uses = used_one b at.0 at.1 u;
-    first = rw l.first (kept_more 199 l.bytes b);
+  pub line_more : (part : List ℕ) → list_all is_in_line part ≡ true → Uses here new now now part → LineSoFar old new had now (fold (with_byte 200) kept part)
+  line_more part plain u = record {
+    bytes = l.bytes ++ part;
+    all = list_all-append is_in_line l.bytes part ∙ rw (l.all, plain) refl;
+    uses = uses_then old here new had now now l.bytes part peeked u;
+    first = rw l.first (kept_all l.bytes part);
   }
 
   -- the line's end, and what is answered there

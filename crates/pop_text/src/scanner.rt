@@ -1,19 +1,25 @@
 //! Words and text lines of a source.
-ghost use Rattle.std.specs.Prelude.{◌≡◌, ◌<◌, ◌+◌, ◌⊎◌, ◌≢◌, [], ◌∷◌, List, ℕ, drop, length, Some, None, Ok, take, Option, IfOk, IfSome, false};
+ghost use Rattle.std.specs.Prelude.{◌≡◌, ◌<◌, ◌+◌, ◌⊎◌, ◌≢◌, [], ◌∷◌, List, ℕ, drop, length, Some, None, Ok, take, Option, IfOk, IfSome, false, true, ◌≤◌};
 ghost use Rattle.pop_text.specs.Bytes.{greatest};
-ghost use Rattle.pop_text.specs.Words.{limit, is_gap};
+ghost use Rattle.std.specs.List.{list_all};
+ghost use Rattle.pop_text.specs.Words.{limit, is_gap, is_in_line, is_line_end};
 ghost use Rattle.pop_text.specs.Reading.{beginning, Uses, UsesAll, IsSeen, failures_after};
 ghost use Rattle.pop_text.specs.Runs.{Peeks, RunsTo};
 ghost use Rattle.pop_text.specs.Left.{NextWord, RestOfLine};
 
 use crate::read_fault::ReadFault;
 use crate::source::Source;
-use crate::text::{Text, keep};
+use crate::text::{Text, keep_all};
 use crate::word::Word;
 use arrayvec::ArrayVec;
+use memchr::memchr;
 use std::marker::Model;
 
+// The most bytes that are read of an input.
 const LIMIT: u32 = 1 << 30;
+
+// The most bytes that wait.
+const WINDOW: usize = 4096;
 
 /// How the input ends, as far as that is known.
 #[derive(Clone, Copy, Debug, PartialEq, Eq)]
@@ -29,22 +35,23 @@ pub enum End {
 /// A place in an input, which is read through a source that each call is handed: the same one throughout.
 #[derive(Drop)]
 pub struct Scanner {
-    peeked: Option<u8>,
+    cells: [u8; WINDOW],
+    start: usize,
+    stop: usize,
     used: u32,
     line: u64,
     end: End,
 }
 
 impl Model for Scanner {
-    ghost use Rattle.std.specs.Prelude.{◌≤◌, ◌+◌, ◌^◌, []};
-    ghost use Rattle.std.specs.List.{cons_option};
+    ghost use Rattle.std.specs.Prelude.{◌≤◌, ◌+◌, ◌^◌, slice_range};
     ghost use Rattle.pop_text.specs.Reading.{Reading};
 
     ghost Value = { Reading };
 
-    ghost view = { λ s. record { window = cons_option s.peeked []; used = s.used; line = s.line; end = s.end } };
+    ghost view = { λ s. record { window = slice_range s.cells s.start s.stop; used = s.used; line = s.line; end = s.end } };
 
-    ghost invariant = { λ s. (s.used ≤ 2 ^ 30) × (s.line ≤ s.used + 1) };
+    ghost invariant = { λ s. (s.start ≤ s.stop) × (s.stop ≤ 4096) × (s.used ≤ 2 ^ 30) × (s.line ≤ s.used + 1) };
 }
 
 impl Scanner {
@@ -53,7 +60,9 @@ impl Scanner {
         ensures { result ≡ beginning }
     {
         Scanner {
-            peeked: None,
+            cells: [0; WINDOW],
+            start: 0,
+            stop: 0,
             used: 0,
             line: 1,
             end: End::Open,
@@ -67,21 +76,27 @@ impl Scanner {
         self.line
     }
 
-    // Takes a byte where none waits and the end is not known.
+    // Fills the window where no byte waits and the end is not known.
     #[tactic(auto, unfolding(crate::specs::Words::limit))]
     fn refill<S: Source>(&mut self, source: &mut S)
         requires { self.old.end ≡ End.Open → S.failures source.old < greatest }
         ensures uses { Uses self.old self.new (S.remaining source.old) (S.remaining source.new) [] }
         ensures known { self.new.window ≡ [] → self.new.end ≢ End.Open }
+        ensures waits { length self.new.window ≤ 4096 }
         ensures seen { IsSeen self.old.end (S.remaining source.old) → IsSeen self.new.end (S.remaining source.new) }
         ensures ends { self.old.end ≡ End.Open ⊎ self.new.end ≡ self.old.end }
         ensures counted { S.failures source.new ≡ failures_after self.old.end self.new.end (S.failures source.old) }
     {
-        if let (None, End::Open) = (self.peeked, self.end) {
-            let mut one = [0];
-            match source.read(&mut one) {
+        if self.start < self.stop {
+            return;
+        }
+        if let End::Open = self.end {
+            match source.read(&mut self.cells) {
                 Ok(0) => self.end = End::Ended,
-                Ok(_) => self.peeked = Some(one[0]),
+                Ok(count) => {
+                    self.start = 0;
+                    self.stop = count;
+                }
                 Err(_) => self.end = End::Broken,
             }
         }
@@ -93,27 +108,22 @@ impl Scanner {
         requires { self.old.end ≡ End.Open → S.failures source.old < greatest }
         ensures uses { Uses self.old self.new (S.remaining source.old) (S.remaining source.new) [] }
         ensures at { Peeks self.new result }
+        ensures waits { length self.new.window ≤ 4096 }
         ensures seen { IsSeen self.old.end (S.remaining source.old) → IsSeen self.new.end (S.remaining source.new) }
         ensures ends { self.old.end ≡ End.Open ⊎ self.new.end ≡ self.old.end }
         ensures counted { S.failures source.new ≡ failures_after self.old.end self.new.end (S.failures source.old) }
     {
         self.refill(source);
-        match self.peeked {
-            Some(byte) => {
-                if self.used < LIMIT {
-                    Ok(Some(byte))
-                } else {
-                    Err(ReadFault::InputTooLong(self.line))
-                }
+        if self.start < self.stop {
+            if self.used < LIMIT {
+                return Ok(Some(self.cells[self.start]));
             }
-            None => {
-                if let End::Broken = self.end {
-                    Err(ReadFault::Device(self.line))
-                } else {
-                    Ok(None)
-                }
-            }
+            return Err(ReadFault::InputTooLong(self.line));
         }
+        if let End::Broken = self.end {
+            return Err(ReadFault::Device(self.line));
+        }
+        Ok(None)
     }
 
     // Uses the byte at the place.
@@ -124,13 +134,47 @@ impl Scanner {
         ensures uses { (had : Option (List ℕ)) → Uses self.old self.new had had (take 1 self.old.window) }
         ensures end { self.new.end ≡ self.old.end }
         ensures used { self.new.used ≡ self.old.used + 1 }
+        ensures window { self.new.window ≡ drop 1 self.old.window }
     {
-        if let Some(byte) = self.peeked {
-            self.peeked = None;
-            self.used += 1;
-            if byte == b'\n' {
-                self.line += 1;
-            }
+        let byte = self.cells[self.start];
+        self.start += 1;
+        self.used += 1;
+        if byte == b'\n' {
+            self.line += 1;
+        }
+    }
+
+    // Uses bytes at the place among which no line end is.
+    #[tactic(auto, unfolding(crate::specs::Words::limit))]
+    fn advance_by(&mut self, count: usize)
+        requires waits { count ≤ length self.old.window }
+        requires room { self.old.used + count ≤ limit }
+        requires plain { list_all is_in_line (take count self.old.window) ≡ true }
+        ensures uses { (had : Option (List ℕ)) → Uses self.old self.new had had (take count self.old.window) }
+        ensures end { self.new.end ≡ self.old.end }
+        ensures used { self.new.used ≡ self.old.used + count }
+        ensures window { self.new.window ≡ drop count self.old.window }
+    {
+        self.start += count;
+        self.used += count as u32;
+    }
+
+    // The bytes of the window that belong to the line and to the input.
+    #[tactic(auto, unfolding(crate::specs::Words::limit))]
+    fn line_part(&self) -> &[u8]
+        ensures front { result.now ≡ take (length result.now) self.now.window }
+        ensures within { length result.now ≤ length self.now.window }
+        ensures room { self.now.used + length result.now ≤ limit }
+        ensures plain { list_all is_in_line result.now ≡ true }
+        ensures some { (b : ℕ) → (rest : List ℕ) → self.now.window ≡ b ∷ rest → is_line_end b ≡ false → self.now.used < limit → 0 < length result.now }
+    {
+        let window = &self.cells[self.start..self.stop];
+        let room = (LIMIT - self.used) as usize;
+        let reach = window.len().min(room);
+        let view = &window[..reach];
+        match memchr(b'\n', view) {
+            Some(count) => &view[..count],
+            None => view,
         }
     }
 
@@ -140,6 +184,7 @@ impl Scanner {
         ensures uses { UsesAll is_gap self.old self.new (S.remaining source.old) (S.remaining source.new) }
         ensures at { Peeks self.new result }
         ensures other { IfOk result (λ o. IfSome o (λ b. is_gap b ≡ false)) }
+        ensures waits { length self.new.window ≤ 4096 }
         ensures seen { IsSeen self.old.end (S.remaining source.old) → IsSeen self.new.end (S.remaining source.new) }
         ensures ends { self.old.end ≡ End.Open ⊎ self.new.end ≡ self.old.end }
         ensures counted { S.failures source.new ≡ failures_after self.old.end self.new.end (S.failures source.old) }
@@ -161,6 +206,7 @@ impl Scanner {
         requires failures { self.old.end ≡ End.Open → S.failures source.old < greatest }
         requires empty { word.old.items ≡ [] }
         ensures run { RunsTo self.old self.new (S.remaining source.old) (S.remaining source.new) word.new.items result }
+        ensures waits { length self.new.window ≤ 4096 }
         ensures seen { IsSeen self.old.end (S.remaining source.old) → IsSeen self.new.end (S.remaining source.new) }
         ensures ends { self.old.end ≡ End.Open ⊎ self.new.end ≡ self.old.end }
         ensures counted { S.failures source.new ≡ failures_after self.old.end self.new.end (S.failures source.old) }
@@ -186,6 +232,7 @@ impl Scanner {
     pub fn next_word<S: Source>(&mut self, source: &mut S) -> Result<Option<Word>, ReadFault>
         requires { self.old.end ≡ End.Open → S.failures source.old < greatest }
         ensures word { NextWord self.old self.new (S.remaining source.old) (S.remaining source.new) result }
+        ensures waits { length self.new.window ≤ 4096 }
         ensures seen { IsSeen self.old.end (S.remaining source.old) → IsSeen self.new.end (S.remaining source.new) }
         ensures ends { self.old.end ≡ End.Open ⊎ self.new.end ≡ self.old.end }
         ensures counted { S.failures source.new ≡ failures_after self.old.end self.new.end (S.failures source.old) }
@@ -210,6 +257,7 @@ impl Scanner {
     pub fn rest_of_line<S: Source>(&mut self, source: &mut S) -> Result<Text, ReadFault>
         requires { self.old.end ≡ End.Open → S.failures source.old < greatest }
         ensures text { (keyword : List ℕ) → RestOfLine keyword self.old self.new (S.remaining source.old) (S.remaining source.new) result }
+        ensures waits { length self.new.window ≤ 4096 }
         ensures seen { IsSeen self.old.end (S.remaining source.old) → IsSeen self.new.end (S.remaining source.new) }
         ensures ends { self.old.end ≡ End.Open ⊎ self.new.end ≡ self.old.end }
         ensures counted { S.failures source.new ≡ failures_after self.old.end self.new.end (S.failures source.old) }
@@ -221,9 +269,11 @@ impl Scanner {
                     self.advance();
                     return Ok(Text::trimmed(kept));
                 }
-                Ok(Some(byte)) => {
-                    keep(&mut kept, byte);
-                    self.advance();
+                Ok(Some(_)) => {
+                    let part = self.line_part();
+                    let count = part.len();
+                    keep_all(&mut kept, part);
+                    self.advance_by(count);
                 }
                 Ok(None) => return Ok(Text::trimmed(kept)),
                 Err(fault) => return Err(fault),

@@ -1,5 +1,5 @@
 //! The text behind a text word.
-ghost use Rattle.std.specs.Prelude.{◌≡◌, ◌≤◌, ℕ, List, [], length};
+ghost use Rattle.std.specs.Prelude.{◌≡◌, ◌≤◌, ℕ, List, [], fold, length};
 ghost use Rattle.pop_text.specs.Words.{is_blank, without_trailing};
 ghost use Rattle.pop_text.specs.Texts.{with_byte};
 
@@ -75,8 +75,20 @@ impl Text {
     }
 }
 
-/// Keeps a byte of a line, where there is room and it is no leading blank.
-pub fn keep(kept: &mut ArrayVec<u8, 200>, byte: u8)
+/// Keeps bytes of a line, as far as there is room, without leading blanks.
+pub fn keep_all(kept: &mut ArrayVec<u8, 200>, bytes: &[u8])
+    ensures { kept.new.items ≡ fold (with_byte 200) kept.old.items bytes.now }
+{
+    'bytes: for &byte in bytes {
+        if kept.is_full() {
+            return;
+        }
+        keep(kept, byte);
+    }
+}
+
+// Keeps a byte, where there is room and it is no leading blank.
+fn keep(kept: &mut ArrayVec<u8, 200>, byte: u8)
     ensures { kept.new.items ≡ with_byte 200 kept.old.items byte }
 {
     if !kept.is_full() && !(kept.is_empty() && is_blank_byte(byte)) {

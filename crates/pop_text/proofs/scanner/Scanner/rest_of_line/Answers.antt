@@ -1,5 +1,6 @@
-use Rattle.std.proofs.Common.{◌∙◌, ap, arith}
-use Rattle.pop_text.specs.Words.{without_trailing}
+use Rattle.std.proofs.Common.{◌∙◌, ◌<◌, ◌-◌, sym, ap, arith, subst}
+use Rattle.pop_text.specs.Reading.{Uses}
+use Rattle.pop_text.specs.Words.{limit, without_trailing}
 use Rattle.pop_text.proofs.Using.{ends_then, failures_then}
 use Rattle.pop_text.proofs.Lines.{line_more, line_ends, input_ends, line_fault, no_ten}
 use Rattle.pop_text.proofs.scanner.Scanner.rest_of_line.Goals as goal
@@ -7,13 +8,22 @@ use Rattle.pop_text.proofs.scanner.Scanner.rest_of_line.Goals as goal
 pub line-preserved : goal.line-preserved
 line-preserved g c =
     let i = c.line.invariant in
+    let now = g.S.Source.remaining c.peek.new.source in
+    let used = subst (λ part. Uses c.peek.new.self c.advance_by.new.self now now part) (sym c.line_part-part.ensures.front) (c.advance_by.ensures.uses now) in
     record {
-      line = rw c.keep.ensures (line_more c.args.self.now c.line.self c.peek.new.self c.advance-in-Ok-Some.new.self (g.S.Source.remaining c.args.source.now) (g.S.Source.remaining c.line.source) (g.S.Source.remaining c.peek.new.source) c.line.kept.items
-          i.line c.peek.ensures.uses c.in-Ok-Some.byte (rw c.in-Ok-Some.field-0-is at c.in-Ok-Some.ensures.at) (no_ten c.in-Ok-Some.byte c.in-Ok-Some.byte-test.1) (c.advance-in-Ok-Some.ensures.uses _));
-      seen = λ s. rw c.advance-in-Ok-Some.ensures.end (c.peek.ensures.seen (i.seen s));
-      ends = rw c.advance-in-Ok-Some.ensures.end (ends_then _ _ _ i.ends c.peek.ensures.ends);
-      counted = rw c.advance-in-Ok-Some.ensures.end (failures_then _ _ _ _ _ _ i.ends c.peek.ensures.ends i.counted c.peek.ensures.counted);
+      line = rw c.keep_all.ensures (line_more c.args.self.now c.line.self c.peek.new.self c.advance_by.new.self (g.S.Source.remaining c.args.source.now) (g.S.Source.remaining c.line.source) now c.line.kept.items
+          i.line c.peek.ensures.uses c.line_part-part.result.now c.line_part-part.ensures.plain used);
+      seen = λ s. rw c.advance_by.ensures.end (c.peek.ensures.seen (i.seen s));
+      ends = rw c.advance_by.ensures.end (ends_then _ _ _ i.ends c.peek.ensures.ends);
+      counted = rw c.advance_by.ensures.end (failures_then _ _ _ _ _ _ i.ends c.peek.ensures.ends i.counted c.peek.ensures.counted);
     }
+
+pub line-smaller : goal.line-smaller
+line-smaller g c =
+    let at = rw c.in-Ok-Some.field-0-is at c.in-Ok-Some.ensures.at in
+    let some = c.line_part-part.ensures.some c.in-Ok-Some.field-0-0 at.0 at.1 (no_ten c.in-Ok-Some.field-0-0 c.in-Ok-Some.field-0-0-test.1) at.2 in
+    let fewer : limit - c.advance_by.new.self.used < limit - c.line.self.used = omega (arith, some, c.advance_by.ensures.used, c.peek.ensures.uses.used, at.2) in
+    fewer
 
 pub returns-in-Ok-Some-eq10-clause-text : goal.returns-in-Ok-Some-eq10-clause-text
 returns-in-Ok-Some-eq10-clause-text g c keyword =

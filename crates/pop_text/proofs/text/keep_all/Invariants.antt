@@ -1,0 +1,7 @@
+use Rattle.std.proofs.Common.{◌≡◌, fold, take}
+use Rattle.pop_text.specs.Texts.{with_byte}
+use Rattle.pop_text.proofs.text.keep_all.Given as goal
+
+-- the bytes so far are kept
+abbrev pub invariant-bytes : goal.invariant-bytes
+invariant-bytes l = l.kept.items ≡ fold (with_byte 200) l.fn.kept.items (take l.byte-index l.bytes)
