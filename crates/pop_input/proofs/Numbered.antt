@@ -1,5 +1,5 @@
 -- The fault of a block that is read so far, and of the item that closes it.
-use Rattle.std.proofs.Common.{◌≡◌, ℕ, List, [], ◌∷◌, ◌++◌, Option, Bool, sym, subst}
+use Rattle.std.proofs.Common.{ℕ, List, [], ◌∷◌, ◌++◌, Option, Bool, sym, subst}
 use Rattle.pop_text.specs.Words.{Word}
 use Rattle.pop_text.specs.Reading.{Reading}
 use Rattle.pop_input.specs.Closings.{Closes}

@@ -1,5 +1,5 @@
 -- The numbers of faults.
-use Rattle.std.proofs.Common.{◌≡◌, ◌≤◌, ℕ, List, [], ◌∷◌, ◌++◌, Option, None, Some, Bool, true, false, not, ◌&&◌, arith, if◌then◌else◌, sym, subst, length, is_some}
+use Rattle.std.proofs.Common.{◌≡◌, ◌≤◌, ℕ, List, [], ◌∷◌, Option, None, Some, Bool, true, false, not, ◌&&◌, arith, if◌then◌else◌, subst, is_some}
 use Rattle.chess_core.specs.Position.{king_square, man_on, other, same_kind, with_man}
 use Rattle.chess_core.specs.Squares.{some_square}
 use Rattle.chess_core.specs.WellFormed.{is_crossed_right, is_pawn_inside}
@@ -15,7 +15,7 @@ use Rattle.pop_text.specs.declared.read_fault.ReadFault.TheVariants.{TooLong, In
 use Rattle.pop_input.specs.Names.{command_of, colour_of, kind_of, or_else}
 use Rattle.pop_input.specs.Values.{squares_of}
 use Rattle.pop_input.specs.State.{State, state_of, role_of}
-use Rattle.pop_input.specs.WordFaults.{fault_if, barred_fault, control_fault, man_fault, men_fault, put_fault, letter_fault, pieces_fault, stipulation_fault, condition_fault, section_fault, role_fault, begin_fault, fault_of, stands}
+use Rattle.pop_input.specs.WordFaults.{fault_if, barred_fault, control_fault, man_fault, men_fault, put_fault, letter_fault, pieces_fault, stipulation_fault, condition_fault, role_fault, begin_fault, fault_of, stands}
 use Rattle.pop_input.specs.Ends.{end_fault_in, is_taken, setup_of, stated_fault}
 use Rattle.pop_input.specs.Posed.{rule_of}
 use Rattle.pop_input.specs.Stipulations.{mated}
@@ -32,7 +32,6 @@ use Rattle.pop_input.specs.declared.item.Last.{Last}
 use Rattle.pop_input.specs.declared.item.Last.TheVariants.{Yes}
 use Rattle.pop_input.specs.declared.names.Command.{Command}
 use Rattle.pop_input.specs.declared.names.Command.TheVariants.{Begin, Enter, Next, Last as EndProblem}
-use Rattle.pop_input.specs.declared.names.Section.{Section}
 use Rattle.pop_input.specs.declared.names.Section.TheVariants.{Pieces, Stipulation as Stipulations, Condition as Conditions, Options}
 use Rattle.pop_input.specs.declared.place.Role.{Role}
 use Rattle.pop_input.specs.declared.place.Role.TheVariants.{Limit, CrossedSquare, BarredSquares, Control, Within}

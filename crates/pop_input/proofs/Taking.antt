@@ -1,9 +1,9 @@
 -- Calls that take tokens, one after another.
-use Rattle.std.proofs.Common.{◌≡◌, ℕ, List, [], ◌∷◌, ◌++◌, Option, None, Some, true, refl, ◌∙◌, ap, arith, append_assoc, length-append, subst, Ok, Err}
+use Rattle.std.proofs.Common.{◌≡◌, ◌≤◌, ℕ, List, [], ◌∷◌, ◌++◌, Option, None, Some, true, refl, ◌∙◌, ap, arith, append_assoc, length-append, subst, Ok, Err}
 use Rattle.pop_text.specs.Bytes.{Consumes}
-use Rattle.pop_text.specs.Words.{Input, Words, Token as Part, TextLine, is_text_word}
+use Rattle.pop_text.specs.Words.{Input, Words, Token as Part, TextLine, is_text_word, limit}
 use Rattle.pop_text.specs.Reading.{Reading}
-use Rattle.pop_text.specs.Left.{after, words_left, put_before, Spot, Takes, among, behind_word, TakesWord, GoesOn, RestOfLine}
+use Rattle.pop_text.specs.Left.{after, words_left, put_before, Spot, Takes, among, behind_word, TakesWord, GoesOn, RestOfLine, TakesNone}
 use Rattle.pop_text.specs.declared.read_fault.ReadFault.{ReadFault}
 use Rattle.pop_text.specs.declared.read_fault.ReadFault.TheVariants.{TooLong, InputTooLong, Device}
 use Rattle.pop_input.specs.Names.{text_word_of}
@@ -49,3 +49,9 @@ module _ (old mid new : Reading) (had met left : Option (List ℕ)) (line : ℕ)
   cut_token (TooLong number) goes rest = absurd rest
   cut_token (InputTooLong number) goes rest = (takes_then (among old) (behind_word name mid) (among new) had met left [] [] behind rest.0, rest.1, rest.2, (let on = goes.0 in let further = rest.3.0 in omega (arith, on, further), rest.3.1))
   cut_token (Device number) goes rest = ((takes_then (among old) (behind_word name mid) (among new) had met left [] [] behind rest.0, rest.1, rest.2, (let on = goes.0 in let further = rest.3.0 in omega (arith, on, further), rest.3.1)), rest.4)
+
+-- where no token is taken, the place stays within the limit
+pub none_within : (old : Spot) (new : Reading) (had left : Option (List ℕ)) (fault : ReadFault) → TakesNone old new had left fault → new.used ≤ limit
+none_within old new had left (TooLong line) none = absurd none
+none_within old new had left (InputTooLong line) none = none.3.1
+none_within old new had left (Device line) none = none.3.1

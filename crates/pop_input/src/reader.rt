@@ -1,6 +1,7 @@
 //! Problems and faults, one after another.
 ghost use Rattle.std.specs.Prelude.{◌≡◌, ◌<◌, ◌≤◌, ◌⊎◌, length, true};
 ghost use Rattle.pop_text.specs.Bytes.{greatest};
+ghost use Rattle.pop_text.specs.Words.{limit};
 ghost use Rattle.pop_text.specs.Reading.{IsSeen, failures_after};
 ghost use Rattle.pop_text.specs.declared.scanner.End.{End};
 ghost use Rattle.pop_input.specs.Standing.{IsNumbered, NextItem, is_item, next_behind as behind, start, work_left};
@@ -35,7 +36,12 @@ impl Model for Reader {
 
     ghost Value = { Standing };
 
+    ghost use Rattle.std.specs.Prelude.{◌≤◌, length};
+    ghost use Rattle.pop_text.specs.Words.{limit};
+
     ghost view = { λ r. record { next = r.next_block; at = r.scanner } };
+
+    ghost invariant = { λ r. (r.scanner.used ≤ limit) × (length r.scanner.window ≤ 4096) };
 }
 
 impl Reader {
@@ -52,6 +58,8 @@ impl Reader {
     pub fn next_problem<S: Source>(&mut self, source: &mut S) -> Item
         requires { self.old.at.end ≡ End.Open → S.failures source.old < greatest }
         ensures item { NextItem self.old self.new (S.remaining source.old) (S.remaining source.new) result }
+        ensures within { self.new.at.used ≤ limit }
+        ensures waits { length self.new.at.window ≤ 4096 }
         ensures seen { IsSeen self.old.at.end (S.remaining source.old) → IsSeen self.new.at.end (S.remaining source.new) }
         ensures ends { self.old.at.end ≡ End.Open ⊎ self.new.at.end ≡ self.old.at.end }
         ensures counted { S.failures source.new ≡ failures_after self.old.at.end self.new.at.end (S.failures source.old) }

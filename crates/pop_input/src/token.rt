@@ -1,5 +1,6 @@
 //! Words and text lines of the source.
-ghost use Rattle.std.specs.Prelude.{◌≡◌, ◌<◌, ◌⊎◌};
+ghost use Rattle.std.specs.Prelude.{◌≡◌, ◌<◌, ◌≤◌, ◌⊎◌, length};
+ghost use Rattle.pop_text.specs.Words.{limit};
 ghost use Rattle.pop_text.specs.Bytes.{greatest};
 ghost use Rattle.pop_text.specs.Reading.{IsSeen, failures_after};
 ghost use Rattle.pop_text.specs.declared.scanner.End.{End};
@@ -26,6 +27,8 @@ pub enum Token {
 pub fn next_token<S: Source>(scanner: &mut Scanner, source: &mut S) -> Token
     requires { scanner.old.end ≡ End.Open → S.failures source.old < greatest }
     ensures token { NextToken scanner.old scanner.new (S.remaining source.old) (S.remaining source.new) result }
+    ensures within { scanner.new.used ≤ limit }
+    ensures waits { length scanner.new.window ≤ 4096 }
     ensures seen { IsSeen scanner.old.end (S.remaining source.old) → IsSeen scanner.new.end (S.remaining source.new) }
     ensures ends { scanner.old.end ≡ End.Open ⊎ scanner.new.end ≡ scanner.old.end }
     ensures counted { S.failures source.new ≡ failures_after scanner.old.end scanner.new.end (S.failures source.old) }

@@ -1,5 +1,5 @@
 -- What is used of a line, and what rest_of_line answers.
-use Rattle.std.proofs.Common.{◌≡◌, ◌<◌, ◌≤◌, ℕ, ◌+◌, ◌-◌, suc, List, [], ◌∷◌, ◌++◌, length, length-append, length-take, take, Option, None, Some, Bool, true, false, not, refl, sym, ◌∙◌, ap, arith, append_assoc, ◌⊎◌, inl, inr, count_by, subst, cond, Err, Ok, fold}
+use Rattle.std.proofs.Common.{◌≡◌, ◌<◌, ◌≤◌, ℕ, ◌+◌, ◌-◌, suc, List, [], ◌∷◌, ◌++◌, length, length-append, length-take, take, Option, None, Some, Bool, true, false, refl, sym, ◌∙◌, ap, arith, append_assoc, ◌⊎◌, inl, inr, count_by, subst, cond, Err, Ok, fold}
 use Rattle.std.specs.List.{list_all}
 use Rattle.std.proofs.lemmas.List.{append-nil, take_all, take-append-le}
 use Rattle.std.proofs.lemmas.List.Folds.{list_all-append}

@@ -1,5 +1,5 @@
 -- The window: bytes that wait between two places of an array.
-use Rattle.std.proofs.Common.{◌≡◌, ◌<◌, ◌≤◌, ℕ, zero, suc, ◌+◌, ◌-◌, List, [], ◌∷◌, ◌++◌, length, length-take, length-drop, take, drop, slice_range, slice_index, Option, Some, Ok, Bool, true, false, ◌==◌, refl, sym, ◌∙◌, ap, arith, inl, inr, get_or, count_by, cond, if◌then◌else◌}
+use Rattle.std.proofs.Common.{◌≡◌, ◌<◌, ◌≤◌, ℕ, zero, suc, ◌+◌, ◌-◌, List, [], ◌∷◌, ◌++◌, length, length-take, length-drop, take, drop, slice_range, slice_index, Option, Some, Ok, true, ◌==◌, refl, sym, ◌∙◌, ap, arith, inl, inr, get_or, count_by, cond}
 use Rattle.std.specs.List.{list_all}
 use Rattle.std.proofs.lemmas.Bool.{cases_Bool, le-ltb}
 use Rattle.std.proofs.lemmas.List.{append-nil, take-append-drop, drop-take, drop-drop, drop_more, length-take-le}

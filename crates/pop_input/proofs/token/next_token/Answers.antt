@@ -1,7 +1,7 @@
-use Rattle.std.proofs.Common.{◌∙◌, sym, ap, is_some}
+use Rattle.std.proofs.Common.{[], ◌∙◌, sym, ap, is_some}
 use Rattle.pop_text.specs.Words.{is_text_word}
 use Rattle.pop_input.specs.Names.{text_word_of}
-use Rattle.pop_input.proofs.Taking.{line_token, cut_token}
+use Rattle.pop_input.proofs.Taking.{line_token, cut_token, none_within}
 use Rattle.pop_input.proofs.token.next_token.Goals as goal
 
 pub returns-in-Ok-clause-token : goal.returns-in-Ok-clause-token
@@ -17,3 +17,9 @@ returns-in-Err-rest_of_line-clause-token g c =
     cut_token c.args.scanner.now c.next_word.new.self c.rest_of_line.new.self (g.S.Source.remaining c.args.source.now) (g.S.Source.remaining c.next_word.new.source) (g.S.Source.remaining c.rest_of_line.new.source)
     c.in-Ok-Some.word.line c.in-Ok-Some.word.bytes.items c.in-Some.keyword w.0 (ap text_word_of (sym c.as_slice.ensures.value) ∙ sym c.text_word_of.ensures.value ∙ c.in-Some.is)
     (ap is_text_word (sym c.as_slice.ensures.value) ∙ sym c.text_word_of.ensures.is ∙ ap is_some c.in-Some.is) c.in-Err-rest_of_line.fault w.2 (c.in-Err-rest_of_line.ensures.text _)
+
+pub returns-in-Ok-clause-within : goal.returns-in-Ok-clause-within
+returns-in-Ok-clause-within g c = (c.in-Ok.ensures.text []).4
+
+pub returns-in-Err-rest_of_line-clause-within : goal.returns-in-Err-rest_of_line-clause-within
+returns-in-Err-rest_of_line-clause-within g c = none_within _ _ _ _ c.in-Err-rest_of_line.fault (c.in-Err-rest_of_line.ensures.text [])

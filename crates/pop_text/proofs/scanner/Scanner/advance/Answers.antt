@@ -1,4 +1,4 @@
-use Rattle.std.proofs.Common.{◌≡◌, ◌+◌, ◌≤◌, arith, length, sym, ap, cond}
+use Rattle.std.proofs.Common.{◌+◌, ◌≤◌, arith, length, sym, ap, cond}
 use Rattle.pop_text.specs.Words.{is_line_end}
 use Rattle.pop_text.proofs.Lines.{no_ten}
 use Rattle.pop_text.proofs.Windows.{one_used}

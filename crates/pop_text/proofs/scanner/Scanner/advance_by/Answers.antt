@@ -1,4 +1,4 @@
-use Rattle.std.proofs.Common.{◌≡◌, ◌≤◌, arith, length}
+use Rattle.std.proofs.Common.{◌≤◌, arith, length}
 use Rattle.pop_text.proofs.Windows.{some_used, rest_waits}
 use Rattle.pop_text.proofs.scanner.Scanner.advance_by.Goals as goal
 

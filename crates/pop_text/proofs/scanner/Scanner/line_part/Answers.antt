@@ -1,4 +1,4 @@
-use Rattle.std.proofs.Common.{◌≡◌, ◌≤◌, arith, length}
+use Rattle.std.proofs.Common.{arith}
 use Rattle.pop_text.proofs.Windows.{plain_front, plain_all}
 use Rattle.pop_text.proofs.scanner.Scanner.line_part.Goals as goal
 
