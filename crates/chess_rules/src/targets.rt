@@ -1,0 +1,103 @@
+//! Target words, and the next triple that may be a move.
+ghost use Rattle.std.specs.Prelude.{◌≡◌, ℕ, ◌<◌, ◌≤◌};
+ghost use Rattle.chess_core.specs.Steps.{step_by};
+ghost use Rattle.chess_core.specs.Words.{word};
+ghost use Rattle.chess_rules.specs.Targets.{IsBarren, IsBarrenFrom, arrives, is_target, steps_to};
+
+use crate::legal::{forward, last_rank};
+use crate::reach::reach_as;
+use crate::words::{next_bit, only};
+use chess_core::board::Board;
+use chess_core::man::{Kind, Man};
+use chess_core::square::Square;
+use chess_core::step::Step;
+
+// How many triples an origin has, and all of them.
+const EACH: u16 = 448;
+
+const ALL: u16 = 28672;
+
+// The squares one and two steps ahead of a pawn, and two files beside a king.
+fn steps_to(man: Man, from: Square) -> u64
+    ensures { result ≡ word (steps_to man from) }
+{
+    if man.kind.is(Kind::Pawn) {
+        let step = forward(man.colour);
+        only(from.along(step, 1)) | only(from.along(step, 2))
+    } else if man.kind.is(Kind::King) {
+        only(from.along(aside(2, 0), 1)) | only(from.along(aside(0, 2), 1))
+    } else {
+        0
+    }
+}
+
+// A step along the rank.
+fn aside(right: u8, left: u8) -> Step
+    ensures { result ≡ step_by right left 0 0 }
+{
+    Step {
+        right,
+        left,
+        up: 0,
+        down: 0,
+    }
+}
+
+// The squares to which the man on `from` could go at best.
+fn targets(board: &Board, man: Man, from: Square) -> u64
+    ensures { result ≡ word (is_target board.now.men man from) }
+{
+    (reach_as(board, man.colour, man.kind, from) | steps_to(man, from)) & !board.side(man.colour)
+}
+
+// Whether a pawn arrives on its last rank.
+fn arrives(man: Man, to: Square) -> bool
+    ensures { result ≡ arrives man to }
+{
+    man.kind.is(Kind::Pawn) && to.rank() == last_rank(man.colour)
+}
+
+// The first triple with this origin that may be a move, from the one numbered `start` on, each
+// counted from the origin's first; 448 where there is none.
+fn next_from(board: &Board, from: Square, start: u16) -> u16
+    requires { start ≤ 448 }
+    ensures low { start ≤ result }
+    ensures high { result ≤ 448 }
+    ensures barren { IsBarrenFrom board.now from start result }
+{
+    let Some(man) = board.man_at(from) else {
+        return EACH;
+    };
+    let word = targets(board, man, from);
+    let mut at = start;
+    while let Some(to) = next_bit(word, (at / 7) as u8) {
+        let first = u16::from(to.index()) * 7;
+        if arrives(man, to) {
+            return if at <= first { first + 1 } else { at };
+        }
+        if at <= first {
+            return first;
+        }
+        at = first + 7;
+    }
+    EACH
+}
+
+// The first triple that may be a move, from the one numbered `start` on; 28,672 where there is none.
+pub(crate) fn next_triple(board: &Board, start: u16) -> u16
+    ensures low { result < 28672 → start ≤ result }
+    ensures high { result ≤ 28672 }
+    ensures barren { IsBarren board.now start result }
+{
+    let own = board.side(board.turn());
+    let mut number = start;
+    while let Some(from) = next_bit(own, (number / EACH) as u8) {
+        let first = u16::from(from.index()) * EACH;
+        let at = next_from(board, from, number.saturating_sub(first));
+        if at < EACH {
+            return first + at;
+        }
+        number = first + EACH;
+    }
+    ALL
+}
