@@ -1,0 +1,54 @@
+//! Lines of moves, counted.
+ghost use Rattle.std.specs.Prelude.{◌≡◌};
+ghost use Rattle.chess_core.specs.Diagrams.{position_of};
+ghost use Rattle.chess_core.specs.WellFormed.{IsWellFormed};
+
+use crate::probe::is_same;
+use chess_core::{Board, Diagram};
+use chess_rules::{Moves, Rules};
+
+// What a walk along all lines of moves met.
+#[derive(Clone, Copy, PartialEq, Eq, Debug)]
+pub(crate) struct Walk {
+    // The lines of full length.
+    pub(crate) lines: u64,
+    // The moves after which, taken back, the board was another than before.
+    pub(crate) changed: u64,
+}
+
+// Walks along all lines of so many legal moves from a diagram.
+pub(crate) fn walk_lines<R: Rules>(diagram: &Diagram, length: u32) -> Walk
+    requires { IsWellFormed (position_of diagram.now) }
+{
+    let mut board = Board::of(diagram);
+    walk_on::<R>(&mut board, length)
+}
+
+// Walks along all lines of so many legal moves from here.
+#[tactic(auto, using(chess_rules::proofs::Calls::playing))]
+fn walk_on<R: Rules>(board: &mut Board, length: u32) -> Walk
+    requires { IsWellFormed board.old }
+    ensures { board.new ≡ board.old }
+{
+    if length == 0 {
+        return Walk {
+            lines: 1,
+            changed: 0,
+        };
+    }
+    let before = *board;
+    let mut place = Moves::<R>::start();
+    let mut lines = 0u64;
+    let mut changed = 0u64;
+    while let Some(m) = place.next(board) {
+        let undo = R::play(board, m);
+        let below = walk_on::<R>(board, length - 1);
+        R::unplay(board, m, undo);
+        lines = lines.saturating_add(below.lines);
+        changed = changed.saturating_add(below.changed);
+        if !is_same(board, &before) {
+            changed = changed.saturating_add(1);
+        }
+    }
+    Walk { lines, changed }
+}

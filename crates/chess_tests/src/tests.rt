@@ -1,0 +1,3 @@
+//! What is known from outside.
+mod counts;
+mod positions;
