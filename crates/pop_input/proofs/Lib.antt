@@ -7,3 +7,4 @@ pub mod Items
 pub mod Ends
 pub mod Numbers
 pub mod Numbered
+mod Rows

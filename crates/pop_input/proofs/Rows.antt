@@ -1,0 +1,112 @@
+-- Inputs, and the items that they hold, computed from the definitions.
+use Rattle.std.proofs.Common.{◌≡◌, ℕ, List, [], ◌∷◌, ◌++◌, refl, None, Some, Option, replicate, false, true}
+use Rattle.std.specs.Prelude.{codes}
+use Rattle.chess_core.specs.Castling.{has_unmoved, mark_unmoved, none_unmoved}
+use Rattle.chess_core.specs.Position.{king_square, with_man}
+use Rattle.chess_core.specs.Squares.{some_square, squares}
+use Rattle.chess_core.specs.Steps.{along}
+use Rattle.chess_core.specs.WellFormed.{is_crossed_right, is_home}
+use Rattle.chess_core.specs.declared.man.Colour.{Colour}
+use Rattle.chess_core.specs.declared.man.Colour.TheVariants.{White, Black}
+use Rattle.chess_core.specs.declared.man.Kind.{Kind}
+use Rattle.chess_core.specs.declared.man.Kind.TheVariants.{King, Rook}
+use Rattle.chess_core.specs.declared.man.Man.{Man}
+use Rattle.chess_rules.specs.Attacks.{attacked, faces, faces_its_like, in_check, paralysed, strikes}
+use Rattle.chess_rules.specs.Reaches.{hops, is_clear, leaps, reaches, reaches_as, rides}
+use Rattle.pop_text.specs.Words.{Clean, Failed, Ending, words_of, limit}
+use Rattle.pop_input.specs.Blocks.{Entry, Sound, Faulty, entries_of, fault_at}
+use Rattle.pop_input.specs.Ends.{end_fault_in, is_taken, unmoved_of}
+use Rattle.pop_input.specs.Names.{awaited_of, colour_of, command_of, condition_of, kind_of, option_of, section_of, text_word_of}
+use Rattle.pop_input.specs.State.{no_men}
+use Rattle.pop_input.specs.Values.{limit_of, squares_of, stipulation_of}
+use Rattle.pop_input.specs.WordFaults.{is_there, stands}
+use Rattle.pop_input.specs.declared.condition.Condition.TheVariants.{Madrasi}
+use Rattle.pop_input.specs.declared.stipulation.Form.TheVariants.{Direct, Help}
+
+abbrev items_by : Ending → List ℕ → List Entry
+items_by ending bytes = entries_of true (words_of (record { bytes = bytes; ending = ending }))
+
+abbrev items : List ℕ → List Entry
+items bytes = items_by Clean bytes
+
+abbrev only_fault : ℕ → ℕ → List Entry
+only_fault number line = Faulty (fault_at number line) ∷ []
+
+-- an input without words, and a first word too short
+no_words : (items [] ≡ only_fault 1 1) × (items (codes "Be") ≡ only_fault 1 1) × (items (codes "Beg") ≡ only_fault 19 1)
+unfolding limit command_of section_of
+no_words = (refl, refl, refl)
+
+-- men without a colour, an unknown word, a word that is a man and no squares
+men_misplaced : (items (codes "BeginProblem\nPieces Kg6\n") ≡ only_fault 4 2) × (items (codes "BeginProblem\nPieces White Protocol\n") ≡ only_fault 2 2) × (items (codes "BeginProblem\nPieces White Kg6h\n") ≡ only_fault 14 2) × (items (codes "BeginProblem\nPieces White Kg") ≡ only_fault 14 2)
+unfolding limit awaited_of colour_of command_of condition_of kind_of option_of section_of text_word_of limit_of squares_of stipulation_of is_there stands some_square squares
+men_misplaced = (refl, refl, refl, refl)
+
+-- a square given twice, a pawn on rank 8, a second king
+squares_misplaced : (items (codes "BeginProblem\nPieces White Kg6 Rg6 Black Kg8\n") ≡ only_fault 5 2) × (items (codes "BeginProblem\nPieces White Pa8\n") ≡ only_fault 6 2) × (items (codes "BeginProblem\nPieces White Kg6h1\n") ≡ only_fault 7 2)
+unfolding limit awaited_of colour_of command_of condition_of kind_of option_of section_of text_word_of limit_of squares_of stipulation_of is_there stands some_square squares
+squares_misplaced = (refl, refl, refl)
+
+-- a second stipulation, another word behind one, one out of range
+stipulations_misplaced : (items (codes "BeginProblem\nPieces White Kg6 Ra1 Black Kg8\nStipulation #1 #1\nEndProblem\n") ≡ only_fault 9 3) × (items (codes "BeginProblem\nPieces White Kg6 Ra1 Black Kg8\nStipulation #1 foo\nEndProblem\n") ≡ only_fault 2 3) × (items (codes "BeginProblem\nPieces White Kg6 Ra1 Black Kg8\nStipulation h#8.5\nEndProblem\n") ≡ only_fault 8 3) × (items (codes "BeginProblem\nPieces White Kg6 Ra1 Black Kg8\nStipulation #0\nEndProblem\n") ≡ only_fault 8 3)
+unfolding limit awaited_of colour_of command_of condition_of kind_of option_of section_of text_word_of limit_of squares_of stipulation_of is_there stands some_square squares
+stipulations_misplaced = (refl, refl, refl, refl)
+
+-- limits out of range, a square that does not come, a square from which none castles, a second condition
+values_misplaced : (items (codes "BeginProblem\nPieces White Kg6 Ra1 Black Kg8\nStipulation #1\nOption MaxSolutions 4000000001\nEndProblem\n") ≡ only_fault 13 4) × (items (codes "BeginProblem\nPieces White Kg6 Ra1 Black Kg8\nStipulation #1\nOption MaxSolutions 0\nEndProblem\n") ≡ only_fault 13 4) × (items (codes "BeginProblem\nPieces White Kg6 Ra1 Black Kg8\nStipulation #1\nOption EnPassant\nEndProblem\n") ≡ only_fault 14 5) × (items (codes "BeginProblem\nPieces White Kg6 Ra1 Black Kg8\nStipulation #1\nOption NoCastling a2\nEndProblem\n") ≡ only_fault 16 4) × (items (codes "BeginProblem\nPieces White Kg6 Ra1 Black Kg8\nStipulation #1\nCondition Circe Circe\nEndProblem\n") ≡ only_fault 12 4)
+unfolding limit awaited_of colour_of command_of condition_of kind_of option_of section_of text_word_of limit_of squares_of stipulation_of is_there stands some_square squares
+values_misplaced = (refl, refl, refl, refl, refl)
+
+-- a word of 161 bytes, and one of 160
+long_words : (items (codes "BeginProblem\n" ++ replicate 161 120 ++ codes "\nEndProblem\n") ≡ only_fault 3 2) × (items (codes "BeginProblem\n" ++ replicate 160 120 ++ codes "\nEndProblem\n") ≡ only_fault 2 2)
+unfolding limit awaited_of colour_of command_of condition_of kind_of option_of section_of text_word_of limit_of squares_of stipulation_of is_there stands some_square squares
+long_words = (refl, refl)
+
+-- a source that fails in a problem, and behind a fault of one
+failing_source : (items_by Failed (codes "BeginProblem\nPieces White Kg6\nxx") ≡ only_fault 21 3) × (items_by Failed (codes "BeginProblem\nxx\n") ≡ Faulty (fault_at 2 2) ∷ only_fault 21 3)
+unfolding limit awaited_of colour_of command_of condition_of kind_of option_of section_of text_word_of limit_of squares_of stipulation_of is_there stands some_square squares
+failing_source = (refl, refl)
+
+-- a stipulation missing, no men, en passant not possible, no king to be mated, check to the side that is not to move
+ends : (items (codes "BeginProblem\nEndProblem\n") ≡ only_fault 10 2) × (items (codes "BeginProblem\nStipulation #1\nEndProblem\n") ≡ only_fault 11 3) × (items (codes "BeginProblem\nPieces White Kg6 Ba1 Bb3 Pe5 Black Kh8\nStipulation #1\nOption EnPassant d6\nEndProblem\n") ≡ only_fault 15 5) × (items (codes "BeginProblem\nPieces White Kg6 Ra1\nStipulation #1\nEndProblem\n") ≡ only_fault 17 4) × (items (codes "BeginProblem\nPieces White Kg6 Rh1 Black Kh8\nStipulation #1\nEndProblem\n") ≡ only_fault 18 4)
+unfolding limit awaited_of colour_of command_of condition_of kind_of option_of section_of text_word_of limit_of squares_of stipulation_of is_there stands some_square squares end_fault_in is_taken unmoved_of has_unmoved mark_unmoved none_unmoved is_home is_crossed_right king_square attacked faces faces_its_like in_check paralysed strikes hops is_clear leaps reaches reaches_as rides along
+ends = (refl, refl, refl, refl, refl)
+
+abbrev man : Colour → Kind → Man
+man colour of = record { colour = colour; kind = of }
+
+-- White Kg6 Ra1, Black Kg8
+abbrev three_men : List (Option Man)
+three_men = with_man (with_man (with_man no_men 46 (man White King)) 0 (man White Rook)) 62 (man Black King)
+
+-- a title before the problem has no effect; the last author stands, without the blanks around it; a word in a text line is none
+sound_problem : items (codes "Title early\nBeginProblem\nAuthor X\nPieces White Kg6 Remark EndProblem\nRa1 Black Kg8\naut  A. B. \nStipulation #1\nEndProblem foo\n")
+    ≡ Sound (record {
+      diagram = record { men = three_men; turn = White; unmoved = mark_unmoved none_unmoved 0 true; crossed = None };
+      stipulation = record { form = Direct; n = 1 };
+      condition = None;
+      set_play = false;
+      variation = false;
+      no_board = false;
+      max_solutions = 4000000000;
+      title = [];
+      author = codes "A. B.";
+    }) ∷ []
+unfolding limit awaited_of colour_of command_of condition_of kind_of option_of section_of text_word_of limit_of squares_of stipulation_of is_there stands some_square squares end_fault_in is_taken unmoved_of has_unmoved mark_unmoved none_unmoved is_home is_crossed_right king_square attacked faces faces_its_like in_check paralysed strikes hops is_clear leaps reaches reaches_as rides along
+sound_problem = refl
+
+-- sections twice and in any order, small letters, short forms, options with their values
+sound_options : items (codes "beg\nopt set max 5 max 007 noc h1a1\nsti H#2\ncon mad\npie w kG6 ra1\noption VAR nob\npieces b Kg8\nnex\n")
+    ≡ Sound (record {
+      diagram = record { men = three_men; turn = Black; unmoved = none_unmoved; crossed = None };
+      stipulation = record { form = Help; n = 2 };
+      condition = Some Madrasi;
+      set_play = true;
+      variation = true;
+      no_board = true;
+      max_solutions = 7;
+      title = [];
+      author = [];
+    }) ∷ only_fault 19 9
+unfolding limit awaited_of colour_of command_of condition_of kind_of option_of section_of text_word_of limit_of squares_of stipulation_of is_there stands some_square squares end_fault_in is_taken unmoved_of has_unmoved mark_unmoved none_unmoved is_home is_crossed_right king_square attacked faces faces_its_like in_check paralysed strikes hops is_clear leaps reaches reaches_as rides along
+sound_options = refl
