@@ -1,1 +1,4 @@
 pub mod CommandLine
+pub mod Report
+pub mod Run
+pub mod Sessions

@@ -2,11 +2,38 @@
 #![tactic(auto)]
 
 pub mod command_line;
+pub mod program;
+pub mod run;
+pub mod session;
 pub mod settings;
+mod solutions;
+pub mod status;
+#[cfg(test)]
+mod tests;
 
-fn main(rt: HostRuntime) -> std::process::ExitCode {
-    match command_line::settings(rt.alloc(), &["pops"]) {
-        Ok(_) => std::process::ExitCode::from(0),
-        Err(_) => std::process::ExitCode::from(2),
+use program::program as run_program;
+use std::process::ExitCode;
+use std::{env, io};
+
+fn main(rt: HostRuntime) -> ExitCode {
+    match run_words(&rt) {
+        Ok(status) => ExitCode::from(status),
+        Err(_) => {
+            let _told = rt.stderr().write_all(b"pops: out of memory\n");
+            ExitCode::from(4)
+        }
     }
+}
+
+// Takes the words over and runs the program on them and the standard streams.
+fn run_words(rt: &HostRuntime) -> io::Result<u8> {
+    let mut words = Vec::new(rt.alloc());
+    for word in env::args(rt)? {
+        words.push(word)?;
+    }
+    let mut texts = Vec::new(rt.alloc());
+    for word in &words {
+        texts.push(word.as_str())?;
+    }
+    Ok(run_program(rt, texts.as_slice(), rt.stdin(), rt.stdout(), rt.stderr()))
 }

@@ -1,0 +1,19 @@
+use Rattle.std.proofs.Common.{◌≡◌}
+use Rattle.pop_text.specs.Reading.{IsSeen, failures_after}
+use Rattle.pop_text.specs.declared.scanner.End.TheVariants.{Open}
+use Rattle.pop_input.specs.Standing.{work_left}
+use Rattle.pops.specs.Report.{choice_of}
+use Rattle.pops.proofs.Running.{Progress}
+use Rattle.pops.proofs.run.run.Given as goal
+
+-- the items so far are read and reported
+abbrev pub invariant-items : goal.invariant-items
+invariant-items g l = record {
+  progress : Progress (choice_of l.settings) l.session (g.S.Source.remaining l.fn.source) (g.S.Source.remaining l.source) (g.W.Sink.taken l.fn.sink) (g.W.Sink.taken l.sink);
+  seen : IsSeen l.session.at.at.end (g.S.Source.remaining l.source);
+  read_failures : g.S.Source.failures l.source ≡ failures_after Open l.session.at.at.end (g.S.Source.failures l.fn.source);
+  write_failures : g.W.Sink.failures l.sink ≡ g.W.Sink.failures l.fn.sink;
+}
+
+abbrev pub decreases-items : goal.decreases-items
+decreases-items g l = work_left l.session.at

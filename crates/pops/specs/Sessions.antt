@@ -1,0 +1,62 @@
+-- Where a session stands among the items, and what a step does.
+use Rattle.std.specs.Prelude.{◌≡◌, ℕ, ◌+◌, List, [], ◌∷◌, Option, Result, Ok, Err, Bool, true, false, not}
+use Rattle.pop_text.specs.Bytes.{Appends, Begins, Keeps}
+use Rattle.pop_text.specs.Words.{Input}
+use Rattle.pop_text.specs.declared.sink.SinkFault.{SinkFault}
+use Rattle.pop_input.specs.Blocks.{Entry}
+use Rattle.pop_input.specs.Standing.{Standing, Reads, entries_left, start as before_all}
+use Rattle.pops.specs.Report.{Choice, entry_text, is_faulty, tells_failure}
+use Rattle.pops.specs.declared.status.Status.{Status}
+use Rattle.pops.specs.declared.status.Status.TheVariants.{Sound, Faulty, InputFailed}
+use Rattle.pops.specs.declared.status.Step.{Step}
+use Rattle.pops.specs.declared.status.Step.TheVariants.{Problem, Finished}
+
+-- the place among the items, the next item's number, the status so far, whether the sink failed, and what is printed
+pub record Place : Type 0 where
+  pub at : Standing
+  pub number : ℕ
+  pub status : Status
+  pub stopped : Bool
+  pub choice : Choice
+
+-- before all items
+abbrev pub start : Choice → Place
+start choice = record { at = before_all; number = 1; status = Sound; stopped = false; choice = choice }
+
+-- the status after one more item: a failed device outweighs all, and a fault what is sound
+abbrev pub status_with : Status → Bool → Bool → Status
+status_with so_far true faulty = InputFailed
+status_with so_far false false = so_far
+status_with Sound false true = Faulty
+status_with so_far false true = so_far
+
+-- no item is still to come, however the source goes on
+abbrev pub IsOver : Standing → Type 0
+IsOver standing = (rest : Input) → entries_left standing rest ≡ []
+
+-- One item was read, and the number and the status count it in.
+pub record TakesItem (old new : Place) (had left : Option (List ℕ)) (entry : Entry) : Type 0 where
+  pub reads : Reads old.at new.at had left (entry ∷ [])
+  pub number : new.number ≡ old.number + 1
+  pub status : new.status ≡ status_with old.status (tells_failure entry) (is_faulty entry)
+  pub choice : new.choice ≡ old.choice
+
+-- what a step does that begins at old
+abbrev pub Steps : Place → Place → Option (List ℕ) → Option (List ℕ) → Option (List ℕ) → Option (List ℕ) → Result Step SinkFault → Type 0
+Steps old new had left before now (Ok (Problem sound)) =
+    (entry : Entry) × TakesItem old new had left entry × Appends before now (entry_text old.choice old.number entry)
+    × (new.stopped ≡ false) × (sound ≡ not (is_faulty entry))
+Steps old new had left before now (Ok (Finished status)) =
+    Reads old.at new.at had left [] × IsOver new.at × Keeps before now × (status ≡ old.status) × (new ≡ record old { at = new.at })
+Steps old new had left before now (Err fault) =
+    (entry : Entry) × TakesItem old new had left entry × Begins before now (entry_text old.choice old.number entry) × (new.stopped ≡ true)
+
+abbrev pub is_problem : Result Step SinkFault → Bool
+is_problem (Ok (Problem sound)) = true
+is_problem (Ok (Finished status)) = false
+is_problem (Err fault) = false
+
+-- what a step answers where an item was printed so
+abbrev pub step_of : {A : Type 0} → Result A SinkFault → Bool → Result Step SinkFault
+step_of (Ok done) sound = Ok (Problem sound)
+step_of (Err fault) sound = Err fault

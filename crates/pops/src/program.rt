@@ -1,0 +1,83 @@
+//! The program: its settings, its files and its exit statuses.
+ghost use Rattle.std.specs.Prelude.{◌≡◌, ◌≤◌};
+
+use crate::command_line::settings;
+use crate::run::run;
+use crate::settings::{ArgFault, Settings};
+use crate::status::Status;
+use pop_text::read_source::ReadSource;
+use pop_text::write_sink::WriteSink;
+use std::fs;
+use std::io::{Read, Write};
+use std::rt::Files;
+
+/// Does all that the words of a command line say, of which the first is the program's name, and answers the exit status.
+///
+/// | Status | When | Written to `errors` |
+/// |---|---|---|
+/// | 0 | every problem is sound | nothing |
+/// | 1 | some problem is faulty | nothing |
+/// | 2 | the words aren't of the form `pops [--check] [--no-board] [FILE]` | the usage |
+/// | 3 | the input device failed | nothing |
+/// | 3 | FILE can't be opened, want of memory included | `pops: cannot open the input file` |
+/// | 3 | a write or the last flush failed | `pops: output failed` |
+/// | 4 | there was no memory to read the words | `pops: out of memory` |
+///
+/// A failure to write to `errors` changes no status.
+pub fn program<T: Files + AllocGlobal, R: Read + Drop, W: Write + Drop, E: Write + Drop>(
+    rt: &T,
+    words: &[&str],
+    input: R,
+    output: W,
+    errors: E,
+) -> u8
+    ensures { result ≤ 4 }
+{
+    let settings = match settings(rt.alloc(), words) {
+        Ok(settings) => settings,
+        Err(ArgFault::Usage) => return refuse(
+            errors,
+            b"pops: usage: pops [--check] [--no-board] [FILE]\n",
+            2,
+        ),
+        Err(ArgFault::Memory) => return refuse(errors, b"pops: out of memory\n", 4),
+    };
+    match &settings.file {
+        None => report(&settings, input, output, errors),
+        Some(path) => match fs::open(rt, path.as_str()) {
+            Ok(file) => report(&settings, file, output, errors),
+            Err(_) => refuse(errors, b"pops: cannot open the input file\n", 3),
+        },
+    }
+}
+
+// Runs over the input and flushes the output.
+fn report<R: Read + Drop, W: Write + Drop, E: Write + Drop>(
+    settings: &Settings,
+    input: R,
+    output: W,
+    errors: E,
+) -> u8
+    ensures { result ≤ 4 }
+{
+    let mut source = ReadSource::new(input);
+    let mut sink = WriteSink::new(output);
+    let status = run(settings, &mut source, &mut sink);
+    let mut output = sink.into_inner();
+    let flushed = output.flush().is_ok();
+    match status {
+        Status::OutputFailed => refuse(errors, b"pops: output failed\n", 3),
+        _ if !flushed => refuse(errors, b"pops: output failed\n", 3),
+        Status::InputFailed => 3,
+        Status::Faulty => 1,
+        Status::Sound => 0,
+    }
+}
+
+// Says why nothing came of the words, and answers the exit status.
+fn refuse<E: Write + Drop>(mut errors: E, text: &[u8], status: u8) -> u8
+    ensures { result ≡ status }
+{
+    let _told = errors.write_all(text);
+    status
+}

@@ -1,0 +1,3 @@
+//! What is only tested: worked rows, whose reports were written from the rules, and the layout of made events.
+mod printing;
+mod rows;
