@@ -1,3 +1,4 @@
 //! What is known from outside.
+mod agreements;
 mod counts;
 mod positions;
