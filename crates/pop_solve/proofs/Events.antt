@@ -9,13 +9,15 @@ use Rattle.chess_core.specs.Triple.{Triple}
 use Rattle.chess_core.specs.WellFormed.{IsWellFormed}
 use Rattle.chess_rules.specs.RuleSet.{RuleSet}
 use Rattle.pop_input.specs.Posed.{Posed, IsSound}
+use Rattle.pop_solve.specs.declared.event.Phase.{Phase}
+use Rattle.pop_solve.specs.declared.event.Phase.TheVariants.{Set, Play}
 use Rattle.pop_solve.specs.Chess.{chess}
 use Rattle.pop_input.specs.Stipulations.{is_help, half_moves}
 use Rattle.pop_solve.proofs.Sound.{in_range}
 use Rattle.pop_solve.specs.Frames.{Frame, position, IsLinked}
 use Rattle.pop_solve.specs.Game.{reach}
 use Rattle.pop_solve.specs.Walk.{path, shows, IsShowing, IsWalking, IsRoomy}
-use Rattle.pop_solve.specs.Events.{Step, start, phase, line, tree_node, total, step_of, event_of, StandsOn, phase_start, phase_half_moves, phase_half, shown_along, shown_last, steps_from, phase_steps, is_barred, counted, solutions, events}
+use Rattle.pop_solve.specs.Events.{Step, start, is_set, opening, line, tree_node, total, step_of, event_of, StandsOn, phase_start, phase_half_moves, phase_half, shown_along, shown_last, steps_from, phase_steps, is_barred, counted, solutions, events}
 use Rattle.pop_solve.specs.Phases.{way_of, begins, keep, started, left_of, IsStanding, IsGiven, Walks, Gives, phase_paths}
 use Rattle.pop_solve.specs.Shown.{Shown}
 use Rattle.pop_solve.specs.declared.event.Event.{Event}
@@ -25,17 +27,17 @@ use Rattle.pop_solve.specs.declared.phases.Stage.TheVariants.{Before, Barred, Wi
 use Rattle.pop_solve.proofs.Walking.{reverse-push}
 use Rattle.pop_solve.proofs.Paths.{path-length, reach-path, shows-path, shown-top}
 
-step-help : (problem : Posed) (in_set : Bool) (path : List Triple) → is_help problem.stipulation.form ≡ true → step_of problem in_set path ≡ line in_set path
-step-help problem in_set path e = rw e refl
+step-help : (problem : Posed) (phase : Phase) (path : List Triple) → is_help problem.stipulation.form ≡ true → step_of problem phase path ≡ line phase path
+step-help problem phase path e = rw e refl
 
-step-battle : (problem : Posed) (in_set : Bool) (path : List Triple) → is_help problem.stipulation.form ≡ false → step_of problem in_set path ≡ tree_node in_set path
-step-battle problem in_set path e = rw e refl
+step-battle : (problem : Posed) (phase : Phase) (path : List Triple) → is_help problem.stipulation.form ≡ false → step_of problem phase path ≡ tree_node phase path
+step-battle problem phase path e = rw e refl
 
 -- the event of a line, read off the frames
-pub line-event : (problem : Posed) (in_set : Bool) (frames : List Frame) (half : ℕ) (moves : ArrayVec Shown) → is_help problem.stipulation.form ≡ true → half ≡ phase_half problem in_set → moves.items ≡ shows frames → (rule : RuleSet) → IsShowing rule (phase_start problem in_set) frames → Line half moves ≡ event_of rule problem (step_of problem in_set (path frames))
-line-event problem in_set frames half moves help h e rule s =
-    let m : moves.items ≡ shown_along rule (phase_start problem in_set) (path frames) = e ∙ shows-path rule (phase_start problem in_set) frames s in
-    rw (step-help problem in_set (path frames) help, h, ← m) refl
+pub line-event : (problem : Posed) (phase : Phase) (frames : List Frame) (half : ℕ) (moves : ArrayVec Shown) → is_help problem.stipulation.form ≡ true → half ≡ phase_half problem phase → moves.items ≡ shows frames → (rule : RuleSet) → IsShowing rule (phase_start problem phase) frames → Line half moves ≡ event_of rule problem (step_of problem phase (path frames))
+line-event problem phase frames half moves help h e rule s =
+    let m : moves.items ≡ shown_along rule (phase_start problem phase) (path frames) = e ∙ shows-path rule (phase_start problem phase) frames s in
+    rw (step-help problem phase (path frames) help, h, ← m) refl
 
 -- the last frame is the top
 last-top : (frames : List Frame) (d : Frame) → 0 < length frames → reverse frames ≡ get_or frames (length frames - 1) d ∷ reverse (take (length frames - 1) frames)
@@ -45,9 +47,9 @@ last-top frames d some =
     sym (ap reverse all) ∙ ap reverse (take_more frames (length frames - 1) d (omega (arith, some))) ∙ reverse-push (take (length frames - 1) frames) (get_or frames (length frames - 1) d)
 
 -- the event of a node
-pub node-event : (problem : Posed) (in_set : Bool) (frames : List Frame) (half depth : ℕ) (d : Frame) → is_help problem.stipulation.form ≡ false → 2 ≤ length frames → half ≡ phase_half problem in_set → depth ≡ length frames - 2 → (rule : RuleSet) → IsShowing rule (phase_start problem in_set) (reverse frames) → Node depth (half + depth) (get_or frames (length frames - 1) d).shown ≡ event_of rule problem (step_of problem in_set (path (reverse frames)))
-node-event problem in_set frames half depth d help deep h e rule s =
-    let p = phase_start problem in_set in
+pub node-event : (problem : Posed) (phase : Phase) (frames : List Frame) (half depth : ℕ) (d : Frame) → is_help problem.stipulation.form ≡ false → 2 ≤ length frames → half ≡ phase_half problem phase → depth ≡ length frames - 2 → (rule : RuleSet) → IsShowing rule (phase_start problem phase) (reverse frames) → Node depth (half + depth) (get_or frames (length frames - 1) d).shown ≡ event_of rule problem (step_of problem phase (path (reverse frames)))
+node-event problem phase frames half depth d help deep h e rule s =
+    let p = phase_start problem phase in
     let top = get_or frames (length frames - 1) d in
     let below = reverse (take (length frames - 1) frames) in
     let t : reverse frames ≡ top ∷ below = last-top frames d (omega (arith, deep)) in
@@ -55,7 +57,7 @@ node-event problem in_set frames half depth d help deep h e rule s =
     let n : 0 < length below = omega (arith, ap length t, length-reverse frames, deep) in
     let x : top.shown ≡ shown_last rule p (path (top ∷ below)) = shown-top rule p top below n (let T : List Frame → Type 0 = λ fs. IsShowing rule p fs in subst T t s) in
     let y : top.shown ≡ shown_last rule p (path (reverse frames)) = x ∙ ap (λ fs. shown_last rule p (path fs)) (sym t) in
-    rw (step-battle problem in_set (path (reverse frames)) help, l, h, y) refl
+    rw (step-battle problem phase (path (reverse frames)) help, l, h, y) refl
 
 pub room-length : (h : ℕ) (fs : List Frame) → IsRoomy h fs → length fs ≤ h + 1
 unfolding IsRoomy
@@ -63,14 +65,14 @@ room-length h [] s = omega arith
 room-length h (f ∷ below) s = omega (arith, s.0)
 
 -- the board after a path is given
-module _ (rule : RuleSet) (problem : Posed) (in_set : Bool) (h : ℕ) (frames : List Frame) (board : Position) (r : IsWalking rule h (phase_start problem in_set) (reverse frames) board) (deep : 2 ≤ length frames) where
-  pub stands_at : StandsOn rule problem (step_of problem in_set (path (reverse frames))) board (length frames)
+module _ (rule : RuleSet) (problem : Posed) (phase : Phase) (h : ℕ) (frames : List Frame) (board : Position) (r : IsWalking rule h (phase_start problem phase) (reverse frames) board) (deep : 2 ≤ length frames) where
+  pub stands_at : StandsOn rule problem (step_of problem phase (path (reverse frames))) board (length frames)
   stands_at = go (is_help problem.stipulation.form)
     where
-      here : (board ≡ reach (chess rule) (phase_start problem in_set) (path (reverse frames))) × (length frames ≡ length (path (reverse frames)) + 1)
-      here = (r.board_at ∙ reach-path rule (phase_start problem in_set) (reverse frames), omega (arith, path-length (reverse frames), length-reverse frames, deep))
+      here : (board ≡ reach (chess rule) (phase_start problem phase) (path (reverse frames))) × (length frames ≡ length (path (reverse frames)) + 1)
+      here = (r.board_at ∙ reach-path rule (phase_start problem phase) (reverse frames), omega (arith, path-length (reverse frames), length-reverse frames, deep))
 
-      go : (help : Bool) → StandsOn rule problem (cond help (line in_set (path (reverse frames))) (tree_node in_set (path (reverse frames)))) board (length frames)
+      go : (help : Bool) → StandsOn rule problem (cond help (line phase (path (reverse frames))) (tree_node phase (path (reverse frames)))) board (length frames)
       go true = here
       go false = here
 
@@ -78,27 +80,27 @@ module _ (rule : RuleSet) (problem : Posed) (in_set : Bool) (h : ℕ) (frames : 
   shallow least = omega (arith, room-length h (reverse frames) r.roomy, length-reverse frames)
 
 -- a path is given: the steps to come lose their first
-module _ (rule : RuleSet) (problem : Posed) (in_set : Bool) (count : ℕ) (old new : List Frame) (board : Position) (most : count ≤ problem.max_solutions) (w : Walks rule (way_of problem) (phase_half_moves problem in_set) (phase_start problem in_set) (problem.max_solutions - count) old new board true) where
+module _ (rule : RuleSet) (problem : Posed) (phase : Phase) (count : ℕ) (old new : List Frame) (board : Position) (most : count ≤ problem.max_solutions) (w : Walks rule (way_of problem) (phase_half_moves problem phase) (phase_start problem phase) (problem.max_solutions - count) old new board true) where
   abbrev more : ℕ
   more = cond (begins (is_help problem.stipulation.form) (path new)) 1 0
 
-  pub left-given : (next : ℕ) → next ≡ count + more → left_of rule problem (Within in_set count) old ≡ step_of problem in_set (path new) ∷ left_of rule problem (Within in_set next) new
+  pub left-given : (next : ℕ) → next ≡ count + more → left_of rule problem (Within phase count) old ≡ step_of problem phase (path new) ∷ left_of rule problem (Within phase next) new
   unfolding left_of
   left-given next e =
       let n : problem.max_solutions - count - more ≡ problem.max_solutions - next = omega (arith, e, most) in
-      let s : count + started (is_help problem.stipulation.form) (problem.max_solutions - count) (phase_paths rule problem in_set old) ≡ next + started (is_help problem.stipulation.form) (problem.max_solutions - next) (phase_paths rule problem in_set new) = rw (w.starts refl, n) (omega (arith, e)) in
+      let s : count + started (is_help problem.stipulation.form) (problem.max_solutions - count) (phase_paths rule problem phase old) ≡ next + started (is_help problem.stipulation.form) (problem.max_solutions - next) (phase_paths rule problem phase new) = rw (w.starts refl, n) (omega (arith, e)) in
       rw (w.come refl, s, n) refl
 
 -- none is given: the total is left
-pub left-ended : (rule : RuleSet) (problem : Posed) (in_set : Bool) (count : ℕ) (old new : List Frame) (board : Position) → Walks rule (way_of problem) (phase_half_moves problem in_set) (phase_start problem in_set) (problem.max_solutions - count) old new board false → left_of rule problem (Within in_set count) old ≡ total count (eqb count problem.max_solutions) ∷ cond in_set (steps_from rule problem false) []
+pub left-ended : (rule : RuleSet) (problem : Posed) (phase : Phase) (count : ℕ) (old new : List Frame) (board : Position) → Walks rule (way_of problem) (phase_half_moves problem phase) (phase_start problem phase) (problem.max_solutions - count) old new board false → left_of rule problem (Within phase count) old ≡ total count (eqb count problem.max_solutions) ∷ cond (is_set phase) (steps_from rule problem Play) []
 unfolding left_of
-left-ended rule problem in_set count old new board w =
+left-ended rule problem phase count old new board w =
     let n : count + 0 ≡ count = omega arith in rw (w.ended refl, w.none refl, n) refl
 
 two_one : (n : ℕ) → 2 ≤ n → eqb n 2 ≡ eqb (n - 1) 1
 two_one n h = let m : n ≡ suc (n - 1) = omega (arith, h) in rw m (grind (arith, nat_tests))
 
-module _ (rule : RuleSet) (problem : Posed) (in_set : Bool) (count : ℕ) (old : List Frame) (frames : List Frame) (board : Position) (most : count ≤ problem.max_solutions) (w : Walks rule (way_of problem) (phase_half_moves problem in_set) (phase_start problem in_set) (problem.max_solutions - count) old (reverse frames) board true) where
+module _ (rule : RuleSet) (problem : Posed) (phase : Phase) (count : ℕ) (old : List Frame) (frames : List Frame) (board : Position) (most : count ≤ problem.max_solutions) (w : Walks rule (way_of problem) (phase_half_moves problem phase) (phase_start problem phase) (problem.max_solutions - count) old (reverse frames) board true) where
   pub deep-given : 2 ≤ length frames
   deep-given = omega (arith, w.deep refl, length-reverse frames)
 
@@ -110,85 +112,85 @@ module _ (rule : RuleSet) (problem : Posed) (in_set : Bool) (count : ℕ) (old :
   pub room-given : cond (is_help problem.stipulation.form || eqb (length frames) 2) 1 0 ≤ problem.max_solutions - count
   room-given = rw begins-given (w.within refl)
 
-  pub gives-given : (next : ℕ) (event : Event) → next ≡ count + cond (is_help problem.stipulation.form || eqb (length frames) 2) 1 0 → event ≡ event_of rule problem (step_of problem in_set (path (reverse frames))) → Gives rule problem (left_of rule problem (Within in_set count) old) (left_of rule problem (Within in_set next) (reverse frames)) event board (length frames)
+  pub gives-given : (next : ℕ) (event : Event) → next ≡ count + cond (is_help problem.stipulation.form || eqb (length frames) 2) 1 0 → event ≡ event_of rule problem (step_of problem phase (path (reverse frames))) → Gives rule problem (left_of rule problem (Within phase count) old) (left_of rule problem (Within phase next) (reverse frames)) event board (length frames)
   gives-given next event n e = record {
-    step = step_of problem in_set (path (reverse frames));
-    left = left-given rule problem in_set count old (reverse frames) board most w next (n ∙ ap (λ b. count + cond b 1 0) begins-given);
+    step = step_of problem phase (path (reverse frames));
+    left = left-given rule problem phase count old (reverse frames) board most w next (n ∙ ap (λ b. count + cond b 1 0) begins-given);
     event_is = e;
-    stands = stands_at rule problem in_set (phase_half_moves problem in_set) frames board w.walking deep-given;
+    stands = stands_at rule problem phase (phase_half_moves problem phase) frames board w.walking deep-given;
   }
 
-  pub standing-given : (next : ℕ) → next ≡ count + cond (is_help problem.stipulation.form || eqb (length frames) 2) 1 0 → IsStanding rule problem (Within in_set next) (reverse frames) board
+  pub standing-given : (next : ℕ) → next ≡ count + cond (is_help problem.stipulation.form || eqb (length frames) 2) 1 0 → IsStanding rule problem (Within phase next) (reverse frames) board
   unfolding IsStanding
   standing-given next n = (w.walking, omega (arith, n, most, room-given))
 
   pub shallow-given : IsSound problem → length frames ≤ 17
-  shallow-given s = shallow rule problem in_set (phase_half_moves problem in_set) frames board w.walking deep-given (at_most in_set)
+  shallow-given s = shallow rule problem phase (phase_half_moves problem phase) frames board w.walking deep-given (at_most phase)
     where
-      at_most : (b : Bool) → cond b (half_moves problem.stipulation - 1) (half_moves problem.stipulation) ≤ 16
-      at_most true = omega (arith, in_range problem s)
-      at_most false = in_range problem s
+      at_most : (b : Phase) → cond (is_set b) (half_moves problem.stipulation - 1) (half_moves problem.stipulation) ≤ 16
+      at_most Set = omega (arith, in_range problem s)
+      at_most Play = in_range problem s
 
 -- what stands behind a phase
-behind-left : (rule : RuleSet) (problem : Posed) (in_set : Bool) (frames : List Frame) → left_of rule problem (cond in_set (Before false) Behind) frames ≡ cond in_set (steps_from rule problem false) []
+behind-left : (rule : RuleSet) (problem : Posed) (phase : Phase) (frames : List Frame) → left_of rule problem (cond (is_set phase) (Before Play) Behind) frames ≡ cond (is_set phase) (steps_from rule problem Play) []
 unfolding left_of
-behind-left rule problem true frames = refl
-behind-left rule problem false frames = refl
+behind-left rule problem Set frames = refl
+behind-left rule problem Play frames = refl
 
-behind-standing : (rule : RuleSet) (problem : Posed) (in_set : Bool) (board : Position) → board ≡ start problem → IsStanding rule problem (cond in_set (Before false) Behind) [] board
+behind-standing : (rule : RuleSet) (problem : Posed) (phase : Phase) (board : Position) → board ≡ start problem → IsStanding rule problem (cond (is_set phase) (Before Play) Behind) [] board
 unfolding IsStanding
-behind-standing rule problem true board e = (refl, e)
-behind-standing rule problem false board e = (refl, e)
+behind-standing rule problem Set board e = (refl, e)
+behind-standing rule problem Play board e = (refl, e)
 
-module _ (rule : RuleSet) (problem : Posed) (in_set : Bool) (stage : Stage) (new : List Frame) (board : Position) (at : stage ≡ cond in_set (Before false) Behind) (none : new ≡ []) where
-  pub gives-ended : (count depth : ℕ) (old mid : List Frame) (now : Position) → Walks rule (way_of problem) (phase_half_moves problem in_set) (phase_start problem in_set) (problem.max_solutions - count) old mid now false → Gives rule problem (left_of rule problem (Within in_set count) old) (left_of rule problem stage (reverse new)) (Total count (eqb count problem.max_solutions)) board depth
+module _ (rule : RuleSet) (problem : Posed) (phase : Phase) (stage : Stage) (new : List Frame) (board : Position) (at : stage ≡ cond (is_set phase) (Before Play) Behind) (none : new ≡ []) where
+  pub gives-ended : (count depth : ℕ) (old mid : List Frame) (now : Position) → Walks rule (way_of problem) (phase_half_moves problem phase) (phase_start problem phase) (problem.max_solutions - count) old mid now false → Gives rule problem (left_of rule problem (Within phase count) old) (left_of rule problem stage (reverse new)) (Total count (eqb count problem.max_solutions)) board depth
   gives-ended count depth old mid now w = record {
     step = total count (eqb count problem.max_solutions);
-    left = left-ended rule problem in_set count old mid now w ∙ ap (λ s. total count (eqb count problem.max_solutions) ∷ s) (sym (ap (λ s. left_of rule problem s (reverse new)) at ∙ behind-left rule problem in_set (reverse new)));
+    left = left-ended rule problem phase count old mid now w ∙ ap (λ s. total count (eqb count problem.max_solutions) ∷ s) (sym (ap (λ s. left_of rule problem s (reverse new)) at ∙ behind-left rule problem phase (reverse new)));
     event_is = refl;
     stands = tt;
   }
 
   pub standing-ended : board ≡ start problem → IsStanding rule problem stage (reverse new) board
-  standing-ended e = rw (at, none) (behind-standing rule problem in_set board e)
+  standing-ended e = rw (at, none) (behind-standing rule problem phase board e)
 
 -- a phase that isn't possible
-pub left-barred : (rule : RuleSet) (problem : Posed) (in_set : Bool) (frames : List Frame) → is_barred rule problem in_set ≡ true → left_of rule problem (Before in_set) frames ≡ phase in_set ∷ left_of rule problem Barred frames
+pub left-barred : (rule : RuleSet) (problem : Posed) (phase : Phase) (frames : List Frame) → is_barred rule problem phase ≡ true → left_of rule problem (Before phase) frames ≡ opening phase ∷ left_of rule problem Barred frames
 unfolding left_of phase_steps
-left-barred rule problem true frames e = rw e refl
-left-barred rule problem false frames e = absurd cc
+left-barred rule problem Set frames e = rw e refl
+left-barred rule problem Play frames e = absurd cc
 
 -- a phase begins
-pub left-begun : (rule : RuleSet) (problem : Posed) (in_set : Bool) (old new : List Frame) → is_barred rule problem in_set ≡ false → keep (is_help problem.stipulation.form) problem.max_solutions (phase_paths rule problem in_set new) ≡ flat_map (λ solution. solution) (take problem.max_solutions (solutions rule problem in_set)) → started (is_help problem.stipulation.form) problem.max_solutions (phase_paths rule problem in_set new) ≡ counted rule problem in_set → left_of rule problem (Before in_set) old ≡ phase in_set ∷ left_of rule problem (Within in_set 0) new
+pub left-begun : (rule : RuleSet) (problem : Posed) (phase : Phase) (old new : List Frame) → is_barred rule problem phase ≡ false → keep (is_help problem.stipulation.form) problem.max_solutions (phase_paths rule problem phase new) ≡ flat_map (λ solution. solution) (take problem.max_solutions (solutions rule problem phase)) → started (is_help problem.stipulation.form) problem.max_solutions (phase_paths rule problem phase new) ≡ counted rule problem phase → left_of rule problem (Before phase) old ≡ opening phase ∷ left_of rule problem (Within phase 0) new
 unfolding left_of phase_steps
-left-begun rule problem true old new e kept begun =
+left-begun rule problem Set old new e kept begun =
     let n : problem.max_solutions - 0 ≡ problem.max_solutions = omega arith in
-    let z : 0 + counted rule problem true ≡ counted rule problem true = omega arith in
-    rw (e, n, kept, begun, z) (ap (λ xs. phase true ∷ xs) (append_assoc (map (step_of problem true) (flat_map (λ solution. solution) (take problem.max_solutions (solutions rule problem true)))) _ _))
-left-begun rule problem false old new e kept begun =
+    let z : 0 + counted rule problem Set ≡ counted rule problem Set = omega arith in
+    rw (e, n, kept, begun, z) (ap (λ xs. opening Set ∷ xs) (append_assoc (map (step_of problem Set) (flat_map (λ solution. solution) (take problem.max_solutions (solutions rule problem Set)))) _ _))
+left-begun rule problem Play old new e kept begun =
     let n : problem.max_solutions - 0 ≡ problem.max_solutions = omega arith in
-    let z : 0 + counted rule problem false ≡ counted rule problem false = omega arith in
+    let z : 0 + counted rule problem Play ≡ counted rule problem Play = omega arith in
     rw (n, kept, begun, z) refl
 
-pub standing-begun : (rule : RuleSet) (problem : Posed) (in_set : Bool) (f : Frame) (board : Position) → f.left ≡ phase_half_moves problem in_set → board ≡ phase_start problem in_set → IsWellFormed board → IsStanding rule problem (Within in_set 0) (f ∷ []) board
+pub standing-begun : (rule : RuleSet) (problem : Posed) (phase : Phase) (f : Frame) (board : Position) → f.left ≡ phase_half_moves problem phase → board ≡ phase_start problem phase → IsWellFormed board → IsStanding rule problem (Within phase 0) (f ∷ []) board
 unfolding IsStanding IsLinked IsShowing IsRoomy position
-standing-begun rule problem in_set f board l e sound = (record { linked = tt; showing = tt; roomy = (omega (arith, l), tt); sound = sound; board_at = e }, omega arith)
+standing-begun rule problem phase f board l e sound = (record { linked = tt; showing = tt; roomy = (omega (arith, l), tt); sound = sound; board_at = e }, omega arith)
 
 -- the frames in use
 pub depth-most : (rule : RuleSet) (problem : Posed) (stage : Stage) (frames : List Frame) (board : Position) → IsStanding rule problem stage (reverse frames) board → length frames ≤ half_moves problem.stipulation + 1
 unfolding IsStanding
-depth-most rule problem (Before in_set) frames board s = omega (arith, ap length s.0, length-reverse frames)
+depth-most rule problem (Before phase) frames board s = omega (arith, ap length s.0, length-reverse frames)
 depth-most rule problem Barred frames board s = omega (arith, ap length s.0, length-reverse frames)
 depth-most rule problem Behind frames board s = omega (arith, ap length s.0, length-reverse frames)
-depth-most rule problem (Within in_set count) frames board s =
-    omega (arith, rooms (reverse frames) (phase_half_moves problem in_set) s.0.roomy, phase-most problem in_set, length-reverse frames)
+depth-most rule problem (Within phase count) frames board s =
+    omega (arith, rooms (reverse frames) (phase_half_moves problem phase) s.0.roomy, phase-most problem phase, length-reverse frames)
   where
     rooms : (fs : List Frame) (h : ℕ) → IsRoomy h fs → length fs ≤ h + 1
     rooms fs h r = room-length h fs r
 
-    phase-most : (problem : Posed) (in_set : Bool) → phase_half_moves problem in_set ≤ half_moves problem.stipulation
-    phase-most problem true = omega arith
-    phase-most problem false = omega arith
+    phase-most : (problem : Posed) (phase : Phase) → phase_half_moves problem phase ≤ half_moves problem.stipulation
+    phase-most problem Set = omega arith
+    phase-most problem Play = omega arith
 
 -- the steps still to come after a call
 drop-next : {A : Type 0} (k : ℕ) (xs : List A) (y : A) (ys : List A) → y ∷ ys ≡ drop k xs → ys ≡ drop (suc k) xs

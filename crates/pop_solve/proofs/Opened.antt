@@ -7,7 +7,9 @@ use Rattle.pop_input.specs.Posed.{Posed, IsSound}
 use Rattle.pop_input.specs.Stipulations.{is_help, is_selfmate, half_moves, half_moves_of}
 use Rattle.pop_input.specs.declared.stipulation.Form.{Form}
 use Rattle.pop_input.specs.declared.stipulation.Form.TheVariants.{Direct, SelfMate, Help, HelpHalf}
-use Rattle.pop_solve.specs.Events.{Step, total, is_stop, is_unstopped, is_barred, events, phase_start, phase_half_moves, phase_steps, phase_walk, walk_from, whole_walk}
+use Rattle.pop_solve.specs.declared.event.Phase.{Phase}
+use Rattle.pop_solve.specs.declared.event.Phase.TheVariants.{Set, Play}
+use Rattle.pop_solve.specs.Events.{Step, total, first_phase, is_set, is_stop, is_unstopped, is_barred, events, phase_start, phase_half_moves, phase_steps, phase_walk, walk_from, whole_walk}
 use Rattle.pop_solve.specs.Frames.{Frame, position, to_open}
 use Rattle.pop_solve.specs.Phases.{way_of, left_of, rest_open, IsKeys, IsNarrow, IsGiven, IsOpened, OpensOn}
 use Rattle.pop_solve.specs.Values.{seeks}
@@ -57,40 +59,40 @@ whites-root selfmate f e = rw e (or_true (eqb f.left 0))
 
 module _ (rule : RuleSet) (problem : Posed) where
   -- the frames of the phases behind one
-  abbrev later : Bool → ℕ
-  later in_set = cond in_set (phase_walk rule problem false) 0
+  abbrev later : Phase → ℕ
+  later phase = cond (is_set phase) (phase_walk rule problem Play) 0
 
   -- a phase that isn't possible
-  pub opens-barred : (in_set : Bool) (old new : List Frame) (count : ℕ) (left : List Step) → is_barred rule problem in_set ≡ true → OpensOn rule problem (Before in_set) Barred old new count count left
+  pub opens-barred : (phase : Phase) (old new : List Frame) (count : ℕ) (left : List Step) → is_barred rule problem phase ≡ true → OpensOn rule problem (Before phase) Barred old new count count left
   unfolding rest_open IsNarrow
-  opens-barred true old new count left e = record {
+  opens-barred Set old new count left e = record {
     narrow = λ n. narrowed n;
     most = λ n. rw e (omega arith);
-    counted = λ h u walk c. (let z : 0 + phase_walk rule problem false ≡ phase_walk rule problem false = omega arith in rw (e, z) at c);
+    counted = λ h u walk c. (let z : 0 + phase_walk rule problem Play ≡ phase_walk rule problem Play = omega arith in rw (e, z) at c);
   }
     where
-      narrowed : (is_help problem.stipulation.form ≡ true) ⊎ IsKeys problem true → is_help problem.stipulation.form ≡ true
+      narrowed : (is_help problem.stipulation.form ≡ true) ⊎ IsKeys problem Set → is_help problem.stipulation.form ≡ true
       narrowed (inl h) = h
       narrowed (inr k) = let f : true ≡ false = k.play in absurd cc
-  opens-barred false old new count left e = absurd cc
+  opens-barred Play old new count left e = absurd cc
 
   -- a phase begins: its root is opened
-  module _ (sound : IsSound problem) (in_set : Bool) (f : Frame) (left_is : f.left ≡ phase_half_moves problem in_set) (place_is : f.place ≡ 0) (possible : is_barred rule problem in_set ≡ false) where
+  module _ (sound : IsSound problem) (phase : Phase) (f : Frame) (left_is : f.left ≡ phase_half_moves problem phase) (place_is : f.place ≡ 0) (possible : is_barred rule problem phase ≡ false) where
     abbrev way : Way
     way = way_of problem
 
-    root-open : phase_walk rule problem in_set ≡ one rule way f.left + to_open rule (phase_start problem in_set) (f ∷ [])
+    root-open : phase_walk rule problem phase ≡ one rule way f.left + to_open rule (phase_start problem phase) (f ∷ [])
     unfolding to_open position
-    root-open = rw (possible, place_is, ← left_is) (omega (arith, walk_count-start rule way f.left (phase_start problem in_set)))
+    root-open = rw (possible, place_is, ← left_is) (omega (arith, walk_count-start rule way f.left (phase_start problem phase)))
 
-    from-open : walk_from rule problem in_set ≡ one rule way f.left + (to_open rule (phase_start problem in_set) (f ∷ []) + later in_set)
-    from-open = go in_set root-open
+    from-open : walk_from rule problem phase ≡ one rule way f.left + (to_open rule (phase_start problem phase) (f ∷ []) + later phase)
+    from-open = go phase root-open
       where
-        go : (b : Bool) → phase_walk rule problem b ≡ one rule way f.left + to_open rule (phase_start problem in_set) (f ∷ []) → walk_from rule problem b ≡ one rule way f.left + (to_open rule (phase_start problem in_set) (f ∷ []) + later b)
-        go true e = rw e (omega arith)
-        go false e = omega (arith, e)
+        go : (b : Phase) → phase_walk rule problem b ≡ one rule way f.left + to_open rule (phase_start problem phase) (f ∷ []) → walk_from rule problem b ≡ one rule way f.left + (to_open rule (phase_start problem phase) (f ∷ []) + later b)
+        go Set e = rw e (omega arith)
+        go Play e = omega (arith, e)
 
-    pub opens-begun : (old : List Frame) (count count2 : ℕ) (left : List Step) → (0 < f.left → count2 ≡ min (count + 1) (2 ^ 64 - 1)) → (f.left ≡ 0 → count2 ≡ count) → OpensOn rule problem (Before in_set) (Within in_set 0) old (f ∷ []) count count2 left
+    pub opens-begun : (old : List Frame) (count count2 : ℕ) (left : List Step) → (0 < f.left → count2 ≡ min (count + 1) (2 ^ 64 - 1)) → (f.left ≡ 0 → count2 ≡ count) → OpensOn rule problem (Before phase) (Within phase 0) old (f ∷ []) count count2 left
     unfolding rest_open IsNarrow
     opens-begun old count count2 left more same = record {
       narrow = λ n. narrowed n;
@@ -98,23 +100,23 @@ module _ (rule : RuleSet) (problem : Posed) where
       counted = λ h u walk c. counted_by rule way f.left walk count count2 _ _ from-open more same c;
     }
       where
-        narrowed : (is_help problem.stipulation.form ≡ true) ⊎ IsKeys problem in_set → (is_help problem.stipulation.form ≡ true) ⊎ (IsKeys problem in_set × (IsWhites (is_selfmate problem.stipulation.form) (f ∷ []) ≡ true))
+        narrowed : (is_help problem.stipulation.form ≡ true) ⊎ IsKeys problem phase → (is_help problem.stipulation.form ≡ true) ⊎ (IsKeys problem phase × (IsWhites (is_selfmate problem.stipulation.form) (f ∷ []) ≡ true))
         narrowed (inl h) = inl h
         narrowed (inr k) =
             let l : f.left ≡ half_moves problem.stipulation = left_is ∙ ap (λ b. cond b (half_moves problem.stipulation - 1) (half_moves problem.stipulation)) k.play in
             inr (k, whites-root (is_selfmate problem.stipulation.form) f (rw l (white-starts problem.stipulation.form problem.stipulation.n k.battle (some_way problem sound))))
 
   -- within a phase
-  module _ (in_set : Bool) (count : ℕ) (old new : List Frame) (before after : ℕ) (x : Opens rule (way_of problem) (phase_start problem in_set) old new before after) where
-    walked-most : (is_help problem.stipulation.form ≡ true) ⊎ (IsKeys problem in_set × (IsWhites (is_selfmate problem.stipulation.form) old ≡ true)) → after + to_open rule (phase_start problem in_set) new ≤ before + to_open rule (phase_start problem in_set) old
+  module _ (phase : Phase) (count : ℕ) (old new : List Frame) (before after : ℕ) (x : Opens rule (way_of problem) (phase_start problem phase) old new before after) where
+    walked-most : (is_help problem.stipulation.form ≡ true) ⊎ (IsKeys problem phase × (IsWhites (is_selfmate problem.stipulation.form) old ≡ true)) → after + to_open rule (phase_start problem phase) new ≤ before + to_open rule (phase_start problem phase) old
     walked-most (inl h) = x.helped h
     walked-most (inr k) = x.most k.0.battle k.0.keys k.1
 
-    walked-counted : is_help problem.stipulation.form ≡ true → (walk : ℕ) → IsCounted walk before (to_open rule (phase_start problem in_set) old + later in_set) → IsCounted walk after (to_open rule (phase_start problem in_set) new + later in_set)
+    walked-counted : is_help problem.stipulation.form ≡ true → (walk : ℕ) → IsCounted walk before (to_open rule (phase_start problem phase) old + later phase) → IsCounted walk after (to_open rule (phase_start problem phase) new + later phase)
     walked-counted h walk c =
-        counted-along walk (later in_set) after _ (omega (arith, c.within)) (x.counted h (walk - later in_set) (counted-apart walk (later in_set) before _ c))
+        counted-along walk (later phase) after _ (omega (arith, c.within)) (x.counted h (walk - later phase) (counted-apart walk (later phase) before _ c))
 
-    pub opens-given : (next : ℕ) (left : List Step) → OpensOn rule problem (Within in_set count) (Within in_set next) old new before after left
+    pub opens-given : (next : ℕ) (left : List Step) → OpensOn rule problem (Within phase count) (Within phase next) old new before after left
     unfolding rest_open IsNarrow
     opens-given next left = record {
       narrow = λ n. narrowed n;
@@ -122,12 +124,12 @@ module _ (rule : RuleSet) (problem : Posed) where
       counted = λ h u walk c. walked-counted h walk c;
     }
       where
-        narrowed : (is_help problem.stipulation.form ≡ true) ⊎ (IsKeys problem in_set × (IsWhites (is_selfmate problem.stipulation.form) old ≡ true)) → (is_help problem.stipulation.form ≡ true) ⊎ (IsKeys problem in_set × (IsWhites (is_selfmate problem.stipulation.form) new ≡ true))
+        narrowed : (is_help problem.stipulation.form ≡ true) ⊎ (IsKeys problem phase × (IsWhites (is_selfmate problem.stipulation.form) old ≡ true)) → (is_help problem.stipulation.form ≡ true) ⊎ (IsKeys problem phase × (IsWhites (is_selfmate problem.stipulation.form) new ≡ true))
         narrowed (inl h) = inl h
         narrowed (inr k) = inr (k.0, x.whites k.0.battle k.0.keys k.1)
 
     -- its end: where no phase is stopped, nothing is left to open
-    nothing_open : (left : List Step) → is_unstopped (total count (eqb count problem.max_solutions) ∷ left) ≡ true → count ≤ problem.max_solutions → (new ≡ []) ⊎ (problem.max_solutions - count ≡ 0) → to_open rule (phase_start problem in_set) new ≡ 0
+    nothing_open : (left : List Step) → is_unstopped (total count (eqb count problem.max_solutions) ∷ left) ≡ true → count ≤ problem.max_solutions → (new ≡ []) ⊎ (problem.max_solutions - count ≡ 0) → to_open rule (phase_start problem phase) new ≡ 0
     unfolding to_open
     nothing_open left u most (inl none) = rw none refl
     nothing_open left u most (inr full) =
@@ -135,25 +137,25 @@ module _ (rule : RuleSet) (problem : Posed) where
         let t : eqb count problem.max_solutions ≡ true = grind (arith, nat_tests, e) in
         let f : false ≡ true = rw t at u in absurd cc
 
-    pub opens-ended : (stage : Stage) (last : List Frame) (left : List Step) → stage ≡ cond in_set (Before false) Behind → count ≤ problem.max_solutions → (new ≡ []) ⊎ (problem.max_solutions - count ≡ 0) → OpensOn rule problem (Within in_set count) stage old last before after (total count (eqb count problem.max_solutions) ∷ left)
+    pub opens-ended : (stage : Stage) (last : List Frame) (left : List Step) → stage ≡ cond (is_set phase) (Before Play) Behind → count ≤ problem.max_solutions → (new ≡ []) ⊎ (problem.max_solutions - count ≡ 0) → OpensOn rule problem (Within phase count) stage old last before after (total count (eqb count problem.max_solutions) ∷ left)
     unfolding rest_open IsNarrow
     opens-ended stage last left at most over = record {
-      narrow = λ n. rw at (narrowed in_set n);
-      most = λ n. rw (at, rest-is in_set) (omega (arith, walked-most n));
-      counted = λ h u walk c. rw (at, rest-is in_set) (let w = walked-counted h walk c in let z = nothing_open left u most over in record { within = omega (arith, w.within); counts = omega (arith, z, w.counts) });
+      narrow = λ n. rw at (narrowed phase n);
+      most = λ n. rw (at, rest-is phase) (omega (arith, walked-most n));
+      counted = λ h u walk c. rw (at, rest-is phase) (let w = walked-counted h walk c in let z = nothing_open left u most over in record { within = omega (arith, w.within); counts = omega (arith, z, w.counts) });
     }
       where
-        rest-is : (b : Bool) → rest_open rule problem (cond b (Before false) Behind) last ≡ later b
-        rest-is true = refl
-        rest-is false = refl
+        rest-is : (b : Phase) → rest_open rule problem (cond (is_set b) (Before Play) Behind) last ≡ later b
+        rest-is Set = refl
+        rest-is Play = refl
 
-        narrowed : (b : Bool) → (is_help problem.stipulation.form ≡ true) ⊎ (IsKeys problem b × (IsWhites (is_selfmate problem.stipulation.form) old ≡ true)) → IsNarrow problem (cond b (Before false) Behind) last
-        narrowed true (inl h) = inl h
-        narrowed true (inr k) = let f : true ≡ false = k.0.play in absurd cc
-        narrowed false n = tt
+        narrowed : (b : Phase) → (is_help problem.stipulation.form ≡ true) ⊎ (IsKeys problem b × (IsWhites (is_selfmate problem.stipulation.form) old ≡ true)) → IsNarrow problem (cond (is_set b) (Before Play) Behind) last
+        narrowed Set (inl h) = inl h
+        narrowed Set (inr k) = let f : true ≡ false = k.0.play in absurd cc
+        narrowed Play n = tt
 
   -- before the play where set play isn't possible, and behind all
-  pub opens-play : (frames : List Frame) (count : ℕ) (left : List Step) → OpensOn rule problem Barred (Before false) frames frames count count left
+  pub opens-play : (frames : List Frame) (count : ℕ) (left : List Step) → OpensOn rule problem Barred (Before Play) frames frames count count left
   unfolding rest_open IsNarrow
   opens-play frames count left = record { narrow = λ h. inl h; most = λ n. omega arith; counted = λ h u walk c. c }
 
@@ -161,7 +163,7 @@ module _ (rule : RuleSet) (problem : Posed) where
   opens-behind stage frames count left = record { narrow = λ n. n; most = λ n. omega arith; counted = λ h u walk c. c }
 
   -- a search that has opened nothing
-  pub opened-start : (frames : List Frame) → IsOpened rule problem (Before problem.set_play) frames 0
+  pub opened-start : (frames : List Frame) → IsOpened rule problem (Before (first_phase problem)) frames 0
   unfolding rest_open IsNarrow
   opened-start frames = record {
     narrow = λ w. narrowed (is_help problem.stipulation.form) problem.variation problem.set_play refl refl refl w;
@@ -169,11 +171,11 @@ module _ (rule : RuleSet) (problem : Posed) where
     counted = λ h u. record { within = omega arith; counts = omega arith };
   }
     where
-      narrowed : (h v s : Bool) → is_help problem.stipulation.form ≡ h → problem.variation ≡ v → problem.set_play ≡ s → (h || (not v && not s)) ≡ true → (is_help problem.stipulation.form ≡ true) ⊎ IsKeys problem problem.set_play
+      narrowed : (h v s : Bool) → is_help problem.stipulation.form ≡ h → problem.variation ≡ v → problem.set_play ≡ s → (h || (not v && not s)) ≡ true → (is_help problem.stipulation.form ≡ true) ⊎ IsKeys problem (first_phase problem)
       narrowed true v s a b c w = inl a
       narrowed false true s a b c w = absurd cc
       narrowed false false true a b c w = absurd cc
-      narrowed false false false a b c w = inr (record { battle = a; keys = b; play = c })
+      narrowed false false false a b c w = inr (record { battle = a; keys = b; play = ap (λ b. is_set (cond b Set Play)) c })
 
   all-drop : (k : ℕ) (xs : List Step) → is_unstopped xs ≡ true → is_unstopped (drop k xs) ≡ true
   all-drop zero xs e = e
@@ -194,10 +196,10 @@ module _ (rule : RuleSet) (problem : Posed) where
   -- at the end nothing is to be opened
   pub rest-none : (stage : Stage) (frames : List Frame) → left_of rule problem stage frames ≡ [] → rest_open rule problem stage frames ≡ 0
   unfolding left_of rest_open phase_steps
-  rest-none (Before true) frames e = absurd cc
-  rest-none (Before false) frames e = absurd cc
+  rest-none (Before Set) frames e = absurd cc
+  rest-none (Before Play) frames e = absurd cc
   rest-none Barred frames e = absurd cc
-  rest-none (Within in_set count) frames e = absurd (some _ _ _ e)
+  rest-none (Within phase count) frames e = absurd (some _ _ _ e)
     where
       some : (xs : List Step) (y : Step) (ys : List Step) → (xs ++ y ∷ ys) ≡ [] → ⊥
       some [] y ys e = cc

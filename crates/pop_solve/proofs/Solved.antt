@@ -2,6 +2,8 @@
 use Rattle.std.proofs.Common.{◌≡◌, ℕ, zero, suc, ◌+◌, ◌-◌, ◌*◌, ◌≤◌, Bool, true, false, ◌&&◌, eqb, cond, List, [], ◌∷◌, ◌++◌, length, map, take, refl, sym, ◌∙◌, ap, arith}
 use Rattle.std.specs.List.{flat_map, filter, list_all}
 use Rattle.std.proofs.lemmas.Bool.Decides.{nat_tests}
+use Rattle.pop_solve.specs.declared.event.Phase.{Phase}
+use Rattle.pop_solve.specs.declared.event.Phase.TheVariants.{Set, Play}
 use Rattle.pop_solve.specs.Game.{Game, help_lines}
 use Rattle.pop_solve.specs.Values.{seeks, value}
 use Rattle.chess_rules.specs.Places.{moves_behind}
@@ -13,7 +15,7 @@ use Rattle.pop_solve.proofs.Sound.{some_way}
 use Rattle.pop_solve.specs.Frames.{Frame}
 use Rattle.pop_solve.specs.Tree.{node, keeps, tree, set_shows, set_tree}
 use Rattle.pop_solve.specs.Walk.{follows, gives, goes_on, shown}
-use Rattle.pop_solve.specs.Events.{solutions, phase_start, phase_half_moves}
+use Rattle.pop_solve.specs.Events.{is_set, solutions, phase_start, phase_half_moves}
 use Rattle.pop_solve.specs.Phases.{way_of, keep, started, phase_paths}
 use Rattle.pop_input.specs.declared.stipulation.Form.{Form}
 use Rattle.pop_input.specs.declared.stipulation.Form.TheVariants.{Direct, SelfMate, Help, HelpHalf}
@@ -205,20 +207,20 @@ module _ (rule : RuleSet) (problem : Posed) (stated : IsSound problem) where
   abbrev way : Way
   way = way_of problem
 
-  cut : (in_set help : Bool) → is_help problem.stipulation.form ≡ help → (h : ℕ) → phase_half_moves problem in_set ≡ h → IsCutInto help problem.max_solutions (shown way (chess rule) true h h (phase_start problem in_set) ((chess rule).moves (phase_start problem in_set))) (cond help (map (λ path. path ∷ []) (help_lines (chess rule) h (phase_start problem in_set))) (cond in_set (set_tree (is_selfmate problem.stipulation.form) (chess rule) problem.variation problem.stipulation.n h (phase_start problem in_set)) (tree (is_selfmate problem.stipulation.form) (chess rule) problem.variation problem.stipulation.n h (phase_start problem in_set))))
+  cut : (phase : Phase) (help : Bool) → is_help problem.stipulation.form ≡ help → (h : ℕ) → phase_half_moves problem phase ≡ h → IsCutInto help problem.max_solutions (shown way (chess rule) true h h (phase_start problem phase) ((chess rule).moves (phase_start problem phase))) (cond help (map (λ path. path ∷ []) (help_lines (chess rule) h (phase_start problem phase))) (cond (is_set phase) (set_tree (is_selfmate problem.stipulation.form) (chess rule) problem.variation problem.stipulation.n h (phase_start problem phase)) (tree (is_selfmate problem.stipulation.form) (chess rule) problem.variation problem.stipulation.n h (phase_start problem phase))))
   unfolding help_lines set_tree
-  cut in_set true e zero z = rw (shown-zero (chess rule) way true 0 (phase_start problem in_set) ((chess rule).moves (phase_start problem in_set))) (none-cut true problem.max_solutions)
-  cut in_set true e (suc h) z =
-      rw (shown-help (chess rule) way e true h (phase_start problem in_set)) (record { kept = lines-kept problem.max_solutions _; begun = lines-begun problem.max_solutions _ })
-  cut true false e zero z = rw (shown-zero (chess rule) way true 0 (phase_start problem true) ((chess rule).moves (phase_start problem true))) (none-cut false problem.max_solutions)
-  cut true false e (suc h) z = set-cut (chess rule) way e problem.stipulation.n h problem.max_solutions (phase_start problem true) (sym z ∙ ap (λ x. x - 1) (halves-form problem.stipulation.form problem.stipulation.n e))
-  cut false false e zero z = absurd (omega (arith, z, some_way problem stated))
-  cut false false e (suc h) z = tree-cut (chess rule) way e problem.stipulation.n h problem.max_solutions (phase_start problem false) (sym z ∙ halves-form problem.stipulation.form problem.stipulation.n e)
+  cut phase true e zero z = rw (shown-zero (chess rule) way true 0 (phase_start problem phase) ((chess rule).moves (phase_start problem phase))) (none-cut true problem.max_solutions)
+  cut phase true e (suc h) z =
+      rw (shown-help (chess rule) way e true h (phase_start problem phase)) (record { kept = lines-kept problem.max_solutions _; begun = lines-begun problem.max_solutions _ })
+  cut Set false e zero z = rw (shown-zero (chess rule) way true 0 (phase_start problem Set) ((chess rule).moves (phase_start problem Set))) (none-cut false problem.max_solutions)
+  cut Set false e (suc h) z = set-cut (chess rule) way e problem.stipulation.n h problem.max_solutions (phase_start problem Set) (sym z ∙ ap (λ x. x - 1) (halves-form problem.stipulation.form problem.stipulation.n e))
+  cut Play false e zero z = absurd (omega (arith, z, some_way problem stated))
+  cut Play false e (suc h) z = tree-cut (chess rule) way e problem.stipulation.n h problem.max_solutions (phase_start problem Play) (sym z ∙ halves-form problem.stipulation.form problem.stipulation.n e)
 
   -- what is to come from the root frame of a phase
-  pub root-solutions : (in_set : Bool) (f : Frame) → f.left ≡ phase_half_moves problem in_set → moves_behind rule (phase_start problem in_set) f.place ≡ (chess rule).moves (phase_start problem in_set) → IsCutInto (is_help problem.stipulation.form) problem.max_solutions (phase_paths rule problem in_set (f ∷ [])) (solutions rule problem in_set)
+  pub root-solutions : (phase : Phase) (f : Frame) → f.left ≡ phase_half_moves problem phase → moves_behind rule (phase_start problem phase) f.place ≡ (chess rule).moves (phase_start problem phase) → IsCutInto (is_help problem.stipulation.form) problem.max_solutions (phase_paths rule problem phase (f ∷ [])) (solutions rule problem phase)
   unfolding solutions
-  root-solutions in_set f l b =
-      let h : phase_half_moves problem in_set - 0 ≡ phase_half_moves problem in_set = omega arith in
-      let r = to_come-root rule way (phase_half_moves problem in_set) (phase_start problem in_set) f in
-      rw (r, h, l, b) (cut in_set (is_help problem.stipulation.form) refl (phase_half_moves problem in_set) refl)
+  root-solutions phase f l b =
+      let h : phase_half_moves problem phase - 0 ≡ phase_half_moves problem phase = omega arith in
+      let r = to_come-root rule way (phase_half_moves problem phase) (phase_start problem phase) f in
+      rw (r, h, l, b) (cut phase (is_help problem.stipulation.form) refl (phase_half_moves problem phase) refl)

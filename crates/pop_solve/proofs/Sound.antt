@@ -1,5 +1,5 @@
 -- What a sound problem's play rests on.
-use Rattle.std.proofs.Common.{◌≡◌, ℕ, ◌≤◌, Bool, true, false, None, nat_le, refl, arith}
+use Rattle.std.proofs.Common.{◌≡◌, ℕ, ◌≤◌, true, None, nat_le, refl, arith}
 use Rattle.std.proofs.lemmas.Bool.Decides.{nat_tests}
 use Rattle.std.proofs.lemmas.Bool.{and_parts}
 use Rattle.chess_core.specs.Position.{Position, other}
@@ -8,6 +8,8 @@ use Rattle.pop_input.specs.Posed.{Posed, IsSound}
 use Rattle.pop_input.specs.Stipulations.{half_moves, half_moves_of, may_have}
 use Rattle.pop_input.specs.declared.stipulation.Form.{Form}
 use Rattle.pop_input.specs.declared.stipulation.Form.TheVariants.{Direct, SelfMate, Help, HelpHalf}
+use Rattle.pop_solve.specs.declared.event.Phase.{Phase}
+use Rattle.pop_solve.specs.declared.event.Phase.TheVariants.{Set, Play}
 use Rattle.pop_solve.specs.Chess.{set_start}
 use Rattle.pop_solve.specs.Events.{start, phase_start}
 
@@ -38,6 +40,6 @@ nothing_crossed p = refl
 set_sound : (p : Position) → IsWellFormed p → IsWellFormed (set_start p)
 set_sound p w = record { size = w.size; kings = w.kings; pawns = w.pawns; homes = w.homes; crossed = nothing_crossed p }
 
-pub start_sound : (problem : Posed) → IsSound problem → (in_set : Bool) → IsWellFormed (phase_start problem in_set)
-start_sound problem s true = set_sound (start problem) s.well_formed
-start_sound problem s false = s.well_formed
+pub start_sound : (problem : Posed) → IsSound problem → (phase : Phase) → IsWellFormed (phase_start problem phase)
+start_sound problem s Set = set_sound (start problem) s.well_formed
+start_sound problem s Play = s.well_formed

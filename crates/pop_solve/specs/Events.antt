@@ -13,65 +13,74 @@ use Rattle.pop_input.specs.Stipulations.{is_help, is_selfmate, first_half, half_
 use Rattle.pop_solve.specs.Chess.{chess, is_impossible, nothing_shown, set_start, show}
 use Rattle.pop_solve.specs.Shown.{Shown}
 use Rattle.pop_solve.specs.declared.event.Event.{Event}
-use Rattle.pop_solve.specs.declared.event.Event.TheVariants.{Phase, Line, Node, Impossible, Total}
+use Rattle.pop_solve.specs.declared.event.Event.TheVariants.{Phase as PhaseEvent, Line, Node, Impossible, Total}
+use Rattle.pop_solve.specs.declared.event.Phase.{Phase}
 use Rattle.pop_solve.specs.declared.event.Phase.TheVariants.{Set, Play}
 
--- what a search gives, before it is shown; a path stands with its phase, true for set play
+-- what a search gives, before it is shown; a path stands with its phase
 pub data Step : Type 0 where
-  phase : Bool → Step
+  opening : Phase → Step
   impossible : Step
-  line : Bool → List Triple → Step
-  tree_node : Bool → List Triple → Step
+  line : Phase → List Triple → Step
+  tree_node : Phase → List Triple → Step
   total : ℕ → Bool → Step
+
+abbrev pub is_set : Phase → Bool
+is_set Set = true
+is_set Play = false
+
+-- the phase with which a problem begins
+abbrev pub first_phase : Posed → Phase
+first_phase problem = if problem.set_play then Set else Play
 
 -- the first position of the play
 abbrev pub start : Posed → Position
 start problem = position_of problem.diagram
 
 -- the first position of a phase
-abbrev pub phase_start : Posed → Bool → Position
-phase_start problem in_set = if in_set then set_start (start problem) else start problem
+abbrev pub phase_start : Posed → Phase → Position
+phase_start problem phase = if is_set phase then set_start (start problem) else start problem
 
 -- its half-moves: set play drops the first
-abbrev pub phase_half_moves : Posed → Bool → ℕ
-phase_half_moves problem in_set = if in_set then half_moves problem.stipulation - 1 else half_moves problem.stipulation
+abbrev pub phase_half_moves : Posed → Phase → ℕ
+phase_half_moves problem phase = if is_set phase then half_moves problem.stipulation - 1 else half_moves problem.stipulation
 
 -- its solutions, each a list of paths: a line, or a node with all below it
-unfoldable pub solutions : RuleSet → Posed → Bool → List (List (List Triple))
-solutions rule problem in_set =
-    let h = phase_half_moves problem in_set in
-    let p = phase_start problem in_set in
+unfoldable pub solutions : RuleSet → Posed → Phase → List (List (List Triple))
+solutions rule problem phase =
+    let h = phase_half_moves problem phase in
+    let p = phase_start problem phase in
     if is_help problem.stipulation.form then map (λ path. path ∷ []) (help_lines (chess rule) h p)
-    else (if in_set then set_tree (is_selfmate problem.stipulation.form) (chess rule) problem.variation problem.stipulation.n h p
+    else (if is_set phase then set_tree (is_selfmate problem.stipulation.form) (chess rule) problem.variation problem.stipulation.n h p
     else tree (is_selfmate problem.stipulation.form) (chess rule) problem.variation problem.stipulation.n h p)
 
 -- a phase with set play's first position is barred where that can't stand
-abbrev pub is_barred : RuleSet → Posed → Bool → Bool
-is_barred rule problem in_set = in_set && is_impossible rule (set_start (start problem))
+abbrev pub is_barred : RuleSet → Posed → Phase → Bool
+is_barred rule problem phase = is_set phase && is_impossible rule (set_start (start problem))
 
 -- a path as a step
-abbrev pub step_of : Posed → Bool → List Triple → Step
-step_of problem in_set path = if is_help problem.stipulation.form then line in_set path else tree_node in_set path
+abbrev pub step_of : Posed → Phase → List Triple → Step
+step_of problem phase path = if is_help problem.stipulation.form then line phase path else tree_node phase path
 
 -- how many solutions a phase has, up to the limit
-abbrev pub counted : RuleSet → Posed → Bool → ℕ
-counted rule problem in_set = length (take problem.max_solutions (solutions rule problem in_set))
+abbrev pub counted : RuleSet → Posed → Phase → ℕ
+counted rule problem phase = length (take problem.max_solutions (solutions rule problem phase))
 
 -- a phase: its name; then that it is barred, or its first solutions, whole, and their number
-unfoldable pub phase_steps : RuleSet → Posed → Bool → List Step
-phase_steps rule problem in_set =
-    phase in_set ∷ (if is_barred rule problem in_set then impossible ∷ []
-    else map (step_of problem in_set) (flat_map (λ solution. solution) (take problem.max_solutions (solutions rule problem in_set)))
-    ++ total (counted rule problem in_set) (counted rule problem in_set == problem.max_solutions) ∷ [])
+unfoldable pub phase_steps : RuleSet → Posed → Phase → List Step
+phase_steps rule problem phase =
+    opening phase ∷ (if is_barred rule problem phase then impossible ∷ []
+    else map (step_of problem phase) (flat_map (λ solution. solution) (take problem.max_solutions (solutions rule problem phase)))
+    ++ total (counted rule problem phase) (counted rule problem phase == problem.max_solutions) ∷ [])
 
 -- the steps from a phase on
-abbrev pub steps_from : RuleSet → Posed → Bool → List Step
-steps_from rule problem in_set =
-    if in_set then phase_steps rule problem true ++ phase_steps rule problem false else phase_steps rule problem false
+abbrev pub steps_from : RuleSet → Posed → Phase → List Step
+steps_from rule problem phase =
+    if is_set phase then phase_steps rule problem Set ++ phase_steps rule problem Play else phase_steps rule problem Play
 
 -- all steps of a problem
 abbrev pub events : RuleSet → Posed → List Step
-events rule problem = steps_from rule problem problem.set_play
+events rule problem = steps_from rule problem (first_phase problem)
 
 -- the moves of a path from p as they are shown, and the last of them
 abbrev pub shown_along : RuleSet → Position → List Triple → List Shown
@@ -84,17 +93,17 @@ shown_last rule p (m ∷ []) = show rule p m
 shown_last rule p (m ∷ (n ∷ path)) = shown_last rule ((chess rule).after p m) (n ∷ path)
 
 -- the number of a phase's first half-move
-abbrev pub phase_half : Posed → Bool → ℕ
-phase_half problem in_set = if in_set then first_half problem.stipulation.form + 1 else first_half problem.stipulation.form
+abbrev pub phase_half : Posed → Phase → ℕ
+phase_half problem phase = if is_set phase then first_half problem.stipulation.form + 1 else first_half problem.stipulation.form
 
 -- the event of a step
 abbrev pub event_of : RuleSet → Posed → Step → Event
-event_of rule problem (phase in_set) = Phase (if in_set then Set else Play)
+event_of rule problem (opening phase) = PhaseEvent phase
 event_of rule problem impossible = Impossible
-event_of rule problem (line in_set path) =
-    Line (phase_half problem in_set) (record { items = shown_along rule (phase_start problem in_set) path })
-event_of rule problem (tree_node in_set path) =
-    Node (length path - 1) (phase_half problem in_set + (length path - 1)) (shown_last rule (phase_start problem in_set) path)
+event_of rule problem (line phase path) =
+    Line (phase_half problem phase) (record { items = shown_along rule (phase_start problem phase) path })
+event_of rule problem (tree_node phase path) =
+    Node (length path - 1) (phase_half problem phase + (length path - 1)) (shown_last rule (phase_start problem phase) path)
 event_of rule problem (total count stopped) = Total count stopped
 
 -- all events of a problem, under its own condition
@@ -103,32 +112,32 @@ events_of problem = map (event_of (rule_of problem.condition) problem) (events (
 
 -- after a step: the board where its path leads, and one frame more than the path has moves
 abbrev pub StandsOn : RuleSet → Posed → Step → Position → ℕ → Type 0
-StandsOn rule problem (phase in_set) board depth = Unit {0}
+StandsOn rule problem (opening phase) board depth = Unit {0}
 StandsOn rule problem impossible board depth = Unit {0}
-StandsOn rule problem (line in_set path) board depth = (board ≡ reach (chess rule) (phase_start problem in_set) path) × (depth ≡ length path + 1)
-StandsOn rule problem (tree_node in_set path) board depth = (board ≡ reach (chess rule) (phase_start problem in_set) path) × (depth ≡ length path + 1)
+StandsOn rule problem (line phase path) board depth = (board ≡ reach (chess rule) (phase_start problem phase) path) × (depth ≡ length path + 1)
+StandsOn rule problem (tree_node phase path) board depth = (board ≡ reach (chess rule) (phase_start problem phase) path) × (depth ≡ length path + 1)
 StandsOn rule problem (total count stopped) board depth = Unit {0}
 
 -- how many lists of fewer moves than its half-moves, each legal where it stands, a phase has: none where it is barred
-abbrev pub phase_walk : RuleSet → Posed → Bool → ℕ
-phase_walk rule problem in_set =
-    if is_barred rule problem in_set then 0
-    else walk_count (chess rule) (phase_half_moves problem in_set) (phase_start problem in_set)
+abbrev pub phase_walk : RuleSet → Posed → Phase → ℕ
+phase_walk rule problem phase =
+    if is_barred rule problem phase then 0
+    else walk_count (chess rule) (phase_half_moves problem phase) (phase_start problem phase)
 
 -- the same of all phases from one on
-abbrev pub walk_from : RuleSet → Posed → Bool → ℕ
-walk_from rule problem in_set =
-    if in_set then phase_walk rule problem true + phase_walk rule problem false else phase_walk rule problem false
+abbrev pub walk_from : RuleSet → Posed → Phase → ℕ
+walk_from rule problem phase =
+    if is_set phase then phase_walk rule problem Set + phase_walk rule problem Play else phase_walk rule problem Play
 
 abbrev pub whole_walk : RuleSet → Posed → ℕ
-whole_walk rule problem = walk_from rule problem problem.set_play
+whole_walk rule problem = walk_from rule problem (first_phase problem)
 
 -- whether the limit of solutions ended a phase
 abbrev pub is_stop : Step → Bool
-is_stop (phase in_set) = false
+is_stop (opening phase) = false
 is_stop impossible = false
-is_stop (line in_set path) = false
-is_stop (tree_node in_set path) = false
+is_stop (line phase path) = false
+is_stop (tree_node phase path) = false
 is_stop (total count stopped) = stopped
 
 abbrev pub is_unstopped : List Step → Bool

@@ -7,8 +7,10 @@ use Rattle.pop_input.specs.Posed.{Posed}
 use Rattle.pop_input.specs.Stipulations.{is_help, is_selfmate}
 use Rattle.pop_solve.specs.Frames.{Frame, to_open}
 use Rattle.pop_solve.specs.Walk.{path, to_come, IsWalking, IsCounted, IsWhites}
-use Rattle.pop_solve.specs.Events.{Step, impossible, total, is_never_stopped, is_unstopped, is_walked_once, start, walk_from, whole_walk, steps_from, step_of, phase_start, phase_half_moves, event_of, StandsOn, events}
+use Rattle.pop_solve.specs.Events.{Step, impossible, is_set, total, is_never_stopped, is_unstopped, is_walked_once, start, walk_from, whole_walk, steps_from, step_of, phase_start, phase_half_moves, event_of, StandsOn, events}
 use Rattle.pop_solve.specs.declared.event.Event.{Event}
+use Rattle.pop_solve.specs.declared.event.Phase.{Phase}
+use Rattle.pop_solve.specs.declared.event.Phase.TheVariants.{Play}
 use Rattle.pop_solve.specs.declared.phases.Stage.{Stage}
 use Rattle.pop_solve.specs.declared.phases.Stage.TheVariants.{Before, Barred, Within, Behind}
 use Rattle.pop_solve.specs.declared.walk.Way.{Way}
@@ -35,28 +37,28 @@ module _ {M : Type 0} where
   started help (suc n) (x ∷ xs) = if begins help x then 1 + started help n xs else started help (suc n) xs
 
 -- the paths to come from the frames of a phase
-abbrev pub phase_paths : RuleSet → Posed → Bool → List Frame → List (List Triple)
-phase_paths rule problem in_set frames =
-    to_come rule (way_of problem) (phase_half_moves problem in_set) (phase_start problem in_set) frames
+abbrev pub phase_paths : RuleSet → Posed → Phase → List Frame → List (List Triple)
+phase_paths rule problem phase frames =
+    to_come rule (way_of problem) (phase_half_moves problem phase) (phase_start problem phase) frames
 
 -- the steps still to come
 unfoldable pub left_of : RuleSet → Posed → Stage → List Frame → List Step
-left_of rule problem (Before in_set) frames = steps_from rule problem in_set
-left_of rule problem Barred frames = impossible ∷ steps_from rule problem false
-left_of rule problem (Within in_set count) frames =
-    let paths = phase_paths rule problem in_set frames in
+left_of rule problem (Before phase) frames = steps_from rule problem phase
+left_of rule problem Barred frames = impossible ∷ steps_from rule problem Play
+left_of rule problem (Within phase count) frames =
+    let paths = phase_paths rule problem phase frames in
     let limit = problem.max_solutions - count in
     let all = count + started (is_help problem.stipulation.form) limit paths in
-    map (step_of problem in_set) (keep (is_help problem.stipulation.form) limit paths)
-    ++ total all (all == problem.max_solutions) ∷ (if in_set then steps_from rule problem false else [])
+    map (step_of problem phase) (keep (is_help problem.stipulation.form) limit paths)
+    ++ total all (all == problem.max_solutions) ∷ (if is_set phase then steps_from rule problem Play else [])
 left_of rule problem Behind frames = []
 
 -- what holds of board and frames at a stage
 unfoldable pub IsStanding : RuleSet → Posed → Stage → List Frame → Position → Type 0
-IsStanding rule problem (Before in_set) frames board = (frames ≡ []) × (board ≡ start problem)
+IsStanding rule problem (Before phase) frames board = (frames ≡ []) × (board ≡ start problem)
 IsStanding rule problem Barred frames board = (frames ≡ []) × (board ≡ start problem)
-IsStanding rule problem (Within in_set count) frames board =
-    IsWalking rule (phase_half_moves problem in_set) (phase_start problem in_set) frames board
+IsStanding rule problem (Within phase count) frames board =
+    IsWalking rule (phase_half_moves problem phase) (phase_start problem phase) frames board
     × (count ≤ problem.max_solutions)
 IsStanding rule problem Behind frames board = (frames ≡ []) × (board ≡ start problem)
 
@@ -80,25 +82,25 @@ pub record Gives (rule : RuleSet) (problem : Posed) (old new : List Step) (event
 
 -- the frames that can still be opened
 unfoldable pub rest_open : RuleSet → Posed → Stage → List Frame → ℕ
-rest_open rule problem (Before in_set) frames = walk_from rule problem in_set
-rest_open rule problem Barred frames = walk_from rule problem false
-rest_open rule problem (Within in_set count) frames =
-    to_open rule (phase_start problem in_set) frames + (if in_set then walk_from rule problem false else 0)
+rest_open rule problem (Before phase) frames = walk_from rule problem phase
+rest_open rule problem Barred frames = walk_from rule problem Play
+rest_open rule problem (Within phase count) frames =
+    to_open rule (phase_start problem phase) frames + (if is_set phase then walk_from rule problem Play else 0)
 rest_open rule problem Behind frames = 0
 
 -- the play of a battle, whose keys alone are shown
-pub record IsKeys (problem : Posed) (in_set : Bool) : Type 0 where
+pub record IsKeys (problem : Posed) (phase : Phase) : Type 0 where
   pub battle : is_help problem.stipulation.form ≡ false
   pub keys : problem.variation ≡ false
-  pub play : in_set ≡ false
+  pub play : is_set phase ≡ false
 
 -- help play, or keys alone, for which White alone has frames
 unfoldable pub IsNarrow : Posed → Stage → List Frame → Type 0
-IsNarrow problem (Before in_set) frames = (is_help problem.stipulation.form ≡ true) ⊎ IsKeys problem in_set
+IsNarrow problem (Before phase) frames = (is_help problem.stipulation.form ≡ true) ⊎ IsKeys problem phase
 IsNarrow problem Barred frames = is_help problem.stipulation.form ≡ true
-IsNarrow problem (Within in_set count) frames =
+IsNarrow problem (Within phase count) frames =
     (is_help problem.stipulation.form ≡ true)
-    ⊎ (IsKeys problem in_set × (IsWhites (is_selfmate problem.stipulation.form) frames ≡ true))
+    ⊎ (IsKeys problem phase × (IsWhites (is_selfmate problem.stipulation.form) frames ≡ true))
 IsNarrow problem Behind frames = Unit {0}
 
 -- what a call opens, `left` being the steps still to come before it

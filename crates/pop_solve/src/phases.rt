@@ -8,9 +8,10 @@ ghost use Rattle.chess_rules.specs.RuleSet.{RuleSet};
 ghost use Rattle.pop_input.specs.Posed.{IsSound};
 ghost use Rattle.pop_input.specs.Stipulations.{half_moves, is_help, is_selfmate};
 ghost use Rattle.pop_solve.specs.Chess.{set_start};
-ghost use Rattle.pop_solve.specs.Events.{start, phase_half_moves as half_moves_of_phase, phase_start, phase_half as half_of_phase, event_of, is_barred, step_of, phase};
+ghost use Rattle.pop_solve.specs.Events.{first_phase, start, phase_half_moves as half_moves_of_phase, phase_start, phase_half as half_of_phase, event_of, is_barred, step_of, is_set, opening};
 ghost use Rattle.pop_solve.specs.Walk.{IsWalking, IsShowing, Opens, shows, path};
 ghost use Rattle.pop_solve.specs.Phases.{way_of as way_of_problem, left_of, IsStanding, Walks, Gives, OpensOn};
+ghost use Rattle.pop_solve.specs.declared.event.Phase.TheVariants.{Play};
 ghost use Rattle.pop_solve.specs.declared.phases.Stage.TheVariants.{Before, Within, Behind};
 
 use crate::chess::{is_impossible, turn_back, turn_over};
@@ -29,13 +30,24 @@ use pop_input::stipulation::Form;
 #[derive(Clone, Copy)]
 pub enum Stage {
     /// Before a phase.
-    Before { in_set: bool },
+    Before { phase: Phase },
     /// In set play, which isn't possible.
     Barred,
     /// Within a phase, of which `count` solutions have begun.
-    Within { in_set: bool, count: u32 },
+    Within { phase: Phase, count: u32 },
     /// Behind the last.
     Behind,
+}
+
+/// The phase with which a problem begins.
+pub fn first_phase(problem: &Problem) -> Phase
+    ensures { result ≡ first_phase problem.now }
+{
+    if problem.set_play() {
+        Phase::Set
+    } else {
+        Phase::Play
+    }
 }
 
 /// Whether both sides help.
@@ -74,25 +86,27 @@ fn half_moves(problem: &Problem) -> usize
 }
 
 /// The half-moves of a phase: set play drops the first.
-fn phase_half_moves(problem: &Problem, in_set: bool) -> usize
-    ensures { result ≡ half_moves_of_phase problem.now in_set }
+fn phase_half_moves(problem: &Problem, phase: Phase) -> usize
+    ensures { result ≡ half_moves_of_phase problem.now phase }
 {
-    if in_set {
-        half_moves(problem) - 1
-    } else {
-        half_moves(problem)
+    match phase {
+        Phase::Set => half_moves(problem) - 1,
+        Phase::Play => half_moves(problem),
     }
 }
 
 /// The number of a phase's first half-move.
-fn phase_half(problem: &Problem, in_set: bool) -> u32
-    ensures { result ≡ half_of_phase problem.now in_set }
+fn phase_half(problem: &Problem, phase: Phase) -> u32
+    ensures { result ≡ half_of_phase problem.now phase }
 {
     let first = match problem.stipulation().form {
         Form::Direct | Form::SelfMate | Form::Help => 1,
         Form::HelpHalf => 2,
     };
-    if in_set { first + 1 } else { first }
+    match phase {
+        Phase::Set => first + 1,
+        Phase::Play => first,
+    }
 }
 
 /// The move that led to a frame, as it is shown.
@@ -126,7 +140,7 @@ fn is_full(way: Way, depth: usize, limit: u32) -> bool
 /// there is one.
 fn walk_on<R: Rules, const N: usize>(
     problem: &Problem,
-    in_set: bool,
+    phase: Phase,
     limit: u32,
     board: &mut Board,
     frames: &mut ArrayVec<Frame<R>, N>,
@@ -134,15 +148,15 @@ fn walk_on<R: Rules, const N: usize>(
 ) -> bool
     requires sound { IsSound problem.now }
     requires room { half_moves problem.now.stipulation < N }
-    requires walking { IsWalking R.rule (half_moves_of_phase problem.now in_set) (phase_start problem.now in_set)
+    requires walking { IsWalking R.rule (half_moves_of_phase problem.now phase) (phase_start problem.now phase)
         (reverse frames.old.items) board.old }
-    ensures walks { Walks R.rule (way_of_problem problem.now) (half_moves_of_phase problem.now in_set)
-        (phase_start problem.now in_set) limit (reverse frames.old.items) (reverse frames.new.items) board.new result }
-    ensures opens { Opens R.rule (way_of_problem problem.now) (phase_start problem.now in_set) (reverse frames.old.items)
+    ensures walks { Walks R.rule (way_of_problem problem.now) (half_moves_of_phase problem.now phase)
+        (phase_start problem.now phase) limit (reverse frames.old.items) (reverse frames.new.items) board.new result }
+    ensures opens { Opens R.rule (way_of_problem problem.now) (phase_start problem.now phase) (reverse frames.old.items)
         (reverse frames.new.items) opened.old opened.new }
 {
     let way = way_of(problem);
-    let half_moves = phase_half_moves(problem, in_set);
+    let half_moves = phase_half_moves(problem, phase);
     while !frames.is_empty() && !is_full(way, frames.len(), limit) {
         if step::<R, N>(way, half_moves, board, frames, opened) {
             return true;
@@ -169,15 +183,15 @@ fn close_all<R: Rules, const N: usize>(
 /// The event of the path to the top frame.
 fn event_at<R: Rules, const N: usize>(
     problem: &Problem,
-    in_set: bool,
+    phase: Phase,
     frames: &ArrayVec<Frame<R>, N>,
 ) -> Event
     requires deep { 2 ≤ array_vec_len frames.now }
     requires shallow { array_vec_len frames.now ≤ 17 }
-    ensures { IsShowing R.rule (phase_start problem.now in_set) (reverse frames.now.items)
-        → result ≡ event_of R.rule problem.now (step_of problem.now in_set (path (reverse frames.now.items))) }
+    ensures { IsShowing R.rule (phase_start problem.now phase) (reverse frames.now.items)
+        → result ≡ event_of R.rule problem.now (step_of problem.now phase (path (reverse frames.now.items))) }
 {
-    let half = phase_half(problem, in_set);
+    let half = phase_half(problem, phase);
     if is_help(problem) {
         return Event::Line {
             half,
@@ -195,12 +209,12 @@ fn event_at<R: Rules, const N: usize>(
 }
 
 /// Puts the first position of a phase on the board, or finds that it isn't possible and leaves the board.
-fn set_up<R: Rules>(problem: &Problem, in_set: bool, board: &mut Board) -> bool
+fn set_up<R: Rules>(problem: &Problem, phase: Phase, board: &mut Board) -> bool
     requires { board.old ≡ start problem.now }
-    ensures possible { result ≡ not (is_barred R.rule problem.now in_set) }
-    ensures board { board.new ≡ (if result then phase_start problem.now in_set else start problem.now) }
+    ensures possible { result ≡ not (is_barred R.rule problem.now phase) }
+    ensures board { board.new ≡ (if result then phase_start problem.now phase else start problem.now) }
 {
-    if !in_set {
+    if phase == Phase::Play {
         return true;
     }
     turn_over(board);
@@ -215,53 +229,54 @@ fn set_up<R: Rules>(problem: &Problem, in_set: bool, board: &mut Board) -> bool
 #[tactic(auto, unfolding(crate::specs::Phases::IsStanding))]
 fn begin<R: Rules, const N: usize>(
     problem: &Problem,
-    in_set: bool,
+    phase: Phase,
     board: &mut Board,
     frames: &mut ArrayVec<Frame<R>, N>,
     opened: &mut u64,
 ) -> Stage
     requires sound { IsSound problem.now }
     requires room { half_moves problem.now.stipulation < N }
-    requires standing { IsStanding R.rule problem.now (Before in_set) (reverse frames.old.items) board.old }
+    requires standing { IsStanding R.rule problem.now (Before phase) (reverse frames.old.items) board.old }
     ensures standing { IsStanding R.rule problem.now result (reverse frames.new.items) board.new }
-    ensures left { left_of R.rule problem.now (Before in_set) (reverse frames.old.items)
-        ≡ phase in_set ∷ left_of R.rule problem.now result (reverse frames.new.items) }
-    ensures opens { OpensOn R.rule problem.now (Before in_set) result (reverse frames.old.items) (reverse frames.new.items)
-        opened.old opened.new (left_of R.rule problem.now (Before in_set) (reverse frames.old.items)) }
+    ensures left { left_of R.rule problem.now (Before phase) (reverse frames.old.items)
+        ≡ opening phase ∷ left_of R.rule problem.now result (reverse frames.new.items) }
+    ensures opens { OpensOn R.rule problem.now (Before phase) result (reverse frames.old.items) (reverse frames.new.items)
+        opened.old opened.new (left_of R.rule problem.now (Before phase) (reverse frames.old.items)) }
 {
-    if !set_up::<R>(problem, in_set, board) {
+    if !set_up::<R>(problem, phase, board) {
         return Stage::Barred;
     }
-    let left = phase_half_moves(problem, in_set);
+    let left = phase_half_moves(problem, phase);
     frames.push(Frame {
         place: Moves::start(),
         left,
         ..Frame::default()
     });
     *opened = opened_by(*opened, left, false);
-    Stage::Within { in_set, count: 0 }
+    Stage::Within { phase, count: 0 }
 }
 
 /// Ends a phase: closes its frames and puts the first position of the play on the board.
 fn end<R: Rules, const N: usize>(
     problem: &Problem,
-    in_set: bool,
+    phase: Phase,
     board: &mut Board,
     frames: &mut ArrayVec<Frame<R>, N>,
 ) -> Stage
     requires sound { IsSound problem.now }
-    requires walking { IsWalking R.rule (half_moves_of_phase problem.now in_set) (phase_start problem.now in_set)
+    requires walking { IsWalking R.rule (half_moves_of_phase problem.now phase) (phase_start problem.now phase)
         (reverse frames.old.items) board.old }
-    ensures stage { result ≡ (if in_set then Before false else Behind) }
+    ensures stage { result ≡ (if is_set phase then Before Play else Behind) }
     ensures none { frames.new.items ≡ [] }
     ensures board { board.new ≡ start problem.now }
 {
-    close_all::<R, N>(phase_half_moves(problem, in_set), board, frames);
-    if in_set {
-        turn_back(board, &problem.diagram());
-        Stage::Before { in_set: false }
-    } else {
-        Stage::Behind
+    close_all::<R, N>(phase_half_moves(problem, phase), board, frames);
+    match phase {
+        Phase::Set => {
+            turn_back(board, &problem.diagram());
+            Stage::Before { phase: Phase::Play }
+        }
+        Phase::Play => Stage::Behind,
     }
 }
 
@@ -269,7 +284,7 @@ fn end<R: Rules, const N: usize>(
 #[tactic(auto, unfolding(crate::specs::Phases::IsStanding))]
 fn go_on<R: Rules, const N: usize>(
     problem: &Problem,
-    in_set: bool,
+    phase: Phase,
     count: u32,
     stage: &mut Stage,
     board: &mut Board,
@@ -278,23 +293,23 @@ fn go_on<R: Rules, const N: usize>(
 ) -> Event
     requires sound { IsSound problem.now }
     requires room { half_moves problem.now.stipulation < N }
-    requires standing { IsStanding R.rule problem.now (Within in_set count) (reverse frames.old.items) board.old }
+    requires standing { IsStanding R.rule problem.now (Within phase count) (reverse frames.old.items) board.old }
     ensures standing { IsStanding R.rule problem.now stage.new (reverse frames.new.items) board.new }
     ensures gives { Gives R.rule problem.now
-        (left_of R.rule problem.now (Within in_set count) (reverse frames.old.items))
+        (left_of R.rule problem.now (Within phase count) (reverse frames.old.items))
         (left_of R.rule problem.now stage.new (reverse frames.new.items)) result board.new (array_vec_len frames.new) }
-    ensures opens { OpensOn R.rule problem.now (Within in_set count) stage.new (reverse frames.old.items)
+    ensures opens { OpensOn R.rule problem.now (Within phase count) stage.new (reverse frames.old.items)
         (reverse frames.new.items) opened.old opened.new
-        (left_of R.rule problem.now (Within in_set count) (reverse frames.old.items)) }
+        (left_of R.rule problem.now (Within phase count) (reverse frames.old.items)) }
 {
     let max_solutions = problem.max_solutions();
     let limit = max_solutions - count;
-    if walk_on::<R, N>(problem, in_set, limit, board, frames, opened) {
+    if walk_on::<R, N>(problem, phase, limit, board, frames, opened) {
         let count = count_with(problem, frames.len(), count);
-        *stage = Stage::Within { in_set, count };
-        return event_at::<R, N>(problem, in_set, frames);
+        *stage = Stage::Within { phase, count };
+        return event_at::<R, N>(problem, phase, frames);
     }
-    *stage = end::<R, N>(problem, in_set, board, frames);
+    *stage = end::<R, N>(problem, phase, board, frames);
     Event::Total {
         count,
         stopped: count == max_solutions,
@@ -338,16 +353,16 @@ pub fn advance<R: Rules, const N: usize>(
         opened.old opened.new (left_of R.rule problem.now stage.old (reverse frames.old.items)) }
 {
     match *stage {
-        Stage::Before { in_set } => {
-            *stage = begin::<R, N>(problem, in_set, board, frames, opened);
-            Some(Event::Phase(if in_set { Phase::Set } else { Phase::Play }))
+        Stage::Before { phase } => {
+            *stage = begin::<R, N>(problem, phase, board, frames, opened);
+            Some(Event::Phase(phase))
         }
         Stage::Barred => {
-            *stage = Stage::Before { in_set: false };
+            *stage = Stage::Before { phase: Phase::Play };
             Some(Event::Impossible)
         }
-        Stage::Within { in_set, count } => {
-            Some(go_on::<R, N>(problem, in_set, count, stage, board, frames, opened))
+        Stage::Within { phase, count } => {
+            Some(go_on::<R, N>(problem, phase, count, stage, board, frames, opened))
         }
         Stage::Behind => None,
     }

@@ -1,7 +1,7 @@
 //! Searches.
 use crate::event::Event;
 use crate::frame::Frame;
-use crate::phases::{Stage, advance};
+use crate::phases::{Stage, advance, first_phase};
 use arrayvec::ArrayVec;
 use chess_core::board::Board;
 use chess_rules::rules::Rules;
@@ -62,7 +62,7 @@ impl<R: Rules, const N: usize> Search<R, N> {
         Search {
             problem: *problem,
             stage: Stage::Before {
-                in_set: problem.set_play(),
+                phase: first_phase(problem),
             },
             board: Board::of(&problem.diagram()),
             frames: ArrayVec::new(),

@@ -18,28 +18,28 @@ open_yet false r e f = refl
 
 pub returns-then-not-set_up-clause-left : goal.returns-then-not-set_up-clause-left
 returns-then-not-set_up-clause-left g c =
-    events.left-barred g.R.Rules.rule c.args.problem.now c.args.in_set _ (barred _ _ c.set_up.ensures.possible c.if-not-set_up.true)
+    events.left-barred g.R.Rules.rule c.args.problem.now c.args.phase _ (barred _ _ c.set_up.ensures.possible c.if-not-set_up.true)
 
 pub returns-clause-standing : goal.returns-clause-standing
 unfolding IsStanding
 returns-clause-standing g c =
     let set = rw c.if-not-set_up.false at c.set_up.ensures.board in
     rw (c.push-2.ensures.items, walking.reverse-push, c.requires.standing.0)
-    (events.standing-begun g.R.Rules.rule c.args.problem.now c.args.in_set _ _ c.phase_half_moves-left.ensures set (rw set (start_sound c.args.problem.now c.requires.sound c.args.in_set)))
+    (events.standing-begun g.R.Rules.rule c.args.problem.now c.args.phase _ _ c.phase_half_moves-left.ensures set (rw set (start_sound c.args.problem.now c.requires.sound c.args.phase)))
 
 pub returns-clause-left : goal.returns-clause-left
 unfolding IsStanding
 returns-clause-left g c =
-    let cut = solved.root-solutions g.R.Rules.rule c.args.problem.now c.requires.sound c.args.in_set _ c.phase_half_moves-left.ensures (rw c.start.ensures (behind_start g.R.Rules.rule _)) in
+    let cut = solved.root-solutions g.R.Rules.rule c.args.problem.now c.requires.sound c.args.phase _ c.phase_half_moves-left.ensures (rw c.start.ensures (behind_start g.R.Rules.rule _)) in
     rw (c.push-2.ensures.items, walking.reverse-push, c.requires.standing.0)
-    (events.left-begun g.R.Rules.rule c.args.problem.now c.args.in_set _ _ (open_yet _ _ c.set_up.ensures.possible c.if-not-set_up.false) cut.kept cut.begun)
+    (events.left-begun g.R.Rules.rule c.args.problem.now c.args.phase _ _ (open_yet _ _ c.set_up.ensures.possible c.if-not-set_up.false) cut.kept cut.begun)
 
 pub returns-then-not-set_up-clause-opens : goal.returns-then-not-set_up-clause-opens
 returns-then-not-set_up-clause-opens g c =
-    opened.opens-barred g.R.Rules.rule c.args.problem.now c.args.in_set _ _ _ _ (barred _ _ c.set_up.ensures.possible c.if-not-set_up.true)
+    opened.opens-barred g.R.Rules.rule c.args.problem.now c.args.phase _ _ _ _ (barred _ _ c.set_up.ensures.possible c.if-not-set_up.true)
 
 pub returns-clause-opens : goal.returns-clause-opens
 unfolding IsStanding
 returns-clause-opens g c =
     rw (c.push-2.ensures.items, walking.reverse-push, c.requires.standing.0)
-    (opened.opens-begun g.R.Rules.rule c.args.problem.now c.requires.sound c.args.in_set _ c.phase_half_moves-left.ensures c.start.ensures (open_yet _ _ c.set_up.ensures.possible c.if-not-set_up.false) _ _ _ _ (λ some. c.opened_by.ensures.more some refl) c.opened_by.ensures.none)
+    (opened.opens-begun g.R.Rules.rule c.args.problem.now c.requires.sound c.args.phase _ c.phase_half_moves-left.ensures c.start.ensures (open_yet _ _ c.set_up.ensures.possible c.if-not-set_up.false) _ _ _ _ (λ some. c.opened_by.ensures.more some refl) c.opened_by.ensures.none)

@@ -11,44 +11,44 @@ walk_on-requires g c = (search rules, (c.requires.sound, (c.requires.room, c.req
 pub count_with-count-requires-clause-begins : goal.count_with-count-requires-clause-begins
 unfolding IsStanding
 count_with-count-requires-clause-begins g c =
-    rw c.len.ensures.value (events.room-given g.R.Rules.rule c.args.problem.now c.args.in_set _ _ _ _ c.requires.standing.1 (rw c.max_solutions-max_solutions.ensures.limit at c.if-walk_on.ensures.walks))
+    rw c.len.ensures.value (events.room-given g.R.Rules.rule c.args.problem.now c.args.phase _ _ _ _ c.requires.standing.1 (rw c.max_solutions-max_solutions.ensures.limit at c.if-walk_on.ensures.walks))
 
 pub event_at-requires : goal.event_at-requires
 unfolding IsStanding
 event_at-requires g c = (
   search rules,
   (
-    events.deep-given g.R.Rules.rule c.args.problem.now c.args.in_set _ _ _ _ c.requires.standing.1 (rw c.max_solutions-max_solutions.ensures.limit at c.if-walk_on.ensures.walks),
-    events.shallow-given g.R.Rules.rule c.args.problem.now c.args.in_set _ _ _ _ c.requires.standing.1 (rw c.max_solutions-max_solutions.ensures.limit at c.if-walk_on.ensures.walks) c.requires.sound,
+    events.deep-given g.R.Rules.rule c.args.problem.now c.args.phase _ _ _ _ c.requires.standing.1 (rw c.max_solutions-max_solutions.ensures.limit at c.if-walk_on.ensures.walks),
+    events.shallow-given g.R.Rules.rule c.args.problem.now c.args.phase _ _ _ _ c.requires.standing.1 (rw c.max_solutions-max_solutions.ensures.limit at c.if-walk_on.ensures.walks) c.requires.sound,
   ),
 )
 
 pub returns-then-walk_on-clause-standing : goal.returns-then-walk_on-clause-standing
 unfolding IsStanding
 returns-then-walk_on-clause-standing g c =
-    events.standing-given g.R.Rules.rule c.args.problem.now c.args.in_set _ _ _ _ c.requires.standing.1 (rw c.max_solutions-max_solutions.ensures.limit at c.if-walk_on.ensures.walks) _ (rw c.len.ensures.value at c.count_with-count.ensures)
+    events.standing-given g.R.Rules.rule c.args.problem.now c.args.phase _ _ _ _ c.requires.standing.1 (rw c.max_solutions-max_solutions.ensures.limit at c.if-walk_on.ensures.walks) _ (rw c.len.ensures.value at c.count_with-count.ensures)
 
 pub returns-then-walk_on-clause-gives : goal.returns-then-walk_on-clause-gives
 unfolding IsStanding
 returns-then-walk_on-clause-gives g c =
-    events.gives-given g.R.Rules.rule c.args.problem.now c.args.in_set _ _ _ _ c.requires.standing.1 (rw c.max_solutions-max_solutions.ensures.limit at c.if-walk_on.ensures.walks) _ _ (rw c.len.ensures.value at c.count_with-count.ensures)
+    events.gives-given g.R.Rules.rule c.args.problem.now c.args.phase _ _ _ _ c.requires.standing.1 (rw c.max_solutions-max_solutions.ensures.limit at c.if-walk_on.ensures.walks) _ _ (rw c.len.ensures.value at c.count_with-count.ensures)
     (c.event_at.ensures c.if-walk_on.ensures.walks.walking.showing)
 
 pub returns-clause-standing : goal.returns-clause-standing
 returns-clause-standing g c =
-    events.standing-ended g.R.Rules.rule c.args.problem.now c.args.in_set _ _ _ c.end.ensures.stage c.end.ensures.none c.end.ensures.board
+    events.standing-ended g.R.Rules.rule c.args.problem.now c.args.phase _ _ _ c.end.ensures.stage c.end.ensures.none c.end.ensures.board
 
 pub returns-clause-gives : goal.returns-clause-gives
 returns-clause-gives g c =
-    rw c.max_solutions-max_solutions.ensures.limit (events.gives-ended g.R.Rules.rule c.args.problem.now c.args.in_set _ _ _ c.end.ensures.stage c.end.ensures.none _ _ _ _ _ (rw c.max_solutions-max_solutions.ensures.limit at c.if-walk_on.ensures.walks))
+    rw c.max_solutions-max_solutions.ensures.limit (events.gives-ended g.R.Rules.rule c.args.problem.now c.args.phase _ _ _ c.end.ensures.stage c.end.ensures.none _ _ _ _ _ (rw c.max_solutions-max_solutions.ensures.limit at c.if-walk_on.ensures.walks))
 
 pub returns-then-walk_on-clause-opens : goal.returns-then-walk_on-clause-opens
 returns-then-walk_on-clause-opens g c =
-    opened.opens-given g.R.Rules.rule c.args.problem.now c.args.in_set _ _ _ _ _ c.walk_on.ensures.opens _ _
+    opened.opens-given g.R.Rules.rule c.args.problem.now c.args.phase _ _ _ _ _ c.walk_on.ensures.opens _ _
 
 pub returns-clause-opens : goal.returns-clause-opens
 unfolding IsStanding
 returns-clause-opens g c =
     let w = rw c.max_solutions-max_solutions.ensures.limit at c.if-walk_on.ensures.walks in
-    rw (events.left-ended g.R.Rules.rule c.args.problem.now c.args.in_set _ _ _ _ w)
-    (opened.opens-ended g.R.Rules.rule c.args.problem.now c.args.in_set _ _ _ _ _ c.walk_on.ensures.opens _ _ _ c.end.ensures.stage c.requires.standing.1 (w.over refl))
+    rw (events.left-ended g.R.Rules.rule c.args.problem.now c.args.phase _ _ _ _ w)
+    (opened.opens-ended g.R.Rules.rule c.args.problem.now c.args.phase _ _ _ _ _ c.walk_on.ensures.opens _ _ _ c.end.ensures.stage c.requires.standing.1 (w.over refl))

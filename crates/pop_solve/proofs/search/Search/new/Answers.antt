@@ -12,10 +12,10 @@ invariant_of-result g c = (
   c.diagram.ensures.sound,
   c.requires.room,
   rw c.new.ensures (refl, c.of.ensures ∙ ap position_of c.diagram.ensures.diagram),
-  rw c.set_play.ensures (given-all g.R.Rules.rule c.args.problem.now),
-  rw c.set_play.ensures (opened-start g.R.Rules.rule c.args.problem.now _),
+  rw c.first_phase.ensures (given-all g.R.Rules.rule c.args.problem.now),
+  rw c.first_phase.ensures (opened-start g.R.Rules.rule c.args.problem.now _),
 )
 
 pub returns-clause-left : goal.returns-clause-left
 unfolding left_of
-returns-clause-left g c = ap (steps_from g.R.Rules.rule c.args.problem.now) c.set_play.ensures
+returns-clause-left g c = ap (steps_from g.R.Rules.rule c.args.problem.now) c.first_phase.ensures
