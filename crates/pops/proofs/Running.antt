@@ -1,9 +1,9 @@
 -- A run, step by step.
-use Rattle.std.proofs.Common.{◌≡◌, ℕ, ◌+◌, ◌-◌, ◌||◌, List, [], ◌∷◌, ◌++◌, length, length-append, take, Option, None, Some, Result, Ok, Err, Bool, true, false, not, refl, sym, ◌∙◌, ap, arith, append_assoc, if◌then◌else◌, IfSome}
+use Rattle.std.proofs.Common.{◌≡◌, ◌≤◌, ◌^◌, ℕ, ◌+◌, ◌-◌, ◌||◌, List, [], ◌∷◌, ◌++◌, length, length-append, take, Option, None, Some, Result, Ok, Err, Bool, true, false, not, refl, sym, ◌∙◌, ap, arith, append_assoc, if◌then◌else◌, IfSome}
 use Rattle.std.specs.Prelude.{is_err}
 use Rattle.std.specs.List.{list_any}
 use Rattle.std.proofs.lemmas.Bool.{lt-ltb}
-use Rattle.std.proofs.lemmas.List.{append-nil}
+use Rattle.std.proofs.lemmas.List.{append-nil, length-take}
 use Rattle.std.proofs.Math.Seq.{take-append_seam}
 use Rattle.pop_text.specs.declared.sink.SinkFault.{SinkFault}
 use Rattle.pop_text.specs.declared.scanner.End.{End}
@@ -17,7 +17,7 @@ use Rattle.pop_text.proofs.Using.{consumes_then}
 use Rattle.pop_input.specs.Blocks.{Entry, entries_of}
 use Rattle.pop_input.specs.Standing.{Standing, Reads, entries_left, start as before_all}
 use Rattle.pops.specs.Report.{Choice, entries_in, entry_text, is_faulty, report, report_from, status_of, tells_failure}
-use Rattle.pops.specs.Run.{Runs, grew, met}
+use Rattle.pops.specs.Run.{Runs, grew, met, taken_of}
 use Rattle.pops.specs.Sessions.{Place, Steps, TakesItem, start, status_with, step_of}
 use Rattle.pops.specs.declared.status.Status.{Status}
 use Rattle.pops.specs.declared.status.Status.TheVariants.{Sound, Faulty, InputFailed, OutputFailed}
@@ -176,3 +176,20 @@ pub run_cut : (choice : Choice) (old new : Place) (had mid left before t now : O
 run_cut choice old new None mid left before t now fault n m v w p q seen reads writes = tt
 run_cut choice old new (Some r) mid left before t now fault n m v w p q seen reads writes =
     rw (grew_broken new.at.at.end n m reads, writes, grew_more v) (progress_cut choice old new mid left before t now r fault p q seen)
+
+-- a run takes as many bytes as are used and as wait in the window
+taken_most : (new : Standing) (r : List ℕ) (left : Option (List ℕ)) (items : List Entry) → Reads before_all new (Some r) left items → new.at.used + length new.at.window ≤ limit + 4096 → length (taken_of r left) ≤ 2 ^ 30 + 4096
+unfolding limit
+taken_most new r None items p most = absurd p.taken
+taken_most new r (Some ys) items p most =
+    let all : length r ≡ length p.bytes + length ys = ap length p.taken ∙ length-append p.bytes ys in
+    let amount : length p.bytes + (0 + 0) ≡ new.at.used + length new.at.window = p.amount in
+    omega (arith, length-take (length r - length ys) r)
+
+pub ended_most : (choice : Choice) (old new : Place) (had mid left before t now : Option (List ℕ)) (answer : Status) → Progress choice old had mid before t → Steps old new mid left t now (Ok (Finished answer)) → new.at.at.used + length new.at.at.window ≤ limit + 4096 → IfSome had (λ r. length (taken_of r left) ≤ 2 ^ 30 + 4096)
+ended_most choice old new None mid left before t now answer p q most = tt
+ended_most choice old new (Some r) mid left before t now answer p q most = taken_most new.at r left _ (reads_then before_all old.at new.at (Some r) mid left p.items [] p.reads q.0) most
+
+pub cut_most : (choice : Choice) (old new : Place) (had mid left before t now : Option (List ℕ)) (fault : SinkFault) → Progress choice old had mid before t → Steps old new mid left t now (Err fault) → new.at.at.used + length new.at.at.window ≤ limit + 4096 → IfSome had (λ r. length (taken_of r left) ≤ 2 ^ 30 + 4096)
+cut_most choice old new None mid left before t now fault p q most = tt
+cut_most choice old new (Some r) mid left before t now fault p q most = taken_most new.at r left _ (reads_then before_all old.at new.at (Some r) mid left p.items (q.0 ∷ []) p.reads q.1.reads) most

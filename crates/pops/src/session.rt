@@ -1,5 +1,6 @@
 //! Sessions: one item in, its report out.
-ghost use Rattle.std.specs.Prelude.{◌≡◌, ◌==◌, ◌<◌, ◌⊎◌, ◌||◌, IsErr, false, true, is_err};
+ghost use Rattle.std.specs.Prelude.{◌≡◌, ◌==◌, ◌<◌, ◌≤◌, ◌+◌, ◌⊎◌, ◌||◌, IsErr, false, true, is_err, length};
+ghost use Rattle.pop_text.specs.Words.{limit};
 ghost use Rattle.pop_text.specs.Bytes.{Keeps, count_after, greatest};
 ghost use Rattle.pop_text.specs.Reading.{IsSeen, failures_after};
 ghost use Rattle.pop_text.specs.declared.scanner.End.{End};
@@ -29,7 +30,8 @@ pub struct Session {
 }
 
 impl Model for Session {
-    ghost use Rattle.std.specs.Prelude.{◌≤◌, ◌+◌, ◌^◌};
+    ghost use Rattle.std.specs.Prelude.{◌≤◌, ◌+◌, ◌^◌, length};
+    ghost use Rattle.pop_text.specs.Words.{limit};
     ghost use Rattle.pop_input.specs.Standing.{work_left};
     ghost use Rattle.pops.specs.Sessions.{Place};
 
@@ -37,7 +39,7 @@ impl Model for Session {
 
     ghost view = { λ s. record { at = s.reader; number = s.next_number; status = s.so_far; stopped = s.has_stopped; choice = record { check = s.check; no_board = s.no_board } } };
 
-    ghost invariant = { λ s. s.next_number + work_left s.reader ≤ 2 ^ 31 };
+    ghost invariant = { λ s. (s.next_number + work_left s.reader ≤ 2 ^ 31) × (s.reader.at.used + length s.reader.at.window ≤ limit + 4096) };
 }
 
 impl Session {
@@ -73,6 +75,7 @@ impl Session {
         ensures ends { self.old.at.at.end ≡ End.Open ⊎ self.new.at.at.end ≡ self.old.at.at.end }
         ensures read_failures { S.failures source.new ≡ failures_after self.old.at.at.end self.new.at.at.end (S.failures source.old) }
         ensures write_failures { self.old.stopped ≡ false → W.failures sink.new ≡ count_after result (W.failures sink.old) }
+        ensures most { self.new.at.at.used + length self.new.at.at.window ≤ limit + 4096 }
         ensures less { is_problem result ≡ true → work_left self.new.at < work_left self.old.at }
     {
         if self.has_stopped {
