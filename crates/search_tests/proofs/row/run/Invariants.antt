@@ -1,0 +1,5 @@
+use Rattle.std.proofs.Common.{◌-◌}
+use Rattle.search_tests.proofs.row.run.Given as goal
+
+abbrev pub decreases-loop-events : goal.decreases-loop-events
+decreases-loop-events g l = l.most - l.events

@@ -1,0 +1,8 @@
+//! Searches tried on whole problems whose solutions are known: their events, searches that are dropped early, and searches
+//! with just enough frames.
+#![tactic(auto)]
+
+#[cfg(test)]
+mod row;
+#[cfg(test)]
+mod tests;

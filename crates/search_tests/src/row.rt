@@ -1,0 +1,128 @@
+//! Rows: problems with known solutions, and all that is asked of a search for them.
+ghost use Rattle.std.specs.Prelude.{◌≡◌, ◌<◌, ◌≤◌};
+ghost use Rattle.pop_input.specs.Posed.{rule_of};
+ghost use Rattle.pop_input.specs.Stipulations.{half_moves};
+
+use arrayvec::ArrayVec;
+use chess_rules::rules::{Circe, Madrasi, Orthodox, Rules};
+use pop_input::condition::Condition;
+use pop_input::item::Item;
+use pop_input::problem::Problem;
+use pop_input::reader::Reader;
+use pop_input::stipulation::Form;
+use pop_print::print_event;
+use pop_solve::event::Event;
+use pop_solve::search::Search;
+use pop_text::trial_sink::TrialSink;
+use pop_text::trial_source::TrialSource;
+use std::process::Abort;
+
+/// More events than any row has.
+const ALL: u64 = 1000;
+
+/// What a search has given: the text of its events, their number, what `given` and `opened` say, the most frames that
+/// were in use, and whether a further call gave another event.
+#[derive(Drop)]
+struct Given {
+    text: ArrayVec<u8, 1024>,
+    events: u64,
+    given: u64,
+    opened: u64,
+    deepest: usize,
+    goes_on: bool,
+}
+
+/// Adds the text of an event.
+fn tell(event: &Event, text: &mut ArrayVec<u8, 1024>) {
+    let mut sink = TrialSink::<256>::new(256, None);
+    let _told = print_event(&mut sink, event);
+    let _fits = text.try_extend_from_slice(sink.text());
+}
+
+/// The half-moves of a problem.
+#[tactic(auto, using(pop_solve::proofs::Sound::in_range))]
+fn half_moves(problem: &Problem) -> usize
+    ensures value { result ≡ half_moves problem.now.stipulation }
+    ensures most { result ≤ 16 }
+{
+    let stipulation = problem.stipulation();
+    let n = stipulation.n as usize;
+    match stipulation.form {
+        Form::Direct => 2 * n - 1,
+        Form::SelfMate | Form::Help => 2 * n,
+        Form::HelpHalf => 2 * n + 1,
+    }
+}
+
+/// A search that is dropped after so many events.
+fn run<R: Rules, const N: usize>(problem: &Problem, most: u64) -> Given
+    requires rule { R.rule ≡ rule_of problem.now.condition }
+    requires room { half_moves problem.now.stipulation < N }
+    requires few { N ≤ 17 }
+{
+    let mut search = Search::<R, N>::new(problem);
+    let mut text = ArrayVec::new();
+    let mut deepest = 0;
+    let mut events = 0;
+    while events < most {
+        let Some(event) = search.next() else {
+            break;
+        };
+        tell(&event, &mut text);
+        deepest = deepest.max(search.depth());
+        events += 1;
+    }
+    let given = search.given();
+    let opened = search.opened();
+    let goes_on = search.next().is_some();
+    Given {
+        text,
+        events,
+        given,
+        opened,
+        deepest,
+        goes_on,
+    }
+}
+
+/// A row under its rules: the whole text, then a search dropped after each number of events, then one with N frames,
+/// which are just enough.
+fn try_row<R: Rules, const N: usize>(rt: &impl Abort, problem: &Problem, want: &str) -> u64
+    requires { R.rule ≡ rule_of problem.now.condition }
+{
+    let half_moves = half_moves(problem);
+    let whole = run::<R, 17>(problem, ALL);
+    assert!(rt; whole.text.as_slice() == want.as_bytes());
+    assert!(rt; !whole.goes_on);
+    assert_eq!(rt; whole.given, whole.events);
+    assert!(rt; whole.deepest <= half_moves + 1);
+    for events in 0..whole.events {
+        let part = run::<R, 17>(problem, events);
+        assert_eq!(rt; part.events, events);
+        assert_eq!(rt; part.given, events);
+        assert!(rt; part.goes_on);
+        assert!(rt; want.as_bytes().starts_with(part.text.as_slice()));
+    }
+    assert_eq!(rt; half_moves + 1, N);
+    if half_moves < N && N <= 17 {
+        let tight = run::<R, N>(problem, ALL);
+        assert!(rt; tight.text.as_slice() == want.as_bytes());
+        assert_eq!(rt; tight.opened, whole.opened);
+    }
+    whole.opened
+}
+
+/// The row of a problem's text; the frames opened.
+pub(crate) fn row<const N: usize>(rt: &impl Abort, text: &str, want: &str) -> u64 {
+    let mut source = TrialSource::new(text.as_bytes(), 4096, None);
+    let mut reader = Reader::new();
+    let Item::Sound(problem, _) = reader.next_problem(&mut source) else {
+        assert!(rt; false, "a sound problem");
+        return 0;
+    };
+    match problem.condition() {
+        None => try_row::<Orthodox, N>(rt, &problem, want),
+        Some(Condition::Circe) => try_row::<Circe, N>(rt, &problem, want),
+        Some(Condition::Madrasi) => try_row::<Madrasi, N>(rt, &problem, want),
+    }
+}

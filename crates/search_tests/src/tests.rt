@@ -1,0 +1,4 @@
+//! Rows by their stipulation.
+mod direct;
+mod help;
+mod selfmate;
