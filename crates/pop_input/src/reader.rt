@@ -17,7 +17,7 @@ use pop_text::scanner::Scanner;
 use pop_text::source::Source;
 use std::marker::Model;
 
-/// Which block is next.
+/// Which block of the input is next: a block ends with NextProblem or EndProblem.
 #[derive(Clone, Copy, Debug, PartialEq, Eq)]
 pub enum Next {
     First,
@@ -25,6 +25,8 @@ pub enum Next {
     Nothing,
 }
 
+/// A place among the items of an input, which is read through a source that each call is handed: the same one throughout.
+/// The language is that of the Popeye manual, as far as it is served; its faults are this project's own.
 #[derive(Drop)]
 pub struct Reader {
     scanner: Scanner,
@@ -45,6 +47,7 @@ impl Model for Reader {
 }
 
 impl Reader {
+    /// The place before the first item.
     pub fn new() -> Reader
         ensures { result ≡ start }
     {
@@ -54,7 +57,17 @@ impl Reader {
         }
     }
 
-    /// The next item.
+    /// The next item: a problem that can be set up and solved, the first fault in place of one, or `End` behind the last item.
+    ///
+    /// Fault 1: another word, or the end of the input, where the first BeginProblem is awaited. 2: a word that is unknown
+    /// or misplaced. 3: a word of more than 160 bytes. 4: men before a colour. 5: a square given twice. 6: a pawn on rank 1
+    /// or 8. 7: a second king of a colour. 8: no stipulation. 9: a second stipulation. 12: a second condition. 13: no limit
+    /// from 1 to 4,000,000,000. 14: no square, or squares, where they are awaited. 16: a square of NoCastling from which
+    /// none castles. At the word that ends the problem: 10 no stipulation, 11 no men, 15 en passant not possible, 17 no king
+    /// of the side to be mated, 18 check to the side that isn't to move. 19: the input ends in a problem. 20: a byte behind
+    /// the first 2^30 is needed. 21: the source has failed.
+    ///
+    /// Behind faults 1 to 18 words are skipped up to the end of the problem; 20 and 21 come there as items of their own.
     pub fn next_problem<S: Source>(&mut self, source: &mut S) -> Item
         requires { self.old.at.end ≡ End.Open → S.failures source.old < greatest }
         ensures item { NextItem self.old self.new (S.remaining source.old) (S.remaining source.new) result }

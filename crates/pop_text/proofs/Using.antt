@@ -1,12 +1,13 @@
 -- Bytes used one after another.
-use Rattle.std.proofs.Common.{◌≡◌, ◌<◌, ℕ, List, [], ◌∷◌, ◌++◌, length, length-append, take, Option, None, Some, Bool, true, false, refl, sym, ◌∙◌, ap, arith, append_assoc, ◌⊎◌, inl, inr, subst, cond, ◌+◌}
+use Rattle.std.proofs.Common.{◌≡◌, ◌<◌, ℕ, List, [], ◌∷◌, ◌++◌, length, length-append, take, Option, None, Some, Bool, true, false, refl, sym, ◌∙◌, ap, arith, append_assoc, ◌⊎◌, inl, inr, subst, cond, ◌+◌, Err}
 use Rattle.std.specs.List.{list_all}
 use Rattle.std.proofs.lemmas.List.Folds.{list_all-append}
 use Rattle.std.proofs.lemmas.List.Sums.{sum_by-append}
 use Rattle.std.proofs.Common.{◌≤◌, length-take}
 use Rattle.std.proofs.lemmas.List.{append-nil, take_all, take-append-le}
 use Rattle.std.proofs.lemmas.Bool.{lt-ltb, le-ltb}
-use Rattle.pop_text.specs.Runs.{Runs, UsesRun}
+use Rattle.pop_text.specs.Runs.{Peeks, Runs, UsesRun}
+use Rattle.pop_text.specs.declared.read_fault.ReadFault.{ReadFault}
 use Rattle.pop_text.specs.Words.{is_gap, is_in_word, is_line_end}
 use Rattle.pop_text.specs.Bytes.{Consumes}
 use Rattle.pop_text.specs.Reading.{Reading, Uses, UsesAll, failures_after}
@@ -136,3 +137,7 @@ no_run test place had = record { bytes = []; all = refl; uses = record { taken =
 -- the bytes taken are those used and those that wait
 pub amount_is : (old new : Reading) (had left : Option (List ℕ)) (used : List ℕ) (u : Uses old new had left used) → length u.taken + (old.used + length old.window) ≡ new.used + length new.window
 amount_is old new had left used u = omega (arith, u.used, ap length u.unread, length-append old.window u.taken, length-append used new.window)
+
+-- a fault at a place is one at the same place
+pub still_stuck : (a b : Reading) (fault : ReadFault) → b ≡ a → Peeks a (Err fault) → Peeks b (Err fault)
+still_stuck a b fault same at = subst (λ place. Peeks place (Err fault)) (sym same) at

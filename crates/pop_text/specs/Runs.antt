@@ -16,6 +16,12 @@ Peeks new (Err (InputTooLong line)) = (0 < length new.window) × (new.used ≡ l
 Peeks new (Err (TooLong line)) = ⊥
 Peeks new (Err (Device line)) = (new.window ≡ []) × (new.end ≡ Broken) × (line ≡ new.line) × (new.used ≤ limit)
 
+-- a fault is found at the place, and so again by every later call; a word too long is behind it
+abbrev pub Sticks : Reading → ReadFault → Type 0
+Sticks new (TooLong line) = Unit {0}
+Sticks new (InputTooLong line) = Peeks new (Err (InputTooLong line))
+Sticks new (Device line) = Peeks new (Err (Device line))
+
 -- a run is over: a gap follows it, or nothing does
 abbrev pub IsRunOver : Reading → Type 0
 IsRunOver new = ((b : ℕ) × (rest : List ℕ) × (new.window ≡ b ∷ rest) × (is_gap b ≡ true) × (new.used < limit)) ⊎ ((new.window ≡ []) × (new.end ≡ Ended) × (new.used ≤ limit))

@@ -14,6 +14,7 @@ pub struct ReadSource<R> {
 }
 
 impl<R: Read + Drop> ReadSource<R> {
+    /// The reader, of which no call has failed yet.
     pub fn new(reader: R) -> ReadSource<R>
         ensures remaining { ⟦<ReadSource<R> as Source>⟧.remaining result ≡ R.remaining reader }
         ensures failures { ⟦<ReadSource<R> as Source>⟧.failures result ≡ 0 }

@@ -1,11 +1,12 @@
 //! Words and text lines of a source.
-ghost use Rattle.std.specs.Prelude.{◌≡◌, ◌<◌, ◌+◌, ◌⊎◌, ◌≢◌, [], ◌∷◌, List, ℕ, drop, length, Some, None, Ok, take, Option, IfOk, IfSome, false, true, ◌≤◌};
+ghost use Rattle.std.specs.Prelude.{◌≡◌, ◌<◌, ◌+◌, ◌⊎◌, ◌≢◌, [], ◌∷◌, List, ℕ, drop, length, Some, None, Ok, take, Option, Err, IfErr, IfOk, IfSome, false, true, ◌≤◌};
 ghost use Rattle.pop_text.specs.Bytes.{greatest};
 ghost use Rattle.std.specs.List.{list_all};
 ghost use Rattle.pop_text.specs.Words.{limit, is_gap, is_in_line, is_line_end};
 ghost use Rattle.pop_text.specs.Reading.{beginning, Uses, UsesAll, IsSeen, failures_after};
-ghost use Rattle.pop_text.specs.Runs.{Peeks, RunsTo};
+ghost use Rattle.pop_text.specs.Runs.{Peeks, RunsTo, Sticks};
 ghost use Rattle.pop_text.specs.Left.{NextWord, RestOfLine};
+ghost use Rattle.pop_text.specs.declared.read_fault.ReadFault.{ReadFault};
 
 use crate::read_fault::ReadFault;
 use crate::source::Source;
@@ -86,6 +87,7 @@ impl Scanner {
         ensures seen { IsSeen self.old.end (S.remaining source.old) → IsSeen self.new.end (S.remaining source.new) }
         ensures ends { self.old.end ≡ End.Open ⊎ self.new.end ≡ self.old.end }
         ensures counted { S.failures source.new ≡ failures_after self.old.end self.new.end (S.failures source.old) }
+        ensures kept { self.old.end ≢ End.Open ⊎ 0 < length self.old.window → self.new ≡ self.old }
     {
         if self.start < self.stop {
             return;
@@ -112,6 +114,7 @@ impl Scanner {
         ensures seen { IsSeen self.old.end (S.remaining source.old) → IsSeen self.new.end (S.remaining source.new) }
         ensures ends { self.old.end ≡ End.Open ⊎ self.new.end ≡ self.old.end }
         ensures counted { S.failures source.new ≡ failures_after self.old.end self.new.end (S.failures source.old) }
+        ensures stuck { (fault : ReadFault) → Peeks self.old (Err fault) → (result ≡ Err fault) × (self.new ≡ self.old) }
     {
         self.refill(source);
         if self.start < self.stop {
@@ -188,6 +191,7 @@ impl Scanner {
         ensures seen { IsSeen self.old.end (S.remaining source.old) → IsSeen self.new.end (S.remaining source.new) }
         ensures ends { self.old.end ≡ End.Open ⊎ self.new.end ≡ self.old.end }
         ensures counted { S.failures source.new ≡ failures_after self.old.end self.new.end (S.failures source.old) }
+        ensures stuck { (fault : ReadFault) → Peeks self.old (Err fault) → (result ≡ Err fault) × (self.new ≡ self.old) }
     {
         'gap: loop {
             match self.peek(source) {
@@ -232,10 +236,12 @@ impl Scanner {
     pub fn next_word<S: Source>(&mut self, source: &mut S) -> Result<Option<Word>, ReadFault>
         requires { self.old.end ≡ End.Open → S.failures source.old < greatest }
         ensures word { NextWord self.old self.new (S.remaining source.old) (S.remaining source.new) result }
+        ensures sticks { IfErr result (Sticks self.new) }
         ensures waits { length self.new.window ≤ 4096 }
         ensures seen { IsSeen self.old.end (S.remaining source.old) → IsSeen self.new.end (S.remaining source.new) }
         ensures ends { self.old.end ≡ End.Open ⊎ self.new.end ≡ self.old.end }
         ensures counted { S.failures source.new ≡ failures_after self.old.end self.new.end (S.failures source.old) }
+        ensures stuck { (fault : ReadFault) → Peeks self.old (Err fault) → (result ≡ Err fault) × (self.new ≡ self.old) }
     {
         match self.skip_gap(source) {
             Ok(None) => Ok(None),
@@ -257,10 +263,12 @@ impl Scanner {
     pub fn rest_of_line<S: Source>(&mut self, source: &mut S) -> Result<Text, ReadFault>
         requires { self.old.end ≡ End.Open → S.failures source.old < greatest }
         ensures text { (keyword : List ℕ) → RestOfLine keyword self.old self.new (S.remaining source.old) (S.remaining source.new) result }
+        ensures sticks { IfErr result (Sticks self.new) }
         ensures waits { length self.new.window ≤ 4096 }
         ensures seen { IsSeen self.old.end (S.remaining source.old) → IsSeen self.new.end (S.remaining source.new) }
         ensures ends { self.old.end ≡ End.Open ⊎ self.new.end ≡ self.old.end }
         ensures counted { S.failures source.new ≡ failures_after self.old.end self.new.end (S.failures source.old) }
+        ensures stuck { (fault : ReadFault) → Peeks self.old (Err fault) → (result ≡ Err fault) × (self.new ≡ self.old) }
     {
         let mut kept = ArrayVec::new();
         'line: loop {

@@ -49,7 +49,7 @@ impl Text {
         &self.cells[..self.size as usize]
     }
 
-    // The bytes without their trailing blanks.
+    /// The bytes without their trailing blanks.
     pub fn trimmed(mut kept: ArrayVec<u8, 200>) -> Text
         ensures { result ≡ without_trailing kept.items }
     {

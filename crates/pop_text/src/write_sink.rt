@@ -15,6 +15,7 @@ pub struct WriteSink<W> {
 }
 
 impl<W: Write + Drop> WriteSink<W> {
+    /// The writer, of which no call has failed yet.
     pub fn new(writer: W) -> WriteSink<W>
         ensures taken { ⟦<WriteSink<W> as Sink>⟧.taken result ≡ W.contents writer }
         ensures failures { ⟦<WriteSink<W> as Sink>⟧.failures result ≡ 0 }
@@ -25,6 +26,7 @@ impl<W: Write + Drop> WriteSink<W> {
         }
     }
 
+    /// The writer, with what it has taken.
     pub fn into_inner(self) -> W
         ensures { W.contents result ≡ ⟦<WriteSink<W> as Sink>⟧.taken self }
     {

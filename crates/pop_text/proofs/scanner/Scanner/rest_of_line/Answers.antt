@@ -1,7 +1,7 @@
 use Rattle.std.proofs.Common.{◌∙◌, ◌<◌, ◌-◌, sym, ap, arith, subst}
 use Rattle.pop_text.specs.Reading.{Uses}
 use Rattle.pop_text.specs.Words.{limit, without_trailing}
-use Rattle.pop_text.proofs.Using.{ends_then, failures_then}
+use Rattle.pop_text.proofs.Using.{ends_then, failures_then, still_stuck}
 use Rattle.pop_text.proofs.Lines.{line_more, line_ends, input_ends, line_fault, no_ten}
 use Rattle.pop_text.proofs.scanner.Scanner.rest_of_line.Goals as goal
 
@@ -13,6 +13,7 @@ line-preserved g c =
     record {
       line = rw c.keep_all.ensures (line_more c.args.self.now c.line.self c.peek.new.self c.advance_by.new.self (g.S.Source.remaining c.args.source.now) (g.S.Source.remaining c.line.source) now c.line.kept.items
           i.line c.peek.ensures.uses c.line_part-part.result.now c.line_part-part.ensures.plain used);
+      stuck = λ fault at. let bad = (c.peek.ensures.stuck fault (still_stuck c.args.self.now c.line.self fault (i.stuck fault at) at)).0 in let read = c.in-Ok-Some.is in cc;
       seen = λ s. rw c.advance_by.ensures.end (c.peek.ensures.seen (i.seen s));
       ends = rw c.advance_by.ensures.end (ends_then _ _ _ i.ends c.peek.ensures.ends);
       counted = rw c.advance_by.ensures.end (failures_then _ _ _ _ _ _ i.ends c.peek.ensures.ends i.counted c.peek.ensures.counted);

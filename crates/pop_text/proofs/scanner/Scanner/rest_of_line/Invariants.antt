@@ -1,4 +1,6 @@
-use Rattle.std.proofs.Common.{◌≡◌, ◌-◌, ◌⊎◌}
+use Rattle.std.proofs.Common.{Err, ◌≡◌, ◌-◌, ◌⊎◌}
+use Rattle.pop_text.specs.Runs.{Peeks}
+use Rattle.pop_text.specs.declared.read_fault.ReadFault.{ReadFault}
 use Rattle.pop_text.specs.Words.{limit}
 use Rattle.pop_text.specs.Reading.{IsSeen, failures_after}
 use Rattle.pop_text.specs.declared.scanner.End.TheVariants.{Open}
@@ -9,6 +11,7 @@ use Rattle.pop_text.proofs.scanner.Scanner.rest_of_line.Given as goal
 abbrev pub invariant-line : goal.invariant-line
 invariant-line g l = record {
   line : LineSoFar l.fn.self l.self (g.S.Source.remaining l.fn.source) (g.S.Source.remaining l.source) l.kept.items;
+  stuck : (fault : ReadFault) → Peeks l.fn.self (Err fault) → l.self ≡ l.fn.self;
   seen : IsSeen l.fn.self.end (g.S.Source.remaining l.fn.source) → IsSeen l.self.end (g.S.Source.remaining l.source);
   ends : l.fn.self.end ≡ Open ⊎ l.self.end ≡ l.fn.self.end;
   counted : g.S.Source.failures l.source ≡ failures_after l.fn.self.end l.self.end (g.S.Source.failures l.fn.source);
