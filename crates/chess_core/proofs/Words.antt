@@ -150,10 +150,3 @@ squares_not p =
 
 pub squares_same : (p q : ℕ → Bool) → ((s : ℕ) → s < 64 → p s ≡ q s) → word p ≡ word q
 squares_same p q h = square_word q (word p) (square_word_small p) (λ s b. square_bit p s b ∙ ap bit_of (h s b))
-
--- a bit that is 0, a bit that is 1
-pub square_unset : (test : ℕ → Bool) (s : ℕ) → s < 64 → bit_at (word test) s ≡ 0 → test s ≡ false
-square_unset test s p h = no_bit (test s) (sym (square_bit test s p) ∙ h)
-
-pub square_set : (test : ℕ → Bool) (s : ℕ) → s < 64 → bit_at (word test) s ≡ 1 → test s ≡ true
-square_set test s p h = yes_bit (test s) (sym (square_bit test s p) ∙ h)

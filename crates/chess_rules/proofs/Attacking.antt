@@ -1,11 +1,10 @@
 -- Attack looked for outward from the square.
-use Rattle.std.proofs.Common.{◌≡◌, ℕ, ◌+◌, ◌<◌, Bool, true, false, ◌&&◌, ◌||◌, ◌==◌, not, List, [], length, get_or, take, refl, sym, ap, ◌∙◌, arith, inl, inr, Option, Some, None}
+use Rattle.std.proofs.Common.{◌∷◌, ◌≡◌, ℕ, ◌+◌, ◌<◌, Bool, true, false, ◌&&◌, ◌||◌, ◌==◌, not, List, [], length, get_or, take, refl, sym, ap, ◌∙◌, arith, inl, inr, Option, Some, None}
 use Rattle.std.specs.Int.{bit_at}
 use Rattle.std.specs.Int.Bits.{bit_or, bit_and}
 use Rattle.std.specs.List.{list_any}
 use Rattle.std.proofs.lemmas.Bool.{false≢true}
-use Rattle.std.proofs.lemmas.List.Folds.{list_any_more}
-use Rattle.chess_core.specs.Kept.{kinds}
+use Rattle.std.proofs.lemmas.List.Folds.{list_any-append, list_any_more}
 use Rattle.chess_core.specs.Position.{is_man, is_side, man_on, other, same_colour, same_kind}
 use Rattle.chess_core.specs.Squares.{some_square}
 use Rattle.chess_core.specs.Steps.{diagonal_steps, knight_steps, pawn_captures, queen_steps, straight_steps}
@@ -14,6 +13,7 @@ use Rattle.chess_core.specs.declared.man.Colour.{Colour}
 use Rattle.chess_core.specs.declared.man.Kind.{Kind}
 use Rattle.chess_core.specs.declared.man.Kind.TheVariants.{King, Queen, Rook, Bishop, Knight, Pawn, Grasshopper, Nightrider}
 use Rattle.chess_core.specs.declared.man.Man.{Man}
+use Rattle.chess_core.specs.declared.step.Step.{Step}
 use Rattle.chess_core.proofs.Kept.{same_kind-is}
 use Rattle.chess_core.proofs.Men.{same_colour-true}
 use Rattle.chess_core.proofs.Ranges.{some_square_true, some_square_false}
@@ -99,35 +99,89 @@ fails_first : (a b : Bool) → a ≡ false → (a && b) ≡ false
 fails_first true b h = absurd (cc)
 fails_first false b h = refl
 
+-- a word that is 0 has no square
+word_lacks : (test : ℕ → Bool) → word test ≡ 0 → (s : ℕ) → s < 64 → test s ≡ false
+word_lacks test h s b = sym (word_has test (word test) s refl b) ∙ word_has (λ s. false) (word test) s (h ∙ word_empty (λ s. false) (λ s b. refl)) b
+
 pub reached_none : (men : List (Option Man)) (c : Colour) (k : Kind) (t w : ℕ) → w ≡ squares_of men c k → w ≡ 0 → 0 ≡ word (λ s. is_man (man_on men s) c k && reaches men s t)
 unfolding squares_of
 reached_none men c k t w h z =
-    let e : word (λ s. is_man (man_on men s) c k) ≡ word (λ s. false) = sym h ∙ z ∙ word_empty (λ s. false) (λ s b. refl) in
-    word_empty _ (λ s b. fails_first (is_man (man_on men s) c k) (reaches men s t) (sym (word_has (λ s. is_man (man_on men s) c k) (word (λ s. is_man (man_on men s) c k)) s refl b) ∙ word_has (λ s. false) (word (λ s. is_man (man_on men s) c k)) s e b))
+    word_empty _ (λ s b. fails_first (is_man (man_on men s) c k) (reaches men s t) (word_lacks (λ s. is_man (man_on men s) c k) (sym h ∙ z) s b))
 
--- a man is of one of the kinds
-one_of_all : (b : Bool) (k : Kind) (r : Bool) → list_any (λ j. (b && same_kind k j) && r) kinds ≡ (b && r)
-one_of_all true King true = refl
-one_of_all true King false = refl
-one_of_all true Queen true = refl
-one_of_all true Queen false = refl
-one_of_all true Rook true = refl
-one_of_all true Rook false = refl
-one_of_all true Bishop true = refl
-one_of_all true Bishop false = refl
-one_of_all true Knight true = refl
-one_of_all true Knight false = refl
-one_of_all true Pawn true = refl
-one_of_all true Pawn false = refl
-one_of_all true Grasshopper true = refl
-one_of_all true Grasshopper false = refl
-one_of_all true Nightrider true = refl
-one_of_all true Nightrider false = refl
-one_of_all false k r = refl
+-- the men that ride along lines, and the others
+abbrev pub others : List Kind
+others = King ∷ Knight ∷ Pawn ∷ Grasshopper ∷ Nightrider ∷ []
 
-of_some_kind : (o : Option Man) (c : Colour) (r : Bool) → list_any (λ k. is_man o c k && r) kinds ≡ (is_side o c && r)
-of_some_kind None c r = refl
-of_some_kind (Some x) c r = one_of_all (same_colour x.colour c) x.kind r
+by_lines : (b : Bool) (k : Kind) (r s d : Bool) → (k ≡ Rook → r ≡ s) → (k ≡ Bishop → r ≡ d) → (k ≡ Queen → r ≡ (s || d))
+    → (((((b && same_kind k Rook) || (b && same_kind k Queen)) && s) || (((b && same_kind k Bishop) || (b && same_kind k Queen)) && d)) || list_any (λ j. (b && same_kind k j) && r) others) ≡ (b && r)
+by_lines false k r s d rook bishop queen = refl
+by_lines true King true s d rook bishop queen = refl
+by_lines true King false s d rook bishop queen = refl
+by_lines true Knight true s d rook bishop queen = refl
+by_lines true Knight false s d rook bishop queen = refl
+by_lines true Pawn true s d rook bishop queen = refl
+by_lines true Pawn false s d rook bishop queen = refl
+by_lines true Grasshopper true s d rook bishop queen = refl
+by_lines true Grasshopper false s d rook bishop queen = refl
+by_lines true Nightrider true s d rook bishop queen = refl
+by_lines true Nightrider false s d rook bishop queen = refl
+by_lines true Rook r true d rook bishop queen = sym (rook refl)
+by_lines true Rook r false d rook bishop queen = sym (rook refl)
+by_lines true Bishop r s true rook bishop queen = sym (bishop refl)
+by_lines true Bishop r s false rook bishop queen = sym (bishop refl)
+by_lines true Queen r true d rook bishop queen = sym (queen refl)
+by_lines true Queen r false true rook bishop queen = sym (queen refl)
+by_lines true Queen r false false rook bishop queen = sym (queen refl)
+
+rook_reaches : (men : List (Option Man)) (c : Colour) (k : Kind) (s t : ℕ) → s < 64 → t < 64 → k ≡ Rook → reaches_as men c k s t ≡ list_any (rides men t s) straight_steps
+unfolding reaches_as
+rook_reaches men c k s t p q e = rw e (straight-back men s t p q)
+
+bishop_reaches : (men : List (Option Man)) (c : Colour) (k : Kind) (s t : ℕ) → s < 64 → t < 64 → k ≡ Bishop → reaches_as men c k s t ≡ list_any (rides men t s) diagonal_steps
+unfolding reaches_as
+bishop_reaches men c k s t p q e = rw e (diagonal-back men s t p q)
+
+queen_reaches : (men : List (Option Man)) (c : Colour) (k : Kind) (s t : ℕ) → s < 64 → t < 64 → k ≡ Queen → reaches_as men c k s t ≡ (list_any (rides men t s) straight_steps || list_any (rides men t s) diagonal_steps)
+unfolding reaches_as
+queen_reaches men c k s t p q e = rw e (queen_rides-back men s t p q ∙ list_any-append (rides men t s) straight_steps diagonal_steps)
+
+-- on one square
+at_square : (men : List (Option Man)) (c : Colour) (o : Option Man) (s t : ℕ) → s < 64 → t < 64
+    → ((((is_man o c Rook || is_man o c Queen) && list_any (rides men t s) straight_steps) || ((is_man o c Bishop || is_man o c Queen) && list_any (rides men t s) diagonal_steps)) || list_any (λ k. is_man o c k && reaches_of men o s t) others)
+    ≡ (is_side o c && reaches_of men o s t)
+at_square men c None s t p q = refl
+at_square men c (Some x) s t p q =
+    by_lines (same_colour x.colour c) x.kind (reaches_as men x.colour x.kind s t) (list_any (rides men t s) straight_steps) (list_any (rides men t s) diagonal_steps)
+    (rook_reaches men x.colour x.kind s t p q) (bishop_reaches men x.colour x.kind s t p q) (queen_reaches men x.colour x.kind s t p q)
+
+pub met : (men : List (Option Man)) (c : Colour) (k : Kind) (t m n w : ℕ) (ds : List Step) → m ≡ squares_of men c k → n ≡ squares_of men c Queen → w ≡ word (λ s. list_any (rides men t s) ds)
+    → bit_and (bit_or m n) w ≡ word (λ s. (is_man (man_on men s) c k || is_man (man_on men s) c Queen) && list_any (rides men t s) ds)
+unfolding squares_of
+met men c k t m n w ds h i j =
+    (λ a. bit_and (bit_or (h a) (i a)) (j a))
+    ∙ (λ a. bit_and (squares_either (λ s. is_man (man_on men s) c k) (λ s. is_man (man_on men s) c Queen) a) (word (λ s. list_any (rides men t s) ds)))
+    ∙ squares_both (λ s. is_man (man_on men s) c k || is_man (man_on men s) c Queen) (λ s. list_any (rides men t s) ds)
+
+pub met_none : (men : List (Option Man)) (c : Colour) (k : Kind) (t m n : ℕ) (ds : List Step) → m ≡ squares_of men c k → n ≡ squares_of men c Queen → bit_or m n ≡ 0
+    → 0 ≡ word (λ s. (is_man (man_on men s) c k || is_man (man_on men s) c Queen) && list_any (rides men t s) ds)
+unfolding squares_of
+met_none men c k t m n ds h i z =
+    let both : word (λ s. is_man (man_on men s) c k || is_man (man_on men s) c Queen) ≡ 0 =
+    sym ((λ a. bit_or (h a) (i a)) ∙ squares_either (λ s. is_man (man_on men s) c k) (λ s. is_man (man_on men s) c Queen)) ∙ z in
+    word_empty _ (λ s b. fails_first (is_man (man_on men s) c k || is_man (man_on men s) c Queen) (list_any (rides men t s) ds) (word_lacks (λ s. is_man (man_on men s) c k || is_man (man_on men s) c Queen) both s b))
+
+pub attackers_are : (men : List (Option Man)) (c : Colour) (t r b o : ℕ) → t < 64
+    → r ≡ word (λ s. (is_man (man_on men s) c Rook || is_man (man_on men s) c Queen) && list_any (rides men t s) straight_steps)
+    → b ≡ word (λ s. (is_man (man_on men s) c Bishop || is_man (man_on men s) c Queen) && list_any (rides men t s) diagonal_steps)
+    → o ≡ word (λ s. list_any (λ k. is_man (man_on men s) c k && reaches men s t) others)
+    → bit_or (bit_or r b) o ≡ word (λ s. is_side (man_on men s) c && reaches men s t)
+unfolding reaches
+attackers_are men c t r b o q h i j =
+    let rooks : ℕ → Bool = λ s. (is_man (man_on men s) c Rook || is_man (man_on men s) c Queen) && list_any (rides men t s) straight_steps in
+    let bishops : ℕ → Bool = λ s. (is_man (man_on men s) c Bishop || is_man (man_on men s) c Queen) && list_any (rides men t s) diagonal_steps in
+    let rest : ℕ → Bool = λ s. list_any (λ k. is_man (man_on men s) c k && reaches_of men (man_on men s) s t) others in
+    (λ a. bit_or (bit_or (h a) (i a)) (j a)) ∙ (λ a. bit_or (squares_either rooks bishops a) (word rest)) ∙ squares_either (λ s. rooks s || bishops s) rest
+    ∙ squares_same _ _ (λ s p. at_square men c (man_on men s) s t p q)
 
 last_two : (a b c : Bool) → ((a && b) && c) ≡ ((a && c) && b)
 last_two true true true = refl
@@ -137,11 +191,11 @@ last_two true false false = refl
 last_two false b c = refl
 
 -- attack by the men that reach the square and aren't paralysed
-pub attacked_by : (rule : RuleSet) (men : List (Option Man)) (t w : ℕ) (c : Colour) → w ≡ word (λ s. list_any (λ k. is_man (man_on men s) c k && reaches men s t) kinds) → some_square (λ s. bit_at w s == 1 && not (paralysed rule men s)) ≡ attacked rule men t c
+pub attacked_by : (rule : RuleSet) (men : List (Option Man)) (t w : ℕ) (c : Colour) → w ≡ word (λ s. is_side (man_on men s) c && reaches men s t) → some_square (λ s. bit_at w s == 1 && not (paralysed rule men s)) ≡ attacked rule men t c
 unfolding attacked strikes
 attacked_by rule men t w c h =
     some_square_same _ _ (λ s b.
-    ap (λ x. x && not (paralysed rule men s)) (word_has _ w s h b ∙ of_some_kind (man_on men s) c (reaches men s t))
+    ap (λ x. x && not (paralysed rule men s)) (word_has _ w s h b)
     ∙ last_two (is_side (man_on men s) c) (reaches men s t) (not (paralysed rule men s)))
 
 pub faced : (men : List (Option Man)) (x : Man) (t w : ℕ) → w ≡ word (λ s. is_man (man_on men s) (other x.colour) x.kind && reaches men s t) → not (w == 0) ≡ faces_its_like men x t

@@ -1,5 +1,5 @@
 -- Bits of words: the first from a place on, one alone, and words that are not 0.
-use Rattle.std.proofs.Common.{◌≡◌, ℕ, zero, suc, ◌+◌, ◌-◌, ◌*◌, ◌%◌, ◌^◌, ◌<◌, ◌≤◌, Bool, true, false, ◌==◌, not, cond, refl, sym, ap, ◌∙◌, arith, ◌⊎◌, inl, inr, Some, None, find}
+use Rattle.std.proofs.Common.{◌≡◌, ℕ, zero, suc, ◌-◌, ◌*◌, ◌%◌, ◌^◌, ◌<◌, ◌≤◌, Bool, true, false, ◌==◌, not, refl, sym, ap, ◌∙◌, arith, ◌⊎◌, inl, inr, Some, None, find}
 use Rattle.std.specs.Int.{bit_at, w64, trailing_zeros}
 use Rattle.std.specs.Int.Bits.{bit_and}
 use Rattle.std.specs.List.{range_with_len}
@@ -35,9 +35,6 @@ next_none word from p h =
     find_range_none (λ s. bit_at word s == 1) from (64 - from)
     (λ k lo hi. not_set (bit_at word k) (sym (bit_from_on word from k lo (omega arith)) ∙ ap (λ n. bit_at n k) h ∙ bit_at-zero k))
 
-pub next_past : (word from : ℕ) → 64 ≤ from → find (λ s. bit_at word s == 1) (range_with_len from (64 - from)) ≡ None
-next_past word from p = find_range_none (λ s. bit_at word s == 1) from (64 - from) (λ k lo hi. absurd (omega arith))
-
 pub next_low : (word from : ℕ) → from < 64 → 0 < from_on word from → from_on word from < 2 ^ 64 → from ≤ trailing_zeros w64 (from_on word from)
 next_low word from p pos fits =
     let t = trailing_zeros w64 (from_on word from) in
@@ -56,20 +53,9 @@ next_some word from p pos fits =
     (eq-eqb (bit_at word t) 1 (sym (bit_from_on word from t lo w.0) ∙ w.1))
     (λ j a b. not_set (bit_at word j) (sym (bit_from_on word from j a (omega (arith, w.0))) ∙ w.2 j b))
 
-pub find_same : (p q : ℕ → Bool) (a n : ℕ) → ((k : ℕ) → a ≤ k → k < a + n → p k ≡ q k) → find p (range_with_len a n) ≡ find q (range_with_len a n)
-find_same p q a zero h = refl
-find_same p q a (suc n) h =
-    let r : find p (range_with_len (a + 1) n) ≡ find q (range_with_len (a + 1) n) = find_same p q (a + 1) n (λ k lo hi. h k (omega arith) (omega arith)) in
-    (λ j. cond (h a (omega arith) (omega arith) j) (Some a) (r j))
-
 is_bit : (b : Bool) → (bit_of b == 1) ≡ b
 is_bit true = refl
 is_bit false = refl
-
-pub find_bit : (test : ℕ → Bool) (w number : ℕ) → w ≡ word test → find (λ s. bit_at w s == 1) (range_with_len number (64 - number)) ≡ find test (range_with_len number (64 - number))
-find_bit test w number h =
-    find_same (λ s. bit_at w s == 1) test number (64 - number)
-    (λ k lo hi. ap (λ n. bit_at n k == 1) h ∙ ap (λ n. n == 1) (square_bit test k (omega arith)) ∙ is_bit (test k))
 
 -- a word that isn't 0 has a square
 zero_or : (n : ℕ) → (n ≡ 0) ⊎ (0 < n)

@@ -24,12 +24,6 @@ same_Bool true b f g = sym (f refl)
 same_Bool false true f g = g refl
 same_Bool false false f g = refl
 
-pub and_case : (a b c : Bool) → (b ≡ true → a ≡ c) → (a && b) ≡ (b && c)
-and_case true true c h = h refl
-and_case false true c h = h refl
-and_case true false c h = refl
-and_case false false c h = refl
-
 pub differs : (a b : ℕ) → (a ≡ b → ⊥) → (a == b) ≡ false
 differs a b ne = elim (cases_Bool (a == b)) [
   | inl y ↦ absurd (ne (eqb-true a b y))
