@@ -53,7 +53,7 @@ fn reached_by_some(board: &Board, square: Square, colour: Colour, kinds: &[Kind]
 {
     let mut word = 0u64;
     for kind in kinds {
-        word = word | reached_by(board, square, colour, *kind);
+        word |= reached_by(board, square, colour, *kind);
     }
     word
 }

@@ -39,7 +39,7 @@ fn ride(board: &Board, from: Square, step: Step, first: u8) -> u64
         let Some(square) = from.along(step, times) else {
             return word;
         };
-        word = word | (1u64 << square.index());
+        word |= 1u64 << square.index();
         if board.man_at(square).is_some() {
             return word;
         }
@@ -94,7 +94,7 @@ pub(crate) fn by_steps(board: &Board, way: Way, from: Square, steps: &[Step]) ->
 {
     let mut word = 0u64;
     for step in steps {
-        word = word | by_step(board, way, from, *step);
+        word |= by_step(board, way, from, *step);
     }
     word
 }
