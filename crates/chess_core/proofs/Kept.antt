@@ -3,7 +3,7 @@ use Rattle.std.proofs.Common.{◌≡◌, ℕ, ◌*◌, ◌%◌, ◌^◌, ◌<◌
 use Rattle.std.specs.Int.{bit_at, bit_not, w64}
 use Rattle.std.specs.Int.Bits.{bit_and, bit_or}
 use Rattle.std.proofs.lemmas.Bool.{cases_eq, cases_lt, cases_Bool, cond-true, cond-false, eqb-true, eq-eqb, and_from, and_left, and_right}
-use Rattle.std.proofs.lemmas.List.{length-set, get_or-set_same, get_or-set_other, map-set}
+use Rattle.std.proofs.lemmas.List.{get_or_past, length-set, get_or-set_same, get_or-set_other, map-set}
 use Rattle.std.proofs.Math.ListN.{get_or-map}
 use Rattle.std.proofs.Math.Pow.{pow_mono}
 use Rattle.std.proofs.lemmas.Nat.{one_shl}
@@ -13,7 +13,7 @@ use Rattle.chess_core.specs.declared.man.Colour.{Colour}
 use Rattle.chess_core.specs.declared.man.Colour.TheVariants.{White, Black}
 use Rattle.chess_core.specs.declared.man.Kind.{Kind}
 use Rattle.chess_core.specs.declared.man.Kind.TheVariants.{King, Queen, Rook, Bishop, Knight, Pawn, Grasshopper, Nightrider}
-use Rattle.chess_core.specs.Position.{is_side, is_man, king_square, man_on, same_kind, same_colour, kind_number, HasNoKing}
+use Rattle.chess_core.specs.Position.{AtMostOneKing, is_side, is_man, king_square, man_on, same_kind, same_colour, kind_number, HasNoKing}
 use Rattle.chess_core.specs.Diagrams.{is_kind}
 use Rattle.chess_core.specs.Words.{bit_of, word_of}
 use Rattle.chess_core.specs.Kept.{IsInStep, colour_number, colours, kinds, kind_words, side_words, king_words, king_squares, word_at}
@@ -247,6 +247,28 @@ lifted men ks ss kings s x is l p held =
     }
 
 -- ---- what is read
+
+at_most_one : (men : List (Option Man)) (kings : List (Option ℕ)) (c : Colour) (s t : ℕ) → map word_at kings ≡ king_words men → length men ≡ 64 → s < 64 → t < 64 → king c (man_on men s) ≡ true → king c (man_on men t) ≡ true → s ≡ t
+at_most_one men kings c s t e l p q hs ht =
+    let o : Option ℕ = get_or kings (colour_number c) None in
+    let a : o ≡ Some s = word_at_passes (king c) men None o s l p (sym (kings_at men kings c e)) hs in
+    let b : o ≡ Some t = word_at_passes (king c) men None o t l q (sym (kings_at men kings c e)) ht in
+    cc
+
+king_on_board : (men : List (Option Man)) (c : Colour) (s : ℕ) → length men ≡ 64 → king c (man_on men s) ≡ true → s < 64
+king_on_board men c s l h = elim (cases_lt s 64) [
+  | inl lt ↦ lt
+  | inr ge ↦
+      let nobody : Option Man = None in
+      let e : man_on men s ≡ None = get_or_past men s nobody (omega arith) in
+      absurd (let bad : king c None ≡ true = rw e at h in cc)
+]
+
+-- no colour has two kings
+pub one_king : (men : List (Option Man)) (ks ss : List ℕ) (kings : List (Option ℕ)) → IsInStep men ks ss kings → length men ≡ 64 → AtMostOneKing men
+one_king men ks ss kings is l = record {
+  same = λ c s t hs ht. at_most_one men kings c s t is.kings_are l (king_on_board men c s l hs) (king_on_board men c t l ht) hs ht;
+}
 
 is_man-both : (c : Colour) (k : Kind) (x : Option Man) → (is_side x c && is_kind x k) ≡ is_man x c k
 is_man-both c k None = refl
