@@ -1,7 +1,7 @@
 //! Sessions: one item in, its report out.
 ghost use Rattle.std.specs.Prelude.{◌≡◌, ◌==◌, ◌<◌, ◌≤◌, ◌+◌, ◌⊎◌, ◌||◌, IsErr, false, true, is_err, length};
 ghost use Rattle.pop_text.specs.Words.{limit};
-ghost use Rattle.pop_text.specs.Bytes.{Keeps, count_after, greatest};
+ghost use Rattle.pop_text.specs.Bytes.{count_after, greatest};
 ghost use Rattle.pop_text.specs.Reading.{IsSeen, failures_after};
 ghost use Rattle.pop_text.specs.declared.scanner.End.{End};
 ghost use Rattle.pop_input.specs.Standing.{work_left};
@@ -70,7 +70,7 @@ impl Session {
         requires source { self.old.at.at.end ≡ End.Open → S.failures source.old < greatest }
         requires sink { self.old.stopped ≡ false → W.failures sink.old < greatest }
         ensures does { self.old.stopped ≡ false → Steps self.old self.new (S.remaining source.old) (S.remaining source.new) (W.taken sink.old) (W.taken sink.new) result }
-        ensures stopped { self.old.stopped ≡ true → IsErr result × (self.new ≡ self.old) × Keeps (W.taken sink.old) (W.taken sink.new) }
+        ensures stopped { self.old.stopped ≡ true → IsErr result × (self.new ≡ self.old) × (source.new ≡ source.old) × (sink.new ≡ sink.old) }
         ensures seen { IsSeen self.old.at.at.end (S.remaining source.old) → IsSeen self.new.at.at.end (S.remaining source.new) }
         ensures ends { self.old.at.at.end ≡ End.Open ⊎ self.new.at.at.end ≡ self.old.at.at.end }
         ensures read_failures { S.failures source.new ≡ failures_after self.old.at.at.end self.new.at.at.end (S.failures source.old) }
