@@ -3,6 +3,8 @@
 #![tactic(auto)]
 
 #[cfg(test)]
+mod plain;
+#[cfg(test)]
 mod row;
 #[cfg(test)]
 mod tests;

@@ -3,6 +3,7 @@ ghost use Rattle.std.specs.Prelude.{◌≡◌, ◌<◌, ◌≤◌};
 ghost use Rattle.pop_input.specs.Posed.{rule_of};
 ghost use Rattle.pop_input.specs.Stipulations.{half_moves};
 
+use crate::plain::solve;
 use arrayvec::ArrayVec;
 use chess_rules::rules::{Circe, Madrasi, Orthodox, Rules};
 use pop_input::condition::Condition;
@@ -24,7 +25,7 @@ const ALL: u64 = 1000;
 /// were in use, and whether a further call gave another event.
 #[derive(Drop)]
 struct Given {
-    text: ArrayVec<u8, 1024>,
+    text: ArrayVec<u8, 4096>,
     events: u64,
     given: u64,
     opened: u64,
@@ -33,7 +34,7 @@ struct Given {
 }
 
 /// Adds the text of an event.
-fn tell(event: &Event, text: &mut ArrayVec<u8, 1024>) {
+pub(crate) fn tell(event: &Event, text: &mut ArrayVec<u8, 4096>) {
     let mut sink = TrialSink::<256>::new(256, None);
     let _told = print_event(&mut sink, event);
     let _fits = text.try_extend_from_slice(sink.text());
@@ -41,7 +42,7 @@ fn tell(event: &Event, text: &mut ArrayVec<u8, 1024>) {
 
 /// The half-moves of a problem.
 #[tactic(auto, using(pop_solve::proofs::Sound::in_range))]
-fn half_moves(problem: &Problem) -> usize
+pub(crate) fn half_moves(problem: &Problem) -> usize
     ensures value { result ≡ half_moves problem.now.stipulation }
     ensures most { result ≤ 16 }
 {
@@ -125,4 +126,40 @@ pub(crate) fn row<const N: usize>(rt: &impl Abort, text: &str, want: &str) -> u6
         Some(Condition::Circe) => try_row::<Circe, N>(rt, &problem, want),
         Some(Condition::Madrasi) => try_row::<Madrasi, N>(rt, &problem, want),
     }
+}
+
+/// Whether a search gives the text of the plain solutions.
+fn agrees_under<R: Rules>(problem: &Problem) -> bool
+    requires { R.rule ≡ rule_of problem.now.condition }
+{
+    let _half_moves = half_moves(problem);
+    let given = run::<R, 17>(problem, ALL);
+    let plain = solve::<R>(problem);
+    given.text.as_slice() == plain.as_slice()
+}
+
+/// The same of a problem put together of its men, its stipulation and its options; nothing of one that isn't sound.
+pub(crate) fn agrees(men: &str, stipulation: &str, rest: &str) -> Option<bool> {
+    let mut text = ArrayVec::<u8, 512>::new();
+    for part in [
+        "BeginProblem Pieces ",
+        men,
+        " Stipulation ",
+        stipulation,
+        " ",
+        rest,
+        " EndProblem ",
+    ] {
+        let _fits = text.try_extend_from_slice(part.as_bytes());
+    }
+    let mut source = TrialSource::new(text.as_slice(), 4096, None);
+    let mut reader = Reader::new();
+    let Item::Sound(problem, _) = reader.next_problem(&mut source) else {
+        return None;
+    };
+    Some(match problem.condition() {
+        None => agrees_under::<Orthodox>(&problem),
+        Some(Condition::Circe) => agrees_under::<Circe>(&problem),
+        Some(Condition::Madrasi) => agrees_under::<Madrasi>(&problem),
+    })
 }

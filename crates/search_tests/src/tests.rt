@@ -1,4 +1,5 @@
-//! Rows by their stipulation.
+//! Rows by their stipulation, and searches beside the plain solutions.
+mod agreements;
 mod direct;
 mod help;
 mod selfmate;

@@ -1,0 +1,19 @@
+use Rattle.std.proofs.Common.{length}
+use Rattle.chess_core.specs.WellFormed.{IsWellFormed}
+use Rattle.chess_rules.specs.Places.{moves_behind}
+use Rattle.search_tests.proofs.plain.+lost.Given as goal
+
+abbrev pub decreases-lost : goal.decreases-lost
+decreases-lost g l = l.moves
+
+abbrev pub invariant-loop-defence : goal.invariant-loop-defence
+invariant-loop-defence g l = IsWellFormed l.here
+
+abbrev pub decreases-loop-defence : goal.decreases-loop-defence
+decreases-loop-defence g l = length (moves_behind g.R.Rules.rule l.here l.defences)
+
+abbrev pub invariant-loop-answer : goal.invariant-loop-answer
+invariant-loop-answer g l = IsWellFormed l.there
+
+abbrev pub decreases-loop-answer : goal.decreases-loop-answer
+decreases-loop-answer g l = length (moves_behind g.R.Rules.rule l.there l.answers)

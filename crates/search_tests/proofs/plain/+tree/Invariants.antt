@@ -1,0 +1,22 @@
+use Rattle.std.proofs.Common.{◌+◌, ◌*◌, length}
+use Rattle.chess_core.specs.WellFormed.{IsWellFormed}
+use Rattle.chess_rules.specs.Places.{moves_behind}
+use Rattle.search_tests.proofs.plain.+tree.Given as goal
+
+abbrev pub decreases-white : goal.decreases-white
+decreases-white g l = 2 * l.left + 1
+
+abbrev pub decreases-black : goal.decreases-black
+decreases-black g l = 2 * l.left
+
+abbrev pub invariant-white-loop-by : goal.invariant-white-loop-by
+invariant-white-loop-by g l = IsWellFormed l.here
+
+abbrev pub decreases-white-loop-by : goal.decreases-white-loop-by
+decreases-white-loop-by g l = length (moves_behind g.R.Rules.rule l.here l.tries)
+
+abbrev pub invariant-black-loop-defence : goal.invariant-black-loop-defence
+invariant-black-loop-defence g l = IsWellFormed l.here
+
+abbrev pub decreases-black-loop-defence : goal.decreases-black-loop-defence
+decreases-black-loop-defence g l = length (moves_behind g.R.Rules.rule l.here l.defences)

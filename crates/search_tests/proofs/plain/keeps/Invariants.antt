@@ -1,0 +1,10 @@
+use Rattle.std.proofs.Common.{length}
+use Rattle.chess_core.specs.WellFormed.{IsWellFormed}
+use Rattle.chess_rules.specs.Places.{moves_behind}
+use Rattle.search_tests.proofs.plain.keeps.Given as goal
+
+abbrev pub invariant-loop-defence : goal.invariant-loop-defence
+invariant-loop-defence g l = IsWellFormed l.here
+
+abbrev pub decreases-loop-defence : goal.decreases-loop-defence
+decreases-loop-defence g l = length (moves_behind g.R.Rules.rule l.here l.defences)

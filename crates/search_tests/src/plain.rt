@@ -1,0 +1,460 @@
+//! The solutions of a problem as they are defined, to be compared: whole, by recursion over copied positions, with no
+//! frames and no cutoffs.
+ghost use Rattle.std.specs.Prelude.{◌≡◌, ◌+◌, ◌≤◌};
+ghost use Rattle.chess_core.specs.WellFormed.{IsWellFormed};
+
+use crate::row::{half_moves, tell};
+use arrayvec::ArrayVec;
+use chess_core::{Board, Diagram, Kind, Man, Move, Square};
+use chess_rules::{Moves, Rules, has_legal_move, in_check, is_mate};
+use pop_input::problem::Problem;
+use pop_input::stipulation::Form;
+use pop_solve::{Event, Mark, Phase, Shown, Side};
+
+/// What is told of a phase: its first `limit` solutions, and how many they are.
+#[derive(Drop)]
+struct Told {
+    text: ArrayVec<u8, 4096>,
+    half: u32,
+    limit: u32,
+    count: u32,
+    over: bool,
+}
+
+impl Told {
+    /// A solution begins, or is one too many.
+    fn begin(&mut self) {
+        if self.count == self.limit {
+            self.over = true;
+        } else {
+            self.count = self.count.saturating_add(1);
+        }
+    }
+
+    /// A move of a tree.
+    fn node(&mut self, depth: u32, shown: Shown) {
+        if depth == 0 {
+            self.begin();
+        }
+        if !self.over {
+            let half = self.half.saturating_add(depth);
+            tell(&Event::Node { depth, half, shown }, &mut self.text);
+        }
+    }
+
+    /// A line of help play.
+    fn line(&mut self, path: &[Shown]) {
+        self.begin();
+        if !self.over {
+            let mut moves = ArrayVec::new();
+            for shown in path {
+                let _fits = moves.try_push(*shown);
+            }
+            tell(
+                &Event::Line {
+                    half: self.half,
+                    moves,
+                },
+                &mut self.text,
+            );
+        }
+    }
+}
+
+/// The man that has come back on another square than the arrival: one of the captured kind where none like it stood.
+fn reborn(before: &Board, after: &Board, captured: Man, arrival: Square) -> Option<(Man, Square)> {
+    for number in 0..64u8 {
+        let square = Square::numbered(number);
+        if square != arrival
+            && after.man_at(square) == Some(captured)
+            && before.man_at(square) != Some(captured)
+        {
+            return Some((captured, square));
+        }
+    }
+    None
+}
+
+/// To which side a king castles: he goes more than one file.
+fn castling(man: Man, by: Move) -> Option<Side> {
+    if man.kind != Kind::King || by.from.file().abs_diff(by.to.file()) < 2 {
+        None
+    } else if by.from.file() < by.to.file() {
+        Some(Side::H)
+    } else {
+        Some(Side::A)
+    }
+}
+
+/// The square of the man that a move captures, if it captures one.
+fn captured_on(before: &Board, man: Man, by: Move) -> Option<Square> {
+    if before.man_at(by.to).is_some() {
+        Some(by.to)
+    } else if man.kind == Kind::Pawn && by.from.file() != by.to.file() {
+        Square::new(by.to.file(), by.from.rank())
+    } else {
+        None
+    }
+}
+
+/// A move as it is shown, read off the positions before and after it.
+fn shown<R: Rules>(before: &Board, after: &Board, by: Move) -> Shown
+    requires { IsWellFormed after.now }
+{
+    let Some(man) = before.man_at(by.from) else {
+        return Shown::default();
+    };
+    let square = captured_on(before, man, by);
+    let captured = match square {
+        Some(square) => before.man_at(square),
+        None => None,
+    };
+    let rebirth = match captured {
+        Some(captured) => reborn(before, after, captured, by.to),
+        None => None,
+    };
+    let mut now = *after;
+    let mark = if is_mate::<R>(&mut now) {
+        Mark::Mate
+    } else if in_check::<R>(after, after.turn()) {
+        Mark::Check
+    } else {
+        Mark::Plain
+    };
+    Shown {
+        man,
+        from: by.from,
+        to: by.to,
+        capture: captured.is_some(),
+        ep: captured.is_some() && before.man_at(by.to).is_none(),
+        promo: by.promo,
+        castling: castling(man, by),
+        rebirth,
+        mark,
+    }
+}
+
+/// Whether the side to move is mated.
+fn is_goal<R: Rules>(board: &Board) -> bool
+    requires { IsWellFormed board.now }
+{
+    let mut here = *board;
+    is_mate::<R>(&mut here)
+}
+
+/// Whether it has a legal move.
+fn can_move<R: Rules>(board: &Board) -> bool
+    requires { IsWellFormed board.now }
+{
+    let mut here = *board;
+    has_legal_move::<R>(&mut here)
+}
+
+/// Whether the side to move is mated within so many further moves of the other side, against every defence.
+#[tactic(auto, using(chess_rules::proofs::Calls::playing))]
+fn lost<R: Rules>(board: &Board, moves: u8) -> bool
+    requires { IsWellFormed board.now }
+{
+    if is_goal::<R>(board) {
+        return true;
+    }
+    if moves == 0 || !can_move::<R>(board) {
+        return false;
+    }
+    let mut here = *board;
+    let mut defences = Moves::<R>::start();
+    let mut every = true;
+    while let Some(defence) = defences.next(&mut here) {
+        let mut there = here;
+        let _undo = R::play(&mut there, defence);
+        let mut answers = Moves::<R>::start();
+        let mut some = false;
+        while let Some(answer) = answers.next(&mut there) {
+            let mut after = there;
+            let _undo = R::play(&mut after, answer);
+            some = lost::<R>(&after, moves - 1) || some;
+        }
+        every = every && some;
+    }
+    every
+}
+
+/// Whether the side to move forces the other side to mate it within so many moves.
+#[tactic(auto, using(chess_rules::proofs::Calls::playing))]
+fn self_wins<R: Rules>(board: &Board, moves: u8) -> bool
+    requires { IsWellFormed board.now }
+{
+    if moves == 0 {
+        return false;
+    }
+    let mut here = *board;
+    let mut tries = Moves::<R>::start();
+    let mut some = false;
+    while let Some(by) = tries.next(&mut here) {
+        let mut there = here;
+        let _undo = R::play(&mut there, by);
+        let mut defences = Moves::<R>::start();
+        let mut every = can_move::<R>(&there);
+        while let Some(defence) = defences.next(&mut there) {
+            let mut after = there;
+            let _undo = R::play(&mut after, defence);
+            every = (is_goal::<R>(&after) || self_wins::<R>(&after, moves - 1)) && every;
+        }
+        some = some || every;
+    }
+    some
+}
+
+/// Whether after a move of White to this position he still wins within so many moves, that one counted.
+#[tactic(auto, using(chess_rules::proofs::Calls::playing))]
+fn keeps<R: Rules>(selfmate: bool, board: &Board, moves: u8) -> bool
+    requires { IsWellFormed board.now }
+{
+    let further = moves.saturating_sub(1);
+    if !selfmate {
+        return lost::<R>(board, further);
+    }
+    let mut here = *board;
+    let mut defences = Moves::<R>::start();
+    let mut every = can_move::<R>(board);
+    while let Some(defence) = defences.next(&mut here) {
+        let mut after = here;
+        let _undo = R::play(&mut after, defence);
+        every = (is_goal::<R>(&after) || self_wins::<R>(&after, further)) && every;
+    }
+    every
+}
+
+/// Whether White to move wins within so many moves.
+#[tactic(auto, using(chess_rules::proofs::Calls::playing))]
+fn wins<R: Rules>(selfmate: bool, board: &Board, moves: u8) -> bool
+    requires { IsWellFormed board.now }
+{
+    if moves == 0 {
+        return false;
+    }
+    if selfmate {
+        return self_wins::<R>(board, moves);
+    }
+    let mut here = *board;
+    let mut tries = Moves::<R>::start();
+    let mut some = false;
+    while let Some(by) = tries.next(&mut here) {
+        let mut after = here;
+        let _undo = R::play(&mut after, by);
+        some = lost::<R>(&after, moves - 1) || some;
+    }
+    some
+}
+
+/// The smallest number of moves, up to `most`, within which White to move wins.
+fn least<R: Rules>(selfmate: bool, board: &Board, most: u8) -> u8
+    requires { IsWellFormed board.now }
+    ensures { result ≤ most }
+{
+    for moves in 0..most {
+        if wins::<R>(selfmate, board, moves) {
+            return moves;
+        }
+    }
+    most
+}
+
+/// A battle: whether it is a selfmate, and its number of moves.
+#[derive(Clone, Copy)]
+struct Battle {
+    selfmate: bool,
+    moves: u8,
+}
+
+/// The moves of White that win within so many moves, and below each, down to `left` further moves of White, the defences
+/// with the moves of least length against them.
+#[cycle(tree)]
+#[tactic(auto, using(chess_rules::proofs::Calls::playing))]
+fn white<R: Rules>(told: &mut Told, battle: Battle, board: &Board, moves: u8, depth: u32, left: u8)
+    requires { IsWellFormed board.now }
+{
+    let mut here = *board;
+    let mut tries = Moves::<R>::start();
+    while let Some(by) = tries.next(&mut here) {
+        let mut there = here;
+        let _undo = R::play(&mut there, by);
+        if keeps::<R>(battle.selfmate, &there, moves) {
+            told.node(depth, shown::<R>(&here, &there, by));
+            if left > 0 && !is_goal::<R>(&there) {
+                black::<R>(told, battle, &there, depth.saturating_add(1), left);
+            }
+        }
+    }
+}
+
+/// The defences, and the moves of least length against them.
+#[cycle(tree)]
+#[tactic(auto, using(chess_rules::proofs::Calls::playing))]
+fn black<R: Rules>(told: &mut Told, battle: Battle, board: &Board, depth: u32, left: u8)
+    requires well_formed { IsWellFormed board.now }
+    requires some { 1 ≤ left }
+{
+    let mut here = *board;
+    let mut defences = Moves::<R>::start();
+    while let Some(defence) = defences.next(&mut here) {
+        let mut there = here;
+        let _undo = R::play(&mut there, defence);
+        told.node(depth, shown::<R>(&here, &there, defence));
+        if !is_goal::<R>(&there) {
+            let moves = least::<R>(battle.selfmate, &there, battle.moves);
+            white::<R>(
+                told,
+                battle,
+                &there,
+                moves,
+                depth.saturating_add(1),
+                left - 1,
+            );
+        }
+    }
+}
+
+/// Set play: the first moves of Black after which White still wins, and the moves of least length against them.
+#[tactic(auto, using(chess_rules::proofs::Calls::playing))]
+fn set<R: Rules>(told: &mut Told, battle: Battle, board: &Board, left: u8)
+    requires { IsWellFormed board.now }
+{
+    let mut here = *board;
+    let mut moves = Moves::<R>::start();
+    while let Some(by) = moves.next(&mut here) {
+        let mut there = here;
+        let _undo = R::play(&mut there, by);
+        let mates = is_goal::<R>(&there);
+        let further = battle.moves.saturating_sub(1);
+        if battle.selfmate && mates || wins::<R>(battle.selfmate, &there, further) {
+            told.node(0, shown::<R>(&here, &there, by));
+            if !mates {
+                let moves = least::<R>(battle.selfmate, &there, battle.moves);
+                white::<R>(told, battle, &there, moves, 1, left);
+            }
+        }
+    }
+}
+
+/// The lines of so many further half-moves whose last position is mate.
+#[tactic(auto, using(chess_rules::proofs::Calls::playing))]
+fn help<R: Rules>(told: &mut Told, board: &Board, left: usize, path: [Shown; 16], len: usize)
+    requires well_formed { IsWellFormed board.now }
+    requires room { len + left ≤ 16 }
+{
+    if left == 0 {
+        if is_goal::<R>(board) {
+            told.line(&path[..len]);
+        }
+        return;
+    }
+    let mut here = *board;
+    let mut moves = Moves::<R>::start();
+    while let Some(by) = moves.next(&mut here) {
+        let mut there = here;
+        let _undo = R::play(&mut there, by);
+        let mut longer = path;
+        longer[len] = shown::<R>(&here, &there, by);
+        help::<R>(told, &there, left - 1, longer, len + 1);
+    }
+}
+
+/// A phase from its first position.
+fn phase<R: Rules>(
+    told: &mut Told,
+    problem: &Problem,
+    board: &Board,
+    in_set: bool,
+    half_moves: usize,
+)
+    requires well_formed { IsWellFormed board.now }
+    requires few { half_moves ≤ 16 }
+{
+    let stipulation = problem.stipulation();
+    let battle = Battle {
+        selfmate: stipulation.form == Form::SelfMate,
+        moves: stipulation.n,
+    };
+    let left = if problem.variation() {
+        stipulation.n
+    } else {
+        0
+    };
+    if half_moves == 0 {
+        return;
+    }
+    match stipulation.form {
+        Form::Help | Form::HelpHalf => {
+            help::<R>(told, board, half_moves, [Shown::default(); 16], 0);
+        }
+        Form::Direct | Form::SelfMate if in_set => set::<R>(told, battle, board, left),
+        Form::Direct | Form::SelfMate => {
+            white::<R>(told, battle, board, stipulation.n, 0, left);
+        }
+    }
+}
+
+/// The first position of a phase: set play gives the move to the other side and has no crossed square.
+fn first_diagram(problem: &Problem, in_set: bool) -> Diagram {
+    let mut diagram = problem.diagram();
+    if in_set {
+        diagram.turn = diagram.turn.other();
+        diagram.crossed = None;
+    }
+    diagram
+}
+
+/// The text of a phase.
+fn tell_phase<R: Rules>(told: &mut Told, problem: &Problem, in_set: bool) {
+    let diagram = first_diagram(problem, in_set);
+    if !diagram.is_well_formed() {
+        return;
+    }
+    let board = Board::of(&diagram);
+    let name = if in_set { Phase::Set } else { Phase::Play };
+    tell(&Event::Phase(name), &mut told.text);
+    if in_set && in_check::<R>(&board, board.turn().other()) {
+        tell(&Event::Impossible, &mut told.text);
+        return;
+    }
+    let half_moves = half_moves(problem);
+    let half = if problem.stipulation().form == Form::HelpHalf {
+        2
+    } else {
+        1
+    };
+    told.half = if in_set { half + 1 } else { half };
+    told.count = 0;
+    told.over = false;
+    let left = if in_set {
+        half_moves.saturating_sub(1)
+    } else {
+        half_moves
+    };
+    phase::<R>(told, problem, &board, in_set, left);
+    let stopped = told.count == told.limit;
+    tell(
+        &Event::Total {
+            count: told.count,
+            stopped,
+        },
+        &mut told.text,
+    );
+}
+
+/// The text of all events of a problem.
+pub(crate) fn solve<R: Rules>(problem: &Problem) -> ArrayVec<u8, 4096> {
+    let mut told = Told {
+        text: ArrayVec::new(),
+        half: 1,
+        limit: problem.max_solutions(),
+        count: 0,
+        over: false,
+    };
+    if problem.set_play() {
+        tell_phase::<R>(&mut told, problem, true);
+    }
+    tell_phase::<R>(&mut told, problem, false);
+    told.text
+}
