@@ -1,0 +1,9 @@
+use Rattle.std.proofs.Common.{◌≡◌}
+use Rattle.pop_text.specs.declared.scanner.End.TheVariants.{Open}
+use Rattle.reader_tests.proofs.compared.read.Given as goal
+
+-- no call has failed while the end isn't known
+abbrev pub invariant-items : goal.invariant-items
+invariant-items l = record {
+  sound : l.reader.at.end ≡ Open → l.source.failures ≡ 0;
+}

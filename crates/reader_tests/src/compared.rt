@@ -1,0 +1,63 @@
+//! The reader beside the plain one.
+ghost use Rattle.std.specs.Prelude.{◌<◌};
+
+use crate::plain::{ITEMS, items};
+use crate::summary::{Told, tell};
+use arrayvec::ArrayVec;
+use pop_input::item::{Item, Last};
+use pop_input::reader::Reader;
+use pop_text::trial_source::TrialSource;
+
+// What the reader tells of an input through a source that hands out so many bytes a call, up to a failure.
+fn read(input: &[u8], at_most: usize, failed: bool) -> ArrayVec<Told, ITEMS>
+    requires { 0 < at_most }
+{
+    let fails_at = if failed { Some(input.len()) } else { None };
+    let mut source = TrialSource::new(input, at_most, fails_at);
+    let mut reader = Reader::new();
+    let mut items = ArrayVec::new();
+    let mut last = false;
+    'items: for _round in 0..ITEMS {
+        let item = reader.next_problem(&mut source);
+        match item {
+            Item::End => break,
+            Item::Sound(_, Last::Yes) | Item::Faulty(_, Last::Yes) => {
+                if last {
+                    break;
+                }
+                last = true;
+            }
+            _ => {
+                if last {
+                    break;
+                }
+            }
+        }
+        if let Some(told) = tell(&item) {
+            let _ = items.try_push(told);
+        }
+    }
+    items
+}
+
+/// Whether both readers tell the same of an input that ends cleanly, and of one that fails there.
+pub(crate) fn agree(input: &[u8], at_most: usize) -> bool
+    requires { 0 < at_most }
+{
+    read(input, at_most, false).as_slice() == items(input, false).as_slice()
+        && read(input, at_most, true).as_slice() == items(input, true).as_slice()
+}
+
+/// Marks the numbers of the faults that an input has, and 0 where it has a sound problem.
+pub(crate) fn mark(input: &[u8], failed: bool, seen: &mut [bool; 22]) {
+    for told in items(input, failed).as_slice() {
+        match told {
+            Told::Sound(_) => seen[0] = true,
+            Told::Faulty(number, _) => {
+                if *number < 22 {
+                    seen[*number as usize] = true;
+                }
+            }
+        }
+    }
+}

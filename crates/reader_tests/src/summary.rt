@@ -1,0 +1,113 @@
+//! What an item says, in numbers that can be compared.
+use chess_core::{Colour, Kind, Man, Square};
+use pop_input::condition::Condition;
+use pop_input::item::Item;
+use pop_input::problem::Problem;
+use pop_input::stipulation::Form;
+
+/// A problem: its men by their letters, small for Black, and all that it says besides.
+#[derive(Clone, Copy, PartialEq, Eq)]
+pub(crate) struct Summary {
+    pub(crate) men: [u8; 64],
+    pub(crate) black_starts: bool,
+    pub(crate) unmoved: [bool; 6],
+    pub(crate) crossed: u8,
+    pub(crate) form: u8,
+    pub(crate) n: u8,
+    pub(crate) condition: u8,
+    pub(crate) options: [bool; 3],
+    pub(crate) limit: u32,
+    pub(crate) title: u64,
+    pub(crate) author: u64,
+}
+
+/// An item: a problem, or the number and line of a fault.
+#[derive(Clone, Copy, PartialEq, Eq)]
+pub(crate) enum Told {
+    Sound(Summary),
+    Faulty(u8, u64),
+}
+
+impl Default for Told {
+    fn default() -> Told {
+        Told::Faulty(0, 0)
+    }
+}
+
+/// A number for a text, another one for most others.
+pub(crate) fn digest(text: &[u8]) -> u64 {
+    let mut value = text.len() as u64;
+    for byte in text {
+        value = value.wrapping_mul(1_099_511_628_211) ^ (*byte as u64);
+    }
+    value
+}
+
+/// The castling squares in the order of `unmoved`.
+pub(crate) const CORNERS: [u8; 6] = [0, 4, 7, 56, 60, 63];
+
+fn letter_of(man: Man) -> u8 {
+    let letter = match man.kind {
+        Kind::King => b'K',
+        Kind::Queen => b'Q',
+        Kind::Rook => b'R',
+        Kind::Bishop => b'B',
+        Kind::Knight => b'S',
+        Kind::Pawn => b'P',
+        Kind::Grasshopper => b'G',
+        Kind::Nightrider => b'N',
+    };
+    match man.colour {
+        Colour::White => letter,
+        Colour::Black => letter.to_ascii_lowercase(),
+    }
+}
+
+fn summary_of(problem: &Problem) -> Summary {
+    let diagram = problem.diagram();
+    let mut men = [0; 64];
+    for number in 0..64u8 {
+        if let Some(man) = diagram.man_at(Square::numbered(number)) {
+            men[number as usize] = letter_of(man);
+        }
+    }
+    let mut unmoved = [false; 6];
+    for place in 0..6usize {
+        unmoved[place] = diagram.unmoved.has(Square::numbered(CORNERS[place] & 63));
+    }
+    let stipulation = problem.stipulation();
+    Summary {
+        men,
+        black_starts: diagram.turn == Colour::Black,
+        unmoved,
+        crossed: match diagram.crossed {
+            Some(square) => square.index(),
+            None => 64,
+        },
+        form: match stipulation.form {
+            Form::Direct => 0,
+            Form::SelfMate => 1,
+            Form::Help => 2,
+            Form::HelpHalf => 3,
+        },
+        n: stipulation.n,
+        condition: match problem.condition() {
+            None => 0,
+            Some(Condition::Circe) => 1,
+            Some(Condition::Madrasi) => 2,
+        },
+        options: [problem.set_play(), problem.variation(), problem.no_board()],
+        limit: problem.max_solutions(),
+        title: digest(problem.title().bytes()),
+        author: digest(problem.author().bytes()),
+    }
+}
+
+/// What an item of the reader says, none behind the last.
+pub(crate) fn tell(item: &Item) -> Option<Told> {
+    match item {
+        Item::Sound(problem, _) => Some(Told::Sound(summary_of(problem))),
+        Item::Faulty(fault, _) => Some(Told::Faulty(fault.number, fault.line)),
+        Item::End => None,
+    }
+}

@@ -1,0 +1,2 @@
+//! The reader beside a plain one.
+mod agreements;

@@ -1,0 +1,32 @@
+//! Inputs of which both readers have to tell the same.
+use crate::compared::{agree, mark};
+use crate::made::text;
+
+const THREE: &str =
+    "BeginProblem\nPieces White Kg6 Rg6 Black Kg8\nRemark not yet NextProblem here\nStipulation #1\nNextProblem\nPieces White Kg6 Ra1 Black Kg8\nStipulation #1\nNextProblem\nPieces White K\n";
+
+#[test]
+fn every_beginning_of_three_problems(rt: HostRuntime) {
+    let bytes = THREE.as_bytes();
+    for length in 0..bytes.len() + 1 {
+        for at_most in [1, 2, 3, 4095, 4096, 4097] {
+            assert!(rt; agree(&bytes[..length], at_most));
+        }
+    }
+}
+
+#[test]
+fn made_texts(rt: HostRuntime) {
+    let mut seen = [false; 22];
+    for number in 0..600u64 {
+        let made = text(number);
+        mark(made.as_slice(), false, &mut seen);
+        mark(made.as_slice(), true, &mut seen);
+        assert!(rt; agree(made.as_slice(), 1 + (number % 7) as usize));
+        assert!(rt; agree(made.as_slice(), 4096));
+    }
+    // All but the limit of 2^30 bytes comes up.
+    for number in 0..22usize {
+        assert_eq!(rt; seen[number], number != 20);
+    }
+}
