@@ -12,10 +12,11 @@ use chess_core::man::{Kind, Man};
 use chess_core::square::Square;
 use chess_core::step::Step;
 
-// How many triples an origin has, and all of them.
-const EACH: u16 = 448;
+// How many triples have the same origin: 64 arrivals, 7 promotions with none.
+const PER_ORIGIN: u16 = 448;
 
-const ALL: u16 = 28672;
+// How many triples there are.
+pub(crate) const TRIPLES: u16 = 28672;
 
 // The squares one and two steps ahead of a pawn, and two files beside a king.
 fn steps_to(man: Man, from: Square) -> u64
@@ -66,7 +67,7 @@ fn next_from(board: &Board, from: Square, start: u16) -> u16
     ensures barren { IsBarrenFrom board.now from start result }
 {
     let Some(man) = board.man_at(from) else {
-        return EACH;
+        return PER_ORIGIN;
     };
     let word = targets(board, man, from);
     let mut at = start;
@@ -80,7 +81,7 @@ fn next_from(board: &Board, from: Square, start: u16) -> u16
         }
         at = first + 7;
     }
-    EACH
+    PER_ORIGIN
 }
 
 // The first triple that may be a move, from the one numbered `start` on; 28,672 where there is none.
@@ -91,13 +92,13 @@ pub(crate) fn next_triple(board: &Board, start: u16) -> u16
 {
     let own = board.side(board.turn());
     let mut number = start;
-    while let Some(from) = next_bit(own, (number / EACH) as u8) {
-        let first = u16::from(from.index()) * EACH;
+    while let Some(from) = next_bit(own, (number / PER_ORIGIN) as u8) {
+        let first = u16::from(from.index()) * PER_ORIGIN;
         let at = next_from(board, from, number.saturating_sub(first));
-        if at < EACH {
+        if at < PER_ORIGIN {
             return first + at;
         }
-        number = first + EACH;
+        number = first + PER_ORIGIN;
     }
-    ALL
+    TRIPLES
 }

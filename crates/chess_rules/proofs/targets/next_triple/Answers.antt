@@ -8,8 +8,8 @@ use Rattle.chess_rules.proofs.targets.next_triple.Goals as goal
 pub loop-from-init : goal.loop-from-init
 loop-from-init c = record { low = omega arith; barren = barren-empty c.args.board.now c.args.start }
 
-pub returns-then-at-lt-EACH-clause-barren : goal.returns-then-at-lt-EACH-clause-barren
-returns-then-at-lt-EACH-clause-barren c =
+pub returns-then-at-lt-PER_ORIGIN-clause-barren : goal.returns-then-at-lt-PER_ORIGIN-clause-barren
+returns-then-at-lt-PER_ORIGIN-clause-barren c =
     let p = c.args.board.now in
     let s = c.in-Some.from in
     let first = find_first (λ q. bit_at c.side-own.result q == 1) (c.loop-from.number / 448) (64 - c.loop-from.number / 448) s (sym c.next_bit.ensures.value ∙ c.in-Some.is) in
