@@ -1,4 +1,4 @@
--- The item of a block that ends.
+-- The item of a block that ends (own).
 use Rattle.std.specs.Prelude.{◌≡◌, ℕ, Bool, true, false, Option, None, Some}
 use Rattle.pop_text.specs.Words.{End}
 use Rattle.pop_text.specs.declared.read_fault.ReadFault.{ReadFault}

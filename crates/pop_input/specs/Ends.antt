@@ -1,4 +1,4 @@
--- The problem that the words of a block pose, and the tests at its end.
+-- The problem that the words of a block pose (Codex, Popeye manual), and the tests at its end (own).
 use Rattle.std.specs.Prelude.{◌≡◌, ℕ, List, [], ◌∷◌, length, fold, not, ◌&&◌, Bool, true, if◌then◌else◌, Option, Some, None, is_some, unwrap_or}
 use Rattle.chess_core.specs.Castling.{has_unmoved, mark_unmoved, none_unmoved}
 use Rattle.chess_core.specs.Diagrams.{Setup}

@@ -1,4 +1,4 @@
--- Where a reader stands among the items, and what it reads of them.
+-- Where a reader stands among the items, and what it reads of them (own).
 use Rattle.std.specs.Prelude.{◌≡◌, ◌≤◌, ℕ, List, [], ◌∷◌, ◌++◌, Option, None, Bool, true, false, ◌+◌, ◌-◌, length}
 use Rattle.pop_text.specs.Bytes.{Consumes}
 use Rattle.pop_text.specs.Words.{Input, limit}

@@ -1,4 +1,4 @@
--- What the words of a problem before a place say, and the fault of a word there.
+-- What the words of a problem before a place say (Popeye manual; the place of a word is own).
 -- The words before are listed newest first.
 use Rattle.std.specs.Prelude.{ℕ, List, [], ◌∷◌, true, false, if◌then◌else◌, Option, Some, None, is_some, unwrap_or, fold}
 use Rattle.std.specs.List.{repeat}

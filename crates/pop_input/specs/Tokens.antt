@@ -1,4 +1,4 @@
--- What next_token does.
+-- What next_token does (own).
 use Rattle.std.specs.Prelude.{◌≡◌, ◌<◌, ◌≤◌, ℕ, List, [], ◌∷◌, length, Option, Some}
 use Rattle.pop_text.specs.Words.{Token as Part, Word, TextLine, Tail, End as AtEnd, Long, Broken as Failing, text_of_line}
 use Rattle.pop_text.specs.Reading.{Reading}

@@ -1,4 +1,4 @@
--- Words that are values: squares, numbers, stipulations.
+-- Words that are values: squares, numbers, stipulations (Popeye manual; the ranges are own).
 use Rattle.std.specs.Prelude.{ℕ, ◌+◌, ◌-◌, ◌*◌, ◌==◌, ◌&&◌, nat_le, List, [], ◌∷◌, map, fold, Bool, if◌then◌else◌, Option, Some, None}
 use Rattle.std.specs.Char.{to_ascii_lowercase}
 use Rattle.std.specs.List.{list_all}

@@ -1,4 +1,4 @@
--- What a scanner has read and not used.
+-- What a scanner has read and not used (own).
 use Rattle.std.specs.Prelude.{◌≡◌, ℕ, ◌+◌, List, [], ◌++◌, length, count_by, Option, Bool, true, ◌⊎◌}
 use Rattle.std.specs.List.{list_all}
 use Rattle.pop_text.specs.Words.{is_line_end}

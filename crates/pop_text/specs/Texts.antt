@@ -1,4 +1,4 @@
--- What is kept of a line, byte by byte.
+-- What is kept of a line, byte by byte (own).
 use Rattle.std.specs.Prelude.{◌≡◌, ◌≤◌, ◌-◌, take, replicate, ℕ, List, [], ◌∷◌, ◌++◌, length, nat_lt, if◌then◌else◌}
 use Rattle.pop_text.specs.Words.{is_blank}
 

@@ -1,4 +1,4 @@
--- What a trial source gives.
+-- What a trial source gives (own).
 use Rattle.std.specs.Prelude.{ℕ, zero, suc, List, [], ◌∷◌}
 
 -- so many bytes: those of `rest`, and behind them the text over and over, as long as it has any
