@@ -8,7 +8,9 @@ use chess_rules::rules::Rules;
 use pop_input::problem::Problem;
 use std::marker::Model;
 
-/// A search for the solutions of a problem, which gives its events one by one and goes on from its frames.
+/// A search for the solutions of a problem, which gives its events one by one and goes on from its frames. It holds one
+/// board, played and taken back, and one frame a half-move with one for the position behind the last; it may be dropped
+/// at any time. Contracts see the record `Seen`: the problem, the events still to come, the board's position, and counts.
 #[derive(Drop)]
 pub struct Search<R: Rules, const N: usize> {
     problem: Problem,
@@ -52,7 +54,8 @@ impl<R: Rules, const N: usize> Search<R, N> {
     ghost use Rattle.pop_input.specs.Stipulations.{half_moves, is_help};
     ghost use Rattle.pop_solve.specs.Events.{events, event_of, is_never_stopped, is_walked_once, start, whole_walk, StandsOn};
 
-    /// A search that has given nothing.
+    /// A search that has given nothing. `N` is at least the half-moves of the play plus one, and `R` are the rules of the
+    /// problem's condition.
     pub fn new(problem: &Problem) -> Self
         requires room { half_moves problem.now.stipulation < N }
         requires rule { R.rule ≡ rule_of problem.now.condition }
@@ -71,8 +74,8 @@ impl<R: Rules, const N: usize> Search<R, N> {
         }
     }
 
-    /// The next event. After a line or node the board stands where its path leads; after the last event it stands on
-    /// the play's first position.
+    /// The next event; `None` behind the last, and then for good. After a line or node the board stands where its path
+    /// leads; where there is none it stands on the play's first position.
     pub fn next(&mut self) -> Option<Event>
         ensures event { result ≡ option_map (event_of R.rule self.old.problem) (slice_get self.old.left 0) }
         ensures left { self.new.left ≡ drop 1 self.old.left }
@@ -93,7 +96,7 @@ impl<R: Rules, const N: usize> Search<R, N> {
         event
     }
 
-    /// The frames in use.
+    /// The frames in use: after a line or node one more than the moves of its path.
     pub fn depth(&self) -> usize
         ensures depth { result ≡ self.now.depth }
         ensures most { result ≤ half_moves self.now.problem.stipulation + 1 }
