@@ -22,7 +22,7 @@ use chess_rules::rules::{Rules, in_check};
 
 /// Whether the side to move has a legal move.
 #[tactic(auto, using(crate::proofs::Boards::some_move))]
-pub fn can_move<R: Rules>(board: &mut Board) -> bool
+pub(crate) fn can_move<R: Rules>(board: &mut Board) -> bool
     requires well_formed { IsWellFormed board.old }
     ensures unchanged { board.new ≡ board.old }
     ensures moves { result ≡ has_move (chess R.rule) board.old }
@@ -31,7 +31,7 @@ pub fn can_move<R: Rules>(board: &mut Board) -> bool
 }
 
 /// The next legal move behind the place, which moves on to it.
-pub fn next_move<R: Rules>(place: &mut Moves<R>, board: &mut Board) -> Option<Move>
+pub(crate) fn next_move<R: Rules>(place: &mut Moves<R>, board: &mut Board) -> Option<Move>
     requires well_formed { IsWellFormed board.old }
     ensures unchanged { board.new ≡ board.old }
     ensures next { MatchOption result (moves_behind R.rule board.old place.old ≡ [])
@@ -43,7 +43,7 @@ pub fn next_move<R: Rules>(place: &mut Moves<R>, board: &mut Board) -> Option<Mo
 
 /// Takes a move back.
 #[tactic(auto, using(chess_rules::proofs::Calls::playing))]
-pub fn retract<R: Rules>(board: &mut Board, by: Move, undo: Undo)
+pub(crate) fn retract<R: Rules>(board: &mut Board, by: Move, undo: Undo)
     requires came { (p : Position) × CameBy R.rule by undo board.old p }
     ensures before { (p : Position) → CameBy R.rule by undo board.old p → board.new ≡ p }
 {
@@ -52,7 +52,7 @@ pub fn retract<R: Rules>(board: &mut Board, by: Move, undo: Undo)
 
 /// What a move has done to the side that is to move now.
 #[tactic(auto, unfolding(crate::specs::Chess::mark_of, chess_rules::specs::Legal::is_goal))]
-pub fn mark_of<R: Rules>(board: &mut Board) -> Mark
+pub(crate) fn mark_of<R: Rules>(board: &mut Board) -> Mark
     requires well_formed { IsWellFormed board.old }
     ensures unchanged { board.new ≡ board.old }
     ensures mark { result ≡ mark_of R.rule board.old }
@@ -78,7 +78,7 @@ fn is_mate_mark(mark: Mark) -> bool
 }
 
 /// Whether the side that is to move is mated, read off the mark of the move before.
-pub fn has_mated(mark: Mark) -> bool
+pub(crate) fn has_mated(mark: Mark) -> bool
     ensures { (rule : RuleSet) (q : Position) → mark ≡ mark_of rule q → result ≡ is_goal rule q }
 {
     is_mate_mark(mark)
@@ -106,7 +106,13 @@ fn reborn(man: Option<Man>, square: Option<Square>) -> Option<(Man, Square)>
 
 /// The move of the man as it is shown, once it is played: `there` stood on the arrival before.
 #[tactic(auto, unfolding(crate::specs::Chess::shown_of))]
-pub fn shown_of(man: Option<Man>, there: Option<Man>, by: &Move, undo: &Undo, mark: Mark) -> Shown
+pub(crate) fn shown_of(
+    man: Option<Man>,
+    there: Option<Man>,
+    by: &Move,
+    undo: &Undo,
+    mark: Mark,
+) -> Shown
     ensures { result ≡ shown_of man there by.now undo.now mark }
 {
     let Some(man) = man else {
@@ -127,7 +133,7 @@ pub fn shown_of(man: Option<Man>, there: Option<Man>, by: &Move, undo: &Undo, ma
 }
 
 /// Gives the move to the other side, for set play.
-pub fn turn_over(board: &mut Board)
+pub(crate) fn turn_over(board: &mut Board)
     ensures { board.new ≡ set_start board.old }
 {
     board.set_turn(board.turn().other());
@@ -136,7 +142,7 @@ pub fn turn_over(board: &mut Board)
 
 /// Gives it back: the position is that of the diagram again.
 #[tactic(auto, unfolding(chess_core::specs::Diagrams::position_of))]
-pub fn turn_back(board: &mut Board, diagram: &Diagram)
+pub(crate) fn turn_back(board: &mut Board, diagram: &Diagram)
     requires { board.old ≡ set_start (position_of diagram.now) }
     ensures { board.new ≡ position_of diagram.now }
 {
@@ -146,7 +152,7 @@ pub fn turn_back(board: &mut Board, diagram: &Diagram)
 
 /// Whether the position can't stand in set play: the side that isn't to move is in check.
 #[tactic(auto, unfolding(crate::specs::Chess::is_impossible))]
-pub fn is_impossible<R: Rules>(board: &Board) -> bool
+pub(crate) fn is_impossible<R: Rules>(board: &Board) -> bool
     ensures { result ≡ is_impossible R.rule board.now }
 {
     in_check::<R>(board, board.turn().other())

@@ -40,7 +40,7 @@ pub enum Stage {
 }
 
 /// The phase with which a problem begins.
-pub fn first_phase(problem: &Problem) -> Phase
+pub(crate) fn first_phase(problem: &Problem) -> Phase
     ensures { result ≡ first_phase problem.now }
 {
     if problem.set_play() {
@@ -332,7 +332,7 @@ fn count_with(problem: &Problem, depth: usize, count: u32) -> u32
 
 /// The next event of a search, whose stage moves on.
 #[tactic(auto, unfolding(crate::specs::Phases::IsStanding, crate::specs::Phases::left_of))]
-pub fn advance<R: Rules, const N: usize>(
+pub(crate) fn advance<R: Rules, const N: usize>(
     problem: &Problem,
     stage: &mut Stage,
     board: &mut Board,

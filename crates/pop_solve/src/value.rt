@@ -19,7 +19,7 @@ use chess_rules::moves::{Moves, is_mate};
 use chess_rules::rules::Rules;
 
 /// Whether one good move is enough with `left` half-moves left.
-pub fn seeking(selfmate: bool, left: usize) -> bool
+pub(crate) fn seeking(selfmate: bool, left: usize) -> bool
     ensures { result ≡ seeks selfmate left }
 {
     if selfmate {
@@ -191,7 +191,7 @@ fn turn<R: Rules, const N: usize>(
 }
 
 /// The value of the board's position, whose `left` half-moves are tried on frames above those that are open.
-pub fn value_of<R: Rules, const N: usize>(
+pub(crate) fn value_of<R: Rules, const N: usize>(
     selfmate: bool,
     left: usize,
     board: &mut Board,

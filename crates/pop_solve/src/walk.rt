@@ -130,7 +130,7 @@ fn gives(way: Way, left: usize, mark: Mark) -> bool
 
 /// The count of opened frames once a frame has been opened that has `tried` half-moves below it. One with none isn't
 /// counted, and one that a test has opened was counted there.
-pub fn opened_by(opened: u64, tried: usize, tested: bool) -> u64
+pub(crate) fn opened_by(opened: u64, tried: usize, tested: bool) -> u64
     ensures more { 0 < tried → tested ≡ false → result ≡ min (opened + 1) (2 ^ 64 - 1) }
     ensures none { tried ≡ 0 → result ≡ opened }
     ensures tested { tested ≡ true → result ≡ opened }
@@ -206,7 +206,7 @@ fn next_of<R: Rules>(left: usize, place: &mut Moves<R>, board: &mut Board) -> Op
 }
 
 /// Takes back the move of a frame that is closed, unless it is the lowest.
-pub fn step_back<R: Rules>(depth: usize, top: Frame<R>, board: &mut Board)
+pub(crate) fn step_back<R: Rules>(depth: usize, top: Frame<R>, board: &mut Board)
     requires { 0 < depth → CameFrom R.rule top board.old }
     ensures lowest { depth ≡ 0 → board.new ≡ board.old }
     ensures before { (p : Position) → 0 < depth → CameFromAt R.rule top board.old p → board.new ≡ p }
@@ -218,7 +218,7 @@ pub fn step_back<R: Rules>(depth: usize, top: Frame<R>, board: &mut Board)
 
 /// One step of the walk: the next move of the top frame is played, or the frame is closed. Answers whether the path
 /// to the new top frame is given.
-pub fn step<R: Rules, const N: usize>(
+pub(crate) fn step<R: Rules, const N: usize>(
     way: Way,
     half_moves: usize,
     board: &mut Board,
