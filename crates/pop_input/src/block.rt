@@ -25,7 +25,7 @@ pub struct Block {
 
 impl Block {
     /// Nothing is read yet. In the first block the problem begins with BeginProblem.
-    pub fn new(first: bool) -> Block
+    pub(crate) fn new(first: bool) -> Block
         ensures fault { result.fault ≡ None }
         ensures begun { result.begun ≡ not first }
         ensures draft { result.draft ≡ state_of [] }
@@ -42,7 +42,7 @@ impl Block {
     }
 
     /// Reads a word, unless a fault has been met.
-    pub fn read(&mut self, word: &Word)
+    pub(crate) fn read(&mut self, word: &Word)
         requires { length word.now.bytes.items ≤ 160 }
         ensures fault { self.new.fault ≡ or_else self.old.fault (at_line word.now.line (fault_of self.old.begun self.old.draft word.now.bytes.items)) }
         ensures begun { self.new.fault ≡ None → self.new.begun ≡ true }
@@ -83,7 +83,7 @@ impl Block {
     }
 
     /// A word in this line was too long.
-    pub fn read_long(&mut self, line: u64)
+    pub(crate) fn read_long(&mut self, line: u64)
         ensures fault { self.new.fault ≡ or_else self.old.fault (Some (fault_at 3 line)) }
     {
         if self.fault.is_none() {
@@ -92,7 +92,7 @@ impl Block {
     }
 
     /// Takes a text line, which has no effect before the first problem.
-    pub fn note(&mut self, keyword: TextWord, text: Text)
+    pub(crate) fn note(&mut self, keyword: TextWord, text: Text)
         ensures fault { self.new.fault ≡ self.old.fault }
         ensures begun { self.new.begun ≡ self.old.begun }
         ensures draft { self.new.draft ≡ self.old.draft }
@@ -109,7 +109,7 @@ impl Block {
     }
 
     /// The item, where a closing word stands in this line.
-    pub fn closed(&self, line: u64, last: Last) -> Item
+    pub(crate) fn closed(&self, line: u64, last: Last) -> Item
         ensures { Closes self.now line last result }
     {
         if let Some(fault) = self.fault {
@@ -122,7 +122,7 @@ impl Block {
     }
 
     /// The item, where the input ends in this line.
-    pub fn ended(&self, line: u64) -> Item
+    pub(crate) fn ended(&self, line: u64) -> Item
         ensures { result ≡ ended_item self.now line }
     {
         match self.fault {

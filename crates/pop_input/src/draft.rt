@@ -62,7 +62,7 @@ impl Model for Draft {
 
 impl Draft {
     /// Nothing is said yet.
-    pub fn new() -> Draft
+    pub(crate) fn new() -> Draft
         ensures { result ≡ state_of [] }
     {
         Draft {
@@ -86,7 +86,7 @@ impl Draft {
     }
 
     /// Takes a word, or answers the number of its fault.
-    pub fn take(&mut self, word: &[u8]) -> Option<u8>
+    pub(crate) fn take(&mut self, word: &[u8]) -> Option<u8>
         requires { length word.now ≤ 160 }
         ensures number { result ≡ fault_in self.old word.now }
         ensures state { result ≡ None → self.new ≡ state_after self.old word.now }
@@ -348,7 +348,7 @@ impl Draft {
     /// 11 without men, 15 where the crossed square cannot be, 17 where the side to be mated has no king,
     /// 18 where the side that isn't to move is in check under the condition.
     #[tactic(auto, unfolding(crate::specs::Ends::end_fault_in))]
-    pub fn posed(&self, title: &Text, author: &Text) -> Result<Problem, u8>
+    pub(crate) fn posed(&self, title: &Text, author: &Text) -> Result<Problem, u8>
         ensures { MatchResult result
             (λ problem. (end_fault_in self.now ≡ None) × (problem ≡ posed_of self.now title.now author.now))
             (λ number. end_fault_in self.now ≡ Some number) }

@@ -55,7 +55,7 @@ pub enum TextWord {
 }
 
 /// The word in small letters.
-pub fn small_letters(word: &[u8]) -> ArrayVec<u8, 160>
+pub(crate) fn small_letters(word: &[u8]) -> ArrayVec<u8, 160>
     requires { length word.now ≤ 160 }
     ensures { result.items ≡ map to_ascii_lowercase word.now }
 {
@@ -92,7 +92,7 @@ fn section_of(small: &[u8]) -> Option<Section>
 
 /// The command of which the word is a short form.
 #[tactic(auto, unfolding(crate::specs::Names::command_of))]
-pub fn command_of(word: &[u8]) -> Option<Command>
+pub(crate) fn command_of(word: &[u8]) -> Option<Command>
     requires { length word.now ≤ 160 }
     ensures { result ≡ command_of word.now }
 {
@@ -114,7 +114,7 @@ pub fn command_of(word: &[u8]) -> Option<Command>
 
 /// The text word of which the word is a short form.
 #[tactic(auto, unfolding(crate::specs::Names::text_word_of))]
-pub fn text_word_of(word: &[u8]) -> Option<TextWord>
+pub(crate) fn text_word_of(word: &[u8]) -> Option<TextWord>
     requires { length word.now ≤ 160 }
     ensures value { result ≡ text_word_of word.now }
     ensures is { is_some result ≡ is_text_word word.now }
@@ -136,7 +136,7 @@ pub fn text_word_of(word: &[u8]) -> Option<TextWord>
 
 /// The condition of which the word is a short form.
 #[tactic(auto, unfolding(crate::specs::Names::condition_of))]
-pub fn condition_of(word: &[u8]) -> Option<Condition>
+pub(crate) fn condition_of(word: &[u8]) -> Option<Condition>
     requires { length word.now ≤ 160 }
     ensures { result ≡ condition_of word.now }
 {
@@ -168,7 +168,7 @@ fn awaited_of(small: &[u8]) -> Option<Awaited>
 
 /// The option of which the word is a short form.
 #[tactic(auto, unfolding(crate::specs::Names::option_of))]
-pub fn option_of(word: &[u8]) -> Option<OptionWord>
+pub(crate) fn option_of(word: &[u8]) -> Option<OptionWord>
     requires { length word.now ≤ 160 }
     ensures { result ≡ option_of word.now }
 {
@@ -190,7 +190,7 @@ pub fn option_of(word: &[u8]) -> Option<OptionWord>
 
 /// The colour of which the word is a short form.
 #[tactic(auto, unfolding(crate::specs::Names::colour_of))]
-pub fn colour_of(word: &[u8]) -> Option<Colour>
+pub(crate) fn colour_of(word: &[u8]) -> Option<Colour>
     requires { length word.now ≤ 160 }
     ensures { result ≡ colour_of word.now }
 {
@@ -209,7 +209,7 @@ pub fn colour_of(word: &[u8]) -> Option<Colour>
 
 /// The kind of men of which the byte is the letter.
 #[tactic(auto, unfolding(crate::specs::Names::kind_of))]
-pub fn kind_of(letter: u8) -> Option<Kind>
+pub(crate) fn kind_of(letter: u8) -> Option<Kind>
     ensures { result ≡ kind_of letter }
 {
     match letter.to_ascii_lowercase() {

@@ -25,7 +25,7 @@ pub enum Role {
 
 impl Place {
     /// What the word is at this place.
-    pub fn role_of(&self, word: &[u8]) -> Role
+    pub(crate) fn role_of(&self, word: &[u8]) -> Role
         requires { length word.now ≤ 160 }
         ensures { result ≡ role_of self.now word.now }
     {

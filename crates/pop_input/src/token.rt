@@ -24,7 +24,7 @@ pub enum Token {
 }
 
 /// The next word or text line.
-pub fn next_token<S: Source>(scanner: &mut Scanner, source: &mut S) -> Token
+pub(crate) fn next_token<S: Source>(scanner: &mut Scanner, source: &mut S) -> Token
     requires { scanner.old.end ≡ End.Open → S.failures source.old < greatest }
     ensures token { NextToken scanner.old scanner.new (S.remaining source.old) (S.remaining source.new) result }
     ensures within { scanner.new.used ≤ limit }

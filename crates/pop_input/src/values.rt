@@ -23,7 +23,7 @@ fn square_by(letter: u8, digit: u8) -> Option<Square>
 
 /// The squares of a word that is one or more squares and nothing else.
 #[tactic(auto, unfolding(crate::specs::Values::squares_of))]
-pub fn squares_of(word: &[u8]) -> Option<ArrayVec<Square, 80>>
+pub(crate) fn squares_of(word: &[u8]) -> Option<ArrayVec<Square, 80>>
     requires { length word.now ≤ 160 }
     ensures { option_map (λ squares. squares.items) result ≡ squares_of word.now }
 {
@@ -46,7 +46,7 @@ pub fn squares_of(word: &[u8]) -> Option<ArrayVec<Square, 80>>
 }
 
 /// The square of a word that is one square and nothing else.
-pub fn square_of(word: &[u8]) -> Option<Square>
+pub(crate) fn square_of(word: &[u8]) -> Option<Square>
     requires { length word.now ≤ 160 }
     ensures { result ≡ only (squares_of word.now) }
 {
@@ -57,7 +57,7 @@ pub fn square_of(word: &[u8]) -> Option<Square>
 }
 
 /// Whether the byte is a decimal digit.
-pub fn is_digit(byte: u8) -> bool
+pub(crate) fn is_digit(byte: u8) -> bool
     ensures { result ≡ is_digit byte }
 {
     byte >= b'0' && byte <= b'9'
@@ -65,7 +65,7 @@ pub fn is_digit(byte: u8) -> bool
 
 /// A limit of solutions in decimal digits, 1 to 4,000,000,000.
 #[tactic(auto, unfolding(crate::specs::Values::limit_of))]
-pub fn limit_of(word: &[u8]) -> Option<u32>
+pub(crate) fn limit_of(word: &[u8]) -> Option<u32>
     ensures value { result ≡ limit_of word.now }
     ensures range { IfSome result (λ limit. (1 ≤ limit) × (limit ≤ most_solutions)) }
 {
@@ -107,7 +107,7 @@ fn stated(form: Form, digit: u8) -> Option<Stipulation>
 
 /// The stipulation that the word states: `#n`, `s#n`, `h#n` or `h#n.5`.
 #[tactic(auto, unfolding(crate::specs::Values::stipulation_of))]
-pub fn stipulation_of(word: &[u8]) -> Option<Stipulation>
+pub(crate) fn stipulation_of(word: &[u8]) -> Option<Stipulation>
     requires { length word.now ≤ 160 }
     ensures value { result ≡ stipulation_of word.now }
     ensures range { is_stated result ≡ true }
