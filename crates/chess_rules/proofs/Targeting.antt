@@ -15,12 +15,12 @@ use Rattle.chess_core.specs.declared.man.Kind.TheVariants.{King, Queen, Rook, Bi
 use Rattle.chess_core.specs.declared.man.Man.{Man}
 use Rattle.chess_core.specs.declared.man.Move.{Move}
 use Rattle.chess_core.proofs.Words.{squares_both, squares_either, squares_not, squares_same}
-use Rattle.chess_rules.specs.Legal.{castles, forward, is_arrival_free, is_empty_at, is_promotion_right, may_castle, pawn_steps, pseudo, pseudo_of, second_rank}
+use Rattle.chess_rules.specs.Legal.{castles, forward, goes, is_arrival_free, is_empty_at, is_promotion_right, may_castle, pawn_steps, pseudo, pseudo_of, second_rank}
 use Rattle.chess_rules.specs.Places.{promotion_at, triple_at}
 use Rattle.chess_rules.specs.Play.{halfway, is_castling}
 use Rattle.chess_rules.specs.Reaches.{reaches, reaches_as}
 use Rattle.chess_rules.specs.RuleSet.{RuleSet}
-use Rattle.chess_rules.specs.Targets.{IsBarren, IsBarrenFrom, arrives, is_target, steps_to}
+use Rattle.chess_rules.specs.Targets.{IsBarren, IsBarrenFrom, arrives, is_aimed, is_target, steps_to}
 use Rattle.chess_rules.proofs.Bits.{word_empty, word_has}
 use Rattle.chess_rules.proofs.Ends.{cond-on, on_board}
 use Rattle.chess_rules.proofs.Pseudo.{IsMade, king_is_no_pawn, made, ways}
@@ -269,3 +269,33 @@ barren-origin p start number s a w h past f le here = elim (cases_lt (448 * s) n
 pub barren-none : (p : Position) (start number w : ℕ) → w ≡ side_of p.men p.turn → IsBarren p start number → find (λ q. bit_at w q == 1) (range_with_len (number / 448) (64 - number / 448)) ≡ None → IsBarren p start 28672
 barren-none p start number w h past none =
     barren-join p start number 28672 past (barren-missed p number 28672 w h (omega arith) (λ q lo hi. find_no (λ q. bit_at w q == 1) (number / 448) (64 - number / 448) q none lo (omega arith)))
+
+-- a man other than pawn and king reaches his targets
+reach_of_target : (a b c : Bool) → ((a || b) && c) ≡ true → b ≡ false → a ≡ true
+reach_of_target true b c h e = refl
+reach_of_target false true c h e = cc
+reach_of_target false false c h e = cc
+
+pub goes_on : (rule : RuleSet) (p : Position) (x : Man) (m : Move) → man_on p.men m.from ≡ Some x → is_target p.men x m.from m.to ≡ true → same_kind x.kind Pawn ≡ false → same_kind x.kind King ≡ false → true ≡ goes rule p x m
+unfolding is_target steps_to reaches
+goes_on rule p x m here aimed none king =
+    let no_step : steps_to x m.from m.to ≡ false = cond-false (same_kind x.kind Pawn) _ _ none ∙ cond-false (same_kind x.kind King) _ _ king in
+    let r : reaches_as p.men x.colour x.kind m.from m.to ≡ true = reach_of_target (reaches_as p.men x.colour x.kind m.from m.to) (steps_to x m.from m.to) _ aimed no_step in
+    let r2 : reaches p.men m.from m.to ≡ true = rw here r in
+    sym (cond-false (same_kind x.kind Pawn) _ _ none ∙ or_left _ _ r2)
+
+pub target_of : (p : Position) (x : Man) (m : Move) → man_on p.men m.from ≡ Some x → is_aimed p m ≡ true → is_target p.men x m.from m.to ≡ true
+unfolding is_aimed
+target_of p x m here h = rw here at h
+
+pub aimed_at : (p : Position) (x : Man) (s t n w : ℕ) → man_on p.men s ≡ Some x → w ≡ word (is_target p.men x s) → t < 64 → (bit_at w t == 1) ≡ true → n / 7 ≡ t → is_aimed p (record { from = s; to = n / 7; promo = promotion_at (n % 7) }) ≡ true
+unfolding is_aimed
+aimed_at p x s t n w here h small set at = rw (here, at) (sym (word_has (is_target p.men x s) w t h small) ∙ set)
+
+pub aimed_from : (p : Position) (s a : ℕ) → a < 448 → is_aimed p (record { from = s; to = a / 7; promo = promotion_at (a % 7) }) ≡ true → is_aimed p (triple_at (448 * s + a)) ≡ true
+unfolding triple_at
+aimed_from p s a lt h =
+    let from : (448 * s + a) / 448 ≡ s = omega arith in
+    let to : (448 * s + a) / 7 % 64 ≡ a / 7 = omega arith in
+    let promo : (448 * s + a) % 7 ≡ a % 7 = omega arith in
+    rw (from, to, promo) h

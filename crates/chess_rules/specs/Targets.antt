@@ -1,10 +1,11 @@
 -- Where a man could go at best, and stretches of triples in which no move is found (own).
-use Rattle.std.specs.Prelude.{◌≡◌, ℕ, ◌/◌, ◌%◌, ◌<◌, ◌≤◌, Bool, false, not, ◌&&◌, ◌||◌, ◌==◌, List, Option, if◌then◌else◌}
+use Rattle.std.specs.Prelude.{◌≡◌, ℕ, ◌/◌, ◌%◌, ◌<◌, ◌≤◌, Bool, false, not, ◌&&◌, ◌||◌, ◌==◌, List, Option, Some, None, if◌then◌else◌}
 use Rattle.chess_core.specs.Position.{Position, is_side, man_on, same_kind}
 use Rattle.chess_core.specs.Squares.{is_square, rank_of}
 use Rattle.chess_core.specs.Steps.{along, step_by}
 use Rattle.chess_core.specs.declared.man.Kind.TheVariants.{King, Pawn}
 use Rattle.chess_core.specs.declared.man.Man.{Man}
+use Rattle.chess_core.specs.declared.man.Move.{Move}
 use Rattle.chess_rules.specs.Legal.{forward, last_rank, pseudo}
 use Rattle.chess_rules.specs.Places.{promotion_at, triple_at}
 use Rattle.chess_rules.specs.Reaches.{reaches_as}
@@ -18,6 +19,14 @@ steps_to x s t =
 -- x reaches t from s or steps to it, and no man of its own stands there
 unfoldable pub is_target : List (Option Man) → Man → ℕ → ℕ → Bool
 is_target men x s t = (reaches_as men x.colour x.kind s t || steps_to x s t) && not (is_side (man_on men t) x.colour)
+
+abbrev pub aimed_of : List (Option Man) → Option Man → Move → Bool
+aimed_of men None m = false
+aimed_of men (Some x) m = is_target men x m.from m.to
+
+-- the move goes to a target of the man on its origin
+unfoldable pub is_aimed : Position → Move → Bool
+is_aimed p m = aimed_of p.men (man_on p.men m.from) m
 
 -- a pawn arrives on its last rank
 abbrev pub arrives : Man → ℕ → Bool

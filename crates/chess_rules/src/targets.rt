@@ -1,8 +1,9 @@
 //! Target words, and the next triple that may be a move.
-ghost use Rattle.std.specs.Prelude.{◌≡◌, ℕ, ◌<◌, ◌≤◌};
+ghost use Rattle.std.specs.Prelude.{◌≡◌, ℕ, ◌<◌, ◌≤◌, ◌/◌, ◌%◌, true};
 ghost use Rattle.chess_core.specs.Steps.{step_by};
 ghost use Rattle.chess_core.specs.Words.{word};
-ghost use Rattle.chess_rules.specs.Targets.{IsBarren, IsBarrenFrom, arrives, is_target, steps_to};
+ghost use Rattle.chess_rules.specs.Places.{promotion_at, triple_at};
+ghost use Rattle.chess_rules.specs.Targets.{IsBarren, IsBarrenFrom, arrives, is_aimed, is_target, steps_to};
 
 use crate::legal::{forward, last_rank};
 use crate::reach::reach_as;
@@ -65,6 +66,7 @@ fn next_from(board: &Board, from: Square, start: u16) -> u16
     ensures low { start ≤ result }
     ensures high { result ≤ 448 }
     ensures barren { IsBarrenFrom board.now from start result }
+    ensures aimed { result < 448 → is_aimed board.now (record { from = from; to = result / 7; promo = promotion_at (result % 7) }) ≡ true }
 {
     let Some(man) = board.man_at(from) else {
         return PER_ORIGIN;
@@ -89,6 +91,7 @@ pub(crate) fn next_triple(board: &Board, start: u16) -> u16
     ensures low { result < 28672 → start ≤ result }
     ensures high { result ≤ 28672 }
     ensures barren { IsBarren board.now start result }
+    ensures aimed { result < 28672 → is_aimed board.now (triple_at result) ≡ true }
 {
     let own = board.side(board.turn());
     let mut number = start;

@@ -2,7 +2,7 @@ use Rattle.std.proofs.Common.{◌≡◌, ◌+◌, ◌-◌, ◌*◌, ◌/◌, ◌
 use Rattle.std.specs.Int.{bit_at}
 use Rattle.chess_core.specs.Position.{man_on}
 use Rattle.chess_rules.specs.Targets.{IsBarrenFrom}
-use Rattle.chess_rules.proofs.Targeting.{from-empty, from-join, from-nobody, from-none, from-promoted, from-target, from-unpromoted}
+use Rattle.chess_rules.proofs.Targeting.{aimed_at, from-empty, from-join, from-nobody, from-none, from-promoted, from-target, from-unpromoted}
 use Rattle.chess_rules.proofs.Tests.{find_first}
 use Rattle.chess_rules.proofs.targets.next_from.Goals as goal
 
@@ -65,3 +65,33 @@ returns-clause-barren c =
     let x = c.in-Some.man in
     let here : man_on p.men c.args.from ≡ Some x = sym c.man_at.ensures ∙ c.in-Some.is in
     from-none p x c.args.from c.args.start c.loop-to.at c.targets-word.result here c.targets-word.ensures c.loop-to.invariant.barren (sym c.next_bit.ensures.value ∙ c.in_default-next_bit.is)
+
+pub returns-then-at-first-clause-aimed : goal.returns-then-at-first-clause-aimed
+returns-then-at-first-clause-aimed c lt =
+    let p = c.args.board.now in
+    let x = c.in-Some.man in
+    let t = c.in-Some-next_bit.to in
+    let here : man_on p.men c.args.from ≡ Some x = sym c.man_at.ensures ∙ c.in-Some.is in
+    let first = find_first (λ s. bit_at c.targets-word.result s == 1) (c.loop-to.at / 7) (64 - c.loop-to.at / 7) t (sym c.next_bit.ensures.value ∙ c.in-Some-next_bit.is) in
+    let same : (c.from-first.result * 7 + 1) / 7 ≡ t = omega (arith, first.low, c.from-first.ensures, c.index.ensures.value) in
+    aimed_at p x c.args.from t ((c.from-first.result * 7 + 1)) c.targets-word.result here c.targets-word.ensures (omega (arith, first.high, first.low)) first.here same
+
+pub returns-else-at-first-clause-aimed : goal.returns-else-at-first-clause-aimed
+returns-else-at-first-clause-aimed c lt =
+    let p = c.args.board.now in
+    let x = c.in-Some.man in
+    let t = c.in-Some-next_bit.to in
+    let here : man_on p.men c.args.from ≡ Some x = sym c.man_at.ensures ∙ c.in-Some.is in
+    let first = find_first (λ s. bit_at c.targets-word.result s == 1) (c.loop-to.at / 7) (64 - c.loop-to.at / 7) t (sym c.next_bit.ensures.value ∙ c.in-Some-next_bit.is) in
+    let same : c.loop-to.at / 7 ≡ t = omega (arith, first.low, c.from-first.ensures, c.index.ensures.value) in
+    aimed_at p x c.args.from t (c.loop-to.at) c.targets-word.result here c.targets-word.ensures (omega (arith, first.high, first.low)) first.here same
+
+pub returns-then-at-first-2-clause-aimed : goal.returns-then-at-first-2-clause-aimed
+returns-then-at-first-2-clause-aimed c lt =
+    let p = c.args.board.now in
+    let x = c.in-Some.man in
+    let t = c.in-Some-next_bit.to in
+    let here : man_on p.men c.args.from ≡ Some x = sym c.man_at.ensures ∙ c.in-Some.is in
+    let first = find_first (λ s. bit_at c.targets-word.result s == 1) (c.loop-to.at / 7) (64 - c.loop-to.at / 7) t (sym c.next_bit.ensures.value ∙ c.in-Some-next_bit.is) in
+    let same : (c.from-first.result * 7) / 7 ≡ t = omega (arith, first.low, c.from-first.ensures, c.index.ensures.value) in
+    aimed_at p x c.args.from t ((c.from-first.result * 7)) c.targets-word.result here c.targets-word.ensures (omega (arith, first.high, first.low)) first.here same

@@ -1,7 +1,7 @@
 use Rattle.std.proofs.Common.{◌≡◌, ◌+◌, ◌-◌, ◌*◌, ◌/◌, ◌==◌, sym, ◌∙◌, arith}
 use Rattle.std.specs.Int.{bit_at}
 use Rattle.chess_rules.specs.Targets.{IsBarren, IsBarrenFrom}
-use Rattle.chess_rules.proofs.Targeting.{barren-empty, barren-none, barren-origin}
+use Rattle.chess_rules.proofs.Targeting.{aimed_from, barren-empty, barren-none, barren-origin}
 use Rattle.chess_rules.proofs.Tests.{find_first}
 use Rattle.chess_rules.proofs.targets.next_triple.Goals as goal
 
@@ -37,3 +37,10 @@ loop-from-preserved c =
 pub returns-clause-barren : goal.returns-clause-barren
 returns-clause-barren c =
     barren-none c.args.board.now c.args.start c.loop-from.number c.side-own.result (rw c.turn.ensures at c.side-own.ensures) c.loop-from.invariant.barren (sym c.next_bit.ensures.value ∙ c.in_default.is)
+
+pub returns-then-at-lt-PER_ORIGIN-clause-aimed : goal.returns-then-at-lt-PER_ORIGIN-clause-aimed
+returns-then-at-lt-PER_ORIGIN-clause-aimed c lt =
+    let p = c.args.board.now in
+    let s = c.in-Some.from in
+    let at : c.from-first.result * 448 ≡ 448 * s = omega (arith, c.from-first.ensures, c.index.ensures.value) in
+    rw at (aimed_from p s c.next_from-at.result c.if-at-lt-PER_ORIGIN.true (c.next_from-at.ensures.aimed c.if-at-lt-PER_ORIGIN.true))
