@@ -186,6 +186,12 @@ taken_most new r (Some ys) items p most =
     let amount : length p.bytes + (0 + 0) ≡ new.at.used + length new.at.window = p.amount in
     omega (arith, length-take (length r - length ys) r)
 
+-- a source that has failed is not asked again
+pub failed_once : (e : End) (n m : ℕ) → m ≡ failures_after Open e n → m ≤ n + 1
+failed_once Open n m is = omega arith
+failed_once Ended n m is = omega arith
+failed_once Broken n m is = omega arith
+
 pub ended_most : (choice : Choice) (old new : Place) (had mid left before t now : Option (List ℕ)) (answer : Status) → Progress choice old had mid before t → Steps old new mid left t now (Ok (Finished answer)) → new.at.at.used + length new.at.at.window ≤ limit + 4096 → IfSome had (λ r. length (taken_of r left) ≤ 2 ^ 30 + 4096)
 ended_most choice old new None mid left before t now answer p q most = tt
 ended_most choice old new (Some r) mid left before t now answer p q most = taken_most new.at r left _ (reads_then before_all old.at new.at (Some r) mid left p.items [] p.reads q.0) most

@@ -14,13 +14,14 @@ use pop_text::source::Source;
 ///
 /// What is written is exactly the report of the input, which settings and input alone decide, or a beginning of it
 /// where the sink fails; then the status is `OutputFailed`, and nothing more is written. At most 2^30 + 4,096 bytes are
-/// taken from the source.
+/// taken from the source. A source or a sink that has failed isn't asked again.
 pub fn run<S: Source, W: Sink>(settings: &Settings, source: &mut S, sink: &mut W) -> Status
     requires source { S.failures source.old < greatest }
     requires sink { W.failures sink.old < greatest }
     ensures headline { IfSome (S.remaining source.old) (λ had.
         Runs (choice_of settings.now) (met (grew (S.failures source.old) (S.failures source.new)) had (S.remaining source.new))
         (W.taken sink.old) (W.taken sink.new) (grew (W.failures sink.old) (W.failures sink.new)) result) }
+    ensures once { (S.failures source.new ≤ S.failures source.old + 1) × (W.failures sink.new ≤ W.failures sink.old + 1) }
     ensures taken { IfSome (S.remaining source.old) (λ had. length (taken_of had (S.remaining source.new)) ≤ 2 ^ 30 + 4096) }
 {
     let mut session = Session::new(settings);

@@ -1,3 +1,4 @@
 //! What is only tested: worked rows, whose reports were written from the rules, and the layout of made events.
+mod devices;
 mod printing;
 mod rows;
