@@ -14,7 +14,7 @@ use pop_text::source::Source;
 ///
 /// What is written is exactly the report of the input, which settings and input alone decide, or a beginning of it
 /// where the sink fails; then the status is `OutputFailed`, and nothing more is written. At most 2^30 + 4,096 bytes are
-/// taken from the source. A source or a sink that has failed isn't asked again.
+/// taken from the source. Of the calls of each, source and sink, at most one fails.
 pub fn run<S: Source, W: Sink>(settings: &Settings, source: &mut S, sink: &mut W) -> Status
     requires source { S.failures source.old < greatest }
     requires sink { W.failures sink.old < greatest }
