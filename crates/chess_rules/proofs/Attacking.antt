@@ -1,13 +1,13 @@
 -- Attack looked for outward from the square.
-use Rattle.std.proofs.Common.{◌∷◌, ◌≡◌, ℕ, ◌+◌, ◌<◌, Bool, true, false, ◌&&◌, ◌||◌, ◌==◌, not, List, [], length, get_or, take, refl, sym, ap, ◌∙◌, arith, inl, inr, Option, Some, None}
+use Rattle.std.proofs.Common.{◌∷◌, ◌≡◌, ℕ, ◌+◌, ◌-◌, ◌<◌, Bool, true, false, ◌&&◌, ◌||◌, ◌==◌, not, List, [], length, get_or, take, refl, sym, ap, ◌∙◌, arith, inl, inr, Option, Some, None}
 use Rattle.std.specs.Int.{bit_at}
 use Rattle.std.specs.Int.Bits.{bit_or, bit_and}
 use Rattle.std.specs.List.{list_any}
 use Rattle.std.proofs.lemmas.Bool.{false≢true}
 use Rattle.std.proofs.lemmas.List.Folds.{list_any-append, list_any_more}
 use Rattle.chess_core.specs.Position.{is_man, is_side, man_on, other, same_colour, same_kind}
-use Rattle.chess_core.specs.Squares.{some_square}
-use Rattle.chess_core.specs.Steps.{diagonal_steps, knight_steps, pawn_captures, queen_steps, straight_steps}
+use Rattle.chess_core.specs.Squares.{is_square, some_square}
+use Rattle.chess_core.specs.Steps.{along, diagonal_steps, knight_steps, pawn_captures, queen_steps, straight_steps}
 use Rattle.chess_core.specs.Words.{squares_of, word}
 use Rattle.chess_core.specs.declared.man.Colour.{Colour}
 use Rattle.chess_core.specs.declared.man.Kind.{Kind}
@@ -16,11 +16,12 @@ use Rattle.chess_core.specs.declared.man.Man.{Man}
 use Rattle.chess_core.specs.declared.step.Step.{Step}
 use Rattle.chess_core.proofs.Kept.{same_kind-is}
 use Rattle.chess_core.proofs.Men.{same_colour-true}
-use Rattle.chess_core.proofs.Ranges.{some_square_true, some_square_false}
+use Rattle.chess_core.proofs.Ranges.{any_range_false, any_range_true, some_square_true, some_square_false}
 use Rattle.chess_core.proofs.Words.{squares_both, squares_either, squares_same}
 use Rattle.chess_rules.specs.Attacks.{attacked, faces, faces_its_like, paralysed, strikes}
-use Rattle.chess_rules.specs.Outward.{hopped_from}
-use Rattle.chess_rules.specs.Reaches.{leaps, reaches, reaches_as, reaches_of, rides}
+use Rattle.chess_rules.specs.Lines.{is_ahead, is_on_some}
+use Rattle.chess_rules.specs.Outward.{hopped_from, is_met}
+use Rattle.chess_rules.specs.Reaches.{is_clear, leaps, reaches, reaches_as, reaches_of, rides}
 use Rattle.chess_rules.specs.RuleSet.{RuleSet}
 use Rattle.chess_rules.proofs.Bits.{not_zero, word_empty, word_has}
 use Rattle.chess_rules.proofs.Flips.{diagonal-back, grasshopper-back, king-back, knight-back, nightrider-back, pawn-back, queen_rides-back, straight-back}
@@ -155,33 +156,78 @@ at_square men c (Some x) s t p q =
     (rook_reaches men x.colour x.kind s t p q) (bishop_reaches men x.colour x.kind s t p q) (queen_reaches men x.colour x.kind s t p q)
 
 pub met : (men : List (Option Man)) (c : Colour) (k : Kind) (t m n w : ℕ) (ds : List Step) → m ≡ squares_of men c k → n ≡ squares_of men c Queen → w ≡ word (λ s. list_any (rides men t s) ds)
-    → bit_and (bit_or m n) w ≡ word (λ s. (is_man (man_on men s) c k || is_man (man_on men s) c Queen) && list_any (rides men t s) ds)
-unfolding squares_of
+    → bit_and (bit_or m n) w ≡ word (is_met men c k ds t)
+unfolding squares_of is_met
 met men c k t m n w ds h i j =
     (λ a. bit_and (bit_or (h a) (i a)) (j a))
     ∙ (λ a. bit_and (squares_either (λ s. is_man (man_on men s) c k) (λ s. is_man (man_on men s) c Queen) a) (word (λ s. list_any (rides men t s) ds)))
     ∙ squares_both (λ s. is_man (man_on men s) c k || is_man (man_on men s) c Queen) (λ s. list_any (rides men t s) ds)
 
-pub met_none : (men : List (Option Man)) (c : Colour) (k : Kind) (t m n : ℕ) (ds : List Step) → m ≡ squares_of men c k → n ≡ squares_of men c Queen → bit_or m n ≡ 0
-    → 0 ≡ word (λ s. (is_man (man_on men s) c k || is_man (man_on men s) c Queen) && list_any (rides men t s) ds)
-unfolding squares_of
-met_none men c k t m n ds h i z =
-    let both : word (λ s. is_man (man_on men s) c k || is_man (man_on men s) c Queen) ≡ 0 =
-    sym ((λ a. bit_or (h a) (i a)) ∙ squares_either (λ s. is_man (man_on men s) c k) (λ s. is_man (man_on men s) c Queen)) ∙ z in
-    word_empty _ (λ s b. fails_first (is_man (man_on men s) c k || is_man (man_on men s) c Queen) (list_any (rides men t s) ds) (word_lacks (λ s. is_man (man_on men s) c k || is_man (man_on men s) c Queen) both s b))
+-- a rider gets to squares ahead alone
+rides_ahead : (men : List (Option Man)) (t s : ℕ) (d : Step) → is_ahead t d s ≡ false → rides men t s d ≡ false
+unfolding rides is_ahead
+rides_ahead men t s d h = elim (any_range_cases (λ k. is_square (along t d k) s) 1 7) [
+  | inl w ↦ absurd (false≢true (sym h ∙ any_range_true (λ k. is_square (along t d k) s) 1 7 w.0 w.1 w.2 w.3))
+  | inr none ↦ any_range_false (λ k. is_square (along t d k) s && is_clear men t d (k - 1)) 1 7 (λ k lo hi. fails_first (is_square (along t d k) s) _ (none k lo hi))
+]
 
-pub attackers_are : (men : List (Option Man)) (c : Colour) (t r b o : ℕ) → t < 64
-    → r ≡ word (λ s. (is_man (man_on men s) c Rook || is_man (man_on men s) c Queen) && list_any (rides men t s) straight_steps)
-    → b ≡ word (λ s. (is_man (man_on men s) c Bishop || is_man (man_on men s) c Queen) && list_any (rides men t s) diagonal_steps)
-    → o ≡ word (λ s. list_any (λ k. is_man (man_on men s) c k && reaches men s t) others)
-    → bit_or (bit_or r b) o ≡ word (λ s. is_side (man_on men s) c && reaches men s t)
-unfolding reaches
-attackers_are men c t r b o q h i j =
-    let rooks : ℕ → Bool = λ s. (is_man (man_on men s) c Rook || is_man (man_on men s) c Queen) && list_any (rides men t s) straight_steps in
-    let bishops : ℕ → Bool = λ s. (is_man (man_on men s) c Bishop || is_man (man_on men s) c Queen) && list_any (rides men t s) diagonal_steps in
-    let rest : ℕ → Bool = λ s. list_any (λ k. is_man (man_on men s) c k && reaches_of men (man_on men s) s t) others in
-    (λ a. bit_or (bit_or (h a) (i a)) (j a)) ∙ (λ a. bit_or (squares_either rooks bishops a) (word rest)) ∙ squares_either (λ s. rooks s || bishops s) rest
-    ∙ squares_same _ _ (λ s p. at_square men c (man_on men s) s t p q)
+neither : (a b c d : Bool) → (a || b) ≡ false → (a ≡ false → c ≡ false) → (b ≡ false → d ≡ false) → (c || d) ≡ false
+neither true b c d h f g = absurd (false≢true (sym h))
+neither false b c d h f g = rw (f refl) (g h)
+
+rides_some : (men : List (Option Man)) (t s : ℕ) (ds : List Step) → is_on_some ds t s ≡ false → list_any (rides men t s) ds ≡ false
+unfolding is_on_some
+rides_some men t s [] h = refl
+rides_some men t s (d ∷ ds) h = neither (is_ahead t d s) (list_any (λ d. is_ahead t d s) ds) (rides men t s d) (list_any (rides men t s) ds) h (rides_ahead men t s d) (rides_some men t s ds)
+
+apart : (m l r : Bool) → (m && l) ≡ false → (l ≡ false → r ≡ false) → (m && r) ≡ false
+apart true l r h f = f h
+apart false l r h f = refl
+
+pub met_none : (men : List (Option Man)) (c : Colour) (k : Kind) (t m n l : ℕ) (ds : List Step) → m ≡ squares_of men c k → n ≡ squares_of men c Queen → l ≡ word (is_on_some ds t) → bit_and (bit_or m n) l ≡ 0
+    → 0 ≡ word (is_met men c k ds t)
+unfolding squares_of is_met
+met_none men c k t m n l ds h i j z =
+    let rider : ℕ → Bool = λ s. is_man (man_on men s) c k || is_man (man_on men s) c Queen in
+    let lined : word (λ s. rider s && is_on_some ds t s) ≡ 0 =
+    sym ((λ a. bit_and (bit_or (h a) (i a)) (j a)) ∙ (λ a. bit_and (squares_either (λ s. is_man (man_on men s) c k) (λ s. is_man (man_on men s) c Queen) a) (word (is_on_some ds t))) ∙ squares_both rider (is_on_some ds t)) ∙ z in
+    word_empty _ (λ s b. apart (rider s) (is_on_some ds t s) (list_any (rides men t s) ds) (word_lacks (λ s. rider s && is_on_some ds t s) lined s b) (rides_some men t s ds))
+
+-- the square of a man of this colour and kind from which it reaches t
+abbrev pub comer : List (Option Man) → Colour → ℕ → Kind → ℕ → Bool
+comer men c t k s = is_man (man_on men s) c k && reaches men s t
+
+one_by_one : (x a b c d e : Bool) → (((((x || a) || b) || c) || d) || e) ≡ (x || (a || (b || (c || (d || (e || false))))))
+one_by_one true a b c d e = refl
+one_by_one false true b c d e = refl
+one_by_one false false true c d e = refl
+one_by_one false false false true d e = refl
+one_by_one false false false false true e = refl
+one_by_one false false false false false true = refl
+one_by_one false false false false false false = refl
+
+pub attackers_are : (men : List (Option Man)) (c : Colour) (t r b k n p g f : ℕ) → t < 64
+    → r ≡ word (is_met men c Rook straight_steps t)
+    → b ≡ word (is_met men c Bishop diagonal_steps t)
+    → k ≡ word (comer men c t King)
+    → n ≡ word (comer men c t Knight)
+    → p ≡ word (comer men c t Pawn)
+    → g ≡ word (comer men c t Grasshopper)
+    → f ≡ word (comer men c t Nightrider)
+    → bit_or (bit_or (bit_or (bit_or (bit_or (bit_or r b) k) n) p) g) f ≡ word (λ s. is_side (man_on men s) c && reaches men s t)
+unfolding reaches is_met
+attackers_are men c t r b k n p g f q hr hb hk hn hp hg hf =
+    let rook : ℕ → Bool = is_met men c Rook straight_steps t in
+    let bishop : ℕ → Bool = is_met men c Bishop diagonal_steps t in
+    let by : Kind → ℕ → Bool = comer men c t in
+    (λ a. bit_or (bit_or (bit_or (bit_or (bit_or (bit_or (hr a) (hb a)) (hk a)) (hn a)) (hp a)) (hg a)) (hf a))
+    ∙ (λ a. bit_or (bit_or (bit_or (bit_or (bit_or (squares_either rook bishop a) (word (by King))) (word (by Knight))) (word (by Pawn))) (word (by Grasshopper))) (word (by Nightrider)))
+    ∙ (λ a. bit_or (bit_or (bit_or (bit_or (squares_either (λ s. rook s || bishop s) (by King) a) (word (by Knight))) (word (by Pawn))) (word (by Grasshopper))) (word (by Nightrider)))
+    ∙ (λ a. bit_or (bit_or (bit_or (squares_either (λ s. (rook s || bishop s) || by King s) (by Knight) a) (word (by Pawn))) (word (by Grasshopper))) (word (by Nightrider)))
+    ∙ (λ a. bit_or (bit_or (squares_either (λ s. ((rook s || bishop s) || by King s) || by Knight s) (by Pawn) a) (word (by Grasshopper))) (word (by Nightrider)))
+    ∙ (λ a. bit_or (squares_either (λ s. (((rook s || bishop s) || by King s) || by Knight s) || by Pawn s) (by Grasshopper) a) (word (by Nightrider)))
+    ∙ squares_either (λ s. ((((rook s || bishop s) || by King s) || by Knight s) || by Pawn s) || by Grasshopper s) (by Nightrider)
+    ∙ squares_same _ _ (λ s z. one_by_one (rook s || bishop s) (by King s) (by Knight s) (by Pawn s) (by Grasshopper s) (by Nightrider s) ∙ at_square men c (man_on men s) s t z q)
 
 last_two : (a b c : Bool) → ((a && b) && c) ≡ ((a && c) && b)
 last_two true true true = refl

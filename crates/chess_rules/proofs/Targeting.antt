@@ -1,12 +1,13 @@
 -- No move is missed by going from target to target.
-use Rattle.std.proofs.Common.{◌≡◌, ℕ, ◌+◌, ◌-◌, ◌*◌, ◌/◌, ◌%◌, ◌<◌, ◌≤◌, Bool, true, false, ◌&&◌, ◌||◌, ◌==◌, not, List, Option, Some, None, find, refl, subst, sym, ap, ◌∙◌, arith, inl, inr}
+use Rattle.std.proofs.Common.{◌≡◌, ℕ, ◌+◌, ◌-◌, ◌*◌, ◌/◌, ◌%◌, ◌<◌, ◌≤◌, Bool, true, false, ◌&&◌, ◌||◌, ◌==◌, not, List, Option, Some, None, find, min, refl, subst, sym, ap, ◌∙◌, arith, inl, inr}
 use Rattle.std.specs.Int.{bit_at, bit_not, w64}
 use Rattle.std.specs.Int.Bits.{bit_and, bit_or}
 use Rattle.std.specs.List.{range_with_len}
-use Rattle.std.proofs.lemmas.Bool.{and_from, and_parts, cases_Bool, cases_eq, cases_lt, cond-true, cond-false, eqb-true, eq-eqb, or_cases, or_left, or_right}
+use Rattle.std.proofs.lemmas.Nat.Bits.{bit_at_and, bit_at-lt}
+use Rattle.std.proofs.lemmas.Bool.{agree_below_at, and_from, and_parts, cases_Bool, cases_eq, cases_lt, cond-true, cond-false, eqb-true, eq-eqb, or_cases, or_left, or_right}
 use Rattle.chess_core.specs.Position.{Position, is_side, man_on, same_colour, same_kind}
 use Rattle.chess_core.specs.Squares.{file_of, is_on_board, is_square, rank_of, square_at}
-use Rattle.chess_core.specs.Steps.{along, step_by}
+use Rattle.chess_core.specs.Steps.{along}
 use Rattle.chess_core.specs.Words.{side_of, word}
 use Rattle.chess_core.specs.declared.man.Colour.{Colour}
 use Rattle.chess_core.specs.declared.man.Colour.TheVariants.{White, Black}
@@ -16,6 +17,7 @@ use Rattle.chess_core.specs.declared.man.Man.{Man}
 use Rattle.chess_core.specs.declared.man.Move.{Move}
 use Rattle.chess_core.proofs.Words.{squares_both, squares_either, squares_not, squares_same}
 use Rattle.chess_rules.specs.Legal.{castles, forward, goes, is_arrival_free, is_empty_at, is_promotion_right, may_castle, pawn_steps, pseudo, pseudo_of, second_rank}
+use Rattle.chess_rules.specs.Lines.{is_advance, is_aside}
 use Rattle.chess_rules.specs.Places.{promotion_at, triple_at}
 use Rattle.chess_rules.specs.Play.{halfway, is_castling}
 use Rattle.chess_rules.specs.Reaches.{reaches, reaches_as}
@@ -35,17 +37,13 @@ target_word men x s r n o h i j =
     ∙ squares_both (λ t. reaches_as men x.colour x.kind s t || steps_to x s t) (λ t. not (is_side (man_on men t) x.colour))
 
 -- the words of a pawn's steps, of a king's in castling, and of the others
-pub pawn_word : (x : Man) (s n m : ℕ) → same_kind x.kind Pawn ≡ true → n ≡ word (λ t. is_square (along s (forward x.colour) 1) t) → m ≡ word (λ t. is_square (along s (forward x.colour) 2) t) → bit_or n m ≡ word (steps_to x s)
+pub pawn_word : (x : Man) (s n : ℕ) → same_kind x.kind Pawn ≡ true → n ≡ word (is_advance x.colour s) → n ≡ word (steps_to x s)
 unfolding steps_to
-pawn_word x s n m pawn h i =
-    (λ j. bit_or (h j) (i j)) ∙ squares_either (λ t. is_square (along s (forward x.colour) 1) t) (λ t. is_square (along s (forward x.colour) 2) t)
-    ∙ squares_same _ _ (λ t b. sym (cond-true (same_kind x.kind Pawn) _ _ pawn))
+pawn_word x s n pawn h = h ∙ squares_same _ _ (λ t b. sym (cond-true (same_kind x.kind Pawn) _ _ pawn))
 
-pub king_word : (x : Man) (s n m : ℕ) → same_kind x.kind Pawn ≡ false → same_kind x.kind King ≡ true → n ≡ word (λ t. is_square (along s (step_by 2 0 0 0) 1) t) → m ≡ word (λ t. is_square (along s (step_by 0 2 0 0) 1) t) → bit_or n m ≡ word (steps_to x s)
+pub king_word : (x : Man) (s n : ℕ) → same_kind x.kind Pawn ≡ false → same_kind x.kind King ≡ true → n ≡ word (is_aside s) → n ≡ word (steps_to x s)
 unfolding steps_to
-king_word x s n m none king h i =
-    (λ j. bit_or (h j) (i j)) ∙ squares_either (λ t. is_square (along s (step_by 2 0 0 0) 1) t) (λ t. is_square (along s (step_by 0 2 0 0) 1) t)
-    ∙ squares_same _ _ (λ t b. sym (cond-false (same_kind x.kind Pawn) _ _ none ∙ cond-true (same_kind x.kind King) _ _ king))
+king_word x s n none king h = h ∙ squares_same _ _ (λ t b. sym (cond-false (same_kind x.kind Pawn) _ _ none ∙ cond-true (same_kind x.kind King) _ _ king))
 
 pub other_word : (x : Man) (s : ℕ) → same_kind x.kind Pawn ≡ false → same_kind x.kind King ≡ false → 0 ≡ word (steps_to x s)
 unfolding steps_to
@@ -58,7 +56,7 @@ square_of f r t p e h =
     cond-on (is_on_board f && is_on_board r) t (8 * (r - 1) + (f - 1)) (and_from _ _ (on_board f (omega arith) (omega arith)) (on_board r (omega arith) (omega arith))) (omega arith) in
     ap (λ o. is_square o t) at ∙ eq-eqb t t refl
 
-castling_steps : (x : Man) (m : Move) → m.to < 64 → is_castling x m ≡ true → steps_to x m.from m.to ≡ true
+pub castling_steps : (x : Man) (m : Move) → m.to < 64 → is_castling x m ≡ true → steps_to x m.from m.to ≡ true
 unfolding steps_to along
 castling_steps x m small h =
     let c1 = and_parts _ _ h in
@@ -119,7 +117,7 @@ target_needed rule p x m small here h =
     let i = made rule p m x h here in
     and_from _ _ (goes_to rule p x m small i) (ap (λ c. not (is_side (man_on p.men m.to) c)) i.mine ∙ not_own (man_on p.men m.to) p.turn i.arrival)
 
-false_by : (b : Bool) → (b ≡ true → ⊥) → b ≡ false
+pub false_by : (b : Bool) → (b ≡ true → ⊥) → b ≡ false
 false_by true h = absurd (h refl)
 false_by false h = refl
 
@@ -132,7 +130,7 @@ promoted : (p : Position) (x : Man) (m : Move) (o : Option Kind) → is_promotio
 promoted p x m None h e = elim (cases_Bool (arrives x m.to)) [ inl y ↦ absurd (let bad : false ≡ true = ap not (sym y) ∙ h in cc) | inr n ↦ n ]
 promoted p x m (Some k) h e = cc
 
-unpromoted : (p : Position) (x : Man) (m : Move) (o : Option Kind) (k : Kind) → is_promotion_right p x m o ≡ true → o ≡ Some k → arrives x m.to ≡ true
+pub unpromoted : (p : Position) (x : Man) (m : Move) (o : Option Kind) (k : Kind) → is_promotion_right p x m o ≡ true → o ≡ Some k → arrives x m.to ≡ true
 unpromoted p x m None k h e = cc
 unpromoted p x m (Some j) k h e = (and_parts _ _ h).0
 
@@ -149,7 +147,7 @@ pub nobody_moves : (rule : RuleSet) (p : Position) (m : Move) → man_on p.men m
 unfolding pseudo
 nobody_moves rule p m h = ap (λ o. pseudo_of rule p o m) h
 
-own_moves : (p : Position) (rule : RuleSet) (m : Move) (o : Option Man) → man_on p.men m.from ≡ o → is_side o p.turn ≡ false → pseudo rule p m ≡ false
+pub own_moves : (p : Position) (rule : RuleSet) (m : Move) (o : Option Man) → man_on p.men m.from ≡ o → is_side o p.turn ≡ false → pseudo rule p m ≡ false
 own_moves p rule m None e h = nobody_moves rule p m e
 own_moves p rule m (Some x) e h =
     false_by (pseudo rule p m) (λ y. let c : x.colour ≡ p.turn = (made rule p m x y e).mine in let t : same_colour p.turn p.turn ≡ false = rw c at h in let u = same p.turn in cc) where
@@ -158,23 +156,38 @@ own_moves p rule m (Some x) e h =
       same Black = refl
 
 -- stretches of one origin
-pub from-empty : (p : Position) (s a : ℕ) → IsBarrenFrom p s a a
-from-empty p s a = record { fails = λ rule k lo hi. absurd (omega arith) }
+pub from-empty : (p : Position) (s z a : ℕ) → IsBarrenFrom p s z a a
+from-empty p s z a = record { fails = λ rule k lo hi on. absurd (omega (arith, lo, hi)) }
 
-pub from-nobody : (p : Position) (s a b : ℕ) → man_on p.men s ≡ None → IsBarrenFrom p s a b
-from-nobody p s a b h = record { fails = λ rule k lo hi. nobody_moves rule p (record { from = s; to = k / 7; promo = promotion_at (k % 7) }) h }
+pub from-nobody : (p : Position) (s z a b : ℕ) → man_on p.men s ≡ None → IsBarrenFrom p s z a b
+from-nobody p s z a b h = record { fails = λ rule k lo hi on. nobody_moves rule p (record { from = s; to = k / 7; promo = promotion_at (k % 7) }) h }
 
-pub from-join : (p : Position) (s a b c : ℕ) → IsBarrenFrom p s a b → IsBarrenFrom p s b c → IsBarrenFrom p s a c
-from-join p s a b c x y = record {
-  fails = λ rule k lo hi. elim (cases_lt k b) [ inl lt ↦ x.fails rule k lo lt | inr ge ↦ y.fails rule k ge hi ];
+pub from-join : (p : Position) (s z a b c : ℕ) → IsBarrenFrom p s z a b → IsBarrenFrom p s z b c → IsBarrenFrom p s z a c
+from-join p s z a b c x y = record {
+  fails = λ rule k lo hi on. elim (cases_lt k b) [ inl lt ↦ x.fails rule k lo lt on | inr ge ↦ y.fails rule k ge hi on ];
 }
 
+-- the squares of two words
+on_first : (a b i : ℕ) → (bit_at (bit_and a b) i == 1) ≡ true → (bit_at a i == 1) ≡ true
+on_first a b i h =
+    let both : bit_at (bit_and a b) i ≡ 1 = eqb-true _ _ h in
+    let e : bit_at (bit_and a b) i ≡ min (bit_at a i) (bit_at b i) = bit_at_and a b i in
+    eq-eqb _ _ (omega (arith, both, e, bit_at-lt a i, bit_at-lt b i))
+
+off_first : (a b i : ℕ) → (bit_at (bit_and a b) i == 1) ≡ false → (bit_at b i == 1) ≡ true → (bit_at a i == 1) ≡ false
+off_first a b i h on = false_by (bit_at a i == 1) (λ y.
+    let e : bit_at (bit_and a b) i ≡ min (bit_at a i) (bit_at b i) = bit_at_and a b i in
+    let one : bit_at a i ≡ 1 = eqb-true _ _ y in
+    let two : bit_at b i ≡ 1 = eqb-true _ _ on in
+    let both : (bit_at (bit_and a b) i == 1) ≡ true = eq-eqb _ _ (omega (arith, e, one, two)) in
+    cc)
+
 -- the squares from the first one on and before t aren't targets
-pub from-missed : (p : Position) (x : Man) (s a b w : ℕ) → man_on p.men s ≡ Some x → w ≡ word (is_target p.men x s) → b ≤ 448 → ((t : ℕ) → a / 7 ≤ t → t < (b + 6) / 7 → (bit_at w t == 1) ≡ false) → IsBarrenFrom p s a b
-from-missed p x s a b w here h le none = record {
-  fails = λ rule k lo hi.
-      no_target rule p x (record { from = s; to = k / 7; promo = promotion_at (k % 7) }) (omega arith) here
-      (sym (word_has (is_target p.men x s) w (k / 7) h (omega arith)) ∙ none (k / 7) (omega arith) (omega arith));
+pub from-missed : (p : Position) (x : Man) (s a b w z : ℕ) → man_on p.men s ≡ Some x → w ≡ word (is_target p.men x s) → b ≤ 448 → ((t : ℕ) → a / 7 ≤ t → t < (b + 6) / 7 → (bit_at (bit_and w z) t == 1) ≡ false) → IsBarrenFrom p s z a b
+from-missed p x s a b w z here h le none = record {
+  fails = λ rule k lo hi on.
+      no_target rule p x (record { from = s; to = k / 7; promo = promotion_at (k % 7) }) (omega (arith, hi, le)) here
+      (sym (word_has (is_target p.men x s) w (k / 7) h (omega (arith, hi, le))) ∙ off_first w z (k / 7) (none (k / 7) (omega (arith, lo)) (omega (arith, hi))) on);
 }
 
 some_promotion : (n : ℕ) → 1 ≤ n → n < 7 → (k : Kind) × (promotion_at n ≡ Some k)
@@ -196,18 +209,18 @@ some_promotion n lo hi = elim (cases_eq n 1) [
 ]
 
 -- on another rank than the last there is no promotion
-pub from-unpromoted : (p : Position) (x : Man) (s t a : ℕ) → man_on p.men s ≡ Some x → arrives x t ≡ false → 7 * t < a → IsBarrenFrom p s a (7 * t + 7)
-from-unpromoted p x s t a here h lt = record {
-  fails = λ rule k lo hi.
+pub from-unpromoted : (p : Position) (x : Man) (s z t a : ℕ) → man_on p.men s ≡ Some x → arrives x t ≡ false → 7 * t < a → IsBarrenFrom p s z a (7 * t + 7)
+from-unpromoted p x s z t a here h lt = record {
+  fails = λ rule k lo hi on.
       let to : k / 7 ≡ t = omega arith in
       let some = some_promotion (k % 7) (omega arith) (omega arith) in
       no_promotion_here rule p x (record { from = s; to = k / 7; promo = promotion_at (k % 7) }) some.0 here some.1 (rw to h);
 }
 
 -- on the last there is one
-pub from-promoted : (p : Position) (x : Man) (s t : ℕ) → man_on p.men s ≡ Some x → arrives x t ≡ true → IsBarrenFrom p s (7 * t) (7 * t + 1)
-from-promoted p x s t here h = record {
-  fails = λ rule k lo hi.
+pub from-promoted : (p : Position) (x : Man) (s z t : ℕ) → man_on p.men s ≡ Some x → arrives x t ≡ true → IsBarrenFrom p s z (7 * t) (7 * t + 1)
+from-promoted p x s z t here h = record {
+  fails = λ rule k lo hi on.
       let to : k / 7 ≡ t = omega arith in
       let first : k % 7 ≡ 0 = omega arith in
       promotion_missing rule p x (record { from = s; to = k / 7; promo = promotion_at (k % 7) }) here (rw first refl) (rw to h);
@@ -223,14 +236,17 @@ barren-join p a b c x y = record {
 }
 
 -- the triples of one origin among all
-pub barren-from : (p : Position) (s a b : ℕ) → b ≤ 448 → IsBarrenFrom p s a b → IsBarren p (448 * s + a) (448 * s + b)
+pub every_square_on : (t : ℕ) → t < 64 → (bit_at (bit_not w64 0) t == 1) ≡ true
+every_square_on t lt = agree_below_at (λ n. bit_at (bit_not w64 0) n == 1) (λ _. true) 64 t refl lt
+
+pub barren-from : (p : Position) (s a b : ℕ) → b ≤ 448 → IsBarrenFrom p s (bit_not w64 0) a b → IsBarren p (448 * s + a) (448 * s + b)
 unfolding triple_at
 barren-from p s a b le h = record {
   fails = λ rule k lo hi.
       let from : k / 448 ≡ s = omega arith in
       let to : k / 7 % 64 ≡ (k - 448 * s) / 7 = omega arith in
       let promo : k % 7 ≡ (k - 448 * s) % 7 = omega arith in
-      rw (from, to, promo) (h.fails rule (k - 448 * s) (omega arith) (omega arith));
+      rw (from, to, promo) (h.fails rule (k - 448 * s) (omega arith) (omega arith) (every_square_on ((k - 448 * s) / 7) (omega (arith, hi, le))));
 }
 
 -- on the squares from the first one on and before the next origin stands no man of the side to move
@@ -243,17 +259,17 @@ barren-missed p a b w h le none = record {
 }
 
 -- up to the first target
-pub from-target : (p : Position) (x : Man) (s start at t w : ℕ) → man_on p.men s ≡ Some x → w ≡ word (is_target p.men x s) → IsBarrenFrom p s start at → IsFirst (λ q. bit_at w q == 1) (at / 7) (64 - at / 7) t → IsBarrenFrom p s start (7 * t)
-from-target p x s start at t w here h past f =
-    from-join p s start at (7 * t) past (from-missed p x s at (7 * t) w here h (omega (arith, f.high, f.low)) (λ q lo hi. f.before q lo (omega arith)))
+pub from-target : (p : Position) (x : Man) (s start at t w z : ℕ) → man_on p.men s ≡ Some x → w ≡ word (is_target p.men x s) → IsBarrenFrom p s z start at → IsFirst (λ q. bit_at (bit_and w z) q == 1) (at / 7) (64 - at / 7) t → IsBarrenFrom p s z start (7 * t)
+from-target p x s start at t w z here h past f =
+    from-join p s z start at (7 * t) past (from-missed p x s at (7 * t) w z here h (omega (arith, f.high, f.low)) (λ q lo hi. f.before q lo (omega arith)))
 
 -- up to the end, where there is none
-pub from-none : (p : Position) (x : Man) (s start at w : ℕ) → man_on p.men s ≡ Some x → w ≡ word (is_target p.men x s) → IsBarrenFrom p s start at → find (λ q. bit_at w q == 1) (range_with_len (at / 7) (64 - at / 7)) ≡ None → IsBarrenFrom p s start 448
-from-none p x s start at w here h past none =
-    from-join p s start at 448 past (from-missed p x s at 448 w here h (omega arith) (λ q lo hi. find_no (λ q. bit_at w q == 1) (at / 7) (64 - at / 7) q none lo (omega arith)))
+pub from-none : (p : Position) (x : Man) (s start at w z : ℕ) → man_on p.men s ≡ Some x → w ≡ word (is_target p.men x s) → IsBarrenFrom p s z start at → find (λ q. bit_at (bit_and w z) q == 1) (range_with_len (at / 7) (64 - at / 7)) ≡ None → IsBarrenFrom p s z start 448
+from-none p x s start at w z here h past none =
+    from-join p s z start at 448 past (from-missed p x s at 448 w z here h (omega arith) (λ q lo hi. find_no (λ q. bit_at (bit_and w z) q == 1) (at / 7) (64 - at / 7) q none lo (omega arith)))
 
 -- up to a triple of the next origin
-pub barren-origin : (p : Position) (start number s a w : ℕ) → w ≡ side_of p.men p.turn → IsBarren p start number → IsFirst (λ q. bit_at w q == 1) (number / 448) (64 - number / 448) s → a ≤ 448 → IsBarrenFrom p s (number - 448 * s) a → IsBarren p start (448 * s + a)
+pub barren-origin : (p : Position) (start number s a w : ℕ) → w ≡ side_of p.men p.turn → IsBarren p start number → IsFirst (λ q. bit_at w q == 1) (number / 448) (64 - number / 448) s → a ≤ 448 → IsBarrenFrom p s (bit_not w64 0) (number - 448 * s) a → IsBarren p start (448 * s + a)
 barren-origin p start number s a w h past f le here = elim (cases_lt (448 * s) number) [
   | inl lt ↦
       let e : 448 * s + (number - 448 * s) ≡ number = omega arith in
@@ -288,9 +304,10 @@ pub target_of : (p : Position) (x : Man) (m : Move) → man_on p.men m.from ≡ 
 unfolding is_aimed
 target_of p x m here h = rw here at h
 
-pub aimed_at : (p : Position) (x : Man) (s t n w : ℕ) → man_on p.men s ≡ Some x → w ≡ word (is_target p.men x s) → t < 64 → (bit_at w t == 1) ≡ true → n / 7 ≡ t → is_aimed p (record { from = s; to = n / 7; promo = promotion_at (n % 7) }) ≡ true
+pub aimed_at : (p : Position) (x : Man) (s t n w z : ℕ) → man_on p.men s ≡ Some x → w ≡ word (is_target p.men x s) → t < 64 → (bit_at (bit_and w z) t == 1) ≡ true → n / 7 ≡ t → is_aimed p (record { from = s; to = n / 7; promo = promotion_at (n % 7) }) ≡ true
 unfolding is_aimed
-aimed_at p x s t n w here h small set at = rw (here, at) (sym (word_has (is_target p.men x s) w t h small) ∙ set)
+aimed_at p x s t n w z here h small set at =
+    rw (here, at) (sym (word_has (is_target p.men x s) w t h small) ∙ on_first w z t set)
 
 pub aimed_from : (p : Position) (s a : ℕ) → a < 448 → is_aimed p (record { from = s; to = a / 7; promo = promotion_at (a % 7) }) ≡ true → is_aimed p (triple_at (448 * s + a)) ≡ true
 unfolding triple_at

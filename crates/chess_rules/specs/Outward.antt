@@ -1,13 +1,21 @@
 -- Lines looked at from the square of arrival, and the ways along them (own).
-use Rattle.std.specs.Prelude.{ℕ, ◌-◌, Bool, ◌&&◌, List, Option}
+use Rattle.std.specs.Prelude.{ℕ, ◌-◌, Bool, ◌&&◌, ◌||◌, List, Option}
 use Rattle.std.specs.List.{list_any, list_all, range_with_len}
+use Rattle.chess_core.specs.Position.{is_man, man_on}
 use Rattle.chess_core.specs.Squares.{is_square}
 use Rattle.chess_core.specs.Steps.{along}
 use Rattle.chess_core.specs.declared.man.Man.{Man}
+use Rattle.chess_core.specs.declared.man.Colour.{Colour}
+use Rattle.chess_core.specs.declared.man.Kind.{Kind}
+use Rattle.chess_core.specs.declared.man.Kind.TheVariants.{Queen}
 use Rattle.chess_core.specs.declared.step.Step.{Step}
-use Rattle.chess_rules.specs.Reaches.{hops, is_occupied, is_vacant, leaps, rides}
-use Rattle.chess_rules.specs.declared.reach.Way.{Way}
-use Rattle.chess_rules.specs.declared.reach.Way.TheVariants.{Ride, Leap, Hop, HopBack}
+use Rattle.chess_rules.specs.Reaches.{hops, is_occupied, is_vacant, rides}
+use Rattle.chess_rules.specs.declared.lines.Way.{Way}
+use Rattle.chess_rules.specs.declared.lines.Way.TheVariants.{Ride, Hop, HopBack}
+
+-- a queen or a man of kind k, of this colour, stands on s, and a rider on t gets there by one of the steps
+unfoldable pub is_met : List (Option Man) → Colour → Kind → List Step → ℕ → ℕ → Bool
+is_met men c k ds t s = (is_man (man_on men s) c k || is_man (man_on men s) c Queen) && list_any (rides men t s) ds
 
 -- t is at least f steps from s, and every square from the f-th on is empty up to it
 unfoldable pub rides_on : ℕ → List (Option Man) → ℕ → ℕ → Step → Bool
@@ -21,6 +29,5 @@ hopped_from men t s d = is_occupied men (along t d 1) && rides_on 2 men t s d
 -- whether this way leads from s to t by this step
 abbrev pub goes_by : Way → List (Option Man) → ℕ → ℕ → Step → Bool
 goes_by Ride men s t d = rides men s t d
-goes_by Leap men s t d = leaps s t d
 goes_by Hop men s t d = hops men s t d
 goes_by HopBack men s t d = hopped_from men s t d

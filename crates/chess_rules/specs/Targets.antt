@@ -1,5 +1,6 @@
 -- Where a man could go at best, and stretches of triples in which no move is found (own).
-use Rattle.std.specs.Prelude.{◌≡◌, ℕ, ◌/◌, ◌%◌, ◌<◌, ◌≤◌, Bool, false, not, ◌&&◌, ◌||◌, ◌==◌, List, Option, Some, None, if◌then◌else◌}
+use Rattle.std.specs.Prelude.{◌≡◌, ℕ, ◌/◌, ◌%◌, ◌<◌, ◌≤◌, Bool, false, true, not, ◌&&◌, ◌||◌, ◌==◌, List, Option, Some, None, if◌then◌else◌}
+use Rattle.std.specs.Int.{bit_at}
 use Rattle.chess_core.specs.Position.{Position, is_side, man_on, same_kind}
 use Rattle.chess_core.specs.Squares.{is_square, rank_of}
 use Rattle.chess_core.specs.Steps.{along, step_by}
@@ -36,6 +37,6 @@ arrives x t = same_kind x.kind Pawn && rank_of t == last_rank x.colour
 pub record IsBarren (p : Position) (a b : ℕ) : Type 0 where
   pub fails : (rule : RuleSet) (k : ℕ) → a ≤ k → k < b → pseudo rule p (triple_at k) ≡ false
 
--- the same of the triples with origin s, numbered from its first
-pub record IsBarrenFrom (p : Position) (s a b : ℕ) : Type 0 where
-  pub fails : (rule : RuleSet) (k : ℕ) → a ≤ k → k < b → pseudo rule p (record { from = s; to = k / 7; promo = promotion_at (k % 7) }) ≡ false
+-- the same of the triples with origin s and an arrival in the word, numbered from the origin's first
+pub record IsBarrenFrom (p : Position) (s w a b : ℕ) : Type 0 where
+  pub fails : (rule : RuleSet) (k : ℕ) → a ≤ k → k < b → (bit_at w (k / 7) == 1) ≡ true → pseudo rule p (record { from = s; to = k / 7; promo = promotion_at (k % 7) }) ≡ false

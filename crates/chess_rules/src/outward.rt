@@ -1,23 +1,25 @@
 //! Attack looked for outward from the square.
-ghost use Rattle.std.specs.Prelude.{◌≡◌, ℕ, ◌&&◌, ◌||◌, ◌<◌, ◌==◌, not};
+ghost use Rattle.std.specs.Prelude.{◌≡◌, ℕ, ◌&&◌, ◌==◌, not};
 ghost use Rattle.std.specs.Int.{bit_at};
-ghost use Rattle.std.specs.List.{list_any};
 ghost use Rattle.chess_core.specs.Position.{is_man, is_side, man_on};
 ghost use Rattle.chess_core.specs.Squares.{some_square};
 ghost use Rattle.chess_core.specs.Words.{word};
 ghost use Rattle.chess_rules.specs.Attacks.{paralysed};
-ghost use Rattle.chess_rules.specs.Reaches.{reaches, reaches_as, rides};
-ghost use Rattle.chess_core.specs.declared.man.Kind.TheVariants.{Queen};
+ghost use Rattle.chess_rules.specs.Outward.{is_met};
+ghost use Rattle.chess_rules.specs.Reaches.{reaches, reaches_as};
+ghost use Rattle.chess_core.specs.Steps.{diagonal_steps, straight_steps};
+ghost use Rattle.chess_core.specs.declared.man.Kind.TheVariants.{Bishop, Rook};
 
-use crate::reach::{Way, by_steps};
+use crate::leaps::{king_leaps, knight_leaps, pawn_leaps};
+use crate::lines::{
+    KNIGHT_LINES, QUEEN_LINES, Way, by_lines, diagonal_lines, diagonal_rides, queen_rides,
+    straight_lines, straight_rides,
+};
 use crate::rules::Rules;
 use crate::words::next_bit;
 use chess_core::board::Board;
 use chess_core::man::{Colour, Kind};
 use chess_core::square::Square;
-use chess_core::step::{
-    Step, diagonal_steps, knight_steps, pawn_captures, queen_steps, straight_steps,
-};
 
 // The squares from which a man of this colour and kind could go to `to` if an enemy stood there.
 fn comes_as(board: &Board, colour: Colour, kind: Kind, to: Square) -> u64
@@ -25,14 +27,14 @@ fn comes_as(board: &Board, colour: Colour, kind: Kind, to: Square) -> u64
 {
     let _small = to.index();
     match kind {
-        Kind::King => by_steps(board, Way::Leap, to, &queen_steps()),
-        Kind::Queen => by_steps(board, Way::Ride, to, &queen_steps()),
-        Kind::Rook => by_steps(board, Way::Ride, to, &straight_steps()),
-        Kind::Bishop => by_steps(board, Way::Ride, to, &diagonal_steps()),
-        Kind::Knight => by_steps(board, Way::Leap, to, &knight_steps()),
-        Kind::Pawn => by_steps(board, Way::Leap, to, &pawn_captures(colour.other())),
-        Kind::Grasshopper => by_steps(board, Way::HopBack, to, &queen_steps()),
-        Kind::Nightrider => by_steps(board, Way::Ride, to, &knight_steps()),
+        Kind::King => king_leaps(to),
+        Kind::Queen => queen_rides(board, to),
+        Kind::Rook => straight_rides(board, to),
+        Kind::Bishop => diagonal_rides(board, to),
+        Kind::Knight => knight_leaps(to),
+        Kind::Pawn => pawn_leaps(colour.other(), to),
+        Kind::Grasshopper => by_lines(board, Way::HopBack, to, &QUEEN_LINES),
+        Kind::Nightrider => by_lines(board, Way::Ride, to, &KNIGHT_LINES),
     }
 }
 
@@ -47,27 +49,27 @@ pub(crate) fn reached_by(board: &Board, square: Square, colour: Colour, kind: Ki
     men & comes_as(board, colour, kind, square)
 }
 
-// The squares of the men of this colour and of one of the kinds that reach the square.
-fn reached_by_some(board: &Board, square: Square, colour: Colour, kinds: &[Kind]) -> u64
-    ensures { result ≡ word (λ s. list_any (λ k. is_man (man_on board.now.men s) colour k && reaches board.now.men s square) kinds.now) }
+// The squares of the queens and rooks of this colour that a rider on the square gets to along its file
+// and rank. Mostly no such man stands there, and no line is looked along.
+fn straight_attackers(board: &Board, square: Square, colour: Colour) -> u64
+    ensures { result ≡ word (is_met board.now.men colour Rook straight_steps square) }
 {
-    let mut word = 0u64;
-    for kind in kinds {
-        word |= reached_by(board, square, colour, *kind);
-    }
-    word
-}
-
-// The squares of the queens of this colour, and of its men of this kind, to which a rider on the square
-// gets by one of the steps.
-fn met_along(board: &Board, square: Square, colour: Colour, kind: Kind, steps: &[Step]) -> u64
-    ensures { result ≡ word (λ s. (is_man (man_on board.now.men s) colour kind || is_man (man_on board.now.men s) colour Queen) && list_any (rides board.now.men square s) steps.now) }
-{
-    let men = board.squares(colour, kind) | board.squares(colour, Kind::Queen);
-    if men == 0 {
+    let men = board.squares(colour, Kind::Rook) | board.squares(colour, Kind::Queen);
+    if men & straight_lines(square) == 0 {
         return 0;
     }
-    men & by_steps(board, Way::Ride, square, steps)
+    men & straight_rides(board, square)
+}
+
+// The squares of its queens and bishops that such a rider gets to along the diagonals.
+fn diagonal_attackers(board: &Board, square: Square, colour: Colour) -> u64
+    ensures { result ≡ word (is_met board.now.men colour Bishop diagonal_steps square) }
+{
+    let men = board.squares(colour, Kind::Bishop) | board.squares(colour, Kind::Queen);
+    if men & diagonal_lines(square) == 0 {
+        return 0;
+    }
+    men & diagonal_rides(board, square)
 }
 
 // The squares of the men of this colour that reach the square.
@@ -75,16 +77,13 @@ pub(crate) fn attackers(board: &Board, square: Square, colour: Colour) -> u64
     ensures { result ≡ word (λ s. is_side (man_on board.now.men s) colour && reaches board.now.men s square) }
 {
     let _small = square.index();
-    let others = [
-        Kind::King,
-        Kind::Knight,
-        Kind::Pawn,
-        Kind::Grasshopper,
-        Kind::Nightrider,
-    ];
-    met_along(board, square, colour, Kind::Rook, &straight_steps())
-        | met_along(board, square, colour, Kind::Bishop, &diagonal_steps())
-        | reached_by_some(board, square, colour, &others)
+    straight_attackers(board, square, colour)
+        | diagonal_attackers(board, square, colour)
+        | reached_by(board, square, colour, Kind::King)
+        | reached_by(board, square, colour, Kind::Knight)
+        | reached_by(board, square, colour, Kind::Pawn)
+        | reached_by(board, square, colour, Kind::Grasshopper)
+        | reached_by(board, square, colour, Kind::Nightrider)
 }
 
 // Whether a man on one of the word's squares isn't paralysed, or no man stands there.

@@ -1,47 +1,33 @@
 //! Target words, and the next triple that may be a move.
 ghost use Rattle.std.specs.Prelude.{◌≡◌, ℕ, ◌<◌, ◌≤◌, ◌/◌, ◌%◌, true};
-ghost use Rattle.chess_core.specs.Steps.{step_by};
 ghost use Rattle.chess_core.specs.Words.{word};
 ghost use Rattle.chess_rules.specs.Places.{promotion_at, triple_at};
 ghost use Rattle.chess_rules.specs.Targets.{IsBarren, IsBarrenFrom, arrives, is_aimed, is_target, steps_to};
 
-use crate::legal::{forward, last_rank};
+use crate::leaps::{pawn_advances, squares_aside};
+use crate::legal::last_rank;
 use crate::reach::reach_as;
-use crate::words::{next_bit, only};
+use crate::words::next_bit;
 use chess_core::board::Board;
 use chess_core::man::{Kind, Man};
 use chess_core::square::Square;
-use chess_core::step::Step;
 
 // How many triples have the same origin: 64 arrivals, 7 promotions with none.
-const PER_ORIGIN: u16 = 448;
+pub(crate) const PER_ORIGIN: u16 = 448;
 
 // How many triples there are.
 pub(crate) const TRIPLES: u16 = 28672;
 
 // The squares one and two steps ahead of a pawn, and two files beside a king.
-fn steps_to(man: Man, from: Square) -> u64
+pub(crate) fn steps_to(man: Man, from: Square) -> u64
     ensures { result ≡ word (steps_to man from) }
 {
     if man.kind.is(Kind::Pawn) {
-        let step = forward(man.colour);
-        only(from.along(step, 1)) | only(from.along(step, 2))
+        pawn_advances(man.colour, from)
     } else if man.kind.is(Kind::King) {
-        only(from.along(aside(2, 0), 1)) | only(from.along(aside(0, 2), 1))
+        squares_aside(from)
     } else {
         0
-    }
-}
-
-// A step along the rank.
-fn aside(right: u8, left: u8) -> Step
-    ensures { result ≡ step_by right left 0 0 }
-{
-    Step {
-        right,
-        left,
-        up: 0,
-        down: 0,
     }
 }
 
@@ -59,19 +45,20 @@ fn arrives(man: Man, to: Square) -> bool
     man.kind.is(Kind::Pawn) && to.rank() == last_rank(man.colour)
 }
 
-// The first triple with this origin that may be a move, from the one numbered `start` on, each
-// counted from the origin's first; 448 where there is none.
-fn next_from(board: &Board, from: Square, start: u16) -> u16
+// The first triple with this origin that may be a move to one of the word's squares, from the one
+// numbered `start` on, each counted from the origin's first; 448 where there is none.
+pub(crate) fn next_from(board: &Board, from: Square, squares: u64, start: u16) -> u16
     requires { start ≤ 448 }
     ensures low { start ≤ result }
     ensures high { result ≤ 448 }
-    ensures barren { IsBarrenFrom board.now from start result }
+    ensures barren { IsBarrenFrom board.now from squares start result }
     ensures aimed { result < 448 → is_aimed board.now (record { from = from; to = result / 7; promo = promotion_at (result % 7) }) ≡ true }
 {
     let Some(man) = board.man_at(from) else {
         return PER_ORIGIN;
     };
-    let word = targets(board, man, from);
+    let aimed = targets(board, man, from);
+    let word = aimed & squares;
     let mut at = start;
     while let Some(to) = next_bit(word, (at / 7) as u8) {
         let first = u16::from(to.index()) * 7;
@@ -97,7 +84,7 @@ pub(crate) fn next_triple(board: &Board, start: u16) -> u16
     let mut number = start;
     while let Some(from) = next_bit(own, (number / PER_ORIGIN) as u8) {
         let first = u16::from(from.index()) * PER_ORIGIN;
-        let at = next_from(board, from, number.saturating_sub(first));
+        let at = next_from(board, from, !0, number.saturating_sub(first));
         if at < PER_ORIGIN {
             return first + at;
         }

@@ -1,5 +1,5 @@
 //! Sets of squares as words of 64 bits, and their squares in order.
-ghost use Rattle.std.specs.Prelude.{◌≡◌, ℕ, ◌<◌, ◌≤◌, ◌-◌, ◌==◌, IfSome, find};
+ghost use Rattle.std.specs.Prelude.{◌≡◌, ℕ, ◌<◌, ◌≤◌, ◌-◌, ◌*◌, ◌^◌, ◌==◌, IfSome, find};
 ghost use Rattle.std.specs.Int.{bit_at, trailing_zeros, w64};
 ghost use Rattle.std.specs.List.{range_with_len};
 ghost use Rattle.chess_core.specs.Squares.{is_square};
@@ -40,9 +40,19 @@ pub(crate) fn next_bit(word: u64, from: u8) -> Option<Square>
 }
 
 // The square of the lowest bit.
-fn lowest(word: u64) -> Square
+pub(crate) fn lowest(word: u64) -> Square
     requires { 0 < word }
     ensures { result ≡ trailing_zeros w64 word }
 {
     Square::numbered(word.trailing_zeros() as u8)
+}
+
+// The square of the highest bit.
+pub(crate) fn highest(word: u64) -> Square
+    requires { 0 < word }
+    ensures low { 2 ^ result ≤ word }
+    ensures high { word < 2 * 2 ^ result }
+    ensures small { result < 64 }
+{
+    Square::numbered(word.ilog2() as u8)
 }

@@ -2,7 +2,9 @@
 use Rattle.std.proofs.Common.{◌≡◌, ℕ, zero, suc, ◌+◌, ◌-◌, ◌<◌, ◌≤◌, Bool, true, false, not, ◌&&◌, ◌||◌, cond, Option, Some, None, List, [], ◌∷◌, ◌++◌, length, take, drop, reverse, refl, sym, ◌∙◌, ap, arith, subst, ◌⊎◌, inl, inr, MatchOption, IfNone}
 use Rattle.std.proofs.lemmas.List.{reverse-append, length-reverse, length-drop, length-append, drop-append-le, take-append-le, take_all}
 use Rattle.std.proofs.lemmas.Bool.{cases_lt}
-use Rattle.std.proofs.lemmas.List.Sums.{sum_by-cons}
+use Rattle.std.proofs.lemmas.List.Folds.{list_any-append, list_all-append}
+use Rattle.std.proofs.lemmas.List.Sums.{sum_by-append, sum_by-cons}
+use Rattle.std.specs.List.{list_any, list_all, sum_by}
 use Rattle.chess_core.specs.Position.{Position}
 use Rattle.chess_core.specs.Triple.{Triple}
 use Rattle.chess_core.specs.WellFormed.{IsWellFormed}
@@ -10,19 +12,25 @@ use Rattle.chess_rules.proofs.Calls.{pseudo-from_legal}
 use Rattle.chess_rules.proofs.Stays.{after_well_formed}
 use Rattle.chess_rules.specs.Legal.{legal}
 use Rattle.chess_rules.specs.Loss.{Loss}
-use Rattle.chess_rules.specs.Places.{moves_behind}
+use Rattle.chess_rules.specs.Places.{moves_behind, moves_between}
 use Rattle.chess_rules.specs.Play.{undo_of}
 use Rattle.chess_rules.specs.RuleSet.{RuleSet}
 use Rattle.pop_solve.specs.Chess.{chess}
-use Rattle.pop_solve.proofs.Boards.{behind_start}
+use Rattle.chess_rules.proofs.Between.{cut_moves}
+use Rattle.pop_solve.specs.declared.frame.Stretch.{Stretch}
+use Rattle.pop_solve.specs.declared.frame.Stretch.TheVariants.{First}
 use Rattle.pop_solve.specs.Game.{walk_count}
 use Rattle.pop_solve.specs.Values.{seeks, join, value, joined}
-use Rattle.pop_solve.specs.Frames.{Frame, position, IsLinked, IsCut, IsTesting, deliver, pending, steps, steps_behind, work, CameFromAt, CameFrom, tests, Turns, Ends, opened, top_left, walk_behind, to_open}
+use Rattle.pop_solve.specs.Frames.{Frame, position, IsLinked, IsCut, IsTesting, deliver, pending, steps, steps_among, work, CameFromAt, CameFrom, tests, Turns, Ends, tested, top_left, walk_among, to_test, ahead, untried}
 use Rattle.pop_solve.specs.Shown.{Shown}
 
 -- the frame with its place moved on
 abbrev pub moved : Frame → ℕ → Frame
 moved f place = record f { place = place }
+
+-- the same in a test
+abbrev pub passed : Frame → ℕ → Stretch → Frame
+passed f place s = record f { place = place; stretch = s }
 
 join-decided : (s rest : Bool) → join s s rest ≡ s
 join-decided true rest = refl
@@ -32,34 +40,79 @@ join-undecided : (s rest : Bool) → join s (not s) rest ≡ rest
 join-undecided true rest = refl
 join-undecided false rest = refl
 
-module _ (rule : RuleSet) (selfmate : Bool) where
-  -- the value of the moves behind the place of a frame
-  abbrev pub rest : ℕ → Position → ℕ → Bool
-  rest left P place = joined selfmate (chess rule) left P (moves_behind rule P place)
+-- a position's moves with the killer first are all its moves, in another order
+module _ (rule : RuleSet) (q : Position) (k : ℕ) where
+  abbrev before : List Triple
+  before = moves_between rule q 0 (k - 1)
 
-  rest-none : (left : ℕ) (P : Position) (place : ℕ) → 0 < left → moves_behind rule P place ≡ [] → rest left P place ≡ not (seeks selfmate left)
+  abbrev here : List Triple
+  here = moves_between rule q (k - 1) k
+
+  abbrev behind : List Triple
+  behind = moves_behind rule q k
+
+  killer-first : ahead rule q First (k - 1) k ≡ here ++ (before ++ behind)
+  unfolding ahead
+  killer-first = refl
+
+  in-order : (chess rule).moves q ≡ before ++ (here ++ behind)
+  in-order = cut_moves rule q (k - 1) k (omega arith)
+
+  pub any-start : (test : Triple → Bool) → list_any test (ahead rule q First (k - 1) k) ≡ list_any test ((chess rule).moves q)
+  any-start test =
+      rw (killer-first, in-order, list_any-append test here (before ++ behind), list_any-append test before behind, list_any-append test before (here ++ behind), list_any-append test here behind) (swap (list_any test here) (list_any test before) (list_any test behind))
+    where
+      swap : (a b c : Bool) → (a || (b || c)) ≡ (b || (a || c))
+      swap true true c = refl
+      swap true false c = refl
+      swap false b c = refl
+
+  pub all-start : (test : Triple → Bool) → list_all test (ahead rule q First (k - 1) k) ≡ list_all test ((chess rule).moves q)
+  all-start test =
+      rw (killer-first, in-order, list_all-append test here (before ++ behind), list_all-append test before behind, list_all-append test before (here ++ behind), list_all-append test here behind) (swap (list_all test here) (list_all test before) (list_all test behind))
+    where
+      swap : (a b c : Bool) → (a && (b && c)) ≡ (b && (a && c))
+      swap true b c = refl
+      swap false true c = refl
+      swap false false c = refl
+
+  pub sum-start : (f : Triple → ℕ) → sum_by f (ahead rule q First (k - 1) k) ≡ sum_by f ((chess rule).moves q)
+  sum-start f =
+      rw (killer-first, in-order, sum_by-append f here (before ++ behind), sum_by-append f before behind, sum_by-append f before (here ++ behind), sum_by-append f here behind) (omega arith)
+
+module _ (rule : RuleSet) (selfmate : Bool) where
+  -- the value of some moves of a position
+  abbrev pub rest : ℕ → Position → List Triple → Bool
+  rest left P ms = joined selfmate (chess rule) left P ms
+
+  rest-none : (left : ℕ) (P : Position) (ms : List Triple) → 0 < left → ms ≡ [] → rest left P ms ≡ not (seeks selfmate left)
   unfolding joined
-  rest-none zero P place some e = absurd (omega (arith, some))
-  rest-none (suc t) P place some e = rw e (none (seeks selfmate (suc t)))
+  rest-none zero P ms some e = absurd (omega (arith, some))
+  rest-none (suc t) P ms some e = rw e (none (seeks selfmate (suc t)))
     where
       none : (s : Bool) → cond s false true ≡ not s
       none true = refl
       none false = refl
 
-  rest-next : (t : ℕ) (P : Position) (place next : ℕ) (m : Triple) → moves_behind rule P place ≡ m ∷ moves_behind rule P next → rest (suc t) P place ≡ join (seeks selfmate (suc t)) (value selfmate (chess rule) t ((chess rule).after P m)) (rest (suc t) P next)
+  rest-next : (t : ℕ) (P : Position) (ms more : List Triple) (m : Triple) → ms ≡ m ∷ more → rest (suc t) P ms ≡ join (seeks selfmate (suc t)) (value selfmate (chess rule) t ((chess rule).after P m)) (rest (suc t) P more)
   unfolding joined
-  rest-next t P place next m e = rw e (split (seeks selfmate (suc t)) _ _ _)
+  rest-next t P ms more m e = rw e (split (seeks selfmate (suc t)) _ _ _)
     where
       split : (s v a b : Bool) → cond s (v || a) (v && b) ≡ join s v (cond s a b)
       split true v a b = refl
       split false v a b = refl
+
+  rest-start : (t : ℕ) (q : Position) (k : ℕ) → rest t q (ahead rule q First (k - 1) k) ≡ rest t q ((chess rule).moves q)
+  unfolding joined
+  rest-start zero q k = refl
+  rest-start (suc t) q k = rw (any-start rule q k (λ m. value selfmate (chess rule) t ((chess rule).after q m)), all-start rule q k (λ m. value selfmate (chess rule) t ((chess rule).after q m))) refl
 
   -- a frame that its last answer decides, and one that it doesn't
   pub pending-decided : (p : Position) (f : Frame) (below : List Frame) (answer : Option Bool) → answer ≡ Some (seeks selfmate f.left) → pending rule selfmate p (f ∷ below) answer ≡ deliver rule selfmate p below (seeks selfmate f.left)
   unfolding pending deliver
   pending-decided p f below answer e = rw (e, join-decided) refl
 
-  pub pending-undecided : (p : Position) (f : Frame) (below : List Frame) (answer : Option Bool) → (answer ≡ None) ⊎ (answer ≡ Some (not (seeks selfmate f.left))) → pending rule selfmate p (f ∷ below) answer ≡ deliver rule selfmate p below (rest f.left (position rule p (f ∷ below)) f.place)
+  pub pending-undecided : (p : Position) (f : Frame) (below : List Frame) (answer : Option Bool) → (answer ≡ None) ⊎ (answer ≡ Some (not (seeks selfmate f.left))) → pending rule selfmate p (f ∷ below) answer ≡ deliver rule selfmate p below (rest f.left (position rule p (f ∷ below)) (untried rule (position rule p (f ∷ below)) f))
   unfolding pending deliver
   pending-undecided p f below answer (inl e) = rw e refl
   pending-undecided p f below answer (inr e) = rw (e, join-undecided) refl
@@ -74,53 +127,55 @@ module _ (rule : RuleSet) (selfmate : Bool) where
   deliver-none p [] v none = refl
   deliver-none p (g ∷ below) v none = absurd (omega (arith, none))
 
-  steps-start : (k : ℕ) (q : Position) → steps rule k q ≡ 1 + steps_behind rule k q 0
-  unfolding steps steps_behind
-  steps-start zero q = refl
-  steps-start (suc k) q = rw (behind_start rule q) refl
+  steps-start : (t : ℕ) (q : Position) (k : ℕ) → steps rule t q ≡ 1 + steps_among rule t q (ahead rule q First (k - 1) k)
+  unfolding steps steps_among
+  steps-start zero q k = refl
+  steps-start (suc t) q k = rw (sum-start rule q k (λ m. 1 + steps rule t ((chess rule).after q m))) refl
 
-  module _ (p : Position) (f : Frame) (below : List Frame) (next : ℕ) (m : Triple) (undo : Loss) (t : ℕ) (left : f.left ≡ suc t) (e : moves_behind rule (position rule p (f ∷ below)) f.place ≡ m ∷ moves_behind rule (position rule p (f ∷ below)) next) where
-    -- the value of the position after the move decides with the moves behind it
-    pub deliver-next : deliver rule selfmate p below (rest f.left (position rule p (f ∷ below)) f.place) ≡ deliver rule selfmate p (moved f next ∷ below) (value selfmate (chess rule) t ((chess rule).after (position rule p (f ∷ below)) m))
+  steps-next : (t : ℕ) (P : Position) (ms more : List Triple) (m : Triple) → ms ≡ m ∷ more → steps_among rule (suc t) P ms ≡ (1 + steps rule t ((chess rule).after P m)) + steps_among rule (suc t) P more
+  unfolding steps_among
+  steps-next t P ms more m e = rw e (sum_by-cons (λ x. 1 + steps rule t ((chess rule).after P x)) m more)
+
+  walk_count-start : (t : ℕ) (q : Position) (k : ℕ) → 0 < t → walk_count (chess rule) t q ≡ 1 + walk_among rule t q (ahead rule q First (k - 1) k)
+  unfolding walk_count walk_among
+  walk_count-start zero q k some = absurd (omega (arith, some))
+  walk_count-start (suc t) q k some = rw (sum-start rule q k (λ m. walk_count (chess rule) t ((chess rule).after q m))) refl
+
+  walk-next : (t : ℕ) (P : Position) (ms more : List Triple) (m : Triple) → ms ≡ m ∷ more → walk_among rule (suc t) P ms ≡ walk_count (chess rule) t ((chess rule).after P m) + walk_among rule (suc t) P more
+  unfolding walk_among
+  walk-next t P ms more m e = rw e (sum_by-cons (λ x. walk_count (chess rule) t ((chess rule).after P x)) m more)
+
+  module _ (p : Position) (f : Frame) (below : List Frame) (next : ℕ) (s : Stretch) (m : Triple) (undo : Loss) (k t : ℕ) (left : f.left ≡ suc t) (e : untried rule (position rule p (f ∷ below)) f ≡ m ∷ ahead rule (position rule p (f ∷ below)) s next f.killer) where
+    abbrev P : Position
+    P = position rule p (f ∷ below)
+
+    -- the value of the position after the move decides with the moves still untried
+    pub deliver-next : deliver rule selfmate p below (rest f.left P (untried rule P f)) ≡ deliver rule selfmate p (passed f next s ∷ below) (value selfmate (chess rule) t ((chess rule).after P m))
     unfolding deliver position
-    deliver-next = rw (left, rest-next t (position rule p (f ∷ below)) f.place next m e) refl
+    deliver-next = rw (left, rest-next t P (untried rule P f) (ahead rule P s next f.killer) m e) refl
 
-    pub deliver-open : (v : Bool) → v ≡ joined selfmate (chess rule) t ((chess rule).after (position rule p (f ∷ below)) m) ((chess rule).moves ((chess rule).after (position rule p (f ∷ below)) m)) → deliver rule selfmate p (moved f next ∷ below) v ≡ pending rule selfmate p (opened m undo f.shown t ∷ (moved f next ∷ below)) None
+    pub deliver-open : (v : Bool) → v ≡ joined selfmate (chess rule) t ((chess rule).after P m) ((chess rule).moves ((chess rule).after P m)) → deliver rule selfmate p (passed f next s ∷ below) v ≡ pending rule selfmate p (tested k m undo f.shown t ∷ (passed f next s ∷ below)) None
     unfolding pending position
-    deliver-open v d = rw (d, behind_start rule ((chess rule).after (position rule p (f ∷ below)) m)) refl
+    deliver-open v d = rw (d, sym (rest-start t ((chess rule).after P m) k)) refl
 
-    steps_behind-next : steps_behind rule (suc t) (position rule p (f ∷ below)) f.place ≡ (1 + steps rule t ((chess rule).after (position rule p (f ∷ below)) m)) + steps_behind rule (suc t) (position rule p (f ∷ below)) next
-    unfolding steps_behind
-    steps_behind-next = rw e (sum_by-cons (λ x. 1 + steps rule t ((chess rule).after (position rule p (f ∷ below)) x)) m (moves_behind rule (position rule p (f ∷ below)) next))
-
-    pub work-settled : work rule p (moved f next ∷ below) < work rule p (f ∷ below)
+    pub work-settled : work rule p (passed f next s ∷ below) < work rule p (f ∷ below)
     unfolding work position
-    work-settled = rw (left, steps_behind-next) (omega arith)
+    work-settled = rw (left, steps-next t P (untried rule P f) (ahead rule P s next f.killer) m e) (omega arith)
 
-    pub work-open : work rule p (opened m undo f.shown t ∷ (moved f next ∷ below)) < work rule p (f ∷ below)
+    pub work-open : work rule p (tested k m undo f.shown t ∷ (passed f next s ∷ below)) < work rule p (f ∷ below)
     unfolding work position
-    work-open = rw (left, steps_behind-next, steps-start t ((chess rule).after (position rule p (f ∷ below)) m)) (omega arith)
+    work-open = rw (left, steps-next t P (untried rule P f) (ahead rule P s next f.killer) m e, steps-start t ((chess rule).after P m) k) (omega arith)
 
-  walk_count-start : (k : ℕ) (q : Position) → 0 < k → walk_count (chess rule) k q ≡ 1 + walk_behind rule k q 0
-  unfolding walk_count walk_behind
-  walk_count-start zero q some = absurd (omega (arith, some))
-  walk_count-start (suc k) q some = rw (behind_start rule q) refl
+    pub open-settled : walk_count (chess rule) t ((chess rule).after P m) + to_test rule p (passed f next s ∷ below) ≤ to_test rule p (f ∷ below)
+    unfolding to_test position
+    open-settled = rw (left, walk-next t P (untried rule P f) (ahead rule P s next f.killer) m e) (omega arith)
 
-  walk_behind-next : (t : ℕ) (P : Position) (place next : ℕ) (m : Triple) → moves_behind rule P place ≡ m ∷ moves_behind rule P next → walk_behind rule (suc t) P place ≡ walk_count (chess rule) t ((chess rule).after P m) + walk_behind rule (suc t) P next
-  unfolding walk_behind
-  walk_behind-next t P place next m e = rw e (sum_by-cons (λ x. walk_count (chess rule) t ((chess rule).after P x)) m (moves_behind rule P next))
+    pub open-open : 0 < t → 1 + to_test rule p (tested k m undo f.shown t ∷ (passed f next s ∷ below)) ≤ to_test rule p (f ∷ below)
+    unfolding to_test position
+    open-open some = rw (left, walk-next t P (untried rule P f) (ahead rule P s next f.killer) m e, walk_count-start t ((chess rule).after P m) k some) (omega arith)
 
-  module _ (p : Position) (f : Frame) (below : List Frame) (next : ℕ) (m : Triple) (undo : Loss) (t : ℕ) (left : f.left ≡ suc t) (e : moves_behind rule (position rule p (f ∷ below)) f.place ≡ m ∷ moves_behind rule (position rule p (f ∷ below)) next) where
-    pub open-settled : to_open rule p (moved f next ∷ below) ≤ to_open rule p (f ∷ below)
-    unfolding to_open position
-    open-settled = rw (left, walk_behind-next t (position rule p (f ∷ below)) f.place next m e) (omega arith)
-
-    pub open-open : 0 < t → 1 + to_open rule p (opened m undo f.shown t ∷ (moved f next ∷ below)) ≤ to_open rule p (f ∷ below)
-    unfolding to_open position
-    open-open some = rw (left, walk_behind-next t (position rule p (f ∷ below)) f.place next m e, walk_count-start t ((chess rule).after (position rule p (f ∷ below)) m) some) (omega arith)
-
-  pub open-close : (p : Position) (f : Frame) (below : List Frame) → to_open rule p below ≤ to_open rule p (f ∷ below)
-  unfolding to_open
+  pub open-close : (p : Position) (f : Frame) (below : List Frame) → to_test rule p below ≤ to_test rule p (f ∷ below)
+  unfolding to_test
   open-close p f below = omega arith
 
   pub work-close : (p : Position) (f : Frame) (below : List Frame) → work rule p below < work rule p (f ∷ below)
@@ -162,19 +217,19 @@ module _ (rule : RuleSet) (p : Position) where
   lowest-back f [] board r none = r.board_at
   lowest-back f (g ∷ below) board r none = absurd (omega (arith, none))
 
-  pub testing-settled : (f : Frame) (next : ℕ) (below : List Frame) (board : Position) → IsTesting rule p (f ∷ below) board → IsTesting rule p (moved f next ∷ below) board
+  pub testing-settled : (f : Frame) (next : ℕ) (s : Stretch) (below : List Frame) (board : Position) → IsTesting rule p (f ∷ below) board → IsTesting rule p (passed f next s ∷ below) board
   unfolding IsLinked IsCut position
-  testing-settled f next [] board r = record { linked = tt; cut = r.cut; sound = r.sound; board_at = r.board_at }
-  testing-settled f next (g ∷ below) board r = record { linked = r.linked; cut = r.cut; sound = r.sound; board_at = r.board_at }
+  testing-settled f next s [] board r = record { linked = tt; cut = r.cut; sound = r.sound; board_at = r.board_at }
+  testing-settled f next s (g ∷ below) board r = record { linked = r.linked; cut = r.cut; sound = r.sound; board_at = r.board_at }
 
-  pub testing-open : (f : Frame) (next : ℕ) (m : Triple) (t : ℕ) (below : List Frame) (board : Position) → IsTesting rule p (f ∷ below) board → legal rule board m ≡ true → 0 < t → f.left ≡ suc t → IsTesting rule p (opened m (undo_of rule board m) f.shown t ∷ (moved f next ∷ below)) ((chess rule).after board m)
+  pub testing-open : (f : Frame) (next : ℕ) (s : Stretch) (m : Triple) (k t : ℕ) (below : List Frame) (board : Position) → IsTesting rule p (f ∷ below) board → legal rule board m ≡ true → 0 < t → f.left ≡ suc t → IsTesting rule p (tested k m (undo_of rule board m) f.shown t ∷ (passed f next s ∷ below)) ((chess rule).after board m)
   unfolding IsLinked IsCut position
-  testing-open f next m t below board r lawful some left =
-      let s = testing-settled f next below board r in
-      let at : board ≡ position rule p (moved f next ∷ below) = s.board_at in
+  testing-open f next s m k t below board r lawful some left =
+      let settled = testing-settled f next s below board r in
+      let at : board ≡ position rule p (passed f next s ∷ below) = settled.board_at in
       record {
-        linked = (rw (← at) s.sound, rw (← at) lawful, ap (λ b. undo_of rule b m) at, s.linked);
-        cut = (some, omega (arith, left), s.cut);
+        linked = (rw (← at) settled.sound, rw (← at) lawful, ap (λ b. undo_of rule b m) at, settled.linked);
+        cut = (some, omega (arith, left), settled.cut);
         sound = after_well_formed rule board m r.sound (pseudo-from_legal rule board m lawful);
         board_at = ap (λ b. (chess rule).after b m) at;
       }
@@ -237,7 +292,7 @@ module _ (rule : RuleSet) (selfmate : Bool) (floor : ℕ) (top : Frame) (old new
       | inr low ↦ rw (lowest low).0 tt
     ]
 
-  module _ (place : ℕ) (m : Triple) (board after : Position) (N : ℕ) (was : Option Bool) (last : List Frame) (some : 0 < top.left) (open_yet : (was ≡ None) ⊎ (was ≡ Some (not (seeks selfmate top.left)))) (next : moves_behind rule board top.place ≡ m ∷ moves_behind rule board place) (lawful : legal rule board m ≡ true) where
+  module _ (place : ℕ) (s : Stretch) (m : Triple) (k : ℕ) (board after : Position) (N : ℕ) (was : Option Bool) (last : List Frame) (some : 0 < top.left) (open_yet : (was ≡ None) ⊎ (was ≡ Some (not (seeks selfmate top.left)))) (next : untried rule board top ≡ m ∷ ahead rule board s place top.killer) (lawful : legal rule board m ≡ true) where
     -- what `descend` leaves
     abbrev pub Descends : Option Bool → Type 0
     Descends is =
@@ -245,67 +300,67 @@ module _ (rule : RuleSet) (selfmate : Bool) (floor : ℕ) (top : Frame) (old new
         ((0 < top.left - 1)
         × (value selfmate (chess rule) (top.left - 1) ((chess rule).after board m) ≡ joined selfmate (chess rule) (top.left - 1) ((chess rule).after board m) ((chess rule).moves ((chess rule).after board m)))
         × (after ≡ (chess rule).after board m)
-        × (last ≡ (new ++ moved top place ∷ []) ++ opened m (undo_of rule board m) top.shown (top.left - 1) ∷ []))
-        (λ v. (v ≡ value selfmate (chess rule) (top.left - 1) ((chess rule).after board m)) × (after ≡ board) × (last ≡ new ++ moved top place ∷ []))
+        × (last ≡ (new ++ passed top place s ∷ []) ++ tested k m (undo_of rule board m) top.shown (top.left - 1) ∷ []))
+        (λ v. (v ≡ value selfmate (chess rule) (top.left - 1) ((chess rule).after board m)) × (after ≡ board) × (last ≡ new ++ passed top place s ∷ []))
 
     left_is : top.left ≡ suc (top.left - 1)
     left_is = omega (arith, some)
 
-    mid_is : tests floor (new ++ moved top place ∷ []) ≡ moved top place ∷ tests floor new
-    mid_is = tests-push floor new (moved top place) low_new
+    mid_is : tests floor (new ++ passed top place s ∷ []) ≡ passed top place s ∷ tests floor new
+    mid_is = tests-push floor new (passed top place s) low_new
 
-    low_mid : floor ≤ length (new ++ moved top place ∷ [])
-    low_mid = omega (arith, low_new, length-append new (moved top place ∷ []))
+    low_mid : floor ≤ length (new ++ passed top place s ∷ [])
+    low_mid = omega (arith, low_new, length-append new (passed top place s ∷ []))
 
-    base_mid : take floor (new ++ moved top place ∷ []) ≡ take floor old
-    base_mid = take-append-le floor new (moved top place ∷ []) low_new ∙ base_new
+    base_mid : take floor (new ++ passed top place s ∷ []) ≡ take floor old
+    base_mid = take-append-le floor new (passed top place s ∷ []) low_new ∙ base_new
 
-    pub descend_turns : (is : Option Bool) → Descends is → (before count : ℕ) → MatchOption is (count ≤ before + 1) (λ _. count ≡ before) → (p : Position) → IsTesting rule p (tests floor old) board → Turns rule selfmate floor p old last was is after before count
+    pub descend_turns : (is : Option Bool) → Descends is → (before count : ℕ) → MatchOption is (count ≤ before + 1) (λ _. count ≤ before + walk_count (chess rule) (top.left - 1) ((chess rule).after board m)) → (p : Position) → IsTesting rule p (tests floor old) board → Turns rule selfmate floor p old last was is after before count
     descend_turns None d before count o p r =
         let at : board ≡ position rule p (top ∷ tests floor new) = (testing_top p board r).board_at in
-        let here : moves_behind rule (position rule p (top ∷ tests floor new)) top.place ≡ m ∷ moves_behind rule (position rule p (top ∷ tests floor new)) place = rw (← at) next in
-        let last_is : tests floor last ≡ opened m (undo_of rule board m) top.shown (top.left - 1) ∷ (moved top place ∷ tests floor new) = ap (tests floor) d.3 ∙ tests-push floor (new ++ moved top place ∷ []) _ low_mid ∙ ap (λ fs. opened m (undo_of rule board m) top.shown (top.left - 1) ∷ fs) mid_is in
+        let here : untried rule (position rule p (top ∷ tests floor new)) top ≡ m ∷ ahead rule (position rule p (top ∷ tests floor new)) s place top.killer = rw (← at) next in
+        let last_is : tests floor last ≡ tested k m (undo_of rule board m) top.shown (top.left - 1) ∷ (passed top place s ∷ tests floor new) = ap (tests floor) d.3 ∙ tests-push floor (new ++ passed top place s ∷ []) _ low_mid ∙ ap (λ fs. tested k m (undo_of rule board m) top.shown (top.left - 1) ∷ fs) mid_is in
         record {
-          testing = rw (last_is, d.2) (testing-open rule p top place m (top.left - 1) (tests floor new) board (testing_top p board r) lawful d.0 left_is);
+          testing = rw (last_is, d.2) (testing-open rule p top place s m k (top.left - 1) (tests floor new) board (testing_top p board r) lawful d.0 left_is);
           same = ap (λ fs. pending rule selfmate p fs was) popped
               ∙ pending-undecided rule selfmate p top (tests floor new) was open_yet
-              ∙ deliver-next rule selfmate p top (tests floor new) place m (undo_of rule board m) (top.left - 1) left_is here
-              ∙ deliver-open rule selfmate p top (tests floor new) place m (undo_of rule board m) (top.left - 1) left_is here _ (rw (← at) d.1)
+              ∙ deliver-next rule selfmate p top (tests floor new) place s m (undo_of rule board m) k (top.left - 1) left_is here
+              ∙ deliver-open rule selfmate p top (tests floor new) place s m (undo_of rule board m) k (top.left - 1) left_is here _ (rw (← at) d.1)
               ∙ ap (λ fs. pending rule selfmate p fs None) (sym last_is);
-          falls = rw (last_is, popped) (work-open rule selfmate p top (tests floor new) place m (undo_of rule board m) (top.left - 1) left_is here);
-          above = omega (arith, ap length d.3, length-append (new ++ moved top place ∷ []) (opened m (undo_of rule board m) top.shown (top.left - 1) ∷ []), low_mid);
-          base = ap (take floor) d.3 ∙ take-append-le floor (new ++ moved top place ∷ []) _ low_mid ∙ base_mid;
-          counted = rw (last_is, popped) (omega (arith, o, open-open rule selfmate p top (tests floor new) place m (undo_of rule board m) (top.left - 1) left_is here d.0));
+          falls = rw (last_is, popped) (work-open rule selfmate p top (tests floor new) place s m (undo_of rule board m) k (top.left - 1) left_is here);
+          above = omega (arith, ap length d.3, length-append (new ++ passed top place s ∷ []) (tested k m (undo_of rule board m) top.shown (top.left - 1) ∷ []), low_mid);
+          base = ap (take floor) d.3 ∙ take-append-le floor (new ++ passed top place s ∷ []) _ low_mid ∙ base_mid;
+          counted = rw (last_is, popped) (omega (arith, o, open-open rule selfmate p top (tests floor new) place s m (undo_of rule board m) k (top.left - 1) left_is here d.0));
         }
     descend_turns (Some v) d before count o p r =
         let at : board ≡ position rule p (top ∷ tests floor new) = (testing_top p board r).board_at in
-        let here : moves_behind rule (position rule p (top ∷ tests floor new)) top.place ≡ m ∷ moves_behind rule (position rule p (top ∷ tests floor new)) place = rw (← at) next in
-        let last_is : tests floor last ≡ moved top place ∷ tests floor new = ap (tests floor) d.2 ∙ mid_is in
+        let here : untried rule (position rule p (top ∷ tests floor new)) top ≡ m ∷ ahead rule (position rule p (top ∷ tests floor new)) s place top.killer = rw (← at) next in
+        let last_is : tests floor last ≡ passed top place s ∷ tests floor new = ap (tests floor) d.2 ∙ mid_is in
         record {
-          testing = rw (last_is, d.1) (testing-settled rule p top place (tests floor new) board (testing_top p board r));
+          testing = rw (last_is, d.1) (testing-settled rule p top place s (tests floor new) board (testing_top p board r));
           same = ap (λ fs. pending rule selfmate p fs was) popped
               ∙ pending-undecided rule selfmate p top (tests floor new) was open_yet
-              ∙ deliver-next rule selfmate p top (tests floor new) place m (undo_of rule board m) (top.left - 1) left_is here
-              ∙ ap (deliver rule selfmate p (moved top place ∷ tests floor new)) (rw (← at) (sym d.0))
-              ∙ deliver-some rule selfmate p (moved top place ∷ tests floor new) v (omega arith)
+              ∙ deliver-next rule selfmate p top (tests floor new) place s m (undo_of rule board m) k (top.left - 1) left_is here
+              ∙ ap (deliver rule selfmate p (passed top place s ∷ tests floor new)) (rw (← at) (sym d.0))
+              ∙ deliver-some rule selfmate p (passed top place s ∷ tests floor new) v (omega arith)
               ∙ ap (λ fs. pending rule selfmate p fs (Some v)) (sym last_is);
-          falls = rw (last_is, popped) (work-settled rule selfmate p top (tests floor new) place m (undo_of rule board m) (top.left - 1) left_is here);
-          above = omega (arith, ap length d.2, length-append new (moved top place ∷ []), low_new);
+          falls = rw (last_is, popped) (work-settled rule selfmate p top (tests floor new) place s m (undo_of rule board m) k (top.left - 1) left_is here);
+          above = omega (arith, ap length d.2, length-append new (passed top place s ∷ []), low_new);
           base = ap (take floor) d.2 ∙ base_mid;
-          counted = rw (last_is, popped) (omega (arith, o, open-settled rule selfmate p top (tests floor new) place m (undo_of rule board m) (top.left - 1) left_is here));
+          counted = rw (last_is, popped) (omega (arith, o, ap (λ b. walk_count (chess rule) (top.left - 1) ((chess rule).after b m)) at, open-settled rule selfmate p top (tests floor new) place s m (undo_of rule board m) k (top.left - 1) left_is here));
         }
 
     pub descend_room : (is : Option Bool) → Descends is → top_left (tests floor old) + length old ≤ N + 1 → top_left (tests floor last) + length last ≤ N + 1
     descend_room None d room =
-        let last_is : tests floor last ≡ opened m (undo_of rule board m) top.shown (top.left - 1) ∷ (moved top place ∷ tests floor new) = ap (tests floor) d.3 ∙ tests-push floor (new ++ moved top place ∷ []) _ low_mid ∙ ap (λ fs. opened m (undo_of rule board m) top.shown (top.left - 1) ∷ fs) mid_is in
+        let last_is : tests floor last ≡ tested k m (undo_of rule board m) top.shown (top.left - 1) ∷ (passed top place s ∷ tests floor new) = ap (tests floor) d.3 ∙ tests-push floor (new ++ passed top place s ∷ []) _ low_mid ∙ ap (λ fs. tested k m (undo_of rule board m) top.shown (top.left - 1) ∷ fs) mid_is in
         let t : top_left (tests floor old) ≡ top.left = ap top_left popped in
         let u : top_left (tests floor last) ≡ top.left - 1 = ap top_left last_is in
-        omega (arith, t, u, room, len, some, ap length d.3, length-append (new ++ moved top place ∷ []) (opened m (undo_of rule board m) top.shown (top.left - 1) ∷ []), length-append new (moved top place ∷ []))
+        omega (arith, t, u, room, len, some, ap length d.3, length-append (new ++ passed top place s ∷ []) (tested k m (undo_of rule board m) top.shown (top.left - 1) ∷ []), length-append new (passed top place s ∷ []))
     descend_room (Some v) d room =
-        let last_is : tests floor last ≡ moved top place ∷ tests floor new = ap (tests floor) d.2 ∙ mid_is in
+        let last_is : tests floor last ≡ passed top place s ∷ tests floor new = ap (tests floor) d.2 ∙ mid_is in
         let t : top_left (tests floor old) ≡ top.left = ap top_left popped in
         let u : top_left (tests floor last) ≡ top.left = ap top_left last_is in
-        omega (arith, t, u, room, len, ap length d.2, length-append new (moved top place ∷ []))
+        omega (arith, t, u, room, len, ap length d.2, length-append new (passed top place s ∷ []))
 
   -- what the top frame asks of the calls
   pub top_some : (p board : Position) → IsTesting rule p (tests floor old) board → 0 < top.left
@@ -318,11 +373,11 @@ module _ (rule : RuleSet) (selfmate : Bool) (floor : ℕ) (top : Frame) (old new
   pub decided_value : (p : Position) (was : Option Bool) → was ≡ Some (seeks selfmate top.left) → pending rule selfmate p (top ∷ tests floor new) was ≡ deliver rule selfmate p (tests floor new) (seeks selfmate top.left)
   decided_value p was e = pending-decided rule selfmate p top (tests floor new) was e
 
-  pub exhausted_value : (p board : Position) (was : Option Bool) → IsTesting rule p (tests floor old) board → (was ≡ None) ⊎ (was ≡ Some (not (seeks selfmate top.left))) → moves_behind rule board top.place ≡ [] → pending rule selfmate p (top ∷ tests floor new) was ≡ deliver rule selfmate p (tests floor new) (not (seeks selfmate top.left))
+  pub exhausted_value : (p board : Position) (was : Option Bool) → IsTesting rule p (tests floor old) board → (was ≡ None) ⊎ (was ≡ Some (not (seeks selfmate top.left))) → untried rule board top ≡ [] → pending rule selfmate p (top ∷ tests floor new) was ≡ deliver rule selfmate p (tests floor new) (not (seeks selfmate top.left))
   exhausted_value p board was r u e =
       let at : board ≡ position rule p (top ∷ tests floor new) = (testing_top p board r).board_at in
       pending-undecided rule selfmate p top (tests floor new) was u
-      ∙ ap (deliver rule selfmate p (tests floor new)) (rest-none rule selfmate top.left (position rule p (top ∷ tests floor new)) top.place (top_some p board r) (rw (← at) e))
+      ∙ ap (deliver rule selfmate p (tests floor new)) (rest-none rule selfmate top.left (position rule p (top ∷ tests floor new)) (untried rule (position rule p (top ∷ tests floor new)) top) (top_some p board r) (rw (← at) e))
 
 -- a call that leaves the board as it was
 pub testing_same : (rule : RuleSet) (p : Position) (frames : List Frame) (board now : Position) → IsTesting rule p frames board → now ≡ board → IsTesting rule p frames now
@@ -334,7 +389,7 @@ nil_of (x ∷ xs) e = absurd (omega (arith, e))
 
 -- a test of the position p, of the value v, over the frames `under`
 pub record IsUnderway (rule : RuleSet) (selfmate : Bool) (floor : ℕ) (p : Position) (N : ℕ) (v : Bool) (under frames : List Frame) (answer : Option Bool) (board : Position) (opened most : ℕ) : Type 0 where
-  pub counted : opened + to_open rule p (tests floor frames) ≤ most
+  pub counted : opened + to_test rule p (tests floor frames) ≤ most
   pub testing : IsTesting rule p (tests floor frames) board
   pub same : pending rule selfmate p (tests floor frames) answer ≡ v
   pub above : floor < length frames
@@ -342,16 +397,16 @@ pub record IsUnderway (rule : RuleSet) (selfmate : Bool) (floor : ℕ) (p : Posi
   pub base : take floor frames ≡ under
 
 module _ (rule : RuleSet) (selfmate : Bool) where
-  pub begins : (floor : ℕ) (p : Position) (N left : ℕ) (board : Position) (before count : ℕ) (by : Triple) (undo : Loss) (shown : Shown) (under frames : List Frame) → floor ≡ length under → frames ≡ under ++ opened by undo shown left ∷ [] → floor + left ≤ N → count ≤ before + 1 → board ≡ p → IsWellFormed board → (0 < left) × (value selfmate (chess rule) left p ≡ joined selfmate (chess rule) left p ((chess rule).moves p)) → IsUnderway rule selfmate floor p N (value selfmate (chess rule) left p) under frames None board count (before + walk_count (chess rule) left p)
-  unfolding pending deliver IsLinked IsCut position to_open
-  begins floor p N left board before count by undo shown under frames low put room more at sound d =
+  pub begins : (floor : ℕ) (p : Position) (N left k : ℕ) (board : Position) (before count : ℕ) (by : Triple) (undo : Loss) (shown : Shown) (under frames : List Frame) → floor ≡ length under → frames ≡ under ++ tested k by undo shown left ∷ [] → floor + left ≤ N → count ≤ before + 1 → board ≡ p → IsWellFormed board → (0 < left) × (value selfmate (chess rule) left p ≡ joined selfmate (chess rule) left p ((chess rule).moves p)) → IsUnderway rule selfmate floor p N (value selfmate (chess rule) left p) under frames None board count (before + walk_count (chess rule) left p)
+  unfolding pending deliver IsLinked IsCut position to_test
+  begins floor p N left k board before count by undo shown under frames low put room more at sound d =
       let none : tests floor under ≡ [] = nil_of (tests floor under) (omega (arith, length-tests floor under, low)) in
-      let one : tests floor frames ≡ opened by undo shown left ∷ [] = ap (tests floor) put ∙ tests-push floor under _ (omega (arith, low)) ∙ ap (λ fs. opened by undo shown left ∷ fs) none in
-      let n = length-append under (opened by undo shown left ∷ []) in
+      let one : tests floor frames ≡ tested k by undo shown left ∷ [] = ap (tests floor) put ∙ tests-push floor under _ (omega (arith, low)) ∙ ap (λ fs. tested k by undo shown left ∷ fs) none in
+      let n = length-append under (tested k by undo shown left ∷ []) in
       record {
-        counted = rw one (omega (arith, more, walk_count-start rule selfmate left p d.0));
+        counted = rw one (omega (arith, more, walk_count-start rule selfmate left p k d.0));
         testing = rw one (record { linked = tt; cut = d.0; sound = sound; board_at = at });
-        same = rw (one, behind_start rule p) (sym d.1);
+        same = rw (one, rest-start rule selfmate left p k) (sym d.1);
         above = omega (arith, ap length put, n, low);
         room = let t : top_left (tests floor frames) ≡ left = ap top_left one in omega (arith, t, ap length put, n, low, room);
         base = ap (take floor) put ∙ take-append-le floor under _ (omega (arith, low)) ∙ take_all floor under (omega (arith, low));

@@ -1,7 +1,7 @@
 -- The value of a position by what its tests say.
 use Rattle.std.proofs.Common.{◌≡◌, ℕ, zero, suc, ◌%◌, ◌<◌, Bool, true, false, ◌&&◌, ◌||◌, cond, refl, arith}
 use Rattle.std.specs.Prelude.{◌==◌}
-use Rattle.pop_solve.specs.Game.{Game, can_move}
+use Rattle.pop_solve.specs.Game.{Game, can_move, some_move}
 use Rattle.pop_solve.specs.Values.{seeks, value, joined}
 
 module _ {P M : Type 0} (selfmate : Bool) (game : Game P M) where
@@ -22,6 +22,13 @@ module _ {P M : Type 0} (selfmate : Bool) (game : Game P M) where
   unfolding value
   value-last zero p z e = e
   value-last (suc t) p z e = absurd (omega (arith, z))
+
+  -- White's last half-move
+  pub value-mate : (t : ℕ) (p : P) → t ≡ 1 → seeks selfmate t ≡ true → value selfmate game t p ≡ some_move game game.goal p
+  unfolding value
+  value-mate zero p one e = cc
+  value-mate (suc zero) p one e = rw e refl
+  value-mate (suc (suc t)) p one e = absurd (omega (arith, one))
 
   pub value-stuck : (t : ℕ) (p : P) → 0 < t → (t % 2 == 0 && game.goal p) ≡ false → (seeks selfmate t || can_move game p) ≡ false → value selfmate game t p ≡ false
   unfolding value

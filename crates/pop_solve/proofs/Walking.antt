@@ -1,15 +1,18 @@
 -- One step of a walk over frames.
-use Rattle.std.proofs.Common.{◌≡◌, ℕ, zero, suc, ◌+◌, ◌-◌, ◌*◌, ◌/◌, ◌%◌, ◌<◌, ◌≤◌, ◌^◌, min, Bool, true, false, not, ◌&&◌, ◌||◌, eqb, cond, List, [], ◌∷◌, ◌++◌, length, map, reverse, refl, sym, ◌∙◌, ap, append_assoc, arith, subst, ◌⊎◌, inl, inr}
+use Rattle.std.proofs.Common.{◌≡◌, ℕ, zero, suc, ◌+◌, ◌-◌, ◌*◌, ◌/◌, ◌%◌, ◌<◌, ◌≤◌, ◌^◌, min, Bool, true, false, not, ◌&&◌, ◌||◌, eqb, cond, List, [], ◌∷◌, ◌++◌, length, filter, map, reverse, Option, Some, None, MatchOption, refl, sym, ◌∙◌, ap, append_assoc, arith, subst, ◌⊎◌, inl, inr}
 use Rattle.std.proofs.lemmas.List.{map-append, reverse-append, length-reverse}
-use Rattle.std.proofs.lemmas.List.Sums.{sum_by-cons}
+use Rattle.std.proofs.lemmas.Bool.{cond-true, cond-false}
+use Rattle.std.proofs.lemmas.List.Sums.{sum_by-append, sum_by-cons}
+use Rattle.std.specs.List.{sum_by}
 use Rattle.std.proofs.lemmas.Bool.Decides.{nat_tests}
 use Rattle.chess_core.specs.Position.{Position}
 use Rattle.chess_core.specs.Triple.{Triple}
 use Rattle.chess_rules.proofs.Calls.{pseudo-from_legal}
+use Rattle.chess_rules.proofs.Places.{moves_behind-end}
 use Rattle.chess_rules.proofs.Stays.{after_well_formed}
-use Rattle.chess_rules.specs.Legal.{legal}
+use Rattle.chess_rules.specs.Legal.{is_goal, legal}
 use Rattle.chess_rules.specs.Loss.{Loss}
-use Rattle.chess_rules.specs.Places.{moves_behind}
+use Rattle.chess_rules.specs.Places.{IsNextMate, is_mating, mates_behind, moves_behind}
 use Rattle.chess_rules.specs.Play.{undo_of}
 use Rattle.chess_rules.specs.RuleSet.{RuleSet}
 use Rattle.pop_solve.specs.Chess.{chess, show}
@@ -17,7 +20,7 @@ use Rattle.pop_solve.proofs.Boards.{behind_start}
 use Rattle.pop_solve.specs.Game.{Game, walk_count}
 use Rattle.pop_solve.specs.Values.{seeks, value}
 use Rattle.pop_solve.specs.Frames.{Frame, position, IsLinked, CameFromAt, CameFrom, opened, opened as opened_frame, steps, steps_behind, walk_behind, to_open}
-use Rattle.pop_solve.specs.Walk.{fewest, first_from, open_length, follows, gives, goes_on, shown, path, IsShowing, to_come, IsRoomy, IsWalking, turns, IsCounted, IsWhites, Steps}
+use Rattle.pop_solve.specs.Walk.{fewest, first_from, open_length, follows, gives, goes_on, shown, path, GoesTo, IsShowing, to_come, IsRoomy, IsWalking, turns, IsCounted, IsWhites, Steps}
 use Rattle.pop_solve.specs.Shown.{Shown}
 use Rattle.pop_solve.specs.declared.walk.Way.{Way}
 use Rattle.pop_solve.proofs.Tests.{moved}
@@ -76,6 +79,14 @@ module _ {P M : Type 0} (game : Game P M) where
       most true keys n e = omega arith
       most false true n e = omega arith
       most false false n e = e
+
+goes_on-help : {P M : Type 0} (way : Way) (game : Game P M) (t : ℕ) (q : P) → way.help ≡ true → goes_on way game t q ≡ t
+unfolding goes_on
+goes_on-help way game t q a = rw a refl
+
+follows-help : {P M : Type 0} (way : Way) (game : Game P M) (root : Bool) (t : ℕ) (q : P) → way.help ≡ true → follows way game root t q ≡ true
+unfolding follows
+follows-help way game root t q a = rw a refl
 
 module _ (rule : RuleSet) (way : Way) where
   -- what the place of the top frame leaves as it is
@@ -189,6 +200,96 @@ module _ (rule : RuleSet) (way : Way) where
   unfolding to_open
   open-close p f below e = omega (arith, walk_behind-none f.left (position rule p (f ∷ below)) f.place e)
 
+  -- moves passed over that don't mate at the last half-move of help play
+  module _ (h : ℕ) (p : Position) (f : Frame) (below : List Frame) (rest : List Triple) (g : GoesTo rule way f.left (position rule p (f ∷ below)) f.place rest) where
+    abbrev P : Position
+    P = position rule p (f ∷ below)
+
+    abbrev later : List Frame
+    later = moved f g.mid ∷ below
+
+    ends : (low : Bool) (fuel k : ℕ) (m : Triple) (q : Position) (qs ms : List Triple) → map (λ line. m ∷ line) (shown way (chess rule) false k 0 q qs) ++ shown way (chess rule) low (suc fuel) 1 P ms ≡ shown way (chess rule) low (suc fuel) 1 P ms
+    unfolding shown
+    ends low fuel zero m q qs ms = refl
+    ends low fuel (suc k) m q qs ms = refl
+
+    gives-last : (q : Position) → way.help ≡ true → is_goal rule q ≡ false → gives way (chess rule) 0 q ≡ false
+    unfolding gives
+    gives-last q a misses = rw (a, misses) refl
+
+    skipped : (low : Bool) (fuel : ℕ) (m : Triple) (ms : List Triple) → way.help ≡ true → is_mating rule P m ≡ false → shown way (chess rule) low (suc fuel) 1 P (m ∷ ms) ≡ shown way (chess rule) low (suc fuel) 1 P ms
+    skipped low fuel m ms a misses =
+        let q = (chess rule).after P m in
+        shown-next low fuel 0 P m ms
+        ∙ (rw (follows-help way (chess rule) low 0 q a, gives-last q a misses, goes_on-help way (chess rule) 0 q a) (ends low fuel fuel m q ((chess rule).moves q) ms))
+
+    shown-over : (low : Bool) (fuel : ℕ) (over ms : List Triple) → way.help ≡ true → filter (is_mating rule P) over ≡ [] → shown way (chess rule) low fuel 1 P (over ++ ms) ≡ shown way (chess rule) low fuel 1 P ms
+    unfolding shown
+    shown-over low zero over ms a none = refl
+    shown-over low (suc fuel) [] ms a none = refl
+    shown-over low (suc fuel) (m ∷ over) ms a none = elim (cases (is_mating rule P m)) [
+      | inl misses ↦
+          let last : filter (is_mating rule P) over ≡ [] = sym (cond-false (is_mating rule P m) _ _ misses) ∙ none in
+          skipped low fuel m (over ++ ms) a misses ∙ shown-over low (suc fuel) over ms a last
+      | inr mates ↦ absurd (let bad : m ∷ filter (is_mating rule P) over ≡ [] = sym (cond-true (is_mating rule P m) _ _ mates) ∙ none in cc)
+    ]
+
+    come-skip : to_come rule way h p (f ∷ below) ≡ to_come rule way h p later
+    unfolding to_come position path
+    come-skip = elim g.none [
+      | inl e ↦ rw (g.passed, e) refl
+      | inr e ↦ rw (g.passed, e.1, shown-over (eqb (length below) 0) (h - length below) g.over (moves_behind rule P g.mid) e.0 e.2) refl
+    ]
+
+    fewer : (k : ℕ) → steps_behind rule k P g.mid ≤ steps_behind rule k P f.place
+    unfolding steps_behind
+    fewer zero = omega arith
+    fewer (suc k) =
+        let s = sum_by-append (λ m. 1 + steps rule k ((chess rule).after P m)) g.over (moves_behind rule P g.mid) in
+        rw g.passed (omega (arith, s))
+
+    turns-skip : turns rule h p later ≤ turns rule h p (f ∷ below)
+    unfolding turns position
+    turns-skip = let s = fewer (h - length below) in omega (arith, s)
+
+    same : (k : ℕ) → moves_behind rule P f.place ≡ moves_behind rule P g.mid → walk_behind rule k P f.place ≡ walk_behind rule k P g.mid
+    unfolding walk_behind
+    same zero e = refl
+    same (suc k) e = rw e refl
+
+    none_of : (ms : List Triple) → sum_by (λ m. walk_count (chess rule) 0 ((chess rule).after P m)) ms ≡ 0
+    unfolding walk_count
+    none_of [] = refl
+    none_of (m ∷ ms) = sum_by-cons (λ m. walk_count (chess rule) 0 ((chess rule).after P m)) m ms ∙ omega (arith, none_of ms)
+
+    nothing : (k place : ℕ) → k ≡ 1 → walk_behind rule k P place ≡ 0
+    unfolding walk_behind
+    nothing zero place e = cc
+    nothing (suc zero) place e = none_of (moves_behind rule P place)
+    nothing (suc (suc k)) place e = absurd (omega (arith, e))
+
+    open-skip : to_open rule p (f ∷ below) ≡ to_open rule p later
+    unfolding to_open position
+    open-skip = elim g.none [
+      | inl e ↦ let s : walk_behind rule f.left P f.place ≡ walk_behind rule f.left P g.mid = same f.left (g.passed ∙ ap (λ l. l ++ moves_behind rule P g.mid) e) in omega (arith, s)
+      | inr e ↦ omega (arith, nothing f.left f.place e.1, nothing f.left g.mid e.1)
+    ]
+
+    pub steps-skip : (new : List Frame) (board : Position) (before after : ℕ) (given : Bool) → Steps rule way h p later new board before after given → Steps rule way h p (f ∷ below) new board before after given
+    unfolding IsWhites
+    steps-skip new board before after given s = record {
+      walking = s.walking;
+      come = come-skip ∙ s.come;
+      deep = s.deep;
+      falls = omega (arith, s.falls, turns-skip);
+      opens = record {
+        whites = λ a b w. s.opens.whites a b w;
+        most = λ a b w. omega (arith, s.opens.most a b w, open-skip);
+        helped = λ a. omega (arith, s.opens.helped a, open-skip);
+        counted = λ a walk c. s.opens.counted a walk (let T : ℕ → Type 0 = λ n. IsCounted walk before n in subst T open-skip c);
+      };
+    }
+
 -- what undoes the top frame
 module _ (rule : RuleSet) (h : ℕ) (p : Position) where
   CameFrom-top : (f g : Frame) (below : List Frame) (board : Position) → IsWalking rule h p (f ∷ (g ∷ below)) board → CameFromAt rule f board (position rule p (g ∷ below))
@@ -266,14 +367,6 @@ whites-none selfmate m undo s tried below z e = rw z e
 pub goes_on-keys : {P M : Type 0} (way : Way) (game : Game P M) (t : ℕ) (q : P) → way.help ≡ false → way.variation ≡ false → seeks way.selfmate (t + 1) ≡ true → goes_on way game t q ≡ 0
 unfolding goes_on
 goes_on-keys way game t q a b c = rw (a, b, c) refl
-
-goes_on-help : {P M : Type 0} (way : Way) (game : Game P M) (t : ℕ) (q : P) → way.help ≡ true → goes_on way game t q ≡ t
-unfolding goes_on
-goes_on-help way game t q a = rw a refl
-
-follows-help : {P M : Type 0} (way : Way) (game : Game P M) (root : Bool) (t : ℕ) (q : P) → way.help ≡ true → follows way game root t q ≡ true
-unfolding follows
-follows-help way game root t q a = rw a refl
 
 both : (b : Bool) → b ≡ true → b ≡ false → ⊥
 both b t f = cc
@@ -365,6 +458,29 @@ module _ (rule : RuleSet) (way : Way) (h : ℕ) (p : Position) (f : Frame) (belo
           };
         }
 
+-- the same once moves that don't count have been passed over
+module _ (rule : RuleSet) (way : Way) (h : ℕ) (p : Position) (f : Frame) (below : List Frame) (board : Position) (r : IsWalking rule h p (f ∷ below) board) where
+  passed_to : (mid : ℕ) → IsWalking rule h p (moved f mid ∷ below) board
+  passed_to mid = walking-moved rule h p way f mid below board board r refl
+
+  pub skips-close : (after : Position) (count : ℕ) → (f.left ≡ 0) ⊎ GoesTo rule way f.left (position rule p (f ∷ below)) f.place [] → (length below ≡ 0 → after ≡ board) → ((q : Position) → 0 < length below → CameFromAt rule f board q → after ≡ q) → Steps rule way h p (f ∷ below) below after count count false
+  skips-close after count (inl e) lowest before = steps-close rule way h p f below board r after count (inl e) lowest before
+  skips-close after count (inr g) lowest before =
+      steps-skip rule way h p f below [] g below after count count false
+      (steps-close rule way h p (moved f g.mid) below board (passed_to g.mid) after count (inr (rw r.board_at g.here)) lowest before)
+
+  module _ (next : ℕ) (m : Triple) (t : ℕ) (left : f.left ≡ suc t) (g : GoesTo rule way f.left (position rule p (f ∷ below)) f.place (m ∷ moves_behind rule (position rule p (f ∷ below)) next)) where
+    skips : (new : List Frame) (after : Position) (opened opened2 : ℕ) (given : Bool) → Steps rule way h p (moved f g.mid ∷ below) new after opened opened2 given → Steps rule way h p (f ∷ below) new after opened opened2 given
+    skips new after opened opened2 given s = steps-skip rule way h p f below _ g new after opened opened2 given s
+
+    pub skips-pass : (after : Position) (opened opened2 : ℕ) → follows way (chess rule) (eqb (length below) 0) t ((chess rule).after board m) ≡ false → after ≡ board → (way.help ≡ false → way.variation ≡ false → seeks way.selfmate (t + 1) ≡ true → opened2 ≤ opened + walk_count (chess rule) t ((chess rule).after board m)) → Steps rule way h p (f ∷ below) (moved f next ∷ below) after opened opened2 false
+    skips-pass after opened opened2 b at keys =
+        skips _ after opened opened2 false (steps-pass rule way h p (moved f g.mid) below board (passed_to g.mid) next m t left (rw r.board_at g.here) after opened opened2 b at keys)
+
+    pub skips-enter : (after : Position) (opened opened2 : ℕ) → legal rule board m ≡ true → follows way (chess rule) (eqb (length below) 0) t ((chess rule).after board m) ≡ true → after ≡ (chess rule).after board m → (way.help ≡ true → 0 < t → opened2 ≡ min (opened + 1) (2 ^ 64 - 1)) → (way.help ≡ true → t ≡ 0 → opened2 ≡ opened) → (way.help ≡ false → way.variation ≡ false → seeks way.selfmate (t + 1) ≡ true → opened2 ≤ opened + walk_count (chess rule) t ((chess rule).after board m)) → Steps rule way h p (f ∷ below) (opened_frame m (undo_of rule board m) (show rule board m) (goes_on way (chess rule) t ((chess rule).after board m)) ∷ (moved f next ∷ below)) after opened opened2 (gives way (chess rule) t ((chess rule).after board m))
+    skips-enter after opened opened2 lawful b at more same keys =
+        skips _ after opened opened2 _ (steps-enter rule way h p (moved f g.mid) below board (passed_to g.mid) next m t left (rw r.board_at g.here) after opened opened2 lawful b at more same keys)
+
 -- a push, and the frames before a frame was taken off, seen from the top
 pub reverse-push : (xs : List Frame) (x : Frame) → reverse (xs ++ x ∷ []) ≡ x ∷ reverse xs
 reverse-push xs x = reverse-append xs (x ∷ [])
@@ -389,15 +505,17 @@ module _ (rule : RuleSet) (way : Way) (h : ℕ) (top : Frame) (old new : List Fr
   pub close_asks : (p board now : Position) (depth : ℕ) → IsWalking rule h p (reverse old) board → now ≡ board → depth ≡ length new → 0 < depth → CameFrom rule top now
   close_asks p board now depth r e d deep = CameFrom-deep rule h p top (reverse new) now (walking_top p board now r e) (omega (arith, depth_is, d, deep))
 
-  pub close_steps : (p board now after : Position) (depth count : ℕ) → IsWalking rule h p (reverse old) board → now ≡ board → depth ≡ length new → (top.left ≡ 0) ⊎ (moves_behind rule board top.place ≡ []) → (depth ≡ 0 → after ≡ now) → ((q : Position) → 0 < depth → CameFromAt rule top now q → after ≡ q) → Steps rule way h p (reverse old) (reverse new) after count count false
+  pub close_steps : (p board now after : Position) (depth count : ℕ) → IsWalking rule h p (reverse old) board → now ≡ board → depth ≡ length new → (top.left ≡ 0) ⊎ GoesTo rule way top.left board top.place [] → (depth ≡ 0 → after ≡ now) → ((q : Position) → 0 < depth → CameFromAt rule top now q → after ≡ q) → Steps rule way h p (reverse old) (reverse new) after count count false
   close_steps p board now after depth count r e d none lowest before =
-      rw (popped old new top taken) (steps-close rule way h p top (reverse new) now (walking_top p board now r e) after count (rw e none)
+      let r2 = walking_top p board now r e in
+      let T : Position → Type 0 = λ b. (top.left ≡ 0) ⊎ GoesTo rule way top.left b top.place [] in
+      rw (popped old new top taken) (skips-close rule way h p top (reverse new) now r2 after count (subst T (sym e ∙ r2.board_at) none)
       (λ z. lowest (omega (arith, depth_is, d, z))) (λ q z cf. before q (omega (arith, depth_is, d, z)) cf))
 
   pub room_left : (p board : Position) → IsWalking rule h p (reverse old) board → top.left + length new ≤ h
   room_left p board r = omega (arith, top_room rule h p top (reverse new) board (walking_top p board board r refl), depth_is)
 
-  module _ (place : ℕ) (m : Triple) (board now : Position) (depth : ℕ) (mid last : List Frame) (at : now ≡ board) (d : depth ≡ length new) (some : (0 < top.left) × (moves_behind rule board top.place ≡ m ∷ moves_behind rule board place) × (legal rule board m ≡ true)) (put : mid ≡ new ++ moved top place ∷ []) where
+  module _ (place : ℕ) (m : Triple) (board now : Position) (depth : ℕ) (mid last : List Frame) (at : now ≡ board) (d : depth ≡ length new) (some : (0 < top.left) × GoesTo rule way top.left board top.place (m ∷ moves_behind rule board place) × (legal rule board m ≡ true)) (put : mid ≡ new ++ moved top place ∷ []) where
     abbrev behind : ℕ
     behind = top.left - 1
 
@@ -418,14 +536,15 @@ module _ (rule : RuleSet) (way : Way) (h : ℕ) (top : Frame) (old new : List Fr
         let r2 = walking_top p board now r at in
         let flag2 : eqb (length (reverse new)) 0 ≡ root = zero_test _ _ (depth_is ∙ sym d) ∙ sym flag in
         let lawful : legal rule now m ≡ true = rw at some.2 in
-        let next : moves_behind rule now top.place ≡ m ∷ moves_behind rule now place = rw at some.1 in
+        let T : Position → Type 0 = λ b. GoesTo rule way top.left b top.place (m ∷ moves_behind rule b place) in
+        let next = subst T (sym at ∙ r2.board_at) some.1 in
         elim (cases (follows way (chess rule) root behind arrived)) [
           | inl passed ↦
               let x = passes passed in
-              rw (popped old new top taken, x.2, mid_is, x.0) (steps-pass rule way h p top (reverse new) now r2 place m behind left next after opened opened2 (rw flag2 passed) x.1 keys)
+              rw (popped old new top taken, x.2, mid_is, x.0) (skips-pass rule way h p top (reverse new) now r2 place m behind left next after opened opened2 (rw flag2 passed) x.1 keys)
           | inr entered ↦
               let x = enters entered in
-              rw (popped old new top taken, x.2, reverse-push mid, mid_is, x.0) (steps-enter rule way h p top (reverse new) now r2 place m behind left next after opened opened2 lawful (rw flag2 entered) x.1 more none keys)
+              rw (popped old new top taken, x.2, reverse-push mid, mid_is, x.0) (skips-enter rule way h p top (reverse new) now r2 place m behind left next after opened opened2 lawful (rw flag2 entered) x.1 more none keys)
         ]
 
 -- a frame is closed, whatever is walked
@@ -445,3 +564,26 @@ pub walking_back : (rule : RuleSet) (h : ℕ) (p board : Position) (frames : Lis
 unfolding position
 walking_back rule h p board [] r none = r.board_at
 walking_back rule h p board (f ∷ frames) r none = absurd (omega (arith, none))
+
+-- what the next move or the next mate says of the moves passed over
+module _ (rule : RuleSet) (way : Way) (left : ℕ) (p : Position) (place next : ℕ) where
+  abbrev pub Next : Option Triple → Type 0
+  Next o =
+      MatchOption o ((left ≡ 0) ⊎ GoesTo rule way left p place [])
+      (λ m. (0 < left) × GoesTo rule way left p place (m ∷ moves_behind rule p next) × (legal rule p m ≡ true))
+
+  pub next_any : (o : Option Triple) → 0 < left → MatchOption o (moves_behind rule p place ≡ []) (λ m. (moves_behind rule p place ≡ m ∷ moves_behind rule p next) × (legal rule p m ≡ true)) → Next o
+  next_any None some e = inr (record { mid = place; over = []; passed = refl; none = inl refl; here = e })
+  next_any (Some m) some e = (some, record { mid = place; over = []; passed = refl; none = inl refl; here = e.0 }, e.1)
+
+  append_none : (xs : List Triple) → xs ≡ xs ++ []
+  append_none [] = refl
+  append_none (x ∷ xs) = ap (λ l. x ∷ l) (append_none xs)
+
+  pub next_mating : (o : Option Triple) → way.help ≡ true → left ≡ 1 → MatchOption o (mates_behind rule p place ≡ []) (λ m. IsNextMate rule p place next m × (legal rule p m ≡ true)) → Next o
+  unfolding mates_behind
+  next_mating None help single e =
+      let last : moves_behind rule p 28672 ≡ [] = moves_behind-end rule p 28672 (omega arith) in
+      inr (record { mid = 28672; over = moves_behind rule p place; passed = append_none (moves_behind rule p place) ∙ ap (λ l. moves_behind rule p place ++ l) (sym last); none = inr (help, single, e); here = last })
+  next_mating (Some m) help single e =
+      (omega (arith, single), record { mid = next - 1; over = e.0.over; passed = e.0.passed; none = inr (help, single, e.0.none); here = e.0.here }, e.1)

@@ -1,27 +1,32 @@
 -- What the frames of a search stand for.
-use Rattle.std.specs.Prelude.{◌≡◌, ◌<◌, Bool, true, false, Option, Some, None, ℕ, zero, suc, ◌+◌, ◌≤◌, List, [], ◌∷◌, length, take, drop, reverse}
+use Rattle.std.specs.Prelude.{◌≡◌, ◌<◌, Bool, true, false, Option, Some, None, ℕ, zero, suc, ◌+◌, ◌-◌, ◌≤◌, List, [], ◌∷◌, ◌++◌, length, take, drop, reverse}
 use Rattle.std.specs.List.{sum_by}
 use Rattle.chess_core.specs.Position.{Position}
 use Rattle.chess_core.specs.Triple.{Triple}
 use Rattle.chess_core.specs.WellFormed.{IsWellFormed}
 use Rattle.chess_rules.specs.Legal.{legal}
 use Rattle.chess_rules.specs.Loss.{Loss}
-use Rattle.chess_rules.specs.Places.{moves_behind}
+use Rattle.chess_rules.specs.Places.{moves_behind, moves_between}
 use Rattle.chess_rules.specs.Play.{undo_of}
 use Rattle.chess_rules.specs.RuleSet.{RuleSet}
 use Rattle.pop_solve.specs.Chess.{chess}
 use Rattle.pop_solve.specs.Game.{walk_count}
 use Rattle.pop_solve.specs.Values.{seeks, join, joined}
 use Rattle.pop_solve.specs.Shown.{Shown}
+use Rattle.pop_solve.specs.declared.frame.Stretch.{Stretch}
+use Rattle.pop_solve.specs.declared.frame.Stretch.TheVariants.{First, Before, Behind}
 
 -- a frame: the place up to which the moves of its position have been tried, the move that led there and what it
--- destroyed, the half-moves that are tried there, and the move as it is shown
+-- destroyed, the half-moves that are tried there, and the move as it is shown; in a test the place on the killer, the
+-- move that is tried first, and the stretch of moves on which the place stands
 pub record Frame : Type 0 where
   pub place : ℕ
   pub by : Triple
   pub undo : Loss
   pub left : ℕ
   pub shown : Shown
+  pub killer : ℕ
+  pub stretch : Stretch
 
 -- Frames are listed from the top down. The position on the top frame, the lowest being at p
 unfoldable pub position : RuleSet → Position → List Frame → Position
@@ -39,12 +44,21 @@ IsLinked rule p (f ∷ (g ∷ below)) =
     × (f.undo ≡ undo_of rule (position rule p (g ∷ below)) f.by)
     × IsLinked rule p (g ∷ below)
 
+-- the moves that a test has still to try: on the first stretch the killer, then the moves before it, then those behind it
+unfoldable pub ahead : RuleSet → Position → Stretch → ℕ → ℕ → List Triple
+ahead rule p First place killer = moves_between rule p place killer ++ (moves_between rule p 0 (killer - 1) ++ moves_behind rule p killer)
+ahead rule p Before place killer = moves_between rule p place (killer - 1) ++ moves_behind rule p killer
+ahead rule p Behind place killer = moves_behind rule p place
+
+abbrev pub untried : RuleSet → Position → Frame → List Triple
+untried rule p f = ahead rule p f.stretch f.place f.killer
+
 -- what the value of the lowest position will be, once that of the top position is known
 unfoldable pub deliver : RuleSet → Bool → Position → List Frame → Bool → Bool
 deliver rule selfmate p [] v = v
 deliver rule selfmate p (f ∷ below) v =
     deliver rule selfmate p below (join (seeks selfmate f.left) v
-    (joined selfmate (chess rule) f.left (position rule p (f ∷ below)) (moves_behind rule (position rule p (f ∷ below)) f.place)))
+    (joined selfmate (chess rule) f.left (position rule p (f ∷ below)) (untried rule (position rule p (f ∷ below)) f)))
 
 -- the same before the next move of the top frame is tried: the answer for its last move may be known
 unfoldable pub pending : RuleSet → Bool → Position → List Frame → Option Bool → Bool
@@ -52,7 +66,7 @@ pending rule selfmate p [] answer = false
 pending rule selfmate p (f ∷ below) (Some v) = deliver rule selfmate p (f ∷ below) v
 pending rule selfmate p (f ∷ below) None =
     deliver rule selfmate p below
-    (joined selfmate (chess rule) f.left (position rule p (f ∷ below)) (moves_behind rule (position rule p (f ∷ below)) f.place))
+    (joined selfmate (chess rule) f.left (position rule p (f ∷ below)) (untried rule (position rule p (f ∷ below)) f))
 
 -- the steps that a test takes, which falls at each one
 unfoldable pub steps : RuleSet → ℕ → Position → ℕ
@@ -64,9 +78,15 @@ steps_behind rule zero p place = 0
 steps_behind rule (suc h) p place =
     sum_by (λ m. 1 + steps rule h ((chess rule).after p m)) (moves_behind rule p place)
 
+-- the same of some moves
+unfoldable pub steps_among : RuleSet → ℕ → Position → List Triple → ℕ
+steps_among rule zero p ms = 0
+steps_among rule (suc h) p ms = sum_by (λ m. 1 + steps rule h ((chess rule).after p m)) ms
+
 unfoldable pub work : RuleSet → Position → List Frame → ℕ
 work rule p [] = 0
-work rule p (f ∷ below) = 1 + steps_behind rule f.left (position rule p (f ∷ below)) f.place + work rule p below
+work rule p (f ∷ below) =
+    1 + steps_among rule f.left (position rule p (f ∷ below)) (untried rule (position rule p (f ∷ below)) f) + work rule p below
 
 -- the most frames that the moves behind the places can still open
 unfoldable pub walk_behind : RuleSet → ℕ → Position → ℕ → ℕ
@@ -78,6 +98,16 @@ unfoldable pub to_open : RuleSet → Position → List Frame → ℕ
 to_open rule p [] = 0
 to_open rule p (f ∷ below) =
     walk_behind rule f.left (position rule p (f ∷ below)) f.place + to_open rule p below
+
+-- the same of a test's frames
+unfoldable pub walk_among : RuleSet → ℕ → Position → List Triple → ℕ
+walk_among rule zero p ms = 0
+walk_among rule (suc h) p ms = sum_by (λ m. walk_count (chess rule) h ((chess rule).after p m)) ms
+
+unfoldable pub to_test : RuleSet → Position → List Frame → ℕ
+to_test rule p [] = 0
+to_test rule p (f ∷ below) =
+    walk_among rule f.left (position rule p (f ∷ below)) (untried rule (position rule p (f ∷ below)) f) + to_test rule p below
 
 -- from the top down each frame has a half-move to make, and one less than the frame below it
 unfoldable pub IsCut : List Frame → Type 0
@@ -118,17 +148,21 @@ pub record Turns (rule : RuleSet) (selfmate : Bool) (floor : ℕ) (p : Position)
   pub falls : work rule p (tests floor new) < work rule p (tests floor old)
   pub above : floor < length new
   pub base : take floor new ≡ take floor old
-  pub counted : after + to_open rule p (tests floor new) ≤ before + to_open rule p (tests floor old)
+  pub counted : after + to_test rule p (tests floor new) ≤ before + to_test rule p (tests floor old)
 
 pub record Ends (rule : RuleSet) (selfmate : Bool) (floor : ℕ) (p : Position) (old new : List Frame) (was : Option Bool) (board : Position) (before after : ℕ) (v : Bool) : Type 0 where
   pub value : pending rule selfmate p (tests floor old) was ≡ v
   pub back : board ≡ p
   pub base : new ≡ take floor old
-  pub counted : after ≤ before + to_open rule p (tests floor old)
+  pub counted : after ≤ before + to_test rule p (tests floor old)
 
 -- the frame of a position that a move has reached, of which no move has been tried
 abbrev pub opened : Triple → Loss → Shown → ℕ → Frame
-opened by undo shown left = record { place = 0; by = by; undo = undo; left = left; shown = shown }
+opened by undo shown left = record { place = 0; by = by; undo = undo; left = left; shown = shown; killer = 0; stretch = Behind }
+
+-- the same in a test, where the killer is tried first
+abbrev pub tested : ℕ → Triple → Loss → Shown → ℕ → Frame
+tested killer by undo shown left = record { place = killer - 1; by = by; undo = undo; left = left; shown = shown; killer = killer; stretch = First }
 
 -- the half-moves left at the top frame
 abbrev pub top_left : List Frame → ℕ

@@ -1,10 +1,10 @@
 -- What the frames of a walk stand for.
-use Rattle.std.specs.Prelude.{◌≡◌, ℕ, zero, suc, ◌+◌, ◌-◌, ◌/◌, ◌≤◌, ◌<◌, ◌^◌, min, ◌==◌, Bool, true, false, not, ◌&&◌, ◌||◌, if◌then◌else◌, List, [], ◌∷◌, ◌++◌, map, length}
+use Rattle.std.specs.Prelude.{◌≡◌, ℕ, zero, suc, ◌+◌, ◌-◌, ◌/◌, ◌≤◌, ◌<◌, ◌^◌, min, ◌==◌, Bool, true, false, not, ◌&&◌, ◌||◌, if◌then◌else◌, List, [], ◌∷◌, ◌++◌, map, length, filter, ◌⊎◌}
 use Rattle.std.specs.List.{flat_map, list_all}
 use Rattle.chess_core.specs.Position.{Position}
 use Rattle.chess_core.specs.Triple.{Triple}
 use Rattle.chess_core.specs.WellFormed.{IsWellFormed}
-use Rattle.chess_rules.specs.Places.{moves_behind}
+use Rattle.chess_rules.specs.Places.{is_mating, moves_behind}
 use Rattle.chess_rules.specs.RuleSet.{RuleSet}
 use Rattle.pop_solve.specs.Game.{Game}
 use Rattle.pop_solve.specs.Values.{seeks, value}
@@ -117,6 +117,15 @@ pub record Opens (rule : RuleSet) (way : Way) (p : Position) (old new : List Fra
   pub most : way.help ≡ false → way.variation ≡ false → IsWhites way.selfmate old ≡ true → after + to_open rule p new ≤ before + to_open rule p old
   pub helped : way.help ≡ true → after + to_open rule p new ≤ before + to_open rule p old
   pub counted : way.help ≡ true → (walk : ℕ) → IsCounted walk before (to_open rule p old) → IsCounted walk after (to_open rule p new)
+
+-- from a place to the moves `rest` behind a later one only moves are passed over whose paths aren't given: in help play
+-- with one half-move left those that don't mate
+pub record GoesTo (rule : RuleSet) (way : Way) (left : ℕ) (p : Position) (place : ℕ) (rest : List Triple) : Type 0 where
+  pub mid : ℕ
+  pub over : List Triple
+  pub passed : moves_behind rule p place ≡ over ++ moves_behind rule p mid
+  pub none : (over ≡ []) ⊎ ((way.help ≡ true) × (left ≡ 1) × (filter (is_mating rule p) over ≡ []))
+  pub here : moves_behind rule p mid ≡ rest
 
 -- what one step of a walk leaves, for frames listed from the top down; `given` says whether the path to the new top is given
 pub record Steps (rule : RuleSet) (way : Way) (h : ℕ) (p : Position) (old new : List Frame) (board : Position) (before after : ℕ) (given : Bool) : Type 0 where

@@ -5,11 +5,11 @@ ghost use Rattle.chess_core.specs.Position.{Position};
 ghost use Rattle.chess_core.specs.WellFormed.{IsWellFormed};
 ghost use Rattle.chess_rules.specs.Attacks.{in_check};
 ghost use Rattle.chess_rules.specs.Legal.{is_goal, legal};
-ghost use Rattle.chess_rules.specs.Places.{moves_behind};
+ghost use Rattle.chess_rules.specs.Places.{IsNextMate, mates_behind, moves_behind, moves_between};
 ghost use Rattle.chess_rules.specs.RuleSet.{RuleSet};
 ghost use Rattle.pop_solve.specs.Chess.{castling_side, chess, is_impossible, is_mate_mark, mark_of, reborn, set_start, shown_by, shown_of};
 ghost use Rattle.pop_solve.specs.Frames.{CameBy};
-ghost use Rattle.pop_solve.specs.Game.{can_move as has_move};
+ghost use Rattle.pop_solve.specs.Game.{can_move as has_move, some_move};
 
 use crate::shown::{Mark, Shown, Side};
 use chess_core::board::Board;
@@ -39,6 +39,41 @@ pub(crate) fn next_move<R: Rules>(place: &mut Moves<R>, board: &mut Board) -> Op
         × (legal R.rule board.old m ≡ true)) }
 {
     place.next(board)
+}
+
+/// The next legal move behind the place that doesn't lie behind `end`.
+pub(crate) fn next_until<R: Rules>(
+    place: &mut Moves<R>,
+    end: Moves<R>,
+    board: &mut Board,
+) -> Option<Move>
+    requires well_formed { IsWellFormed board.old }
+    ensures unchanged { board.new ≡ board.old }
+    ensures next { MatchOption result (moves_between R.rule board.old place.old end ≡ [])
+        (λ m. (moves_between R.rule board.old place.old end ≡ m ∷ moves_between R.rule board.old place.new end)
+        × (legal R.rule board.old m ≡ true)) }
+{
+    place.next_until(end, board)
+}
+
+/// The next legal move behind the place that mates.
+pub(crate) fn next_mate<R: Rules>(place: &mut Moves<R>, board: &mut Board) -> Option<Move>
+    requires well_formed { IsWellFormed board.old }
+    ensures unchanged { board.new ≡ board.old }
+    ensures next { MatchOption result (mates_behind R.rule board.old place.old ≡ [])
+        (λ m. IsNextMate R.rule board.old place.old place.new m × (legal R.rule board.old m ≡ true)) }
+{
+    place.next_mate(board)
+}
+
+/// Whether a legal move mates.
+pub(crate) fn can_mate<R: Rules>(board: &mut Board) -> bool
+    requires well_formed { IsWellFormed board.old }
+    ensures unchanged { board.new ≡ board.old }
+    ensures mates { result ≡ some_move (chess R.rule) (chess R.rule).goal board.old }
+{
+    let mut place = Moves::<R>::start();
+    place.next_mate(board).is_some()
 }
 
 /// Takes a move back.

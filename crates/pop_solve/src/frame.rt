@@ -6,6 +6,14 @@ use chess_rules::play::Undo;
 use chess_rules::rules::Rules;
 use std::marker::Model;
 
+/// Which moves of a position a test tries: the killer first, then the moves before it, then those behind it.
+#[derive(Clone, Copy)]
+pub enum Stretch {
+    First,
+    Before,
+    Behind,
+}
+
 /// A position on the way from a phase's first position, whose moves are tried in turn. Contracts see the record `Frame`
 /// of the same fields.
 #[derive(Clone, Copy)]
@@ -19,6 +27,9 @@ pub struct Frame<R: Rules> {
     pub left: usize,
     /// The move that led here, as it is shown.
     pub shown: Shown,
+    /// In a test: the place on the killer, and the stretch of moves on which `place` stands.
+    pub killer: Moves<R>,
+    pub stretch: Stretch,
 }
 
 impl<R: Rules> Model for Frame<R> {
@@ -26,9 +37,9 @@ impl<R: Rules> Model for Frame<R> {
 
     ghost Value = { Level };
 
-    ghost view = { λ f. record { place = f.place; by = f.by; undo = f.undo; left = f.left; shown = f.shown } };
+    ghost view = { λ f. record { place = f.place; by = f.by; undo = f.undo; left = f.left; shown = f.shown; killer = f.killer; stretch = f.stretch } };
 
-    ghost inverse = { λ v. record { place = v.place; by = v.by; undo = v.undo; left = v.left; shown = v.shown } };
+    ghost inverse = { λ v. record { place = v.place; by = v.by; undo = v.undo; left = v.left; shown = v.shown; killer = v.killer; stretch = v.stretch } };
 }
 
 impl<R: Rules> Default for Frame<R> {
@@ -39,6 +50,8 @@ impl<R: Rules> Default for Frame<R> {
             undo: Undo::default(),
             left: 0,
             shown: Shown::default(),
+            killer: Moves::start(),
+            stretch: Stretch::Behind,
         }
     }
 }

@@ -4,6 +4,7 @@
 mod chess;
 pub mod event;
 pub mod frame;
+mod killers;
 mod phases;
 pub mod search;
 pub mod shown;
@@ -11,6 +12,6 @@ mod value;
 mod walk;
 
 pub use event::{Event, Phase};
-pub use frame::Frame;
+pub use frame::{Frame, Stretch};
 pub use search::Search;
 pub use shown::{Mark, Shown, Side};

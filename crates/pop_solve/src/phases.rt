@@ -17,6 +17,7 @@ ghost use Rattle.pop_solve.specs.declared.phases.Stage.TheVariants.{Before, With
 use crate::chess::{is_impossible, turn_back, turn_over};
 use crate::event::{Event, Phase};
 use crate::frame::Frame;
+use crate::killers::Killers;
 use crate::shown::Shown;
 use crate::walk::{Way, opened_by, step, step_back};
 use arrayvec::ArrayVec;
@@ -144,6 +145,7 @@ fn walk_on<R: Rules, const N: usize>(
     limit: u32,
     board: &mut Board,
     frames: &mut ArrayVec<Frame<R>, N>,
+    killers: &mut Killers<R>,
     opened: &mut u64,
 ) -> bool
     requires sound { IsSound problem.now }
@@ -158,7 +160,7 @@ fn walk_on<R: Rules, const N: usize>(
     let way = way_of(problem);
     let half_moves = phase_half_moves(problem, phase);
     while !frames.is_empty() && !is_full(way, frames.len(), limit) {
-        if step::<R, N>(way, half_moves, board, frames, opened) {
+        if step::<R, N>(way, half_moves, board, frames, killers, opened) {
             return true;
         }
     }
@@ -289,6 +291,7 @@ fn go_on<R: Rules, const N: usize>(
     stage: &mut Stage,
     board: &mut Board,
     frames: &mut ArrayVec<Frame<R>, N>,
+    killers: &mut Killers<R>,
     opened: &mut u64,
 ) -> Event
     requires sound { IsSound problem.now }
@@ -304,7 +307,7 @@ fn go_on<R: Rules, const N: usize>(
 {
     let max_solutions = problem.max_solutions();
     let limit = max_solutions - count;
-    if walk_on::<R, N>(problem, phase, limit, board, frames, opened) {
+    if walk_on::<R, N>(problem, phase, limit, board, frames, killers, opened) {
         let count = count_with(problem, frames.len(), count);
         *stage = Stage::Within { phase, count };
         return event_at::<R, N>(problem, phase, frames);
@@ -337,6 +340,7 @@ pub(crate) fn advance<R: Rules, const N: usize>(
     stage: &mut Stage,
     board: &mut Board,
     frames: &mut ArrayVec<Frame<R>, N>,
+    killers: &mut Killers<R>,
     opened: &mut u64,
 ) -> Option<Event>
     requires sound { IsSound problem.now }
@@ -362,7 +366,7 @@ pub(crate) fn advance<R: Rules, const N: usize>(
             Some(Event::Impossible)
         }
         Stage::Within { phase, count } => {
-            Some(go_on::<R, N>(problem, phase, count, stage, board, frames, opened))
+            Some(go_on::<R, N>(problem, phase, count, stage, board, frames, killers, opened))
         }
         Stage::Behind => None,
     }

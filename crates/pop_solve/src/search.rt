@@ -1,6 +1,7 @@
 //! Searches.
 use crate::event::Event;
 use crate::frame::Frame;
+use crate::killers::Killers;
 use crate::phases::{Stage, advance, first_phase};
 use arrayvec::ArrayVec;
 use chess_core::board::Board;
@@ -9,14 +10,16 @@ use pop_input::problem::Problem;
 use std::marker::Model;
 
 /// A search for the solutions of a problem, which gives its events one by one and goes on from its frames. It holds one
-/// board, played and taken back, and one frame a half-move with one for the position behind the last; it may be dropped
-/// at any time. Contracts see the record `Seen`: the problem, the events still to come, the board's position, and counts.
+/// board, played and taken back, one frame a half-move with one for the position behind the last, and the moves that
+/// decided tests last; it may be dropped at any time. Contracts see the record `Seen`: the problem, the events still to
+/// come, the board's position, and counts.
 #[derive(Drop)]
 pub struct Search<R: Rules, const N: usize> {
     problem: Problem,
     stage: Stage,
     board: Board,
     frames: ArrayVec<Frame<R>, N>,
+    killers: Killers<R>,
     given: u64,
     opened: u64,
 }
@@ -69,6 +72,7 @@ impl<R: Rules, const N: usize> Search<R, N> {
             },
             board: Board::of(&problem.diagram()),
             frames: ArrayVec::new(),
+            killers: Killers::none(),
             given: 0,
             opened: 0,
         }
@@ -88,6 +92,7 @@ impl<R: Rules, const N: usize> Search<R, N> {
             &mut self.stage,
             &mut self.board,
             &mut self.frames,
+            &mut self.killers,
             &mut self.opened,
         );
         if event.is_some() {

@@ -5,13 +5,15 @@ ghost use Rattle.chess_core.specs.WellFormed.{IsWellFormed};
 ghost use Rattle.chess_rules.specs.Legal.{legal};
 ghost use Rattle.chess_rules.specs.Play.{undo_of};
 ghost use Rattle.arrayvec.specs.ArrayVec.{array_vec_len};
-ghost use Rattle.pop_solve.specs.Frames.{IsTesting, CameFrom, CameFromAt, Turns, Ends, tests, opened as opened_frame, top_left};
+ghost use Rattle.pop_solve.specs.Frames.{IsTesting, CameFrom, CameFromAt, Turns, Ends, tests, tested, top_left, ahead};
 ghost use Rattle.pop_solve.specs.Chess.{chess};
+ghost use Rattle.pop_solve.specs.declared.frame.Stretch.TheVariants.{Before};
 ghost use Rattle.pop_solve.specs.Game.{can_move as has_move, walk_count};
 ghost use Rattle.pop_solve.specs.Values.{seeks, join, joined, value};
 
-use crate::chess::{can_move, next_move, retract};
-use crate::frame::Frame;
+use crate::chess::{can_mate, can_move, next_move, next_until, retract};
+use crate::frame::{Frame, Stretch};
+use crate::killers::Killers;
 use arrayvec::ArrayVec;
 use chess_core::board::Board;
 use chess_core::man::Move;
@@ -47,20 +49,31 @@ fn is_open<R: Rules>(selfmate: bool, left: usize, board: &mut Board) -> bool
     seeking(selfmate, left) || can_move::<R>(board)
 }
 
-/// The value of a position, where it is known without a try of its moves.
-fn settled<R: Rules>(selfmate: bool, left: usize, board: &mut Board) -> Option<bool>
+/// The value of a position, where it is known without a frame. White's last half-move needs none, and is counted as one.
+fn settled<R: Rules>(
+    selfmate: bool,
+    left: usize,
+    board: &mut Board,
+    opened: &mut u64,
+) -> Option<bool>
     requires well_formed { IsWellFormed board.old }
     ensures unchanged { board.new ≡ board.old }
     ensures value { MatchOption result
         ((0 < left) × (value selfmate (chess R.rule) left board.old
         ≡ joined selfmate (chess R.rule) left board.old ((chess R.rule).moves board.old)))
         (λ v. v ≡ value selfmate (chess R.rule) left board.old) }
+    ensures opened { MatchOption result (opened.new ≡ opened.old)
+        (λ _. opened.new ≤ opened.old + walk_count (chess R.rule) left board.old) }
 {
     if is_end::<R>(left, board) {
         return Some(true);
     }
     if left == 0 {
         return Some(false);
+    }
+    if left == 1 && seeking(selfmate, left) {
+        *opened = opened.saturating_add(1);
+        return Some(can_mate::<R>(board));
     }
     if is_open::<R>(selfmate, left, board) {
         None
@@ -76,6 +89,56 @@ fn decided(answer: Option<bool>, seek: bool) -> bool
     match answer {
         Some(v) => v == seek,
         None => false,
+    }
+}
+
+/// The next move of a test on its second or third stretch.
+#[tactic(auto, unfolding(crate::specs::Frames::ahead))]
+fn next_in_order<R: Rules>(
+    killer: Moves<R>,
+    stretch: &mut Stretch,
+    place: &mut Moves<R>,
+    board: &mut Board,
+) -> Option<Move>
+    requires well_formed { IsWellFormed board.old }
+    ensures unchanged { board.new ≡ board.old }
+    ensures next { MatchOption result (ahead R.rule board.old Before place.old killer ≡ [])
+        (λ m. (ahead R.rule board.old Before place.old killer ≡ m ∷ ahead R.rule board.old stretch.new place.new killer)
+        × (legal R.rule board.old m ≡ true)) }
+{
+    if let Some(by) = next_until::<R>(place, killer.back(), board) {
+        *stretch = Stretch::Before;
+        return Some(by);
+    }
+    *stretch = Stretch::Behind;
+    *place = killer;
+    next_move::<R>(place, board)
+}
+
+/// The next move of a test: the killer, then the others in order.
+#[tactic(auto, unfolding(crate::specs::Frames::ahead))]
+fn next_tried<R: Rules>(
+    killer: Moves<R>,
+    stretch: &mut Stretch,
+    place: &mut Moves<R>,
+    board: &mut Board,
+) -> Option<Move>
+    requires well_formed { IsWellFormed board.old }
+    ensures unchanged { board.new ≡ board.old }
+    ensures next { MatchOption result (ahead R.rule board.old stretch.old place.old killer ≡ [])
+        (λ m. (ahead R.rule board.old stretch.old place.old killer ≡ m ∷ ahead R.rule board.old stretch.new place.new killer)
+        × (legal R.rule board.old m ≡ true)) }
+{
+    match *stretch {
+        Stretch::First => {
+            if let Some(by) = next_until::<R>(place, killer, board) {
+                return Some(by);
+            }
+            *place = Moves::start();
+            next_in_order::<R>(killer, stretch, place, board)
+        }
+        Stretch::Before => next_in_order::<R>(killer, stretch, place, board),
+        Stretch::Behind => next_move::<R>(place, board),
     }
 }
 
@@ -108,6 +171,7 @@ fn descend<R: Rules, const N: usize>(
     selfmate: bool,
     top: Frame<R>,
     by: Move,
+    killer: Moves<R>,
     board: &mut Board,
     frames: &mut ArrayVec<Frame<R>, N>,
     answer: &mut Option<bool>,
@@ -117,7 +181,8 @@ fn descend<R: Rules, const N: usize>(
     requires some { 0 < top.left }
     requires room { array_vec_len frames.old + top.left ≤ N }
     requires legal { legal R.rule board.old by ≡ true }
-    ensures opened { MatchOption answer.new (opened.new ≤ opened.old + 1) (λ _. opened.new ≡ opened.old) }
+    ensures opened { MatchOption answer.new (opened.new ≤ opened.old + 1)
+        (λ _. opened.new ≤ opened.old + walk_count (chess R.rule) (top.left - 1) ((chess R.rule).after board.old by)) }
     ensures answer { MatchOption answer.new
         ((0 < top.left - 1)
         × (value selfmate (chess R.rule) (top.left - 1) ((chess R.rule).after board.old by)
@@ -125,7 +190,7 @@ fn descend<R: Rules, const N: usize>(
         ((chess R.rule).moves ((chess R.rule).after board.old by)))
         × (board.new ≡ (chess R.rule).after board.old by)
         × (frames.new.items ≡ (frames.old.items ++ top ∷ [])
-        ++ opened_frame by (undo_of R.rule board.old by) top.shown (top.left - 1) ∷ []))
+        ++ tested killer by (undo_of R.rule board.old by) top.shown (top.left - 1) ∷ []))
         (λ v. (v ≡ value selfmate (chess R.rule) (top.left - 1) ((chess R.rule).after board.old by))
         × (board.new ≡ board.old)
         × (frames.new.items ≡ frames.old.items ++ top ∷ [])) }
@@ -133,16 +198,18 @@ fn descend<R: Rules, const N: usize>(
     frames.push(top);
     let left = top.left - 1;
     let undo = R::play(board, by);
-    *answer = settled::<R>(selfmate, left, board);
+    *answer = settled::<R>(selfmate, left, board, opened);
     if answer.is_some() {
         retract::<R>(board, by, undo);
     } else {
         *opened = opened.saturating_add(1);
         frames.push(Frame {
-            place: Moves::start(),
+            place: killer.back(),
             by,
             undo,
             left,
+            killer,
+            stretch: Stretch::First,
             ..top
         });
     }
@@ -154,6 +221,7 @@ fn turn<R: Rules, const N: usize>(
     floor: usize,
     board: &mut Board,
     frames: &mut ArrayVec<Frame<R>, N>,
+    killers: &mut Killers<R>,
     answer: &mut Option<bool>,
     opened: &mut u64,
 ) -> Option<bool>
@@ -172,16 +240,23 @@ fn turn<R: Rules, const N: usize>(
     let depth = frames.len();
     let seek = seeking(selfmate, top.left);
     if decided(*answer, seek) {
+        killers.put(top.left, top.place);
         return close::<R>(seek, floor, depth, top, board, answer);
     }
     let mut place = top.place;
-    let Some(by) = next_move::<R>(&mut place, board) else {
+    let mut stretch = top.stretch;
+    let Some(by) = next_tried::<R>(top.killer, &mut stretch, &mut place, board) else {
         return close::<R>(!seek, floor, depth, top, board, answer);
     };
     descend::<R, N>(
         selfmate,
-        Frame { place, ..top },
+        Frame {
+            place,
+            stretch,
+            ..top
+        },
         by,
+        killers.of(selfmate, top.left - 1),
         board,
         frames,
         answer,
@@ -196,6 +271,7 @@ pub(crate) fn value_of<R: Rules, const N: usize>(
     left: usize,
     board: &mut Board,
     frames: &mut ArrayVec<Frame<R>, N>,
+    killers: &mut Killers<R>,
     opened: &mut u64,
 ) -> bool
     requires well_formed { IsWellFormed board.old }
@@ -205,19 +281,30 @@ pub(crate) fn value_of<R: Rules, const N: usize>(
     ensures frames { frames.new.items ≡ frames.old.items }
     ensures opened { opened.new ≤ opened.old + walk_count (chess R.rule) left board.old }
 {
-    if let Some(known) = settled::<R>(selfmate, left, board) {
+    if let Some(known) = settled::<R>(selfmate, left, board, opened) {
         return known;
     }
     let floor = frames.len();
+    let killer = killers.of(selfmate, left);
     *opened = opened.saturating_add(1);
     frames.push(Frame {
-        place: Moves::start(),
+        place: killer.back(),
         left,
+        killer,
+        stretch: Stretch::First,
         ..Frame::default()
     });
     let mut answer = None;
     loop {
-        if let Some(known) = turn::<R, N>(selfmate, floor, board, frames, &mut answer, opened) {
+        if let Some(known) = turn::<R, N>(
+            selfmate,
+            floor,
+            board,
+            frames,
+            killers,
+            &mut answer,
+            opened,
+        ) {
             return known;
         }
     }

@@ -11,10 +11,11 @@ ghost use Rattle.pop_solve.specs.Frames.{CameFrom, CameFromAt, opened as opened_
 ghost use Rattle.pop_solve.specs.Chess.{chess, mark_of, show};
 ghost use Rattle.pop_solve.specs.Game.{walk_count};
 ghost use Rattle.pop_solve.specs.Values.{seeks};
-ghost use Rattle.pop_solve.specs.Walk.{fewest as fewest_of, first_from, open_length, follows as is_followed, gives as is_given, goes_on, IsWalking, Steps};
+ghost use Rattle.pop_solve.specs.Walk.{fewest as fewest_of, first_from, open_length, follows as is_followed, gives as is_given, goes_on, GoesTo, IsWalking, Steps};
 
-use crate::chess::{has_mated, mark_of, next_move, retract, shown_of};
-use crate::frame::Frame;
+use crate::chess::{has_mated, mark_of, next_mate, next_move, retract, shown_of};
+use crate::frame::{Frame, Stretch};
+use crate::killers::Killers;
 use crate::shown::Mark;
 use crate::value::{seeking, value_of};
 use arrayvec::ArrayVec;
@@ -44,6 +45,7 @@ fn least_length<R: Rules, const N: usize>(
     left: usize,
     board: &mut Board,
     frames: &mut ArrayVec<Frame<R>, N>,
+    killers: &mut Killers<R>,
     opened: &mut u64,
 ) -> usize
     requires well_formed { IsWellFormed board.old }
@@ -54,7 +56,7 @@ fn least_length<R: Rules, const N: usize>(
 {
     let mut tried = fewest(selfmate);
     while left >= 2 && tried <= left - 2 {
-        if value_of::<R, N>(selfmate, tried, board, frames, opened) {
+        if value_of::<R, N>(selfmate, tried, board, frames, killers, opened) {
             return tried;
         }
         tried += 2;
@@ -69,6 +71,7 @@ fn length_shown<R: Rules, const N: usize>(
     left: usize,
     board: &mut Board,
     frames: &mut ArrayVec<Frame<R>, N>,
+    killers: &mut Killers<R>,
     opened: &mut u64,
 ) -> usize
     requires well_formed { IsWellFormed board.old }
@@ -83,7 +86,7 @@ fn length_shown<R: Rules, const N: usize>(
     if !seeking(selfmate, left) {
         return left;
     }
-    least_length::<R, N>(selfmate, left, board, frames, opened)
+    least_length::<R, N>(selfmate, left, board, frames, killers, opened)
 }
 
 /// With how many half-moves the walk goes on from the board's position, where `left` are left.
@@ -93,6 +96,7 @@ fn length_below<R: Rules, const N: usize>(
     left: usize,
     board: &mut Board,
     frames: &mut ArrayVec<Frame<R>, N>,
+    killers: &mut Killers<R>,
     opened: &mut u64,
 ) -> usize
     requires well_formed { IsWellFormed board.old }
@@ -109,7 +113,7 @@ fn length_below<R: Rules, const N: usize>(
     if !way.variation && seeking(way.selfmate, left + 1) {
         return 0;
     }
-    length_shown::<R, N>(way.selfmate, left, board, frames, opened)
+    length_shown::<R, N>(way.selfmate, left, board, frames, killers, opened)
 }
 
 /// Whether a move is tested before it is followed, where `left` half-moves are left with it: in battle play the
@@ -152,6 +156,7 @@ fn enter<R: Rules, const N: usize>(
     by: Move,
     board: &mut Board,
     frames: &mut ArrayVec<Frame<R>, N>,
+    killers: &mut Killers<R>,
     opened: &mut u64,
 ) -> bool
     requires well_formed { IsWellFormed board.old }
@@ -173,34 +178,40 @@ fn enter<R: Rules, const N: usize>(
     let there = board.man_at(by.to);
     let undo = R::play(board, by);
     let tested = is_tested(way, root, left + 1);
-    if tested && !value_of::<R, N>(way.selfmate, left, board, frames, opened) {
+    if tested && !value_of::<R, N>(way.selfmate, left, board, frames, killers, opened) {
         retract::<R>(board, by, undo);
         return false;
     }
     let mark = mark_of::<R>(board);
     let shown = shown_of(man, there, &by, &undo, mark);
-    let tried = length_below::<R, N>(way, left, board, frames, opened);
+    let tried = length_below::<R, N>(way, left, board, frames, killers, opened);
     frames.push(Frame {
         place: Moves::start(),
         by,
         undo,
         left: tried,
         shown,
+        killer: Moves::start(),
+        stretch: Stretch::Behind,
     });
     *opened = opened_by(*opened, tried, tested);
     gives(way, left, mark)
 }
 
-/// The next move behind a place, in a position from which `left` half-moves are tried.
-fn next_of<R: Rules>(left: usize, place: &mut Moves<R>, board: &mut Board) -> Option<Move>
+/// The next move behind a place, in a position from which `left` half-moves are tried: the next mate, where help play
+/// ends with it.
+fn next_of<R: Rules>(way: Way, left: usize, place: &mut Moves<R>, board: &mut Board) -> Option<Move>
     requires well_formed { IsWellFormed board.old }
     ensures unchanged { board.new ≡ board.old }
-    ensures next { MatchOption result ((left ≡ 0) ⊎ (moves_behind R.rule board.old place.old ≡ []))
-        (λ m. (0 < left) × (moves_behind R.rule board.old place.old ≡ m ∷ moves_behind R.rule board.old place.new)
+    ensures next { MatchOption result ((left ≡ 0) ⊎ GoesTo R.rule way left board.old place.old [])
+        (λ m. (0 < left) × GoesTo R.rule way left board.old place.old (m ∷ moves_behind R.rule board.old place.new)
         × (legal R.rule board.old m ≡ true)) }
 {
     if left == 0 {
         return None;
+    }
+    if way.help && left == 1 {
+        return next_mate::<R>(place, board);
     }
     next_move::<R>(place, board)
 }
@@ -223,6 +234,7 @@ pub(crate) fn step<R: Rules, const N: usize>(
     half_moves: usize,
     board: &mut Board,
     frames: &mut ArrayVec<Frame<R>, N>,
+    killers: &mut Killers<R>,
     opened: &mut u64,
 ) -> bool
     requires well_formed { IsWellFormed board.old }
@@ -237,10 +249,19 @@ pub(crate) fn step<R: Rules, const N: usize>(
     };
     let depth = frames.len();
     let mut place = top.place;
-    let Some(by) = next_of::<R>(top.left, &mut place, board) else {
+    let Some(by) = next_of::<R>(way, top.left, &mut place, board) else {
         step_back::<R>(depth, top, board);
         return false;
     };
     frames.push(Frame { place, ..top });
-    enter::<R, N>(way, depth == 0, top.left - 1, by, board, frames, opened)
+    enter::<R, N>(
+        way,
+        depth == 0,
+        top.left - 1,
+        by,
+        board,
+        frames,
+        killers,
+        opened,
+    )
 }

@@ -3,5 +3,5 @@ use Rattle.chess_rules.proofs.outward.attackers.Goals as goal
 
 pub returns : goal.returns
 returns c =
-    attackers_are c.args.board.now.men c.args.colour c.args.square c.met_along.result c.met_along-2.result c.reached_by_some.result (rw c.index-small.ensures.value at c.index-small.ensures.small)
-    (rw c.straight_steps.ensures at c.met_along.ensures) (rw c.diagonal_steps.ensures at c.met_along-2.ensures) c.reached_by_some.ensures
+    attackers_are c.args.board.now.men c.args.colour c.args.square c.straight_attackers.result c.diagonal_attackers.result c.reached_by.result c.reached_by-2.result c.reached_by-3.result c.reached_by-4.result c.reached_by-5.result (rw c.index-small.ensures.value at c.index-small.ensures.small)
+    c.straight_attackers.ensures c.diagonal_attackers.ensures c.reached_by.ensures c.reached_by-2.ensures c.reached_by-3.ensures c.reached_by-4.ensures c.reached_by-5.ensures

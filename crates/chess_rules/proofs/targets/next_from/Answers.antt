@@ -1,5 +1,6 @@
 use Rattle.std.proofs.Common.{◌≡◌, ◌+◌, ◌-◌, ◌*◌, ◌/◌, ◌<◌, ◌==◌, Some, sym, ◌∙◌, arith}
 use Rattle.std.specs.Int.{bit_at}
+use Rattle.std.specs.Int.Bits.{bit_and}
 use Rattle.chess_core.specs.Position.{man_on}
 use Rattle.chess_rules.specs.Targets.{IsBarrenFrom}
 use Rattle.chess_rules.proofs.Targeting.{aimed_at, from-empty, from-join, from-nobody, from-none, from-promoted, from-target, from-unpromoted}
@@ -8,13 +9,13 @@ use Rattle.chess_rules.proofs.targets.next_from.Goals as goal
 
 pub returns-in_default-clause-barren : goal.returns-in_default-clause-barren
 returns-in_default-clause-barren c =
-    from-nobody c.args.board.now c.args.from c.args.start 448 (sym c.man_at.ensures ∙ c.in_default.is)
+    from-nobody c.args.board.now c.args.from c.args.squares c.args.start 448 (sym c.man_at.ensures ∙ c.in_default.is)
 
 pub loop-to-init : goal.loop-to-init
 loop-to-init c = record {
   low = omega arith;
   high = c.requires;
-  barren = from-empty c.args.board.now c.args.from c.args.start;
+  barren = from-empty c.args.board.now c.args.from c.args.squares c.args.start;
 }
 
 pub returns-then-at-first-clause-barren : goal.returns-then-at-first-clause-barren
@@ -23,10 +24,10 @@ returns-then-at-first-clause-barren c =
     let x = c.in-Some.man in
     let t = c.in-Some-next_bit.to in
     let here : man_on p.men c.args.from ≡ Some x = sym c.man_at.ensures ∙ c.in-Some.is in
-    let first = find_first (λ s. bit_at c.targets-word.result s == 1) (c.loop-to.at / 7) (64 - c.loop-to.at / 7) t (sym c.next_bit.ensures.value ∙ c.in-Some-next_bit.is) in
+    let first = find_first (λ s. bit_at (bit_and c.targets-aimed.result c.args.squares) s == 1) (c.loop-to.at / 7) (64 - c.loop-to.at / 7) t (sym c.next_bit.ensures.value ∙ c.in-Some-next_bit.is) in
     let at : c.from-first.result * 7 ≡ 7 * t = omega (arith, c.from-first.ensures, c.index.ensures.value) in
-    let before : IsBarrenFrom p c.args.from c.args.start (7 * t) = from-target p x c.args.from c.args.start c.loop-to.at t c.targets-word.result here c.targets-word.ensures c.loop-to.invariant.barren first in
-    rw at (from-join p c.args.from c.args.start (7 * t) (7 * t + 1) before (from-promoted p x c.args.from t here (sym c.arrives.ensures ∙ c.if-arrives.true)))
+    let before : IsBarrenFrom p c.args.from c.args.squares c.args.start (7 * t) = from-target p x c.args.from c.args.start c.loop-to.at t c.targets-aimed.result c.args.squares here c.targets-aimed.ensures c.loop-to.invariant.barren first in
+    rw at (from-join p c.args.from c.args.squares c.args.start (7 * t) (7 * t + 1) before (from-promoted p x c.args.from c.args.squares t here (sym c.arrives.ensures ∙ c.if-arrives.true)))
 
 pub returns-else-at-first-clause-barren : goal.returns-else-at-first-clause-barren
 returns-else-at-first-clause-barren c = c.loop-to.invariant.barren
@@ -37,9 +38,9 @@ returns-then-at-first-2-clause-barren c =
     let x = c.in-Some.man in
     let t = c.in-Some-next_bit.to in
     let here : man_on p.men c.args.from ≡ Some x = sym c.man_at.ensures ∙ c.in-Some.is in
-    let first = find_first (λ s. bit_at c.targets-word.result s == 1) (c.loop-to.at / 7) (64 - c.loop-to.at / 7) t (sym c.next_bit.ensures.value ∙ c.in-Some-next_bit.is) in
+    let first = find_first (λ s. bit_at (bit_and c.targets-aimed.result c.args.squares) s == 1) (c.loop-to.at / 7) (64 - c.loop-to.at / 7) t (sym c.next_bit.ensures.value ∙ c.in-Some-next_bit.is) in
     let at : c.from-first.result * 7 ≡ 7 * t = omega (arith, c.from-first.ensures, c.index.ensures.value) in
-    let before : IsBarrenFrom p c.args.from c.args.start (7 * t) = from-target p x c.args.from c.args.start c.loop-to.at t c.targets-word.result here c.targets-word.ensures c.loop-to.invariant.barren first in
+    let before : IsBarrenFrom p c.args.from c.args.squares c.args.start (7 * t) = from-target p x c.args.from c.args.start c.loop-to.at t c.targets-aimed.result c.args.squares here c.targets-aimed.ensures c.loop-to.invariant.barren first in
     rw at before
 
 pub loop-to-preserved : goal.loop-to-preserved
@@ -50,13 +51,13 @@ loop-to-preserved c =
     let here : man_on p.men c.args.from ≡ Some x = sym c.man_at.ensures ∙ c.in-Some.is in
     let at : c.from-first.result * 7 ≡ 7 * t = omega (arith, c.from-first.ensures, c.index.ensures.value) in
     let small : c.from-first.result < 64 = omega (arith, c.from-first.ensures, c.index.ensures.small) in
-    let first = find_first (λ s. bit_at c.targets-word.result s == 1) (c.loop-to.at / 7) (64 - c.loop-to.at / 7) t (sym c.next_bit.ensures.value ∙ c.in-Some-next_bit.is) in
+    let first = find_first (λ s. bit_at (bit_and c.targets-aimed.result c.args.squares) s == 1) (c.loop-to.at / 7) (64 - c.loop-to.at / 7) t (sym c.next_bit.ensures.value ∙ c.in-Some-next_bit.is) in
     record {
       low = omega (arith, c.loop-to.invariant.low, first.low);
       high = omega arith;
       barren =
-          rw at (from-join p c.args.from c.args.start c.loop-to.at (7 * t + 7) c.loop-to.invariant.barren
-          (from-unpromoted p x c.args.from t c.loop-to.at here (sym c.arrives.ensures ∙ c.if-arrives.false) (omega arith)));
+          rw at (from-join p c.args.from c.args.squares c.args.start c.loop-to.at (7 * t + 7) c.loop-to.invariant.barren
+          (from-unpromoted p x c.args.from c.args.squares t c.loop-to.at here (sym c.arrives.ensures ∙ c.if-arrives.false) (omega arith)));
     }
 
 pub returns-clause-barren : goal.returns-clause-barren
@@ -64,7 +65,7 @@ returns-clause-barren c =
     let p = c.args.board.now in
     let x = c.in-Some.man in
     let here : man_on p.men c.args.from ≡ Some x = sym c.man_at.ensures ∙ c.in-Some.is in
-    from-none p x c.args.from c.args.start c.loop-to.at c.targets-word.result here c.targets-word.ensures c.loop-to.invariant.barren (sym c.next_bit.ensures.value ∙ c.in_default-next_bit.is)
+    from-none p x c.args.from c.args.start c.loop-to.at c.targets-aimed.result c.args.squares here c.targets-aimed.ensures c.loop-to.invariant.barren (sym c.next_bit.ensures.value ∙ c.in_default-next_bit.is)
 
 pub returns-then-at-first-clause-aimed : goal.returns-then-at-first-clause-aimed
 returns-then-at-first-clause-aimed c lt =
@@ -72,9 +73,9 @@ returns-then-at-first-clause-aimed c lt =
     let x = c.in-Some.man in
     let t = c.in-Some-next_bit.to in
     let here : man_on p.men c.args.from ≡ Some x = sym c.man_at.ensures ∙ c.in-Some.is in
-    let first = find_first (λ s. bit_at c.targets-word.result s == 1) (c.loop-to.at / 7) (64 - c.loop-to.at / 7) t (sym c.next_bit.ensures.value ∙ c.in-Some-next_bit.is) in
+    let first = find_first (λ s. bit_at (bit_and c.targets-aimed.result c.args.squares) s == 1) (c.loop-to.at / 7) (64 - c.loop-to.at / 7) t (sym c.next_bit.ensures.value ∙ c.in-Some-next_bit.is) in
     let same : (c.from-first.result * 7 + 1) / 7 ≡ t = omega (arith, first.low, c.from-first.ensures, c.index.ensures.value) in
-    aimed_at p x c.args.from t ((c.from-first.result * 7 + 1)) c.targets-word.result here c.targets-word.ensures (omega (arith, first.high, first.low)) first.here same
+    aimed_at p x c.args.from t ((c.from-first.result * 7 + 1)) c.targets-aimed.result c.args.squares here c.targets-aimed.ensures (omega (arith, first.high, first.low)) first.here same
 
 pub returns-else-at-first-clause-aimed : goal.returns-else-at-first-clause-aimed
 returns-else-at-first-clause-aimed c lt =
@@ -82,9 +83,9 @@ returns-else-at-first-clause-aimed c lt =
     let x = c.in-Some.man in
     let t = c.in-Some-next_bit.to in
     let here : man_on p.men c.args.from ≡ Some x = sym c.man_at.ensures ∙ c.in-Some.is in
-    let first = find_first (λ s. bit_at c.targets-word.result s == 1) (c.loop-to.at / 7) (64 - c.loop-to.at / 7) t (sym c.next_bit.ensures.value ∙ c.in-Some-next_bit.is) in
+    let first = find_first (λ s. bit_at (bit_and c.targets-aimed.result c.args.squares) s == 1) (c.loop-to.at / 7) (64 - c.loop-to.at / 7) t (sym c.next_bit.ensures.value ∙ c.in-Some-next_bit.is) in
     let same : c.loop-to.at / 7 ≡ t = omega (arith, first.low, c.from-first.ensures, c.index.ensures.value) in
-    aimed_at p x c.args.from t (c.loop-to.at) c.targets-word.result here c.targets-word.ensures (omega (arith, first.high, first.low)) first.here same
+    aimed_at p x c.args.from t (c.loop-to.at) c.targets-aimed.result c.args.squares here c.targets-aimed.ensures (omega (arith, first.high, first.low)) first.here same
 
 pub returns-then-at-first-2-clause-aimed : goal.returns-then-at-first-2-clause-aimed
 returns-then-at-first-2-clause-aimed c lt =
@@ -92,6 +93,6 @@ returns-then-at-first-2-clause-aimed c lt =
     let x = c.in-Some.man in
     let t = c.in-Some-next_bit.to in
     let here : man_on p.men c.args.from ≡ Some x = sym c.man_at.ensures ∙ c.in-Some.is in
-    let first = find_first (λ s. bit_at c.targets-word.result s == 1) (c.loop-to.at / 7) (64 - c.loop-to.at / 7) t (sym c.next_bit.ensures.value ∙ c.in-Some-next_bit.is) in
+    let first = find_first (λ s. bit_at (bit_and c.targets-aimed.result c.args.squares) s == 1) (c.loop-to.at / 7) (64 - c.loop-to.at / 7) t (sym c.next_bit.ensures.value ∙ c.in-Some-next_bit.is) in
     let same : (c.from-first.result * 7) / 7 ≡ t = omega (arith, first.low, c.from-first.ensures, c.index.ensures.value) in
-    aimed_at p x c.args.from t ((c.from-first.result * 7)) c.targets-word.result here c.targets-word.ensures (omega (arith, first.high, first.low)) first.here same
+    aimed_at p x c.args.from t ((c.from-first.result * 7)) c.targets-aimed.result c.args.squares here c.targets-aimed.ensures (omega (arith, first.high, first.low)) first.here same

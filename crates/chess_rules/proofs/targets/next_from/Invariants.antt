@@ -6,7 +6,7 @@ abbrev pub invariant-loop-to : goal.invariant-loop-to
 invariant-loop-to l = record {
   low : l.fn.start ≤ l.at;
   high : l.at ≤ 448;
-  barren : IsBarrenFrom l.board l.fn.from l.fn.start l.at;
+  barren : IsBarrenFrom l.board l.fn.from l.fn.squares l.fn.start l.at;
 }
 
 abbrev pub decreases-loop-to : goal.decreases-loop-to

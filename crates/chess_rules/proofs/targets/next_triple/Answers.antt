@@ -1,5 +1,5 @@
 use Rattle.std.proofs.Common.{◌≡◌, ◌+◌, ◌-◌, ◌*◌, ◌/◌, ◌==◌, sym, ◌∙◌, arith}
-use Rattle.std.specs.Int.{bit_at}
+use Rattle.std.specs.Int.{bit_at, bit_not, w64}
 use Rattle.chess_rules.specs.Targets.{IsBarren, IsBarrenFrom}
 use Rattle.chess_rules.proofs.Targeting.{aimed_from, barren-empty, barren-none, barren-origin}
 use Rattle.chess_rules.proofs.Tests.{find_first}
@@ -14,7 +14,7 @@ returns-then-at-lt-PER_ORIGIN-clause-barren c =
     let s = c.in-Some.from in
     let first = find_first (λ q. bit_at c.side-own.result q == 1) (c.loop-from.number / 448) (64 - c.loop-from.number / 448) s (sym c.next_bit.ensures.value ∙ c.in-Some.is) in
     let at : c.from-first.result * 448 ≡ 448 * s = omega (arith, c.from-first.ensures, c.index.ensures.value) in
-    let here : IsBarrenFrom p s (c.loop-from.number - 448 * s) c.next_from-at.result = rw (c.saturating_sub.ensures, at) at c.next_from-at.ensures.barren in
+    let here : IsBarrenFrom p s (bit_not w64 0) (c.loop-from.number - 448 * s) c.next_from-at.result = rw (c.saturating_sub.ensures, at) at c.next_from-at.ensures.barren in
     let past : IsBarren p c.args.start (448 * s + c.next_from-at.result) =
     barren-origin p c.args.start c.loop-from.number s c.next_from-at.result c.side-own.result (rw c.turn.ensures at c.side-own.ensures) c.loop-from.invariant.barren first c.next_from-at.ensures.high here in
     rw at past
@@ -25,7 +25,7 @@ loop-from-preserved c =
     let s = c.in-Some.from in
     let first = find_first (λ q. bit_at c.side-own.result q == 1) (c.loop-from.number / 448) (64 - c.loop-from.number / 448) s (sym c.next_bit.ensures.value ∙ c.in-Some.is) in
     let at : c.from-first.result * 448 ≡ 448 * s = omega (arith, c.from-first.ensures, c.index.ensures.value) in
-    let here : IsBarrenFrom p s (c.loop-from.number - 448 * s) c.next_from-at.result = rw (c.saturating_sub.ensures, at) at c.next_from-at.ensures.barren in
+    let here : IsBarrenFrom p s (bit_not w64 0) (c.loop-from.number - 448 * s) c.next_from-at.result = rw (c.saturating_sub.ensures, at) at c.next_from-at.ensures.barren in
     let past : IsBarren p c.args.start (448 * s + c.next_from-at.result) =
     barren-origin p c.args.start c.loop-from.number s c.next_from-at.result c.side-own.result (rw c.turn.ensures at c.side-own.ensures) c.loop-from.invariant.barren first c.next_from-at.ensures.high here in
     let all : c.next_from-at.result ≡ 448 = omega (arith, c.next_from-at.ensures.high) in

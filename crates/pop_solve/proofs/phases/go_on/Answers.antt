@@ -6,7 +6,7 @@ use Rattle.pop_solve.proofs.phases.go_on.Goals as goal
 
 pub walk_on-requires : goal.walk_on-requires
 unfolding IsStanding
-walk_on-requires g c = (search rules, (c.requires.sound, (c.requires.room, c.requires.standing.0)))
+walk_on-requires g c = (search rules, (search rules, (c.requires.sound, (c.requires.room, c.requires.standing.0))))
 
 pub count_with-count-requires-clause-begins : goal.count_with-count-requires-clause-begins
 unfolding IsStanding

@@ -1,4 +1,6 @@
-use Rattle.std.proofs.Common.{sym, arith}
+use Rattle.std.proofs.Common.{sym, ◌∙◌, arith}
+use Rattle.pop_solve.specs.Chess.{chess}
+use Rattle.pop_solve.proofs.Boards.{walk_count-some}
 use Rattle.pop_solve.proofs.Values as values
 use Rattle.pop_solve.proofs.value.settled.Goals as goal
 
@@ -15,3 +17,12 @@ returns-then-is_open-clause-value g c =
 pub returns-else-is_open-clause-value : goal.returns-else-is_open-clause-value
 returns-else-is_open-clause-value g c =
     sym (values.value-stuck _ _ _ _ (omega arith) (sym c.if-is_end.ensures.end) (sym (rw c.is_end.ensures.unchanged at c.if-is_open.ensures.open)))
+
+pub returns-then-seeking-clause-value : goal.returns-then-seeking-clause-value
+returns-then-seeking-clause-value g c =
+    rw c.is_end.ensures.unchanged at c.can_mate.ensures.mates ∙ sym (values.value-mate c.args.selfmate (chess g.R.Rules.rule) c.args.left c.args.board.now (omega arith) (sym c.if-seeking.ensures))
+
+pub returns-then-seeking-clause-opened : goal.returns-then-seeking-clause-opened
+returns-then-seeking-clause-opened g c =
+    let some = walk_count-some (chess g.R.Rules.rule) c.args.left c.args.board.now (omega arith) in
+    omega (arith, some)

@@ -25,7 +25,7 @@ pub enter-requires : goal.enter-requires
 enter-requires g c =
     let taken = rw (← c.top.view_is) at c.in-Some.ensures.items in
     let room = walking.room_left g.R.Rules.rule c.args.way c.args.half_moves _ _ _ taken _ _ c.requires.walking.1 in
-    (search rules, (rw c.next_of.ensures.unchanged c.requires.well_formed, (omega (arith, room, c.in-Some-next_of.ensures.next.0, c.requires.room, c.push.ensures.len), rw c.next_of.ensures.unchanged c.in-Some-next_of.ensures.next.2)))
+    (search rules, (search rules, (rw c.next_of.ensures.unchanged c.requires.well_formed, (omega (arith, room, c.in-Some-next_of.ensures.next.0, c.requires.room, c.push.ensures.len), rw c.next_of.ensures.unchanged c.in-Some-next_of.ensures.next.2))))
 
 pub returns : goal.returns
 returns g c = record {

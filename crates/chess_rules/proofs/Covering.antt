@@ -1,0 +1,421 @@
+-- A plain move from a square that a queen on the king's doesn't see opens no line to the king.
+use Rattle.std.proofs.Common.{◌≡◌, ◌≢◌, ℕ, zero, suc, ◌-◌, ◌<◌, ◌≤◌, Bool, true, false, ◌&&◌, ◌||◌, ◌==◌, not, List, [], ◌∷◌, Option, Some, None, is_some, refl, sym, ap, ◌∙◌, arith, inl, inr}
+use Rattle.std.specs.Int.{bit_at, bit_not, w64}
+use Rattle.std.specs.Int.Bits.{bit_or}
+use Rattle.std.specs.List.{list_all, list_any, range_with_len}
+use Rattle.std.proofs.lemmas.Bool.{and_from, and_left, and_parts, and_right, cases_Bool, cases_eq, cond-false, cond-true, eq-eqb, false_from_ne_true, not-true, or_cases, or_left, or_parts, or_right}
+use Rattle.std.proofs.lemmas.List.Folds.{list_any-append}
+use Rattle.chess_core.specs.Position.{AtMostOneKing, Position, is_man, is_side, king_square, man_on, other, same_colour, same_kind, without_man}
+use Rattle.chess_core.specs.Squares.{is_square, squares, some_square}
+use Rattle.chess_core.specs.Steps.{along, diagonal_steps, queen_steps, straight_steps}
+use Rattle.chess_core.specs.WellFormed.{IsWellFormed}
+use Rattle.chess_core.specs.Words.{squares_of, word}
+use Rattle.chess_core.specs.declared.man.Colour.{Colour}
+use Rattle.chess_core.specs.declared.man.Colour.TheVariants.{White, Black}
+use Rattle.chess_core.specs.declared.man.Kind.{Kind}
+use Rattle.chess_core.specs.declared.man.Kind.TheVariants.{King, Queen, Rook, Bishop, Knight, Pawn, Grasshopper, Nightrider}
+use Rattle.chess_core.specs.declared.man.Man.{Man}
+use Rattle.chess_core.specs.declared.man.Move.{Move}
+use Rattle.chess_core.specs.declared.step.Step.{Step}
+use Rattle.chess_core.proofs.Men.{man_on-with_other, man_on-without_same}
+use Rattle.chess_core.proofs.Ranges.{all_range_true, any_range_false, any_range_true, find_square_some, some_square_false, some_square_true}
+use Rattle.chess_core.proofs.Words.{squares_either, squares_not, squares_same}
+use Rattle.chess_rules.specs.Attacks.{attacked, check_of, in_check, paralysed, strikes}
+use Rattle.chess_rules.specs.Calm.{covers, has_fairy, is_bare, is_fairy, is_plain, may_strike, may_strike_on, may_uncover, may_uncover_on}
+use Rattle.chess_rules.specs.Legal.{is_promotion_right, pseudo}
+use Rattle.chess_rules.specs.Play.{after, after_by, arriving, capture_square, is_castling, is_diagonal, man_on_at, moved_men, put_at, reborn_at, reborn_square, without_at}
+use Rattle.chess_rules.specs.Reaches.{is_clear, is_vacant, reaches, reaches_as, rides}
+use Rattle.chess_rules.specs.RuleSet.{RuleSet, is_circe, is_madrasi}
+use Rattle.chess_rules.proofs.Bits.{not_zero, word_empty, word_has}
+use Rattle.chess_rules.proofs.Fits.{arrived, arrived_other, arriving_king}
+use Rattle.chess_rules.proofs.Flips.{diagonal-back, queen_rides-back, straight-back}
+use Rattle.chess_rules.proofs.Plays.{none_from_is_some, stays_empty}
+use Rattle.chess_rules.proofs.Pseudo.{IsMade, made, on_board}
+use Rattle.chess_rules.proofs.Returns.{moved_arrival}
+use Rattle.chess_rules.proofs.Stays.{maker}
+use Rattle.chess_rules.proofs.Tests.{all_at, any_range_cases, differs, find_first, first_of_and, second_of_and}
+
+-- the man on a is gone, z has come to b, and nothing else has changed
+pub record IsShift (men after : List (Option Man)) (a b : ℕ) (z : Man) : Type 0 where
+  pub vacated : (q : ℕ) → man_on after q ≡ None → q ≢ a → man_on men q ≡ None
+  pub others : (q : ℕ) (y : Man) → man_on after q ≡ Some y → q ≢ b → man_on men q ≡ Some y
+  pub arrived : (y : Man) → man_on after b ≡ Some y → y ≡ z
+
+stays_vacant : (men after : List (Option Man)) (a b : ℕ) (z : Man) (o : Option ℕ) → IsShift men after a b z → is_vacant after o ≡ true → is_square o a ≡ false → is_vacant men o ≡ true
+stays_vacant men after a b z None i h ne = h
+stays_vacant men after a b z (Some q) i h ne =
+    let none : man_on after q ≡ None = none_from_is_some (man_on after q) (not-true _ h) in
+    let free : man_on men q ≡ None = i.vacated q none (λ e. let y : (q == a) ≡ true = eq-eqb q a e in cc) in
+    rw free refl
+
+-- squares that are empty now were empty before, as far as the queen's line from k doesn't end on a
+clear_before : (men after : List (Option Man)) (a b : ℕ) (z : Man) (k : ℕ) (d : Step) (n j : ℕ) → IsShift men after a b z → n ≤ 6 → is_clear after k d n ≡ true → rides men k a d ≡ false → j ≤ n → is_clear men k d j ≡ true
+unfolding is_clear rides
+clear_before men after a b z k d n zero i le clear ne lt = refl
+clear_before men after a b z k d n (suc j) i le clear ne lt =
+    let before : list_all (λ q. is_vacant men (along k d q)) (range_with_len 1 j) ≡ true = clear_before men after a b z k d n j i le clear ne (omega arith) in
+    let here : is_vacant after (along k d (suc j)) ≡ true = all_at (λ q. is_vacant after (along k d q)) 1 n (suc j) clear (omega arith) (omega arith) in
+    let one : suc j - 1 ≡ j = omega arith in
+    let off : is_square (along k d (suc j)) a ≡ false = false_from_ne_true _ (λ y.
+    let ride : rides men k a d ≡ true =
+    any_range_true (λ q. is_square (along k d q) a && is_clear men k d (q - 1)) 1 7 (suc j) (omega arith) (omega arith) (and_from _ _ y (ap (λ n. list_all (λ q. is_vacant men (along k d q)) (range_with_len 1 n)) one ∙ before)) in
+    cc) in
+    let last : is_vacant men (along k d (suc j)) ≡ true = stays_vacant men after a b z (along k d (suc j)) i here off in
+    all_range_true (λ q. is_vacant men (along k d q)) 1 (suc j) (λ q lo hi. elim (cases_eq q (suc j)) [
+      | inl e ↦ rw e last
+      | inr other ↦ all_at (λ q. is_vacant men (along k d q)) 1 j q before lo (omega arith)
+    ])
+
+ride_before : (men after : List (Option Man)) (a b : ℕ) (z : Man) (k t : ℕ) (d : Step) → IsShift men after a b z → rides men k a d ≡ false → rides after k t d ≡ true → rides men k t d ≡ true
+unfolding rides
+ride_before men after a b z k t d i ne h = elim (any_range_cases (λ q. is_square (along k d q) t && is_clear after k d (q - 1)) 1 7) [
+  | inl w ↦
+      any_range_true (λ q. is_square (along k d q) t && is_clear men k d (q - 1)) 1 7 w.0 w.1 (omega (arith, w.2))
+      (and_from _ _ (first_of_and _ _ w.3) (clear_before men after a b z k d (w.0 - 1) (w.0 - 1) i (omega (arith, w.2)) (second_of_and (is_square (along k d w.0) t) _ w.3) ne (omega arith)))
+  | inr none ↦
+      let bad : list_any (λ q. is_square (along k d q) t && is_clear after k d (q - 1)) (range_with_len 1 7) ≡ false = any_range_false (λ q. is_square (along k d q) t && is_clear after k d (q - 1)) 1 7 none in
+      cc
+]
+
+rides_before : (men after : List (Option Man)) (a b : ℕ) (z : Man) (k t : ℕ) (ds : List Step) → IsShift men after a b z → list_any (rides men k a) ds ≡ false → list_any (rides after k t) ds ≡ true → list_any (rides men k t) ds ≡ true
+rides_before men after a b z k t [] i ne h = h
+rides_before men after a b z k t (d ∷ ds) i ne h =
+    let n = or_parts (rides men k a d) (list_any (rides men k a) ds) ne in
+    elim (or_cases (rides after k t d) (list_any (rides after k t) ds) h) [
+      | inl y ↦ or_left (rides men k t d) _ (ride_before men after a b z k t d i n.0 y)
+      | inr y ↦ or_right (rides men k t d) _ (rides_before men after a b z k t ds i n.1 y)
+    ]
+
+unseen : (men : List (Option Man)) (k a : ℕ) → list_any (rides men k a) queen_steps ≡ false → (list_any (rides men k a) straight_steps ≡ false) × (list_any (rides men k a) diagonal_steps ≡ false)
+unseen men k a h =
+    or_parts (list_any (rides men k a) straight_steps) (list_any (rides men k a) diagonal_steps) (sym (list_any-append (rides men k a) straight_steps diagonal_steps) ∙ h)
+
+-- an orthodox man that reaches k now, where it stands, reached it before, had it stood there
+reaches_before : (men after : List (Option Man)) (a b : ℕ) (z : Man) (c e : Colour) (k s : ℕ) (j : Kind) → IsShift men after a b z → s < 64 → k < 64 → is_fairy j ≡ false → reaches_as men c Queen k a ≡ false → reaches_as after e j s k ≡ true → reaches_as men e j s k ≡ true
+unfolding reaches_as
+reaches_before men after a b z c e k s King i p q f ne h = h
+reaches_before men after a b z c e k s Queen i p q f ne h =
+    queen_rides-back men s k p q ∙ rides_before men after a b z k s queen_steps i ne (sym (queen_rides-back after s k p q) ∙ h)
+reaches_before men after a b z c e k s Rook i p q f ne h =
+    straight-back men s k p q ∙ rides_before men after a b z k s straight_steps i (unseen men k a ne).0 (sym (straight-back after s k p q) ∙ h)
+reaches_before men after a b z c e k s Bishop i p q f ne h =
+    diagonal-back men s k p q ∙ rides_before men after a b z k s diagonal_steps i (unseen men k a ne).1 (sym (diagonal-back after s k p q) ∙ h)
+reaches_before men after a b z c e k s Knight i p q f ne h = h
+reaches_before men after a b z c e k s Pawn i p q f ne h = h
+reaches_before men after a b z c e k s Grasshopper i p q f ne h = cc
+reaches_before men after a b z c e k s Nightrider i p q f ne h = cc
+
+pub orthodox_man : (men : List (Option Man)) (c : Colour) (s : ℕ) (y : Man) → s < 64 → man_on men s ≡ Some y → same_colour y.colour c ≡ true → has_fairy men c ≡ false → is_fairy y.kind ≡ false
+unfolding has_fairy
+orthodox_man men c s y small there side none = by y.kind refl where
+  by : (j : Kind) → y.kind ≡ j → is_fairy j ≡ false
+  by King e = refl
+  by Queen e = refl
+  by Rook e = refl
+  by Bishop e = refl
+  by Knight e = refl
+  by Pawn e = refl
+  by Grasshopper e =
+      let n = or_parts (some_square (λ s. is_man (man_on men s) c Grasshopper)) (some_square (λ s. is_man (man_on men s) c Nightrider)) none in
+      let yes : some_square (λ s. is_man (man_on men s) c Grasshopper) ≡ true = some_square_true (λ s. is_man (man_on men s) c Grasshopper) s small (rw there (and_from (same_colour y.colour c) (same_kind y.kind Grasshopper) side (rw e refl))) in
+      let no = n.0 in
+      cc
+  by Nightrider e =
+      let n = or_parts (some_square (λ s. is_man (man_on men s) c Grasshopper)) (some_square (λ s. is_man (man_on men s) c Nightrider)) none in
+      let yes : some_square (λ s. is_man (man_on men s) c Nightrider) ≡ true = some_square_true (λ s. is_man (man_on men s) c Nightrider) s small (rw there (and_from (same_colour y.colour c) (same_kind y.kind Nightrider) side (rw e refl))) in
+      let no = n.1 in
+      cc
+
+-- what keeps a king on k from being uncovered
+pub record IsCovered (rule : RuleSet) (men : List (Option Man)) (c : Colour) (a k : ℕ) : Type 0 where
+  pub orthodox : is_madrasi rule ≡ false
+  pub no_fairy : has_fairy men (other c) ≡ false
+  pub safe : attacked rule men k (other c) ≡ false
+  pub apart : (k == a) ≡ false
+  pub unseen : reaches_as men c Queen k a ≡ false
+
+covered_parts : (rule : RuleSet) (men : List (Option Man)) (c : Colour) (a k : ℕ) → may_uncover_on rule men (Some k) c a ≡ false → IsCovered rule men c a k
+unfolding is_bare
+covered_parts rule men c a k h =
+    let h1 = or_parts (is_bare rule men c k || k == a) (reaches_as men c Queen k a) h in
+    let h2 = or_parts (is_bare rule men c k) (k == a) h1.0 in
+    let h3 = or_parts (is_madrasi rule || has_fairy men (other c)) (attacked rule men k (other c)) h2.0 in
+    let h4 = or_parts (is_madrasi rule) (has_fairy men (other c)) h3.0 in
+    record { orthodox = h4.0; no_fairy = h4.1; safe = h3.1; apart = h2.1; unseen = h1.1 }
+
+-- a man that strikes the king now and hasn't moved struck it before
+strikes_before : (rule : RuleSet) (men after : List (Option Man)) (a b : ℕ) (z : Man) (c : Colour) (k s : ℕ) (o : Option Man) → man_on after s ≡ o → IsShift men after a b z → IsCovered rule men c a k → s < 64 → k < 64 → s ≢ b → is_side o (other c) ≡ true → reaches after s k ≡ true → strikes rule men k (other c) s ≡ true
+unfolding strikes paralysed reaches
+strikes_before rule men after a b z c k s None at i g p q ne side h = cc
+strikes_before rule men after a b z c k s (Some y) at i g p q ne side h =
+    let there : man_on men s ≡ Some y = i.others s y at ne in
+    let now : reaches_as after y.colour y.kind s k ≡ true = rw at at h in
+    let plain : is_fairy y.kind ≡ false = orthodox_man men (other c) s y p there side g.no_fairy in
+    let was : reaches_as men y.colour y.kind s k ≡ true = reaches_before men after a b z c y.colour k s y.kind i p q plain g.unseen now in
+    let mine : is_side (man_on men s) (other c) ≡ true = rw there side in
+    let then : reaches men s k ≡ true = rw there was in
+    and_from _ _ (and_from _ _ mine (ap not (and_left (is_madrasi rule) _ g.orthodox))) then
+
+-- and the one that has moved is no enemy, or doesn't reach the king
+pub record IsQuiet (men : List (Option Man)) (c : Colour) (b k : ℕ) (z : Man) : Type 0 where
+  pub quiet : same_colour z.colour (other c) ≡ true → (is_fairy z.kind ≡ false) × (reaches_as men z.colour z.kind b k ≡ false)
+
+arrival_strikes : (rule : RuleSet) (men after : List (Option Man)) (a b : ℕ) (z : Man) (c : Colour) (k : ℕ) (o : Option Man) → man_on after b ≡ o → IsShift men after a b z → IsCovered rule men c a k → IsQuiet men c b k z → b < 64 → k < 64 → is_side o (other c) ≡ true → reaches after b k ≡ true → ⊥
+unfolding reaches
+arrival_strikes rule men after a b z c k None at i g l p q side h = cc
+arrival_strikes rule men after a b z c k (Some y) at i g l p q side h =
+    let is : y ≡ z = i.arrived y at in
+    let mine : same_colour z.colour (other c) ≡ true = ap (λ (x : Man). same_colour x.colour (other c)) (sym is) ∙ side in
+    let now : reaches_as after y.colour y.kind b k ≡ true = rw at at h in
+    let came : reaches_as after z.colour z.kind b k ≡ true = ap (λ (x : Man). reaches_as after x.colour x.kind b k) (sym is) ∙ now in
+    let n = l.quiet mine in
+    let was : reaches_as men z.colour z.kind b k ≡ true = reaches_before men after a b z c z.colour k b z.kind i p q n.0 g.unseen came in
+    let no = n.1 in
+    cc
+
+not_attacked : (rule : RuleSet) (men after : List (Option Man)) (a b : ℕ) (z : Man) (c : Colour) (k : ℕ) → IsShift men after a b z → IsCovered rule men c a k → IsQuiet men c b k z → k < 64 → attacked rule after k (other c) ≡ false
+unfolding attacked strikes
+not_attacked rule men after a b z c k i g l q =
+    some_square_false (strikes rule after k (other c)) 64 (omega arith) (record {
+      fails = λ s p. false_from_ne_true _ (λ h.
+          let h1 = and_parts (is_side (man_on after s) (other c) && not (paralysed rule after s)) (reaches after s k) h in
+          let h2 = and_parts (is_side (man_on after s) (other c)) (not (paralysed rule after s)) h1.0 in
+          elim (cases_eq s b) [
+            | inl e ↦
+                let small : b < 64 = omega arith in
+                let side : is_side (man_on after b) (other c) ≡ true = ap (λ (n : ℕ). is_side (man_on after n) (other c)) (sym e) ∙ h2.0 in
+                let hit : reaches after b k ≡ true = ap (λ (n : ℕ). reaches after n k) (sym e) ∙ h1.1 in
+                arrival_strikes rule men after a b z c k (man_on after b) refl i g l small q side hit
+            | inr ne ↦
+                let yes : some_square (strikes rule men k (other c)) ≡ true = some_square_true (strikes rule men k (other c)) s p (strikes_before rule men after a b z c k s (man_on after s) refl i g p q ne h2.0 h1.1) in
+                let no = g.safe in
+                cc
+          ]);
+    })
+
+-- the square of a king is its side's
+pub king_is : (men : List (Option Man)) (c : Colour) (k : ℕ) → AtMostOneKing men → k < 64 → is_man (man_on men k) c King ≡ true → king_square men c ≡ Some k
+unfolding king_square
+king_is men c k one small h =
+    find_square_some (λ s. is_man (man_on men s) c King) k small h (record {
+      fails = λ j lt. false_from_ne_true _ (λ y. let e : j ≡ k = one.same c j k y h in omega arith);
+    })
+
+pub man_there : (o : Option Man) (c : Colour) (j : Kind) → is_man o c j ≡ true → (y : Man) × (o ≡ Some y)
+man_there None c j h = cc
+man_there (Some y) c j h = (y, refl)
+
+-- what is asked of a shift, so that the king of colour c isn't in check after it
+pub record IsHarmless (rule : RuleSet) (men : List (Option Man)) (c : Colour) (a b : ℕ) (z : Man) : Type 0 where
+  pub one : AtMostOneKing men
+  pub king : is_man (Some z) c King ≡ true → king_square men c ≡ Some a
+  pub covers : may_uncover rule men c a ≡ false
+  pub quiet : (k : ℕ) → king_square men c ≡ Some k → IsQuiet men c b k z
+
+king_stays : (rule : RuleSet) (men after : List (Option Man)) (a b : ℕ) (z : Man) (c : Colour) (k : ℕ) → IsShift men after a b z → IsHarmless rule men c a b z → k < 64 → is_man (man_on after k) c King ≡ true → king_square men c ≡ Some k
+unfolding may_uncover
+king_stays rule men after a b z c k i g small h =
+    let y = man_there (man_on after k) c King h in
+    let is : is_man (Some y.0) c King ≡ true = rw y.1 at h in
+    elim (cases_eq k b) [
+      | inl e ↦
+          let came : man_on after b ≡ Some y.0 = ap (λ (n : ℕ). man_on after n) (sym e) ∙ y.1 in
+          let same : y.0 ≡ z = i.arrived y.0 came in
+          let was : king_square men c ≡ Some a = g.king (ap (λ (x : Man). is_man (Some x) c King) (sym same) ∙ is) in
+          let no : may_uncover_on rule men (Some a) c a ≡ false = rw was at g.covers in
+          let apart : (a == a) ≡ false = (covered_parts rule men c a a no).apart in
+          let yes : (a == a) ≡ true = eq-eqb a a refl in
+          cc
+      | inr ne ↦
+          let there : man_on men k ≡ Some y.0 = i.others k y.0 y.1 ne in
+          king_is men c k g.one small (rw there is)
+    ]
+
+pub stays_safe : (rule : RuleSet) (men after : List (Option Man)) (a b : ℕ) (z : Man) (c : Colour) → IsShift men after a b z → IsHarmless rule men c a b z → in_check rule after c ≡ false
+unfolding in_check king_square squares may_uncover
+stays_safe rule men after a b z c i g = by (king_square after c) refl where
+  by : (o : Option ℕ) → king_square after c ≡ o → check_of rule after o (other c) ≡ false
+  by None e = refl
+  by (Some k) e =
+      let f = find_first (λ s. is_man (man_on after s) c King) 0 64 k e in
+      let small : k < 64 = omega (arith, f.high) in
+      let at : king_square men c ≡ Some k = king_stays rule men after a b z c k i g small f.here in
+      let no : may_uncover_on rule men (Some k) c a ≡ false = ap (λ (o : Option ℕ). may_uncover_on rule men o c a) (sym at) ∙ g.covers in
+      not_attacked rule men after a b z c k i (covered_parts rule men c a k no) (g.quiet k at) small
+
+-- nobody is reborn where nobody is captured, or without Circe
+none_reborn : (men : List (Option Man)) (o : Option Man) (s : ℕ) → reborn_at false men o (Some s) ≡ None
+none_reborn men None s = refl
+none_reborn men (Some y) s = refl
+
+nobody_reborn : (circe : Bool) (men before : List (Option Man)) (o : Option ℕ) → (circe ≡ true → o ≡ None) → reborn_at circe men (man_on_at before o) o ≡ None
+nobody_reborn circe men before None h = refl
+nobody_reborn false men before (Some s) h = none_reborn men (man_on before s) s
+nobody_reborn true men before (Some s) h = let bad : Some s ≡ None = h refl in cc
+
+-- a plain move captures on its arrival alone
+captures_there : (p : Position) (x : Man) (m : Move) (s : ℕ) → is_square p.crossed m.to ≡ false → capture_square p x m ≡ Some s → s ≡ m.to
+unfolding capture_square
+captures_there p x m s off h = elim (cases_Bool (is_some (man_on p.men m.to))) [
+  | inl e ↦ let c : Some m.to ≡ Some s = sym (cond-true (is_some (man_on p.men m.to)) _ _ e) ∙ h in cc
+  | inr e ↦
+      let h1 = sym (cond-false (is_some (man_on p.men m.to)) _ _ e) ∙ h in
+      let h2 : None ≡ Some s = sym (cond-false (same_kind x.kind Pawn && is_diagonal m && is_square p.crossed m.to) _ _ (and_right (same_kind x.kind Pawn && is_diagonal m) _ off)) ∙ h1 in
+      cc
+]
+
+captures_nobody : (p : Position) (x : Man) (m : Move) → is_square p.crossed m.to ≡ false → is_some (man_on p.men m.to) ≡ false → capture_square p x m ≡ None
+unfolding capture_square
+captures_nobody p x m off e =
+    cond-false (is_some (man_on p.men m.to)) _ _ e
+    ∙ cond-false (same_kind x.kind Pawn && is_diagonal m && is_square p.crossed m.to) _ _ (and_right (same_kind x.kind Pawn && is_diagonal m) _ off)
+
+-- the parts of a plain move
+pub record IsPlain (rule : RuleSet) (p : Position) (x : Man) (m : Move) : Type 0 where
+  pub castling : is_castling x m ≡ false
+  pub crossed : is_square p.crossed m.to ≡ false
+  pub rebirth : is_circe rule ≡ true → capture_square p x m ≡ None
+
+first_off : (a b : Bool) → (a && b) ≡ false → a ≡ true → b ≡ false
+first_off true b h e = h
+first_off false b h e = cc
+
+pub plain_parts : (rule : RuleSet) (p : Position) (x : Man) (m : Move) → is_plain rule p x m ≡ true → IsPlain rule p x m
+unfolding is_plain
+plain_parts rule p x m h =
+    let h1 = and_parts (not (is_castling x m) && not (is_square p.crossed m.to)) (not (is_circe rule && is_some (man_on p.men m.to))) h in
+    let h2 = and_parts (not (is_castling x m)) (not (is_square p.crossed m.to)) h1.0 in
+    let off : is_square p.crossed m.to ≡ false = not-true _ h2.1 in
+    record {
+      castling = not-true _ h2.0;
+      crossed = off;
+      rebirth = λ circe. captures_nobody p x m off (first_off (is_circe rule) (is_some (man_on p.men m.to)) (not-true _ h1.1) circe);
+    }
+
+moved_plainly : (p : Position) (x : Man) (m : Move) → is_castling x m ≡ false → moved_men p x m ≡ arrived p x m
+unfolding moved_men
+moved_plainly p x m h = rw h refl
+
+pub men_after : (rule : RuleSet) (p : Position) (x : Man) (m : Move) → man_on p.men m.from ≡ Some x → IsPlain rule p x m → (after rule p m).men ≡ arrived p x m
+unfolding after after_by reborn_square
+men_after rule p x m here plain =
+    let nobody : reborn_at (is_circe rule) (moved_men p x m) (man_on_at p.men (capture_square p x m)) (capture_square p x m) ≡ None = nobody_reborn (is_circe rule) (moved_men p x m) p.men (capture_square p x m) plain.rebirth in
+    rw here (ap (λ (o : Option ℕ). put_at (moved_men p x m) o (man_on_at p.men (capture_square p x m))) nobody ∙ moved_plainly p x m plain.castling)
+
+pub arrived_shift : (rule : RuleSet) (p : Position) (x : Man) (m : Move) → IsWellFormed p → IsMade rule p x m → m.to < 64 → IsPlain rule p x m → IsShift p.men (arrived p x m) m.from m.to (arriving x m.promo)
+arrived_shift rule p x m well is small plain =
+    let there : man_on (arrived p x m) m.to ≡ Some (arriving x m.promo) = ap (λ (l : List (Option Man)). man_on l m.to) (sym (moved_plainly p x m plain.castling)) ∙ moved_arrival rule p x m well is small in
+    record {
+      vacated = λ q none off. elim (cases_eq q m.to) [
+        | inl e ↦ let bad : None ≡ Some (arriving x m.promo) = sym none ∙ ap (λ (n : ℕ). man_on (arrived p x m) n) e ∙ there in cc
+        | inr ne ↦ sym (arrived_other p x m q off (λ s cap e. ne (e ∙ captures_there p x m s plain.crossed cap)) ne) ∙ none
+      ];
+      others = λ q y at ne. elim (cases_eq q m.from) [
+        | inl e ↦
+            let gone : man_on (without_man p.men m.from) q ≡ None = rw e (man_on-without_same p.men m.from) in
+            let none : man_on (arrived p x m) q ≡ None = man_on-with_other (without_at (without_man p.men m.from) (capture_square p x m)) m.to q (arriving x m.promo) ne ∙ stays_empty (without_man p.men m.from) (capture_square p x m) q gone in
+            let bad : None ≡ Some y = sym none ∙ at in
+            cc
+        | inr off ↦ sym (arrived_other p x m q off (λ s cap e. ne (e ∙ captures_there p x m s plain.crossed cap)) ne) ∙ at
+      ];
+      arrived = λ y at. let e : Some (arriving x m.promo) ≡ Some y = sym there ∙ at in cc;
+    }
+
+-- a king that arrives left its own square
+king_came : (p : Position) (x : Man) (m : Move) (c : Colour) → IsWellFormed p → man_on p.men m.from ≡ Some x → is_promotion_right p x m m.promo ≡ true → is_man (Some (arriving x m.promo)) c King ≡ true → king_square p.men c ≡ Some m.from
+king_came p x m c well here right h =
+    let same : arriving x m.promo ≡ x = arriving_king p x m m.promo right (and_parts (same_colour (arriving x m.promo).colour c) _ h).1 in
+    let is : is_man (Some x) c King ≡ true = ap (λ (y : Man). is_man (Some y) c King) (sym same) ∙ h in
+    king_is p.men c m.from well.kings (on_board p.men m.from x well.size here) (rw here is)
+
+plain_safe : (rule : RuleSet) (p : Position) (x : Man) (m : Move) (c : Colour) → IsWellFormed p → IsMade rule p x m → m.to < 64 → IsPlain rule p x m → may_uncover rule p.men c m.from ≡ false
+    → ((k : ℕ) → king_square p.men c ≡ Some k → IsQuiet p.men c m.to k (arriving x m.promo))
+    → in_check rule (after rule p m).men c ≡ false
+plain_safe rule p x m c well is small plain covers quiet =
+    ap (λ (l : List (Option Man)). in_check rule l c) (men_after rule p x m is.here plain)
+    ∙ stays_safe rule p.men (arrived p x m) m.from m.to (arriving x m.promo) c (arrived_shift rule p x m well is small plain)
+    (record { one = well.kings; king = king_came p x m c well is.here is.promotion; covers = covers; quiet = quiet })
+
+pub arriving_colour : (x : Man) (r : Option Kind) → (arriving x r).colour ≡ x.colour
+arriving_colour x None = refl
+arriving_colour x (Some k) = refl
+
+pub other_differs : (c : Colour) → same_colour c (other c) ≡ false
+other_differs White = refl
+other_differs Black = refl
+
+covers_parts : (rule : RuleSet) (p : Position) (x : Man) (c : Colour) (m : Move) → man_on p.men m.from ≡ Some x → covers rule p c m ≡ true → (may_uncover rule p.men c m.from ≡ false) × IsPlain rule p x m
+unfolding covers
+covers_parts rule p x c m here h =
+    let h0 : (not (may_uncover rule p.men c m.from) && is_plain rule p x m) ≡ true = rw here at h in
+    let h1 = and_parts (not (may_uncover rule p.men c m.from)) (is_plain rule p x m) h0 in
+    (not-true _ h1.0, plain_parts rule p x m h1.1)
+
+-- such a move doesn't leave its mover in check
+pub covers_own : (rule : RuleSet) (p : Position) (m : Move) → IsWellFormed p → pseudo rule p m ≡ true → m.to < 64 → covers rule p p.turn m ≡ true → in_check rule (after rule p m).men p.turn ≡ false
+covers_own rule p m well may small h =
+    let w = maker rule p m may in
+    let x : Man = w.0 in
+    let is : IsMade rule p x m = made rule p m x may w.1 in
+    let parts = covers_parts rule p x p.turn m w.1 h in
+    plain_safe rule p x m p.turn well is small parts.1 parts.0 (λ k at. record {
+      quiet = λ enemy.
+          let own : same_colour (arriving x m.promo).colour (other p.turn) ≡ false = ap (λ (c : Colour). same_colour c (other p.turn)) (arriving_colour x m.promo ∙ is.mine) ∙ other_differs p.turn in
+          absurd (let bad : true ≡ false = sym enemy ∙ own in cc);
+    })
+
+-- and, where the man that arrives doesn't strike the enemy's king, doesn't give check
+pub gives_no_check : (rule : RuleSet) (p : Position) (x : Man) (m : Move) → IsWellFormed p → pseudo rule p m ≡ true → m.to < 64 → man_on p.men m.from ≡ Some x → covers rule p (other p.turn) m ≡ true → may_strike p.men (other p.turn) (arriving x m.promo) m.to ≡ false → in_check rule (after rule p m).men (other p.turn) ≡ false
+unfolding may_strike
+gives_no_check rule p x m well may small here h off =
+    let parts = covers_parts rule p x (other p.turn) m here h in
+    plain_safe rule p x m (other p.turn) well (made rule p m x may here) small parts.1 parts.0 (λ k at. record {
+      quiet = λ enemy.
+          let no : may_strike_on p.men (Some k) (arriving x m.promo) m.to ≡ false = ap (λ (o : Option ℕ). may_strike_on p.men o (arriving x m.promo) m.to) (sym at) ∙ off in
+          or_parts (is_fairy (arriving x m.promo).kind) (reaches_as p.men (arriving x m.promo).colour (arriving x m.promo).kind m.to k) no;
+    })
+
+-- a fairy man by the words of the two kinds
+pub some_grasshopper : (men : List (Option Man)) (c : Colour) (w : ℕ) → w ≡ squares_of men c Grasshopper → (w ≡ 0 → ⊥) → not (w == 0) ≡ has_fairy men c
+unfolding has_fairy squares_of
+some_grasshopper men c w h some =
+    let yes : not (w == 0) ≡ true = ap not (differs w 0 some) in
+    yes ∙ sym (or_left _ _ (sym (not_zero (λ s. is_man (man_on men s) c Grasshopper)) ∙ ap (λ n. not (n == 0)) (sym h) ∙ yes))
+
+pub some_nightrider : (men : List (Option Man)) (c : Colour) (w n : ℕ) → w ≡ squares_of men c Grasshopper → w ≡ 0 → n ≡ squares_of men c Nightrider → not (n == 0) ≡ has_fairy men c
+unfolding has_fairy squares_of
+some_nightrider men c w n h none i =
+    let no : some_square (λ s. is_man (man_on men s) c Grasshopper) ≡ false = sym (not_zero (λ s. is_man (man_on men s) c Grasshopper)) ∙ ap (λ k. not (k == 0)) (sym h ∙ none) in
+    ap (λ k. not (k == 0)) i ∙ not_zero (λ s. is_man (man_on men s) c Nightrider)
+    ∙ sym (ap (λ (b : Bool). b || some_square (λ s. is_man (man_on men s) c Nightrider)) no)
+
+-- all squares
+pub every_square : (test : ℕ → Bool) → ((s : ℕ) → s < 64 → test s ≡ true) → bit_not w64 0 ≡ word test
+every_square test h = ap (bit_not w64) (word_empty (λ s. false) (λ s b. refl)) ∙ squares_not (λ s. false) ∙ squares_same (λ s. true) test (λ s b. sym (h s b))
+
+-- the word of the squares from which a move may uncover a king
+pub uncovering_none : (rule : RuleSet) (men : List (Option Man)) (c : Colour) → king_square men c ≡ None → 0 ≡ word (may_uncover rule men c)
+unfolding may_uncover
+uncovering_none rule men c h = word_empty (may_uncover rule men c) (λ s b. ap (λ (o : Option ℕ). may_uncover_on rule men o c s) h)
+
+pub uncovering_all : (rule : RuleSet) (men : List (Option Man)) (c : Colour) (k : ℕ) → king_square men c ≡ Some k → is_bare rule men c k ≡ true → bit_not w64 0 ≡ word (may_uncover rule men c)
+unfolding may_uncover
+uncovering_all rule men c k at bare =
+    every_square (may_uncover rule men c) (λ s b. ap (λ (o : Option ℕ). may_uncover_on rule men o c s) at ∙ or_left _ _ (or_left _ _ bare))
+
+pub uncovering_some : (rule : RuleSet) (men : List (Option Man)) (c : Colour) (k w n : ℕ) → king_square men c ≡ Some k → is_bare rule men c k ≡ false → w ≡ word (λ t. is_square (Some k) t) → n ≡ word (λ t. reaches_as men c Queen k t) → bit_or w n ≡ word (may_uncover rule men c)
+unfolding may_uncover
+uncovering_some rule men c k w n at bare h i =
+    (λ j. bit_or (h j) (i j)) ∙ squares_either (λ t. is_square (Some k) t) (λ t. reaches_as men c Queen k t)
+    ∙ squares_same (λ t. is_square (Some k) t || reaches_as men c Queen k t) (may_uncover rule men c)
+    (λ s b. sym (ap (λ (o : Option ℕ). may_uncover_on rule men o c s) at ∙ ap (λ (x : Bool). x || k == s || reaches_as men c Queen k s) bare))
+
+-- whether a move can't uncover a king, told by that word
+pub covers_is : (rule : RuleSet) (p : Position) (x : Man) (c : Colour) (m : Move) (w s : ℕ) (b : Bool) → man_on p.men m.from ≡ Some x → w ≡ word (may_uncover rule p.men c) → s ≡ m.from → s < 64 → b ≡ (bit_at w s == 1) → (not b && is_plain rule p x m) ≡ covers rule p c m
+unfolding covers
+covers_is rule p x c m w s b here h same small e =
+    rw here (ap (λ (u : Bool). not u && is_plain rule p x m) (e ∙ word_has (may_uncover rule p.men c) w s h small ∙ ap (may_uncover rule p.men c) same))
+
+pub covers_nobody : (rule : RuleSet) (p : Position) (c : Colour) (m : Move) → man_on p.men m.from ≡ None → false ≡ covers rule p c m
+unfolding covers
+covers_nobody rule p c m none = rw none refl

@@ -1,0 +1,28 @@
+-- Words of several lines joined.
+use Rattle.std.proofs.Common.{◌≡◌, ℕ, Bool, true, false, ◌||◌, List, [], ◌∷◌, ◌++◌, refl, sym, ◌∙◌}
+use Rattle.std.specs.Int.Bits.{bit_or}
+use Rattle.std.specs.List.{list_any}
+use Rattle.std.proofs.lemmas.List.Folds.{list_any-append}
+use Rattle.chess_core.specs.Words.{word}
+use Rattle.chess_core.specs.declared.step.Step.{Step}
+use Rattle.chess_core.proofs.Words.{squares_either, squares_same}
+
+one_by_one : (a b c d : Bool) → (((a || b) || c) || d) ≡ (a || (b || (c || (d || false))))
+one_by_one true b c d = refl
+one_by_one false true c d = refl
+one_by_one false false true d = refl
+one_by_one false false false true = refl
+one_by_one false false false false = refl
+
+pub four : (p : ℕ → Step → Bool) (a b c d : Step) (k l m n : ℕ) → k ≡ word (λ t. p t a) → l ≡ word (λ t. p t b) → m ≡ word (λ t. p t c) → n ≡ word (λ t. p t d)
+    → bit_or (bit_or (bit_or k l) m) n ≡ word (λ t. list_any (p t) (a ∷ b ∷ c ∷ d ∷ []))
+four p a b c d k l m n x y z w =
+    (λ j. bit_or (bit_or (bit_or (x j) (y j)) (z j)) (w j))
+    ∙ (λ j. bit_or (bit_or (squares_either (λ t. p t a) (λ t. p t b) j) (word (λ t. p t c))) (word (λ t. p t d)))
+    ∙ (λ j. bit_or (squares_either (λ t. p t a || p t b) (λ t. p t c) j) (word (λ t. p t d)))
+    ∙ squares_either (λ t. (p t a || p t b) || p t c) (λ t. p t d)
+    ∙ squares_same _ _ (λ t q. one_by_one (p t a) (p t b) (p t c) (p t d))
+
+pub both_lists : (p : ℕ → Step → Bool) (xs ys : List Step) (k l : ℕ) → k ≡ word (λ t. list_any (p t) xs) → l ≡ word (λ t. list_any (p t) ys) → bit_or k l ≡ word (λ t. list_any (p t) (xs ++ ys))
+both_lists p xs ys k l x y =
+    (λ j. bit_or (x j) (y j)) ∙ squares_either (λ t. list_any (p t) xs) (λ t. list_any (p t) ys) ∙ squares_same _ _ (λ t q. sym (list_any-append (p t) xs ys))

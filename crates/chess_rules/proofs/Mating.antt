@@ -1,0 +1,83 @@
+-- The moves that mate, by their numbers.
+use Rattle.std.proofs.Common.{◌≡◌, ℕ, zero, suc, ◌+◌, ◌-◌, ◌<◌, ◌≤◌, Bool, true, false, ◌&&◌, not, List, [], ◌∷◌, filter, refl, sym, ap, ◌∙◌, arith, inl, inr}
+use Rattle.std.proofs.lemmas.Bool.{and_left, and_right, cases_Bool, cases_lt, cond-false, cond-true}
+use Rattle.chess_core.specs.Position.{Position, other}
+use Rattle.chess_core.specs.declared.man.Move.{Move}
+use Rattle.chess_rules.specs.Attacks.{in_check}
+use Rattle.chess_rules.specs.Legal.{is_goal, legal, pseudo}
+use Rattle.chess_rules.specs.Places.{AreQuiet, mates, mates_behind, triple_at}
+use Rattle.chess_rules.specs.Play.{after, after_by}
+use Rattle.chess_rules.specs.RuleSet.{RuleSet}
+use Rattle.chess_rules.proofs.Places.{moves_behind-end, moves_behind-here, moves_behind-skip, not_pseudo}
+use Rattle.chess_rules.proofs.Stays.{maker}
+use Rattle.chess_rules.proofs.Tests.{first_of_and, second_of_and}
+
+pub mates_behind-here : (rule : RuleSet) (p : Position) (n : ℕ) → n < 28672 → mates rule p (triple_at n) ≡ true → mates_behind rule p n ≡ (triple_at n ∷ mates_behind rule p (n + 1))
+unfolding mates_behind mates
+mates_behind-here rule p n lt h =
+    ap (λ (l : List Move). filter (λ m. is_goal rule (after rule p m)) l) (moves_behind-here rule p n lt (first_of_and _ _ h))
+    ∙ cond-true (is_goal rule (after rule p (triple_at n))) _ _ (second_of_and (legal rule p (triple_at n)) _ h)
+
+false_second : (a b : Bool) → a ≡ true → (a && b) ≡ false → b ≡ false
+false_second true b e h = h
+false_second false b e h = cc
+
+pub mates_behind-skip : (rule : RuleSet) (p : Position) (n : ℕ) → n < 28672 → mates rule p (triple_at n) ≡ false → mates_behind rule p n ≡ mates_behind rule p (n + 1)
+unfolding mates_behind mates
+mates_behind-skip rule p n lt h = elim (cases_Bool (legal rule p (triple_at n))) [
+  | inl may ↦
+      ap (λ (l : List Move). filter (λ m. is_goal rule (after rule p m)) l) (moves_behind-here rule p n lt may)
+      ∙ cond-false (is_goal rule (after rule p (triple_at n))) _ _ (false_second (legal rule p (triple_at n)) _ may h)
+  | inr mayn ↦ ap (λ (l : List Move). filter (λ m. is_goal rule (after rule p m)) l) (moves_behind-skip rule p n lt mayn)
+]
+
+pub not_mating : (rule : RuleSet) (p : Position) (m : Move) → pseudo rule p m ≡ false → mates rule p m ≡ false
+unfolding mates
+not_mating rule p m h = and_left _ _ (not_pseudo rule p m h)
+
+-- over a stretch without mates
+skip_by : (rule : RuleSet) (p : Position) (n a b : ℕ) → b ≡ a + n → b ≤ 28672 → AreQuiet rule p a b → mates_behind rule p a ≡ mates_behind rule p b
+skip_by rule p zero a b e le h = let same : a ≡ b = omega arith in ap (mates_behind rule p) same
+skip_by rule p (suc n) a b e le h =
+    mates_behind-skip rule p a (omega arith) (h.quiet a (omega arith) (omega arith))
+    ∙ skip_by rule p n (a + 1) b (omega arith) le (record { quiet = λ k lo hi. h.quiet k (omega arith) hi })
+
+pub mates_behind-end : (rule : RuleSet) (p : Position) (n : ℕ) → 28672 ≤ n → mates_behind rule p n ≡ []
+unfolding mates_behind
+mates_behind-end rule p n ge = ap (λ (l : List Move). filter (λ m. is_goal rule (after rule p m)) l) (moves_behind-end rule p n ge)
+
+pub mates_behind-quiet : (rule : RuleSet) (p : Position) (a b : ℕ) → (b < 28672 → a ≤ b) → b ≤ 28672 → AreQuiet rule p a b → mates_behind rule p a ≡ mates_behind rule p b
+mates_behind-quiet rule p a b low high h = elim (cases_lt b a) [
+  | inr ge ↦ skip_by rule p (b - a) a b (omega arith) high h
+  | inl lt ↦ elim (cases_lt b 28672) [
+    | inl q ↦ absurd (let le : a ≤ b = low q in omega arith)
+    | inr past ↦ mates_behind-end rule p a (omega arith) ∙ sym (mates_behind-end rule p b past)
+  ]
+]
+
+-- a move that can't be made doesn't mate, nor one that gives no check
+pub no_mate : (rule : RuleSet) (p : Position) (m : Move) → false ≡ pseudo rule p m → false ≡ mates rule p m
+no_mate rule p m h = sym (not_mating rule p m (sym h))
+
+turn_after : (rule : RuleSet) (p : Position) (m : Move) → pseudo rule p m ≡ true → (after rule p m).turn ≡ other p.turn
+unfolding after after_by
+turn_after rule p m h = let x = maker rule p m h in rw x.1 refl
+
+pub no_mate_quietly : (rule : RuleSet) (p : Position) (m : Move) → pseudo rule p m ≡ true → in_check rule (after rule p m).men (other p.turn) ≡ false → false ≡ mates rule p m
+unfolding mates is_goal
+no_mate_quietly rule p m may quiet =
+    let calm : in_check rule (after rule p m).men (after rule p m).turn ≡ false = rw (turn_after rule p m may) quiet in
+    sym (and_right (legal rule p m) _ (and_left (in_check rule (after rule p m).men (after rule p m).turn) _ calm))
+
+-- a move that may be made, tested in the position after it
+pub mates_after : (rule : RuleSet) (p : Position) (m : Move) → pseudo rule p m ≡ true → (not (in_check rule (after rule p m).men p.turn) && is_goal rule (after rule p m)) ≡ mates rule p m
+unfolding mates legal
+mates_after rule p m may = sym (ap (λ (b : Bool). b && not (in_check rule (after rule p m).men p.turn) && is_goal rule (after rule p m)) may)
+
+-- the first move that mates from a place on, by its number
+pub mates_numbered : (rule : RuleSet) (p : Position) (start n : ℕ) → n < 28672 → mates_behind rule p n ≡ mates_behind rule p start → mates rule p (triple_at n) ≡ true → mates_behind rule p start ≡ (triple_at n ∷ mates_behind rule p (n + 1))
+mates_numbered rule p start n lt same h = sym same ∙ mates_behind-here rule p n lt h
+
+pub legal_of_mate : (rule : RuleSet) (p : Position) (m : Move) → mates rule p m ≡ true → legal rule p m ≡ true
+unfolding mates
+legal_of_mate rule p m h = first_of_and _ _ h

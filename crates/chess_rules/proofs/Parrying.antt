@@ -1,0 +1,247 @@
+-- A check that isn't met stays.
+use Rattle.std.proofs.Common.{◌≡◌, ◌≢◌, ℕ, ◌-◌, ◌<◌, ◌≤◌, Bool, true, false, ◌&&◌, ◌||◌, ◌==◌, not, List, [], ◌∷◌, Option, Some, None, refl, subst, sym, ap, ◌∙◌, arith, inl, inr}
+use Rattle.std.specs.Int.{bit_at, bit_not, w64}
+use Rattle.std.specs.Int.Bits.{bit_and, bit_or}
+use Rattle.std.specs.List.{list_any, range_with_len}
+use Rattle.std.proofs.lemmas.Bool.{and_from, and_left, and_parts, cases_Bool, eq-eqb, false_from_ne_true, or_cases, or_left, or_parts, or_right}
+use Rattle.std.proofs.lemmas.List.Folds.{list_any-append}
+use Rattle.chess_core.specs.Position.{AtMostOneKing, Position, is_man, is_side, king_square, man_on, other, same_colour, same_kind}
+use Rattle.chess_core.specs.Squares.{is_square, squares}
+use Rattle.chess_core.specs.Steps.{along, diagonal_steps, queen_steps, straight_steps}
+use Rattle.chess_core.specs.WellFormed.{IsWellFormed}
+use Rattle.chess_core.specs.Words.{word}
+use Rattle.chess_core.specs.declared.man.Colour.{Colour}
+use Rattle.chess_core.specs.declared.man.Kind.{Kind}
+use Rattle.chess_core.specs.declared.man.Kind.TheVariants.{King, Queen, Rook, Bishop, Knight, Pawn, Grasshopper, Nightrider}
+use Rattle.chess_core.specs.declared.man.Man.{Man}
+use Rattle.chess_core.specs.declared.man.Move.{Move}
+use Rattle.chess_core.specs.declared.step.Step.{Step}
+use Rattle.chess_core.proofs.Ranges.{all_range_true, any_range_false, any_range_true, some_square_true}
+use Rattle.chess_core.proofs.Words.{squares_both, squares_either}
+use Rattle.chess_rules.specs.Attacks.{attacked, check_of, in_check, paralysed, strikes}
+use Rattle.chess_rules.specs.Calm.{IsParrying, IsUnmet, has_fairy, is_fairy, is_plain}
+use Rattle.chess_rules.specs.Legal.{is_arrival_free, pseudo}
+use Rattle.chess_rules.specs.Play.{after, arriving}
+use Rattle.chess_rules.specs.Reaches.{is_clear, is_vacant, reaches, reaches_as, rides}
+use Rattle.chess_rules.specs.RuleSet.{RuleSet, is_madrasi}
+use Rattle.chess_rules.proofs.Bits.{word_has}
+use Rattle.chess_rules.proofs.Covering.{IsPlain, IsShift, arrived_shift, every_square, king_is, man_there, men_after, orthodox_man, other_differs, plain_parts}
+use Rattle.chess_rules.proofs.Ends.{back, between, square_is}
+use Rattle.chess_rules.proofs.Fits.{arrived}
+use Rattle.chess_rules.proofs.Flips.{diagonal-back, diagonal-flip, queen-flip, queen_rides-back, straight-back, straight-flip}
+use Rattle.chess_rules.proofs.Pseudo.{made, on_board}
+use Rattle.chess_rules.proofs.Stays.{after_well_formed}
+use Rattle.chess_rules.proofs.Tests.{all_at, any_range_cases, find_first, first_of_and, second_of_and}
+
+-- what stood elsewhere stands there
+keeps : (men after : List (Option Man)) (a b : ℕ) (z : Man) (q : ℕ) (y : Man) → IsShift men after a b z → man_on men q ≡ Some y → q ≢ a → q ≢ b → man_on after q ≡ Some y
+keeps men after a b z q y i here na nb = by (man_on after q) refl where
+  by : (o : Option Man) → man_on after q ≡ o → o ≡ Some y
+  by None e = absurd (let bad : None ≡ Some y = sym (i.vacated q e na) ∙ here in cc)
+  by (Some u) e = sym (i.others q u e nb) ∙ here
+
+stays_free : (men after : List (Option Man)) (a b : ℕ) (z : Man) (o : Option ℕ) → IsShift men after a b z → is_vacant men o ≡ true → is_square o b ≡ false → is_vacant after o ≡ true
+stays_free men after a b z None i h ne = h
+stays_free men after a b z (Some q) i h ne = by (man_on after q) refl where
+  by : (u : Option Man) → man_on after q ≡ u → is_vacant after (Some q) ≡ true
+  by None e = rw e refl
+  by (Some y) e =
+      let there : man_on men q ≡ Some y = i.others q y e (λ same. let yes : (q == b) ≡ true = eq-eqb q b same in cc) in
+      let full : is_vacant men (Some q) ≡ false = rw there refl in
+      cc
+
+-- a line that b comes into was open from both ends to b
+blocked : (men after : List (Option Man)) (a b : ℕ) (z : Man) (k s : ℕ) (d : Step) → IsShift men after a b z → rides men k s d ≡ true → (rides men k b d && rides men s b (back d)) ≡ false → rides after k s d ≡ true
+unfolding rides is_clear
+blocked men after a b z k s d i h ne = elim (any_range_cases (λ n. is_square (along k d n) s && is_clear men k d (n - 1)) 1 7) [
+  | inl w ↦
+      let n : ℕ = w.0 in
+      let low : 1 ≤ n = w.1 in
+      let high : n < 8 = omega (arith, w.2) in
+      let ends : is_square (along k d n) s ≡ true = first_of_and _ _ w.3 in
+      let at : along k d n ≡ Some s = square_is _ s ends in
+      let clear : is_clear men k d (n - 1) ≡ true = second_of_and (is_square (along k d n) s) _ w.3 in
+      any_range_true (λ n. is_square (along k d n) s && is_clear after k d (n - 1)) 1 7 n low (omega arith)
+      (and_from _ _ ends (all_range_true (λ q. is_vacant after (along k d q)) 1 (n - 1) (λ j lo hi.
+      let free : is_vacant men (along k d j) ≡ true = all_at (λ q. is_vacant men (along k d q)) 1 (n - 1) j clear lo hi in
+      stays_free men after a b z (along k d j) i free (false_from_ne_true _ (λ y.
+      let near : is_clear men k d (j - 1) ≡ true = all_range_true (λ q. is_vacant men (along k d q)) 1 (j - 1) (λ q l u. all_at (λ q. is_vacant men (along k d q)) 1 (n - 1) q clear l (omega arith)) in
+      let one : rides men k b d ≡ true = any_range_true (λ q. is_square (along k d q) b && is_clear men k d (q - 1)) 1 7 j lo (omega arith) (and_from _ _ y near) in
+      let here : is_square (along s (back d) (n - j)) b ≡ true = ap (λ o. is_square o b) (between k s d n j (omega arith) at) ∙ y in
+      let far : is_clear men s (back d) (n - j - 1) ≡ true = all_range_true (λ q. is_vacant men (along s (back d) q)) 1 (n - j - 1) (λ q l u.
+      let e : q ≡ n - (n - q) = omega arith in
+      ap (λ r. is_vacant men (along s (back d) r)) e ∙ ap (is_vacant men) (between k s d n (n - q) (omega arith) at)
+      ∙ all_at (λ q. is_vacant men (along k d q)) 1 (n - 1) (n - q) clear (omega arith) (omega arith)) in
+      let two : rides men s b (back d) ≡ true = any_range_true (λ q. is_square (along s (back d) q) b && is_clear men s (back d) (q - 1)) 1 7 (n - j) (omega arith) (omega arith) (and_from _ _ here far) in
+      let both : (rides men k b d && rides men s b (back d)) ≡ true = and_from _ _ one two in
+      cc)))))
+  | inr none ↦
+      let bad : list_any (λ n. is_square (along k d n) s && is_clear men k d (n - 1)) (range_with_len 1 7) ≡ false = any_range_false (λ n. is_square (along k d n) s && is_clear men k d (n - 1)) 1 7 none in
+      cc
+]
+
+some_blocked : (men after : List (Option Man)) (a b : ℕ) (z : Man) (k s : ℕ) (ds : List Step) → IsShift men after a b z → list_any (rides men k s) ds ≡ true → list_any (rides after k s) ds ≡ false
+    → (list_any (rides men k b) ds ≡ true) × (list_any (λ d. rides men s b (back d)) ds ≡ true)
+some_blocked men after a b z k s [] i h ne = cc
+some_blocked men after a b z k s (d ∷ ds) i h ne =
+    let n = or_parts (rides after k s d) (list_any (rides after k s) ds) ne in
+    elim (or_cases (rides men k s d) (list_any (rides men k s) ds) h) [
+      | inl y ↦ elim (cases_Bool (rides men k b d && rides men s b (back d))) [
+        | inl both ↦
+            let parts = and_parts (rides men k b d) (rides men s b (back d)) both in
+            (or_left (rides men k b d) _ parts.0, or_left (rides men s b (back d)) _ parts.1)
+        | inr off ↦
+            let bad : rides after k s d ≡ true = blocked men after a b z k s d i y off in
+            let no = n.0 in
+            absurd (cc)
+      ]
+      | inr y ↦
+          let rest = some_blocked men after a b z k s ds i y n.1 in
+          (or_right (rides men k b d) _ rest.0, or_right (rides men s b (back d)) _ rest.1)
+    ]
+
+line_after : (men after : List (Option Man)) (a b : ℕ) (z : Man) (k s : ℕ) (ds : List Step) → IsShift men after a b z → list_any (rides men k s) ds ≡ true
+    → (list_any (rides men k b) ds ≡ true → list_any (λ d. rides men s b (back d)) ds ≡ true → ⊥) → list_any (rides after k s) ds ≡ true
+line_after men after a b z k s ds i h unmet = elim (cases_Bool (list_any (rides after k s) ds)) [
+  | inl y ↦ y
+  | inr n ↦ absurd (let both = some_blocked men after a b z k s ds i h n in unmet both.0 both.1)
+]
+
+straight_seen : (p : Step → Bool) → list_any p straight_steps ≡ true → list_any p queen_steps ≡ true
+straight_seen p h = list_any-append p straight_steps diagonal_steps ∙ or_left (list_any p straight_steps) _ h
+
+diagonal_seen : (p : Step → Bool) → list_any p diagonal_steps ≡ true → list_any p queen_steps ≡ true
+diagonal_seen p h = list_any-append p straight_steps diagonal_steps ∙ or_right (list_any p straight_steps) _ h
+
+both_seen : (a b : Bool) → (a && b) ≡ false → a ≡ true → b ≡ true → ⊥
+both_seen a b h x y = let both : (a && b) ≡ true = and_from a b x y in cc
+
+-- an orthodox man that reached k and isn't met reaches it
+reaches_after : (men after : List (Option Man)) (a b : ℕ) (z : Man) (c e : Colour) (k s : ℕ) (j : Kind) → IsShift men after a b z → s < 64 → k < 64 → is_fairy j ≡ false → (reaches_as men c Queen k b && reaches_as men c Queen s b) ≡ false → reaches_as men e j s k ≡ true → reaches_as after e j s k ≡ true
+unfolding reaches_as
+reaches_after men after a b z c e k s King i p q f ne h = h
+reaches_after men after a b z c e k s Queen i p q f ne h =
+    queen_rides-back after s k p q
+    ∙ line_after men after a b z k s queen_steps i (sym (queen_rides-back men s k p q) ∙ h) (λ x y. both_seen (list_any (rides men k b) queen_steps) (list_any (rides men s b) queen_steps) ne x (sym (queen-flip (λ d. rides men s b (back d)) (rides men s b) (λ d. refl)) ∙ y))
+reaches_after men after a b z c e k s Rook i p q f ne h =
+    straight-back after s k p q
+    ∙ line_after men after a b z k s straight_steps i (sym (straight-back men s k p q) ∙ h) (λ x y. both_seen (list_any (rides men k b) queen_steps) (list_any (rides men s b) queen_steps) ne (straight_seen (rides men k b) x) (straight_seen (rides men s b) (sym (straight-flip (λ d. rides men s b (back d)) (rides men s b) (λ d. refl)) ∙ y)))
+reaches_after men after a b z c e k s Bishop i p q f ne h =
+    diagonal-back after s k p q
+    ∙ line_after men after a b z k s diagonal_steps i (sym (diagonal-back men s k p q) ∙ h) (λ x y. both_seen (list_any (rides men k b) queen_steps) (list_any (rides men s b) queen_steps) ne (diagonal_seen (rides men k b) x) (diagonal_seen (rides men s b) (sym (diagonal-flip (λ d. rides men s b (back d)) (rides men s b) (λ d. refl)) ∙ y)))
+reaches_after men after a b z c e k s Knight i p q f ne h = h
+reaches_after men after a b z c e k s Pawn i p q f ne h = h
+reaches_after men after a b z c e k s Grasshopper i p q f ne h = cc
+reaches_after men after a b z c e k s Nightrider i p q f ne h = cc
+
+side_there : (o : Option Man) (c : Colour) → is_side o c ≡ true → (y : Man) × ((o ≡ Some y) × (same_colour y.colour c ≡ true))
+side_there None c h = cc
+side_there (Some y) c h = (y, (refl, h))
+
+king_there : (men : List (Option Man)) (c : Colour) (k : ℕ) → king_square men c ≡ Some k → (k < 64) × (is_man (man_on men k) c King ≡ true)
+unfolding king_square squares
+king_there men c k h =
+    let f = find_first (λ s. is_man (man_on men s) c King) 0 64 k h in
+    (omega (arith, f.high), f.here)
+
+-- the square that an unmet check comes from, and the king's, aren't touched by the move
+pub record IsAway (men : List (Option Man)) (c : Colour) (a b : ℕ) : Type 0 where
+  pub size : (s : ℕ) (y : Man) → man_on men s ≡ Some y → s < 64
+  pub king : (k : ℕ) → king_square men c ≡ Some k → (k ≢ a) × (k ≢ b)
+  pub enemy : (s : ℕ) → is_side (man_on men s) (other c) ≡ true → s ≢ a
+
+unmet_stays : (rule : RuleSet) (men after : List (Option Man)) (a b : ℕ) (z : Man) (c : Colour) → IsShift men after a b z → AtMostOneKing after → IsAway men c a b → IsUnmet rule men c b → in_check rule after c ≡ true
+unfolding in_check attacked strikes paralysed reaches
+unmet_stays rule men after a b z c i one away u =
+    let k : ℕ = u.king in
+    let s : ℕ = u.checker in
+    let king = king_there men c u.king u.here in
+    let x = man_there (man_on men u.king) c King king.1 in
+    let stay = away.king u.king u.here in
+    let x_stays : man_on after u.king ≡ Some x.0 = keeps men after a b z u.king x.0 i x.1 stay.0 stay.1 in
+    let is : is_man (Some x.0) c King ≡ true = rw x.1 at king.1 in
+    let is_after : is_man (man_on after u.king) c King ≡ true = rw x_stays is in
+    let at : king_square after c ≡ Some u.king = king_is after c u.king one king.0 is_after in
+    let y = side_there (man_on men u.checker) (other c) u.enemy in
+    let small : u.checker < 64 = away.size u.checker y.0 y.1.0 in
+    let free = or_parts (u.checker == b) (reaches_as men c Queen u.king b && reaches_as men c Queen u.checker b) u.unmet in
+    let off : u.checker ≢ b = λ e. (let yes : (u.checker == b) ≡ true = eq-eqb u.checker b e in let no = free.0 in cc) in
+    let y_stays : man_on after u.checker ≡ Some y.0 = keeps men after a b z u.checker y.0 i y.1.0 (away.enemy u.checker u.enemy) off in
+    let plain : is_fairy y.0.kind ≡ false = orthodox_man men (other c) u.checker y.0 small y.1.0 y.1.1 u.no_fairy in
+    let hit = rw y.1.0 at u.check in
+    let hits : reaches_as after y.0.colour y.0.kind u.checker u.king ≡ true = reaches_after men after a b z c y.0.colour u.king u.checker y.0.kind i small king.0 plain free.1 hit in
+    let mine : is_side (man_on after u.checker) (other c) ≡ true = rw y_stays y.1.1 in
+    let reach : reaches after u.checker u.king ≡ true = rw y_stays hits in
+    ap (λ (o : Option ℕ). check_of rule after o (other c)) at
+    ∙ some_square_true (strikes rule after u.king (other c)) u.checker small
+    (and_from _ _ (and_from _ _ mine (ap not (and_left (is_madrasi rule) _ u.orthodox))) reach)
+
+not_king : (x : Man) (c : Colour) → same_kind x.kind King ≡ false → is_man (Some x) c King ≡ true → ⊥
+not_king x c piece h = let king = (and_parts (same_colour x.colour c) (same_kind x.kind King) h).1 in cc
+
+-- no king of the mover's on a free arrival
+free_of_king : (o : Option Man) (c : Colour) → is_arrival_free c o ≡ true → is_man o c King ≡ true → ⊥
+free_of_king None c h k = cc
+free_of_king (Some y) c h k =
+    let own = (and_parts (same_colour y.colour c) (same_kind y.kind King) k).0 in
+    let foreign = (and_parts (not (same_colour y.colour c)) (not (same_kind y.kind King)) h).0 in
+    let foreign2 : not true ≡ true = ap not (sym own) ∙ foreign in
+    cc
+
+-- a plain move that doesn't meet a check, and isn't the king's, leaves its mover in check
+pub check_stays : (rule : RuleSet) (p : Position) (x : Man) (m : Move) → IsWellFormed p → pseudo rule p m ≡ true → man_on p.men m.from ≡ Some x → m.to < 64 → IsPlain rule p x m → same_kind x.kind King ≡ false → IsUnmet rule p.men p.turn m.to → in_check rule (after rule p m).men p.turn ≡ true
+check_stays rule p x m well may here small plain piece u =
+    let is = made rule p m x may here in
+    let same : (after rule p m).men ≡ arrived p x m = men_after rule p x m here plain in
+    let one : AtMostOneKing (arrived p x m) = subst AtMostOneKing same (after_well_formed rule p m well may).kings in
+    ap (λ (l : List (Option Man)). in_check rule l p.turn) same
+    ∙ unmet_stays rule p.men (arrived p x m) m.from m.to (arriving x m.promo) p.turn (arrived_shift rule p x m well is small plain) one
+    (record {
+      size = λ s y at. on_board p.men s y well.size at;
+      king = λ k at.
+          let king = king_there p.men p.turn k at in (
+            λ e. not_king x p.turn piece (let h = ap (λ (n : ℕ). is_man (man_on p.men n) p.turn King) (sym e) ∙ king.1 in rw here at h),
+            λ e. free_of_king (man_on p.men m.to) p.turn is.arrival (ap (λ (n : ℕ). is_man (man_on p.men n) p.turn King) (sym e) ∙ king.1),
+          );
+      enemy = λ s side e.
+          let own : is_side (Some x) (other p.turn) ≡ true = sym (ap (λ (o : Option Man). is_side o (other p.turn)) here) ∙ ap (λ (n : ℕ). is_side (man_on p.men n) (other p.turn)) (sym e) ∙ side in
+          let not_own : same_colour x.colour (other p.turn) ≡ false = ap (λ (c : Colour). same_colour c (other p.turn)) is.mine ∙ other_differs p.turn in
+          let bad : true ≡ false = sym own ∙ not_own in
+          cc;
+    }) u
+
+-- all squares, where nothing is known of a check
+pub parrying_all : (rule : RuleSet) (men : List (Option Man)) (c : Colour) → IsParrying rule men c (bit_not w64 0)
+parrying_all rule men c = record {
+  elsewhere = λ t small off.
+      let on : (bit_at (bit_not w64 0) t == 1) ≡ true = word_has (λ s. true) (bit_not w64 0) t (every_square (λ s. true) (λ s b. refl)) small in
+      absurd (let bad : true ≡ false = sym on ∙ off in cc);
+}
+
+-- the squares that meet one check
+pub parrying_one : (rule : RuleSet) (men : List (Option Man)) (c : Colour) (k s w n r t : ℕ) → king_square men c ≡ Some k → is_madrasi rule ≡ false → has_fairy men (other c) ≡ false → t ≡ word (λ q. is_side (man_on men q) (other c) && reaches men q k) → s < 64 → (bit_at t s == 1) ≡ true
+    → w ≡ word (λ q. is_square (Some s) q) → n ≡ word (λ q. reaches_as men c Queen k q) → r ≡ word (λ q. reaches_as men c Queen s q) → IsParrying rule men c (bit_or w (bit_and n r))
+parrying_one rule men c k s w n r t at orthodox no_fairy all small set h i j =
+    let test : ℕ → Bool = λ q. is_square (Some s) q || (reaches_as men c Queen k q && reaches_as men c Queen s q) in
+    let joined : bit_or w (bit_and n r) ≡ word (λ q. is_square (Some s) q || (reaches_as men c Queen k q && reaches_as men c Queen s q)) =
+    (λ a. bit_or (h a) (bit_and (i a) (j a))) ∙ (λ a. bit_or (word (λ q. is_square (Some s) q)) (squares_both (λ q. reaches_as men c Queen k q) (λ q. reaches_as men c Queen s q) a)) ∙ squares_either (λ q. is_square (Some s) q) (λ q. reaches_as men c Queen k q && reaches_as men c Queen s q) in
+    let strikes : (is_side (man_on men s) (other c) && reaches men s k) ≡ true = sym (word_has (λ q. is_side (man_on men q) (other c) && reaches men q k) t s all small) ∙ set in
+    record {
+      elsewhere = λ q b off. record {
+        king = k;
+        checker = s;
+        here = at;
+        orthodox = orthodox;
+        no_fairy = no_fairy;
+        enemy = first_of_and _ _ strikes;
+        check = second_of_and (is_side (man_on men s) (other c)) _ strikes;
+        unmet = sym (word_has (λ q. is_square (Some s) q || (reaches_as men c Queen k q && reaches_as men c Queen s q)) (bit_or w (bit_and n r)) q joined b) ∙ off;
+      };
+    }
+
+-- the same, for a word
+pub check_unmet : (rule : RuleSet) (p : Position) (x : Man) (m : Move) (w t : ℕ) → IsWellFormed p → pseudo rule p m ≡ true → man_on p.men m.from ≡ Some x → t ≡ m.to → t < 64 → is_plain rule p x m ≡ true → same_kind x.kind King ≡ false → IsParrying rule p.men p.turn w → (bit_at w t == 1) ≡ false → in_check rule (after rule p m).men p.turn ≡ true
+check_unmet rule p x m w t well may here same small plain piece parrying off =
+    let to : m.to < 64 = omega arith in
+    let off2 : (bit_at w m.to == 1) ≡ false = ap (λ (n : ℕ). bit_at w n == 1) (sym same) ∙ off in
+    check_stays rule p x m well may here to (plain_parts rule p x m plain) piece (parrying.elsewhere m.to to off2)

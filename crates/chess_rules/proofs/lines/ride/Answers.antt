@@ -1,0 +1,10 @@
+use Rattle.std.proofs.Common.{◌<◌}
+use Rattle.chess_rules.specs.Lines.{step_of}
+use Rattle.chess_rules.proofs.Ahead.{ordered}
+use Rattle.chess_rules.proofs.Stopping.{ride_is}
+use Rattle.chess_rules.proofs.lines.ride.Goals as goal
+
+pub returns : goal.returns
+returns c =
+    let small : c.args.from < 64 = rw c.index-small.ensures.value at c.index-small.ensures.small in
+    ride_is c.args.board.now.men c.args.from (step_of c.args.direction) c.ray-ray.result c.occupied.result c.first-stop.result c.ray.result (ordered c.args.direction) small c.ray-ray.ensures c.occupied.ensures c.first-stop.ensures c.ray.ensures

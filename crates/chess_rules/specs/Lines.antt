@@ -1,0 +1,88 @@
+-- Lines on the empty board, and the order in which they pass squares (own).
+use Rattle.std.specs.Prelude.{ℕ, ◌+◌, ◌-◌, ◌*◌, ◌≡◌, ◌<◌, ◌≤◌, Bool, true, false, ◌||◌, nat_le, List}
+use Rattle.std.specs.Int.{bit_at}
+use Rattle.std.specs.List.{list_any, range_with_len}
+use Rattle.chess_core.specs.Squares.{is_square}
+use Rattle.chess_core.specs.Steps.{along, step_by}
+use Rattle.chess_core.specs.Words.{word}
+use Rattle.chess_core.specs.declared.step.Step.{Step}
+use Rattle.chess_core.specs.declared.man.Colour.{Colour}
+use Rattle.chess_rules.specs.Legal.{forward}
+use Rattle.chess_rules.specs.declared.lines.Direction.{Direction}
+use Rattle.chess_rules.specs.declared.lines.Direction.TheVariants.{East, West, North, South, NorthEast, SouthEast, NorthWest, SouthWest, NorthNorthEast, SouthSouthEast, NorthNorthWest, SouthSouthWest, EastNorthEast, EastSouthEast, WestNorthWest, WestSouthWest}
+
+-- the step of each direction: eight of the queen, eight of the knight
+abbrev pub step_of : Direction → Step
+step_of East = step_by 1 0 0 0
+step_of West = step_by 0 1 0 0
+step_of North = step_by 0 0 1 0
+step_of South = step_by 0 0 0 1
+step_of NorthEast = step_by 1 0 1 0
+step_of SouthEast = step_by 1 0 0 1
+step_of NorthWest = step_by 0 1 1 0
+step_of SouthWest = step_by 0 1 0 1
+step_of NorthNorthEast = step_by 1 0 2 0
+step_of SouthSouthEast = step_by 1 0 0 2
+step_of NorthNorthWest = step_by 0 1 2 0
+step_of SouthSouthWest = step_by 0 1 0 2
+step_of EastNorthEast = step_by 2 0 1 0
+step_of EastSouthEast = step_by 2 0 0 1
+step_of WestNorthWest = step_by 0 2 1 0
+step_of WestSouthWest = step_by 0 2 0 1
+
+-- the place of a direction in their order
+abbrev pub direction_number : Direction → ℕ
+direction_number East = 0
+direction_number West = 1
+direction_number North = 2
+direction_number South = 3
+direction_number NorthEast = 4
+direction_number SouthEast = 5
+direction_number NorthWest = 6
+direction_number SouthWest = 7
+direction_number NorthNorthEast = 8
+direction_number SouthSouthEast = 9
+direction_number NorthNorthWest = 10
+direction_number SouthSouthWest = 11
+direction_number EastNorthEast = 12
+direction_number EastSouthEast = 13
+direction_number WestNorthWest = 14
+direction_number WestSouthWest = 15
+
+-- t lies on the line from s in this direction
+unfoldable pub is_ahead : ℕ → Step → ℕ → Bool
+is_ahead s d t = list_any (λ k. is_square (along s d k) t) (range_with_len 1 7)
+
+-- the squares of that line
+unfoldable pub ray : ℕ → Step → ℕ
+ray s d = word (is_ahead s d)
+
+-- t lies on one of the lines from s
+unfoldable pub is_on_some : List Step → ℕ → ℕ → Bool
+is_on_some ds s t = list_any (λ d. is_ahead s d t) ds
+
+-- t is one or two squares ahead of a pawn on s
+abbrev pub is_advance : Colour → ℕ → ℕ → Bool
+is_advance c s t = is_square (along s (forward c) 1) t || is_square (along s (forward c) 2) t
+
+-- t is two files beside s
+abbrev pub is_aside : ℕ → ℕ → Bool
+is_aside s t = is_square (along s (step_by 2 0 0 0) 1) t || is_square (along s (step_by 0 2 0 0) 1) t
+
+-- whether the numbers of the squares rise along it
+unfoldable pub rises : Step → Bool
+rises d = nat_le (d.left + 8 * d.down + 1) (d.right + 8 * d.up)
+
+-- how early a line passes a square: by its number, or by how far it is from the last
+abbrev pub place_by : Bool → ℕ → ℕ
+place_by true s = s
+place_by false s = 63 - s
+
+abbrev pub place : Step → ℕ → ℕ
+place d s = place_by (rises d) s
+
+-- b is the square of the word that is passed first, or the last of the board where the word has none
+pub record IsStop (d : Step) (w b : ℕ) : Type 0 where
+  pub small : b < 64
+  pub first : (q : ℕ) → q < 64 → bit_at w q ≡ 1 → place d b ≤ place d q
+  pub here : place d b < 63 → bit_at w b ≡ 1

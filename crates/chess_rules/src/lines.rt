@@ -1,0 +1,234 @@
+//! Lines in one direction, and the squares that riders get to along them.
+ghost use Rattle.std.specs.Prelude.{◌≡◌, ℕ, ◌<◌, is_some};
+ghost use Rattle.std.specs.List.{list_any};
+ghost use Rattle.chess_core.specs.Position.{man_on};
+ghost use Rattle.chess_core.specs.Steps.{along, diagonal_steps, queen_steps, straight_steps};
+ghost use Rattle.chess_core.specs.Words.{word};
+ghost use Rattle.chess_rules.specs.Lines.{IsStop, direction_number, is_on_some, ray, rises, step_of};
+ghost use Rattle.chess_rules.specs.Outward.{goes_by, hopped_from};
+ghost use Rattle.chess_rules.specs.Reaches.{hops, rides};
+
+use crate::geometry::{DIAGONAL_LINES, RAYS, STRAIGHT_LINES};
+use crate::words::{highest, lowest, only};
+use chess_core::board::Board;
+use chess_core::man::Colour;
+use chess_core::square::Square;
+
+/// A direction of a line: the queen's eight, then the knight's eight.
+#[derive(Clone, Copy)]
+pub(crate) enum Direction {
+    East,
+    West,
+    North,
+    South,
+    NorthEast,
+    SouthEast,
+    NorthWest,
+    SouthWest,
+    NorthNorthEast,
+    SouthSouthEast,
+    NorthNorthWest,
+    SouthSouthWest,
+    EastNorthEast,
+    EastSouthEast,
+    WestNorthWest,
+    WestSouthWest,
+}
+
+impl Direction {
+    // Whether the numbers of the squares rise along the line.
+    #[tactic(auto, unfolding(crate::specs::Lines::rises))]
+    fn rises(self) -> bool
+        ensures { result ≡ rises (step_of self) }
+    {
+        match self {
+            Direction::East
+            | Direction::North
+            | Direction::NorthEast
+            | Direction::NorthWest
+            | Direction::NorthNorthEast
+            | Direction::NorthNorthWest
+            | Direction::EastNorthEast
+            | Direction::WestNorthWest => true,
+            _ => false,
+        }
+    }
+
+    // The squares of the line from this square on the empty board.
+    fn ray(self, from: Square) -> u64
+        ensures { result ≡ ray from (step_of self) }
+    {
+        RAYS[self.number()][from.index() as usize]
+    }
+
+    // Its place in the order of directions.
+    fn number(self) -> usize
+        ensures value { result ≡ direction_number self }
+        ensures small { result < 16 }
+    {
+        self as usize
+    }
+
+    // The square of the word that the line passes first; the last one of the board, behind which no
+    // line goes on, where the word has none.
+    fn first(self, word: u64) -> Square
+        ensures { IsStop (step_of self) word result }
+    {
+        if self.rises() {
+            lowest(word | 1u64 << 63)
+        } else {
+            highest(word | 1)
+        }
+    }
+
+    // The next square of the line, if it has one.
+    fn next(self, from: Square) -> Option<Square>
+        ensures { result ≡ along from (step_of self) 1 }
+    {
+        let _small = from.index();
+        let ray = self.ray(from);
+        if ray == 0 {
+            return None;
+        }
+        Some(self.first(ray))
+    }
+}
+
+/// The directions of the queen.
+pub(crate) const QUEEN_LINES: [Direction; 8] = [
+    Direction::East,
+    Direction::West,
+    Direction::North,
+    Direction::South,
+    Direction::NorthEast,
+    Direction::SouthEast,
+    Direction::NorthWest,
+    Direction::SouthWest,
+];
+
+/// The directions of the knight.
+pub(crate) const KNIGHT_LINES: [Direction; 8] = [
+    Direction::NorthNorthEast,
+    Direction::SouthSouthEast,
+    Direction::NorthNorthWest,
+    Direction::SouthSouthWest,
+    Direction::EastNorthEast,
+    Direction::EastSouthEast,
+    Direction::WestNorthWest,
+    Direction::WestSouthWest,
+];
+
+/// A way to go in one direction.
+#[derive(Clone, Copy)]
+pub(crate) enum Way {
+    /// Any number of steps over empty squares.
+    Ride,
+    /// To the square right behind the first man on the line.
+    Hop,
+    /// To the squares from which a grasshopper hops here.
+    HopBack,
+}
+
+// The squares on which men stand.
+pub(crate) fn occupied(board: &Board) -> u64
+    ensures { result ≡ word (λ s. is_some (man_on board.now.men s)) }
+{
+    board.side(Colour::White) | board.side(Colour::Black)
+}
+
+// The squares to which a rider on `from` gets in this direction.
+fn ride(board: &Board, from: Square, direction: Direction) -> u64
+    ensures { result ≡ word (λ t. rides board.now.men from t (step_of direction)) }
+{
+    let _small = from.index();
+    let ray = direction.ray(from);
+    let stop = direction.first(ray & occupied(board));
+    ray & !direction.ray(stop)
+}
+
+// The squares of the file and the rank of `from`, itself apart.
+pub(crate) fn straight_lines(from: Square) -> u64
+    ensures { result ≡ word (is_on_some straight_steps from) }
+{
+    STRAIGHT_LINES[from.index() as usize]
+}
+
+// The squares of its diagonals.
+pub(crate) fn diagonal_lines(from: Square) -> u64
+    ensures { result ≡ word (is_on_some diagonal_steps from) }
+{
+    DIAGONAL_LINES[from.index() as usize]
+}
+
+// The squares to which a rider on `from` gets along its file and its rank.
+pub(crate) fn straight_rides(board: &Board, from: Square) -> u64
+    ensures { result ≡ word (λ t. list_any (rides board.now.men from t) straight_steps) }
+{
+    ride(board, from, Direction::East)
+        | ride(board, from, Direction::West)
+        | ride(board, from, Direction::North)
+        | ride(board, from, Direction::South)
+}
+
+// The squares to which it gets along its diagonals.
+pub(crate) fn diagonal_rides(board: &Board, from: Square) -> u64
+    ensures { result ≡ word (λ t. list_any (rides board.now.men from t) diagonal_steps) }
+{
+    ride(board, from, Direction::NorthEast)
+        | ride(board, from, Direction::SouthEast)
+        | ride(board, from, Direction::NorthWest)
+        | ride(board, from, Direction::SouthWest)
+}
+
+// The squares to which it gets along all of them.
+pub(crate) fn queen_rides(board: &Board, from: Square) -> u64
+    ensures { result ≡ word (λ t. list_any (rides board.now.men from t) queen_steps) }
+{
+    straight_rides(board, from) | diagonal_rides(board, from)
+}
+
+// The square to which a grasshopper on `from` hops in this direction, if there is one.
+fn hop(board: &Board, from: Square, direction: Direction) -> u64
+    ensures { result ≡ word (λ t. hops board.now.men from t (step_of direction)) }
+{
+    let _small = from.index();
+    let hurdle = direction.first(direction.ray(from) & occupied(board));
+    only(direction.next(hurdle))
+}
+
+// The squares from which a grasshopper hops to `to` against this direction: behind the man next to it.
+fn hop_back(board: &Board, to: Square, direction: Direction) -> u64
+    ensures { result ≡ word (λ s. hopped_from board.now.men to s (step_of direction)) }
+{
+    let _small = to.index();
+    let Some(next) = direction.next(to) else {
+        return 0;
+    };
+    if board.man_at(next).is_some() {
+        ride(board, next, direction)
+    } else {
+        0
+    }
+}
+
+// The squares to which this way leads from `from` in this direction.
+fn by_line(board: &Board, way: Way, from: Square, direction: Direction) -> u64
+    ensures { result ≡ word (λ t. goes_by way board.now.men from t (step_of direction)) }
+{
+    match way {
+        Way::Ride => ride(board, from, direction),
+        Way::Hop => hop(board, from, direction),
+        Way::HopBack => hop_back(board, from, direction),
+    }
+}
+
+// The squares to which this way leads from `from` in one of the directions.
+pub(crate) fn by_lines(board: &Board, way: Way, from: Square, lines: &[Direction]) -> u64
+    ensures { result ≡ word (λ t. list_any (λ x. goes_by way board.now.men from t (step_of x)) lines.now) }
+{
+    let mut word = 0u64;
+    for direction in lines {
+        word |= by_line(board, way, from, *direction);
+    }
+    word
+}
