@@ -17,13 +17,14 @@ use Rattle.chess_core.specs.declared.man.Move.{Move}
 use Rattle.chess_core.proofs.Words.{squares_either, squares_same}
 use Rattle.chess_rules.specs.declared.checks.CheckSquares.{CheckSquares}
 use Rattle.chess_rules.specs.Attacks.{in_check}
-use Rattle.chess_rules.specs.Calm.{AreChecks, covers, enemy, is_fairy, may_strike, may_strike_on, squares_for}
+use Rattle.chess_rules.specs.CheckSquares.{AreCheckSquares, enemy, may_check_from, may_check_from_on, check_squares_for}
+use Rattle.chess_rules.specs.Shields.{cannot_expose, is_fairy}
 use Rattle.chess_rules.specs.Legal.{pseudo}
 use Rattle.chess_rules.specs.Play.{after, arriving}
 use Rattle.chess_rules.specs.Reaches.{reaches_as, rides}
 use Rattle.chess_rules.specs.RuleSet.{RuleSet}
 use Rattle.chess_rules.proofs.Bits.{word_empty, word_has}
-use Rattle.chess_rules.proofs.Covering.{arriving_colour, every_square, gives_no_check}
+use Rattle.chess_rules.proofs.Shielding.{arriving_colour, every_square, gives_no_check}
 use Rattle.chess_rules.proofs.Flips.{diagonal-back, king-back, knight-back, pawn-back, queen_rides-back, straight-back}
 use Rattle.chess_rules.proofs.Pseudo.{made}
 
@@ -39,35 +40,35 @@ comes_back men c Pawn k t f p q = pawn-back c k t p q
 comes_back men c Grasshopper k t f p q = cc
 comes_back men c Nightrider k t f p q = cc
 
-pub strikers_none : (men : List (Option Man)) (c : Colour) (j : Kind) → king_square men c ≡ None → 0 ≡ word (may_strike men c (enemy c j))
-unfolding may_strike
-strikers_none men c j h = word_empty (may_strike men c (enemy c j)) (λ s b. ap (λ (o : Option ℕ). may_strike_on men o (enemy c j) s) h)
+pub check_squares_of_none : (men : List (Option Man)) (c : Colour) (j : Kind) → king_square men c ≡ None → 0 ≡ word (may_check_from men c (enemy c j))
+unfolding may_check_from
+check_squares_of_none men c j h = word_empty (may_check_from men c (enemy c j)) (λ s b. ap (λ (o : Option ℕ). may_check_from_on men o (enemy c j) s) h)
 
-pub strikers_all : (men : List (Option Man)) (c : Colour) (j : Kind) (k : ℕ) → king_square men c ≡ Some k → is_fairy j ≡ true → bit_not w64 0 ≡ word (may_strike men c (enemy c j))
-unfolding may_strike
-strikers_all men c j k at fairy =
-    every_square (may_strike men c (enemy c j)) (λ s b. ap (λ (o : Option ℕ). may_strike_on men o (enemy c j) s) at ∙ or_left _ _ fairy)
+pub check_squares_of_all : (men : List (Option Man)) (c : Colour) (j : Kind) (k : ℕ) → king_square men c ≡ Some k → is_fairy j ≡ true → bit_not w64 0 ≡ word (may_check_from men c (enemy c j))
+unfolding may_check_from
+check_squares_of_all men c j k at fairy =
+    every_square (may_check_from men c (enemy c j)) (λ s b. ap (λ (o : Option ℕ). may_check_from_on men o (enemy c j) s) at ∙ or_left _ _ fairy)
 
-pub strikers_some : (men : List (Option Man)) (c : Colour) (j : Kind) (k w : ℕ) → king_square men c ≡ Some k → k < 64 → is_fairy j ≡ false → w ≡ word (λ t. reaches_as men c j k t) → w ≡ word (may_strike men c (enemy c j))
-unfolding may_strike
-strikers_some men c j k w at small plain h =
-    h ∙ squares_same (λ t. reaches_as men c j k t) (may_strike men c (enemy c j))
+pub check_squares_of_some : (men : List (Option Man)) (c : Colour) (j : Kind) (k w : ℕ) → king_square men c ≡ Some k → k < 64 → is_fairy j ≡ false → w ≡ word (λ t. reaches_as men c j k t) → w ≡ word (may_check_from men c (enemy c j))
+unfolding may_check_from
+check_squares_of_some men c j k w at small plain h =
+    h ∙ squares_same (λ t. reaches_as men c j k t) (may_check_from men c (enemy c j))
     (λ s b. comes_back men c j k s plain small b
-    ∙ sym (ap (λ (o : Option ℕ). may_strike_on men o (enemy c j) s) at ∙ ap (λ (x : Bool). x || reaches_as men (other c) j s k) plain))
+    ∙ sym (ap (λ (o : Option ℕ). may_check_from_on men o (enemy c j) s) at ∙ ap (λ (x : Bool). x || reaches_as men (other c) j s k) plain))
 
 -- a queen's squares are a rook's and a bishop's
-queen_on : (men : List (Option Man)) (c : Colour) (o : Option ℕ) (s : ℕ) → (may_strike_on men o (enemy c Rook) s || may_strike_on men o (enemy c Bishop) s) ≡ may_strike_on men o (enemy c Queen) s
+queen_on : (men : List (Option Man)) (c : Colour) (o : Option ℕ) (s : ℕ) → (may_check_from_on men o (enemy c Rook) s || may_check_from_on men o (enemy c Bishop) s) ≡ may_check_from_on men o (enemy c Queen) s
 unfolding reaches_as
 queen_on men c None s = refl
 queen_on men c (Some k) s = sym (list_any-append (rides men s k) straight_steps diagonal_steps)
 
-queen_squares : (men : List (Option Man)) (c : Colour) (r b : ℕ) → r ≡ word (may_strike men c (enemy c Rook)) → b ≡ word (may_strike men c (enemy c Bishop)) → bit_or r b ≡ word (may_strike men c (enemy c Queen))
-unfolding may_strike
+queen_squares : (men : List (Option Man)) (c : Colour) (r b : ℕ) → r ≡ word (may_check_from men c (enemy c Rook)) → b ≡ word (may_check_from men c (enemy c Bishop)) → bit_or r b ≡ word (may_check_from men c (enemy c Queen))
+unfolding may_check_from
 queen_squares men c r b h i =
-    (λ j. bit_or (h j) (i j)) ∙ squares_either (may_strike men c (enemy c Rook)) (may_strike men c (enemy c Bishop))
-    ∙ squares_same (λ s. may_strike men c (enemy c Rook) s || may_strike men c (enemy c Bishop) s) (may_strike men c (enemy c Queen)) (λ s p. queen_on men c (king_square men c) s)
+    (λ j. bit_or (h j) (i j)) ∙ squares_either (may_check_from men c (enemy c Rook)) (may_check_from men c (enemy c Bishop))
+    ∙ squares_same (λ s. may_check_from men c (enemy c Rook) s || may_check_from men c (enemy c Bishop) s) (may_check_from men c (enemy c Queen)) (λ s p. queen_on men c (king_square men c) s)
 
-squares_by_kind : (rule : RuleSet) (men : List (Option Man)) (c : Colour) (s : CheckSquares) (j : Kind) → AreChecks rule men c s → squares_for s j ≡ word (may_strike men c (enemy c j))
+squares_by_kind : (rule : RuleSet) (men : List (Option Man)) (c : Colour) (s : CheckSquares) (j : Kind) → AreCheckSquares rule men c s → check_squares_for s j ≡ word (may_check_from men c (enemy c j))
 squares_by_kind rule men c s King a = a.king
 squares_by_kind rule men c s Queen a = queen_squares men c s.straight s.diagonal a.straight a.diagonal
 squares_by_kind rule men c s Rook a = a.straight
@@ -78,10 +79,10 @@ squares_by_kind rule men c s Grasshopper a = a.grasshopper
 squares_by_kind rule men c s Nightrider a = a.nightrider
 
 -- both fairy kinds strike from everywhere
-pub fairy_alike : (men : List (Option Man)) (c : Colour) → word (may_strike men c (enemy c Grasshopper)) ≡ word (may_strike men c (enemy c Nightrider))
-unfolding may_strike
-fairy_alike men c = squares_same (may_strike men c (enemy c Grasshopper)) (may_strike men c (enemy c Nightrider)) (λ s b. by (king_square men c) s) where
-  by : (o : Option ℕ) (s : ℕ) → may_strike_on men o (enemy c Grasshopper) s ≡ may_strike_on men o (enemy c Nightrider) s
+pub fairy_alike : (men : List (Option Man)) (c : Colour) → word (may_check_from men c (enemy c Grasshopper)) ≡ word (may_check_from men c (enemy c Nightrider))
+unfolding may_check_from
+fairy_alike men c = squares_same (may_check_from men c (enemy c Grasshopper)) (may_check_from men c (enemy c Nightrider)) (λ s b. by (king_square men c) s) where
+  by : (o : Option ℕ) (s : ℕ) → may_check_from_on men o (enemy c Grasshopper) s ≡ may_check_from_on men o (enemy c Nightrider) s
   by None s = refl
   by (Some k) s = refl
 
@@ -92,13 +93,13 @@ other_twice Black = refl
 is_enemy : (x : Man) (c : Colour) → x.colour ≡ c → enemy (other c) x.kind ≡ x
 is_enemy x c h = ap (λ (d : Colour). record x { colour = d }) (other_twice c ∙ sym h)
 
-pub no_check : (rule : RuleSet) (p : Position) (x : Man) (m : Move) (s : CheckSquares) (y : Man) (w t : ℕ) → IsWellFormed p → pseudo rule p m ≡ true → man_on p.men m.from ≡ Some x → AreChecks rule p.men (other p.turn) s → y ≡ arriving x m.promo → w ≡ squares_for s y.kind → t ≡ m.to → t < 64 → (bit_at w t == 1) ≡ false → covers rule p (other p.turn) m ≡ true → in_check rule (after rule p m).men (other p.turn) ≡ false
+pub no_check : (rule : RuleSet) (p : Position) (x : Man) (m : Move) (s : CheckSquares) (y : Man) (w t : ℕ) → IsWellFormed p → pseudo rule p m ≡ true → man_on p.men m.from ≡ Some x → AreCheckSquares rule p.men (other p.turn) s → y ≡ arriving x m.promo → w ≡ check_squares_for s y.kind → t ≡ m.to → t < 64 → (bit_at w t == 1) ≡ false → cannot_expose rule p (other p.turn) m ≡ true → in_check rule (after rule p m).men (other p.turn) ≡ false
 no_check rule p x m s y w t well may here a is h same small off cover =
     let colour : y.colour ≡ p.turn = ap (λ (z : Man). z.colour) is ∙ arriving_colour x m.promo ∙ (made rule p m x may here).mine in
-    let word_is : w ≡ word (may_strike p.men (other p.turn) (enemy (other p.turn) y.kind)) = h ∙ squares_by_kind rule p.men (other p.turn) s y.kind a in
-    let off1 : may_strike p.men (other p.turn) (enemy (other p.turn) y.kind) t ≡ false = sym (word_has (may_strike p.men (other p.turn) (enemy (other p.turn) y.kind)) w t word_is small) ∙ off in
-    let off2 : may_strike p.men (other p.turn) y t ≡ false = ap (λ (z : Man). may_strike p.men (other p.turn) z t) (sym (is_enemy y p.turn colour)) ∙ off1 in
-    let off3 : may_strike p.men (other p.turn) (arriving x m.promo) t ≡ false = ap (λ (z : Man). may_strike p.men (other p.turn) z t) (sym is) ∙ off2 in
-    let off4 : may_strike p.men (other p.turn) (arriving x m.promo) m.to ≡ false = ap (λ (n : ℕ). may_strike p.men (other p.turn) (arriving x m.promo) n) (sym same) ∙ off3 in
+    let word_is : w ≡ word (may_check_from p.men (other p.turn) (enemy (other p.turn) y.kind)) = h ∙ squares_by_kind rule p.men (other p.turn) s y.kind a in
+    let off1 : may_check_from p.men (other p.turn) (enemy (other p.turn) y.kind) t ≡ false = sym (word_has (may_check_from p.men (other p.turn) (enemy (other p.turn) y.kind)) w t word_is small) ∙ off in
+    let off2 : may_check_from p.men (other p.turn) y t ≡ false = ap (λ (z : Man). may_check_from p.men (other p.turn) z t) (sym (is_enemy y p.turn colour)) ∙ off1 in
+    let off3 : may_check_from p.men (other p.turn) (arriving x m.promo) t ≡ false = ap (λ (z : Man). may_check_from p.men (other p.turn) z t) (sym is) ∙ off2 in
+    let off4 : may_check_from p.men (other p.turn) (arriving x m.promo) m.to ≡ false = ap (λ (n : ℕ). may_check_from p.men (other p.turn) (arriving x m.promo) n) (sym same) ∙ off3 in
     let to : m.to < 64 = omega arith in
     gives_no_check rule p x m well may to here cover off4

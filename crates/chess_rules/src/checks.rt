@@ -5,26 +5,28 @@ ghost use Rattle.chess_core.specs.declared.man.Kind.TheVariants.{Pawn};
 ghost use Rattle.chess_core.specs.WellFormed.{IsWellFormed};
 ghost use Rattle.chess_core.specs.Words.{word};
 ghost use Rattle.chess_rules.specs.Attacks.{in_check};
-ghost use Rattle.chess_rules.specs.Calm.{AreChecks, IsAiming, enemy, is_fairy, may_strike, squares_for};
+ghost use Rattle.chess_rules.specs.CheckSquares.{AreCheckSquares, AreCheckTargets, enemy, may_check_from, check_squares_for};
+ghost use Rattle.chess_rules.specs.Shields.{is_fairy};
 ghost use Rattle.chess_rules.specs.Legal.{pseudo};
 ghost use Rattle.chess_rules.specs.Play.{after};
 ghost use Rattle.chess_rules.specs.Targets.{steps_to};
 
-use crate::calm::{covers, rebearing, uncovering};
+use crate::evasions::rebirth_captures;
 use crate::play::arriving;
 use crate::reach::reach_as;
 use crate::rules::Rules;
+use crate::shields::{cannot_expose, shield_squares};
 use crate::targets::steps_to;
 use crate::words::{contains, only};
 use chess_core::board::Board;
 use chess_core::man::{Colour, Kind, Man, Move};
 use chess_core::square::Square;
 
-/// The squares from which a move may give check in a position: by uncovering the king, or by a man of
+/// The squares from which a move may give check in a position: by exposing the king, or by a man of
 /// this kind that arrives there.
 #[derive(Clone, Copy)]
 pub(crate) struct CheckSquares {
-    uncovering: u64,
+    shield_squares: u64,
     king: u64,
     straight: u64,
     diagonal: u64,
@@ -44,8 +46,8 @@ fn is_fairy(kind: Kind) -> bool
 }
 
 // The squares from which an enemy of this kind may give check to the colour's king.
-fn strikers(board: &Board, colour: Colour, kind: Kind) -> u64
-    ensures { result ≡ word (may_strike board.now.men colour (enemy colour kind)) }
+fn check_squares_of(board: &Board, colour: Colour, kind: Kind) -> u64
+    ensures { result ≡ word (may_check_from board.now.men colour (enemy colour kind)) }
 {
     let Some(king) = board.king_of(colour) else {
         return 0;
@@ -59,22 +61,22 @@ fn strikers(board: &Board, colour: Colour, kind: Kind) -> u64
 
 // The squares from which a move may give check to the colour's king.
 pub(crate) fn check_squares<R: Rules>(board: &Board, colour: Colour) -> CheckSquares
-    ensures { AreChecks R.rule board.now.men colour result }
+    ensures { AreCheckSquares R.rule board.now.men colour result }
 {
     CheckSquares {
-        uncovering: uncovering::<R>(board, colour),
-        king: strikers(board, colour, Kind::King),
-        straight: strikers(board, colour, Kind::Rook),
-        diagonal: strikers(board, colour, Kind::Bishop),
-        knight: strikers(board, colour, Kind::Knight),
-        pawn: strikers(board, colour, Kind::Pawn),
-        fairy: strikers(board, colour, Kind::Grasshopper),
+        shield_squares: shield_squares::<R>(board, colour),
+        king: check_squares_of(board, colour, Kind::King),
+        straight: check_squares_of(board, colour, Kind::Rook),
+        diagonal: check_squares_of(board, colour, Kind::Bishop),
+        knight: check_squares_of(board, colour, Kind::Knight),
+        pawn: check_squares_of(board, colour, Kind::Pawn),
+        fairy: check_squares_of(board, colour, Kind::Grasshopper),
     }
 }
 
 // Those from which a man of this kind may.
-fn squares_for(squares: &CheckSquares, kind: Kind) -> u64
-    ensures { result ≡ squares_for squares.now kind }
+fn check_squares_for(squares: &CheckSquares, kind: Kind) -> u64
+    ensures { result ≡ check_squares_for squares.now kind }
 {
     match kind {
         Kind::King => squares.king,
@@ -91,7 +93,7 @@ fn squares_for(squares: &CheckSquares, kind: Kind) -> u64
 const LAST_RANKS: u64 = 0xff00_0000_0000_00ff;
 
 // The squares to which the man on `from` promotes or castles, and perhaps more.
-fn turning(man: Man, from: Square) -> u64
+fn special_targets(man: Man, from: Square) -> u64
     ensures promotes { same_kind man.kind Pawn ≡ true → result ≡ 18374686479671623935 }
     ensures castles { same_kind man.kind Pawn ≡ false → result ≡ word (steps_to man from) }
 {
@@ -103,33 +105,34 @@ fn turning(man: Man, from: Square) -> u64
 }
 
 // The squares to which the man on `from` must go to give check.
-pub(crate) fn aims<R: Rules>(board: &Board, squares: &CheckSquares, from: Square) -> u64
+pub(crate) fn check_targets<R: Rules>(board: &Board, squares: &CheckSquares, from: Square) -> u64
     requires well_formed { IsWellFormed board.now }
-    requires squares { AreChecks R.rule board.now.men (other board.now.turn) squares.now }
-    ensures { IsAiming R.rule board.now from result }
+    requires squares { AreCheckSquares R.rule board.now.men (other board.now.turn) squares.now }
+    ensures { AreCheckTargets R.rule board.now from result }
 {
     let _small = from.index();
     let Some(man) = board.man_at(from) else {
         return 0;
     };
-    if contains(squares.uncovering, from) {
+    if contains(squares.shield_squares, from) {
         return !0;
     }
-    let struck = squares_for(squares, man.kind);
-    struck | only(board.crossed()) | turning(man, from) | rebearing::<R>(board)
+    let checked_from = check_squares_for(squares, man.kind);
+    checked_from | only(board.crossed()) | special_targets(man, from) | rebirth_captures::<R>(board)
 }
 
 // Whether the move may give check: where it answers `false`, it gives none.
 pub(crate) fn may_check<R: Rules>(board: &Board, squares: &CheckSquares, m: &Move) -> bool
     requires well_formed { IsWellFormed board.now }
     requires pseudo { pseudo R.rule board.now m.now ≡ true }
-    requires squares { AreChecks R.rule board.now.men (other board.now.turn) squares.now }
+    requires squares { AreCheckSquares R.rule board.now.men (other board.now.turn) squares.now }
     ensures { result ≡ false → in_check R.rule (after R.rule board.now m.now).men (other board.now.turn) ≡ false }
 {
     let Some(man) = board.man_at(m.from) else {
         return true;
     };
     let _small = m.to.index();
-    let from_there = squares_for(squares, arriving(man, m.promo).kind);
-    contains(from_there, m.to) || !covers::<R>(board, board.turn().other(), squares.uncovering, m)
+    let from_there = check_squares_for(squares, arriving(man, m.promo).kind);
+    contains(from_there, m.to)
+        || !cannot_expose::<R>(board, board.turn().other(), squares.shield_squares, m)
 }

@@ -3,13 +3,13 @@ ghost use Rattle.std.specs.Prelude.{◌≡◌, ℕ, ◌≤◌, ◌<◌, ◌∷�
 ghost use Rattle.chess_core.specs.Position.{other};
 ghost use Rattle.chess_core.specs.WellFormed.{IsWellFormed};
 ghost use Rattle.chess_rules.specs.Attacks.{in_check};
-ghost use Rattle.chess_rules.specs.Calm.{AreChecks};
+ghost use Rattle.chess_rules.specs.CheckSquares.{AreCheckSquares};
 ghost use Rattle.chess_rules.specs.Legal.{is_goal, pseudo};
-ghost use Rattle.chess_rules.specs.Places.{AreQuiet, IsMatingPlaceIn, mates, mates_behind, place_of, triple_at};
+ghost use Rattle.chess_rules.specs.Places.{HaveNoMate, IsMatingPlaceIn, mates, mates_behind, place_of, triple_at};
 ghost use Rattle.chess_rules.specs.Play.{after};
 ghost use Rattle.chess_rules.specs.Targets.{is_aimed};
 
-use crate::checks::{CheckSquares, aims, check_squares, may_check};
+use crate::checks::{CheckSquares, check_squares, check_targets, may_check};
 use crate::legal::is_pseudo;
 use crate::moves::{has_legal_move, triple};
 use crate::rules::{Rules, in_check};
@@ -78,7 +78,7 @@ impl<R: Rules> MatingMoves<R> {
 // none.
 pub(crate) fn next_mating<R: Rules>(board: &mut Board, squares: &CheckSquares, start: u16) -> u16
     requires well_formed { IsWellFormed board.old }
-    requires squares { AreChecks R.rule board.old.men (other board.old.turn) squares.now }
+    requires squares { AreCheckSquares R.rule board.old.men (other board.old.turn) squares.now }
     ensures low { result < 28672 → start ≤ result }
     ensures high { result ≤ 28672 }
     ensures same { mates_behind R.rule board.old result ≡ mates_behind R.rule board.old start }
@@ -99,17 +99,17 @@ pub(crate) fn next_mating<R: Rules>(board: &mut Board, squares: &CheckSquares, s
 // is none.
 fn next_candidate<R: Rules>(board: &Board, squares: &CheckSquares, start: u16) -> u16
     requires well_formed { IsWellFormed board.now }
-    requires squares { AreChecks R.rule board.now.men (other board.now.turn) squares.now }
+    requires squares { AreCheckSquares R.rule board.now.men (other board.now.turn) squares.now }
     ensures low { result < 28672 → start ≤ result }
     ensures high { result ≤ 28672 }
-    ensures quiet { AreQuiet R.rule board.now start result }
+    ensures quiet { HaveNoMate R.rule board.now start result }
     ensures aimed { result < 28672 → is_aimed board.now (triple_at result) ≡ true }
 {
     let own = board.side(board.turn());
     let mut number = start;
     while let Some(from) = next_bit(own, (number / PER_ORIGIN) as u8) {
         let first = u16::from(from.index()) * PER_ORIGIN;
-        let word = aims::<R>(board, squares, from);
+        let word = check_targets::<R>(board, squares, from);
         let at = next_from(board, from, word, number.saturating_sub(first));
         if at < PER_ORIGIN {
             return first + at;
@@ -123,7 +123,7 @@ fn next_candidate<R: Rules>(board: &Board, squares: &CheckSquares, start: u16) -
 fn is_mating<R: Rules>(board: &mut Board, squares: &CheckSquares, m: Move) -> bool
     requires well_formed { IsWellFormed board.old }
     requires aimed { is_aimed board.old m ≡ true }
-    requires squares { AreChecks R.rule board.old.men (other board.old.turn) squares.now }
+    requires squares { AreCheckSquares R.rule board.old.men (other board.old.turn) squares.now }
     ensures answer { result ≡ mates R.rule board.old m }
     ensures board { board.new ≡ board.old }
 {

@@ -4,12 +4,12 @@ use Rattle.chess_rules.proofs.checks.check_squares.Goals as goal
 
 pub returns : goal.returns
 returns g c = record {
-  uncovering = c.uncovering.ensures;
-  king = c.strikers.ensures;
-  straight = c.strikers-2.ensures;
-  diagonal = c.strikers-3.ensures;
-  knight = c.strikers-4.ensures;
-  pawn = c.strikers-5.ensures;
-  grasshopper = c.strikers-6.ensures;
-  nightrider = c.strikers-6.ensures ∙ fairy_alike c.args.board.now.men c.args.colour;
+  shield_squares = c.shield_squares.ensures;
+  king = c.check_squares_of.ensures;
+  straight = c.check_squares_of-2.ensures;
+  diagonal = c.check_squares_of-3.ensures;
+  knight = c.check_squares_of-4.ensures;
+  pawn = c.check_squares_of-5.ensures;
+  grasshopper = c.check_squares_of-6.ensures;
+  nightrider = c.check_squares_of-6.ensures ∙ fairy_alike c.args.board.now.men c.args.colour;
 }

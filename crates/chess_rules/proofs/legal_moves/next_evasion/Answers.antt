@@ -2,7 +2,7 @@ use Rattle.std.proofs.Common.{◌≡◌, ◌+◌, ◌-◌, ◌*◌, ◌/◌, ◌
 use Rattle.std.specs.Int.{bit_at}
 use Rattle.chess_rules.specs.Places.{AreUnplayable}
 use Rattle.chess_rules.specs.Targets.{IsBarrenFrom}
-use Rattle.chess_rules.proofs.Evading.{unplayable-empty, unplayable-none, unplayable-origin}
+use Rattle.chess_rules.proofs.EvasionTargets.{unplayable-empty, unplayable-none, unplayable-origin}
 use Rattle.chess_rules.proofs.Targeting.{aimed_from}
 use Rattle.chess_rules.proofs.Tests.{find_first}
 use Rattle.chess_rules.proofs.legal_moves.next_evasion.Goals as goal
@@ -16,9 +16,9 @@ returns-then-at-lt-PER_ORIGIN-clause-unplayable g c =
     let s = c.in-Some.from in
     let first = find_first (λ q. bit_at c.side-own.result q == 1) (c.loop-from.number / 448) (64 - c.loop-from.number / 448) s (sym c.next_bit.ensures.value ∙ c.in-Some.is) in
     let at : c.from-first.result * 448 ≡ 448 * s = omega (arith, c.from-first.ensures, c.index.ensures.value) in
-    let here : IsBarrenFrom p s c.evading-word.result (c.loop-from.number - 448 * s) c.next_from-at.result = rw (c.saturating_sub.ensures, at) at c.next_from-at.ensures.barren in
+    let here : IsBarrenFrom p s c.evasions_from-word.result (c.loop-from.number - 448 * s) c.next_from-at.result = rw (c.saturating_sub.ensures, at) at c.next_from-at.ensures.barren in
     let past : AreUnplayable g.R.Rules.rule p c.args.start (448 * s + c.next_from-at.result) =
-    unplayable-origin g.R.Rules.rule p c.args.start c.loop-from.number s c.next_from-at.result c.side-own.result c.evading-word.result (rw c.turn.ensures at c.side-own.ensures) c.loop-from.invariant.unplayable first c.next_from-at.ensures.high c.evading-word.ensures here in
+    unplayable-origin g.R.Rules.rule p c.args.start c.loop-from.number s c.next_from-at.result c.side-own.result c.evasions_from-word.result (rw c.turn.ensures at c.side-own.ensures) c.loop-from.invariant.unplayable first c.next_from-at.ensures.high c.evasions_from-word.ensures here in
     rw at past
 
 pub loop-from-preserved : goal.loop-from-preserved
@@ -27,9 +27,9 @@ loop-from-preserved g c =
     let s = c.in-Some.from in
     let first = find_first (λ q. bit_at c.side-own.result q == 1) (c.loop-from.number / 448) (64 - c.loop-from.number / 448) s (sym c.next_bit.ensures.value ∙ c.in-Some.is) in
     let at : c.from-first.result * 448 ≡ 448 * s = omega (arith, c.from-first.ensures, c.index.ensures.value) in
-    let here : IsBarrenFrom p s c.evading-word.result (c.loop-from.number - 448 * s) c.next_from-at.result = rw (c.saturating_sub.ensures, at) at c.next_from-at.ensures.barren in
+    let here : IsBarrenFrom p s c.evasions_from-word.result (c.loop-from.number - 448 * s) c.next_from-at.result = rw (c.saturating_sub.ensures, at) at c.next_from-at.ensures.barren in
     let past : AreUnplayable g.R.Rules.rule p c.args.start (448 * s + c.next_from-at.result) =
-    unplayable-origin g.R.Rules.rule p c.args.start c.loop-from.number s c.next_from-at.result c.side-own.result c.evading-word.result (rw c.turn.ensures at c.side-own.ensures) c.loop-from.invariant.unplayable first c.next_from-at.ensures.high c.evading-word.ensures here in
+    unplayable-origin g.R.Rules.rule p c.args.start c.loop-from.number s c.next_from-at.result c.side-own.result c.evasions_from-word.result (rw c.turn.ensures at c.side-own.ensures) c.loop-from.invariant.unplayable first c.next_from-at.ensures.high c.evasions_from-word.ensures here in
     let all : c.next_from-at.result ≡ 448 = omega (arith, c.next_from-at.ensures.high) in
     record {
       low = omega (arith, c.loop-from.invariant.low, first.low);

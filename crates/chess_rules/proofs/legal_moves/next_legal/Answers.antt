@@ -7,8 +7,8 @@ use Rattle.chess_rules.proofs.legal_moves.next_legal.Goals as goal
 pub is_legal_with-requires-clause-squares : goal.is_legal_with-requires-clause-squares
 is_legal_with-requires-clause-squares g c = rw c.loop-number.invariant.board c.requires.squares
 
-pub is_legal_with-requires-clause-parrying : goal.is_legal_with-requires-clause-parrying
-is_legal_with-requires-clause-parrying g c = rw c.loop-number.invariant.board c.requires.parrying
+pub is_legal_with-requires-clause-evasion_squares : goal.is_legal_with-requires-clause-evasion_squares
+is_legal_with-requires-clause-evasion_squares g c = rw c.loop-number.invariant.board c.requires.evasion_squares
 
 pub is_legal_with-requires-clause-aimed : goal.is_legal_with-requires-clause-aimed
 is_legal_with-requires-clause-aimed g c =

@@ -1,8 +1,8 @@
 use Rattle.std.proofs.Common.{◌≡◌, ◌+◌, ◌-◌, ◌*◌, ◌/◌, ◌==◌, sym, ◌∙◌, arith}
 use Rattle.std.specs.Int.{bit_at}
-use Rattle.chess_rules.specs.Places.{AreQuiet}
+use Rattle.chess_rules.specs.Places.{HaveNoMate}
 use Rattle.chess_rules.specs.Targets.{IsBarrenFrom}
-use Rattle.chess_rules.proofs.Aiming.{quiet-empty, quiet-none, quiet-origin}
+use Rattle.chess_rules.proofs.CheckTargets.{quiet-empty, quiet-none, quiet-origin}
 use Rattle.chess_rules.proofs.Targeting.{aimed_from}
 use Rattle.chess_rules.proofs.Tests.{find_first}
 use Rattle.chess_rules.proofs.mating_moves.next_candidate.Goals as goal
@@ -16,9 +16,9 @@ returns-then-at-lt-PER_ORIGIN-clause-quiet g c =
     let s = c.in-Some.from in
     let first = find_first (λ q. bit_at c.side-own.result q == 1) (c.loop-from.number / 448) (64 - c.loop-from.number / 448) s (sym c.next_bit.ensures.value ∙ c.in-Some.is) in
     let at : c.from-first.result * 448 ≡ 448 * s = omega (arith, c.from-first.ensures, c.index.ensures.value) in
-    let here : IsBarrenFrom p s c.aims-word.result (c.loop-from.number - 448 * s) c.next_from-at.result = rw (c.saturating_sub.ensures, at) at c.next_from-at.ensures.barren in
-    let past : AreQuiet g.R.Rules.rule p c.args.start (448 * s + c.next_from-at.result) =
-    quiet-origin g.R.Rules.rule p c.args.start c.loop-from.number s c.next_from-at.result c.side-own.result c.aims-word.result (rw c.turn.ensures at c.side-own.ensures) c.loop-from.invariant.quiet first c.next_from-at.ensures.high c.aims-word.ensures here in
+    let here : IsBarrenFrom p s c.check_targets-word.result (c.loop-from.number - 448 * s) c.next_from-at.result = rw (c.saturating_sub.ensures, at) at c.next_from-at.ensures.barren in
+    let past : HaveNoMate g.R.Rules.rule p c.args.start (448 * s + c.next_from-at.result) =
+    quiet-origin g.R.Rules.rule p c.args.start c.loop-from.number s c.next_from-at.result c.side-own.result c.check_targets-word.result (rw c.turn.ensures at c.side-own.ensures) c.loop-from.invariant.quiet first c.next_from-at.ensures.high c.check_targets-word.ensures here in
     rw at past
 
 pub loop-from-preserved : goal.loop-from-preserved
@@ -27,9 +27,9 @@ loop-from-preserved g c =
     let s = c.in-Some.from in
     let first = find_first (λ q. bit_at c.side-own.result q == 1) (c.loop-from.number / 448) (64 - c.loop-from.number / 448) s (sym c.next_bit.ensures.value ∙ c.in-Some.is) in
     let at : c.from-first.result * 448 ≡ 448 * s = omega (arith, c.from-first.ensures, c.index.ensures.value) in
-    let here : IsBarrenFrom p s c.aims-word.result (c.loop-from.number - 448 * s) c.next_from-at.result = rw (c.saturating_sub.ensures, at) at c.next_from-at.ensures.barren in
-    let past : AreQuiet g.R.Rules.rule p c.args.start (448 * s + c.next_from-at.result) =
-    quiet-origin g.R.Rules.rule p c.args.start c.loop-from.number s c.next_from-at.result c.side-own.result c.aims-word.result (rw c.turn.ensures at c.side-own.ensures) c.loop-from.invariant.quiet first c.next_from-at.ensures.high c.aims-word.ensures here in
+    let here : IsBarrenFrom p s c.check_targets-word.result (c.loop-from.number - 448 * s) c.next_from-at.result = rw (c.saturating_sub.ensures, at) at c.next_from-at.ensures.barren in
+    let past : HaveNoMate g.R.Rules.rule p c.args.start (448 * s + c.next_from-at.result) =
+    quiet-origin g.R.Rules.rule p c.args.start c.loop-from.number s c.next_from-at.result c.side-own.result c.check_targets-word.result (rw c.turn.ensures at c.side-own.ensures) c.loop-from.invariant.quiet first c.next_from-at.ensures.high c.check_targets-word.ensures here in
     let all : c.next_from-at.result ≡ 448 = omega (arith, c.next_from-at.ensures.high) in
     record {
       low = omega (arith, c.loop-from.invariant.low, first.low);

@@ -11,10 +11,10 @@ returns-then-number-lt-TRIPLES-clause-first g c =
 
 pub returns-then-number-lt-TRIPLES-clause-place : goal.returns-then-number-lt-TRIPLES-clause-place
 returns-then-number-lt-TRIPLES-clause-place g c =
-    let squares : c.self.inside.uncovering ≡ c.args.self.now.uncovering = ap (λ (v : LegalPlace). v.uncovering) c.self.view_is in
-    let parrying : c.self.inside.parrying ≡ c.args.self.now.parrying = ap (λ (v : LegalPlace). v.parrying) c.self.view_is in
+    let squares : c.self.inside.shield_squares ≡ c.args.self.now.shield_squares = ap (λ (v : LegalPlace). v.shield_squares) c.self.view_is in
+    let evasion_squares : c.self.inside.evasion_squares ≡ c.args.self.now.evasion_squares = ap (λ (v : LegalPlace). v.evasion_squares) c.self.view_is in
     let place : c.next_legal-number.result + 1 ≡ place_of (Some c.triple.result) = rw c.triple.ensures (sym (place_of_triple c.next_legal-number.result c.if-number-lt-TRIPLES.true)) in
-    (λ j. record { place = place j; uncovering = squares j; parrying = parrying j })
+    (λ j. record { place = place j; shield_squares = squares j; evasion_squares = evasion_squares j })
 
 pub returns-then-number-lt-TRIPLES-clause-rest : goal.returns-then-number-lt-TRIPLES-clause-rest
 returns-then-number-lt-TRIPLES-clause-rest g c =
@@ -31,9 +31,9 @@ returns-clause-first g c =
 pub returns-clause-place : goal.returns-clause-place
 unfolding place_of
 returns-clause-place g c =
-    let squares : c.self.inside.uncovering ≡ c.args.self.now.uncovering = ap (λ (v : LegalPlace). v.uncovering) c.self.view_is in
-    let parrying : c.self.inside.parrying ≡ c.args.self.now.parrying = ap (λ (v : LegalPlace). v.parrying) c.self.view_is in
-    (λ j. record { place = 28672; uncovering = squares j; parrying = parrying j })
+    let squares : c.self.inside.shield_squares ≡ c.args.self.now.shield_squares = ap (λ (v : LegalPlace). v.shield_squares) c.self.view_is in
+    let evasion_squares : c.self.inside.evasion_squares ≡ c.args.self.now.evasion_squares = ap (λ (v : LegalPlace). v.evasion_squares) c.self.view_is in
+    (λ j. record { place = 28672; shield_squares = squares j; evasion_squares = evasion_squares j })
 
 pub returns-clause-rest : goal.returns-clause-rest
 returns-clause-rest g c =
@@ -43,12 +43,12 @@ returns-clause-rest g c =
 
 pub returns-then-number-lt-TRIPLES-clause-within : goal.returns-then-number-lt-TRIPLES-clause-within
 returns-then-number-lt-TRIPLES-clause-within g c =
-    let squares : c.self.inside.uncovering ≡ c.args.self.now.uncovering = ap (λ (v : LegalPlace). v.uncovering) c.self.view_is in
-    let parrying : c.self.inside.parrying ≡ c.args.self.now.parrying = ap (λ (v : LegalPlace). v.parrying) c.self.view_is in
-    record { uncovering = squares ∙ c.requires.place.uncovering; parrying = rw parrying c.requires.place.parrying }
+    let squares : c.self.inside.shield_squares ≡ c.args.self.now.shield_squares = ap (λ (v : LegalPlace). v.shield_squares) c.self.view_is in
+    let evasion_squares : c.self.inside.evasion_squares ≡ c.args.self.now.evasion_squares = ap (λ (v : LegalPlace). v.evasion_squares) c.self.view_is in
+    record { shield_squares = squares ∙ c.requires.place.shield_squares; evasion_squares = rw evasion_squares c.requires.place.evasion_squares }
 
 pub returns-clause-within : goal.returns-clause-within
 returns-clause-within g c =
-    let squares : c.self.inside.uncovering ≡ c.args.self.now.uncovering = ap (λ (v : LegalPlace). v.uncovering) c.self.view_is in
-    let parrying : c.self.inside.parrying ≡ c.args.self.now.parrying = ap (λ (v : LegalPlace). v.parrying) c.self.view_is in
-    record { uncovering = squares ∙ c.requires.place.uncovering; parrying = rw parrying c.requires.place.parrying }
+    let squares : c.self.inside.shield_squares ≡ c.args.self.now.shield_squares = ap (λ (v : LegalPlace). v.shield_squares) c.self.view_is in
+    let evasion_squares : c.self.inside.evasion_squares ≡ c.args.self.now.evasion_squares = ap (λ (v : LegalPlace). v.evasion_squares) c.self.view_is in
+    record { shield_squares = squares ∙ c.requires.place.shield_squares; evasion_squares = rw evasion_squares c.requires.place.evasion_squares }

@@ -20,8 +20,9 @@ use Rattle.chess_core.specs.declared.step.Step.{Step}
 use Rattle.chess_core.proofs.Men.{man_on-with_other, man_on-without_same}
 use Rattle.chess_core.proofs.Ranges.{all_range_true, any_range_false, any_range_true, find_square_some, some_square_false, some_square_true}
 use Rattle.chess_core.proofs.Words.{squares_either, squares_not, squares_same}
-use Rattle.chess_rules.specs.Attacks.{attacked, check_of, in_check, paralysed, strikes}
-use Rattle.chess_rules.specs.Calm.{covers, has_fairy, is_bare, is_fairy, is_plain, may_strike, may_strike_on, may_uncover, may_uncover_on}
+use Rattle.chess_rules.specs.Attacks.{attacked, check_of, in_check, paralysed, checks_from}
+use Rattle.chess_rules.specs.CheckSquares.{may_check_from, may_check_from_on}
+use Rattle.chess_rules.specs.Shields.{cannot_expose, has_fairy, is_unshielded, is_fairy, is_plain, may_expose, may_expose_on}
 use Rattle.chess_rules.specs.Legal.{is_promotion_right, pseudo}
 use Rattle.chess_rules.specs.Play.{after, after_by, arriving, capture_square, is_castling, is_diagonal, man_on_at, moved_men, put_at, reborn_at, reborn_square, without_at}
 use Rattle.chess_rules.specs.Reaches.{is_clear, is_vacant, reaches, reaches_as, rides}
@@ -134,20 +135,20 @@ pub record IsCovered (rule : RuleSet) (men : List (Option Man)) (c : Colour) (a 
   pub apart : (k == a) ≡ false
   pub unseen : reaches_as men c Queen k a ≡ false
 
-covered_parts : (rule : RuleSet) (men : List (Option Man)) (c : Colour) (a k : ℕ) → may_uncover_on rule men (Some k) c a ≡ false → IsCovered rule men c a k
-unfolding is_bare
+covered_parts : (rule : RuleSet) (men : List (Option Man)) (c : Colour) (a k : ℕ) → may_expose_on rule men (Some k) c a ≡ false → IsCovered rule men c a k
+unfolding is_unshielded
 covered_parts rule men c a k h =
-    let h1 = or_parts (is_bare rule men c k || k == a) (reaches_as men c Queen k a) h in
-    let h2 = or_parts (is_bare rule men c k) (k == a) h1.0 in
+    let h1 = or_parts (is_unshielded rule men c k || k == a) (reaches_as men c Queen k a) h in
+    let h2 = or_parts (is_unshielded rule men c k) (k == a) h1.0 in
     let h3 = or_parts (is_madrasi rule || has_fairy men (other c)) (attacked rule men k (other c)) h2.0 in
     let h4 = or_parts (is_madrasi rule) (has_fairy men (other c)) h3.0 in
     record { orthodox = h4.0; no_fairy = h4.1; safe = h3.1; apart = h2.1; unseen = h1.1 }
 
--- a man that strikes the king now and hasn't moved struck it before
-strikes_before : (rule : RuleSet) (men after : List (Option Man)) (a b : ℕ) (z : Man) (c : Colour) (k s : ℕ) (o : Option Man) → man_on after s ≡ o → IsShift men after a b z → IsCovered rule men c a k → s < 64 → k < 64 → s ≢ b → is_side o (other c) ≡ true → reaches after s k ≡ true → strikes rule men k (other c) s ≡ true
-unfolding strikes paralysed reaches
-strikes_before rule men after a b z c k s None at i g p q ne side h = cc
-strikes_before rule men after a b z c k s (Some y) at i g p q ne side h =
+-- a man that checks the king now and hasn't moved checked it before
+checks_before : (rule : RuleSet) (men after : List (Option Man)) (a b : ℕ) (z : Man) (c : Colour) (k s : ℕ) (o : Option Man) → man_on after s ≡ o → IsShift men after a b z → IsCovered rule men c a k → s < 64 → k < 64 → s ≢ b → is_side o (other c) ≡ true → reaches after s k ≡ true → checks_from rule men k (other c) s ≡ true
+unfolding checks_from paralysed reaches
+checks_before rule men after a b z c k s None at i g p q ne side h = cc
+checks_before rule men after a b z c k s (Some y) at i g p q ne side h =
     let there : man_on men s ≡ Some y = i.others s y at ne in
     let now : reaches_as after y.colour y.kind s k ≡ true = rw at at h in
     let plain : is_fairy y.kind ≡ false = orthodox_man men (other c) s y p there side g.no_fairy in
@@ -174,9 +175,9 @@ arrival_strikes rule men after a b z c k (Some y) at i g l p q side h =
     cc
 
 not_attacked : (rule : RuleSet) (men after : List (Option Man)) (a b : ℕ) (z : Man) (c : Colour) (k : ℕ) → IsShift men after a b z → IsCovered rule men c a k → IsQuiet men c b k z → k < 64 → attacked rule after k (other c) ≡ false
-unfolding attacked strikes
+unfolding attacked checks_from
 not_attacked rule men after a b z c k i g l q =
-    some_square_false (strikes rule after k (other c)) 64 (omega arith) (record {
+    some_square_false (checks_from rule after k (other c)) 64 (omega arith) (record {
       fails = λ s p. false_from_ne_true _ (λ h.
           let h1 = and_parts (is_side (man_on after s) (other c) && not (paralysed rule after s)) (reaches after s k) h in
           let h2 = and_parts (is_side (man_on after s) (other c)) (not (paralysed rule after s)) h1.0 in
@@ -187,7 +188,7 @@ not_attacked rule men after a b z c k i g l q =
                 let hit : reaches after b k ≡ true = ap (λ (n : ℕ). reaches after n k) (sym e) ∙ h1.1 in
                 arrival_strikes rule men after a b z c k (man_on after b) refl i g l small q side hit
             | inr ne ↦
-                let yes : some_square (strikes rule men k (other c)) ≡ true = some_square_true (strikes rule men k (other c)) s p (strikes_before rule men after a b z c k s (man_on after s) refl i g p q ne h2.0 h1.1) in
+                let yes : some_square (checks_from rule men k (other c)) ≡ true = some_square_true (checks_from rule men k (other c)) s p (checks_before rule men after a b z c k s (man_on after s) refl i g p q ne h2.0 h1.1) in
                 let no = g.safe in
                 cc
           ]);
@@ -209,11 +210,11 @@ man_there (Some y) c j h = (y, refl)
 pub record IsHarmless (rule : RuleSet) (men : List (Option Man)) (c : Colour) (a b : ℕ) (z : Man) : Type 0 where
   pub one : AtMostOneKing men
   pub king : is_man (Some z) c King ≡ true → king_square men c ≡ Some a
-  pub covers : may_uncover rule men c a ≡ false
+  pub cannot_expose : may_expose rule men c a ≡ false
   pub quiet : (k : ℕ) → king_square men c ≡ Some k → IsQuiet men c b k z
 
 king_stays : (rule : RuleSet) (men after : List (Option Man)) (a b : ℕ) (z : Man) (c : Colour) (k : ℕ) → IsShift men after a b z → IsHarmless rule men c a b z → k < 64 → is_man (man_on after k) c King ≡ true → king_square men c ≡ Some k
-unfolding may_uncover
+unfolding may_expose
 king_stays rule men after a b z c k i g small h =
     let y = man_there (man_on after k) c King h in
     let is : is_man (Some y.0) c King ≡ true = rw y.1 at h in
@@ -222,7 +223,7 @@ king_stays rule men after a b z c k i g small h =
           let came : man_on after b ≡ Some y.0 = ap (λ (n : ℕ). man_on after n) (sym e) ∙ y.1 in
           let same : y.0 ≡ z = i.arrived y.0 came in
           let was : king_square men c ≡ Some a = g.king (ap (λ (x : Man). is_man (Some x) c King) (sym same) ∙ is) in
-          let no : may_uncover_on rule men (Some a) c a ≡ false = rw was at g.covers in
+          let no : may_expose_on rule men (Some a) c a ≡ false = rw was at g.cannot_expose in
           let apart : (a == a) ≡ false = (covered_parts rule men c a a no).apart in
           let yes : (a == a) ≡ true = eq-eqb a a refl in
           cc
@@ -232,7 +233,7 @@ king_stays rule men after a b z c k i g small h =
     ]
 
 pub stays_safe : (rule : RuleSet) (men after : List (Option Man)) (a b : ℕ) (z : Man) (c : Colour) → IsShift men after a b z → IsHarmless rule men c a b z → in_check rule after c ≡ false
-unfolding in_check king_square squares may_uncover
+unfolding in_check king_square squares may_expose
 stays_safe rule men after a b z c i g = by (king_square after c) refl where
   by : (o : Option ℕ) → king_square after c ≡ o → check_of rule after o (other c) ≡ false
   by None e = refl
@@ -240,7 +241,7 @@ stays_safe rule men after a b z c i g = by (king_square after c) refl where
       let f = find_first (λ s. is_man (man_on after s) c King) 0 64 k e in
       let small : k < 64 = omega (arith, f.high) in
       let at : king_square men c ≡ Some k = king_stays rule men after a b z c k i g small f.here in
-      let no : may_uncover_on rule men (Some k) c a ≡ false = ap (λ (o : Option ℕ). may_uncover_on rule men o c a) (sym at) ∙ g.covers in
+      let no : may_expose_on rule men (Some k) c a ≡ false = ap (λ (o : Option ℕ). may_expose_on rule men o c a) (sym at) ∙ g.cannot_expose in
       not_attacked rule men after a b z c k i (covered_parts rule men c a k no) (g.quiet k at) small
 
 -- nobody is reborn where nobody is captured, or without Circe
@@ -328,13 +329,13 @@ king_came p x m c well here right h =
     let is : is_man (Some x) c King ≡ true = ap (λ (y : Man). is_man (Some y) c King) (sym same) ∙ h in
     king_is p.men c m.from well.kings (on_board p.men m.from x well.size here) (rw here is)
 
-plain_safe : (rule : RuleSet) (p : Position) (x : Man) (m : Move) (c : Colour) → IsWellFormed p → IsMade rule p x m → m.to < 64 → IsPlain rule p x m → may_uncover rule p.men c m.from ≡ false
+plain_safe : (rule : RuleSet) (p : Position) (x : Man) (m : Move) (c : Colour) → IsWellFormed p → IsMade rule p x m → m.to < 64 → IsPlain rule p x m → may_expose rule p.men c m.from ≡ false
     → ((k : ℕ) → king_square p.men c ≡ Some k → IsQuiet p.men c m.to k (arriving x m.promo))
     → in_check rule (after rule p m).men c ≡ false
-plain_safe rule p x m c well is small plain covers quiet =
+plain_safe rule p x m c well is small plain cannot_expose quiet =
     ap (λ (l : List (Option Man)). in_check rule l c) (men_after rule p x m is.here plain)
     ∙ stays_safe rule p.men (arrived p x m) m.from m.to (arriving x m.promo) c (arrived_shift rule p x m well is small plain)
-    (record { one = well.kings; king = king_came p x m c well is.here is.promotion; covers = covers; quiet = quiet })
+    (record { one = well.kings; king = king_came p x m c well is.here is.promotion; cannot_expose = cannot_expose; quiet = quiet })
 
 pub arriving_colour : (x : Man) (r : Option Kind) → (arriving x r).colour ≡ x.colour
 arriving_colour x None = refl
@@ -344,20 +345,20 @@ pub other_differs : (c : Colour) → same_colour c (other c) ≡ false
 other_differs White = refl
 other_differs Black = refl
 
-covers_parts : (rule : RuleSet) (p : Position) (x : Man) (c : Colour) (m : Move) → man_on p.men m.from ≡ Some x → covers rule p c m ≡ true → (may_uncover rule p.men c m.from ≡ false) × IsPlain rule p x m
-unfolding covers
-covers_parts rule p x c m here h =
-    let h0 : (not (may_uncover rule p.men c m.from) && is_plain rule p x m) ≡ true = rw here at h in
-    let h1 = and_parts (not (may_uncover rule p.men c m.from)) (is_plain rule p x m) h0 in
+cannot_expose_parts : (rule : RuleSet) (p : Position) (x : Man) (c : Colour) (m : Move) → man_on p.men m.from ≡ Some x → cannot_expose rule p c m ≡ true → (may_expose rule p.men c m.from ≡ false) × IsPlain rule p x m
+unfolding cannot_expose
+cannot_expose_parts rule p x c m here h =
+    let h0 : (not (may_expose rule p.men c m.from) && is_plain rule p x m) ≡ true = rw here at h in
+    let h1 = and_parts (not (may_expose rule p.men c m.from)) (is_plain rule p x m) h0 in
     (not-true _ h1.0, plain_parts rule p x m h1.1)
 
 -- such a move doesn't leave its mover in check
-pub covers_own : (rule : RuleSet) (p : Position) (m : Move) → IsWellFormed p → pseudo rule p m ≡ true → m.to < 64 → covers rule p p.turn m ≡ true → in_check rule (after rule p m).men p.turn ≡ false
-covers_own rule p m well may small h =
+pub cannot_expose_own : (rule : RuleSet) (p : Position) (m : Move) → IsWellFormed p → pseudo rule p m ≡ true → m.to < 64 → cannot_expose rule p p.turn m ≡ true → in_check rule (after rule p m).men p.turn ≡ false
+cannot_expose_own rule p m well may small h =
     let w = maker rule p m may in
     let x : Man = w.0 in
     let is : IsMade rule p x m = made rule p m x may w.1 in
-    let parts = covers_parts rule p x p.turn m w.1 h in
+    let parts = cannot_expose_parts rule p x p.turn m w.1 h in
     plain_safe rule p x m p.turn well is small parts.1 parts.0 (λ k at. record {
       quiet = λ enemy.
           let own : same_colour (arriving x m.promo).colour (other p.turn) ≡ false = ap (λ (c : Colour). same_colour c (other p.turn)) (arriving_colour x m.promo ∙ is.mine) ∙ other_differs p.turn in
@@ -365,13 +366,13 @@ covers_own rule p m well may small h =
     })
 
 -- and, where the man that arrives doesn't strike the enemy's king, doesn't give check
-pub gives_no_check : (rule : RuleSet) (p : Position) (x : Man) (m : Move) → IsWellFormed p → pseudo rule p m ≡ true → m.to < 64 → man_on p.men m.from ≡ Some x → covers rule p (other p.turn) m ≡ true → may_strike p.men (other p.turn) (arriving x m.promo) m.to ≡ false → in_check rule (after rule p m).men (other p.turn) ≡ false
-unfolding may_strike
+pub gives_no_check : (rule : RuleSet) (p : Position) (x : Man) (m : Move) → IsWellFormed p → pseudo rule p m ≡ true → m.to < 64 → man_on p.men m.from ≡ Some x → cannot_expose rule p (other p.turn) m ≡ true → may_check_from p.men (other p.turn) (arriving x m.promo) m.to ≡ false → in_check rule (after rule p m).men (other p.turn) ≡ false
+unfolding may_check_from
 gives_no_check rule p x m well may small here h off =
-    let parts = covers_parts rule p x (other p.turn) m here h in
+    let parts = cannot_expose_parts rule p x (other p.turn) m here h in
     plain_safe rule p x m (other p.turn) well (made rule p m x may here) small parts.1 parts.0 (λ k at. record {
       quiet = λ enemy.
-          let no : may_strike_on p.men (Some k) (arriving x m.promo) m.to ≡ false = ap (λ (o : Option ℕ). may_strike_on p.men o (arriving x m.promo) m.to) (sym at) ∙ off in
+          let no : may_check_from_on p.men (Some k) (arriving x m.promo) m.to ≡ false = ap (λ (o : Option ℕ). may_check_from_on p.men o (arriving x m.promo) m.to) (sym at) ∙ off in
           or_parts (is_fairy (arriving x m.promo).kind) (reaches_as p.men (arriving x m.promo).colour (arriving x m.promo).kind m.to k) no;
     })
 
@@ -394,28 +395,28 @@ pub every_square : (test : ℕ → Bool) → ((s : ℕ) → s < 64 → test s �
 every_square test h = ap (bit_not w64) (word_empty (λ s. false) (λ s b. refl)) ∙ squares_not (λ s. false) ∙ squares_same (λ s. true) test (λ s b. sym (h s b))
 
 -- the word of the squares from which a move may uncover a king
-pub uncovering_none : (rule : RuleSet) (men : List (Option Man)) (c : Colour) → king_square men c ≡ None → 0 ≡ word (may_uncover rule men c)
-unfolding may_uncover
-uncovering_none rule men c h = word_empty (may_uncover rule men c) (λ s b. ap (λ (o : Option ℕ). may_uncover_on rule men o c s) h)
+pub shield_squares_none : (rule : RuleSet) (men : List (Option Man)) (c : Colour) → king_square men c ≡ None → 0 ≡ word (may_expose rule men c)
+unfolding may_expose
+shield_squares_none rule men c h = word_empty (may_expose rule men c) (λ s b. ap (λ (o : Option ℕ). may_expose_on rule men o c s) h)
 
-pub uncovering_all : (rule : RuleSet) (men : List (Option Man)) (c : Colour) (k : ℕ) → king_square men c ≡ Some k → is_bare rule men c k ≡ true → bit_not w64 0 ≡ word (may_uncover rule men c)
-unfolding may_uncover
-uncovering_all rule men c k at bare =
-    every_square (may_uncover rule men c) (λ s b. ap (λ (o : Option ℕ). may_uncover_on rule men o c s) at ∙ or_left _ _ (or_left _ _ bare))
+pub shield_squares_all : (rule : RuleSet) (men : List (Option Man)) (c : Colour) (k : ℕ) → king_square men c ≡ Some k → is_unshielded rule men c k ≡ true → bit_not w64 0 ≡ word (may_expose rule men c)
+unfolding may_expose
+shield_squares_all rule men c k at unshielded =
+    every_square (may_expose rule men c) (λ s b. ap (λ (o : Option ℕ). may_expose_on rule men o c s) at ∙ or_left _ _ (or_left _ _ unshielded))
 
-pub uncovering_some : (rule : RuleSet) (men : List (Option Man)) (c : Colour) (k w n : ℕ) → king_square men c ≡ Some k → is_bare rule men c k ≡ false → w ≡ word (λ t. is_square (Some k) t) → n ≡ word (λ t. reaches_as men c Queen k t) → bit_or w n ≡ word (may_uncover rule men c)
-unfolding may_uncover
-uncovering_some rule men c k w n at bare h i =
+pub shield_squares_some : (rule : RuleSet) (men : List (Option Man)) (c : Colour) (k w n : ℕ) → king_square men c ≡ Some k → is_unshielded rule men c k ≡ false → w ≡ word (λ t. is_square (Some k) t) → n ≡ word (λ t. reaches_as men c Queen k t) → bit_or w n ≡ word (may_expose rule men c)
+unfolding may_expose
+shield_squares_some rule men c k w n at unshielded h i =
     (λ j. bit_or (h j) (i j)) ∙ squares_either (λ t. is_square (Some k) t) (λ t. reaches_as men c Queen k t)
-    ∙ squares_same (λ t. is_square (Some k) t || reaches_as men c Queen k t) (may_uncover rule men c)
-    (λ s b. sym (ap (λ (o : Option ℕ). may_uncover_on rule men o c s) at ∙ ap (λ (x : Bool). x || k == s || reaches_as men c Queen k s) bare))
+    ∙ squares_same (λ t. is_square (Some k) t || reaches_as men c Queen k t) (may_expose rule men c)
+    (λ s b. sym (ap (λ (o : Option ℕ). may_expose_on rule men o c s) at ∙ ap (λ (x : Bool). x || k == s || reaches_as men c Queen k s) unshielded))
 
 -- whether a move can't uncover a king, told by that word
-pub covers_is : (rule : RuleSet) (p : Position) (x : Man) (c : Colour) (m : Move) (w s : ℕ) (b : Bool) → man_on p.men m.from ≡ Some x → w ≡ word (may_uncover rule p.men c) → s ≡ m.from → s < 64 → b ≡ (bit_at w s == 1) → (not b && is_plain rule p x m) ≡ covers rule p c m
-unfolding covers
-covers_is rule p x c m w s b here h same small e =
-    rw here (ap (λ (u : Bool). not u && is_plain rule p x m) (e ∙ word_has (may_uncover rule p.men c) w s h small ∙ ap (may_uncover rule p.men c) same))
+pub cannot_expose_is : (rule : RuleSet) (p : Position) (x : Man) (c : Colour) (m : Move) (w s : ℕ) (b : Bool) → man_on p.men m.from ≡ Some x → w ≡ word (may_expose rule p.men c) → s ≡ m.from → s < 64 → b ≡ (bit_at w s == 1) → (not b && is_plain rule p x m) ≡ cannot_expose rule p c m
+unfolding cannot_expose
+cannot_expose_is rule p x c m w s b here h same small e =
+    rw here (ap (λ (u : Bool). not u && is_plain rule p x m) (e ∙ word_has (may_expose rule p.men c) w s h small ∙ ap (may_expose rule p.men c) same))
 
-pub covers_nobody : (rule : RuleSet) (p : Position) (c : Colour) (m : Move) → man_on p.men m.from ≡ None → false ≡ covers rule p c m
-unfolding covers
-covers_nobody rule p c m none = rw none refl
+pub cannot_expose_nobody : (rule : RuleSet) (p : Position) (c : Colour) (m : Move) → man_on p.men m.from ≡ None → false ≡ cannot_expose rule p c m
+unfolding cannot_expose
+cannot_expose_nobody rule p c m none = rw none refl

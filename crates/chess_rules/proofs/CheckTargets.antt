@@ -1,4 +1,4 @@
--- A move that goes to no square at which its man aims gives no check.
+-- A move that goes to no square from which its man may give check gives none.
 use Rattle.std.proofs.Common.{◌≡◌, ℕ, ◌+◌, ◌-◌, ◌*◌, ◌/◌, ◌%◌, ◌<◌, ◌≤◌, Bool, true, false, ◌&&◌, ◌||◌, ◌==◌, not, Option, Some, None, is_some, find, max, refl, subst, sym, ap, ◌∙◌, arith, inl, inr}
 use Rattle.std.specs.Int.{bit_at, bit_not, w64}
 use Rattle.std.specs.Int.Bits.{bit_or}
@@ -17,9 +17,10 @@ use Rattle.chess_core.specs.declared.man.Man.{Man}
 use Rattle.chess_core.specs.declared.man.Move.{Move}
 use Rattle.chess_rules.specs.declared.checks.CheckSquares.{CheckSquares}
 use Rattle.chess_rules.specs.Attacks.{in_check}
-use Rattle.chess_rules.specs.Calm.{AreChecks, IsAiming, covers, is_plain, may_uncover, squares_for}
+use Rattle.chess_rules.specs.CheckSquares.{AreCheckSquares, AreCheckTargets, check_squares_for}
+use Rattle.chess_rules.specs.Shields.{cannot_expose, is_plain, may_expose}
 use Rattle.chess_rules.specs.Legal.{last_rank, pseudo}
-use Rattle.chess_rules.specs.Places.{AreQuiet, mates, promotion_at, triple_at}
+use Rattle.chess_rules.specs.Places.{HaveNoMate, mates, promotion_at, triple_at}
 use Rattle.chess_rules.specs.Play.{after, arriving, is_castling}
 use Rattle.chess_rules.specs.RuleSet.{RuleSet, is_circe}
 use Rattle.chess_rules.specs.Targets.{IsBarren, IsBarrenFrom, arrives, steps_to}
@@ -59,8 +60,8 @@ last_rank_on Black t lt h = shown (rank_of t == 1) _ h (agree_below_at (λ n. no
     shown false b e h = cc
 
 -- nobody moves from an empty square
-pub aiming_nobody : (rule : RuleSet) (p : Position) (f w : ℕ) → man_on p.men f ≡ None → IsAiming rule p f w
-aiming_nobody rule p f w none = record {
+pub check_targets_nobody : (rule : RuleSet) (p : Position) (f w : ℕ) → man_on p.men f ≡ None → AreCheckTargets rule p f w
+check_targets_nobody rule p f w none = record {
   elsewhere = λ m at small may off.
       absurd (let no : pseudo rule p m ≡ false = nobody rule m (ap (man_on p.men) at ∙ none) in cc);
 }
@@ -69,12 +70,12 @@ aiming_nobody rule p f w none = record {
     nobody rule m h = nobody_moves rule p m h
 
 -- every square is in the word
-pub aiming_all : (rule : RuleSet) (p : Position) (f : ℕ) → IsAiming rule p f (bit_not w64 0)
-aiming_all rule p f = record {
+pub check_targets_all : (rule : RuleSet) (p : Position) (f : ℕ) → AreCheckTargets rule p f (bit_not w64 0)
+check_targets_all rule p f = record {
   elsewhere = λ m at small may off. absurd (let on = every_square_on m.to small in cc);
 }
 
-module _ (rule : RuleSet) (p : Position) (x : Man) (s : CheckSquares) (f : ℕ) (well : IsWellFormed p) (here : man_on p.men f ≡ Some x) (checks : AreChecks rule p.men (other p.turn) s) (inside : f < 64) (covered : (bit_at s.uncovering f == 1) ≡ false) (a b c d : ℕ) (struck : a ≡ squares_for s x.kind) (crossed : b ≡ word (λ t. is_square p.crossed t)) (promotes : same_kind x.kind Pawn ≡ true → c ≡ 18374686479671623935) (castles : same_kind x.kind Pawn ≡ false → c ≡ word (steps_to x f)) (reborn : is_circe rule ≡ true → d ≡ word (λ t. is_some (man_on p.men t))) where
+module _ (rule : RuleSet) (p : Position) (x : Man) (s : CheckSquares) (f : ℕ) (well : IsWellFormed p) (here : man_on p.men f ≡ Some x) (checks : AreCheckSquares rule p.men (other p.turn) s) (inside : f < 64) (covered : (bit_at s.shield_squares f == 1) ≡ false) (a b c d : ℕ) (checked_from : a ≡ check_squares_for s x.kind) (crossed : b ≡ word (λ t. is_square p.crossed t)) (promotes : same_kind x.kind Pawn ≡ true → c ≡ 18374686479671623935) (castles : same_kind x.kind Pawn ≡ false → c ≡ word (steps_to x f)) (reborn : is_circe rule ≡ true → d ≡ word (λ t. is_some (man_on p.men t))) where
   module _ (m : Move) (at : m.from ≡ f) (small : m.to < 64) (may : pseudo rule p m ≡ true) (off : (bit_at (bit_or (bit_or (bit_or a b) c) d) m.to == 1) ≡ false) where
     stands : man_on p.men m.from ≡ Some x
     stands = ap (man_on p.men) at ∙ here
@@ -99,8 +100,8 @@ module _ (rule : RuleSet) (p : Position) (x : Man) (s : CheckSquares) (f : ℕ) 
         let on : (bit_at c m.to == 1) ≡ true = rw (promotes parts.0) (last_rank_on x.colour m.to small parts.1) in
         cc)
 
-    by_kind : (o : Option Kind) → m.promo ≡ o → (bit_at (squares_for s (arriving x o).kind) m.to == 1) ≡ false
-    by_kind None e = rw (← struck) off-a
+    by_kind : (o : Option Kind) → m.promo ≡ o → (bit_at (check_squares_for s (arriving x o).kind) m.to == 1) ≡ false
+    by_kind None e = rw (← checked_from) off-a
     by_kind (Some k) e = absurd (let yes : arrives x m.to ≡ true = unpromoted p x m m.promo k (made rule p m x may stands).promotion e in let never = unturned in cc)
 
     no_castling : is_castling x m ≡ false
@@ -125,32 +126,32 @@ module _ (rule : RuleSet) (p : Position) (x : Man) (s : CheckSquares) (f : ℕ) 
     unfolding is_plain
     plain = rw (no_castling, not_crossed, no_rebirth) refl
 
-    covering : covers rule p (other p.turn) m ≡ true
-    unfolding covers
+    covering : cannot_expose rule p (other p.turn) m ≡ true
+    unfolding cannot_expose
     covering =
-        let off : may_uncover rule p.men (other p.turn) m.from ≡ false = rw at (sym (word_has (may_uncover rule p.men (other p.turn)) s.uncovering f checks.uncovering inside) ∙ covered) in
+        let off : may_expose rule p.men (other p.turn) m.from ≡ false = rw at (sym (word_has (may_expose rule p.men (other p.turn)) s.shield_squares f checks.shield_squares inside) ∙ covered) in
         rw (stands, off, plain) refl
 
     no_check_elsewhere : in_check rule (after rule p m).men (other p.turn) ≡ false
     no_check_elsewhere =
-        no_check rule p x m s (arriving x m.promo) (squares_for s (arriving x m.promo).kind) m.to well may stands checks refl refl refl small (by_kind m.promo refl) covering
+        no_check rule p x m s (arriving x m.promo) (check_squares_for s (arriving x m.promo).kind) m.to well may stands checks refl refl refl small (by_kind m.promo refl) covering
 
-  pub aiming_some : IsAiming rule p f (bit_or (bit_or (bit_or a b) c) d)
-  aiming_some = record { elsewhere = λ m at small may off. no_check_elsewhere m at small may off }
+  pub check_targets_some : AreCheckTargets rule p f (bit_or (bit_or (bit_or a b) c) d)
+  check_targets_some = record { elsewhere = λ m at small may off. no_check_elsewhere m at small may off }
 
 -- stretches without mates
-pub quiet-empty : (rule : RuleSet) (p : Position) (a : ℕ) → AreQuiet rule p a a
+pub quiet-empty : (rule : RuleSet) (p : Position) (a : ℕ) → HaveNoMate rule p a a
 quiet-empty rule p a = record { quiet = λ k lo hi. absurd (omega (arith, lo, hi)) }
 
-quiet-join : (rule : RuleSet) (p : Position) (a b c : ℕ) → AreQuiet rule p a b → AreQuiet rule p b c → AreQuiet rule p a c
+quiet-join : (rule : RuleSet) (p : Position) (a b c : ℕ) → HaveNoMate rule p a b → HaveNoMate rule p b c → HaveNoMate rule p a c
 quiet-join rule p a b c x y = record {
   quiet = λ k lo hi. elim (cases_lt k b) [ inl lt ↦ x.quiet k lo lt | inr ge ↦ y.quiet k ge hi ];
 }
 
-quiet-barren : (rule : RuleSet) (p : Position) (a b : ℕ) → IsBarren p a b → AreQuiet rule p a b
+quiet-barren : (rule : RuleSet) (p : Position) (a b : ℕ) → IsBarren p a b → HaveNoMate rule p a b
 quiet-barren rule p a b h = record { quiet = λ k lo hi. not_mating rule p (triple_at k) (h.fails rule k lo hi) }
 
-quiet-move : (rule : RuleSet) (p : Position) (m : Move) (w : ℕ) → m.to < 64 → IsAiming rule p m.from w → ((bit_at w m.to == 1) ≡ true → pseudo rule p m ≡ false) → mates rule p m ≡ false
+quiet-move : (rule : RuleSet) (p : Position) (m : Move) (w : ℕ) → m.to < 64 → AreCheckTargets rule p m.from w → ((bit_at w m.to == 1) ≡ true → pseudo rule p m ≡ false) → mates rule p m ≡ false
 quiet-move rule p m w small aim h = elim (cases_Bool (bit_at w m.to == 1)) [
   | inl on ↦ not_mating rule p m (h on)
   | inr off ↦ elim (cases_Bool (pseudo rule p m)) [
@@ -159,7 +160,7 @@ quiet-move rule p m w small aim h = elim (cases_Bool (bit_at w m.to == 1)) [
   ]
 ]
 
-quiet-from : (rule : RuleSet) (p : Position) (s w a b : ℕ) → b ≤ 448 → IsAiming rule p s w → IsBarrenFrom p s w a b → AreQuiet rule p (448 * s + a) (448 * s + b)
+quiet-from : (rule : RuleSet) (p : Position) (s w a b : ℕ) → b ≤ 448 → AreCheckTargets rule p s w → IsBarrenFrom p s w a b → HaveNoMate rule p (448 * s + a) (448 * s + b)
 unfolding triple_at
 quiet-from rule p s w a b le aim h = record {
   quiet = λ k lo hi.
@@ -170,19 +171,19 @@ quiet-from rule p s w a b le aim h = record {
 }
 
 -- up to a triple of the next origin
-pub quiet-origin : (rule : RuleSet) (p : Position) (start number s a o w : ℕ) → o ≡ side_of p.men p.turn → AreQuiet rule p start number → IsFirst (λ q. bit_at o q == 1) (number / 448) (64 - number / 448) s → a ≤ 448 → IsAiming rule p s w → IsBarrenFrom p s w (number - 448 * s) a → AreQuiet rule p start (448 * s + a)
+pub quiet-origin : (rule : RuleSet) (p : Position) (start number s a o w : ℕ) → o ≡ side_of p.men p.turn → HaveNoMate rule p start number → IsFirst (λ q. bit_at o q == 1) (number / 448) (64 - number / 448) s → a ≤ 448 → AreCheckTargets rule p s w → IsBarrenFrom p s w (number - 448 * s) a → HaveNoMate rule p start (448 * s + a)
 quiet-origin rule p start number s a o w h past f le aim here = elim (cases_lt (448 * s) number) [
   | inl lt ↦
       let e : 448 * s + (number - 448 * s) ≡ number = omega (arith, lt) in
-      quiet-join rule p start number (448 * s + a) past (subst (λ n. AreQuiet rule p n (448 * s + a)) e (quiet-from rule p s w (number - 448 * s) a le aim here))
+      quiet-join rule p start number (448 * s + a) past (subst (λ n. HaveNoMate rule p n (448 * s + a)) e (quiet-from rule p s w (number - 448 * s) a le aim here))
   | inr ge ↦
       let e : 448 * s + (number - 448 * s) ≡ 448 * s = omega (arith, ge) in
       quiet-join rule p start (448 * s) (448 * s + a)
       (quiet-join rule p start number (448 * s) past (quiet-barren rule p number (448 * s) (barren-missed p number (448 * s) o h (omega (arith, f.high, f.low)) (λ q lo hi. f.before q lo (omega (arith, hi))))))
-      (subst (λ n. AreQuiet rule p n (448 * s + a)) e (quiet-from rule p s w (number - 448 * s) a le aim here))
+      (subst (λ n. HaveNoMate rule p n (448 * s + a)) e (quiet-from rule p s w (number - 448 * s) a le aim here))
 ]
 
 -- up to the end, where there is none
-pub quiet-none : (rule : RuleSet) (p : Position) (start number o : ℕ) → o ≡ side_of p.men p.turn → AreQuiet rule p start number → find (λ q. bit_at o q == 1) (range_with_len (number / 448) (64 - number / 448)) ≡ None → AreQuiet rule p start 28672
+pub quiet-none : (rule : RuleSet) (p : Position) (start number o : ℕ) → o ≡ side_of p.men p.turn → HaveNoMate rule p start number → find (λ q. bit_at o q == 1) (range_with_len (number / 448) (64 - number / 448)) ≡ None → HaveNoMate rule p start 28672
 quiet-none rule p start number o h past none =
     quiet-join rule p start number 28672 past (quiet-barren rule p number 28672 (barren-missed p number 28672 o h (omega arith) (λ q lo hi. find_no (λ q. bit_at o q == 1) (number / 448) (64 - number / 448) q none lo (omega (arith, hi)))))

@@ -18,14 +18,15 @@ use Rattle.chess_core.specs.declared.man.Move.{Move}
 use Rattle.chess_core.specs.declared.step.Step.{Step}
 use Rattle.chess_core.proofs.Ranges.{all_range_true, any_range_false, any_range_true, some_square_true}
 use Rattle.chess_core.proofs.Words.{squares_both, squares_either}
-use Rattle.chess_rules.specs.Attacks.{attacked, check_of, in_check, paralysed, strikes}
-use Rattle.chess_rules.specs.Calm.{IsParrying, IsUnmet, has_fairy, is_fairy, is_plain}
+use Rattle.chess_rules.specs.Attacks.{attacked, check_of, in_check, paralysed, checks_from}
+use Rattle.chess_rules.specs.Evasions.{AreEvasions, IsNoEvasion}
+use Rattle.chess_rules.specs.Shields.{has_fairy, is_fairy, is_plain}
 use Rattle.chess_rules.specs.Legal.{is_arrival_free, pseudo}
 use Rattle.chess_rules.specs.Play.{after, arriving}
 use Rattle.chess_rules.specs.Reaches.{is_clear, is_vacant, reaches, reaches_as, rides}
 use Rattle.chess_rules.specs.RuleSet.{RuleSet, is_madrasi}
 use Rattle.chess_rules.proofs.Bits.{word_has}
-use Rattle.chess_rules.proofs.Covering.{IsPlain, IsShift, arrived_shift, every_square, king_is, man_there, men_after, orthodox_man, other_differs, plain_parts}
+use Rattle.chess_rules.proofs.Shielding.{IsPlain, IsShift, arrived_shift, every_square, king_is, man_there, men_after, orthodox_man, other_differs, plain_parts}
 use Rattle.chess_rules.proofs.Ends.{back, between, square_is}
 use Rattle.chess_rules.proofs.Fits.{arrived}
 use Rattle.chess_rules.proofs.Flips.{diagonal-back, diagonal-flip, queen-flip, queen_rides-back, straight-back, straight-flip}
@@ -102,9 +103,9 @@ some_blocked men after a b z k s (d ∷ ds) i h ne =
 
 line_after : (men after : List (Option Man)) (a b : ℕ) (z : Man) (k s : ℕ) (ds : List Step) → IsShift men after a b z → list_any (rides men k s) ds ≡ true
     → (list_any (rides men k b) ds ≡ true → list_any (λ d. rides men s b (back d)) ds ≡ true → ⊥) → list_any (rides after k s) ds ≡ true
-line_after men after a b z k s ds i h unmet = elim (cases_Bool (list_any (rides after k s) ds)) [
+line_after men after a b z k s ds i h no_evasion = elim (cases_Bool (list_any (rides after k s) ds)) [
   | inl y ↦ y
-  | inr n ↦ absurd (let both = some_blocked men after a b z k s ds i h n in unmet both.0 both.1)
+  | inr n ↦ absurd (let both = some_blocked men after a b z k s ds i h n in no_evasion both.0 both.1)
 ]
 
 straight_seen : (p : Step → Bool) → list_any p straight_steps ≡ true → list_any p queen_steps ≡ true
@@ -144,15 +145,15 @@ king_there men c k h =
     let f = find_first (λ s. is_man (man_on men s) c King) 0 64 k h in
     (omega (arith, f.high), f.here)
 
--- the square that an unmet check comes from, and the king's, aren't touched by the move
+-- the square that an unanswered check comes from, and the king's, aren't touched by the move
 pub record IsAway (men : List (Option Man)) (c : Colour) (a b : ℕ) : Type 0 where
   pub size : (s : ℕ) (y : Man) → man_on men s ≡ Some y → s < 64
   pub king : (k : ℕ) → king_square men c ≡ Some k → (k ≢ a) × (k ≢ b)
   pub enemy : (s : ℕ) → is_side (man_on men s) (other c) ≡ true → s ≢ a
 
-unmet_stays : (rule : RuleSet) (men after : List (Option Man)) (a b : ℕ) (z : Man) (c : Colour) → IsShift men after a b z → AtMostOneKing after → IsAway men c a b → IsUnmet rule men c b → in_check rule after c ≡ true
-unfolding in_check attacked strikes paralysed reaches
-unmet_stays rule men after a b z c i one away u =
+no_evasion_stays : (rule : RuleSet) (men after : List (Option Man)) (a b : ℕ) (z : Man) (c : Colour) → IsShift men after a b z → AtMostOneKing after → IsAway men c a b → IsNoEvasion rule men c b → in_check rule after c ≡ true
+unfolding in_check attacked checks_from paralysed reaches
+no_evasion_stays rule men after a b z c i one away u =
     let k : ℕ = u.king in
     let s : ℕ = u.checker in
     let king = king_there men c u.king u.here in
@@ -164,7 +165,7 @@ unmet_stays rule men after a b z c i one away u =
     let at : king_square after c ≡ Some u.king = king_is after c u.king one king.0 is_after in
     let y = side_there (man_on men u.checker) (other c) u.enemy in
     let small : u.checker < 64 = away.size u.checker y.0 y.1.0 in
-    let free = or_parts (u.checker == b) (reaches_as men c Queen u.king b && reaches_as men c Queen u.checker b) u.unmet in
+    let free = or_parts (u.checker == b) (reaches_as men c Queen u.king b && reaches_as men c Queen u.checker b) u.no_evasion in
     let off : u.checker ≢ b = λ e. (let yes : (u.checker == b) ≡ true = eq-eqb u.checker b e in let no = free.0 in cc) in
     let y_stays : man_on after u.checker ≡ Some y.0 = keeps men after a b z u.checker y.0 i y.1.0 (away.enemy u.checker u.enemy) off in
     let plain : is_fairy y.0.kind ≡ false = orthodox_man men (other c) u.checker y.0 small y.1.0 y.1.1 u.no_fairy in
@@ -173,7 +174,7 @@ unmet_stays rule men after a b z c i one away u =
     let mine : is_side (man_on after u.checker) (other c) ≡ true = rw y_stays y.1.1 in
     let reach : reaches after u.checker u.king ≡ true = rw y_stays hits in
     ap (λ (o : Option ℕ). check_of rule after o (other c)) at
-    ∙ some_square_true (strikes rule after u.king (other c)) u.checker small
+    ∙ some_square_true (checks_from rule after u.king (other c)) u.checker small
     (and_from _ _ (and_from _ _ mine (ap not (and_left (is_madrasi rule) _ u.orthodox))) reach)
 
 not_king : (x : Man) (c : Colour) → same_kind x.kind King ≡ false → is_man (Some x) c King ≡ true → ⊥
@@ -189,13 +190,13 @@ free_of_king (Some y) c h k =
     cc
 
 -- a plain move that doesn't meet a check, and isn't the king's, leaves its mover in check
-pub check_stays : (rule : RuleSet) (p : Position) (x : Man) (m : Move) → IsWellFormed p → pseudo rule p m ≡ true → man_on p.men m.from ≡ Some x → m.to < 64 → IsPlain rule p x m → same_kind x.kind King ≡ false → IsUnmet rule p.men p.turn m.to → in_check rule (after rule p m).men p.turn ≡ true
+pub check_stays : (rule : RuleSet) (p : Position) (x : Man) (m : Move) → IsWellFormed p → pseudo rule p m ≡ true → man_on p.men m.from ≡ Some x → m.to < 64 → IsPlain rule p x m → same_kind x.kind King ≡ false → IsNoEvasion rule p.men p.turn m.to → in_check rule (after rule p m).men p.turn ≡ true
 check_stays rule p x m well may here small plain piece u =
     let is = made rule p m x may here in
     let same : (after rule p m).men ≡ arrived p x m = men_after rule p x m here plain in
     let one : AtMostOneKing (arrived p x m) = subst AtMostOneKing same (after_well_formed rule p m well may).kings in
     ap (λ (l : List (Option Man)). in_check rule l p.turn) same
-    ∙ unmet_stays rule p.men (arrived p x m) m.from m.to (arriving x m.promo) p.turn (arrived_shift rule p x m well is small plain) one
+    ∙ no_evasion_stays rule p.men (arrived p x m) m.from m.to (arriving x m.promo) p.turn (arrived_shift rule p x m well is small plain) one
     (record {
       size = λ s y at. on_board p.men s y well.size at;
       king = λ k at.
@@ -211,21 +212,21 @@ check_stays rule p x m well may here small plain piece u =
     }) u
 
 -- all squares, where nothing is known of a check
-pub parrying_all : (rule : RuleSet) (men : List (Option Man)) (c : Colour) → IsParrying rule men c (bit_not w64 0)
-parrying_all rule men c = record {
+pub evasion_squares_all : (rule : RuleSet) (men : List (Option Man)) (c : Colour) → AreEvasions rule men c (bit_not w64 0)
+evasion_squares_all rule men c = record {
   elsewhere = λ t small off.
       let on : (bit_at (bit_not w64 0) t == 1) ≡ true = word_has (λ s. true) (bit_not w64 0) t (every_square (λ s. true) (λ s b. refl)) small in
       absurd (let bad : true ≡ false = sym on ∙ off in cc);
 }
 
 -- the squares that meet one check
-pub parrying_one : (rule : RuleSet) (men : List (Option Man)) (c : Colour) (k s w n r t : ℕ) → king_square men c ≡ Some k → is_madrasi rule ≡ false → has_fairy men (other c) ≡ false → t ≡ word (λ q. is_side (man_on men q) (other c) && reaches men q k) → s < 64 → (bit_at t s == 1) ≡ true
-    → w ≡ word (λ q. is_square (Some s) q) → n ≡ word (λ q. reaches_as men c Queen k q) → r ≡ word (λ q. reaches_as men c Queen s q) → IsParrying rule men c (bit_or w (bit_and n r))
-parrying_one rule men c k s w n r t at orthodox no_fairy all small set h i j =
+pub evasion_squares_one : (rule : RuleSet) (men : List (Option Man)) (c : Colour) (k s w n r t : ℕ) → king_square men c ≡ Some k → is_madrasi rule ≡ false → has_fairy men (other c) ≡ false → t ≡ word (λ q. is_side (man_on men q) (other c) && reaches men q k) → s < 64 → (bit_at t s == 1) ≡ true
+    → w ≡ word (λ q. is_square (Some s) q) → n ≡ word (λ q. reaches_as men c Queen k q) → r ≡ word (λ q. reaches_as men c Queen s q) → AreEvasions rule men c (bit_or w (bit_and n r))
+evasion_squares_one rule men c k s w n r t at orthodox no_fairy all small set h i j =
     let test : ℕ → Bool = λ q. is_square (Some s) q || (reaches_as men c Queen k q && reaches_as men c Queen s q) in
     let joined : bit_or w (bit_and n r) ≡ word (λ q. is_square (Some s) q || (reaches_as men c Queen k q && reaches_as men c Queen s q)) =
     (λ a. bit_or (h a) (bit_and (i a) (j a))) ∙ (λ a. bit_or (word (λ q. is_square (Some s) q)) (squares_both (λ q. reaches_as men c Queen k q) (λ q. reaches_as men c Queen s q) a)) ∙ squares_either (λ q. is_square (Some s) q) (λ q. reaches_as men c Queen k q && reaches_as men c Queen s q) in
-    let strikes : (is_side (man_on men s) (other c) && reaches men s k) ≡ true = sym (word_has (λ q. is_side (man_on men q) (other c) && reaches men q k) t s all small) ∙ set in
+    let checks_from : (is_side (man_on men s) (other c) && reaches men s k) ≡ true = sym (word_has (λ q. is_side (man_on men q) (other c) && reaches men q k) t s all small) ∙ set in
     record {
       elsewhere = λ q b off. record {
         king = k;
@@ -233,15 +234,15 @@ parrying_one rule men c k s w n r t at orthodox no_fairy all small set h i j =
         here = at;
         orthodox = orthodox;
         no_fairy = no_fairy;
-        enemy = first_of_and _ _ strikes;
-        check = second_of_and (is_side (man_on men s) (other c)) _ strikes;
-        unmet = sym (word_has (λ q. is_square (Some s) q || (reaches_as men c Queen k q && reaches_as men c Queen s q)) (bit_or w (bit_and n r)) q joined b) ∙ off;
+        enemy = first_of_and _ _ checks_from;
+        check = second_of_and (is_side (man_on men s) (other c)) _ checks_from;
+        no_evasion = sym (word_has (λ q. is_square (Some s) q || (reaches_as men c Queen k q && reaches_as men c Queen s q)) (bit_or w (bit_and n r)) q joined b) ∙ off;
       };
     }
 
 -- the same, for a word
-pub check_unmet : (rule : RuleSet) (p : Position) (x : Man) (m : Move) (w t : ℕ) → IsWellFormed p → pseudo rule p m ≡ true → man_on p.men m.from ≡ Some x → t ≡ m.to → t < 64 → is_plain rule p x m ≡ true → same_kind x.kind King ≡ false → IsParrying rule p.men p.turn w → (bit_at w t == 1) ≡ false → in_check rule (after rule p m).men p.turn ≡ true
-check_unmet rule p x m w t well may here same small plain piece parrying off =
+pub check_unmet : (rule : RuleSet) (p : Position) (x : Man) (m : Move) (w t : ℕ) → IsWellFormed p → pseudo rule p m ≡ true → man_on p.men m.from ≡ Some x → t ≡ m.to → t < 64 → is_plain rule p x m ≡ true → same_kind x.kind King ≡ false → AreEvasions rule p.men p.turn w → (bit_at w t == 1) ≡ false → in_check rule (after rule p m).men p.turn ≡ true
+check_unmet rule p x m w t well may here same small plain piece evasion_squares off =
     let to : m.to < 64 = omega arith in
     let off2 : (bit_at w m.to == 1) ≡ false = ap (λ (n : ℕ). bit_at w n == 1) (sym same) ∙ off in
-    check_stays rule p x m well may here to (plain_parts rule p x m plain) piece (parrying.elsewhere m.to to off2)
+    check_stays rule p x m well may here to (plain_parts rule p x m plain) piece (evasion_squares.elsewhere m.to to off2)

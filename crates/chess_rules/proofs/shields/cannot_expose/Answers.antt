@@ -1,9 +1,9 @@
 use Rattle.std.proofs.Common.{◌≡◌, ◌<◌, ◌&&◌, ◌∙◌, Bool, Some, None, ap, arith, not, sym}
 use Rattle.chess_core.specs.Position.{man_on}
 use Rattle.chess_core.specs.Triple.{Triple}
-use Rattle.chess_rules.specs.Calm.{is_plain}
-use Rattle.chess_rules.proofs.Covering.{covers_is, covers_nobody}
-use Rattle.chess_rules.proofs.calm.covers.Goals as goal
+use Rattle.chess_rules.specs.Shields.{is_plain}
+use Rattle.chess_rules.proofs.Shielding.{cannot_expose_is, cannot_expose_nobody}
+use Rattle.chess_rules.proofs.shields.cannot_expose.Goals as goal
 
 pub returns-then-not-contains : goal.returns-then-not-contains
 returns-then-not-contains g c =
@@ -12,7 +12,7 @@ returns-then-not-contains g c =
     let small : c.m.inside.from < 64 = omega (arith, c.index-small.ensures.value, c.index-small.ensures.small) in
     let here : man_on p.men c.args.m.now.from ≡ Some c.in-Some.man = ap (man_on p.men) (sym from) ∙ sym c.man_at.ensures ∙ c.in-Some.is in
     c.is_plain.ensures ∙ sym (ap (λ (u : Bool). not u && is_plain g.R.Rules.rule p c.in-Some.man c.args.m.now) c.if-not-contains.true)
-    ∙ covers_is g.R.Rules.rule p c.in-Some.man c.args.colour c.args.m.now c.args.squares c.m.inside.from c.contains.result here c.requires from small c.contains.ensures
+    ∙ cannot_expose_is g.R.Rules.rule p c.in-Some.man c.args.colour c.args.m.now c.args.squares c.m.inside.from c.contains.result here c.requires from small c.contains.ensures
 
 pub returns-else-not-contains : goal.returns-else-not-contains
 returns-else-not-contains g c =
@@ -21,11 +21,11 @@ returns-else-not-contains g c =
     let small : c.m.inside.from < 64 = omega (arith, c.index-small.ensures.value, c.index-small.ensures.small) in
     let here : man_on p.men c.args.m.now.from ≡ Some c.in-Some.man = ap (man_on p.men) (sym from) ∙ sym c.man_at.ensures ∙ c.in-Some.is in
     ap not c.if-not-contains.false ∙ sym (ap (λ (u : Bool). not u && is_plain g.R.Rules.rule p c.in-Some.man c.args.m.now) c.if-not-contains.false)
-    ∙ covers_is g.R.Rules.rule p c.in-Some.man c.args.colour c.args.m.now c.args.squares c.m.inside.from c.contains.result here c.requires from small c.contains.ensures
+    ∙ cannot_expose_is g.R.Rules.rule p c.in-Some.man c.args.colour c.args.m.now c.args.squares c.m.inside.from c.contains.result here c.requires from small c.contains.ensures
 
 pub returns-in-None : goal.returns-in-None
 returns-in-None g c =
     let p = c.args.board.now in
     let from : c.m.inside.from ≡ c.args.m.now.from = ap (λ (v : Triple). v.from) c.m.view_is in
     let here : man_on p.men c.args.m.now.from ≡ None = ap (man_on p.men) (sym from) ∙ sym c.man_at.ensures ∙ c.in-None.is in
-    covers_nobody g.R.Rules.rule p c.args.colour c.args.m.now here
+    cannot_expose_nobody g.R.Rules.rule p c.args.colour c.args.m.now here

@@ -12,31 +12,32 @@ use Rattle.chess_core.specs.declared.man.Kind.TheVariants.{King}
 use Rattle.chess_core.specs.declared.man.Man.{Man}
 use Rattle.chess_core.specs.declared.man.Move.{Move}
 use Rattle.chess_rules.specs.Attacks.{in_check}
-use Rattle.chess_rules.specs.Calm.{IsEvading, IsParrying, is_plain}
+use Rattle.chess_rules.specs.Evasions.{AreEvasionsFrom, AreEvasions}
+use Rattle.chess_rules.specs.Shields.{is_plain}
 use Rattle.chess_rules.specs.Legal.{legal, pseudo}
 use Rattle.chess_rules.specs.Places.{AreUnplayable, promotion_at, triple_at}
 use Rattle.chess_rules.specs.Play.{after, is_castling}
 use Rattle.chess_rules.specs.RuleSet.{RuleSet, is_circe}
 use Rattle.chess_rules.specs.Targets.{IsBarren, IsBarrenFrom}
-use Rattle.chess_rules.proofs.Aiming.{off_left, off_right}
+use Rattle.chess_rules.proofs.CheckTargets.{off_left, off_right}
 use Rattle.chess_rules.proofs.Bits.{word_has}
-use Rattle.chess_rules.proofs.Parrying.{check_unmet}
+use Rattle.chess_rules.proofs.StayingInCheck.{check_unmet}
 use Rattle.chess_rules.proofs.Places.{not_pseudo}
 use Rattle.chess_rules.proofs.Targeting.{barren-missed, every_square_on, false_by, nobody_moves}
 use Rattle.chess_rules.proofs.Tests.{IsFirst, find_no}
 
-pub evading_nobody : (rule : RuleSet) (p : Position) (f w : ℕ) → man_on p.men f ≡ None → IsEvading rule p f w
-evading_nobody rule p f w none = record {
+pub evasions_from_nobody : (rule : RuleSet) (p : Position) (f w : ℕ) → man_on p.men f ≡ None → AreEvasionsFrom rule p f w
+evasions_from_nobody rule p f w none = record {
   elsewhere = λ m at small may off.
       absurd (let never : pseudo rule p m ≡ false = nobody_moves rule p m (ap (man_on p.men) at ∙ none) in cc);
 }
 
-pub evading_all : (rule : RuleSet) (p : Position) (f : ℕ) → IsEvading rule p f (bit_not w64 0)
-evading_all rule p f = record {
+pub evasions_from_all : (rule : RuleSet) (p : Position) (f : ℕ) → AreEvasionsFrom rule p f (bit_not w64 0)
+evasions_from_all rule p f = record {
   elsewhere = λ m at small may off. absurd (let on = every_square_on m.to small in cc);
 }
 
-module _ (rule : RuleSet) (p : Position) (x : Man) (f : ℕ) (well : IsWellFormed p) (here : man_on p.men f ≡ Some x) (piece : same_kind x.kind King ≡ false) (a b c : ℕ) (parrying : IsParrying rule p.men p.turn a) (crossed : b ≡ word (λ t. is_square p.crossed t)) (reborn : is_circe rule ≡ true → c ≡ word (λ t. is_some (man_on p.men t))) where
+module _ (rule : RuleSet) (p : Position) (x : Man) (f : ℕ) (well : IsWellFormed p) (here : man_on p.men f ≡ Some x) (piece : same_kind x.kind King ≡ false) (a b c : ℕ) (evasion_squares : AreEvasions rule p.men p.turn a) (crossed : b ≡ word (λ t. is_square p.crossed t)) (reborn : is_circe rule ≡ true → c ≡ word (λ t. is_some (man_on p.men t))) where
   module _ (m : Move) (at : m.from ≡ f) (small : m.to < 64) (may : pseudo rule p m ≡ true) (off : (bit_at (bit_or (bit_or a b) c) m.to == 1) ≡ false) where
     off-c : (bit_at c m.to == 1) ≡ false
     off-c = off_right (bit_or a b) c m.to off
@@ -65,10 +66,10 @@ module _ (rule : RuleSet) (p : Position) (x : Man) (f : ℕ) (well : IsWellForme
 
     check_elsewhere : in_check rule (after rule p m).men p.turn ≡ true
     check_elsewhere =
-        check_unmet rule p x m a m.to well may (ap (man_on p.men) at ∙ here) refl small plain piece parrying off-a
+        check_unmet rule p x m a m.to well may (ap (man_on p.men) at ∙ here) refl small plain piece evasion_squares off-a
 
-  pub evading_some : IsEvading rule p f (bit_or (bit_or a b) c)
-  evading_some = record { elsewhere = λ m at small may off. check_elsewhere m at small may off }
+  pub evasions_from_some : AreEvasionsFrom rule p f (bit_or (bit_or a b) c)
+  evasions_from_some = record { elsewhere = λ m at small may off. check_elsewhere m at small may off }
 
 -- stretches without legal moves
 pub unplayable-empty : (rule : RuleSet) (p : Position) (a : ℕ) → AreUnplayable rule p a a
@@ -86,7 +87,7 @@ checked : (rule : RuleSet) (p : Position) (m : Move) → in_check rule (after ru
 unfolding legal
 checked rule p m h = and_right (pseudo rule p m) _ (ap not h)
 
-unplayable-move : (rule : RuleSet) (p : Position) (m : Move) (w : ℕ) → m.to < 64 → IsEvading rule p m.from w → ((bit_at w m.to == 1) ≡ true → pseudo rule p m ≡ false) → legal rule p m ≡ false
+unplayable-move : (rule : RuleSet) (p : Position) (m : Move) (w : ℕ) → m.to < 64 → AreEvasionsFrom rule p m.from w → ((bit_at w m.to == 1) ≡ true → pseudo rule p m ≡ false) → legal rule p m ≡ false
 unplayable-move rule p m w small evade h = elim (cases_Bool (bit_at w m.to == 1)) [
   | inl on ↦ not_pseudo rule p m (h on)
   | inr off ↦ elim (cases_Bool (pseudo rule p m)) [
@@ -95,7 +96,7 @@ unplayable-move rule p m w small evade h = elim (cases_Bool (bit_at w m.to == 1)
   ]
 ]
 
-unplayable-from : (rule : RuleSet) (p : Position) (s w a b : ℕ) → b ≤ 448 → IsEvading rule p s w → IsBarrenFrom p s w a b → AreUnplayable rule p (448 * s + a) (448 * s + b)
+unplayable-from : (rule : RuleSet) (p : Position) (s w a b : ℕ) → b ≤ 448 → AreEvasionsFrom rule p s w → IsBarrenFrom p s w a b → AreUnplayable rule p (448 * s + a) (448 * s + b)
 unfolding triple_at
 unplayable-from rule p s w a b le evade h = record {
   fails = λ k lo hi.
@@ -106,7 +107,7 @@ unplayable-from rule p s w a b le evade h = record {
 }
 
 -- up to a triple of the next origin
-pub unplayable-origin : (rule : RuleSet) (p : Position) (start number s a o w : ℕ) → o ≡ side_of p.men p.turn → AreUnplayable rule p start number → IsFirst (λ q. bit_at o q == 1) (number / 448) (64 - number / 448) s → a ≤ 448 → IsEvading rule p s w → IsBarrenFrom p s w (number - 448 * s) a → AreUnplayable rule p start (448 * s + a)
+pub unplayable-origin : (rule : RuleSet) (p : Position) (start number s a o w : ℕ) → o ≡ side_of p.men p.turn → AreUnplayable rule p start number → IsFirst (λ q. bit_at o q == 1) (number / 448) (64 - number / 448) s → a ≤ 448 → AreEvasionsFrom rule p s w → IsBarrenFrom p s w (number - 448 * s) a → AreUnplayable rule p start (448 * s + a)
 unplayable-origin rule p start number s a o w h past f le evade here = elim (cases_lt (448 * s) number) [
   | inl lt ↦
       let e : 448 * s + (number - 448 * s) ≡ number = omega (arith, lt) in

@@ -1,0 +1,14 @@
+use Rattle.std.proofs.Common.{◌∙◌, sym}
+use Rattle.chess_rules.proofs.Shielding.{shield_squares_all, shield_squares_none, shield_squares_some}
+use Rattle.chess_rules.proofs.shields.shield_squares.Goals as goal
+
+pub returns-in_default : goal.returns-in_default
+returns-in_default g c = shield_squares_none g.R.Rules.rule c.args.board.now.men c.args.colour (sym c.king_of.ensures ∙ c.in_default.is)
+
+pub returns-then-is_unshielded : goal.returns-then-is_unshielded
+returns-then-is_unshielded g c =
+    shield_squares_all g.R.Rules.rule c.args.board.now.men c.args.colour c.in-Some.king (sym c.king_of.ensures ∙ c.in-Some.is) (sym c.is_unshielded.ensures ∙ c.if-is_unshielded.true)
+
+pub returns : goal.returns
+returns g c =
+    shield_squares_some g.R.Rules.rule c.args.board.now.men c.args.colour c.in-Some.king c.only.result c.reach_as.result (sym c.king_of.ensures ∙ c.in-Some.is) (sym c.is_unshielded.ensures ∙ c.if-is_unshielded.false) c.only.ensures c.reach_as.ensures

@@ -1,0 +1,58 @@
+-- Squares from which a move may give check (own).
+use Rattle.std.specs.Prelude.{◌≡◌, ◌<◌, ℕ, Bool, true, false, ◌||◌, ◌==◌, List, Option, Some, None}
+use Rattle.std.specs.Int.{bit_at}
+use Rattle.std.specs.Int.Bits.{bit_or}
+use Rattle.chess_core.specs.Position.{Position, king_square, other}
+use Rattle.chess_core.specs.Words.{word}
+use Rattle.chess_core.specs.declared.man.Man.{Man}
+use Rattle.chess_core.specs.declared.man.Move.{Move}
+use Rattle.chess_core.specs.declared.man.Colour.{Colour}
+use Rattle.chess_core.specs.declared.man.Kind.{Kind}
+use Rattle.chess_core.specs.declared.man.Kind.TheVariants.{King, Queen, Rook, Bishop, Knight, Pawn, Grasshopper, Nightrider}
+use Rattle.chess_rules.specs.declared.checks.CheckSquares.{CheckSquares}
+use Rattle.chess_rules.specs.Attacks.{in_check}
+use Rattle.chess_rules.specs.Legal.{pseudo}
+use Rattle.chess_rules.specs.Play.{after}
+use Rattle.chess_rules.specs.Reaches.{reaches_as}
+use Rattle.chess_rules.specs.RuleSet.{RuleSet}
+use Rattle.chess_rules.specs.Shields.{is_fairy, may_expose}
+
+-- x, on t, may give check to a king on this square, if there is one
+abbrev pub may_check_from_on : List (Option Man) → Option ℕ → Man → ℕ → Bool
+may_check_from_on men None x t = false
+may_check_from_on men (Some k) x t = is_fairy x.kind || reaches_as men x.colour x.kind t k
+
+-- x, on t, may give check to the king of colour c
+unfoldable pub may_check_from : List (Option Man) → Colour → Man → ℕ → Bool
+may_check_from men c x t = may_check_from_on men (king_square men c) x t
+
+-- a man of this kind, an enemy of colour c
+abbrev pub enemy : Colour → Kind → Man
+enemy c j = record { colour = other c; kind = j }
+
+-- the words are those of the squares from which a move may expose the king of colour c, and from which
+-- its enemies of each kind may give check to it
+pub record AreCheckSquares (rule : RuleSet) (men : List (Option Man)) (c : Colour) (s : CheckSquares) : Type 0 where
+  pub shield_squares : s.shield_squares ≡ word (may_expose rule men c)
+  pub king : s.king ≡ word (may_check_from men c (enemy c King))
+  pub straight : s.straight ≡ word (may_check_from men c (enemy c Rook))
+  pub diagonal : s.diagonal ≡ word (may_check_from men c (enemy c Bishop))
+  pub knight : s.knight ≡ word (may_check_from men c (enemy c Knight))
+  pub pawn : s.pawn ≡ word (may_check_from men c (enemy c Pawn))
+  pub grasshopper : s.fairy ≡ word (may_check_from men c (enemy c Grasshopper))
+  pub nightrider : s.fairy ≡ word (may_check_from men c (enemy c Nightrider))
+
+-- of these words that of a kind
+abbrev pub check_squares_for : CheckSquares → Kind → ℕ
+check_squares_for s King = s.king
+check_squares_for s Queen = bit_or s.straight s.diagonal
+check_squares_for s Rook = s.straight
+check_squares_for s Bishop = s.diagonal
+check_squares_for s Knight = s.knight
+check_squares_for s Pawn = s.pawn
+check_squares_for s Grasshopper = s.fairy
+check_squares_for s Nightrider = s.fairy
+
+-- a move from s that may be made gives no check, if it goes to a square not in the word
+pub record AreCheckTargets (rule : RuleSet) (p : Position) (s w : ℕ) : Type 0 where
+  pub elsewhere : (m : Move) → m.from ≡ s → m.to < 64 → pseudo rule p m ≡ true → (bit_at w m.to == 1) ≡ false → in_check rule (after rule p m).men (other p.turn) ≡ false

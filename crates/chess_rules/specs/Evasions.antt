@@ -1,0 +1,38 @@
+-- Squares to which a move may go that answers a check (own).
+use Rattle.std.specs.Prelude.{◌≡◌, ◌<◌, ℕ, Bool, true, false, ◌&&◌, ◌||◌, ◌==◌, List, Option, Some}
+use Rattle.std.specs.Int.{bit_at}
+use Rattle.chess_core.specs.Position.{Position, is_side, king_square, man_on, other}
+use Rattle.chess_core.specs.declared.man.Man.{Man}
+use Rattle.chess_core.specs.declared.man.Move.{Move}
+use Rattle.chess_core.specs.declared.man.Colour.{Colour}
+use Rattle.chess_core.specs.declared.man.Kind.TheVariants.{Queen}
+use Rattle.chess_rules.specs.Attacks.{in_check}
+use Rattle.chess_rules.specs.Legal.{pseudo}
+use Rattle.chess_rules.specs.Play.{after}
+use Rattle.chess_rules.specs.Reaches.{reaches, reaches_as}
+use Rattle.chess_rules.specs.Shields.{has_fairy}
+use Rattle.chess_rules.specs.RuleSet.{RuleSet, is_madrasi}
+
+-- a move to t answers the check that the man on q gives to the king of colour c on k: it takes that man, or
+-- comes between them, where a queen on either square sees it
+abbrev pub is_evasion : List (Option Man) → Colour → ℕ → ℕ → ℕ → Bool
+is_evasion men c k q t = q == t || (reaches_as men c Queen k t && reaches_as men c Queen q t)
+
+-- an orthodox check to the king of colour c that a move to t doesn't meet
+pub record IsNoEvasion (rule : RuleSet) (men : List (Option Man)) (c : Colour) (t : ℕ) : Type 0 where
+  pub king : ℕ
+  pub checker : ℕ
+  pub here : king_square men c ≡ Some king
+  pub orthodox : is_madrasi rule ≡ false
+  pub no_fairy : has_fairy men (other c) ≡ false
+  pub enemy : is_side (man_on men checker) (other c) ≡ true
+  pub check : reaches men checker king ≡ true
+  pub no_evasion : is_evasion men c king checker t ≡ false
+
+-- a plain move of another man than the king leaves a check unanswered, if it goes to a square not in the word
+pub record AreEvasions (rule : RuleSet) (men : List (Option Man)) (c : Colour) (w : ℕ) : Type 0 where
+  pub elsewhere : (t : ℕ) → t < 64 → (bit_at w t == 1) ≡ false → IsNoEvasion rule men c t
+
+-- a move from s that may be made leaves its mover in check, if it goes to a square not in the word
+pub record AreEvasionsFrom (rule : RuleSet) (p : Position) (s w : ℕ) : Type 0 where
+  pub elsewhere : (m : Move) → m.from ≡ s → m.to < 64 → pseudo rule p m ≡ true → (bit_at w m.to == 1) ≡ false → in_check rule (after rule p m).men p.turn ≡ true

@@ -1,0 +1,117 @@
+//! The moves that answer a check.
+ghost use Rattle.std.specs.Prelude.{◌≡◌, ◌==◌, is_some, not, true};
+ghost use Rattle.chess_core.specs.Position.{man_on, other};
+ghost use Rattle.chess_core.specs.WellFormed.{IsWellFormed};
+ghost use Rattle.chess_core.specs.Words.{word};
+ghost use Rattle.chess_rules.specs.Attacks.{in_check};
+ghost use Rattle.chess_rules.specs.Evasions.{AreEvasionsFrom, AreEvasions};
+ghost use Rattle.chess_rules.specs.Shields.{cannot_expose, has_fairy, is_plain, may_expose};
+ghost use Rattle.chess_rules.specs.Legal.{pseudo};
+ghost use Rattle.chess_rules.specs.Play.{after};
+ghost use Rattle.chess_rules.specs.RuleSet.{is_circe};
+
+use crate::lines::occupied;
+use crate::outward::attackers;
+use crate::reach::reach_as;
+use crate::rules::{Rules, exposes};
+use crate::shields::{cannot_expose, has_fairy, is_plain};
+use crate::words::{contains, next_bit, only};
+use chess_core::board::Board;
+use chess_core::man::{Colour, Kind, Move};
+use chess_core::square::Square;
+
+// The squares to which a move of another man than the king may go that ends a check to the colour's king,
+// unless it is no plain move: all of them where no check is seen. `shield_squares` are the squares from which
+// a move may expose the king: all of them where it is in check.
+pub(crate) fn evasion_squares<R: Rules>(board: &Board, colour: Colour, shield_squares: u64) -> u64
+    ensures { AreEvasions R.rule board.now.men colour result }
+{
+    if shield_squares != !0 {
+        return !0;
+    }
+    let Some(king) = board.king_of(colour) else {
+        return !0;
+    };
+    if R::is_madrasi() {
+        return !0;
+    }
+    if has_fairy(board, colour.other()) {
+        return !0;
+    }
+    let Some(checker) = next_bit(attackers(board, king, colour.other()), 0) else {
+        return !0;
+    };
+    only(Some(checker))
+        | (reach_as(board, colour, Kind::Queen, king)
+            & reach_as(board, colour, Kind::Queen, checker))
+}
+
+// Whether the move leaves its mover in check, as far as it can be told by the squares to which a move
+// that doesn't must go.
+fn leaves_check<R: Rules>(board: &Board, evasion_squares: u64, m: &Move) -> bool
+    requires well_formed { IsWellFormed board.now }
+    requires pseudo { pseudo R.rule board.now m.now ≡ true }
+    requires evasion_squares { AreEvasions R.rule board.now.men board.now.turn evasion_squares }
+    ensures { result ≡ true → in_check R.rule (after R.rule board.now m.now).men board.now.turn ≡ true }
+{
+    let _small = m.to.index();
+    if contains(evasion_squares, m.to) {
+        return false;
+    }
+    match board.man_at(m.from) {
+        Some(man) => !man.kind.is(Kind::King) && is_plain::<R>(board, man, m),
+        None => false,
+    }
+}
+
+// The squares on which a man may be captured and reborn.
+pub(crate) fn rebirth_captures<R: Rules>(board: &Board) -> u64
+    ensures { is_circe R.rule ≡ true → result ≡ word (λ s. is_some (man_on board.now.men s)) }
+{
+    if R::is_circe() { occupied(board) } else { 0 }
+}
+
+// The squares to which the man on `from` must go to leave no check to its king: all of them where none is
+// seen. `evasion_squares` are those to which another man than the king may go that ends it.
+pub(crate) fn evasions_from<R: Rules>(board: &Board, evasion_squares: u64, from: Square) -> u64
+    requires well_formed { IsWellFormed board.now }
+    requires evasion_squares { AreEvasions R.rule board.now.men board.now.turn evasion_squares }
+    ensures { AreEvasionsFrom R.rule board.now from result }
+{
+    let _small = from.index();
+    if evasion_squares == !0 {
+        return !0;
+    }
+    let Some(man) = board.man_at(from) else {
+        return 0;
+    };
+    if man.kind.is(Kind::King) {
+        return !0;
+    }
+    evasion_squares | only(board.crossed()) | rebirth_captures::<R>(board)
+}
+
+// Whether the mover isn't in check after the move; `squares` are those from which one may expose its
+// king, and `evasion_squares` those to which one may go that ends a check. The board is unchanged after it.
+pub(crate) fn is_safe<R: Rules>(
+    board: &mut Board,
+    squares: u64,
+    evasion_squares: u64,
+    m: Move,
+) -> bool
+    requires well_formed { IsWellFormed board.old }
+    requires pseudo { pseudo R.rule board.old m ≡ true }
+    requires squares { squares ≡ word (may_expose R.rule board.old.men board.old.turn) }
+    requires evasion_squares { AreEvasions R.rule board.old.men board.old.turn evasion_squares }
+    ensures answer { result ≡ not (in_check R.rule (after R.rule board.old m).men board.old.turn) }
+    ensures board { board.new ≡ board.old }
+{
+    let _small = m.to.index();
+    if cannot_expose::<R>(board, board.turn(), squares, &m) {
+        return true;
+    }
+    if leaves_check::<R>(board, evasion_squares, &m) {
+        return false;
+    }
+    !exposes::<R>(board, m)
+}
