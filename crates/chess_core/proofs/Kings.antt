@@ -1,16 +1,13 @@
 -- Kings by the word of their squares.
-use Rattle.std.proofs.Common.{◌≡◌, ℕ, ◌<◌, Bool, true, List, Option, Some, None, sym, ap, ◌∙◌, arith}
+use Rattle.std.proofs.Common.{◌≡◌, ℕ, ◌<◌, Bool, List, Option, Some, None, sym, ap, ◌∙◌, arith}
 use Rattle.std.specs.Int.{bit_at, trailing_zeros, w64}
-use Rattle.std.proofs.lemmas.Bool.{and_from, false_from_ne_true}
 use Rattle.std.proofs.lemmas.Nat.Bits.{bit_at-zero, bit_at-trailing_zeros}
 use Rattle.chess_core.specs.declared.man.Man.{Man}
 use Rattle.chess_core.specs.declared.man.Colour.{Colour}
 use Rattle.chess_core.specs.declared.man.Kind.TheVariants.{King}
-use Rattle.chess_core.specs.Position.{AtMostOneKing, HasNoKing, is_man, king_square, man_on, same_colour, same_kind, without_man}
+use Rattle.chess_core.specs.Position.{is_man, king_square, man_on}
 use Rattle.chess_core.specs.Words.{squares_of}
 use Rattle.chess_core.proofs.Words.{bit_false, bit_true, square_bit, square_word_small}
-use Rattle.chess_core.proofs.Kept.{same_colour-refl}
-use Rattle.chess_core.proofs.Men.{is_man-without, man_on-without_same}
 use Rattle.chess_core.proofs.Ranges.{find_square_some, find_square_none}
 
 -- no bit, no king
@@ -28,13 +25,3 @@ king_square-some men c h =
     let z = bit_at-trailing_zeros w64 _ h (square_word_small test) in
     find_square_some test _ z.0 (bit_true _ (sym (square_bit test _ z.0) ∙ z.1))
     (record { fails = λ s p. bit_false _ (sym (square_bit test s (omega (arith, p, z.0))) ∙ z.2 s p) })
-
--- when a king goes no other is left
-pub HasNoKing-gone : (men : List (Option Man)) (s : ℕ) (x : Man) → AtMostOneKing men → man_on men s ≡ Some x → same_kind x.kind King ≡ true → HasNoKing (without_man men s) x.colour
-HasNoKing-gone men s x one held king t = false_from_ne_true _ (λ h.
-    let there : is_man (man_on men t) x.colour King ≡ true = is_man-without men s t x.colour King h in
-    let here : is_man (man_on men s) x.colour King ≡ true = rw held (and_from (same_colour x.colour x.colour) (same_kind x.kind King) (same_colour-refl x.colour) king) in
-    let same : t ≡ s = one.same x.colour t s there here in
-    let none : man_on (without_man men s) t ≡ None = rw same (man_on-without_same men s) in
-    let bad : is_man None x.colour King ≡ true = rw none at h in
-    cc)

@@ -2,10 +2,10 @@
 use Rattle.std.proofs.Common.{◌≡◌, ℕ, eqb, zero, suc, ◌+◌, ◌-◌, ◌*◌, ◌/◌, ◌%◌, ◌^◌, ◌<◌, min, max, Bool, true, false, ◌&&◌, ◌||◌, not, List, [], ◌∷◌, length, get_or, set, refl, sym, ap, ◌∙◌, subst, arith, inl, inr}
 use Rattle.std.specs.Int.{bit_at, bit_not, w64, trailing_zeros}
 use Rattle.std.specs.Int.Bits.{bit_and, bit_or}
-use Rattle.std.proofs.lemmas.Bool.{cases_eq, ne_eqb}
+use Rattle.std.proofs.lemmas.Bool.{cases_eq, eq-eqb, ne_eqb}
 use Rattle.std.proofs.lemmas.List.{length-set, get_or-set_same, get_or-set_other}
-use Rattle.std.proofs.lemmas.Nat.{or_lt, and_le_l}
-use Rattle.std.proofs.lemmas.Nat.Bits.{bit_at_lowest, bit_at-suc, bit_at_and, bit_at_not, bit_at_or, bit_at-zero, bit_at-trailing_zeros, same_from_bits_below, bit_at_set_same, bit_at_set_other, bit_at_clear_same, bit_at_clear_other}
+use Rattle.std.proofs.lemmas.Nat.{or_lt, and_le_l, one_shl}
+use Rattle.std.proofs.lemmas.Nat.Bits.{bit_at_lowest, bit_at-suc, bit_at_and, bit_at_not, bit_at_or, bit_at-zero, bit_at-pow_same, bit_at-pow_other, bit_at-trailing_zeros, same_from_bits_below, bit_at_set_same, bit_at_set_other, bit_at_clear_same, bit_at_clear_other}
 use Rattle.std.proofs.lemmas.List.FromFn.{get_or-range_with_len}
 use Rattle.chess_core.specs.Squares.{squares, some_square}
 use Rattle.chess_core.proofs.Ranges.{some_square_true, some_square_false}
@@ -104,6 +104,15 @@ square_word_small test = word_small test squares
 pub square_word : (test : ℕ → Bool) (n : ℕ) → n < 2 ^ 64 → ((s : ℕ) → s < 64 → bit_at n s ≡ bit_of (test s)) → n ≡ word test
 unfolding word squares
 square_word test n fits h = word_from_bits test squares 0 n refl fits (λ s p. h s p ∙ ap (λ m. bit_of (test m)) (sym (squares_at s p)))
+
+-- the word of one square
+pub square_alone : (s : ℕ) → s < 64 → 1 * 2 ^ s % 2 ^ 64 ≡ word (λ t. eqb s t)
+square_alone s p =
+    square_word (λ t. eqb s t) _ (omega arith)
+    (λ t b. elim (cases_eq t s) [
+      | inl e ↦ rw (e, eq-eqb s s refl) (ap (λ n. bit_at n s) (one_shl s 64 p) ∙ bit_at-pow_same s)
+      | inr ne ↦ rw (ne_eqb s t (λ e. ne (sym e))) (ap (λ n. bit_at n t) (one_shl s 64 p) ∙ bit_at-pow_other s t ne)
+    ])
 
 either : (a b : Bool) → max (bit_of a) (bit_of b) ≡ bit_of (a || b)
 either true true = refl
