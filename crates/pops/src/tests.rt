@@ -1,4 +1,6 @@
 //! What is only tested: worked rows, whose reports were written from the rules, and the layout of made events.
+mod counted;
 mod devices;
 mod printing;
 mod rows;
+mod streams;
