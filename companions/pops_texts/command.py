@@ -6,7 +6,7 @@ import sys
 import tempfile
 from contextlib import contextmanager
 from enum import IntEnum
-from typing import BinaryIO, Callable, Iterator, List, Optional
+from typing import BinaryIO, Callable, Iterator, List, NoReturn, Optional
 
 
 class Status(IntEnum):
@@ -37,7 +37,7 @@ def parser(name: str, description: str, **more: object) -> argparse.ArgumentPars
     )
 
 
-def run(name: str, command: Callable[[List[str]], Status]) -> None:
+def run(name: str, command: Callable[[List[str]], int]) -> NoReturn:
     """Runs a companion on the program's arguments and ends with its status."""
     try:
         status = command(sys.argv[1:])
@@ -46,16 +46,23 @@ def run(name: str, command: Callable[[List[str]], Status]) -> None:
         print(f"{name}: {error}", file=sys.stderr)
         status = error.status
     except BrokenPipeError:
-        # The reader of our output went away; a second error when Python closes it is kept quiet.
-        os.dup2(os.open(os.devnull, os.O_WRONLY), sys.stdout.fileno())
         status = Status.DEVICE
     except OSError as error:
-        print(f"{name}: {error.strerror}", file=sys.stderr)
+        print(f"{name}: {': '.join(filter(None, (error.filename, error.strerror)))}", file=sys.stderr)
         status = Status.DEVICE
     except KeyboardInterrupt:
         print(f"{name}: stopped", file=sys.stderr)
         status = Status.UNFINISHED
+    _close_output()
     sys.exit(status)
+
+
+def _close_output() -> None:
+    """Lets go of what an output that failed refused; else Python would fail on it once more."""
+    try:
+        sys.stdout.flush()
+    except OSError:
+        os.dup2(os.open(os.devnull, os.O_WRONLY), sys.stdout.fileno())
 
 
 def add_encoding(parser: argparse.ArgumentParser) -> None:

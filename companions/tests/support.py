@@ -1,9 +1,12 @@
 """What the tests share: where things are, runs of programs, the stored rows and examples."""
 
+import importlib.machinery
+import importlib.util
 import os
 import subprocess
 import sys
 from pathlib import Path
+from types import ModuleType
 from typing import List, NamedTuple, Sequence
 
 COMPANIONS = Path(__file__).resolve().parent.parent
@@ -33,6 +36,16 @@ def run(words: Sequence[str], text: bytes = b"") -> Outcome:
 def companion(name: str, *words: str, text: bytes = b"") -> Outcome:
     """Runs a companion."""
     return run([sys.executable, str(COMPANIONS / name), *words], text)
+
+
+def loaded(name: str) -> ModuleType:
+    """A companion as a module, so that many runs of it take little time."""
+    loader = importlib.machinery.SourceFileLoader(name.replace("-", "_") + "_command", str(COMPANIONS / name))
+    description = importlib.util.spec_from_loader(loader.name, loader)
+    assert description is not None
+    module = importlib.util.module_from_spec(description)
+    loader.exec_module(module)
+    return module
 
 
 def stored_inputs() -> List[Path]:
