@@ -18,10 +18,10 @@ header, .below, .fault { break-inside: avoid; }
 h2 { font-size: 1em; margin: 0 0 .3em; }
 .title { margin: 0; }
 .author { font-style: italic; margin: 0 0 .3em; }
-.below { display: flex; justify-content: space-between; margin: 0 0 0 .6em; }
+.below { display: flex; justify-content: space-between; margin: 0 0 0 .65em; }
 .stipulation { font-weight: bold; }
-.fairy, .without { font-size: .85em; margin: .2em 0 0 .6em; color: #333; }
-.diagram { width: 100%; display: block; }
+.fairy, .without { font-size: .85em; margin: .2em 0 0 .75em; color: #333; }
+.diagram { width: 100%; display: block; margin-top: .4em; }
 h3 { font-size: 1em; font-weight: normal; font-style: italic; margin: 0; }
 .phase + .phase { margin-top: .8em; }
 pre { font: 9.5pt/1.35 monospace; margin: .1em 0; white-space: pre-wrap; overflow-wrap: anywhere; }

@@ -162,17 +162,6 @@ class Answers(unittest.TestCase):
         (item,) = report(made(*words))
         return item.lines[item.lines.index("play") + 1 : -1]
 
-    def test_published_keys(self) -> None:
-        """The keys are those of the literature."""
-        for fen, key in [
-            ("kbK5/pp6/1P6/8/8/8/8/R7 w - -", "1.Ra1-a6"),  # Morphy, 1856
-            ("2R5/4bppk/1p1p4/5R1P/4PQ2/5P2/r4q1P/7K w - -", "1.Qf4-h6+"),  # Carlsen, 2016
-            # Boden, 1853: Black to move, so colours and ranks are turned.
-            ("2k1rb1r/ppp3pp/2n2q2/3B1b2/5P2/2P1BQ2/PP1N1P1P/2KR3R b - -", "1.Qf3*c6+"),
-        ]:
-            with self.subTest(fen):
-                self.assertEqual(self.keys("-s", "#2", fen), [key])
-
     def test_castling_right_decides_a_mate(self) -> None:
         """White Ke1 Rh1 Re8 Rg8, Black Kf3 (no castling there): 0-0 mates, and so does Rh1-f1."""
         fen = "4R1R1/8/8/8/8/5k2/8/4K2R w {} -"
