@@ -1,7 +1,8 @@
 """Cuts an input of pops into inputs of one problem each.
 
-A problem ends with its NextProblem or EndProblem, whatever faults it has: these words count wherever
-they stand but in the text of Title, Author, Origin and Remark, and nothing behind EndProblem is read.
+A problem ends with its NextProblem or EndProblem, whatever faults it has: these words count
+wherever they stand but in the text of Title, Author, Origin and Remark. Nothing behind EndProblem
+is read.
 """
 
 import re

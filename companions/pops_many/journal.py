@@ -42,7 +42,7 @@ class Journal:
     """An open journal, new or gone on with."""
 
     def __init__(self, path: str, run: bytes, resume: bool):
-        """Opens the journal. JournalError where it is to be gone on with and belongs to another run."""
+        """Opens the journal. JournalError where that of another run is to be gone on with."""
         self.path = path
         self.kept: Dict[int, Kept] = {}
         self._head = b"pops-many journal 1 " + run + b"\n"
@@ -78,7 +78,10 @@ class Journal:
         """Adds a finished report."""
         report = result.report
         head = b"task %d status %d bytes %d sum %d\n" % (
-            result.task.place, result.status, len(report), zlib.crc32(report),
+            result.task.place,
+            result.status,
+            len(report),
+            zlib.crc32(report),
         )
         self._file.seek(self._end)
         self._file.write(head + report)

@@ -15,7 +15,7 @@ import subprocess
 import tempfile
 import threading
 from pathlib import Path
-from typing import Callable, Dict, List, Optional, Sequence, Set, Tuple
+from typing import Callable, Dict, Iterable, List, Optional, Sequence, Set, Tuple
 
 from pops_many.program import FAULTY, SOUND, Program, RunError
 from pops_many.tasks import Result, Task, is_whole
@@ -28,9 +28,7 @@ _FAILURES = 2
 _ROUNDS_WITHOUT_REPORT = 3
 _SECONDS_BETWEEN_LOOKS = 0.3
 _SECONDS_TO_END = 3.0
-_SSH = (
-    "ssh -o BatchMode=yes -o ConnectTimeout=10 -o ServerAliveInterval=5 -o ServerAliveCountMax=3"
-)
+_SSH = "ssh -o BatchMode=yes -o ConnectTimeout=10 -o ServerAliveInterval=5 -o ServerAliveCountMax=3"
 _PROBE = b"BeginProblem Pieces White Kg6 Ra1 Black Kg8 Stipulation #1 EndProblem"
 # The program is $0, the number of the problem $1, its text $2.
 _SCRIPT = (
@@ -88,8 +86,14 @@ class Machines:
     """Machines that answer as pops on this one does."""
 
     def __init__(
-        self, logins: Sequence[str], jobs: Optional[int], ssh: Optional[str], pops: str,
-        options: Sequence[str], program: Program, say: Callable[[str], None],
+        self,
+        logins: Sequence[str],
+        jobs: Optional[int],
+        ssh: Optional[str],
+        pops: str,
+        options: Sequence[str],
+        program: Program,
+        say: Callable[[str], None],
     ):
         """Asks each machine for the report of one problem, and leaves out those that fail.
 
@@ -117,7 +121,10 @@ class Machines:
         for login in logins:
             answers: Dict[int, bytes] = {}
             self._parallel(
-                [login], [f"0\t{_coded(_PROBE)}\n"], lambda line: _add(answers, line), lambda log: True
+                [login],
+                [f"0\t{_coded(_PROBE)}\n"],
+                lambda line: _add(answers, line),
+                lambda log: True,
             )
             if answers.get(0) == wanted:
                 self._alive.append(login)
@@ -133,9 +140,7 @@ class Machines:
         """Whether a task can go to another machine."""
         return task.piece is not None and len(task.text) * 4 // 3 + 4 <= _LONGEST_WORD
 
-    def run(
-        self, tasks: Sequence[Task], keep: Callable[[Result], None]
-    ) -> List[Tuple[Task, str]]:
+    def run(self, tasks: Sequence[Task], keep: Callable[[Result], None]) -> List[Tuple[Task, str]]:
         """Runs tasks and hands each result on. Answers those without a report, with the reasons."""
         left = list(tasks)
         rounds_without = 0
@@ -177,20 +182,26 @@ class Machines:
         return done
 
     def _parallel(
-        self, logins: List[str], lines: "Sequence[str] | object",
-        take: Callable[[bytes], None], look: "Callable[[_Log], bool]",
+        self,
+        logins: List[str],
+        lines: Iterable[str],
+        take: Callable[[bytes], None],
+        look: "Callable[[_Log], bool]",
     ) -> None:
         """One run of GNU parallel; `look` is called now and then and may take machines away."""
         with tempfile.TemporaryDirectory(prefix="pops-many-") as name:
             room = Path(name)
             self._errors = room / "errors"
             with open(room / "tasks", "w", encoding="ascii") as tasks:
-                tasks.writelines(lines)  # type: ignore[arg-type]
+                tasks.writelines(lines)
             self._write_machines(room, logins)
             with open(self._errors, "wb") as errors:
                 run = subprocess.Popen(
-                    self._command(room), stdin=subprocess.DEVNULL, stdout=subprocess.PIPE,
-                    stderr=errors, start_new_session=True,
+                    self._command(room),
+                    stdin=subprocess.DEVNULL,
+                    stdout=subprocess.PIPE,
+                    stderr=errors,
+                    start_new_session=True,
                     env={**os.environ, "PARALLEL_HOME": name, "PARALLEL_SSH": self._ssh},
                 )
             watch = threading.Thread(target=self._watch, args=(run, room, logins, look))
@@ -209,8 +220,13 @@ class Machines:
     def _command(self, room: Path) -> List[str]:
         remote = ["sh", "-c", self._script, self._pops]
         return self._words + [
-            "--sshloginfile", str(room / "machines"), "--joblog", str(room / "log"),
-            "-a", str(room / "tasks"), " ".join(map(shlex.quote, remote)) + " {1} {2}",
+            "--sshloginfile",
+            str(room / "machines"),
+            "--joblog",
+            str(room / "log"),
+            "-a",
+            str(room / "tasks"),
+            " ".join(map(shlex.quote, remote)) + " {1} {2}",
         ]
 
     @staticmethod
@@ -219,7 +235,10 @@ class Machines:
         os.replace(room / "machines.new", room / "machines")
 
     def _watch(
-        self, run: "subprocess.Popen[bytes]", room: Path, logins: List[str],
+        self,
+        run: "subprocess.Popen[bytes]",
+        room: Path,
+        logins: List[str],
         look: "Callable[[_Log], bool]",
     ) -> None:
         log = _Log(room / "log")

@@ -96,7 +96,10 @@ class Program:
                 raise RunError("stopped")
             try:
                 run = subprocess.Popen(
-                    words, stdin=source, stdout=subprocess.PIPE, stderr=errors,
+                    words,
+                    stdin=source,
+                    stdout=subprocess.PIPE,
+                    stderr=errors,
                     start_new_session=True,
                 )
             except OSError as error:

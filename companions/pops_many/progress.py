@@ -2,6 +2,7 @@
 
 import sys
 import time
+
 _SECONDS_BETWEEN = 0.5
 
 

@@ -48,7 +48,9 @@ def run(name: str, command: Callable[[List[str]], int]) -> NoReturn:
     except BrokenPipeError:
         status = Status.DEVICE
     except OSError as error:
-        print(f"{name}: {': '.join(filter(None, (error.filename, error.strerror)))}", file=sys.stderr)
+        print(
+            f"{name}: {': '.join(filter(None, (error.filename, error.strerror)))}", file=sys.stderr
+        )
         status = Status.DEVICE
     except KeyboardInterrupt:
         print(f"{name}: stopped", file=sys.stderr)

@@ -15,7 +15,11 @@ class FenError(ValueError):
 
 
 _KINDS = {
-    "k": Kind.KING, "q": Kind.QUEEN, "r": Kind.ROOK, "b": Kind.BISHOP, "n": Kind.KNIGHT,
+    "k": Kind.KING,
+    "q": Kind.QUEEN,
+    "r": Kind.ROOK,
+    "b": Kind.BISHOP,
+    "n": Kind.KNIGHT,
     "p": Kind.PAWN,
 }
 _ROOKS = {"K": "h1", "Q": "a1", "k": "h8", "q": "a8"}
@@ -116,7 +120,9 @@ def _operations(text: str) -> Dict[str, str]:
     while text[place:].strip():
         parts = _OPERATION.match(text, place)
         if parts is None:
-            raise FenError(f"{text[place:].strip()!r} is neither the end of a FEN nor an operation of an EPD")
+            raise FenError(
+                f"{text[place:].strip()!r} is neither the end of a FEN nor an operation of an EPD"
+            )
         operations[parts[1]] = parts[2].strip().strip('"')
         place = parts.end()
     return operations

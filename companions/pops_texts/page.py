@@ -9,10 +9,11 @@ from pops_texts.report import FaultyItem, Item, Phase, SoundItem
 from pops_texts.stipulation import Condition, Stipulation
 
 _STYLE = """
-body { font: 11pt/1.35 serif; margin: 1.5em auto; max-width: 60em; padding: 0 1em; color: #000; background: #fff; }
+body { font: 11pt/1.35 serif; margin: 1.5em auto; max-width: 60em; padding: 0 1em;
+  color: #000; background: #fff; }
 h1 { font-size: 1.5em; font-weight: normal; border-bottom: 1px solid #000; }
-article { display: grid; grid-template-columns: 15em 1fr; gap: 0 2em; margin: 0 0 1.2em; padding-top: .8em;
-  border-top: 1px solid #bbb; }
+article { display: grid; grid-template-columns: 15em 1fr; gap: 0 2em;
+  margin: 0 0 1.2em; padding-top: .8em; border-top: 1px solid #bbb; }
 h1 + article { border-top: none; }
 header, .below, .fault { break-inside: avoid; }
 h2 { font-size: 1em; margin: 0 0 .3em; }
@@ -28,7 +29,10 @@ pre { font: 9.5pt/1.35 monospace; margin: .1em 0; white-space: pre-wrap; overflo
 pre.many { columns: 17em auto; column-gap: 2em; }
 .total { margin: 0; font-size: .9em; color: #333; }
 .fault { font-weight: bold; margin: 0; }
-@media print { body { margin: 0; max-width: none; padding: 0; } article { grid-template-columns: 12em 1fr; } }
+@media print {
+  body { margin: 0; max-width: none; padding: 0; }
+  article { grid-template-columns: 12em 1fr; }
+}
 @media (max-width: 34em) { article { grid-template-columns: 1fr; } }
 """
 
@@ -53,9 +57,10 @@ def page(items: Iterable[Item], heading: str, encoding: str) -> str:
     parts = [
         '<!DOCTYPE html>\n<html lang="en">\n<head>\n<meta charset="utf-8">\n',
         '<meta name="viewport" content="width=device-width">\n',
-        f"<title>{_safe(heading)}</title>\n<style>{_STYLE}{diagram.STYLE}</style>\n</head>\n<body>\n",
+        f"<title>{_safe(heading)}</title>\n<style>{_STYLE}{diagram.STYLE}</style>\n",
+        "</head>\n<body>\n",
         diagram.shapes(),
-        f"\n<h1>{_safe(heading)}</h1>\n",
+        f"<h1>{_safe(heading)}</h1>\n",
     ]
     for item in items:
         if isinstance(item, FaultyItem):

@@ -45,7 +45,9 @@ def problem_lines(
             remarks.append(f"{_turn(starter.opponent)}, and {_start(starter)}: colours kept")
         else:
             position = position.turned
-            remarks.append(f"{_turn(starter.opponent)}, and {_start(starter)}: colours turned round")
+            remarks.append(
+                f"{_turn(starter.opponent)}, and {_start(starter)}: colours turned round"
+            )
     remarks.extend(_rights_without_men(position))
     lines = []
     for word, text in (("Title", wishes.title), ("Author", wishes.author)):
@@ -104,7 +106,7 @@ def _moved(position: Position, rooks_are_reborn: bool) -> List[Square]:
     """
     if position.rooks is None:
         return []
-    moved = []
+    moved: List[Square] = []
     for colour, (king, corners) in _HOMES.items():
         if position.men.get(king) != Man(colour, Kind.KING):
             continue

@@ -320,7 +320,10 @@ def _read_phase(source: _Lines, stipulation: Stipulation, kind: PhaseKind) -> Ph
         else:
             node, depth = _read_node(source, stipulation, first_half, len(path))
             del path[depth:]
-            (path[-1].below if path else solutions).append(node)
+            if path:
+                path[-1].below.append(node)
+            else:
+                solutions.append(node)
             path.append(node)
         lines.append(source.take())
     if int(total[1]) != len(solutions):
@@ -368,8 +371,18 @@ def _played(parts: "re.Match[str]", half: int, side: Colour) -> PlayedMove:
         rank = 1 if side is Colour.WHITE else 8
         arrival = Square(7 if castling is Castling.SHORT else 3, rank)
         return PlayedMove(
-            parts[0], half, side, Kind.KING, Square(5, rank), arrival, False, False, None,
-            castling, None, mark,
+            parts[0],
+            half,
+            side,
+            Kind.KING,
+            Square(5, rank),
+            arrival,
+            False,
+            False,
+            None,
+            castling,
+            None,
+            mark,
         )
     rebirth = None
     if parts["reborn_kind"]:
@@ -377,7 +390,16 @@ def _played(parts: "re.Match[str]", half: int, side: Colour) -> PlayedMove:
         reborn = Man(colour, Kind(parts["reborn_kind"]))
         rebirth = Rebirth(reborn, Square.of_name(parts["reborn_square"]))
     return PlayedMove(
-        parts[0], half, side, Kind(parts["man"] or "P"), Square.of_name(parts["origin"]),
-        Square.of_name(parts["arrival"]), parts["step"] == "*", parts["en_passant"] is not None,
-        Kind(parts["promotion"]) if parts["promotion"] else None, None, rebirth, mark,
+        parts[0],
+        half,
+        side,
+        Kind(parts["man"] or "P"),
+        Square.of_name(parts["origin"]),
+        Square.of_name(parts["arrival"]),
+        parts["step"] == "*",
+        parts["en_passant"] is not None,
+        Kind(parts["promotion"]) if parts["promotion"] else None,
+        None,
+        rebirth,
+        mark,
     )

@@ -40,7 +40,9 @@ def companion(name: str, *words: str, text: bytes = b"") -> Outcome:
 
 def loaded(name: str) -> ModuleType:
     """A companion as a module, so that many runs of it take little time."""
-    loader = importlib.machinery.SourceFileLoader(name.replace("-", "_") + "_command", str(COMPANIONS / name))
+    loader = importlib.machinery.SourceFileLoader(
+        name.replace("-", "_") + "_command", str(COMPANIONS / name)
+    )
     description = importlib.util.spec_from_loader(loader.name, loader)
     assert description is not None
     module = importlib.util.module_from_spec(description)

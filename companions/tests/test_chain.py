@@ -43,7 +43,10 @@ class Chain(unittest.TestCase):
         source = support.COMPANIONS / "data" / "mates_in_two.epd"
         problems = support.companion("fen2pop", "-f", str(source)).output
         report = support.companion("pops-many", "--pops", support.pops(), text=problems).output
-        objects = [json.loads(line) for line in support.companion("pops2json", text=report).output.splitlines()]
+        objects = [
+            json.loads(line)
+            for line in support.companion("pops2json", text=report).output.splitlines()
+        ]
         keys = [[node["move"]["text"] for node in one["phases"][0]["solutions"]] for one in objects]
         self.assertEqual(
             keys, [["Ra1-a6"], ["Qb3-b8+"], ["Qf3-f6+"], ["Bc4*f7+"], ["Qf4-h6+"], ["Qf3*c6+"]]

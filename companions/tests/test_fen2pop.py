@@ -27,9 +27,22 @@ def report(problems: str, *words: str) -> List[support.PlainItem]:
 class Texts(unittest.TestCase):
     def test_a_problem_in_full(self) -> None:
         self.assertEqual(
-            made("--stipulation", "#2", "--title", "A study", "--author", "N. N.", "--set-play",
-                 "--variation", "--max-solutions", "3", "--no-board", "--condition", "Madrasi",
-                 "kbK5/pp6/1P6/8/8/8/8/R7 w - - 0 1"),
+            made(
+                "--stipulation",
+                "#2",
+                "--title",
+                "A study",
+                "--author",
+                "N. N.",
+                "--set-play",
+                "--variation",
+                "--max-solutions",
+                "3",
+                "--no-board",
+                "--condition",
+                "Madrasi",
+                "kbK5/pp6/1P6/8/8/8/8/R7 w - - 0 1",
+            ),
             "BeginProblem\n"
             "Title A study\n"
             "Author N. N.\n"
@@ -56,8 +69,14 @@ class Texts(unittest.TestCase):
 
     def test_the_side_that_starts_decides(self) -> None:
         for stipulation, turn, turned in [
-            ("#2", "w", False), ("#2", "b", True), ("s#2", "w", False), ("s=2", "b", True),
-            ("h#2", "b", False), ("h#2", "w", True), ("h=2.5", "w", False), ("h#2.5", "b", True),
+            ("#2", "w", False),
+            ("#2", "b", True),
+            ("s#2", "w", False),
+            ("s=2", "b", True),
+            ("h#2", "b", False),
+            ("h#2", "w", True),
+            ("h=2.5", "w", False),
+            ("h#2.5", "b", True),
         ]:
             with self.subTest(stipulation, turn=turn):
                 problem = made("-s", stipulation, f"k7/8/8/8/8/8/8/7K {turn} - -")
@@ -80,8 +99,13 @@ class Texts(unittest.TestCase):
 
     def test_castling_rights(self) -> None:
         for rights, wanted in [
-            ("KQkq", None), ("KQ", "e8"), ("kq", "e1"), ("-", "e1e8"), ("Kq", "a1h8"),
-            ("Qkq", "h1"), ("Q", "h1e8"),
+            ("KQkq", None),
+            ("KQ", "e8"),
+            ("kq", "e1"),
+            ("-", "e1e8"),
+            ("Kq", "a1h8"),
+            ("Qkq", "h1"),
+            ("Q", "h1e8"),
         ]:
             with self.subTest(rights):
                 problem = made("-s", "#2", f"r3k2r/8/8/8/8/8/8/R3K2R w {rights} -")
@@ -95,14 +119,17 @@ class Texts(unittest.TestCase):
 
     def test_a_right_without_its_men_is_told_in_a_remark(self) -> None:
         problem = made("-s", "#2", "4k3/8/8/8/8/8/8/4K2R w KQ -")
-        self.assertIn("Remark the castling right for a1 has no king on e1 or no rook on a1: left out\n", problem)
+        self.assertIn(
+            "Remark the castling right for a1 has no king on e1 or no rook on a1: left out\n",
+            problem,
+        )
         self.assertNotIn("NoCastling", problem)
 
     def test_operations_of_an_epd(self) -> None:
         problem = made(text=b'k7/8/8/8/8/8/8/7K w - - dm 3; id "Mate; in 3";\n')
         self.assertIn("BeginProblem\nTitle Mate; in 3\n", problem)
         self.assertIn("Stipulation #3\n", problem)
-        problem = made("-s", "s#2", text=b'k7/8/8/8/8/8/8/7K w - - dm 3;\n')
+        problem = made("-s", "s#2", text=b"k7/8/8/8/8/8/8/7K w - - dm 3;\n")
         self.assertIn("Stipulation s#2\n", problem)
 
 
@@ -133,15 +160,19 @@ class Sources(unittest.TestCase):
             ("8/8/8/8/8/8/8/8 x - -", "'x' isn't a side to move, w or b"),
             ("8/8/8/8/8/8/8/8 w HAha -", "'HAha' aren't castling rights, letters of KQkq or -"),
             ("8/8/8/8/8/8/8/8 w - e9", "'e9' isn't an en passant square, as d6, or -"),
-            ("8/8/8/8/8/8/8/8 w - - zero",
-             "'zero' is neither the end of a FEN nor an operation of an EPD"),
+            (
+                "8/8/8/8/8/8/8/8 w - - zero",
+                "'zero' is neither the end of a FEN nor an operation of an EPD",
+            ),
         ]
         good = "k7/8/8/8/8/8/8/7K w - -"
         text = "\n".join([line for line, _ in bad] + [good])
         outcome = support.companion("fen2pop", "-s", "#2", text=text.encode())
         self.assertEqual(outcome.status, 1)
         self.assertEqual(outcome.output.decode(), made("-s", "#2", good))
-        told = [f"fen2pop: standard input, line {place}: {why}" for place, (_, why) in enumerate(bad, 1)]
+        told = [
+            f"fen2pop: standard input, line {place}: {why}" for place, (_, why) in enumerate(bad, 1)
+        ]
         self.assertEqual(outcome.error.splitlines(), told)
 
     def test_mistakes_have_a_line_and_a_status(self) -> None:
@@ -177,7 +208,7 @@ class Answers(unittest.TestCase):
         self.assertEqual(self.keys("-s", "#1", fen.format("-")), [])
 
     def test_six_hundred_made_positions(self) -> None:
-        """Each is read as sound, with its men, or with the fault that this test finds in its FEN."""
+        """Each is read as sound, with its men, or with the fault that the test finds in it."""
         chance = random.Random(14)
         found: Dict[Optional[int], int] = {}
         for stipulation in ("#1", "s#2", "h#2", "h#1.5"):

@@ -69,15 +69,27 @@ class Reports(unittest.TestCase):
         self.assertEqual(one["stipulation"], stipulation)
         self.assertEqual(one["condition"], "Circe")
         move = {
-            "text": "e5*d6 ep.[+bPd7]#", "half": 1, "side": "white", "man": "pawn", "from": "e5",
-            "to": "d6", "capture": True, "en_passant": True, "castling": None, "promotion": None,
-            "rebirth": {"square": "d7", "colour": "black", "man": "pawn"}, "mark": "mate",
+            "text": "e5*d6 ep.[+bPd7]#",
+            "half": 1,
+            "side": "white",
+            "man": "pawn",
+            "from": "e5",
+            "to": "d6",
+            "capture": True,
+            "en_passant": True,
+            "castling": None,
+            "promotion": None,
+            "rebirth": {"square": "d7", "colour": "black", "man": "pawn"},
+            "mark": "mate",
         }
         self.assertEqual(
             one["phases"],
             [
                 {
-                    "phase": "play", "possible": True, "count": 1, "stopped": True,
+                    "phase": "play",
+                    "possible": True,
+                    "count": 1,
+                    "stopped": True,
                     "solutions": [{"text": "1.e5*d6 ep.[+bPd7]#", "move": move, "below": []}],
                 }
             ],
@@ -100,7 +112,8 @@ class Command(unittest.TestCase):
         self.assertEqual(cut.status, 1)
         self.assertEqual(
             cut.error,
-            "pops2json: standard input is no report of pops: line 6: the report is cut inside a problem\n",
+            "pops2json: standard input is no report of pops:"
+            " line 6: the report is cut inside a problem\n",
         )
         self.assertEqual(support.companion("pops2json", "nowhere.report").status, 3)
         self.assertEqual(support.companion("pops2json", "--fast").status, 2)

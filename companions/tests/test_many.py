@@ -134,10 +134,14 @@ class SameAsOneRun(unittest.TestCase):
                 self.assertEqual(outcome, one)
 
 
-SIX = b"BeginProblem" + b"NextProblem".join(
-    b"\nTitle number %d\nPieces White Kg6 R%s1 Black Kg8\nStipulation #1\n" % (number, file)
-    for number, file in enumerate((b"a", b"b", b"c", b"d", b"e", b"g"), start=1)
-) + b"EndProblem\n"
+SIX = (
+    b"BeginProblem"
+    + b"NextProblem".join(
+        b"\nTitle number %d\nPieces White Kg6 R%s1 Black Kg8\nStipulation #1\n" % (number, file)
+        for number, file in enumerate((b"a", b"b", b"c", b"d", b"e", b"g"), start=1)
+    )
+    + b"EndProblem\n"
+)
 
 # A program in the place of pops that notes each run, and fails or waits on one problem.
 STAND_IN = """#!/bin/sh
@@ -224,7 +228,14 @@ class Interruptions(unittest.TestCase):
         self.many(self.stand_in("kill -9 $$"))
         journal = self.journal.read_bytes()
         head = journal.index(b"\n") + 1
-        for length in [head, head + 1, head + 40, len(journal) // 2, len(journal) - 1, len(journal)]:
+        for length in [
+            head,
+            head + 1,
+            head + 40,
+            len(journal) // 2,
+            len(journal) - 1,
+            len(journal),
+        ]:
             with self.subTest(length=length):
                 self.journal.write_bytes(journal[:length])
                 self.assertEqual(self.many(support.pops(), "--resume"), (0, b"", ""))
@@ -268,14 +279,18 @@ class Command(unittest.TestCase):
             (missing.status, missing.error),
             (3, "pops-many: there is no program pops: name it with --pops\n"),
         )
-        unwritable = support.companion("pops-many", "--pops", support.pops(), "-o", "nowhere/report")
+        unwritable = support.companion(
+            "pops-many", "--pops", support.pops(), "-o", "nowhere/report"
+        )
         self.assertEqual(unwritable.status, 3)
         self.assertEqual(support.companion("pops-many", "--help").status, 0)
 
     def test_without_gnu_parallel_other_machines_are_refused(self) -> None:
         words = [sys.executable, str(support.COMPANIONS / "pops-many"), "--pops", support.pops()]
         done = subprocess.run(
-            words + ["--sshlogin", "somewhere"], input=b"", capture_output=True,
+            words + ["--sshlogin", "somewhere"],
+            input=b"",
+            capture_output=True,
             env={**os.environ, "PATH": "/nowhere"},
         )
         self.assertEqual(done.returncode, 3)

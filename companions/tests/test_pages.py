@@ -9,8 +9,14 @@ from typing import Dict, List, Optional, Tuple
 import support
 
 NAMES = {
-    "k": "king", "q": "queen", "r": "rook", "b": "bishop", "s": "knight", "p": "pawn",
-    "g": "grasshopper", "n": "nightrider",
+    "k": "king",
+    "q": "queen",
+    "r": "rook",
+    "b": "bishop",
+    "s": "knight",
+    "p": "pawn",
+    "g": "grasshopper",
+    "n": "nightrider",
 }
 TAGS_WITHOUT_END = {"meta"}
 
@@ -196,7 +202,9 @@ class Command(unittest.TestCase):
     def test_mistakes_have_a_line_and_a_status(self) -> None:
         missing = support.companion("pops-page", "nowhere.report")
         self.assertEqual(missing.status, 3)
-        self.assertEqual(missing.error, "pops-page: cannot open nowhere.report: No such file or directory\n")
+        self.assertEqual(
+            missing.error, "pops-page: cannot open nowhere.report: No such file or directory\n"
+        )
         self.assertEqual(support.companion("pops-page", "--fast").status, 2)
         self.assertEqual(support.companion("pops-page", "--encoding", "base64").status, 2)
         into_nowhere = support.companion("pops-page", "-o", "nowhere/page.html")

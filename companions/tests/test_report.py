@@ -8,7 +8,16 @@ import support
 
 from pops_texts.chess import Colour, Kind, Man, Square
 from pops_texts.report import (
-    Castling, FaultyItem, HelpLine, Item, Mark, Node, PhaseKind, ReportError, SoundItem, read_report,
+    Castling,
+    FaultyItem,
+    HelpLine,
+    Item,
+    Mark,
+    Node,
+    PhaseKind,
+    ReportError,
+    SoundItem,
+    read_report,
 )
 from pops_texts.stipulation import Condition, Goal, Play, Stipulation
 
@@ -140,7 +149,9 @@ class Moves(unittest.TestCase):
 class Refusals(unittest.TestCase):
     def test_a_cut_report_is_refused(self) -> None:
         whole = (support.REPOSITORY / "tests/rows/three_problems.out").read_bytes()
-        ends = {0} | {place + 2 for place in range(len(whole)) if whole[place : place + 2] == b"\n\n"}
+        ends = {0} | {
+            place + 2 for place in range(len(whole)) if whole[place : place + 2] == b"\n\n"
+        }
         for length in range(len(whole) + 1):
             with self.subTest(length=length):
                 reading = read_report(io.BytesIO(whole[:length]))
@@ -174,7 +185,12 @@ class Refusals(unittest.TestCase):
                 self.assertEqual(refused.exception.line, line)
 
     def test_help_lines_of_another_length_are_refused(self) -> None:
-        for line in ("1.Kh8-g8", "1.Kh8-g8 Ra1-a8# 2.Kg8-h8", "1.Kh8-g8 1...Ra1-a8#", "1.Kh8-g8  Ra1-a8#"):
+        for line in (
+            "1.Kh8-g8",
+            "1.Kh8-g8 Ra1-a8# 2.Kg8-h8",
+            "1.Kh8-g8 1...Ra1-a8#",
+            "1.Kh8-g8  Ra1-a8#",
+        ):
             with self.subTest(line), self.assertRaises(ReportError):
                 solutions("h#1", line)
 
@@ -182,9 +198,15 @@ class Refusals(unittest.TestCase):
 class Stipulations(unittest.TestCase):
     def test_half_moves_and_starter(self) -> None:
         cases = [
-            ("#2", 3, Colour.WHITE), ("s#2", 4, Colour.WHITE), ("h#2", 4, Colour.BLACK),
-            ("h#2.5", 5, Colour.WHITE), ("h#0.5", 1, Colour.WHITE), ("=16", 31, Colour.WHITE),
-            ("s=3", 6, Colour.WHITE), ("h=2", 4, Colour.BLACK), ("h=15.5", 31, Colour.WHITE),
+            ("#2", 3, Colour.WHITE),
+            ("s#2", 4, Colour.WHITE),
+            ("h#2", 4, Colour.BLACK),
+            ("h#2.5", 5, Colour.WHITE),
+            ("h#0.5", 1, Colour.WHITE),
+            ("=16", 31, Colour.WHITE),
+            ("s=3", 6, Colour.WHITE),
+            ("h=2", 4, Colour.BLACK),
+            ("h=15.5", 31, Colour.WHITE),
         ]
         for text, half_moves, starter in cases:
             with self.subTest(text):
@@ -194,7 +216,20 @@ class Stipulations(unittest.TestCase):
                 self.assertEqual(stipulation.text, text)
 
     def test_other_words_are_none(self) -> None:
-        for text in ("", "#", "2", "#02", "H#2", "#2.5", "s#1.5", "h#2.", "h#2.50", "r#2", "#2 ", "#²"):
+        for text in (
+            "",
+            "#",
+            "2",
+            "#02",
+            "H#2",
+            "#2.5",
+            "s#1.5",
+            "h#2.",
+            "h#2.50",
+            "r#2",
+            "#2 ",
+            "#²",
+        ):
             with self.subTest(text), self.assertRaises(ValueError):
                 Stipulation.of_text(text)
 
