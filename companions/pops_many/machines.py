@@ -1,8 +1,9 @@
 """Runs tasks on other machines, through GNU parallel and ssh.
 
 A machine needs pops, sh, base64 and perl (which GNU parallel wants there); nothing is stored on it.
-A problem goes out as a word of a command line and its report comes back as a line, both in base64.
-A machine that fails is told and left out; what it had at hand goes to the others.
+Problems go out as words of a command line, a few at a login where there are many, and each report
+comes back as a line, both in base64. A machine that fails is told and left out; what it had at hand
+goes to the others.
 """
 
 import base64
@@ -15,7 +16,7 @@ import subprocess
 import tempfile
 import threading
 from pathlib import Path
-from typing import Callable, Dict, Iterable, List, Optional, Sequence, Set, Tuple
+from typing import Callable, Dict, Iterable, Iterator, List, Optional, Sequence, Set, Tuple
 
 from pops_many.program import FAULTY, SOUND, Program, RunError
 from pops_many.tasks import Result, Task, is_whole
@@ -30,11 +31,16 @@ _SECONDS_BETWEEN_LOOKS = 0.3
 _SECONDS_TO_END = 3.0
 _SSH = "ssh -o BatchMode=yes -o ConnectTimeout=10 -o ServerAliveInterval=5 -o ServerAliveCountMax=3"
 _PROBE = b"BeginProblem Pieces White Kg6 Ra1 Black Kg8 Stipulation #1 EndProblem"
-# The program is $0, the number of the problem $1, its text $2.
+# The program is $0; the one word behind it holds number and text of each problem in turn.
 _SCRIPT = (
-    'printf "%s " "$1"; '
-    '{{ printf %s "$2" | base64 -d | "$0" {options}; printf %d "$?"; }} | base64 -w 0; echo'
+    'set -f; set -- $1; while [ $# -gt 1 ]; do printf "%s " "$1"; '
+    '{{ printf %s "$2" | base64 -d | "$0" {options}; printf %d "$?"; }} | base64 -w 0; '
+    "echo; shift 2; done"
 )
+# At most so many problems go out at a login, and so few that each place gets this many logins.
+_PROBLEMS_AT_A_LOGIN = 20
+_LOGINS_OF_A_PLACE = 10
+_PLACES_OF_A_MACHINE = 8
 
 
 class MachinesError(Exception):
@@ -106,7 +112,8 @@ class Machines:
         self._program = program
         self._options = list(options)
         self._script = _SCRIPT.format(options=" ".join(options))
-        self._words = [parallel, "--will-cite", "--colsep", "\t"]
+        self._jobs = jobs
+        self._words = [parallel, "--will-cite"]
         self._words += ["--jobs", str(jobs)] if jobs else []
         self._pops = pops
         self._ssh = ssh or _SSH
@@ -122,7 +129,7 @@ class Machines:
             answers: Dict[int, bytes] = {}
             self._parallel(
                 [login],
-                [f"0\t{_coded(_PROBE)}\n"],
+                [f"0 {_coded(_PROBE)}\n"],
                 lambda line: _add(answers, line),
                 lambda log: True,
             )
@@ -177,9 +184,25 @@ class Machines:
                     self._say(f"machine {login} failed and is left out: {self._last_error}")
             return bool(self._alive)
 
-        lines = (f"{task.place}\t{_coded(task.text)}\n" for task in tasks)
-        self._parallel(self._alive, lines, take, look)
+        self._parallel(self._alive, self._lines(tasks), take, look)
         return done
+
+    def _lines(self, tasks: Sequence[Task]) -> Iterator[str]:
+        """The tasks as lines for GNU parallel, a line for each login."""
+        places = len(self._alive) * (self._jobs or _PLACES_OF_A_MACHINE)
+        wished = len(tasks) // (places * _LOGINS_OF_A_PLACE)
+        most = min(max(wished, 1), _PROBLEMS_AT_A_LOGIN)
+        words: List[str] = []
+        length = 0
+        for task in tasks:
+            word = f"{task.place} {_coded(task.text)}"
+            if len(words) == most or (words and length + len(word) > _LONGEST_WORD):
+                yield " ".join(words) + "\n"
+                words, length = [], 0
+            words.append(word)
+            length += len(word) + 1
+        if words:
+            yield " ".join(words) + "\n"
 
     def _parallel(
         self,
@@ -226,7 +249,7 @@ class Machines:
             str(room / "log"),
             "-a",
             str(room / "tasks"),
-            " ".join(map(shlex.quote, remote)) + " {1} {2}",
+            " ".join(map(shlex.quote, remote)) + " {}",
         ]
 
     @staticmethod
