@@ -5,6 +5,7 @@ import unittest
 from typing import Any, Dict, List
 
 import rebuilt
+import schema
 import support
 
 
@@ -104,6 +105,28 @@ class Reports(unittest.TestCase):
         report = b"problem 1\ntitle: R\xe9ti\n#1\nsound\n\n"
         self.assertEqual(objects(report)[0]["title"], "R\ufffdti")
         self.assertEqual(objects(report, "--encoding", "latin-1")[0]["title"], "Réti")
+
+
+class Documented(unittest.TestCase):
+    def test_every_stored_report_has_the_documented_schema(self) -> None:
+        wanted = schema.Schema(schema.documented())
+        report = b"".join(path.read_bytes() for path in support.stored_reports())
+        for one in objects(report):
+            self.assertEqual(wanted.faults(one), [])
+        self.assertEqual(set(wanted.used), set(schema.documented()["$defs"]))
+
+    def test_other_objects_have_not(self) -> None:
+        wanted = schema.Schema(schema.documented())
+        report = (support.REPOSITORY / "examples/mate_in_one.report").read_bytes()
+        for change in (
+            {"number": 0}, {"number": True}, {"sound": False}, {"title": 1}, {"board": {}},
+            {"condition": "Circ"}, {"phases": []}, {"more": 1}, {"stipulation": "#1"},
+        ):  # fmt: skip
+            with self.subTest(change):
+                (one,) = objects(report)
+                self.assertEqual(wanted.faults(one), [])
+                self.assertNotEqual(wanted.faults({**one, **change}), [])
+        self.assertNotEqual(wanted.faults({"number": 1, "sound": False}), [])
 
 
 class Command(unittest.TestCase):

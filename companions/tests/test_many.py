@@ -2,6 +2,7 @@
 
 import io
 import os
+import pty
 import random
 import signal
 import subprocess
@@ -298,6 +299,17 @@ class Command(unittest.TestCase):
             done.stderr,
             b"pops-many: --sshlogin needs GNU parallel: install Debian's package parallel\n",
         )
+
+    def test_a_terminal_shows_the_progress(self) -> None:
+        terminal, other_side = pty.openpty()
+        words = [sys.executable, str(support.COMPANIONS / "pops-many"), "--pops", support.pops()]
+        done = subprocess.run(words, input=SIX, stdout=subprocess.PIPE, stderr=other_side)
+        os.close(other_side)
+        said = os.read(terminal, 10000).decode()
+        os.close(terminal)
+        self.assertEqual(done.returncode, 0)
+        self.assertRegex(said, r"\rpops-many: 1 of 6 problems, about 0:\d\d left")
+        self.assertRegex(said, r"\rpops-many: 6 of 6 problems *\r\n$")
 
     def test_progress(self) -> None:
         progress = Progress("pops-many")
