@@ -5,12 +5,24 @@
 #[cfg(test)]
 mod agreement;
 #[cfg(test)]
+mod compared;
+#[cfg(test)]
 mod count;
+#[cfg(test)]
+mod draw;
+#[cfg(test)]
+mod family;
+#[cfg(test)]
+mod motif;
 #[cfg(test)]
 mod plain;
 #[cfg(test)]
 mod probe;
 #[cfg(test)]
+mod scene;
+#[cfg(test)]
 mod setup;
+#[cfg(test)]
+mod survey;
 #[cfg(test)]
 mod tests;

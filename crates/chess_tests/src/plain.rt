@@ -1,5 +1,6 @@
 //! The rules written plainly, to be compared: a position is an array of squares that is copied for each
 //! move, and the moves are those of all triples that pass the tests.
+use arrayvec::ArrayVec;
 use chess_core::{Board, Colour, Kind, Man, Move, Square, Unmoved};
 
 // The rules that hold.
@@ -13,16 +14,33 @@ pub(crate) enum Rule {
 // A position, square by square.
 #[derive(Clone, Copy)]
 pub(crate) struct Plain {
-    men: [Option<Man>; 64],
-    turn: Colour,
-    unmoved: Unmoved,
-    crossed: Option<Square>,
+    pub(crate) men: [Option<Man>; 64],
+    pub(crate) turn: Colour,
+    pub(crate) unmoved: Unmoved,
+    pub(crate) crossed: Option<Square>,
     grasshopper: bool,
     nightrider: bool,
 }
 
+// More moves than a position of the tests has.
+pub(crate) const MOVES: usize = 1024;
+
+// Moves in their order.
+pub(crate) type Moves = ArrayVec<Move, MOVES>;
+
+// What a pawn may become, none first.
+const PROMOTIONS: [Option<Kind>; 7] = [
+    None,
+    Some(Kind::Queen),
+    Some(Kind::Rook),
+    Some(Kind::Bishop),
+    Some(Kind::Knight),
+    Some(Kind::Grasshopper),
+    Some(Kind::Nightrider),
+];
+
 // Files to the right and ranks up, modulo 256: 255 goes one back.
-const LINES: [(u8, u8); 8] = [
+pub(crate) const LINES: [(u8, u8); 8] = [
     (1, 0),
     (255, 0),
     (0, 1),
@@ -33,7 +51,7 @@ const LINES: [(u8, u8); 8] = [
     (255, 255),
 ];
 
-const LEAPS: [(u8, u8); 8] = [
+pub(crate) const LEAPS: [(u8, u8); 8] = [
     (1, 2),
     (1, 254),
     (255, 2),
@@ -45,7 +63,7 @@ const LEAPS: [(u8, u8); 8] = [
 ];
 
 // The next square in a direction.
-fn next(square: Square, way: (u8, u8)) -> Option<Square> {
+pub(crate) fn next(square: Square, way: (u8, u8)) -> Option<Square> {
     Square::new(
         square.file().wrapping_add(way.0),
         square.rank().wrapping_add(way.1),
@@ -53,7 +71,7 @@ fn next(square: Square, way: (u8, u8)) -> Option<Square> {
 }
 
 // How a man's number of ranks goes: up for White, down for Black.
-fn up(colour: Colour) -> u8 {
+pub(crate) fn up(colour: Colour) -> u8 {
     match colour {
         Colour::White => 1,
         Colour::Black => 255,
@@ -77,11 +95,11 @@ impl Plain {
         }
     }
 
-    fn man(&self, square: Square) -> Option<Man> {
+    pub(crate) fn man(&self, square: Square) -> Option<Man> {
         self.men[square.index() as usize]
     }
 
-    fn has(&self, square: Square, colour: Colour, kind: Kind) -> bool {
+    pub(crate) fn has(&self, square: Square, colour: Colour, kind: Kind) -> bool {
         self.man(square) == Some(Man { colour, kind })
     }
 
@@ -126,7 +144,7 @@ impl Plain {
     }
 
     // Whether the man on `from` could capture on `to`.
-    fn reaches(&self, from: Square, to: Square) -> bool {
+    pub(crate) fn reaches(&self, from: Square, to: Square) -> bool {
         let Some(man) = self.man(from) else {
             return false;
         };
@@ -145,7 +163,7 @@ impl Plain {
         }
     }
 
-    fn is_paralysed(&self, rule: Rule, square: Square) -> bool {
+    pub(crate) fn is_paralysed(&self, rule: Rule, square: Square) -> bool {
         let Some(man) = self.man(square) else {
             return false;
         };
@@ -161,7 +179,7 @@ impl Plain {
         false
     }
 
-    fn is_in_check(&self, rule: Rule, colour: Colour) -> bool {
+    pub(crate) fn is_in_check(&self, rule: Rule, colour: Colour) -> bool {
         for number in 0..64u8 {
             let king = Square::numbered(number);
             if self.has(king, colour, Kind::King) && self.is_attacked(rule, king, colour.other()) {
@@ -171,7 +189,7 @@ impl Plain {
         false
     }
 
-    fn is_attacked(&self, rule: Rule, square: Square, colour: Colour) -> bool {
+    pub(crate) fn is_attacked(&self, rule: Rule, square: Square, colour: Colour) -> bool {
         for number in 0..64u8 {
             let from = Square::numbered(number);
             if let Some(man) = self.man(from) {
@@ -186,7 +204,7 @@ impl Plain {
         false
     }
 
-    fn is_empty(&self, square: Square) -> bool {
+    pub(crate) fn is_empty(&self, square: Square) -> bool {
         self.man(square).is_none()
     }
 
@@ -211,35 +229,53 @@ impl Plain {
                 && self.is_empty(m.to))
     }
 
-    // Whether a king may castle so.
-    fn castles(&self, rule: Rule, king: Man, m: &Move) -> bool {
+    // The rook's square and the crossed one, where the king goes two squares to an unmoved rook over
+    // empty squares.
+    pub(crate) fn castling(&self, king: Man, m: &Move) -> Option<(Square, Square)> {
         let home = match king.colour {
             Colour::White => 0u8,
             Colour::Black => 56,
         };
         if m.from.index() != home + 4 || !self.unmoved.has(m.from) {
-            return false;
+            return None;
         }
         let (corner, crossed, low, high) = if m.to.index() == home + 6 {
             (home + 7, home + 5, home + 5, home + 7)
         } else if m.to.index() == home + 2 {
             (home, home + 3, home + 1, home + 4)
         } else {
-            return false;
+            return None;
         };
-        let rook = Square::numbered(corner);
         for number in low..high {
             if !self.is_empty(Square::numbered(number)) {
-                return false;
+                return None;
             }
         }
-        let mut passing = *self;
-        passing.men[m.from.index() as usize] = None;
-        passing.men[crossed as usize] = Some(king);
-        self.unmoved.has(rook)
-            && !self.is_paralysed(rule, rook)
+        let rook = Square::numbered(corner);
+        if !self.unmoved.has(rook) {
+            return None;
+        }
+        Some((rook, Square::numbered(crossed)))
+    }
+
+    // Whether a king may castle so.
+    fn castles(&self, rule: Rule, king: Man, m: &Move) -> bool {
+        let Some((rook, crossed)) = self.castling(king, m) else {
+            return false;
+        };
+        !self.is_paralysed(rule, rook)
             && !self.is_in_check(rule, king.colour)
-            && !passing.is_in_check(rule, king.colour)
+            && !self
+                .with_king_on(king, m.from, crossed)
+                .is_in_check(rule, king.colour)
+    }
+
+    // The men with the king alone moved.
+    pub(crate) fn with_king_on(&self, king: Man, from: Square, to: Square) -> Plain {
+        let mut plain = *self;
+        plain.men[from.index() as usize] = None;
+        plain.men[to.index() as usize] = Some(king);
+        plain
     }
 
     // Whether the promotion is right for the man.
@@ -251,16 +287,11 @@ impl Plain {
         if man.kind != Kind::Pawn || m.to.rank() != last {
             return m.promo.is_none();
         }
-        match m.promo {
-            Some(Kind::Grasshopper) => self.grasshopper,
-            Some(Kind::Nightrider) => self.nightrider,
-            Some(Kind::Queen | Kind::Rook | Kind::Bishop | Kind::Knight) => true,
-            _ => false,
-        }
+        m.promo.is_some_and(|kind| self.may_promote(kind))
     }
 
     // Whether the move may be made, check to the mover apart.
-    fn may_go(&self, rule: Rule, man: Man, m: &Move) -> bool {
+    pub(crate) fn may_go(&self, rule: Rule, man: Man, m: &Move) -> bool {
         let free = match self.man(m.to) {
             Some(other) => other.colour != man.colour && other.kind != Kind::King,
             None => true,
@@ -281,48 +312,140 @@ impl Plain {
         let Some(man) = self.man(m.from) else {
             return false;
         };
-        self.may_go(rule, man, m) && !self.after(rule, man, m).is_in_check(rule, man.colour)
+        self.may_go(rule, man, m) && !self.after(rule, m).is_in_check(rule, man.colour)
     }
 
-    // The men and the unmoved squares after the man's move; the rest isn't asked for.
-    fn after(&self, rule: Rule, man: Man, m: &Move) -> Plain {
-        let mut plain = *self;
-        let mut captured = m.to;
-        if man.kind == Kind::Pawn && m.from.file() != m.to.file() && self.is_empty(m.to) {
-            captured = Square::new(m.to.file(), m.from.rank()).unwrap_or_default();
+    // The moves that may be made, check to the mover apart.
+    pub(crate) fn moves_but_for_check(&self, rule: Rule) -> Moves {
+        let mut moves = ArrayVec::new();
+        for number in 0..64u8 {
+            self.add_moves_from(rule, Square::numbered(number), &mut moves);
         }
+        moves
+    }
+
+    // Adds those of the man on the square, if it is one of the side to move.
+    fn add_moves_from(&self, rule: Rule, from: Square, moves: &mut Moves) {
+        let Some(man) = self.man(from) else {
+            return;
+        };
+        if man.colour != self.turn {
+            return;
+        }
+        for to in 0..64u8 {
+            for promo in &PROMOTIONS {
+                let m = Move {
+                    from,
+                    to: Square::numbered(to),
+                    promo: *promo,
+                };
+                if self.may_go(rule, man, &m) {
+                    let _fits = moves.try_push(m);
+                }
+            }
+        }
+    }
+
+    // Whether the side to move is in check without a legal move.
+    pub(crate) fn is_mate(&self, rule: Rule) -> bool {
+        self.is_in_check(rule, self.turn) && !self.has_legal_move(rule)
+    }
+
+    // Whether the side to move has a legal move.
+    pub(crate) fn has_legal_move(&self, rule: Rule) -> bool {
+        for number in 0..64u8 {
+            let mut moves = ArrayVec::new();
+            self.add_moves_from(rule, Square::numbered(number), &mut moves);
+            if moves.iter().any(|m| self.is_legal(rule, m)) {
+                return true;
+            }
+        }
+        false
+    }
+
+    // The square on which the man that goes so captures: its arrival, or that of the pawn that has just
+    // passed.
+    pub(crate) fn capture_square(&self, man: Man, m: &Move) -> Square {
+        if man.kind == Kind::Pawn && m.from.file() != m.to.file() && self.is_empty(m.to) {
+            return Square::new(m.to.file(), m.from.rank()).unwrap_or_default();
+        }
+        m.to
+    }
+
+    // The position after a move that may be made.
+    pub(crate) fn after(&self, rule: Rule, m: &Move) -> Plain {
+        let Some(man) = self.man(m.from) else {
+            return *self;
+        };
+        let captured = self.capture_square(man, m);
         let victim = self.man(captured);
+        let mut plain = *self;
+        plain.turn = self.turn.other();
+        plain.unmoved = self.unmoved.without(m.from).without(m.to).without(captured);
+        plain.crossed = passed(man, m);
         plain.men[captured.index() as usize] = None;
         plain.men[m.from.index() as usize] = None;
         plain.men[m.to.index() as usize] = Some(Man {
             colour: man.colour,
             kind: m.promo.unwrap_or(man.kind),
         });
-        if man.kind == Kind::King && m.from.file() == 5 {
-            let rank = m.from.rank();
-            if m.to.file() == 7 {
-                plain.shift(Square::new(8, rank), Square::new(6, rank));
-            } else if m.to.file() == 3 {
-                plain.shift(Square::new(1, rank), Square::new(4, rank));
-            }
-        }
-        if let Some(victim) = victim {
-            if rule == Rule::Circe {
-                let home = home(victim, captured);
-                if plain.is_empty(home) {
-                    plain.men[home.index() as usize] = Some(victim);
-                }
-            }
+        plain.move_rook(man, m);
+        if let (Rule::Circe, Some(victim)) = (rule, victim) {
+            plain.bear_again(victim, captured);
         }
         plain
     }
 
-    // Moves a man.
+    // Castles the rook where the king goes two squares.
+    fn move_rook(&mut self, man: Man, m: &Move) {
+        if man.kind != Kind::King || m.from.file() != 5 {
+            return;
+        }
+        let rank = m.from.rank();
+        if m.to.file() == 7 {
+            self.shift(Square::new(8, rank), Square::new(6, rank));
+        } else if m.to.file() == 3 {
+            self.shift(Square::new(1, rank), Square::new(4, rank));
+        }
+    }
+
+    // Moves a rook.
     fn shift(&mut self, from: Option<Square>, to: Option<Square>) {
         if let (Some(from), Some(to)) = (from, to) {
             self.men[to.index() as usize] = self.man(from);
             self.men[from.index() as usize] = None;
+            self.unmoved = self.unmoved.without(from);
         }
+    }
+
+    // Puts a captured man on its home square, if this is empty: a rook is unmoved there.
+    fn bear_again(&mut self, victim: Man, captured: Square) {
+        let home = home(victim, captured);
+        if self.is_empty(home) {
+            self.men[home.index() as usize] = Some(victim);
+            if victim.kind == Kind::Rook {
+                self.unmoved = self.unmoved.with(home);
+            }
+        }
+    }
+
+    // Whether a pawn may become such a man.
+    pub(crate) fn may_promote(&self, kind: Kind) -> bool {
+        match kind {
+            Kind::Grasshopper => self.grasshopper,
+            Kind::Nightrider => self.nightrider,
+            Kind::Queen | Kind::Rook | Kind::Bishop | Kind::Knight => true,
+            Kind::King | Kind::Pawn => false,
+        }
+    }
+}
+
+// The square that a pawn passes by this move.
+fn passed(man: Man, m: &Move) -> Option<Square> {
+    if man.kind == Kind::Pawn && m.from.rank().abs_diff(m.to.rank()) == 2 {
+        next(m.from, (0, up(man.colour)))
+    } else {
+        None
     }
 }
 

@@ -1,4 +1,6 @@
 //! Diagrams written row by row.
+use crate::plain::Moves;
+use arrayvec::ArrayVec;
 use chess_core::{Colour, Diagram, Kind, Man, Move, Square, Unmoved};
 
 // The man of a letter, small for Black: S is the knight, G the grasshopper, N the nightrider.
@@ -73,4 +75,23 @@ pub(crate) fn go(from: &str, to: &str) -> Move {
         to: square(to),
         promo: None,
     }
+}
+
+// The moves of these words, parted by blanks: origin, arrival and the letter of what a pawn becomes.
+pub(crate) fn moves(words: &str) -> Moves {
+    let mut moves = ArrayVec::new();
+    for word in words.split(' ') {
+        let (from, to, promo) = match word.as_bytes() {
+            [a, b, c, d] => (at(*a, *b), at(*c, *d), None),
+            [a, b, c, d, kind] => (at(*a, *b), at(*c, *d), man_of(*kind).map(|man| man.kind)),
+            _ => continue,
+        };
+        let _fits = moves.try_push(Move { from, to, promo });
+    }
+    moves
+}
+
+// The square of these letters.
+fn at(file: u8, rank: u8) -> Square {
+    Square::new(file.wrapping_sub(b'a' - 1), rank.wrapping_sub(b'0')).unwrap_or_default()
 }

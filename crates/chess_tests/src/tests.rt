@@ -1,4 +1,6 @@
 //! What is known from outside.
 mod agreements;
+mod by_hand;
 mod counts;
 mod positions;
+mod surveys;

@@ -1,0 +1,9 @@
+use Rattle.std.proofs.Common.{◌≡◌, length}
+use Rattle.chess_rules.specs.Places.{moves_behind}
+use Rattle.chess_tests.proofs.compared.unlike_of_play.Given as goal
+
+abbrev pub invariant-loop-m : goal.invariant-loop-m
+invariant-loop-m g l = l.board ≡ l.fn.board
+
+abbrev pub decreases-loop-m : goal.decreases-loop-m
+decreases-loop-m g l = length (moves_behind g.R.Rules.rule l.fn.board l.place)

@@ -1,0 +1,239 @@
+//! Whether all that is told of a position is as the plain rules have it.
+ghost use Rattle.std.specs.Prelude.{◌≡◌};
+ghost use Rattle.chess_core.specs.WellFormed.{IsWellFormed};
+
+use crate::plain::{MOVES, Plain, Rule};
+use crate::probe::{is_same, shows};
+use arrayvec::ArrayVec;
+use chess_core::{Board, Colour, Move, Square};
+use chess_rules::{LegalMoves, MatingMoves, Moves, Rules, has_legal_move, in_check, is_mate};
+
+// What is asked of a position.
+#[derive(Clone, Copy, PartialEq, Eq, Debug)]
+pub(crate) enum Question {
+    Moves,
+    LegalMoves,
+    MovesUntil,
+    NextMate,
+    MatingMoves,
+    Attack,
+    Paralysis,
+    Check,
+    Mate,
+    Play,
+    TakeBack,
+}
+
+// A legal move by the plain rules, and whether it mates.
+#[derive(Clone, Copy, PartialEq, Eq, Default)]
+struct Choice {
+    by: Move,
+    mates: bool,
+}
+
+// The legal moves in order.
+type Choices = ArrayVec<Choice, MOVES>;
+
+fn choices(plain: &Plain, rule: Rule) -> Choices {
+    let mut choices = ArrayVec::new();
+    for m in &plain.moves_but_for_check(rule) {
+        if plain.is_legal(rule, m) {
+            let mates = plain.after(rule, m).is_mate(rule);
+            let _fits = choices.try_push(Choice { by: *m, mates });
+        }
+    }
+    choices
+}
+
+// The first question that is answered otherwise than by the plain rules.
+pub(crate) fn first_unlike<R: Rules>(board: &mut Board, rule: Rule) -> Option<Question>
+    requires { IsWellFormed board.old }
+    ensures { board.new ≡ board.old }
+{
+    let plain = Plain::of(board);
+    let choices = choices(&plain, rule);
+    if let Some(question) = unlike_of_men::<R>(board, &plain, rule) {
+        return Some(question);
+    }
+    if let Some(question) = unlike_of_moves::<R>(board, &choices) {
+        return Some(question);
+    }
+    if is_mate::<R>(board) != plain.is_mate(rule)
+        || has_legal_move::<R>(board) == choices.is_empty()
+    {
+        return Some(Question::Mate);
+    }
+    unlike_of_play::<R>(board, &plain, rule)
+}
+
+// Of attack, paralysis and check.
+fn unlike_of_men<R: Rules>(board: &Board, plain: &Plain, rule: Rule) -> Option<Question> {
+    for number in 0..64u8 {
+        let square = Square::numbered(number);
+        if R::paralysed(board, square) != plain.is_paralysed(rule, square) {
+            return Some(Question::Paralysis);
+        }
+        for colour in [Colour::White, Colour::Black] {
+            if R::attacked(board, square, colour) != plain.is_attacked(rule, square, colour) {
+                return Some(Question::Attack);
+            }
+        }
+    }
+    for colour in [Colour::White, Colour::Black] {
+        if in_check::<R>(board, colour) != plain.is_in_check(rule, colour) {
+            return Some(Question::Check);
+        }
+    }
+    None
+}
+
+// Of the ways to the moves.
+fn unlike_of_moves<R: Rules>(board: &mut Board, choices: &Choices) -> Option<Question>
+    requires { IsWellFormed board.old }
+    ensures { board.new ≡ board.old }
+{
+    if !gives_moves::<R>(board, choices) {
+        return Some(Question::Moves);
+    }
+    if !gives_legal_moves::<R>(board, choices) {
+        return Some(Question::LegalMoves);
+    }
+    if !gives_mating_moves::<R>(board, choices) {
+        return Some(Question::MatingMoves);
+    }
+    let third = choices.len() / 3;
+    for (passed, last) in [
+        (0, third),
+        (third, choices.len() - third),
+        (choices.len() - third, choices.len() + 1),
+    ] {
+        if !gives_until::<R>(board, choices, passed, last) {
+            return Some(Question::MovesUntil);
+        }
+        if !gives_mates::<R>(board, choices, passed) {
+            return Some(Question::NextMate);
+        }
+    }
+    None
+}
+
+fn gives_moves<R: Rules>(board: &mut Board, choices: &Choices) -> bool
+    requires { IsWellFormed board.old }
+    ensures { board.new ≡ board.old }
+{
+    let mut place = Moves::<R>::start();
+    for choice in choices {
+        if place.next(board) != Some(choice.by) {
+            return false;
+        }
+    }
+    place.next(board).is_none() && place.next(board).is_none()
+}
+
+fn gives_legal_moves<R: Rules>(board: &mut Board, choices: &Choices) -> bool
+    requires { IsWellFormed board.old }
+    ensures { board.new ≡ board.old }
+{
+    let mut place = LegalMoves::<R>::of(board);
+    for choice in choices {
+        if place.next(board) != Some(choice.by) {
+            return false;
+        }
+    }
+    place.next(board).is_none() && place.next(board).is_none()
+}
+
+fn gives_mating_moves<R: Rules>(board: &mut Board, choices: &Choices) -> bool
+    requires { IsWellFormed board.old }
+    ensures { board.new ≡ board.old }
+{
+    let mut place = MatingMoves::<R>::of(board);
+    for choice in choices {
+        if choice.mates && place.next(board) != Some(choice.by) {
+            return false;
+        }
+    }
+    place.next(board).is_none() && place.next(board).is_none()
+}
+
+// The place behind so many legal moves.
+fn place_behind<R: Rules>(board: &mut Board, count: usize) -> Moves<R>
+    requires { IsWellFormed board.old }
+    ensures { board.new ≡ board.old }
+{
+    let mut place = Moves::<R>::start();
+    for _move in 0..count {
+        let _passed = place.next(board);
+    }
+    place
+}
+
+// Whether the moves behind the first `passed` legal ones up to the one numbered `last` are given.
+fn gives_until<R: Rules>(board: &mut Board, choices: &Choices, passed: usize, last: usize) -> bool
+    requires { IsWellFormed board.old }
+    ensures { board.new ≡ board.old }
+{
+    let mut place = place_behind::<R>(board, passed);
+    let end = place_behind::<R>(board, last);
+    for (number, choice) in choices.iter().enumerate() {
+        if number >= passed && number < last && place.next_until(end, board) != Some(choice.by) {
+            return false;
+        }
+    }
+    place.next_until(end, board).is_none()
+}
+
+// Whether the mates behind the first `passed` legal moves are given.
+fn gives_mates<R: Rules>(board: &mut Board, choices: &Choices, passed: usize) -> bool
+    requires { IsWellFormed board.old }
+    ensures { board.new ≡ board.old }
+{
+    let mut place = place_behind::<R>(board, passed);
+    for (number, choice) in choices.iter().enumerate() {
+        if number >= passed && choice.mates && place.next_mate(board) != Some(choice.by) {
+            return false;
+        }
+    }
+    place.next_mate(board).is_none()
+}
+
+// Of the positions one move on, and of the one that is there again when the move is taken back.
+#[tactic(auto, using(chess_rules::proofs::Calls::playing))]
+fn unlike_of_play<R: Rules>(board: &mut Board, plain: &Plain, rule: Rule) -> Option<Question>
+    requires { IsWellFormed board.old }
+    ensures { board.new ≡ board.old }
+{
+    let before = *board;
+    let mut place = Moves::<R>::start();
+    while let Some(m) = place.next(board) {
+        let undo = R::play(board, m);
+        let question = unlike_after::<R>(board, &plain.after(rule, &m), rule);
+        R::unplay(board, m, undo);
+        if question.is_some() {
+            return question;
+        }
+        if !is_same(board, &before) {
+            return Some(Question::TakeBack);
+        }
+    }
+    None
+}
+
+// Of a position that was played to.
+fn unlike_after<R: Rules>(board: &mut Board, plain: &Plain, rule: Rule) -> Option<Question>
+    requires { IsWellFormed board.old }
+    ensures { board.new ≡ board.old }
+{
+    if !shows(board, plain) {
+        return Some(Question::Play);
+    }
+    for colour in [Colour::White, Colour::Black] {
+        if in_check::<R>(board, colour) != plain.is_in_check(rule, colour) {
+            return Some(Question::Check);
+        }
+    }
+    if is_mate::<R>(board) != plain.is_mate(rule) {
+        return Some(Question::Mate);
+    }
+    None
+}

@@ -1,0 +1,126 @@
+//! Numbers that look drawn, the same on each run.
+ghost use Rattle.std.specs.Prelude.{◌<◌};
+
+use crate::plain::{LEAPS, LINES};
+use chess_core::{Colour, Kind, Man, Square};
+
+// A xorshift* generator (Vigna, An experimental exploration of Marsaglia's xorshift generators, 2016).
+#[derive(Clone, Copy)]
+pub(crate) struct Draw {
+    state: u64,
+}
+
+const ORTHODOX_KINDS: [Kind; 8] = [
+    Kind::Queen,
+    Kind::Rook,
+    Kind::Bishop,
+    Kind::Knight,
+    Kind::Pawn,
+    Kind::Pawn,
+    Kind::Rook,
+    Kind::Bishop,
+];
+
+const ALL_KINDS: [Kind; 8] = [
+    Kind::Queen,
+    Kind::Rook,
+    Kind::Bishop,
+    Kind::Knight,
+    Kind::Pawn,
+    Kind::Grasshopper,
+    Kind::Nightrider,
+    Kind::Grasshopper,
+];
+
+// Which kinds of men a position may hold besides kings.
+#[derive(Clone, Copy, PartialEq, Eq)]
+pub(crate) enum Kinds {
+    // Those of the FIDE Laws.
+    Orthodox,
+    // Grasshoppers and nightriders too.
+    All,
+}
+
+impl Draw {
+    // The numbers of the position with this number.
+    pub(crate) fn of(number: u64) -> Draw {
+        let mut draw = Draw {
+            state: number
+                .wrapping_mul(0x9e37_79b9_7f4a_7c15)
+                .wrapping_add(0x2545_f491_4f6c_dd1d),
+        };
+        for _passed in 0..4u8 {
+            let _early = draw.number();
+        }
+        draw
+    }
+
+    fn number(&mut self) -> u64 {
+        self.state ^= self.state >> 12;
+        self.state ^= self.state << 25;
+        self.state ^= self.state >> 27;
+        self.state.wrapping_mul(0x2545_f491_4f6c_dd1d)
+    }
+
+    // A number below this one.
+    pub(crate) fn below(&mut self, count: u8) -> u8
+        requires { 0 < count }
+        ensures { result < count }
+    {
+        ((self.number() >> 32) % (count as u64)) as u8
+    }
+
+    // True once in so many draws.
+    pub(crate) fn once_in(&mut self, count: u8) -> bool
+        requires { 0 < count }
+    {
+        self.below(count) == 0
+    }
+
+    pub(crate) fn square(&mut self) -> Square {
+        Square::numbered(self.below(64))
+    }
+
+    pub(crate) fn colour(&mut self) -> Colour {
+        if self.once_in(2) {
+            Colour::White
+        } else {
+            Colour::Black
+        }
+    }
+
+    pub(crate) fn kinds(&mut self) -> Kinds {
+        if self.once_in(2) {
+            Kinds::Orthodox
+        } else {
+            Kinds::All
+        }
+    }
+
+    // A kind, no king.
+    pub(crate) fn kind(&mut self, kinds: Kinds) -> Kind {
+        let at = self.below(8) as usize;
+        match kinds {
+            Kinds::Orthodox => ORTHODOX_KINDS[at],
+            Kinds::All => ALL_KINDS[at],
+        }
+    }
+
+    // A man of either colour, no king.
+    pub(crate) fn man(&mut self, kinds: Kinds) -> Man {
+        Man {
+            colour: self.colour(),
+            kind: self.kind(kinds),
+        }
+    }
+
+    // A direction of a queen.
+    pub(crate) fn line(&mut self) -> (u8, u8) {
+        LINES[self.below(8) as usize]
+    }
+
+    // A direction of a nightrider.
+    pub(crate) fn leap(&mut self) -> (u8, u8) {
+        LEAPS[self.below(8) as usize]
+    }
+}

@@ -1,0 +1,45 @@
+//! Castling into lines, out of them and through them.
+use crate::draw::Draw;
+use crate::scene::{man, mark_homes, put, put_rider, scatter};
+use crate::setup::square;
+use chess_core::{Colour, Diagram, Kind, Square};
+
+// King and rooks at home, attackers of the squares between them, and the other king on their files.
+pub(crate) fn castling(draw: &mut Draw) -> Diagram {
+    let mut diagram = Diagram::new();
+    diagram.turn = draw.colour();
+    let mover = diagram.turn;
+    let kinds = draw.kinds();
+    let (corners, home, up) = match mover {
+        Colour::White => (["a1", "h1"], "e1", (0u8, 1u8)),
+        Colour::Black => (["a8", "h8"], "e8", (0u8, 255u8)),
+    };
+    let _king = put(&mut diagram, Some(square(home)), man(mover, Kind::King));
+    for corner in corners {
+        let _rook = put(&mut diagram, Some(square(corner)), man(mover, Kind::Rook));
+    }
+    let rank = square(home).rank();
+    for _attacker in 0..draw.below(3) {
+        let aim = Square::new(2 + draw.below(6), rank).unwrap_or_default();
+        let slant = [0u8, 1, 255][draw.below(3) as usize];
+        let _rider = put_rider(&mut diagram, draw, aim, (slant, up.1), mover.other());
+    }
+    let file = 3 + draw.below(4);
+    let other_rank = 9u8.wrapping_sub(rank).wrapping_sub(draw.below(2));
+    let other = Square::new(file, other_rank);
+    let other = if draw.once_in(3) {
+        Some(draw.square())
+    } else {
+        other
+    };
+    let _other = put(&mut diagram, other, man(mover.other(), Kind::King));
+    if draw.once_in(4) {
+        let like = draw.below(8);
+        let at = Square::new(1 + like, 4);
+        let _rook = put(&mut diagram, at, man(mover.other(), Kind::Rook));
+    }
+    let count = draw.below(6);
+    scatter(&mut diagram, draw, kinds, count);
+    mark_homes(&mut diagram, draw);
+    diagram
+}

@@ -1,0 +1,90 @@
+//! Kings that flee, that have nowhere to go, or that are missing.
+use crate::draw::{Draw, Kinds};
+use crate::plain::{LINES, next};
+use crate::scene::{man, mark_homes, put, put_battery, put_king, put_rider, scatter, steps};
+use chess_core::{Diagram, Kind, Square};
+
+// A king in check along a line that goes on behind him.
+pub(crate) fn king_steps(draw: &mut Draw) -> Diagram {
+    let mut diagram = Diagram::new();
+    diagram.turn = draw.colour();
+    let mover = diagram.turn;
+    let kinds = draw.kinds();
+    let at = Square::new(2 + draw.below(6), 2 + draw.below(6)).unwrap_or_default();
+    let _king = put(&mut diagram, Some(at), man(mover, Kind::King));
+    let leaps = kinds == Kinds::All && draw.once_in(4);
+    let way = if leaps { draw.leap() } else { draw.line() };
+    let _checker = put_rider(&mut diagram, draw, at, way, mover.other());
+    if kinds == Kinds::All && draw.once_in(2) {
+        let line = draw.line();
+        let far = 2 + draw.below(3);
+        let _hopper = put(
+            &mut diagram,
+            steps(at, line, far),
+            man(mover.other(), Kind::Grasshopper),
+        );
+        let _hurdle = put(&mut diagram, next(at, line), draw.man(kinds));
+    }
+    let _other = put_king(&mut diagram, draw, mover.other());
+    let count = draw.below(6);
+    scatter(&mut diagram, draw, kinds, count);
+    diagram
+}
+
+// The other side's king at the edge, some of his squares taken by his men or seen by the mover's.
+pub(crate) fn flights(draw: &mut Draw) -> Diagram {
+    let mut diagram = Diagram::new();
+    diagram.turn = draw.colour();
+    let mover = diagram.turn;
+    let kinds = draw.kinds();
+    let edge = [1u8, 8][draw.below(2) as usize];
+    let other = 1 + draw.below(8);
+    let at = if draw.once_in(2) {
+        Square::new(edge, other)
+    } else {
+        Square::new(other, edge)
+    };
+    let at = at.unwrap_or_default();
+    let _king = put(&mut diagram, Some(at), man(mover.other(), Kind::King));
+    for way in &LINES {
+        if draw.once_in(3) {
+            let blocker = man(mover.other(), draw.kind(kinds));
+            let _blocker = put(&mut diagram, next(at, *way), blocker);
+        }
+    }
+    let near = steps(at, draw.line(), 2).unwrap_or(draw.square());
+    let _own = put(&mut diagram, Some(near), man(mover, Kind::King));
+    for _man in 0..3 + draw.below(3) {
+        let kind = draw.kind(kinds);
+        let square = draw.square();
+        let _man = put(&mut diagram, Some(square), man(mover, kind));
+    }
+    let _queen = put(&mut diagram, Some(draw.square()), man(mover, Kind::Queen));
+    diagram
+}
+
+// Lines to kings that stand there and to squares where none does.
+pub(crate) fn missing_kings(draw: &mut Draw) -> Diagram {
+    let mut diagram = Diagram::new();
+    diagram.turn = draw.colour();
+    let mover = diagram.turn;
+    let kinds = draw.kinds();
+    let present = draw.below(3);
+    let at = draw.square();
+    if present == 1 {
+        let _own = put(&mut diagram, Some(at), man(mover, Kind::King));
+    }
+    if present == 2 {
+        let _other = put(&mut diagram, Some(at), man(mover.other(), Kind::King));
+    }
+    for _battery in 0..3u8 {
+        let line = draw.line();
+        let front = draw.man(kinds);
+        let rear = draw.colour();
+        let _put = put_battery(&mut diagram, draw, at, line, front, rear);
+    }
+    let count = 2 + draw.below(8);
+    scatter(&mut diagram, draw, kinds, count);
+    mark_homes(&mut diagram, draw);
+    diagram
+}

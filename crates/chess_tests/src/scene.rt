@@ -1,0 +1,119 @@
+//! Diagrams put together man by man, so that they stay well formed.
+use crate::draw::{Draw, Kinds};
+use crate::plain::next;
+use crate::setup::square;
+use chess_core::{Colour, Diagram, Kind, Man, Square};
+
+// A man of this colour and kind.
+pub(crate) fn man(colour: Colour, kind: Kind) -> Man {
+    Man { colour, kind }
+}
+
+// The square so many steps away.
+pub(crate) fn steps(from: Square, way: (u8, u8), count: u8) -> Option<Square> {
+    let mut at = from;
+    for _step in 0..count {
+        at = next(at, way)?;
+    }
+    Some(at)
+}
+
+// Puts the man there if the square is on the board and empty, and the man may stand there: no pawn on the
+// first rank or the last, no second king.
+pub(crate) fn put(diagram: &mut Diagram, square: Option<Square>, man: Man) -> bool {
+    let Some(square) = square else {
+        return false;
+    };
+    if man.kind == Kind::Pawn && (square.rank() == 1 || square.rank() == 8) {
+        return false;
+    }
+    if man.kind == Kind::King && has_king(diagram, man.colour) {
+        return false;
+    }
+    diagram.put(square, man).is_ok()
+}
+
+fn has_king(diagram: &Diagram, colour: Colour) -> bool {
+    for number in 0..64u8 {
+        if diagram.man_at(Square::numbered(number)) == Some(man(colour, Kind::King)) {
+            return true;
+        }
+    }
+    false
+}
+
+// Puts a king on a drawn square, if it is empty, and answers the square.
+pub(crate) fn put_king(diagram: &mut Diagram, draw: &mut Draw, colour: Colour) -> Square {
+    let at = draw.square();
+    let _put = put(diagram, Some(at), man(colour, Kind::King));
+    at
+}
+
+// Puts drawn men on drawn squares, as many as find theirs empty.
+pub(crate) fn scatter(diagram: &mut Diagram, draw: &mut Draw, kinds: Kinds, count: u8) {
+    for _man in 0..count {
+        let at = draw.square();
+        let drawn = draw.man(kinds);
+        let _put = put(diagram, Some(at), drawn);
+    }
+}
+
+// A rider along this direction.
+pub(crate) fn rider(draw: &mut Draw, way: (u8, u8)) -> Kind {
+    if way.0 == 2 || way.0 == 254 || way.1 == 2 || way.1 == 254 {
+        Kind::Nightrider
+    } else if draw.once_in(2) {
+        Kind::Queen
+    } else if way.0 == 0 || way.1 == 0 {
+        Kind::Rook
+    } else {
+        Kind::Bishop
+    }
+}
+
+// A battery on a target: a man in front of a rider, with empty squares between them as drawn.
+pub(crate) fn put_battery(
+    diagram: &mut Diagram,
+    draw: &mut Draw,
+    target: Square,
+    way: (u8, u8),
+    front: Man,
+    rear: Colour,
+) -> bool {
+    let gap = 1 + draw.below(3);
+    let behind = 1 + draw.below(3);
+    let at = steps(target, way, gap);
+    let rear_at = steps(target, way, gap + behind);
+    let rider = rider(draw, way);
+    rear_at.is_some() && put(diagram, at, front) && put(diagram, rear_at, man(rear, rider))
+}
+
+// A rider that sees the target.
+pub(crate) fn put_rider(
+    diagram: &mut Diagram,
+    draw: &mut Draw,
+    target: Square,
+    way: (u8, u8),
+    colour: Colour,
+) -> bool {
+    let gap = 1 + draw.below(5);
+    let rider = rider(draw, way);
+    put(diagram, steps(target, way, gap), man(colour, rider))
+}
+
+// Marks castling squares as unmoved where the men stand at home, most times.
+pub(crate) fn mark_homes(diagram: &mut Diagram, draw: &mut Draw) {
+    for (name, colour, kind) in [
+        ("a1", Colour::White, Kind::Rook),
+        ("e1", Colour::White, Kind::King),
+        ("h1", Colour::White, Kind::Rook),
+        ("a8", Colour::Black, Kind::Rook),
+        ("e8", Colour::Black, Kind::King),
+        ("h8", Colour::Black, Kind::Rook),
+    ] {
+        let at = square(name);
+        if diagram.man_at(at) == Some(man(colour, kind)) && !draw.once_in(8) {
+            diagram.unmoved = diagram.unmoved.with(at);
+        }
+    }
+}

@@ -1,0 +1,162 @@
+//! Whole boards of positions of one family, compared and counted.
+ghost use Rattle.chess_core.specs.WellFormed.{IsWellFormed};
+
+use crate::compared::{Question, first_unlike};
+use crate::draw::Draw;
+use crate::family::Family;
+use crate::motif::{Case, Motif};
+use crate::plain::{Plain, Rule};
+use chess_core::{Board, Kind, Move, Square};
+use chess_rules::{Circe, Madrasi, Moves, Orthodox, Rules};
+
+// A position that is told otherwise than by the plain rules: its number in its family, the half-moves that
+// lead to it, and what is told otherwise.
+#[derive(Clone, Copy, PartialEq, Eq, Debug)]
+pub(crate) struct Unlike {
+    number: u64,
+    half_moves: u8,
+    question: Question,
+}
+
+// What a survey met.
+#[derive(Clone, Copy)]
+pub(crate) struct Survey {
+    // The first position that is told otherwise.
+    pub(crate) unlike: Option<Unlike>,
+    // How many moves show each motif asked for.
+    shown: [u32; 16],
+}
+
+impl Survey {
+    // The first motif that fewer moves than so many show, and how many.
+    pub(crate) fn rare(&self, motifs: &[Motif], least: u32) -> Option<(Motif, u32)> {
+        for (motif, shown) in motifs.iter().zip(self.shown.iter()) {
+            if *shown < least {
+                return Some((*motif, *shown));
+            }
+        }
+        None
+    }
+
+    // Counts the moves that show a motif.
+    fn count(&mut self, plain: &Plain, rule: Rule, motifs: &[Motif]) {
+        for m in &plain.moves_but_for_check(rule) {
+            self.count_move(plain, rule, m, motifs);
+        }
+        for m in &castlings() {
+            if let Some(king) = plain.man(m.from) {
+                let forbidden = king.kind == Kind::King
+                    && king.colour == plain.turn
+                    && plain.castling(king, m).is_some()
+                    && !plain.may_go(rule, king, m);
+                if forbidden {
+                    self.count_move(plain, rule, m, motifs);
+                }
+            }
+        }
+    }
+
+    fn count_move(&mut self, plain: &Plain, rule: Rule, m: &Move, motifs: &[Motif]) {
+        let Some(man) = plain.man(m.from) else {
+            return;
+        };
+        let case = Case::of(plain, rule, man, *m);
+        for (motif, shown) in motifs.iter().zip(self.shown.iter_mut()) {
+            if case.shows(*motif) {
+                *shown = shown.saturating_add(1);
+            }
+        }
+    }
+}
+
+// The moves of a king to the castling squares.
+fn castlings() -> [Move; 4] {
+    let to = |from: u8, to: u8| Move {
+        from: Square::numbered(from),
+        to: Square::numbered(to),
+        promo: None,
+    };
+    [to(4, 2), to(4, 6), to(60, 58), to(60, 62)]
+}
+
+// Compares so many positions of the family under each set of rules.
+pub(crate) fn under_all_rules(family: Family, count: u64, motifs: &[Motif]) -> [Survey; 3] {
+    [
+        surveyed::<Orthodox>(family, Rule::Orthodox, count, motifs),
+        surveyed::<Circe>(family, Rule::Circe, count, motifs),
+        surveyed::<Madrasi>(family, Rule::Madrasi, count, motifs),
+    ]
+}
+
+// Compares so many positions of the family, and one a half-move on from each.
+pub(crate) fn surveyed<R: Rules>(
+    family: Family,
+    rule: Rule,
+    count: u64,
+    motifs: &[Motif],
+) -> Survey {
+    let mut survey = Survey {
+        unlike: None,
+        shown: [0; 16],
+    };
+    for number in 0..count {
+        let mut draw = Draw::of(number);
+        let diagram = family.diagram(&mut draw);
+        if diagram.is_well_formed() {
+            let mut board = Board::of(&diagram);
+            survey.count(&Plain::of(&board), rule, motifs);
+            if let Some(unlike) = unlike_on_the_way::<R>(&mut board, rule, number, draw) {
+                survey.unlike = Some(unlike);
+                return survey;
+            }
+        }
+    }
+    survey
+}
+
+// The first position told otherwise, from the board's along a drawn line.
+fn unlike_on_the_way<R: Rules>(
+    board: &mut Board,
+    rule: Rule,
+    number: u64,
+    mut draw: Draw,
+) -> Option<Unlike>
+    requires { IsWellFormed board.old }
+{
+    for half_moves in 0..2u8 {
+        if let Some(question) = first_unlike::<R>(board, rule) {
+            return Some(Unlike {
+                number,
+                half_moves,
+                question,
+            });
+        }
+        if !play_drawn::<R>(board, &mut draw) {
+            return None;
+        }
+    }
+    None
+}
+
+// Plays a drawn legal move, if there is one.
+#[tactic(auto, using(chess_rules::proofs::Calls::playing))]
+fn play_drawn<R: Rules>(board: &mut Board, draw: &mut Draw) -> bool
+    requires { IsWellFormed board.old }
+    ensures { IsWellFormed board.new }
+{
+    let mut place = Moves::<R>::start();
+    for _passed in 0..draw.below(40) {
+        let _move = place.next(board);
+    }
+    let mut next = place.next(board);
+    if next.is_none() {
+        next = Moves::<R>::start().next(board);
+    }
+    match next {
+        Some(m) => {
+            let _undo = R::play(board, m);
+            true
+        }
+        None => false,
+    }
+}

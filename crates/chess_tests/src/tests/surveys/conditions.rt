@@ -1,0 +1,55 @@
+//! What Circe and Madrasi alone bring.
+use crate::family::Family;
+use crate::motif::Motif;
+use crate::plain::Rule;
+use crate::survey::surveyed;
+use chess_rules::{Circe, Madrasi};
+
+#[test]
+fn rebirths(rt: HostRuntime) {
+    let motifs = [
+        Motif::RebirthExposes,
+        Motif::RebirthSaves,
+        Motif::RebirthParries,
+    ];
+    let survey = surveyed::<Circe>(Family::Rebirths, Rule::Circe, 1000, &motifs);
+    assert_eq!(rt; survey.unlike, None);
+    assert_eq!(rt; survey.rare(&motifs, 5), None);
+}
+
+#[test]
+fn rebirths_before_mates(rt: HostRuntime) {
+    let motifs = [Motif::RebirthMates, Motif::RebirthAnswers];
+    let survey = surveyed::<Circe>(Family::Nets, Rule::Circe, 800, &motifs);
+    assert_eq!(rt; survey.unlike, None);
+    assert_eq!(rt; survey.rare(&motifs, 3), None);
+}
+
+#[test]
+fn paralysis(rt: HostRuntime) {
+    let motifs = [
+        Motif::FreesEnemy,
+        Motif::FreesChecker,
+        Motif::ParalysesChecker,
+        Motif::ParalysisSaves,
+    ];
+    let survey = surveyed::<Madrasi>(Family::Paralysis, Rule::Madrasi, 250, &motifs);
+    assert_eq!(rt; survey.unlike, None);
+    assert_eq!(rt; survey.rare(&motifs, 20), None);
+}
+
+#[test]
+fn paralysis_before_mates(rt: HostRuntime) {
+    let motifs = [Motif::ParalysisMates, Motif::ParalysisSaves];
+    let survey = surveyed::<Madrasi>(Family::Nets, Rule::Madrasi, 1500, &motifs);
+    assert_eq!(rt; survey.unlike, None);
+    assert_eq!(rt; survey.rare(&motifs, 3), None);
+}
+
+#[test]
+fn castling_with_a_paralysed_rook(rt: HostRuntime) {
+    let motifs = [Motif::Castles, Motif::CastlingParalysed];
+    let survey = surveyed::<Madrasi>(Family::Castling, Rule::Madrasi, 150, &motifs);
+    assert_eq!(rt; survey.unlike, None);
+    assert_eq!(rt; survey.rare(&motifs, 5), None);
+}

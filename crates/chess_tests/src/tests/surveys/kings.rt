@@ -1,0 +1,51 @@
+//! Kings that castle, flee, are mated or are missing.
+use crate::family::Family;
+use crate::motif::Motif;
+use crate::survey::under_all_rules;
+use chess_core::Kind;
+
+#[test]
+fn castling(rt: HostRuntime) {
+    let motifs = [
+        Motif::Castles,
+        Motif::CastlingChecks,
+        Motif::CastlingFromCheck,
+        Motif::CastlingAcross,
+        Motif::CastlingInto,
+    ];
+    for survey in under_all_rules(Family::Castling, 120, &motifs) {
+        assert_eq!(rt; survey.unlike, None);
+        assert_eq!(rt; survey.rare(&motifs, 10), None);
+    }
+}
+
+#[test]
+fn steps_along_a_line(rt: HostRuntime) {
+    let motifs = [
+        Motif::StepsAlong,
+        Motif::Parries(Kind::King),
+        Motif::Exposes(Kind::King),
+    ];
+    for survey in under_all_rules(Family::KingSteps, 150, &motifs) {
+        assert_eq!(rt; survey.unlike, None);
+        assert_eq!(rt; survey.rare(&motifs, 20), None);
+    }
+}
+
+#[test]
+fn flights(rt: HostRuntime) {
+    let motifs = [Motif::FlightOpened, Motif::FlightCovered, Motif::Mates];
+    for survey in under_all_rules(Family::Flights, 80, &motifs) {
+        assert_eq!(rt; survey.unlike, None);
+        assert_eq!(rt; survey.rare(&motifs, 20), None);
+    }
+}
+
+#[test]
+fn missing_kings(rt: HostRuntime) {
+    let motifs = [Motif::KinglessMover, Motif::KinglessEnemy];
+    for survey in under_all_rules(Family::MissingKings, 120, &motifs) {
+        assert_eq!(rt; survey.unlike, None);
+        assert_eq!(rt; survey.rare(&motifs, 500), None);
+    }
+}
