@@ -18,7 +18,7 @@ use Rattle.chess_core.proofs.Kept.{same_kind-is}
 use Rattle.chess_core.proofs.Men.{same_colour-true}
 use Rattle.chess_core.proofs.Ranges.{any_range_false, any_range_true, some_square_true, some_square_false}
 use Rattle.chess_core.proofs.Words.{squares_both, squares_either, squares_same}
-use Rattle.chess_rules.specs.Attacks.{attacked, faces, faces_its_like, paralysed, checks_from}
+use Rattle.chess_rules.specs.Attacks.{attacked, faces, faces_its_like, paralysed, strikes}
 use Rattle.chess_rules.specs.Lines.{is_ahead, is_on_some}
 use Rattle.chess_rules.specs.Outward.{hopped_from, is_met}
 use Rattle.chess_rules.specs.Reaches.{is_clear, leaps, reaches, reaches_as, reaches_of, rides}
@@ -238,7 +238,7 @@ last_two false b c = refl
 
 -- attack by the men that reach the square and aren't paralysed
 pub attacked_by : (rule : RuleSet) (men : List (Option Man)) (t w : ℕ) (c : Colour) → w ≡ word (λ s. is_side (man_on men s) c && reaches men s t) → some_square (λ s. bit_at w s == 1 && not (paralysed rule men s)) ≡ attacked rule men t c
-unfolding attacked checks_from
+unfolding attacked strikes
 attacked_by rule men t w c h =
     some_square_same _ _ (λ s b.
     ap (λ x. x && not (paralysed rule men s)) (word_has _ w s h b)

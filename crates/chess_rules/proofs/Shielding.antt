@@ -20,7 +20,7 @@ use Rattle.chess_core.specs.declared.step.Step.{Step}
 use Rattle.chess_core.proofs.Men.{man_on-with_other, man_on-without_same}
 use Rattle.chess_core.proofs.Ranges.{all_range_true, any_range_false, any_range_true, find_square_some, some_square_false, some_square_true}
 use Rattle.chess_core.proofs.Words.{squares_either, squares_not, squares_same}
-use Rattle.chess_rules.specs.Attacks.{attacked, check_of, in_check, paralysed, checks_from}
+use Rattle.chess_rules.specs.Attacks.{attacked, check_of, in_check, paralysed, strikes}
 use Rattle.chess_rules.specs.CheckSquares.{may_check_from, may_check_from_on}
 use Rattle.chess_rules.specs.Shields.{cannot_expose, has_fairy, is_unshielded, is_fairy, is_plain, may_expose, may_expose_on}
 use Rattle.chess_rules.specs.Legal.{is_promotion_right, pseudo}
@@ -145,8 +145,8 @@ covered_parts rule men c a k h =
     record { orthodox = h4.0; no_fairy = h4.1; safe = h3.1; apart = h2.1; unseen = h1.1 }
 
 -- a man that checks the king now and hasn't moved checked it before
-checks_before : (rule : RuleSet) (men after : List (Option Man)) (a b : ℕ) (z : Man) (c : Colour) (k s : ℕ) (o : Option Man) → man_on after s ≡ o → IsShift men after a b z → IsCovered rule men c a k → s < 64 → k < 64 → s ≢ b → is_side o (other c) ≡ true → reaches after s k ≡ true → checks_from rule men k (other c) s ≡ true
-unfolding checks_from paralysed reaches
+checks_before : (rule : RuleSet) (men after : List (Option Man)) (a b : ℕ) (z : Man) (c : Colour) (k s : ℕ) (o : Option Man) → man_on after s ≡ o → IsShift men after a b z → IsCovered rule men c a k → s < 64 → k < 64 → s ≢ b → is_side o (other c) ≡ true → reaches after s k ≡ true → strikes rule men k (other c) s ≡ true
+unfolding strikes paralysed reaches
 checks_before rule men after a b z c k s None at i g p q ne side h = cc
 checks_before rule men after a b z c k s (Some y) at i g p q ne side h =
     let there : man_on men s ≡ Some y = i.others s y at ne in
@@ -175,9 +175,9 @@ arrival_strikes rule men after a b z c k (Some y) at i g l p q side h =
     cc
 
 not_attacked : (rule : RuleSet) (men after : List (Option Man)) (a b : ℕ) (z : Man) (c : Colour) (k : ℕ) → IsShift men after a b z → IsCovered rule men c a k → IsQuiet men c b k z → k < 64 → attacked rule after k (other c) ≡ false
-unfolding attacked checks_from
+unfolding attacked strikes
 not_attacked rule men after a b z c k i g l q =
-    some_square_false (checks_from rule after k (other c)) 64 (omega arith) (record {
+    some_square_false (strikes rule after k (other c)) 64 (omega arith) (record {
       fails = λ s p. false_from_ne_true _ (λ h.
           let h1 = and_parts (is_side (man_on after s) (other c) && not (paralysed rule after s)) (reaches after s k) h in
           let h2 = and_parts (is_side (man_on after s) (other c)) (not (paralysed rule after s)) h1.0 in
@@ -188,7 +188,7 @@ not_attacked rule men after a b z c k i g l q =
                 let hit : reaches after b k ≡ true = ap (λ (n : ℕ). reaches after n k) (sym e) ∙ h1.1 in
                 arrival_strikes rule men after a b z c k (man_on after b) refl i g l small q side hit
             | inr ne ↦
-                let yes : some_square (checks_from rule men k (other c)) ≡ true = some_square_true (checks_from rule men k (other c)) s p (checks_before rule men after a b z c k s (man_on after s) refl i g p q ne h2.0 h1.1) in
+                let yes : some_square (strikes rule men k (other c)) ≡ true = some_square_true (strikes rule men k (other c)) s p (checks_before rule men after a b z c k s (man_on after s) refl i g p q ne h2.0 h1.1) in
                 let no = g.safe in
                 cc
           ]);

@@ -18,7 +18,7 @@ use Rattle.chess_core.specs.declared.man.Move.{Move}
 use Rattle.chess_core.specs.declared.step.Step.{Step}
 use Rattle.chess_core.proofs.Ranges.{all_range_true, any_range_false, any_range_true, some_square_true}
 use Rattle.chess_core.proofs.Words.{squares_both, squares_either}
-use Rattle.chess_rules.specs.Attacks.{attacked, check_of, in_check, paralysed, checks_from}
+use Rattle.chess_rules.specs.Attacks.{attacked, check_of, in_check, paralysed, strikes}
 use Rattle.chess_rules.specs.Evasions.{AreEvasions, IsNoEvasion}
 use Rattle.chess_rules.specs.Shields.{has_fairy, is_fairy, is_plain}
 use Rattle.chess_rules.specs.Legal.{is_arrival_free, pseudo}
@@ -152,7 +152,7 @@ pub record IsAway (men : List (Option Man)) (c : Colour) (a b : ℕ) : Type 0 wh
   pub enemy : (s : ℕ) → is_side (man_on men s) (other c) ≡ true → s ≢ a
 
 no_evasion_stays : (rule : RuleSet) (men after : List (Option Man)) (a b : ℕ) (z : Man) (c : Colour) → IsShift men after a b z → AtMostOneKing after → IsAway men c a b → IsNoEvasion rule men c b → in_check rule after c ≡ true
-unfolding in_check attacked checks_from paralysed reaches
+unfolding in_check attacked strikes paralysed reaches
 no_evasion_stays rule men after a b z c i one away u =
     let k : ℕ = u.king in
     let s : ℕ = u.checker in
@@ -174,7 +174,7 @@ no_evasion_stays rule men after a b z c i one away u =
     let mine : is_side (man_on after u.checker) (other c) ≡ true = rw y_stays y.1.1 in
     let reach : reaches after u.checker u.king ≡ true = rw y_stays hits in
     ap (λ (o : Option ℕ). check_of rule after o (other c)) at
-    ∙ some_square_true (checks_from rule after u.king (other c)) u.checker small
+    ∙ some_square_true (strikes rule after u.king (other c)) u.checker small
     (and_from _ _ (and_from _ _ mine (ap not (and_left (is_madrasi rule) _ u.orthodox))) reach)
 
 not_king : (x : Man) (c : Colour) → same_kind x.kind King ≡ false → is_man (Some x) c King ≡ true → ⊥
@@ -226,7 +226,7 @@ evasion_squares_one rule men c k s w n r t at orthodox no_fairy all small set h 
     let test : ℕ → Bool = λ q. is_square (Some s) q || (reaches_as men c Queen k q && reaches_as men c Queen s q) in
     let joined : bit_or w (bit_and n r) ≡ word (λ q. is_square (Some s) q || (reaches_as men c Queen k q && reaches_as men c Queen s q)) =
     (λ a. bit_or (h a) (bit_and (i a) (j a))) ∙ (λ a. bit_or (word (λ q. is_square (Some s) q)) (squares_both (λ q. reaches_as men c Queen k q) (λ q. reaches_as men c Queen s q) a)) ∙ squares_either (λ q. is_square (Some s) q) (λ q. reaches_as men c Queen k q && reaches_as men c Queen s q) in
-    let checks_from : (is_side (man_on men s) (other c) && reaches men s k) ≡ true = sym (word_has (λ q. is_side (man_on men q) (other c) && reaches men q k) t s all small) ∙ set in
+    let strikes : (is_side (man_on men s) (other c) && reaches men s k) ≡ true = sym (word_has (λ q. is_side (man_on men q) (other c) && reaches men q k) t s all small) ∙ set in
     record {
       elsewhere = λ q b off. record {
         king = k;
@@ -234,8 +234,8 @@ evasion_squares_one rule men c k s w n r t at orthodox no_fairy all small set h 
         here = at;
         orthodox = orthodox;
         no_fairy = no_fairy;
-        enemy = first_of_and _ _ checks_from;
-        check = second_of_and (is_side (man_on men s) (other c)) _ checks_from;
+        enemy = first_of_and _ _ strikes;
+        check = second_of_and (is_side (man_on men s) (other c)) _ strikes;
         no_evasion = sym (word_has (λ q. is_square (Some s) q || (reaches_as men c Queen k q && reaches_as men c Queen s q)) (bit_or w (bit_and n r)) q joined b) ∙ off;
       };
     }
