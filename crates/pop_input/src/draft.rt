@@ -474,7 +474,7 @@ fn is_taken(diagram: &Diagram, square: Square) -> bool
 fn has_king_to_mate(stipulation: Stipulation, board: &Board) -> bool
     ensures { result ≡ has_king_to_mate stipulation board.now.men }
 {
-    stipulation.goal.is_for_stalemate() || board.king_of(stipulation.form.mated()).is_some()
+    stipulation.goal.is_stalemate() || board.king_of(stipulation.form.mated()).is_some()
 }
 
 // Whether the colour is in check under the condition.

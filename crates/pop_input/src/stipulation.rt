@@ -41,8 +41,8 @@ pub struct Stipulation {
 }
 
 impl Goal {
-    // Whether it is stalemate.
-    pub(crate) fn is_for_stalemate(self) -> bool
+    /// Whether it is stalemate.
+    pub fn is_stalemate(self) -> bool
         ensures { result ≡ is_for_stalemate self }
     {
         match self {
