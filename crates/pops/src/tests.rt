@@ -1,4 +1,5 @@
 //! What is only tested: worked rows, whose reports were written from the rules, and the layout of made events.
 mod devices;
+mod goals;
 mod printing;
 mod rows;
