@@ -44,7 +44,7 @@ pub(crate) fn tell(event: &Event, text: &mut ArrayVec<u8, 4096>) {
 #[tactic(auto, using(pop_solve::proofs::Sound::in_range))]
 pub(crate) fn half_moves(problem: &Problem) -> usize
     ensures value { result ≡ half_moves problem.now.stipulation }
-    ensures most { result ≤ 16 }
+    ensures most { result ≤ 32 }
 {
     let stipulation = problem.stipulation();
     let n = stipulation.n as usize;
