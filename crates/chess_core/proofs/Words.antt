@@ -1,11 +1,11 @@
 -- Laws of words: their bits, one bit set or cleared, two words joined.
-use Rattle.std.proofs.Common.{◌≡◌, ℕ, zero, suc, ◌+◌, ◌-◌, ◌*◌, ◌/◌, ◌%◌, ◌^◌, ◌<◌, min, max, Bool, true, false, ◌&&◌, ◌||◌, not, List, [], ◌∷◌, length, get_or, set, refl, sym, ap, ◌∙◌, subst, arith, inl, inr}
+use Rattle.std.proofs.Common.{◌≡◌, ℕ, eqb, zero, suc, ◌+◌, ◌-◌, ◌*◌, ◌/◌, ◌%◌, ◌^◌, ◌<◌, min, max, Bool, true, false, ◌&&◌, ◌||◌, not, List, [], ◌∷◌, length, get_or, set, refl, sym, ap, ◌∙◌, subst, arith, inl, inr}
 use Rattle.std.specs.Int.{bit_at, bit_not, w64, trailing_zeros}
 use Rattle.std.specs.Int.Bits.{bit_and, bit_or}
-use Rattle.std.proofs.lemmas.Bool.{cases_eq}
+use Rattle.std.proofs.lemmas.Bool.{cases_eq, eq-eqb, ne_eqb}
 use Rattle.std.proofs.lemmas.List.{length-set, get_or-set_same, get_or-set_other}
-use Rattle.std.proofs.lemmas.Nat.{or_lt, and_le_l}
-use Rattle.std.proofs.lemmas.Nat.Bits.{bit_at_lowest, bit_at-suc, bit_at_and, bit_at_not, bit_at_or, bit_at-zero, bit_at-trailing_zeros, same_from_bits_below, bit_at_set_same, bit_at_set_other, bit_at_clear_same, bit_at_clear_other}
+use Rattle.std.proofs.lemmas.Nat.{or_lt, and_le_l, one_shl}
+use Rattle.std.proofs.lemmas.Nat.Bits.{bit_at_lowest, bit_at-suc, bit_at_and, bit_at_not, bit_at_or, bit_at-zero, bit_at-pow_same, bit_at-pow_other, bit_at-trailing_zeros, same_from_bits_below, bit_at_set_same, bit_at_set_other, bit_at_clear_same, bit_at_clear_other}
 use Rattle.std.proofs.lemmas.List.FromFn.{get_or-range_with_len}
 use Rattle.chess_core.specs.Squares.{squares, some_square}
 use Rattle.chess_core.proofs.Ranges.{some_square_true, some_square_false}
@@ -105,6 +105,15 @@ pub square_word : (test : ℕ → Bool) (n : ℕ) → n < 2 ^ 64 → ((s : ℕ) 
 unfolding word squares
 square_word test n fits h = word_from_bits test squares 0 n refl fits (λ s p. h s p ∙ ap (λ m. bit_of (test m)) (sym (squares_at s p)))
 
+-- the word of one square
+pub square_alone : (s : ℕ) → s < 64 → 1 * 2 ^ s % 2 ^ 64 ≡ word (λ t. eqb s t)
+square_alone s p =
+    square_word (λ t. eqb s t) _ (omega arith)
+    (λ t b. elim (cases_eq t s) [
+      | inl e ↦ rw (e, eq-eqb s s refl) (ap (λ n. bit_at n s) (one_shl s 64 p) ∙ bit_at-pow_same s)
+      | inr ne ↦ rw (ne_eqb s t (λ e. ne (sym e))) (ap (λ n. bit_at n t) (one_shl s 64 p) ∙ bit_at-pow_other s t ne)
+    ])
+
 either : (a b : Bool) → max (bit_of a) (bit_of b) ≡ bit_of (a || b)
 either true true = refl
 either true false = refl
@@ -122,22 +131,29 @@ squares_both p q =
     (λ s b. bit_at_and (word p) (word q) s ∙ (λ j. min (square_bit p s b j) (square_bit q s b j)) ∙ both (p s) (q s))
 
 -- a word is 0 where no square passes
-no_bit : (b : Bool) → bit_of b ≡ 0 → b ≡ false
-no_bit true h = absurd (omega arith)
-no_bit false h = refl
+pub bit_false : (b : Bool) → bit_of b ≡ 0 → b ≡ false
+bit_false true h = absurd (omega arith)
+bit_false false h = refl
 
 pub squares_none : (test : ℕ → Bool) → word test ≡ 0 → some_square test ≡ false
 squares_none test h =
-    some_square_false test 64 (omega arith) (record { fails = λ s p. no_bit (test s) (sym (square_bit test s p) ∙ ap (λ n. bit_at n s) h ∙ bit_at-zero s) })
+    some_square_false test 64 (omega arith) (record { fails = λ s p. bit_false (test s) (sym (square_bit test s p) ∙ ap (λ n. bit_at n s) h ∙ bit_at-zero s) })
 
-yes_bit : (b : Bool) → bit_of b ≡ 1 → b ≡ true
-yes_bit true h = refl
-yes_bit false h = absurd (omega arith)
+pub bit_true : (b : Bool) → bit_of b ≡ 1 → b ≡ true
+bit_true true h = refl
+bit_true false h = absurd (omega arith)
 
 pub squares_some : (test : ℕ → Bool) → 0 < word test → some_square test ≡ true
 squares_some test h =
     let w = bit_at-trailing_zeros w64 (word test) h (square_word_small test) in
-    some_square_true test (trailing_zeros w64 (word test)) w.0 (yes_bit _ (sym (square_bit test (trailing_zeros w64 (word test)) w.0) ∙ w.1))
+    some_square_true test (trailing_zeros w64 (word test)) w.0 (bit_true _ (sym (square_bit test (trailing_zeros w64 (word test)) w.0) ∙ w.1))
+
+-- whether the word is another than 0 tells whether some square passes
+pub some_square_told : (test : ℕ → Bool) (n : ℕ) → n ≡ word test → not (eqb n 0) ≡ some_square test
+some_square_told test n h = elim (cases_eq n 0) [
+  | inl e ↦ rw e (sym (squares_none test (sym h ∙ e)))
+  | inr ne ↦ rw (ne_eqb n 0 ne) (sym (squares_some test (let pos : 0 < n = omega (arith, ne) in rw (← h) pos)))
+]
 
 negated : (b : Bool) → 1 - bit_of b ≡ bit_of (not b)
 negated true = refl

@@ -293,15 +293,19 @@ plain_parts rule p x m h =
       rebirth = λ circe. captures_nobody p x m off (first_off (is_circe rule) (is_some (man_on p.men m.to)) (not-true _ h1.1) circe);
     }
 
-moved_plainly : (p : Position) (x : Man) (m : Move) → is_castling x m ≡ false → moved_men p x m ≡ arrived p x m
+pub moved_plainly : (p : Position) (x : Man) (m : Move) → is_castling x m ≡ false → moved_men p x m ≡ arrived p x m
 unfolding moved_men
 moved_plainly p x m h = rw h refl
 
-pub men_after : (rule : RuleSet) (p : Position) (x : Man) (m : Move) → man_on p.men m.from ≡ Some x → IsPlain rule p x m → (after rule p m).men ≡ arrived p x m
+-- where nobody castles and nobody is reborn
+pub simple_after : (rule : RuleSet) (p : Position) (x : Man) (m : Move) → man_on p.men m.from ≡ Some x → is_castling x m ≡ false → (is_circe rule ≡ true → capture_square p x m ≡ None) → (after rule p m).men ≡ arrived p x m
 unfolding after after_by reborn_square
-men_after rule p x m here plain =
-    let nobody : reborn_at (is_circe rule) (moved_men p x m) (man_on_at p.men (capture_square p x m)) (capture_square p x m) ≡ None = nobody_reborn (is_circe rule) (moved_men p x m) p.men (capture_square p x m) plain.rebirth in
-    rw here (ap (λ (o : Option ℕ). put_at (moved_men p x m) o (man_on_at p.men (capture_square p x m))) nobody ∙ moved_plainly p x m plain.castling)
+simple_after rule p x m here castling rebirth =
+    let nobody : reborn_at (is_circe rule) (moved_men p x m) (man_on_at p.men (capture_square p x m)) (capture_square p x m) ≡ None = nobody_reborn (is_circe rule) (moved_men p x m) p.men (capture_square p x m) rebirth in
+    rw here (ap (λ (o : Option ℕ). put_at (moved_men p x m) o (man_on_at p.men (capture_square p x m))) nobody ∙ moved_plainly p x m castling)
+
+pub men_after : (rule : RuleSet) (p : Position) (x : Man) (m : Move) → man_on p.men m.from ≡ Some x → IsPlain rule p x m → (after rule p m).men ≡ arrived p x m
+men_after rule p x m here plain = simple_after rule p x m here plain.castling plain.rebirth
 
 pub arrived_shift : (rule : RuleSet) (p : Position) (x : Man) (m : Move) → IsWellFormed p → IsMade rule p x m → m.to < 64 → IsPlain rule p x m → IsShift p.men (arrived p x m) m.from m.to (arriving x m.promo)
 arrived_shift rule p x m well is small plain =

@@ -1,12 +1,14 @@
 -- Lines on the empty board, and the order in which they pass squares (own).
-use Rattle.std.specs.Prelude.{ℕ, ◌+◌, ◌-◌, ◌*◌, ◌≡◌, ◌<◌, ◌≤◌, Bool, true, false, ◌||◌, nat_le, List}
+use Rattle.std.specs.Prelude.{ℕ, ◌+◌, ◌-◌, ◌*◌, ◌≡◌, ◌<◌, ◌≤◌, Bool, true, false, ◌||◌, nat_le, List, Option, is_some}
 use Rattle.std.specs.Int.{bit_at}
 use Rattle.std.specs.List.{list_any, range_with_len}
+use Rattle.chess_core.specs.Position.{man_on}
 use Rattle.chess_core.specs.Squares.{is_square}
 use Rattle.chess_core.specs.Steps.{along, step_by}
 use Rattle.chess_core.specs.Words.{word}
 use Rattle.chess_core.specs.declared.step.Step.{Step}
 use Rattle.chess_core.specs.declared.man.Colour.{Colour}
+use Rattle.chess_core.specs.declared.man.Man.{Man}
 use Rattle.chess_rules.specs.Legal.{forward}
 use Rattle.chess_rules.specs.declared.lines.Direction.{Direction}
 use Rattle.chess_rules.specs.declared.lines.Direction.TheVariants.{East, West, North, South, NorthEast, SouthEast, NorthWest, SouthWest, NorthNorthEast, SouthSouthEast, NorthNorthWest, SouthSouthWest, EastNorthEast, EastSouthEast, WestNorthWest, WestSouthWest}
@@ -29,6 +31,10 @@ step_of EastNorthEast = step_by 2 0 1 0
 step_of EastSouthEast = step_by 2 0 0 1
 step_of WestNorthWest = step_by 0 2 1 0
 step_of WestSouthWest = step_by 0 2 0 1
+
+-- the squares on which men stand
+abbrev pub occupied_squares : List (Option Man) → ℕ
+occupied_squares men = word (λ s. is_some (man_on men s))
 
 -- the place of a direction in their order
 abbrev pub direction_number : Direction → ℕ

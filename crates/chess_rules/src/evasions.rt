@@ -10,10 +10,11 @@ ghost use Rattle.chess_rules.specs.Legal.{pseudo};
 ghost use Rattle.chess_rules.specs.Play.{after};
 ghost use Rattle.chess_rules.specs.RuleSet.{is_circe};
 
+use crate::exposure::exposes;
 use crate::lines::occupied;
 use crate::outward::attackers;
 use crate::reach::reach_as;
-use crate::rules::{Rules, exposes};
+use crate::rules::Rules;
 use crate::shields::{cannot_expose, has_fairy, is_plain};
 use crate::words::{contains, next_bit, only};
 use chess_core::board::Board;

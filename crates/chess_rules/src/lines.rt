@@ -1,15 +1,15 @@
 //! Lines in one direction, and the squares that riders get to along them.
-ghost use Rattle.std.specs.Prelude.{◌≡◌, ℕ, ◌<◌, is_some};
+ghost use Rattle.std.specs.Prelude.{◌≡◌, ℕ, ◌<◌, List, Option};
 ghost use Rattle.std.specs.List.{list_any};
-ghost use Rattle.chess_core.specs.Position.{man_on};
+ghost use Rattle.chess_core.specs.declared.man.Man.{Man};
 ghost use Rattle.chess_core.specs.Steps.{along, diagonal_steps, queen_steps, straight_steps};
 ghost use Rattle.chess_core.specs.Words.{word};
-ghost use Rattle.chess_rules.specs.Lines.{IsStop, direction_number, is_on_some, ray, rises, step_of};
+ghost use Rattle.chess_rules.specs.Lines.{IsStop, direction_number, is_on_some, occupied_squares, ray, rises, step_of};
 ghost use Rattle.chess_rules.specs.Outward.{goes_by, hopped_from};
 ghost use Rattle.chess_rules.specs.Reaches.{hops, rides};
 
 use crate::geometry::{DIAGONAL_LINES, RAYS, STRAIGHT_LINES};
-use crate::words::{highest, lowest, only};
+use crate::words::{contains, highest, lowest, only};
 use chess_core::board::Board;
 use chess_core::man::Colour;
 use chess_core::square::Square;
@@ -131,18 +131,19 @@ pub(crate) enum Way {
 
 // The squares on which men stand.
 pub(crate) fn occupied(board: &Board) -> u64
-    ensures { result ≡ word (λ s. is_some (man_on board.now.men s)) }
+    ensures { result ≡ occupied_squares board.now.men }
 {
     board.side(Colour::White) | board.side(Colour::Black)
 }
 
-// The squares to which a rider on `from` gets in this direction.
-fn ride(board: &Board, from: Square, direction: Direction) -> u64
-    ensures { result ≡ word (λ t. rides board.now.men from t (step_of direction)) }
+// The squares to which a rider on `from` gets in this direction, whichever men stand on the occupied
+// squares.
+fn ride(occupied: u64, from: Square, direction: Direction) -> u64
+    ensures { (men : List (Option Man)) → occupied ≡ occupied_squares men → result ≡ word (λ t. rides men from t (step_of direction)) }
 {
     let _small = from.index();
     let ray = direction.ray(from);
-    let stop = direction.first(ray & occupied(board));
+    let stop = direction.first(ray & occupied);
     ray & !direction.ray(stop)
 }
 
@@ -161,74 +162,76 @@ pub(crate) fn diagonal_lines(from: Square) -> u64
 }
 
 // The squares to which a rider on `from` gets along its file and its rank.
-pub(crate) fn straight_rides(board: &Board, from: Square) -> u64
-    ensures { result ≡ word (λ t. list_any (rides board.now.men from t) straight_steps) }
+pub(crate) fn straight_rides(occupied: u64, from: Square) -> u64
+    ensures { (men : List (Option Man)) → occupied ≡ occupied_squares men → result ≡ word (λ t. list_any (rides men from t) straight_steps) }
 {
-    ride(board, from, Direction::East)
-        | ride(board, from, Direction::West)
-        | ride(board, from, Direction::North)
-        | ride(board, from, Direction::South)
+    ride(occupied, from, Direction::East)
+        | ride(occupied, from, Direction::West)
+        | ride(occupied, from, Direction::North)
+        | ride(occupied, from, Direction::South)
 }
 
 // The squares to which it gets along its diagonals.
-pub(crate) fn diagonal_rides(board: &Board, from: Square) -> u64
-    ensures { result ≡ word (λ t. list_any (rides board.now.men from t) diagonal_steps) }
+pub(crate) fn diagonal_rides(occupied: u64, from: Square) -> u64
+    ensures { (men : List (Option Man)) → occupied ≡ occupied_squares men → result ≡ word (λ t. list_any (rides men from t) diagonal_steps) }
 {
-    ride(board, from, Direction::NorthEast)
-        | ride(board, from, Direction::SouthEast)
-        | ride(board, from, Direction::NorthWest)
-        | ride(board, from, Direction::SouthWest)
+    ride(occupied, from, Direction::NorthEast)
+        | ride(occupied, from, Direction::SouthEast)
+        | ride(occupied, from, Direction::NorthWest)
+        | ride(occupied, from, Direction::SouthWest)
 }
 
 // The squares to which it gets along all of them.
-pub(crate) fn queen_rides(board: &Board, from: Square) -> u64
-    ensures { result ≡ word (λ t. list_any (rides board.now.men from t) queen_steps) }
+pub(crate) fn queen_rides(occupied: u64, from: Square) -> u64
+    ensures { (men : List (Option Man)) → occupied ≡ occupied_squares men → result ≡ word (λ t. list_any (rides men from t) queen_steps) }
 {
-    straight_rides(board, from) | diagonal_rides(board, from)
+    straight_rides(occupied, from) | diagonal_rides(occupied, from)
 }
 
 // The square to which a grasshopper on `from` hops in this direction, if there is one.
-fn hop(board: &Board, from: Square, direction: Direction) -> u64
-    ensures { result ≡ word (λ t. hops board.now.men from t (step_of direction)) }
+fn hop(occupied: u64, from: Square, direction: Direction) -> u64
+    ensures { (men : List (Option Man)) → occupied ≡ occupied_squares men → result ≡ word (λ t. hops men from t (step_of direction)) }
 {
     let _small = from.index();
-    let hurdle = direction.first(direction.ray(from) & occupied(board));
+    let hurdle = direction.first(direction.ray(from) & occupied);
     only(direction.next(hurdle))
 }
 
 // The squares from which a grasshopper hops to `to` against this direction: behind the man next to it.
-fn hop_back(board: &Board, to: Square, direction: Direction) -> u64
-    ensures { result ≡ word (λ s. hopped_from board.now.men to s (step_of direction)) }
+fn hop_back(occupied: u64, to: Square, direction: Direction) -> u64
+    ensures { (men : List (Option Man)) → occupied ≡ occupied_squares men → result ≡ word (λ s. hopped_from men to s (step_of direction)) }
 {
     let _small = to.index();
     let Some(next) = direction.next(to) else {
         return 0;
     };
-    if board.man_at(next).is_some() {
-        ride(board, next, direction)
+    let _near = next.index();
+    if contains(occupied, next) {
+        ride(occupied, next, direction)
     } else {
         0
     }
 }
 
 // The squares to which this way leads from `from` in this direction.
-fn by_line(board: &Board, way: Way, from: Square, direction: Direction) -> u64
-    ensures { result ≡ word (λ t. goes_by way board.now.men from t (step_of direction)) }
+fn by_line(occupied: u64, way: Way, from: Square, direction: Direction) -> u64
+    ensures { (men : List (Option Man)) → occupied ≡ occupied_squares men → result ≡ word (λ t. goes_by way men from t (step_of direction)) }
 {
     match way {
-        Way::Ride => ride(board, from, direction),
-        Way::Hop => hop(board, from, direction),
-        Way::HopBack => hop_back(board, from, direction),
+        Way::Ride => ride(occupied, from, direction),
+        Way::Hop => hop(occupied, from, direction),
+        Way::HopBack => hop_back(occupied, from, direction),
     }
 }
 
 // The squares to which this way leads from `from` in one of the directions.
-pub(crate) fn by_lines(board: &Board, way: Way, from: Square, lines: &[Direction]) -> u64
-    ensures { result ≡ word (λ t. list_any (λ x. goes_by way board.now.men from t (step_of x)) lines.now) }
+pub(crate) fn by_lines(occupied: u64, way: Way, from: Square, lines: &[Direction]) -> u64
+    ensures { (men : List (Option Man)) → occupied ≡ occupied_squares men
+        → result ≡ word (λ t. list_any (λ x. goes_by way men from t (step_of x)) lines.now) }
 {
     let mut word = 0u64;
     for direction in lines {
-        word |= by_line(board, way, from, *direction);
+        word |= by_line(occupied, way, from, *direction);
     }
     word
 }

@@ -1,7 +1,10 @@
 //! Attack looked for outward from the square.
-ghost use Rattle.std.specs.Prelude.{◌≡◌, ℕ, ◌&&◌, ◌==◌, not};
+ghost use Rattle.std.specs.Prelude.{◌≡◌, ℕ, ◌&&◌, ◌==◌, not, List, Option};
 ghost use Rattle.std.specs.Int.{bit_at};
 ghost use Rattle.chess_core.specs.Position.{is_man, is_side, man_on};
+ghost use Rattle.chess_core.specs.declared.man.Man.{Man};
+ghost use Rattle.chess_rules.specs.Lines.{occupied_squares};
+ghost use Rattle.chess_rules.specs.Sight.{AreSeen};
 ghost use Rattle.chess_core.specs.Squares.{some_square};
 ghost use Rattle.chess_core.specs.Words.{word};
 ghost use Rattle.chess_rules.specs.Attacks.{paralysed};
@@ -16,74 +19,94 @@ use crate::lines::{
     straight_lines, straight_rides,
 };
 use crate::rules::Rules;
+use crate::sight::{Sight, sight_now, squares_seen};
 use crate::words::next_bit;
 use chess_core::board::Board;
 use chess_core::man::{Colour, Kind};
 use chess_core::square::Square;
 
 // The squares from which a man of this colour and kind could go to `to` if an enemy stood there.
-fn comes_as(board: &Board, colour: Colour, kind: Kind, to: Square) -> u64
-    ensures { result ≡ word (λ s. reaches_as board.now.men colour kind s to) }
+fn comes_as(occupied: u64, colour: Colour, kind: Kind, to: Square) -> u64
+    ensures { (men : List (Option Man)) → occupied ≡ occupied_squares men → result ≡ word (λ s. reaches_as men colour kind s to) }
 {
     let _small = to.index();
     match kind {
         Kind::King => king_leaps(to),
-        Kind::Queen => queen_rides(board, to),
-        Kind::Rook => straight_rides(board, to),
-        Kind::Bishop => diagonal_rides(board, to),
+        Kind::Queen => queen_rides(occupied, to),
+        Kind::Rook => straight_rides(occupied, to),
+        Kind::Bishop => diagonal_rides(occupied, to),
         Kind::Knight => knight_leaps(to),
         Kind::Pawn => pawn_leaps(colour.other(), to),
-        Kind::Grasshopper => by_lines(board, Way::HopBack, to, &QUEEN_LINES),
-        Kind::Nightrider => by_lines(board, Way::Ride, to, &KNIGHT_LINES),
+        Kind::Grasshopper => by_lines(occupied, Way::HopBack, to, &QUEEN_LINES),
+        Kind::Nightrider => by_lines(occupied, Way::Ride, to, &KNIGHT_LINES),
     }
 }
 
 // The squares of the men of this colour and kind that reach the square.
-pub(crate) fn reached_by(board: &Board, square: Square, colour: Colour, kind: Kind) -> u64
-    ensures { result ≡ word (λ s. is_man (man_on board.now.men s) colour kind && reaches board.now.men s square) }
+pub(crate) fn reached_by(
+    board: &Board,
+    sight: Sight,
+    square: Square,
+    colour: Colour,
+    kind: Kind,
+) -> u64
+    ensures { (men : List (Option Man)) → AreSeen board.now.men men colour sight
+        → result ≡ word (λ s. is_man (man_on men s) colour kind && reaches men s square) }
 {
-    let men = board.squares(colour, kind);
+    let men = squares_seen(board, sight, colour, kind);
     if men == 0 {
         return 0;
     }
-    men & comes_as(board, colour, kind, square)
+    men & comes_as(sight.occupied, colour, kind, square)
 }
 
 // The squares of the queens and rooks of this colour that a rider on the square gets to along its file
 // and rank. Mostly no such man stands there, and no line is looked along.
-fn straight_attackers(board: &Board, square: Square, colour: Colour) -> u64
-    ensures { result ≡ word (is_met board.now.men colour Rook straight_steps square) }
+fn straight_attackers(board: &Board, sight: Sight, square: Square, colour: Colour) -> u64
+    ensures { (men : List (Option Man)) → AreSeen board.now.men men colour sight
+        → result ≡ word (is_met men colour Rook straight_steps square) }
 {
-    let men = board.squares(colour, Kind::Rook) | board.squares(colour, Kind::Queen);
+    let men = squares_seen(board, sight, colour, Kind::Rook)
+        | squares_seen(board, sight, colour, Kind::Queen);
     if men & straight_lines(square) == 0 {
         return 0;
     }
-    men & straight_rides(board, square)
+    men & straight_rides(sight.occupied, square)
 }
 
 // The squares of its queens and bishops that such a rider gets to along the diagonals.
-fn diagonal_attackers(board: &Board, square: Square, colour: Colour) -> u64
-    ensures { result ≡ word (is_met board.now.men colour Bishop diagonal_steps square) }
+fn diagonal_attackers(board: &Board, sight: Sight, square: Square, colour: Colour) -> u64
+    ensures { (men : List (Option Man)) → AreSeen board.now.men men colour sight
+        → result ≡ word (is_met men colour Bishop diagonal_steps square) }
 {
-    let men = board.squares(colour, Kind::Bishop) | board.squares(colour, Kind::Queen);
+    let men = squares_seen(board, sight, colour, Kind::Bishop)
+        | squares_seen(board, sight, colour, Kind::Queen);
     if men & diagonal_lines(square) == 0 {
         return 0;
     }
-    men & diagonal_rides(board, square)
+    men & diagonal_rides(sight.occupied, square)
 }
 
 // The squares of the men of this colour that reach the square.
+pub(crate) fn attackers_seen(board: &Board, sight: Sight, square: Square, colour: Colour) -> u64
+    ensures { (men : List (Option Man)) → AreSeen board.now.men men colour sight
+        → result ≡ word (λ s. is_side (man_on men s) colour && reaches men s square) }
+{
+    let _small = square.index();
+    straight_attackers(board, sight, square, colour)
+        | diagonal_attackers(board, sight, square, colour)
+        | reached_by(board, sight, square, colour, Kind::King)
+        | reached_by(board, sight, square, colour, Kind::Knight)
+        | reached_by(board, sight, square, colour, Kind::Pawn)
+        | reached_by(board, sight, square, colour, Kind::Grasshopper)
+        | reached_by(board, sight, square, colour, Kind::Nightrider)
+}
+
+// The same on the board as it stands.
 pub(crate) fn attackers(board: &Board, square: Square, colour: Colour) -> u64
     ensures { result ≡ word (λ s. is_side (man_on board.now.men s) colour && reaches board.now.men s square) }
 {
-    let _small = square.index();
-    straight_attackers(board, square, colour)
-        | diagonal_attackers(board, square, colour)
-        | reached_by(board, square, colour, Kind::King)
-        | reached_by(board, square, colour, Kind::Knight)
-        | reached_by(board, square, colour, Kind::Pawn)
-        | reached_by(board, square, colour, Kind::Grasshopper)
-        | reached_by(board, square, colour, Kind::Nightrider)
+    attackers_seen(board, sight_now(board), square, colour)
 }
 
 // Whether a man on one of the word's squares isn't paralysed, or no man stands there.

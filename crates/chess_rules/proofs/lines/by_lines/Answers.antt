@@ -7,9 +7,9 @@ use Rattle.chess_rules.proofs.Attacking.{join_more, join_none}
 use Rattle.chess_rules.proofs.lines.by_lines.Goals as goal
 
 pub loop-direction-init : goal.loop-direction-init
-loop-direction-init c = join_none (λ (x : Direction) t. goes_by c.args.way c.args.board.now.men c.args.from t (step_of x))
+loop-direction-init c = λ men held. join_none (λ (x : Direction) t. goes_by c.args.way men c.args.from t (step_of x))
 
 pub loop-direction-preserved : goal.loop-direction-preserved
-loop-direction-preserved c =
-    join_more (λ (x : Direction) t. goes_by c.args.way c.args.board.now.men c.args.from t (step_of x)) c.loop-direction.word c.by_line-word.result c.loop-direction.direction-index East (get_or c.args.lines.now c.loop-direction.direction-index East) c.args.lines.now
-    (omega arith) refl c.loop-direction.invariant c.by_line-word.ensures
+loop-direction-preserved c = λ men held.
+    join_more (λ (x : Direction) t. goes_by c.args.way men c.args.from t (step_of x)) c.loop-direction.word c.by_line-word.result c.loop-direction.direction-index East (get_or c.args.lines.now c.loop-direction.direction-index East) c.args.lines.now
+    (omega arith) refl (c.loop-direction.invariant men held) (c.by_line-word.ensures men held)

@@ -1,7 +1,4 @@
-use Rattle.chess_rules.proofs.Attacking.{attackers_are}
 use Rattle.chess_rules.proofs.outward.attackers.Goals as goal
 
 pub returns : goal.returns
-returns c =
-    attackers_are c.args.board.now.men c.args.colour c.args.square c.straight_attackers.result c.diagonal_attackers.result c.reached_by.result c.reached_by-2.result c.reached_by-3.result c.reached_by-4.result c.reached_by-5.result (rw c.index-small.ensures.value at c.index-small.ensures.small)
-    c.straight_attackers.ensures c.diagonal_attackers.ensures c.reached_by.ensures c.reached_by-2.ensures c.reached_by-3.ensures c.reached_by-4.ensures c.reached_by-5.ensures
+returns c = c.attackers_seen.ensures c.args.board.now.men (c.sight_now.ensures c.args.colour)

@@ -3,33 +3,33 @@ use Rattle.chess_rules.proofs.Attacking.{comes_king, comes_queen, comes_rook, co
 use Rattle.chess_rules.proofs.outward.comes_as.Goals as goal
 
 pub returns-in-King : goal.returns-in-King
-returns-in-King c =
-    rw c.in-King.is (c.king_leaps.ensures ∙ comes_king c.args.board.now.men c.args.colour c.args.to (rw c.index-small.ensures.value at c.index-small.ensures.small))
+returns-in-King c = λ men held.
+    rw c.in-King.is (c.king_leaps.ensures ∙ comes_king men c.args.colour c.args.to (rw c.index-small.ensures.value at c.index-small.ensures.small))
 
 pub returns-in-Queen : goal.returns-in-Queen
-returns-in-Queen c =
-    rw c.in-Queen.is (c.queen_rides.ensures ∙ comes_queen c.args.board.now.men c.args.colour c.args.to (rw c.index-small.ensures.value at c.index-small.ensures.small))
+returns-in-Queen c = λ men held.
+    rw c.in-Queen.is ((c.queen_rides.ensures men held) ∙ comes_queen men c.args.colour c.args.to (rw c.index-small.ensures.value at c.index-small.ensures.small))
 
 pub returns-in-Rook : goal.returns-in-Rook
-returns-in-Rook c =
-    rw c.in-Rook.is (c.straight_rides.ensures ∙ comes_rook c.args.board.now.men c.args.colour c.args.to (rw c.index-small.ensures.value at c.index-small.ensures.small))
+returns-in-Rook c = λ men held.
+    rw c.in-Rook.is ((c.straight_rides.ensures men held) ∙ comes_rook men c.args.colour c.args.to (rw c.index-small.ensures.value at c.index-small.ensures.small))
 
 pub returns-in-Bishop : goal.returns-in-Bishop
-returns-in-Bishop c =
-    rw c.in-Bishop.is (c.diagonal_rides.ensures ∙ comes_bishop c.args.board.now.men c.args.colour c.args.to (rw c.index-small.ensures.value at c.index-small.ensures.small))
+returns-in-Bishop c = λ men held.
+    rw c.in-Bishop.is ((c.diagonal_rides.ensures men held) ∙ comes_bishop men c.args.colour c.args.to (rw c.index-small.ensures.value at c.index-small.ensures.small))
 
 pub returns-in-Knight : goal.returns-in-Knight
-returns-in-Knight c =
-    rw c.in-Knight.is (c.knight_leaps.ensures ∙ comes_knight c.args.board.now.men c.args.colour c.args.to (rw c.index-small.ensures.value at c.index-small.ensures.small))
+returns-in-Knight c = λ men held.
+    rw c.in-Knight.is (c.knight_leaps.ensures ∙ comes_knight men c.args.colour c.args.to (rw c.index-small.ensures.value at c.index-small.ensures.small))
 
 pub returns-in-Pawn : goal.returns-in-Pawn
-returns-in-Pawn c =
-    rw c.in-Pawn.is (rw c.other.ensures at c.pawn_leaps.ensures ∙ comes_pawn c.args.board.now.men c.args.colour c.args.to (rw c.index-small.ensures.value at c.index-small.ensures.small))
+returns-in-Pawn c = λ men held.
+    rw c.in-Pawn.is (rw c.other.ensures at c.pawn_leaps.ensures ∙ comes_pawn men c.args.colour c.args.to (rw c.index-small.ensures.value at c.index-small.ensures.small))
 
 pub returns-in-Grasshopper : goal.returns-in-Grasshopper
-returns-in-Grasshopper c =
-    rw c.in-Grasshopper.is (c.by_lines.ensures ∙ comes_grasshopper c.args.board.now.men c.args.colour c.args.to (rw c.index-small.ensures.value at c.index-small.ensures.small))
+returns-in-Grasshopper c = λ men held.
+    rw c.in-Grasshopper.is ((c.by_lines.ensures men held) ∙ comes_grasshopper men c.args.colour c.args.to (rw c.index-small.ensures.value at c.index-small.ensures.small))
 
 pub returns-in-Nightrider : goal.returns-in-Nightrider
-returns-in-Nightrider c =
-    rw c.in-Nightrider.is (c.by_lines-in-Nightrider.ensures ∙ comes_nightrider c.args.board.now.men c.args.colour c.args.to (rw c.index-small.ensures.value at c.index-small.ensures.small))
+returns-in-Nightrider c = λ men held.
+    rw c.in-Nightrider.is ((c.by_lines-in-Nightrider.ensures men held) ∙ comes_nightrider men c.args.colour c.args.to (rw c.index-small.ensures.value at c.index-small.ensures.small))

@@ -2,9 +2,9 @@ use Rattle.chess_rules.proofs.Attacking.{reached, reached_none}
 use Rattle.chess_rules.proofs.outward.reached_by.Goals as goal
 
 pub returns-then-men-eq0 : goal.returns-then-men-eq0
-returns-then-men-eq0 c =
-    reached_none c.args.board.now.men c.args.colour c.args.kind c.args.square c.squares-men.result c.squares-men.ensures.word c.if-men-eq0.true
+returns-then-men-eq0 c = λ men seen.
+    reached_none men c.args.colour c.args.kind c.args.square c.squares_seen-men.result (c.squares_seen-men.ensures men seen) c.if-men-eq0.true
 
 pub returns : goal.returns
-returns c =
-    reached c.args.board.now.men c.args.colour c.args.kind c.args.square c.squares-men.result c.comes_as.result c.squares-men.ensures.word c.comes_as.ensures
+returns c = λ men seen.
+    reached men c.args.colour c.args.kind c.args.square c.squares_seen-men.result c.comes_as.result (c.squares_seen-men.ensures men seen) (c.comes_as.ensures men seen.occupied)

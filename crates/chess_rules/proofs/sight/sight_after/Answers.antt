@@ -1,0 +1,5 @@
+use Rattle.std.proofs.Common.{refl}
+use Rattle.chess_rules.proofs.sight.sight_after.Goals as goal
+
+pub returns : goal.returns
+returns c = rw (c.occupied.ensures, c.only.ensures, c.only-gone.ensures, c.only-2.ensures) refl

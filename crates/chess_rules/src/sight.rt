@@ -1,0 +1,52 @@
+//! What men an attack sees, on the board or once a move is made.
+ghost use Rattle.std.specs.Prelude.{◌≡◌, List, Option};
+ghost use Rattle.chess_core.specs.declared.man.Colour.{Colour};
+ghost use Rattle.chess_core.specs.declared.man.Man.{Man};
+ghost use Rattle.chess_core.specs.Words.{squares_of};
+ghost use Rattle.chess_rules.specs.Sight.{AreSeen, sight_after};
+
+use crate::lines::occupied;
+use crate::words::only;
+use chess_core::board::Board;
+use chess_core::man::{Colour, Kind};
+use chess_core::square::Square;
+
+/// What an attack sees: the squares that are occupied, and those on which the board's men still stand.
+#[derive(Clone, Copy)]
+pub(crate) struct Sight {
+    pub(crate) occupied: u64,
+    pub(crate) standing: u64,
+}
+
+// The men that stand on the board.
+pub(crate) fn sight_now(board: &Board) -> Sight
+    ensures { (c : Colour) → AreSeen board.now.men board.now.men c result }
+{
+    Sight {
+        occupied: occupied(board),
+        standing: !0,
+    }
+}
+
+// The men once the one on the captured square is gone, and the one on the origin stands on the arrival.
+pub(crate) fn sight_after(
+    board: &Board,
+    from: Square,
+    captured: Option<Square>,
+    to: Square,
+) -> Sight
+    ensures { result ≡ sight_after board.now.men from captured to }
+{
+    let gone = only(captured);
+    Sight {
+        occupied: occupied(board) & !(only(Some(from)) | gone) | only(Some(to)),
+        standing: !gone,
+    }
+}
+
+// The squares of the men of this colour and kind.
+pub(crate) fn squares_seen(board: &Board, sight: Sight, colour: Colour, kind: Kind) -> u64
+    ensures { (men : List (Option Man)) → AreSeen board.now.men men colour sight → result ≡ squares_of men colour kind }
+{
+    board.squares(colour, kind) & sight.standing
+}
