@@ -1,9 +1,9 @@
 -- The problem that words pose is sound where no test at their end fails.
-use Rattle.std.proofs.Common.{◌≡◌, ◌≤◌, ℕ, List, Option, Some, None, Bool, true, false, refl, sym, ◌∙◌, ap, arith, ◌⊎◌, inl, inr, not, ◌==◌, if◌then◌else◌, is_some}
+use Rattle.std.proofs.Common.{◌≡◌, ◌≤◌, ℕ, List, Option, Some, None, Bool, true, false, refl, sym, ◌∙◌, ap, arith, ◌⊎◌, inl, inr, not, ◌==◌, if◌then◌else◌}
 use Rattle.std.proofs.lemmas.Bool.{cases_Bool, cases_eq, and_parts, cond-true, cond-false}
 use Rattle.chess_core.specs.Castling.{has_unmoved, mark_unmoved, none_unmoved}
 use Rattle.chess_core.specs.Diagrams.{Setup, position_of}
-use Rattle.chess_core.specs.Position.{man_on, king_square, other}
+use Rattle.chess_core.specs.Position.{man_on, other}
 use Rattle.chess_core.specs.Squares.{some_square}
 use Rattle.chess_core.specs.WellFormed.{IsWellFormed, is_crossed_right, is_home}
 use Rattle.chess_core.specs.declared.man.Man.{Man}
@@ -11,7 +11,7 @@ use Rattle.chess_core.specs.declared.man.Unmoved.{Unmoved}
 use Rattle.chess_rules.specs.Attacks.{in_check}
 use Rattle.pop_input.specs.Posed.{IsSound, rule_of}
 use Rattle.pop_input.specs.State.{State}
-use Rattle.pop_input.specs.Stipulations.{mated, starts}
+use Rattle.pop_input.specs.Stipulations.{has_king_to_mate, starts}
 use Rattle.pop_input.specs.Ends.{ArePut, counts, is_stated, is_taken, posed_by, setup_fault, setup_of, unmoved_of}
 use Rattle.pop_input.specs.Values.{most_solutions}
 use Rattle.pop_input.specs.declared.stipulation.Form.{Form}
@@ -71,22 +71,22 @@ pub shown_men : (setup : Setup) → (position_of setup).men ≡ setup.men
 unfolding position_of
 shown_men setup = refl
 
-module _ (state : State) (form : Form) (setup : Setup) (is : setup ≡ setup_of state form) (put : ArePut state.men) (some : some_square (is_taken setup.men) ≡ true) where
-  pub ill_fault : (IsWellFormed (position_of setup) → ⊥) → Some 15 ≡ setup_fault state form setup
+module _ (state : State) (stipulation : Stipulation) (setup : Setup) (is : setup ≡ setup_of state stipulation.form) (put : ArePut state.men) (some : some_square (is_taken setup.men) ≡ true) where
+  pub ill_fault : (IsWellFormed (position_of setup) → ⊥) → Some 15 ≡ setup_fault state stipulation setup
   ill_fault ill =
-      let wrong : is_crossed_right setup.men setup.turn setup.crossed ≡ false = rw is (crossed_wrong state form put (rw is at ill)) in
+      let wrong : is_crossed_right setup.men setup.turn setup.crossed ≡ false = rw is (crossed_wrong state stipulation.form put (rw is at ill)) in
       rw (some, wrong) refl
 
   module _ (well : IsWellFormed (position_of setup)) where
     right : is_crossed_right setup.men setup.turn setup.crossed ≡ true
     right = crossed_fine setup well
 
-    pub king_fault : is_some (king_square setup.men (mated form)) ≡ false → Some 17 ≡ setup_fault state form setup
+    pub king_fault : has_king_to_mate stipulation setup.men ≡ false → Some 17 ≡ setup_fault state stipulation setup
     king_fault none = rw (some, right, none) refl
 
-    pub check_fault : (check : Bool) → is_some (king_square setup.men (mated form)) ≡ true → check ≡ in_check (rule_of state.condition) setup.men (other (starts form)) → check_number check ≡ setup_fault state form setup
+    pub check_fault : (check : Bool) → has_king_to_mate stipulation setup.men ≡ true → check ≡ in_check (rule_of state.condition) setup.men (other (starts stipulation.form)) → check_number check ≡ setup_fault state stipulation setup
     check_fault check king at =
-        let turn : setup.turn ≡ starts form = ap (λ s. s.turn) is in
+        let turn : setup.turn ≡ starts stipulation.form = ap (λ s. s.turn) is in
         rw (some, right, king, turn, ← at) refl
 
 abbrev tests_by : Bool → Bool → Bool → Bool → Option ℕ
@@ -101,16 +101,16 @@ passed true true true false h = (refl, refl)
 
 -- a problem whose words have no fault, nor their end
 pub sound_by : (state : State) (stipulation : Stipulation) (title author : List ℕ) → state.stipulation ≡ Some stipulation → is_stated state.stipulation ≡ true → 1 ≤ state.limit → state.limit ≤ most_solutions
-    → IsWellFormed (position_of (setup_of state stipulation.form)) → setup_fault state stipulation.form (setup_of state stipulation.form) ≡ None → IsSound (posed_by state stipulation title author)
+    → IsWellFormed (position_of (setup_of state stipulation.form)) → setup_fault state stipulation (setup_of state stipulation.form) ≡ None → IsSound (posed_by state stipulation title author)
 sound_by state stipulation title author is stated low high well none =
     let setup = setup_of state stipulation.form in
-    let tests = passed (some_square (is_taken setup.men)) (is_crossed_right setup.men setup.turn setup.crossed) (is_some (king_square setup.men (mated stipulation.form))) (in_check (rule_of state.condition) setup.men (other setup.turn)) none in
+    let tests = passed (some_square (is_taken setup.men)) (is_crossed_right setup.men setup.turn setup.crossed) (has_king_to_mate stipulation setup.men) (in_check (rule_of state.condition) setup.men (other setup.turn)) none in
     record {
       well_formed = well;
       turn = refl;
       range = rw is at stated;
       some_solution = low;
       limit = high;
-      mated = tests.0;
+      king = tests.0;
       quiet = tests.1;
     }

@@ -21,6 +21,7 @@ use Rattle.pop_input.specs.State.{no_men}
 use Rattle.pop_input.specs.Values.{limit_of, squares_of, stipulation_of}
 use Rattle.pop_input.specs.WordFaults.{is_there, stands}
 use Rattle.pop_input.specs.declared.condition.Condition.TheVariants.{Madrasi}
+use Rattle.pop_input.specs.declared.stipulation.Goal.TheVariants.{Mate, Stalemate}
 use Rattle.pop_input.specs.declared.stipulation.Form.TheVariants.{Direct, Help}
 
 abbrev items_by : Ending → List ℕ → List Entry
@@ -48,9 +49,14 @@ unfolding limit awaited_of colour_of command_of condition_of kind_of option_of s
 squares_misplaced = (refl, refl, refl)
 
 -- a second stipulation, another word behind one, one out of range
-stipulations_misplaced : (items (codes "BeginProblem\nPieces White Kg6 Ra1 Black Kg8\nStipulation #1 #1\nEndProblem\n") ≡ only_fault 9 3) × (items (codes "BeginProblem\nPieces White Kg6 Ra1 Black Kg8\nStipulation #1 foo\nEndProblem\n") ≡ only_fault 2 3) × (items (codes "BeginProblem\nPieces White Kg6 Ra1 Black Kg8\nStipulation h#8.5\nEndProblem\n") ≡ only_fault 8 3) × (items (codes "BeginProblem\nPieces White Kg6 Ra1 Black Kg8\nStipulation #0\nEndProblem\n") ≡ only_fault 8 3)
+stipulations_misplaced : (items (codes "BeginProblem\nPieces White Kg6 Ra1 Black Kg8\nStipulation #1 #1\nEndProblem\n") ≡ only_fault 9 3) × (items (codes "BeginProblem\nPieces White Kg6 Ra1 Black Kg8\nStipulation #1 foo\nEndProblem\n") ≡ only_fault 2 3) × (items (codes "BeginProblem\nPieces White Kg6 Ra1 Black Kg8\nStipulation h#16.5\nEndProblem\n") ≡ only_fault 8 3) × (items (codes "BeginProblem\nPieces White Kg6 Ra1 Black Kg8\nStipulation #0\nEndProblem\n") ≡ only_fault 8 3)
 unfolding limit awaited_of colour_of command_of condition_of kind_of option_of section_of text_word_of limit_of squares_of stipulation_of is_there stands some_square squares
 stipulations_misplaced = (refl, refl, refl, refl)
+
+-- with the other goal: a second stipulation, numbers out of range and with a leading zero
+goals_misplaced : (items (codes "BeginProblem\nPieces White Kg6 Ra1 Black Kg8\nStipulation #1 =1\nEndProblem\n") ≡ only_fault 9 3) × (items (codes "BeginProblem\nStipulation =0\n") ≡ only_fault 8 2) × (items (codes "BeginProblem\nStipulation =17\n") ≡ only_fault 8 2) × (items (codes "BeginProblem\nStipulation s=01\n") ≡ only_fault 8 2) × (items (codes "BeginProblem\nStipulation h=16.5\n") ≡ only_fault 8 2)
+unfolding limit awaited_of colour_of command_of condition_of kind_of option_of section_of text_word_of limit_of squares_of stipulation_of is_there stands some_square squares
+goals_misplaced = (refl, refl, refl, refl, refl)
 
 -- limits out of range, a square that does not come, a square from which none castles, a second condition
 values_misplaced : (items (codes "BeginProblem\nPieces White Kg6 Ra1 Black Kg8\nStipulation #1\nOption MaxSolutions 4000000001\nEndProblem\n") ≡ only_fault 13 4) × (items (codes "BeginProblem\nPieces White Kg6 Ra1 Black Kg8\nStipulation #1\nOption MaxSolutions 0\nEndProblem\n") ≡ only_fault 13 4) × (items (codes "BeginProblem\nPieces White Kg6 Ra1 Black Kg8\nStipulation #1\nOption EnPassant\nEndProblem\n") ≡ only_fault 14 5) × (items (codes "BeginProblem\nPieces White Kg6 Ra1 Black Kg8\nStipulation #1\nOption NoCastling a2\nEndProblem\n") ≡ only_fault 16 4) × (items (codes "BeginProblem\nPieces White Kg6 Ra1 Black Kg8\nStipulation #1\nCondition Circe Circe\nEndProblem\n") ≡ only_fault 12 4)
@@ -83,7 +89,7 @@ three_men = with_man (with_man (with_man no_men 46 (man White King)) 0 (man Whit
 sound_problem : items (codes "Title early\nBeginProblem\nAuthor X\nPieces White Kg6 Remark EndProblem\nRa1 Black Kg8\naut  A. B. \nStipulation #1\nEndProblem foo\n")
     ≡ Sound (record {
       diagram = record { men = three_men; turn = White; unmoved = mark_unmoved none_unmoved 0 true; crossed = None };
-      stipulation = record { form = Direct; n = 1 };
+      stipulation = record { form = Direct; goal = Mate; n = 1 };
       condition = None;
       set_play = false;
       variation = false;
@@ -96,10 +102,10 @@ unfolding limit awaited_of colour_of command_of condition_of kind_of option_of s
 sound_problem = refl
 
 -- sections twice and in any order, small letters, short forms, options with their values
-sound_options : items (codes "beg\nopt set max 5 max 007 noc h1a1\nsti H#2\ncon mad\npie w kG6 ra1\noption VAR nob\npieces b Kg8\nnex\n")
+sound_options : items (codes "beg\nopt set max 5 max 007 noc h1a1\nsti H=12\ncon mad\npie w kG6 ra1\noption VAR nob\npieces b Kg8\nnex\n")
     ≡ Sound (record {
       diagram = record { men = three_men; turn = Black; unmoved = none_unmoved; crossed = None };
-      stipulation = record { form = Help; n = 2 };
+      stipulation = record { form = Help; goal = Stalemate; n = 12 };
       condition = Some Madrasi;
       set_play = true;
       variation = true;

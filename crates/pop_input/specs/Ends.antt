@@ -2,7 +2,7 @@
 use Rattle.std.specs.Prelude.{◌≡◌, ℕ, List, [], ◌∷◌, length, fold, not, ◌&&◌, Bool, true, if◌then◌else◌, Option, Some, None, is_some, unwrap_or}
 use Rattle.chess_core.specs.Castling.{has_unmoved, mark_unmoved, none_unmoved}
 use Rattle.chess_core.specs.Diagrams.{Setup}
-use Rattle.chess_core.specs.Position.{AtMostOneKing, king_square, man_on, other}
+use Rattle.chess_core.specs.Position.{AtMostOneKing, man_on, other}
 use Rattle.chess_core.specs.Squares.{some_square}
 use Rattle.chess_core.specs.WellFormed.{is_crossed_right, is_home, is_pawn_inside}
 use Rattle.chess_core.specs.declared.man.Man.{Man}
@@ -10,9 +10,10 @@ use Rattle.chess_core.specs.declared.man.Unmoved.{Unmoved}
 use Rattle.chess_rules.specs.Attacks.{in_check}
 use Rattle.pop_input.specs.Posed.{Posed, rule_of}
 use Rattle.pop_input.specs.State.{State}
-use Rattle.pop_input.specs.Stipulations.{starts, mated, is_in_range}
+use Rattle.pop_input.specs.Stipulations.{starts, has_king_to_mate, is_in_range}
 use Rattle.pop_input.specs.declared.stipulation.Form.{Form}
 use Rattle.pop_input.specs.declared.stipulation.Form.TheVariants.{Direct}
+use Rattle.pop_input.specs.declared.stipulation.Goal.TheVariants.{Mate}
 use Rattle.pop_input.specs.declared.stipulation.Stipulation.{Stipulation}
 
 -- The diagram.
@@ -30,7 +31,7 @@ setup_of state form = record { men = state.men; turn = starts form; unmoved = un
 
 -- for words without one
 abbrev pub no_stipulation : Stipulation
-no_stipulation = record { form = Direct; n = 1 }
+no_stipulation = record { form = Direct; goal = Mate; n = 1 }
 
 abbrev pub posed_by : State → Stipulation → List ℕ → List ℕ → Posed
 posed_by state stipulation title author = record {
@@ -55,16 +56,16 @@ unfoldable pub is_taken : List (Option Man) → ℕ → Bool
 is_taken men square = is_some (man_on men square)
 
 -- no men, en passant not possible, no king to be mated, the side that isn't to move in check
-abbrev pub setup_fault : State → Form → Setup → Option ℕ
-setup_fault state form setup =
+abbrev pub setup_fault : State → Stipulation → Setup → Option ℕ
+setup_fault state stipulation setup =
     if not (some_square (is_taken setup.men)) then Some 11
     else (if not (is_crossed_right setup.men setup.turn setup.crossed) then Some 15
-    else (if not (is_some (king_square setup.men (mated form))) then Some 17
+    else (if not (has_king_to_mate stipulation setup.men) then Some 17
     else (if in_check (rule_of state.condition) setup.men (other setup.turn) then Some 18 else None)))
 
 abbrev pub stated_fault : State → Option Stipulation → Option ℕ
 stated_fault state None = Some 10
-stated_fault state (Some stipulation) = setup_fault state stipulation.form (setup_of state stipulation.form)
+stated_fault state (Some stipulation) = setup_fault state stipulation (setup_of state stipulation.form)
 
 -- the fault at the end of a block whose words have none
 unfoldable pub end_fault_in : State → Option ℕ

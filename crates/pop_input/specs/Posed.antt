@@ -1,11 +1,11 @@
 -- A problem as it is posed.
-use Rattle.std.specs.Prelude.{◌≡◌, ◌≤◌, ℕ, Bool, true, false, List, Option, Some, None, is_some}
+use Rattle.std.specs.Prelude.{◌≡◌, ◌≤◌, ℕ, Bool, true, false, List, Option, Some, None}
 use Rattle.chess_core.specs.Diagrams.{Setup, position_of}
-use Rattle.chess_core.specs.Position.{king_square, other}
+use Rattle.chess_core.specs.Position.{other}
 use Rattle.chess_core.specs.WellFormed.{IsWellFormed}
 use Rattle.chess_rules.specs.Attacks.{in_check}
 use Rattle.chess_rules.specs.RuleSet.{RuleSet, orthodox, circe, madrasi}
-use Rattle.pop_input.specs.Stipulations.{starts, mated, is_in_range}
+use Rattle.pop_input.specs.Stipulations.{starts, has_king_to_mate, is_in_range}
 use Rattle.pop_input.specs.declared.condition.Condition.{Condition}
 use Rattle.pop_input.specs.declared.condition.Condition.TheVariants.{Circe, Madrasi}
 use Rattle.pop_input.specs.declared.stipulation.Stipulation.{Stipulation}
@@ -37,5 +37,5 @@ pub record IsSound (posed : Posed) : Type 0 where
   pub range : is_in_range posed.stipulation ≡ true
   pub some_solution : 1 ≤ posed.max_solutions
   pub limit : posed.max_solutions ≤ 4000000000
-  pub mated : is_some (king_square posed.diagram.men (mated posed.stipulation.form)) ≡ true
+  pub king : has_king_to_mate posed.stipulation posed.diagram.men ≡ true
   pub quiet : in_check (rule_of posed.condition) posed.diagram.men (other posed.diagram.turn) ≡ false

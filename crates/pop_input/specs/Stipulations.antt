@@ -1,9 +1,13 @@
--- What the forms of stipulation say (Codex; Popeye manual; the range of n is this project's own).
-use Rattle.std.specs.Prelude.{ℕ, ◌+◌, ◌-◌, ◌*◌, nat_le, Bool, true, false, ◌&&◌}
+-- What stipulations say (Codex; Popeye manual; the range of n is this project's own).
+use Rattle.std.specs.Prelude.{ℕ, ◌+◌, ◌-◌, ◌*◌, nat_le, Bool, true, false, ◌&&◌, ◌||◌, List, Option, is_some}
+use Rattle.chess_core.specs.Position.{king_square}
+use Rattle.chess_core.specs.declared.man.Man.{Man}
 use Rattle.chess_core.specs.declared.man.Colour.{Colour}
 use Rattle.chess_core.specs.declared.man.Colour.TheVariants.{White, Black}
 use Rattle.pop_input.specs.declared.stipulation.Form.{Form}
 use Rattle.pop_input.specs.declared.stipulation.Form.TheVariants.{Direct, SelfMate, Help, HelpHalf}
+use Rattle.pop_input.specs.declared.stipulation.Goal.{Goal}
+use Rattle.pop_input.specs.declared.stipulation.Goal.TheVariants.{Mate, Stalemate}
 use Rattle.pop_input.specs.declared.stipulation.Stipulation.{Stipulation}
 
 -- both sides help
@@ -13,7 +17,7 @@ is_help SelfMate = false
 is_help Help = true
 is_help HelpHalf = true
 
--- White is to be mated
+-- the goal is to befall White
 abbrev pub is_selfmate : Form → Bool
 is_selfmate Direct = false
 is_selfmate SelfMate = true
@@ -27,7 +31,7 @@ starts SelfMate = White
 starts Help = Black
 starts HelpHalf = White
 
--- the side that is to be mated
+-- the side that is to be mated or stalemated
 abbrev pub mated : Form → Colour
 mated Direct = Black
 mated SelfMate = White
@@ -51,12 +55,25 @@ half_moves_of HelpHalf n = 2 * n + 1
 abbrev pub half_moves : Stipulation → ℕ
 half_moves stipulation = half_moves_of stipulation.form stipulation.n
 
+-- the goal is stalemate
+abbrev pub is_for_stalemate : Goal → Bool
+is_for_stalemate Mate = false
+is_for_stalemate Stalemate = true
+
+-- among these men stands the king that is to be mated; stalemate asks for none
+abbrev pub has_king_to_mate : Stipulation → List (Option Man) → Bool
+has_king_to_mate stipulation men = is_for_stalemate stipulation.goal || is_some (king_square men (mated stipulation.form))
+
+-- the most moves of a stipulation
+abbrev pub most_moves : ℕ
+most_moves = 16
+
 -- the numbers that a form may have
 abbrev pub may_have : Form → ℕ → Bool
-may_have Direct n = nat_le 1 n && nat_le n 8
-may_have SelfMate n = nat_le 1 n && nat_le n 8
-may_have Help n = nat_le 1 n && nat_le n 8
-may_have HelpHalf n = nat_le n 7
+may_have Direct n = nat_le 1 n && nat_le n most_moves
+may_have SelfMate n = nat_le 1 n && nat_le n most_moves
+may_have Help n = nat_le 1 n && nat_le n most_moves
+may_have HelpHalf n = nat_le (n + 1) most_moves
 
 abbrev pub is_in_range : Stipulation → Bool
 is_in_range stipulation = may_have stipulation.form stipulation.n

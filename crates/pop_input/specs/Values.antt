@@ -1,11 +1,13 @@
 -- Words that are values: squares, numbers, stipulations (Popeye manual; the ranges are own).
-use Rattle.std.specs.Prelude.{ℕ, ◌+◌, ◌-◌, ◌*◌, ◌==◌, ◌&&◌, nat_le, List, [], ◌∷◌, map, fold, Bool, if◌then◌else◌, Option, Some, None}
+use Rattle.std.specs.Prelude.{ℕ, ◌+◌, ◌-◌, ◌*◌, ◌==◌, ◌&&◌, nat_le, not, List, [], ◌∷◌, map, fold, Bool, if◌then◌else◌, Option, Some, None}
 use Rattle.std.specs.Char.{to_ascii_lowercase}
 use Rattle.std.specs.List.{list_all}
 use Rattle.chess_core.specs.Squares.{square_at}
 use Rattle.pop_input.specs.Stipulations.{may_have}
 use Rattle.pop_input.specs.declared.stipulation.Form.{Form}
 use Rattle.pop_input.specs.declared.stipulation.Form.TheVariants.{Direct, SelfMate, Help, HelpHalf}
+use Rattle.pop_input.specs.declared.stipulation.Goal.{Goal}
+use Rattle.pop_input.specs.declared.stipulation.Goal.TheVariants.{Mate, Stalemate}
 use Rattle.pop_input.specs.declared.stipulation.Stipulation.{Stipulation}
 
 -- the square that a letter, in capitals or not, and a digit name
@@ -48,18 +50,39 @@ most_solutions = 4000000000
 unfoldable pub limit_of : List ℕ → Option ℕ
 limit_of text = if list_all is_digit text && (nat_le 1 (value_of text) && nat_le (value_of text) most_solutions) then Some (value_of text) else None
 
-abbrev pub stated : Form → ℕ → Option Stipulation
-stated form digit = if is_digit digit && may_have form (digit - 48) then Some (record { form = form; n = digit - 48 }) else None
+-- the goal that a sign names: `#` or `=`
+abbrev pub goal_of : ℕ → Option Goal
+goal_of sign = if sign == 35 then Some Mate else (if sign == 61 then Some Stalemate else None)
 
--- `#n`, `s#n`, `h#n` and `h#n.5`, in small letters
+-- the number that one digit writes, or two of which the first isn't 0
+abbrev pub one_digit : ℕ → Option ℕ
+one_digit a = if is_digit a then Some (a - 48) else None
+
+abbrev pub two_digits : ℕ → ℕ → Option ℕ
+two_digits a b = if (is_digit a && not (a == 48)) && is_digit b then Some (10 * (a - 48) + (b - 48)) else None
+
+-- a form with its goal and its number of moves, if it has both and may have the number
+abbrev pub stated : Form → Option Goal → Option ℕ → Option Stipulation
+stated form (Some goal) (Some n) = if may_have form n then Some (record { form = form; goal = goal; n = n }) else None
+stated form None _ = None
+stated form (Some goal) None = None
+
+-- `#n`, `s#n`, `h#n` and `h#n.5`, and the same with `=`, in small letters
 abbrev pub stipulation_by : List ℕ → Option Stipulation
 stipulation_by [] = None
 stipulation_by (a ∷ []) = None
-stipulation_by (a ∷ n ∷ []) = if a == 35 then stated Direct n else None
-stipulation_by (a ∷ b ∷ n ∷ []) = if b == 35 then (if a == 115 then stated SelfMate n else (if a == 104 then stated Help n else None)) else None
-stipulation_by (a ∷ b ∷ n ∷ c ∷ []) = None
-stipulation_by (a ∷ b ∷ n ∷ c ∷ d ∷ []) = if ((a == 104) && (b == 35)) && ((c == 46) && (d == 53)) then stated HelpHalf n else None
-stipulation_by (a ∷ b ∷ n ∷ c ∷ d ∷ e ∷ text) = None
+stipulation_by (a ∷ n ∷ []) = stated Direct (goal_of a) (one_digit n)
+stipulation_by (a ∷ b ∷ n ∷ []) =
+    if a == 115 then stated SelfMate (goal_of b) (one_digit n)
+    else (if a == 104 then stated Help (goal_of b) (one_digit n) else stated Direct (goal_of a) (two_digits b n))
+stipulation_by (a ∷ b ∷ m ∷ n ∷ []) =
+    if a == 115 then stated SelfMate (goal_of b) (two_digits m n)
+    else (if a == 104 then stated Help (goal_of b) (two_digits m n) else None)
+stipulation_by (a ∷ b ∷ n ∷ c ∷ d ∷ []) =
+    if (a == 104) && ((c == 46) && (d == 53)) then stated HelpHalf (goal_of b) (one_digit n) else None
+stipulation_by (a ∷ b ∷ m ∷ n ∷ c ∷ d ∷ []) =
+    if (a == 104) && ((c == 46) && (d == 53)) then stated HelpHalf (goal_of b) (two_digits m n) else None
+stipulation_by (a ∷ b ∷ m ∷ n ∷ c ∷ d ∷ e ∷ text) = None
 
 -- the stipulation that a word states
 unfoldable pub stipulation_of : List ℕ → Option Stipulation

@@ -1,5 +1,5 @@
 -- The fault of a word, by its number: what the words before say decides (own).
-use Rattle.std.specs.Prelude.{ℕ, List, [], ◌∷◌, length, nat_le, nat_lt, not, ◌&&◌, Bool, if◌then◌else◌, Option, Some, None, is_some}
+use Rattle.std.specs.Prelude.{ℕ, List, [], ◌∷◌, length, nat_le, nat_lt, not, ◌&&◌, ◌||◌, Bool, if◌then◌else◌, Option, Some, None, is_some}
 use Rattle.std.specs.Prelude.{◌==◌}
 use Rattle.std.specs.List.{list_any, list_all}
 use Rattle.chess_core.specs.Position.{is_man, man_on, same_kind, with_man}
@@ -79,7 +79,7 @@ pieces_fault state (letter ∷ text) = if is_some (colour_of (letter ∷ text)) 
 -- where one was given: a second one holds the sign #
 abbrev pub stipulation_fault : Option Stipulation → List ℕ → Option ℕ
 stipulation_fault None text = fault_if (not (is_some (stipulation_of text))) 8
-stipulation_fault (Some given) text = if list_any (λ b. b == 35) text then Some 9 else Some 2
+stipulation_fault (Some given) text = if list_any (λ b. b == 35) text || list_any (λ b. b == 61) text then Some 9 else Some 2
 
 abbrev pub condition_fault : Option Condition → List ℕ → Option ℕ
 condition_fault given text = if not (is_some (condition_of text)) then Some 2 else fault_if (is_some given) 12

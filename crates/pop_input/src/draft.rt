@@ -11,6 +11,7 @@ ghost use Rattle.pop_input.specs.Posed.{rule_of};
 ghost use Rattle.pop_input.specs.Ends.{counts, end_fault_in, is_taken, posed_of, setup_fault, setup_of, unmoved_of};
 ghost use Rattle.pop_input.specs.Names.{kind_of};
 ghost use Rattle.pop_input.specs.Values.{is_digit, squares_of};
+ghost use Rattle.pop_input.specs.Stipulations.{has_king_to_mate};
 ghost use Rattle.pop_input.specs.State.{State, awaited_by, put_kind, put_men, state_after, state_by, state_of, switches_with};
 ghost use Rattle.pop_input.specs.WordFaults.{control_fault, fault_in, is_castling, is_foreign, is_there, letter_fault, man_fault, men_fault, role_fault, stands};
 ghost use Rattle.pop_input.specs.declared.place.Role.TheVariants.{BarredSquares, Control, CrossedSquare, Limit, Within};
@@ -188,7 +189,7 @@ impl Draft {
         ensures state { result ≡ None → self.new ≡ state_by (Within (Some Stipulations)) self.old word.now }
     {
         if self.stipulation.is_some() {
-            return if word.contains(&b'#') {
+            return if word.contains(&b'#') || word.contains(&b'=') {
                 Some(9)
             } else {
                 Some(2)
@@ -357,7 +358,7 @@ impl Draft {
             return Err(10);
         };
         let diagram = self.diagram_for(stipulation.form);
-        match self.setup_fault(&diagram, stipulation.form) {
+        match self.setup_fault(&diagram, stipulation) {
             Some(number) => Err(number),
             None => Ok(Problem::new(
                 &diagram,
@@ -383,9 +384,9 @@ impl Draft {
     }
 
     // The fault of that diagram.
-    fn setup_fault(&self, diagram: &Diagram, form: Form) -> Option<u8>
-        requires { diagram.now ≡ setup_of self.now form }
-        ensures number { result ≡ setup_fault self.now form diagram.now }
+    fn setup_fault(&self, diagram: &Diagram, stipulation: Stipulation) -> Option<u8>
+        requires { diagram.now ≡ setup_of self.now stipulation.form }
+        ensures number { result ≡ setup_fault self.now stipulation diagram.now }
         ensures well_formed { result ≡ None → IsWellFormed (position_of diagram.now) }
     {
         let condition = self.condition;
@@ -396,10 +397,10 @@ impl Draft {
             return Some(15);
         }
         let board = Board::of(diagram);
-        if board.king_of(form.mated()).is_none() {
+        if !has_king_to_mate(stipulation, &board) {
             return Some(17);
         }
-        if is_in_check(&board, condition, form.starts().other()) {
+        if is_in_check(&board, condition, stipulation.form.starts().other()) {
             return Some(18);
         }
         None
@@ -467,6 +468,13 @@ fn is_taken(diagram: &Diagram, square: Square) -> bool
     ensures { result ≡ is_taken diagram.now.men square }
 {
     diagram.man_at(square).is_some()
+}
+
+// Whether the king that is to be mated stands on the board; stalemate asks for none.
+fn has_king_to_mate(stipulation: Stipulation, board: &Board) -> bool
+    ensures { result ≡ has_king_to_mate stipulation board.now.men }
+{
+    stipulation.goal.is_stalemate() || board.king_of(stipulation.form.mated()).is_some()
 }
 
 // Whether the colour is in check under the condition.

@@ -1,27 +1,55 @@
 //! What a problem asks for.
 ghost use Rattle.std.specs.Prelude.{◌≡◌};
-ghost use Rattle.pop_input.specs.Stipulations.{mated, starts};
+ghost use Rattle.pop_input.specs.Stipulations.{is_for_stalemate, mated, starts};
 
 use chess_core::man::Colour;
 
-/// Who plays, and who is mated (Codex; words of the Popeye manual).
+/// Who plays, and whom the goal is to befall (Codex; words of the Popeye manual). `#` stands for the goal.
 #[derive(Clone, Copy, Debug, PartialEq, Eq)]
 pub enum Form {
-    /// `#n`: White starts and mates Black against every defence.
+    /// `#n`: White starts and reaches the goal against every defence.
     Direct,
-    /// `s#n`: White starts and forces Black to mate White.
+    /// `s#n`: White starts and forces Black to reach it against White.
     SelfMate,
-    /// `h#n`: Black starts, both help, and White mates with his last move.
+    /// `h#n`: Black starts, both help, and White reaches it with his last move.
     Help,
     /// `h#n.5`: as `h#n`, with one half-move of White more at its front.
     HelpHalf,
 }
 
-/// A form and its number of moves: 1 to 8, with `HelpHalf` 0 to 7.
+/// What is to befall a side with the last move.
+#[derive(Clone, Copy, Debug, PartialEq, Eq)]
+pub enum Goal {
+    /// `#`: mate, check without a legal move (FIDE Laws 5.1.1).
+    Mate,
+    /// `=`: stalemate, no check and no legal move (FIDE Laws 5.2.1).
+    Stalemate,
+}
+
+/// The most moves of a stipulation (own).
+pub const MOST_MOVES: u8 = 16;
+
+/// The most half-moves of a stipulation: two a move.
+pub const MOST_HALF_MOVES: usize = 32;
+
+/// A form, its goal and its number of moves: 1 to 16, with `HelpHalf` 0 to 15.
 #[derive(Clone, Copy, Debug, PartialEq, Eq)]
 pub struct Stipulation {
     pub form: Form,
+    pub goal: Goal,
     pub n: u8,
+}
+
+impl Goal {
+    /// Whether it is stalemate.
+    pub fn is_stalemate(self) -> bool
+        ensures { result ≡ is_for_stalemate self }
+    {
+        match self {
+            Goal::Mate => false,
+            Goal::Stalemate => true,
+        }
+    }
 }
 
 impl Form {
@@ -35,7 +63,7 @@ impl Form {
         }
     }
 
-    /// The side that is to be mated.
+    /// The side that is to be mated or stalemated.
     pub fn mated(self) -> Colour
         ensures { result ≡ mated self }
     {

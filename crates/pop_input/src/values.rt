@@ -1,10 +1,10 @@
 //! Words that are values: squares, numbers, stipulations.
 ghost use Rattle.std.specs.Prelude.{◌≡◌, ◌≤◌, ℕ, IfSome, length, option_map, true};
 ghost use Rattle.pop_input.specs.Ends.{is_stated};
-ghost use Rattle.pop_input.specs.Values.{is_digit, limit_of, most_solutions, only, square_by, squares_of, stated, stipulation_of};
+ghost use Rattle.pop_input.specs.Values.{goal_of, is_digit, limit_of, most_solutions, one_digit, only, square_by, squares_of, stated, stipulation_of, two_digits};
 
 use crate::names::small_letters;
-use crate::stipulation::{Form, Stipulation};
+use crate::stipulation::{Form, Goal, MOST_MOVES, Stipulation};
 use arrayvec::ArrayVec;
 use chess_core::square::Square;
 
@@ -85,27 +85,62 @@ pub(crate) fn limit_of(word: &[u8]) -> Option<u32>
     }
 }
 
-// A form with a digit for its number of moves.
-fn stated(form: Form, digit: u8) -> Option<Stipulation>
-    ensures value { result ≡ stated form digit }
-    ensures range { is_stated result ≡ true }
+// The goal that the sign names.
+fn goal_of(sign: u8) -> Option<Goal>
+    ensures { result ≡ goal_of sign }
 {
-    if !is_digit(digit) {
-        return None;
+    match sign {
+        b'#' => Some(Goal::Mate),
+        b'=' => Some(Goal::Stalemate),
+        _ => None,
     }
-    let n = digit - b'0';
-    let fits = match form {
-        Form::Direct | Form::SelfMate | Form::Help => n >= 1 && n <= 8,
-        Form::HelpHalf => n <= 7,
-    };
-    if fits {
-        Some(Stipulation { form, n })
+}
+
+// The number that a digit writes.
+fn one_digit(digit: u8) -> Option<u8>
+    ensures value { result ≡ one_digit digit }
+{
+    if is_digit(digit) {
+        Some(digit - b'0')
     } else {
         None
     }
 }
 
-/// The stipulation that the word states: `#n`, `s#n`, `h#n` or `h#n.5`.
+// The number that two digits write, of which the first isn't 0.
+fn two_digits(tens: u8, ones: u8) -> Option<u8>
+    ensures value { result ≡ two_digits tens ones }
+{
+    if is_digit(tens) && tens != b'0' && is_digit(ones) {
+        Some(10 * (tens - b'0') + (ones - b'0'))
+    } else {
+        None
+    }
+}
+
+// A form with its goal and its number of moves.
+fn stated(form: Form, goal: Option<Goal>, n: Option<u8>) -> Option<Stipulation>
+    ensures value { result ≡ stated form goal n }
+    ensures range { is_stated result ≡ true }
+{
+    let Some(goal) = goal else {
+        return None;
+    };
+    let Some(n) = n else {
+        return None;
+    };
+    let fits = match form {
+        Form::Direct | Form::SelfMate | Form::Help => n >= 1 && n <= MOST_MOVES,
+        Form::HelpHalf => n < MOST_MOVES,
+    };
+    if fits {
+        Some(Stipulation { form, goal, n })
+    } else {
+        None
+    }
+}
+
+/// The stipulation that the word states: `#n`, `s#n`, `h#n` or `h#n.5`, or one of these with `=`.
 #[tactic(auto, unfolding(crate::specs::Values::stipulation_of))]
 pub(crate) fn stipulation_of(word: &[u8]) -> Option<Stipulation>
     requires { length word.now ≤ 160 }
@@ -114,10 +149,14 @@ pub(crate) fn stipulation_of(word: &[u8]) -> Option<Stipulation>
 {
     let letters = small_letters(word);
     match letters.as_slice() {
-        [b'#', n] => stated(Form::Direct, *n),
-        [b's', b'#', n] => stated(Form::SelfMate, *n),
-        [b'h', b'#', n] => stated(Form::Help, *n),
-        [b'h', b'#', n, b'.', b'5'] => stated(Form::HelpHalf, *n),
+        [sign, n] => stated(Form::Direct, goal_of(*sign), one_digit(*n)),
+        [b's', sign, n] => stated(Form::SelfMate, goal_of(*sign), one_digit(*n)),
+        [b'h', sign, n] => stated(Form::Help, goal_of(*sign), one_digit(*n)),
+        [sign, m, n] => stated(Form::Direct, goal_of(*sign), two_digits(*m, *n)),
+        [b's', sign, m, n] => stated(Form::SelfMate, goal_of(*sign), two_digits(*m, *n)),
+        [b'h', sign, m, n] => stated(Form::Help, goal_of(*sign), two_digits(*m, *n)),
+        [b'h', sign, n, b'.', b'5'] => stated(Form::HelpHalf, goal_of(*sign), one_digit(*n)),
+        [b'h', sign, m, n, b'.', b'5'] => stated(Form::HelpHalf, goal_of(*sign), two_digits(*m, *n)),
         _ => None,
     }
 }

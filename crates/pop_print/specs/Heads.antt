@@ -8,6 +8,9 @@ use Rattle.chess_core.specs.declared.man.Colour.TheVariants.{White, Black}
 use Rattle.pop_input.specs.Posed.{Posed}
 use Rattle.pop_input.specs.declared.stipulation.Form.{Form}
 use Rattle.pop_input.specs.declared.stipulation.Form.TheVariants.{Direct, SelfMate, Help, HelpHalf}
+use Rattle.pop_input.specs.declared.stipulation.Goal.{Goal}
+use Rattle.pop_input.specs.declared.stipulation.Goal.TheVariants.{Mate, Stalemate}
+use Rattle.pop_input.specs.declared.stipulation.Stipulation.{Stipulation}
 use Rattle.pop_input.specs.declared.condition.Condition.{Condition}
 use Rattle.pop_input.specs.declared.condition.Condition.TheVariants.{Circe, Madrasi}
 use Rattle.pop_print.specs.Notation.{letter_of}
@@ -35,12 +38,28 @@ abbrev pub labelled : List ℕ → List ℕ → List ℕ
 labelled label [] = []
 labelled label (byte ∷ text) = label ++ (byte ∷ text) ++ codes "\n"
 
+-- what stands before and behind the goal's sign and the number in the stipulation's word
+abbrev pub form_text : Form → List ℕ
+form_text Direct = []
+form_text SelfMate = codes "s"
+form_text Help = codes "h"
+form_text HelpHalf = codes "h"
+
+abbrev pub half_text : Form → List ℕ
+half_text Direct = []
+half_text SelfMate = []
+half_text Help = []
+half_text HelpHalf = codes ".5"
+
+-- the goal's sign
+abbrev pub goal_text : Goal → List ℕ
+goal_text Mate = codes "#"
+goal_text Stalemate = codes "="
+
 -- the stipulation's word
-abbrev pub aim_text : Form → ℕ → List ℕ
-aim_text Direct n = codes "#" ++ decimal n
-aim_text SelfMate n = codes "s#" ++ decimal n
-aim_text Help n = codes "h#" ++ decimal n
-aim_text HelpHalf n = codes "h#" ++ decimal n ++ codes ".5"
+abbrev pub stipulation_text : Stipulation → List ℕ
+stipulation_text stipulation =
+    form_text stipulation.form ++ goal_text stipulation.goal ++ decimal stipulation.n ++ half_text stipulation.form
 
 -- the condition's word behind a blank
 abbrev pub condition_text : Option Condition → List ℕ
@@ -58,7 +77,7 @@ names_text posed = labelled (codes "title: ") posed.title ++ labelled (codes "au
 
 -- the line of the stipulation
 unfoldable pub task_line : Posed → List ℕ
-task_line posed = aim_text posed.stipulation.form posed.stipulation.n ++ condition_text posed.condition ++ codes "\n"
+task_line posed = stipulation_text posed.stipulation ++ condition_text posed.condition ++ codes "\n"
 
 -- the head of a sound item, with its board unless the problem or the settings leave it out
 unfoldable pub head_text : ℕ → Posed → Bool → List ℕ

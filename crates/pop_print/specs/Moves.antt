@@ -5,7 +5,7 @@ use Rattle.chess_core.specs.declared.man.Kind.{Kind}
 use Rattle.pop_solve.specs.declared.shown.Side.{Side}
 use Rattle.pop_solve.specs.declared.shown.Side.TheVariants.{A, H}
 use Rattle.pop_solve.specs.declared.shown.Mark.{Mark}
-use Rattle.pop_solve.specs.declared.shown.Mark.TheVariants.{Plain, Check, Mate}
+use Rattle.pop_solve.specs.declared.shown.Mark.TheVariants.{Plain, Check, Mate, Stalemate}
 use Rattle.pop_solve.specs.Shown.{Shown}
 use Rattle.pop_print.specs.Notation.{colour_letter, letter_of, man_text, square_text}
 
@@ -36,6 +36,7 @@ rebirth_text (Some reborn) =
 -- mate, a check that isn't mate, or neither
 abbrev pub mark_text : Mark → List ℕ
 mark_text Mate = codes "#"
+mark_text Stalemate = codes "="
 mark_text Check = codes "+"
 mark_text Plain = []
 

@@ -3,4 +3,4 @@ use Rattle.std.specs.Prelude.{ℕ}
 
 -- the most bytes that are put together (own: more than the longest line or head of any problem)
 abbrev pub room : ℕ
-room = 1024
+room = 1536

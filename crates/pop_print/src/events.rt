@@ -30,7 +30,7 @@ pub fn print_event<W: Sink>(sink: &mut W, event: &Event) -> Result<(), SinkFault
 // The moves of a help line.
 fn print_line<W: Sink>(sink: &mut W, half: u32, moves: &[Shown]) -> Result<(), SinkFault>
     requires sink { W.failures sink.old < greatest }
-    requires room { length moves.now ≤ 16 }
+    requires room { length moves.now ≤ 32 }
     ensures bytes { Writes (W.taken sink.old) (W.taken sink.new) (line_text half moves.now) result }
     ensures counted { W.failures sink.new ≡ count_after result (W.failures sink.old) }
 {
@@ -117,11 +117,11 @@ impl LineBuffer {
 
     // Adds the moves of a line, the first of which is the half-move `half`.
     fn add_moves(&mut self, half: u64, moves: &[Shown])
-        requires room { length self.old + 704 ≤ room }
-        requires moves { length moves.now ≤ 16 }
+        requires room { length self.old + 1408 ≤ room }
+        requires moves { length moves.now ≤ 32 }
         requires half { half < 2 ^ 32 }
         ensures text { self.new ≡ self.old ++ moves_text true half moves.now }
-        ensures short { length self.new ≤ length self.old + 704 }
+        ensures short { length self.new ≤ length self.old + 1408 }
     {
         let mut number = half;
         let mut first = true;
@@ -135,8 +135,8 @@ impl LineBuffer {
 
     // Adds a line of help play.
     fn add_line(&mut self, half: u32, moves: &[Shown])
-        requires room { length self.old + 705 ≤ room }
-        requires moves { length moves.now ≤ 16 }
+        requires room { length self.old + 1409 ≤ room }
+        requires moves { length moves.now ≤ 32 }
         ensures { self.new ≡ self.old ++ line_text half moves.now }
     {
         self.add_moves(u64::from(half), moves);

@@ -3,7 +3,7 @@ ghost use Rattle.std.specs.Prelude.{◌≡◌, ◌<◌, ◌≤◌, ◌+◌, ◌+
 ghost use Rattle.chess_core.specs.Position.{man_on};
 ghost use Rattle.pop_text.specs.Bytes.{Writes, count_after, greatest};
 ghost use Rattle.pop_print.specs.Room.{room};
-ghost use Rattle.pop_print.specs.Heads.{aim_text, board_text, cell_of as letter_on, condition_text as text_of_condition, head_text, item_line, labelled, names_text, rank_text, task_line};
+ghost use Rattle.pop_print.specs.Heads.{board_text, cell_of as letter_on, condition_text as text_of_condition, form_text as text_of_form, goal_text as text_of_goal, half_text as text_of_half, head_text, item_line, labelled, names_text, rank_text, stipulation_text, task_line};
 
 use crate::line::LineBuffer;
 use crate::notation::letter_of;
@@ -12,7 +12,7 @@ use chess_core::man::{Colour, Man};
 use chess_core::square::Square;
 use pop_input::condition::Condition;
 use pop_input::problem::Problem;
-use pop_input::stipulation::{Form, Stipulation};
+use pop_input::stipulation::{Form, Goal, Stipulation};
 use pop_text::sink::{Sink, SinkFault};
 use pop_text::text::Text;
 
@@ -133,29 +133,47 @@ impl LineBuffer {
     // Adds the stipulation's word.
     fn add_stipulation(&mut self, stipulation: Stipulation)
         requires { length self.old + 24 ≤ room }
-        ensures text { self.new ≡ self.old ++ aim_text stipulation.form stipulation.n }
+        ensures text { self.new ≡ self.old ++ stipulation_text stipulation }
         ensures short { length self.new ≤ length self.old + 24 }
     {
-        let n = u64::from(stipulation.n);
-        match stipulation.form {
-            Form::Direct => {
-                self.add(b"#");
-                self.add_number(n);
-            }
-            Form::SelfMate => {
-                self.add(b"s#");
-                self.add_number(n);
-            }
-            Form::Help => {
-                self.add(b"h#");
-                self.add_number(n);
-            }
-            Form::HelpHalf => {
-                self.add(b"h#");
-                self.add_number(n);
-                self.add(b".5");
-            }
-        }
+        self.add(form_text(stipulation.form));
+        self.add(goal_text(stipulation.goal));
+        self.add_number(u64::from(stipulation.n));
+        self.add(half_text(stipulation.form));
+    }
+}
+
+// What stands before the goal's sign.
+fn form_text(form: Form) -> &'static [u8]
+    ensures text { result.now ≡ text_of_form form }
+    ensures short { length result.now ≤ 1 }
+{
+    match form {
+        Form::Direct => b"",
+        Form::SelfMate => b"s",
+        Form::Help | Form::HelpHalf => b"h",
+    }
+}
+
+// The goal's sign.
+fn goal_text(goal: Goal) -> &'static [u8]
+    ensures text { result.now ≡ text_of_goal goal }
+    ensures short { length result.now ≤ 1 }
+{
+    match goal {
+        Goal::Mate => b"#",
+        Goal::Stalemate => b"=",
+    }
+}
+
+// What stands behind the number.
+fn half_text(form: Form) -> &'static [u8]
+    ensures text { result.now ≡ text_of_half form }
+    ensures short { length result.now ≤ 2 }
+{
+    match form {
+        Form::Direct | Form::SelfMate | Form::Help => b"",
+        Form::HelpHalf => b".5",
     }
 }
 

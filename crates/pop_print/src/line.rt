@@ -8,10 +8,10 @@ use itoa::Buffer;
 use pop_text::sink::{Sink, SinkFault, put_all};
 use std::marker::Model;
 
-/// Text that is put together piece by piece and then written at once. Contracts see its bytes, at most 1,024.
+/// Text that is put together piece by piece and then written at once. Contracts see its bytes, at most 1,536.
 #[derive(Drop)]
 pub(crate) struct LineBuffer {
-    text: ArrayVec<u8, 1024>,
+    text: ArrayVec<u8, 1536>,
 }
 
 impl Model for LineBuffer {

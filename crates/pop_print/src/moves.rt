@@ -31,6 +31,7 @@ fn mark_text(mark: Mark) -> &'static [u8]
 {
     match mark {
         Mark::Mate => b"#",
+        Mark::Stalemate => b"=",
         Mark::Check => b"+",
         Mark::Plain => b"",
     }

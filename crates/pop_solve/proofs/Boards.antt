@@ -1,23 +1,25 @@
 -- What the calls of the rules say in the words of the search.
-use Rattle.std.proofs.Common.{◌≡◌, ℕ, zero, suc, ◌<◌, ◌≤◌, Bool, true, false, ◌||◌, cond, not, eqb, List, [], ◌∷◌, length, filter, Option, Some, None, is_some, MatchOption, refl, sym, ap, ◌∙◌, arith}
+use Rattle.pop_input.specs.declared.stipulation.Goal.{Goal}
+use Rattle.pop_input.specs.declared.stipulation.Goal.TheVariants.{Mate, Stalemate}
+use Rattle.std.proofs.Common.{◌≡◌, ℕ, zero, suc, ◌<◌, ◌≤◌, Bool, true, false, ◌||◌, ◌&&◌, cond, not, eqb, List, [], ◌∷◌, length, filter, Option, Some, None, is_some, MatchOption, refl, sym, ap, ◌∙◌, arith}
 use Rattle.std.proofs.lemmas.Bool.Decides.{nat_tests}
 use Rattle.std.specs.List.{list_any}
 use Rattle.chess_core.specs.Position.{Position}
 use Rattle.chess_core.specs.Triple.{Triple}
 use Rattle.chess_rules.specs.Attacks.{in_check}
-use Rattle.chess_rules.specs.Legal.{is_goal, is_nil, moves}
+use Rattle.chess_rules.specs.Legal.{is_goal, is_nil, is_stalemate, moves}
 use Rattle.chess_rules.specs.Places.{is_mating, mates_behind, moves_behind}
 use Rattle.chess_rules.specs.RuleSet.{RuleSet}
-use Rattle.pop_solve.specs.Chess.{chess, is_mate_mark, mark_of}
-use Rattle.pop_solve.specs.declared.shown.Mark.TheVariants.{Plain, Check, Mate}
-use Rattle.pop_solve.specs.Game.{Game, can_move, some_move as some_good, walk_count}
+use Rattle.pop_solve.specs.Chess.{chess, is_for_mate, is_mark_of, is_reached, mark_of}
+use Rattle.pop_solve.specs.declared.shown.Mark.TheVariants.{Plain, Check, Mate as Mated, Stalemate as Stalemated}
+use Rattle.pop_solve.specs.Game.{can_move, some_move as some_good, walk_count}
 
 is_nil-length : (ms : List Triple) → not (is_nil ms) ≡ not (eqb (length ms) 0)
 is_nil-length [] = refl
 is_nil-length (m ∷ ms) = grind (arith, nat_tests)
 
-pub can_move-is : (rule : RuleSet) (p : Position) → not (is_nil (moves rule p)) ≡ can_move (chess rule) p
-can_move-is rule p = is_nil-length (moves rule p)
+pub can_move-is : (goal : Goal) (rule : RuleSet) (p : Position) → not (is_nil (moves rule p)) ≡ can_move (chess goal rule) p
+can_move-is goal rule p = is_nil-length (moves rule p)
 
 -- before all triples all moves are to come
 pub behind_start : (rule : RuleSet) (p : Position) → moves_behind rule p 0 ≡ moves rule p
@@ -27,17 +29,32 @@ behind_start rule p = refl
 pub ruleset some_move = (can_move-is)
 
 -- the mark says whether the goal is reached
-pub mate-is : (rule : RuleSet) (q : Position) → is_mate_mark (mark_of rule q) ≡ is_goal rule q
-unfolding mark_of
-mate-is rule q = split (is_goal rule q) (in_check rule q.men q.turn)
+pub mark-is : (goal : Goal) (rule : RuleSet) (q : Position) → is_mark_of goal (mark_of goal rule q) ≡ is_reached goal rule q
+unfolding mark_of is_goal is_stalemate
+mark-is Mate rule q = split (in_check rule q.men q.turn) (is_nil (moves rule q))
   where
-    split : (g c : Bool) → is_mate_mark (cond g Mate (cond c Check Plain)) ≡ g
-    split true c = refl
+    split : (c n : Bool) → is_mark_of Mate (cond (c && n) Mated (cond c Check (cond (false && (not c && n)) Stalemated Plain))) ≡ (c && n)
+    split true true = refl
+    split true false = refl
+    split false n = refl
+mark-is Stalemate rule q = split (in_check rule q.men q.turn) (is_nil (moves rule q))
+  where
+    split : (c n : Bool) → is_mark_of Stalemate (cond (c && n) Mated (cond c Check (cond (true && (not c && n)) Stalemated Plain))) ≡ (not c && n)
+    split true true = refl
+    split true false = refl
     split false true = refl
     split false false = refl
 
+pub for_mate : (goal : Goal) → is_for_mate goal ≡ true → goal ≡ Mate
+for_mate Mate e = refl
+for_mate Stalemate e = absurd cc
+
+-- what is said of mates holds of the goal, where it is mate
+pub mate-goal : (rule : RuleSet) (goal : Goal) (p : Position) (v : Bool) → goal ≡ Mate → v ≡ some_good (chess Mate rule) (chess Mate rule).goal p → v ≡ some_good (chess goal rule) (chess goal rule).goal p
+mate-goal rule goal p v for e = rw for e
+
 -- the first mate says whether there is one
-pub mate-any : (rule : RuleSet) (p : Position) (next : ℕ) (o : Option Triple) → MatchOption o (mates_behind rule p 0 ≡ []) (λ m. mates_behind rule p 0 ≡ m ∷ mates_behind rule p next) → is_some o ≡ some_good (chess rule) (is_goal rule) p
+pub mate-any : (rule : RuleSet) (p : Position) (next : ℕ) (o : Option Triple) → MatchOption o (mates_behind rule p 0 ≡ []) (λ m. mates_behind rule p 0 ≡ m ∷ mates_behind rule p next) → is_some o ≡ some_good (chess Mate rule) (is_goal rule) p
 unfolding mates_behind
 mate-any rule p next o e = found o (moves_behind rule p 0) e ∙ ap (λ ms. list_any (is_mating rule p) ms) (behind_start rule p)
   where
@@ -60,7 +77,7 @@ mate-any rule p next o e = found o (moves_behind rule p 0) e ∙ ap (λ ms. list
     found (Some m) ms e = sym (any_some ms _ m e)
 
 -- with a half-move left there is something to walk
-pub walk_count-some : {P M : Type 0} (game : Game P M) (left : ℕ) (p : P) → 0 < left → 1 ≤ walk_count game left p
+pub walk_count-some : {P M : Type 0} (moves : P → List M) (after : P → M → P) (left : ℕ) (p : P) → 0 < left → 1 ≤ walk_count moves after left p
 unfolding walk_count
-walk_count-some game zero p some = absurd (omega (arith, some))
-walk_count-some game (suc t) p some = omega arith
+walk_count-some moves after zero p some = absurd (omega (arith, some))
+walk_count-some moves after (suc t) p some = omega arith

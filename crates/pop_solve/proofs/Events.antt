@@ -1,4 +1,5 @@
 -- What a call gives.
+use Rattle.chess_rules.specs.Play.{after as played}
 use Rattle.std.proofs.Common.{◌≡◌, ℕ, zero, suc, ◌+◌, ◌-◌, ◌<◌, ◌≤◌, Bool, true, false, ◌||◌, eqb, cond, List, [], ◌∷◌, length, map, take, drop, reverse, get_or, refl, sym, ◌∙◌, ap, subst, append_assoc, arith, ◌^◌, min, Option, Some, None, MatchOption, is_some}
 use Rattle.std.specs.List.{flat_map}
 use Rattle.std.proofs.lemmas.Bool.Decides.{nat_tests}
@@ -11,7 +12,6 @@ use Rattle.chess_rules.specs.RuleSet.{RuleSet}
 use Rattle.pop_input.specs.Posed.{Posed, IsSound}
 use Rattle.pop_solve.specs.declared.event.Phase.{Phase}
 use Rattle.pop_solve.specs.declared.event.Phase.TheVariants.{Set, Play}
-use Rattle.pop_solve.specs.Chess.{chess}
 use Rattle.pop_input.specs.Stipulations.{is_help, half_moves}
 use Rattle.pop_solve.proofs.Sound.{in_range}
 use Rattle.pop_solve.specs.Frames.{Frame, position, IsLinked}
@@ -34,9 +34,9 @@ step-battle : (problem : Posed) (phase : Phase) (path : List Triple) → is_help
 step-battle problem phase path e = rw e refl
 
 -- the event of a line, read off the frames
-pub line-event : (problem : Posed) (phase : Phase) (frames : List Frame) (half : ℕ) (moves : ArrayVec Shown) → is_help problem.stipulation.form ≡ true → half ≡ phase_half problem phase → moves.items ≡ shows frames → (rule : RuleSet) → IsShowing rule (phase_start problem phase) frames → Line half moves ≡ event_of rule problem (step_of problem phase (path frames))
+pub line-event : (problem : Posed) (phase : Phase) (frames : List Frame) (half : ℕ) (moves : ArrayVec Shown) → is_help problem.stipulation.form ≡ true → half ≡ phase_half problem phase → moves.items ≡ shows frames → (rule : RuleSet) → IsShowing problem.stipulation.goal rule (phase_start problem phase) frames → Line half moves ≡ event_of rule problem (step_of problem phase (path frames))
 line-event problem phase frames half moves help h e rule s =
-    let m : moves.items ≡ shown_along rule (phase_start problem phase) (path frames) = e ∙ shows-path rule (phase_start problem phase) frames s in
+    let m : moves.items ≡ shown_along problem.stipulation.goal rule (phase_start problem phase) (path frames) = e ∙ shows-path problem.stipulation.goal rule (phase_start problem phase) frames s in
     rw (step-help problem phase (path frames) help, h, ← m) refl
 
 -- the last frame is the top
@@ -47,7 +47,7 @@ last-top frames d some =
     sym (ap reverse all) ∙ ap reverse (take_more frames (length frames - 1) d (omega (arith, some))) ∙ reverse-push (take (length frames - 1) frames) (get_or frames (length frames - 1) d)
 
 -- the event of a node
-pub node-event : (problem : Posed) (phase : Phase) (frames : List Frame) (half depth : ℕ) (d : Frame) → is_help problem.stipulation.form ≡ false → 2 ≤ length frames → half ≡ phase_half problem phase → depth ≡ length frames - 2 → (rule : RuleSet) → IsShowing rule (phase_start problem phase) (reverse frames) → Node depth (half + depth) (get_or frames (length frames - 1) d).shown ≡ event_of rule problem (step_of problem phase (path (reverse frames)))
+pub node-event : (problem : Posed) (phase : Phase) (frames : List Frame) (half depth : ℕ) (d : Frame) → is_help problem.stipulation.form ≡ false → 2 ≤ length frames → half ≡ phase_half problem phase → depth ≡ length frames - 2 → (rule : RuleSet) → IsShowing problem.stipulation.goal rule (phase_start problem phase) (reverse frames) → Node depth (half + depth) (get_or frames (length frames - 1) d).shown ≡ event_of rule problem (step_of problem phase (path (reverse frames)))
 node-event problem phase frames half depth d help deep h e rule s =
     let p = phase_start problem phase in
     let top = get_or frames (length frames - 1) d in
@@ -55,8 +55,8 @@ node-event problem phase frames half depth d help deep h e rule s =
     let t : reverse frames ≡ top ∷ below = last-top frames d (omega (arith, deep)) in
     let l : length (path (reverse frames)) - 1 ≡ depth = omega (arith, path-length (reverse frames), length-reverse frames, e) in
     let n : 0 < length below = omega (arith, ap length t, length-reverse frames, deep) in
-    let x : top.shown ≡ shown_last rule p (path (top ∷ below)) = shown-top rule p top below n (let T : List Frame → Type 0 = λ fs. IsShowing rule p fs in subst T t s) in
-    let y : top.shown ≡ shown_last rule p (path (reverse frames)) = x ∙ ap (λ fs. shown_last rule p (path fs)) (sym t) in
+    let x : top.shown ≡ shown_last problem.stipulation.goal rule p (path (top ∷ below)) = shown-top problem.stipulation.goal rule p top below n (let T : List Frame → Type 0 = λ fs. IsShowing problem.stipulation.goal rule p fs in subst T t s) in
+    let y : top.shown ≡ shown_last problem.stipulation.goal rule p (path (reverse frames)) = x ∙ ap (λ fs. shown_last problem.stipulation.goal rule p (path fs)) (sym t) in
     rw (step-battle problem phase (path (reverse frames)) help, l, h, y) refl
 
 pub room-length : (h : ℕ) (fs : List Frame) → IsRoomy h fs → length fs ≤ h + 1
@@ -65,18 +65,18 @@ room-length h [] s = omega arith
 room-length h (f ∷ below) s = omega (arith, s.0)
 
 -- the board after a path is given
-module _ (rule : RuleSet) (problem : Posed) (phase : Phase) (h : ℕ) (frames : List Frame) (board : Position) (r : IsWalking rule h (phase_start problem phase) (reverse frames) board) (deep : 2 ≤ length frames) where
+module _ (rule : RuleSet) (problem : Posed) (phase : Phase) (h : ℕ) (frames : List Frame) (board : Position) (r : IsWalking problem.stipulation.goal rule h (phase_start problem phase) (reverse frames) board) (deep : 2 ≤ length frames) where
   pub stands_at : StandsOn rule problem (step_of problem phase (path (reverse frames))) board (length frames)
   stands_at = go (is_help problem.stipulation.form)
     where
-      here : (board ≡ reach (chess rule) (phase_start problem phase) (path (reverse frames))) × (length frames ≡ length (path (reverse frames)) + 1)
-      here = (r.board_at ∙ reach-path rule (phase_start problem phase) (reverse frames), omega (arith, path-length (reverse frames), length-reverse frames, deep))
+      here : (board ≡ reach (played rule) (phase_start problem phase) (path (reverse frames))) × (length frames ≡ length (path (reverse frames)) + 1)
+      here = (r.board_at ∙ reach-path problem.stipulation.goal rule (phase_start problem phase) (reverse frames), omega (arith, path-length (reverse frames), length-reverse frames, deep))
 
       go : (help : Bool) → StandsOn rule problem (cond help (line phase (path (reverse frames))) (tree_node phase (path (reverse frames)))) board (length frames)
       go true = here
       go false = here
 
-  pub shallow : h ≤ 16 → length frames ≤ 17
+  pub shallow : h ≤ 32 → length frames ≤ 33
   shallow least = omega (arith, room-length h (reverse frames) r.roomy, length-reverse frames)
 
 -- a path is given: the steps to come lose their first
@@ -124,10 +124,10 @@ module _ (rule : RuleSet) (problem : Posed) (phase : Phase) (count : ℕ) (old :
   unfolding IsStanding
   standing-given next n = (w.walking, omega (arith, n, most, room-given))
 
-  pub shallow-given : IsSound problem → length frames ≤ 17
+  pub shallow-given : IsSound problem → length frames ≤ 33
   shallow-given s = shallow rule problem phase (phase_half_moves problem phase) frames board w.walking deep-given (at_most phase)
     where
-      at_most : (b : Phase) → cond (is_set b) (half_moves problem.stipulation - 1) (half_moves problem.stipulation) ≤ 16
+      at_most : (b : Phase) → cond (is_set b) (half_moves problem.stipulation - 1) (half_moves problem.stipulation) ≤ 32
       at_most Set = omega (arith, in_range problem s)
       at_most Play = in_range problem s
 

@@ -97,7 +97,7 @@ no_frame [] e = refl
 no_frame (f ∷ below) e = absurd (omega (arith, e))
 
 module _ (rule : RuleSet) (way : Way) (h : ℕ) (p : Position) where
-  pub to_come-root : (f : Frame) → to_come rule way h p (f ∷ []) ≡ shown way (chess rule) true (h - 0) f.left p (moves_behind rule p f.place)
+  pub to_come-root : (f : Frame) → to_come rule way h p (f ∷ []) ≡ shown way (chess way.aim.goal rule) true (h - 0) f.left p (moves_behind rule p f.place)
   unfolding to_come path position
   to_come-root f = root-same _
 
@@ -109,7 +109,7 @@ module _ (rule : RuleSet) (way : Way) (h : ℕ) (p : Position) where
       go true b e = (keep-help _, started-help _)
       go false b e =
           let one = one_frame frames e in
-          rw (one.1, to_come-root one.0) (keep-shown way (chess rule) b true (h - 0) one.0.left p _, started-shown way (chess rule) b true (h - 0) one.0.left p _)
+          rw (one.1, to_come-root one.0) (keep-shown way (chess way.aim.goal rule) b true (h - 0) one.0.left p _, started-shown way (chess way.aim.goal rule) b true (h - 0) one.0.left p _)
 
   none : (frames : List Frame) → length frames ≡ 0 → to_come rule way h p frames ≡ []
   unfolding to_come
@@ -117,7 +117,7 @@ module _ (rule : RuleSet) (way : Way) (h : ℕ) (p : Position) where
   none (f ∷ below) e = absurd (omega (arith, e))
 
   module _ (old mid : List Frame) (same : to_come rule way h p old ≡ to_come rule way h p mid) where
-    pub walks_none : (limit : ℕ) (board : Position) → IsWalking rule h p mid board → length mid ≡ 0 → Walks rule way h p limit old mid board false
+    pub walks_none : (limit : ℕ) (board : Position) → IsWalking way.aim.goal rule h p mid board → length mid ≡ 0 → Walks rule way h p limit old mid board false
     walks_none limit board r e = record {
       walking = r;
       come = λ g. absurd cc;
@@ -133,7 +133,7 @@ module _ (rule : RuleSet) (way : Way) (h : ℕ) (p : Position) where
     both_true true b e = (refl, e)
     both_true false b e = absurd cc
 
-    pub walks_full : (limit : ℕ) (board : Position) → IsWalking rule h p mid board → (eqb limit 0 && (way.help || eqb (length mid) 1)) ≡ true → Walks rule way h p limit old mid board false
+    pub walks_full : (limit : ℕ) (board : Position) → IsWalking way.aim.goal rule h p mid board → (eqb limit 0 && (way.help || eqb (length mid) 1)) ≡ true → Walks rule way h p limit old mid board false
     walks_full limit board r e =
         let x = both_true (eqb limit 0) (way.help || eqb (length mid) 1) e in
         let z : limit ≡ 0 = grind (arith, nat_tests, x.0) in

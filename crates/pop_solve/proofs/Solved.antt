@@ -1,4 +1,5 @@
 -- What is to come from the root frame of a phase is the phase's solutions.
+use Rattle.chess_rules.specs.Legal.{moves as legal_moves}
 use Rattle.std.proofs.Common.{◌≡◌, ℕ, zero, suc, ◌+◌, ◌-◌, ◌*◌, ◌≤◌, Bool, true, false, ◌&&◌, eqb, cond, List, [], ◌∷◌, ◌++◌, length, map, take, refl, sym, ◌∙◌, ap, arith}
 use Rattle.std.specs.List.{flat_map, filter, list_all}
 use Rattle.std.proofs.lemmas.Bool.Decides.{nat_tests}
@@ -115,10 +116,10 @@ module _ {P M : Type 0} (game : Game P M) (way : Way) where
       split false g h = h
 
   -- the root in battle play: its moves that pass the test, each with what stands below it
-  root-cut : (battle : way.help ≡ false) (h n : ℕ) (p : P) (other : M → Bool) (G : M → List (List M)) → ((m : M) → value way.selfmate game h (game.after p m) ≡ other m) → ((m : M) → value way.selfmate game h (game.after p m) ≡ true → beneath game way battle h h (game.after p m) ≡ G m)
+  root-cut : (battle : way.help ≡ false) (h n : ℕ) (p : P) (other : M → Bool) (G : M → List (List M)) → ((m : M) → value way.aim.selfmate game h (game.after p m) ≡ other m) → ((m : M) → value way.aim.selfmate game h (game.after p m) ≡ true → beneath game way battle h h (game.after p m) ≡ G m)
       → IsCutInto false n (shown way game true (suc h) (suc h) p (game.moves p)) (map (λ m. node m (G m)) (filter other (game.moves p)))
   root-cut battle h n p other G same each =
-      let T : M → Bool = λ m. value way.selfmate game h (game.after p m) in
+      let T : M → Bool = λ m. value way.aim.selfmate game h (game.after p m) in
       let X : M → List (List M) = λ m. beneath game way battle h h (game.after p m) in
       let a : shown way game true (suc h) (suc h) p (game.moves p) ≡ flat_map (λ m. node m (X m)) (filter T (game.moves p)) =
       as_nodes game way battle true h h p (game.moves p)
@@ -166,30 +167,30 @@ module _ {P M : Type 0} (game : Game P M) (way : Way) (battle : way.help ≡ fal
   key-some selfmate (suc k) h e = (k, refl)
 
   -- the play: the tree
-  pub tree-cut : (n h max : ℕ) (p : P) → suc h ≡ halves way.selfmate n → IsCutInto false max (shown way game true (suc h) (suc h) p (game.moves p)) (tree way.selfmate game way.variation n (suc h) p)
+  pub tree-cut : (n h max : ℕ) (p : P) → suc h ≡ halves way.aim.selfmate n → IsCutInto false max (shown way game true (suc h) (suc h) p (game.moves p)) (tree way.aim.selfmate game way.variation n (suc h) p)
   tree-cut n h max p e =
-      let k = key-some way.selfmate n h e in
-      let e2 : suc h ≡ halves way.selfmate (suc k.0) = e ∙ ap (halves way.selfmate) k.1 in
-      let l : halves way.selfmate (suc k.0) - 1 ≡ h = omega (arith, e2) in
+      let k = key-some way.aim.selfmate n h e in
+      let e2 : suc h ≡ halves way.aim.selfmate (suc k.0) = e ∙ ap (halves way.aim.selfmate) k.1 in
+      let l : halves way.aim.selfmate (suc k.0) - 1 ≡ h = omega (arith, e2) in
       let one : suc h - 1 ≡ h = omega arith in
-      let s : seeks way.selfmate (suc h) ≡ true = rw e2 (halves-seek game way.selfmate k.0) in
-      let same : (m : M) → value way.selfmate game h (game.after p m) ≡ keeps way.selfmate game n (game.after p m) =
-      λ m. sym (ap (λ x. keeps way.selfmate game x (game.after p m)) k.1 ∙ keeps-value game way.selfmate k.0 (game.after p m) ∙ ap (λ x. value way.selfmate game x (game.after p m)) l) in
-      rw one (root-cut game way battle h max p _ _ same (λ m v. below-key game way battle n h (game.after p m) s (halves-most way.selfmate n h e) v))
+      let s : seeks way.aim.selfmate (suc h) ≡ true = rw e2 (halves-seek game way.aim.selfmate k.0) in
+      let same : (m : M) → value way.aim.selfmate game h (game.after p m) ≡ keeps way.aim.selfmate game n (game.after p m) =
+      λ m. sym (ap (λ x. keeps way.aim.selfmate game x (game.after p m)) k.1 ∙ keeps-value game way.aim.selfmate k.0 (game.after p m) ∙ ap (λ x. value way.aim.selfmate game x (game.after p m)) l) in
+      rw one (root-cut game way battle h max p _ _ same (λ m v. below-key game way battle n h (game.after p m) s (halves-most way.aim.selfmate n h e) v))
 
   -- set play
-  pub set-cut : (n h max : ℕ) (p : P) → suc h ≡ halves way.selfmate n - 1 → IsCutInto false max (shown way game true (suc h) (suc h) p (game.moves p)) (set_tree way.selfmate game way.variation n (suc h) p)
+  pub set-cut : (n h max : ℕ) (p : P) → suc h ≡ halves way.aim.selfmate n - 1 → IsCutInto false max (shown way game true (suc h) (suc h) p (game.moves p)) (set_tree way.aim.selfmate game way.variation n (suc h) p)
   unfolding set_tree
   set-cut n h max p e =
-      let k = set-some way.selfmate n h e in
-      let e2 : suc h + 1 ≡ halves way.selfmate (suc k.0) = omega (arith, e, ap (halves way.selfmate) k.1) in
-      let s : seeks way.selfmate (suc h + 1) ≡ true = rw e2 (halves-seek game way.selfmate k.0) in
-      let s1 : seeks way.selfmate (suc h) ≡ false = flip game _ (sym (seeks-step game way.selfmate (suc h)) ∙ s) in
+      let k = set-some way.aim.selfmate n h e in
+      let e2 : suc h + 1 ≡ halves way.aim.selfmate (suc k.0) = omega (arith, e, ap (halves way.aim.selfmate) k.1) in
+      let s : seeks way.aim.selfmate (suc h + 1) ≡ true = rw e2 (halves-seek game way.aim.selfmate k.0) in
+      let s1 : seeks way.aim.selfmate (suc h) ≡ false = flip game _ (sym (seeks-step game way.aim.selfmate (suc h)) ∙ s) in
       let one : suc h ≡ h + 1 = omega arith in
-      let s2 : seeks way.selfmate (h + 1) ≡ false = rw (← one) s1 in
-      let s3 : seeks way.selfmate h ≡ true = unflip game _ (sym (seeks-step game way.selfmate h) ∙ s2) in
-      root-cut game way battle h max p _ _ (λ m. set_value way.selfmate n h (game.after p m) e)
-      (λ m v. below-set game way battle n h (game.after p m) s3 (set-most way.selfmate n h e) v)
+      let s2 : seeks way.aim.selfmate (h + 1) ≡ false = rw (← one) s1 in
+      let s3 : seeks way.aim.selfmate h ≡ true = unflip game _ (sym (seeks-step game way.aim.selfmate h) ∙ s2) in
+      root-cut game way battle h max p _ _ (λ m. set_value way.aim.selfmate n h (game.after p m) e)
+      (λ m v. below-set game way battle n h (game.after p m) s3 (set-most way.aim.selfmate n h e) v)
 
 -- a phase of no half-moves
 none-cut : {M : Type 0} (help : Bool) (n : ℕ) → IsCutInto {M = M} help n [] []
@@ -207,18 +208,18 @@ module _ (rule : RuleSet) (problem : Posed) (stated : IsSound problem) where
   abbrev way : Way
   way = way_of problem
 
-  cut : (phase : Phase) (help : Bool) → is_help problem.stipulation.form ≡ help → (h : ℕ) → phase_half_moves problem phase ≡ h → IsCutInto help problem.max_solutions (shown way (chess rule) true h h (phase_start problem phase) ((chess rule).moves (phase_start problem phase))) (cond help (map (λ path. path ∷ []) (help_lines (chess rule) h (phase_start problem phase))) (cond (is_set phase) (set_tree (is_selfmate problem.stipulation.form) (chess rule) problem.variation problem.stipulation.n h (phase_start problem phase)) (tree (is_selfmate problem.stipulation.form) (chess rule) problem.variation problem.stipulation.n h (phase_start problem phase))))
+  cut : (phase : Phase) (help : Bool) → is_help problem.stipulation.form ≡ help → (h : ℕ) → phase_half_moves problem phase ≡ h → IsCutInto help problem.max_solutions (shown way (chess problem.stipulation.goal rule) true h h (phase_start problem phase) (legal_moves rule (phase_start problem phase))) (cond help (map (λ path. path ∷ []) (help_lines (chess problem.stipulation.goal rule) h (phase_start problem phase))) (cond (is_set phase) (set_tree (is_selfmate problem.stipulation.form) (chess problem.stipulation.goal rule) problem.variation problem.stipulation.n h (phase_start problem phase)) (tree (is_selfmate problem.stipulation.form) (chess problem.stipulation.goal rule) problem.variation problem.stipulation.n h (phase_start problem phase))))
   unfolding help_lines set_tree
-  cut phase true e zero z = rw (shown-zero (chess rule) way true 0 (phase_start problem phase) ((chess rule).moves (phase_start problem phase))) (none-cut true problem.max_solutions)
+  cut phase true e zero z = rw (shown-zero (chess problem.stipulation.goal rule) way true 0 (phase_start problem phase) (legal_moves rule (phase_start problem phase))) (none-cut true problem.max_solutions)
   cut phase true e (suc h) z =
-      rw (shown-help (chess rule) way e true h (phase_start problem phase)) (record { kept = lines-kept problem.max_solutions _; begun = lines-begun problem.max_solutions _ })
-  cut Set false e zero z = rw (shown-zero (chess rule) way true 0 (phase_start problem Set) ((chess rule).moves (phase_start problem Set))) (none-cut false problem.max_solutions)
-  cut Set false e (suc h) z = set-cut (chess rule) way e problem.stipulation.n h problem.max_solutions (phase_start problem Set) (sym z ∙ ap (λ x. x - 1) (halves-form problem.stipulation.form problem.stipulation.n e))
+      rw (shown-help (chess problem.stipulation.goal rule) way e true h (phase_start problem phase)) (record { kept = lines-kept problem.max_solutions _; begun = lines-begun problem.max_solutions _ })
+  cut Set false e zero z = rw (shown-zero (chess problem.stipulation.goal rule) way true 0 (phase_start problem Set) (legal_moves rule (phase_start problem Set))) (none-cut false problem.max_solutions)
+  cut Set false e (suc h) z = set-cut (chess problem.stipulation.goal rule) way e problem.stipulation.n h problem.max_solutions (phase_start problem Set) (sym z ∙ ap (λ x. x - 1) (halves-form problem.stipulation.form problem.stipulation.n e))
   cut Play false e zero z = absurd (omega (arith, z, some_way problem stated))
-  cut Play false e (suc h) z = tree-cut (chess rule) way e problem.stipulation.n h problem.max_solutions (phase_start problem Play) (sym z ∙ halves-form problem.stipulation.form problem.stipulation.n e)
+  cut Play false e (suc h) z = tree-cut (chess problem.stipulation.goal rule) way e problem.stipulation.n h problem.max_solutions (phase_start problem Play) (sym z ∙ halves-form problem.stipulation.form problem.stipulation.n e)
 
   -- what is to come from the root frame of a phase
-  pub root-solutions : (phase : Phase) (f : Frame) → f.left ≡ phase_half_moves problem phase → moves_behind rule (phase_start problem phase) f.place ≡ (chess rule).moves (phase_start problem phase) → IsCutInto (is_help problem.stipulation.form) problem.max_solutions (phase_paths rule problem phase (f ∷ [])) (solutions rule problem phase)
+  pub root-solutions : (phase : Phase) (f : Frame) → f.left ≡ phase_half_moves problem phase → moves_behind rule (phase_start problem phase) f.place ≡ legal_moves rule (phase_start problem phase) → IsCutInto (is_help problem.stipulation.form) problem.max_solutions (phase_paths rule problem phase (f ∷ [])) (solutions rule problem phase)
   unfolding solutions
   root-solutions phase f l b =
       let h : phase_half_moves problem phase - 0 ≡ phase_half_moves problem phase = omega arith in

@@ -14,22 +14,22 @@ use Rattle.pop_solve.specs.Chess.{set_start}
 use Rattle.pop_solve.specs.Events.{start, phase_start}
 
 halves-some : (form : Form) (n : ℕ) → may_have form n ≡ true → 1 ≤ half_moves_of form n
-halves-some Direct n e = let a = (and_parts (nat_le 1 n) (nat_le n 8) e).0 in grind (arith, nat_tests, a)
-halves-some SelfMate n e = let a = (and_parts (nat_le 1 n) (nat_le n 8) e).0 in grind (arith, nat_tests, a)
-halves-some Help n e = let a = (and_parts (nat_le 1 n) (nat_le n 8) e).0 in grind (arith, nat_tests, a)
+halves-some Direct n e = let a = (and_parts (nat_le 1 n) (nat_le n 16) e).0 in grind (arith, nat_tests, a)
+halves-some SelfMate n e = let a = (and_parts (nat_le 1 n) (nat_le n 16) e).0 in grind (arith, nat_tests, a)
+halves-some Help n e = let a = (and_parts (nat_le 1 n) (nat_le n 16) e).0 in grind (arith, nat_tests, a)
 halves-some HelpHalf n e = omega arith
 
-halves-most : (form : Form) (n : ℕ) → may_have form n ≡ true → half_moves_of form n ≤ 16
-halves-most Direct n e = let a = (and_parts (nat_le 1 n) (nat_le n 8) e).1 in grind (arith, nat_tests, a)
-halves-most SelfMate n e = let a = (and_parts (nat_le 1 n) (nat_le n 8) e).1 in grind (arith, nat_tests, a)
-halves-most Help n e = let a = (and_parts (nat_le 1 n) (nat_le n 8) e).1 in grind (arith, nat_tests, a)
+halves-most : (form : Form) (n : ℕ) → may_have form n ≡ true → half_moves_of form n ≤ 32
+halves-most Direct n e = let a = (and_parts (nat_le 1 n) (nat_le n 16) e).1 in grind (arith, nat_tests, a)
+halves-most SelfMate n e = let a = (and_parts (nat_le 1 n) (nat_le n 16) e).1 in grind (arith, nat_tests, a)
+halves-most Help n e = let a = (and_parts (nat_le 1 n) (nat_le n 16) e).1 in grind (arith, nat_tests, a)
 halves-most HelpHalf n e = grind (arith, nat_tests, e)
 
--- a problem has 1 to 16 half-moves
+-- a problem has 1 to 32 half-moves
 pub some_way : (problem : Posed) → IsSound problem → 1 ≤ half_moves problem.stipulation
 some_way problem s = halves-some problem.stipulation.form problem.stipulation.n s.range
 
-pub in_range : (problem : Posed) → IsSound problem → half_moves problem.stipulation ≤ 16
+pub in_range : (problem : Posed) → IsSound problem → half_moves problem.stipulation ≤ 32
 in_range problem s = halves-most problem.stipulation.form problem.stipulation.n s.range
 
 -- set play's first position is well formed

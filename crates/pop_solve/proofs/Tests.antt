@@ -1,4 +1,7 @@
 -- One turn of a test over frames.
+use Rattle.chess_rules.specs.Play.{after as played}
+use Rattle.chess_rules.specs.Legal.{moves as legal_moves}
+use Rattle.pop_solve.specs.declared.aim.Aim.{Aim}
 use Rattle.std.proofs.Common.{◌≡◌, ℕ, zero, suc, ◌+◌, ◌-◌, ◌<◌, ◌≤◌, Bool, true, false, not, ◌&&◌, ◌||◌, cond, Option, Some, None, List, [], ◌∷◌, ◌++◌, length, take, drop, reverse, refl, sym, ◌∙◌, ap, arith, subst, ◌⊎◌, inl, inr, MatchOption, IfNone}
 use Rattle.std.proofs.lemmas.List.{reverse-append, length-reverse, length-drop, length-append, drop-append-le, take-append-le, take_all}
 use Rattle.std.proofs.lemmas.Bool.{cases_lt}
@@ -55,10 +58,10 @@ module _ (rule : RuleSet) (q : Position) (k : ℕ) where
   unfolding ahead
   killer-first = refl
 
-  in-order : (chess rule).moves q ≡ before ++ (here ++ behind)
+  in-order : legal_moves rule q ≡ before ++ (here ++ behind)
   in-order = cut_moves rule q (k - 1) k (omega arith)
 
-  pub any-start : (test : Triple → Bool) → list_any test (ahead rule q First (k - 1) k) ≡ list_any test ((chess rule).moves q)
+  pub any-start : (test : Triple → Bool) → list_any test (ahead rule q First (k - 1) k) ≡ list_any test (legal_moves rule q)
   any-start test =
       rw (killer-first, in-order, list_any-append test here (before ++ behind), list_any-append test before behind, list_any-append test before (here ++ behind), list_any-append test here behind) (swap (list_any test here) (list_any test before) (list_any test behind))
     where
@@ -67,7 +70,7 @@ module _ (rule : RuleSet) (q : Position) (k : ℕ) where
       swap true false c = refl
       swap false b c = refl
 
-  pub all-start : (test : Triple → Bool) → list_all test (ahead rule q First (k - 1) k) ≡ list_all test ((chess rule).moves q)
+  pub all-start : (test : Triple → Bool) → list_all test (ahead rule q First (k - 1) k) ≡ list_all test (legal_moves rule q)
   all-start test =
       rw (killer-first, in-order, list_all-append test here (before ++ behind), list_all-append test before behind, list_all-append test before (here ++ behind), list_all-append test here behind) (swap (list_all test here) (list_all test before) (list_all test behind))
     where
@@ -76,53 +79,53 @@ module _ (rule : RuleSet) (q : Position) (k : ℕ) where
       swap false true c = refl
       swap false false c = refl
 
-  pub sum-start : (f : Triple → ℕ) → sum_by f (ahead rule q First (k - 1) k) ≡ sum_by f ((chess rule).moves q)
+  pub sum-start : (f : Triple → ℕ) → sum_by f (ahead rule q First (k - 1) k) ≡ sum_by f (legal_moves rule q)
   sum-start f =
       rw (killer-first, in-order, sum_by-append f here (before ++ behind), sum_by-append f before behind, sum_by-append f before (here ++ behind), sum_by-append f here behind) (omega arith)
 
-module _ (rule : RuleSet) (selfmate : Bool) where
+module _ (rule : RuleSet) (aim : Aim) where
   -- the value of some moves of a position
   abbrev pub rest : ℕ → Position → List Triple → Bool
-  rest left P ms = joined selfmate (chess rule) left P ms
+  rest left P ms = joined aim.selfmate (chess aim.goal rule) left P ms
 
-  rest-none : (left : ℕ) (P : Position) (ms : List Triple) → 0 < left → ms ≡ [] → rest left P ms ≡ not (seeks selfmate left)
+  rest-none : (left : ℕ) (P : Position) (ms : List Triple) → 0 < left → ms ≡ [] → rest left P ms ≡ not (seeks aim.selfmate left)
   unfolding joined
   rest-none zero P ms some e = absurd (omega (arith, some))
-  rest-none (suc t) P ms some e = rw e (none (seeks selfmate (suc t)))
+  rest-none (suc t) P ms some e = rw e (none (seeks aim.selfmate (suc t)))
     where
       none : (s : Bool) → cond s false true ≡ not s
       none true = refl
       none false = refl
 
-  rest-next : (t : ℕ) (P : Position) (ms more : List Triple) (m : Triple) → ms ≡ m ∷ more → rest (suc t) P ms ≡ join (seeks selfmate (suc t)) (value selfmate (chess rule) t ((chess rule).after P m)) (rest (suc t) P more)
+  rest-next : (t : ℕ) (P : Position) (ms more : List Triple) (m : Triple) → ms ≡ m ∷ more → rest (suc t) P ms ≡ join (seeks aim.selfmate (suc t)) (value aim.selfmate (chess aim.goal rule) t (played rule P m)) (rest (suc t) P more)
   unfolding joined
-  rest-next t P ms more m e = rw e (split (seeks selfmate (suc t)) _ _ _)
+  rest-next t P ms more m e = rw e (split (seeks aim.selfmate (suc t)) _ _ _)
     where
       split : (s v a b : Bool) → cond s (v || a) (v && b) ≡ join s v (cond s a b)
       split true v a b = refl
       split false v a b = refl
 
-  rest-start : (t : ℕ) (q : Position) (k : ℕ) → rest t q (ahead rule q First (k - 1) k) ≡ rest t q ((chess rule).moves q)
+  rest-start : (t : ℕ) (q : Position) (k : ℕ) → rest t q (ahead rule q First (k - 1) k) ≡ rest t q (legal_moves rule q)
   unfolding joined
   rest-start zero q k = refl
-  rest-start (suc t) q k = rw (any-start rule q k (λ m. value selfmate (chess rule) t ((chess rule).after q m)), all-start rule q k (λ m. value selfmate (chess rule) t ((chess rule).after q m))) refl
+  rest-start (suc t) q k = rw (any-start rule q k (λ m. value aim.selfmate (chess aim.goal rule) t (played rule q m)), all-start rule q k (λ m. value aim.selfmate (chess aim.goal rule) t (played rule q m))) refl
 
   -- a frame that its last answer decides, and one that it doesn't
-  pub pending-decided : (p : Position) (f : Frame) (below : List Frame) (answer : Option Bool) → answer ≡ Some (seeks selfmate f.left) → pending rule selfmate p (f ∷ below) answer ≡ deliver rule selfmate p below (seeks selfmate f.left)
+  pub pending-decided : (p : Position) (f : Frame) (below : List Frame) (answer : Option Bool) → answer ≡ Some (seeks aim.selfmate f.left) → pending rule aim p (f ∷ below) answer ≡ deliver rule aim p below (seeks aim.selfmate f.left)
   unfolding pending deliver
   pending-decided p f below answer e = rw (e, join-decided) refl
 
-  pub pending-undecided : (p : Position) (f : Frame) (below : List Frame) (answer : Option Bool) → (answer ≡ None) ⊎ (answer ≡ Some (not (seeks selfmate f.left))) → pending rule selfmate p (f ∷ below) answer ≡ deliver rule selfmate p below (rest f.left (position rule p (f ∷ below)) (untried rule (position rule p (f ∷ below)) f))
+  pub pending-undecided : (p : Position) (f : Frame) (below : List Frame) (answer : Option Bool) → (answer ≡ None) ⊎ (answer ≡ Some (not (seeks aim.selfmate f.left))) → pending rule aim p (f ∷ below) answer ≡ deliver rule aim p below (rest f.left (position rule p (f ∷ below)) (untried rule (position rule p (f ∷ below)) f))
   unfolding pending deliver
   pending-undecided p f below answer (inl e) = rw e refl
   pending-undecided p f below answer (inr e) = rw (e, join-undecided) refl
 
-  pub deliver-some : (p : Position) (below : List Frame) (v : Bool) → 0 < length below → deliver rule selfmate p below v ≡ pending rule selfmate p below (Some v)
+  pub deliver-some : (p : Position) (below : List Frame) (v : Bool) → 0 < length below → deliver rule aim p below v ≡ pending rule aim p below (Some v)
   unfolding pending
   deliver-some p [] v some = absurd (omega (arith, some))
   deliver-some p (g ∷ below) v some = refl
 
-  pub deliver-none : (p : Position) (below : List Frame) (v : Bool) → length below ≡ 0 → deliver rule selfmate p below v ≡ v
+  pub deliver-none : (p : Position) (below : List Frame) (v : Bool) → length below ≡ 0 → deliver rule aim p below v ≡ v
   unfolding deliver
   deliver-none p [] v none = refl
   deliver-none p (g ∷ below) v none = absurd (omega (arith, none))
@@ -130,33 +133,33 @@ module _ (rule : RuleSet) (selfmate : Bool) where
   steps-start : (t : ℕ) (q : Position) (k : ℕ) → steps rule t q ≡ 1 + steps_among rule t q (ahead rule q First (k - 1) k)
   unfolding steps steps_among
   steps-start zero q k = refl
-  steps-start (suc t) q k = rw (sum-start rule q k (λ m. 1 + steps rule t ((chess rule).after q m))) refl
+  steps-start (suc t) q k = rw (sum-start rule q k (λ m. 1 + steps rule t (played rule q m))) refl
 
-  steps-next : (t : ℕ) (P : Position) (ms more : List Triple) (m : Triple) → ms ≡ m ∷ more → steps_among rule (suc t) P ms ≡ (1 + steps rule t ((chess rule).after P m)) + steps_among rule (suc t) P more
+  steps-next : (t : ℕ) (P : Position) (ms more : List Triple) (m : Triple) → ms ≡ m ∷ more → steps_among rule (suc t) P ms ≡ (1 + steps rule t (played rule P m)) + steps_among rule (suc t) P more
   unfolding steps_among
-  steps-next t P ms more m e = rw e (sum_by-cons (λ x. 1 + steps rule t ((chess rule).after P x)) m more)
+  steps-next t P ms more m e = rw e (sum_by-cons (λ x. 1 + steps rule t (played rule P x)) m more)
 
-  walk_count-start : (t : ℕ) (q : Position) (k : ℕ) → 0 < t → walk_count (chess rule) t q ≡ 1 + walk_among rule t q (ahead rule q First (k - 1) k)
+  walk_count-start : (t : ℕ) (q : Position) (k : ℕ) → 0 < t → walk_count (legal_moves rule) (played rule) t q ≡ 1 + walk_among rule t q (ahead rule q First (k - 1) k)
   unfolding walk_count walk_among
   walk_count-start zero q k some = absurd (omega (arith, some))
-  walk_count-start (suc t) q k some = rw (sum-start rule q k (λ m. walk_count (chess rule) t ((chess rule).after q m))) refl
+  walk_count-start (suc t) q k some = rw (sum-start rule q k (λ m. walk_count (legal_moves rule) (played rule) t (played rule q m))) refl
 
-  walk-next : (t : ℕ) (P : Position) (ms more : List Triple) (m : Triple) → ms ≡ m ∷ more → walk_among rule (suc t) P ms ≡ walk_count (chess rule) t ((chess rule).after P m) + walk_among rule (suc t) P more
+  walk-next : (t : ℕ) (P : Position) (ms more : List Triple) (m : Triple) → ms ≡ m ∷ more → walk_among rule (suc t) P ms ≡ walk_count (legal_moves rule) (played rule) t (played rule P m) + walk_among rule (suc t) P more
   unfolding walk_among
-  walk-next t P ms more m e = rw e (sum_by-cons (λ x. walk_count (chess rule) t ((chess rule).after P x)) m more)
+  walk-next t P ms more m e = rw e (sum_by-cons (λ x. walk_count (legal_moves rule) (played rule) t (played rule P x)) m more)
 
   module _ (p : Position) (f : Frame) (below : List Frame) (next : ℕ) (s : Stretch) (m : Triple) (undo : Loss) (k t : ℕ) (left : f.left ≡ suc t) (e : untried rule (position rule p (f ∷ below)) f ≡ m ∷ ahead rule (position rule p (f ∷ below)) s next f.killer) where
     abbrev P : Position
     P = position rule p (f ∷ below)
 
     -- the value of the position after the move decides with the moves still untried
-    pub deliver-next : deliver rule selfmate p below (rest f.left P (untried rule P f)) ≡ deliver rule selfmate p (passed f next s ∷ below) (value selfmate (chess rule) t ((chess rule).after P m))
+    pub deliver-next : deliver rule aim p below (rest f.left P (untried rule P f)) ≡ deliver rule aim p (passed f next s ∷ below) (value aim.selfmate (chess aim.goal rule) t (played rule P m))
     unfolding deliver position
     deliver-next = rw (left, rest-next t P (untried rule P f) (ahead rule P s next f.killer) m e) refl
 
-    pub deliver-open : (v : Bool) → v ≡ joined selfmate (chess rule) t ((chess rule).after P m) ((chess rule).moves ((chess rule).after P m)) → deliver rule selfmate p (passed f next s ∷ below) v ≡ pending rule selfmate p (tested k m undo f.shown t ∷ (passed f next s ∷ below)) None
+    pub deliver-open : (v : Bool) → v ≡ joined aim.selfmate (chess aim.goal rule) t (played rule P m) (legal_moves rule (played rule P m)) → deliver rule aim p (passed f next s ∷ below) v ≡ pending rule aim p (tested k m undo f.shown t ∷ (passed f next s ∷ below)) None
     unfolding pending position
-    deliver-open v d = rw (d, sym (rest-start t ((chess rule).after P m) k)) refl
+    deliver-open v d = rw (d, sym (rest-start t (played rule P m) k)) refl
 
     pub work-settled : work rule p (passed f next s ∷ below) < work rule p (f ∷ below)
     unfolding work position
@@ -164,15 +167,15 @@ module _ (rule : RuleSet) (selfmate : Bool) where
 
     pub work-open : work rule p (tested k m undo f.shown t ∷ (passed f next s ∷ below)) < work rule p (f ∷ below)
     unfolding work position
-    work-open = rw (left, steps-next t P (untried rule P f) (ahead rule P s next f.killer) m e, steps-start t ((chess rule).after P m) k) (omega arith)
+    work-open = rw (left, steps-next t P (untried rule P f) (ahead rule P s next f.killer) m e, steps-start t (played rule P m) k) (omega arith)
 
-    pub open-settled : walk_count (chess rule) t ((chess rule).after P m) + to_test rule p (passed f next s ∷ below) ≤ to_test rule p (f ∷ below)
+    pub open-settled : walk_count (legal_moves rule) (played rule) t (played rule P m) + to_test rule p (passed f next s ∷ below) ≤ to_test rule p (f ∷ below)
     unfolding to_test position
     open-settled = rw (left, walk-next t P (untried rule P f) (ahead rule P s next f.killer) m e) (omega arith)
 
     pub open-open : 0 < t → 1 + to_test rule p (tested k m undo f.shown t ∷ (passed f next s ∷ below)) ≤ to_test rule p (f ∷ below)
     unfolding to_test position
-    open-open some = rw (left, walk-next t P (untried rule P f) (ahead rule P s next f.killer) m e, walk_count-start t ((chess rule).after P m) k some) (omega arith)
+    open-open some = rw (left, walk-next t P (untried rule P f) (ahead rule P s next f.killer) m e, walk_count-start t (played rule P m) k some) (omega arith)
 
   pub open-close : (p : Position) (f : Frame) (below : List Frame) → to_test rule p below ≤ to_test rule p (f ∷ below)
   unfolding to_test
@@ -222,7 +225,7 @@ module _ (rule : RuleSet) (p : Position) where
   testing-settled f next s [] board r = record { linked = tt; cut = r.cut; sound = r.sound; board_at = r.board_at }
   testing-settled f next s (g ∷ below) board r = record { linked = r.linked; cut = r.cut; sound = r.sound; board_at = r.board_at }
 
-  pub testing-open : (f : Frame) (next : ℕ) (s : Stretch) (m : Triple) (k t : ℕ) (below : List Frame) (board : Position) → IsTesting rule p (f ∷ below) board → legal rule board m ≡ true → 0 < t → f.left ≡ suc t → IsTesting rule p (tested k m (undo_of rule board m) f.shown t ∷ (passed f next s ∷ below)) ((chess rule).after board m)
+  pub testing-open : (f : Frame) (next : ℕ) (s : Stretch) (m : Triple) (k t : ℕ) (below : List Frame) (board : Position) → IsTesting rule p (f ∷ below) board → legal rule board m ≡ true → 0 < t → f.left ≡ suc t → IsTesting rule p (tested k m (undo_of rule board m) f.shown t ∷ (passed f next s ∷ below)) (played rule board m)
   unfolding IsLinked IsCut position
   testing-open f next s m k t below board r lawful some left =
       let settled = testing-settled f next s below board r in
@@ -231,7 +234,7 @@ module _ (rule : RuleSet) (p : Position) where
         linked = (rw (← at) settled.sound, rw (← at) lawful, ap (λ b. undo_of rule b m) at, settled.linked);
         cut = (some, omega (arith, left), settled.cut);
         sound = after_well_formed rule board m r.sound (pseudo-from_legal rule board m lawful);
-        board_at = ap (λ b. (chess rule).after b m) at;
+        board_at = ap (λ b. played rule b m) at;
       }
 
 -- the frames from the floor up, once a frame is put on or taken off
@@ -243,7 +246,7 @@ pub length-tests : (floor : ℕ) (xs : List Frame) → length (tests floor xs) �
 unfolding tests
 length-tests floor xs = length-reverse (drop floor xs) ∙ length-drop floor xs
 
-module _ (rule : RuleSet) (selfmate : Bool) (floor : ℕ) (top : Frame) (old new : List Frame) (taken : old ≡ new ++ top ∷ []) (low : floor < length old) where
+module _ (rule : RuleSet) (aim : Aim) (floor : ℕ) (top : Frame) (old new : List Frame) (taken : old ≡ new ++ top ∷ []) (low : floor < length old) where
   len : length old ≡ length new + 1
   len = ap length taken ∙ length-append new (top ∷ [])
 
@@ -263,20 +266,20 @@ module _ (rule : RuleSet) (selfmate : Bool) (floor : ℕ) (top : Frame) (old new
   close_asks p board depth d r deep = CameFrom-deep rule p top (tests floor new) board (testing_top p board r) (omega (arith, length-tests floor new, d))
 
   module _ (board after : Position) (depth : ℕ) (v : Bool) (was is result : Option Bool) (d : depth ≡ length new) (lowest : depth ≤ floor → (result ≡ Some v) × (after ≡ board)) (above : floor < depth → (result ≡ None) × (is ≡ Some v)) (before : (q : Position) → floor < depth → CameFromAt rule top board q → after ≡ q) where
-    pub close_turns : (count : ℕ) (p : Position) → IsTesting rule p (tests floor old) board → pending rule selfmate p (top ∷ tests floor new) was ≡ deliver rule selfmate p (tests floor new) v → MatchOption result (Turns rule selfmate floor p old new was is after count count) (λ w. Ends rule selfmate floor p old new was after count count w)
+    pub close_turns : (count : ℕ) (p : Position) → IsTesting rule p (tests floor old) board → pending rule aim p (top ∷ tests floor new) was ≡ deliver rule aim p (tests floor new) v → MatchOption result (Turns rule aim floor p old new was is after count count) (λ w. Ends rule aim floor p old new was after count count w)
     close_turns count p r e = elim (cases_lt floor depth) [
       | inl deep ↦
           rw (above deep).0 (record {
             testing = testing-close rule p top (tests floor new) board after (testing_top p board r) (omega (arith, length-tests floor new, d)) (λ q cf. before q deep cf);
-            same = ap (λ fs. pending rule selfmate p fs was) popped ∙ e ∙ deliver-some rule selfmate p (tests floor new) v (omega (arith, length-tests floor new, d)) ∙ ap (pending rule selfmate p (tests floor new)) (sym (above deep).1);
-            falls = rw popped (work-close rule selfmate p top (tests floor new));
+            same = ap (λ fs. pending rule aim p fs was) popped ∙ e ∙ deliver-some rule aim p (tests floor new) v (omega (arith, length-tests floor new, d)) ∙ ap (pending rule aim p (tests floor new)) (sym (above deep).1);
+            falls = rw popped (work-close rule aim p top (tests floor new));
             above = omega (arith, d);
             base = base_new;
-            counted = rw popped (omega (arith, open-close rule selfmate p top (tests floor new)));
+            counted = rw popped (omega (arith, open-close rule aim p top (tests floor new)));
           })
       | inr low ↦
           rw (lowest low).0 (record {
-            value = ap (λ fs. pending rule selfmate p fs was) popped ∙ e ∙ deliver-none rule selfmate p (tests floor new) v (omega (arith, length-tests floor new, d));
+            value = ap (λ fs. pending rule aim p fs was) popped ∙ e ∙ deliver-none rule aim p (tests floor new) v (omega (arith, length-tests floor new, d));
             back = (lowest low).1 ∙ lowest-back rule p top (tests floor new) board (testing_top p board r) (omega (arith, length-tests floor new, d));
             base = sym (take_all floor new (omega (arith, d))) ∙ base_new;
             counted = omega arith;
@@ -292,16 +295,16 @@ module _ (rule : RuleSet) (selfmate : Bool) (floor : ℕ) (top : Frame) (old new
       | inr low ↦ rw (lowest low).0 tt
     ]
 
-  module _ (place : ℕ) (s : Stretch) (m : Triple) (k : ℕ) (board after : Position) (N : ℕ) (was : Option Bool) (last : List Frame) (some : 0 < top.left) (open_yet : (was ≡ None) ⊎ (was ≡ Some (not (seeks selfmate top.left)))) (next : untried rule board top ≡ m ∷ ahead rule board s place top.killer) (lawful : legal rule board m ≡ true) where
+  module _ (place : ℕ) (s : Stretch) (m : Triple) (k : ℕ) (board after : Position) (N : ℕ) (was : Option Bool) (last : List Frame) (some : 0 < top.left) (open_yet : (was ≡ None) ⊎ (was ≡ Some (not (seeks aim.selfmate top.left)))) (next : untried rule board top ≡ m ∷ ahead rule board s place top.killer) (lawful : legal rule board m ≡ true) where
     -- what `descend` leaves
     abbrev pub Descends : Option Bool → Type 0
     Descends is =
         MatchOption is
         ((0 < top.left - 1)
-        × (value selfmate (chess rule) (top.left - 1) ((chess rule).after board m) ≡ joined selfmate (chess rule) (top.left - 1) ((chess rule).after board m) ((chess rule).moves ((chess rule).after board m)))
-        × (after ≡ (chess rule).after board m)
+        × (value aim.selfmate (chess aim.goal rule) (top.left - 1) (played rule board m) ≡ joined aim.selfmate (chess aim.goal rule) (top.left - 1) (played rule board m) (legal_moves rule (played rule board m)))
+        × (after ≡ played rule board m)
         × (last ≡ (new ++ passed top place s ∷ []) ++ tested k m (undo_of rule board m) top.shown (top.left - 1) ∷ []))
-        (λ v. (v ≡ value selfmate (chess rule) (top.left - 1) ((chess rule).after board m)) × (after ≡ board) × (last ≡ new ++ passed top place s ∷ []))
+        (λ v. (v ≡ value aim.selfmate (chess aim.goal rule) (top.left - 1) (played rule board m)) × (after ≡ board) × (last ≡ new ++ passed top place s ∷ []))
 
     left_is : top.left ≡ suc (top.left - 1)
     left_is = omega (arith, some)
@@ -315,22 +318,22 @@ module _ (rule : RuleSet) (selfmate : Bool) (floor : ℕ) (top : Frame) (old new
     base_mid : take floor (new ++ passed top place s ∷ []) ≡ take floor old
     base_mid = take-append-le floor new (passed top place s ∷ []) low_new ∙ base_new
 
-    pub descend_turns : (is : Option Bool) → Descends is → (before count : ℕ) → MatchOption is (count ≤ before + 1) (λ _. count ≤ before + walk_count (chess rule) (top.left - 1) ((chess rule).after board m)) → (p : Position) → IsTesting rule p (tests floor old) board → Turns rule selfmate floor p old last was is after before count
+    pub descend_turns : (is : Option Bool) → Descends is → (before count : ℕ) → MatchOption is (count ≤ before + 1) (λ _. count ≤ before + walk_count (legal_moves rule) (played rule) (top.left - 1) (played rule board m)) → (p : Position) → IsTesting rule p (tests floor old) board → Turns rule aim floor p old last was is after before count
     descend_turns None d before count o p r =
         let at : board ≡ position rule p (top ∷ tests floor new) = (testing_top p board r).board_at in
         let here : untried rule (position rule p (top ∷ tests floor new)) top ≡ m ∷ ahead rule (position rule p (top ∷ tests floor new)) s place top.killer = rw (← at) next in
         let last_is : tests floor last ≡ tested k m (undo_of rule board m) top.shown (top.left - 1) ∷ (passed top place s ∷ tests floor new) = ap (tests floor) d.3 ∙ tests-push floor (new ++ passed top place s ∷ []) _ low_mid ∙ ap (λ fs. tested k m (undo_of rule board m) top.shown (top.left - 1) ∷ fs) mid_is in
         record {
           testing = rw (last_is, d.2) (testing-open rule p top place s m k (top.left - 1) (tests floor new) board (testing_top p board r) lawful d.0 left_is);
-          same = ap (λ fs. pending rule selfmate p fs was) popped
-              ∙ pending-undecided rule selfmate p top (tests floor new) was open_yet
-              ∙ deliver-next rule selfmate p top (tests floor new) place s m (undo_of rule board m) k (top.left - 1) left_is here
-              ∙ deliver-open rule selfmate p top (tests floor new) place s m (undo_of rule board m) k (top.left - 1) left_is here _ (rw (← at) d.1)
-              ∙ ap (λ fs. pending rule selfmate p fs None) (sym last_is);
-          falls = rw (last_is, popped) (work-open rule selfmate p top (tests floor new) place s m (undo_of rule board m) k (top.left - 1) left_is here);
+          same = ap (λ fs. pending rule aim p fs was) popped
+              ∙ pending-undecided rule aim p top (tests floor new) was open_yet
+              ∙ deliver-next rule aim p top (tests floor new) place s m (undo_of rule board m) k (top.left - 1) left_is here
+              ∙ deliver-open rule aim p top (tests floor new) place s m (undo_of rule board m) k (top.left - 1) left_is here _ (rw (← at) d.1)
+              ∙ ap (λ fs. pending rule aim p fs None) (sym last_is);
+          falls = rw (last_is, popped) (work-open rule aim p top (tests floor new) place s m (undo_of rule board m) k (top.left - 1) left_is here);
           above = omega (arith, ap length d.3, length-append (new ++ passed top place s ∷ []) (tested k m (undo_of rule board m) top.shown (top.left - 1) ∷ []), low_mid);
           base = ap (take floor) d.3 ∙ take-append-le floor (new ++ passed top place s ∷ []) _ low_mid ∙ base_mid;
-          counted = rw (last_is, popped) (omega (arith, o, open-open rule selfmate p top (tests floor new) place s m (undo_of rule board m) k (top.left - 1) left_is here d.0));
+          counted = rw (last_is, popped) (omega (arith, o, open-open rule aim p top (tests floor new) place s m (undo_of rule board m) k (top.left - 1) left_is here d.0));
         }
     descend_turns (Some v) d before count o p r =
         let at : board ≡ position rule p (top ∷ tests floor new) = (testing_top p board r).board_at in
@@ -338,16 +341,16 @@ module _ (rule : RuleSet) (selfmate : Bool) (floor : ℕ) (top : Frame) (old new
         let last_is : tests floor last ≡ passed top place s ∷ tests floor new = ap (tests floor) d.2 ∙ mid_is in
         record {
           testing = rw (last_is, d.1) (testing-settled rule p top place s (tests floor new) board (testing_top p board r));
-          same = ap (λ fs. pending rule selfmate p fs was) popped
-              ∙ pending-undecided rule selfmate p top (tests floor new) was open_yet
-              ∙ deliver-next rule selfmate p top (tests floor new) place s m (undo_of rule board m) k (top.left - 1) left_is here
-              ∙ ap (deliver rule selfmate p (passed top place s ∷ tests floor new)) (rw (← at) (sym d.0))
-              ∙ deliver-some rule selfmate p (passed top place s ∷ tests floor new) v (omega arith)
-              ∙ ap (λ fs. pending rule selfmate p fs (Some v)) (sym last_is);
-          falls = rw (last_is, popped) (work-settled rule selfmate p top (tests floor new) place s m (undo_of rule board m) k (top.left - 1) left_is here);
+          same = ap (λ fs. pending rule aim p fs was) popped
+              ∙ pending-undecided rule aim p top (tests floor new) was open_yet
+              ∙ deliver-next rule aim p top (tests floor new) place s m (undo_of rule board m) k (top.left - 1) left_is here
+              ∙ ap (deliver rule aim p (passed top place s ∷ tests floor new)) (rw (← at) (sym d.0))
+              ∙ deliver-some rule aim p (passed top place s ∷ tests floor new) v (omega arith)
+              ∙ ap (λ fs. pending rule aim p fs (Some v)) (sym last_is);
+          falls = rw (last_is, popped) (work-settled rule aim p top (tests floor new) place s m (undo_of rule board m) k (top.left - 1) left_is here);
           above = omega (arith, ap length d.2, length-append new (passed top place s ∷ []), low_new);
           base = ap (take floor) d.2 ∙ base_mid;
-          counted = rw (last_is, popped) (omega (arith, o, ap (λ b. walk_count (chess rule) (top.left - 1) ((chess rule).after b m)) at, open-settled rule selfmate p top (tests floor new) place s m (undo_of rule board m) k (top.left - 1) left_is here));
+          counted = rw (last_is, popped) (omega (arith, o, ap (λ b. walk_count (legal_moves rule) (played rule) (top.left - 1) (played rule b m)) at, open-settled rule aim p top (tests floor new) place s m (undo_of rule board m) k (top.left - 1) left_is here));
         }
 
     pub descend_room : (is : Option Bool) → Descends is → top_left (tests floor old) + length old ≤ N + 1 → top_left (tests floor last) + length last ≤ N + 1
@@ -370,14 +373,14 @@ module _ (rule : RuleSet) (selfmate : Bool) (floor : ℕ) (top : Frame) (old new
   top_room N room = let t : top_left (tests floor old) ≡ top.left = ap top_left popped in omega (arith, t, room, len)
 
   -- the value of a frame that its answer decides, and of one with no move left
-  pub decided_value : (p : Position) (was : Option Bool) → was ≡ Some (seeks selfmate top.left) → pending rule selfmate p (top ∷ tests floor new) was ≡ deliver rule selfmate p (tests floor new) (seeks selfmate top.left)
-  decided_value p was e = pending-decided rule selfmate p top (tests floor new) was e
+  pub decided_value : (p : Position) (was : Option Bool) → was ≡ Some (seeks aim.selfmate top.left) → pending rule aim p (top ∷ tests floor new) was ≡ deliver rule aim p (tests floor new) (seeks aim.selfmate top.left)
+  decided_value p was e = pending-decided rule aim p top (tests floor new) was e
 
-  pub exhausted_value : (p board : Position) (was : Option Bool) → IsTesting rule p (tests floor old) board → (was ≡ None) ⊎ (was ≡ Some (not (seeks selfmate top.left))) → untried rule board top ≡ [] → pending rule selfmate p (top ∷ tests floor new) was ≡ deliver rule selfmate p (tests floor new) (not (seeks selfmate top.left))
+  pub exhausted_value : (p board : Position) (was : Option Bool) → IsTesting rule p (tests floor old) board → (was ≡ None) ⊎ (was ≡ Some (not (seeks aim.selfmate top.left))) → untried rule board top ≡ [] → pending rule aim p (top ∷ tests floor new) was ≡ deliver rule aim p (tests floor new) (not (seeks aim.selfmate top.left))
   exhausted_value p board was r u e =
       let at : board ≡ position rule p (top ∷ tests floor new) = (testing_top p board r).board_at in
-      pending-undecided rule selfmate p top (tests floor new) was u
-      ∙ ap (deliver rule selfmate p (tests floor new)) (rest-none rule selfmate top.left (position rule p (top ∷ tests floor new)) (untried rule (position rule p (top ∷ tests floor new)) top) (top_some p board r) (rw (← at) e))
+      pending-undecided rule aim p top (tests floor new) was u
+      ∙ ap (deliver rule aim p (tests floor new)) (rest-none rule aim top.left (position rule p (top ∷ tests floor new)) (untried rule (position rule p (top ∷ tests floor new)) top) (top_some p board r) (rw (← at) e))
 
 -- a call that leaves the board as it was
 pub testing_same : (rule : RuleSet) (p : Position) (frames : List Frame) (board now : Position) → IsTesting rule p frames board → now ≡ board → IsTesting rule p frames now
@@ -388,30 +391,30 @@ nil_of [] e = refl
 nil_of (x ∷ xs) e = absurd (omega (arith, e))
 
 -- a test of the position p, of the value v, over the frames `under`
-pub record IsUnderway (rule : RuleSet) (selfmate : Bool) (floor : ℕ) (p : Position) (N : ℕ) (v : Bool) (under frames : List Frame) (answer : Option Bool) (board : Position) (opened most : ℕ) : Type 0 where
+pub record IsUnderway (rule : RuleSet) (aim : Aim) (floor : ℕ) (p : Position) (N : ℕ) (v : Bool) (under frames : List Frame) (answer : Option Bool) (board : Position) (opened most : ℕ) : Type 0 where
   pub counted : opened + to_test rule p (tests floor frames) ≤ most
   pub testing : IsTesting rule p (tests floor frames) board
-  pub same : pending rule selfmate p (tests floor frames) answer ≡ v
+  pub same : pending rule aim p (tests floor frames) answer ≡ v
   pub above : floor < length frames
   pub room : top_left (tests floor frames) + length frames ≤ N + 1
   pub base : take floor frames ≡ under
 
-module _ (rule : RuleSet) (selfmate : Bool) where
-  pub begins : (floor : ℕ) (p : Position) (N left k : ℕ) (board : Position) (before count : ℕ) (by : Triple) (undo : Loss) (shown : Shown) (under frames : List Frame) → floor ≡ length under → frames ≡ under ++ tested k by undo shown left ∷ [] → floor + left ≤ N → count ≤ before + 1 → board ≡ p → IsWellFormed board → (0 < left) × (value selfmate (chess rule) left p ≡ joined selfmate (chess rule) left p ((chess rule).moves p)) → IsUnderway rule selfmate floor p N (value selfmate (chess rule) left p) under frames None board count (before + walk_count (chess rule) left p)
+module _ (rule : RuleSet) (aim : Aim) where
+  pub begins : (floor : ℕ) (p : Position) (N left k : ℕ) (board : Position) (before count : ℕ) (by : Triple) (undo : Loss) (shown : Shown) (under frames : List Frame) → floor ≡ length under → frames ≡ under ++ tested k by undo shown left ∷ [] → floor + left ≤ N → count ≤ before + 1 → board ≡ p → IsWellFormed board → (0 < left) × (value aim.selfmate (chess aim.goal rule) left p ≡ joined aim.selfmate (chess aim.goal rule) left p (legal_moves rule p)) → IsUnderway rule aim floor p N (value aim.selfmate (chess aim.goal rule) left p) under frames None board count (before + walk_count (legal_moves rule) (played rule) left p)
   unfolding pending deliver IsLinked IsCut position to_test
   begins floor p N left k board before count by undo shown under frames low put room more at sound d =
       let none : tests floor under ≡ [] = nil_of (tests floor under) (omega (arith, length-tests floor under, low)) in
       let one : tests floor frames ≡ tested k by undo shown left ∷ [] = ap (tests floor) put ∙ tests-push floor under _ (omega (arith, low)) ∙ ap (λ fs. tested k by undo shown left ∷ fs) none in
       let n = length-append under (tested k by undo shown left ∷ []) in
       record {
-        counted = rw one (omega (arith, more, walk_count-start rule selfmate left p k d.0));
+        counted = rw one (omega (arith, more, walk_count-start rule aim left p k d.0));
         testing = rw one (record { linked = tt; cut = d.0; sound = sound; board_at = at });
-        same = rw (one, rest-start rule selfmate left p k) (sym d.1);
+        same = rw (one, rest-start rule aim left p k) (sym d.1);
         above = omega (arith, ap length put, n, low);
         room = let t : top_left (tests floor frames) ≡ left = ap top_left one in omega (arith, t, ap length put, n, low, room);
         base = ap (take floor) put ∙ take-append-le floor under _ (omega (arith, low)) ∙ take_all floor under (omega (arith, low));
       }
 
-  pub goes_on : (floor : ℕ) (p : Position) (N : ℕ) (v : Bool) (under old new : List Frame) (was is : Option Bool) (board after : Position) (before count most : ℕ) → IsUnderway rule selfmate floor p N v under old was board before most → Turns rule selfmate floor p old new was is after before count → top_left (tests floor new) + length new ≤ N + 1 → IsUnderway rule selfmate floor p N v under new is after count most
+  pub goes_on : (floor : ℕ) (p : Position) (N : ℕ) (v : Bool) (under old new : List Frame) (was is : Option Bool) (board after : Position) (before count most : ℕ) → IsUnderway rule aim floor p N v under old was board before most → Turns rule aim floor p old new was is after before count → top_left (tests floor new) + length new ≤ N + 1 → IsUnderway rule aim floor p N v under new is after count most
   goes_on floor p N v under old new was is board after before count most u t room =
       record { counted = omega (arith, t.counted, u.counted); testing = t.testing; same = sym t.same ∙ u.same; above = t.above; room = room; base = t.base ∙ u.base }

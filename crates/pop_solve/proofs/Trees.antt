@@ -164,11 +164,11 @@ module _ {P M : Type 0} (game : Game P M) where
   -- in battle play
   module _ (way : Way) (battle : way.help ≡ false) where
     -- a move that is tested, and one that isn't
-    pub by_test : (root : Bool) (t : ℕ) (q : P) → (root || seeks way.selfmate (t + 1)) ≡ true → follows way game root t q ≡ value way.selfmate game t q
+    pub by_test : (root : Bool) (t : ℕ) (q : P) → (root || seeks way.aim.selfmate (t + 1)) ≡ true → follows way game root t q ≡ value way.aim.selfmate game t q
     unfolding follows
     by_test root t q s = rw (battle, s) refl
 
-    by_none : (t : ℕ) (q : P) → seeks way.selfmate (t + 1) ≡ false → follows way game false t q ≡ true
+    by_none : (t : ℕ) (q : P) → seeks way.aim.selfmate (t + 1) ≡ false → follows way game false t q ≡ true
     unfolding follows
     by_none t q s = rw (battle, s) refl
 
@@ -186,38 +186,38 @@ module _ {P M : Type 0} (game : Game P M) where
         flat-same _ _ ms (λ m. ap (λ b. cond (follows way game root t (game.after p m)) (cond b ((m ∷ []) ∷ []) [] ++ map (λ line. m ∷ line) (beneath k t (game.after p m))) []) (given_always t (game.after p m)))
 
     -- the moves of White in his least length, over anything
-    white : (n k t : ℕ) (q : P) (G : M → List (List M)) → seeks way.selfmate t ≡ true → 0 < t → t ≤ 2 * n → t ≤ suc k → game.goal q ≡ false → value way.selfmate game t q ≡ true
-        → ((l : ℕ) (m : M) → seeks way.selfmate (l + 1) ≡ true → l + 1 ≤ t → value way.selfmate game l (game.after q m) ≡ true → node m (beneath k l (game.after q m)) ≡ G m)
-        → shown way game false (suc k) (open_length way.selfmate game t q) q (game.moves q) ≡ flat_map G (best way.selfmate game n q)
+    white : (n k t : ℕ) (q : P) (G : M → List (List M)) → seeks way.aim.selfmate t ≡ true → 0 < t → t ≤ 2 * n → t ≤ suc k → game.goal q ≡ false → value way.aim.selfmate game t q ≡ true
+        → ((l : ℕ) (m : M) → seeks way.aim.selfmate (l + 1) ≡ true → l + 1 ≤ t → value way.aim.selfmate game l (game.after q m) ≡ true → node m (beneath k l (game.after q m)) ≡ G m)
+        → shown way game false (suc k) (open_length way.aim.selfmate game t q) q (game.moves q) ≡ flat_map G (best way.aim.selfmate game n q)
     unfolding open_length
     white n k zero q G s some most room open_yet v each = absurd (omega (arith, some))
     white n k (suc t) q G s some most room open_yet v each =
         let z : eqb (suc t) 0 ≡ false = grind (arith, nat_tests) in
-        let L = first_from way.selfmate game q ((suc t - fewest way.selfmate) / 2) (fewest way.selfmate) in
-        let h : L ≡ halves way.selfmate (least way.selfmate game n q) = least-halves way.selfmate n (suc t) q s some most open_yet v in
+        let L = first_from way.aim.selfmate game q ((suc t - fewest way.aim.selfmate) / 2) (fewest way.aim.selfmate) in
+        let h : L ≡ halves way.aim.selfmate (least way.aim.selfmate game n q) = least-halves way.aim.selfmate n (suc t) q s some most open_yet v in
         rw (z, open_yet, s) (go L refl h)
       where
         z0 : eqb (suc t) 0 ≡ false
         z0 = grind (arith, nat_tests)
 
         L0 : ℕ
-        L0 = first_from way.selfmate game q ((suc t - fewest way.selfmate) / 2) (fewest way.selfmate)
+        L0 = first_from way.aim.selfmate game q ((suc t - fewest way.aim.selfmate) / 2) (fewest way.aim.selfmate)
 
-        go : (x : ℕ) → L0 ≡ x → x ≡ halves way.selfmate (least way.selfmate game n q) → shown way game false (suc k) x q (game.moves q) ≡ flat_map G (best way.selfmate game n q)
-        go zero e h = absurd (omega (arith, e, first_from-least way.selfmate q ((suc t - fewest way.selfmate) / 2) (fewest way.selfmate), fewest-some way.selfmate))
+        go : (x : ℕ) → L0 ≡ x → x ≡ halves way.aim.selfmate (least way.aim.selfmate game n q) → shown way game false (suc k) x q (game.moves q) ≡ flat_map G (best way.aim.selfmate game n q)
+        go zero e h = absurd (omega (arith, e, first_from-least way.aim.selfmate q ((suc t - fewest way.aim.selfmate) / 2) (fewest way.aim.selfmate), fewest-some way.aim.selfmate))
         go (suc l) e h =
-            let j = half-some way.selfmate _ l h in
-            let h2 : suc l ≡ halves way.selfmate (suc j.0) = h ∙ ap (halves way.selfmate) j.1 in
-            let n2 : l + 1 ≡ halves way.selfmate (suc j.0) = omega (arith, h2) in
-            let l2 : halves way.selfmate (suc j.0) - 1 ≡ l = omega (arith, h2) in
-            let s2 : seeks way.selfmate (l + 1) ≡ true = rw n2 (halves-seek way.selfmate j.0) in
-            let most2 : L0 ≤ suc t = length_most game way.selfmate (suc t) q false true false z0 s in
+            let j = half-some way.aim.selfmate _ l h in
+            let h2 : suc l ≡ halves way.aim.selfmate (suc j.0) = h ∙ ap (halves way.aim.selfmate) j.1 in
+            let n2 : l + 1 ≡ halves way.aim.selfmate (suc j.0) = omega (arith, h2) in
+            let l2 : halves way.aim.selfmate (suc j.0) - 1 ≡ l = omega (arith, h2) in
+            let s2 : seeks way.aim.selfmate (l + 1) ≡ true = rw n2 (halves-seek way.aim.selfmate j.0) in
+            let most2 : L0 ≤ suc t = length_most game way.aim.selfmate (suc t) q false true false z0 s in
             as_nodes false k l q (game.moves q)
-            ∙ flat-filter _ (λ m. keeps way.selfmate game (least way.selfmate game n q) (game.after q m)) _ G (game.moves q)
-            (λ m. by_test false l (game.after q m) s2 ∙ sym (ap (λ x. keeps way.selfmate game x (game.after q m)) j.1 ∙ keeps-value way.selfmate j.0 (game.after q m) ∙ ap (λ x. value way.selfmate game x (game.after q m)) l2))
+            ∙ flat-filter _ (λ m. keeps way.aim.selfmate game (least way.aim.selfmate game n q) (game.after q m)) _ G (game.moves q)
+            (λ m. by_test false l (game.after q m) s2 ∙ sym (ap (λ x. keeps way.aim.selfmate game x (game.after q m)) j.1 ∙ keeps-value way.aim.selfmate j.0 (game.after q m) ∙ ap (λ x. value way.aim.selfmate game x (game.after q m)) l2))
             (λ m v2. each l m s2 (omega (arith, e, most2)) (sym (by_test false l (game.after q m) s2) ∙ v2))
 
-    open-goal : (k : ℕ) (q : P) → game.goal q ≡ true → shown way game false k (open_length way.selfmate game k q) q (game.moves q) ≡ []
+    open-goal : (k : ℕ) (q : P) → game.goal q ≡ true → shown way game false k (open_length way.aim.selfmate game k q) q (game.moves q) ≡ []
     unfolding open_length
     open-goal k q g =
         let none : (eqb k 0 || game.goal q) ≡ true = rw g (or_true (eqb k 0)) in
@@ -231,63 +231,63 @@ module _ {P M : Type 0} (game : Game P M) where
     clash f t = cc
 
     module _ (variation : way.variation ≡ true) where
-      beneath-is : (k t : ℕ) (q : P) → beneath k t q ≡ shown way game false k (open_length way.selfmate game t q) q (game.moves q)
+      beneath-is : (k t : ℕ) (q : P) → beneath k t q ≡ shown way game false k (open_length way.aim.selfmate game t q) q (game.moves q)
       unfolding goes_on
       beneath-is k t q = rw (battle, variation) refl
 
       abbrev pub Tie : ℕ → ℕ → ℕ → P → Type 0
-      Tie n k t q = shown way game false k (open_length way.selfmate game t q) q (game.moves q) ≡ cond (seeks way.selfmate t) (answers way.selfmate game n k q) (below way.selfmate game n k q)
+      Tie n k t q = shown way game false k (open_length way.aim.selfmate game t q) q (game.moves q) ≡ cond (seeks way.aim.selfmate t) (answers way.aim.selfmate game n k q) (below way.aim.selfmate game n k q)
 
       tie-goal : (n k t : ℕ) (q : P) → game.goal q ≡ true → Tie n k t q
       unfolding open_length
       tie-goal n k t q g =
           let none : (eqb t 0 || game.goal q) ≡ true = rw g (or_true (eqb t 0)) in
-          rw none (shown-zero way false k q (game.moves q) ∙ sym (nothing n k q g way.selfmate (seeks way.selfmate t)))
+          rw none (shown-zero way false k q (game.moves q) ∙ sym (nothing n k q g way.aim.selfmate (seeks way.aim.selfmate t)))
         where
           or_true : (b : Bool) → (b || true) ≡ true
           or_true true = refl
           or_true false = refl
 
-      tie-white : (n k t : ℕ) (q : P) → ((l : ℕ) (r : P) → value way.selfmate game l r ≡ true → l ≤ k → l ≤ 2 * n → Tie n k l r) → value way.selfmate game (suc t) q ≡ true → suc t ≤ suc k → suc t ≤ 2 * n → game.goal q ≡ false → seeks way.selfmate (suc t) ≡ true → Tie n (suc k) (suc t) q
+      tie-white : (n k t : ℕ) (q : P) → ((l : ℕ) (r : P) → value way.aim.selfmate game l r ≡ true → l ≤ k → l ≤ 2 * n → Tie n k l r) → value way.aim.selfmate game (suc t) q ≡ true → suc t ≤ suc k → suc t ≤ 2 * n → game.goal q ≡ false → seeks way.aim.selfmate (suc t) ≡ true → Tie n (suc k) (suc t) q
       unfolding answers
       tie-white n k t q ih v room most g s =
           rw (s, g) (white n k (suc t) q _ s (omega arith) most room g v
           (λ l m s2 less v2.
-          let b : seeks way.selfmate l ≡ false = flip _ (sym (seeks-step way.selfmate l) ∙ s2) in
-          ap (node m) (beneath-is k l (game.after q m) ∙ ih l (game.after q m) v2 (omega (arith, less, room)) (omega (arith, less, most)) ∙ ap (λ x. cond x (answers way.selfmate game n k (game.after q m)) (below way.selfmate game n k (game.after q m))) b)))
+          let b : seeks way.aim.selfmate l ≡ false = flip _ (sym (seeks-step way.aim.selfmate l) ∙ s2) in
+          ap (node m) (beneath-is k l (game.after q m) ∙ ih l (game.after q m) v2 (omega (arith, less, room)) (omega (arith, less, most)) ∙ ap (λ x. cond x (answers way.aim.selfmate game n k (game.after q m)) (below way.aim.selfmate game n k (game.after q m))) b)))
 
-      tie-black : (n k t : ℕ) (q : P) → ((l : ℕ) (r : P) → value way.selfmate game l r ≡ true → l ≤ k → l ≤ 2 * n → Tie n k l r) → value way.selfmate game (suc t) q ≡ true → suc t ≤ suc k → suc t ≤ 2 * n → game.goal q ≡ false → seeks way.selfmate (suc t) ≡ false → Tie n (suc k) (suc t) q
+      tie-black : (n k t : ℕ) (q : P) → ((l : ℕ) (r : P) → value way.aim.selfmate game l r ≡ true → l ≤ k → l ≤ 2 * n → Tie n k l r) → value way.aim.selfmate game (suc t) q ≡ true → suc t ≤ suc k → suc t ≤ 2 * n → game.goal q ≡ false → seeks way.aim.selfmate (suc t) ≡ false → Tie n (suc k) (suc t) q
       unfolding below open_length
       tie-black n k t q ih v room most g s =
           let z : eqb (suc t) 0 ≡ false = grind (arith, nat_tests) in
           let one : suc t ≡ t + 1 = omega arith in
-          let s1 : seeks way.selfmate (t + 1) ≡ false = (rw (← one) s) in
-          let w : seeks way.selfmate t ≡ true = unflip _ (sym (seeks-step way.selfmate t) ∙ s1) in
+          let s1 : seeks way.aim.selfmate (t + 1) ≡ false = (rw (← one) s) in
+          let w : seeks way.aim.selfmate t ≡ true = unflip _ (sym (seeks-step way.aim.selfmate t) ∙ s1) in
           rw (z, g, s) (as_nodes false k t q (game.moves q)
-          ∙ flat-all (λ d. value way.selfmate game t (game.after q d)) _ _ (game.moves q) (value-black way.selfmate t q g s v)
+          ∙ flat-all (λ d. value way.aim.selfmate game t (game.after q d)) _ _ (game.moves q) (value-black way.aim.selfmate t q g s v)
           (λ d v2. ap (λ b. cond b (node d (beneath k t (game.after q d))) []) (by_none t (game.after q d) s1)
-          ∙ ap (node d) (beneath-is k t (game.after q d) ∙ ih t (game.after q d) v2 (omega (arith, room)) (omega (arith, most)) ∙ ap (λ x. cond x (answers way.selfmate game n k (game.after q d)) (below way.selfmate game n k (game.after q d))) w)))
+          ∙ ap (node d) (beneath-is k t (game.after q d) ∙ ih t (game.after q d) v2 (omega (arith, room)) (omega (arith, most)) ∙ ap (λ x. cond x (answers way.aim.selfmate game n k (game.after q d)) (below way.aim.selfmate game n k (game.after q d))) w)))
 
       -- what the walk shows below a move that is shown
-      pub tie : (n k t : ℕ) (q : P) → value way.selfmate game t q ≡ true → t ≤ k → t ≤ 2 * n → Tie n k t q
-      tie n k zero q v room most = tie-goal n k 0 q (sym (value-end-zero way.selfmate q) ∙ v)
+      pub tie : (n k t : ℕ) (q : P) → value way.aim.selfmate game t q ≡ true → t ≤ k → t ≤ 2 * n → Tie n k t q
+      tie n k zero q v room most = tie-goal n k 0 q (sym (value-end-zero way.aim.selfmate q) ∙ v)
       tie n zero (suc t) q v room most = absurd (omega (arith, room))
       tie n (suc k) (suc t) q v room most =
           split (game.goal q) refl (tie-goal n (suc k) (suc t) q) (tie-white n k t q (λ l r a b c. tie n k l r a b c) v room most) (tie-black n k t q (λ l r a b c. tie n k l r a b c) v room most)
         where
-          split : (g : Bool) → game.goal q ≡ g → (game.goal q ≡ true → Tie n (suc k) (suc t) q) → (game.goal q ≡ false → seeks way.selfmate (suc t) ≡ true → Tie n (suc k) (suc t) q) → (game.goal q ≡ false → seeks way.selfmate (suc t) ≡ false → Tie n (suc k) (suc t) q) → Tie n (suc k) (suc t) q
+          split : (g : Bool) → game.goal q ≡ g → (game.goal q ≡ true → Tie n (suc k) (suc t) q) → (game.goal q ≡ false → seeks way.aim.selfmate (suc t) ≡ true → Tie n (suc k) (suc t) q) → (game.goal q ≡ false → seeks way.aim.selfmate (suc t) ≡ false → Tie n (suc k) (suc t) q) → Tie n (suc k) (suc t) q
           split true e a b c = a e
-          split false e a b c = side (seeks way.selfmate (suc t)) refl
+          split false e a b c = side (seeks way.aim.selfmate (suc t)) refl
             where
-              side : (s : Bool) → seeks way.selfmate (suc t) ≡ s → Tie n (suc k) (suc t) q
+              side : (s : Bool) → seeks way.aim.selfmate (suc t) ≡ s → Tie n (suc k) (suc t) q
               side true f = b e f
               side false f = c e f
 
     -- where no variations are shown, nothing stands below a move of White
-    beneath-none : (k t : ℕ) (q : P) → way.variation ≡ false → seeks way.selfmate (t + 1) ≡ true → beneath k t q ≡ []
+    beneath-none : (k t : ℕ) (q : P) → way.variation ≡ false → seeks way.aim.selfmate (t + 1) ≡ true → beneath k t q ≡ []
     beneath-none k t q v s = ap (λ x. shown way game false k x q (game.moves q)) (goes_on-keys way game t q battle v s) ∙ shown-zero way false k q (game.moves q)
 
-    beneath-set : (k t : ℕ) (q : P) → seeks way.selfmate (t + 1) ≡ false → beneath k t q ≡ shown way game false k (open_length way.selfmate game t q) q (game.moves q)
+    beneath-set : (k t : ℕ) (q : P) → seeks way.aim.selfmate (t + 1) ≡ false → beneath k t q ≡ shown way game false k (open_length way.aim.selfmate game t q) q (game.moves q)
     unfolding goes_on
     beneath-set k t q s = rw (battle, s, off way.variation) refl
       where
@@ -296,35 +296,35 @@ module _ {P M : Type 0} (game : Game P M) where
         off false = refl
 
     -- below a key
-    pub below-key : (n h : ℕ) (q : P) → seeks way.selfmate (suc h) ≡ true → suc h ≤ 2 * n → value way.selfmate game h q ≡ true → beneath h h q ≡ cond way.variation (below way.selfmate game n h q) []
+    pub below-key : (n h : ℕ) (q : P) → seeks way.aim.selfmate (suc h) ≡ true → suc h ≤ 2 * n → value way.aim.selfmate game h q ≡ true → beneath h h q ≡ cond way.variation (below way.aim.selfmate game n h q) []
     below-key n h q s most v = go way.variation refl
       where
-        s1 : seeks way.selfmate (h + 1) ≡ true
+        s1 : seeks way.aim.selfmate (h + 1) ≡ true
         s1 = let one : suc h ≡ h + 1 = omega arith in rw (← one) s
 
-        go : (b : Bool) → way.variation ≡ b → beneath h h q ≡ cond b (below way.selfmate game n h q) []
+        go : (b : Bool) → way.variation ≡ b → beneath h h q ≡ cond b (below way.aim.selfmate game n h q) []
         go true e =
             beneath-is e h h q ∙ tie e n h h q v (omega arith) (omega (arith, most))
-            ∙ ap (λ x. cond x (answers way.selfmate game n h q) (below way.selfmate game n h q)) (flip _ (sym (seeks-step way.selfmate h) ∙ s1))
+            ∙ ap (λ x. cond x (answers way.aim.selfmate game n h q) (below way.aim.selfmate game n h q)) (flip _ (sym (seeks-step way.aim.selfmate h) ∙ s1))
         go false e = beneath-none h h q e s1
 
     -- below a first move of Black in set play
-    pub below-set : (n h : ℕ) (r : P) → seeks way.selfmate h ≡ true → h ≤ 2 * n → value way.selfmate game h r ≡ true → beneath h h r ≡ cond way.variation (answers way.selfmate game n h r) (cond (game.goal r) [] (map (λ m. m ∷ []) (best way.selfmate game n r)))
+    pub below-set : (n h : ℕ) (r : P) → seeks way.aim.selfmate h ≡ true → h ≤ 2 * n → value way.aim.selfmate game h r ≡ true → beneath h h r ≡ cond way.variation (answers way.aim.selfmate game n h r) (cond (game.goal r) [] (map (λ m. m ∷ []) (best way.aim.selfmate game n r)))
     below-set n h r s most v = go way.variation refl
       where
-        s1 : seeks way.selfmate (h + 1) ≡ false
-        s1 = seeks-step way.selfmate h ∙ ap not s
+        s1 : seeks way.aim.selfmate (h + 1) ≡ false
+        s1 = seeks-step way.aim.selfmate h ∙ ap not s
 
-        no_variation : way.variation ≡ false → (h2 : ℕ) → h ≡ h2 → (g : Bool) → game.goal r ≡ g → shown way game false h2 (open_length way.selfmate game h2 r) r (game.moves r) ≡ cond g [] (map (λ m. m ∷ []) (best way.selfmate game n r))
+        no_variation : way.variation ≡ false → (h2 : ℕ) → h ≡ h2 → (g : Bool) → game.goal r ≡ g → shown way game false h2 (open_length way.aim.selfmate game h2 r) r (game.moves r) ≡ cond g [] (map (λ m. m ∷ []) (best way.aim.selfmate game n r))
         no_variation e h2 i true g = open-goal h2 r g
-        no_variation e zero i false g = absurd (clash g (sym (value-end-zero way.selfmate r) ∙ (rw i at v)))
+        no_variation e zero i false g = absurd (clash g (sym (value-end-zero way.aim.selfmate r) ∙ (rw i at v)))
         no_variation e (suc k) i false g =
             white n k (suc k) r (λ m. (m ∷ []) ∷ []) (rw i at s) (omega arith) (rw i at most) (omega arith) g (rw i at v)
             (λ l m s2 less v2. ap (node m) (beneath-none k l (game.after r m) e s2))
-            ∙ flat_map_single (λ m. m ∷ []) (best way.selfmate game n r)
+            ∙ flat_map_single (λ m. m ∷ []) (best way.aim.selfmate game n r)
 
-        go : (b : Bool) → way.variation ≡ b → beneath h h r ≡ cond b (answers way.selfmate game n h r) (cond (game.goal r) [] (map (λ m. m ∷ []) (best way.selfmate game n r)))
+        go : (b : Bool) → way.variation ≡ b → beneath h h r ≡ cond b (answers way.aim.selfmate game n h r) (cond (game.goal r) [] (map (λ m. m ∷ []) (best way.aim.selfmate game n r)))
         go true e =
             beneath-is e h h r ∙ tie e n h h r v (omega arith) most
-            ∙ ap (λ x. cond x (answers way.selfmate game n h r) (below way.selfmate game n h r)) s
+            ∙ ap (λ x. cond x (answers way.aim.selfmate game n h r) (below way.aim.selfmate game n h r)) s
         go false e = beneath-set h h r s1 ∙ no_variation e h refl (game.goal r) refl

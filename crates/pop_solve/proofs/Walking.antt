@@ -1,4 +1,8 @@
 -- One step of a walk over frames.
+use Rattle.pop_input.specs.declared.stipulation.Goal.{Goal}
+use Rattle.pop_input.specs.declared.stipulation.Goal.TheVariants.{Mate}
+use Rattle.chess_rules.specs.Play.{after as played}
+use Rattle.chess_rules.specs.Legal.{moves as legal_moves}
 use Rattle.std.proofs.Common.{◌≡◌, ℕ, zero, suc, ◌+◌, ◌-◌, ◌*◌, ◌/◌, ◌%◌, ◌<◌, ◌≤◌, ◌^◌, min, Bool, true, false, not, ◌&&◌, ◌||◌, eqb, cond, List, [], ◌∷◌, ◌++◌, length, filter, map, reverse, Option, Some, None, MatchOption, refl, sym, ◌∙◌, ap, append_assoc, arith, subst, ◌⊎◌, inl, inr}
 use Rattle.std.proofs.lemmas.List.{map-append, reverse-append, length-reverse}
 use Rattle.std.proofs.lemmas.Bool.{cond-true, cond-false}
@@ -73,7 +77,7 @@ module _ {P M : Type 0} (game : Game P M) where
 
   pub goes_on-most : (way : Way) (t : ℕ) (q : P) → goes_on way game t q ≤ t
   unfolding goes_on
-  goes_on-most way t q = most way.help (not way.variation && seeks way.selfmate (t + 1)) _ (open_length-most way.selfmate t q)
+  goes_on-most way t q = most way.help (not way.variation && seeks way.aim.selfmate (t + 1)) _ (open_length-most way.aim.selfmate t q)
     where
       most : (help keys : Bool) (n : ℕ) → n ≤ t → cond help t (cond keys 0 n) ≤ t
       most true keys n e = omega arith
@@ -95,10 +99,10 @@ module _ (rule : RuleSet) (way : Way) where
   IsLinked-moved p f place [] l = tt
   IsLinked-moved p f place (g ∷ below) l = l
 
-  IsShowing-moved : (p : Position) (f : Frame) (place : ℕ) (below : List Frame) → IsShowing rule p (f ∷ below) → IsShowing rule p (moved f place ∷ below)
+  IsShowing-moved : (goal : Goal) (p : Position) (f : Frame) (place : ℕ) (below : List Frame) → IsShowing goal rule p (f ∷ below) → IsShowing goal rule p (moved f place ∷ below)
   unfolding IsShowing
-  IsShowing-moved p f place [] l = tt
-  IsShowing-moved p f place (g ∷ below) l = l
+  IsShowing-moved goal p f place [] l = tt
+  IsShowing-moved goal p f place (g ∷ below) l = l
 
   position-moved : (p : Position) (f : Frame) (place : ℕ) (below : List Frame) → position rule p (moved f place ∷ below) ≡ position rule p (f ∷ below)
   unfolding position
@@ -106,11 +110,11 @@ module _ (rule : RuleSet) (way : Way) where
   position-moved p f place (g ∷ below) = refl
 
   -- the paths by the next move, and by the others
-  shown-next : (root : Bool) (k t : ℕ) (P : Position) (m : Triple) (ms : List Triple) → shown way (chess rule) root (suc k) (suc t) P (m ∷ ms) ≡ cond (follows way (chess rule) root t ((chess rule).after P m)) (given_path (gives way (chess rule) t ((chess rule).after P m)) (m ∷ []) ++ map (λ line. m ∷ line) (shown way (chess rule) false k (goes_on way (chess rule) t ((chess rule).after P m)) ((chess rule).after P m) ((chess rule).moves ((chess rule).after P m)))) [] ++ shown way (chess rule) root (suc k) (suc t) P ms
+  shown-next : (root : Bool) (k t : ℕ) (P : Position) (m : Triple) (ms : List Triple) → shown way (chess way.aim.goal rule) root (suc k) (suc t) P (m ∷ ms) ≡ cond (follows way (chess way.aim.goal rule) root t (played rule P m)) (given_path (gives way (chess way.aim.goal rule) t (played rule P m)) (m ∷ []) ++ map (λ line. m ∷ line) (shown way (chess way.aim.goal rule) false k (goes_on way (chess way.aim.goal rule) t (played rule P m)) (played rule P m) (legal_moves rule (played rule P m)))) [] ++ shown way (chess way.aim.goal rule) root (suc k) (suc t) P ms
   unfolding shown
   shown-next root k t P m ms = refl
 
-  shown-none : (root : Bool) (k left : ℕ) (P : Position) (ms : List Triple) → (left ≡ 0) ⊎ (ms ≡ []) → shown way (chess rule) root k left P ms ≡ []
+  shown-none : (root : Bool) (k left : ℕ) (P : Position) (ms : List Triple) → (left ≡ 0) ⊎ (ms ≡ []) → shown way (chess way.aim.goal rule) root k left P ms ≡ []
   unfolding shown
   shown-none root zero left P ms e = refl
   shown-none root (suc k) zero P ms e = refl
@@ -122,13 +126,13 @@ module _ (rule : RuleSet) (way : Way) where
   steps-start zero q = refl
   steps-start (suc k) q = rw (behind_start rule q) refl
 
-  steps_behind-next : (k : ℕ) (P : Position) (place next : ℕ) (m : Triple) → moves_behind rule P place ≡ m ∷ moves_behind rule P next → steps_behind rule (suc k) P place ≡ (1 + steps rule k ((chess rule).after P m)) + steps_behind rule (suc k) P next
+  steps_behind-next : (k : ℕ) (P : Position) (place next : ℕ) (m : Triple) → moves_behind rule P place ≡ m ∷ moves_behind rule P next → steps_behind rule (suc k) P place ≡ (1 + steps rule k (played rule P m)) + steps_behind rule (suc k) P next
   unfolding steps_behind
-  steps_behind-next k P place next m e = rw e (sum_by-cons (λ x. 1 + steps rule k ((chess rule).after P x)) m (moves_behind rule P next))
+  steps_behind-next k P place next m e = rw e (sum_by-cons (λ x. 1 + steps rule k (played rule P x)) m (moves_behind rule P next))
 
-  walk_behind-next : (k : ℕ) (P : Position) (place next : ℕ) (m : Triple) → moves_behind rule P place ≡ m ∷ moves_behind rule P next → walk_behind rule (suc k) P place ≡ walk_count (chess rule) k ((chess rule).after P m) + walk_behind rule (suc k) P next
+  walk_behind-next : (k : ℕ) (P : Position) (place next : ℕ) (m : Triple) → moves_behind rule P place ≡ m ∷ moves_behind rule P next → walk_behind rule (suc k) P place ≡ walk_count (legal_moves rule) (played rule) k (played rule P m) + walk_behind rule (suc k) P next
   unfolding walk_behind
-  walk_behind-next k P place next m e = rw e (sum_by-cons (λ x. walk_count (chess rule) k ((chess rule).after P x)) m (moves_behind rule P next))
+  walk_behind-next k P place next m e = rw e (sum_by-cons (λ x. walk_count (legal_moves rule) (played rule) k (played rule P x)) m (moves_behind rule P next))
 
   walk_behind-none : (k : ℕ) (P : Position) (place : ℕ) → (k ≡ 0) ⊎ (moves_behind rule P place ≡ []) → walk_behind rule k P place ≡ 0
   unfolding walk_behind
@@ -141,7 +145,7 @@ module _ (rule : RuleSet) (way : Way) where
   one zero = 0
   one (suc k) = 1
 
-  pub walk_count-start : (k : ℕ) (q : Position) → walk_count (chess rule) k q ≡ one k + walk_behind rule k q 0
+  pub walk_count-start : (k : ℕ) (q : Position) → walk_count (legal_moves rule) (played rule) k q ≡ one k + walk_behind rule k q 0
   unfolding walk_count walk_behind
   walk_count-start zero q = refl
   walk_count-start (suc k) q = rw (behind_start rule q) refl
@@ -149,26 +153,26 @@ module _ (rule : RuleSet) (way : Way) where
   module _ (h : ℕ) (p : Position) (f : Frame) (next : ℕ) (m : Triple) (below : List Frame) (k t : ℕ) (fuel : h - length below ≡ suc k) (left : f.left ≡ suc t) (e : moves_behind rule (position rule p (f ∷ below)) f.place ≡ m ∷ moves_behind rule (position rule p (f ∷ below)) next) where
     -- the position after the move
     abbrev q : Position
-    q = (chess rule).after (position rule p (f ∷ below)) m
+    q = played rule (position rule p (f ∷ below)) m
 
     abbrev root : Bool
     root = eqb (length below) 0
 
     -- a move that is not followed is passed over
-    come-pass : follows way (chess rule) root t q ≡ false → to_come rule way h p (f ∷ below) ≡ to_come rule way h p (moved f next ∷ below)
+    come-pass : follows way (chess way.aim.goal rule) root t q ≡ false → to_come rule way h p (f ∷ below) ≡ to_come rule way h p (moved f next ∷ below)
     unfolding to_come position path
     come-pass b = rw (fuel, left, e, shown-next root k t (position rule p (f ∷ below)) m (moves_behind rule (position rule p (f ∷ below)) next), b) refl
 
     -- a move that is followed: its path, where that is given, and what stands below it
-    come-enter : (undo : Loss) (s : Shown) → follows way (chess rule) root t q ≡ true → to_come rule way h p (f ∷ below) ≡ given_path (gives way (chess rule) t q) (path (opened m undo s (goes_on way (chess rule) t q) ∷ (moved f next ∷ below))) ++ to_come rule way h p (opened m undo s (goes_on way (chess rule) t q) ∷ (moved f next ∷ below))
+    come-enter : (undo : Loss) (s : Shown) → follows way (chess way.aim.goal rule) root t q ≡ true → to_come rule way h p (f ∷ below) ≡ given_path (gives way (chess way.aim.goal rule) t q) (path (opened m undo s (goes_on way (chess way.aim.goal rule) t q) ∷ (moved f next ∷ below))) ++ to_come rule way h p (opened m undo s (goes_on way (chess way.aim.goal rule) t q) ∷ (moved f next ∷ below))
     unfolding to_come position path
     come-enter undo s b =
         let less : h - suc (length below) ≡ k = omega arith in
         let P = position rule p (f ∷ below) in
         rw (fuel, less, left, e, shown-next root k t P m (moves_behind rule P next), b, behind_start rule q, no_zero (length below))
-        (turn (gives way (chess rule) t q) (path (f ∷ below)) m
-        (shown way (chess rule) false k (goes_on way (chess rule) t q) q ((chess rule).moves q))
-        (shown way (chess rule) root (suc k) (suc t) P (moves_behind rule P next)) (to_come rule way h p below))
+        (turn (gives way (chess way.aim.goal rule) t q) (path (f ∷ below)) m
+        (shown way (chess way.aim.goal rule) false k (goes_on way (chess way.aim.goal rule) t q) q (legal_moves rule q))
+        (shown way (chess way.aim.goal rule) root (suc k) (suc t) P (moves_behind rule P next)) (to_come rule way h p below))
 
     turns-pass : turns rule h p (moved f next ∷ below) < turns rule h p (f ∷ below)
     unfolding turns position
@@ -180,7 +184,7 @@ module _ (rule : RuleSet) (way : Way) where
         let less : h - suc (length below) ≡ k = omega arith in
         rw (fuel, less, steps_behind-next k (position rule p (f ∷ below)) f.place next m e, steps-start k q) (omega arith)
 
-    open-next : to_open rule p (f ∷ below) ≡ walk_count (chess rule) t q + to_open rule p (moved f next ∷ below)
+    open-next : to_open rule p (f ∷ below) ≡ walk_count (legal_moves rule) (played rule) t q + to_open rule p (moved f next ∷ below)
     unfolding to_open position
     open-next = rw (left, walk_behind-next t (position rule p (f ∷ below)) f.place next m e) (omega arith)
 
@@ -208,29 +212,29 @@ module _ (rule : RuleSet) (way : Way) where
     abbrev later : List Frame
     later = moved f g.mid ∷ below
 
-    ends : (low : Bool) (fuel k : ℕ) (m : Triple) (q : Position) (qs ms : List Triple) → map (λ line. m ∷ line) (shown way (chess rule) false k 0 q qs) ++ shown way (chess rule) low (suc fuel) 1 P ms ≡ shown way (chess rule) low (suc fuel) 1 P ms
+    ends : (low : Bool) (fuel k : ℕ) (m : Triple) (q : Position) (qs ms : List Triple) → map (λ line. m ∷ line) (shown way (chess way.aim.goal rule) false k 0 q qs) ++ shown way (chess way.aim.goal rule) low (suc fuel) 1 P ms ≡ shown way (chess way.aim.goal rule) low (suc fuel) 1 P ms
     unfolding shown
     ends low fuel zero m q qs ms = refl
     ends low fuel (suc k) m q qs ms = refl
 
-    gives-last : (q : Position) → way.help ≡ true → is_goal rule q ≡ false → gives way (chess rule) 0 q ≡ false
+    gives-last : (q : Position) → way.help ≡ true → way.aim.goal ≡ Mate → is_goal rule q ≡ false → gives way (chess way.aim.goal rule) 0 q ≡ false
     unfolding gives
-    gives-last q a misses = rw (a, misses) refl
+    gives-last q a for misses = rw (a, for, misses) refl
 
-    skipped : (low : Bool) (fuel : ℕ) (m : Triple) (ms : List Triple) → way.help ≡ true → is_mating rule P m ≡ false → shown way (chess rule) low (suc fuel) 1 P (m ∷ ms) ≡ shown way (chess rule) low (suc fuel) 1 P ms
-    skipped low fuel m ms a misses =
-        let q = (chess rule).after P m in
+    skipped : (low : Bool) (fuel : ℕ) (m : Triple) (ms : List Triple) → way.help ≡ true → way.aim.goal ≡ Mate → is_mating rule P m ≡ false → shown way (chess way.aim.goal rule) low (suc fuel) 1 P (m ∷ ms) ≡ shown way (chess way.aim.goal rule) low (suc fuel) 1 P ms
+    skipped low fuel m ms a for misses =
+        let q = played rule P m in
         shown-next low fuel 0 P m ms
-        ∙ (rw (follows-help way (chess rule) low 0 q a, gives-last q a misses, goes_on-help way (chess rule) 0 q a) (ends low fuel fuel m q ((chess rule).moves q) ms))
+        ∙ (rw (follows-help way (chess way.aim.goal rule) low 0 q a, gives-last q a for misses, goes_on-help way (chess way.aim.goal rule) 0 q a) (ends low fuel fuel m q (legal_moves rule q) ms))
 
-    shown-over : (low : Bool) (fuel : ℕ) (over ms : List Triple) → way.help ≡ true → filter (is_mating rule P) over ≡ [] → shown way (chess rule) low fuel 1 P (over ++ ms) ≡ shown way (chess rule) low fuel 1 P ms
+    shown-over : (low : Bool) (fuel : ℕ) (over ms : List Triple) → way.help ≡ true → way.aim.goal ≡ Mate → filter (is_mating rule P) over ≡ [] → shown way (chess way.aim.goal rule) low fuel 1 P (over ++ ms) ≡ shown way (chess way.aim.goal rule) low fuel 1 P ms
     unfolding shown
-    shown-over low zero over ms a none = refl
-    shown-over low (suc fuel) [] ms a none = refl
-    shown-over low (suc fuel) (m ∷ over) ms a none = elim (cases (is_mating rule P m)) [
+    shown-over low zero over ms a for none = refl
+    shown-over low (suc fuel) [] ms a for none = refl
+    shown-over low (suc fuel) (m ∷ over) ms a for none = elim (cases (is_mating rule P m)) [
       | inl misses ↦
           let last : filter (is_mating rule P) over ≡ [] = sym (cond-false (is_mating rule P m) _ _ misses) ∙ none in
-          skipped low fuel m (over ++ ms) a misses ∙ shown-over low (suc fuel) over ms a last
+          skipped low fuel m (over ++ ms) a for misses ∙ shown-over low (suc fuel) over ms a for last
       | inr mates ↦ absurd (let bad : m ∷ filter (is_mating rule P) over ≡ [] = sym (cond-true (is_mating rule P m) _ _ mates) ∙ none in cc)
     ]
 
@@ -238,14 +242,14 @@ module _ (rule : RuleSet) (way : Way) where
     unfolding to_come position path
     come-skip = elim g.none [
       | inl e ↦ rw (g.passed, e) refl
-      | inr e ↦ rw (g.passed, e.1, shown-over (eqb (length below) 0) (h - length below) g.over (moves_behind rule P g.mid) e.0 e.2) refl
+      | inr e ↦ rw (g.passed, e.2, shown-over (eqb (length below) 0) (h - length below) g.over (moves_behind rule P g.mid) e.0 e.1 e.3) refl
     ]
 
     fewer : (k : ℕ) → steps_behind rule k P g.mid ≤ steps_behind rule k P f.place
     unfolding steps_behind
     fewer zero = omega arith
     fewer (suc k) =
-        let s = sum_by-append (λ m. 1 + steps rule k ((chess rule).after P m)) g.over (moves_behind rule P g.mid) in
+        let s = sum_by-append (λ m. 1 + steps rule k (played rule P m)) g.over (moves_behind rule P g.mid) in
         rw g.passed (omega (arith, s))
 
     turns-skip : turns rule h p later ≤ turns rule h p (f ∷ below)
@@ -257,10 +261,10 @@ module _ (rule : RuleSet) (way : Way) where
     same zero e = refl
     same (suc k) e = rw e refl
 
-    none_of : (ms : List Triple) → sum_by (λ m. walk_count (chess rule) 0 ((chess rule).after P m)) ms ≡ 0
+    none_of : (ms : List Triple) → sum_by (λ m. walk_count (legal_moves rule) (played rule) 0 (played rule P m)) ms ≡ 0
     unfolding walk_count
     none_of [] = refl
-    none_of (m ∷ ms) = sum_by-cons (λ m. walk_count (chess rule) 0 ((chess rule).after P m)) m ms ∙ omega (arith, none_of ms)
+    none_of (m ∷ ms) = sum_by-cons (λ m. walk_count (legal_moves rule) (played rule) 0 (played rule P m)) m ms ∙ omega (arith, none_of ms)
 
     nothing : (k place : ℕ) → k ≡ 1 → walk_behind rule k P place ≡ 0
     unfolding walk_behind
@@ -272,7 +276,7 @@ module _ (rule : RuleSet) (way : Way) where
     unfolding to_open position
     open-skip = elim g.none [
       | inl e ↦ let s : walk_behind rule f.left P f.place ≡ walk_behind rule f.left P g.mid = same f.left (g.passed ∙ ap (λ l. l ++ moves_behind rule P g.mid) e) in omega (arith, s)
-      | inr e ↦ omega (arith, nothing f.left f.place e.1, nothing f.left g.mid e.1)
+      | inr e ↦ omega (arith, nothing f.left f.place e.2, nothing f.left g.mid e.2)
     ]
 
     pub steps-skip : (new : List Frame) (board : Position) (before after : ℕ) (given : Bool) → Steps rule way h p later new board before after given → Steps rule way h p (f ∷ below) new board before after given
@@ -291,16 +295,16 @@ module _ (rule : RuleSet) (way : Way) where
     }
 
 -- what undoes the top frame
-module _ (rule : RuleSet) (h : ℕ) (p : Position) where
-  CameFrom-top : (f g : Frame) (below : List Frame) (board : Position) → IsWalking rule h p (f ∷ (g ∷ below)) board → CameFromAt rule f board (position rule p (g ∷ below))
+module _ {goal : Goal} (rule : RuleSet) (h : ℕ) (p : Position) where
+  CameFrom-top : (f g : Frame) (below : List Frame) (board : Position) → IsWalking goal rule h p (f ∷ (g ∷ below)) board → CameFromAt rule f board (position rule p (g ∷ below))
   unfolding IsLinked position
   CameFrom-top f g below board r = record { sound = r.linked.0; legal = r.linked.1; led = r.board_at; undone = r.linked.2 }
 
-  pub CameFrom-deep : (f : Frame) (below : List Frame) (board : Position) → IsWalking rule h p (f ∷ below) board → 0 < length below → CameFrom rule f board
+  pub CameFrom-deep : (f : Frame) (below : List Frame) (board : Position) → IsWalking goal rule h p (f ∷ below) board → 0 < length below → CameFrom rule f board
   CameFrom-deep f [] board r deep = absurd (omega (arith, deep))
   CameFrom-deep f (g ∷ below) board r deep = (position rule p (g ∷ below), CameFrom-top f g below board r)
 
-  pub walking-close : (f : Frame) (below : List Frame) (board after : Position) → IsWalking rule h p (f ∷ below) board → (length below ≡ 0 → after ≡ board) → ((q : Position) → 0 < length below → CameFromAt rule f board q → after ≡ q) → IsWalking rule h p below after
+  pub walking-close : (f : Frame) (below : List Frame) (board after : Position) → IsWalking goal rule h p (f ∷ below) board → (length below ≡ 0 → after ≡ board) → ((q : Position) → 0 < length below → CameFromAt rule f board q → after ≡ q) → IsWalking goal rule h p below after
   unfolding IsLinked IsShowing IsRoomy position
   walking-close f [] board after r lowest before =
       record { linked = tt; showing = tt; roomy = tt; sound = rw (lowest refl) r.sound; board_at = lowest refl ∙ r.board_at }
@@ -308,32 +312,32 @@ module _ (rule : RuleSet) (h : ℕ) (p : Position) where
       let back = before _ (omega arith) (CameFrom-top f g below board r) in
       record { linked = r.linked.3; showing = r.showing.1; roomy = r.roomy.1; sound = rw back r.linked.0; board_at = back }
 
-  pub top_room : (f : Frame) (below : List Frame) (board : Position) → IsWalking rule h p (f ∷ below) board → f.left + length below ≤ h
+  pub top_room : (f : Frame) (below : List Frame) (board : Position) → IsWalking goal rule h p (f ∷ below) board → f.left + length below ≤ h
   unfolding IsRoomy
   top_room f below board r = r.roomy.0
 
-  walking-moved : (way : Way) (f : Frame) (next : ℕ) (below : List Frame) (board after : Position) → IsWalking rule h p (f ∷ below) board → after ≡ board → IsWalking rule h p (moved f next ∷ below) after
+  walking-moved : (way : Way) (f : Frame) (next : ℕ) (below : List Frame) (board after : Position) → IsWalking goal rule h p (f ∷ below) board → after ≡ board → IsWalking goal rule h p (moved f next ∷ below) after
   unfolding IsRoomy
   walking-moved way f next below board after r e =
       record {
         linked = IsLinked-moved rule way p f next below r.linked;
-        showing = IsShowing-moved rule way p f next below r.showing;
+        showing = IsShowing-moved rule way _ p f next below r.showing;
         roomy = r.roomy;
         sound = rw e r.sound;
         board_at = e ∙ r.board_at ∙ sym (position-moved rule way p f next below);
       }
 
-  walking-enter : (way : Way) (f : Frame) (next : ℕ) (m : Triple) (tried : ℕ) (below : List Frame) (board after : Position) → IsWalking rule h p (f ∷ below) board → tried < f.left → legal rule board m ≡ true → after ≡ (chess rule).after board m → IsWalking rule h p (opened m (undo_of rule board m) (show rule board m) tried ∷ (moved f next ∷ below)) after
+  walking-enter : (way : Way) (f : Frame) (next : ℕ) (m : Triple) (tried : ℕ) (below : List Frame) (board after : Position) → IsWalking goal rule h p (f ∷ below) board → tried < f.left → legal rule board m ≡ true → after ≡ played rule board m → IsWalking goal rule h p (opened m (undo_of rule board m) (show goal rule board m) tried ∷ (moved f next ∷ below)) after
   unfolding IsLinked IsShowing IsRoomy position
   walking-enter way f next m tried below board after r less lawful e =
       let s = walking-moved way f next below board board r refl in
       let at : board ≡ position rule p (moved f next ∷ below) = s.board_at in
       record {
         linked = (rw (← at) s.sound, rw (← at) lawful, ap (λ b. undo_of rule b m) at, s.linked);
-        showing = (ap (λ b. show rule b m) at, s.showing);
+        showing = (ap (λ b. show goal rule b m) at, s.showing);
         roomy = (omega (arith, less, r.roomy.0), s.roomy);
         sound = rw e (after_well_formed rule board m r.sound (pseudo-from_legal rule board m lawful));
-        board_at = e ∙ ap (λ b. (chess rule).after b m) at;
+        board_at = e ∙ ap (λ b. played rule b m) at;
       }
 
 -- where keys alone are shown
@@ -364,7 +368,7 @@ whites-none : (selfmate : Bool) (m : Triple) (undo : Loss) (s : Shown) (tried : 
 unfolding IsWhites
 whites-none selfmate m undo s tried below z e = rw z e
 
-pub goes_on-keys : {P M : Type 0} (way : Way) (game : Game P M) (t : ℕ) (q : P) → way.help ≡ false → way.variation ≡ false → seeks way.selfmate (t + 1) ≡ true → goes_on way game t q ≡ 0
+pub goes_on-keys : {P M : Type 0} (way : Way) (game : Game P M) (t : ℕ) (q : P) → way.help ≡ false → way.variation ≡ false → seeks way.aim.selfmate (t + 1) ≡ true → goes_on way game t q ≡ 0
 unfolding goes_on
 goes_on-keys way game t q a b c = rw (a, b, c) refl
 
@@ -384,7 +388,7 @@ opened-most rule way zero opened opened2 more same = let s : opened2 ≡ opened 
 opened-most rule way (suc t) opened opened2 more same = let s : opened2 ≡ min (opened + 1) (2 ^ 64 - 1) = more (omega arith) in omega (arith, s)
 
 -- the outcomes of a step, for frames listed from the top down
-module _ (rule : RuleSet) (way : Way) (h : ℕ) (p : Position) (f : Frame) (below : List Frame) (board : Position) (r : IsWalking rule h p (f ∷ below) board) where
+module _ (rule : RuleSet) (way : Way) (h : ℕ) (p : Position) (f : Frame) (below : List Frame) (board : Position) (r : IsWalking way.aim.goal rule h p (f ∷ below) board) where
   pub steps-close : (after : Position) (count : ℕ) → (f.left ≡ 0) ⊎ (moves_behind rule board f.place ≡ []) → (length below ≡ 0 → after ≡ board) → ((q : Position) → 0 < length below → CameFromAt rule f board q → after ≡ q) → Steps rule way h p (f ∷ below) below after count count false
   steps-close after count e lowest before =
       let here : (f.left ≡ 0) ⊎ (moves_behind rule (position rule p (f ∷ below)) f.place ≡ []) = rw (← r.board_at) e in
@@ -395,7 +399,7 @@ module _ (rule : RuleSet) (way : Way) (h : ℕ) (p : Position) (f : Frame) (belo
         deep = λ g. absurd cc;
         falls = turns-close rule way h p f below;
         opens = record {
-          whites = λ a b w. whites-cut way.selfmate f below w;
+          whites = λ a b w. whites-cut way.aim.selfmate f below w;
           most = λ a b w. omega (arith, o);
           helped = λ a. omega (arith, o);
           counted = λ a walk c. (let T : ℕ → Type 0 = λ n. IsCounted walk count n in subst T o c);
@@ -406,13 +410,13 @@ module _ (rule : RuleSet) (way : Way) (h : ℕ) (p : Position) (f : Frame) (belo
     here : moves_behind rule (position rule p (f ∷ below)) f.place ≡ m ∷ moves_behind rule (position rule p (f ∷ below)) next
     here = rw (← r.board_at) e
 
-    after_here : (chess rule).after board m ≡ (chess rule).after (position rule p (f ∷ below)) m
-    after_here = ap (λ b. (chess rule).after b m) r.board_at
+    after_here : played rule board m ≡ played rule (position rule p (f ∷ below)) m
+    after_here = ap (λ b. played rule b m) r.board_at
 
     fuel : h - length below ≡ suc (h - length below - 1)
     fuel = omega (arith, top_room rule h p f below board r, left)
 
-    pub steps-pass : (after : Position) (opened opened2 : ℕ) → follows way (chess rule) (eqb (length below) 0) t ((chess rule).after board m) ≡ false → after ≡ board → (way.help ≡ false → way.variation ≡ false → seeks way.selfmate (t + 1) ≡ true → opened2 ≤ opened + walk_count (chess rule) t ((chess rule).after board m)) → Steps rule way h p (f ∷ below) (moved f next ∷ below) after opened opened2 false
+    pub steps-pass : (after : Position) (opened opened2 : ℕ) → follows way (chess way.aim.goal rule) (eqb (length below) 0) t (played rule board m) ≡ false → after ≡ board → (way.help ≡ false → way.variation ≡ false → seeks way.aim.selfmate (t + 1) ≡ true → opened2 ≤ opened + walk_count (legal_moves rule) (played rule) t (played rule board m)) → Steps rule way h p (f ∷ below) (moved f next ∷ below) after opened opened2 false
     steps-pass after opened opened2 b at keys =
         let o = open-next rule way h p f next m below _ t fuel left here in
         record {
@@ -421,46 +425,46 @@ module _ (rule : RuleSet) (way : Way) (h : ℕ) (p : Position) (f : Frame) (belo
           deep = λ g. absurd cc;
           falls = turns-pass rule way h p f next m below _ t fuel left here;
           opens = record {
-            whites = λ a c w. whites-moved way.selfmate f next below w;
-            most = λ a c w. omega (arith, o, ap (walk_count (chess rule) t) after_here, keys a c (whites-top way.selfmate f below t left w));
-            helped = λ a. absurd (both _ (follows-help way (chess rule) (eqb (length below) 0) t ((chess rule).after board m) a) b);
-            counted = λ a walk c. absurd (both _ (follows-help way (chess rule) (eqb (length below) 0) t ((chess rule).after board m) a) b);
+            whites = λ a c w. whites-moved way.aim.selfmate f next below w;
+            most = λ a c w. omega (arith, o, ap (walk_count (legal_moves rule) (played rule) t) after_here, keys a c (whites-top way.aim.selfmate f below t left w));
+            helped = λ a. absurd (both _ (follows-help way (chess way.aim.goal rule) (eqb (length below) 0) t (played rule board m) a) b);
+            counted = λ a walk c. absurd (both _ (follows-help way (chess way.aim.goal rule) (eqb (length below) 0) t (played rule board m) a) b);
           };
         }
 
-    pub steps-enter : (after : Position) (opened opened2 : ℕ) → legal rule board m ≡ true → follows way (chess rule) (eqb (length below) 0) t ((chess rule).after board m) ≡ true → after ≡ (chess rule).after board m → (way.help ≡ true → 0 < t → opened2 ≡ min (opened + 1) (2 ^ 64 - 1)) → (way.help ≡ true → t ≡ 0 → opened2 ≡ opened) → (way.help ≡ false → way.variation ≡ false → seeks way.selfmate (t + 1) ≡ true → opened2 ≤ opened + walk_count (chess rule) t ((chess rule).after board m)) → Steps rule way h p (f ∷ below) (opened_frame m (undo_of rule board m) (show rule board m) (goes_on way (chess rule) t ((chess rule).after board m)) ∷ (moved f next ∷ below)) after opened opened2 (gives way (chess rule) t ((chess rule).after board m))
+    pub steps-enter : (after : Position) (opened opened2 : ℕ) → legal rule board m ≡ true → follows way (chess way.aim.goal rule) (eqb (length below) 0) t (played rule board m) ≡ true → after ≡ played rule board m → (way.help ≡ true → 0 < t → opened2 ≡ min (opened + 1) (2 ^ 64 - 1)) → (way.help ≡ true → t ≡ 0 → opened2 ≡ opened) → (way.help ≡ false → way.variation ≡ false → seeks way.aim.selfmate (t + 1) ≡ true → opened2 ≤ opened + walk_count (legal_moves rule) (played rule) t (played rule board m)) → Steps rule way h p (f ∷ below) (opened_frame m (undo_of rule board m) (show way.aim.goal rule board m) (goes_on way (chess way.aim.goal rule) t (played rule board m)) ∷ (moved f next ∷ below)) after opened opened2 (gives way (chess way.aim.goal rule) t (played rule board m))
     steps-enter after opened opened2 lawful b at more same keys =
         let o = open-next rule way h p f next m below _ t fuel left here in
         let u = undo_of rule board m in
-        let s = show rule board m in
-        let q = (chess rule).after (position rule p (f ∷ below)) m in
-        let tried = goes_on way (chess rule) t ((chess rule).after board m) in
+        let s = show way.aim.goal rule board m in
+        let q = played rule (position rule p (f ∷ below)) m in
+        let tried = goes_on way (chess way.aim.goal rule) t (played rule board m) in
         let n = open-enter rule way h p f next m below _ t fuel left here u s tried in
         record {
-          walking = walking-enter rule h p way f next m tried below board after r (omega (arith, left, goes_on-most (chess rule) way t ((chess rule).after board m))) lawful at;
+          walking = walking-enter rule h p way f next m tried below board after r (omega (arith, left, goes_on-most (chess way.aim.goal rule) way t (played rule board m))) lawful at;
           come = rw after_here (come-enter rule way h p f next m below _ t fuel left here u s (rw (← after_here) b));
           deep = λ g. omega arith;
           falls = turns-enter rule way h p f next m below _ t fuel left here u s tried;
           opens = record {
-            whites = λ a c w. whites-none way.selfmate m u s tried _ (goes_on-keys way (chess rule) t _ a c (whites-top way.selfmate f below t left w)) (whites-moved way.selfmate f next below w);
+            whites = λ a c w. whites-none way.aim.selfmate m u s tried _ (goes_on-keys way (chess way.aim.goal rule) t _ a c (whites-top way.aim.selfmate f below t left w)) (whites-moved way.aim.selfmate f next below w);
             most = λ a c w.
-                let z : tried ≡ 0 = goes_on-keys way (chess rule) t _ a c (whites-top way.selfmate f below t left w) in
+                let z : tried ≡ 0 = goes_on-keys way (chess way.aim.goal rule) t _ a c (whites-top way.aim.selfmate f below t left w) in
                 let none : walk_behind rule tried q 0 ≡ 0 = walk_behind-none rule way tried q 0 (inl z) in
-                omega (arith, o, n, none, ap (walk_count (chess rule) t) after_here, keys a c (whites-top way.selfmate f below t left w));
+                omega (arith, o, n, none, ap (walk_count (legal_moves rule) (played rule) t) after_here, keys a c (whites-top way.aim.selfmate f below t left w));
             helped = λ a.
-                let z : tried ≡ t = goes_on-help way (chess rule) t _ a in
+                let z : tried ≡ t = goes_on-help way (chess way.aim.goal rule) t _ a in
                 let w : walk_behind rule tried q 0 ≡ walk_behind rule t q 0 = ap (λ x. walk_behind rule x q 0) z in
                 omega (arith, o, n, w, walk_count-start rule way t q, opened-most rule way t opened opened2 (more a) (same a));
             counted = λ a walk c.
-                let z : tried ≡ t = goes_on-help way (chess rule) t _ a in
+                let z : tried ≡ t = goes_on-help way (chess way.aim.goal rule) t _ a in
                 let w : walk_behind rule tried q 0 ≡ walk_behind rule t q 0 = ap (λ x. walk_behind rule x q 0) z in
                 counted_by rule way t walk opened opened2 _ _ (omega (arith, o, n, w, walk_count-start rule way t q)) (more a) (same a) c;
           };
         }
 
 -- the same once moves that don't count have been passed over
-module _ (rule : RuleSet) (way : Way) (h : ℕ) (p : Position) (f : Frame) (below : List Frame) (board : Position) (r : IsWalking rule h p (f ∷ below) board) where
-  passed_to : (mid : ℕ) → IsWalking rule h p (moved f mid ∷ below) board
+module _ (rule : RuleSet) (way : Way) (h : ℕ) (p : Position) (f : Frame) (below : List Frame) (board : Position) (r : IsWalking way.aim.goal rule h p (f ∷ below) board) where
+  passed_to : (mid : ℕ) → IsWalking way.aim.goal rule h p (moved f mid ∷ below) board
   passed_to mid = walking-moved rule h p way f mid below board board r refl
 
   pub skips-close : (after : Position) (count : ℕ) → (f.left ≡ 0) ⊎ GoesTo rule way f.left (position rule p (f ∷ below)) f.place [] → (length below ≡ 0 → after ≡ board) → ((q : Position) → 0 < length below → CameFromAt rule f board q → after ≡ q) → Steps rule way h p (f ∷ below) below after count count false
@@ -473,11 +477,11 @@ module _ (rule : RuleSet) (way : Way) (h : ℕ) (p : Position) (f : Frame) (belo
     skips : (new : List Frame) (after : Position) (opened opened2 : ℕ) (given : Bool) → Steps rule way h p (moved f g.mid ∷ below) new after opened opened2 given → Steps rule way h p (f ∷ below) new after opened opened2 given
     skips new after opened opened2 given s = steps-skip rule way h p f below _ g new after opened opened2 given s
 
-    pub skips-pass : (after : Position) (opened opened2 : ℕ) → follows way (chess rule) (eqb (length below) 0) t ((chess rule).after board m) ≡ false → after ≡ board → (way.help ≡ false → way.variation ≡ false → seeks way.selfmate (t + 1) ≡ true → opened2 ≤ opened + walk_count (chess rule) t ((chess rule).after board m)) → Steps rule way h p (f ∷ below) (moved f next ∷ below) after opened opened2 false
+    pub skips-pass : (after : Position) (opened opened2 : ℕ) → follows way (chess way.aim.goal rule) (eqb (length below) 0) t (played rule board m) ≡ false → after ≡ board → (way.help ≡ false → way.variation ≡ false → seeks way.aim.selfmate (t + 1) ≡ true → opened2 ≤ opened + walk_count (legal_moves rule) (played rule) t (played rule board m)) → Steps rule way h p (f ∷ below) (moved f next ∷ below) after opened opened2 false
     skips-pass after opened opened2 b at keys =
         skips _ after opened opened2 false (steps-pass rule way h p (moved f g.mid) below board (passed_to g.mid) next m t left (rw r.board_at g.here) after opened opened2 b at keys)
 
-    pub skips-enter : (after : Position) (opened opened2 : ℕ) → legal rule board m ≡ true → follows way (chess rule) (eqb (length below) 0) t ((chess rule).after board m) ≡ true → after ≡ (chess rule).after board m → (way.help ≡ true → 0 < t → opened2 ≡ min (opened + 1) (2 ^ 64 - 1)) → (way.help ≡ true → t ≡ 0 → opened2 ≡ opened) → (way.help ≡ false → way.variation ≡ false → seeks way.selfmate (t + 1) ≡ true → opened2 ≤ opened + walk_count (chess rule) t ((chess rule).after board m)) → Steps rule way h p (f ∷ below) (opened_frame m (undo_of rule board m) (show rule board m) (goes_on way (chess rule) t ((chess rule).after board m)) ∷ (moved f next ∷ below)) after opened opened2 (gives way (chess rule) t ((chess rule).after board m))
+    pub skips-enter : (after : Position) (opened opened2 : ℕ) → legal rule board m ≡ true → follows way (chess way.aim.goal rule) (eqb (length below) 0) t (played rule board m) ≡ true → after ≡ played rule board m → (way.help ≡ true → 0 < t → opened2 ≡ min (opened + 1) (2 ^ 64 - 1)) → (way.help ≡ true → t ≡ 0 → opened2 ≡ opened) → (way.help ≡ false → way.variation ≡ false → seeks way.aim.selfmate (t + 1) ≡ true → opened2 ≤ opened + walk_count (legal_moves rule) (played rule) t (played rule board m)) → Steps rule way h p (f ∷ below) (opened_frame m (undo_of rule board m) (show way.aim.goal rule board m) (goes_on way (chess way.aim.goal rule) t (played rule board m)) ∷ (moved f next ∷ below)) after opened opened2 (gives way (chess way.aim.goal rule) t (played rule board m))
     skips-enter after opened opened2 lawful b at more same keys =
         skips _ after opened opened2 _ (steps-enter rule way h p (moved f g.mid) below board (passed_to g.mid) next m t left (rw r.board_at g.here) after opened opened2 lawful b at more same keys)
 
@@ -496,23 +500,23 @@ module _ (rule : RuleSet) (way : Way) (h : ℕ) (top : Frame) (old new : List Fr
   depth_is : length (reverse new) ≡ length new
   depth_is = length-reverse new
 
-  walking_top : (p board now : Position) → IsWalking rule h p (reverse old) board → now ≡ board → IsWalking rule h p (top ∷ reverse new) now
+  walking_top : (p board now : Position) → IsWalking way.aim.goal rule h p (reverse old) board → now ≡ board → IsWalking way.aim.goal rule h p (top ∷ reverse new) now
   walking_top p board now r e =
-      let T : List Frame → Type 0 = λ fs. IsWalking rule h p fs board in
+      let T : List Frame → Type 0 = λ fs. IsWalking way.aim.goal rule h p fs board in
       let s = subst T (popped old new top taken) r in
       record { linked = s.linked; showing = s.showing; roomy = s.roomy; sound = rw e s.sound; board_at = e ∙ s.board_at }
 
-  pub close_asks : (p board now : Position) (depth : ℕ) → IsWalking rule h p (reverse old) board → now ≡ board → depth ≡ length new → 0 < depth → CameFrom rule top now
+  pub close_asks : (p board now : Position) (depth : ℕ) → IsWalking way.aim.goal rule h p (reverse old) board → now ≡ board → depth ≡ length new → 0 < depth → CameFrom rule top now
   close_asks p board now depth r e d deep = CameFrom-deep rule h p top (reverse new) now (walking_top p board now r e) (omega (arith, depth_is, d, deep))
 
-  pub close_steps : (p board now after : Position) (depth count : ℕ) → IsWalking rule h p (reverse old) board → now ≡ board → depth ≡ length new → (top.left ≡ 0) ⊎ GoesTo rule way top.left board top.place [] → (depth ≡ 0 → after ≡ now) → ((q : Position) → 0 < depth → CameFromAt rule top now q → after ≡ q) → Steps rule way h p (reverse old) (reverse new) after count count false
+  pub close_steps : (p board now after : Position) (depth count : ℕ) → IsWalking way.aim.goal rule h p (reverse old) board → now ≡ board → depth ≡ length new → (top.left ≡ 0) ⊎ GoesTo rule way top.left board top.place [] → (depth ≡ 0 → after ≡ now) → ((q : Position) → 0 < depth → CameFromAt rule top now q → after ≡ q) → Steps rule way h p (reverse old) (reverse new) after count count false
   close_steps p board now after depth count r e d none lowest before =
       let r2 = walking_top p board now r e in
       let T : Position → Type 0 = λ b. (top.left ≡ 0) ⊎ GoesTo rule way top.left b top.place [] in
       rw (popped old new top taken) (skips-close rule way h p top (reverse new) now r2 after count (subst T (sym e ∙ r2.board_at) none)
       (λ z. lowest (omega (arith, depth_is, d, z))) (λ q z cf. before q (omega (arith, depth_is, d, z)) cf))
 
-  pub room_left : (p board : Position) → IsWalking rule h p (reverse old) board → top.left + length new ≤ h
+  pub room_left : (p board : Position) → IsWalking way.aim.goal rule h p (reverse old) board → top.left + length new ≤ h
   room_left p board r = omega (arith, top_room rule h p top (reverse new) board (walking_top p board board r refl), depth_is)
 
   module _ (place : ℕ) (m : Triple) (board now : Position) (depth : ℕ) (mid last : List Frame) (at : now ≡ board) (d : depth ≡ length new) (some : (0 < top.left) × GoesTo rule way top.left board top.place (m ∷ moves_behind rule board place) × (legal rule board m ≡ true)) (put : mid ≡ new ++ moved top place ∷ []) where
@@ -520,17 +524,17 @@ module _ (rule : RuleSet) (way : Way) (h : ℕ) (top : Frame) (old new : List Fr
     behind = top.left - 1
 
     abbrev arrived : Position
-    arrived = (chess rule).after now m
+    arrived = played rule now m
 
     mid_is : reverse mid ≡ moved top place ∷ reverse new
     mid_is = popped mid new _ put
 
     pub enter_steps : (root given : Bool) (after : Position) (opened opened2 : ℕ) → root ≡ eqb depth 0
-        → (follows way (chess rule) root behind arrived ≡ false → (given ≡ false) × (after ≡ now) × (last ≡ mid))
-        → (follows way (chess rule) root behind arrived ≡ true → (given ≡ gives way (chess rule) behind arrived) × (after ≡ arrived) × (last ≡ mid ++ opened_frame m (undo_of rule now m) (show rule now m) (goes_on way (chess rule) behind arrived) ∷ []))
+        → (follows way (chess way.aim.goal rule) root behind arrived ≡ false → (given ≡ false) × (after ≡ now) × (last ≡ mid))
+        → (follows way (chess way.aim.goal rule) root behind arrived ≡ true → (given ≡ gives way (chess way.aim.goal rule) behind arrived) × (after ≡ arrived) × (last ≡ mid ++ opened_frame m (undo_of rule now m) (show way.aim.goal rule now m) (goes_on way (chess way.aim.goal rule) behind arrived) ∷ []))
         → (way.help ≡ true → 0 < behind → opened2 ≡ min (opened + 1) (2 ^ 64 - 1)) → (way.help ≡ true → behind ≡ 0 → opened2 ≡ opened)
-        → (way.help ≡ false → way.variation ≡ false → seeks way.selfmate (behind + 1) ≡ true → opened2 ≤ opened + walk_count (chess rule) behind arrived)
-        → (p : Position) → IsWalking rule h p (reverse old) board → Steps rule way h p (reverse old) (reverse last) after opened opened2 given
+        → (way.help ≡ false → way.variation ≡ false → seeks way.aim.selfmate (behind + 1) ≡ true → opened2 ≤ opened + walk_count (legal_moves rule) (played rule) behind arrived)
+        → (p : Position) → IsWalking way.aim.goal rule h p (reverse old) board → Steps rule way h p (reverse old) (reverse last) after opened opened2 given
     enter_steps root given after opened opened2 flag passes enters more none keys p r =
         let left : top.left ≡ suc behind = omega (arith, some.0) in
         let r2 = walking_top p board now r at in
@@ -538,7 +542,7 @@ module _ (rule : RuleSet) (way : Way) (h : ℕ) (top : Frame) (old new : List Fr
         let lawful : legal rule now m ≡ true = rw at some.2 in
         let T : Position → Type 0 = λ b. GoesTo rule way top.left b top.place (m ∷ moves_behind rule b place) in
         let next = subst T (sym at ∙ r2.board_at) some.1 in
-        elim (cases (follows way (chess rule) root behind arrived)) [
+        elim (cases (follows way (chess way.aim.goal rule) root behind arrived)) [
           | inl passed ↦
               let x = passes passed in
               rw (popped old new top taken, x.2, mid_is, x.0) (skips-pass rule way h p top (reverse new) now r2 place m behind left next after opened opened2 (rw flag2 passed) x.1 keys)
@@ -548,19 +552,19 @@ module _ (rule : RuleSet) (way : Way) (h : ℕ) (top : Frame) (old new : List Fr
         ]
 
 -- a frame is closed, whatever is walked
-module _ (rule : RuleSet) (h : ℕ) (top : Frame) (old new : List Frame) (taken : old ≡ new ++ top ∷ []) where
-  walking_popped : (p board : Position) → IsWalking rule h p (reverse old) board → IsWalking rule h p (top ∷ reverse new) board
-  walking_popped p board r = let T : List Frame → Type 0 = λ fs. IsWalking rule h p fs board in subst T (popped old new top taken) r
+module _ {goal : Goal} (rule : RuleSet) (h : ℕ) (top : Frame) (old new : List Frame) (taken : old ≡ new ++ top ∷ []) where
+  walking_popped : (p board : Position) → IsWalking goal rule h p (reverse old) board → IsWalking goal rule h p (top ∷ reverse new) board
+  walking_popped p board r = let T : List Frame → Type 0 = λ fs. IsWalking goal rule h p fs board in subst T (popped old new top taken) r
 
-  pub back_asks : (p board : Position) (depth : ℕ) → IsWalking rule h p (reverse old) board → depth ≡ length new → 0 < depth → CameFrom rule top board
+  pub back_asks : (p board : Position) (depth : ℕ) → IsWalking goal rule h p (reverse old) board → depth ≡ length new → 0 < depth → CameFrom rule top board
   back_asks p board depth r d deep = CameFrom-deep rule h p top (reverse new) board (walking_popped p board r) (omega (arith, length-reverse new, d, deep))
 
-  pub back_walking : (p board after : Position) (depth : ℕ) → IsWalking rule h p (reverse old) board → depth ≡ length new → (depth ≡ 0 → after ≡ board) → ((q : Position) → 0 < depth → CameFromAt rule top board q → after ≡ q) → IsWalking rule h p (reverse new) after
+  pub back_walking : (p board after : Position) (depth : ℕ) → IsWalking goal rule h p (reverse old) board → depth ≡ length new → (depth ≡ 0 → after ≡ board) → ((q : Position) → 0 < depth → CameFromAt rule top board q → after ≡ q) → IsWalking goal rule h p (reverse new) after
   back_walking p board after depth r d lowest before =
       walking-close rule h p top (reverse new) board after (walking_popped p board r) (λ z. lowest (omega (arith, length-reverse new, d, z))) (λ q z cf. before q (omega (arith, length-reverse new, d, z)) cf)
 
 -- with no frame left the board stands on the first position
-pub walking_back : (rule : RuleSet) (h : ℕ) (p board : Position) (frames : List Frame) → IsWalking rule h p (reverse frames) board → length frames ≡ 0 → board ≡ p
+pub walking_back : {goal : Goal} (rule : RuleSet) (h : ℕ) (p board : Position) (frames : List Frame) → IsWalking goal rule h p (reverse frames) board → length frames ≡ 0 → board ≡ p
 unfolding position
 walking_back rule h p board [] r none = r.board_at
 walking_back rule h p board (f ∷ frames) r none = absurd (omega (arith, none))
@@ -580,10 +584,10 @@ module _ (rule : RuleSet) (way : Way) (left : ℕ) (p : Position) (place next : 
   append_none [] = refl
   append_none (x ∷ xs) = ap (λ l. x ∷ l) (append_none xs)
 
-  pub next_mating : (o : Option Triple) → way.help ≡ true → left ≡ 1 → MatchOption o (mates_behind rule p place ≡ []) (λ m. IsNextMate rule p place next m × (legal rule p m ≡ true)) → Next o
+  pub next_mating : (o : Option Triple) → way.aim.goal ≡ Mate → way.help ≡ true → left ≡ 1 → MatchOption o (mates_behind rule p place ≡ []) (λ m. IsNextMate rule p place next m × (legal rule p m ≡ true)) → Next o
   unfolding mates_behind
-  next_mating None help single e =
+  next_mating None for help single e =
       let last : moves_behind rule p 28672 ≡ [] = moves_behind-end rule p 28672 (omega arith) in
-      inr (record { mid = 28672; over = moves_behind rule p place; passed = append_none (moves_behind rule p place) ∙ ap (λ l. moves_behind rule p place ++ l) (sym last); none = inr (help, single, e); here = last })
-  next_mating (Some m) help single e =
-      (omega (arith, single), record { mid = next - 1; over = e.0.over; passed = e.0.passed; none = inr (help, single, e.0.none); here = e.0.here }, e.1)
+      inr (record { mid = 28672; over = moves_behind rule p place; passed = append_none (moves_behind rule p place) ∙ ap (λ l. moves_behind rule p place ++ l) (sym last); none = inr (help, for, single, e); here = last })
+  next_mating (Some m) for help single e =
+      (omega (arith, single), record { mid = next - 1; over = e.0.over; passed = e.0.passed; none = inr (help, for, single, e.0.none); here = e.0.here }, e.1)

@@ -6,29 +6,46 @@ use Rattle.chess_core.specs.declared.man.Colour.TheVariants.{White}
 use Rattle.chess_core.specs.declared.man.Kind.TheVariants.{King}
 use Rattle.chess_core.specs.declared.man.Man.{Man}
 use Rattle.chess_rules.specs.Attacks.{in_check}
-use Rattle.chess_rules.specs.Legal.{is_goal, moves}
+use Rattle.chess_rules.specs.Legal.{is_goal, is_stalemate, moves}
 use Rattle.chess_rules.specs.Loss.{Loss}
 use Rattle.chess_rules.specs.Play.{after, is_castling, undo_of}
 use Rattle.chess_rules.specs.RuleSet.{RuleSet}
+use Rattle.pop_input.specs.Stipulations.{is_for_stalemate}
+use Rattle.pop_input.specs.declared.stipulation.Goal.{Goal}
+use Rattle.pop_input.specs.declared.stipulation.Goal.TheVariants.{Mate, Stalemate}
 use Rattle.pop_solve.specs.Game.{Game}
 use Rattle.pop_solve.specs.Shown.{Shown}
 use Rattle.pop_solve.specs.declared.shown.Mark.{Mark}
-use Rattle.pop_solve.specs.declared.shown.Mark.TheVariants.{Plain, Check, Mate}
+use Rattle.pop_solve.specs.declared.shown.Mark.TheVariants.{Plain, Check, Mate as Mated, Stalemate as Stalemated}
 use Rattle.pop_solve.specs.declared.shown.Side.{Side}
 use Rattle.pop_solve.specs.declared.shown.Side.TheVariants.{A, H}
 
--- chess under a set of rules, played for mate
-abbrev pub chess : RuleSet → Game Position Triple
-chess rule = record { moves = moves rule; after = after rule; goal = is_goal rule }
+-- the goal is reached in q: the side to move is mated, or stalemated
+abbrev pub is_reached : Goal → RuleSet → Position → Bool
+is_reached Mate rule q = is_goal rule q
+is_reached Stalemate rule q = is_stalemate rule q
 
--- what a move has done to the side that is to move in q
-unfoldable pub mark_of : RuleSet → Position → Mark
-mark_of rule q = if is_goal rule q then Mate else (if in_check rule q.men q.turn then Check else Plain)
+-- chess under a set of rules, played for a goal
+abbrev pub chess : Goal → RuleSet → Game Position Triple
+chess goal rule = record { moves = moves rule; after = after rule; goal = is_reached goal rule }
 
-abbrev pub is_mate_mark : Mark → Bool
-is_mate_mark Plain = false
-is_mate_mark Check = false
-is_mate_mark Mate = true
+abbrev pub is_for_mate : Goal → Bool
+is_for_mate Mate = true
+is_for_mate Stalemate = false
+
+-- what a move has done to the side that is to move in q: stalemate is marked where it is the goal alone (own)
+unfoldable pub mark_of : Goal → RuleSet → Position → Mark
+mark_of goal rule q =
+    if is_goal rule q then Mated
+    else (if in_check rule q.men q.turn then Check
+    else (if is_for_stalemate goal && is_stalemate rule q then Stalemated else Plain))
+
+-- the mark of a move that reaches the goal
+abbrev pub is_mark_of : Goal → Mark → Bool
+is_mark_of goal Plain = false
+is_mark_of goal Check = false
+is_mark_of goal Mated = is_for_mate goal
+is_mark_of goal Stalemated = not (is_for_mate goal)
 
 -- to which side the man castles, if it does
 abbrev pub castling_side : Man → Triple → Option Side
@@ -73,8 +90,8 @@ shown_of None there m lost mark = nothing_shown
 shown_of (Some x) there m lost mark = shown_by x there m lost mark
 
 -- the move m as it is shown, read off the position before it and the position after it
-unfoldable pub show : RuleSet → Position → Triple → Shown
-show rule p m = shown_of (man_on p.men m.from) (man_on p.men m.to) m (undo_of rule p m) (mark_of rule (after rule p m))
+unfoldable pub show : Goal → RuleSet → Position → Triple → Shown
+show goal rule p m = shown_of (man_on p.men m.from) (man_on p.men m.to) m (undo_of rule p m) (mark_of goal rule (after rule p m))
 
 -- the first position of set play (own): the other side is to move, and no square is crossed
 abbrev pub set_start : Position → Position

@@ -1,5 +1,8 @@
 -- The events of a problem: its phases, their solutions and their totals. Set play, the limit of solutions and the order
 -- of events are this project's own; half-moves are numbered as in the Popeye manual.
+use Rattle.pop_input.specs.declared.stipulation.Goal.{Goal}
+use Rattle.chess_rules.specs.Play.{after as played}
+use Rattle.chess_rules.specs.Legal.{moves as legal_moves}
 use Rattle.std.specs.Prelude.{◌≡◌, ℕ, ◌+◌, ◌-◌, ◌==◌, Bool, true, false, not, ◌&&◌, ◌||◌, if◌then◌else◌, List, [], ◌∷◌, ◌++◌, map, take, length}
 use Rattle.std.specs.List.{flat_map, list_all}
 use Rattle.chess_core.specs.Diagrams.{position_of}
@@ -50,9 +53,9 @@ unfoldable pub solutions : RuleSet → Posed → Phase → List (List (List Trip
 solutions rule problem phase =
     let h = phase_half_moves problem phase in
     let p = phase_start problem phase in
-    if is_help problem.stipulation.form then map (λ path. path ∷ []) (help_lines (chess rule) h p)
-    else (if is_set phase then set_tree (is_selfmate problem.stipulation.form) (chess rule) problem.variation problem.stipulation.n h p
-    else tree (is_selfmate problem.stipulation.form) (chess rule) problem.variation problem.stipulation.n h p)
+    if is_help problem.stipulation.form then map (λ path. path ∷ []) (help_lines (chess problem.stipulation.goal rule) h p)
+    else (if is_set phase then set_tree (is_selfmate problem.stipulation.form) (chess problem.stipulation.goal rule) problem.variation problem.stipulation.n h p
+    else tree (is_selfmate problem.stipulation.form) (chess problem.stipulation.goal rule) problem.variation problem.stipulation.n h p)
 
 -- a phase with set play's first position is barred where that can't stand
 abbrev pub is_barred : RuleSet → Posed → Phase → Bool
@@ -83,14 +86,14 @@ abbrev pub events : RuleSet → Posed → List Step
 events rule problem = steps_from rule problem (first_phase problem)
 
 -- the moves of a path from p as they are shown, and the last of them
-abbrev pub shown_along : RuleSet → Position → List Triple → List Shown
-shown_along rule p [] = []
-shown_along rule p (m ∷ path) = show rule p m ∷ shown_along rule ((chess rule).after p m) path
+abbrev pub shown_along : Goal → RuleSet → Position → List Triple → List Shown
+shown_along goal rule p [] = []
+shown_along goal rule p (m ∷ path) = show goal rule p m ∷ shown_along goal rule (played rule p m) path
 
-abbrev pub shown_last : RuleSet → Position → List Triple → Shown
-shown_last rule p [] = nothing_shown
-shown_last rule p (m ∷ []) = show rule p m
-shown_last rule p (m ∷ (n ∷ path)) = shown_last rule ((chess rule).after p m) (n ∷ path)
+abbrev pub shown_last : Goal → RuleSet → Position → List Triple → Shown
+shown_last goal rule p [] = nothing_shown
+shown_last goal rule p (m ∷ []) = show goal rule p m
+shown_last goal rule p (m ∷ (n ∷ path)) = shown_last goal rule (played rule p m) (n ∷ path)
 
 -- the number of a phase's first half-move
 abbrev pub phase_half : Posed → Phase → ℕ
@@ -101,9 +104,9 @@ abbrev pub event_of : RuleSet → Posed → Step → Event
 event_of rule problem (opening phase) = PhaseEvent phase
 event_of rule problem impossible = Impossible
 event_of rule problem (line phase path) =
-    Line (phase_half problem phase) (record { items = shown_along rule (phase_start problem phase) path })
+    Line (phase_half problem phase) (record { items = shown_along problem.stipulation.goal rule (phase_start problem phase) path })
 event_of rule problem (tree_node phase path) =
-    Node (length path - 1) (phase_half problem phase + (length path - 1)) (shown_last rule (phase_start problem phase) path)
+    Node (length path - 1) (phase_half problem phase + (length path - 1)) (shown_last problem.stipulation.goal rule (phase_start problem phase) path)
 event_of rule problem (total count stopped) = Total count stopped
 
 -- all events of a problem, under its own condition
@@ -114,15 +117,15 @@ events_of problem = map (event_of (rule_of problem.condition) problem) (events (
 abbrev pub StandsOn : RuleSet → Posed → Step → Position → ℕ → Type 0
 StandsOn rule problem (opening phase) board depth = Unit {0}
 StandsOn rule problem impossible board depth = Unit {0}
-StandsOn rule problem (line phase path) board depth = (board ≡ reach (chess rule) (phase_start problem phase) path) × (depth ≡ length path + 1)
-StandsOn rule problem (tree_node phase path) board depth = (board ≡ reach (chess rule) (phase_start problem phase) path) × (depth ≡ length path + 1)
+StandsOn rule problem (line phase path) board depth = (board ≡ reach (played rule) (phase_start problem phase) path) × (depth ≡ length path + 1)
+StandsOn rule problem (tree_node phase path) board depth = (board ≡ reach (played rule) (phase_start problem phase) path) × (depth ≡ length path + 1)
 StandsOn rule problem (total count stopped) board depth = Unit {0}
 
 -- how many lists of fewer moves than its half-moves, each legal where it stands, a phase has: none where it is barred
 abbrev pub phase_walk : RuleSet → Posed → Phase → ℕ
 phase_walk rule problem phase =
     if is_barred rule problem phase then 0
-    else walk_count (chess rule) (phase_half_moves problem phase) (phase_start problem phase)
+    else walk_count (legal_moves rule) (played rule) (phase_half_moves problem phase) (phase_start problem phase)
 
 -- the same of all phases from one on
 abbrev pub walk_from : RuleSet → Posed → Phase → ℕ

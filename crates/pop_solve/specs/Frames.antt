@@ -1,4 +1,7 @@
 -- What the frames of a search stand for.
+use Rattle.chess_rules.specs.Play.{after as played}
+use Rattle.chess_rules.specs.Legal.{moves as legal_moves}
+use Rattle.pop_solve.specs.declared.aim.Aim.{Aim}
 use Rattle.std.specs.Prelude.{◌≡◌, ◌<◌, Bool, true, false, Option, Some, None, ℕ, zero, suc, ◌+◌, ◌-◌, ◌≤◌, List, [], ◌∷◌, ◌++◌, length, take, drop, reverse}
 use Rattle.std.specs.List.{sum_by}
 use Rattle.chess_core.specs.Position.{Position}
@@ -32,7 +35,7 @@ pub record Frame : Type 0 where
 unfoldable pub position : RuleSet → Position → List Frame → Position
 position rule p [] = p
 position rule p (f ∷ []) = p
-position rule p (f ∷ (g ∷ below)) = (chess rule).after (position rule p (g ∷ below)) f.by
+position rule p (f ∷ (g ∷ below)) = played rule (position rule p (g ∷ below)) f.by
 
 -- each frame but the lowest is reached by a legal move of the one below, and holds what undoes it
 unfoldable pub IsLinked : RuleSet → Position → List Frame → Type 0
@@ -54,34 +57,34 @@ abbrev pub untried : RuleSet → Position → Frame → List Triple
 untried rule p f = ahead rule p f.stretch f.place f.killer
 
 -- what the value of the lowest position will be, once that of the top position is known
-unfoldable pub deliver : RuleSet → Bool → Position → List Frame → Bool → Bool
-deliver rule selfmate p [] v = v
-deliver rule selfmate p (f ∷ below) v =
-    deliver rule selfmate p below (join (seeks selfmate f.left) v
-    (joined selfmate (chess rule) f.left (position rule p (f ∷ below)) (untried rule (position rule p (f ∷ below)) f)))
+unfoldable pub deliver : RuleSet → Aim → Position → List Frame → Bool → Bool
+deliver rule aim p [] v = v
+deliver rule aim p (f ∷ below) v =
+    deliver rule aim p below (join (seeks aim.selfmate f.left) v
+    (joined aim.selfmate (chess aim.goal rule) f.left (position rule p (f ∷ below)) (untried rule (position rule p (f ∷ below)) f)))
 
 -- the same before the next move of the top frame is tried: the answer for its last move may be known
-unfoldable pub pending : RuleSet → Bool → Position → List Frame → Option Bool → Bool
-pending rule selfmate p [] answer = false
-pending rule selfmate p (f ∷ below) (Some v) = deliver rule selfmate p (f ∷ below) v
-pending rule selfmate p (f ∷ below) None =
-    deliver rule selfmate p below
-    (joined selfmate (chess rule) f.left (position rule p (f ∷ below)) (untried rule (position rule p (f ∷ below)) f))
+unfoldable pub pending : RuleSet → Aim → Position → List Frame → Option Bool → Bool
+pending rule aim p [] answer = false
+pending rule aim p (f ∷ below) (Some v) = deliver rule aim p (f ∷ below) v
+pending rule aim p (f ∷ below) None =
+    deliver rule aim p below
+    (joined aim.selfmate (chess aim.goal rule) f.left (position rule p (f ∷ below)) (untried rule (position rule p (f ∷ below)) f))
 
 -- the steps that a test takes, which falls at each one
 unfoldable pub steps : RuleSet → ℕ → Position → ℕ
 steps rule zero p = 1
-steps rule (suc h) p = 1 + sum_by (λ m. 1 + steps rule h ((chess rule).after p m)) ((chess rule).moves p)
+steps rule (suc h) p = 1 + sum_by (λ m. 1 + steps rule h (played rule p m)) (legal_moves rule p)
 
 unfoldable pub steps_behind : RuleSet → ℕ → Position → ℕ → ℕ
 steps_behind rule zero p place = 0
 steps_behind rule (suc h) p place =
-    sum_by (λ m. 1 + steps rule h ((chess rule).after p m)) (moves_behind rule p place)
+    sum_by (λ m. 1 + steps rule h (played rule p m)) (moves_behind rule p place)
 
 -- the same of some moves
 unfoldable pub steps_among : RuleSet → ℕ → Position → List Triple → ℕ
 steps_among rule zero p ms = 0
-steps_among rule (suc h) p ms = sum_by (λ m. 1 + steps rule h ((chess rule).after p m)) ms
+steps_among rule (suc h) p ms = sum_by (λ m. 1 + steps rule h (played rule p m)) ms
 
 unfoldable pub work : RuleSet → Position → List Frame → ℕ
 work rule p [] = 0
@@ -92,7 +95,7 @@ work rule p (f ∷ below) =
 unfoldable pub walk_behind : RuleSet → ℕ → Position → ℕ → ℕ
 walk_behind rule zero p place = 0
 walk_behind rule (suc h) p place =
-    sum_by (λ m. walk_count (chess rule) h ((chess rule).after p m)) (moves_behind rule p place)
+    sum_by (λ m. walk_count (legal_moves rule) (played rule) h (played rule p m)) (moves_behind rule p place)
 
 unfoldable pub to_open : RuleSet → Position → List Frame → ℕ
 to_open rule p [] = 0
@@ -102,7 +105,7 @@ to_open rule p (f ∷ below) =
 -- the same of a test's frames
 unfoldable pub walk_among : RuleSet → ℕ → Position → List Triple → ℕ
 walk_among rule zero p ms = 0
-walk_among rule (suc h) p ms = sum_by (λ m. walk_count (chess rule) h ((chess rule).after p m)) ms
+walk_among rule (suc h) p ms = sum_by (λ m. walk_count (legal_moves rule) (played rule) h (played rule p m)) ms
 
 unfoldable pub to_test : RuleSet → Position → List Frame → ℕ
 to_test rule p [] = 0
@@ -126,7 +129,7 @@ pub record IsTesting (rule : RuleSet) (p : Position) (frames : List Frame) (boar
 pub record CameBy (rule : RuleSet) (by : Triple) (undo : Loss) (board p : Position) : Type 0 where
   pub sound : IsWellFormed p
   pub legal : legal rule p by ≡ true
-  pub led : board ≡ (chess rule).after p by
+  pub led : board ≡ played rule p by
   pub undone : undo ≡ undo_of rule p by
 
 -- the same of the move of a frame
@@ -142,16 +145,16 @@ unfoldable pub tests : ℕ → List Frame → List Frame
 tests floor frames = reverse (drop floor frames)
 
 -- what one turn of a test leaves: another state with the same value to come, or the value
-pub record Turns (rule : RuleSet) (selfmate : Bool) (floor : ℕ) (p : Position) (old new : List Frame) (was is : Option Bool) (board : Position) (before after : ℕ) : Type 0 where
+pub record Turns (rule : RuleSet) (aim : Aim) (floor : ℕ) (p : Position) (old new : List Frame) (was is : Option Bool) (board : Position) (before after : ℕ) : Type 0 where
   pub testing : IsTesting rule p (tests floor new) board
-  pub same : pending rule selfmate p (tests floor old) was ≡ pending rule selfmate p (tests floor new) is
+  pub same : pending rule aim p (tests floor old) was ≡ pending rule aim p (tests floor new) is
   pub falls : work rule p (tests floor new) < work rule p (tests floor old)
   pub above : floor < length new
   pub base : take floor new ≡ take floor old
   pub counted : after + to_test rule p (tests floor new) ≤ before + to_test rule p (tests floor old)
 
-pub record Ends (rule : RuleSet) (selfmate : Bool) (floor : ℕ) (p : Position) (old new : List Frame) (was : Option Bool) (board : Position) (before after : ℕ) (v : Bool) : Type 0 where
-  pub value : pending rule selfmate p (tests floor old) was ≡ v
+pub record Ends (rule : RuleSet) (aim : Aim) (floor : ℕ) (p : Position) (old new : List Frame) (was : Option Bool) (board : Position) (before after : ℕ) (v : Bool) : Type 0 where
+  pub value : pending rule aim p (tests floor old) was ≡ v
   pub back : board ≡ p
   pub base : new ≡ take floor old
   pub counted : after ≤ before + to_test rule p (tests floor old)

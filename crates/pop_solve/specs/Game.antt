@@ -53,11 +53,11 @@ module _ {P M : Type 0} where
   help_lines game (suc h) p = lines_to_goal game (suc h) p
 
   -- how many lists of fewer than r moves there are, each legal where it stands
-  unfoldable pub walk_count : Game P M → ℕ → P → ℕ
-  walk_count game zero p = 0
-  walk_count game (suc r) p = 1 + sum_by (λ m. walk_count game r (game.after p m)) (game.moves p)
+  unfoldable pub walk_count : (P → List M) → (P → M → P) → ℕ → P → ℕ
+  walk_count moves after zero p = 0
+  walk_count moves after (suc r) p = 1 + sum_by (λ m. walk_count moves after r (after p m)) (moves p)
 
   -- the position to which a path leads
-  abbrev pub reach : Game P M → P → List M → P
-  reach game p [] = p
-  reach game p (m ∷ path) = reach game (game.after p m) path
+  abbrev pub reach : (P → M → P) → P → List M → P
+  reach after p [] = p
+  reach after p (m ∷ path) = reach after (after p m) path

@@ -17,7 +17,7 @@ use Rattle.pop_solve.specs.declared.walk.Way.{Way}
 
 -- how a problem is walked
 abbrev pub way_of : Posed → Way
-way_of problem = record { help = is_help problem.stipulation.form; selfmate = is_selfmate problem.stipulation.form; variation = problem.variation }
+way_of problem = record { help = is_help problem.stipulation.form; aim = record { selfmate = is_selfmate problem.stipulation.form; goal = problem.stipulation.goal }; variation = problem.variation }
 
 module _ {M : Type 0} where
   -- whether a path begins a solution: each line does, and each node above which none stands
@@ -58,13 +58,13 @@ unfoldable pub IsStanding : RuleSet → Posed → Stage → List Frame → Posit
 IsStanding rule problem (Before phase) frames board = (frames ≡ []) × (board ≡ start problem)
 IsStanding rule problem Barred frames board = (frames ≡ []) × (board ≡ start problem)
 IsStanding rule problem (Within phase count) frames board =
-    IsWalking rule (phase_half_moves problem phase) (phase_start problem phase) frames board
+    IsWalking problem.stipulation.goal rule (phase_half_moves problem phase) (phase_start problem phase) frames board
     × (count ≤ problem.max_solutions)
 IsStanding rule problem Behind frames board = (frames ≡ []) × (board ≡ start problem)
 
 -- what walking on in a phase leaves, at most `limit` solutions being still to begin
 pub record Walks (rule : RuleSet) (way : Way) (h : ℕ) (p : Position) (limit : ℕ) (old new : List Frame) (board : Position) (given : Bool) : Type 0 where
-  pub walking : IsWalking rule h p new board
+  pub walking : IsWalking way.aim.goal rule h p new board
   pub come : given ≡ true → keep way.help limit (to_come rule way h p old) ≡ path new ∷ keep way.help (limit - (if begins way.help (path new) then 1 else 0)) (to_come rule way h p new)
   pub starts : given ≡ true → started way.help limit (to_come rule way h p old) ≡ (if begins way.help (path new) then 1 else 0) + started way.help (limit - (if begins way.help (path new) then 1 else 0)) (to_come rule way h p new)
   pub within : given ≡ true → (if begins way.help (path new) then 1 else 0) ≤ limit

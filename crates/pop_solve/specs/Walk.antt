@@ -1,4 +1,6 @@
 -- What the frames of a walk stand for.
+use Rattle.pop_input.specs.declared.stipulation.Goal.{Goal}
+use Rattle.pop_input.specs.declared.stipulation.Goal.TheVariants.{Mate}
 use Rattle.std.specs.Prelude.{◌≡◌, ℕ, zero, suc, ◌+◌, ◌-◌, ◌/◌, ◌≤◌, ◌<◌, ◌^◌, min, ◌==◌, Bool, true, false, not, ◌&&◌, ◌||◌, if◌then◌else◌, List, [], ◌∷◌, ◌++◌, map, length, filter, ◌⊎◌}
 use Rattle.std.specs.List.{flat_map, list_all}
 use Rattle.chess_core.specs.Position.{Position}
@@ -32,7 +34,7 @@ module _ {P M : Type 0} where
   -- whether the walk follows a move to q, with t half-moves left there: moves of White and those of a root are tested
   unfoldable pub follows : Way → Game P M → Bool → ℕ → P → Bool
   follows way game root t q =
-      way.help || (not (root || seeks way.selfmate (t + 1)) || value way.selfmate game t q)
+      way.help || (not (root || seeks way.aim.selfmate (t + 1)) || value way.aim.selfmate game t q)
 
   -- whether it gives the path to q: in help play where the last half-move reaches the goal
   unfoldable pub gives : Way → Game P M → ℕ → P → Bool
@@ -42,7 +44,7 @@ module _ {P M : Type 0} where
   unfoldable pub goes_on : Way → Game P M → ℕ → P → ℕ
   goes_on way game t q =
       if way.help then t
-      else (if not way.variation && seeks way.selfmate (t + 1) then 0 else open_length way.selfmate game t q)
+      else (if not way.variation && seeks way.aim.selfmate (t + 1) then 0 else open_length way.aim.selfmate game t q)
 
   -- the paths that the walk gives from P by these moves, with `left` half-moves; `fuel` is at least `left`
   unfoldable pub shown : Way → Game P M → Bool → ℕ → ℕ → P → List M → List (List M)
@@ -68,18 +70,18 @@ shows (f ∷ []) = []
 shows (f ∷ (g ∷ below)) = shows (g ∷ below) ++ f.shown ∷ []
 
 -- each frame but the lowest holds its move as it is shown
-unfoldable pub IsShowing : RuleSet → Position → List Frame → Type 0
-IsShowing rule p [] = Unit {0}
-IsShowing rule p (f ∷ []) = Unit {0}
-IsShowing rule p (f ∷ (g ∷ below)) =
-    (f.shown ≡ show rule (position rule p (g ∷ below)) f.by) × IsShowing rule p (g ∷ below)
+unfoldable pub IsShowing : Goal → RuleSet → Position → List Frame → Type 0
+IsShowing goal rule p [] = Unit {0}
+IsShowing goal rule p (f ∷ []) = Unit {0}
+IsShowing goal rule p (f ∷ (g ∷ below)) =
+    (f.shown ≡ show goal rule (position rule p (g ∷ below)) f.by) × IsShowing goal rule p (g ∷ below)
 
 -- the paths still to come from all frames, in order
 unfoldable pub to_come : RuleSet → Way → ℕ → Position → List Frame → List (List Triple)
 to_come rule way h p [] = []
 to_come rule way h p (f ∷ below) =
     map (λ line. path (f ∷ below) ++ line)
-    (shown way (chess rule) (length below == 0) (h - length below) f.left (position rule p (f ∷ below)) (moves_behind rule (position rule p (f ∷ below)) f.place))
+    (shown way (chess way.aim.goal rule) (length below == 0) (h - length below) f.left (position rule p (f ∷ below)) (moves_behind rule (position rule p (f ∷ below)) f.place))
     ++ to_come rule way h p below
 
 -- each frame has room for its half-moves
@@ -88,9 +90,9 @@ IsRoomy h [] = Unit {0}
 IsRoomy h (f ∷ below) = (f.left + length below ≤ h) × IsRoomy h below
 
 -- the board stands on the top frame of a walk
-pub record IsWalking (rule : RuleSet) (h : ℕ) (p : Position) (frames : List Frame) (board : Position) : Type 0 where
+pub record IsWalking (goal : Goal) (rule : RuleSet) (h : ℕ) (p : Position) (frames : List Frame) (board : Position) : Type 0 where
   pub linked : IsLinked rule p frames
-  pub showing : IsShowing rule p frames
+  pub showing : IsShowing goal rule p frames
   pub roomy : IsRoomy h frames
   pub sound : IsWellFormed board
   pub board_at : board ≡ position rule p frames
@@ -113,23 +115,23 @@ IsWhites selfmate frames = list_all (λ f. f.left == 0 || seeks selfmate f.left)
 -- the frames opened and still to be opened, before a part of a walk and after it: in help play and where keys alone are
 -- shown they grow by nothing
 pub record Opens (rule : RuleSet) (way : Way) (p : Position) (old new : List Frame) (before after : ℕ) : Type 0 where
-  pub whites : way.help ≡ false → way.variation ≡ false → IsWhites way.selfmate old ≡ true → IsWhites way.selfmate new ≡ true
-  pub most : way.help ≡ false → way.variation ≡ false → IsWhites way.selfmate old ≡ true → after + to_open rule p new ≤ before + to_open rule p old
+  pub whites : way.help ≡ false → way.variation ≡ false → IsWhites way.aim.selfmate old ≡ true → IsWhites way.aim.selfmate new ≡ true
+  pub most : way.help ≡ false → way.variation ≡ false → IsWhites way.aim.selfmate old ≡ true → after + to_open rule p new ≤ before + to_open rule p old
   pub helped : way.help ≡ true → after + to_open rule p new ≤ before + to_open rule p old
   pub counted : way.help ≡ true → (walk : ℕ) → IsCounted walk before (to_open rule p old) → IsCounted walk after (to_open rule p new)
 
 -- from a place to the moves `rest` behind a later one only moves are passed over whose paths aren't given: in help play
--- with one half-move left those that don't mate
+-- for mate, with one half-move left, those that don't mate
 pub record GoesTo (rule : RuleSet) (way : Way) (left : ℕ) (p : Position) (place : ℕ) (rest : List Triple) : Type 0 where
   pub mid : ℕ
   pub over : List Triple
   pub passed : moves_behind rule p place ≡ over ++ moves_behind rule p mid
-  pub none : (over ≡ []) ⊎ ((way.help ≡ true) × (left ≡ 1) × (filter (is_mating rule p) over ≡ []))
+  pub none : (over ≡ []) ⊎ ((way.help ≡ true) × (way.aim.goal ≡ Mate) × (left ≡ 1) × (filter (is_mating rule p) over ≡ []))
   pub here : moves_behind rule p mid ≡ rest
 
 -- what one step of a walk leaves, for frames listed from the top down; `given` says whether the path to the new top is given
 pub record Steps (rule : RuleSet) (way : Way) (h : ℕ) (p : Position) (old new : List Frame) (board : Position) (before after : ℕ) (given : Bool) : Type 0 where
-  pub walking : IsWalking rule h p new board
+  pub walking : IsWalking way.aim.goal rule h p new board
   pub come : to_come rule way h p old ≡ (if given then path new ∷ [] else []) ++ to_come rule way h p new
   pub deep : given ≡ true → length new ≡ length old + 1
   pub falls : turns rule h p new < turns rule h p old

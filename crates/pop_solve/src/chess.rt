@@ -4,10 +4,12 @@ ghost use Rattle.chess_core.specs.Diagrams.{position_of};
 ghost use Rattle.chess_core.specs.Position.{Position};
 ghost use Rattle.chess_core.specs.WellFormed.{IsWellFormed};
 ghost use Rattle.chess_rules.specs.Attacks.{in_check};
-ghost use Rattle.chess_rules.specs.Legal.{is_goal, legal};
+ghost use Rattle.chess_rules.specs.Legal.{legal};
 ghost use Rattle.chess_rules.specs.Places.{IsNextMate, mates_behind, moves_behind, moves_between};
 ghost use Rattle.chess_rules.specs.RuleSet.{RuleSet};
-ghost use Rattle.pop_solve.specs.Chess.{castling_side, chess, is_impossible, is_mate_mark, mark_of, reborn, set_start, shown_by, shown_of};
+ghost use Rattle.pop_input.specs.declared.stipulation.Goal.{Goal};
+ghost use Rattle.pop_input.specs.declared.stipulation.Goal.TheVariants.{Mate};
+ghost use Rattle.pop_solve.specs.Chess.{castling_side, chess, is_for_mate, is_impossible, is_mark_of, is_reached, mark_of, reborn, set_start, shown_by, shown_of};
 ghost use Rattle.pop_solve.specs.Frames.{CameBy};
 ghost use Rattle.pop_solve.specs.Game.{can_move as has_move, some_move};
 
@@ -16,16 +18,17 @@ use chess_core::board::Board;
 use chess_core::diagram::Diagram;
 use chess_core::man::{Man, Move};
 use chess_core::square::Square;
-use chess_rules::moves::{Moves, has_legal_move};
+use chess_rules::moves::{Moves, has_legal_move, is_mate, is_stalemate};
 use chess_rules::play::{Undo, is_castling};
 use chess_rules::rules::{Rules, in_check};
+use pop_input::stipulation::Goal;
 
 /// Whether the side to move has a legal move.
 #[tactic(auto, using(crate::proofs::Boards::some_move))]
 pub(crate) fn can_move<R: Rules>(board: &mut Board) -> bool
     requires well_formed { IsWellFormed board.old }
     ensures unchanged { board.new ≡ board.old }
-    ensures moves { result ≡ has_move (chess R.rule) board.old }
+    ensures moves { (goal : Goal) → result ≡ has_move (chess goal R.rule) board.old }
 {
     has_legal_move::<R>(board)
 }
@@ -70,7 +73,7 @@ pub(crate) fn next_mate<R: Rules>(place: &mut Moves<R>, board: &mut Board) -> Op
 pub(crate) fn can_mate<R: Rules>(board: &mut Board) -> bool
     requires well_formed { IsWellFormed board.old }
     ensures unchanged { board.new ≡ board.old }
-    ensures mates { result ≡ some_move (chess R.rule) (chess R.rule).goal board.old }
+    ensures mates { result ≡ some_move (chess Mate R.rule) (chess Mate R.rule).goal board.old }
 {
     let mut place = Moves::<R>::start();
     place.next_mate(board).is_some()
@@ -86,37 +89,64 @@ pub(crate) fn retract<R: Rules>(board: &mut Board, by: Move, undo: Undo)
 }
 
 /// What a move has done to the side that is to move now.
-#[tactic(auto, unfolding(crate::specs::Chess::mark_of, chess_rules::specs::Legal::is_goal))]
-pub(crate) fn mark_of<R: Rules>(board: &mut Board) -> Mark
+#[tactic(auto, unfolding(crate::specs::Chess::mark_of, chess_rules::specs::Legal::is_goal, chess_rules::specs::Legal::is_stalemate))]
+pub(crate) fn mark_of<R: Rules>(goal: Goal, board: &mut Board) -> Mark
     requires well_formed { IsWellFormed board.old }
     ensures unchanged { board.new ≡ board.old }
-    ensures mark { result ≡ mark_of R.rule board.old }
+    ensures mark { result ≡ mark_of goal R.rule board.old }
 {
-    if !in_check::<R>(board, board.turn()) {
-        return Mark::Plain;
+    if in_check::<R>(board, board.turn()) {
+        return if has_legal_move::<R>(board) {
+            Mark::Check
+        } else {
+            Mark::Mate
+        };
     }
-    if has_legal_move::<R>(board) {
-        Mark::Check
+    if goal.is_stalemate() && !has_legal_move::<R>(board) {
+        Mark::Stalemate
     } else {
-        Mark::Mate
+        Mark::Plain
     }
 }
 
-/// Whether it has mated.
-fn is_mate_mark(mark: Mark) -> bool
-    ensures { result ≡ is_mate_mark mark }
+/// Whether a move with this mark has reached the goal.
+fn is_mark_of(goal: Goal, mark: Mark) -> bool
+    ensures { result ≡ is_mark_of goal mark }
 {
     match mark {
         Mark::Plain | Mark::Check => false,
-        Mark::Mate => true,
+        Mark::Mate => is_for_mate(goal),
+        Mark::Stalemate => !is_for_mate(goal),
     }
 }
 
-/// Whether the side that is to move is mated, read off the mark of the move before.
-pub(crate) fn has_mated(mark: Mark) -> bool
-    ensures { (rule : RuleSet) (q : Position) → mark ≡ mark_of rule q → result ≡ is_goal rule q }
+/// Whether the goal is mate.
+pub(crate) fn is_for_mate(goal: Goal) -> bool
+    ensures { result ≡ is_for_mate goal }
 {
-    is_mate_mark(mark)
+    match goal {
+        Goal::Mate => true,
+        Goal::Stalemate => false,
+    }
+}
+
+/// Whether the goal is reached by the move before, whose mark this is.
+pub(crate) fn has_reached(goal: Goal, mark: Mark) -> bool
+    ensures { (rule : RuleSet) (q : Position) → mark ≡ mark_of goal rule q → result ≡ is_reached goal rule q }
+{
+    is_mark_of(goal, mark)
+}
+
+/// Whether the goal is reached in the board's position.
+pub(crate) fn reaches_goal<R: Rules>(goal: Goal, board: &mut Board) -> bool
+    requires well_formed { IsWellFormed board.old }
+    ensures unchanged { board.new ≡ board.old }
+    ensures reached { result ≡ (chess goal R.rule).goal board.old }
+{
+    match goal {
+        Goal::Mate => is_mate::<R>(board),
+        Goal::Stalemate => is_stalemate::<R>(board),
+    }
 }
 
 /// To which side the man castles, if it does.

@@ -17,7 +17,7 @@ pub enum Event {
     /// A solution of help play: its moves, of which the first is the half-move `half`.
     Line {
         half: u32,
-        moves: ArrayVec<Shown, 16>,
+        moves: ArrayVec<Shown, 32>,
     },
     /// A move of battle play, the half-move `half`, which stands below `depth` other moves of its solution.
     Node {

@@ -1,6 +1,7 @@
 //! The search for the solutions of a chess problem: help play, direct mate and selfmate over one board and explicit frames.
 #![tactic(auto)]
 
+mod aim;
 mod chess;
 pub mod event;
 pub mod frame;

@@ -5,6 +5,7 @@ ghost use Rattle.chess_core.specs.Diagrams.{position_of};
 ghost use Rattle.chess_core.specs.Position.{Position};
 ghost use Rattle.chess_core.specs.WellFormed.{IsWellFormed};
 ghost use Rattle.chess_rules.specs.RuleSet.{RuleSet};
+ghost use Rattle.pop_input.specs.declared.stipulation.Goal.{Goal};
 ghost use Rattle.pop_input.specs.Posed.{IsSound};
 ghost use Rattle.pop_input.specs.Stipulations.{half_moves, is_help, is_selfmate};
 ghost use Rattle.pop_solve.specs.Chess.{set_start};
@@ -14,6 +15,7 @@ ghost use Rattle.pop_solve.specs.Phases.{way_of as way_of_problem, left_of, IsSt
 ghost use Rattle.pop_solve.specs.declared.event.Phase.TheVariants.{Play};
 ghost use Rattle.pop_solve.specs.declared.phases.Stage.TheVariants.{Before, Within, Behind};
 
+use crate::aim::Aim;
 use crate::chess::{is_impossible, turn_back, turn_over};
 use crate::event::{Event, Phase};
 use crate::frame::Frame;
@@ -67,7 +69,10 @@ fn way_of(problem: &Problem) -> Way
 {
     Way {
         help: is_help(problem),
-        selfmate: problem.stipulation().form == Form::SelfMate,
+        aim: Aim {
+            selfmate: problem.stipulation().form == Form::SelfMate,
+            goal: problem.stipulation().goal,
+        },
         variation: problem.variation(),
     }
 }
@@ -118,8 +123,8 @@ fn shown_at<R: Rules>(frame: &Frame<R>) -> Shown
 }
 
 /// The moves that lead to the top frame, as they are shown.
-fn line<R: Rules, const N: usize>(frames: &ArrayVec<Frame<R>, N>) -> ArrayVec<Shown, 16>
-    requires { array_vec_len frames.now ≤ 17 }
+fn line<R: Rules, const N: usize>(frames: &ArrayVec<Frame<R>, N>) -> ArrayVec<Shown, 32>
+    requires { array_vec_len frames.now ≤ 33 }
     ensures { result.items ≡ shows (reverse frames.now.items) }
 {
     let frames = frames.as_slice();
@@ -150,7 +155,7 @@ fn walk_on<R: Rules, const N: usize>(
 ) -> bool
     requires sound { IsSound problem.now }
     requires room { half_moves problem.now.stipulation < N }
-    requires walking { IsWalking R.rule (half_moves_of_phase problem.now phase) (phase_start problem.now phase)
+    requires walking { IsWalking problem.now.stipulation.goal R.rule (half_moves_of_phase problem.now phase) (phase_start problem.now phase)
         (reverse frames.old.items) board.old }
     ensures walks { Walks R.rule (way_of_problem problem.now) (half_moves_of_phase problem.now phase)
         (phase_start problem.now phase) limit (reverse frames.old.items) (reverse frames.new.items) board.new result }
@@ -173,9 +178,9 @@ fn close_all<R: Rules, const N: usize>(
     board: &mut Board,
     frames: &mut ArrayVec<Frame<R>, N>,
 )
-    requires walking { (p : Position) × IsWalking R.rule half_moves p (reverse frames.old.items) board.old }
+    requires walking { (goal : Goal) × (p : Position) × IsWalking goal R.rule half_moves p (reverse frames.old.items) board.old }
     ensures none { frames.new.items ≡ [] }
-    ensures back { (p : Position) → IsWalking R.rule half_moves p (reverse frames.old.items) board.old → board.new ≡ p }
+    ensures back { (goal : Goal) (p : Position) → IsWalking goal R.rule half_moves p (reverse frames.old.items) board.old → board.new ≡ p }
 {
     while let Some(top) = frames.pop() {
         step_back::<R>(frames.len(), top, board);
@@ -189,8 +194,8 @@ fn event_at<R: Rules, const N: usize>(
     frames: &ArrayVec<Frame<R>, N>,
 ) -> Event
     requires deep { 2 ≤ array_vec_len frames.now }
-    requires shallow { array_vec_len frames.now ≤ 17 }
-    ensures { IsShowing R.rule (phase_start problem.now phase) (reverse frames.now.items)
+    requires shallow { array_vec_len frames.now ≤ 33 }
+    ensures { IsShowing problem.now.stipulation.goal R.rule (phase_start problem.now phase) (reverse frames.now.items)
         → result ≡ event_of R.rule problem.now (step_of problem.now phase (path (reverse frames.now.items))) }
 {
     let half = phase_half(problem, phase);
@@ -266,7 +271,7 @@ fn end<R: Rules, const N: usize>(
     frames: &mut ArrayVec<Frame<R>, N>,
 ) -> Stage
     requires sound { IsSound problem.now }
-    requires walking { IsWalking R.rule (half_moves_of_phase problem.now phase) (phase_start problem.now phase)
+    requires walking { IsWalking problem.now.stipulation.goal R.rule (half_moves_of_phase problem.now phase) (phase_start problem.now phase)
         (reverse frames.old.items) board.old }
     ensures stage { result ≡ (if is_set phase then Before Play else Behind) }
     ensures none { frames.new.items ≡ [] }

@@ -20,6 +20,8 @@ pub enum Mark {
     Check,
     /// Mate.
     Mate,
+    /// Stalemate, where that is the goal.
+    Stalemate,
 }
 
 /// A move as it is shown, with all that its text says. Contracts see the record `Shown` of the same fields, squares as

@@ -1,4 +1,6 @@
 //! The tests of battle play.
+ghost use Rattle.chess_rules.specs.Play.{after as played};
+ghost use Rattle.chess_rules.specs.Legal.{moves as legal_moves};
 ghost use Rattle.std.specs.Prelude.{◌≡◌, ◌+◌, ◌<◌, ◌≤◌, ◌%◌, ℕ, List, [], ◌∷◌, ◌++◌, length, reverse, IfSome, IfNone, IsTrue, true, Bool, Option, Some, None, not, if◌then◌else◌, MatchOption, MatchBool, ◌⊎◌, ◌&&◌, ◌||◌, ◌==◌, ◌-◌, ◌^◌, min};
 ghost use Rattle.chess_core.specs.Position.{Position};
 ghost use Rattle.chess_core.specs.WellFormed.{IsWellFormed};
@@ -6,19 +8,21 @@ ghost use Rattle.chess_rules.specs.Legal.{legal};
 ghost use Rattle.chess_rules.specs.Play.{undo_of};
 ghost use Rattle.arrayvec.specs.ArrayVec.{array_vec_len};
 ghost use Rattle.pop_solve.specs.Frames.{IsTesting, CameFrom, CameFromAt, Turns, Ends, tests, tested, top_left, ahead};
-ghost use Rattle.pop_solve.specs.Chess.{chess};
+ghost use Rattle.pop_solve.specs.Chess.{chess, is_for_mate};
 ghost use Rattle.pop_solve.specs.declared.frame.Stretch.TheVariants.{Before};
 ghost use Rattle.pop_solve.specs.Game.{can_move as has_move, walk_count};
 ghost use Rattle.pop_solve.specs.Values.{seeks, join, joined, value};
 
-use crate::chess::{can_mate, can_move, next_move, next_until, retract};
+use crate::aim::Aim;
+use crate::chess::{can_mate, can_move, is_for_mate, next_move, next_until, reaches_goal, retract};
 use crate::frame::{Frame, Stretch};
 use crate::killers::Killers;
 use arrayvec::ArrayVec;
 use chess_core::board::Board;
 use chess_core::man::Move;
-use chess_rules::moves::{Moves, is_mate};
+use chess_rules::moves::Moves;
 use chess_rules::rules::Rules;
+use pop_input::stipulation::Goal;
 
 /// Whether one good move is enough with `left` half-moves left.
 pub(crate) fn seeking(selfmate: bool, left: usize) -> bool
@@ -32,26 +36,26 @@ pub(crate) fn seeking(selfmate: bool, left: usize) -> bool
 }
 
 /// Whether the goal is reached where it counts, after a move of White in `left`.
-fn is_end<R: Rules>(left: usize, board: &mut Board) -> bool
+fn is_end<R: Rules>(goal: Goal, left: usize, board: &mut Board) -> bool
     requires well_formed { IsWellFormed board.old }
     ensures unchanged { board.new ≡ board.old }
-    ensures end { result ≡ ((left % 2 == 0) && (chess R.rule).goal board.old) }
+    ensures end { result ≡ ((left % 2 == 0) && (chess goal R.rule).goal board.old) }
 {
-    left % 2 == 0 && is_mate::<R>(board)
+    left % 2 == 0 && reaches_goal::<R>(goal, board)
 }
 
 /// Whether the moves decide.
-fn is_open<R: Rules>(selfmate: bool, left: usize, board: &mut Board) -> bool
+fn is_open<R: Rules>(aim: Aim, left: usize, board: &mut Board) -> bool
     requires well_formed { IsWellFormed board.old }
     ensures unchanged { board.new ≡ board.old }
-    ensures open { result ≡ (seeks selfmate left || has_move (chess R.rule) board.old) }
+    ensures open { result ≡ (seeks aim.selfmate left || has_move (chess aim.goal R.rule) board.old) }
 {
-    seeking(selfmate, left) || can_move::<R>(board)
+    seeking(aim.selfmate, left) || can_move::<R>(board)
 }
 
 /// The value of a position, where it is known without a frame. White's last half-move needs none, and is counted as one.
 fn settled<R: Rules>(
-    selfmate: bool,
+    aim: Aim,
     left: usize,
     board: &mut Board,
     opened: &mut u64,
@@ -59,23 +63,23 @@ fn settled<R: Rules>(
     requires well_formed { IsWellFormed board.old }
     ensures unchanged { board.new ≡ board.old }
     ensures value { MatchOption result
-        ((0 < left) × (value selfmate (chess R.rule) left board.old
-        ≡ joined selfmate (chess R.rule) left board.old ((chess R.rule).moves board.old)))
-        (λ v. v ≡ value selfmate (chess R.rule) left board.old) }
+        ((0 < left) × (value aim.selfmate (chess aim.goal R.rule) left board.old
+        ≡ joined aim.selfmate (chess aim.goal R.rule) left board.old (legal_moves R.rule board.old)))
+        (λ v. v ≡ value aim.selfmate (chess aim.goal R.rule) left board.old) }
     ensures opened { MatchOption result (opened.new ≡ opened.old)
-        (λ _. opened.new ≤ opened.old + walk_count (chess R.rule) left board.old) }
+        (λ _. opened.new ≤ opened.old + walk_count (legal_moves R.rule) (played R.rule) left board.old) }
 {
-    if is_end::<R>(left, board) {
+    if is_end::<R>(aim.goal, left, board) {
         return Some(true);
     }
     if left == 0 {
         return Some(false);
     }
-    if left == 1 && seeking(selfmate, left) {
+    if is_for_mate(aim.goal) && left == 1 && seeking(aim.selfmate, left) {
         *opened = opened.saturating_add(1);
         return Some(can_mate::<R>(board));
     }
-    if is_open::<R>(selfmate, left, board) {
+    if is_open::<R>(aim, left, board) {
         None
     } else {
         Some(false)
@@ -168,7 +172,7 @@ fn close<R: Rules>(
 /// moves of the position after it decide; a test shows nothing.
 #[tactic(auto, using(chess_rules::proofs::Calls::playing))]
 fn descend<R: Rules, const N: usize>(
-    selfmate: bool,
+    aim: Aim,
     top: Frame<R>,
     by: Move,
     killer: Moves<R>,
@@ -182,23 +186,23 @@ fn descend<R: Rules, const N: usize>(
     requires room { array_vec_len frames.old + top.left ≤ N }
     requires legal { legal R.rule board.old by ≡ true }
     ensures opened { MatchOption answer.new (opened.new ≤ opened.old + 1)
-        (λ _. opened.new ≤ opened.old + walk_count (chess R.rule) (top.left - 1) ((chess R.rule).after board.old by)) }
+        (λ _. opened.new ≤ opened.old + walk_count (legal_moves R.rule) (played R.rule) (top.left - 1) (played R.rule board.old by)) }
     ensures answer { MatchOption answer.new
         ((0 < top.left - 1)
-        × (value selfmate (chess R.rule) (top.left - 1) ((chess R.rule).after board.old by)
-        ≡ joined selfmate (chess R.rule) (top.left - 1) ((chess R.rule).after board.old by)
-        ((chess R.rule).moves ((chess R.rule).after board.old by)))
-        × (board.new ≡ (chess R.rule).after board.old by)
+        × (value aim.selfmate (chess aim.goal R.rule) (top.left - 1) (played R.rule board.old by)
+        ≡ joined aim.selfmate (chess aim.goal R.rule) (top.left - 1) (played R.rule board.old by)
+        (legal_moves R.rule (played R.rule board.old by)))
+        × (board.new ≡ played R.rule board.old by)
         × (frames.new.items ≡ (frames.old.items ++ top ∷ [])
         ++ tested killer by (undo_of R.rule board.old by) top.shown (top.left - 1) ∷ []))
-        (λ v. (v ≡ value selfmate (chess R.rule) (top.left - 1) ((chess R.rule).after board.old by))
+        (λ v. (v ≡ value aim.selfmate (chess aim.goal R.rule) (top.left - 1) (played R.rule board.old by))
         × (board.new ≡ board.old)
         × (frames.new.items ≡ frames.old.items ++ top ∷ [])) }
 {
     frames.push(top);
     let left = top.left - 1;
     let undo = R::play(board, by);
-    *answer = settled::<R>(selfmate, left, board, opened);
+    *answer = settled::<R>(aim, left, board, opened);
     if answer.is_some() {
         retract::<R>(board, by, undo);
     } else {
@@ -217,7 +221,7 @@ fn descend<R: Rules, const N: usize>(
 
 /// One turn of a test: the top frame is closed, or its next move is played.
 fn turn<R: Rules, const N: usize>(
-    selfmate: bool,
+    aim: Aim,
     floor: usize,
     board: &mut Board,
     frames: &mut ArrayVec<Frame<R>, N>,
@@ -231,14 +235,14 @@ fn turn<R: Rules, const N: usize>(
     requires testing { (p : Position) × IsTesting R.rule p (tests floor frames.old.items) board.old }
     ensures room { IfNone result (top_left (tests floor frames.new.items) + array_vec_len frames.new ≤ N + 1) }
     ensures next { (p : Position) → IsTesting R.rule p (tests floor frames.old.items) board.old → MatchOption result
-        (Turns R.rule selfmate floor p frames.old.items frames.new.items answer.old answer.new board.new opened.old opened.new)
-        (λ v. Ends R.rule selfmate floor p frames.old.items frames.new.items answer.old board.new opened.old opened.new v) }
+        (Turns R.rule aim floor p frames.old.items frames.new.items answer.old answer.new board.new opened.old opened.new)
+        (λ v. Ends R.rule aim floor p frames.old.items frames.new.items answer.old board.new opened.old opened.new v) }
 {
     let Some(top) = frames.pop() else {
         return None;
     };
     let depth = frames.len();
-    let seek = seeking(selfmate, top.left);
+    let seek = seeking(aim.selfmate, top.left);
     if decided(*answer, seek) {
         killers.put(top.left, top.place);
         return close::<R>(seek, floor, depth, top, board, answer);
@@ -249,14 +253,14 @@ fn turn<R: Rules, const N: usize>(
         return close::<R>(!seek, floor, depth, top, board, answer);
     };
     descend::<R, N>(
-        selfmate,
+        aim,
         Frame {
             place,
             stretch,
             ..top
         },
         by,
-        killers.of(selfmate, top.left - 1),
+        killers.of(aim.selfmate, top.left - 1),
         board,
         frames,
         answer,
@@ -267,7 +271,7 @@ fn turn<R: Rules, const N: usize>(
 
 /// The value of the board's position, whose `left` half-moves are tried on frames above those that are open.
 pub(crate) fn value_of<R: Rules, const N: usize>(
-    selfmate: bool,
+    aim: Aim,
     left: usize,
     board: &mut Board,
     frames: &mut ArrayVec<Frame<R>, N>,
@@ -276,16 +280,16 @@ pub(crate) fn value_of<R: Rules, const N: usize>(
 ) -> bool
     requires well_formed { IsWellFormed board.old }
     requires room { array_vec_len frames.old + left ≤ N }
-    ensures value { result ≡ value selfmate (chess R.rule) left board.old }
+    ensures value { result ≡ value aim.selfmate (chess aim.goal R.rule) left board.old }
     ensures board { board.new ≡ board.old }
     ensures frames { frames.new.items ≡ frames.old.items }
-    ensures opened { opened.new ≤ opened.old + walk_count (chess R.rule) left board.old }
+    ensures opened { opened.new ≤ opened.old + walk_count (legal_moves R.rule) (played R.rule) left board.old }
 {
-    if let Some(known) = settled::<R>(selfmate, left, board, opened) {
+    if let Some(known) = settled::<R>(aim, left, board, opened) {
         return known;
     }
     let floor = frames.len();
-    let killer = killers.of(selfmate, left);
+    let killer = killers.of(aim.selfmate, left);
     *opened = opened.saturating_add(1);
     frames.push(Frame {
         place: killer.back(),
@@ -297,7 +301,7 @@ pub(crate) fn value_of<R: Rules, const N: usize>(
     let mut answer = None;
     loop {
         if let Some(known) = turn::<R, N>(
-            selfmate,
+            aim,
             floor,
             board,
             frames,

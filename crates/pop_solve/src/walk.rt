@@ -1,4 +1,6 @@
 //! The walk over the moves of a phase, on frames.
+ghost use Rattle.chess_rules.specs.Play.{after as played};
+ghost use Rattle.chess_rules.specs.Legal.{moves as legal_moves};
 ghost use Rattle.std.specs.Prelude.{◌≡◌, ◌+◌, ◌<◌, ◌≤◌, ◌/◌, ℕ, List, [], ◌∷◌, ◌++◌, length, reverse, IsTrue, true, false, if◌then◌else◌, MatchOption, ◌⊎◌, not, ◌&&◌, ◌||◌, ◌==◌, ◌-◌, ◌^◌, min};
 ghost use Rattle.chess_core.specs.Position.{Position};
 ghost use Rattle.chess_core.specs.WellFormed.{IsWellFormed};
@@ -13,7 +15,8 @@ ghost use Rattle.pop_solve.specs.Game.{walk_count};
 ghost use Rattle.pop_solve.specs.Values.{seeks};
 ghost use Rattle.pop_solve.specs.Walk.{fewest as fewest_of, first_from, open_length, follows as is_followed, gives as is_given, goes_on, GoesTo, IsWalking, Steps};
 
-use crate::chess::{has_mated, mark_of, next_mate, next_move, retract, shown_of};
+use crate::aim::Aim;
+use crate::chess::{has_reached, is_for_mate, mark_of, next_mate, next_move, reaches_goal, retract, shown_of};
 use crate::frame::{Frame, Stretch};
 use crate::killers::Killers;
 use crate::shown::Mark;
@@ -21,14 +24,14 @@ use crate::value::{seeking, value_of};
 use arrayvec::ArrayVec;
 use chess_core::board::Board;
 use chess_core::man::Move;
-use chess_rules::moves::{Moves, is_mate};
+use chess_rules::moves::Moves;
 use chess_rules::rules::Rules;
 
 /// What is walked: help play, or one of the battles with or without variations.
 #[derive(Clone, Copy)]
 pub struct Way {
     pub help: bool,
-    pub selfmate: bool,
+    pub aim: Aim,
     pub variation: bool,
 }
 
@@ -41,7 +44,7 @@ fn fewest(selfmate: bool) -> usize
 
 /// The least number of half-moves, by rising lengths, with which White to move reaches his aim; the last, `left`, untried.
 fn least_length<R: Rules, const N: usize>(
-    selfmate: bool,
+    aim: Aim,
     left: usize,
     board: &mut Board,
     frames: &mut ArrayVec<Frame<R>, N>,
@@ -50,13 +53,13 @@ fn least_length<R: Rules, const N: usize>(
 ) -> usize
     requires well_formed { IsWellFormed board.old }
     requires room { array_vec_len frames.old + left ≤ N }
-    ensures least { result ≡ first_from selfmate (chess R.rule) board.old ((left - fewest_of selfmate) / 2) (fewest_of selfmate) }
+    ensures least { result ≡ first_from aim.selfmate (chess aim.goal R.rule) board.old ((left - fewest_of aim.selfmate) / 2) (fewest_of aim.selfmate) }
     ensures board { board.new ≡ board.old }
     ensures frames { frames.new.items ≡ frames.old.items }
 {
-    let mut tried = fewest(selfmate);
+    let mut tried = fewest(aim.selfmate);
     while left >= 2 && tried <= left - 2 {
-        if value_of::<R, N>(selfmate, tried, board, frames, killers, opened) {
+        if value_of::<R, N>(aim, tried, board, frames, killers, opened) {
             return tried;
         }
         tried += 2;
@@ -67,7 +70,7 @@ fn least_length<R: Rules, const N: usize>(
 /// With how many half-moves the moves of the board's position are shown in battle play, where `left` are left.
 #[tactic(auto, unfolding(crate::specs::Walk::open_length))]
 fn length_shown<R: Rules, const N: usize>(
-    selfmate: bool,
+    aim: Aim,
     left: usize,
     board: &mut Board,
     frames: &mut ArrayVec<Frame<R>, N>,
@@ -76,17 +79,17 @@ fn length_shown<R: Rules, const N: usize>(
 ) -> usize
     requires well_formed { IsWellFormed board.old }
     requires room { array_vec_len frames.old + left ≤ N }
-    ensures length { result ≡ open_length selfmate (chess R.rule) left board.old }
+    ensures length { result ≡ open_length aim.selfmate (chess aim.goal R.rule) left board.old }
     ensures board { board.new ≡ board.old }
     ensures frames { frames.new.items ≡ frames.old.items }
 {
-    if left == 0 || is_mate::<R>(board) {
+    if left == 0 || reaches_goal::<R>(aim.goal, board) {
         return 0;
     }
-    if !seeking(selfmate, left) {
+    if !seeking(aim.selfmate, left) {
         return left;
     }
-    least_length::<R, N>(selfmate, left, board, frames, killers, opened)
+    least_length::<R, N>(aim, left, board, frames, killers, opened)
 }
 
 /// With how many half-moves the walk goes on from the board's position, where `left` are left.
@@ -101,35 +104,35 @@ fn length_below<R: Rules, const N: usize>(
 ) -> usize
     requires well_formed { IsWellFormed board.old }
     requires room { array_vec_len frames.old + left ≤ N }
-    ensures length { result ≡ goes_on way (chess R.rule) left board.old }
+    ensures length { result ≡ goes_on way (chess way.aim.goal R.rule) left board.old }
     ensures board { board.new ≡ board.old }
     ensures frames { frames.new.items ≡ frames.old.items }
     ensures opened { way.help ≡ true → opened.new ≡ opened.old }
-    ensures keys_alone { IsTrue (not way.variation && seeks way.selfmate (left + 1)) → opened.new ≡ opened.old }
+    ensures keys_alone { IsTrue (not way.variation && seeks way.aim.selfmate (left + 1)) → opened.new ≡ opened.old }
 {
     if way.help {
         return left;
     }
-    if !way.variation && seeking(way.selfmate, left + 1) {
+    if !way.variation && seeking(way.aim.selfmate, left + 1) {
         return 0;
     }
-    length_shown::<R, N>(way.selfmate, left, board, frames, killers, opened)
+    length_shown::<R, N>(way.aim, left, board, frames, killers, opened)
 }
 
 /// Whether a move is tested before it is followed, where `left` half-moves are left with it: in battle play the
 /// moves of White and those of the phase's first position.
 fn is_tested(way: Way, root: bool, left: usize) -> bool
-    ensures { result ≡ (not way.help && (root || seeks way.selfmate left)) }
+    ensures { result ≡ (not way.help && (root || seeks way.aim.selfmate left)) }
 {
-    !way.help && (root || seeking(way.selfmate, left))
+    !way.help && (root || seeking(way.aim.selfmate, left))
 }
 
 /// Whether the path by a move with this mark is given, after which `left` half-moves are left.
 #[tactic(auto, unfolding(crate::specs::Walk::gives))]
 fn gives(way: Way, left: usize, mark: Mark) -> bool
-    ensures { (rule : RuleSet) (q : Position) → mark ≡ mark_of rule q → result ≡ is_given way (chess rule) left q }
+    ensures { (rule : RuleSet) (q : Position) → mark ≡ mark_of way.aim.goal rule q → result ≡ is_given way (chess way.aim.goal rule) left q }
 {
-    !way.help || left == 0 && has_mated(mark)
+    !way.help || left == 0 && has_reached(way.aim.goal, mark)
 }
 
 /// The count of opened frames once a frame has been opened that has `tried` half-moves below it. One with none isn't
@@ -162,27 +165,27 @@ fn enter<R: Rules, const N: usize>(
     requires well_formed { IsWellFormed board.old }
     requires room { array_vec_len frames.old + left < N }
     requires legal { legal R.rule board.old by ≡ true }
-    ensures passes { is_followed way (chess R.rule) root left ((chess R.rule).after board.old by) ≡ false
+    ensures passes { is_followed way (chess way.aim.goal R.rule) root left (played R.rule board.old by) ≡ false
         → (result ≡ false) × (board.new ≡ board.old) × (frames.new.items ≡ frames.old.items) }
-    ensures enters { is_followed way (chess R.rule) root left ((chess R.rule).after board.old by) ≡ true
-        → (result ≡ is_given way (chess R.rule) left ((chess R.rule).after board.old by))
-        × (board.new ≡ (chess R.rule).after board.old by)
+    ensures enters { is_followed way (chess way.aim.goal R.rule) root left (played R.rule board.old by) ≡ true
+        → (result ≡ is_given way (chess way.aim.goal R.rule) left (played R.rule board.old by))
+        × (board.new ≡ played R.rule board.old by)
         × (frames.new.items ≡ frames.old.items ++ opened_frame by (undo_of R.rule board.old by)
-        (show R.rule board.old by) (goes_on way (chess R.rule) left ((chess R.rule).after board.old by)) ∷ []) }
+        (show way.aim.goal R.rule board.old by) (goes_on way (chess way.aim.goal R.rule) left (played R.rule board.old by)) ∷ []) }
     ensures more { way.help ≡ true → 0 < left → opened.new ≡ min (opened.old + 1) (2 ^ 64 - 1) }
     ensures none { way.help ≡ true → left ≡ 0 → opened.new ≡ opened.old }
-    ensures keys { way.help ≡ false → way.variation ≡ false → seeks way.selfmate (left + 1) ≡ true
-        → opened.new ≤ opened.old + walk_count (chess R.rule) left ((chess R.rule).after board.old by) }
+    ensures keys { way.help ≡ false → way.variation ≡ false → seeks way.aim.selfmate (left + 1) ≡ true
+        → opened.new ≤ opened.old + walk_count (legal_moves R.rule) (played R.rule) left (played R.rule board.old by) }
 {
     let man = board.man_at(by.from);
     let there = board.man_at(by.to);
     let undo = R::play(board, by);
     let tested = is_tested(way, root, left + 1);
-    if tested && !value_of::<R, N>(way.selfmate, left, board, frames, killers, opened) {
+    if tested && !value_of::<R, N>(way.aim, left, board, frames, killers, opened) {
         retract::<R>(board, by, undo);
         return false;
     }
-    let mark = mark_of::<R>(board);
+    let mark = mark_of::<R>(way.aim.goal, board);
     let shown = shown_of(man, there, &by, &undo, mark);
     let tried = length_below::<R, N>(way, left, board, frames, killers, opened);
     frames.push(Frame {
@@ -210,7 +213,7 @@ fn next_of<R: Rules>(way: Way, left: usize, place: &mut Moves<R>, board: &mut Bo
     if left == 0 {
         return None;
     }
-    if way.help && left == 1 {
+    if is_for_mate(way.aim.goal) && way.help && left == 1 {
         return next_mate::<R>(place, board);
     }
     next_move::<R>(place, board)
@@ -240,8 +243,8 @@ pub(crate) fn step<R: Rules, const N: usize>(
     requires well_formed { IsWellFormed board.old }
     requires room { half_moves < N }
     requires open { 0 < array_vec_len frames.old }
-    requires walking { (p : Position) × IsWalking R.rule half_moves p (reverse frames.old.items) board.old }
-    ensures steps { (p : Position) → IsWalking R.rule half_moves p (reverse frames.old.items) board.old
+    requires walking { (p : Position) × IsWalking way.aim.goal R.rule half_moves p (reverse frames.old.items) board.old }
+    ensures steps { (p : Position) → IsWalking way.aim.goal R.rule half_moves p (reverse frames.old.items) board.old
         → Steps R.rule way half_moves p (reverse frames.old.items) (reverse frames.new.items) board.new opened.old opened.new result }
 {
     let Some(top) = frames.pop() else {

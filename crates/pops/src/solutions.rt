@@ -64,7 +64,7 @@ fn print_solutions<R: Rules, W: Sink>(sink: &mut W, problem: &Problem) -> Result
 }
 
 // A search with a frame for each half-move of the longest stipulation, and one behind the last.
-fn start_search<R: Rules>(problem: &Problem) -> Search<R, 17>
+fn start_search<R: Rules>(problem: &Problem) -> Search<R, 33>
     requires { R.rule ≡ rule_of problem.now.condition }
     ensures problem { result.problem ≡ problem.now }
     ensures left { result.left ≡ events R.rule problem.now }

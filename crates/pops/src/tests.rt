@@ -2,6 +2,7 @@
 mod counted;
 mod devices;
 mod endless;
+mod goals;
 mod printing;
 mod rows;
 mod streams;

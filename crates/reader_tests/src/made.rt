@@ -58,7 +58,7 @@ const PIECES: [&str; 13] = [
     "Pieces White Kg6 Ra1 Pieces Kg8",
 ];
 
-const STIPULATIONS: [&str; 12] = [
+const STIPULATIONS: [&str; 20] = [
     "Stipulation #1",
     "sti #8",
     "Stipulation s#1",
@@ -69,6 +69,14 @@ const STIPULATIONS: [&str; 12] = [
     "Stipulation #1 foo",
     "Stipulation",
     "Stipulation h#8.5",
+    "Stipulation h#16.5",
+    "Stipulation =1",
+    "sti S=16",
+    "Stipulation h=15.5",
+    "Stipulation =17",
+    "Stipulation s=01",
+    "Stipulation #1 =1",
+    "Stipulation h#16",
     "Stipulation #2",
     "Stipulation h#3",
 ];
@@ -133,9 +141,9 @@ fn put_gap(text: &mut ArrayVec<u8, BYTES>, seed: u64) {
 fn put_section(text: &mut ArrayVec<u8, BYTES>, section: usize, seed: u64) {
     let words: &str = match section {
         0 => PIECES[choice(seed, 13)],
-        1 => STIPULATIONS[choice(seed, 12)],
+        1 => STIPULATIONS[choice(seed, 20)],
         2 => CONDITIONS[choice(seed, 6)],
-        _ => OPTIONS[choice(seed, 12)],
+        _ => OPTIONS[choice(seed, 20)],
     };
     let _ = text.try_extend_from_slice(words.as_bytes());
 }

@@ -38,6 +38,7 @@ struct Known {
     men: [u8; 64],
     stated: bool,
     form: u8,
+    sign: u8,
     n: u8,
     condition: u8,
     options: [bool; 3],
@@ -59,6 +60,7 @@ fn nothing_known(begun: bool) -> Known {
         men: [0; 64],
         stated: false,
         form: 0,
+        sign: 0,
         n: 0,
         condition: 0,
         options: [false; 3],
@@ -114,15 +116,28 @@ fn number_of(word: &[u8]) -> Option<u64> {
     Some(value)
 }
 
-// The form and number of a stipulation.
-fn stipulation_of(word: &[u8]) -> Option<(u8, u8)> {
-    match word {
-        [b'#', n @ b'1'..=b'8'] => Some((0, *n - b'0')),
-        [b's' | b'S', b'#', n @ b'1'..=b'8'] => Some((1, *n - b'0')),
-        [b'h' | b'H', b'#', n @ b'1'..=b'8'] => Some((2, *n - b'0')),
-        [b'h' | b'H', b'#', n @ b'0'..=b'7', b'.', b'5'] => Some((3, *n - b'0')),
-        _ => None,
+// The form, the goal's sign and the number of a stipulation: `#` or `=` behind s, h or nothing, 1 to 16, and in help
+// play `.5` behind 0 to 15.
+fn stipulation_of(word: &[u8]) -> Option<(u8, u8, u8)> {
+    let (form, rest) = match word {
+        [b's' | b'S', rest @ ..] => (1, rest),
+        [b'h' | b'H', rest @ ..] => (2, rest),
+        _ => (0, word),
+    };
+    let (sign, number, half) = match rest {
+        [sign @ (b'#' | b'='), number @ .., b'.', b'5'] if form == 2 => (*sign, number, true),
+        [sign @ (b'#' | b'='), number @ ..] => (*sign, number, false),
+        _ => return None,
+    };
+    let n = match number {
+        [n @ b'0'..=b'9'] => *n - b'0',
+        [b'1', n @ b'0'..=b'6'] => 10 + (*n - b'0'),
+        _ => return None,
+    };
+    if half {
+        return if n <= 15 { Some((3, sign, n)) } else { None };
     }
+    if n == 0 { None } else { Some((form, sign, n)) }
 }
 
 fn is_command(word: &[u8]) -> bool {
@@ -223,12 +238,17 @@ fn read_plain(known: &mut Known, word: &[u8]) -> u8 {
         Open::Pieces => read_men(known, word),
         Open::Stipulation => {
             if known.stated {
-                return if word.contains(&b'#') { 9 } else { 2 };
+                return if word.contains(&b'#') || word.contains(&b'=') {
+                    9
+                } else {
+                    2
+                };
             }
             match stipulation_of(word) {
-                Some((form, n)) => {
+                Some((form, sign, n)) => {
                     known.stated = true;
                     known.form = form;
+                    known.sign = sign;
                     known.n = n;
                     0
                 }
@@ -398,7 +418,7 @@ fn closed(known: &Known, line: u64) -> Told {
         return Told::Faulty(15, line);
     }
     let king = if known.form == 1 { b'K' } else { b'k' };
-    if !known.men.contains(&king) {
+    if known.sign == b'#' && !known.men.contains(&king) {
         return Told::Faulty(17, line);
     }
     if checked(known) {
@@ -416,6 +436,7 @@ fn closed(known: &Known, line: u64) -> Told {
         unmoved,
         crossed: known.crossed,
         form: known.form,
+        sign: known.sign,
         n: known.n,
         condition: known.condition,
         options: known.options,

@@ -3,7 +3,7 @@ use chess_core::{Colour, Kind, Man, Square};
 use pop_input::condition::Condition;
 use pop_input::item::Item;
 use pop_input::problem::Problem;
-use pop_input::stipulation::Form;
+use pop_input::stipulation::{Form, Goal};
 
 /// A problem: its men by their letters, small for Black, and all that it says besides.
 #[derive(Clone, Copy, PartialEq, Eq)]
@@ -13,6 +13,7 @@ pub(crate) struct Summary {
     pub(crate) unmoved: [bool; 6],
     pub(crate) crossed: u8,
     pub(crate) form: u8,
+    pub(crate) sign: u8,
     pub(crate) n: u8,
     pub(crate) condition: u8,
     pub(crate) options: [bool; 3],
@@ -89,6 +90,10 @@ fn summary_of(problem: &Problem) -> Summary {
             Form::SelfMate => 1,
             Form::Help => 2,
             Form::HelpHalf => 3,
+        },
+        sign: match stipulation.goal {
+            Goal::Mate => b'#',
+            Goal::Stalemate => b'=',
         },
         n: stipulation.n,
         condition: match problem.condition() {

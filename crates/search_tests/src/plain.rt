@@ -6,9 +6,9 @@ ghost use Rattle.chess_core.specs.WellFormed.{IsWellFormed};
 use crate::row::{half_moves, tell};
 use arrayvec::ArrayVec;
 use chess_core::{Board, Diagram, Kind, Man, Move, Square};
-use chess_rules::{Moves, Rules, has_legal_move, in_check, is_mate};
+use chess_rules::{Moves, Rules, has_legal_move, in_check};
 use pop_input::problem::Problem;
-use pop_input::stipulation::Form;
+use pop_input::stipulation::{Form, Goal};
 use pop_solve::{Event, Mark, Phase, Shown, Side};
 
 /// What is told of a phase: its first `limit` solutions, and how many they are.
@@ -98,7 +98,7 @@ fn captured_on(before: &Board, man: Man, by: Move) -> Option<Square> {
 }
 
 /// A move as it is shown, read off the positions before and after it.
-fn shown<R: Rules>(before: &Board, after: &Board, by: Move) -> Shown
+fn shown<R: Rules>(goal: Goal, before: &Board, after: &Board, by: Move) -> Shown
     requires { IsWellFormed after.now }
 {
     let Some(man) = before.man_at(by.from) else {
@@ -113,13 +113,12 @@ fn shown<R: Rules>(before: &Board, after: &Board, by: Move) -> Shown
         Some(captured) => reborn(before, after, captured, by.to),
         None => None,
     };
-    let mut now = *after;
-    let mark = if is_mate::<R>(&mut now) {
-        Mark::Mate
-    } else if in_check::<R>(after, after.turn()) {
-        Mark::Check
-    } else {
-        Mark::Plain
+    let checked = in_check::<R>(after, after.turn());
+    let mark = match (checked, can_move::<R>(after), goal) {
+        (true, false, _) => Mark::Mate,
+        (true, true, _) => Mark::Check,
+        (false, false, Goal::Stalemate) => Mark::Stalemate,
+        _ => Mark::Plain,
     };
     Shown {
         man,
@@ -134,12 +133,11 @@ fn shown<R: Rules>(before: &Board, after: &Board, by: Move) -> Shown
     }
 }
 
-/// Whether the side to move is mated.
-fn is_goal<R: Rules>(board: &Board) -> bool
+/// Whether the side to move is mated, or stalemated, whichever is the goal.
+fn is_goal<R: Rules>(goal: Goal, board: &Board) -> bool
     requires { IsWellFormed board.now }
 {
-    let mut here = *board;
-    is_mate::<R>(&mut here)
+    in_check::<R>(board, board.turn()) == (goal == Goal::Mate) && !can_move::<R>(board)
 }
 
 /// Whether it has a legal move.
@@ -152,10 +150,10 @@ fn can_move<R: Rules>(board: &Board) -> bool
 
 /// Whether the side to move is mated within so many further moves of the other side, against every defence.
 #[tactic(auto, using(chess_rules::proofs::Calls::playing))]
-fn lost<R: Rules>(board: &Board, moves: u8) -> bool
+fn lost<R: Rules>(goal: Goal, board: &Board, moves: u8) -> bool
     requires { IsWellFormed board.now }
 {
-    if is_goal::<R>(board) {
+    if is_goal::<R>(goal, board) {
         return true;
     }
     if moves == 0 || !can_move::<R>(board) {
@@ -172,7 +170,7 @@ fn lost<R: Rules>(board: &Board, moves: u8) -> bool
         while let Some(answer) = answers.next(&mut there) {
             let mut after = there;
             let _undo = R::play(&mut after, answer);
-            some = lost::<R>(&after, moves - 1) || some;
+            some = lost::<R>(goal, &after, moves - 1) || some;
         }
         every = every && some;
     }
@@ -181,7 +179,7 @@ fn lost<R: Rules>(board: &Board, moves: u8) -> bool
 
 /// Whether the side to move forces the other side to mate it within so many moves.
 #[tactic(auto, using(chess_rules::proofs::Calls::playing))]
-fn self_wins<R: Rules>(board: &Board, moves: u8) -> bool
+fn self_wins<R: Rules>(goal: Goal, board: &Board, moves: u8) -> bool
     requires { IsWellFormed board.now }
 {
     if moves == 0 {
@@ -198,7 +196,7 @@ fn self_wins<R: Rules>(board: &Board, moves: u8) -> bool
         while let Some(defence) = defences.next(&mut there) {
             let mut after = there;
             let _undo = R::play(&mut after, defence);
-            every = (is_goal::<R>(&after) || self_wins::<R>(&after, moves - 1)) && every;
+            every = (is_goal::<R>(goal, &after) || self_wins::<R>(goal, &after, moves - 1)) && every;
         }
         some = some || every;
     }
@@ -207,12 +205,12 @@ fn self_wins<R: Rules>(board: &Board, moves: u8) -> bool
 
 /// Whether after a move of White to this position he still wins within so many moves, that one counted.
 #[tactic(auto, using(chess_rules::proofs::Calls::playing))]
-fn keeps<R: Rules>(selfmate: bool, board: &Board, moves: u8) -> bool
+fn keeps<R: Rules>(goal: Goal, selfmate: bool, board: &Board, moves: u8) -> bool
     requires { IsWellFormed board.now }
 {
     let further = moves.saturating_sub(1);
     if !selfmate {
-        return lost::<R>(board, further);
+        return lost::<R>(goal, board, further);
     }
     let mut here = *board;
     let mut defences = Moves::<R>::start();
@@ -220,21 +218,21 @@ fn keeps<R: Rules>(selfmate: bool, board: &Board, moves: u8) -> bool
     while let Some(defence) = defences.next(&mut here) {
         let mut after = here;
         let _undo = R::play(&mut after, defence);
-        every = (is_goal::<R>(&after) || self_wins::<R>(&after, further)) && every;
+        every = (is_goal::<R>(goal, &after) || self_wins::<R>(goal, &after, further)) && every;
     }
     every
 }
 
 /// Whether White to move wins within so many moves.
 #[tactic(auto, using(chess_rules::proofs::Calls::playing))]
-fn wins<R: Rules>(selfmate: bool, board: &Board, moves: u8) -> bool
+fn wins<R: Rules>(goal: Goal, selfmate: bool, board: &Board, moves: u8) -> bool
     requires { IsWellFormed board.now }
 {
     if moves == 0 {
         return false;
     }
     if selfmate {
-        return self_wins::<R>(board, moves);
+        return self_wins::<R>(goal, board, moves);
     }
     let mut here = *board;
     let mut tries = Moves::<R>::start();
@@ -242,27 +240,28 @@ fn wins<R: Rules>(selfmate: bool, board: &Board, moves: u8) -> bool
     while let Some(by) = tries.next(&mut here) {
         let mut after = here;
         let _undo = R::play(&mut after, by);
-        some = lost::<R>(&after, moves - 1) || some;
+        some = lost::<R>(goal, &after, moves - 1) || some;
     }
     some
 }
 
 /// The smallest number of moves, up to `most`, within which White to move wins.
-fn least<R: Rules>(selfmate: bool, board: &Board, most: u8) -> u8
+fn least<R: Rules>(goal: Goal, selfmate: bool, board: &Board, most: u8) -> u8
     requires { IsWellFormed board.now }
     ensures { result ≤ most }
 {
     for moves in 0..most {
-        if wins::<R>(selfmate, board, moves) {
+        if wins::<R>(goal, selfmate, board, moves) {
             return moves;
         }
     }
     most
 }
 
-/// A battle: whether it is a selfmate, and its number of moves.
+/// A battle: its goal, whether it is a selfmate, and its number of moves.
 #[derive(Clone, Copy)]
 struct Battle {
+    goal: Goal,
     selfmate: bool,
     moves: u8,
 }
@@ -279,9 +278,9 @@ fn white<R: Rules>(told: &mut Told, battle: Battle, board: &Board, moves: u8, de
     while let Some(by) = tries.next(&mut here) {
         let mut there = here;
         let _undo = R::play(&mut there, by);
-        if keeps::<R>(battle.selfmate, &there, moves) {
-            told.node(depth, shown::<R>(&here, &there, by));
-            if left > 0 && !is_goal::<R>(&there) {
+        if keeps::<R>(battle.goal, battle.selfmate, &there, moves) {
+            told.node(depth, shown::<R>(battle.goal, &here, &there, by));
+            if left > 0 && !is_goal::<R>(battle.goal, &there) {
                 black::<R>(told, battle, &there, depth.saturating_add(1), left);
             }
         }
@@ -300,9 +299,9 @@ fn black<R: Rules>(told: &mut Told, battle: Battle, board: &Board, depth: u32, l
     while let Some(defence) = defences.next(&mut here) {
         let mut there = here;
         let _undo = R::play(&mut there, defence);
-        told.node(depth, shown::<R>(&here, &there, defence));
-        if !is_goal::<R>(&there) {
-            let moves = least::<R>(battle.selfmate, &there, battle.moves);
+        told.node(depth, shown::<R>(battle.goal, &here, &there, defence));
+        if !is_goal::<R>(battle.goal, &there) {
+            let moves = least::<R>(battle.goal, battle.selfmate, &there, battle.moves);
             white::<R>(
                 told,
                 battle,
@@ -325,26 +324,33 @@ fn set<R: Rules>(told: &mut Told, battle: Battle, board: &Board, left: u8)
     while let Some(by) = moves.next(&mut here) {
         let mut there = here;
         let _undo = R::play(&mut there, by);
-        let mates = is_goal::<R>(&there);
+        let mates = is_goal::<R>(battle.goal, &there);
         let further = battle.moves.saturating_sub(1);
-        if battle.selfmate && mates || wins::<R>(battle.selfmate, &there, further) {
-            told.node(0, shown::<R>(&here, &there, by));
+        if battle.selfmate && mates || wins::<R>(battle.goal, battle.selfmate, &there, further) {
+            told.node(0, shown::<R>(battle.goal, &here, &there, by));
             if !mates {
-                let moves = least::<R>(battle.selfmate, &there, battle.moves);
+                let moves = least::<R>(battle.goal, battle.selfmate, &there, battle.moves);
                 white::<R>(told, battle, &there, moves, 1, left);
             }
         }
     }
 }
 
-/// The lines of so many further half-moves whose last position is mate.
+/// The lines of so many further half-moves whose last position has the goal.
 #[tactic(auto, using(chess_rules::proofs::Calls::playing))]
-fn help<R: Rules>(told: &mut Told, board: &Board, left: usize, path: [Shown; 16], len: usize)
+fn help<R: Rules>(
+    told: &mut Told,
+    goal: Goal,
+    board: &Board,
+    left: usize,
+    path: [Shown; 32],
+    len: usize,
+)
     requires well_formed { IsWellFormed board.now }
-    requires room { len + left ≤ 16 }
+    requires room { len + left ≤ 32 }
 {
     if left == 0 {
-        if is_goal::<R>(board) {
+        if is_goal::<R>(goal, board) {
             told.line(&path[..len]);
         }
         return;
@@ -355,8 +361,8 @@ fn help<R: Rules>(told: &mut Told, board: &Board, left: usize, path: [Shown; 16]
         let mut there = here;
         let _undo = R::play(&mut there, by);
         let mut longer = path;
-        longer[len] = shown::<R>(&here, &there, by);
-        help::<R>(told, &there, left - 1, longer, len + 1);
+        longer[len] = shown::<R>(goal, &here, &there, by);
+        help::<R>(told, goal, &there, left - 1, longer, len + 1);
     }
 }
 
@@ -369,10 +375,11 @@ fn phase<R: Rules>(
     half_moves: usize,
 )
     requires well_formed { IsWellFormed board.now }
-    requires few { half_moves ≤ 16 }
+    requires few { half_moves ≤ 32 }
 {
     let stipulation = problem.stipulation();
     let battle = Battle {
+        goal: stipulation.goal,
         selfmate: stipulation.form == Form::SelfMate,
         moves: stipulation.n,
     };
@@ -386,7 +393,7 @@ fn phase<R: Rules>(
     }
     match stipulation.form {
         Form::Help | Form::HelpHalf => {
-            help::<R>(told, board, half_moves, [Shown::default(); 16], 0);
+            help::<R>(told, stipulation.goal, board, half_moves, [Shown::default(); 32], 0);
         }
         Form::Direct | Form::SelfMate if in_set => set::<R>(told, battle, board, left),
         Form::Direct | Form::SelfMate => {

@@ -44,7 +44,7 @@ pub(crate) fn tell(event: &Event, text: &mut ArrayVec<u8, 4096>) {
 #[tactic(auto, using(pop_solve::proofs::Sound::in_range))]
 pub(crate) fn half_moves(problem: &Problem) -> usize
     ensures value { result ≡ half_moves problem.now.stipulation }
-    ensures most { result ≤ 16 }
+    ensures most { result ≤ 32 }
 {
     let stipulation = problem.stipulation();
     let n = stipulation.n as usize;
@@ -59,7 +59,7 @@ pub(crate) fn half_moves(problem: &Problem) -> usize
 fn run<R: Rules, const N: usize>(problem: &Problem, most: u64) -> Given
     requires rule { R.rule ≡ rule_of problem.now.condition }
     requires room { half_moves problem.now.stipulation < N }
-    requires few { N ≤ 17 }
+    requires few { N ≤ 33 }
 {
     let mut search = Search::<R, N>::new(problem);
     let mut text = ArrayVec::new();
@@ -92,20 +92,20 @@ fn try_row<R: Rules, const N: usize>(rt: &impl Abort, problem: &Problem, want: &
     requires { R.rule ≡ rule_of problem.now.condition }
 {
     let half_moves = half_moves(problem);
-    let whole = run::<R, 17>(problem, ALL);
+    let whole = run::<R, 33>(problem, ALL);
     assert!(rt; whole.text.as_slice() == want.as_bytes());
     assert!(rt; !whole.goes_on);
     assert_eq!(rt; whole.given, whole.events);
     assert!(rt; whole.deepest <= half_moves + 1);
     for events in 0..whole.events {
-        let part = run::<R, 17>(problem, events);
+        let part = run::<R, 33>(problem, events);
         assert_eq!(rt; part.events, events);
         assert_eq!(rt; part.given, events);
         assert!(rt; part.goes_on);
         assert!(rt; want.as_bytes().starts_with(part.text.as_slice()));
     }
     assert_eq!(rt; half_moves + 1, N);
-    if half_moves < N && N <= 17 {
+    if half_moves < N && N <= 33 {
         let tight = run::<R, N>(problem, ALL);
         assert!(rt; tight.text.as_slice() == want.as_bytes());
         assert_eq!(rt; tight.opened, whole.opened);
@@ -133,7 +133,7 @@ fn agrees_under<R: Rules>(problem: &Problem) -> bool
     requires { R.rule ≡ rule_of problem.now.condition }
 {
     let _half_moves = half_moves(problem);
-    let given = run::<R, 17>(problem, ALL);
+    let given = run::<R, 33>(problem, ALL);
     let plain = solve::<R>(problem);
     given.text.as_slice() == plain.as_slice()
 }

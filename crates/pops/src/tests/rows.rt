@@ -254,7 +254,7 @@ fn longer_rows(rt: HostRuntime) {
 // Faults of words.
 #[test]
 fn word_fault_rows(rt: HostRuntime) {
-    let rows: [(&str, &[u8], &[u8]); 12] = [
+    let rows: [(&str, &[u8], &[u8]); 10] = [
         (
             "man_before_its_colour",
             b"BeginProblem\nPieces Kg6\n",
@@ -292,7 +292,7 @@ fn word_fault_rows(rt: HostRuntime) {
         ),
         (
             "too_many_half_moves",
-            b"BeginProblem\nPieces White Kg6 Ra1 Black Kg8\nStipulation h#8.5\nEndProblem\n",
+            b"BeginProblem\nPieces White Kg6 Ra1 Black Kg8\nStipulation h#16.5\nEndProblem\n",
             b"problem 1\nline 3: fault 8: bad stipulation\n\n",
         ),
         (
@@ -304,16 +304,6 @@ fn word_fault_rows(rt: HostRuntime) {
             "second_condition",
             b"BeginProblem\nPieces White Kg6 Ra1 Black Kg8\nStipulation #1\nCondition Circe Circe\nEndProblem\n",
             b"problem 1\nline 4: fault 12: second condition\n\n",
-        ),
-        (
-            "stalemate_is_no_goal",
-            b"BeginProblem\nPieces White Kg6 Ra1 Black Kg8\nStipulation =1\nEndProblem\n",
-            b"problem 1\nline 3: fault 8: bad stipulation\n\n",
-        ),
-        (
-            "stalemate_behind_a_stipulation",
-            b"BeginProblem\nPieces White Kg6 Ra1 Black Kg8\nStipulation #1 =1\nEndProblem\n",
-            b"problem 1\nline 3: fault 2: unknown or misplaced word\n\n",
         ),
     ];
     for (name, input, report) in rows {

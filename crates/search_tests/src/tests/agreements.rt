@@ -73,6 +73,18 @@ fn helpmates(rt: HostRuntime) {
     all_agree(&rt, "h#2", "Option MaxSolutions 5");
 }
 
+// In a stalemate problem either king may be missing.
+#[test]
+fn stalemates(rt: HostRuntime) {
+    for stipulation in ["=1", "s=1", "h=0.5", "h=1", "h=1.5"] {
+        all_agree(&rt, stipulation, "Option SetPlay Variation");
+        all_agree(&rt, stipulation, "Condition Circe Option SetPlay MaxSolutions 3");
+        all_agree(&rt, stipulation, "Condition Madrasi");
+    }
+    all_agree(&rt, "=2", "Option Variation MaxSolutions 4");
+    all_agree(&rt, "h=2", "Option MaxSolutions 5");
+}
+
 #[test]
 fn longer_problems(rt: HostRuntime) {
     for men in [

@@ -1,6 +1,8 @@
+use Rattle.chess_rules.specs.Legal.{moves as legal_moves}
+use Rattle.chess_rules.specs.Play.{after as played}
 use Rattle.std.proofs.Common.{sym, ◌∙◌, arith}
 use Rattle.pop_solve.specs.Chess.{chess}
-use Rattle.pop_solve.proofs.Boards.{walk_count-some}
+use Rattle.pop_solve.proofs.Boards.{for_mate, mate-goal, walk_count-some}
 use Rattle.pop_solve.proofs.Values as values
 use Rattle.pop_solve.proofs.value.settled.Goals as goal
 
@@ -20,9 +22,9 @@ returns-else-is_open-clause-value g c =
 
 pub returns-then-seeking-clause-value : goal.returns-then-seeking-clause-value
 returns-then-seeking-clause-value g c =
-    rw c.is_end.ensures.unchanged at c.can_mate.ensures.mates ∙ sym (values.value-mate c.args.selfmate (chess g.R.Rules.rule) c.args.left c.args.board.now (omega arith) (sym c.if-seeking.ensures))
+    mate-goal g.R.Rules.rule c.args.aim.goal c.args.board.now _ (for_mate c.args.aim.goal (sym c.if-is_for_mate.ensures)) (rw c.is_end.ensures.unchanged at c.can_mate.ensures.mates) ∙ sym (values.value-mate c.args.aim.selfmate (chess c.args.aim.goal g.R.Rules.rule) c.args.left c.args.board.now (omega arith) (sym c.if-seeking.ensures))
 
 pub returns-then-seeking-clause-opened : goal.returns-then-seeking-clause-opened
 returns-then-seeking-clause-opened g c =
-    let some = walk_count-some (chess g.R.Rules.rule) c.args.left c.args.board.now (omega arith) in
+    let some = walk_count-some (legal_moves g.R.Rules.rule) (played g.R.Rules.rule) c.args.left c.args.board.now (omega arith) in
     omega (arith, some)
