@@ -8,3 +8,5 @@ pub mod Ends
 pub mod Numbers
 pub mod Numbered
 mod Rows
+pub mod Naming
+pub mod Skipping

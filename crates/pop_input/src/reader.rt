@@ -1,8 +1,9 @@
 //! Problems and faults, one after another.
-ghost use Rattle.std.specs.Prelude.{◌≡◌, ◌<◌, ◌≤◌, ◌⊎◌, length, true};
+ghost use Rattle.std.specs.Prelude.{◌≡◌, ◌<◌, ◌≤◌, ◌⊎◌, None, length, true};
 ghost use Rattle.pop_text.specs.Bytes.{greatest};
 ghost use Rattle.pop_text.specs.Words.{limit};
 ghost use Rattle.pop_text.specs.Reading.{IsSeen, failures_after};
+ghost use Rattle.pop_text.specs.Plain.{Skips};
 ghost use Rattle.pop_text.specs.declared.scanner.End.{End};
 ghost use Rattle.pop_input.specs.Standing.{IsNumbered, NextItem, is_item, next_behind as behind, start, work_left};
 ghost use Rattle.pop_input.specs.Closings.{cut_fault, last_of};
@@ -15,6 +16,8 @@ use crate::token::{Token, next_token};
 use pop_text::read_fault::ReadFault;
 use pop_text::scanner::Scanner;
 use pop_text::source::Source;
+use pop_text::text::Text;
+use pop_text::word::Word;
 use std::marker::Model;
 
 /// Which block of the input is next: a block ends with NextProblem or EndProblem.
@@ -85,18 +88,20 @@ impl Reader {
             Next::Nothing => return Item::End,
         };
         let mut block = Block::new(first);
+        let mut word = Word::new();
+        let mut text = Text::empty();
         'words: loop {
-            match next_token(&mut self.scanner, source) {
-                Token::Line(keyword, text) => block.note(keyword, text),
+            match next_token(&mut self.scanner, source, &mut word, &mut text) {
+                Token::Line(keyword) => block.note(keyword, &text),
                 Token::TooLong(line) => block.read_long(line),
-                Token::Word(word) => {
+                Token::Word => {
                     block.read(&word);
                     match closing_of(word.bytes.as_slice()) {
                         Some(last) => {
                             self.next_block = next_behind(last);
                             return block.closed(word.line, last);
                         }
-                        None => {}
+                        None => skip_on(&mut self.scanner, block.fault),
                     }
                 }
                 Token::Ended(line) => {
@@ -116,6 +121,16 @@ impl Reader {
                 },
             }
         }
+    }
+}
+
+// After a fault, uses words that say nothing.
+fn skip_on(scanner: &mut Scanner, fault: Option<Fault>)
+    ensures skips { Skips scanner.old scanner.new }
+    ensures sound { fault ≡ None → scanner.new ≡ scanner.old }
+{
+    if fault.is_some() {
+        scanner.skip_plain();
     }
 }
 
