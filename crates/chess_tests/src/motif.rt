@@ -21,6 +21,12 @@ pub(crate) enum Motif {
     InDoubleCheck,
     // The move mates.
     Mates,
+    // A capture en passant does.
+    EnPassantMates,
+    // Castling does.
+    CastlingMates,
+    // A pawn that becomes a man of this kind does, checking itself.
+    PromotionMates(Kind),
     // It ends a check.
     Parries(Kind),
     // A capture en passant is legal.
@@ -165,6 +171,7 @@ impl<'a> Case<'a> {
             Motif::Mates => self.mates(),
             Motif::Parries(kind) => self.parries() && self.man.kind == kind,
             Motif::PromotionChecks(kind) => self.promotes_with_check(kind),
+            Motif::PromotionMates(kind) => self.promotes_with_check(kind) && self.mates(),
             Motif::PromotionParries => self.parries() && self.m.promo.is_some(),
             Motif::StepsAlong => self.steps_along(),
             Motif::FlightOpened => self.opens_flight(),
@@ -185,6 +192,8 @@ impl<'a> Case<'a> {
                 self.is_en_passant() && self.exposes() && !self.is_rank_open()
             }
             Motif::EnPassantParries => self.is_en_passant() && self.parries(),
+            Motif::EnPassantMates => self.is_en_passant() && self.mates(),
+            Motif::CastlingMates => self.castling().is_some() && self.mates(),
             Motif::EnPassantUncovers => self.is_en_passant() && self.uncovers(),
             Motif::Castles => self.castling().is_some() && self.legal,
             Motif::CastlingChecks => {

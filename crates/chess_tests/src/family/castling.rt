@@ -1,6 +1,6 @@
 //! Castling into lines, out of them and through them.
 use crate::draw::Draw;
-use crate::scene::{man, mark_homes, put, put_rider, scatter};
+use crate::scene::{man, mark_homes, put, put_rider, scatter, steps};
 use crate::setup::square;
 use chess_core::{Colour, Diagram, Kind, Square};
 
@@ -24,15 +24,17 @@ pub(crate) fn castling(draw: &mut Draw) -> Diagram {
         let slant = [0u8, 1, 255][draw.below(3) as usize];
         let _rider = put_rider(&mut diagram, draw, aim, (slant, up.1), mover.other());
     }
-    let file = 3 + draw.below(4);
-    let other_rank = 9u8.wrapping_sub(rank).wrapping_sub(draw.below(2));
-    let other = Square::new(file, other_rank);
-    let other = if draw.once_in(3) {
-        Some(draw.square())
+    if draw.once_in(3) {
+        put_net(&mut diagram, draw, up);
     } else {
-        other
-    };
-    let _other = put(&mut diagram, other, man(mover.other(), Kind::King));
+        let other = Square::new(3 + draw.below(4), 9u8.wrapping_sub(rank));
+        let other = if draw.once_in(3) {
+            Some(draw.square())
+        } else {
+            other
+        };
+        let _other = put(&mut diagram, other, man(mover.other(), Kind::King));
+    }
     if draw.once_in(4) {
         let like = draw.below(8);
         let at = Square::new(1 + like, 4);
@@ -42,4 +44,24 @@ pub(crate) fn castling(draw: &mut Draw) -> Diagram {
     scatter(&mut diagram, draw, kinds, count);
     mark_homes(&mut diagram, draw);
     diagram
+}
+
+// The other king on the file to which a rook castles, and rooks on the files beside him.
+fn put_net(diagram: &mut Diagram, draw: &mut Draw, up: (u8, u8)) {
+    let mover = diagram.turn;
+    let home = if mover == Colour::White { 1u8 } else { 8 };
+    let file = if draw.once_in(2) { 4u8 } else { 6 };
+    let arrival = Square::new(file, home).unwrap_or_default();
+    let king = steps(arrival, up, 2 + draw.below(5));
+    let _king = put(diagram, king, man(mover.other(), Kind::King));
+    for beside in [file - 1, file + 1] {
+        let at = Square::new(beside, 4 + draw.below(2));
+        let far = steps(at.unwrap_or_default(), up, draw.below(4));
+        let guard = if draw.once_in(3) {
+            Kind::Queen
+        } else {
+            Kind::Rook
+        };
+        let _guard = put(diagram, far, man(mover, guard));
+    }
 }

@@ -26,19 +26,16 @@ pub(crate) fn en_passant(draw: &mut Draw) -> Diagram {
     put_line(&mut diagram, draw, passing, capturer);
     let _own = put_king(&mut diagram, draw, mover);
     let _other = put_king(&mut diagram, draw, mover.other());
+    if draw.once_in(2) {
+        for kind in [Kind::Queen, Kind::Queen, Kind::Rook] {
+            let _helper = put(&mut diagram, Some(draw.square()), man(mover, kind));
+        }
+    }
     let count = draw.below(5);
     scatter(&mut diagram, draw, kinds, count);
-    let cleared = diagram.is_well_formed();
-    if cleared {
-        diagram
-    } else {
-        without_crossed(diagram)
+    if !diagram.is_well_formed() {
+        diagram.crossed = None;
     }
-}
-
-fn without_crossed(diagram: Diagram) -> Diagram {
-    let mut diagram = diagram;
-    diagram.crossed = None;
     diagram
 }
 
@@ -85,33 +82,49 @@ pub(crate) fn promotions(draw: &mut Draw) -> Diagram {
         Colour::White => (7u8, 8u8),
         Colour::Black => (2u8, 1u8),
     };
-    let own = Square::new(1 + draw.below(8), if draw.once_in(2) { last } else { 4 });
+    let third = if mover == Colour::White { 6u8 } else { 3 };
+    let file = if draw.once_in(2) { 2u8 } else { 7 };
+    let (own, other) = if draw.once_in(2) {
+        let corner = if file == 2 { 1u8 } else { 8 };
+        (Square::new(file, third), Square::new(corner, last))
+    } else {
+        let rank = [last, 4][draw.below(2) as usize];
+        let other_rank = [last, before][draw.below(2) as usize];
+        (
+            Square::new(1 + draw.below(8), rank),
+            Square::new(1 + draw.below(8), other_rank),
+        )
+    };
     let own = own.unwrap_or_default();
     let _own = put(&mut diagram, Some(own), man(mover, Kind::King));
-    let rank = if draw.once_in(2) { last } else { before };
-    let other = Square::new(1 + draw.below(8), rank);
     let _other = put(&mut diagram, other, man(mover.other(), Kind::King));
     for _pawn in 0..3u8 {
         let at = Square::new(1 + draw.below(8), before);
         let _pawn = put(&mut diagram, at, man(mover, Kind::Pawn));
     }
+    put_victims(&mut diagram, draw, kinds, own, last);
+    diagram
+}
+
+// Men to capture on the last rank, a checker or a pinned pawn, and men anywhere.
+fn put_victims(diagram: &mut Diagram, draw: &mut Draw, kinds: Kinds, own: Square, last: u8) {
+    let mover = diagram.turn;
     for _victim in 0..3u8 {
         let at = Square::new(1 + draw.below(8), last);
         let kind = draw.kind(kinds);
-        let _victim = put(&mut diagram, at, man(mover.other(), kind));
+        let _victim = put(diagram, at, man(mover.other(), kind));
     }
     let line = draw.line();
     if draw.once_in(2) {
-        let _checker = put_rider(&mut diagram, draw, own, line, mover.other());
+        let _checker = put_rider(diagram, draw, own, line, mover.other());
     } else {
         let pawn = man(mover, Kind::Pawn);
-        let _pinned = put_battery(&mut diagram, draw, own, line, pawn, mover.other());
+        let _pinned = put_battery(diagram, draw, own, line, pawn, mover.other());
     }
     let count = draw.below(5);
-    scatter(&mut diagram, draw, kinds, count);
+    scatter(diagram, draw, kinds, count);
     if kinds == Kinds::All {
         let at = draw.square();
-        let _rider = put(&mut diagram, Some(at), man(draw.colour(), Kind::Nightrider));
+        let _rider = put(diagram, Some(at), man(draw.colour(), Kind::Nightrider));
     }
-    diagram
 }

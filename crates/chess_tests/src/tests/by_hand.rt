@@ -218,3 +218,30 @@ fn a_checking_bishop_is_paralysed(rt: HostRuntime) {
     let expected = moves("e1d1 e1f1 e1e2 e1f2 h6d2");
     assert_eq!(rt; moves_of::<Orthodox>(&diagram), expected);
 }
+
+// Castling and the rook's move shut the king on f3 up between the rooks' files: both mate.
+#[test]
+fn castling_mates(rt: HostRuntime) {
+    let mut diagram = diagram_of("4R1R1/8/8/8/8/5k2/8/4K2R");
+    diagram.unmoved = unmoved("e1 h1");
+    assert!(rt; diagram.is_well_formed());
+    assert_eq!(rt; mates_of::<Orthodox>(&diagram), moves("e1g1 h1f1"));
+}
+
+// The capture en passant opens the diagonal from a1 to h8, and the bishop on b3 then sees g8.
+#[test]
+fn en_passant_mates(rt: HostRuntime) {
+    let mut diagram = diagram_of("7k/8/6K1/3pP3/8/1B6/8/B7");
+    diagram.crossed = Some(square("d6"));
+    assert!(rt; diagram.is_well_formed());
+    assert_eq!(rt; mates_of::<Orthodox>(&diagram), moves("e5d6"));
+    assert_eq!(rt; mates_of::<Circe>(&diagram), moves("e5d6"));
+}
+
+// Queen and rook check along the last rank and see g8, bishop and knight don't check.
+#[test]
+fn promotions_mate(rt: HostRuntime) {
+    let diagram = diagram_of("7k/5P2/6K1/8/8/8/8/8");
+    assert!(rt; diagram.is_well_formed());
+    assert_eq!(rt; mates_of::<Orthodox>(&diagram), moves("f7f8Q f7f8R"));
+}

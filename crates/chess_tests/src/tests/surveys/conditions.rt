@@ -12,7 +12,7 @@ fn rebirths(rt: HostRuntime) {
         Motif::RebirthSaves,
         Motif::RebirthParries,
     ];
-    let survey = surveyed::<Circe>(Family::Rebirths, Rule::Circe, 1000, &motifs);
+    let survey = surveyed::<Circe>(Family::Rebirths, Rule::Circe, 2000, &motifs);
     assert_eq!(rt; survey.unlike, None);
     assert_eq!(rt; survey.rare(&motifs, 5), None);
 }
@@ -20,7 +20,7 @@ fn rebirths(rt: HostRuntime) {
 #[test]
 fn rebirths_before_mates(rt: HostRuntime) {
     let motifs = [Motif::RebirthMates, Motif::RebirthAnswers];
-    let survey = surveyed::<Circe>(Family::Nets, Rule::Circe, 800, &motifs);
+    let survey = surveyed::<Circe>(Family::Nets, Rule::Circe, 2000, &motifs);
     assert_eq!(rt; survey.unlike, None);
     assert_eq!(rt; survey.rare(&motifs, 3), None);
 }
@@ -33,7 +33,7 @@ fn paralysis(rt: HostRuntime) {
         Motif::ParalysesChecker,
         Motif::ParalysisSaves,
     ];
-    let survey = surveyed::<Madrasi>(Family::Paralysis, Rule::Madrasi, 250, &motifs);
+    let survey = surveyed::<Madrasi>(Family::Paralysis, Rule::Madrasi, 800, &motifs);
     assert_eq!(rt; survey.unlike, None);
     assert_eq!(rt; survey.rare(&motifs, 20), None);
 }
@@ -41,7 +41,7 @@ fn paralysis(rt: HostRuntime) {
 #[test]
 fn paralysis_before_mates(rt: HostRuntime) {
     let motifs = [Motif::ParalysisMates, Motif::ParalysisSaves];
-    let survey = surveyed::<Madrasi>(Family::Nets, Rule::Madrasi, 1500, &motifs);
+    let survey = surveyed::<Madrasi>(Family::Nets, Rule::Madrasi, 3000, &motifs);
     assert_eq!(rt; survey.unlike, None);
     assert_eq!(rt; survey.rare(&motifs, 3), None);
 }
@@ -49,7 +49,7 @@ fn paralysis_before_mates(rt: HostRuntime) {
 #[test]
 fn castling_with_a_paralysed_rook(rt: HostRuntime) {
     let motifs = [Motif::Castles, Motif::CastlingParalysed];
-    let survey = surveyed::<Madrasi>(Family::Castling, Rule::Madrasi, 150, &motifs);
+    let survey = surveyed::<Madrasi>(Family::Castling, Rule::Madrasi, 400, &motifs);
     assert_eq!(rt; survey.unlike, None);
     assert_eq!(rt; survey.rare(&motifs, 5), None);
 }

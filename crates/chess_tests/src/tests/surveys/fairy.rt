@@ -12,7 +12,7 @@ fn hurdles(rt: HostRuntime) {
         Motif::OwnHurdleArrives,
         Motif::OwnHurdleLeaves,
     ];
-    for survey in under_all_rules(Family::Hurdles, 200, &motifs) {
+    for survey in under_all_rules(Family::Hurdles, 600, &motifs) {
         assert_eq!(rt; survey.unlike, None);
         assert_eq!(rt; survey.rare(&motifs, 5), None);
     }
@@ -24,7 +24,7 @@ fn nightrider_lines(rt: HostRuntime) {
         Motif::ExposedTo(Kind::Nightrider),
         Motif::UncoveredBy(Kind::Nightrider),
     ];
-    for survey in under_all_rules(Family::NightriderLines, 120, &motifs) {
+    for survey in under_all_rules(Family::NightriderLines, 500, &motifs) {
         assert_eq!(rt; survey.unlike, None);
         assert_eq!(rt; survey.rare(&motifs, 50), None);
     }

@@ -12,8 +12,9 @@ fn castling(rt: HostRuntime) {
         Motif::CastlingFromCheck,
         Motif::CastlingAcross,
         Motif::CastlingInto,
+        Motif::CastlingMates,
     ];
-    for survey in under_all_rules(Family::Castling, 120, &motifs) {
+    for survey in under_all_rules(Family::Castling, 500, &motifs) {
         assert_eq!(rt; survey.unlike, None);
         assert_eq!(rt; survey.rare(&motifs, 10), None);
     }
@@ -26,7 +27,7 @@ fn steps_along_a_line(rt: HostRuntime) {
         Motif::Parries(Kind::King),
         Motif::Exposes(Kind::King),
     ];
-    for survey in under_all_rules(Family::KingSteps, 150, &motifs) {
+    for survey in under_all_rules(Family::KingSteps, 500, &motifs) {
         assert_eq!(rt; survey.unlike, None);
         assert_eq!(rt; survey.rare(&motifs, 20), None);
     }
@@ -35,7 +36,7 @@ fn steps_along_a_line(rt: HostRuntime) {
 #[test]
 fn flights(rt: HostRuntime) {
     let motifs = [Motif::FlightOpened, Motif::FlightCovered, Motif::Mates];
-    for survey in under_all_rules(Family::Flights, 80, &motifs) {
+    for survey in under_all_rules(Family::Flights, 300, &motifs) {
         assert_eq!(rt; survey.unlike, None);
         assert_eq!(rt; survey.rare(&motifs, 20), None);
     }
@@ -44,7 +45,7 @@ fn flights(rt: HostRuntime) {
 #[test]
 fn missing_kings(rt: HostRuntime) {
     let motifs = [Motif::KinglessMover, Motif::KinglessEnemy];
-    for survey in under_all_rules(Family::MissingKings, 120, &motifs) {
+    for survey in under_all_rules(Family::MissingKings, 400, &motifs) {
         assert_eq!(rt; survey.unlike, None);
         assert_eq!(rt; survey.rare(&motifs, 500), None);
     }

@@ -20,7 +20,7 @@ fn pinned_men(rt: HostRuntime) {
         Motif::ExposedTo(Kind::Bishop),
         Motif::ExposedTo(Kind::Nightrider),
     ];
-    for survey in under_all_rules(Family::Pins, 150, &motifs) {
+    for survey in under_all_rules(Family::Pins, 500, &motifs) {
         assert_eq!(rt; survey.unlike, None);
         assert_eq!(rt; survey.rare(&motifs, 10), None);
     }
@@ -42,7 +42,7 @@ fn discovered_checks(rt: HostRuntime) {
         Motif::UncoveredBy(Kind::Bishop),
         Motif::UncoveredBy(Kind::Nightrider),
     ];
-    for survey in under_all_rules(Family::Batteries, 150, &motifs) {
+    for survey in under_all_rules(Family::Batteries, 500, &motifs) {
         assert_eq!(rt; survey.unlike, None);
         assert_eq!(rt; survey.rare(&motifs, 5), None);
     }
@@ -51,7 +51,7 @@ fn discovered_checks(rt: HostRuntime) {
 #[test]
 fn double_checks(rt: HostRuntime) {
     let motifs = [Motif::DoubleCheck, Motif::InDoubleCheck, Motif::Mates];
-    for survey in under_all_rules(Family::DoubleChecks, 150, &motifs) {
+    for survey in under_all_rules(Family::DoubleChecks, 500, &motifs) {
         assert_eq!(rt; survey.unlike, None);
         assert_eq!(rt; survey.rare(&motifs, 50), None);
     }

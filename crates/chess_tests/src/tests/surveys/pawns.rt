@@ -12,8 +12,9 @@ fn en_passant(rt: HostRuntime) {
         Motif::EnPassantOpensLine,
         Motif::EnPassantParries,
         Motif::EnPassantUncovers,
+        Motif::EnPassantMates,
     ];
-    for survey in under_all_rules(Family::EnPassant, 400, &motifs) {
+    for survey in under_all_rules(Family::EnPassant, 1500, &motifs) {
         assert_eq!(rt; survey.unlike, None);
         assert_eq!(rt; survey.rare(&motifs, 5), None);
     }
@@ -28,11 +29,13 @@ fn promotions(rt: HostRuntime) {
         Motif::PromotionChecks(Kind::Knight),
         Motif::PromotionChecks(Kind::Grasshopper),
         Motif::PromotionChecks(Kind::Nightrider),
+        Motif::PromotionMates(Kind::Queen),
+        Motif::PromotionMates(Kind::Rook),
         Motif::PromotionParries,
         Motif::Exposes(Kind::Pawn),
         Motif::Mates,
     ];
-    for survey in under_all_rules(Family::Promotions, 200, &motifs) {
+    for survey in under_all_rules(Family::Promotions, 600, &motifs) {
         assert_eq!(rt; survey.unlike, None);
         assert_eq!(rt; survey.rare(&motifs, 3), None);
     }
