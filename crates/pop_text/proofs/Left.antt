@@ -176,7 +176,7 @@ word_view : (line now b : ℕ) (gap run view : List ℕ) (tail : Tail) → list_
 word_view line now b gap run view tail g r ends n =
     ap (λ v. words_by None line v tail) (append_assoc gap (b ∷ run) view) ∙ gap_words line gap ((b ∷ run) ++ view) tail g ∙ rw n (word_words (line + count_by is_line_end gap) b run view tail r ends)
 
-same_line : (new mid : ℕ) (run : List ℕ) → list_all is_in_word run ≡ true → new ≡ mid + count_by is_line_end run → new ≡ mid
+pub same_line : (new mid : ℕ) (run : List ℕ) → list_all is_in_word run ≡ true → new ≡ mid + count_by is_line_end run → new ≡ mid
 same_line new mid run h e = omega (arith, e, solid_lines run h)
 
 -- how a run is over, it is within the limit

@@ -5,10 +5,10 @@ use Rattle.std.proofs.lemmas.List.{append-nil, take_all, take-append-le}
 use Rattle.std.proofs.lemmas.List.Folds.{list_all-append}
 use Rattle.std.proofs.lemmas.List.Sums.{sum_by-append}
 use Rattle.std.proofs.lemmas.Bool.{lt-ltb, le-ltb, cases_lt}
-use Rattle.pop_text.specs.Words.{TextLine, Tail, End as AtEnd, words_by, is_cut, is_in_line, is_line_end, is_blank, limit, without_leading}
+use Rattle.pop_text.specs.Words.{TextLine, Tail, End as AtEnd, words_by, is_cut, is_in_line, is_line_end, is_blank, limit, without_leading, without_trailing}
 use Rattle.pop_text.proofs.WordLaws.{all_parts, take_line, take_last_line}
-use Rattle.pop_text.specs.Reading.{Reading, Uses}
-use Rattle.pop_text.specs.Runs.{Peeks}
+use Rattle.pop_text.specs.Reading.{Reading, Uses, UsesAll}
+use Rattle.pop_text.specs.Runs.{Peeks, UsesLine}
 use Rattle.pop_text.specs.Texts.{with_byte}
 use Rattle.pop_text.specs.Left.{put_before, no_words, Takes, among, behind_word, TakesNone}
 use Rattle.pop_text.specs.declared.read_fault.ReadFault.{ReadFault}
@@ -140,6 +140,16 @@ module _ (old mid here new : Reading) (had met now : Option (List ℕ)) (kept : 
         left_is (Some keyword) old here had now l.bytes peeked at.2 rest
         ∙ last_line keyword old.line here.line l.bytes (view_at here rest) (tail_at here rest) v.0 v.1 l.all peeked.line;
   }
+
+  -- which bytes are used
+  pub uses_line : (text : List ℕ) → Peeks here (Ok (Some 10)) → text ≡ without_trailing kept → Uses here new now now (take 1 here.window) → UsesLine old new had now (Ok text)
+  uses_line text at is u = (l.bytes, l.all, is ∙ ap without_trailing l.first, inl (used_one 10 at.0 at.1 u))
+
+  pub uses_last : (text : List ℕ) → Peeks here (Ok None) → text ≡ without_trailing kept → UsesLine old here had now (Ok text)
+  uses_last text at is = (l.bytes, l.all, is ∙ ap without_trailing l.first, inr (peeked, at.0, at.1))
+
+  pub uses_some : UsesAll is_in_line old here had now
+  uses_some = record { bytes = l.bytes; all = l.all; uses = peeked }
 
   pub line_cut : (keyword : List ℕ) (fault : ReadFault) → here.used ≤ limit → Peeks here (Err fault) → Takes (behind_word keyword old) (among here) had now []
   line_cut keyword fault within at = record {

@@ -113,18 +113,14 @@ runs_more a b c d had mid left kept fits byte rest room out p q at r =
     }
 
 -- a gap, and a run behind it
-pub gap_run : (a b c : Reading) (had mid left : Option (List ℕ)) (number : ℕ) (p : UsesAll is_gap a b had mid) (q : UsesAll is_in_word b c mid left) → number ≡ b.line → (u : UsesRun a c had left number) × (u.run ≡ q.bytes)
-gap_run a b c had mid left number p q is = (
-  record {
-    gap = p.bytes;
-    run = q.bytes;
-    blank = p.all;
-    solid = q.all;
-    uses = uses_then a b c had mid left p.bytes q.bytes p.uses q.uses;
-    line = is ∙ p.uses.line;
-  },
-  refl,
-)
+pub gap_run : (a b c : Reading) (had mid left : Option (List ℕ)) (number : ℕ) (run : List ℕ) (p : UsesAll is_gap a b had mid) → list_all is_in_word run ≡ true → Uses b c mid left run → number ≡ b.line → UsesRun a c had left number run
+gap_run a b c had mid left number run p all uses is = record {
+  gap = p.bytes;
+  blank = p.all;
+  solid = all;
+  uses = uses_then a b c had mid left p.bytes run p.uses uses;
+  line = is ∙ p.uses.line;
+}
 
 pub keeps_bytes : (had : Option (List ℕ)) → Consumes had had []
 keeps_bytes None = tt

@@ -1,12 +1,13 @@
 -- What stands at a place, and runs of a word (own).
-use Rattle.std.specs.Prelude.{◌≡◌, ◌<◌, ◌≤◌, ℕ, ◌+◌, List, [], ◌∷◌, ◌++◌, length, take, nat_lt, Option, Some, None, Result, Ok, Err, Bool, true, ◌⊎◌}
+use Rattle.std.specs.Prelude.{◌≡◌, ◌<◌, ◌≤◌, ℕ, ◌+◌, List, [], ◌∷◌, ◌++◌, length, take, nat_lt, count_by, Option, Some, None, Result, Ok, Err, Bool, true, ◌⊎◌}
 use Rattle.std.specs.List.{list_all}
 use Rattle.pop_text.specs.Reading.{Reading, Uses, UsesAll}
-use Rattle.pop_text.specs.Words.{is_line_end, is_gap, is_in_word, limit}
+use Rattle.pop_text.specs.Words.{is_line_end, is_gap, is_in_line, is_in_word, limit, text_of_line}
 use Rattle.pop_text.specs.declared.scanner.End.TheVariants.{Ended, Broken}
 use Rattle.pop_text.specs.declared.read_fault.ReadFault.{ReadFault}
 use Rattle.pop_text.specs.declared.read_fault.ReadFault.TheVariants.{TooLong, InputTooLong, Device}
-use Rattle.std.specs.Prelude.{count_by}
+use Rattle.pop_text.specs.declared.text.Text.{Text}
+use Rattle.pop_text.specs.declared.word.Word.{Word}
 
 -- what stands at the place
 abbrev pub Peeks : Reading → Result (Option ℕ) ReadFault → Type 0
@@ -39,11 +40,27 @@ abbrev pub RunsTo : Reading → Reading → Option (List ℕ) → Option (List �
 RunsTo old new had left kept (Ok fits) = Runs old new had left kept fits × IsRunOver new
 RunsTo old new had left kept (Err fault) = UsesAll is_in_word old new had left × Peeks new (Err fault)
 
--- a gap and a run behind it were used
-pub record UsesRun (old new : Reading) (had left : Option (List ℕ)) (number : ℕ) : Type 0 where
+-- a gap and the run behind it were used, and no byte behind that; the run begins in the line with this number
+pub record UsesRun (old new : Reading) (had left : Option (List ℕ)) (number : ℕ) (run : List ℕ) : Type 0 where
   pub gap : List ℕ
-  pub run : List ℕ
   pub blank : list_all is_gap gap ≡ true
   pub solid : list_all is_in_word run ≡ true
   pub uses : Uses old new had left (gap ++ run)
   pub line : number ≡ old.line + count_by is_line_end gap
+
+-- which bytes next_word uses: the gap and the word, which is over there; where there is none the gap, and a run that a fault cuts
+abbrev pub UsesWord : Reading → Reading → Option (List ℕ) → Option (List ℕ) → Result (Option Word) ReadFault → Type 0
+UsesWord old new had left (Ok None) = UsesAll is_gap old new had left
+UsesWord old new had left (Ok (Some word)) = UsesRun old new had left word.line word.bytes.items × IsRunOver new
+UsesWord old new had left (Err (TooLong line)) = (run : List ℕ) × (160 < length run) × UsesRun old new had left line run × IsRunOver new
+UsesWord old new had left (Err (InputTooLong line)) = (run : List ℕ) × UsesRun old new had left line run
+UsesWord old new had left (Err (Device line)) = (run : List ℕ) × UsesRun old new had left line run
+
+-- a line and its line end were used, or a line that the input ends
+abbrev pub UsesWhole : Reading → Reading → Option (List ℕ) → Option (List ℕ) → List ℕ → Type 0
+UsesWhole old new had left line = Uses old new had left (line ++ 10 ∷ []) ⊎ (Uses old new had left line × (new.window ≡ []) × (new.end ≡ Ended))
+
+-- which bytes rest_of_line uses: those of the line, whose text is answered, or up to a fault some of them
+abbrev pub UsesLine : Reading → Reading → Option (List ℕ) → Option (List ℕ) → Result Text ReadFault → Type 0
+UsesLine old new had left (Ok text) = (line : List ℕ) × (list_all is_in_line line ≡ true) × (text ≡ text_of_line line) × UsesWhole old new had left line
+UsesLine old new had left (Err fault) = UsesAll is_in_line old new had left

@@ -4,7 +4,7 @@ ghost use Rattle.pop_text.specs.Bytes.{greatest};
 ghost use Rattle.std.specs.List.{list_all};
 ghost use Rattle.pop_text.specs.Words.{limit, is_gap, is_in_line, is_line_end};
 ghost use Rattle.pop_text.specs.Reading.{beginning, Uses, UsesAll, IsSeen, failures_after};
-ghost use Rattle.pop_text.specs.Runs.{Peeks, RunsTo, Sticks};
+ghost use Rattle.pop_text.specs.Runs.{Peeks, RunsTo, Sticks, UsesLine, UsesWord};
 ghost use Rattle.pop_text.specs.Left.{NextWord, RestOfLine};
 ghost use Rattle.pop_text.specs.declared.read_fault.ReadFault.{ReadFault};
 
@@ -236,6 +236,7 @@ impl Scanner {
     pub fn next_word<S: Source>(&mut self, source: &mut S) -> Result<Option<Word>, ReadFault>
         requires { self.old.end ≡ End.Open → S.failures source.old < greatest }
         ensures word { NextWord self.old self.new (S.remaining source.old) (S.remaining source.new) result }
+        ensures used { UsesWord self.old self.new (S.remaining source.old) (S.remaining source.new) result }
         ensures sticks { IfErr result (Sticks self.new) }
         ensures waits { length self.new.window ≤ 4096 }
         ensures seen { IsSeen self.old.end (S.remaining source.old) → IsSeen self.new.end (S.remaining source.new) }
@@ -263,6 +264,7 @@ impl Scanner {
     pub fn rest_of_line<S: Source>(&mut self, source: &mut S) -> Result<Text, ReadFault>
         requires { self.old.end ≡ End.Open → S.failures source.old < greatest }
         ensures text { (keyword : List ℕ) → RestOfLine keyword self.old self.new (S.remaining source.old) (S.remaining source.new) result }
+        ensures used { UsesLine self.old self.new (S.remaining source.old) (S.remaining source.new) result }
         ensures sticks { IfErr result (Sticks self.new) }
         ensures waits { length self.new.window ≤ 4096 }
         ensures seen { IsSeen self.old.end (S.remaining source.old) → IsSeen self.new.end (S.remaining source.new) }

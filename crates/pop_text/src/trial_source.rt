@@ -1,10 +1,13 @@
 //! A source for tests.
-ghost use Rattle.std.specs.Prelude.{◌≡◌, ◌≢◌, ℕ, List, [], ◌<◌, ◌≤◌, ◌+◌, Some, drop, length};
-ghost use Rattle.pop_text.specs.Trials.{cycled, repeated};
+ghost use Rattle.std.specs.Prelude.{◌≡◌, ◌≢◌, ℕ, List, [], ◌<◌, ◌≤◌, ◌+◌, ◌-◌, Some, drop, length, option_map};
+ghost use Rattle.std.specs.Io.{ReadsAtMost};
+ghost use Rattle.pop_text.specs.Bytes.{ReadConsumes, count_after, greatest};
+ghost use Rattle.pop_text.specs.Trials.{Gives, cycled, handed_out, repeated, round_of};
 
 use crate::source::{Device, Source};
+use std::marker::Model;
 
-/// Hands out a text, once or over and over, and may fail once on the way.
+/// Hands out a text, once or over and over, and may fail once on the way. A call gives no bytes of two rounds.
 #[derive(Drop)]
 pub struct TrialSource<'a> {
     text: &'a [u8],
@@ -13,7 +16,17 @@ pub struct TrialSource<'a> {
     at_most: usize,
     until_failure: Option<usize>,
     failures: u64,
-    ghost positive: { 0 < at_most },
+}
+
+impl<'a> Model for TrialSource<'a> {
+    ghost use Rattle.std.specs.Prelude.{◌<◌};
+    ghost use Rattle.pop_text.specs.Trials.{TrialInput};
+
+    ghost Value = { TrialInput };
+
+    ghost view = { λ s. record { text = s.text.now; rest = s.rest.now; left = s.left; at_most = s.at_most; until_failure = s.until_failure; failures = s.failures } };
+
+    ghost invariant = { λ s. 0 < s.at_most };
 }
 
 impl<'a> TrialSource<'a> {
@@ -22,6 +35,7 @@ impl<'a> TrialSource<'a> {
         requires { 0 < at_most }
         ensures remaining { ⟦<TrialSource<'a> as Source>⟧.remaining result ≡ Some text.now }
         ensures failures { ⟦<TrialSource<'a> as Source>⟧.failures result ≡ 0 }
+        ensures trial { result ≡ record { text = text.now; rest = text.now; left = length text.now; at_most = at_most; until_failure = fails_at; failures = 0 } }
     {
         TrialSource {
             text,
@@ -43,6 +57,7 @@ impl<'a> TrialSource<'a> {
         requires { 0 < at_most }
         ensures remaining { ⟦<TrialSource<'a> as Source>⟧.remaining result ≡ Some (repeated text.now length) }
         ensures failures { ⟦<TrialSource<'a> as Source>⟧.failures result ≡ 0 }
+        ensures trial { result ≡ record { text = text.now; rest = text.now; left = length; at_most = at_most; until_failure = fails_at; failures = 0 } }
     {
         TrialSource {
             text,
@@ -55,9 +70,10 @@ impl<'a> TrialSource<'a> {
     }
 
     // What comes next of the text: the rest, or behind it the text anew.
-    fn front(&self) -> &'a [u8]
-        ensures same { (n : ℕ) → cycled self.now.text.now result.now n ≡ cycled self.now.text.now self.now.rest.now n }
-        ensures some { length result.now ≡ 0 → self.now.text.now ≡ [] }
+    fn round(&self) -> &'a [u8]
+        ensures round { result.now ≡ round_of self.now }
+        ensures same { (n : ℕ) → cycled self.now.text result.now n ≡ cycled self.now.text self.now.rest n }
+        ensures some { length result.now ≡ 0 → self.now.text ≡ [] }
     {
         if self.rest.is_empty() {
             self.text
@@ -66,9 +82,11 @@ impl<'a> TrialSource<'a> {
         }
     }
 
-    // How many bytes a call hands out, where there are so many and so much room.
+    // How many bytes a call hands out, where the round has so many and there is so much room.
     fn reach(&self, rest: usize, room: usize) -> usize
-        requires { self.now.until_failure ≢ Some 0 }
+        requires round { rest ≡ length (round_of self.now) }
+        requires sound { self.now.until_failure ≢ Some 0 }
+        ensures amount { result ≡ handed_out self.now room }
         ensures rest { result ≤ rest }
         ensures room { result ≤ room }
         ensures left { result ≤ self.now.left }
@@ -86,17 +104,23 @@ impl<'a> Source for TrialSource<'a> {
     ghost use Rattle.std.specs.Prelude.{Some};
     ghost use Rattle.pop_text.specs.Trials.{cycled};
 
-    ghost remaining = { λ s. Some (cycled s.text.now s.rest.now s.left) };
+    ghost remaining = { λ s. Some (cycled s.text s.rest s.left) };
 
     ghost failures = { λ s. s.failures };
 
-    fn read(&mut self, buffer: &mut [u8]) -> Result<usize, Device> {
+    fn read(&mut self, buffer: &mut [u8]) -> Result<usize, Device>
+        requires { self.old.failures < greatest }
+        ensures bound { ReadsAtMost result buffer.new }
+        ensures bytes { ReadConsumes (⟦<TrialSource<'a> as Source>⟧.remaining self.old) (⟦<TrialSource<'a> as Source>⟧.remaining self.new) result buffer.new }
+        ensures counted { self.new.failures ≡ count_after result self.old.failures }
+        ensures exact { Gives self.old self.new (length buffer.old) result }
+    {
         if let Some(0) = self.until_failure {
             self.until_failure = None;
             self.failures += 1;
             return Err(Device);
         }
-        let rest = self.front();
+        let rest = self.round();
         let count = self.reach(rest.len(), buffer.len());
         let (given, rest) = rest.split_at(count);
         buffer[..count].copy_from_slice(given);
@@ -108,7 +132,9 @@ impl<'a> Source for TrialSource<'a> {
 }
 
 // What is left before the failure behind so many bytes.
-fn less(until: Option<usize>, count: usize) -> Option<usize> {
+pub(crate) fn less(until: Option<usize>, count: usize) -> Option<usize>
+    ensures { result ≡ option_map (λ bytes. bytes - count) until }
+{
     match until {
         Some(until) => Some(until.saturating_sub(count)),
         None => None,

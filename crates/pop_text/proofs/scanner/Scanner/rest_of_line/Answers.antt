@@ -2,7 +2,7 @@ use Rattle.std.proofs.Common.{◌∙◌, ◌<◌, ◌-◌, sym, ap, arith, subst
 use Rattle.pop_text.specs.Reading.{Uses}
 use Rattle.pop_text.specs.Words.{limit, without_trailing}
 use Rattle.pop_text.proofs.Using.{ends_then, failures_then, still_stuck}
-use Rattle.pop_text.proofs.Lines.{line_more, line_ends, input_ends, line_fault, no_ten}
+use Rattle.pop_text.proofs.Lines.{line_more, line_ends, input_ends, line_fault, no_ten, uses_line, uses_last, uses_some}
 use Rattle.pop_text.proofs.scanner.Scanner.rest_of_line.Goals as goal
 
 pub line-preserved : goal.line-preserved
@@ -53,3 +53,21 @@ pub returns-in-Err-clause-text : goal.returns-in-Err-clause-text
 returns-in-Err-clause-text g c keyword =
     line_fault c.args.self.now c.line.self c.peek.new.self c.peek.new.self (g.S.Source.remaining c.args.source.now) (g.S.Source.remaining c.line.source) (g.S.Source.remaining c.peek.new.source) c.line.kept.items
     c.line.invariant.line c.peek.ensures.uses keyword c.in-Err.fault c.in-Err.ensures.at
+
+-- Which bytes are used.
+
+pub returns-in-Ok-Some-eq10-clause-used : goal.returns-in-Ok-Some-eq10-clause-used
+returns-in-Ok-Some-eq10-clause-used g c =
+    let at = rw (c.in-Ok-Some-eq10.field-0-is, c.in-Ok-Some-eq10.field-0-0-test) at c.in-Ok-Some-eq10.ensures.at in
+    uses_line c.args.self.now c.line.self c.peek.new.self c.advance.new.self (g.S.Source.remaining c.args.source.now) (g.S.Source.remaining c.line.source) (g.S.Source.remaining c.peek.new.source) c.line.kept.items
+    c.line.invariant.line c.peek.ensures.uses _ at c.trimmed.ensures (c.advance.ensures.uses _)
+
+pub returns-in-Ok-None-clause-used : goal.returns-in-Ok-None-clause-used
+returns-in-Ok-None-clause-used g c =
+    uses_last c.args.self.now c.line.self c.peek.new.self c.peek.new.self (g.S.Source.remaining c.args.source.now) (g.S.Source.remaining c.line.source) (g.S.Source.remaining c.peek.new.source) c.line.kept.items
+    c.line.invariant.line c.peek.ensures.uses _ (rw c.in-Ok-None.field-0-is at c.in-Ok-None.ensures.at) c.trimmed-in-Ok-None.ensures
+
+pub returns-in-Err-clause-used : goal.returns-in-Err-clause-used
+returns-in-Err-clause-used g c =
+    uses_some c.args.self.now c.line.self c.peek.new.self c.peek.new.self (g.S.Source.remaining c.args.source.now) (g.S.Source.remaining c.line.source) (g.S.Source.remaining c.peek.new.source) c.line.kept.items
+    c.line.invariant.line c.peek.ensures.uses
