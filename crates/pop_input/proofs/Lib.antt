@@ -8,3 +8,4 @@ pub mod Ends
 pub mod Numbers
 pub mod Numbered
 mod Rows
+pub mod Naming

@@ -1,9 +1,10 @@
 -- Squares and numbers, byte by byte.
-use Rattle.std.proofs.Common.{◌≡◌, ◌≤◌, ◌<◌, ℕ, ◌+◌, ◌*◌, List, [], ◌∷◌, ◌++◌, length, drop, Option, Some, None, true, refl, sym, ap, arith, append_assoc, get_or}
+use Rattle.std.proofs.Common.{map, ◌≡◌, ◌≤◌, ◌<◌, ℕ, ◌+◌, ◌*◌, List, [], ◌∷◌, ◌++◌, length, drop, Option, Some, None, true, refl, sym, ap, arith, append_assoc, get_or}
 use Rattle.std.specs.List.{list_all}
 use Rattle.std.proofs.lemmas.List.{drop_more}
 use Rattle.std.proofs.Math.Seq.{drop-length}
-use Rattle.pop_input.specs.Values.{squares_from, squares_of, square_by, before_squares, is_digit, value_of, most_solutions}
+use Rattle.pop_input.specs.Values.{squares_from, squares_of, square_by, before_squares, is_digit, value_of, most_solutions, stipulation_by}
+use Rattle.std.specs.Char.{to_ascii_lowercase}
 
 -- squares before those of a text
 abbrev pub with_front : List ℕ → Option (List ℕ) → Option (List ℕ)
@@ -42,3 +43,13 @@ pub pair_step : (word : List ℕ) (at square : ℕ) → at + 1 < length word →
 pair_step word at square lt e =
     let two : (at + 1) + 1 ≡ at + 2 = omega arith in
     rw (drop_more word at 0 (omega arith), drop_more word (at + 1) 0 lt, e, two) refl
+
+-- a stipulation has at most five letters
+pub long_stipulation : (word : List ℕ) → 5 < length word → None ≡ stipulation_by (map to_ascii_lowercase word)
+long_stipulation [] h = absurd (omega arith)
+long_stipulation (a ∷ []) h = absurd (omega arith)
+long_stipulation (a ∷ b ∷ []) h = absurd (omega arith)
+long_stipulation (a ∷ b ∷ c ∷ []) h = absurd (omega arith)
+long_stipulation (a ∷ b ∷ c ∷ d ∷ []) h = absurd (omega arith)
+long_stipulation (a ∷ b ∷ c ∷ d ∷ e ∷ []) h = absurd (omega arith)
+long_stipulation (a ∷ b ∷ c ∷ d ∷ e ∷ f ∷ word) h = refl

@@ -6,6 +6,7 @@ use Rattle.pop_text.specs.Reading.{Reading}
 use Rattle.pop_text.specs.Left.{after, words_left, put_before, Spot, Takes, among, behind_word, TakesWord, GoesOn, RestOfLine, TakesNone}
 use Rattle.pop_text.specs.declared.read_fault.ReadFault.{ReadFault}
 use Rattle.pop_text.specs.declared.read_fault.ReadFault.TheVariants.{TooLong, InputTooLong, Device}
+use Rattle.pop_text.specs.declared.word.Word.{Word as Room}
 use Rattle.pop_input.specs.Names.{text_word_of}
 use Rattle.pop_input.specs.Tokens.{NextToken}
 use Rattle.pop_input.specs.declared.names.TextWord.{TextWord}
@@ -36,19 +37,22 @@ takes_then a b c had mid left xs ys p q = record {
       ∙ put_both xs ys (words_left c.behind c.at rest);
 }
 
-module _ (old mid new : Reading) (had met left : Option (List ℕ)) (line : ℕ) (name : List ℕ) (keyword : TextWord) (word : TakesWord (is_text_word name) old mid had met line name) (is : text_word_of name ≡ Some keyword) (text : is_text_word name ≡ true) where
+module _ (old mid new : Reading) (had met left : Option (List ℕ)) (room : Room) (keyword : TextWord) (word : TakesWord (is_text_word room.bytes.items) old mid had met room.line room.bytes.items) (is : text_word_of room.bytes.items ≡ Some keyword) (text : is_text_word room.bytes.items ≡ true) where
+  abbrev name : List ℕ
+  name = room.bytes.items
+
   behind : Takes (among old) (behind_word name mid) had met []
-  behind = subst (λ t. TakesWord t old mid had met line name) text word
+  behind = subst (λ t. TakesWord t old mid had met room.line name) text word
 
   -- a text word, and the rest of its line
-  pub line_token : (kept : List ℕ) → GoesOn old mid → RestOfLine name mid new met left (Ok kept) → NextToken old new had left (Line keyword kept)
+  pub line_token : (kept : List ℕ) → GoesOn old mid → RestOfLine name mid new met left (Ok kept) → NextToken old new had left room kept (Line keyword)
   line_token kept goes rest =
       (mid.line, name, rest.0, (takes_then (among old) (behind_word name mid) (among new) had met left [] (TextLine mid.line name rest.0 ∷ []) behind rest.1, (omega (arith, goes.0, rest.3), rest.4)), is, rest.2)
 
-  pub cut_token : (fault : ReadFault) → GoesOn old mid → RestOfLine name mid new met left (Err fault) → NextToken old new had left (Cut fault)
-  cut_token (TooLong number) goes rest = absurd rest
-  cut_token (InputTooLong number) goes rest = (takes_then (among old) (behind_word name mid) (among new) had met left [] [] behind rest.0, rest.1, rest.2, (let on = goes.0 in let further = rest.3.0 in omega (arith, on, further), rest.3.1))
-  cut_token (Device number) goes rest = ((takes_then (among old) (behind_word name mid) (among new) had met left [] [] behind rest.0, rest.1, rest.2, (let on = goes.0 in let further = rest.3.0 in omega (arith, on, further), rest.3.1)), rest.4)
+  pub cut_token : (fault : ReadFault) (kept : List ℕ) → GoesOn old mid → RestOfLine name mid new met left (Err fault) → NextToken old new had left room kept (Cut fault)
+  cut_token (TooLong number) kept goes rest = absurd rest
+  cut_token (InputTooLong number) kept goes rest = (takes_then (among old) (behind_word name mid) (among new) had met left [] [] behind rest.0, rest.1, rest.2, (let on = goes.0 in let further = rest.3.0 in omega (arith, on, further), rest.3.1))
+  cut_token (Device number) kept goes rest = ((takes_then (among old) (behind_word name mid) (among new) had met left [] [] behind rest.0, rest.1, rest.2, (let on = goes.0 in let further = rest.3.0 in omega (arith, on, further), rest.3.1)), rest.4)
 
 -- where no token is taken, the place stays within the limit
 pub none_within : (old : Spot) (new : Reading) (had left : Option (List ℕ)) (fault : ReadFault) → TakesNone old new had left fault → new.used ≤ limit

@@ -7,6 +7,7 @@ use Rattle.pop_text.specs.declared.read_fault.ReadFault.{ReadFault}
 use Rattle.pop_text.specs.declared.scanner.End.TheVariants.{Broken}
 use Rattle.pop_text.specs.declared.read_fault.ReadFault.TheVariants.{TooLong as LongWord, InputTooLong, Device}
 use Rattle.pop_input.specs.Names.{text_word_of}
+use Rattle.pop_text.specs.declared.word.Word.{Word as Room}
 use Rattle.pop_input.specs.declared.token.Token.{Token}
 use Rattle.pop_input.specs.declared.token.Token.TheVariants.{Word as AWord, TooLong, Line, Ended, Cut}
 
@@ -23,9 +24,10 @@ CutsOff old new had left (LongWord line) = ⊥
 CutsOff old new had left (InputTooLong line) = TakesNothing old new had left Long line
 CutsOff old new had left (Device line) = TakesNothing old new had left Failing line × (new.end ≡ Broken)
 
-abbrev pub NextToken : Reading → Reading → Option (List ℕ) → Option (List ℕ) → Token → Type 0
-NextToken old new had left (AWord word) = TakesPart old new had left (Word word.line word.bytes.items) × (length word.bytes.items ≤ 160)
-NextToken old new had left (TooLong line) = (text : List ℕ) × TakesPart old new had left (Word line text) × (160 < length text)
-NextToken old new had left (Line keyword text) = (line : ℕ) × (name : List ℕ) × (rest : List ℕ) × TakesPart old new had left (TextLine line name rest) × (text_word_of name ≡ Some keyword) × (text ≡ text_of_line rest)
-NextToken old new had left (Ended line) = TakesNothing old new had left AtEnd line
-NextToken old new had left (Cut fault) = CutsOff old new had left fault
+-- what next_token does, with the word and the text that it leaves
+abbrev pub NextToken : Reading → Reading → Option (List ℕ) → Option (List ℕ) → Room → List ℕ → Token → Type 0
+NextToken old new had left word text AWord = TakesPart old new had left (Word word.line word.bytes.items) × (length word.bytes.items ≤ 160)
+NextToken old new had left word text (TooLong line) = (long : List ℕ) × TakesPart old new had left (Word line long) × (160 < length long)
+NextToken old new had left word text (Line keyword) = (line : ℕ) × (name : List ℕ) × (rest : List ℕ) × TakesPart old new had left (TextLine line name rest) × (text_word_of name ≡ Some keyword) × (text ≡ text_of_line rest)
+NextToken old new had left word text (Ended line) = TakesNothing old new had left AtEnd line
+NextToken old new had left word text (Cut fault) = CutsOff old new had left fault

@@ -92,17 +92,17 @@ impl Block {
     }
 
     /// Takes a text line, which has no effect before the first problem.
-    pub(crate) fn note(&mut self, keyword: TextWord, text: Text)
+    pub(crate) fn note(&mut self, keyword: TextWord, text: &Text)
         ensures fault { self.new.fault ≡ self.old.fault }
         ensures begun { self.new.begun ≡ self.old.begun }
         ensures draft { self.new.draft ≡ self.old.draft }
-        ensures title { self.new.title ≡ noted self.old.begun Title self.old.title keyword text }
-        ensures author { self.new.author ≡ noted self.old.begun Author self.old.author keyword text }
+        ensures title { self.new.title ≡ noted self.old.begun Title self.old.title keyword text.now }
+        ensures author { self.new.author ≡ noted self.old.begun Author self.old.author keyword text.now }
     {
         if self.begun {
             match keyword {
-                TextWord::Title => self.title = text,
-                TextWord::Author => self.author = text,
+                TextWord::Title => self.title = *text,
+                TextWord::Author => self.author = *text,
                 TextWord::Origin | TextWord::Remark => {}
             }
         }

@@ -1,11 +1,11 @@
 //! Words that are named, and their short forms: three letters or more, of a colour one or more.
-ghost use Rattle.std.specs.Prelude.{◌≡◌, ◌≤◌, ◌∷◌, ℕ, List, map, length, is_some, Some};
+ghost use Rattle.std.specs.Prelude.{◌≡◌, ◌<◌, ◌≤◌, map, length, is_some, nat_eq};
+ghost use Rattle.std.specs.List.{starts_with};
 ghost use Rattle.std.specs.Char.{to_ascii_lowercase};
-ghost use Rattle.pop_text.specs.Words.{is_front, is_text_word};
+ghost use Rattle.pop_text.specs.Words.{is_short_form, is_text_word};
 ghost use Rattle.pop_input.specs.Names.{awaited_of, colour_of, command_of, condition_of, kind_of, option_of, section_of, text_word_of};
 
 use crate::condition::Condition;
-use arrayvec::ArrayVec;
 use chess_core::man::{Colour, Kind};
 
 /// A part of a problem, which a command opens.
@@ -54,36 +54,40 @@ pub enum TextWord {
     Remark,
 }
 
-/// The word in small letters.
-pub(crate) fn small_letters(word: &[u8]) -> ArrayVec<u8, 160>
-    requires { length word.now ≤ 160 }
-    ensures { result.items ≡ map to_ascii_lowercase word.now }
+// Whether the word is a short form of the name: three letters or more with which it begins, in capitals or not.
+fn is_short(name: &[u8], word: &[u8]) -> bool
+    requires { 0 < length name.now }
+    ensures { result ≡ is_short_form name.now word.now }
 {
-    let mut small = ArrayVec::new();
-    for byte in word {
-        small.push(byte.to_ascii_lowercase());
-    }
-    small
+    word.len() >= 3 && name[0] == word[0].to_ascii_lowercase() && begins(name, word)
 }
 
-// Three letters or more with which the name begins.
-fn is_front(name: &[u8], small: &[u8]) -> bool
-    ensures { result ≡ is_front name.now small.now }
+// Whether the name begins with the word's letters, in capitals or not.
+fn begins(name: &[u8], word: &[u8]) -> bool
+    ensures { result ≡ starts_with nat_eq name.now (map to_ascii_lowercase word.now) }
 {
-    small.len() >= 3 && name.starts_with(small)
+    if word.len() > name.len() {
+        return false;
+    }
+    'letters: for (at, &byte) in word.iter().enumerate() {
+        if name[at] != byte.to_ascii_lowercase() {
+            return false;
+        }
+    }
+    true
 }
 
 #[tactic(auto, unfolding(crate::specs::Names::section_of))]
-fn section_of(small: &[u8]) -> Option<Section>
-    ensures { (word : List ℕ) → small.now ≡ map to_ascii_lowercase word → result ≡ section_of word }
+fn section_of(word: &[u8]) -> Option<Section>
+    ensures { result ≡ section_of word.now }
 {
-    if is_front(b"pieces", small) {
+    if is_short(b"pieces", word) {
         Some(Section::Pieces)
-    } else if is_front(b"stipulation", small) {
+    } else if is_short(b"stipulation", word) {
         Some(Section::Stipulation)
-    } else if is_front(b"condition", small) {
+    } else if is_short(b"condition", word) {
         Some(Section::Condition)
-    } else if is_front(b"option", small) {
+    } else if is_short(b"option", word) {
         Some(Section::Options)
     } else {
         None
@@ -93,19 +97,16 @@ fn section_of(small: &[u8]) -> Option<Section>
 /// The command of which the word is a short form.
 #[tactic(auto, unfolding(crate::specs::Names::command_of))]
 pub(crate) fn command_of(word: &[u8]) -> Option<Command>
-    requires { length word.now ≤ 160 }
     ensures { result ≡ command_of word.now }
 {
-    let letters = small_letters(word);
-    let small = letters.as_slice();
-    if is_front(b"beginproblem", small) {
+    if is_short(b"beginproblem", word) {
         Some(Command::Begin)
-    } else if is_front(b"nextproblem", small) {
+    } else if is_short(b"nextproblem", word) {
         Some(Command::Next)
-    } else if is_front(b"endproblem", small) {
+    } else if is_short(b"endproblem", word) {
         Some(Command::Last)
     } else {
-        match section_of(small) {
+        match section_of(word) {
             Some(section) => Some(Command::Enter(section)),
             None => None,
         }
@@ -115,19 +116,16 @@ pub(crate) fn command_of(word: &[u8]) -> Option<Command>
 /// The text word of which the word is a short form.
 #[tactic(auto, unfolding(crate::specs::Names::text_word_of))]
 pub(crate) fn text_word_of(word: &[u8]) -> Option<TextWord>
-    requires { length word.now ≤ 160 }
     ensures value { result ≡ text_word_of word.now }
     ensures is { is_some result ≡ is_text_word word.now }
 {
-    let letters = small_letters(word);
-    let small = letters.as_slice();
-    if is_front(b"title", small) {
+    if is_short(b"title", word) {
         Some(TextWord::Title)
-    } else if is_front(b"author", small) {
+    } else if is_short(b"author", word) {
         Some(TextWord::Author)
-    } else if is_front(b"origin", small) {
+    } else if is_short(b"origin", word) {
         Some(TextWord::Origin)
-    } else if is_front(b"remark", small) {
+    } else if is_short(b"remark", word) {
         Some(TextWord::Remark)
     } else {
         None
@@ -137,14 +135,11 @@ pub(crate) fn text_word_of(word: &[u8]) -> Option<TextWord>
 /// The condition of which the word is a short form.
 #[tactic(auto, unfolding(crate::specs::Names::condition_of))]
 pub(crate) fn condition_of(word: &[u8]) -> Option<Condition>
-    requires { length word.now ≤ 160 }
     ensures { result ≡ condition_of word.now }
 {
-    let letters = small_letters(word);
-    let small = letters.as_slice();
-    if is_front(b"circe", small) {
+    if is_short(b"circe", word) {
         Some(Condition::Circe)
-    } else if is_front(b"madrasi", small) {
+    } else if is_short(b"madrasi", word) {
         Some(Condition::Madrasi)
     } else {
         None
@@ -152,14 +147,14 @@ pub(crate) fn condition_of(word: &[u8]) -> Option<Condition>
 }
 
 #[tactic(auto, unfolding(crate::specs::Names::awaited_of))]
-fn awaited_of(small: &[u8]) -> Option<Awaited>
-    ensures { (word : List ℕ) → small.now ≡ map to_ascii_lowercase word → result ≡ awaited_of word }
+fn awaited_of(word: &[u8]) -> Option<Awaited>
+    ensures { result ≡ awaited_of word.now }
 {
-    if is_front(b"maxsolutions", small) {
+    if is_short(b"maxsolutions", word) {
         Some(Awaited::Number)
-    } else if is_front(b"enpassant", small) {
+    } else if is_short(b"enpassant", word) {
         Some(Awaited::OneSquare)
-    } else if is_front(b"nocastling", small) {
+    } else if is_short(b"nocastling", word) {
         Some(Awaited::Squares)
     } else {
         None
@@ -169,19 +164,16 @@ fn awaited_of(small: &[u8]) -> Option<Awaited>
 /// The option of which the word is a short form.
 #[tactic(auto, unfolding(crate::specs::Names::option_of))]
 pub(crate) fn option_of(word: &[u8]) -> Option<OptionWord>
-    requires { length word.now ≤ 160 }
     ensures { result ≡ option_of word.now }
 {
-    let letters = small_letters(word);
-    let small = letters.as_slice();
-    if is_front(b"setplay", small) {
+    if is_short(b"setplay", word) {
         Some(OptionWord::SetPlay)
-    } else if is_front(b"variation", small) {
+    } else if is_short(b"variation", word) {
         Some(OptionWord::Variation)
-    } else if is_front(b"noboard", small) {
+    } else if is_short(b"noboard", word) {
         Some(OptionWord::NoBoard)
     } else {
-        match awaited_of(small) {
+        match awaited_of(word) {
             Some(awaited) => Some(OptionWord::Awaits(awaited)),
             None => None,
         }
@@ -191,16 +183,13 @@ pub(crate) fn option_of(word: &[u8]) -> Option<OptionWord>
 /// The colour of which the word is a short form.
 #[tactic(auto, unfolding(crate::specs::Names::colour_of))]
 pub(crate) fn colour_of(word: &[u8]) -> Option<Colour>
-    requires { length word.now ≤ 160 }
     ensures { result ≡ colour_of word.now }
 {
-    let letters = small_letters(word);
-    let small = letters.as_slice();
-    if small.is_empty() {
+    if word.is_empty() {
         None
-    } else if b"white".starts_with(small) {
+    } else if begins(b"white", word) {
         Some(Colour::White)
-    } else if b"black".starts_with(small) {
+    } else if begins(b"black", word) {
         Some(Colour::Black)
     } else {
         None

@@ -15,6 +15,8 @@ use crate::token::{Token, next_token};
 use pop_text::read_fault::ReadFault;
 use pop_text::scanner::Scanner;
 use pop_text::source::Source;
+use pop_text::text::Text;
+use pop_text::word::Word;
 use std::marker::Model;
 
 /// Which block of the input is next: a block ends with NextProblem or EndProblem.
@@ -85,11 +87,13 @@ impl Reader {
             Next::Nothing => return Item::End,
         };
         let mut block = Block::new(first);
+        let mut word = Word::new();
+        let mut text = Text::empty();
         'words: loop {
-            match next_token(&mut self.scanner, source) {
-                Token::Line(keyword, text) => block.note(keyword, text),
+            match next_token(&mut self.scanner, source, &mut word, &mut text) {
+                Token::Line(keyword) => block.note(keyword, &text),
                 Token::TooLong(line) => block.read_long(line),
-                Token::Word(word) => {
+                Token::Word => {
                     block.read(&word);
                     match closing_of(word.bytes.as_slice()) {
                         Some(last) => {

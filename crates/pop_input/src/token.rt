@@ -8,39 +8,52 @@ ghost use Rattle.pop_input.specs.Tokens.{NextToken};
 
 use crate::names::{TextWord, text_word_of};
 use pop_text::read_fault::ReadFault;
-use pop_text::scanner::Scanner;
+use pop_text::scanner::{Found, Scanner};
 use pop_text::source::Source;
 use pop_text::text::Text;
 use pop_text::word::Word;
 
 /// What comes next in the input. The numbers are those of lines.
-#[derive(Drop)]
+#[derive(Clone, Copy, Debug, PartialEq, Eq)]
 pub enum Token {
-    Word(Word),
+    /// A word.
+    Word,
+    /// A word of more than 160 bytes.
     TooLong(u64),
-    Line(TextWord, Text),
+    /// A text word, and the text behind it.
+    Line(TextWord),
+    /// The end of the input.
     Ended(u64),
+    /// A fault that ends the input.
     Cut(ReadFault),
 }
 
-/// The next word or text line.
-pub(crate) fn next_token<S: Source>(scanner: &mut Scanner, source: &mut S) -> Token
+/// The next word or text line, put into the room of another one.
+pub(crate) fn next_token<S: Source>(
+    scanner: &mut Scanner,
+    source: &mut S,
+    word: &mut Word,
+    text: &mut Text,
+) -> Token
     requires { scanner.old.end ≡ End.Open → S.failures source.old < greatest }
-    ensures token { NextToken scanner.old scanner.new (S.remaining source.old) (S.remaining source.new) result }
+    ensures token { NextToken scanner.old scanner.new (S.remaining source.old) (S.remaining source.new) word.new text.new result }
     ensures within { scanner.new.used ≤ limit }
     ensures waits { length scanner.new.window ≤ 4096 }
     ensures seen { IsSeen scanner.old.end (S.remaining source.old) → IsSeen scanner.new.end (S.remaining source.new) }
     ensures ends { scanner.old.end ≡ End.Open ⊎ scanner.new.end ≡ scanner.old.end }
     ensures counted { S.failures source.new ≡ failures_after scanner.old.end scanner.new.end (S.failures source.old) }
 {
-    match scanner.next_word(source) {
-        Ok(None) => Token::Ended(scanner.line()),
+    match scanner.read_word(source, word) {
+        Ok(Found::Nothing) => Token::Ended(scanner.line()),
         Err(ReadFault::TooLong(line)) => Token::TooLong(line),
         Err(fault) => Token::Cut(fault),
-        Ok(Some(word)) => match text_word_of(word.bytes.as_slice()) {
-            None => Token::Word(word),
+        Ok(Found::Word) => match text_word_of(word.bytes.as_slice()) {
+            None => Token::Word,
             Some(keyword) => match scanner.rest_of_line(source) {
-                Ok(text) => Token::Line(keyword, text),
+                Ok(line) => {
+                    *text = line;
+                    Token::Line(keyword)
+                }
                 Err(fault) => Token::Cut(fault),
             },
         },

@@ -1,9 +1,9 @@
 //! Words that are values: squares, numbers, stipulations.
-ghost use Rattle.std.specs.Prelude.{◌≡◌, ◌≤◌, ℕ, IfSome, length, option_map, true};
+ghost use Rattle.std.specs.Prelude.{◌≡◌, ◌≤◌, ℕ, IfSome, length, map, option_map, true};
+ghost use Rattle.std.specs.Char.{to_ascii_lowercase};
 ghost use Rattle.pop_input.specs.Ends.{is_stated};
 ghost use Rattle.pop_input.specs.Values.{is_digit, limit_of, most_solutions, only, square_by, squares_of, stated, stipulation_of};
 
-use crate::names::small_letters;
 use crate::stipulation::{Form, Stipulation};
 use arrayvec::ArrayVec;
 use chess_core::square::Square;
@@ -108,10 +108,12 @@ fn stated(form: Form, digit: u8) -> Option<Stipulation>
 /// The stipulation that the word states: `#n`, `s#n`, `h#n` or `h#n.5`.
 #[tactic(auto, unfolding(crate::specs::Values::stipulation_of))]
 pub(crate) fn stipulation_of(word: &[u8]) -> Option<Stipulation>
-    requires { length word.now ≤ 160 }
     ensures value { result ≡ stipulation_of word.now }
     ensures range { is_stated result ≡ true }
 {
+    if word.len() > 5 {
+        return None;
+    }
     let letters = small_letters(word);
     match letters.as_slice() {
         [b'#', n] => stated(Form::Direct, *n),
@@ -120,4 +122,16 @@ pub(crate) fn stipulation_of(word: &[u8]) -> Option<Stipulation>
         [b'h', b'#', n, b'.', b'5'] => stated(Form::HelpHalf, *n),
         _ => None,
     }
+}
+
+// A short word in small letters.
+fn small_letters(word: &[u8]) -> ArrayVec<u8, 5>
+    requires { length word.now ≤ 5 }
+    ensures { result.items ≡ map to_ascii_lowercase word.now }
+{
+    let mut small = ArrayVec::new();
+    for byte in word {
+        small.push(byte.to_ascii_lowercase());
+    }
+    small
 }

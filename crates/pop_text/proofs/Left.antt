@@ -60,7 +60,7 @@ solid_byte : (b : ℕ) → is_in_word b ≡ true → is_line_end b ≡ false
 solid_byte b h = grind arith
 
 -- a run has no line end
-solid_lines : (run : List ℕ) → list_all is_in_word run ≡ true → count_by is_line_end run ≡ 0
+pub solid_lines : (run : List ℕ) → list_all is_in_word run ≡ true → count_by is_line_end run ≡ 0
 solid_lines [] h = refl
 solid_lines (b ∷ run) h =
     let p : (is_in_word b ≡ true) × (list_all is_in_word run ≡ true) = all_parts is_in_word b run h in
@@ -239,7 +239,7 @@ and_false : (x : Bool) → (x && false) ≡ false
 and_false true = refl
 and_false false = refl
 
-longer : (name word : List ℕ) → length name < length word → starts_with nat_eq name word ≡ false
+pub longer : (name word : List ℕ) → length name < length word → starts_with nat_eq name word ≡ false
 longer [] [] less = absurd (omega arith)
 longer [] (b ∷ word) less = refl
 longer (a ∷ name) [] less = absurd (omega arith)

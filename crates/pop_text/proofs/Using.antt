@@ -1,16 +1,18 @@
 -- Bytes used one after another.
-use Rattle.std.proofs.Common.{◌≡◌, ◌<◌, ℕ, List, [], ◌∷◌, ◌++◌, length, length-append, take, Option, None, Some, Bool, true, false, refl, sym, ◌∙◌, ap, arith, append_assoc, ◌⊎◌, inl, inr, subst, cond, ◌+◌, Err}
+use Rattle.std.proofs.Common.{◌≡◌, ◌<◌, ℕ, List, [], ◌∷◌, ◌++◌, length, length-append, take, Option, None, Some, Bool, true, refl, sym, ◌∙◌, ap, arith, append_assoc, ◌⊎◌, inl, inr, subst, cond, count_by, ◌+◌, Err}
 use Rattle.std.specs.List.{list_all}
 use Rattle.std.proofs.lemmas.List.Folds.{list_all-append}
 use Rattle.std.proofs.lemmas.List.Sums.{sum_by-append}
-use Rattle.std.proofs.Common.{◌≤◌, length-take}
+use Rattle.std.proofs.Common.{length-take}
 use Rattle.std.proofs.lemmas.List.{append-nil, take_all, take-append-le}
-use Rattle.std.proofs.lemmas.Bool.{lt-ltb, le-ltb}
+use Rattle.std.proofs.lemmas.Bool.{le-ltb, cases_lt}
+use Rattle.std.specs.Prelude.{nat_lt}
+use Rattle.std.proofs.Math.Seq.{take-append-add}
 use Rattle.pop_text.specs.Runs.{Peeks, Runs, UsesRun}
 use Rattle.pop_text.specs.declared.read_fault.ReadFault.{ReadFault}
 use Rattle.pop_text.specs.Words.{is_gap, is_in_word, is_line_end}
 use Rattle.pop_text.specs.Bytes.{Consumes}
-use Rattle.pop_text.specs.Reading.{Reading, Uses, UsesAll, failures_after}
+use Rattle.pop_text.specs.Reading.{IsFront, Reading, Uses, UsesAll, failures_after}
 use Rattle.pop_text.specs.declared.scanner.End.{End}
 use Rattle.pop_text.specs.declared.scanner.End.TheVariants.{Open, Ended, Broken}
 
@@ -42,11 +44,17 @@ all_then test a b c had mid left ys all p q = record {
   uses = uses_then a b c had mid left p.bytes ys p.uses q;
 }
 
--- a byte at the place, and that byte used
-pub one_more : (test : ℕ → Bool) (a b c d : Reading) (had mid left : Option (List ℕ)) (byte : ℕ) (rest : List ℕ) → test byte ≡ true → UsesAll test a b had mid → Uses b c mid left [] → c.window ≡ byte ∷ rest → Uses c d left left (take 1 c.window) → UsesAll test a d had left
-one_more test a b c d had mid left byte rest is p q at r =
-    let r1 : Uses c d left left (byte ∷ []) = subst (λ bs. Uses c d left left (take 1 bs)) at r in
-    all_then test a c d had left left (byte ∷ []) (rw is refl) (all_then test a b c had mid left [] refl p q) r1
+-- more of a gap
+pub gap_more : (a b c d : Reading) (had mid left : Option (List ℕ)) → UsesAll is_gap a b had mid → Uses b c mid left [] → UsesAll is_gap c d left left → UsesAll is_gap a d had left
+gap_more a b c d had mid left p q r = all_then is_gap a c d had left left r.bytes r.all (all_then is_gap a b c had mid left [] refl p q) r.uses
+
+-- a part without a line end
+pub no_line_ends : (test : ℕ → Bool) (now : Reading) (part : List ℕ) (count : ℕ) → IsFront test now part → count ≡ length part → count_by is_line_end part ≡ 0 → 0 ≡ count_by is_line_end (take count now.window)
+no_line_ends test now part count front size none = sym none ∙ ap (count_by is_line_end) (front.front ∙ ap (λ n. take n now.window) (sym size))
+
+-- a line end at the place
+pub one_line_end : (now : Reading) (rest : List ℕ) → now.window ≡ 10 ∷ rest → 1 ≡ count_by is_line_end (take 1 now.window)
+one_line_end now rest at = rw at refl
 
 pub failures_same : (a : End) (m : ℕ) → failures_after a a m ≡ m
 failures_same Open m = refl
@@ -78,39 +86,35 @@ runs_kept a b c had mid left kept fits p q = record {
   whole = p.whole;
 }
 
-one_used : (c d : Reading) (left : Option (List ℕ)) (byte : ℕ) (rest : List ℕ) → c.window ≡ byte ∷ rest → Uses c d left left (take 1 c.window) → Uses c d left left (byte ∷ [])
-one_used c d left byte rest at r = subst (λ bs. Uses c d left left (take 1 bs)) at r
+-- so many bytes of a part as there is room for
+pub take_room : (kept part : List ℕ) (room : ℕ) → length kept + room ≡ 160 → take 160 (kept ++ part) ≡ kept ++ take room part
+take_room kept part room is = rw (← is) (take-append-add kept part room)
 
-all_more : (run : List ℕ) (byte : ℕ) → list_all is_in_word run ≡ true → is_gap byte ≡ false → list_all is_in_word (run ++ byte ∷ []) ≡ true
-all_more run byte p q = list_all-append is_in_word run (byte ∷ []) ∙ rw (p, q) refl
+-- what the word has of a longer run, and whether it has all
+front_more : (run part : List ℕ) → take 160 (take 160 run ++ part) ≡ take 160 (run ++ part)
+front_more run part = elim (cases_lt 160 (length run)) [
+  | inl long ↦
+      let size : length (take 160 run) ≡ 160 = omega (arith, length-take 160 run) in
+      take_room (take 160 run) part 0 (omega arith) ∙ append-nil (take 160 run) ∙ sym (take-append-le 160 run part (omega arith))
+  | inr short ↦ ap (λ r. take 160 (r ++ part)) (take_all 160 run short)
+]
 
--- a byte more than the word holds
-pub runs_full : (a b c d : Reading) (had mid left : Option (List ℕ)) (kept : List ℕ) (fits : Bool) (byte : ℕ) (rest : List ℕ) → length kept ≡ 160 → is_gap byte ≡ false
-    → Runs a b had mid kept fits → Uses b c mid left [] → c.window ≡ byte ∷ rest → Uses c d left left (take 1 c.window) → Runs a d had left kept false
-runs_full a b c d had mid left kept fits byte rest full out p q at r =
-    let long : 160 ≤ length p.run = omega (arith, ap length p.first, length-take 160 p.run) in
-    record {
-      run = p.run ++ byte ∷ [];
-      all = all_more p.run byte p.all out;
-      uses = uses_then a c d had left left p.run (byte ∷ []) (rw append-nil at (uses_then a b c had mid left p.run [] p.uses q)) (one_used c d left byte rest at r);
-      first = p.first ∙ sym (take-append-le 160 p.run (byte ∷ []) long);
-      whole = sym (le-ltb (length (p.run ++ byte ∷ [])) 161 (omega (arith, length-append p.run (byte ∷ []))));
-    }
+whole_more : (run part : List ℕ) → 0 < length part → nat_lt (length (take 160 run ++ part)) 161 ≡ nat_lt (length (run ++ part)) 161
+whole_more run part some = elim (cases_lt 160 (length run)) [
+  | inl long ↦ le-ltb (length (take 160 run ++ part)) 161 (omega (arith, length-take 160 run, length-append (take 160 run) part)) ∙ sym (le-ltb (length (run ++ part)) 161 (omega (arith, length-append run part)))
+  | inr short ↦ ap (λ r. nat_lt (length (r ++ part)) 161) (take_all 160 run short)
+]
 
--- a byte that the word still holds
-pub runs_more : (a b c d : Reading) (had mid left : Option (List ℕ)) (kept : List ℕ) (fits : Bool) (byte : ℕ) (rest : List ℕ) → (length kept ≡ 160 → ⊥) → is_gap byte ≡ false
-    → Runs a b had mid kept fits → Uses b c mid left [] → c.window ≡ byte ∷ rest → Uses c d left left (take 1 c.window) → Runs a d had left (kept ++ byte ∷ []) fits
-runs_more a b c d had mid left kept fits byte rest room out p q at r =
-    let below : length kept < 160 = omega (arith, room, ap length p.first, length-take 160 p.run) in
-    let short : length p.run < 160 = omega (arith, ap length p.first, length-take 160 p.run) in
-    let is : kept ≡ p.run = p.first ∙ take_all 160 p.run (omega arith) in
-    record {
-      run = p.run ++ byte ∷ [];
-      all = all_more p.run byte p.all out;
-      uses = uses_then a c d had left left p.run (byte ∷ []) (rw append-nil at (uses_then a b c had mid left p.run [] p.uses q)) (one_used c d left byte rest at r);
-      first = ap (λ xs. xs ++ byte ∷ []) is ∙ sym (take_all 160 (p.run ++ byte ∷ []) (omega (arith, length-append p.run (byte ∷ []))));
-      whole = p.whole ∙ lt-ltb (length p.run) 161 (omega arith) ∙ sym (lt-ltb (length (p.run ++ byte ∷ [])) 161 (omega (arith, length-append p.run (byte ∷ []))));
-    }
+-- more of a run, of which a byte is there: the word keeps it as far as there is room
+pub runs_more : (a b c d : Reading) (had mid left : Option (List ℕ)) (kept part : List ℕ) (fits : Bool) → Runs a b had mid kept fits → Uses b c mid left [] → list_all is_in_word part ≡ true → 0 < length part → Uses c d left left part
+    → Runs a d had left (take 160 (kept ++ part)) (nat_lt (length (kept ++ part)) 161)
+runs_more a b c d had mid left kept part fits p q all some r = record {
+  run = p.run ++ part;
+  all = list_all-append is_in_word p.run part ∙ rw (p.all, all) refl;
+  uses = uses_then a c d had left left p.run part (rw append-nil at (uses_then a b c had mid left p.run [] p.uses q)) r;
+  first = ap (λ k. take 160 (k ++ part)) p.first ∙ front_more p.run part;
+  whole = ap (λ k. nat_lt (length (k ++ part)) 161) p.first ∙ whole_more p.run part some;
+}
 
 -- a gap, and a run behind it
 pub gap_run : (a b c : Reading) (had mid left : Option (List ℕ)) (number : ℕ) (run : List ℕ) (p : UsesAll is_gap a b had mid) → list_all is_in_word run ≡ true → Uses b c mid left run → number ≡ b.line → UsesRun a c had left number run

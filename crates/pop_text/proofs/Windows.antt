@@ -1,15 +1,13 @@
 -- The window: bytes that wait between two places of an array.
-use Rattle.std.proofs.Common.{◌≡◌, ◌<◌, ◌≤◌, ℕ, zero, suc, ◌+◌, ◌-◌, List, [], ◌∷◌, ◌++◌, length, length-take, length-drop, take, drop, slice_range, slice_index, Option, Some, Ok, true, ◌==◌, refl, sym, ◌∙◌, ap, arith, inl, inr, get_or, count_by, cond}
+use Rattle.std.proofs.Common.{◌≡◌, ◌<◌, ◌≤◌, ℕ, zero, suc, ◌+◌, ◌-◌, List, [], ◌∷◌, ◌++◌, length, length-take, length-drop, take, drop, slice_range, slice_index, Option, Some, Ok, Bool, true, ◌==◌, refl, sym, ◌∙◌, ap, arith, inl, inr, get_or, count_by, cond}
 use Rattle.std.specs.List.{list_all}
 use Rattle.std.proofs.lemmas.Bool.{cases_Bool, le-ltb}
-use Rattle.std.proofs.lemmas.List.{append-nil, take-append-drop, drop-take, drop-drop, drop_more, length-take-le}
-use Rattle.std.proofs.Math.Seq.{take-length}
+use Rattle.std.proofs.lemmas.List.{append-nil, take-append-drop, drop-take, drop-drop, drop_more, length-take-le, take-take}
 use Rattle.pop_text.specs.Words.{is_in_line, is_line_end, limit}
-use Rattle.pop_text.specs.Reading.{Reading, Uses}
+use Rattle.pop_text.specs.Reading.{IsFront, Reading, Uses}
 use Rattle.pop_text.specs.Runs.{Peeks}
 use Rattle.pop_text.specs.Texts.{with_byte}
 use Rattle.pop_text.specs.declared.scanner.End.{End}
-use Rattle.pop_text.proofs.Lines.{line_lines}
 use Rattle.pop_text.proofs.Using.{keeps_bytes}
 
 window_length : (cells : List ℕ) (start stop : ℕ) → stop ≤ length cells → length (slice_range cells start stop) ≡ stop - start
@@ -46,22 +44,50 @@ module _ (cells : List ℕ) (start stop : ℕ) (within : stop ≤ length cells) 
   pub front_peeks : (used line : ℕ) (end : End) → start < stop → used < limit → Peeks (reading start used line end) (Ok (Some (get_or cells start 0)))
   front_peeks used line end some room = (slice_range cells (start + 1) stop, window_front cells start stop some within, room)
 
-  pub one_used : (used line now : ℕ) (end : End) (had : Option (List ℕ)) → 0 < length (slice_range cells start stop) → now ≡ line + cond (is_line_end (get_or cells start 0)) 1 0 → Uses (reading start used line end) (reading (start + 1) (used + 1) now end) had had (take 1 (slice_range cells start stop))
-  one_used used line now end had waits counted =
-      let some : start < stop = omega (arith, window_length cells start stop within, waits) in
-      let front : take 1 (slice_range cells start stop) ≡ get_or cells start 0 ∷ [] = ap (take 1) (window_front cells start stop some within) in
-      let counted_front : count_by is_line_end (take 1 (slice_range cells start stop)) ≡ count_by is_line_end (get_or cells start 0 ∷ []) = ap (count_by is_line_end) front in
-      let lines : count_by is_line_end (take 1 (slice_range cells start stop)) ≡ cond (is_line_end (get_or cells start 0)) 1 0 = omega (arith, counted_front) in
-      front_used (reading start used line end) (reading (start + 1) (used + 1) now end) had 1 (omega (arith, window_length cells start stop within, some)) (window_drop cells start stop 1 (omega arith)) refl (counted ∙ ap (λ n. line + n) (sym lines)) refl
-
-  pub some_used : (used line count : ℕ) (end : End) (had : Option (List ℕ)) → start ≤ stop → count ≤ length (slice_range cells start stop) → list_all is_in_line (take count (slice_range cells start stop)) ≡ true
-      → Uses (reading start used line end) (reading (start + count) (used + count) line end) had had (take count (slice_range cells start stop))
-  some_used used line count end had in_order few plain =
+  pub some_used : (used line count lines : ℕ) (end : End) (had : Option (List ℕ)) → start ≤ stop → count ≤ length (slice_range cells start stop) → lines ≡ count_by is_line_end (take count (slice_range cells start stop))
+      → Uses (reading start used line end) (reading (start + count) (used + count) (line + lines) end) had had (take count (slice_range cells start stop))
+  some_used used line count lines end had in_order few are =
       let room : start + count ≤ stop = omega (arith, window_length cells start stop within, few) in
-      front_used (reading start used line end) (reading (start + count) (used + count) line end) had count few (window_drop cells start stop count room) refl (omega (arith, line_lines (take count (slice_range cells start stop)) plain)) refl
+      front_used (reading start used line end) (reading (start + count) (used + count) (line + lines) end) had count few (window_drop cells start stop count room) refl (ap (λ n. line + n) are) refl
 
   pub rest_waits : (count : ℕ) → start ≤ stop → count ≤ length (slice_range cells start stop) → slice_range cells (start + count) stop ≡ drop count (slice_range cells start stop)
   rest_waits count in_order few = window_drop cells start stop count (omega (arith, window_length cells start stop within, few))
+
+-- The bytes that belong to the input.
+
+module _ (now : Reading) (view : List ℕ) (count : ℕ) (within : now.used ≤ limit) (is : view ≡ take (limit - now.used) now.window) (few : count ≤ length view) where
+  size : length view ≤ limit - now.used
+  size = omega (arith, ap length is, length-take (limit - now.used) now.window)
+
+  -- their front is one of the window
+  pub view_front : take count view ≡ take count now.window
+  view_front = ap (take count) is ∙ take-take count (limit - now.used) now.window (omega (arith, size))
+
+  pub view_few : count ≤ length now.window
+  view_few = omega (arith, ap length is, length-take (limit - now.used) now.window)
+
+  pub view_room : now.used + count ≤ limit
+  view_room = omega (arith, size)
+
+  first_byte : (b : ℕ) (rest : List ℕ) → now.window ≡ b ∷ rest → now.used < limit → view ≡ b ∷ take (limit - now.used - 1) rest
+  first_byte b rest at room =
+      let one : limit - now.used ≡ suc (limit - now.used - 1) = omega arith in
+      is ∙ ap (λ n. take n now.window) one ∙ ap (take (suc (limit - now.used - 1))) at
+
+  -- some stand there, where the window's first byte passes a test
+  pub view_some : (test : ℕ → Bool) → ((b : ℕ) (rest : List ℕ) → view ≡ b ∷ rest → test b ≡ true → 0 < count) → (b : ℕ) (rest : List ℕ) → now.window ≡ b ∷ rest → test b ≡ true → now.used < limit → 0 < count
+  view_some test some b rest at passes room = some b (take (limit - now.used - 1) rest) (first_byte b rest at room) passes
+
+  pub front_is : (test : ℕ → Bool) → list_all test (take count view) ≡ true → ((b : ℕ) (rest : List ℕ) → view ≡ b ∷ rest → test b ≡ true → 0 < count) → IsFront test now (take count view)
+  front_is test all some =
+      let long : length (take count view) ≡ count = length-take-le count view few in
+      record {
+        front = view_front ∙ ap (λ n. take n now.window) (sym long);
+        within = omega (arith, long, view_few);
+        room = omega (arith, long, view_room);
+        all = all;
+        some = λ b rest at passes room. let h = view_some test some b rest at passes room in omega (arith, long, h);
+      }
 
 -- bytes before the first line end
 pub plain_front : (view : List ℕ) (count : ℕ) → count ≤ length view → ((k : ℕ) → k < count → (slice_index view k == 10) ≡ true → ⊥) → list_all is_in_line (take count view) ≡ true
@@ -72,8 +98,8 @@ plain_front (b ∷ view) (suc count) within none = elim (cases_Bool (b == 10)) [
   | inr goes ↦ rw goes (plain_front view count (omega arith) (λ k lt. none (suc k) (omega arith)))
 ]
 
-pub plain_all : (view : List ℕ) → ((k : ℕ) → k < length view → (slice_index view k == 10) ≡ true → ⊥) → list_all is_in_line view ≡ true
-plain_all view none = ap (list_all is_in_line) (sym (take-length view)) ∙ plain_front view (length view) (omega arith) none
+pub plain_all : (view : List ℕ) → ((k : ℕ) → k < length view → (slice_index view k == 10) ≡ true → ⊥) → list_all is_in_line (take (length view) view) ≡ true
+plain_all view none = plain_front view (length view) (omega arith) none
 
 -- a full text takes no more
 pub full_stays : (kept : List ℕ) (byte : ℕ) → length kept ≡ 200 → with_byte 200 kept byte ≡ kept

@@ -5,6 +5,8 @@ use Rattle.pop_text.specs.Words.{Input, Clean, Failed, Words, Token, Word, TextL
 use Rattle.pop_text.specs.Reading.{Reading}
 use Rattle.pop_text.specs.declared.scanner.End.{End}
 use Rattle.pop_text.specs.declared.scanner.End.TheVariants.{Open, Ended, Broken}
+use Rattle.pop_text.specs.declared.scanner.Found.{Found}
+use Rattle.pop_text.specs.declared.scanner.Found.TheVariants.{Word as AWord, Nothing}
 use Rattle.pop_text.specs.declared.read_fault.ReadFault.{ReadFault}
 use Rattle.pop_text.specs.declared.read_fault.ReadFault.TheVariants.{TooLong, InputTooLong, Device}
 use Rattle.pop_text.specs.declared.word.Word.{Word as Read}
@@ -73,6 +75,12 @@ TakesNone old new had left (Device line) = Takes old (among new) had left [] × 
 -- bytes were used, within the limit
 abbrev pub GoesOn : Reading → Reading → Type 0
 GoesOn old new = (old.used < new.used) × (new.used ≤ limit)
+
+-- what was found, with the word that was put into the room of another one
+abbrev pub found_by : Read → Result Found ReadFault → Result (Option Read) ReadFault
+found_by word (Ok AWord) = Ok (Some word)
+found_by word (Ok Nothing) = Ok None
+found_by word (Err fault) = Err fault
 
 -- what next_word does
 abbrev pub NextWord : Reading → Reading → Option (List ℕ) → Option (List ℕ) → Result (Option Read) ReadFault → Type 0

@@ -1,7 +1,7 @@
 -- What a scanner has read and not used (own).
-use Rattle.std.specs.Prelude.{◌≡◌, ℕ, ◌+◌, List, [], ◌++◌, length, count_by, Option, Bool, true, ◌⊎◌}
+use Rattle.std.specs.Prelude.{◌≡◌, ◌≤◌, ◌<◌, ℕ, ◌+◌, List, [], ◌∷◌, ◌++◌, take, length, count_by, Option, Bool, true, ◌⊎◌}
 use Rattle.std.specs.List.{list_all}
-use Rattle.pop_text.specs.Words.{is_line_end}
+use Rattle.pop_text.specs.Words.{is_line_end, limit}
 use Rattle.pop_text.specs.Bytes.{Consumes, IsAtEnd}
 use Rattle.pop_text.specs.declared.scanner.End.{End}
 use Rattle.pop_text.specs.declared.scanner.End.TheVariants.{Open, Ended, Broken}
@@ -30,6 +30,14 @@ pub record UsesAll (test : ℕ → Bool) (old new : Reading) (had left : Option 
   pub bytes : List ℕ
   pub all : list_all test bytes ≡ true
   pub uses : Uses old new had left bytes
+
+-- The part is the front of the window, belongs to the input and passes the test. It has a byte where the window's first one passes.
+pub record IsFront (test : ℕ → Bool) (now : Reading) (part : List ℕ) : Type 0 where
+  pub front : part ≡ take (length part) now.window
+  pub within : length part ≤ length now.window
+  pub room : now.used + length part ≤ limit
+  pub all : list_all test part ≡ true
+  pub some : (b : ℕ) → (rest : List ℕ) → now.window ≡ b ∷ rest → test b ≡ true → now.used < limit → 0 < length part
 
 -- a seen end is one
 abbrev pub IsSeen : End → Option (List ℕ) → Type 0

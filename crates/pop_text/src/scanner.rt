@@ -1,11 +1,11 @@
 //! Words and text lines of a source.
-ghost use Rattle.std.specs.Prelude.{◌≡◌, ◌<◌, ◌+◌, ◌⊎◌, ◌≢◌, [], ◌∷◌, List, ℕ, drop, length, Some, None, Ok, take, Option, Err, IfErr, IfOk, IfSome, false, true, ◌≤◌};
+ghost use Rattle.std.specs.Prelude.{◌≡◌, ◌<◌, ◌+◌, ◌-◌, ◌++◌, ◌⊎◌, ◌≢◌, [], ◌∷◌, List, ℕ, count_by, drop, length, nat_lt, Some, None, Ok, take, Option, Err, IfErr, IfOk, IfSome, false, true, ◌≤◌};
 ghost use Rattle.pop_text.specs.Bytes.{greatest};
 ghost use Rattle.std.specs.List.{list_all};
-ghost use Rattle.pop_text.specs.Words.{limit, is_gap, is_in_line, is_line_end};
-ghost use Rattle.pop_text.specs.Reading.{beginning, Uses, UsesAll, IsSeen, failures_after};
+ghost use Rattle.pop_text.specs.Words.{limit, is_gap, is_in_line, is_in_word, is_line_end};
+ghost use Rattle.pop_text.specs.Reading.{beginning, IsFront, Uses, UsesAll, IsSeen, failures_after};
 ghost use Rattle.pop_text.specs.Runs.{Peeks, RunsTo, Sticks, UsesLine, UsesWord};
-ghost use Rattle.pop_text.specs.Left.{NextWord, RestOfLine};
+ghost use Rattle.pop_text.specs.Left.{NextWord, RestOfLine, found_by};
 ghost use Rattle.pop_text.specs.declared.read_fault.ReadFault.{ReadFault};
 
 use crate::read_fault::ReadFault;
@@ -31,6 +31,15 @@ pub enum End {
     Ended,
     /// The source has failed. It is not asked again.
     Broken,
+}
+
+/// Whether there is a word.
+#[derive(Clone, Copy, Debug, PartialEq, Eq)]
+pub enum Found {
+    /// There is one.
+    Word,
+    /// The input has ended.
+    Nothing,
 }
 
 /// A place in an input, which is read through a source that each call is handed: the same one throughout.
@@ -129,30 +138,12 @@ impl Scanner {
         Ok(None)
     }
 
-    // Uses the byte at the place.
+    // Uses so many bytes at the place, among which so many line ends are.
     #[tactic(auto, unfolding(crate::specs::Words::limit))]
-    fn advance(&mut self)
-        requires waits { 0 < length self.old.window }
-        requires room { self.old.used < limit }
-        ensures uses { (had : Option (List ℕ)) → Uses self.old self.new had had (take 1 self.old.window) }
-        ensures end { self.new.end ≡ self.old.end }
-        ensures used { self.new.used ≡ self.old.used + 1 }
-        ensures window { self.new.window ≡ drop 1 self.old.window }
-    {
-        let byte = self.cells[self.start];
-        self.start += 1;
-        self.used += 1;
-        if byte == b'\n' {
-            self.line += 1;
-        }
-    }
-
-    // Uses bytes at the place among which no line end is.
-    #[tactic(auto, unfolding(crate::specs::Words::limit))]
-    fn advance_by(&mut self, count: usize)
+    fn advance(&mut self, count: usize, line_ends: usize)
         requires waits { count ≤ length self.old.window }
         requires room { self.old.used + count ≤ limit }
-        requires plain { list_all is_in_line (take count self.old.window) ≡ true }
+        requires lines { line_ends ≡ count_by is_line_end (take count self.old.window) }
         ensures uses { (had : Option (List ℕ)) → Uses self.old self.new had had (take count self.old.window) }
         ensures end { self.new.end ≡ self.old.end }
         ensures used { self.new.used ≡ self.old.used + count }
@@ -160,25 +151,47 @@ impl Scanner {
     {
         self.start += count;
         self.used += count as u32;
+        self.line += line_ends as u64;
     }
 
-    // The bytes of the window that belong to the line and to the input.
+    // The bytes of the window that belong to the input.
     #[tactic(auto, unfolding(crate::specs::Words::limit))]
-    fn line_part(&self) -> &[u8]
-        ensures front { result.now ≡ take (length result.now) self.now.window }
-        ensures within { length result.now ≤ length self.now.window }
-        ensures room { self.now.used + length result.now ≤ limit }
-        ensures plain { list_all is_in_line result.now ≡ true }
-        ensures some { (b : ℕ) → (rest : List ℕ) → self.now.window ≡ b ∷ rest → is_line_end b ≡ false → self.now.used < limit → 0 < length result.now }
+    fn view(&self) -> &[u8]
+        ensures bytes { result.now ≡ take (limit - self.now.used) self.now.window }
+        ensures within { self.now.used ≤ limit }
     {
         let window = &self.cells[self.start..self.stop];
         let room = (LIMIT - self.used) as usize;
         let reach = window.len().min(room);
-        let view = &window[..reach];
-        match memchr(b'\n', view) {
-            Some(count) => &view[..count],
-            None => view,
-        }
+        &window[..reach]
+    }
+
+    // The bytes of the window that belong to the line and to the input.
+    fn line_part(&self) -> &[u8]
+        ensures { IsFront is_in_line self.now result.now }
+    {
+        let view = self.view();
+        &view[..line_front(view)]
+    }
+
+    // The bytes of the window that belong to the run and to the input.
+    fn run_part(&self) -> &[u8]
+        ensures { IsFront is_in_word self.now result.now }
+    {
+        let view = self.view();
+        &view[..run_front(view)]
+    }
+
+    // Uses the blanks and line ends that stand first in the window and belong to the input.
+    fn skip_part(&mut self)
+        ensures uses { (had : Option (List ℕ)) → UsesAll is_gap self.old self.new had had }
+        ensures end { self.new.end ≡ self.old.end }
+        ensures waits { length self.new.window ≤ length self.old.window }
+        ensures within { self.new.used ≤ limit }
+        ensures some { (b : ℕ) → (rest : List ℕ) → self.old.window ≡ b ∷ rest → is_gap b ≡ true → self.old.used < limit → self.old.used < self.new.used }
+    {
+        let gap = gap_front(self.view());
+        self.advance(gap.count, gap.line_ends);
     }
 
     // Uses blanks and line ends, up to another byte, which is answered.
@@ -195,7 +208,7 @@ impl Scanner {
     {
         'gap: loop {
             match self.peek(source) {
-                Ok(Some(byte)) if in_gap(byte) => self.advance(),
+                Ok(Some(byte)) if in_gap(byte) => self.skip_part(),
                 other => return other,
             }
         }
@@ -219,12 +232,10 @@ impl Scanner {
         'run: loop {
             match self.peek(source)? {
                 Some(byte) if !in_gap(byte) => {
-                    if word.is_full() {
-                        fits = false;
-                    } else {
-                        word.push(byte);
-                    }
-                    self.advance();
+                    let part = self.run_part();
+                    let count = part.len();
+                    fits = keep_run(word, part);
+                    self.advance(count, 0);
                 }
                 _ => return Ok(fits),
             }
@@ -244,14 +255,39 @@ impl Scanner {
         ensures counted { S.failures source.new ≡ failures_after self.old.end self.new.end (S.failures source.old) }
         ensures stuck { (fault : ReadFault) → Peeks self.old (Err fault) → (result ≡ Err fault) × (self.new ≡ self.old) }
     {
+        let mut word = Word::new();
+        match self.read_word(source, &mut word) {
+            Ok(Found::Word) => Ok(Some(word)),
+            Ok(Found::Nothing) => Ok(None),
+            Err(fault) => Err(fault),
+        }
+    }
+
+    /// The same, where the word is put into the room of another one.
+    pub fn read_word<S: Source>(
+        &mut self,
+        source: &mut S,
+        word: &mut Word,
+    ) -> Result<Found, ReadFault>
+        requires { self.old.end ≡ End.Open → S.failures source.old < greatest }
+        ensures word { NextWord self.old self.new (S.remaining source.old) (S.remaining source.new) (found_by word.new result) }
+        ensures used { UsesWord self.old self.new (S.remaining source.old) (S.remaining source.new) (found_by word.new result) }
+        ensures sticks { IfErr result (Sticks self.new) }
+        ensures waits { length self.new.window ≤ 4096 }
+        ensures seen { IsSeen self.old.end (S.remaining source.old) → IsSeen self.new.end (S.remaining source.new) }
+        ensures ends { self.old.end ≡ End.Open ⊎ self.new.end ≡ self.old.end }
+        ensures counted { S.failures source.new ≡ failures_after self.old.end self.new.end (S.failures source.old) }
+        ensures stuck { (fault : ReadFault) → Peeks self.old (Err fault) → (result ≡ Err fault) × (self.new ≡ self.old) }
+    {
         match self.skip_gap(source) {
-            Ok(None) => Ok(None),
+            Ok(None) => Ok(Found::Nothing),
             Err(fault) => Err(fault),
             Ok(Some(_)) => {
                 let line = self.line;
-                let mut bytes = ArrayVec::new();
-                match self.take_run(source, &mut bytes) {
-                    Ok(true) => Ok(Some(Word { bytes, line })),
+                word.line = line;
+                word.bytes.clear();
+                match self.take_run(source, &mut word.bytes) {
+                    Ok(true) => Ok(Found::Word),
                     Ok(false) => Err(ReadFault::TooLong(line)),
                     Err(fault) => Err(fault),
                 }
@@ -276,19 +312,99 @@ impl Scanner {
         'line: loop {
             match self.peek(source) {
                 Ok(Some(b'\n')) => {
-                    self.advance();
+                    self.advance(1, 1);
                     return Ok(Text::trimmed(kept));
                 }
                 Ok(Some(_)) => {
                     let part = self.line_part();
                     let count = part.len();
                     keep_all(&mut kept, part);
-                    self.advance_by(count);
+                    self.advance(count, 0);
                 }
                 Ok(None) => return Ok(Text::trimmed(kept)),
                 Err(fault) => return Err(fault),
             }
         }
+    }
+}
+
+// Blanks and line ends, and how many of them are line ends.
+#[derive(Clone, Copy)]
+struct Gap {
+    count: usize,
+    line_ends: usize,
+}
+
+// How many blanks and line ends stand first.
+fn gap_front(view: &[u8]) -> Gap
+    ensures within { result.count ≤ length view.now }
+    ensures all { list_all is_gap (take result.count view.now) ≡ true }
+    ensures lines { result.line_ends ≡ count_by is_line_end (take result.count view.now) }
+    ensures some { (b : ℕ) → (rest : List ℕ) → view.now ≡ b ∷ rest → is_gap b ≡ true → 0 < result.count }
+{
+    let mut line_ends = 0;
+    'gap: for (count, &byte) in view.iter().enumerate() {
+        if !in_gap(byte) {
+            return Gap { count, line_ends };
+        }
+        if byte == b'\n' {
+            line_ends += 1;
+        }
+    }
+    Gap {
+        count: view.len(),
+        line_ends,
+    }
+}
+
+// How many bytes stand before the first blank or line end.
+fn run_front(view: &[u8]) -> usize
+    ensures within { result ≤ length view.now }
+    ensures all { list_all is_in_word (take result view.now) ≡ true }
+    ensures some { (b : ℕ) → (rest : List ℕ) → view.now ≡ b ∷ rest → is_in_word b ≡ true → 0 < result }
+{
+    'run: for (count, &byte) in view.iter().enumerate() {
+        if in_gap(byte) {
+            return count;
+        }
+    }
+    view.len()
+}
+
+// How many bytes stand before the first line end.
+fn line_front(view: &[u8]) -> usize
+    ensures within { result ≤ length view.now }
+    ensures all { list_all is_in_line (take result view.now) ≡ true }
+    ensures some { (b : ℕ) → (rest : List ℕ) → view.now ≡ b ∷ rest → is_in_line b ≡ true → 0 < result }
+{
+    match memchr(b'\n', view) {
+        Some(count) => count,
+        None => view.len(),
+    }
+}
+
+// Keeps bytes of a run as far as there is room, and says whether there is room for all.
+fn keep_run(word: &mut ArrayVec<u8, 160>, part: &[u8]) -> bool
+    ensures kept { word.new.items ≡ take 160 (word.old.items ++ part.now) }
+    ensures fits { result ≡ nat_lt (length (word.old.items ++ part.now)) 161 }
+{
+    let room = word.remaining_capacity();
+    if part.len() <= room {
+        extend(word, part);
+        true
+    } else {
+        extend(word, &part[..room]);
+        false
+    }
+}
+
+fn extend(word: &mut ArrayVec<u8, 160>, part: &[u8])
+    requires { length word.old.items + length part.now ≤ 160 }
+    ensures { word.new.items ≡ word.old.items ++ part.now }
+{
+    match word.try_extend_from_slice(part) {
+        Ok(()) => {}
+        Err(_) => unreachable!("there is room"),
     }
 }
 

@@ -7,3 +7,13 @@ pub struct Word {
     pub bytes: ArrayVec<u8, 160>,
     pub line: u64,
 }
+
+impl Word {
+    /// No byte yet.
+    pub fn new() -> Word {
+        Word {
+            bytes: ArrayVec::new(),
+            line: 0,
+        }
+    }
+}

@@ -27,7 +27,7 @@ words-preserved-in-Line g c =
     let t = c.in-Line.ensures.token in
     record {
       block = line_read c.match-self.first c.args.self.now.at c.words.self-inside.scanner c.next_token.new.scanner (g.S.Source.remaining c.args.source.now) (g.S.Source.remaining c.words.source) (g.S.Source.remaining c.next_token.new.source) c.words.block c.note.new.self i.block
-          t.0 t.1 t.2 c.in-Line.keyword c.in-Line.text t.3 t.4 t.5 c.note.ensures.fault c.note.ensures.begun c.note.ensures.draft c.note.ensures.title c.note.ensures.author;
+          t.0 t.1 t.2 c.in-Line.keyword c.next_token.new.text t.3 t.4 t.5 c.note.ensures.fault c.note.ensures.begun c.note.ensures.draft c.note.ensures.title c.note.ensures.author;
       starts = i.starts;
       seen = λ s. c.next_token.ensures.seen (i.seen s);
       ends = ends_then _ _ _ i.ends c.next_token.ensures.ends;
@@ -51,10 +51,10 @@ pub words-preserved : goal.words-preserved
 words-preserved g c =
     let i = c.words.invariant in
     let t = c.in-Word.ensures.token in
-    let is : last_of (command_of c.in-Word.word.bytes.items) ≡ None = ap (λ text. last_of (command_of text)) (sym c.as_slice.ensures.value) ∙ sym c.closing_of.ensures ∙ c.in-None.is in
+    let is : last_of (command_of c.next_token.new.word.bytes.items) ≡ None = ap (λ text. last_of (command_of text)) (sym c.as_slice.ensures.value) ∙ sym c.closing_of.ensures ∙ c.in-None.is in
     record {
       block = open_read c.match-self.first c.args.self.now.at c.words.self-inside.scanner c.next_token.new.scanner (g.S.Source.remaining c.args.source.now) (g.S.Source.remaining c.words.source) (g.S.Source.remaining c.next_token.new.source) c.words.block c.read.new.self i.block
-          c.in-Word.word.line c.in-Word.word.bytes.items t.0 (not_closing _ is) (c.read.ensures.fault, λ none. (c.read.ensures.begun none, c.read.ensures.draft none, c.read.ensures.title, c.read.ensures.author));
+          c.next_token.new.word.line c.next_token.new.word.bytes.items t.0 (not_closing _ is) (c.read.ensures.fault, λ none. (c.read.ensures.begun none, c.read.ensures.draft none, c.read.ensures.title, c.read.ensures.author));
       starts = i.starts;
       seen = λ s. c.next_token.ensures.seen (i.seen s);
       ends = ends_then _ _ _ i.ends c.next_token.ensures.ends;
@@ -65,11 +65,11 @@ pub returns-in-Some-clause-item : goal.returns-in-Some-clause-item
 returns-in-Some-clause-item g c =
     let i = c.words.invariant in
     let t = c.in-Word.ensures.token in
-    let is : last_of (command_of c.in-Word.word.bytes.items) ≡ Some c.in-Some.last = ap (λ text. last_of (command_of text)) (sym c.as_slice.ensures.value) ∙ sym c.closing_of.ensures ∙ c.in-Some.is in
+    let is : last_of (command_of c.next_token.new.word.bytes.items) ≡ Some c.in-Some.last = ap (λ text. last_of (command_of text)) (sym c.as_slice.ensures.value) ∙ sym c.closing_of.ensures ∙ c.in-Some.is in
     let new : Standing = record { next = c.next_behind-self-inside.result; at = c.next_token.new.scanner } in
     (word_closes c.match-self.first c.args.self.now new (g.S.Source.remaining c.args.source.now) (g.S.Source.remaining c.next_token.new.source) i.starts
-    c.words.self-inside.scanner (g.S.Source.remaining c.words.source) c.words.block c.read.new.self i.block c.in-Word.word.line c.in-Word.word.bytes.items t.0
-    (c.read.ensures.fault, λ none. (c.read.ensures.begun none, c.read.ensures.draft none, c.read.ensures.title, c.read.ensures.author)) c.closed.result c.in-Some.last (command_of c.in-Word.word.bytes.items) c.closed.ensures refl is c.next_behind-self-inside.ensures)
+    c.words.self-inside.scanner (g.S.Source.remaining c.words.source) c.words.block c.read.new.self i.block c.next_token.new.word.line c.next_token.new.word.bytes.items t.0
+    (c.read.ensures.fault, λ none. (c.read.ensures.begun none, c.read.ensures.draft none, c.read.ensures.title, c.read.ensures.author)) c.closed.result c.in-Some.last (command_of c.next_token.new.word.bytes.items) c.closed.ensures refl is c.next_behind-self-inside.ensures)
 
 pub returns-in-Ended-clause-item : goal.returns-in-Ended-clause-item
 returns-in-Ended-clause-item g c =
@@ -96,7 +96,7 @@ pub returns-in-Some-clause-numbered : goal.returns-in-Some-clause-numbered
 returns-in-Some-clause-numbered g c =
     let i = c.words.invariant in
     let t = c.in-Word.ensures.token in
-    word_numbered c.match-self.first c.args.self.now c.words.self-inside.scanner c.next_token.new.scanner (g.S.Source.remaining c.args.source.now) (g.S.Source.remaining c.words.source) (g.S.Source.remaining c.next_token.new.source) c.words.block c.read.new.self i.block c.in-Word.word.line c.in-Word.word.bytes.items t.0
+    word_numbered c.match-self.first c.args.self.now c.words.self-inside.scanner c.next_token.new.scanner (g.S.Source.remaining c.args.source.now) (g.S.Source.remaining c.words.source) (g.S.Source.remaining c.next_token.new.source) c.words.block c.read.new.self i.block c.next_token.new.word.line c.next_token.new.word.bytes.items t.0
     (c.read.ensures.fault, λ none. (c.read.ensures.begun none, c.read.ensures.draft none, c.read.ensures.title, c.read.ensures.author)) c.closed.result c.in-Some.last c.closed.ensures
 
 pub returns-in-Ended-clause-numbered : goal.returns-in-Ended-clause-numbered

@@ -1,12 +1,6 @@
-use Rattle.std.proofs.Common.{arith}
-use Rattle.pop_text.proofs.Windows.{plain_front, plain_all}
+use Rattle.pop_text.specs.Words.{is_in_line}
+use Rattle.pop_text.proofs.Windows.{front_is}
 use Rattle.pop_text.proofs.scanner.Scanner.line_part.Goals as goal
 
-pub returns-in-Some-clause-plain : goal.returns-in-Some-clause-plain
-returns-in-Some-clause-plain c =
-    let first = c.in-Some.ensures.0 in
-    let high = first.high in
-    plain_front _ c.in-Some.count (omega (arith, high)) (λ k lt. first.before k (omega arith) lt)
-
-pub returns-in-None-clause-plain : goal.returns-in-None-clause-plain
-returns-in-None-clause-plain c = plain_all _ (λ k lt. c.in-None.ensures k (omega arith) lt)
+pub returns : goal.returns
+returns c = front_is c.args.self.now c.view-view.result.now c.line_front.result c.view-view.ensures.within c.view-view.ensures.bytes c.line_front.ensures.within is_in_line c.line_front.ensures.all c.line_front.ensures.some

@@ -1,29 +1,39 @@
-use Rattle.std.proofs.Common.{◌∙◌, ◌<◌, ◌-◌, sym, ap, arith, subst}
+use Rattle.std.proofs.Common.{refl, length, not, ◌∙◌, ◌<◌, ◌-◌, sym, ap, arith, subst}
 use Rattle.pop_text.specs.Reading.{Uses}
-use Rattle.pop_text.specs.Words.{limit, without_trailing}
-use Rattle.pop_text.proofs.Using.{ends_then, failures_then, still_stuck}
-use Rattle.pop_text.proofs.Lines.{line_more, line_ends, input_ends, line_fault, no_ten, uses_line, uses_last, uses_some}
+use Rattle.pop_text.specs.Words.{is_in_line, limit, without_trailing}
+use Rattle.pop_text.proofs.Using.{ends_then, failures_then, no_line_ends, one_line_end, still_stuck}
+use Rattle.pop_text.proofs.Lines.{line_lines, line_more, line_ends, input_ends, line_fault, no_ten, uses_line, uses_last, uses_some}
 use Rattle.pop_text.proofs.scanner.Scanner.rest_of_line.Goals as goal
+
+pub advance-requires-clause-lines : goal.advance-requires-clause-lines
+advance-requires-clause-lines g c = let at = rw (c.in-Ok-Some-eq10.field-0-is, c.in-Ok-Some-eq10.field-0-0-test) at c.in-Ok-Some-eq10.ensures.at in one_line_end c.peek.new.self at.0 at.1
+
+pub advance-requires-in-Ok-Some-clause-lines : goal.advance-requires-in-Ok-Some-clause-lines
+advance-requires-in-Ok-Some-clause-lines g c =
+    let part = c.line_part-part.ensures in
+    no_line_ends is_in_line c.peek.new.self c.line_part-part.result.now (length c.line_part-part.result.now) part refl (line_lines c.line_part-part.result.now part.all)
 
 pub line-preserved : goal.line-preserved
 line-preserved g c =
     let i = c.line.invariant in
     let now = g.S.Source.remaining c.peek.new.source in
-    let used = subst (λ part. Uses c.peek.new.self c.advance_by.new.self now now part) (sym c.line_part-part.ensures.front) (c.advance_by.ensures.uses now) in
+    let new = c.advance-in-Ok-Some.new.self in
+    let used = subst (λ part. Uses c.peek.new.self new now now part) (sym c.line_part-part.ensures.front) (c.advance-in-Ok-Some.ensures.uses now) in
     record {
-      line = rw c.keep_all.ensures (line_more c.args.self.now c.line.self c.peek.new.self c.advance_by.new.self (g.S.Source.remaining c.args.source.now) (g.S.Source.remaining c.line.source) now c.line.kept.items
-          i.line c.peek.ensures.uses c.line_part-part.result.now c.line_part-part.ensures.plain used);
+      line = rw c.keep_all.ensures (line_more c.args.self.now c.line.self c.peek.new.self new (g.S.Source.remaining c.args.source.now) (g.S.Source.remaining c.line.source) now c.line.kept.items
+          i.line c.peek.ensures.uses c.line_part-part.result.now c.line_part-part.ensures.all used);
       stuck = λ fault at. let bad = (c.peek.ensures.stuck fault (still_stuck c.args.self.now c.line.self fault (i.stuck fault at) at)).0 in let read = c.in-Ok-Some.is in cc;
-      seen = λ s. rw c.advance_by.ensures.end (c.peek.ensures.seen (i.seen s));
-      ends = rw c.advance_by.ensures.end (ends_then _ _ _ i.ends c.peek.ensures.ends);
-      counted = rw c.advance_by.ensures.end (failures_then _ _ _ _ _ _ i.ends c.peek.ensures.ends i.counted c.peek.ensures.counted);
+      seen = λ s. rw c.advance-in-Ok-Some.ensures.end (c.peek.ensures.seen (i.seen s));
+      ends = rw c.advance-in-Ok-Some.ensures.end (ends_then _ _ _ i.ends c.peek.ensures.ends);
+      counted = rw c.advance-in-Ok-Some.ensures.end (failures_then _ _ _ _ _ _ i.ends c.peek.ensures.ends i.counted c.peek.ensures.counted);
     }
 
 pub line-smaller : goal.line-smaller
 line-smaller g c =
+    let part = c.line_part-part.ensures in
     let at = rw c.in-Ok-Some.field-0-is at c.in-Ok-Some.ensures.at in
-    let some = c.line_part-part.ensures.some c.in-Ok-Some.field-0-0 at.0 at.1 (no_ten c.in-Ok-Some.field-0-0 c.in-Ok-Some.field-0-0-test.1) at.2 in
-    let fewer : limit - c.advance_by.new.self.used < limit - c.line.self.used = omega (arith, some, c.advance_by.ensures.used, c.peek.ensures.uses.used, at.2) in
+    let some = part.some c.in-Ok-Some.field-0-0 at.0 at.1 (ap not (no_ten c.in-Ok-Some.field-0-0 c.in-Ok-Some.field-0-0-test.1)) at.2 in
+    let fewer : limit - c.advance-in-Ok-Some.new.self.used < limit - c.line.self.used = omega (arith, some, part.room, c.advance-in-Ok-Some.ensures.used, c.peek.ensures.uses.used) in
     fewer
 
 pub returns-in-Ok-Some-eq10-clause-text : goal.returns-in-Ok-Some-eq10-clause-text

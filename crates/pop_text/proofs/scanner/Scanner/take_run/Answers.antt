@@ -1,28 +1,41 @@
-use Rattle.std.proofs.Common.{◌≡◌, ◌∙◌, sym, [], false, arith, inl, inr}
+use Rattle.std.proofs.Common.{refl, length, ◌≡◌, ◌∙◌, ◌-◌, ◌<◌, sym, subst, [], true, not, ap, arith, inl, inr}
 use Rattle.std.proofs.lemmas.List.{append-nil}
 use Rattle.std.proofs.lemmas.Result.{err_from_is_err_and}
-use Rattle.pop_text.specs.Words.{is_gap}
-use Rattle.pop_text.proofs.Using.{uses_then, runs_kept, runs_full, runs_more, ends_then, failures_then}
+use Rattle.pop_text.specs.Words.{is_in_word, limit}
+use Rattle.pop_text.specs.Reading.{Uses}
+use Rattle.pop_text.proofs.Left.{solid_lines}
+use Rattle.pop_text.proofs.Using.{uses_then, runs_kept, runs_more, ends_then, failures_then, no_line_ends}
 use Rattle.pop_text.proofs.scanner.Scanner.take_run.Goals as goal
-use Rattle.pop_text.proofs.scanner.Scanner.take_run.Goals.{then-is_full, else-is_full}
+
+pub advance-requires-clause-lines : goal.advance-requires-clause-lines
+advance-requires-clause-lines g c =
+    no_line_ends is_in_word c.peek.new.self c.run_part-part.result.now (length c.run_part-part.result.now) c.run_part-part.ensures refl (solid_lines c.run_part-part.result.now c.run_part-part.ensures.all)
 
 pub run-preserved : goal.run-preserved
 run-preserved g c =
     let i = c.run.invariant in
+    let now = g.S.Source.remaining c.peek.new.source in
+    let part = c.run_part-part.ensures in
+    let here = rw c.in-Some.is at c.in_ok-byte.ensures.at in
+    let out : is_in_word c.in-Some.byte ≡ true = ap not (sym c.in_gap.ensures ∙ c.if-not-in_gap.true) in
+    let some = part.some c.in-Some.byte here.0 here.1 out here.2 in
+    let used = subst (λ bytes. Uses c.peek.new.self c.advance.new.self now now bytes) (sym part.front) (c.advance.ensures.uses now) in
     record {
-      runs =
-          let here = rw c.in-Some.is at c.in_ok-byte.ensures.at in
-          let out : is_gap c.in-Some.byte ≡ false = sym c.in_gap.ensures ∙ c.if-not-in_gap.true in
-          elim c.if-is_full.branch [
-            | then-is_full w ↦ rw (w.word-is, w.fits-is) (runs_full c.args.self.now c.run.self c.peek.new.self c.advance.new.self (g.S.Source.remaining c.args.source.now) (g.S.Source.remaining c.run.source) (g.S.Source.remaining c.peek.new.source)
-                c.run.word.items c.run.fits c.in-Some.byte here.0 (grind arith) out i.runs c.peek.ensures.uses here.1 (c.advance.ensures.uses _))
-            | else-is_full w ↦ rw (w.word-is, w.fits-is, w.push.ensures.items) (runs_more c.args.self.now c.run.self c.peek.new.self c.advance.new.self (g.S.Source.remaining c.args.source.now) (g.S.Source.remaining c.run.source) (g.S.Source.remaining c.peek.new.source)
-                c.run.word.items c.run.fits c.in-Some.byte here.0 (grind arith) out i.runs c.peek.ensures.uses here.1 (c.advance.ensures.uses _))
-          ];
+      runs = rw (c.keep_run-fits.ensures.kept, c.keep_run-fits.ensures.fits) (runs_more c.args.self.now c.run.self c.peek.new.self c.advance.new.self (g.S.Source.remaining c.args.source.now) (g.S.Source.remaining c.run.source) now
+          c.run.word.items c.run_part-part.result.now c.run.fits i.runs c.peek.ensures.uses part.all some used);
       seen = λ s. rw c.advance.ensures.end (c.peek.ensures.seen (i.seen s));
       ends = rw c.advance.ensures.end (ends_then _ _ _ i.ends c.peek.ensures.ends);
       counted = rw c.advance.ensures.end (failures_then _ _ _ _ _ _ i.ends c.peek.ensures.ends i.counted c.peek.ensures.counted);
     }
+
+pub run-smaller : goal.run-smaller
+run-smaller g c =
+    let part = c.run_part-part.ensures in
+    let here = rw c.in-Some.is at c.in_ok-byte.ensures.at in
+    let out : is_in_word c.in-Some.byte ≡ true = ap not (sym c.in_gap.ensures ∙ c.if-not-in_gap.true) in
+    let some = part.some c.in-Some.byte here.0 here.1 out here.2 in
+    let fewer : limit - c.advance.new.self.used < limit - c.run.self.used = omega (arith, some, part.room, c.advance.ensures.used, c.peek.ensures.uses.used) in
+    fewer
 
 pub returns-in_err-byte-clause-run : goal.returns-in_err-byte-clause-run
 returns-in_err-byte-clause-run g c = let p = err_from_is_err_and c.from_residual.result c.from_residual.ensures.1 in rw (p.1, p.2)

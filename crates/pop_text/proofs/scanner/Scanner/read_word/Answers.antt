@@ -2,7 +2,7 @@ use Rattle.std.proofs.Common.{ap}
 use Rattle.pop_text.specs.Words.{is_in_word}
 use Rattle.pop_text.proofs.Using.{failures_then, no_run}
 use Rattle.pop_text.proofs.Next.{next_fits, next_long, next_cut, next_none, uses_fits, uses_long, uses_cut}
-use Rattle.pop_text.proofs.scanner.Scanner.next_word.Goals as goal
+use Rattle.pop_text.proofs.scanner.Scanner.read_word.Goals as goal
 
 pub returns-in-Ok-None-clause-word : goal.returns-in-Ok-None-clause-word
 returns-in-Ok-None-clause-word g c = next_none _ _ _ _ c.skip_gap.ensures.uses (rw c.in-Ok-None.field-0-is at c.in-Ok-None.ensures.at)

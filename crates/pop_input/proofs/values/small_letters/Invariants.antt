@@ -1,6 +1,6 @@
 use Rattle.std.proofs.Common.{◌≡◌, map, take}
 use Rattle.std.specs.Char.{to_ascii_lowercase}
-use Rattle.pop_input.proofs.names.small_letters.Given as goal
+use Rattle.pop_input.proofs.values.small_letters.Given as goal
 
 abbrev pub invariant-loop-byte : goal.invariant-loop-byte
 invariant-loop-byte l = l.small.items ≡ map to_ascii_lowercase (take l.byte-index l.word)
