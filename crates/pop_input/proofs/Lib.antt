@@ -9,3 +9,4 @@ pub mod Numbers
 pub mod Numbered
 mod Rows
 pub mod Naming
+pub mod Skipping

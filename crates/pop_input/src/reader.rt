@@ -1,8 +1,9 @@
 //! Problems and faults, one after another.
-ghost use Rattle.std.specs.Prelude.{◌≡◌, ◌<◌, ◌≤◌, ◌⊎◌, length, true};
+ghost use Rattle.std.specs.Prelude.{◌≡◌, ◌<◌, ◌≤◌, ◌⊎◌, None, length, true};
 ghost use Rattle.pop_text.specs.Bytes.{greatest};
 ghost use Rattle.pop_text.specs.Words.{limit};
 ghost use Rattle.pop_text.specs.Reading.{IsSeen, failures_after};
+ghost use Rattle.pop_text.specs.Plain.{Skips};
 ghost use Rattle.pop_text.specs.declared.scanner.End.{End};
 ghost use Rattle.pop_input.specs.Standing.{IsNumbered, NextItem, is_item, next_behind as behind, start, work_left};
 ghost use Rattle.pop_input.specs.Closings.{cut_fault, last_of};
@@ -100,7 +101,7 @@ impl Reader {
                             self.next_block = next_behind(last);
                             return block.closed(word.line, last);
                         }
-                        None => {}
+                        None => skip_on(&mut self.scanner, block.fault),
                     }
                 }
                 Token::Ended(line) => {
@@ -120,6 +121,16 @@ impl Reader {
                 },
             }
         }
+    }
+}
+
+// After a fault, uses words that say nothing.
+fn skip_on(scanner: &mut Scanner, fault: Option<Fault>)
+    ensures skips { Skips scanner.old scanner.new }
+    ensures sound { fault ≡ None → scanner.new ≡ scanner.old }
+{
+    if fault.is_some() {
+        scanner.skip_plain();
     }
 }
 

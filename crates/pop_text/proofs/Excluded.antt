@@ -18,7 +18,7 @@ no_more : (xs behind : List ℕ) → xs ≡ xs ++ behind → behind ≡ []
 no_more xs [] e = refl
 no_more xs (b ∷ behind) e = absurd (omega (arith, ap length e, length-append xs (b ∷ behind)))
 
-gap_or_word : (b : ℕ) → is_gap b ≡ true → is_in_word b ≡ true → ⊥
+pub gap_or_word : (b : ℕ) → is_gap b ≡ true → is_in_word b ≡ true → ⊥
 gap_or_word b g w = grind (arith, g, w)
 
 -- a gap before a run is the same one, and nothing follows

@@ -74,7 +74,7 @@ solid_lines (b ∷ run) h =
 gap_words : (line : ℕ) (gap view : List ℕ) (tail : Tail) → list_all is_gap gap ≡ true → words_by None line (gap ++ view) tail ≡ words_by None (line + count_by is_line_end gap) view tail
 gap_words line gap view tail h = same_words _ _ tail _ _ (skip_gap (is_cut tail) line gap view h) (count_then line gap view)
 
-abbrev run_words : Bool → ℕ → List ℕ → List ℕ → Tail → Words
+abbrev pub run_words : Bool → ℕ → List ℕ → List ℕ → Tail → Words
 run_words true line run view tail = words_by (Some run) line view tail
 run_words false line run view tail = put_before (Word line run ∷ []) (words_by None line view tail)
 
@@ -171,7 +171,7 @@ cut_view : (line now : ℕ) (gap run view : List ℕ) (tail : Tail) (fault : Rea
 cut_view line now gap run view tail fault v t g r n =
     rw (v, t, n, append-nil (gap ++ run)) (gap_words line gap run (fault_tail fault) g ∙ cut_words (line + count_by is_line_end gap) run (fault_tail fault) (cut_by_fault fault) r)
 
-word_view : (line now b : ℕ) (gap run view : List ℕ) (tail : Tail) → list_all is_gap gap ≡ true → list_all is_in_word (b ∷ run) ≡ true → RunEnds (is_cut tail) view → now ≡ line + count_by is_line_end gap
+pub word_view : (line now b : ℕ) (gap run view : List ℕ) (tail : Tail) → list_all is_gap gap ≡ true → list_all is_in_word (b ∷ run) ≡ true → RunEnds (is_cut tail) view → now ≡ line + count_by is_line_end gap
     → words_by None line ((gap ++ b ∷ run) ++ view) tail ≡ run_words (is_text_word (b ∷ run)) now (b ∷ run) view tail
 word_view line now b gap run view tail g r ends n =
     ap (λ v. words_by None line v tail) (append_assoc gap (b ∷ run) view) ∙ gap_words line gap ((b ∷ run) ++ view) tail g ∙ rw n (word_words (line + count_by is_line_end gap) b run view tail r ends)
@@ -235,7 +235,7 @@ pub run_some : (mid new : Reading) (met left : Option (List ℕ)) (run rest : Li
 run_some mid new met left run rest b u at out over = first_byte run u.taken [] rest b new (ap (λ w. w ++ u.taken) (sym at) ∙ u.unread) out over
 
 -- a word too long is no text word
-and_false : (x : Bool) → (x && false) ≡ false
+pub and_false : (x : Bool) → (x && false) ≡ false
 and_false true = refl
 and_false false = refl
 

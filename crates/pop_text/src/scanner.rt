@@ -1,10 +1,11 @@
 //! Words and text lines of a source.
-ghost use Rattle.std.specs.Prelude.{◌≡◌, ◌<◌, ◌+◌, ◌-◌, ◌++◌, ◌⊎◌, ◌≢◌, [], ◌∷◌, List, ℕ, count_by, drop, length, nat_lt, Some, None, Ok, take, Option, Err, IfErr, IfOk, IfSome, false, true, ◌≤◌};
+ghost use Rattle.std.specs.Prelude.{◌≡◌, ◌<◌, ◌+◌, ◌-◌, ◌++◌, ◌⊎◌, ◌≢◌, [], ◌∷◌, List, ℕ, count_by, drop, length, nat_lt, slice_index, Some, None, Ok, take, Option, Err, IfErr, IfOk, IfSome, false, true, ◌≤◌};
 ghost use Rattle.pop_text.specs.Bytes.{greatest};
 ghost use Rattle.std.specs.List.{list_all};
 ghost use Rattle.pop_text.specs.Words.{limit, is_gap, is_in_line, is_in_word, is_line_end};
 ghost use Rattle.pop_text.specs.Reading.{beginning, IsFront, Uses, UsesAll, IsSeen, failures_after};
 ghost use Rattle.pop_text.specs.Runs.{Peeks, RunsTo, Sticks, UsesLine, UsesWord};
+ghost use Rattle.pop_text.specs.Plain.{IsPlain, RunsOut, Skips, is_named, is_named_front};
 ghost use Rattle.pop_text.specs.Left.{NextWord, RestOfLine, found_by};
 ghost use Rattle.pop_text.specs.declared.read_fault.ReadFault.{ReadFault};
 
@@ -242,6 +243,14 @@ impl Scanner {
         }
     }
 
+    /// Uses words that stand whole in the window and begin like no text word and no closing word, up to the first other one.
+    pub fn skip_plain(&mut self)
+        ensures { Skips self.old self.new }
+    {
+        let plain = plain_front(self.view());
+        self.advance(plain.count, plain.line_ends);
+    }
+
     /// The next word, or none at the end of the input. The byte behind it is not used yet.
     /// A word that the limit of the input or a failure cuts is none: that fault is answered in its place.
     pub fn next_word<S: Source>(&mut self, source: &mut S) -> Result<Option<Word>, ReadFault>
@@ -328,15 +337,15 @@ impl Scanner {
     }
 }
 
-// Blanks and line ends, and how many of them are line ends.
+// How many bytes, and how many of them are line ends.
 #[derive(Clone, Copy)]
-struct Gap {
+struct Front {
     count: usize,
     line_ends: usize,
 }
 
 // How many blanks and line ends stand first.
-fn gap_front(view: &[u8]) -> Gap
+fn gap_front(view: &[u8]) -> Front
     ensures within { result.count ≤ length view.now }
     ensures all { list_all is_gap (take result.count view.now) ≡ true }
     ensures lines { result.line_ends ≡ count_by is_line_end (take result.count view.now) }
@@ -345,13 +354,13 @@ fn gap_front(view: &[u8]) -> Gap
     let mut line_ends = 0;
     'gap: for (count, &byte) in view.iter().enumerate() {
         if !in_gap(byte) {
-            return Gap { count, line_ends };
+            return Front { count, line_ends };
         }
         if byte == b'\n' {
             line_ends += 1;
         }
     }
-    Gap {
+    Front {
         count: view.len(),
         line_ends,
     }
@@ -362,6 +371,7 @@ fn run_front(view: &[u8]) -> usize
     ensures within { result ≤ length view.now }
     ensures all { list_all is_in_word (take result view.now) ≡ true }
     ensures some { (b : ℕ) → (rest : List ℕ) → view.now ≡ b ∷ rest → is_in_word b ≡ true → 0 < result }
+    ensures over { result < length view.now → is_gap (slice_index view.now result) ≡ true }
 {
     'run: for (count, &byte) in view.iter().enumerate() {
         if in_gap(byte) {
@@ -369,6 +379,53 @@ fn run_front(view: &[u8]) -> usize
         }
     }
     view.len()
+}
+
+// How many bytes the plain words have that stand first, with the gaps before them. Behind each stands a gap.
+fn plain_front(view: &[u8]) -> Front
+    ensures within { result.count ≤ length view.now }
+    ensures plain { IsPlain (take result.count view.now) }
+    ensures over { RunsOut (take result.count view.now) (drop result.count view.now) }
+    ensures lines { result.line_ends ≡ count_by is_line_end (take result.count view.now) }
+{
+    let mut plain = Front {
+        count: 0,
+        line_ends: 0,
+    };
+    'words: while plain.count < view.len() {
+        let left = &view[plain.count..];
+        let gap = gap_front(left);
+        let behind = &left[gap.count..];
+        let run = run_front(behind);
+        if run == 0 || run == behind.len() || is_named(&behind[..run]) {
+            return plain;
+        }
+        plain.count += gap.count + run;
+        plain.line_ends += gap.line_ends;
+    }
+    plain
+}
+
+// Whether the word begins like a text word or a closing word.
+fn is_named(word: &[u8]) -> bool
+    ensures { result ≡ is_named word.now }
+{
+    match word {
+        [a, b, c, ..] => is_front(a.to_ascii_lowercase(), b.to_ascii_lowercase(), c.to_ascii_lowercase()),
+        _ => false,
+    }
+}
+
+// Whether a text word or a closing word begins with these small letters.
+fn is_front(a: u8, b: u8, c: u8) -> bool
+    ensures { result ≡ is_named_front a b c }
+{
+    (a == b't' && b == b'i' && c == b't')
+        || (a == b'a' && b == b'u' && c == b't')
+        || (a == b'o' && b == b'r' && c == b'i')
+        || (a == b'r' && b == b'e' && c == b'm')
+        || (a == b'n' && b == b'e' && c == b'x')
+        || (a == b'e' && b == b'n' && c == b'd')
 }
 
 // How many bytes stand before the first line end.

@@ -5,6 +5,7 @@ use Rattle.pop_input.specs.Closings.{last_of}
 use Rattle.pop_input.specs.Standing.{Standing}
 use Rattle.pop_input.specs.declared.reader.Next.TheVariants.{Later, Nothing}
 use Rattle.pop_input.proofs.Items.{block_starts, line_read, long_read, open_read, not_closing}
+use Rattle.pop_input.proofs.Skipping.{skip_read}
 use Rattle.pop_input.proofs.Ends.{word_closes, input_ends, cut_with_fault, cut_without_fault}
 use Rattle.pop_input.specs.declared.item.Last.TheVariants.{No}
 use Rattle.pop_input.proofs.Numbers.{SmallFault, small_item, ended_numbered, cut_numbered}
@@ -50,15 +51,19 @@ words-preserved-in-TooLong g c =
 pub words-preserved : goal.words-preserved
 words-preserved g c =
     let i = c.words.invariant in
-    let t = c.in-Word.ensures.token in
+    let t = c.next_token.ensures.token in
+    let word = rw c.in-Word.is at t in
+    let new = c.skip_on.new.scanner in
     let is : last_of (command_of c.next_token.new.word.bytes.items) ≡ None = ap (λ text. last_of (command_of text)) (sym c.as_slice.ensures.value) ∙ sym c.closing_of.ensures ∙ c.in-None.is in
     record {
-      block = open_read c.match-self.first c.args.self.now.at c.words.self-inside.scanner c.next_token.new.scanner (g.S.Source.remaining c.args.source.now) (g.S.Source.remaining c.words.source) (g.S.Source.remaining c.next_token.new.source) c.words.block c.read.new.self i.block
-          c.next_token.new.word.line c.next_token.new.word.bytes.items t.0 (not_closing _ is) (c.read.ensures.fault, λ none. (c.read.ensures.begun none, c.read.ensures.draft none, c.read.ensures.title, c.read.ensures.author));
+      block = skip_read c.match-self.first c.args.self.now.at c.next_token.new.scanner new (g.S.Source.remaining c.args.source.now) (g.S.Source.remaining c.next_token.new.source) c.read.new.self
+          (open_read c.match-self.first c.args.self.now.at c.words.self-inside.scanner c.next_token.new.scanner (g.S.Source.remaining c.args.source.now) (g.S.Source.remaining c.words.source) (g.S.Source.remaining c.next_token.new.source) c.words.block c.read.new.self i.block
+              c.next_token.new.word.line c.next_token.new.word.bytes.items word.0 (not_closing _ is) (c.read.ensures.fault, λ none. (c.read.ensures.begun none, c.read.ensures.draft none, c.read.ensures.title, c.read.ensures.author)))
+          c.skip_on.ensures.skips c.skip_on.ensures.sound;
       starts = i.starts;
-      seen = λ s. c.next_token.ensures.seen (i.seen s);
-      ends = ends_then _ _ _ i.ends c.next_token.ensures.ends;
-      counted = failures_then _ _ _ _ _ _ i.ends c.next_token.ensures.ends i.counted c.next_token.ensures.counted;
+      seen = λ s. rw c.skip_on.ensures.skips.end (c.next_token.ensures.seen (i.seen s));
+      ends = rw c.skip_on.ensures.skips.end (ends_then _ _ _ i.ends c.next_token.ensures.ends);
+      counted = rw c.skip_on.ensures.skips.end (failures_then _ _ _ _ _ _ i.ends c.next_token.ensures.ends i.counted c.next_token.ensures.counted);
     }
 
 pub returns-in-Some-clause-item : goal.returns-in-Some-clause-item

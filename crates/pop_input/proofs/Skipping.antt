@@ -1,0 +1,83 @@
+-- Plain words behind a fault change nothing.
+use Rattle.std.proofs.Common.{◌≡◌, ℕ, List, [], ◌∷◌, ◌++◌, Option, None, Some, Bool, true, false, not, ◌<◌, if◌then◌else◌, refl, sym, ◌∙◌, ap, arith, subst, ◌⊎◌, inl, inr, append_assoc}
+use Rattle.std.specs.List.{list_all}
+use Rattle.std.proofs.lemmas.List.{append-nil}
+use Rattle.std.proofs.lemmas.List.Folds.{list_all-append}
+use Rattle.std.specs.Prelude.{◌&&◌, codes, option_map}
+use Rattle.pop_text.specs.Words.{Token as Part, Word, TextLine, is_short_form}
+use Rattle.pop_text.specs.Plain.{Skips, is_named, is_plain}
+use Rattle.pop_text.specs.Reading.{Reading}
+use Rattle.pop_text.specs.Left.{among}
+use Rattle.pop_text.proofs.Plain.{plain_no_closing}
+use Rattle.pop_input.specs.Names.{closes, command_of, or_else, section_of}
+use Rattle.pop_input.specs.Blocks.{at_line, block_fault, has_begun}
+use Rattle.pop_input.specs.WordFaults.{fault_of}
+use Rattle.pop_input.specs.declared.block.Block.{Block}
+use Rattle.pop_input.specs.declared.item.Fault.{Fault}
+use Rattle.pop_input.specs.declared.names.Section.{Section}
+use Rattle.pop_input.specs.declared.names.Command.{Command}
+use Rattle.pop_input.specs.declared.names.Command.TheVariants.{Begin, Enter}
+use Rattle.pop_input.proofs.Blocks.{block_more, is_open, said}
+use Rattle.pop_input.proofs.Items.{BlockSoFar}
+use Rattle.pop_input.proofs.Taking.{takes_then}
+
+enter_open : (section : Option Section) → closes (option_map Enter section) ≡ false
+enter_open None = refl
+enter_open (Some section) = refl
+
+no_closing : (text : List ℕ) (begins : Bool) → is_short_form (codes "beginproblem") text ≡ begins → is_named text ≡ false → closes (command_of text) ≡ false
+unfolding command_of
+no_closing text true is plain = rw is refl
+no_closing text false is plain = let p = plain_no_closing text plain in rw (is, p.0, p.1) (enter_open (section_of text))
+
+not_true : (b : Bool) → not b ≡ true → b ≡ false
+not_true false h = refl
+not_true true h = cc
+
+-- a plain word closes no block
+plain_open : (token : Part) → is_plain token ≡ true → is_open token ≡ true
+plain_open (TextLine line keyword text) h = refl
+plain_open (Word line text) h = ap not (no_closing text (is_short_form (codes "beginproblem") text) refl (not_true (is_named text) h))
+
+and_parts : (p q : Bool) → (p && q) ≡ true → (p ≡ true) × (q ≡ true)
+and_parts true q h = (refl, h)
+and_parts false q h = cc
+
+plain_parts : (token : Part) (tokens : List Part) → list_all is_plain (token ∷ tokens) ≡ true → (is_plain token ≡ true) × (list_all is_plain tokens ≡ true)
+plain_parts token tokens h = and_parts (is_plain token) (list_all is_plain tokens) h
+
+plain_all : (tokens : List Part) → list_all is_plain tokens ≡ true → list_all is_open tokens ≡ true
+plain_all [] h = refl
+plain_all (token ∷ tokens) h = let p = plain_parts token tokens h in rw (plain_open token p.0, plain_all tokens p.1) refl
+
+-- the first fault stays
+fault_stays : (first : Bool) (fault : Fault) (done tokens : List Part) → list_all is_plain tokens ≡ true → block_fault first done ≡ Some fault → block_fault first (done ++ tokens) ≡ Some fault
+fault_stays first fault done [] h is = ap (block_fault first) (append-nil done) ∙ is
+fault_stays first fault done (TextLine line keyword text ∷ tokens) h is = let bad = (plain_parts (TextLine line keyword text) tokens h).0 in cc
+fault_stays first fault done (Word line text ∷ tokens) h is =
+    let p = plain_parts (Word line text) tokens h in
+    ap (block_fault first) (sym (append_assoc done (Word line text ∷ []) tokens))
+    ∙ fault_stays first fault (done ++ Word line text ∷ []) tokens p.1 (block_more first done line text ∙ ap (λ f. or_else f (at_line line (fault_of (has_begun first done) (said first done) text))) is)
+
+module _ (first : Bool) (old mid new : Reading) (had left : Option (List ℕ)) (block : Block) (b : BlockSoFar first old mid had left block) (s : Skips mid new) where
+  behind_fault : (fault : Fault) → block.fault ≡ Some fault → BlockSoFar first old new had left block
+  behind_fault fault is = record {
+    done = b.done ++ s.tokens;
+    takes = takes_then (among old) (among mid) (among new) had left left b.done s.tokens b.takes (s.takes left);
+    plain = list_all-append is_open b.done s.tokens ∙ rw (b.plain, plain_all s.tokens s.plain) refl;
+    fault = is ∙ sym (fault_stays first fault b.done s.tokens s.plain (sym b.fault ∙ is));
+    told = λ none. absurd (let two : Some fault ≡ None = sym is ∙ none in cc);
+    on = omega (arith, b.on, s.on);
+    further = further_on b.further;
+  }
+    where
+      further_on : block.fault ≡ None ⊎ (old.used < mid.used) → block.fault ≡ None ⊎ (old.used < new.used)
+      further_on (inl none) = inl none
+      further_on (inr far) = inr (omega (arith, far, s.on))
+
+  by_fault : (fault : Option Fault) → block.fault ≡ fault → (block.fault ≡ None → new ≡ mid) → BlockSoFar first old new had left block
+  by_fault None is same = subst (λ place. BlockSoFar first old place had left block) (sym (same is)) b
+  by_fault (Some fault) is same = behind_fault fault is
+
+  pub skip_read : (block.fault ≡ None → new ≡ mid) → BlockSoFar first old new had left block
+  skip_read same = by_fault block.fault refl same

@@ -1,0 +1,191 @@
+-- Plain words: what skipping them takes.
+use Rattle.std.proofs.Common.{◌≡◌, ◌<◌, ◌≤◌, ℕ, zero, suc, ◌+◌, ◌-◌, List, [], ◌∷◌, ◌++◌, length, length-append, length-take, length-drop, take, drop, get_or, Option, None, Bool, true, false, refl, sym, ◌∙◌, ap, arith, append_assoc, ◌⊎◌, inl, inr, count_by, not, map}
+use Rattle.std.specs.Prelude.{◌&&◌, ◌||◌, ◌==◌, nat_le, codes}
+use Rattle.std.specs.Char.{to_ascii_lowercase}
+use Rattle.std.specs.List.{list_all}
+use Rattle.std.proofs.Math.Seq.{take-add}
+use Rattle.std.proofs.lemmas.List.{append-nil, drop-take, drop-drop, drop_more, take-append-drop}
+use Rattle.std.proofs.lemmas.List.Folds.{list_all-append}
+use Rattle.pop_text.specs.Words.{Input, Words, Token, Word, Tail, is_cut, is_gap, is_in_word, is_line_end, is_short_form, is_text_word, limit, words_by}
+use Rattle.pop_text.specs.Reading.{Reading, Uses}
+use Rattle.pop_text.specs.Left.{Takes, among, put_before}
+use Rattle.pop_text.specs.Plain.{IsPlain, RunsOut, Skips, is_named, is_named_front, is_plain}
+use Rattle.pop_text.proofs.WordLaws.{all_parts, RunEnds, with_gap}
+use Rattle.pop_text.proofs.Using.{amount_is, keeps_bytes}
+use Rattle.pop_text.proofs.Excluded.{gap_or_word}
+use Rattle.pop_text.proofs.Left.{and_false, count_then, follows_is, left_is, run_words, solid_lines, tail_at, view_at, word_view}
+
+-- Names.
+
+and_three : (p q r s : Bool) → ((p && q) && r) ≡ false → (p && (q && (r && s))) ≡ false
+and_three false q r s h = refl
+and_three true false r s h = refl
+and_three true true false s h = refl
+and_three true true true s h = cc
+
+-- a word with other first letters is no short form
+no_front : (x y z : ℕ) (name : List ℕ) (a b c : ℕ) (word : List ℕ) → (((to_ascii_lowercase a == x) && (to_ascii_lowercase b == y)) && (to_ascii_lowercase c == z)) ≡ false → is_short_form (x ∷ y ∷ z ∷ name) (a ∷ b ∷ c ∷ word) ≡ false
+no_front x y z name a b c word h =
+    ap (λ t. nat_le 3 (length (map to_ascii_lowercase (a ∷ b ∷ c ∷ word))) && t) (and_three (to_ascii_lowercase a == x) (to_ascii_lowercase b == y) (to_ascii_lowercase c == z) _ h) ∙ and_false (nat_le 3 (length (map to_ascii_lowercase (a ∷ b ∷ c ∷ word))))
+
+or_parts : (p q : Bool) → (p || q) ≡ false → (p ≡ false) × (q ≡ false)
+or_parts false q h = (refl, h)
+or_parts true q h = cc
+
+pub plain_no_text : (word : List ℕ) → is_named word ≡ false → is_text_word word ≡ false
+plain_no_text [] h = refl
+plain_no_text (a ∷ []) h = refl
+plain_no_text (a ∷ b ∷ []) h = refl
+plain_no_text (a ∷ b ∷ c ∷ word) h =
+    let five = or_parts _ _ h in
+    let four = or_parts _ _ five.0 in
+    let three = or_parts _ _ four.0 in
+    let two = or_parts _ _ three.0 in
+    let one = or_parts _ _ two.0 in
+    rw (no_front 116 105 116 (codes "le") a b c word one.0, no_front 97 117 116 (codes "hor") a b c word one.1, no_front 111 114 105 (codes "gin") a b c word two.1, no_front 114 101 109 (codes "ark") a b c word three.1) refl
+
+-- nor does it close a problem
+pub plain_no_closing : (word : List ℕ) → is_named word ≡ false → (is_short_form (codes "nextproblem") word ≡ false) × (is_short_form (codes "endproblem") word ≡ false)
+plain_no_closing [] h = (refl, refl)
+plain_no_closing (a ∷ []) h = (refl, refl)
+plain_no_closing (a ∷ b ∷ []) h = (refl, refl)
+plain_no_closing (a ∷ b ∷ c ∷ word) h =
+    let five = or_parts _ _ h in
+    let four = or_parts _ _ five.0 in
+    (no_front 110 101 120 (codes "tproblem") a b c word four.1, no_front 101 110 100 (codes "problem") a b c word five.1)
+
+-- Words, one more.
+
+put_both : (xs ys : List Token) (words : Words) → put_before xs (put_before ys words) ≡ put_before (xs ++ ys) words
+put_both xs ys words = rw (append_assoc xs ys words.tokens) refl
+
+pub none_plain : IsPlain []
+none_plain = record { tokens = λ line. []; plain = λ line. refl; words = λ line behind tail ends. let same : line + 0 ≡ line = omega arith in rw same refl }
+
+-- a run behind bytes begins behind a gap, or there are none
+runs_start : (bytes gap : List ℕ) (b : ℕ) (run rest behind : List ℕ) → list_all is_gap gap ≡ true → is_in_word b ≡ true → RunsOut bytes ((gap ++ b ∷ run) ++ rest) → (bytes ≡ []) ⊎ ((c : ℕ) × (more : List ℕ) × ((gap ++ b ∷ run) ++ behind ≡ c ∷ more) × (is_gap c ≡ true))
+runs_start bytes [] b run rest behind g w (inl none) = inl none
+runs_start bytes [] b run rest behind g w (inr is) = absurd (gap_or_word b is w)
+runs_start bytes (c ∷ gap) b run rest behind g w out = inr (c, (gap ++ b ∷ run) ++ behind, refl, (all_parts is_gap c gap g).0)
+
+module _ (bytes gap : List ℕ) (b : ℕ) (run : List ℕ) (blank : list_all is_gap gap ≡ true) (solid : list_all is_in_word (b ∷ run) ≡ true) (plain : is_named (b ∷ run) ≡ false) where
+  abbrev piece : List ℕ
+  piece = gap ++ b ∷ run
+
+  ends_by : (behind : List ℕ) (tail : Tail) → (bytes ++ piece ≡ []) ⊎ ((c : ℕ) × (more : List ℕ) × (behind ≡ c ∷ more) × (is_gap c ≡ true)) → RunEnds (is_cut tail) behind
+  ends_by behind tail (inl none) = absurd (omega (arith, ap length none, length-append bytes piece, length-append gap (b ∷ run)))
+  ends_by behind tail (inr here) = rw here.2 (with_gap here.3)
+
+  piece_words : (line : ℕ) (behind : List ℕ) (tail : Tail) → RunEnds (is_cut tail) behind → words_by None line (piece ++ behind) tail ≡ put_before (Word (line + count_by is_line_end gap) (b ∷ run) ∷ []) (words_by None (line + count_by is_line_end gap) behind tail)
+  piece_words line behind tail ends =
+      word_view line (line + count_by is_line_end gap) b gap run behind tail blank solid ends refl ∙ ap (λ t. run_words t (line + count_by is_line_end gap) (b ∷ run) behind tail) (plain_no_text (b ∷ run) plain)
+
+  lines_are : (line : ℕ) → (line + count_by is_line_end bytes) + count_by is_line_end gap ≡ line + count_by is_line_end (bytes ++ piece)
+  lines_are line = omega (arith, count_then line bytes piece, count_then (line + count_by is_line_end bytes) gap (b ∷ run), solid_lines (b ∷ run) solid)
+
+  pub plain_more : (rest : List ℕ) → IsPlain bytes → RunsOut bytes (piece ++ rest) → IsPlain (bytes ++ piece)
+  plain_more rest p out = record {
+    tokens = λ line. p.tokens line ++ Word ((line + count_by is_line_end bytes) + count_by is_line_end gap) (b ∷ run) ∷ [];
+    plain = λ line. list_all-append is_plain (p.tokens line) _ ∙ rw (p.plain line, plain) refl;
+    words = λ line behind tail ends.
+        let next : ℕ = line + count_by is_line_end bytes in
+        ap (λ v. words_by None line v tail) (append_assoc bytes piece behind)
+        ∙ p.words line (piece ++ behind) tail (runs_start bytes gap b run rest behind blank (all_parts is_in_word b run solid).0 out)
+        ∙ ap (put_before (p.tokens line)) (piece_words next behind tail (ends_by behind tail ends))
+        ∙ put_both (p.tokens line) (Word (next + count_by is_line_end gap) (b ∷ run) ∷ []) (words_by None (next + count_by is_line_end gap) behind tail)
+        ∙ ap (λ l. put_before (p.tokens line ++ Word (next + count_by is_line_end gap) (b ∷ run) ∷ []) (words_by None l behind tail)) (lines_are line);
+  }
+
+-- A step over a view: a gap of g bytes behind the first k, and a run of r.
+
+pub record Step (view : List ℕ) (k ends : ℕ) : Type 0 where
+  pub within : k ≤ length view
+  pub plain : IsPlain (take k view)
+  pub over : RunsOut (take k view) (drop k view)
+  pub lines : ends ≡ count_by is_line_end (take k view)
+
+runs_out : (bytes behind : List ℕ) → 0 < length behind → is_gap (get_or behind 0 0) ≡ true → RunsOut bytes behind
+runs_out bytes [] some is = absurd (omega arith)
+runs_out bytes (b ∷ behind) some is = inr is
+
+pub none_out : (behind : List ℕ) → RunsOut [] behind
+none_out [] = refl
+none_out (b ∷ behind) = inl refl
+
+drop_first : (behind : List ℕ) (r : ℕ) → r < length behind → get_or (drop r behind) 0 0 ≡ get_or behind r 0
+drop_first behind r less = rw (drop_more behind r 0 less) refl
+
+by_word : (bytes gap word rest : List ℕ) → 0 < length word → list_all is_gap gap ≡ true → list_all is_in_word word ≡ true → is_named word ≡ false → IsPlain bytes → RunsOut bytes ((gap ++ word) ++ rest) → IsPlain (bytes ++ (gap ++ word))
+by_word bytes gap [] rest some blank solid plain p out = absurd (omega arith)
+by_word bytes gap (b ∷ run) rest some blank solid plain p out = plain_more bytes gap b run blank solid plain rest p out
+
+module _ (view left behind : List ℕ) (k g r lines more : ℕ) (at_left : left ≡ drop k view) (at_behind : behind ≡ drop g left) (some : r ≡ 0 → ⊥) (short : r ≡ length behind → ⊥) (few : g ≤ length left) (fits : r ≤ length behind) where
+  word : List ℕ
+  word = take r behind
+
+  pieces : take (k + (g + r)) view ≡ take k view ++ (take g left ++ take r behind)
+  pieces = take-add k (g + r) view ∙ ap (λ t. take k view ++ t) (ap (take (g + r)) (sym at_left) ∙ take-add g r left ∙ ap (λ t. take g left ++ take r t) (sym at_behind))
+
+  rest_is : drop (k + (g + r)) view ≡ drop r behind
+  rest_is = sym (drop-drop (g + r) k view) ∙ ap (drop (g + r)) (sym at_left) ∙ sym (drop-drop r g left) ∙ ap (drop r) (sym at_behind)
+
+  parts : drop k view ≡ (take g left ++ take r behind) ++ drop r behind
+  parts = sym at_left ∙ sym (take-append-drop g left) ∙ ap (λ t. take g left ++ t) (sym at_behind ∙ sym (take-append-drop r behind)) ∙ sym (append_assoc (take g left) (take r behind) (drop r behind))
+
+  less : r < length behind
+  less = omega (arith, short, fits)
+
+  pub step_more : list_all is_gap (take g left) ≡ true → list_all is_in_word (take r behind) ≡ true → (r < length behind → is_gap (get_or behind r 0) ≡ true) → is_named (take r behind) ≡ false → more ≡ count_by is_line_end (take g left) → Step view k lines → Step view (k + (g + r)) (lines + more)
+  step_more blank solid over plain are s =
+      let size : length (take r behind) ≡ r = omega (arith, length-take r behind, fits) in record {
+        within = let at = s.within in omega (arith, at, ap length at_left, length-drop k view, ap length at_behind, length-drop g left, few, fits);
+        plain = rw pieces (by_word (take k view) (take g left) (take r behind) (drop r behind) (omega (arith, some, size)) blank solid plain s.plain (rw parts at s.over));
+        over = rw rest_is (runs_out (take (k + (g + r)) view) (drop r behind) (omega (arith, less, length-drop r behind)) (ap is_gap (drop_first behind r less) ∙ over less));
+        lines = let n = s.lines in rw pieces (omega (arith, n, are, count_then 0 (take k view) (take g left ++ take r behind), count_then 0 (take g left) (take r behind), solid_lines (take r behind) solid));
+      }
+
+-- What was skipped.
+
+first_of : (n : ℕ) (xs ys out : List ℕ) (b : ℕ) → b ∷ out ≡ take n xs → (more : List ℕ) × (take n (xs ++ ys) ≡ b ∷ more)
+first_of zero xs ys out b e = cc
+first_of (suc n) [] ys out b e = cc
+first_of (suc n) (c ∷ xs) ys out b e = let is : c ≡ b = cc in (take n (xs ++ ys), ap (λ h. h ∷ take n (xs ++ ys)) is)
+
+ends_at : (bytes out : List ℕ) (new : Reading) (rest : Input) → RunsOut bytes out → out ≡ take (limit - new.used) new.window → (bytes ≡ []) ⊎ ((b : ℕ) × (more : List ℕ) × (view_at new rest ≡ b ∷ more) × (is_gap b ≡ true))
+ends_at bytes [] new rest over is = inl over
+ends_at bytes (b ∷ out) new rest (inl none) is = inl none
+ends_at bytes (b ∷ out) new rest (inr gap) is = let front = first_of (limit - new.used) new.window rest.bytes out b is in inr (b, front.0, front.1, gap)
+
+module _ (old new : Reading) (bytes out : List ℕ) (uses : (had : Option (List ℕ)) → Uses old new had had bytes) (plain : IsPlain bytes) (over : RunsOut bytes out) (is : out ≡ take (limit - new.used) new.window) (within : new.used ≤ limit) where
+  skip_takes : (had : Option (List ℕ)) → Takes (among old) (among new) had had (plain.tokens old.line)
+  skip_takes had = let u = uses had in record {
+    bytes = u.taken;
+    taken = u.consumed;
+    follows = λ rest may. follows_is None old new had had bytes u within rest may;
+    amount = amount_is old new had had bytes u;
+    begin = λ rest may.
+        left_is None old new had had bytes u within rest
+        ∙ plain.words old.line (view_at new rest) (tail_at new rest) (ends_at bytes out new rest over is)
+        ∙ ap (λ l. put_before (plain.tokens old.line) (words_by None l (view_at new rest) (tail_at new rest))) (sym u.line);
+  }
+
+  pub skips : new.end ≡ old.end → length new.window ≤ length old.window → Skips old new
+  skips end waits = record {
+    tokens = plain.tokens old.line;
+    plain = plain.plain old.line;
+    takes = skip_takes;
+    on = omega (arith, (uses None).used);
+    within = λ before. within;
+    waits = waits;
+    end = end;
+  }
+
+-- what stands behind the front of a view
+pub behind_view : (view window : List ℕ) (room k : ℕ) → view ≡ take room window → k ≤ room → drop k view ≡ take (room - k) (drop k window)
+behind_view view window room k is few = let parts : room ≡ k + (room - k) = omega arith in ap (drop k) (is ∙ ap (λ n. take n window) parts) ∙ drop-take k (room - k) window
+
+takes_none : (place : Reading) (had : Option (List ℕ)) → Takes (among place) (among place) had had []
+takes_none place had = record { bytes = []; amount = omega arith; taken = keeps_bytes had; follows = λ rest may. may; begin = λ rest may. refl }
+
+pub skips_none : (place : Reading) → Skips place place
+skips_none place = record { tokens = []; plain = refl; takes = takes_none place; on = omega arith; within = λ h. h; waits = omega arith; end = refl }

@@ -1,0 +1,16 @@
+use Rattle.std.proofs.Common.{slice_range, ◌∙◌, ap, inl, refl, sym, arith, length}
+use Rattle.std.proofs.lemmas.List.{take_rest}
+use Rattle.pop_text.proofs.Plain.{none_plain, none_out, step_more}
+use Rattle.pop_text.proofs.scanner.plain_front.Goals as goal
+
+pub words-init : goal.words-init
+words-init c = record { within = omega arith; plain = none_plain; over = none_out c.args.view.now; lines = refl }
+
+pub words-preserved : goal.words-preserved
+words-preserved c =
+    let view = c.args.view.now in
+    let left = slice_range view c.words.plain.count (length view) in
+    let behind = slice_range left c.gap_front-gap.result.count (length left) in
+    step_more view left behind c.words.plain.count c.gap_front-gap.result.count c.run_front-run.result c.words.plain.line_ends c.gap_front-gap.result.line_ends
+    (take_rest view c.words.plain.count) (take_rest left c.gap_front-gap.result.count) c.if-run-eq0.false c.if-run-behind.false c.gap_front-gap.ensures.within c.run_front-run.ensures.within
+    c.gap_front-gap.ensures.all c.run_front-run.ensures.all c.run_front-run.ensures.over (sym c.is_named.ensures ∙ c.if-is_named.false) c.gap_front-gap.ensures.lines c.words.invariant

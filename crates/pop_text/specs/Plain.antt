@@ -1,0 +1,45 @@
+-- Words that say nothing in skipped text: those that begin like no text word and no word that closes a problem (own).
+use Rattle.std.specs.Prelude.{◌≡◌, ◌≤◌, ℕ, ◌+◌, ◌==◌, ◌&&◌, ◌||◌, not, List, [], ◌∷◌, ◌++◌, length, count_by, Option, None, Bool, true, false, ◌⊎◌}
+use Rattle.std.specs.List.{list_all}
+use Rattle.std.specs.Char.{to_ascii_lowercase}
+use Rattle.pop_text.specs.Words.{Token, Word, TextLine, Tail, is_cut, is_gap, is_line_end, limit, words_by}
+use Rattle.pop_text.specs.Reading.{Reading}
+use Rattle.pop_text.specs.Left.{Takes, among, put_before}
+
+-- tit, aut, ori, rem, nex, end: the first letters of title, author, origin, remark, nextproblem and endproblem
+abbrev pub is_named_front : ℕ → ℕ → ℕ → Bool
+is_named_front a b c =
+    (((((((a == 116 && b == 105) && c == 116) || ((a == 97 && b == 117) && c == 116)) || ((a == 111 && b == 114) && c == 105)) || ((a == 114 && b == 101) && c == 109)) || ((a == 110 && b == 101) && c == 120)) || ((a == 101 && b == 110) && c == 100))
+
+-- three letters or more that begin like one of these, in capitals or not
+abbrev pub is_named : List ℕ → Bool
+is_named [] = false
+is_named (a ∷ []) = false
+is_named (a ∷ b ∷ []) = false
+is_named (a ∷ b ∷ c ∷ word) = is_named_front (to_ascii_lowercase a) (to_ascii_lowercase b) (to_ascii_lowercase c)
+
+abbrev pub is_plain : Token → Bool
+is_plain (Word line text) = not (is_named text)
+is_plain (TextLine line keyword text) = false
+
+-- these bytes are none, or a gap or nothing stands behind them
+abbrev pub RunsOut : List ℕ → List ℕ → Type 0
+RunsOut bytes [] = bytes ≡ []
+RunsOut bytes (b ∷ behind) = (bytes ≡ []) ⊎ (is_gap b ≡ true)
+
+-- the bytes are plain words, with the gaps before them
+pub record IsPlain (bytes : List ℕ) : Type 0 where
+  pub tokens : ℕ → List Token
+  pub plain : (line : ℕ) → list_all is_plain (tokens line) ≡ true
+  pub words : (line : ℕ) (behind : List ℕ) (tail : Tail) → (bytes ≡ []) ⊎ ((b : ℕ) × (more : List ℕ) × (behind ≡ b ∷ more) × (is_gap b ≡ true))
+      → words_by None line (bytes ++ behind) tail ≡ put_before (tokens line) (words_by None (line + count_by is_line_end bytes) behind tail)
+
+-- plain words of the window were used
+pub record Skips (old new : Reading) : Type 0 where
+  pub tokens : List Token
+  pub plain : list_all is_plain tokens ≡ true
+  pub takes : (had : Option (List ℕ)) → Takes (among old) (among new) had had tokens
+  pub on : old.used ≤ new.used
+  pub within : old.used ≤ limit → new.used ≤ limit
+  pub waits : length new.window ≤ length old.window
+  pub end : new.end ≡ old.end
