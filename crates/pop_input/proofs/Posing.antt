@@ -51,6 +51,11 @@ well_formed_by : (state : State) (form : Form) → ArePut state.men → is_cross
 unfolding position_of
 well_formed_by state form put right = record { size = put.size; kings = put.kings; pawns = put.pawns; homes = homes state.men state.barred; crossed = right }
 
+-- without one it is
+pub well_formed_without : (state : State) (form : Form) (setup : Setup) → setup ≡ setup_of state form → ArePut state.men → state.crossed ≡ None → IsWellFormed (position_of setup)
+unfolding is_crossed_right
+well_formed_without state form setup is put none = rw is (well_formed_by state form put (rw none refl))
+
 -- where it isn't, the crossed square cannot be
 pub crossed_wrong : (state : State) (form : Form) → ArePut state.men → (IsWellFormed (position_of (setup_of state form)) → ⊥) → is_crossed_right state.men (starts form) state.crossed ≡ false
 crossed_wrong state form put ill = elim (cases_Bool (is_crossed_right state.men (starts form) state.crossed)) [

@@ -1,5 +1,5 @@
 -- Plain words behind a fault change nothing.
-use Rattle.std.proofs.Common.{◌≡◌, ℕ, List, [], ◌∷◌, ◌++◌, Option, None, Some, Bool, true, false, not, ◌<◌, if◌then◌else◌, refl, sym, ◌∙◌, ap, arith, subst, ◌⊎◌, inl, inr, append_assoc}
+use Rattle.std.proofs.Common.{◌≡◌, ℕ, List, [], ◌∷◌, ◌++◌, Option, None, Some, Bool, true, false, not, ◌<◌, refl, sym, ◌∙◌, ap, arith, subst, ◌⊎◌, inl, inr, append_assoc}
 use Rattle.std.specs.List.{list_all}
 use Rattle.std.proofs.lemmas.List.{append-nil}
 use Rattle.std.proofs.lemmas.List.Folds.{list_all-append}
@@ -15,8 +15,7 @@ use Rattle.pop_input.specs.WordFaults.{fault_of}
 use Rattle.pop_input.specs.declared.block.Block.{Block}
 use Rattle.pop_input.specs.declared.item.Fault.{Fault}
 use Rattle.pop_input.specs.declared.names.Section.{Section}
-use Rattle.pop_input.specs.declared.names.Command.{Command}
-use Rattle.pop_input.specs.declared.names.Command.TheVariants.{Begin, Enter}
+use Rattle.pop_input.specs.declared.names.Command.TheVariants.{Enter}
 use Rattle.pop_input.proofs.Blocks.{block_more, is_open, said}
 use Rattle.pop_input.proofs.Items.{BlockSoFar}
 use Rattle.pop_input.proofs.Taking.{takes_then}

@@ -1,5 +1,5 @@
 //! A problem as far as its words are read.
-ghost use Rattle.std.specs.Prelude.{◌≡◌, ◌≤◌, ◌<◌, ℕ, List, [], length, None, Some, Ok, Err, MatchResult, is_some, unwrap_or, fold, if◌then◌else◌};
+ghost use Rattle.std.specs.Prelude.{◌≡◌, ◌≤◌, ◌<◌, ℕ, List, [], length, None, Some, Ok, Err, MatchBool, MatchResult, is_some, unwrap_or, fold, if◌then◌else◌};
 ghost use Rattle.std.specs.List.{list_all, list_any};
 ghost use Rattle.chess_core.specs.Castling.{mark_unmoved, with_unmoved};
 ghost use Rattle.chess_core.specs.Position.{with_man};
@@ -392,7 +392,7 @@ impl Draft {
         if !has_men(diagram) {
             return Some(11);
         }
-        if !diagram.is_well_formed() {
+        if !self.is_well_formed(diagram, form) {
             return Some(15);
         }
         let board = Board::of(diagram);
@@ -403,6 +403,17 @@ impl Draft {
             return Some(18);
         }
         None
+    }
+
+    // Whether that diagram is well formed: only the crossed square may be wrong in it.
+    fn is_well_formed(&self, diagram: &Diagram, form: Form) -> bool
+        requires { diagram.now ≡ setup_of self.now form }
+        ensures { MatchBool result (IsWellFormed (position_of diagram.now)) (IsWellFormed (position_of diagram.now) → ⊥) }
+    {
+        match self.crossed {
+            None => true,
+            Some(_) => diagram.is_well_formed(),
+        }
     }
 
     // The castling squares that count as unmoved.

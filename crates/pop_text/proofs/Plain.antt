@@ -1,15 +1,15 @@
 -- Plain words: what skipping them takes.
-use Rattle.std.proofs.Common.{◌≡◌, ◌<◌, ◌≤◌, ℕ, zero, suc, ◌+◌, ◌-◌, List, [], ◌∷◌, ◌++◌, length, length-append, length-take, length-drop, take, drop, get_or, Option, None, Bool, true, false, refl, sym, ◌∙◌, ap, arith, append_assoc, ◌⊎◌, inl, inr, count_by, not, map}
+use Rattle.std.proofs.Common.{◌≡◌, ◌<◌, ◌≤◌, ℕ, zero, suc, ◌+◌, ◌-◌, List, [], ◌∷◌, ◌++◌, length, length-append, length-take, length-drop, take, drop, get_or, Option, None, Bool, true, false, refl, sym, ◌∙◌, ap, arith, append_assoc, ◌⊎◌, inl, inr, count_by, map}
 use Rattle.std.specs.Prelude.{◌&&◌, ◌||◌, ◌==◌, nat_le, codes}
 use Rattle.std.specs.Char.{to_ascii_lowercase}
 use Rattle.std.specs.List.{list_all}
 use Rattle.std.proofs.Math.Seq.{take-add}
-use Rattle.std.proofs.lemmas.List.{append-nil, drop-take, drop-drop, drop_more, take-append-drop}
+use Rattle.std.proofs.lemmas.List.{drop-take, drop-drop, drop_more, take-append-drop}
 use Rattle.std.proofs.lemmas.List.Folds.{list_all-append}
 use Rattle.pop_text.specs.Words.{Input, Words, Token, Word, Tail, is_cut, is_gap, is_in_word, is_line_end, is_short_form, is_text_word, limit, words_by}
 use Rattle.pop_text.specs.Reading.{Reading, Uses}
 use Rattle.pop_text.specs.Left.{Takes, among, put_before}
-use Rattle.pop_text.specs.Plain.{IsPlain, RunsOut, Skips, is_named, is_named_front, is_plain}
+use Rattle.pop_text.specs.Plain.{IsPlain, RunsOut, Skips, is_named, is_plain}
 use Rattle.pop_text.proofs.WordLaws.{all_parts, RunEnds, with_gap}
 use Rattle.pop_text.proofs.Using.{amount_is, keeps_bytes}
 use Rattle.pop_text.proofs.Excluded.{gap_or_word}

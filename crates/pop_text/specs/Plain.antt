@@ -2,7 +2,7 @@
 use Rattle.std.specs.Prelude.{◌≡◌, ◌≤◌, ℕ, ◌+◌, ◌==◌, ◌&&◌, ◌||◌, not, List, [], ◌∷◌, ◌++◌, length, count_by, Option, None, Bool, true, false, ◌⊎◌}
 use Rattle.std.specs.List.{list_all}
 use Rattle.std.specs.Char.{to_ascii_lowercase}
-use Rattle.pop_text.specs.Words.{Token, Word, TextLine, Tail, is_cut, is_gap, is_line_end, limit, words_by}
+use Rattle.pop_text.specs.Words.{Token, Word, TextLine, Tail, is_gap, is_line_end, limit, words_by}
 use Rattle.pop_text.specs.Reading.{Reading}
 use Rattle.pop_text.specs.Left.{Takes, among, put_before}
 

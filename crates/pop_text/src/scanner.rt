@@ -411,7 +411,11 @@ fn is_named(word: &[u8]) -> bool
     ensures { result ≡ is_named word.now }
 {
     match word {
-        [a, b, c, ..] => is_front(a.to_ascii_lowercase(), b.to_ascii_lowercase(), c.to_ascii_lowercase()),
+        [a, b, c, ..] => is_front(
+            a.to_ascii_lowercase(),
+            b.to_ascii_lowercase(),
+            c.to_ascii_lowercase(),
+        ),
         _ => false,
     }
 }

@@ -1,4 +1,4 @@
-use Rattle.std.proofs.Common.{slice_range, ◌∙◌, ap, inl, refl, sym, arith, length}
+use Rattle.std.proofs.Common.{slice_range, ◌∙◌, refl, sym, arith, length}
 use Rattle.std.proofs.lemmas.List.{take_rest}
 use Rattle.pop_text.proofs.Plain.{none_plain, none_out, step_more}
 use Rattle.pop_text.proofs.scanner.plain_front.Goals as goal

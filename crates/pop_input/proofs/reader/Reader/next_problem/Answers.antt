@@ -58,7 +58,7 @@ words-preserved g c =
     record {
       block = skip_read c.match-self.first c.args.self.now.at c.next_token.new.scanner new (g.S.Source.remaining c.args.source.now) (g.S.Source.remaining c.next_token.new.source) c.read.new.self
           (open_read c.match-self.first c.args.self.now.at c.words.self-inside.scanner c.next_token.new.scanner (g.S.Source.remaining c.args.source.now) (g.S.Source.remaining c.words.source) (g.S.Source.remaining c.next_token.new.source) c.words.block c.read.new.self i.block
-              c.next_token.new.word.line c.next_token.new.word.bytes.items word.0 (not_closing _ is) (c.read.ensures.fault, λ none. (c.read.ensures.begun none, c.read.ensures.draft none, c.read.ensures.title, c.read.ensures.author)))
+          c.next_token.new.word.line c.next_token.new.word.bytes.items word.0 (not_closing _ is) (c.read.ensures.fault, λ none. (c.read.ensures.begun none, c.read.ensures.draft none, c.read.ensures.title, c.read.ensures.author)))
           c.skip_on.ensures.skips c.skip_on.ensures.sound;
       starts = i.starts;
       seen = λ s. rw c.skip_on.ensures.skips.end (c.next_token.ensures.seen (i.seen s));
