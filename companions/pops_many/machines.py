@@ -110,7 +110,6 @@ class Machines:
             raise MachinesError("--sshlogin needs GNU parallel: install Debian's package parallel")
         self._say = say
         self._program = program
-        self._options = list(options)
         self._script = _SCRIPT.format(options=" ".join(options))
         self._jobs = jobs
         self._words = [parallel, "--will-cite"]
