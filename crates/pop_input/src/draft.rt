@@ -393,7 +393,7 @@ impl Draft {
         if !has_men(diagram) {
             return Some(11);
         }
-        if !self.is_well_formed(diagram, form) {
+        if !self.is_well_formed(diagram, stipulation.form) {
             return Some(15);
         }
         let board = Board::of(diagram);
