@@ -51,7 +51,12 @@ fn the_longest_line(rt: HostRuntime) {
         let _black = moves.try_push(shown(Colour::Black, Kind::King, 63, 62, Mark::Plain));
     }
     let line = Event::Line { half: 1, moves };
-    assert!(rt; prints(&line, b"1.Ra1-b1 Kh8-g8 2.Ra1-b1 Kh8-g8 3.Ra1-b1 Kh8-g8 4.Ra1-b1 Kh8-g8 5.Ra1-b1 Kh8-g8 6.Ra1-b1 Kh8-g8 7.Ra1-b1 Kh8-g8 8.Ra1-b1 Kh8-g8 9.Ra1-b1 Kh8-g8 10.Ra1-b1 Kh8-g8 11.Ra1-b1 Kh8-g8 12.Ra1-b1 Kh8-g8 13.Ra1-b1 Kh8-g8 14.Ra1-b1 Kh8-g8 15.Ra1-b1 Kh8-g8 16.Ra1-b1 Kh8-g8\n"));
+    assert!(rt;
+        prints(
+            &line,
+            b"1.Ra1-b1 Kh8-g8 2.Ra1-b1 Kh8-g8 3.Ra1-b1 Kh8-g8 4.Ra1-b1 Kh8-g8 5.Ra1-b1 Kh8-g8 6.Ra1-b1 Kh8-g8 7.Ra1-b1 Kh8-g8 8.Ra1-b1 Kh8-g8 9.Ra1-b1 Kh8-g8 10.Ra1-b1 Kh8-g8 11.Ra1-b1 Kh8-g8 12.Ra1-b1 Kh8-g8 13.Ra1-b1 Kh8-g8 14.Ra1-b1 Kh8-g8 15.Ra1-b1 Kh8-g8 16.Ra1-b1 Kh8-g8\n"
+        )
+    );
 }
 
 #[test]
