@@ -1,10 +1,10 @@
 -- Attack looked for outward from the square.
-use Rattle.std.proofs.Common.{◌∷◌, ◌≡◌, ℕ, ◌+◌, ◌-◌, ◌<◌, Bool, true, false, ◌&&◌, ◌||◌, ◌==◌, not, List, [], length, get_or, take, refl, sym, ap, ◌∙◌, arith, inl, inr, Option, Some, None}
+use Rattle.std.proofs.Common.{◌∷◌, ◌≡◌, ℕ, ◌-◌, ◌<◌, Bool, true, false, ◌&&◌, ◌||◌, ◌==◌, not, List, [], refl, sym, ap, ◌∙◌, arith, inl, inr, Option, Some, None}
 use Rattle.std.specs.Int.{bit_at}
 use Rattle.std.specs.Int.Bits.{bit_or, bit_and}
 use Rattle.std.specs.List.{list_any}
 use Rattle.std.proofs.lemmas.Bool.{false≢true}
-use Rattle.std.proofs.lemmas.List.Folds.{list_any-append, list_any_more}
+use Rattle.std.proofs.lemmas.List.Folds.{list_any-append}
 use Rattle.chess_core.specs.Position.{is_man, is_side, man_on, other, same_colour, same_kind}
 use Rattle.chess_core.specs.Squares.{is_square, some_square}
 use Rattle.chess_core.specs.Steps.{along, diagonal_steps, knight_steps, pawn_captures, queen_steps, straight_steps}
@@ -26,17 +26,6 @@ use Rattle.chess_rules.specs.RuleSet.{RuleSet}
 use Rattle.chess_rules.proofs.Bits.{not_zero, word_empty, word_has}
 use Rattle.chess_rules.proofs.Flips.{diagonal-back, grasshopper-back, king-back, knight-back, nightrider-back, pawn-back, queen_rides-back, straight-back}
 use Rattle.chess_rules.proofs.Tests.{any_range_cases, first_of_and, second_of_and}
-
--- a list of tests, each a word, joined one by one
-pub join_none : {X : Type 0} (test : X → ℕ → Bool) → 0 ≡ word (λ t. list_any (λ x. test x t) [])
-join_none test = word_empty (λ t. list_any (λ x. test x t) []) (λ s b. refl)
-
-pub join_more : {X : Type 0} (test : X → ℕ → Bool) (w n i : ℕ) (d x : X) (xs : List X) → i < length xs → x ≡ get_or xs i d → w ≡ word (λ t. list_any (λ y. test y t) (take i xs)) → n ≡ word (λ t. test x t)
-    → bit_or w n ≡ word (λ t. list_any (λ y. test y t) (take (i + 1) xs))
-join_more test w n i d x xs p e h r =
-    (λ j. bit_or (h j) (r j)) ∙ squares_either (λ t. list_any (λ y. test y t) (take i xs)) (λ t. test x t)
-    ∙ (λ j. word (λ t. list_any (λ y. test y t) (take i xs) || test (e j) t))
-    ∙ sym (λ j. word (λ t. list_any_more (λ y. test y t) xs i d p j))
 
 -- tests that agree on the squares
 pub some_square_same : (p q : ℕ → Bool) → ((s : ℕ) → s < 64 → p s ≡ q s) → some_square p ≡ some_square q

@@ -7,9 +7,8 @@ use Rattle.chess_core.specs.Position.{Position}
 use Rattle.chess_core.specs.declared.man.Move.{Move}
 use Rattle.chess_rules.specs.RuleSet.{RuleSet}
 use Rattle.chess_rules.specs.Legal.{legal, moves, triples}
-use Rattle.chess_rules.specs.Places.{IsNextMate, is_mating, mates, mates_behind, moves_behind, moves_between, triple_at}
-use Rattle.chess_rules.specs.Targets.{IsBarren}
-use Rattle.chess_rules.proofs.Places.{drop_triples, drop_triples_past, moves_behind-here, not_pseudo}
+use Rattle.chess_rules.specs.Places.{HaveNone, IsNextMate, is_mating, mates, mates_behind, moves_behind, moves_between, triple_at}
+use Rattle.chess_rules.proofs.Places.{drop_triples, drop_triples_past, moves_behind-here}
 use Rattle.chess_rules.proofs.Tests.{first_of_and, second_of_and}
 
 take-none : (n : ℕ) → take {A = Move} n [] ≡ []
@@ -40,19 +39,35 @@ between-skip rule p a b lt h = elim (cases_lt a b) [
 ]
 
 -- over a stretch without moves
-between-skips : (rule : RuleSet) (p : Position) (n a b e : ℕ) → b ≡ a + n → b ≤ 28672 → IsBarren p a b → moves_between rule p a e ≡ moves_between rule p b e
+between-skips : (rule : RuleSet) (p : Position) (n a b e : ℕ) → b ≡ a + n → b ≤ 28672 → HaveNone (legal rule p) a b → moves_between rule p a e ≡ moves_between rule p b e
 between-skips rule p zero a b e at le h = let same : a ≡ b = omega (arith, at) in ap (λ x. moves_between rule p x e) same
 between-skips rule p (suc n) a b e at le h =
-    between-skip rule p a e (omega (arith, at, le)) (not_pseudo rule p (triple_at a) (h.fails rule a (omega arith) (omega (arith, at))))
-    ∙ between-skips rule p n (a + 1) b e (omega (arith, at)) le (record { fails = λ r k lo hi. h.fails r k (omega (arith, lo)) hi })
+    between-skip rule p a e (omega (arith, at, le)) (h.fails a (omega arith) (omega (arith, at)))
+    ∙ between-skips rule p n (a + 1) b e (omega (arith, at)) le (record { fails = λ k lo hi. h.fails k (omega (arith, lo)) hi })
 
-pub between-barren : (rule : RuleSet) (p : Position) (a b e : ℕ) → (b < 28672 → a ≤ b) → b ≤ 28672 → IsBarren p a b → moves_between rule p a e ≡ moves_between rule p b e
-between-barren rule p a b e low high h = elim (cases_lt b a) [
+pub between-none-legal : (rule : RuleSet) (p : Position) (a b e : ℕ) → (b < 28672 → a ≤ b) → b ≤ 28672 → HaveNone (legal rule p) a b → moves_between rule p a e ≡ moves_between rule p b e
+between-none-legal rule p a b e low high h = elim (cases_lt b a) [
   | inr ge ↦ between-skips rule p (b - a) a b e (omega (arith, ge)) high h
   | inl lt ↦ elim (cases_lt b 28672) [
     | inl q ↦ absurd (let le : a ≤ b = low q in omega (arith, le, lt))
     | inr past ↦ between-past rule p a e (omega (arith, past, lt)) ∙ sym (between-past rule p b e past)
   ]
+]
+
+-- up to the first legal one, and where none is left before the end
+pub until-legal : (rule : RuleSet) (p : Position) (a n e : ℕ) → a ≤ n → n < e → n < 28672 → HaveNone (legal rule p) a n → legal rule p (triple_at n) ≡ true → moves_between rule p a e ≡ triple_at n ∷ moves_between rule p (n + 1) e
+until-legal rule p a n e low before fits none h =
+    between-none-legal rule p a n e (λ lt. low) (omega (arith, fits)) none ∙ between-here rule p n e fits before h
+
+pub until-end : (rule : RuleSet) (p : Position) (a n e : ℕ) → n ≤ 28672 → n ≤ e → (n < 28672 → e ≤ n) → HaveNone (legal rule p) a n → moves_between rule p a e ≡ []
+until-end rule p a n e fits before all none = elim (cases_lt a e) [
+  | inr ge ↦ between-none rule p a e ge
+  | inl lt ↦
+      between-none-legal rule p a n e (λ q. let le : e ≤ n = all q in omega (arith, lt, le)) fits none
+      ∙ elim (cases_lt n 28672) [
+        | inl q ↦ between-none rule p n e (all q)
+        | inr past ↦ between-past rule p n e past
+      ]
 ]
 
 drop-nil : (k : ℕ) → drop {A = Move} k [] ≡ []

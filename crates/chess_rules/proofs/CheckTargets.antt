@@ -1,14 +1,13 @@
 -- A move that goes to no square from which its man may give check gives none.
-use Rattle.std.proofs.Common.{◌≡◌, ℕ, ◌+◌, ◌-◌, ◌*◌, ◌/◌, ◌%◌, ◌<◌, ◌≤◌, Bool, true, false, ◌&&◌, ◌||◌, ◌==◌, not, Option, Some, None, is_some, find, max, refl, subst, sym, ap, ◌∙◌, arith, inl, inr}
+use Rattle.std.proofs.Common.{◌≡◌, ℕ, ◌<◌, Bool, true, false, ◌&&◌, ◌||◌, ◌==◌, not, Option, Some, None, is_some, max, refl, sym, ap, ◌∙◌, arith, inl, inr}
 use Rattle.std.specs.Int.{bit_at, bit_not, w64}
 use Rattle.std.specs.Int.Bits.{bit_or}
-use Rattle.std.specs.List.{range_with_len}
-use Rattle.std.proofs.lemmas.Bool.{agree_below_at, and_left, and_parts, and_right, cases_Bool, cases_lt, eq-eqb, eqb-true}
+use Rattle.std.proofs.lemmas.Bool.{agree_below_at, and_left, and_parts, and_right, cases_Bool, eq-eqb, eqb-true}
 use Rattle.std.proofs.lemmas.Nat.Bits.{bit_at_or, bit_at-lt}
 use Rattle.chess_core.specs.Position.{Position, man_on, other, same_kind}
 use Rattle.chess_core.specs.Squares.{is_square, rank_of}
 use Rattle.chess_core.specs.WellFormed.{IsWellFormed}
-use Rattle.chess_core.specs.Words.{side_of, word}
+use Rattle.chess_core.specs.Words.{word}
 use Rattle.chess_core.specs.declared.man.Colour.{Colour}
 use Rattle.chess_core.specs.declared.man.Colour.TheVariants.{White, Black}
 use Rattle.chess_core.specs.declared.man.Kind.{Kind}
@@ -20,16 +19,13 @@ use Rattle.chess_rules.specs.Attacks.{in_check}
 use Rattle.chess_rules.specs.CheckSquares.{AreCheckSquares, AreCheckTargets, check_squares_for}
 use Rattle.chess_rules.specs.Shields.{cannot_expose, is_plain, may_expose}
 use Rattle.chess_rules.specs.Legal.{last_rank, pseudo}
-use Rattle.chess_rules.specs.Places.{HaveNoMate, mates, promotion_at, triple_at}
 use Rattle.chess_rules.specs.Play.{after, arriving, is_castling}
 use Rattle.chess_rules.specs.RuleSet.{RuleSet, is_circe}
-use Rattle.chess_rules.specs.Targets.{IsBarren, IsBarrenFrom, arrives, steps_to}
+use Rattle.chess_rules.specs.Targets.{arrives, steps_to}
 use Rattle.chess_rules.proofs.Bits.{word_has}
 use Rattle.chess_rules.proofs.Checking.{no_check}
-use Rattle.chess_rules.proofs.Mating.{no_mate_quietly, not_mating}
 use Rattle.chess_rules.proofs.Pseudo.{king_is_no_pawn, made}
-use Rattle.chess_rules.proofs.Targeting.{barren-missed, castling_steps, every_square_on, false_by, nobody_moves, unpromoted}
-use Rattle.chess_rules.proofs.Tests.{IsFirst, find_no}
+use Rattle.chess_rules.proofs.Targeting.{castling_steps, every_square_on, false_by, nobody_moves, unpromoted}
 
 -- a square off both words is off each
 pub off_left : (a b i : ℕ) → (bit_at (bit_or a b) i == 1) ≡ false → (bit_at a i == 1) ≡ false
@@ -138,52 +134,3 @@ module _ (rule : RuleSet) (p : Position) (x : Man) (s : CheckSquares) (f : ℕ) 
 
   pub check_targets_some : AreCheckTargets rule p f (bit_or (bit_or (bit_or a b) c) d)
   check_targets_some = record { elsewhere = λ m at small may off. no_check_elsewhere m at small may off }
-
--- stretches without mates
-pub quiet-empty : (rule : RuleSet) (p : Position) (a : ℕ) → HaveNoMate rule p a a
-quiet-empty rule p a = record { quiet = λ k lo hi. absurd (omega (arith, lo, hi)) }
-
-quiet-join : (rule : RuleSet) (p : Position) (a b c : ℕ) → HaveNoMate rule p a b → HaveNoMate rule p b c → HaveNoMate rule p a c
-quiet-join rule p a b c x y = record {
-  quiet = λ k lo hi. elim (cases_lt k b) [ inl lt ↦ x.quiet k lo lt | inr ge ↦ y.quiet k ge hi ];
-}
-
-quiet-barren : (rule : RuleSet) (p : Position) (a b : ℕ) → IsBarren p a b → HaveNoMate rule p a b
-quiet-barren rule p a b h = record { quiet = λ k lo hi. not_mating rule p (triple_at k) (h.fails rule k lo hi) }
-
-quiet-move : (rule : RuleSet) (p : Position) (m : Move) (w : ℕ) → m.to < 64 → AreCheckTargets rule p m.from w → ((bit_at w m.to == 1) ≡ true → pseudo rule p m ≡ false) → mates rule p m ≡ false
-quiet-move rule p m w small aim h = elim (cases_Bool (bit_at w m.to == 1)) [
-  | inl on ↦ not_mating rule p m (h on)
-  | inr off ↦ elim (cases_Bool (pseudo rule p m)) [
-    | inl may ↦ sym (no_mate_quietly rule p m may (aim.elsewhere m refl small may off))
-    | inr idle ↦ not_mating rule p m idle
-  ]
-]
-
-quiet-from : (rule : RuleSet) (p : Position) (s w a b : ℕ) → b ≤ 448 → AreCheckTargets rule p s w → IsBarrenFrom p s w a b → HaveNoMate rule p (448 * s + a) (448 * s + b)
-unfolding triple_at
-quiet-from rule p s w a b le aim h = record {
-  quiet = λ k lo hi.
-      let from : k / 448 ≡ s = omega (arith, lo, hi, le) in
-      let to : k / 7 % 64 ≡ (k - 448 * s) / 7 = omega (arith, lo, hi, le) in
-      let promo : k % 7 ≡ (k - 448 * s) % 7 = omega (arith, lo, hi, le) in
-      rw (from, to, promo) (quiet-move rule p (record { from = s; to = (k - 448 * s) / 7; promo = promotion_at ((k - 448 * s) % 7) }) w (omega (arith, hi, le)) aim (h.fails rule (k - 448 * s) (omega (arith, lo)) (omega (arith, lo, hi))));
-}
-
--- up to a triple of the next origin
-pub quiet-origin : (rule : RuleSet) (p : Position) (start number s a o w : ℕ) → o ≡ side_of p.men p.turn → HaveNoMate rule p start number → IsFirst (λ q. bit_at o q == 1) (number / 448) (64 - number / 448) s → a ≤ 448 → AreCheckTargets rule p s w → IsBarrenFrom p s w (number - 448 * s) a → HaveNoMate rule p start (448 * s + a)
-quiet-origin rule p start number s a o w h past f le aim here = elim (cases_lt (448 * s) number) [
-  | inl lt ↦
-      let e : 448 * s + (number - 448 * s) ≡ number = omega (arith, lt) in
-      quiet-join rule p start number (448 * s + a) past (subst (λ n. HaveNoMate rule p n (448 * s + a)) e (quiet-from rule p s w (number - 448 * s) a le aim here))
-  | inr ge ↦
-      let e : 448 * s + (number - 448 * s) ≡ 448 * s = omega (arith, ge) in
-      quiet-join rule p start (448 * s) (448 * s + a)
-      (quiet-join rule p start number (448 * s) past (quiet-barren rule p number (448 * s) (barren-missed p number (448 * s) o h (omega (arith, f.high, f.low)) (λ q lo hi. f.before q lo (omega (arith, hi))))))
-      (subst (λ n. HaveNoMate rule p n (448 * s + a)) e (quiet-from rule p s w (number - 448 * s) a le aim here))
-]
-
--- up to the end, where there is none
-pub quiet-none : (rule : RuleSet) (p : Position) (start number o : ℕ) → o ≡ side_of p.men p.turn → HaveNoMate rule p start number → find (λ q. bit_at o q == 1) (range_with_len (number / 448) (64 - number / 448)) ≡ None → HaveNoMate rule p start 28672
-quiet-none rule p start number o h past none =
-    quiet-join rule p start number 28672 past (quiet-barren rule p number 28672 (barren-missed p number 28672 o h (omega arith) (λ q lo hi. find_no (λ q. bit_at o q == 1) (number / 448) (64 - number / 448) q none lo (omega (arith, hi)))))

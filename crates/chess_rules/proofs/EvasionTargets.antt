@@ -1,30 +1,25 @@
 -- A move that goes to no square at which a check is met is not legal.
-use Rattle.std.proofs.Common.{◌≡◌, ℕ, ◌+◌, ◌-◌, ◌*◌, ◌/◌, ◌%◌, ◌<◌, ◌≤◌, true, false, ◌&&◌, ◌==◌, not, Some, None, is_some, find, refl, subst, sym, ap, ◌∙◌, arith, inl, inr}
+use Rattle.std.proofs.Common.{◌≡◌, ℕ, ◌<◌, true, false, ◌&&◌, ◌==◌, Some, None, is_some, refl, sym, ap, ◌∙◌, inl, inr}
 use Rattle.std.specs.Int.{bit_at, bit_not, w64}
 use Rattle.std.specs.Int.Bits.{bit_or}
-use Rattle.std.specs.List.{range_with_len}
-use Rattle.std.proofs.lemmas.Bool.{and_left, and_parts, and_right, cases_Bool, cases_lt}
+use Rattle.std.proofs.lemmas.Bool.{and_left, and_parts, and_right, cases_Bool}
 use Rattle.chess_core.specs.Position.{Position, man_on, same_kind}
 use Rattle.chess_core.specs.Squares.{is_square}
 use Rattle.chess_core.specs.WellFormed.{IsWellFormed}
-use Rattle.chess_core.specs.Words.{side_of, word}
+use Rattle.chess_core.specs.Words.{word}
 use Rattle.chess_core.specs.declared.man.Kind.TheVariants.{King}
 use Rattle.chess_core.specs.declared.man.Man.{Man}
 use Rattle.chess_core.specs.declared.man.Move.{Move}
 use Rattle.chess_rules.specs.Attacks.{in_check}
 use Rattle.chess_rules.specs.Evasions.{AreEvasionsFrom, AreEvasions}
 use Rattle.chess_rules.specs.Shields.{is_plain}
-use Rattle.chess_rules.specs.Legal.{legal, pseudo}
-use Rattle.chess_rules.specs.Places.{AreUnplayable, promotion_at, triple_at}
+use Rattle.chess_rules.specs.Legal.{pseudo}
 use Rattle.chess_rules.specs.Play.{after, is_castling}
 use Rattle.chess_rules.specs.RuleSet.{RuleSet, is_circe}
-use Rattle.chess_rules.specs.Targets.{IsBarren, IsBarrenFrom}
 use Rattle.chess_rules.proofs.CheckTargets.{off_left, off_right}
 use Rattle.chess_rules.proofs.Bits.{word_has}
 use Rattle.chess_rules.proofs.StayingInCheck.{check_unmet}
-use Rattle.chess_rules.proofs.Places.{not_pseudo}
-use Rattle.chess_rules.proofs.Targeting.{barren-missed, every_square_on, false_by, nobody_moves}
-use Rattle.chess_rules.proofs.Tests.{IsFirst, find_no}
+use Rattle.chess_rules.proofs.Targeting.{every_square_on, false_by, nobody_moves}
 
 pub evasions_from_nobody : (rule : RuleSet) (p : Position) (f w : ℕ) → man_on p.men f ≡ None → AreEvasionsFrom rule p f w
 evasions_from_nobody rule p f w none = record {
@@ -70,56 +65,3 @@ module _ (rule : RuleSet) (p : Position) (x : Man) (f : ℕ) (well : IsWellForme
 
   pub evasions_from_some : AreEvasionsFrom rule p f (bit_or (bit_or a b) c)
   evasions_from_some = record { elsewhere = λ m at small may off. check_elsewhere m at small may off }
-
--- stretches without legal moves
-pub unplayable-empty : (rule : RuleSet) (p : Position) (a : ℕ) → AreUnplayable rule p a a
-unplayable-empty rule p a = record { fails = λ k lo hi. absurd (omega (arith, lo, hi)) }
-
-unplayable-join : (rule : RuleSet) (p : Position) (a b c : ℕ) → AreUnplayable rule p a b → AreUnplayable rule p b c → AreUnplayable rule p a c
-unplayable-join rule p a b c x y = record {
-  fails = λ k lo hi. elim (cases_lt k b) [ inl lt ↦ x.fails k lo lt | inr ge ↦ y.fails k ge hi ];
-}
-
-unplayable-barren : (rule : RuleSet) (p : Position) (a b : ℕ) → IsBarren p a b → AreUnplayable rule p a b
-unplayable-barren rule p a b h = record { fails = λ k lo hi. not_pseudo rule p (triple_at k) (h.fails rule k lo hi) }
-
-checked : (rule : RuleSet) (p : Position) (m : Move) → in_check rule (after rule p m).men p.turn ≡ true → legal rule p m ≡ false
-unfolding legal
-checked rule p m h = and_right (pseudo rule p m) _ (ap not h)
-
-unplayable-move : (rule : RuleSet) (p : Position) (m : Move) (w : ℕ) → m.to < 64 → AreEvasionsFrom rule p m.from w → ((bit_at w m.to == 1) ≡ true → pseudo rule p m ≡ false) → legal rule p m ≡ false
-unplayable-move rule p m w small evade h = elim (cases_Bool (bit_at w m.to == 1)) [
-  | inl on ↦ not_pseudo rule p m (h on)
-  | inr off ↦ elim (cases_Bool (pseudo rule p m)) [
-    | inl may ↦ checked rule p m (evade.elsewhere m refl small may off)
-    | inr idle ↦ not_pseudo rule p m idle
-  ]
-]
-
-unplayable-from : (rule : RuleSet) (p : Position) (s w a b : ℕ) → b ≤ 448 → AreEvasionsFrom rule p s w → IsBarrenFrom p s w a b → AreUnplayable rule p (448 * s + a) (448 * s + b)
-unfolding triple_at
-unplayable-from rule p s w a b le evade h = record {
-  fails = λ k lo hi.
-      let from : k / 448 ≡ s = omega (arith, lo, hi, le) in
-      let to : k / 7 % 64 ≡ (k - 448 * s) / 7 = omega (arith, lo, hi, le) in
-      let promo : k % 7 ≡ (k - 448 * s) % 7 = omega (arith, lo, hi, le) in
-      rw (from, to, promo) (unplayable-move rule p (record { from = s; to = (k - 448 * s) / 7; promo = promotion_at ((k - 448 * s) % 7) }) w (omega (arith, hi, le)) evade (h.fails rule (k - 448 * s) (omega (arith, lo)) (omega (arith, lo, hi))));
-}
-
--- up to a triple of the next origin
-pub unplayable-origin : (rule : RuleSet) (p : Position) (start number s a o w : ℕ) → o ≡ side_of p.men p.turn → AreUnplayable rule p start number → IsFirst (λ q. bit_at o q == 1) (number / 448) (64 - number / 448) s → a ≤ 448 → AreEvasionsFrom rule p s w → IsBarrenFrom p s w (number - 448 * s) a → AreUnplayable rule p start (448 * s + a)
-unplayable-origin rule p start number s a o w h past f le evade here = elim (cases_lt (448 * s) number) [
-  | inl lt ↦
-      let e : 448 * s + (number - 448 * s) ≡ number = omega (arith, lt) in
-      unplayable-join rule p start number (448 * s + a) past (subst (λ n. AreUnplayable rule p n (448 * s + a)) e (unplayable-from rule p s w (number - 448 * s) a le evade here))
-  | inr ge ↦
-      let e : 448 * s + (number - 448 * s) ≡ 448 * s = omega (arith, ge) in
-      unplayable-join rule p start (448 * s) (448 * s + a)
-      (unplayable-join rule p start number (448 * s) past (unplayable-barren rule p number (448 * s) (barren-missed p number (448 * s) o h (omega (arith, f.high, f.low)) (λ q lo hi. f.before q lo (omega (arith, hi))))))
-      (subst (λ n. AreUnplayable rule p n (448 * s + a)) e (unplayable-from rule p s w (number - 448 * s) a le evade here))
-]
-
--- up to the end, where there is none
-pub unplayable-none : (rule : RuleSet) (p : Position) (start number o : ℕ) → o ≡ side_of p.men p.turn → AreUnplayable rule p start number → find (λ q. bit_at o q == 1) (range_with_len (number / 448) (64 - number / 448)) ≡ None → AreUnplayable rule p start 28672
-unplayable-none rule p start number o h past none =
-    unplayable-join rule p start number 28672 past (unplayable-barren rule p number 28672 (barren-missed p number 28672 o h (omega arith) (λ q lo hi. find_no (λ q. bit_at o q == 1) (number / 448) (64 - number / 448) q none lo (omega (arith, hi)))))

@@ -5,7 +5,7 @@ use Rattle.chess_core.specs.Position.{Position, other}
 use Rattle.chess_core.specs.declared.man.Move.{Move}
 use Rattle.chess_rules.specs.Attacks.{in_check}
 use Rattle.chess_rules.specs.Legal.{is_goal, legal, pseudo}
-use Rattle.chess_rules.specs.Places.{HaveNoMate, mates, mates_behind, triple_at}
+use Rattle.chess_rules.specs.Places.{HaveNone, mates, mates_behind, triple_at}
 use Rattle.chess_rules.specs.Play.{after, after_by}
 use Rattle.chess_rules.specs.RuleSet.{RuleSet}
 use Rattle.chess_rules.proofs.Places.{moves_behind-end, moves_behind-here, moves_behind-skip, not_pseudo}
@@ -36,18 +36,18 @@ unfolding mates
 not_mating rule p m h = and_left _ _ (not_pseudo rule p m h)
 
 -- over a stretch without mates
-skip_by : (rule : RuleSet) (p : Position) (n a b : ℕ) → b ≡ a + n → b ≤ 28672 → HaveNoMate rule p a b → mates_behind rule p a ≡ mates_behind rule p b
+skip_by : (rule : RuleSet) (p : Position) (n a b : ℕ) → b ≡ a + n → b ≤ 28672 → HaveNone (mates rule p) a b → mates_behind rule p a ≡ mates_behind rule p b
 skip_by rule p zero a b e le h = let same : a ≡ b = omega arith in ap (mates_behind rule p) same
 skip_by rule p (suc n) a b e le h =
-    mates_behind-skip rule p a (omega arith) (h.quiet a (omega arith) (omega arith))
-    ∙ skip_by rule p n (a + 1) b (omega arith) le (record { quiet = λ k lo hi. h.quiet k (omega arith) hi })
+    mates_behind-skip rule p a (omega arith) (h.fails a (omega arith) (omega arith))
+    ∙ skip_by rule p n (a + 1) b (omega arith) le (record { fails = λ k lo hi. h.fails k (omega arith) hi })
 
 pub mates_behind-end : (rule : RuleSet) (p : Position) (n : ℕ) → 28672 ≤ n → mates_behind rule p n ≡ []
 unfolding mates_behind
 mates_behind-end rule p n ge = ap (λ (l : List Move). filter (λ m. is_goal rule (after rule p m)) l) (moves_behind-end rule p n ge)
 
-pub mates_behind-quiet : (rule : RuleSet) (p : Position) (a b : ℕ) → (b < 28672 → a ≤ b) → b ≤ 28672 → HaveNoMate rule p a b → mates_behind rule p a ≡ mates_behind rule p b
-mates_behind-quiet rule p a b low high h = elim (cases_lt b a) [
+pub mates_behind-none : (rule : RuleSet) (p : Position) (a b : ℕ) → (b < 28672 → a ≤ b) → b ≤ 28672 → HaveNone (mates rule p) a b → mates_behind rule p a ≡ mates_behind rule p b
+mates_behind-none rule p a b low high h = elim (cases_lt b a) [
   | inr ge ↦ skip_by rule p (b - a) a b (omega arith) high h
   | inl lt ↦ elim (cases_lt b 28672) [
     | inl q ↦ absurd (let le : a ≤ b = low q in omega arith)

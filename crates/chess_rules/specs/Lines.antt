@@ -1,5 +1,5 @@
 -- Lines on the empty board, and the order in which they pass squares (own).
-use Rattle.std.specs.Prelude.{ℕ, ◌+◌, ◌-◌, ◌*◌, ◌≡◌, ◌<◌, ◌≤◌, Bool, true, false, ◌||◌, nat_le, List, Option, is_some}
+use Rattle.std.specs.Prelude.{ℕ, ◌+◌, ◌-◌, ◌*◌, ◌≡◌, ◌<◌, ◌≤◌, Bool, true, false, ◌||◌, nat_le, List, [], ◌∷◌, Option, is_some}
 use Rattle.std.specs.Int.{bit_at}
 use Rattle.std.specs.List.{list_any, range_with_len}
 use Rattle.chess_core.specs.Position.{man_on}
@@ -35,6 +35,13 @@ step_of WestSouthWest = step_by 0 2 0 1
 -- the squares on which men stand
 abbrev pub occupied_squares : List (Option Man) → ℕ
 occupied_squares men = word (λ s. is_some (man_on men s))
+
+-- the knight's steps of two ranks, and those of one
+abbrev pub steep_steps : List Step
+steep_steps = step_of NorthNorthEast ∷ step_of SouthSouthEast ∷ step_of NorthNorthWest ∷ step_of SouthSouthWest ∷ []
+
+abbrev pub flat_steps : List Step
+flat_steps = step_of EastNorthEast ∷ step_of EastSouthEast ∷ step_of WestNorthWest ∷ step_of WestSouthWest ∷ []
 
 -- the place of a direction in their order
 abbrev pub direction_number : Direction → ℕ

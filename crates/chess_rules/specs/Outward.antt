@@ -9,9 +9,7 @@ use Rattle.chess_core.specs.declared.man.Colour.{Colour}
 use Rattle.chess_core.specs.declared.man.Kind.{Kind}
 use Rattle.chess_core.specs.declared.man.Kind.TheVariants.{Queen}
 use Rattle.chess_core.specs.declared.step.Step.{Step}
-use Rattle.chess_rules.specs.Reaches.{hops, is_occupied, is_vacant, rides}
-use Rattle.chess_rules.specs.declared.lines.Way.{Way}
-use Rattle.chess_rules.specs.declared.lines.Way.TheVariants.{Ride, Hop, HopBack}
+use Rattle.chess_rules.specs.Reaches.{is_occupied, is_vacant, rides}
 
 -- a queen or a man of kind k, of this colour, stands on s, and a rider on t gets there by one of the steps
 unfoldable pub is_met : List (Option Man) → Colour → Kind → List Step → ℕ → ℕ → Bool
@@ -25,9 +23,3 @@ rides_on f men s t d =
 -- a grasshopper on s hops to t against this step: a man stands next to t, and s is behind it
 unfoldable pub hopped_from : List (Option Man) → ℕ → ℕ → Step → Bool
 hopped_from men t s d = is_occupied men (along t d 1) && rides_on 2 men t s d
-
--- whether this way leads from s to t by this step
-abbrev pub goes_by : Way → List (Option Man) → ℕ → ℕ → Step → Bool
-goes_by Ride men s t d = rides men s t d
-goes_by Hop men s t d = hops men s t d
-goes_by HopBack men s t d = hopped_from men s t d

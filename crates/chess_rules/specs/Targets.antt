@@ -1,42 +1,62 @@
--- Where a man could go at best, and stretches of triples in which no move is found (own).
-use Rattle.std.specs.Prelude.{◌≡◌, ℕ, ◌/◌, ◌%◌, ◌<◌, ◌≤◌, Bool, false, true, not, ◌&&◌, ◌||◌, ◌==◌, List, Option, Some, None, if◌then◌else◌}
+-- Where a man may go, and stretches of triples in which no move is found (own).
+use Rattle.std.specs.Prelude.{◌≡◌, ℕ, ◌<◌, Bool, false, true, not, ◌&&◌, ◌||◌, ◌==◌, Option, Some, None, is_some, if◌then◌else◌}
 use Rattle.std.specs.Int.{bit_at}
-use Rattle.chess_core.specs.Position.{Position, is_side, man_on, same_kind}
+use Rattle.chess_core.specs.Castling.{has_unmoved}
+use Rattle.chess_core.specs.Position.{Position, man_on, same_colour, same_kind}
 use Rattle.chess_core.specs.Squares.{is_square, rank_of}
 use Rattle.chess_core.specs.Steps.{along, step_by}
 use Rattle.chess_core.specs.declared.man.Kind.TheVariants.{King, Pawn}
 use Rattle.chess_core.specs.declared.man.Man.{Man}
 use Rattle.chess_core.specs.declared.man.Move.{Move}
-use Rattle.chess_rules.specs.Legal.{forward, last_rank, pseudo}
-use Rattle.chess_rules.specs.Places.{promotion_at, triple_at}
+use Rattle.chess_rules.specs.Attacks.{paralysed}
+use Rattle.chess_rules.specs.Legal.{forward, is_arrival_free, last_rank, pawn_steps}
 use Rattle.chess_rules.specs.Reaches.{reaches_as}
 use Rattle.chess_rules.specs.RuleSet.{RuleSet}
+use Rattle.chess_rules.specs.declared.targets.Kept.{Kept}
 
 -- a pawn goes one or two squares forward, a king two squares aside
 unfoldable pub steps_to : Man → ℕ → ℕ → Bool
 steps_to x s t =
     if same_kind x.kind Pawn then is_square (along s (forward x.colour) 1) t || is_square (along s (forward x.colour) 2) t else (if same_kind x.kind King then is_square (along s (step_by 2 0 0 0) 1) t || is_square (along s (step_by 0 2 0 0) 1) t else false)
 
--- x reaches t from s or steps to it, and no man of its own stands there
-unfoldable pub is_target : List (Option Man) → Man → ℕ → ℕ → Bool
-is_target men x s t = (reaches_as men x.colour x.kind s t || steps_to x s t) && not (is_side (man_on men t) x.colour)
+-- a pawn on s steps to t
+abbrev pub pawn_goes : Position → Man → ℕ → ℕ → Bool
+pawn_goes p x s t = pawn_steps p x (record { from = s; to = t; promo = None })
 
-abbrev pub aimed_of : List (Option Man) → Option Man → Move → Bool
-aimed_of men None m = false
-aimed_of men (Some x) m = is_target men x m.from m.to
+-- x goes from s to t, most tests of castling apart: a pawn captures or steps, another man reaches t, and
+-- a king that stands unmoved goes two squares aside
+unfoldable pub may_go : Position → Man → ℕ → ℕ → Bool
+may_go p x s t =
+    if same_kind x.kind Pawn then (reaches_as p.men x.colour x.kind s t && (is_some (man_on p.men t) || is_square p.crossed t)) || pawn_goes p x s t else reaches_as p.men x.colour x.kind s t || (has_unmoved p.unmoved s && steps_to x s t)
 
--- the move goes to a target of the man on its origin
-unfoldable pub is_aimed : Position → Move → Bool
-is_aimed p m = aimed_of p.men (man_on p.men m.from) m
+-- this man, if there is one, is the mover's, isn't paralysed and goes to t, where no man of the mover and
+-- no king stands
+abbrev pub is_arrival_of : RuleSet → Position → Option Man → ℕ → ℕ → Bool
+is_arrival_of rule p None s t = false
+is_arrival_of rule p (Some x) s t =
+    same_colour x.colour p.turn && not (paralysed rule p.men s) && is_arrival_free p.turn (man_on p.men t) && may_go p x s t
+
+-- the man on s may go to t, the tests of castling and of the promotion apart
+unfoldable pub is_arrival : RuleSet → Position → ℕ → ℕ → Bool
+is_arrival rule p s t = is_arrival_of rule p (man_on p.men s) s t
 
 -- a pawn arrives on its last rank
 abbrev pub arrives : Man → ℕ → Bool
 arrives x t = same_kind x.kind Pawn && rank_of t == last_rank x.colour
 
--- none of the triples numbered from a on and below b is a move
-pub record IsBarren (p : Position) (a b : ℕ) : Type 0 where
-  pub fails : (rule : RuleSet) (k : ℕ) → a ≤ k → k < b → pseudo rule p (triple_at k) ≡ false
+-- the move goes where the man on its origin may go, and names a promotion exactly where a pawn arrives on
+-- its last rank
+pub record IsAimed (rule : RuleSet) (p : Position) (m : Move) : Type 0 where
+  pub man : Man
+  pub here : man_on p.men m.from ≡ Some man
+  pub arrival : is_arrival rule p m.from m.to ≡ true
+  pub promotion : is_some m.promo ≡ arrives man m.to
 
--- the same of the triples with origin s and an arrival in the word, numbered from the origin's first
-pub record IsBarrenFrom (p : Position) (s w a b : ℕ) : Type 0 where
-  pub fails : (rule : RuleSet) (k : ℕ) → a ≤ k → k < b → (bit_at w (k / 7) == 1) ≡ true → pseudo rule p (record { from = s; to = k / 7; promo = promotion_at (k % 7) }) ≡ false
+-- the man on s may go to each square of the word, and no move from s to another passes the test
+pub record AreCandidates (rule : RuleSet) (p : Position) (test : Move → Bool) (s w : ℕ) : Type 0 where
+  pub inside : (t : ℕ) → t < 64 → (bit_at w t == 1) ≡ true → is_arrival rule p s t ≡ true
+  pub outside : (m : Move) → m.from ≡ s → m.to < 64 → (bit_at w m.to == 1) ≡ false → test m ≡ false
+
+-- the word that is kept is that of the origin that is kept with it
+pub record AreKept (rule : RuleSet) (p : Position) (test : Move → Bool) (k : Kept) : Type 0 where
+  pub are : (s : ℕ) → k.origin ≡ Some s → AreCandidates rule p test s k.squares

@@ -1,12 +1,12 @@
 //! Moves that give no check, told before they are made.
-ghost use Rattle.std.specs.Prelude.{◌≡◌, ℕ, false, true};
+ghost use Rattle.std.specs.Prelude.{◌≡◌, ℕ, false, not, true};
 ghost use Rattle.chess_core.specs.Position.{other, same_kind};
 ghost use Rattle.chess_core.specs.declared.man.Kind.TheVariants.{Pawn};
 ghost use Rattle.chess_core.specs.WellFormed.{IsWellFormed};
 ghost use Rattle.chess_core.specs.Words.{word};
 ghost use Rattle.chess_rules.specs.Attacks.{in_check};
 ghost use Rattle.chess_rules.specs.CheckSquares.{AreCheckSquares, AreCheckTargets, enemy, may_check_from, check_squares_for};
-ghost use Rattle.chess_rules.specs.Shields.{is_fairy};
+ghost use Rattle.chess_rules.specs.Shields.{cannot_expose, is_fairy};
 ghost use Rattle.chess_rules.specs.Legal.{pseudo};
 ghost use Rattle.chess_rules.specs.Play.{after};
 ghost use Rattle.chess_rules.specs.Targets.{steps_to};
@@ -121,6 +121,15 @@ pub(crate) fn check_targets<R: Rules>(board: &Board, squares: &CheckSquares, fro
     checked_from | only(board.crossed()) | special_targets(man, from) | rebirth_captures::<R>(board)
 }
 
+// Whether the move may expose the enemy's king, by the man that leaves its square or by one that is
+// captured, castled or reborn.
+fn may_discover<R: Rules>(board: &Board, squares: &CheckSquares, m: &Move) -> bool
+    requires { AreCheckSquares R.rule board.now.men (other board.now.turn) squares.now }
+    ensures { result ≡ not (cannot_expose R.rule board.now (other board.now.turn) m.now) }
+{
+    !cannot_expose::<R>(board, board.turn().other(), squares.shield_squares, m)
+}
+
 // Whether the move may give check: where it answers `false`, it gives none.
 pub(crate) fn may_check<R: Rules>(board: &Board, squares: &CheckSquares, m: &Move) -> bool
     requires well_formed { IsWellFormed board.now }
@@ -133,6 +142,5 @@ pub(crate) fn may_check<R: Rules>(board: &Board, squares: &CheckSquares, m: &Mov
     };
     let _small = m.to.index();
     let from_there = check_squares_for(squares, arriving(man, m.promo).kind);
-    contains(from_there, m.to)
-        || !cannot_expose::<R>(board, board.turn().other(), squares.shield_squares, m)
+    contains(from_there, m.to) || may_discover::<R>(board, squares, m)
 }

@@ -1,31 +1,34 @@
 //! The legal moves of one position, most of them found without being played.
-ghost use Rattle.std.specs.Prelude.{◌≡◌, ℕ, ◌≤◌, ◌<◌, ◌∷◌, [], IfSome, MatchOption, true};
+ghost use Rattle.std.specs.Prelude.{◌≡◌, ℕ, ◌≤◌, ◌<◌, ◌∷◌, [], IfSome, MatchOption, None, Some, true};
 ghost use Rattle.chess_core.specs.WellFormed.{IsWellFormed};
 ghost use Rattle.chess_core.specs.Words.{word};
 ghost use Rattle.chess_rules.specs.Evasions.{AreEvasions};
 ghost use Rattle.chess_rules.specs.Shields.{may_expose};
 ghost use Rattle.chess_rules.specs.Legal.{legal};
-ghost use Rattle.chess_rules.specs.Places.{AreUnplayable, IsPlaceIn, first_behind, moves_behind, place_of, triple_at};
-ghost use Rattle.chess_rules.specs.Targets.{is_aimed};
+ghost use Rattle.chess_rules.specs.Places.{HaveNone, IsPlaceIn, first_behind, moves_behind, moves_between, place_of, triple_at};
+ghost use Rattle.chess_rules.specs.Targets.{AreCandidates, AreKept, IsAimed};
 
 use crate::evasions::{evasion_squares, evasions_from};
-use crate::legal::is_legal_with;
-use crate::moves::triple;
+use crate::legal::is_legal;
+use crate::moves::{Moves, triple};
 use crate::rules::Rules;
 use crate::shields::shield_squares;
-use crate::targets::{PER_ORIGIN, TRIPLES, next_from};
+use crate::targets::{Kept, PER_ORIGIN, TRIPLES, arrivals, next_from};
 use crate::words::next_bit;
 use chess_core::board::Board;
 use chess_core::man::Move;
+use chess_core::square::Square;
 use std::marker::{Model, PhantomData};
 
 /// A place among all triples, as in `Moves`, in one position: with it are kept the squares from which a
-/// move of that position may expose the mover's king, and those to which one may go that ends a check.
+/// move of that position may expose the mover's king, those to which one may go that ends a check, and
+/// the targets of the origin on which the place stands.
 #[derive_where(Clone, Copy)]
 pub struct LegalMoves<R> {
     passed: u16,
     shield_squares: u64,
     evasion_squares: u64,
+    targets: Kept,
     rules: PhantomData<R>,
 }
 
@@ -34,9 +37,9 @@ impl<R> Model for LegalMoves<R> {
 
     ghost Value = { LegalPlace };
 
-    ghost view = { λ m. record { place = m.passed; shield_squares = m.shield_squares; evasion_squares = m.evasion_squares } };
+    ghost view = { λ m. record { place = m.passed; shield_squares = m.shield_squares; evasion_squares = m.evasion_squares; kept = m.targets } };
 
-    ghost inverse = { λ v. record { passed = v.place; shield_squares = v.shield_squares; evasion_squares = v.evasion_squares; rules = record {} } };
+    ghost inverse = { λ v. record { passed = v.place; shield_squares = v.shield_squares; evasion_squares = v.evasion_squares; targets = v.kept; rules = record {} } };
 }
 
 impl<R: Rules> LegalMoves<R> {
@@ -50,8 +53,26 @@ impl<R: Rules> LegalMoves<R> {
             passed: 0,
             shield_squares: squares,
             evasion_squares: evasion_squares::<R>(board, board.turn(), squares),
+            targets: Kept {
+                origin: None,
+                squares: 0,
+            },
             rules: PhantomData,
         }
+    }
+
+    /// The same place, without what is kept.
+    pub fn place(&self) -> Moves<R>
+        ensures { result ≡ self.now.place }
+    {
+        Moves::at(self.passed)
+    }
+
+    /// Goes to another place in the same position.
+    pub fn go_to(&mut self, place: Moves<R>)
+        ensures { self.new ≡ record self.old { place = place } }
+    {
+        self.passed = place.number();
     }
 
     /// The first legal move of the board's position behind the place, which then stands on it. Where
@@ -61,7 +82,7 @@ impl<R: Rules> LegalMoves<R> {
         requires well_formed { IsWellFormed board.old }
         requires place { IsPlaceIn R.rule board.old self.old }
         ensures first { result ≡ first_behind R.rule board.old self.old.place }
-        ensures place { self.new ≡ record self.old { place = place_of result } }
+        ensures place { self.new ≡ record self.old { place = place_of result; kept = self.new.kept } }
         ensures within { IsPlaceIn R.rule board.old self.new }
         ensures rest { MatchOption result (moves_behind R.rule board.old self.old.place ≡ [])
             (λ m. moves_behind R.rule board.old self.old.place ≡ m ∷ moves_behind R.rule board.old self.new.place) }
@@ -73,7 +94,9 @@ impl<R: Rules> LegalMoves<R> {
             board,
             self.shield_squares,
             self.evasion_squares,
+            &mut self.targets,
             self.passed,
+            TRIPLES,
         );
         if number < TRIPLES {
             self.passed = number + 1;
@@ -82,56 +105,121 @@ impl<R: Rules> LegalMoves<R> {
         self.passed = TRIPLES;
         None
     }
+
+    /// The first legal move behind the place that doesn't lie behind `end`, on which the place then
+    /// stands. The board is unchanged. The place must be one in the board's position.
+    pub fn next_until(&mut self, end: Moves<R>, board: &mut Board) -> Option<Move>
+        requires well_formed { IsWellFormed board.old }
+        requires place { IsPlaceIn R.rule board.old self.old }
+        ensures within { IsPlaceIn R.rule board.old self.new }
+        ensures rest { MatchOption result (moves_between R.rule board.old self.old.place end ≡ [])
+            (λ m. moves_between R.rule board.old self.old.place end ≡ m ∷ moves_between R.rule board.old self.new.place end) }
+        ensures legal { IfSome result (λ m. legal R.rule board.old m ≡ true) }
+        ensures board { board.new ≡ board.old }
+    {
+        let last = end.number().min(TRIPLES);
+        let number = next_legal::<R>(
+            board,
+            self.shield_squares,
+            self.evasion_squares,
+            &mut self.targets,
+            self.passed,
+            last,
+        );
+        if number < last {
+            self.passed = number + 1;
+            return Some(triple(number));
+        }
+        None
+    }
 }
 
-// The number of the first legal move from the triple numbered `start` on; 28,672 where there is none.
-// `squares` are those from which a move may expose the mover's king, `evasion_squares` those to which one may go
-// that ends a check.
+// The number of the first legal move from the triple numbered `start` on and before the one numbered `end`;
+// `end` where there is none. `squares` are those from which a move may expose the mover's king,
+// `evasion_squares` those to which one may go that ends a check.
 pub(crate) fn next_legal<R: Rules>(
     board: &mut Board,
     squares: u64,
     evasion_squares: u64,
+    kept: &mut Kept,
     start: u16,
+    end: u16,
 ) -> u16
     requires well_formed { IsWellFormed board.old }
     requires squares { squares ≡ word (may_expose R.rule board.old.men board.old.turn) }
     requires evasion_squares { AreEvasions R.rule board.old.men board.old.turn evasion_squares }
-    ensures low { result < 28672 → start ≤ result }
-    ensures high { result ≤ 28672 }
-    ensures first { first_behind R.rule board.old result ≡ first_behind R.rule board.old start }
-    ensures legal { result < 28672 → legal R.rule board.old (triple_at result) ≡ true }
+    requires kept { AreKept R.rule board.old (legal R.rule board.old) kept.old }
+    requires end { end ≤ 28672 }
+    ensures low { result < end → start ≤ result }
+    ensures high { result ≤ end }
+    ensures none { HaveNone (legal R.rule board.old) start result }
+    ensures legal { result < end → legal R.rule board.old (triple_at result) ≡ true }
+    ensures kept { AreKept R.rule board.old (legal R.rule board.old) kept.new }
     ensures board { board.new ≡ board.old }
 {
-    let mut number = next_evasion::<R>(board, evasion_squares, start);
-    while number < TRIPLES {
-        if is_legal_with::<R>(board, squares, evasion_squares, triple(number)) {
+    let mut number = start;
+    while number < end {
+        number = next_candidate::<R>(board, evasion_squares, kept, number);
+        if number >= end {
+            return end;
+        }
+        if is_legal::<R>(board, squares, evasion_squares, triple(number)) {
             return number;
         }
-        number = next_evasion::<R>(board, evasion_squares, number + 1);
+        number += 1;
     }
-    TRIPLES
+    end
 }
 
 // The first triple that may be a legal move, from the one numbered `start` on; 28,672 where there is none.
 // `evasion_squares` are the squares to which a move may go that ends a check.
-fn next_evasion<R: Rules>(board: &Board, evasion_squares: u64, start: u16) -> u16
+fn next_candidate<R: Rules>(board: &Board, evasion_squares: u64, kept: &mut Kept, start: u16) -> u16
     requires well_formed { IsWellFormed board.now }
     requires evasion_squares { AreEvasions R.rule board.now.men board.now.turn evasion_squares }
+    requires kept { AreKept R.rule board.now (legal R.rule board.now) kept.old }
     ensures low { result < 28672 → start ≤ result }
     ensures high { result ≤ 28672 }
-    ensures unplayable { AreUnplayable R.rule board.now start result }
-    ensures aimed { result < 28672 → is_aimed board.now (triple_at result) ≡ true }
+    ensures none { HaveNone (legal R.rule board.now) start result }
+    ensures aimed { result < 28672 → IsAimed R.rule board.now (triple_at result) }
+    ensures kept { AreKept R.rule board.now (legal R.rule board.now) kept.new }
 {
     let own = board.side(board.turn());
     let mut number = start;
     while let Some(from) = next_bit(own, (number / PER_ORIGIN) as u8) {
         let first = u16::from(from.index()) * PER_ORIGIN;
-        let word = evasions_from::<R>(board, evasion_squares, from);
-        let at = next_from(board, from, word, number.saturating_sub(first));
+        *kept = keep::<R>(board, evasion_squares, *kept, from);
+        let at = next_from(board, from, kept.squares, number.saturating_sub(first));
         if at < PER_ORIGIN {
             return first + at;
         }
         number = first + PER_ORIGIN;
     }
     TRIPLES
+}
+
+// What was kept, if it is of this origin, and else the squares to which the man on it may go by a legal
+// move.
+fn keep<R: Rules>(board: &Board, evasion_squares: u64, kept: Kept, from: Square) -> Kept
+    requires well_formed { IsWellFormed board.now }
+    requires evasion_squares { AreEvasions R.rule board.now.men board.now.turn evasion_squares }
+    requires kept { AreKept R.rule board.now (legal R.rule board.now) kept }
+    ensures origin { result.origin ≡ Some from }
+    ensures kept { AreKept R.rule board.now (legal R.rule board.now) result }
+{
+    if kept.origin == Some(from) {
+        return kept;
+    }
+    Kept {
+        origin: Some(from),
+        squares: candidates::<R>(board, evasion_squares, from),
+    }
+}
+
+// The squares to which the man on `from` may go by a legal move, and perhaps more.
+fn candidates<R: Rules>(board: &Board, evasion_squares: u64, from: Square) -> u64
+    requires well_formed { IsWellFormed board.now }
+    requires evasion_squares { AreEvasions R.rule board.now.men board.now.turn evasion_squares }
+    ensures { AreCandidates R.rule board.now (legal R.rule board.now) from result }
+{
+    arrivals::<R>(board, from) & evasions_from::<R>(board, evasion_squares, from)
 }

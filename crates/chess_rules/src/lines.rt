@@ -2,10 +2,10 @@
 ghost use Rattle.std.specs.Prelude.{◌≡◌, ℕ, ◌<◌, List, Option};
 ghost use Rattle.std.specs.List.{list_any};
 ghost use Rattle.chess_core.specs.declared.man.Man.{Man};
-ghost use Rattle.chess_core.specs.Steps.{along, diagonal_steps, queen_steps, straight_steps};
+ghost use Rattle.chess_core.specs.Steps.{along, diagonal_steps, knight_steps, queen_steps, straight_steps};
 ghost use Rattle.chess_core.specs.Words.{word};
-ghost use Rattle.chess_rules.specs.Lines.{IsStop, direction_number, is_on_some, occupied_squares, ray, rises, step_of};
-ghost use Rattle.chess_rules.specs.Outward.{goes_by, hopped_from};
+ghost use Rattle.chess_rules.specs.Lines.{IsStop, direction_number, flat_steps, is_on_some, occupied_squares, ray, rises, steep_steps, step_of};
+ghost use Rattle.chess_rules.specs.Outward.{hopped_from};
 ghost use Rattle.chess_rules.specs.Reaches.{hops, rides};
 
 use crate::geometry::{DIAGONAL_LINES, RAYS, STRAIGHT_LINES};
@@ -94,41 +94,6 @@ impl Direction {
     }
 }
 
-/// The directions of the queen.
-pub(crate) const QUEEN_LINES: [Direction; 8] = [
-    Direction::East,
-    Direction::West,
-    Direction::North,
-    Direction::South,
-    Direction::NorthEast,
-    Direction::SouthEast,
-    Direction::NorthWest,
-    Direction::SouthWest,
-];
-
-/// The directions of the knight.
-pub(crate) const KNIGHT_LINES: [Direction; 8] = [
-    Direction::NorthNorthEast,
-    Direction::SouthSouthEast,
-    Direction::NorthNorthWest,
-    Direction::SouthSouthWest,
-    Direction::EastNorthEast,
-    Direction::EastSouthEast,
-    Direction::WestNorthWest,
-    Direction::WestSouthWest,
-];
-
-/// A way to go in one direction.
-#[derive(Clone, Copy)]
-pub(crate) enum Way {
-    /// Any number of steps over empty squares.
-    Ride,
-    /// To the square right behind the first man on the line.
-    Hop,
-    /// To the squares from which a grasshopper hops here.
-    HopBack,
-}
-
 // The squares on which men stand.
 pub(crate) fn occupied(board: &Board) -> u64
     ensures { result ≡ occupied_squares board.now.men }
@@ -213,25 +178,83 @@ fn hop_back(occupied: u64, to: Square, direction: Direction) -> u64
     }
 }
 
-// The squares to which this way leads from `from` in this direction.
-fn by_line(occupied: u64, way: Way, from: Square, direction: Direction) -> u64
-    ensures { (men : List (Option Man)) → occupied ≡ occupied_squares men → result ≡ word (λ t. goes_by way men from t (step_of direction)) }
+// The squares to which a nightrider on `from` gets, two ranks a step.
+fn steep_rides(occupied: u64, from: Square) -> u64
+    ensures { (men : List (Option Man)) → occupied ≡ occupied_squares men → result ≡ word (λ t. list_any (rides men from t) steep_steps) }
 {
-    match way {
-        Way::Ride => ride(occupied, from, direction),
-        Way::Hop => hop(occupied, from, direction),
-        Way::HopBack => hop_back(occupied, from, direction),
-    }
+    ride(occupied, from, Direction::NorthNorthEast)
+        | ride(occupied, from, Direction::SouthSouthEast)
+        | ride(occupied, from, Direction::NorthNorthWest)
+        | ride(occupied, from, Direction::SouthSouthWest)
 }
 
-// The squares to which this way leads from `from` in one of the directions.
-pub(crate) fn by_lines(occupied: u64, way: Way, from: Square, lines: &[Direction]) -> u64
-    ensures { (men : List (Option Man)) → occupied ≡ occupied_squares men
-        → result ≡ word (λ t. list_any (λ x. goes_by way men from t (step_of x)) lines.now) }
+// Those to which it gets one rank a step.
+fn flat_rides(occupied: u64, from: Square) -> u64
+    ensures { (men : List (Option Man)) → occupied ≡ occupied_squares men → result ≡ word (λ t. list_any (rides men from t) flat_steps) }
 {
-    let mut word = 0u64;
-    for direction in lines {
-        word |= by_line(occupied, way, from, *direction);
-    }
-    word
+    ride(occupied, from, Direction::EastNorthEast)
+        | ride(occupied, from, Direction::EastSouthEast)
+        | ride(occupied, from, Direction::WestNorthWest)
+        | ride(occupied, from, Direction::WestSouthWest)
+}
+
+// The squares to which a nightrider on `from` gets.
+pub(crate) fn knight_rides(occupied: u64, from: Square) -> u64
+    ensures { (men : List (Option Man)) → occupied ≡ occupied_squares men → result ≡ word (λ t. list_any (rides men from t) knight_steps) }
+{
+    steep_rides(occupied, from) | flat_rides(occupied, from)
+}
+
+// The squares to which a grasshopper on `from` hops along its file and its rank.
+fn straight_hops(occupied: u64, from: Square) -> u64
+    ensures { (men : List (Option Man)) → occupied ≡ occupied_squares men → result ≡ word (λ t. list_any (hops men from t) straight_steps) }
+{
+    hop(occupied, from, Direction::East)
+        | hop(occupied, from, Direction::West)
+        | hop(occupied, from, Direction::North)
+        | hop(occupied, from, Direction::South)
+}
+
+// Those to which it hops along its diagonals.
+fn diagonal_hops(occupied: u64, from: Square) -> u64
+    ensures { (men : List (Option Man)) → occupied ≡ occupied_squares men → result ≡ word (λ t. list_any (hops men from t) diagonal_steps) }
+{
+    hop(occupied, from, Direction::NorthEast)
+        | hop(occupied, from, Direction::SouthEast)
+        | hop(occupied, from, Direction::NorthWest)
+        | hop(occupied, from, Direction::SouthWest)
+}
+
+// The squares to which a grasshopper on `from` hops.
+pub(crate) fn queen_hops(occupied: u64, from: Square) -> u64
+    ensures { (men : List (Option Man)) → occupied ≡ occupied_squares men → result ≡ word (λ t. list_any (hops men from t) queen_steps) }
+{
+    straight_hops(occupied, from) | diagonal_hops(occupied, from)
+}
+
+// The squares from which a grasshopper hops to `to` along its file and its rank.
+fn straight_hops_back(occupied: u64, to: Square) -> u64
+    ensures { (men : List (Option Man)) → occupied ≡ occupied_squares men → result ≡ word (λ s. list_any (hopped_from men to s) straight_steps) }
+{
+    hop_back(occupied, to, Direction::East)
+        | hop_back(occupied, to, Direction::West)
+        | hop_back(occupied, to, Direction::North)
+        | hop_back(occupied, to, Direction::South)
+}
+
+// Those from which it hops there along its diagonals.
+fn diagonal_hops_back(occupied: u64, to: Square) -> u64
+    ensures { (men : List (Option Man)) → occupied ≡ occupied_squares men → result ≡ word (λ s. list_any (hopped_from men to s) diagonal_steps) }
+{
+    hop_back(occupied, to, Direction::NorthEast)
+        | hop_back(occupied, to, Direction::SouthEast)
+        | hop_back(occupied, to, Direction::NorthWest)
+        | hop_back(occupied, to, Direction::SouthWest)
+}
+
+// The squares from which a grasshopper hops to `to`.
+pub(crate) fn queen_hops_back(occupied: u64, to: Square) -> u64
+    ensures { (men : List (Option Man)) → occupied ≡ occupied_squares men → result ≡ word (λ s. list_any (hopped_from men to s) queen_steps) }
+{
+    straight_hops_back(occupied, to) | diagonal_hops_back(occupied, to)
 }

@@ -1,30 +1,32 @@
 //! The moves of one position that mate, most of the others passed over without being played.
-ghost use Rattle.std.specs.Prelude.{◌≡◌, ℕ, ◌≤◌, ◌<◌, ◌∷◌, [], ◌&&◌, IfSome, MatchOption, not, true};
+ghost use Rattle.std.specs.Prelude.{◌≡◌, ℕ, ◌≤◌, ◌<◌, ◌∷◌, [], ◌&&◌, IfSome, MatchOption, None, Some, not, true};
 ghost use Rattle.chess_core.specs.Position.{other};
 ghost use Rattle.chess_core.specs.WellFormed.{IsWellFormed};
 ghost use Rattle.chess_rules.specs.Attacks.{in_check};
 ghost use Rattle.chess_rules.specs.CheckSquares.{AreCheckSquares};
-ghost use Rattle.chess_rules.specs.Legal.{is_goal, pseudo};
-ghost use Rattle.chess_rules.specs.Places.{HaveNoMate, IsMatingPlaceIn, mates, mates_behind, place_of, triple_at};
+ghost use Rattle.chess_rules.specs.Legal.{is_goal, legal, pseudo};
+ghost use Rattle.chess_rules.specs.Places.{HaveNone, IsMatingPlaceIn, IsNextMate, mates, mates_behind, place_of, triple_at};
 ghost use Rattle.chess_rules.specs.Play.{after};
-ghost use Rattle.chess_rules.specs.Targets.{is_aimed};
+ghost use Rattle.chess_rules.specs.Targets.{AreCandidates, AreKept, IsAimed};
 
 use crate::checks::{CheckSquares, check_squares, check_targets, may_check};
 use crate::legal::is_pseudo;
-use crate::moves::{has_legal_move, triple};
+use crate::moves::{Moves, has_legal_move, triple};
 use crate::rules::{Rules, in_check};
-use crate::targets::{PER_ORIGIN, TRIPLES, next_from};
+use crate::targets::{Kept, PER_ORIGIN, TRIPLES, arrivals, next_from};
 use crate::words::next_bit;
 use chess_core::board::Board;
 use chess_core::man::{Colour, Move};
+use chess_core::square::Square;
 use std::marker::{Model, PhantomData};
 
 /// A place among all triples, as in `Moves`, in one position: with it are kept the squares from which a
-/// move of that position may give check.
+/// move of that position may give check, and the targets of the origin on which the place stands.
 #[derive_where(Clone, Copy)]
 pub struct MatingMoves<R> {
     passed: u16,
     checks: CheckSquares,
+    targets: Kept,
     rules: PhantomData<R>,
 }
 
@@ -33,9 +35,9 @@ impl<R> Model for MatingMoves<R> {
 
     ghost Value = { MatingPlace };
 
-    ghost view = { λ m. record { place = m.passed; checks = m.checks } };
+    ghost view = { λ m. record { place = m.passed; checks = m.checks; kept = m.targets } };
 
-    ghost inverse = { λ v. record { passed = v.place; checks = v.checks; rules = record {} } };
+    ghost inverse = { λ v. record { passed = v.place; checks = v.checks; targets = v.kept; rules = record {} } };
 }
 
 impl<R: Rules> MatingMoves<R> {
@@ -47,8 +49,26 @@ impl<R: Rules> MatingMoves<R> {
         MatingMoves {
             passed: 0,
             checks: check_squares::<R>(board, board.turn().other()),
+            targets: Kept {
+                origin: None,
+                squares: 0,
+            },
             rules: PhantomData,
         }
+    }
+
+    /// The same place, without what is kept.
+    pub fn place(&self) -> Moves<R>
+        ensures { result ≡ self.now.place }
+    {
+        Moves::at(self.passed)
+    }
+
+    /// Goes to another place in the same position.
+    pub fn go_to(&mut self, place: Moves<R>)
+        ensures { self.new ≡ record self.old { place = place } }
+    {
+        self.passed = place.number();
     }
 
     /// The first legal move behind the place after which the side to move is mated; the place then stands
@@ -57,14 +77,17 @@ impl<R: Rules> MatingMoves<R> {
     pub fn next(&mut self, board: &mut Board) -> Option<Move>
         requires well_formed { IsWellFormed board.old }
         requires place { IsMatingPlaceIn R.rule board.old self.old }
-        ensures place { self.new ≡ record self.old { place = place_of result } }
+        ensures place { self.new ≡ record self.old { place = place_of result; kept = self.new.kept } }
+        ensures within { IsMatingPlaceIn R.rule board.old self.new }
         ensures rest { MatchOption result (mates_behind R.rule board.old self.old.place ≡ [])
             (λ m. mates_behind R.rule board.old self.old.place ≡ m ∷ mates_behind R.rule board.old self.new.place) }
+        ensures next { IfSome result (λ m. IsNextMate R.rule board.old self.old.place self.new.place m) }
         ensures mates { IfSome result (λ m. mates R.rule board.old m ≡ true) }
+        ensures legal { IfSome result (λ m. legal R.rule board.old m ≡ true) }
         ensures onward { IfSome result (λ m. self.old.place < self.new.place) }
         ensures board { board.new ≡ board.old }
     {
-        let number = next_mating::<R>(board, &self.checks, self.passed);
+        let number = next_mating::<R>(board, &self.checks, &mut self.targets, self.passed);
         if number < TRIPLES {
             self.passed = number + 1;
             return Some(triple(number));
@@ -76,41 +99,59 @@ impl<R: Rules> MatingMoves<R> {
 
 // The number of the first move that mates from the triple numbered `start` on; 28,672 where there is
 // none.
-pub(crate) fn next_mating<R: Rules>(board: &mut Board, squares: &CheckSquares, start: u16) -> u16
+pub(crate) fn next_mating<R: Rules>(
+    board: &mut Board,
+    squares: &CheckSquares,
+    kept: &mut Kept,
+    start: u16,
+) -> u16
     requires well_formed { IsWellFormed board.old }
     requires squares { AreCheckSquares R.rule board.old.men (other board.old.turn) squares.now }
+    requires kept { AreKept R.rule board.old (mates R.rule board.old) kept.old }
     ensures low { result < 28672 → start ≤ result }
     ensures high { result ≤ 28672 }
-    ensures same { mates_behind R.rule board.old result ≡ mates_behind R.rule board.old start }
+    ensures none { HaveNone (mates R.rule board.old) start result }
     ensures mates { result < 28672 → mates R.rule board.old (triple_at result) ≡ true }
+    ensures kept { AreKept R.rule board.old (mates R.rule board.old) kept.new }
     ensures board { board.new ≡ board.old }
 {
-    let mut number = next_candidate::<R>(board, squares, start);
+    let mut number = start;
     while number < TRIPLES {
+        number = next_candidate::<R>(board, squares, kept, number);
+        if number >= TRIPLES {
+            return TRIPLES;
+        }
         if is_mating::<R>(board, squares, triple(number)) {
             return number;
         }
-        number = next_candidate::<R>(board, squares, number + 1);
+        number += 1;
     }
     TRIPLES
 }
 
 // The first triple that may be a move with check, from the one numbered `start` on; 28,672 where there
 // is none.
-fn next_candidate<R: Rules>(board: &Board, squares: &CheckSquares, start: u16) -> u16
+fn next_candidate<R: Rules>(
+    board: &Board,
+    squares: &CheckSquares,
+    kept: &mut Kept,
+    start: u16,
+) -> u16
     requires well_formed { IsWellFormed board.now }
     requires squares { AreCheckSquares R.rule board.now.men (other board.now.turn) squares.now }
+    requires kept { AreKept R.rule board.now (mates R.rule board.now) kept.old }
     ensures low { result < 28672 → start ≤ result }
     ensures high { result ≤ 28672 }
-    ensures quiet { HaveNoMate R.rule board.now start result }
-    ensures aimed { result < 28672 → is_aimed board.now (triple_at result) ≡ true }
+    ensures none { HaveNone (mates R.rule board.now) start result }
+    ensures aimed { result < 28672 → IsAimed R.rule board.now (triple_at result) }
+    ensures kept { AreKept R.rule board.now (mates R.rule board.now) kept.new }
 {
     let own = board.side(board.turn());
     let mut number = start;
     while let Some(from) = next_bit(own, (number / PER_ORIGIN) as u8) {
         let first = u16::from(from.index()) * PER_ORIGIN;
-        let word = check_targets::<R>(board, squares, from);
-        let at = next_from(board, from, word, number.saturating_sub(first));
+        *kept = keep::<R>(board, squares, *kept, from);
+        let at = next_from(board, from, kept.squares, number.saturating_sub(first));
         if at < PER_ORIGIN {
             return first + at;
         }
@@ -119,10 +160,40 @@ fn next_candidate<R: Rules>(board: &Board, squares: &CheckSquares, start: u16) -
     TRIPLES
 }
 
+// What was kept, if it is of this origin, and else the squares to which the man on it may go with check.
+fn keep<R: Rules>(board: &Board, squares: &CheckSquares, kept: Kept, from: Square) -> Kept
+    requires well_formed { IsWellFormed board.now }
+    requires squares { AreCheckSquares R.rule board.now.men (other board.now.turn) squares.now }
+    requires kept { AreKept R.rule board.now (mates R.rule board.now) kept }
+    ensures origin { result.origin ≡ Some from }
+    ensures kept { AreKept R.rule board.now (mates R.rule board.now) result }
+{
+    if kept.origin == Some(from) {
+        return kept;
+    }
+    Kept {
+        origin: Some(from),
+        squares: candidates::<R>(board, squares, from),
+    }
+}
+
+// The squares to which the man on `from` may go with check, and perhaps more.
+fn candidates<R: Rules>(board: &Board, squares: &CheckSquares, from: Square) -> u64
+    requires well_formed { IsWellFormed board.now }
+    requires squares { AreCheckSquares R.rule board.now.men (other board.now.turn) squares.now }
+    ensures { AreCandidates R.rule board.now (mates R.rule board.now) from result }
+{
+    let word = check_targets::<R>(board, squares, from);
+    if word == 0 {
+        return 0;
+    }
+    arrivals::<R>(board, from) & word
+}
+
 // Whether the move is legal and mates. The board is unchanged after it.
 fn is_mating<R: Rules>(board: &mut Board, squares: &CheckSquares, m: Move) -> bool
     requires well_formed { IsWellFormed board.old }
-    requires aimed { is_aimed board.old m ≡ true }
+    requires aimed { IsAimed R.rule board.old m }
     requires squares { AreCheckSquares R.rule board.old.men (other board.old.turn) squares.now }
     ensures answer { result ≡ mates R.rule board.old m }
     ensures board { board.new ≡ board.old }

@@ -15,8 +15,8 @@ ghost use Rattle.chess_core.specs.declared.man.Kind.TheVariants.{Bishop, Rook};
 
 use crate::leaps::{king_leaps, knight_leaps, pawn_leaps};
 use crate::lines::{
-    KNIGHT_LINES, QUEEN_LINES, Way, by_lines, diagonal_lines, diagonal_rides, queen_rides,
-    straight_lines, straight_rides,
+    diagonal_lines, diagonal_rides, knight_rides, queen_hops_back, queen_rides, straight_lines,
+    straight_rides,
 };
 use crate::rules::Rules;
 use crate::sight::{Sight, sight_now, squares_seen};
@@ -37,8 +37,8 @@ fn comes_as(occupied: u64, colour: Colour, kind: Kind, to: Square) -> u64
         Kind::Bishop => diagonal_rides(occupied, to),
         Kind::Knight => knight_leaps(to),
         Kind::Pawn => pawn_leaps(colour.other(), to),
-        Kind::Grasshopper => by_lines(occupied, Way::HopBack, to, &QUEEN_LINES),
-        Kind::Nightrider => by_lines(occupied, Way::Ride, to, &KNIGHT_LINES),
+        Kind::Grasshopper => queen_hops_back(occupied, to),
+        Kind::Nightrider => knight_rides(occupied, to),
     }
 }
 

@@ -5,7 +5,7 @@ ghost use Rattle.chess_rules.specs.Reaches.{reaches, reaches_as};
 
 use crate::leaps::{king_leaps, knight_leaps, pawn_leaps};
 use crate::lines::{
-    KNIGHT_LINES, QUEEN_LINES, Way, by_lines, diagonal_rides, occupied, queen_rides, straight_rides,
+    diagonal_rides, knight_rides, occupied, queen_hops, queen_rides, straight_rides,
 };
 use crate::words::contains;
 use chess_core::board::Board;
@@ -25,8 +25,8 @@ pub(crate) fn reach_as(board: &Board, colour: Colour, kind: Kind, from: Square) 
         Kind::Bishop => diagonal_rides(occupied(board), from),
         Kind::Knight => knight_leaps(from),
         Kind::Pawn => pawn_leaps(colour, from),
-        Kind::Grasshopper => by_lines(occupied(board), Way::Hop, from, &QUEEN_LINES),
-        Kind::Nightrider => by_lines(occupied(board), Way::Ride, from, &KNIGHT_LINES),
+        Kind::Grasshopper => queen_hops(occupied(board), from),
+        Kind::Nightrider => knight_rides(occupied(board), from),
     }
 }
 

@@ -1,15 +1,20 @@
-//! Target words, and the next triple that may be a move.
-ghost use Rattle.std.specs.Prelude.{◌≡◌, ℕ, ◌<◌, ◌≤◌, ◌/◌, ◌%◌, true};
+//! Where a man may go, and the triples that name it.
+ghost use Rattle.std.specs.Prelude.{◌≡◌, ℕ, ◌<◌, ◌≤◌, ◌&&◌, ◌||◌, None};
+ghost use Rattle.chess_core.specs.Castling.{has_unmoved};
+ghost use Rattle.chess_core.specs.Position.{man_on};
 ghost use Rattle.chess_core.specs.Words.{word};
-ghost use Rattle.chess_rules.specs.Places.{promotion_at, triple_at};
-ghost use Rattle.chess_rules.specs.Targets.{IsBarren, IsBarrenFrom, arrives, is_aimed, is_target, steps_to};
+ghost use Rattle.chess_rules.specs.Legal.{is_arrival_free};
+ghost use Rattle.chess_rules.specs.Places.{IsBarrenFrom, IsNamed};
+ghost use Rattle.chess_rules.specs.Targets.{arrives, is_arrival, may_go, pawn_goes, steps_to};
 
-use crate::leaps::{pawn_advances, squares_aside};
-use crate::legal::last_rank;
+use crate::leaps::{king_leaps, pawn_advances, squares_aside};
+use crate::legal::{last_rank, second_rank};
+use crate::lines::occupied;
 use crate::reach::reach_as;
-use crate::words::next_bit;
+use crate::rules::Rules;
+use crate::words::{next_bit, only};
 use chess_core::board::Board;
-use chess_core::man::{Kind, Man};
+use chess_core::man::{Colour, Kind, Man};
 use chess_core::square::Square;
 
 // How many triples have the same origin: 64 arrivals, 7 promotions with none.
@@ -17,6 +22,13 @@ pub(crate) const PER_ORIGIN: u16 = 448;
 
 // How many triples there are.
 pub(crate) const TRIPLES: u16 = 28672;
+
+/// The candidates of one origin of a position, kept while its moves are walked.
+#[derive(Clone, Copy)]
+pub(crate) struct Kept {
+    pub(crate) origin: Option<Square>,
+    pub(crate) squares: u64,
+}
 
 // The squares one and two steps ahead of a pawn, and two files beside a king.
 pub(crate) fn steps_to(man: Man, from: Square) -> u64
@@ -31,11 +43,64 @@ pub(crate) fn steps_to(man: Man, from: Square) -> u64
     }
 }
 
-// The squares to which the man on `from` could go at best.
-fn targets(board: &Board, man: Man, from: Square) -> u64
-    ensures { result ≡ word (is_target board.now.men man from) }
+// The squares to which a pawn steps from here: the next one if it is empty, and from its second rank the
+// one behind it too.
+fn pawn_goes(board: &Board, man: Man, from: Square) -> u64
+    ensures { result ≡ word (pawn_goes board.now man from) }
 {
-    (reach_as(board, man.colour, man.kind, from) | steps_to(man, from)) & !board.side(man.colour)
+    let ahead = pawn_advances(man.colour, from) & !occupied(board);
+    let Some(_next) = next_bit(ahead & king_leaps(from), 0) else {
+        return 0;
+    };
+    if from.rank() == second_rank(man.colour) {
+        return ahead;
+    }
+    ahead & king_leaps(from)
+}
+
+// Those to which a king castles, and perhaps more.
+fn castling_squares(board: &Board, man: Man, from: Square) -> u64
+    ensures { result ≡ word (λ t. has_unmoved board.now.unmoved from && steps_to man from t) }
+{
+    if board.unmoved().has(from) {
+        steps_to(man, from)
+    } else {
+        0
+    }
+}
+
+// The squares to which the man on `from` goes, whoever stands there, most tests of castling apart.
+fn goes_to(board: &Board, man: Man, from: Square) -> u64
+    ensures { result ≡ word (may_go board.now man from) }
+{
+    let reach = reach_as(board, man.colour, man.kind, from);
+    if man.kind.is(Kind::Pawn) {
+        return reach & (occupied(board) | only(board.crossed())) | pawn_goes(board, man, from);
+    }
+    reach | castling_squares(board, man, from)
+}
+
+// The squares on which no man of the colour and no king stands.
+fn free_squares(board: &Board, colour: Colour) -> u64
+    ensures { result ≡ word (λ t. is_arrival_free colour (man_on board.now.men t)) }
+{
+    !(board.side(colour) | board.squares(colour.other(), Kind::King))
+}
+
+// The squares to which the man on `from` may go, most tests of castling apart.
+pub(crate) fn arrivals<R: Rules>(board: &Board, from: Square) -> u64
+    ensures { result ≡ word (is_arrival R.rule board.now from) }
+{
+    let Some(man) = board.man_at(from) else {
+        return 0;
+    };
+    if !man.colour.is(board.turn()) {
+        return 0;
+    }
+    if R::paralysed(board, from) {
+        return 0;
+    }
+    free_squares(board, board.turn()) & goes_to(board, man, from)
 }
 
 // Whether a pawn arrives on its last rank.
@@ -45,20 +110,19 @@ fn arrives(man: Man, to: Square) -> bool
     man.kind.is(Kind::Pawn) && to.rank() == last_rank(man.colour)
 }
 
-// The first triple with this origin that may be a move to one of the word's squares, from the one
-// numbered `start` on, each counted from the origin's first; 448 where there is none.
-pub(crate) fn next_from(board: &Board, from: Square, squares: u64, start: u16) -> u16
+// The first triple with this origin that goes to one of the word's squares, with a promotion where a pawn
+// arrives on its last rank and none elsewhere, from the one numbered `start` on, each counted from the
+// origin's first; 448 where there is none.
+pub(crate) fn next_from(board: &Board, from: Square, word: u64, start: u16) -> u16
     requires { start ≤ 448 }
     ensures low { start ≤ result }
     ensures high { result ≤ 448 }
-    ensures barren { IsBarrenFrom board.now from squares start result }
-    ensures aimed { result < 448 → is_aimed board.now (record { from = from; to = result / 7; promo = promotion_at (result % 7) }) ≡ true }
+    ensures barren { IsBarrenFrom board.now from word start result }
+    ensures named { result < 448 → IsNamed board.now from word result }
 {
     let Some(man) = board.man_at(from) else {
         return PER_ORIGIN;
     };
-    let aimed = targets(board, man, from);
-    let word = aimed & squares;
     let mut at = start;
     while let Some(to) = next_bit(word, (at / 7) as u8) {
         let first = u16::from(to.index()) * 7;
@@ -71,24 +135,4 @@ pub(crate) fn next_from(board: &Board, from: Square, squares: u64, start: u16) -
         at = first + 7;
     }
     PER_ORIGIN
-}
-
-// The first triple that may be a move, from the one numbered `start` on; 28,672 where there is none.
-pub(crate) fn next_triple(board: &Board, start: u16) -> u16
-    ensures low { result < 28672 → start ≤ result }
-    ensures high { result ≤ 28672 }
-    ensures barren { IsBarren board.now start result }
-    ensures aimed { result < 28672 → is_aimed board.now (triple_at result) ≡ true }
-{
-    let own = board.side(board.turn());
-    let mut number = start;
-    while let Some(from) = next_bit(own, (number / PER_ORIGIN) as u8) {
-        let first = u16::from(from.index()) * PER_ORIGIN;
-        let at = next_from(board, from, !0, number.saturating_sub(first));
-        if at < PER_ORIGIN {
-            return first + at;
-        }
-        number = first + PER_ORIGIN;
-    }
-    TRIPLES
 }

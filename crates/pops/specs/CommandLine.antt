@@ -3,6 +3,12 @@ use Rattle.std.specs.Prelude.{◌≡◌, List, codes, Option, Some, None, Bool, 
 use Rattle.clap.specs.Walk.{Rule, Text, first_of, one_of}
 use Rattle.clap.specs.Simple.{App, new_app, new_rule, with_rule, matches_of}
 use Rattle.clap.specs.declared.builder.action.ArgAction.TheVariants.{SetTrue}
+use Rattle.clap.specs.Faults.{fault_of}
+use Rattle.clap.specs.Kinds.{Kinds}
+use Rattle.clap.specs.declared.error.kind.ErrorKind.{ErrorKind}
+use Rattle.clap.specs.declared.error.kind.ErrorKind.TheVariants.{OutOfMemory}
+use Rattle.pops.specs.declared.settings.ArgFault.{ArgFault}
+use Rattle.pops.specs.declared.settings.ArgFault.TheVariants.{Usage, Memory}
 use Rattle.pops.specs.declared.settings.Settings.{Settings}
 
 -- the option --check
@@ -28,3 +34,12 @@ pub record IsSettings (words : List Text) (s : Settings) : Type 0 where
   pub file : option_map string_bytes s.file ≡ first_of (codes "file") (matches_of command words)
   pub check : IsFlag (one_of (codes "check") (matches_of command words)) s.check
   pub no_board : IsFlag (one_of (codes "no-board") (matches_of command words)) s.no_board
+
+-- the kinds of error that clap may give at the words for another cause than memory: none where it takes them
+abbrev pub refusals : List Text → Kinds
+refusals words = fault_of command words
+
+-- what is told of words that clap refuses, by the kind of its error
+abbrev pub told_of : ErrorKind → ArgFault
+told_of OutOfMemory = Memory
+told_of _ = Usage

@@ -3,6 +3,10 @@ use Rattle.std.specs.Prelude.{◌≡◌, ℕ, ◌+◌, List, [], ◌∷◌, Opti
 use Rattle.pop_text.specs.Bytes.{Appends, Begins, Keeps}
 use Rattle.pop_text.specs.Words.{Input}
 use Rattle.pop_text.specs.declared.sink.SinkFault.{SinkFault}
+use Rattle.pop_input.specs.declared.item.Last.{Last}
+use Rattle.pop_input.specs.declared.item.Last.TheVariants.{Yes, No}
+use Rattle.pop_input.specs.declared.reader.Next.{Next}
+use Rattle.pop_input.specs.declared.reader.Next.TheVariants.{First, Later, Nothing}
 use Rattle.pop_input.specs.Blocks.{Entry}
 use Rattle.pop_input.specs.Standing.{Standing, Reads, entries_left, start as before_all}
 use Rattle.pops.specs.Report.{Choice, entry_text, is_faulty, tells_failure}
@@ -18,6 +22,21 @@ pub record Place : Type 0 where
   pub status : Status
   pub stopped : Bool
   pub choice : Choice
+
+-- whether no block is next
+abbrev pub ends : Next → Bool
+ends First = false
+ends Later = false
+ends Nothing = true
+
+abbrev pub says_last : Last → Bool
+says_last Yes = true
+says_last No = false
+
+-- an item is still to come, and the sink hasn't failed
+pub record GoesOn (place : Place) : Type 0 where
+  pub more : ends place.at.next ≡ false
+  pub running : place.stopped ≡ false
 
 -- before all items
 abbrev pub start : Choice → Place

@@ -1,11 +1,12 @@
 //! The command line `pops [--check] [--no-board] [FILE]`.
-ghost use Rattle.std.specs.Prelude.{◌≡◌, IfErr, IfOk, true, map};
+ghost use Rattle.std.specs.Prelude.{◌≡◌, ◌≢◌, IfErr, IfOk, [], true, map};
 ghost use Rattle.clap.specs.Values.{kind_of};
 ghost use Rattle.clap.specs.Walk.{rows_of};
 ghost use Rattle.clap.specs.Matches.{found_of};
 ghost use Rattle.clap.specs.Simple.{matches_of};
 ghost use Rattle.clap.specs.Takes.{takes};
-ghost use Rattle.pops.specs.CommandLine.{command, IsSettings};
+ghost use Rattle.clap.specs.Kinds.{FailsBy};
+ghost use Rattle.pops.specs.CommandLine.{command, refusals, told_of, IsSettings};
 
 use crate::settings::{ArgFault, Settings};
 use clap::error::ErrorKind;
@@ -15,19 +16,16 @@ use std::alloc::Global;
 /// The settings of the words, of which the first is the program's name.
 ///
 /// `Usage` is all that clap refuses for another cause than memory: an unknown option, an option given twice, a
-/// second FILE, `--help`. `Memory` comes where a growth was refused.
+/// second FILE, `--help`. `Memory` comes where a growth was refused, whatever the words.
 pub fn settings(alloc: Global, words: &[&str]) -> Result<Settings, ArgFault>
     ensures chosen { IfOk result (IsSettings (map (λ s. s.now) words.now)) }
     ensures memory { IfErr result (λ e. takes command (map (λ s. s.now) words.now) ≡ true → e ≡ ArgFault.Memory) }
+    ensures taken { IfOk result (λ s. refusals (map (λ s. s.now) words.now) ≡ []) }
+    ensures usage { IfErr result (λ e. e ≡ ArgFault.Usage → refusals (map (λ s. s.now) words.now) ≢ []) }
 {
     let matches = match matched(alloc, words) {
         Ok(matches) => matches,
-        Err(error) => {
-            return Err(match error.kind() {
-                ErrorKind::OutOfMemory => ArgFault::Memory,
-                _ => ArgFault::Usage,
-            });
-        }
+        Err(error) => return Err(fault_told(&error)),
     };
     let file = match matches.get_str("file") {
         Some(file) => match String::from_str(alloc, file) {
@@ -43,10 +41,21 @@ pub fn settings(alloc: Global, words: &[&str]) -> Result<Settings, ArgFault>
     })
 }
 
+// Why there are no settings, where clap refuses the words.
+fn fault_told(error: &Error) -> ArgFault
+    ensures { result ≡ told_of (kind_of error.now) }
+{
+    match error.kind() {
+        ErrorKind::OutOfMemory => ArgFault::Memory,
+        _ => ArgFault::Usage,
+    }
+}
+
 // The words as clap matches them.
 fn matched<'a>(alloc: Global, words: &'a [&'a str]) -> Result<ArgMatches<'a>, Error>
     ensures rows { IfOk result (λ m. rows_of (found_of m) ≡ matches_of command (map (λ s. s.now) words.now)) }
     ensures passes { IfErr result (λ e. takes command (map (λ s. s.now) words.now) ≡ true → kind_of e ≡ ErrorKind.OutOfMemory) }
+    ensures kinds { FailsBy (refusals (map (λ s. s.now) words.now)) result }
 {
     let check = Arg::new(alloc, "check")
         .long("check")

@@ -25,7 +25,8 @@ fn main(rt: HostRuntime) -> ExitCode {
     }
 }
 
-// Takes the words over and runs the program on them and the standard streams.
+// Takes the words over and runs the program on them and the standard streams. Words that can't be taken over, since one
+// is no UTF-8 text or since memory is short, can't be judged at all: both are answered alike.
 fn run_words(rt: &HostRuntime) -> io::Result<u8> {
     let mut words = Vec::new(rt.alloc());
     for word in env::args(rt)? {

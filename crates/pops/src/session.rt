@@ -6,12 +6,12 @@ ghost use Rattle.pop_text.specs.Reading.{IsSeen, failures_after};
 ghost use Rattle.pop_text.specs.declared.scanner.End.{End};
 ghost use Rattle.pop_input.specs.Standing.{work_left};
 ghost use Rattle.pops.specs.Report.{choice_of};
-ghost use Rattle.pops.specs.Sessions.{Steps, is_problem, start, status_with as with_item, step_of};
+ghost use Rattle.pops.specs.Sessions.{GoesOn, Steps, is_problem, start, status_with as with_item, step_of};
 
 use crate::settings::Settings;
 use crate::solutions::print_sound;
 use crate::status::{Status, Step};
-use pop_input::item::{Fault, Item};
+use pop_input::item::{Fault, Item, Last};
 use pop_input::reader::Reader;
 use pop_print::print_fault;
 use pop_text::sink::{Sink, SinkFault};
@@ -24,22 +24,23 @@ pub struct Session {
     reader: Reader,
     next_number: u64,
     so_far: Status,
+    last: Last,
     has_stopped: bool,
     check: bool,
     no_board: bool,
 }
 
 impl Model for Session {
-    ghost use Rattle.std.specs.Prelude.{◌≤◌, ◌+◌, ◌^◌, length};
+    ghost use Rattle.std.specs.Prelude.{◌≡◌, ◌≤◌, ◌+◌, ◌^◌, length};
     ghost use Rattle.pop_text.specs.Words.{limit};
     ghost use Rattle.pop_input.specs.Standing.{work_left};
-    ghost use Rattle.pops.specs.Sessions.{Place};
+    ghost use Rattle.pops.specs.Sessions.{Place, ends, says_last};
 
     ghost Value = { Place };
 
     ghost view = { λ s. record { at = s.reader; number = s.next_number; status = s.so_far; stopped = s.has_stopped; choice = record { check = s.check; no_board = s.no_board } } };
 
-    ghost invariant = { λ s. (s.next_number + work_left s.reader ≤ 2 ^ 31) × (s.reader.at.used + length s.reader.at.window ≤ limit + 4096) };
+    ghost invariant = { λ s. (s.next_number + work_left s.reader ≤ 2 ^ 31) × (s.reader.at.used + length s.reader.at.window ≤ limit + 4096) × (ends s.reader.next ≡ says_last s.last) };
 }
 
 impl Session {
@@ -52,6 +53,7 @@ impl Session {
             reader: Reader::new(),
             next_number: 1,
             so_far: Status::Sound,
+            last: Last::No,
             has_stopped: false,
             check: settings.check,
             no_board: settings.no_board,
@@ -61,14 +63,14 @@ impl Session {
     /// Reads the next item and writes its report; behind the last item it writes nothing and answers the status of all.
     ///
     /// `SinkFault` where the sink fails: a beginning of the item's report is then written. From then on each call
-    /// answers `SinkFault`, reads nothing and writes nothing.
+    /// answers `SinkFault`, reads nothing and writes nothing. Behind the last item neither is asked either.
     pub fn step<S: Source, W: Sink>(
         &mut self,
         source: &mut S,
         sink: &mut W,
     ) -> Result<Step, SinkFault>
-        requires source { self.old.at.at.end ≡ End.Open → S.failures source.old < greatest }
-        requires sink { self.old.stopped ≡ false → W.failures sink.old < greatest }
+        requires source { GoesOn self.old → self.old.at.at.end ≡ End.Open → S.failures source.old < greatest }
+        requires sink { GoesOn self.old → W.failures sink.old < greatest }
         ensures does { self.old.stopped ≡ false → Steps self.old self.new (S.remaining source.old) (S.remaining source.new) (W.taken sink.old) (W.taken sink.new) result }
         ensures stopped { self.old.stopped ≡ true → IsErr result × (self.new ≡ self.old) × (source.new ≡ source.old) × (sink.new ≡ sink.old) }
         ensures seen { IsSeen self.old.at.at.end (S.remaining source.old) → IsSeen self.new.at.at.end (S.remaining source.new) }
@@ -81,16 +83,21 @@ impl Session {
         if self.has_stopped {
             return Err(SinkFault);
         }
+        if self.last == Last::Yes {
+            return Ok(Step::Finished(self.so_far));
+        }
         let number = self.next_number;
         match self.reader.next_problem(source) {
             Item::End => Ok(Step::Finished(self.so_far)),
-            Item::Sound(problem, _last) => {
+            Item::Sound(problem, last) => {
                 self.next_number += 1;
+                self.last = last;
                 let printed = print_sound(sink, number, &problem, self.check, self.no_board);
                 self.answer(printed, true)
             }
-            Item::Faulty(fault, _last) => {
+            Item::Faulty(fault, last) => {
                 self.next_number += 1;
+                self.last = last;
                 self.so_far = status_with(self.so_far, &fault);
                 let printed = print_fault(sink, number, &fault);
                 self.answer(printed, false)

@@ -4,6 +4,8 @@
 #[cfg(test)]
 mod compared;
 #[cfg(test)]
+mod long;
+#[cfg(test)]
 mod made;
 #[cfg(test)]
 mod plain;

@@ -13,22 +13,12 @@ fn settings(check: bool) -> Settings {
     }
 }
 
-// Whether the input gives this report and status, where the source hands out so many bytes a call and fails there.
-fn gives_from(
-    input: &[u8],
-    at_most: usize,
-    fails_at: Option<usize>,
-    report: &[u8],
-    status: Status,
-) -> bool {
-    let mut source = TrialSource::new(input, at_most.max(1), fails_at);
+// Whether the input gives this report and status.
+fn gives(input: &[u8], report: &[u8], status: Status) -> bool {
+    let mut source = TrialSource::new(input, 4096, None);
     let mut sink = TrialSink::<8192>::new(4096, None);
     let answer = run(&settings(false), &mut source, &mut sink);
     answer == status && sink.text() == report
-}
-
-fn gives(input: &[u8], report: &[u8], status: Status) -> bool {
-    gives_from(input, 4096, None, report, status)
 }
 
 // Orthodox men, castling, en passant, promotion.
@@ -488,49 +478,6 @@ fn cut_rows(rt: HostRuntime) {
     ];
     for (name, input, report) in rows {
         assert!(rt; gives(input, report, Status::Faulty), "{name}");
-    }
-}
-
-// A device that fails after so many bytes.
-#[test]
-fn failing_devices(rt: HostRuntime) {
-    let reports: [(usize, &[u8]); 4] = [
-        (12, b"problem 1\nline 1: fault 21: input device failed\n\n"),
-        (13, b"problem 1\nline 2: fault 21: input device failed\n\n"),
-        (33, b"problem 1\nline 2: fault 21: input device failed\n\n"),
-        (
-            44,
-            b"problem 1\nline 2: fault 5: square given twice\n\nproblem 2\nline 3: fault 21: input device failed\n\n",
-        ),
-    ];
-    for (bytes, report) in reports {
-        assert!(rt;
-            gives_from(
-                b"BeginProblem\nPieces White Kg6 Rg6 Black Kg8\nRemark not yet NextProblem here\nStipulation #1\nNextProblem\nPieces White Kg6 Ra1 Black Kg8\nStipulation #1\nNextProblem\nPieces White K\n",
-                4096,
-                Some(bytes),
-                report,
-                Status::InputFailed
-            ),
-            "{bytes} bytes"
-        );
-    }
-}
-
-// How many bytes a source hands out a call changes nothing.
-#[test]
-fn bytes_a_call(rt: HostRuntime) {
-    for at_most in [1, 2, 3, 4095, 4096, 4097] {
-        assert!(rt;
-            gives_from(
-                b"BeginProblem\nPieces White Kg6 Rg6 Black Kg8\nRemark not yet NextProblem here\nStipulation #1\nNextProblem\nPieces White Kg6 Ra1 Black Kg8\nStipulation #1\nNextProblem\nPieces White K\n",
-                at_most,
-                None,
-                b"problem 1\nline 2: fault 5: square given twice\n\nproblem 2\n8 ......k.\n7 ........\n6 ......K.\n5 ........\n4 ........\n3 ........\n2 ........\n1 R.......\n  abcdefgh\n#1\nplay\n1.Ra1-a8#\nsolutions: 1\n\nproblem 3\nline 9: fault 14: square expected\n\n",
-                Status::Faulty
-            ),
-            "{at_most} bytes"
-        );
     }
 }
 

@@ -1,6 +1,9 @@
 //! Inputs of which both readers have to tell the same.
 use crate::compared::{agree, mark};
+use crate::long::{PERIOD, long_text};
 use crate::made::text;
+use crate::plain::items;
+use std::test::Fail;
 
 const THREE: &str =
     "BeginProblem\nPieces White Kg6 Rg6 Black Kg8\nRemark not yet NextProblem here\nStipulation #1\nNextProblem\nPieces White Kg6 Ra1 Black Kg8\nStipulation #1\nNextProblem\nPieces White K\n";
@@ -29,4 +32,26 @@ fn made_texts(rt: HostRuntime) {
     for number in 0..22usize {
         assert_eq!(rt; seen[number], number != 20);
     }
+}
+
+// Each place of a long text stands at a window's end once.
+#[test]
+fn long_texts(rt: HostRuntime) -> Result<(), Fail> {
+    for shift in 0..PERIOD {
+        let text = long_text(&rt, shift)?;
+        // Twenty sound problems, twenty faulty ones, and the last.
+        assert_eq!(rt; items(text.as_slice(), false).len(), 41);
+        assert!(rt; agree(text.as_slice(), 4096), "{shift} blanks");
+    }
+    Ok(())
+}
+
+// A source that hands out each count of bytes a call, up to more than a window.
+#[test]
+fn bytes_a_call(rt: HostRuntime) -> Result<(), Fail> {
+    for bytes in 1..4098usize {
+        let text = long_text(&rt, bytes % PERIOD)?;
+        assert!(rt; agree(text.as_slice(), bytes), "{bytes} bytes a call");
+    }
+    Ok(())
 }

@@ -17,5 +17,4 @@ returns-else-contains g c = λ h.
     let here : man_on p.men c.args.m.now.from ≡ Some x = ap (man_on p.men) (sym from) ∙ sym c.man_at.ensures ∙ c.in-Some.is in
     let arrives : c.arriving.result ≡ arriving x c.args.m.now.promo = c.arriving.ensures ∙ ap (λ (v : Triple). arriving x v.promo) c.m.view_is in
     let off : (bit_at c.check_squares_for-from_there.result c.m.inside.to == 1) ≡ false = sym c.contains.ensures ∙ c.if-contains.false in
-    let cover = rw (c.other.ensures, c.turn.ensures) at c.cannot_expose.ensures in
-    no_check g.R.Rules.rule p x c.args.m.now c.args.squares.now c.arriving.result c.check_squares_for-from_there.result c.m.inside.to c.requires.well_formed c.requires.pseudo here c.requires.squares arrives c.check_squares_for-from_there.ensures to small off (sym cover ∙ not-false _ h)
+    no_check g.R.Rules.rule p x c.args.m.now c.args.squares.now c.arriving.result c.check_squares_for-from_there.result c.m.inside.to c.requires.well_formed c.requires.pseudo here c.requires.squares arrives c.check_squares_for-from_there.ensures to small off (not-false _ (sym c.may_discover.ensures ∙ h))

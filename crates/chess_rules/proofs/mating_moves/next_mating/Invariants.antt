@@ -1,14 +1,14 @@
-use Rattle.std.proofs.Common.{◌≡◌, ◌-◌, ◌<◌, ◌≤◌, true}
-use Rattle.chess_rules.specs.Places.{mates_behind, triple_at}
-use Rattle.chess_rules.specs.Targets.{is_aimed}
+use Rattle.std.proofs.Common.{◌≡◌, ◌-◌, ◌≤◌}
+use Rattle.chess_rules.specs.Places.{HaveNone, mates}
+use Rattle.chess_rules.specs.Targets.{AreKept}
 use Rattle.chess_rules.proofs.mating_moves.next_mating.Given as goal
 
 abbrev pub invariant-loop-number : goal.invariant-loop-number
 invariant-loop-number g l = record {
   board : l.board ≡ l.fn.board;
-  same : mates_behind g.R.Rules.rule l.fn.board l.number ≡ mates_behind g.R.Rules.rule l.fn.board l.fn.start;
-  onward : l.number < 28672 → l.fn.start ≤ l.number;
-  aimed : l.number < 28672 → is_aimed l.fn.board (triple_at l.number) ≡ true;
+  low : l.fn.start ≤ l.number;
+  none : HaveNone (mates g.R.Rules.rule l.fn.board) l.fn.start l.number;
+  kept : AreKept g.R.Rules.rule l.fn.board (mates g.R.Rules.rule l.fn.board) l.kept;
 }
 
 abbrev pub decreases-loop-number : goal.decreases-loop-number

@@ -28,8 +28,8 @@ returns-in-Pawn c = λ men held.
 
 pub returns-in-Grasshopper : goal.returns-in-Grasshopper
 returns-in-Grasshopper c = λ men held.
-    rw c.in-Grasshopper.is ((c.by_lines.ensures men held) ∙ comes_grasshopper men c.args.colour c.args.to (rw c.index-small.ensures.value at c.index-small.ensures.small))
+    rw c.in-Grasshopper.is ((c.queen_hops_back.ensures men held) ∙ comes_grasshopper men c.args.colour c.args.to (rw c.index-small.ensures.value at c.index-small.ensures.small))
 
 pub returns-in-Nightrider : goal.returns-in-Nightrider
 returns-in-Nightrider c = λ men held.
-    rw c.in-Nightrider.is ((c.by_lines-in-Nightrider.ensures men held) ∙ comes_nightrider men c.args.colour c.args.to (rw c.index-small.ensures.value at c.index-small.ensures.small))
+    rw c.in-Nightrider.is ((c.knight_rides.ensures men held) ∙ comes_nightrider men c.args.colour c.args.to (rw c.index-small.ensures.value at c.index-small.ensures.small))

@@ -1,12 +1,12 @@
 use Rattle.std.proofs.Common.{◌-◌, ◌≤◌}
-use Rattle.chess_rules.specs.Targets.{IsBarrenFrom}
+use Rattle.chess_rules.specs.Places.{IsBarrenFrom}
 use Rattle.chess_rules.proofs.targets.next_from.Given as goal
 
 abbrev pub invariant-loop-to : goal.invariant-loop-to
 invariant-loop-to l = record {
   low : l.fn.start ≤ l.at;
   high : l.at ≤ 448;
-  barren : IsBarrenFrom l.board l.fn.from l.fn.squares l.fn.start l.at;
+  barren : IsBarrenFrom l.board l.fn.from l.fn.word l.fn.start l.at;
 }
 
 abbrev pub decreases-loop-to : goal.decreases-loop-to

@@ -3,9 +3,15 @@ use Rattle.std.proofs.lemmas.Result.{IfErr-weaker, IfOk-weaker}
 use Rattle.clap.specs.Walk.{rule_of}
 use Rattle.clap.specs.Simple.{app_of, is_simple, new_rule, matches_of, with_rule}
 use Rattle.clap.specs.Takes.{takes}
+use Rattle.clap.specs.Faults.{fault_of, is_simple_and_free}
+use Rattle.clap.proofs.FaultLemmas.{fails_as}
 use Rattle.clap.proofs.OnLiterals.{clap_on_literals}
 use Rattle.pops.specs.CommandLine.{check, no_board, command}
 use Rattle.pops.proofs.command_line.matched.Goals as goal
+
+is_simple_and_free_command : is_simple_and_free command ≡ true
+unfolding clap_on_literals
+is_simple_and_free_command = refl
 
 is_simple_command : is_simple command ≡ true
 unfolding clap_on_literals
@@ -30,3 +36,9 @@ returns-clause-passes c =
     let parse = c.try_get_matches_from in
     let is = command_is c in
     IfErr-weaker parse.result _ _ (λ e h taken. h (ap (λ a. takes a (map (λ s. s.now) c.args.words.now)) is ∙ taken)) parse.ensures.passes
+
+pub returns-clause-kinds : goal.returns-clause-kinds
+returns-clause-kinds c =
+    let parse = c.try_get_matches_from in
+    let is = command_is c in
+    fails_as parse.result _ _ (ap (λ a. fault_of a (map (λ s. s.now) c.args.words.now)) is) (parse.ensures.kinds (ap is_simple_and_free is ∙ is_simple_and_free_command))

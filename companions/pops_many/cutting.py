@@ -1,0 +1,86 @@
+"""Cuts an input of pops into inputs of one problem each.
+
+A problem ends with its NextProblem or EndProblem, whatever faults it has: these words count
+wherever they stand but in the text of Title, Author, Origin and Remark. Nothing behind EndProblem
+is read.
+"""
+
+import re
+from dataclasses import dataclass
+from typing import List
+
+# The most bytes that pops reads of an input; a longer one is left to one run of it.
+LONGEST_INPUT = 1 << 30
+
+_BLANKS = rb"\t\n\x0b\x0c\r "
+_TEXT_WORDS = ("title", "author", "origin", "remark")
+_NEXT = "nextproblem"
+_END = "endproblem"
+
+
+def _short_forms(word: str) -> bytes:
+    """A pattern of the word and its short forms, of three letters or more; longer ones first."""
+    forms = (word[:length] for length in range(len(word), 2, -1))
+    return "|".join(forms).encode("ascii")
+
+
+_MARKS = re.compile(
+    rb"(?<![^" + _BLANKS + rb"])"
+    rb"(?:(?:" + b"|".join(map(_short_forms, _TEXT_WORDS)) + rb")(?![^" + _BLANKS + rb"])[^\n]*"
+    rb"|(?P<next>" + _short_forms(_NEXT) + rb")(?![^" + _BLANKS + rb"])"
+    rb"|(?P<end>" + _short_forms(_END) + rb")(?![^" + _BLANKS + rb"]))",
+    re.IGNORECASE,
+)
+
+
+@dataclass(frozen=True)
+class Piece:
+    """A problem of an input: the bytes of its block, with the line ends that stand before them.
+
+    The block of a later problem begins behind NextProblem. It is closed where NextProblem or
+    EndProblem ends it, and open where the input does.
+    """
+
+    number: int
+    start: int
+    stop: int
+    line_ends: int
+    closed: bool
+
+    @property
+    def line(self) -> int:
+        """The line of the input on which the block begins, from 1."""
+        return self.line_ends + 1
+
+    def alone(self, text: bytes, with_line_ends: bool) -> bytes:
+        """The problem as an input of its own.
+
+        It has the same fault or none, and with the line ends before it the fault has the same line.
+        The short words leave it no longer than the part of the input that pops would read for it.
+        """
+        parts = []
+        if self.number > 1:
+            if with_line_ends:
+                parts.append(b"\n" * self.line_ends)
+            parts.append(b"Beg")
+        parts.append(text[self.start : self.stop])
+        if self.closed:
+            parts.append(b"End")
+        return b"".join(parts)
+
+
+def cut(text: bytes) -> List[Piece]:
+    """The problems of an input, as pops numbers them. An empty input has one, which is faulty."""
+    pieces: List[Piece] = []
+    start = 0
+    line_ends = 0
+    for mark in _MARKS.finditer(text):
+        if mark.lastgroup is None:
+            continue
+        pieces.append(Piece(len(pieces) + 1, start, mark.start(), line_ends, True))
+        if mark.lastgroup == "end":
+            return pieces
+        line_ends += text.count(b"\n", start, mark.start())
+        start = mark.end()
+    pieces.append(Piece(len(pieces) + 1, start, len(text), line_ends, False))
+    return pieces

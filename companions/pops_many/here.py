@@ -1,0 +1,55 @@
+"""Runs tasks on the processors of this machine."""
+
+from concurrent.futures import FIRST_COMPLETED, Future, ThreadPoolExecutor, wait
+from typing import Callable, Iterable, List, Set, Tuple
+
+from pops_many.program import Program, RunError
+from pops_many.tasks import Result, Task
+
+# A run that came to no end is tried so many times in all.
+_TRIES = 2
+
+
+def _solved(program: Program, task: Task) -> Result:
+    for tried in range(1, _TRIES + 1):
+        try:
+            return program.solve(task)
+        except RunError:
+            if tried == _TRIES:
+                raise
+    raise AssertionError("a task is tried at least once")
+
+
+def run_here(
+    program: Program, tasks: Iterable[Task], jobs: int, keep: Callable[[Result], None]
+) -> List[Tuple[Task, str]]:
+    """Runs tasks, so many at a time, and hands each result on as it comes.
+
+    Answers the tasks that came to no end, with the reasons.
+    """
+    failed: List[Tuple[Task, str]] = []
+    waiting = iter(tasks)
+    running: "Set[Future[Result]]" = set()
+    task_of = {}
+    with ThreadPoolExecutor(jobs) as pool:
+        try:
+            while True:
+                while len(running) < 2 * jobs:
+                    task = next(waiting, None)
+                    if task is None:
+                        break
+                    future = pool.submit(_solved, program, task)
+                    task_of[future] = task
+                    running.add(future)
+                if not running:
+                    return failed
+                done, running = wait(running, return_when=FIRST_COMPLETED)
+                for future in done:
+                    task = task_of.pop(future)
+                    try:
+                        keep(future.result())
+                    except RunError as error:
+                        failed.append((task, str(error)))
+        except BaseException:
+            program.stop()
+            raise

@@ -1,0 +1,1 @@
+"""What the companions of pops share: its reports, its problem texts, positions, pages."""

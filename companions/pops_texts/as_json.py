@@ -1,0 +1,95 @@
+"""A report's items as JSON objects; docs/COMPANIONS.md states their schema."""
+
+from typing import Any, Dict, List, Optional, Union
+
+from pops_texts.report import Board, FaultyItem, HelpLine, Item, Node, Phase, PlayedMove, SoundItem
+from pops_texts.stipulation import Stipulation
+
+Json = Dict[str, Any]
+
+
+def item_object(item: Item, encoding: str) -> Json:
+    """The object of an item. Bytes of title and author that are no text become U+FFFD."""
+    if isinstance(item, FaultyItem):
+        fault = item.fault
+        told = {"line": fault.line, "number": fault.number, "text": fault.text}
+        return {"number": item.number, "sound": False, "fault": told}
+    return {
+        "number": item.number,
+        "sound": True,
+        "title": _text(item.title, encoding),
+        "author": _text(item.author, encoding),
+        "board": None if item.board is None else _board(item.board),
+        "stipulation": _stipulation(item.stipulation),
+        "condition": None if item.condition is None else item.condition.value,
+        "phases": None if item.phases is None else _phases(item),
+    }
+
+
+def _text(text: Optional[bytes], encoding: str) -> Optional[str]:
+    return None if text is None else text.decode(encoding, "replace")
+
+
+def _board(board: Board) -> Json:
+    men = [
+        {"square": square.name, "colour": man.colour.value, "man": man.kind.word}
+        for square, man in board.men.items()
+    ]
+    return {"ranks": list(board.ranks), "men": men}
+
+
+def _stipulation(stipulation: Stipulation) -> Json:
+    return {
+        "text": stipulation.text,
+        "play": stipulation.play.value,
+        "goal": stipulation.goal.word,
+        "moves": stipulation.moves,
+        "half_moves": stipulation.half_moves,
+    }
+
+
+def _phases(item: SoundItem) -> List[Json]:
+    return [_phase(phase) for phase in item.phases or ()]
+
+
+def _phase(phase: Phase) -> Json:
+    if phase.total is None:
+        return {"phase": phase.kind.value, "possible": False}
+    return {
+        "phase": phase.kind.value,
+        "possible": True,
+        "count": phase.total.count,
+        "stopped": phase.total.stopped,
+        "solutions": [_solution(solution) for solution in phase.solutions],
+    }
+
+
+def _solution(solution: Union[HelpLine, Node]) -> Json:
+    if isinstance(solution, HelpLine):
+        return {"text": solution.text, "moves": [_move(move) for move in solution.moves]}
+    below = [_solution(node) for node in solution.below]
+    return {"text": solution.text.lstrip(" "), "move": _move(solution.move), "below": below}
+
+
+def _move(move: PlayedMove) -> Json:
+    rebirth = move.rebirth
+    return {
+        "text": move.text,
+        "half": move.half,
+        "side": move.side.value,
+        "man": move.kind.word,
+        "from": move.origin.name,
+        "to": move.arrival.name,
+        "capture": move.capture,
+        "en_passant": move.en_passant,
+        "castling": None if move.castling is None else move.castling.value,
+        "promotion": None if move.promotion is None else move.promotion.word,
+        "rebirth": None
+        if rebirth is None
+        else {
+            "square": rebirth.square.name,
+            "colour": rebirth.man.colour.value,
+            "man": rebirth.man.kind.word,
+        },
+        "mark": None if move.mark is None else move.mark.name.lower(),
+    }

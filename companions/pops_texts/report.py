@@ -1,0 +1,405 @@
+"""Reads reports of pops, item by item, by the grammar of its manual.
+
+The reading is strict: a report that departs from the grammar, or that was cut, is refused with the
+line where it does. Several reports one behind the other, each numbered from 1, are read as well.
+"""
+
+import re
+from dataclasses import dataclass, field
+from enum import Enum
+from typing import Dict, Iterable, Iterator, List, Optional, Tuple, Union
+
+from pops_texts.chess import Colour, Kind, Man, Square
+from pops_texts.stipulation import Condition, Play, Stipulation
+
+
+class ReportError(ValueError):
+    """A text that is no report of pops, with the line, counted from 1, where it shows."""
+
+    def __init__(self, line: int, message: str):
+        super().__init__(f"line {line}: {message}")
+        self.line = line
+
+
+class Castling(Enum):
+    """Castling by its printed text: to the h side or to the a side."""
+
+    SHORT = "0-0"
+    LONG = "0-0-0"
+
+
+class Mark(Enum):
+    """What stands behind a move; its value is the printed sign."""
+
+    CHECK = "+"
+    MATE = "#"
+    STALEMATE = "="
+
+
+class PhaseKind(Enum):
+    """A phase of the solutions; its value is the printed word."""
+
+    SET = "set"
+    PLAY = "play"
+
+
+@dataclass(frozen=True)
+class Rebirth:
+    """A man put back on the board by a capture under Circe."""
+
+    man: Man
+    square: Square
+
+
+@dataclass(frozen=True)
+class PlayedMove:
+    """A move of a solution. `text` is what the report prints, its number left out.
+
+    Of castling, man, origin and arrival are the king's.
+    """
+
+    text: str
+    half: int
+    side: Colour
+    kind: Kind
+    origin: Square
+    arrival: Square
+    capture: bool
+    en_passant: bool
+    promotion: Optional[Kind]
+    castling: Optional[Castling]
+    rebirth: Optional[Rebirth]
+    mark: Optional[Mark]
+
+
+@dataclass(frozen=True)
+class HelpLine:
+    """A solution of help play: all its moves."""
+
+    text: str
+    moves: Tuple[PlayedMove, ...]
+
+
+@dataclass
+class Node:
+    """A move of battle play with what the report shows below it."""
+
+    text: str
+    move: PlayedMove
+    below: "List[Node]" = field(default_factory=list)
+
+
+@dataclass(frozen=True)
+class Total:
+    """How many solutions a phase has, and whether the limit of solutions ended it."""
+
+    count: int
+    stopped: bool
+
+
+@dataclass(frozen=True)
+class Phase:
+    """Set play or play: its solutions, help lines or nodes. Without a total it isn't possible."""
+
+    kind: PhaseKind
+    solutions: Tuple[Union[HelpLine, Node], ...]
+    lines: Tuple[str, ...]
+    total: Optional[Total]
+    last_line: str
+
+
+@dataclass(frozen=True)
+class Board:
+    """A printed board: eight ranks, rank 8 first, of eight letters or points."""
+
+    ranks: Tuple[str, ...]
+
+    @property
+    def men(self) -> Dict[Square, Man]:
+        """The men by their squares, in the order of the diagram."""
+        letters = "".join(self.ranks)
+        return {
+            square: Man.of_letter(letter)
+            for square, letter in zip(Square.of_diagram(), letters)
+            if letter != "."
+        }
+
+
+@dataclass(frozen=True)
+class Fault:
+    """The fault of a problem, with the line of the input that it is told of."""
+
+    line: int
+    number: int
+    text: str
+
+
+@dataclass(frozen=True)
+class FaultyItem:
+    """The report of a faulty problem."""
+
+    number: int
+    fault: Fault
+
+
+@dataclass(frozen=True)
+class SoundItem:
+    """The report of a sound problem. Without phases the problem was checked and not solved.
+
+    Title and author are bytes as the problem gave them, in whatever encoding.
+    """
+
+    number: int
+    title: Optional[bytes]
+    author: Optional[bytes]
+    board: Optional[Board]
+    stipulation: Stipulation
+    condition: Optional[Condition]
+    phases: Optional[Tuple[Phase, ...]]
+
+
+Item = Union[FaultyItem, SoundItem]
+
+_FAULT = re.compile(r"line ([1-9][0-9]*): fault ([1-9][0-9]?): (.+)", re.ASCII)
+_BOARD_RANK = re.compile(r"([1-8]) ([KQRBSPGNkqrbspgn.]{8})", re.ASCII)
+_TOTAL = re.compile(r"solutions: ([0-9]+)(, stopped)?", re.ASCII)
+_MOVE = re.compile(
+    r"(?:(?P<castling>0-0-0|0-0)"
+    r"|(?P<man>[KQRBSGN]?)(?P<origin>[a-h][1-8])(?P<step>[-*])(?P<arrival>[a-h][1-8])"
+    r"(?P<en_passant> ep\.)?(?:=(?P<promotion>[QRBSGN]))?"
+    r"(?:\[\+(?P<reborn_colour>[wb])(?P<reborn_kind>[QRBSPGN])(?P<reborn_square>[a-h][1-8])\])?)"
+    r"(?P<mark>[#+=]?)(?= |$)",
+    re.ASCII,
+)
+_FILES_LINE = "  abcdefgh"
+
+
+def prefix(half: int) -> str:
+    """The number printed before a half-move: `2.` for the odd one, `2...` for the even one."""
+    return f"{(half + 1) // 2}." if half % 2 == 1 else f"{half // 2}..."
+
+
+class _Lines:
+    """The lines of a report, one looked at ahead, with their numbers."""
+
+    def __init__(self, lines: Iterable[bytes]):
+        self._rest = iter(lines)
+        self.number = 0
+        self._ahead: Optional[bytes] = None
+        self._step()
+
+    def _step(self) -> None:
+        line = next(self._rest, None)
+        self.number += 1
+        if line is not None and not line.endswith(b"\n"):
+            raise ReportError(self.number, "the report is cut inside this line")
+        self._ahead = None if line is None else line[:-1]
+
+    @property
+    def at_end(self) -> bool:
+        return self._ahead is None
+
+    @property
+    def ahead(self) -> bytes:
+        """The line at hand. Refused at the end of the report, which is inside an item then."""
+        if self._ahead is None:
+            raise ReportError(self.number, "the report is cut inside a problem")
+        return self._ahead
+
+    @property
+    def text(self) -> str:
+        """The line at hand as text; it is ASCII everywhere but in titles and authors."""
+        return self.ahead.decode("latin-1")
+
+    def take(self) -> str:
+        """Takes the line at hand."""
+        text = self.text
+        self._step()
+        return text
+
+    def refused(self, expected: str) -> ReportError:
+        shown = self.text if len(self.text) <= 60 else self.text[:60] + ".."
+        return ReportError(self.number, f"expected {expected}, found {shown!r}")
+
+
+def read_report(lines: Iterable[bytes]) -> Iterator[Item]:
+    """The items of a report, given by its lines with their line ends, as a binary file gives them.
+
+    ReportError where the text departs from the grammar; the items before were given.
+    """
+    source = _Lines(lines)
+    number = 0
+    while not source.at_end:
+        starts = {f"problem {number + 1}": number + 1, "problem 1": 1}
+        if source.text not in starts:
+            raise source.refused(f"'problem {number + 1}'")
+        number = starts[source.take()]
+        item = _read_item(source, number)
+        if source.ahead != b"":
+            raise source.refused("an empty line")
+        source.take()
+        yield item
+
+
+def _read_item(source: _Lines, number: int) -> Item:
+    fault = _FAULT.fullmatch(source.text)
+    if fault is not None:
+        source.take()
+        return FaultyItem(number, Fault(int(fault[1]), int(fault[2]), fault[3]))
+    title = _read_text(source, b"title: ")
+    author = _read_text(source, b"author: ")
+    board = _read_board(source) if source.text.startswith("8 ") else None
+    stipulation, condition = _read_stipulation(source)
+    phases = None
+    if source.text == "sound":
+        source.take()
+    else:
+        phases = _read_phases(source, stipulation)
+    return SoundItem(number, title, author, board, stipulation, condition, phases)
+
+
+def _read_text(source: _Lines, label: bytes) -> Optional[bytes]:
+    if not source.ahead.startswith(label):
+        return None
+    text = source.ahead[len(label) :]
+    source.take()
+    return text
+
+
+def _read_board(source: _Lines) -> Board:
+    ranks = []
+    for rank in range(8, 0, -1):
+        parts = _BOARD_RANK.fullmatch(source.text)
+        if parts is None or int(parts[1]) != rank:
+            raise source.refused(f"rank {rank} of a board")
+        ranks.append(parts[2])
+        source.take()
+    if source.text != _FILES_LINE:
+        raise source.refused("the line of files below a board")
+    source.take()
+    return Board(tuple(ranks))
+
+
+def _read_stipulation(source: _Lines) -> Tuple[Stipulation, Optional[Condition]]:
+    words = source.text.split(" ")
+    try:
+        stipulation = Stipulation.of_text(words[0])
+        condition = Condition(words[1]) if len(words) > 1 else None
+    except ValueError:
+        raise source.refused("a stipulation") from None
+    if len(words) > 2:
+        raise source.refused("a stipulation and at most one condition")
+    source.take()
+    return stipulation, condition
+
+
+def _read_phases(source: _Lines, stipulation: Stipulation) -> Tuple[Phase, ...]:
+    phases = []
+    if source.text == PhaseKind.SET.value:
+        phases.append(_read_phase(source, stipulation, PhaseKind.SET))
+    if source.text != PhaseKind.PLAY.value:
+        raise source.refused("'play'")
+    phases.append(_read_phase(source, stipulation, PhaseKind.PLAY))
+    return tuple(phases)
+
+
+def _read_phase(source: _Lines, stipulation: Stipulation, kind: PhaseKind) -> Phase:
+    source.take()
+    if source.text == "not possible":
+        return Phase(kind, (), (), None, source.take())
+    first_half = stipulation.first_half + (1 if kind is PhaseKind.SET else 0)
+    solutions: List[Union[HelpLine, Node]] = []
+    lines: List[str] = []
+    path: List[Node] = []
+    while True:
+        total = _TOTAL.fullmatch(source.text)
+        if total is not None:
+            break
+        if stipulation.play is Play.HELP:
+            solutions.append(_read_help_line(source, stipulation, first_half))
+        else:
+            node, depth = _read_node(source, stipulation, first_half, len(path))
+            del path[depth:]
+            if path:
+                path[-1].below.append(node)
+            else:
+                solutions.append(node)
+            path.append(node)
+        lines.append(source.take())
+    if int(total[1]) != len(solutions):
+        raise source.refused(f"'solutions: {len(solutions)}', the number of solutions above")
+    tally = Total(len(solutions), total[2] is not None)
+    return Phase(kind, tuple(solutions), tuple(lines), tally, source.take())
+
+
+def _read_help_line(source: _Lines, stipulation: Stipulation, first_half: int) -> HelpLine:
+    text = source.text
+    last_half = stipulation.first_half + stipulation.half_moves - 1
+    place = 0
+    moves: List[PlayedMove] = []
+    for half in range(first_half, last_half + 1):
+        gap = " " if moves else ""
+        lead = gap + (prefix(half) if half % 2 == 1 or not moves else "")
+        parts = _MOVE.match(text, place + len(lead)) if text.startswith(lead, place) else None
+        if parts is None:
+            raise source.refused(f"a line of {last_half - first_half + 1} half-moves")
+        moves.append(_played(parts, half, stipulation.side(half)))
+        place = parts.end()
+    if place != len(text) or not moves:
+        raise source.refused(f"a line of {last_half - first_half + 1} half-moves")
+    return HelpLine(text, tuple(moves))
+
+
+def _read_node(
+    source: _Lines, stipulation: Stipulation, first_half: int, deepest: int
+) -> Tuple[Node, int]:
+    text = source.text
+    indent = len(text) - len(text.lstrip(" "))
+    depth = indent // 2
+    half = first_half + depth
+    lead = " " * (2 * depth) + prefix(half)
+    parts = _MOVE.match(text, len(lead)) if text.startswith(lead) else None
+    if parts is None or parts.end() != len(text) or depth > deepest:
+        raise source.refused("a move, or the number of solutions")
+    return Node(text, _played(parts, half, stipulation.side(half))), depth
+
+
+def _played(parts: "re.Match[str]", half: int, side: Colour) -> PlayedMove:
+    mark = Mark(parts["mark"]) if parts["mark"] else None
+    if parts["castling"]:
+        castling = Castling(parts["castling"])
+        rank = 1 if side is Colour.WHITE else 8
+        arrival = Square(7 if castling is Castling.SHORT else 3, rank)
+        return PlayedMove(
+            parts[0],
+            half,
+            side,
+            Kind.KING,
+            Square(5, rank),
+            arrival,
+            False,
+            False,
+            None,
+            castling,
+            None,
+            mark,
+        )
+    rebirth = None
+    if parts["reborn_kind"]:
+        colour = Colour.WHITE if parts["reborn_colour"] == "w" else Colour.BLACK
+        reborn = Man(colour, Kind(parts["reborn_kind"]))
+        rebirth = Rebirth(reborn, Square.of_name(parts["reborn_square"]))
+    return PlayedMove(
+        parts[0],
+        half,
+        side,
+        Kind(parts["man"] or "P"),
+        Square.of_name(parts["origin"]),
+        Square.of_name(parts["arrival"]),
+        parts["step"] == "*",
+        parts["en_passant"] is not None,
+        Kind(parts["promotion"]) if parts["promotion"] else None,
+        None,
+        rebirth,
+        mark,
+    )

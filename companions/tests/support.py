@@ -1,0 +1,89 @@
+"""What the tests share: where things are, runs of programs, the stored rows and examples."""
+
+import importlib.machinery
+import importlib.util
+import os
+import subprocess
+import sys
+from pathlib import Path
+from types import ModuleType
+from typing import List, NamedTuple, Sequence
+
+COMPANIONS = Path(__file__).resolve().parent.parent
+REPOSITORY = COMPANIONS.parent
+sys.path.insert(0, str(COMPANIONS))
+
+
+class Outcome(NamedTuple):
+    """What a program left behind."""
+
+    status: int
+    output: bytes
+    error: str
+
+
+def pops() -> str:
+    """The program that the tests ask; `companions/test` sets it."""
+    return os.environ["POPS"]
+
+
+def run(words: Sequence[str], text: bytes = b"") -> Outcome:
+    """Runs a program on a standard input."""
+    done = subprocess.run(list(words), input=text, capture_output=True, timeout=120)
+    return Outcome(done.returncode, done.stdout, done.stderr.decode("utf-8", "replace"))
+
+
+def companion(name: str, *words: str, text: bytes = b"") -> Outcome:
+    """Runs a companion."""
+    return run([sys.executable, str(COMPANIONS / name), *words], text)
+
+
+def loaded(name: str) -> ModuleType:
+    """A companion as a module, so that many runs of it take little time."""
+    loader = importlib.machinery.SourceFileLoader(
+        name.replace("-", "_") + "_command", str(COMPANIONS / name)
+    )
+    description = importlib.util.spec_from_loader(loader.name, loader)
+    assert description is not None
+    module = importlib.util.module_from_spec(description)
+    loader.exec_module(module)
+    return module
+
+
+def stored_inputs() -> List[Path]:
+    """The inputs of all rows and examples."""
+    rows = sorted((REPOSITORY / "tests" / "rows").glob("*.in"))
+    examples = sorted((REPOSITORY / "examples").glob("*.pop"))
+    assert rows and examples
+    return rows + examples
+
+
+def stored_report(stored_input: Path) -> Path:
+    """The stored report of a row's or example's input."""
+    return stored_input.with_suffix(".out" if stored_input.suffix == ".in" else ".report")
+
+
+def stored_reports() -> List[Path]:
+    """The reports of all rows and examples."""
+    return [stored_report(path) for path in stored_inputs()]
+
+
+class PlainItem(NamedTuple):
+    """An item of a report as the tests read it by themselves: its lines, without the empty one."""
+
+    lines: List[str]
+
+    @property
+    def board(self) -> List[str]:
+        """The eight ranks of its board, rank 8 first, or nothing."""
+        for place, line in enumerate(self.lines):
+            if line == "  abcdefgh":
+                return [rank[2:] for rank in self.lines[place - 8 : place]]
+        return []
+
+
+def plain_items(report: bytes) -> List[PlainItem]:
+    """The items of a report whose titles are ASCII: parted by the empty lines behind them."""
+    blocks = report.decode("ascii").split("\n\n")
+    assert blocks[-1] == ""
+    return [PlainItem(block.split("\n")) for block in blocks[:-1]]

@@ -1,0 +1,152 @@
+"""JSON: nothing of a report is lost, and the objects are what the schema says."""
+
+import json
+import unittest
+from typing import Any, Dict, List
+
+import rebuilt
+import schema
+import support
+
+
+def objects(report: bytes, *words: str) -> List[Dict[str, Any]]:
+    outcome = support.companion("pops2json", *words, text=report)
+    assert outcome.status == 0 and outcome.error == "", outcome
+    lines = outcome.output.decode("utf-8").split("\n")
+    assert lines.pop() == ""
+    return [json.loads(line) for line in lines]
+
+
+class Reports(unittest.TestCase):
+    def test_every_stored_report_can_be_written_anew(self) -> None:
+        report = b"".join(path.read_bytes() for path in support.stored_reports())
+        plain = support.plain_items(report)
+        read = objects(report)
+        self.assertEqual(len(read), len(plain))
+        for one, item in zip(read, plain):
+            self.assertEqual(rebuilt.report([one]), "\n".join(item.lines) + "\n\n")
+
+    def test_a_line_for_each_problem(self) -> None:
+        report = (support.REPOSITORY / "tests/rows/three_problems.out").read_bytes()
+        first, second, third = objects(report)
+        self.assertEqual(
+            first,
+            {
+                "number": 1,
+                "sound": False,
+                "fault": {"line": 2, "number": 5, "text": "square given twice"},
+            },
+        )
+        self.assertEqual(second["sound"], True)
+        self.assertEqual(third["fault"]["line"], 9)
+
+    def test_an_array(self) -> None:
+        report = (support.REPOSITORY / "tests/rows/three_problems.out").read_bytes()
+        outcome = support.companion("pops2json", "--array", text=report)
+        self.assertEqual(json.loads(outcome.output), objects(report))
+
+    def test_an_object_in_full(self) -> None:
+        report = (
+            "problem 1\ntitle: Über\n8 .......k\n7 ........\n6 ......K.\n5 ...pP...\n4 ........\n"
+            "3 .B......\n2 ........\n1 B.......\n  abcdefgh\n#1 Circe\nplay\n1.e5*d6 ep.[+bPd7]#\n"
+            "solutions: 1, stopped\n\n"
+        )
+        (one,) = objects(report.encode())
+        self.assertEqual(one["title"], "Über")
+        self.assertIsNone(one["author"])
+        self.assertEqual(one["board"]["ranks"][3], "...pP...")
+        self.assertEqual(
+            one["board"]["men"],
+            [
+                {"square": "h8", "colour": "black", "man": "king"},
+                {"square": "g6", "colour": "white", "man": "king"},
+                {"square": "d5", "colour": "black", "man": "pawn"},
+                {"square": "e5", "colour": "white", "man": "pawn"},
+                {"square": "b3", "colour": "white", "man": "bishop"},
+                {"square": "a1", "colour": "white", "man": "bishop"},
+            ],
+        )
+        stipulation = {"text": "#1", "play": "direct", "goal": "mate", "moves": 1, "half_moves": 1}
+        self.assertEqual(one["stipulation"], stipulation)
+        self.assertEqual(one["condition"], "Circe")
+        move = {
+            "text": "e5*d6 ep.[+bPd7]#",
+            "half": 1,
+            "side": "white",
+            "man": "pawn",
+            "from": "e5",
+            "to": "d6",
+            "capture": True,
+            "en_passant": True,
+            "castling": None,
+            "promotion": None,
+            "rebirth": {"square": "d7", "colour": "black", "man": "pawn"},
+            "mark": "mate",
+        }
+        self.assertEqual(
+            one["phases"],
+            [
+                {
+                    "phase": "play",
+                    "possible": True,
+                    "count": 1,
+                    "stopped": True,
+                    "solutions": [{"text": "1.e5*d6 ep.[+bPd7]#", "move": move, "below": []}],
+                }
+            ],
+        )
+
+    def test_a_checked_problem_has_no_phases(self) -> None:
+        (one,) = objects(b"problem 1\n#1\nsound\n\n")
+        self.assertIsNone(one["phases"])
+        self.assertIsNone(one["board"])
+
+    def test_bytes_that_are_no_text(self) -> None:
+        report = b"problem 1\ntitle: R\xe9ti\n#1\nsound\n\n"
+        self.assertEqual(objects(report)[0]["title"], "R\ufffdti")
+        self.assertEqual(objects(report, "--encoding", "latin-1")[0]["title"], "Réti")
+
+
+class Documented(unittest.TestCase):
+    def test_every_stored_report_has_the_documented_schema(self) -> None:
+        wanted = schema.Schema(schema.documented())
+        report = b"".join(path.read_bytes() for path in support.stored_reports())
+        for one in objects(report):
+            self.assertEqual(wanted.faults(one), [])
+        self.assertEqual(set(wanted.used), set(schema.documented()["$defs"]))
+
+    def test_other_objects_have_not(self) -> None:
+        wanted = schema.Schema(schema.documented())
+        report = (support.REPOSITORY / "examples/mate_in_one.report").read_bytes()
+        for change in (
+            {"number": 0}, {"number": True}, {"sound": False}, {"title": 1}, {"board": {}},
+            {"condition": "Circ"}, {"phases": []}, {"more": 1}, {"stipulation": "#1"},
+        ):  # fmt: skip
+            with self.subTest(change):
+                (one,) = objects(report)
+                self.assertEqual(wanted.faults(one), [])
+                self.assertNotEqual(wanted.faults({**one, **change}), [])
+        self.assertNotEqual(wanted.faults({"number": 1, "sound": False}), [])
+
+
+class Command(unittest.TestCase):
+    def test_mistakes_have_a_line_and_a_status(self) -> None:
+        cut = support.companion("pops2json", text=b"problem 1\n#1\nsound\n\nproblem 2\n")
+        self.assertEqual(cut.status, 1)
+        self.assertEqual(
+            cut.error,
+            "pops2json: standard input is no report of pops:"
+            " line 6: the report is cut inside a problem\n",
+        )
+        self.assertEqual(support.companion("pops2json", "nowhere.report").status, 3)
+        self.assertEqual(support.companion("pops2json", "--fast").status, 2)
+        self.assertEqual(support.companion("pops2json", "--encoding", "no-such").status, 2)
+
+    def test_help(self) -> None:
+        outcome = support.companion("pops2json", "--help")
+        self.assertEqual(outcome.status, 0)
+        self.assertIn(b"example:", outcome.output)
+
+
+if __name__ == "__main__":
+    unittest.main()

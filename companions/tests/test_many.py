@@ -1,0 +1,327 @@
+"""Many problems at once: the bytes and the status are those of one run of pops."""
+
+import io
+import os
+import pty
+import random
+import signal
+import subprocess
+import sys
+import tempfile
+import time
+import unittest
+from pathlib import Path
+from typing import List, Tuple
+
+import made_inputs
+import support
+
+from pops_many.cutting import cut
+from pops_many.progress import Progress, duration
+
+MANY = support.loaded("pops-many")
+
+
+def solved(*words: str) -> Tuple[int, bytes]:
+    """Status and output of pops-many, within this process."""
+    target = io.BytesIO()
+    settings = MANY.arguments(["--pops", support.pops(), *words])
+    return MANY.solve(settings, target), target.getvalue()
+
+
+class Cutting(unittest.TestCase):
+    def blocks(self, text: bytes) -> List[bytes]:
+        return [text[piece.start : piece.stop] for piece in cut(text)]
+
+    def test_words_that_end_a_problem(self) -> None:
+        cases = [
+            (b"", [b""]),
+            (b"Beg a Nex b End c", [b"Beg a ", b" b "]),
+            (b"Beg a nEXTp b eNDpROBLEM c", [b"Beg a ", b" b "]),
+            (b"Beg a Next,b xEnd NextProblems Ne En", [b"Beg a Next,b xEnd NextProblems Ne En"]),
+            (b"Beg\x0bNex\x0cEnd\r\nNex", [b"Beg\x0b", b"\x0c"]),
+            (b"Beg\xa0Nex\x00End", [b"Beg\xa0Nex\x00End"]),
+            (b"Nex", [b"", b""]),
+            (b"End", [b""]),
+            (b"Beg Nex", [b"Beg ", b""]),
+        ]
+        for text, wanted in cases:
+            with self.subTest(text):
+                self.assertEqual(self.blocks(text), wanted)
+
+    def test_text_lines_hide_them(self) -> None:
+        for word in (b"Title", b"tit", b"AUTHOR", b"Orig", b"rema"):
+            with self.subTest(word):
+                text = b"Beg " + word + b" Nex End\nNex " + word + b"\nEnd"
+                self.assertEqual(len(self.blocks(text)), 2)
+        for word in (b"Ti", b"Titles", b"xTitle", b"Title,"):
+            with self.subTest(word):
+                self.assertEqual(len(self.blocks(b"Beg " + word + b" Nex End\nNex End")), 2)
+                self.assertEqual(len(self.blocks(b"Beg " + word + b" Nex x\nNex End")), 3)
+
+    def test_a_problem_alone_keeps_its_lines(self) -> None:
+        text = b"BeginProblem\na\n\nNextProblem b\nc\nNextProblem d"
+        first, second, third = cut(text)
+        self.assertEqual(first.alone(text, True), b"BeginProblem\na\n\nEnd")
+        self.assertEqual(second.alone(text, True), b"\n\n\nBeg b\nc\nEnd")
+        self.assertEqual(second.alone(text, False), b"Beg b\nc\nEnd")
+        self.assertEqual(third.alone(text, True), b"\n\n\n\n\nBeg d")
+        self.assertEqual([piece.line for piece in (first, second, third)], [1, 4, 6])
+
+    def test_a_problem_alone_is_no_longer_than_what_pops_reads_for_it(self) -> None:
+        chance = random.Random(3)
+        for _ in range(200):
+            text = made_inputs.made_input(chance)
+            for piece in cut(text):
+                closing = 3 if piece.closed else 0
+                self.assertLessEqual(len(piece.alone(text, True)), piece.stop + closing)
+
+
+class SameAsOneRun(unittest.TestCase):
+    def check(self, path: Path, *options: str) -> None:
+        one = support.run([support.pops(), *options, str(path)])
+        with self.subTest(path.name, options=options, text=path.read_bytes()[:2000]):
+            self.assertEqual(solved(*options, str(path)), (one.status, one.output))
+
+    def test_every_row_and_example(self) -> None:
+        for path in support.stored_inputs():
+            self.check(path)
+            self.check(path, "--check")
+            self.check(path, "--no-board")
+
+    def test_two_hundred_made_inputs(self) -> None:
+        chance = random.Random(2026)
+        with tempfile.TemporaryDirectory() as room:
+            path = Path(room) / "made.pop"
+            for _ in range(200):
+                path.write_bytes(made_inputs.made_input(chance))
+                self.check(path, *chance.choice([(), (), ("--check",), ("--no-board",)]))
+
+    def test_every_beginning_of_an_input(self) -> None:
+        whole = (support.REPOSITORY / "tests/rows/three_problems.in").read_bytes()
+        with tempfile.TemporaryDirectory() as room:
+            path = Path(room) / "cut.pop"
+            for length in range(len(whole) + 1):
+                path.write_bytes(whole[:length])
+                self.check(path, "--check")
+
+    def test_faults_far_down_have_their_lines(self) -> None:
+        problem = b"Pieces White Kg6 Ra1 Black Kg8\nStipulation #1\n"
+        text = b"BeginProblem\n" + b"\n" * 9000 + problem
+        text += b"NextProblem\n" + problem + b"x\nNextProblem\n" + problem + b"NextProblem x\n"
+        with tempfile.TemporaryDirectory() as room:
+            path = Path(room) / "far.pop"
+            path.write_bytes(text)
+            self.check(path)
+            self.assertIn(b"line 9007: fault 2:", solved(str(path))[1])
+
+    def test_several_files_and_standard_input(self) -> None:
+        files = [str(path) for path in support.stored_inputs() if "mate_in" in path.name]
+        wanted = b"".join(support.run([support.pops(), file]).output for file in files)
+        self.assertEqual(solved(*files), (0, wanted))
+        faulty = str(support.REPOSITORY / "tests/rows/no_men.in")
+        self.assertEqual(solved(faulty, *files)[0], 1)
+        text = (support.REPOSITORY / "tests/rows/three_problems.in").read_bytes()
+        one = support.run([support.pops()], text)
+        outcome = support.companion("pops-many", "--pops", support.pops(), text=text)
+        self.assertEqual(outcome, (one.status, one.output, ""))
+
+    def test_what_cannot_be_read_is_left_to_pops(self) -> None:
+        for name in (str(support.REPOSITORY), "nowhere.pop"):
+            with self.subTest(name):
+                one = support.run([support.pops(), name])
+                self.assertEqual(one.status, 3)
+                outcome = support.companion("pops-many", "--pops", support.pops(), name)
+                self.assertEqual(outcome, one)
+
+
+SIX = (
+    b"BeginProblem"
+    + b"NextProblem".join(
+        b"\nTitle number %d\nPieces White Kg6 R%s1 Black Kg8\nStipulation #1\n" % (number, file)
+        for number, file in enumerate((b"a", b"b", b"c", b"d", b"e", b"g"), start=1)
+    )
+    + b"EndProblem\n"
+)
+
+# A program in the place of pops that notes each run, and fails or waits on one problem.
+STAND_IN = """#!/bin/sh
+text=$(cat)
+echo run >> "{room}/runs"
+case $text in
+  *"number 4"*) {then} ;;
+esac
+printf '%s' "$text" | "{pops}" "$@"
+"""
+
+
+class Interruptions(unittest.TestCase):
+    def setUp(self) -> None:
+        room = tempfile.TemporaryDirectory()
+        self.addCleanup(room.cleanup)
+        self.room = Path(room.name)
+        self.input = self.room / "six.pop"
+        self.input.write_bytes(SIX)
+        self.report = self.room / "six.report"
+        self.journal = self.room / "six.report.journal"
+        self.wanted = support.run([support.pops(), str(self.input)]).output
+
+    def stand_in(self, then: str) -> str:
+        path = self.room / "stand_in"
+        path.write_text(STAND_IN.format(room=self.room, then=then, pops=support.pops()))
+        path.chmod(0o755)
+        return str(path)
+
+    def words(self, pops: str, *more: str) -> List[str]:
+        return ["--pops", pops, "--jobs", "1", "-o", str(self.report), str(self.input), *more]
+
+    def many(self, pops: str, *more: str) -> support.Outcome:
+        return support.companion("pops-many", *self.words(pops, *more))
+
+    def runs(self) -> int:
+        return (self.room / "runs").read_text().count("run")
+
+    def test_a_run_that_fails_is_told_and_resumed(self) -> None:
+        outcome = self.many(self.stand_in("kill -9 $$"))
+        self.assertEqual((outcome.status, outcome.output), (6, b""))
+        self.assertEqual(
+            outcome.error,
+            f"pops-many: problem 4 ({self.input}, line 13): pops was ended by signal 9\n"
+            f"pops-many: 5 of 6 problems are done and kept in {self.journal}:"
+            f" go on with --resume --journal {self.journal}\n",
+        )
+        self.assertFalse(self.report.exists())
+        self.assertEqual(self.runs(), 7)  # the failing one is tried twice
+        again = self.many(self.stand_in(":"), "--resume")
+        self.assertEqual(again, (0, b"", ""))
+        self.assertEqual(self.runs(), 8)
+        self.assertEqual(self.report.read_bytes(), self.wanted)
+        self.assertFalse(self.journal.exists())
+
+    def test_a_cut_report_is_no_report(self) -> None:
+        outcome = self.many(self.stand_in("echo 'problem 1'; exit 0"))
+        self.assertEqual(outcome.status, 6)
+        self.assertIn("problem 4", outcome.error)
+
+    def test_a_run_that_is_stopped_is_resumed(self) -> None:
+        words = [sys.executable, str(support.COMPANIONS / "pops-many")]
+        run = subprocess.Popen(
+            words + self.words(self.stand_in("exec sleep 60")), stderr=subprocess.PIPE
+        )
+        until = time.monotonic() + 30
+        while self.kept() < 3 and time.monotonic() < until:
+            time.sleep(0.02)
+        run.send_signal(signal.SIGTERM)
+        error = run.communicate(timeout=30)[1].decode()
+        self.assertEqual(run.returncode, 6)
+        self.assertIn("pops-many: stopped\npops-many: 3 of 6 problems are done", error)
+        self.assertFalse(self.report.exists())
+        refused = self.many(support.pops())
+        self.assertEqual(refused.status, 2)
+        self.assertIn("is the journal of a run that stopped", refused.error)
+        self.assertEqual(self.many(support.pops(), "--resume"), (0, b"", ""))
+        self.assertEqual(self.report.read_bytes(), self.wanted)
+
+    def kept(self) -> int:
+        return self.journal.read_bytes().count(b"\ntask ") if self.journal.exists() else 0
+
+    def test_a_journal_that_was_cut_is_gone_on_with(self) -> None:
+        self.many(self.stand_in("kill -9 $$"))
+        journal = self.journal.read_bytes()
+        head = journal.index(b"\n") + 1
+        for length in [
+            head,
+            head + 1,
+            head + 40,
+            len(journal) // 2,
+            len(journal) - 1,
+            len(journal),
+        ]:
+            with self.subTest(length=length):
+                self.journal.write_bytes(journal[:length])
+                self.assertEqual(self.many(support.pops(), "--resume"), (0, b"", ""))
+                self.assertEqual(self.report.read_bytes(), self.wanted)
+
+    def test_a_changed_byte_in_a_journal_is_noticed(self) -> None:
+        self.many(self.stand_in("kill -9 $$"))
+        journal = bytearray(self.journal.read_bytes())
+        journal[-5] ^= 1
+        self.journal.write_bytes(bytes(journal))
+        self.assertEqual(self.many(support.pops(), "--resume"), (0, b"", ""))
+        self.assertEqual(self.report.read_bytes(), self.wanted)
+
+    def test_another_runs_journal_is_refused(self) -> None:
+        self.many(self.stand_in("kill -9 $$"))
+        self.assertEqual(self.many(support.pops(), "--resume", "--no-board").status, 2)
+        self.input.write_bytes(SIX.replace(b"Rb1", b"Rb2"))
+        outcome = self.many(support.pops(), "--resume")
+        self.assertEqual(outcome.status, 2)
+        self.assertIn("belongs to other problems or options", outcome.error)
+
+    def test_without_an_output_file_the_reports_are_kept_too(self) -> None:
+        words = ["--pops", self.stand_in("kill -9 $$"), "--jobs", "1", str(self.input)]
+        outcome = support.companion("pops-many", *words)
+        self.assertEqual(outcome.status, 6)
+        self.assertEqual(outcome.output.count(b"solutions: 1\n"), 3)
+        journal = outcome.error.split("--journal ")[1].strip()
+        self.addCleanup(lambda: os.path.exists(journal) and os.unlink(journal))
+        words = ["--pops", support.pops(), "--resume", "--journal", journal, str(self.input)]
+        self.assertEqual(support.companion("pops-many", *words), (0, self.wanted, ""))
+        self.assertFalse(os.path.exists(journal))
+
+
+class Command(unittest.TestCase):
+    def test_mistakes_have_a_line_and_a_status(self) -> None:
+        for words in (["--jobs", "0"], ["--fast"], ["--resume"]):
+            with self.subTest(words):
+                self.assertEqual(support.companion("pops-many", *words).status, 2)
+        missing = support.companion("pops-many", "--pops", "nowhere/pops", text=b"")
+        self.assertEqual(
+            (missing.status, missing.error),
+            (3, "pops-many: there is no program pops: name it with --pops\n"),
+        )
+        unwritable = support.companion(
+            "pops-many", "--pops", support.pops(), "-o", "nowhere/report"
+        )
+        self.assertEqual(unwritable.status, 3)
+        self.assertEqual(support.companion("pops-many", "--help").status, 0)
+
+    def test_without_gnu_parallel_other_machines_are_refused(self) -> None:
+        words = [sys.executable, str(support.COMPANIONS / "pops-many"), "--pops", support.pops()]
+        done = subprocess.run(
+            words + ["--sshlogin", "somewhere"],
+            input=b"",
+            capture_output=True,
+            env={**os.environ, "PATH": "/nowhere"},
+        )
+        self.assertEqual(done.returncode, 3)
+        self.assertEqual(
+            done.stderr,
+            b"pops-many: --sshlogin needs GNU parallel: install Debian's package parallel\n",
+        )
+
+    def test_a_terminal_shows_the_progress(self) -> None:
+        terminal, other_side = pty.openpty()
+        words = [sys.executable, str(support.COMPANIONS / "pops-many"), "--pops", support.pops()]
+        done = subprocess.run(words, input=SIX, stdout=subprocess.PIPE, stderr=other_side)
+        os.close(other_side)
+        said = os.read(terminal, 10000).decode()
+        os.close(terminal)
+        self.assertEqual(done.returncode, 0)
+        self.assertRegex(said, r"\rpops-many: 1 of 6 problems, about 0:\d\d left")
+        self.assertRegex(said, r"\rpops-many: 6 of 6 problems *\r\n$")
+
+    def test_progress(self) -> None:
+        progress = Progress("pops-many")
+        progress.begin(100, 500)
+        self.assertEqual(progress.line(1), "pops-many: 100 of 500 problems")
+        for _ in range(50):
+            progress.one_more()
+        self.assertEqual(progress.line(10), "pops-many: 150 of 500 problems, about 1:10 left")
+        self.assertEqual(duration(5), "0:05")
+        self.assertEqual(duration(3723), "1:02:03")
+        self.assertEqual(duration(2 * 86400 + 3 * 3600 + 4 * 60 + 5), "2 days 3:04:05")
+
+
+if __name__ == "__main__":
+    unittest.main()

@@ -1,0 +1,221 @@
+"""Pages: the right man on the right square, and every word of the report in its place."""
+
+import tempfile
+import unittest
+from html.parser import HTMLParser
+from pathlib import Path
+from typing import Dict, List, Optional, Tuple
+
+import support
+
+NAMES = {
+    "k": "king",
+    "q": "queen",
+    "r": "rook",
+    "b": "bishop",
+    "s": "knight",
+    "p": "pawn",
+    "g": "grasshopper",
+    "n": "nightrider",
+}
+TAGS_WITHOUT_END = {"meta"}
+
+
+class SeenArticle:
+    """What stands in one article: its words, and the men of its diagram by place."""
+
+    def __init__(self) -> None:
+        self.words: List[str] = []
+        self.diagrams = 0
+        self.men: Dict[Tuple[float, float], Tuple[str, str]] = {}
+
+
+class SeenPage(HTMLParser):
+    """A page as a browser reads it; elements left open or closed twice are refused."""
+
+    def __init__(self, page: str):
+        super().__init__()
+        self.articles: List[SeenArticle] = []
+        self.shapes: Dict[str, List[Dict[str, Optional[str]]]] = {}
+        self.open: List[Tuple[str, Dict[str, Optional[str]]]] = []
+        self.feed(page)
+        self.close()
+        assert not self.open, self.open
+
+    @property
+    def _inside(self) -> Optional[SeenArticle]:
+        return self.articles[-1] if any(tag == "article" for tag, _ in self.open) else None
+
+    def handle_starttag(self, tag: str, attributes: list) -> None:
+        values = dict(attributes)
+        if tag not in TAGS_WITHOUT_END:
+            self.open.append((tag, values))
+        if tag == "article":
+            self.articles.append(SeenArticle())
+        self._see(tag, values)
+
+    def handle_startendtag(self, tag: str, attributes: list) -> None:
+        self._see(tag, dict(attributes))
+
+    def _see(self, tag: str, values: Dict[str, Optional[str]]) -> None:
+        article = self._inside
+        if article is None:
+            groups = [place["id"] for name, place in self.open if name == "g" and "id" in place]
+            if groups:
+                self.shapes.setdefault(str(groups[-1]), []).append({"tag": tag, **values})
+        elif tag == "svg":
+            article.diagrams += 1
+        elif tag == "use" and values["href"] != "#board":
+            colour = str(values["class"]).split()[1]
+            kind = str(values["href"])[1:]
+            place = (float(str(values["x"])), float(str(values["y"])))
+            assert place not in article.men
+            article.men[place] = (colour, kind)
+
+    def handle_endtag(self, tag: str) -> None:
+        assert self.open and self.open[-1][0] == tag, (tag, self.open)
+        self.open.pop()
+
+    def handle_data(self, data: str) -> None:
+        if self._inside is not None:
+            self._inside.words.append(data)
+
+
+def page_of(report: bytes, *words: str) -> SeenPage:
+    outcome = support.companion("pops-page", *words, text=report)
+    assert outcome.status == 0 and outcome.error == "", outcome
+    return SeenPage(outcome.output.decode("utf-8"))
+
+
+class Diagrams(unittest.TestCase):
+    def test_right_man_on_right_square_of_every_stored_report(self) -> None:
+        reports = [path.read_bytes() for path in support.stored_reports()]
+        items = [item for report in reports for item in support.plain_items(report)]
+        page = page_of(b"".join(reports))
+        self.assertEqual(len(page.articles), len(items))
+        boards = 0
+        for place, (article, item) in enumerate(zip(page.articles, items)):
+            with self.subTest(place=place, item=item.lines):
+                self.assertEqual(article.diagrams, 1 if item.board else 0)
+                self.assertEqual(self.squares(article), self.wanted(item))
+                boards += article.diagrams
+        self.assertGreater(boards, 50)
+
+    def squares(self, article: SeenArticle) -> Dict[str, Tuple[str, str]]:
+        """The men by square: the board begins 18 units from the left, a square has 45 units."""
+        men = {}
+        for (x, y), man in article.men.items():
+            file, rank = (x - 18) / 45, 7 - y / 45
+            self.assertEqual((file, rank), (int(file), int(rank)))
+            men["abcdefgh"[int(file)] + str(int(rank) + 1)] = man
+        return men
+
+    @staticmethod
+    def wanted(item: support.PlainItem) -> Dict[str, Tuple[str, str]]:
+        men = {}
+        for rank, line in zip("87654321", item.board):
+            for file, letter in zip("abcdefgh", line):
+                if letter != ".":
+                    colour = "white" if letter.isupper() else "black"
+                    men[file + rank] = (colour, NAMES[letter.lower()])
+        return men
+
+    def test_fairy_men_are_turned_upside_down(self) -> None:
+        page = page_of(b"")
+        for fairy, upright in (("grasshopper", "queen"), ("nightrider", "knight")):
+            self.assertIn(
+                {"tag": "use", "href": f"#{upright}", "transform": "rotate(180 22.5 22.5)"},
+                page.shapes[fairy],
+            )
+        self.assertEqual(set(NAMES.values()) - set(page.shapes), set())
+
+    def test_a1_is_dark_and_half_the_squares_are(self) -> None:
+        page = page_of(b"")
+        (dark,) = [part for part in page.shapes["board"] if part.get("fill") == "url(#hatching)"]
+        corners = str(dark["d"]).split("z")[:-1]
+        self.assertEqual(len(corners), 32)
+        self.assertIn("M18 315h45v45h-45", corners)
+
+
+class Words(unittest.TestCase):
+    def test_every_line_of_every_stored_report_is_shown_in_order(self) -> None:
+        report = b"".join(path.read_bytes() for path in support.stored_reports())
+        for article, item in zip(page_of(report).articles, support.plain_items(report)):
+            with self.subTest(item=item.lines):
+                self.check(article, item)
+
+    def check(self, article: SeenArticle, item: support.PlainItem) -> None:
+        text = "\n".join(word for words in article.words for word in words.split("\n"))
+        place = 0
+        board = {f"{8 - row} {rank}" for row, rank in enumerate(item.board)} | {"  abcdefgh"}
+        for line in item.lines:
+            if line in board:
+                continue
+            shown = line.split(": ", 1)[1] if line.startswith(("title: ", "author: ")) else line
+            found = text.find(shown, place)
+            self.assertGreaterEqual(found, 0, f"{line!r} isn't shown behind {text[:place]!r}")
+            place = found + len(shown)
+
+    def test_titles_are_text_and_no_markup(self) -> None:
+        report = "problem 1\ntitle: <b>&amp; é</b>\nauthor: \"x\" 'y' \x1b\n#1\nsound\n\n".encode()
+        (article,) = page_of(report).articles
+        self.assertIn("<b>&amp; é</b>", article.words)
+        self.assertIn("\"x\" 'y' \ufffd", article.words)
+
+    def test_titles_in_another_encoding(self) -> None:
+        report = b"problem 1\ntitle: R\xe9ti\n#1\nsound\n\n"
+        (article,) = page_of(report).articles
+        self.assertIn("R\ufffdti", article.words)
+        (article,) = page_of(report, "--encoding", "latin-1").articles
+        self.assertIn("Réti", article.words)
+
+    def test_no_board_is_said(self) -> None:
+        (article,) = page_of(b"problem 1\n#1\nsound\n\n").articles
+        self.assertEqual(article.diagrams, 0)
+        self.assertIn("The report shows no board.", article.words)
+
+
+class Command(unittest.TestCase):
+    def test_output_file_and_heading(self) -> None:
+        report = support.REPOSITORY / "examples/grasshopper.report"
+        with tempfile.TemporaryDirectory() as room:
+            target = Path(room) / "page.html"
+            outcome = support.companion(
+                "pops-page", str(report), "-o", str(target), "--heading", "Old & new"
+            )
+            self.assertEqual(outcome, (0, b"", ""))
+            page = target.read_text("utf-8")
+            self.assertEqual([path.name for path in Path(room).iterdir()], ["page.html"])
+        self.assertIn("<h1>Old &amp; new</h1>", page)
+        self.assertEqual(len(SeenPage(page).articles), 1)
+
+    def test_a_cut_report_leaves_the_old_page(self) -> None:
+        with tempfile.TemporaryDirectory() as room:
+            target = Path(room) / "page.html"
+            target.write_text("old")
+            outcome = support.companion("pops-page", "-o", str(target), text=b"problem 1\n#1\n")
+            self.assertEqual(outcome.status, 1)
+            self.assertIn("standard input is no report of pops: line 3", outcome.error)
+            self.assertEqual(target.read_text(), "old")
+            self.assertEqual(len(list(Path(room).iterdir())), 1)
+
+    def test_mistakes_have_a_line_and_a_status(self) -> None:
+        missing = support.companion("pops-page", "nowhere.report")
+        self.assertEqual(missing.status, 3)
+        self.assertEqual(
+            missing.error, "pops-page: cannot open nowhere.report: No such file or directory\n"
+        )
+        self.assertEqual(support.companion("pops-page", "--fast").status, 2)
+        self.assertEqual(support.companion("pops-page", "--encoding", "base64").status, 2)
+        into_nowhere = support.companion("pops-page", "-o", "nowhere/page.html")
+        self.assertEqual(into_nowhere.status, 3)
+        self.assertIn("cannot write", into_nowhere.error)
+
+    def test_help(self) -> None:
+        outcome = support.companion("pops-page", "--help")
+        self.assertEqual(outcome.status, 0)
+        self.assertIn(b"example:", outcome.output)
+
+
+if __name__ == "__main__":
+    unittest.main()

@@ -1,0 +1,238 @@
+"""The reading of reports: what each line says, and that no cut or changed report is taken."""
+
+import io
+import unittest
+from typing import List
+
+import support
+
+from pops_texts.chess import Colour, Kind, Man, Square
+from pops_texts.report import (
+    Castling,
+    FaultyItem,
+    HelpLine,
+    Item,
+    Mark,
+    Node,
+    PhaseKind,
+    ReportError,
+    SoundItem,
+    read_report,
+)
+from pops_texts.stipulation import Condition, Goal, Play, Stipulation
+
+
+def read(text: str) -> List[Item]:
+    return list(read_report(io.BytesIO(text.encode())))
+
+
+def solutions(stipulation: str, *lines: str, phase: str = "play", count: int = 1) -> tuple:
+    """The solutions of a phase of these lines."""
+    play = f"{phase}\n" + "".join(line + "\n" for line in lines) + f"solutions: {count}\n"
+    rest = "play\nsolutions: 0\n" if phase == "set" else ""
+    (item,) = read(f"problem 1\n{stipulation}\n{play}{rest}\n")
+    assert isinstance(item, SoundItem) and item.phases is not None
+    return item.phases[0].solutions
+
+
+class Items(unittest.TestCase):
+    def test_every_stored_report_is_read(self) -> None:
+        for path in support.stored_reports():
+            with self.subTest(path.name):
+                items = list(read_report(io.BytesIO(path.read_bytes())))
+                plain = support.plain_items(path.read_bytes())
+                self.assertEqual(len(items), len(plain))
+                for item, lines in zip(items, plain):
+                    self.assertEqual(lines.lines[0], f"problem {item.number}")
+
+    def test_faulty_sound_and_checked_items(self) -> None:
+        faulty, sound, checked = read(
+            "problem 1\nline 9: fault 14: square expected\n\n"
+            "problem 2\ntitle: A\nauthor: B\nh=2.5 Circe\nset\nnot possible\nplay\nsolutions: 0\n\n"
+            "problem 3\n#2 Madrasi\nsound\n\n"
+        )
+        assert isinstance(faulty, FaultyItem)
+        self.assertEqual((faulty.fault.line, faulty.fault.number), (9, 14))
+        self.assertEqual(faulty.fault.text, "square expected")
+        assert isinstance(sound, SoundItem) and sound.phases is not None
+        self.assertEqual((sound.title, sound.author), (b"A", b"B"))
+        self.assertEqual(sound.stipulation, Stipulation(Play.HELP, Goal.STALEMATE, 2, True))
+        self.assertIs(sound.condition, Condition.CIRCE)
+        self.assertEqual([phase.kind for phase in sound.phases], [PhaseKind.SET, PhaseKind.PLAY])
+        self.assertIsNone(sound.phases[0].total)
+        assert isinstance(checked, SoundItem)
+        self.assertIsNone(checked.phases)
+        self.assertIs(checked.condition, Condition.MADRASI)
+
+    def test_titles_keep_their_bytes(self) -> None:
+        (item,) = read_report(io.BytesIO(b"problem 1\ntitle: \xff\x00 play\r\xc3\n#1\nsound\n\n"))
+        assert isinstance(item, SoundItem)
+        self.assertEqual(item.title, b"\xff\x00 play\r\xc3")
+
+    def test_men_of_a_board(self) -> None:
+        (item,) = read(
+            "problem 1\n8 ....k..g\n7 ........\n6 ........\n5 ........\n4 ...N....\n3 ........\n"
+            "2 ........\n1 s...K...\n  abcdefgh\n#1\nsound\n\n"
+        )
+        assert isinstance(item, SoundItem) and item.board is not None
+        men = {square.name: man for square, man in item.board.men.items()}
+        self.assertEqual(
+            men,
+            {
+                "e8": Man(Colour.BLACK, Kind.KING),
+                "h8": Man(Colour.BLACK, Kind.GRASSHOPPER),
+                "d4": Man(Colour.WHITE, Kind.NIGHTRIDER),
+                "a1": Man(Colour.BLACK, Kind.KNIGHT),
+                "e1": Man(Colour.WHITE, Kind.KING),
+            },
+        )
+
+    def test_reports_one_behind_the_other(self) -> None:
+        one = "problem 1\n#1\nsound\n\nproblem 2\n#1\nsound\n\n"
+        self.assertEqual([item.number for item in read(one + one)], [1, 2, 1, 2])
+
+    def test_an_empty_text_has_no_items(self) -> None:
+        self.assertEqual(read(""), [])
+
+
+class Moves(unittest.TestCase):
+    def test_en_passant_with_rebirth(self) -> None:
+        (node,) = solutions("#1", "1.e5*d6 ep.[+bPd7]#")
+        move = node.move
+        self.assertEqual((move.kind, move.origin.name, move.arrival.name), (Kind.PAWN, "e5", "d6"))
+        self.assertTrue(move.capture and move.en_passant)
+        self.assertEqual(move.rebirth.man, Man(Colour.BLACK, Kind.PAWN))
+        self.assertEqual(move.rebirth.square, Square(4, 7))
+        self.assertIs(move.mark, Mark.MATE)
+
+    def test_promotion_and_stalemate(self) -> None:
+        nodes = solutions("=1", "1.f7-f8=Q=", "1.Rb2-b7=", "1.g7*h8=N", count=3)
+        promotions = [node.move.promotion for node in nodes]
+        self.assertEqual(promotions, [Kind.QUEEN, None, Kind.NIGHTRIDER])
+        marks = [node.move.mark for node in nodes]
+        self.assertEqual(marks, [Mark.STALEMATE, Mark.STALEMATE, None])
+
+    def test_castling_of_either_side(self) -> None:
+        (line,) = solutions("h#1", "1.0-0-0 0-0+")
+        black, white = line.moves
+        self.assertEqual((black.castling, white.castling), (Castling.LONG, Castling.SHORT))
+        self.assertEqual((black.origin.name, black.arrival.name), ("e8", "c8"))
+        self.assertEqual((white.origin.name, white.arrival.name), ("e1", "g1"))
+        self.assertEqual((black.side, white.side), (Colour.BLACK, Colour.WHITE))
+        self.assertEqual((black.mark, white.mark), (None, Mark.CHECK))
+
+    def test_numbers_of_help_lines(self) -> None:
+        cases = [
+            ("h#2", "play", "1.Kh8-g8 Ra1-b1 2.Kg8-h8 Rb1-b8#", [1, 2, 3, 4]),
+            ("h#2", "set", "1...Ra1-b1 2.Kg8-h8 Rb1-b8#", [2, 3, 4]),
+            ("h#1.5", "play", "1...Ra1-b1 2.Kh8-g8 Rb1-b8#", [2, 3, 4]),
+            ("h#1.5", "set", "2.Kh8-g8 Rb1-b8#", [3, 4]),
+        ]
+        for stipulation, phase, line, halves in cases:
+            with self.subTest(line):
+                (solution,) = solutions(stipulation, line, phase=phase)
+                assert isinstance(solution, HelpLine)
+                self.assertEqual([move.half for move in solution.moves], halves)
+                self.assertIs(solution.moves[-1].side, Colour.WHITE)
+
+    def test_tree_of_a_battle(self) -> None:
+        first, second = solutions(
+            "#3", "1.Ra1-a2", "  1...Kb8-c8", "    2.Ra2-a8#", "  1...Kb8-a8", "1.Ra1-a3", count=2
+        )
+        assert isinstance(first, Node)
+        self.assertEqual([node.move.origin.name for node in first.below], ["b8", "b8"])
+        self.assertEqual(first.below[0].below[0].move.half, 3)
+        self.assertEqual([len(node.below) for node in first.below], [1, 0])
+        self.assertEqual(second.below, [])
+
+
+class Refusals(unittest.TestCase):
+    def test_a_cut_report_is_refused(self) -> None:
+        whole = (support.REPOSITORY / "tests/rows/three_problems.out").read_bytes()
+        ends = {0} | {
+            place + 2 for place in range(len(whole)) if whole[place : place + 2] == b"\n\n"
+        }
+        for length in range(len(whole) + 1):
+            with self.subTest(length=length):
+                reading = read_report(io.BytesIO(whole[:length]))
+                if length in ends:
+                    list(reading)
+                else:
+                    with self.assertRaises(ReportError):
+                        list(reading)
+
+    def test_changed_reports_are_refused_at_their_line(self) -> None:
+        battle = "problem 1\n#2\nplay\n1.Ra1-a2\n  1...Kh8-g8\nsolutions: 1\n\n"
+        self.assertEqual(len(read(battle)), 1)
+        changes = [
+            ("problem 1", "problem 2", 1),
+            ("#2", "r#2", 2),
+            ("#2", "s#2.5", 2),
+            ("#2", "#2 Circe Circe", 2),
+            ("play", "Play", 3),
+            ("1.Ra1-a2", "2.Ra1-a2", 4),
+            ("1.Ra1-a2", "1.Ra1-a9", 4),
+            ("1.Ra1-a2", "1.Ra1-a2 2.Ra2-a3", 4),
+            ("  1...Kh8-g8", " 1...Kh8-g8", 5),
+            ("  1...Kh8-g8", "    2.Kh8-g8", 5),
+            ("solutions: 1", "solutions: 2", 6),
+            ("solutions: 1\n\n", "solutions: 1\nplay\n\n", 7),
+        ]
+        for old, new, line in changes:
+            with self.subTest(new):
+                with self.assertRaises(ReportError) as refused:
+                    read(battle.replace(old, new, 1))
+                self.assertEqual(refused.exception.line, line)
+
+    def test_help_lines_of_another_length_are_refused(self) -> None:
+        for line in (
+            "1.Kh8-g8",
+            "1.Kh8-g8 Ra1-a8# 2.Kg8-h8",
+            "1.Kh8-g8 1...Ra1-a8#",
+            "1.Kh8-g8  Ra1-a8#",
+        ):
+            with self.subTest(line), self.assertRaises(ReportError):
+                solutions("h#1", line)
+
+
+class Stipulations(unittest.TestCase):
+    def test_half_moves_and_starter(self) -> None:
+        cases = [
+            ("#2", 3, Colour.WHITE),
+            ("s#2", 4, Colour.WHITE),
+            ("h#2", 4, Colour.BLACK),
+            ("h#2.5", 5, Colour.WHITE),
+            ("h#0.5", 1, Colour.WHITE),
+            ("=16", 31, Colour.WHITE),
+            ("s=3", 6, Colour.WHITE),
+            ("h=2", 4, Colour.BLACK),
+            ("h=15.5", 31, Colour.WHITE),
+        ]
+        for text, half_moves, starter in cases:
+            with self.subTest(text):
+                stipulation = Stipulation.of_text(text)
+                self.assertEqual(stipulation.half_moves, half_moves)
+                self.assertIs(stipulation.starter, starter)
+                self.assertEqual(stipulation.text, text)
+
+    def test_other_words_are_none(self) -> None:
+        for text in (
+            "",
+            "#",
+            "2",
+            "#02",
+            "H#2",
+            "#2.5",
+            "s#1.5",
+            "h#2.",
+            "h#2.50",
+            "r#2",
+            "#2 ",
+            "#²",
+        ):
+            with self.subTest(text), self.assertRaises(ValueError):
+                Stipulation.of_text(text)
+
+
+if __name__ == "__main__":
+    unittest.main()

@@ -1,0 +1,23 @@
+use Rattle.std.proofs.Common.{◌≡◌, ◌∙◌, true, false, sym}
+use Rattle.chess_core.specs.Position.{same_colour}
+use Rattle.chess_rules.proofs.Arrivals.{arrivals_nobody, arrivals_other, arrivals_paralysed, arrivals_some}
+use Rattle.chess_rules.proofs.targets.arrivals.Goals as goal
+
+pub returns-in_default : goal.returns-in_default
+returns-in_default g c =
+    arrivals_nobody g.R.Rules.rule c.args.board.now c.args.from (sym c.man_at.ensures ∙ c.in_default.is)
+
+pub returns-then-not-is : goal.returns-then-not-is
+returns-then-not-is g c =
+    let mine : same_colour c.in-Some.man.colour c.args.board.now.turn ≡ false = rw c.turn.ensures at (sym c.is.ensures ∙ c.if-not-is.true) in
+    arrivals_other g.R.Rules.rule c.args.board.now c.in-Some.man c.args.from (sym c.man_at.ensures ∙ c.in-Some.is) mine
+
+pub returns-then-paralysed : goal.returns-then-paralysed
+returns-then-paralysed g c =
+    let mine : same_colour c.in-Some.man.colour c.args.board.now.turn ≡ true = rw c.turn.ensures at (sym c.is.ensures ∙ c.if-not-is.false) in
+    arrivals_paralysed g.R.Rules.rule c.args.board.now c.in-Some.man c.args.from (sym c.man_at.ensures ∙ c.in-Some.is) mine (sym c.paralysed.ensures ∙ c.if-paralysed.true)
+
+pub returns : goal.returns
+returns g c =
+    let mine : same_colour c.in-Some.man.colour c.args.board.now.turn ≡ true = rw c.turn.ensures at (sym c.is.ensures ∙ c.if-not-is.false) in
+    arrivals_some g.R.Rules.rule c.args.board.now c.in-Some.man c.args.from c.free_squares.result c.goes_to.result (sym c.man_at.ensures ∙ c.in-Some.is) mine (sym c.paralysed.ensures ∙ c.if-paralysed.false) (rw c.turn-2.ensures at c.free_squares.ensures) c.goes_to.ensures

@@ -1,0 +1,8 @@
+use Rattle.std.proofs.Common.{◌∙◌, sym}
+use Rattle.chess_core.specs.Castling.{has_unmoved}
+use Rattle.chess_rules.proofs.Arrivals.{castling_none}
+use Rattle.chess_rules.proofs.targets.castling_squares.Goals as goal
+
+pub returns-else-has : goal.returns-else-has
+returns-else-has c =
+    castling_none (has_unmoved c.args.board.now.unmoved c.args.from) c.args.man c.args.from (rw c.unmoved.ensures at (sym c.has.ensures ∙ c.if-has.false))

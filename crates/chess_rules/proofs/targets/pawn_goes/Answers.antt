@@ -1,0 +1,25 @@
+use Rattle.std.proofs.Common.{◌≡◌, ◌∙◌, ◌==◌, true, false, arith, sym}
+use Rattle.std.specs.Int.{bit_at, bit_not, w64}
+use Rattle.std.specs.Int.Bits.{bit_and}
+use Rattle.std.proofs.lemmas.Bool.{eq-eqb}
+use Rattle.chess_core.specs.Squares.{rank_of}
+use Rattle.chess_rules.specs.Legal.{second_rank}
+use Rattle.chess_rules.proofs.Arrivals.{goes-blocked, goes-once, goes-twice}
+use Rattle.chess_rules.proofs.Tests.{differs, find_first}
+use Rattle.chess_rules.proofs.targets.pawn_goes.Goals as goal
+
+pub returns-in_default : goal.returns-in_default
+returns-in_default c =
+    goes-blocked c.args.board.now c.args.man c.args.from (omega arith) c.pawn_advances.result c.occupied.result c.king_leaps.result c.pawn_advances.ensures c.occupied.ensures c.king_leaps.ensures (sym c.next_bit.ensures.value ∙ c.in_default.is)
+
+pub returns-then-rank-second_rank : goal.returns-then-rank-second_rank
+returns-then-rank-second_rank c =
+    let w = bit_and (bit_and c.pawn_advances.result (bit_not w64 c.occupied.result)) c.king_leaps.result in
+    let first = find_first (λ q. bit_at w q == 1) 0 64 c.in-Some._next (sym c.next_bit.ensures.value ∙ c.in-Some.is) in
+    let second : (rank_of c.args.from == second_rank c.args.man.colour) ≡ true = eq-eqb _ _ (sym c.rank.ensures.value ∙ c.if-rank-second_rank.true ∙ c.second_rank.ensures) in
+    goes-twice c.args.board.now c.args.man c.args.from (omega arith) c.pawn_advances.result c.occupied.result c.king_leaps.result c.pawn_advances.ensures c.occupied.ensures c.king_leaps.ensures c.in-Some._next first second
+
+pub returns : goal.returns
+returns c =
+    let second : (rank_of c.args.from == second_rank c.args.man.colour) ≡ false = differs _ _ (λ e. c.if-rank-second_rank.false (c.rank.ensures.value ∙ e ∙ sym c.second_rank.ensures)) in
+    goes-once c.args.board.now c.args.man c.args.from (omega arith) c.pawn_advances.result c.occupied.result c.king_leaps-2.result c.pawn_advances.ensures c.occupied.ensures c.king_leaps-2.ensures second
