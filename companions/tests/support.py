@@ -58,6 +58,11 @@ def stored_inputs() -> List[Path]:
     return rows + examples
 
 
+def is_for_check(stored_input: Path) -> bool:
+    """Whether a row's report tells `--check` alone: no search of it ends in a lifetime."""
+    return stored_input.stem == "check_alone" or stored_input.stem.endswith("_checked")
+
+
 def stored_report(stored_input: Path) -> Path:
     """The stored report of a row's or example's input."""
     return stored_input.with_suffix(".out" if stored_input.suffix == ".in" else ".report")

@@ -143,7 +143,7 @@ fn put_section(text: &mut ArrayVec<u8, BYTES>, section: usize, seed: u64) {
         0 => PIECES[choice(seed, 13)],
         1 => STIPULATIONS[choice(seed, 20)],
         2 => CONDITIONS[choice(seed, 6)],
-        _ => OPTIONS[choice(seed, 20)],
+        _ => OPTIONS[choice(seed, 12)],
     };
     let _ = text.try_extend_from_slice(words.as_bytes());
 }

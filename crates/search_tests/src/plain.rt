@@ -196,7 +196,8 @@ fn self_wins<R: Rules>(goal: Goal, board: &Board, moves: u8) -> bool
         while let Some(defence) = defences.next(&mut there) {
             let mut after = there;
             let _undo = R::play(&mut after, defence);
-            every = (is_goal::<R>(goal, &after) || self_wins::<R>(goal, &after, moves - 1)) && every;
+            every = (is_goal::<R>(goal, &after) || self_wins::<R>(goal, &after, moves - 1))
+                && every;
         }
         some = some || every;
     }
@@ -393,7 +394,14 @@ fn phase<R: Rules>(
     }
     match stipulation.form {
         Form::Help | Form::HelpHalf => {
-            help::<R>(told, stipulation.goal, board, half_moves, [Shown::default(); 32], 0);
+            help::<R>(
+                told,
+                stipulation.goal,
+                board,
+                half_moves,
+                [Shown::default(); 32],
+                0,
+            );
         }
         Form::Direct | Form::SelfMate if in_set => set::<R>(told, battle, board, left),
         Form::Direct | Form::SelfMate => {

@@ -3,3 +3,4 @@ mod agreements;
 mod direct;
 mod help;
 mod selfmate;
+mod stalemate;

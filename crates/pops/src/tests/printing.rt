@@ -27,7 +27,7 @@ fn shown(colour: Colour, kind: Kind, from: u8, to: u8, mark: Mark) -> Shown
 }
 
 fn prints(event: &Event, text: &[u8]) -> bool {
-    let mut sink = TrialSink::<256>::new(256, None);
+    let mut sink = TrialSink::<512>::new(512, None);
     let printed = print_event(&mut sink, event);
     printed.is_ok() && sink.text() == text
 }
@@ -40,6 +40,23 @@ fn a_line_that_begins_with_black(rt: HostRuntime) {
     moves.push(shown(Colour::White, Kind::Rook, 1, 57, Mark::Mate));
     let line = Event::Line { half: 2, moves };
     assert!(rt; prints(&line, b"1...Ra1-b1 2.Kh8-g8 Rb1-b8#\n"));
+}
+
+// Thirty-two half-moves are sixteen numbered moves.
+#[test]
+fn the_longest_line(rt: HostRuntime) {
+    let mut moves = ArrayVec::new();
+    for _number in 0..16 {
+        let _white = moves.try_push(shown(Colour::White, Kind::Rook, 0, 1, Mark::Plain));
+        let _black = moves.try_push(shown(Colour::Black, Kind::King, 63, 62, Mark::Plain));
+    }
+    let line = Event::Line { half: 1, moves };
+    assert!(rt;
+        prints(
+            &line,
+            b"1.Ra1-b1 Kh8-g8 2.Ra1-b1 Kh8-g8 3.Ra1-b1 Kh8-g8 4.Ra1-b1 Kh8-g8 5.Ra1-b1 Kh8-g8 6.Ra1-b1 Kh8-g8 7.Ra1-b1 Kh8-g8 8.Ra1-b1 Kh8-g8 9.Ra1-b1 Kh8-g8 10.Ra1-b1 Kh8-g8 11.Ra1-b1 Kh8-g8 12.Ra1-b1 Kh8-g8 13.Ra1-b1 Kh8-g8 14.Ra1-b1 Kh8-g8 15.Ra1-b1 Kh8-g8 16.Ra1-b1 Kh8-g8\n"
+        )
+    );
 }
 
 #[test]

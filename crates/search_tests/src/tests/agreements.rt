@@ -78,7 +78,11 @@ fn helpmates(rt: HostRuntime) {
 fn stalemates(rt: HostRuntime) {
     for stipulation in ["=1", "s=1", "h=0.5", "h=1", "h=1.5"] {
         all_agree(&rt, stipulation, "Option SetPlay Variation");
-        all_agree(&rt, stipulation, "Condition Circe Option SetPlay MaxSolutions 3");
+        all_agree(
+            &rt,
+            stipulation,
+            "Condition Circe Option SetPlay MaxSolutions 3",
+        );
         all_agree(&rt, stipulation, "Condition Madrasi");
     }
     all_agree(&rt, "=2", "Option Variation MaxSolutions 4");
@@ -93,6 +97,21 @@ fn longer_problems(rt: HostRuntime) {
         "White Kc6 Pb6a7 Black Ka8 Rb8",
     ] {
         for stipulation in ["#3", "s#2", "h#2", "h#2.5"] {
+            let agreed = agrees(men, stipulation, "Option SetPlay Variation");
+            assert!(rt; agreed == Some(true), "{men} {stipulation}");
+        }
+    }
+}
+
+// With pawns that stop one another, and without kings.
+#[test]
+fn longer_stalemates(rt: HostRuntime) {
+    for men in [
+        "White Ra5 Black Pa7",
+        "White Pa4 Black Kh8 Pa7",
+        "White Kf5 Pf6 Black Kg8",
+    ] {
+        for stipulation in ["=3", "s=2", "h=2", "h=2.5"] {
             let agreed = agrees(men, stipulation, "Option SetPlay Variation");
             assert!(rt; agreed == Some(true), "{men} {stipulation}");
         }
