@@ -158,7 +158,11 @@ pub(crate) fn stipulation_of(word: &[u8]) -> Option<Stipulation>
         [b's', sign, m, n] => stated(Form::SelfMate, goal_of(*sign), two_digits(*m, *n)),
         [b'h', sign, m, n] => stated(Form::Help, goal_of(*sign), two_digits(*m, *n)),
         [b'h', sign, n, b'.', b'5'] => stated(Form::HelpHalf, goal_of(*sign), one_digit(*n)),
-        [b'h', sign, m, n, b'.', b'5'] => stated(Form::HelpHalf, goal_of(*sign), two_digits(*m, *n)),
+        [b'h', sign, m, n, b'.', b'5'] => stated(
+            Form::HelpHalf,
+            goal_of(*sign),
+            two_digits(*m, *n),
+        ),
         _ => None,
     }
 }

@@ -54,12 +54,7 @@ fn is_open<R: Rules>(aim: Aim, left: usize, board: &mut Board) -> bool
 }
 
 /// The value of a position, where it is known without a frame. White's last half-move needs none, and is counted as one.
-fn settled<R: Rules>(
-    aim: Aim,
-    left: usize,
-    board: &mut Board,
-    opened: &mut u64,
-) -> Option<bool>
+fn settled<R: Rules>(aim: Aim, left: usize, board: &mut Board, opened: &mut u64) -> Option<bool>
     requires well_formed { IsWellFormed board.old }
     ensures unchanged { board.new ≡ board.old }
     ensures value { MatchOption result
@@ -300,15 +295,7 @@ pub(crate) fn value_of<R: Rules, const N: usize>(
     });
     let mut answer = None;
     loop {
-        if let Some(known) = turn::<R, N>(
-            aim,
-            floor,
-            board,
-            frames,
-            killers,
-            &mut answer,
-            opened,
-        ) {
+        if let Some(known) = turn::<R, N>(aim, floor, board, frames, killers, &mut answer, opened) {
             return known;
         }
     }

@@ -16,7 +16,9 @@ ghost use Rattle.pop_solve.specs.Values.{seeks};
 ghost use Rattle.pop_solve.specs.Walk.{fewest as fewest_of, first_from, open_length, follows as is_followed, gives as is_given, goes_on, GoesTo, IsWalking, Steps};
 
 use crate::aim::Aim;
-use crate::chess::{has_reached, is_for_mate, mark_of, next_mate, next_move, reaches_goal, retract, shown_of};
+use crate::chess::{
+    has_reached, is_for_mate, mark_of, next_mate, next_move, reaches_goal, retract, shown_of,
+};
 use crate::frame::{Frame, Stretch};
 use crate::killers::Killers;
 use crate::shown::Mark;
