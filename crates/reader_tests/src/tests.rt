@@ -1,2 +1,3 @@
 //! The reader beside a plain one.
+mod adapters;
 mod agreements;

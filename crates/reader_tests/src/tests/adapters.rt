@@ -1,0 +1,88 @@
+//! Readers and writers of the standard library as sources and sinks: each call makes one call, and none is tried again.
+use pop_text::read_source::ReadSource;
+use pop_text::sink::Sink;
+use pop_text::source::Source;
+use pop_text::write_sink::WriteSink;
+use std::io;
+use std::io::{ErrorKind, Read, Write};
+
+/// A reader whose first call is interrupted, and that would give a byte at each later one.
+#[derive(Drop)]
+struct InterruptedReader {
+    calls: u64,
+}
+
+impl Read for InterruptedReader {
+    fn read(&mut self, buffer: &mut [u8]) -> io::Result<usize> {
+        self.calls = self.calls.saturating_add(1);
+        if self.calls == 1 || buffer.is_empty() {
+            return Err(io::Error::from(ErrorKind::Interrupted));
+        }
+        buffer[0] = b'x';
+        Ok(1)
+    }
+}
+
+/// What the first call of a writer does; each later one would take all.
+#[derive(Clone, Copy, PartialEq, Eq)]
+enum First {
+    IsInterrupted,
+    TakesNothing,
+    TakesOneByte,
+    TakesAll,
+}
+
+/// A writer that counts its calls.
+#[derive(Drop)]
+struct CountingWriter {
+    first: First,
+    calls: u64,
+}
+
+impl Write for CountingWriter {
+    fn write(&mut self, text: &[u8]) -> io::Result<usize> {
+        self.calls = self.calls.saturating_add(1);
+        if self.calls > 1 {
+            return Ok(text.len());
+        }
+        match self.first {
+            First::IsInterrupted => Err(io::Error::from(ErrorKind::Interrupted)),
+            First::TakesNothing => Ok(0),
+            First::TakesOneByte => Ok(text.len().min(1)),
+            First::TakesAll => Ok(text.len()),
+        }
+    }
+
+    fn flush(&mut self) -> io::Result<()> {
+        Ok(())
+    }
+}
+
+// A read that is tried again would answer a byte.
+#[test]
+fn an_interrupted_read_is_a_failure(rt: HostRuntime) {
+    let mut source = ReadSource::new(InterruptedReader { calls: 0 });
+    let mut buffer = [0u8; 4];
+    assert!(rt; source.read(&mut buffer).is_err());
+    assert!(rt; source.read(&mut buffer) == Ok(1));
+    assert!(rt; buffer == [b'x', 0, 0, 0]);
+}
+
+// What one call of a sink answers, none for a fault, and how many calls it made.
+fn written(first: First) -> (Option<usize>, u64) {
+    let mut sink = WriteSink::new(CountingWriter { first, calls: 0 });
+    let answer = sink.write(b"abc").ok();
+    (answer, sink.into_inner().calls)
+}
+
+#[test]
+fn a_write_makes_one_call(rt: HostRuntime) {
+    assert!(rt; written(First::TakesAll) == (Some(3), 1));
+    assert!(rt; written(First::TakesOneByte) == (Some(1), 1));
+}
+
+#[test]
+fn a_refused_write_is_a_failure(rt: HostRuntime) {
+    assert!(rt; written(First::IsInterrupted) == (None, 1));
+    assert!(rt; written(First::TakesNothing) == (None, 1));
+}
