@@ -36,3 +36,15 @@ fn blanks_up_to_the_limit(rt: HostRuntime) {
     let report = b"problem 1\nline 1: fault 1: BeginProblem expected\n\n";
     assert!(rt; tells(&[b' '; 4096], LIMIT, report));
 }
+
+// The first word is a fault, and skipping meets the limit.
+#[test]
+fn letters_and_blanks_without_end(rt: HostRuntime) {
+    let mut text = [b' '; 4096];
+    for pair in 0..2048usize {
+        text[2 * pair] = b'x';
+    }
+    let report =
+        b"problem 1\nline 1: fault 1: BeginProblem expected\n\nproblem 2\nline 1: fault 20: input too long\n\n";
+    assert!(rt; tells(&text, WITHOUT_END, report));
+}
