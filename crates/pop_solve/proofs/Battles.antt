@@ -1,4 +1,6 @@
 -- The value by half-moves is what the battle definitions say.
+use Rattle.pop_solve.specs.declared.aim.Battle.{Battle}
+use Rattle.pop_solve.specs.declared.aim.Battle.TheVariants.{Direct, Selfmate}
 use Rattle.std.proofs.Common.{◌≡◌, ℕ, zero, suc, ◌*◌, ◌-◌, ◌%◌, Bool, true, false, ◌&&◌, ◌||◌, refl, ◌∙◌, ap, arith}
 use Rattle.std.specs.Prelude.{◌==◌}
 use Rattle.pop_solve.specs.Game.{Game, can_move, some_move, every_move, lost, wins, self_wins, self_lost}
@@ -12,37 +14,37 @@ odd-is t e = rw e refl
 
 module _ {P M : Type 0} (game : Game P M) where
   -- direct play: White needs one good move at an odd number of half-moves
-  direct-odd : (t : ℕ) (p : P) → suc t % 2 ≡ 1 → value false game (suc t) p ≡ some_move game (value false game t) p
+  direct-odd : (t : ℕ) (p : P) → suc t % 2 ≡ 1 → value Direct game (suc t) p ≡ some_move game (value Direct game t) p
   unfolding value
   direct-odd t p e = rw (e) refl
 
-  direct-even : (t : ℕ) (p : P) → suc t % 2 ≡ 0 → value false game (suc t) p ≡ (game.goal p || (can_move game p && every_move game (value false game t) p))
+  direct-even : (t : ℕ) (p : P) → suc t % 2 ≡ 0 → value Direct game (suc t) p ≡ (game.goal p || (can_move game p && every_move game (value Direct game t) p))
   unfolding value
   direct-even t p e = rw (e) refl
 
-  value-zero : (selfmate : Bool) (q : P) → value selfmate game 0 q ≡ game.goal q
+  value-zero : (battle : Battle) (q : P) → value battle game 0 q ≡ game.goal q
   unfolding value
-  value-zero selfmate q = refl
+  value-zero battle q = refl
 
-  pub value-lost : (j : ℕ) (q : P) → value false game (2 * j) q ≡ lost game j q
+  pub value-lost : (j : ℕ) (q : P) → value Direct game (2 * j) q ≡ lost game j q
   unfolding lost
-  value-lost zero q = value-zero false q
+  value-lost zero q = value-zero Direct q
   value-lost (suc j) q =
       let two : 2 * suc j ≡ suc (suc (2 * j)) = omega arith in
-      let white : (r : P) → value false game (suc (2 * j)) r ≡ some_move game (lost game j) r =
+      let white : (r : P) → value Direct game (suc (2 * j)) r ≡ some_move game (lost game j) r =
       λ r. direct-odd (2 * j) r (omega arith) ∙ ap (λ test. some_move game test r) (λ i x. value-lost j x i) in
       rw (two, direct-even (suc (2 * j)) q (omega arith)) (ap (λ test. game.goal q || (can_move game q && every_move game test q)) (λ i r. white r i))
 
-  pub value-wins : (k : ℕ) (p : P) → value false game (suc (2 * k)) p ≡ wins game (suc k) p
+  pub value-wins : (k : ℕ) (p : P) → value Direct game (suc (2 * k)) p ≡ wins game (suc k) p
   unfolding wins
   value-wins k p = direct-odd (2 * k) p (omega arith) ∙ ap (λ test. some_move game test p) (λ i x. value-lost k x i)
 
-  -- selfmate: White needs one good move at an even number of half-moves
-  self-even : (t : ℕ) (p : P) → suc t % 2 ≡ 0 → value true game (suc t) p ≡ (game.goal p || some_move game (value true game t) p)
+  -- battle: White needs one good move at an even number of half-moves
+  self-even : (t : ℕ) (p : P) → suc t % 2 ≡ 0 → value Selfmate game (suc t) p ≡ (game.goal p || some_move game (value Selfmate game t) p)
   unfolding value
   self-even t p e = rw e refl
 
-  self-odd : (t : ℕ) (p : P) → suc t % 2 ≡ 1 → value true game (suc t) p ≡ (can_move game p && every_move game (value true game t) p)
+  self-odd : (t : ℕ) (p : P) → suc t % 2 ≡ 1 → value Selfmate game (suc t) p ≡ (can_move game p && every_move game (value Selfmate game t) p)
   unfolding value
   self-odd t p e = rw e refl
 
@@ -50,16 +52,16 @@ module _ {P M : Type 0} (game : Game P M) where
   or-false true = refl
   or-false false = refl
 
-  pub value-self_wins : (k : ℕ) (r : P) → value true game (2 * k) r ≡ (game.goal r || self_wins game k r)
+  pub value-self_wins : (k : ℕ) (r : P) → value Selfmate game (2 * k) r ≡ (game.goal r || self_wins game k r)
   unfolding self_wins
-  value-self_wins zero r = value-zero true r ∙ or-false (game.goal r)
+  value-self_wins zero r = value-zero Selfmate r ∙ or-false (game.goal r)
   value-self_wins (suc k) r =
       let two : 2 * suc k ≡ suc (suc (2 * k)) = omega arith in
-      let black : (q : P) → value true game (suc (2 * k)) q ≡ (can_move game q && every_move game (λ x. game.goal x || self_wins game k x) q) =
+      let black : (q : P) → value Selfmate game (suc (2 * k)) q ≡ (can_move game q && every_move game (λ x. game.goal x || self_wins game k x) q) =
       λ q. self-odd (2 * k) q (omega arith) ∙ ap (λ test. can_move game q && every_move game test q) (λ i x. value-self_wins k x i) in
       rw (two, self-even (suc (2 * k)) r (omega arith)) (ap (λ test. game.goal r || some_move game test r) (λ i q. black q i))
 
-  pub value-self_lost : (k : ℕ) (q : P) → value true game (suc (2 * k)) q ≡ self_lost game (suc k) q
+  pub value-self_lost : (k : ℕ) (q : P) → value Selfmate game (suc (2 * k)) q ≡ self_lost game (suc k) q
   unfolding self_lost
   value-self_lost k q =
       let e : suc k - 1 ≡ k = omega arith in

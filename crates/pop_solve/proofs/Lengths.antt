@@ -1,40 +1,41 @@
 -- Rising lengths.
-use Rattle.std.proofs.Common.{◌≡◌, ℕ, zero, suc, ◌+◌, ◌-◌, ◌/◌, ◌<◌, ◌≤◌, Bool, true, false, cond, refl, sym, ap, arith}
+use Rattle.pop_solve.specs.declared.aim.Battle.{Battle}
+use Rattle.std.proofs.Common.{◌≡◌, ℕ, zero, suc, ◌+◌, ◌-◌, ◌/◌, ◌<◌, ◌≤◌, true, false, cond, refl, sym, ap, arith}
 use Rattle.pop_solve.specs.Game.{Game}
 use Rattle.pop_solve.specs.Values.{value}
 use Rattle.pop_solve.specs.Walk.{first_from}
 
-module _ {P M : Type 0} (selfmate : Bool) (game : Game P M) (q : P) where
-  found : (n a : ℕ) → value selfmate game a q ≡ true → first_from selfmate game q n a ≡ a
+module _ {P M : Type 0} (battle : Battle) (game : Game P M) (q : P) where
+  found : (n a : ℕ) → value battle game a q ≡ true → first_from battle game q n a ≡ a
   unfolding first_from
   found zero a e = refl
   found (suc n) a e = rw e refl
 
-  next : (n a : ℕ) → value selfmate game a q ≡ false → first_from selfmate game q (suc n) a ≡ first_from selfmate game q n (a + 2)
+  next : (n a : ℕ) → value battle game a q ≡ false → first_from battle game q (suc n) a ≡ first_from battle game q n (a + 2)
   unfolding first_from
   next n a e = rw e refl
 
-  last : (a : ℕ) → first_from selfmate game q 0 a ≡ a
+  last : (a : ℕ) → first_from battle game q 0 a ≡ a
   unfolding first_from
   last a = refl
 
-  pub length-found : (left a : ℕ) → value selfmate game a q ≡ true → first_from selfmate game q ((left - a) / 2) a ≡ a
+  pub length-found : (left a : ℕ) → value battle game a q ≡ true → first_from battle game q ((left - a) / 2) a ≡ a
   length-found left a e = found ((left - a) / 2) a e
 
-  pub length-next : (left a : ℕ) → a + 2 ≤ left → value selfmate game a q ≡ false → first_from selfmate game q ((left - (a + 2)) / 2) (a + 2) ≡ first_from selfmate game q ((left - a) / 2) a
+  pub length-next : (left a : ℕ) → a + 2 ≤ left → value battle game a q ≡ false → first_from battle game q ((left - (a + 2)) / 2) (a + 2) ≡ first_from battle game q ((left - a) / 2) a
   length-next left a h e =
       let n : (left - a) / 2 ≡ suc ((left - (a + 2)) / 2) = omega (arith, h) in
       rw n (sym (next ((left - (a + 2)) / 2) a e))
 
-  pub length-last : (left a : ℕ) → left < a + 2 → first_from selfmate game q ((left - a) / 2) a ≡ a
+  pub length-last : (left a : ℕ) → left < a + 2 → first_from battle game q ((left - a) / 2) a ≡ a
   length-last left a h =
       let n : (left - a) / 2 ≡ 0 = omega (arith, h) in rw n (last a)
 
   -- a length that holds in the end is found as early with more tries
-  pub length-more : (n k a : ℕ) → value selfmate game (a + (n + n)) q ≡ true → n ≤ k → first_from selfmate game q k a ≡ first_from selfmate game q n a
+  pub length-more : (n k a : ℕ) → value battle game (a + (n + n)) q ≡ true → n ≤ k → first_from battle game q k a ≡ first_from battle game q n a
   unfolding first_from
   length-more zero k a e h = let z : a + (0 + 0) ≡ a = omega arith in found k a (rw z at e)
   length-more (suc n) zero a e h = absurd (omega (arith, h))
   length-more (suc n) (suc k) a e h =
       let z : a + (suc n + suc n) ≡ (a + 2) + (n + n) = omega arith in
-      ap (cond (value selfmate game a q) a) (length-more n k (a + 2) (rw z at e) (omega (arith, h)))
+      ap (cond (value battle game a q) a) (length-more n k (a + 2) (rw z at e) (omega (arith, h)))

@@ -1,10 +1,12 @@
 -- How many frames a search opens.
+use Rattle.pop_solve.specs.declared.aim.Battle.{Battle}
+use Rattle.pop_solve.specs.Aims.{battle_of}
 use Rattle.std.proofs.Common.{◌≡◌, ℕ, zero, suc, ◌+◌, ◌-◌, ◌*◌, ◌%◌, ◌<◌, ◌≤◌, ◌^◌, min, Bool, true, false, not, ◌&&◌, ◌||◌, eqb, cond, List, [], ◌∷◌, ◌++◌, drop, refl, ◌∙◌, ap, arith, ◌⊎◌, inl, inr}
 use Rattle.std.proofs.lemmas.Bool.Decides.{nat_tests}
 use Rattle.chess_core.specs.Position.{Position}
 use Rattle.chess_rules.specs.RuleSet.{RuleSet}
 use Rattle.pop_input.specs.Posed.{Posed, IsSound}
-use Rattle.pop_input.specs.Stipulations.{is_help, is_selfmate, half_moves, half_moves_of}
+use Rattle.pop_input.specs.Stipulations.{is_help, half_moves, half_moves_of}
 use Rattle.pop_input.specs.declared.stipulation.Form.{Form}
 use Rattle.pop_input.specs.declared.stipulation.Form.TheVariants.{Direct, SelfMate, Help, HelpHalf}
 use Rattle.pop_solve.specs.declared.event.Phase.{Phase}
@@ -43,15 +45,15 @@ counted-along walk later opened rest l c =
     record { within = omega (arith, l, c.within); counts = omega (arith, l, c.within, c.counts) }
 
 -- White is to move in the first position of a battle
-white-starts : (form : Form) (n : ℕ) → is_help form ≡ false → 1 ≤ half_moves_of form n → seeks (is_selfmate form) (half_moves_of form n) ≡ true
+white-starts : (form : Form) (n : ℕ) → is_help form ≡ false → 1 ≤ half_moves_of form n → seeks (battle_of form) (half_moves_of form n) ≡ true
 white-starts Direct n e some = let m : (2 * n - 1) % 2 ≡ 1 = omega (arith, some) in rw m refl
 white-starts SelfMate n e some = let m : 2 * n % 2 ≡ 0 = omega arith in rw m refl
 white-starts Help n e some = absurd cc
 white-starts HelpHalf n e some = absurd cc
 
-whites-root : (selfmate : Bool) (f : Frame) → seeks selfmate f.left ≡ true → IsWhites selfmate (f ∷ []) ≡ true
+whites-root : (battle : Battle) (f : Frame) → seeks battle f.left ≡ true → IsWhites battle (f ∷ []) ≡ true
 unfolding IsWhites
-whites-root selfmate f e = rw e (or_true (eqb f.left 0))
+whites-root battle f e = rw e (or_true (eqb f.left 0))
   where
     or_true : (b : Bool) → ((b || true) && true) ≡ true
     or_true true = refl
@@ -100,15 +102,15 @@ module _ (rule : RuleSet) (problem : Posed) where
       counted = λ h u walk c. counted_by rule way f.left walk count count2 _ _ from-open more same c;
     }
       where
-        narrowed : (is_help problem.stipulation.form ≡ true) ⊎ IsKeys problem phase → (is_help problem.stipulation.form ≡ true) ⊎ (IsKeys problem phase × (IsWhites (is_selfmate problem.stipulation.form) (f ∷ []) ≡ true))
+        narrowed : (is_help problem.stipulation.form ≡ true) ⊎ IsKeys problem phase → (is_help problem.stipulation.form ≡ true) ⊎ (IsKeys problem phase × (IsWhites (battle_of problem.stipulation.form) (f ∷ []) ≡ true))
         narrowed (inl h) = inl h
         narrowed (inr k) =
             let l : f.left ≡ half_moves problem.stipulation = left_is ∙ ap (λ b. cond b (half_moves problem.stipulation - 1) (half_moves problem.stipulation)) k.play in
-            inr (k, whites-root (is_selfmate problem.stipulation.form) f (rw l (white-starts problem.stipulation.form problem.stipulation.n k.battle (some_way problem sound))))
+            inr (k, whites-root (battle_of problem.stipulation.form) f (rw l (white-starts problem.stipulation.form problem.stipulation.n k.battle (some_way problem sound))))
 
   -- within a phase
   module _ (phase : Phase) (count : ℕ) (old new : List Frame) (before after : ℕ) (x : Opens rule (way_of problem) (phase_start problem phase) old new before after) where
-    walked-most : (is_help problem.stipulation.form ≡ true) ⊎ (IsKeys problem phase × (IsWhites (is_selfmate problem.stipulation.form) old ≡ true)) → after + to_open rule (phase_start problem phase) new ≤ before + to_open rule (phase_start problem phase) old
+    walked-most : (is_help problem.stipulation.form ≡ true) ⊎ (IsKeys problem phase × (IsWhites (battle_of problem.stipulation.form) old ≡ true)) → after + to_open rule (phase_start problem phase) new ≤ before + to_open rule (phase_start problem phase) old
     walked-most (inl h) = x.helped h
     walked-most (inr k) = x.most k.0.battle k.0.keys k.1
 
@@ -124,7 +126,7 @@ module _ (rule : RuleSet) (problem : Posed) where
       counted = λ h u walk c. walked-counted h walk c;
     }
       where
-        narrowed : (is_help problem.stipulation.form ≡ true) ⊎ (IsKeys problem phase × (IsWhites (is_selfmate problem.stipulation.form) old ≡ true)) → (is_help problem.stipulation.form ≡ true) ⊎ (IsKeys problem phase × (IsWhites (is_selfmate problem.stipulation.form) new ≡ true))
+        narrowed : (is_help problem.stipulation.form ≡ true) ⊎ (IsKeys problem phase × (IsWhites (battle_of problem.stipulation.form) old ≡ true)) → (is_help problem.stipulation.form ≡ true) ⊎ (IsKeys problem phase × (IsWhites (battle_of problem.stipulation.form) new ≡ true))
         narrowed (inl h) = inl h
         narrowed (inr k) = inr (k.0, x.whites k.0.battle k.0.keys k.1)
 
@@ -149,7 +151,7 @@ module _ (rule : RuleSet) (problem : Posed) where
         rest-is Set = refl
         rest-is Play = refl
 
-        narrowed : (b : Phase) → (is_help problem.stipulation.form ≡ true) ⊎ (IsKeys problem b × (IsWhites (is_selfmate problem.stipulation.form) old ≡ true)) → IsNarrow problem (cond (is_set b) (Before Play) Behind) last
+        narrowed : (b : Phase) → (is_help problem.stipulation.form ≡ true) ⊎ (IsKeys problem b × (IsWhites (battle_of problem.stipulation.form) old ≡ true)) → IsNarrow problem (cond (is_set b) (Before Play) Behind) last
         narrowed Set (inl h) = inl h
         narrowed Set (inr k) = let f : true ≡ false = k.0.play in absurd cc
         narrowed Play n = tt

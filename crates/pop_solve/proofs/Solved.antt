@@ -1,4 +1,7 @@
 -- What is to come from the root frame of a phase is the phase's solutions.
+use Rattle.pop_solve.specs.declared.aim.Battle.{Battle}
+use Rattle.pop_solve.specs.declared.aim.Battle.TheVariants.{Direct, Selfmate}
+use Rattle.pop_solve.specs.Aims.{battle_of}
 use Rattle.chess_rules.specs.Legal.{moves as legal_moves}
 use Rattle.std.proofs.Common.{◌≡◌, ℕ, zero, suc, ◌+◌, ◌-◌, ◌*◌, ◌≤◌, Bool, true, false, ◌&&◌, eqb, cond, List, [], ◌∷◌, ◌++◌, length, map, take, refl, sym, ◌∙◌, ap, arith}
 use Rattle.std.specs.List.{flat_map, filter, list_all}
@@ -11,7 +14,7 @@ use Rattle.chess_rules.specs.Places.{moves_behind}
 use Rattle.chess_rules.specs.RuleSet.{RuleSet}
 use Rattle.pop_input.specs.Posed.{Posed, IsSound}
 use Rattle.pop_solve.specs.Chess.{chess}
-use Rattle.pop_input.specs.Stipulations.{is_help, is_selfmate, half_moves_of}
+use Rattle.pop_input.specs.Stipulations.{is_help, half_moves_of}
 use Rattle.pop_solve.proofs.Sound.{some_way}
 use Rattle.pop_solve.specs.Frames.{Frame}
 use Rattle.pop_solve.specs.Tree.{node, keeps, tree, set_shows, set_tree}
@@ -116,10 +119,10 @@ module _ {P M : Type 0} (game : Game P M) (way : Way) where
       split false g h = h
 
   -- the root in battle play: its moves that pass the test, each with what stands below it
-  root-cut : (battle : way.help ≡ false) (h n : ℕ) (p : P) (other : M → Bool) (G : M → List (List M)) → ((m : M) → value way.aim.selfmate game h (game.after p m) ≡ other m) → ((m : M) → value way.aim.selfmate game h (game.after p m) ≡ true → beneath game way battle h h (game.after p m) ≡ G m)
+  root-cut : (battle : way.help ≡ false) (h n : ℕ) (p : P) (other : M → Bool) (G : M → List (List M)) → ((m : M) → value way.aim.battle game h (game.after p m) ≡ other m) → ((m : M) → value way.aim.battle game h (game.after p m) ≡ true → beneath game way battle h h (game.after p m) ≡ G m)
       → IsCutInto false n (shown way game true (suc h) (suc h) p (game.moves p)) (map (λ m. node m (G m)) (filter other (game.moves p)))
   root-cut battle h n p other G same each =
-      let T : M → Bool = λ m. value way.aim.selfmate game h (game.after p m) in
+      let T : M → Bool = λ m. value way.aim.battle game h (game.after p m) in
       let X : M → List (List M) = λ m. beneath game way battle h h (game.after p m) in
       let a : shown way game true (suc h) (suc h) p (game.moves p) ≡ flat_map (λ m. node m (X m)) (filter T (game.moves p)) =
       as_nodes game way battle true h h p (game.moves p)
@@ -133,64 +136,64 @@ module _ {P M : Type 0} (game : Game P M) (way : Way) where
       }
 
 -- half-moves of a battle
-halves-form : (form : Form) (n : ℕ) → is_help form ≡ false → half_moves_of form n ≡ halves (is_selfmate form) n
+halves-form : (form : Form) (n : ℕ) → is_help form ≡ false → half_moves_of form n ≡ halves (battle_of form) n
 halves-form Direct n e = refl
 halves-form SelfMate n e = refl
 halves-form Help n e = absurd cc
 halves-form HelpHalf n e = absurd cc
 
 module _ {P M : Type 0} (game : Game P M) (way : Way) (battle : way.help ≡ false) where
-  set_value : (selfmate : Bool) (n h : ℕ) (r : P) → suc h ≡ halves selfmate n - 1 → value selfmate game h r ≡ set_shows selfmate game n r
-  set_value false n h r e =
+  set_value : (battle : Battle) (n h : ℕ) (r : P) → suc h ≡ halves battle n - 1 → value battle game h r ≡ set_shows battle game n r
+  set_value Direct n h r e =
       let k : h ≡ suc (2 * (n - 2)) = omega (arith, e) in
       let m : n - 1 ≡ suc (n - 2) = omega (arith, e) in
       rw (k, m) (value-wins game (n - 2) r)
-  set_value true n h r e =
+  set_value Selfmate n h r e =
       let k : h ≡ 2 * (n - 1) = omega (arith, e) in rw k (value-self_wins game (n - 1) r)
 
-  halves-most : (selfmate : Bool) (n h : ℕ) → suc h ≡ halves selfmate n → suc h ≤ 2 * n
-  halves-most true n h e = omega (arith, e)
-  halves-most false n h e = omega (arith, e)
+  halves-most : (battle : Battle) (n h : ℕ) → suc h ≡ halves battle n → suc h ≤ 2 * n
+  halves-most Selfmate n h e = omega (arith, e)
+  halves-most Direct n h e = omega (arith, e)
 
-  set-most : (selfmate : Bool) (n h : ℕ) → suc h ≡ halves selfmate n - 1 → h ≤ 2 * n
-  set-most true n h e = omega (arith, e)
-  set-most false n h e = omega (arith, e)
+  set-most : (battle : Battle) (n h : ℕ) → suc h ≡ halves battle n - 1 → h ≤ 2 * n
+  set-most Selfmate n h e = omega (arith, e)
+  set-most Direct n h e = omega (arith, e)
 
-  set-some : (selfmate : Bool) (n h : ℕ) → suc h ≡ halves selfmate n - 1 → (k : ℕ) × (n ≡ suc k)
-  set-some true zero h e = absurd (omega (arith, e))
-  set-some false zero h e = absurd (omega (arith, e))
-  set-some selfmate (suc k) h e = (k, refl)
+  set-some : (battle : Battle) (n h : ℕ) → suc h ≡ halves battle n - 1 → (k : ℕ) × (n ≡ suc k)
+  set-some Selfmate zero h e = absurd (omega (arith, e))
+  set-some Direct zero h e = absurd (omega (arith, e))
+  set-some battle (suc k) h e = (k, refl)
 
-  key-some : (selfmate : Bool) (n h : ℕ) → suc h ≡ halves selfmate n → (k : ℕ) × (n ≡ suc k)
-  key-some true zero h e = absurd (omega (arith, e))
-  key-some false zero h e = absurd (omega (arith, e))
-  key-some selfmate (suc k) h e = (k, refl)
+  key-some : (battle : Battle) (n h : ℕ) → suc h ≡ halves battle n → (k : ℕ) × (n ≡ suc k)
+  key-some Selfmate zero h e = absurd (omega (arith, e))
+  key-some Direct zero h e = absurd (omega (arith, e))
+  key-some battle (suc k) h e = (k, refl)
 
   -- the play: the tree
-  pub tree-cut : (n h max : ℕ) (p : P) → suc h ≡ halves way.aim.selfmate n → IsCutInto false max (shown way game true (suc h) (suc h) p (game.moves p)) (tree way.aim.selfmate game way.variation n (suc h) p)
+  pub tree-cut : (n h max : ℕ) (p : P) → suc h ≡ halves way.aim.battle n → IsCutInto false max (shown way game true (suc h) (suc h) p (game.moves p)) (tree way.aim.battle game way.variation n (suc h) p)
   tree-cut n h max p e =
-      let k = key-some way.aim.selfmate n h e in
-      let e2 : suc h ≡ halves way.aim.selfmate (suc k.0) = e ∙ ap (halves way.aim.selfmate) k.1 in
-      let l : halves way.aim.selfmate (suc k.0) - 1 ≡ h = omega (arith, e2) in
+      let k = key-some way.aim.battle n h e in
+      let e2 : suc h ≡ halves way.aim.battle (suc k.0) = e ∙ ap (halves way.aim.battle) k.1 in
+      let l : halves way.aim.battle (suc k.0) - 1 ≡ h = omega (arith, e2) in
       let one : suc h - 1 ≡ h = omega arith in
-      let s : seeks way.aim.selfmate (suc h) ≡ true = rw e2 (halves-seek game way.aim.selfmate k.0) in
-      let same : (m : M) → value way.aim.selfmate game h (game.after p m) ≡ keeps way.aim.selfmate game n (game.after p m) =
-      λ m. sym (ap (λ x. keeps way.aim.selfmate game x (game.after p m)) k.1 ∙ keeps-value game way.aim.selfmate k.0 (game.after p m) ∙ ap (λ x. value way.aim.selfmate game x (game.after p m)) l) in
-      rw one (root-cut game way battle h max p _ _ same (λ m v. below-key game way battle n h (game.after p m) s (halves-most way.aim.selfmate n h e) v))
+      let s : seeks way.aim.battle (suc h) ≡ true = rw e2 (halves-seek game way.aim.battle k.0) in
+      let same : (m : M) → value way.aim.battle game h (game.after p m) ≡ keeps way.aim.battle game n (game.after p m) =
+      λ m. sym (ap (λ x. keeps way.aim.battle game x (game.after p m)) k.1 ∙ keeps-value game way.aim.battle k.0 (game.after p m) ∙ ap (λ x. value way.aim.battle game x (game.after p m)) l) in
+      rw one (root-cut game way battle h max p _ _ same (λ m v. below-key game way battle n h (game.after p m) s (halves-most way.aim.battle n h e) v))
 
   -- set play
-  pub set-cut : (n h max : ℕ) (p : P) → suc h ≡ halves way.aim.selfmate n - 1 → IsCutInto false max (shown way game true (suc h) (suc h) p (game.moves p)) (set_tree way.aim.selfmate game way.variation n (suc h) p)
+  pub set-cut : (n h max : ℕ) (p : P) → suc h ≡ halves way.aim.battle n - 1 → IsCutInto false max (shown way game true (suc h) (suc h) p (game.moves p)) (set_tree way.aim.battle game way.variation n (suc h) p)
   unfolding set_tree
   set-cut n h max p e =
-      let k = set-some way.aim.selfmate n h e in
-      let e2 : suc h + 1 ≡ halves way.aim.selfmate (suc k.0) = omega (arith, e, ap (halves way.aim.selfmate) k.1) in
-      let s : seeks way.aim.selfmate (suc h + 1) ≡ true = rw e2 (halves-seek game way.aim.selfmate k.0) in
-      let s1 : seeks way.aim.selfmate (suc h) ≡ false = flip game _ (sym (seeks-step game way.aim.selfmate (suc h)) ∙ s) in
+      let k = set-some way.aim.battle n h e in
+      let e2 : suc h + 1 ≡ halves way.aim.battle (suc k.0) = omega (arith, e, ap (halves way.aim.battle) k.1) in
+      let s : seeks way.aim.battle (suc h + 1) ≡ true = rw e2 (halves-seek game way.aim.battle k.0) in
+      let s1 : seeks way.aim.battle (suc h) ≡ false = flip game _ (sym (seeks-step game way.aim.battle (suc h)) ∙ s) in
       let one : suc h ≡ h + 1 = omega arith in
-      let s2 : seeks way.aim.selfmate (h + 1) ≡ false = rw (← one) s1 in
-      let s3 : seeks way.aim.selfmate h ≡ true = unflip game _ (sym (seeks-step game way.aim.selfmate h) ∙ s2) in
-      root-cut game way battle h max p _ _ (λ m. set_value way.aim.selfmate n h (game.after p m) e)
-      (λ m v. below-set game way battle n h (game.after p m) s3 (set-most way.aim.selfmate n h e) v)
+      let s2 : seeks way.aim.battle (h + 1) ≡ false = rw (← one) s1 in
+      let s3 : seeks way.aim.battle h ≡ true = unflip game _ (sym (seeks-step game way.aim.battle h) ∙ s2) in
+      root-cut game way battle h max p _ _ (λ m. set_value way.aim.battle n h (game.after p m) e)
+      (λ m v. below-set game way battle n h (game.after p m) s3 (set-most way.aim.battle n h e) v)
 
 -- a phase of no half-moves
 none-cut : {M : Type 0} (help : Bool) (n : ℕ) → IsCutInto {M = M} help n [] []
@@ -208,7 +211,7 @@ module _ (rule : RuleSet) (problem : Posed) (stated : IsSound problem) where
   abbrev way : Way
   way = way_of problem
 
-  cut : (phase : Phase) (help : Bool) → is_help problem.stipulation.form ≡ help → (h : ℕ) → phase_half_moves problem phase ≡ h → IsCutInto help problem.max_solutions (shown way (chess problem.stipulation.goal rule) true h h (phase_start problem phase) (legal_moves rule (phase_start problem phase))) (cond help (map (λ path. path ∷ []) (help_lines (chess problem.stipulation.goal rule) h (phase_start problem phase))) (cond (is_set phase) (set_tree (is_selfmate problem.stipulation.form) (chess problem.stipulation.goal rule) problem.variation problem.stipulation.n h (phase_start problem phase)) (tree (is_selfmate problem.stipulation.form) (chess problem.stipulation.goal rule) problem.variation problem.stipulation.n h (phase_start problem phase))))
+  cut : (phase : Phase) (help : Bool) → is_help problem.stipulation.form ≡ help → (h : ℕ) → phase_half_moves problem phase ≡ h → IsCutInto help problem.max_solutions (shown way (chess problem.stipulation.goal rule) true h h (phase_start problem phase) (legal_moves rule (phase_start problem phase))) (cond help (map (λ path. path ∷ []) (help_lines (chess problem.stipulation.goal rule) h (phase_start problem phase))) (cond (is_set phase) (set_tree (battle_of problem.stipulation.form) (chess problem.stipulation.goal rule) problem.variation problem.stipulation.n h (phase_start problem phase)) (tree (battle_of problem.stipulation.form) (chess problem.stipulation.goal rule) problem.variation problem.stipulation.n h (phase_start problem phase))))
   unfolding help_lines set_tree
   cut phase true e zero z = rw (shown-zero (chess problem.stipulation.goal rule) way true 0 (phase_start problem phase) (legal_moves rule (phase_start problem phase))) (none-cut true problem.max_solutions)
   cut phase true e (suc h) z =

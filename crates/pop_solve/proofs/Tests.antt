@@ -86,20 +86,20 @@ module _ (rule : RuleSet) (q : Position) (k : ℕ) where
 module _ (rule : RuleSet) (aim : Aim) where
   -- the value of some moves of a position
   abbrev pub rest : ℕ → Position → List Triple → Bool
-  rest left P ms = joined aim.selfmate (chess aim.goal rule) left P ms
+  rest left P ms = joined aim.battle (chess aim.goal rule) left P ms
 
-  rest-none : (left : ℕ) (P : Position) (ms : List Triple) → 0 < left → ms ≡ [] → rest left P ms ≡ not (seeks aim.selfmate left)
+  rest-none : (left : ℕ) (P : Position) (ms : List Triple) → 0 < left → ms ≡ [] → rest left P ms ≡ not (seeks aim.battle left)
   unfolding joined
   rest-none zero P ms some e = absurd (omega (arith, some))
-  rest-none (suc t) P ms some e = rw e (none (seeks aim.selfmate (suc t)))
+  rest-none (suc t) P ms some e = rw e (none (seeks aim.battle (suc t)))
     where
       none : (s : Bool) → cond s false true ≡ not s
       none true = refl
       none false = refl
 
-  rest-next : (t : ℕ) (P : Position) (ms more : List Triple) (m : Triple) → ms ≡ m ∷ more → rest (suc t) P ms ≡ join (seeks aim.selfmate (suc t)) (value aim.selfmate (chess aim.goal rule) t (played rule P m)) (rest (suc t) P more)
+  rest-next : (t : ℕ) (P : Position) (ms more : List Triple) (m : Triple) → ms ≡ m ∷ more → rest (suc t) P ms ≡ join (seeks aim.battle (suc t)) (value aim.battle (chess aim.goal rule) t (played rule P m)) (rest (suc t) P more)
   unfolding joined
-  rest-next t P ms more m e = rw e (split (seeks aim.selfmate (suc t)) _ _ _)
+  rest-next t P ms more m e = rw e (split (seeks aim.battle (suc t)) _ _ _)
     where
       split : (s v a b : Bool) → cond s (v || a) (v && b) ≡ join s v (cond s a b)
       split true v a b = refl
@@ -108,14 +108,14 @@ module _ (rule : RuleSet) (aim : Aim) where
   rest-start : (t : ℕ) (q : Position) (k : ℕ) → rest t q (ahead rule q First (k - 1) k) ≡ rest t q (legal_moves rule q)
   unfolding joined
   rest-start zero q k = refl
-  rest-start (suc t) q k = rw (any-start rule q k (λ m. value aim.selfmate (chess aim.goal rule) t (played rule q m)), all-start rule q k (λ m. value aim.selfmate (chess aim.goal rule) t (played rule q m))) refl
+  rest-start (suc t) q k = rw (any-start rule q k (λ m. value aim.battle (chess aim.goal rule) t (played rule q m)), all-start rule q k (λ m. value aim.battle (chess aim.goal rule) t (played rule q m))) refl
 
   -- a frame that its last answer decides, and one that it doesn't
-  pub pending-decided : (p : Position) (f : Frame) (below : List Frame) (answer : Option Bool) → answer ≡ Some (seeks aim.selfmate f.left) → pending rule aim p (f ∷ below) answer ≡ deliver rule aim p below (seeks aim.selfmate f.left)
+  pub pending-decided : (p : Position) (f : Frame) (below : List Frame) (answer : Option Bool) → answer ≡ Some (seeks aim.battle f.left) → pending rule aim p (f ∷ below) answer ≡ deliver rule aim p below (seeks aim.battle f.left)
   unfolding pending deliver
   pending-decided p f below answer e = rw (e, join-decided) refl
 
-  pub pending-undecided : (p : Position) (f : Frame) (below : List Frame) (answer : Option Bool) → (answer ≡ None) ⊎ (answer ≡ Some (not (seeks aim.selfmate f.left))) → pending rule aim p (f ∷ below) answer ≡ deliver rule aim p below (rest f.left (position rule p (f ∷ below)) (untried rule (position rule p (f ∷ below)) f))
+  pub pending-undecided : (p : Position) (f : Frame) (below : List Frame) (answer : Option Bool) → (answer ≡ None) ⊎ (answer ≡ Some (not (seeks aim.battle f.left))) → pending rule aim p (f ∷ below) answer ≡ deliver rule aim p below (rest f.left (position rule p (f ∷ below)) (untried rule (position rule p (f ∷ below)) f))
   unfolding pending deliver
   pending-undecided p f below answer (inl e) = rw e refl
   pending-undecided p f below answer (inr e) = rw (e, join-undecided) refl
@@ -153,11 +153,11 @@ module _ (rule : RuleSet) (aim : Aim) where
     P = position rule p (f ∷ below)
 
     -- the value of the position after the move decides with the moves still untried
-    pub deliver-next : deliver rule aim p below (rest f.left P (untried rule P f)) ≡ deliver rule aim p (passed f next s ∷ below) (value aim.selfmate (chess aim.goal rule) t (played rule P m))
+    pub deliver-next : deliver rule aim p below (rest f.left P (untried rule P f)) ≡ deliver rule aim p (passed f next s ∷ below) (value aim.battle (chess aim.goal rule) t (played rule P m))
     unfolding deliver position
     deliver-next = rw (left, rest-next t P (untried rule P f) (ahead rule P s next f.killer) m e) refl
 
-    pub deliver-open : (v : Bool) → v ≡ joined aim.selfmate (chess aim.goal rule) t (played rule P m) (legal_moves rule (played rule P m)) → deliver rule aim p (passed f next s ∷ below) v ≡ pending rule aim p (tested k m undo f.shown t ∷ (passed f next s ∷ below)) None
+    pub deliver-open : (v : Bool) → v ≡ joined aim.battle (chess aim.goal rule) t (played rule P m) (legal_moves rule (played rule P m)) → deliver rule aim p (passed f next s ∷ below) v ≡ pending rule aim p (tested k m undo f.shown t ∷ (passed f next s ∷ below)) None
     unfolding pending position
     deliver-open v d = rw (d, sym (rest-start t (played rule P m) k)) refl
 
@@ -295,16 +295,16 @@ module _ (rule : RuleSet) (aim : Aim) (floor : ℕ) (top : Frame) (old new : Lis
       | inr low ↦ rw (lowest low).0 tt
     ]
 
-  module _ (place : ℕ) (s : Stretch) (m : Triple) (k : ℕ) (board after : Position) (N : ℕ) (was : Option Bool) (last : List Frame) (some : 0 < top.left) (open_yet : (was ≡ None) ⊎ (was ≡ Some (not (seeks aim.selfmate top.left)))) (next : untried rule board top ≡ m ∷ ahead rule board s place top.killer) (lawful : legal rule board m ≡ true) where
+  module _ (place : ℕ) (s : Stretch) (m : Triple) (k : ℕ) (board after : Position) (N : ℕ) (was : Option Bool) (last : List Frame) (some : 0 < top.left) (open_yet : (was ≡ None) ⊎ (was ≡ Some (not (seeks aim.battle top.left)))) (next : untried rule board top ≡ m ∷ ahead rule board s place top.killer) (lawful : legal rule board m ≡ true) where
     -- what `descend` leaves
     abbrev pub Descends : Option Bool → Type 0
     Descends is =
         MatchOption is
         ((0 < top.left - 1)
-        × (value aim.selfmate (chess aim.goal rule) (top.left - 1) (played rule board m) ≡ joined aim.selfmate (chess aim.goal rule) (top.left - 1) (played rule board m) (legal_moves rule (played rule board m)))
+        × (value aim.battle (chess aim.goal rule) (top.left - 1) (played rule board m) ≡ joined aim.battle (chess aim.goal rule) (top.left - 1) (played rule board m) (legal_moves rule (played rule board m)))
         × (after ≡ played rule board m)
         × (last ≡ (new ++ passed top place s ∷ []) ++ tested k m (undo_of rule board m) top.shown (top.left - 1) ∷ []))
-        (λ v. (v ≡ value aim.selfmate (chess aim.goal rule) (top.left - 1) (played rule board m)) × (after ≡ board) × (last ≡ new ++ passed top place s ∷ []))
+        (λ v. (v ≡ value aim.battle (chess aim.goal rule) (top.left - 1) (played rule board m)) × (after ≡ board) × (last ≡ new ++ passed top place s ∷ []))
 
     left_is : top.left ≡ suc (top.left - 1)
     left_is = omega (arith, some)
@@ -373,10 +373,10 @@ module _ (rule : RuleSet) (aim : Aim) (floor : ℕ) (top : Frame) (old new : Lis
   top_room N room = let t : top_left (tests floor old) ≡ top.left = ap top_left popped in omega (arith, t, room, len)
 
   -- the value of a frame that its answer decides, and of one with no move left
-  pub decided_value : (p : Position) (was : Option Bool) → was ≡ Some (seeks aim.selfmate top.left) → pending rule aim p (top ∷ tests floor new) was ≡ deliver rule aim p (tests floor new) (seeks aim.selfmate top.left)
+  pub decided_value : (p : Position) (was : Option Bool) → was ≡ Some (seeks aim.battle top.left) → pending rule aim p (top ∷ tests floor new) was ≡ deliver rule aim p (tests floor new) (seeks aim.battle top.left)
   decided_value p was e = pending-decided rule aim p top (tests floor new) was e
 
-  pub exhausted_value : (p board : Position) (was : Option Bool) → IsTesting rule p (tests floor old) board → (was ≡ None) ⊎ (was ≡ Some (not (seeks aim.selfmate top.left))) → untried rule board top ≡ [] → pending rule aim p (top ∷ tests floor new) was ≡ deliver rule aim p (tests floor new) (not (seeks aim.selfmate top.left))
+  pub exhausted_value : (p board : Position) (was : Option Bool) → IsTesting rule p (tests floor old) board → (was ≡ None) ⊎ (was ≡ Some (not (seeks aim.battle top.left))) → untried rule board top ≡ [] → pending rule aim p (top ∷ tests floor new) was ≡ deliver rule aim p (tests floor new) (not (seeks aim.battle top.left))
   exhausted_value p board was r u e =
       let at : board ≡ position rule p (top ∷ tests floor new) = (testing_top p board r).board_at in
       pending-undecided rule aim p top (tests floor new) was u
@@ -400,7 +400,7 @@ pub record IsUnderway (rule : RuleSet) (aim : Aim) (floor : ℕ) (p : Position) 
   pub base : take floor frames ≡ under
 
 module _ (rule : RuleSet) (aim : Aim) where
-  pub begins : (floor : ℕ) (p : Position) (N left k : ℕ) (board : Position) (before count : ℕ) (by : Triple) (undo : Loss) (shown : Shown) (under frames : List Frame) → floor ≡ length under → frames ≡ under ++ tested k by undo shown left ∷ [] → floor + left ≤ N → count ≤ before + 1 → board ≡ p → IsWellFormed board → (0 < left) × (value aim.selfmate (chess aim.goal rule) left p ≡ joined aim.selfmate (chess aim.goal rule) left p (legal_moves rule p)) → IsUnderway rule aim floor p N (value aim.selfmate (chess aim.goal rule) left p) under frames None board count (before + walk_count (legal_moves rule) (played rule) left p)
+  pub begins : (floor : ℕ) (p : Position) (N left k : ℕ) (board : Position) (before count : ℕ) (by : Triple) (undo : Loss) (shown : Shown) (under frames : List Frame) → floor ≡ length under → frames ≡ under ++ tested k by undo shown left ∷ [] → floor + left ≤ N → count ≤ before + 1 → board ≡ p → IsWellFormed board → (0 < left) × (value aim.battle (chess aim.goal rule) left p ≡ joined aim.battle (chess aim.goal rule) left p (legal_moves rule p)) → IsUnderway rule aim floor p N (value aim.battle (chess aim.goal rule) left p) under frames None board count (before + walk_count (legal_moves rule) (played rule) left p)
   unfolding pending deliver IsLinked IsCut position to_test
   begins floor p N left k board before count by undo shown under frames low put room more at sound d =
       let none : tests floor under ≡ [] = nil_of (tests floor under) (omega (arith, length-tests floor under, low)) in

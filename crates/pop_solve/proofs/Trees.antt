@@ -1,6 +1,7 @@
 -- What the walk shows is the tree that the definitions name.
+use Rattle.pop_solve.specs.declared.aim.Battle.{Battle}
+use Rattle.pop_solve.specs.declared.aim.Battle.TheVariants.{Direct, Selfmate}
 use Rattle.std.proofs.Common.{◌≡◌, ℕ, zero, suc, ◌+◌, ◌-◌, ◌*◌, ◌/◌, ◌%◌, ◌<◌, ◌≤◌, Bool, true, false, not, ◌&&◌, ◌||◌, eqb, cond, List, [], ◌∷◌, ◌++◌, map, refl, sym, ◌∙◌, ap, arith}
-use Rattle.std.specs.Prelude.{if◌then◌else◌}
 use Rattle.std.specs.List.{flat_map, filter, list_all}
 use Rattle.std.proofs.lemmas.List.{append-nil}
 use Rattle.std.proofs.lemmas.List.Concat.{flat_map_single}
@@ -16,8 +17,9 @@ use Rattle.pop_solve.proofs.Walking.{length_most, goes_on-keys}
 use Rattle.pop_solve.proofs.Least.{least-direct, least-selfmate}
 
 -- the half-moves of a battle of so many moves
-abbrev pub halves : Bool → ℕ → ℕ
-halves selfmate k = if selfmate then 2 * k else 2 * k - 1
+abbrev pub halves : Battle → ℕ → ℕ
+halves Direct k = 2 * k - 1
+halves Selfmate k = 2 * k
 
 -- lists
 module _ {A B : Type 0} where
@@ -74,51 +76,51 @@ module _ {P M : Type 0} (game : Game P M) where
         (not_yet k (game.goal (game.after p m)) _ _ (ap (λ t. shown way game false (suc k) t (game.after p m) (game.moves (game.after p m))) (goes_on-whole (suc k) (game.after p m)) ∙ shown-help false k (game.after p m))))
 
   -- battle play: parities
-  pub seeks-step : (selfmate : Bool) (t : ℕ) → seeks selfmate (t + 1) ≡ not (seeks selfmate t)
-  seeks-step true t = parity (t % 2) (t + 1) refl
+  pub seeks-step : (battle : Battle) (t : ℕ) → seeks battle (t + 1) ≡ not (seeks battle t)
+  seeks-step Selfmate t = parity (t % 2) (t + 1) refl
     where
       parity : (r n : ℕ) → t % 2 ≡ r → eqb ((t + 1) % 2) 0 ≡ not (eqb (t % 2) 0)
       parity r n e = grind (arith, nat_tests)
-  seeks-step false t = parity (t % 2) (t + 1) refl
+  seeks-step Direct t = parity (t % 2) (t + 1) refl
     where
       parity : (r n : ℕ) → t % 2 ≡ r → eqb ((t + 1) % 2) 1 ≡ not (eqb (t % 2) 1)
       parity r n e = grind (arith, nat_tests)
 
-  seeks-halves : (selfmate : Bool) (t : ℕ) → seeks selfmate t ≡ true → 0 < t → (k : ℕ) × (t ≡ halves selfmate (suc k))
-  seeks-halves true t s some = let e : t % 2 ≡ 0 = grind (arith, nat_tests) in (t / 2 - 1, omega (arith, e, some))
-  seeks-halves false t s some = let e : t % 2 ≡ 1 = grind (arith, nat_tests) in (t / 2, omega (arith, e))
+  seeks-halves : (battle : Battle) (t : ℕ) → seeks battle t ≡ true → 0 < t → (k : ℕ) × (t ≡ halves battle (suc k))
+  seeks-halves Selfmate t s some = let e : t % 2 ≡ 0 = grind (arith, nat_tests) in (t / 2 - 1, omega (arith, e, some))
+  seeks-halves Direct t s some = let e : t % 2 ≡ 1 = grind (arith, nat_tests) in (t / 2, omega (arith, e))
 
   -- the test of a move of White
-  pub keeps-value : (selfmate : Bool) (k : ℕ) (q : P) → keeps selfmate game (suc k) q ≡ value selfmate game (halves selfmate (suc k) - 1) q
-  keeps-value false k q = let n : suc k - 1 ≡ k = omega arith in let h : 2 * suc k - 1 - 1 ≡ 2 * k = omega arith in rw (n, h) (sym (value-lost game k q))
-  keeps-value true k q = let h : 2 * suc k - 1 ≡ suc (2 * k) = omega arith in rw h (sym (value-self_lost game k q))
+  pub keeps-value : (battle : Battle) (k : ℕ) (q : P) → keeps battle game (suc k) q ≡ value battle game (halves battle (suc k) - 1) q
+  keeps-value Direct k q = let n : suc k - 1 ≡ k = omega arith in let h : 2 * suc k - 1 - 1 ≡ 2 * k = omega arith in rw (n, h) (sym (value-lost game k q))
+  keeps-value Selfmate k q = let h : 2 * suc k - 1 ≡ suc (2 * k) = omega arith in rw h (sym (value-self_lost game k q))
 
   -- the least length by half-moves is that of the least number of moves
-  least-halves : (selfmate : Bool) (n t : ℕ) (q : P) → seeks selfmate t ≡ true → 0 < t → t ≤ 2 * n → game.goal q ≡ false → value selfmate game t q ≡ true → first_from selfmate game q ((t - fewest selfmate) / 2) (fewest selfmate) ≡ halves selfmate (least selfmate game n q)
-  least-halves true zero t q s some most open_yet v = absurd (omega (arith, some, most))
-  least-halves true (suc n) t q s some most open_yet v =
-      let k = seeks-halves true t s some in
+  least-halves : (battle : Battle) (n t : ℕ) (q : P) → seeks battle t ≡ true → 0 < t → t ≤ 2 * n → game.goal q ≡ false → value battle game t q ≡ true → first_from battle game q ((t - fewest battle) / 2) (fewest battle) ≡ halves battle (least battle game n q)
+  least-halves Selfmate zero t q s some most open_yet v = absurd (omega (arith, some, most))
+  least-halves Selfmate (suc n) t q s some most open_yet v =
+      let k = seeks-halves Selfmate t s some in
       let a : (t - 2) / 2 ≡ k.0 = omega (arith, k.1) in
       let b : 2 + (k.0 + k.0) ≡ t = omega (arith, k.1) in
-      let m : first_from true game q n 2 ≡ first_from true game q k.0 2 = length-more true game q k.0 n 2 (rw b v) (omega (arith, k.1, most)) in
+      let m : first_from Selfmate game q n 2 ≡ first_from Selfmate game q k.0 2 = length-more Selfmate game q k.0 n 2 (rw b v) (omega (arith, k.1, most)) in
       rw a (sym m ∙ least-selfmate game q open_yet n)
-  least-halves false zero t q s some most open_yet v = absurd (omega (arith, some, most))
-  least-halves false (suc n) t q s some most open_yet v =
-      let k = seeks-halves false t s some in
+  least-halves Direct zero t q s some most open_yet v = absurd (omega (arith, some, most))
+  least-halves Direct (suc n) t q s some most open_yet v =
+      let k = seeks-halves Direct t s some in
       let a : (t - 1) / 2 ≡ k.0 = omega (arith, k.1) in
       let b : 1 + (k.0 + k.0) ≡ t = omega (arith, k.1) in
-      let m : first_from false game q n 1 ≡ first_from false game q k.0 1 = length-more false game q k.0 n 1 (rw b v) (omega (arith, k.1, most)) in
+      let m : first_from Direct game q n 1 ≡ first_from Direct game q k.0 1 = length-more Direct game q k.0 n 1 (rw b v) (omega (arith, k.1, most)) in
       rw a (sym m ∙ omega (arith, least-direct game q n))
 
-  half-some : (selfmate : Bool) (k l : ℕ) → suc l ≡ halves selfmate k → (j : ℕ) × (k ≡ suc j)
-  half-some true zero l e = absurd (omega (arith, e))
-  half-some false zero l e = absurd (omega (arith, e))
-  half-some selfmate (suc j) l e = (j, refl)
+  half-some : (battle : Battle) (k l : ℕ) → suc l ≡ halves battle k → (j : ℕ) × (k ≡ suc j)
+  half-some Selfmate zero l e = absurd (omega (arith, e))
+  half-some Direct zero l e = absurd (omega (arith, e))
+  half-some battle (suc j) l e = (j, refl)
 
   -- the value of Black's position holds after each of his moves
-  value-black : (selfmate : Bool) (t : ℕ) (q : P) → game.goal q ≡ false → seeks selfmate (suc t) ≡ false → value selfmate game (suc t) q ≡ true → every_move game (value selfmate game t) q ≡ true
+  value-black : (battle : Battle) (t : ℕ) (q : P) → game.goal q ≡ false → seeks battle (suc t) ≡ false → value battle game (suc t) q ≡ true → every_move game (value battle game t) q ≡ true
   unfolding value
-  value-black selfmate t q g s v = last (eqb (suc t % 2) 0) (game.goal q) (seeks selfmate (suc t)) _ (can_move game q) _ g s v
+  value-black battle t q g s v = last (eqb (suc t % 2) 0) (game.goal q) (seeks battle (suc t)) _ (can_move game q) _ g s v
     where
       last : (e g s a c b : Bool) → g ≡ false → s ≡ false → ((e && g) || cond s a (c && b)) ≡ true → b ≡ true
       last true false false a true b x y v = v
@@ -129,25 +131,25 @@ module _ {P M : Type 0} (game : Game P M) where
       last e false true a c b x y v = absurd cc
 
   -- nothing stands below the goal
-  nothing : (n k : ℕ) (q : P) → game.goal q ≡ true → (selfmate : Bool) (s : Bool) → cond s (answers selfmate game n k q) (below selfmate game n k q) ≡ []
+  nothing : (n k : ℕ) (q : P) → game.goal q ≡ true → (battle : Battle) (s : Bool) → cond s (answers battle game n k q) (below battle game n k q) ≡ []
   unfolding answers below
-  nothing n zero q g selfmate true = refl
-  nothing n zero q g selfmate false = refl
-  nothing n (suc k) q g selfmate true = rw g refl
-  nothing n (suc k) q g selfmate false = rw g refl
+  nothing n zero q g battle true = refl
+  nothing n zero q g battle false = refl
+  nothing n (suc k) q g battle true = rw g refl
+  nothing n (suc k) q g battle false = rw g refl
 
-  first_from-least : (selfmate : Bool) (q : P) (n a : ℕ) → a ≤ first_from selfmate game q n a
+  first_from-least : (battle : Battle) (q : P) (n a : ℕ) → a ≤ first_from battle game q n a
   unfolding first_from
-  first_from-least selfmate q zero a = omega arith
-  first_from-least selfmate q (suc n) a = elim (value selfmate game a q) as (λ b. a ≤ cond b a (first_from selfmate game q n (a + 2))) [ true ↦ omega arith | false ↦ omega (arith, first_from-least selfmate q n (a + 2)) ]
+  first_from-least battle q zero a = omega arith
+  first_from-least battle q (suc n) a = elim (value battle game a q) as (λ b. a ≤ cond b a (first_from battle game q n (a + 2))) [ true ↦ omega arith | false ↦ omega (arith, first_from-least battle q n (a + 2)) ]
 
-  fewest-some : (selfmate : Bool) → 1 ≤ fewest selfmate
-  fewest-some true = omega arith
-  fewest-some false = omega arith
+  fewest-some : (battle : Battle) → 1 ≤ fewest battle
+  fewest-some Selfmate = omega arith
+  fewest-some Direct = omega arith
 
-  pub halves-seek : (selfmate : Bool) (k : ℕ) → seeks selfmate (halves selfmate (suc k)) ≡ true
-  halves-seek true k = let e : 2 * suc k % 2 ≡ 0 = omega arith in rw e refl
-  halves-seek false k = let e : (2 * suc k - 1) % 2 ≡ 1 = omega arith in rw e refl
+  pub halves-seek : (battle : Battle) (k : ℕ) → seeks battle (halves battle (suc k)) ≡ true
+  halves-seek Selfmate k = let e : 2 * suc k % 2 ≡ 0 = omega arith in rw e refl
+  halves-seek Direct k = let e : (2 * suc k - 1) % 2 ≡ 1 = omega arith in rw e refl
 
   pub flip : (b : Bool) → not b ≡ true → b ≡ false
   flip true e = absurd cc
@@ -157,18 +159,18 @@ module _ {P M : Type 0} (game : Game P M) where
   unflip true e = refl
   unflip false e = absurd cc
 
-  value-end-zero : (selfmate : Bool) (q : P) → value selfmate game 0 q ≡ game.goal q
+  value-end-zero : (battle : Battle) (q : P) → value battle game 0 q ≡ game.goal q
   unfolding value
-  value-end-zero selfmate q = refl
+  value-end-zero battle q = refl
 
   -- in battle play
   module _ (way : Way) (battle : way.help ≡ false) where
     -- a move that is tested, and one that isn't
-    pub by_test : (root : Bool) (t : ℕ) (q : P) → (root || seeks way.aim.selfmate (t + 1)) ≡ true → follows way game root t q ≡ value way.aim.selfmate game t q
+    pub by_test : (root : Bool) (t : ℕ) (q : P) → (root || seeks way.aim.battle (t + 1)) ≡ true → follows way game root t q ≡ value way.aim.battle game t q
     unfolding follows
     by_test root t q s = rw (battle, s) refl
 
-    by_none : (t : ℕ) (q : P) → seeks way.aim.selfmate (t + 1) ≡ false → follows way game false t q ≡ true
+    by_none : (t : ℕ) (q : P) → seeks way.aim.battle (t + 1) ≡ false → follows way game false t q ≡ true
     unfolding follows
     by_none t q s = rw (battle, s) refl
 
@@ -186,38 +188,38 @@ module _ {P M : Type 0} (game : Game P M) where
         flat-same _ _ ms (λ m. ap (λ b. cond (follows way game root t (game.after p m)) (cond b ((m ∷ []) ∷ []) [] ++ map (λ line. m ∷ line) (beneath k t (game.after p m))) []) (given_always t (game.after p m)))
 
     -- the moves of White in his least length, over anything
-    white : (n k t : ℕ) (q : P) (G : M → List (List M)) → seeks way.aim.selfmate t ≡ true → 0 < t → t ≤ 2 * n → t ≤ suc k → game.goal q ≡ false → value way.aim.selfmate game t q ≡ true
-        → ((l : ℕ) (m : M) → seeks way.aim.selfmate (l + 1) ≡ true → l + 1 ≤ t → value way.aim.selfmate game l (game.after q m) ≡ true → node m (beneath k l (game.after q m)) ≡ G m)
-        → shown way game false (suc k) (open_length way.aim.selfmate game t q) q (game.moves q) ≡ flat_map G (best way.aim.selfmate game n q)
+    white : (n k t : ℕ) (q : P) (G : M → List (List M)) → seeks way.aim.battle t ≡ true → 0 < t → t ≤ 2 * n → t ≤ suc k → game.goal q ≡ false → value way.aim.battle game t q ≡ true
+        → ((l : ℕ) (m : M) → seeks way.aim.battle (l + 1) ≡ true → l + 1 ≤ t → value way.aim.battle game l (game.after q m) ≡ true → node m (beneath k l (game.after q m)) ≡ G m)
+        → shown way game false (suc k) (open_length way.aim.battle game t q) q (game.moves q) ≡ flat_map G (best way.aim.battle game n q)
     unfolding open_length
     white n k zero q G s some most room open_yet v each = absurd (omega (arith, some))
     white n k (suc t) q G s some most room open_yet v each =
         let z : eqb (suc t) 0 ≡ false = grind (arith, nat_tests) in
-        let L = first_from way.aim.selfmate game q ((suc t - fewest way.aim.selfmate) / 2) (fewest way.aim.selfmate) in
-        let h : L ≡ halves way.aim.selfmate (least way.aim.selfmate game n q) = least-halves way.aim.selfmate n (suc t) q s some most open_yet v in
+        let L = first_from way.aim.battle game q ((suc t - fewest way.aim.battle) / 2) (fewest way.aim.battle) in
+        let h : L ≡ halves way.aim.battle (least way.aim.battle game n q) = least-halves way.aim.battle n (suc t) q s some most open_yet v in
         rw (z, open_yet, s) (go L refl h)
       where
         z0 : eqb (suc t) 0 ≡ false
         z0 = grind (arith, nat_tests)
 
         L0 : ℕ
-        L0 = first_from way.aim.selfmate game q ((suc t - fewest way.aim.selfmate) / 2) (fewest way.aim.selfmate)
+        L0 = first_from way.aim.battle game q ((suc t - fewest way.aim.battle) / 2) (fewest way.aim.battle)
 
-        go : (x : ℕ) → L0 ≡ x → x ≡ halves way.aim.selfmate (least way.aim.selfmate game n q) → shown way game false (suc k) x q (game.moves q) ≡ flat_map G (best way.aim.selfmate game n q)
-        go zero e h = absurd (omega (arith, e, first_from-least way.aim.selfmate q ((suc t - fewest way.aim.selfmate) / 2) (fewest way.aim.selfmate), fewest-some way.aim.selfmate))
+        go : (x : ℕ) → L0 ≡ x → x ≡ halves way.aim.battle (least way.aim.battle game n q) → shown way game false (suc k) x q (game.moves q) ≡ flat_map G (best way.aim.battle game n q)
+        go zero e h = absurd (omega (arith, e, first_from-least way.aim.battle q ((suc t - fewest way.aim.battle) / 2) (fewest way.aim.battle), fewest-some way.aim.battle))
         go (suc l) e h =
-            let j = half-some way.aim.selfmate _ l h in
-            let h2 : suc l ≡ halves way.aim.selfmate (suc j.0) = h ∙ ap (halves way.aim.selfmate) j.1 in
-            let n2 : l + 1 ≡ halves way.aim.selfmate (suc j.0) = omega (arith, h2) in
-            let l2 : halves way.aim.selfmate (suc j.0) - 1 ≡ l = omega (arith, h2) in
-            let s2 : seeks way.aim.selfmate (l + 1) ≡ true = rw n2 (halves-seek way.aim.selfmate j.0) in
-            let most2 : L0 ≤ suc t = length_most game way.aim.selfmate (suc t) q false true false z0 s in
+            let j = half-some way.aim.battle _ l h in
+            let h2 : suc l ≡ halves way.aim.battle (suc j.0) = h ∙ ap (halves way.aim.battle) j.1 in
+            let n2 : l + 1 ≡ halves way.aim.battle (suc j.0) = omega (arith, h2) in
+            let l2 : halves way.aim.battle (suc j.0) - 1 ≡ l = omega (arith, h2) in
+            let s2 : seeks way.aim.battle (l + 1) ≡ true = rw n2 (halves-seek way.aim.battle j.0) in
+            let most2 : L0 ≤ suc t = length_most game way.aim.battle (suc t) q false true false z0 s in
             as_nodes false k l q (game.moves q)
-            ∙ flat-filter _ (λ m. keeps way.aim.selfmate game (least way.aim.selfmate game n q) (game.after q m)) _ G (game.moves q)
-            (λ m. by_test false l (game.after q m) s2 ∙ sym (ap (λ x. keeps way.aim.selfmate game x (game.after q m)) j.1 ∙ keeps-value way.aim.selfmate j.0 (game.after q m) ∙ ap (λ x. value way.aim.selfmate game x (game.after q m)) l2))
+            ∙ flat-filter _ (λ m. keeps way.aim.battle game (least way.aim.battle game n q) (game.after q m)) _ G (game.moves q)
+            (λ m. by_test false l (game.after q m) s2 ∙ sym (ap (λ x. keeps way.aim.battle game x (game.after q m)) j.1 ∙ keeps-value way.aim.battle j.0 (game.after q m) ∙ ap (λ x. value way.aim.battle game x (game.after q m)) l2))
             (λ m v2. each l m s2 (omega (arith, e, most2)) (sym (by_test false l (game.after q m) s2) ∙ v2))
 
-    open-goal : (k : ℕ) (q : P) → game.goal q ≡ true → shown way game false k (open_length way.aim.selfmate game k q) q (game.moves q) ≡ []
+    open-goal : (k : ℕ) (q : P) → game.goal q ≡ true → shown way game false k (open_length way.aim.battle game k q) q (game.moves q) ≡ []
     unfolding open_length
     open-goal k q g =
         let none : (eqb k 0 || game.goal q) ≡ true = rw g (or_true (eqb k 0)) in
@@ -231,63 +233,63 @@ module _ {P M : Type 0} (game : Game P M) where
     clash f t = cc
 
     module _ (variation : way.variation ≡ true) where
-      beneath-is : (k t : ℕ) (q : P) → beneath k t q ≡ shown way game false k (open_length way.aim.selfmate game t q) q (game.moves q)
+      beneath-is : (k t : ℕ) (q : P) → beneath k t q ≡ shown way game false k (open_length way.aim.battle game t q) q (game.moves q)
       unfolding goes_on
       beneath-is k t q = rw (battle, variation) refl
 
       abbrev pub Tie : ℕ → ℕ → ℕ → P → Type 0
-      Tie n k t q = shown way game false k (open_length way.aim.selfmate game t q) q (game.moves q) ≡ cond (seeks way.aim.selfmate t) (answers way.aim.selfmate game n k q) (below way.aim.selfmate game n k q)
+      Tie n k t q = shown way game false k (open_length way.aim.battle game t q) q (game.moves q) ≡ cond (seeks way.aim.battle t) (answers way.aim.battle game n k q) (below way.aim.battle game n k q)
 
       tie-goal : (n k t : ℕ) (q : P) → game.goal q ≡ true → Tie n k t q
       unfolding open_length
       tie-goal n k t q g =
           let none : (eqb t 0 || game.goal q) ≡ true = rw g (or_true (eqb t 0)) in
-          rw none (shown-zero way false k q (game.moves q) ∙ sym (nothing n k q g way.aim.selfmate (seeks way.aim.selfmate t)))
+          rw none (shown-zero way false k q (game.moves q) ∙ sym (nothing n k q g way.aim.battle (seeks way.aim.battle t)))
         where
           or_true : (b : Bool) → (b || true) ≡ true
           or_true true = refl
           or_true false = refl
 
-      tie-white : (n k t : ℕ) (q : P) → ((l : ℕ) (r : P) → value way.aim.selfmate game l r ≡ true → l ≤ k → l ≤ 2 * n → Tie n k l r) → value way.aim.selfmate game (suc t) q ≡ true → suc t ≤ suc k → suc t ≤ 2 * n → game.goal q ≡ false → seeks way.aim.selfmate (suc t) ≡ true → Tie n (suc k) (suc t) q
+      tie-white : (n k t : ℕ) (q : P) → ((l : ℕ) (r : P) → value way.aim.battle game l r ≡ true → l ≤ k → l ≤ 2 * n → Tie n k l r) → value way.aim.battle game (suc t) q ≡ true → suc t ≤ suc k → suc t ≤ 2 * n → game.goal q ≡ false → seeks way.aim.battle (suc t) ≡ true → Tie n (suc k) (suc t) q
       unfolding answers
       tie-white n k t q ih v room most g s =
           rw (s, g) (white n k (suc t) q _ s (omega arith) most room g v
           (λ l m s2 less v2.
-          let b : seeks way.aim.selfmate l ≡ false = flip _ (sym (seeks-step way.aim.selfmate l) ∙ s2) in
-          ap (node m) (beneath-is k l (game.after q m) ∙ ih l (game.after q m) v2 (omega (arith, less, room)) (omega (arith, less, most)) ∙ ap (λ x. cond x (answers way.aim.selfmate game n k (game.after q m)) (below way.aim.selfmate game n k (game.after q m))) b)))
+          let b : seeks way.aim.battle l ≡ false = flip _ (sym (seeks-step way.aim.battle l) ∙ s2) in
+          ap (node m) (beneath-is k l (game.after q m) ∙ ih l (game.after q m) v2 (omega (arith, less, room)) (omega (arith, less, most)) ∙ ap (λ x. cond x (answers way.aim.battle game n k (game.after q m)) (below way.aim.battle game n k (game.after q m))) b)))
 
-      tie-black : (n k t : ℕ) (q : P) → ((l : ℕ) (r : P) → value way.aim.selfmate game l r ≡ true → l ≤ k → l ≤ 2 * n → Tie n k l r) → value way.aim.selfmate game (suc t) q ≡ true → suc t ≤ suc k → suc t ≤ 2 * n → game.goal q ≡ false → seeks way.aim.selfmate (suc t) ≡ false → Tie n (suc k) (suc t) q
+      tie-black : (n k t : ℕ) (q : P) → ((l : ℕ) (r : P) → value way.aim.battle game l r ≡ true → l ≤ k → l ≤ 2 * n → Tie n k l r) → value way.aim.battle game (suc t) q ≡ true → suc t ≤ suc k → suc t ≤ 2 * n → game.goal q ≡ false → seeks way.aim.battle (suc t) ≡ false → Tie n (suc k) (suc t) q
       unfolding below open_length
       tie-black n k t q ih v room most g s =
           let z : eqb (suc t) 0 ≡ false = grind (arith, nat_tests) in
           let one : suc t ≡ t + 1 = omega arith in
-          let s1 : seeks way.aim.selfmate (t + 1) ≡ false = (rw (← one) s) in
-          let w : seeks way.aim.selfmate t ≡ true = unflip _ (sym (seeks-step way.aim.selfmate t) ∙ s1) in
+          let s1 : seeks way.aim.battle (t + 1) ≡ false = (rw (← one) s) in
+          let w : seeks way.aim.battle t ≡ true = unflip _ (sym (seeks-step way.aim.battle t) ∙ s1) in
           rw (z, g, s) (as_nodes false k t q (game.moves q)
-          ∙ flat-all (λ d. value way.aim.selfmate game t (game.after q d)) _ _ (game.moves q) (value-black way.aim.selfmate t q g s v)
+          ∙ flat-all (λ d. value way.aim.battle game t (game.after q d)) _ _ (game.moves q) (value-black way.aim.battle t q g s v)
           (λ d v2. ap (λ b. cond b (node d (beneath k t (game.after q d))) []) (by_none t (game.after q d) s1)
-          ∙ ap (node d) (beneath-is k t (game.after q d) ∙ ih t (game.after q d) v2 (omega (arith, room)) (omega (arith, most)) ∙ ap (λ x. cond x (answers way.aim.selfmate game n k (game.after q d)) (below way.aim.selfmate game n k (game.after q d))) w)))
+          ∙ ap (node d) (beneath-is k t (game.after q d) ∙ ih t (game.after q d) v2 (omega (arith, room)) (omega (arith, most)) ∙ ap (λ x. cond x (answers way.aim.battle game n k (game.after q d)) (below way.aim.battle game n k (game.after q d))) w)))
 
       -- what the walk shows below a move that is shown
-      pub tie : (n k t : ℕ) (q : P) → value way.aim.selfmate game t q ≡ true → t ≤ k → t ≤ 2 * n → Tie n k t q
-      tie n k zero q v room most = tie-goal n k 0 q (sym (value-end-zero way.aim.selfmate q) ∙ v)
+      pub tie : (n k t : ℕ) (q : P) → value way.aim.battle game t q ≡ true → t ≤ k → t ≤ 2 * n → Tie n k t q
+      tie n k zero q v room most = tie-goal n k 0 q (sym (value-end-zero way.aim.battle q) ∙ v)
       tie n zero (suc t) q v room most = absurd (omega (arith, room))
       tie n (suc k) (suc t) q v room most =
           split (game.goal q) refl (tie-goal n (suc k) (suc t) q) (tie-white n k t q (λ l r a b c. tie n k l r a b c) v room most) (tie-black n k t q (λ l r a b c. tie n k l r a b c) v room most)
         where
-          split : (g : Bool) → game.goal q ≡ g → (game.goal q ≡ true → Tie n (suc k) (suc t) q) → (game.goal q ≡ false → seeks way.aim.selfmate (suc t) ≡ true → Tie n (suc k) (suc t) q) → (game.goal q ≡ false → seeks way.aim.selfmate (suc t) ≡ false → Tie n (suc k) (suc t) q) → Tie n (suc k) (suc t) q
+          split : (g : Bool) → game.goal q ≡ g → (game.goal q ≡ true → Tie n (suc k) (suc t) q) → (game.goal q ≡ false → seeks way.aim.battle (suc t) ≡ true → Tie n (suc k) (suc t) q) → (game.goal q ≡ false → seeks way.aim.battle (suc t) ≡ false → Tie n (suc k) (suc t) q) → Tie n (suc k) (suc t) q
           split true e a b c = a e
-          split false e a b c = side (seeks way.aim.selfmate (suc t)) refl
+          split false e a b c = side (seeks way.aim.battle (suc t)) refl
             where
-              side : (s : Bool) → seeks way.aim.selfmate (suc t) ≡ s → Tie n (suc k) (suc t) q
+              side : (s : Bool) → seeks way.aim.battle (suc t) ≡ s → Tie n (suc k) (suc t) q
               side true f = b e f
               side false f = c e f
 
     -- where no variations are shown, nothing stands below a move of White
-    beneath-none : (k t : ℕ) (q : P) → way.variation ≡ false → seeks way.aim.selfmate (t + 1) ≡ true → beneath k t q ≡ []
+    beneath-none : (k t : ℕ) (q : P) → way.variation ≡ false → seeks way.aim.battle (t + 1) ≡ true → beneath k t q ≡ []
     beneath-none k t q v s = ap (λ x. shown way game false k x q (game.moves q)) (goes_on-keys way game t q battle v s) ∙ shown-zero way false k q (game.moves q)
 
-    beneath-set : (k t : ℕ) (q : P) → seeks way.aim.selfmate (t + 1) ≡ false → beneath k t q ≡ shown way game false k (open_length way.aim.selfmate game t q) q (game.moves q)
+    beneath-set : (k t : ℕ) (q : P) → seeks way.aim.battle (t + 1) ≡ false → beneath k t q ≡ shown way game false k (open_length way.aim.battle game t q) q (game.moves q)
     unfolding goes_on
     beneath-set k t q s = rw (battle, s, off way.variation) refl
       where
@@ -296,35 +298,35 @@ module _ {P M : Type 0} (game : Game P M) where
         off false = refl
 
     -- below a key
-    pub below-key : (n h : ℕ) (q : P) → seeks way.aim.selfmate (suc h) ≡ true → suc h ≤ 2 * n → value way.aim.selfmate game h q ≡ true → beneath h h q ≡ cond way.variation (below way.aim.selfmate game n h q) []
+    pub below-key : (n h : ℕ) (q : P) → seeks way.aim.battle (suc h) ≡ true → suc h ≤ 2 * n → value way.aim.battle game h q ≡ true → beneath h h q ≡ cond way.variation (below way.aim.battle game n h q) []
     below-key n h q s most v = go way.variation refl
       where
-        s1 : seeks way.aim.selfmate (h + 1) ≡ true
+        s1 : seeks way.aim.battle (h + 1) ≡ true
         s1 = let one : suc h ≡ h + 1 = omega arith in rw (← one) s
 
-        go : (b : Bool) → way.variation ≡ b → beneath h h q ≡ cond b (below way.aim.selfmate game n h q) []
+        go : (b : Bool) → way.variation ≡ b → beneath h h q ≡ cond b (below way.aim.battle game n h q) []
         go true e =
             beneath-is e h h q ∙ tie e n h h q v (omega arith) (omega (arith, most))
-            ∙ ap (λ x. cond x (answers way.aim.selfmate game n h q) (below way.aim.selfmate game n h q)) (flip _ (sym (seeks-step way.aim.selfmate h) ∙ s1))
+            ∙ ap (λ x. cond x (answers way.aim.battle game n h q) (below way.aim.battle game n h q)) (flip _ (sym (seeks-step way.aim.battle h) ∙ s1))
         go false e = beneath-none h h q e s1
 
     -- below a first move of Black in set play
-    pub below-set : (n h : ℕ) (r : P) → seeks way.aim.selfmate h ≡ true → h ≤ 2 * n → value way.aim.selfmate game h r ≡ true → beneath h h r ≡ cond way.variation (answers way.aim.selfmate game n h r) (cond (game.goal r) [] (map (λ m. m ∷ []) (best way.aim.selfmate game n r)))
+    pub below-set : (n h : ℕ) (r : P) → seeks way.aim.battle h ≡ true → h ≤ 2 * n → value way.aim.battle game h r ≡ true → beneath h h r ≡ cond way.variation (answers way.aim.battle game n h r) (cond (game.goal r) [] (map (λ m. m ∷ []) (best way.aim.battle game n r)))
     below-set n h r s most v = go way.variation refl
       where
-        s1 : seeks way.aim.selfmate (h + 1) ≡ false
-        s1 = seeks-step way.aim.selfmate h ∙ ap not s
+        s1 : seeks way.aim.battle (h + 1) ≡ false
+        s1 = seeks-step way.aim.battle h ∙ ap not s
 
-        no_variation : way.variation ≡ false → (h2 : ℕ) → h ≡ h2 → (g : Bool) → game.goal r ≡ g → shown way game false h2 (open_length way.aim.selfmate game h2 r) r (game.moves r) ≡ cond g [] (map (λ m. m ∷ []) (best way.aim.selfmate game n r))
+        no_variation : way.variation ≡ false → (h2 : ℕ) → h ≡ h2 → (g : Bool) → game.goal r ≡ g → shown way game false h2 (open_length way.aim.battle game h2 r) r (game.moves r) ≡ cond g [] (map (λ m. m ∷ []) (best way.aim.battle game n r))
         no_variation e h2 i true g = open-goal h2 r g
-        no_variation e zero i false g = absurd (clash g (sym (value-end-zero way.aim.selfmate r) ∙ (rw i at v)))
+        no_variation e zero i false g = absurd (clash g (sym (value-end-zero way.aim.battle r) ∙ (rw i at v)))
         no_variation e (suc k) i false g =
             white n k (suc k) r (λ m. (m ∷ []) ∷ []) (rw i at s) (omega arith) (rw i at most) (omega arith) g (rw i at v)
             (λ l m s2 less v2. ap (node m) (beneath-none k l (game.after r m) e s2))
-            ∙ flat_map_single (λ m. m ∷ []) (best way.aim.selfmate game n r)
+            ∙ flat_map_single (λ m. m ∷ []) (best way.aim.battle game n r)
 
-        go : (b : Bool) → way.variation ≡ b → beneath h h r ≡ cond b (answers way.aim.selfmate game n h r) (cond (game.goal r) [] (map (λ m. m ∷ []) (best way.aim.selfmate game n r)))
+        go : (b : Bool) → way.variation ≡ b → beneath h h r ≡ cond b (answers way.aim.battle game n h r) (cond (game.goal r) [] (map (λ m. m ∷ []) (best way.aim.battle game n r)))
         go true e =
             beneath-is e h h r ∙ tie e n h h r v (omega arith) most
-            ∙ ap (λ x. cond x (answers way.aim.selfmate game n h r) (below way.aim.selfmate game n h r)) s
+            ∙ ap (λ x. cond x (answers way.aim.battle game n h r) (below way.aim.battle game n h r)) s
         go false e = beneath-set h h r s1 ∙ no_variation e h refl (game.goal r) refl

@@ -1,4 +1,6 @@
 -- One step of a walk over frames.
+use Rattle.pop_solve.specs.declared.aim.Battle.{Battle}
+use Rattle.pop_solve.specs.declared.aim.Battle.TheVariants.{Direct, Selfmate}
 use Rattle.pop_input.specs.declared.stipulation.Goal.{Goal}
 use Rattle.pop_input.specs.declared.stipulation.Goal.TheVariants.{Mate}
 use Rattle.chess_rules.specs.Play.{after as played}
@@ -53,10 +55,10 @@ turn false L m xs ys rest =
 
 module _ {P M : Type 0} (game : Game P M) where
   -- the number of half-moves with which the next frame is opened is at most what is left
-  first_from-most : (selfmate : Bool) (q : P) (n a t : ℕ) → a + 2 * n ≤ t → first_from selfmate game q n a ≤ t
+  first_from-most : (battle : Battle) (q : P) (n a t : ℕ) → a + 2 * n ≤ t → first_from battle game q n a ≤ t
   unfolding first_from
-  first_from-most selfmate q zero a t h = omega (arith, h)
-  first_from-most selfmate q (suc n) a t h = elim (value selfmate game a q) as (λ b. cond b a (first_from selfmate game q n (a + 2)) ≤ t) [ true ↦ omega (arith, h) | false ↦ first_from-most selfmate q n (a + 2) t (omega (arith, h)) ]
+  first_from-most battle q zero a t h = omega (arith, h)
+  first_from-most battle q (suc n) a t h = elim (value battle game a q) as (λ b. cond b a (first_from battle game q n (a + 2)) ≤ t) [ true ↦ omega (arith, h) | false ↦ first_from-most battle q n (a + 2) t (omega (arith, h)) ]
 
   even_two : (t : ℕ) → eqb (t % 2) 0 ≡ true → eqb t 0 ≡ false → 2 ≤ t
   even_two t e n = grind (arith, nat_tests)
@@ -64,20 +66,20 @@ module _ {P M : Type 0} (game : Game P M) where
   some_one : (t : ℕ) → eqb t 0 ≡ false → 1 ≤ t
   some_one t n = grind (arith, nat_tests)
 
-  pub length_most : (selfmate : Bool) (t : ℕ) (q : P) (z s goal : Bool) → eqb t 0 ≡ z → seeks selfmate t ≡ s → cond (z || goal) 0 (cond s (first_from selfmate game q ((t - fewest selfmate) / 2) (fewest selfmate)) t) ≤ t
-  length_most selfmate t q true s goal e u = omega arith
-  length_most selfmate t q false s true e u = omega arith
-  length_most selfmate t q false false false e u = omega arith
-  length_most true t q false true false e u = let two = even_two t u e in first_from-most true q ((t - 2) / 2) 2 t (omega (arith, two))
-  length_most false t q false true false e u = let one = some_one t e in first_from-most false q ((t - 1) / 2) 1 t (omega (arith, one))
+  pub length_most : (battle : Battle) (t : ℕ) (q : P) (z s goal : Bool) → eqb t 0 ≡ z → seeks battle t ≡ s → cond (z || goal) 0 (cond s (first_from battle game q ((t - fewest battle) / 2) (fewest battle)) t) ≤ t
+  length_most battle t q true s goal e u = omega arith
+  length_most battle t q false s true e u = omega arith
+  length_most battle t q false false false e u = omega arith
+  length_most Selfmate t q false true false e u = let two = even_two t u e in first_from-most Selfmate q ((t - 2) / 2) 2 t (omega (arith, two))
+  length_most Direct t q false true false e u = let one = some_one t e in first_from-most Direct q ((t - 1) / 2) 1 t (omega (arith, one))
 
-  open_length-most : (selfmate : Bool) (t : ℕ) (q : P) → open_length selfmate game t q ≤ t
+  open_length-most : (battle : Battle) (t : ℕ) (q : P) → open_length battle game t q ≤ t
   unfolding open_length
-  open_length-most selfmate t q = length_most selfmate t q (eqb t 0) (seeks selfmate t) (game.goal q) refl refl
+  open_length-most battle t q = length_most battle t q (eqb t 0) (seeks battle t) (game.goal q) refl refl
 
   pub goes_on-most : (way : Way) (t : ℕ) (q : P) → goes_on way game t q ≤ t
   unfolding goes_on
-  goes_on-most way t q = most way.help (not way.variation && seeks way.aim.selfmate (t + 1)) _ (open_length-most way.aim.selfmate t q)
+  goes_on-most way t q = most way.help (not way.variation && seeks way.aim.battle (t + 1)) _ (open_length-most way.aim.battle t q)
     where
       most : (help keys : Bool) (n : ℕ) → n ≤ t → cond help t (cond keys 0 n) ≤ t
       most true keys n e = omega arith
@@ -341,34 +343,34 @@ module _ {goal : Goal} (rule : RuleSet) (h : ℕ) (p : Position) where
       }
 
 -- where keys alone are shown
-whites-cut : (selfmate : Bool) (f : Frame) (below : List Frame) → IsWhites selfmate (f ∷ below) ≡ true → IsWhites selfmate below ≡ true
+whites-cut : (battle : Battle) (f : Frame) (below : List Frame) → IsWhites battle (f ∷ below) ≡ true → IsWhites battle below ≡ true
 unfolding IsWhites
-whites-cut selfmate f below e = second (eqb f.left 0 || seeks selfmate f.left) _ e
+whites-cut battle f below e = second (eqb f.left 0 || seeks battle f.left) _ e
   where
     second : (a b : Bool) → (a && b) ≡ true → b ≡ true
     second true b e = e
     second false b e = absurd cc
 
-whites-top : (selfmate : Bool) (f : Frame) (below : List Frame) (t : ℕ) → f.left ≡ suc t → IsWhites selfmate (f ∷ below) ≡ true → seeks selfmate (t + 1) ≡ true
+whites-top : (battle : Battle) (f : Frame) (below : List Frame) (t : ℕ) → f.left ≡ suc t → IsWhites battle (f ∷ below) ≡ true → seeks battle (t + 1) ≡ true
 unfolding IsWhites
-whites-top selfmate f below t left e =
+whites-top battle f below t left e =
     let n : t + 1 ≡ f.left = omega (arith, left) in
-    rw n (first (eqb f.left 0) (seeks selfmate f.left) _ (rw left (no_zero t)) e)
+    rw n (first (eqb f.left 0) (seeks battle f.left) _ (rw left (no_zero t)) e)
   where
     first : (z s b : Bool) → z ≡ false → ((z || s) && b) ≡ true → s ≡ true
     first true s b n e = absurd cc
     first false true b n e = refl
     first false false b n e = absurd cc
 
-whites-moved : (selfmate : Bool) (f : Frame) (place : ℕ) (below : List Frame) → IsWhites selfmate (f ∷ below) ≡ true → IsWhites selfmate (moved f place ∷ below) ≡ true
+whites-moved : (battle : Battle) (f : Frame) (place : ℕ) (below : List Frame) → IsWhites battle (f ∷ below) ≡ true → IsWhites battle (moved f place ∷ below) ≡ true
 unfolding IsWhites
-whites-moved selfmate f place below e = e
+whites-moved battle f place below e = e
 
-whites-none : (selfmate : Bool) (m : Triple) (undo : Loss) (s : Shown) (tried : ℕ) (below : List Frame) → tried ≡ 0 → IsWhites selfmate below ≡ true → IsWhites selfmate (opened m undo s tried ∷ below) ≡ true
+whites-none : (battle : Battle) (m : Triple) (undo : Loss) (s : Shown) (tried : ℕ) (below : List Frame) → tried ≡ 0 → IsWhites battle below ≡ true → IsWhites battle (opened m undo s tried ∷ below) ≡ true
 unfolding IsWhites
-whites-none selfmate m undo s tried below z e = rw z e
+whites-none battle m undo s tried below z e = rw z e
 
-pub goes_on-keys : {P M : Type 0} (way : Way) (game : Game P M) (t : ℕ) (q : P) → way.help ≡ false → way.variation ≡ false → seeks way.aim.selfmate (t + 1) ≡ true → goes_on way game t q ≡ 0
+pub goes_on-keys : {P M : Type 0} (way : Way) (game : Game P M) (t : ℕ) (q : P) → way.help ≡ false → way.variation ≡ false → seeks way.aim.battle (t + 1) ≡ true → goes_on way game t q ≡ 0
 unfolding goes_on
 goes_on-keys way game t q a b c = rw (a, b, c) refl
 
@@ -399,7 +401,7 @@ module _ (rule : RuleSet) (way : Way) (h : ℕ) (p : Position) (f : Frame) (belo
         deep = λ g. absurd cc;
         falls = turns-close rule way h p f below;
         opens = record {
-          whites = λ a b w. whites-cut way.aim.selfmate f below w;
+          whites = λ a b w. whites-cut way.aim.battle f below w;
           most = λ a b w. omega (arith, o);
           helped = λ a. omega (arith, o);
           counted = λ a walk c. (let T : ℕ → Type 0 = λ n. IsCounted walk count n in subst T o c);
@@ -416,7 +418,7 @@ module _ (rule : RuleSet) (way : Way) (h : ℕ) (p : Position) (f : Frame) (belo
     fuel : h - length below ≡ suc (h - length below - 1)
     fuel = omega (arith, top_room rule h p f below board r, left)
 
-    pub steps-pass : (after : Position) (opened opened2 : ℕ) → follows way (chess way.aim.goal rule) (eqb (length below) 0) t (played rule board m) ≡ false → after ≡ board → (way.help ≡ false → way.variation ≡ false → seeks way.aim.selfmate (t + 1) ≡ true → opened2 ≤ opened + walk_count (legal_moves rule) (played rule) t (played rule board m)) → Steps rule way h p (f ∷ below) (moved f next ∷ below) after opened opened2 false
+    pub steps-pass : (after : Position) (opened opened2 : ℕ) → follows way (chess way.aim.goal rule) (eqb (length below) 0) t (played rule board m) ≡ false → after ≡ board → (way.help ≡ false → way.variation ≡ false → seeks way.aim.battle (t + 1) ≡ true → opened2 ≤ opened + walk_count (legal_moves rule) (played rule) t (played rule board m)) → Steps rule way h p (f ∷ below) (moved f next ∷ below) after opened opened2 false
     steps-pass after opened opened2 b at keys =
         let o = open-next rule way h p f next m below _ t fuel left here in
         record {
@@ -425,14 +427,14 @@ module _ (rule : RuleSet) (way : Way) (h : ℕ) (p : Position) (f : Frame) (belo
           deep = λ g. absurd cc;
           falls = turns-pass rule way h p f next m below _ t fuel left here;
           opens = record {
-            whites = λ a c w. whites-moved way.aim.selfmate f next below w;
-            most = λ a c w. omega (arith, o, ap (walk_count (legal_moves rule) (played rule) t) after_here, keys a c (whites-top way.aim.selfmate f below t left w));
+            whites = λ a c w. whites-moved way.aim.battle f next below w;
+            most = λ a c w. omega (arith, o, ap (walk_count (legal_moves rule) (played rule) t) after_here, keys a c (whites-top way.aim.battle f below t left w));
             helped = λ a. absurd (both _ (follows-help way (chess way.aim.goal rule) (eqb (length below) 0) t (played rule board m) a) b);
             counted = λ a walk c. absurd (both _ (follows-help way (chess way.aim.goal rule) (eqb (length below) 0) t (played rule board m) a) b);
           };
         }
 
-    pub steps-enter : (after : Position) (opened opened2 : ℕ) → legal rule board m ≡ true → follows way (chess way.aim.goal rule) (eqb (length below) 0) t (played rule board m) ≡ true → after ≡ played rule board m → (way.help ≡ true → 0 < t → opened2 ≡ min (opened + 1) (2 ^ 64 - 1)) → (way.help ≡ true → t ≡ 0 → opened2 ≡ opened) → (way.help ≡ false → way.variation ≡ false → seeks way.aim.selfmate (t + 1) ≡ true → opened2 ≤ opened + walk_count (legal_moves rule) (played rule) t (played rule board m)) → Steps rule way h p (f ∷ below) (opened_frame m (undo_of rule board m) (show way.aim.goal rule board m) (goes_on way (chess way.aim.goal rule) t (played rule board m)) ∷ (moved f next ∷ below)) after opened opened2 (gives way (chess way.aim.goal rule) t (played rule board m))
+    pub steps-enter : (after : Position) (opened opened2 : ℕ) → legal rule board m ≡ true → follows way (chess way.aim.goal rule) (eqb (length below) 0) t (played rule board m) ≡ true → after ≡ played rule board m → (way.help ≡ true → 0 < t → opened2 ≡ min (opened + 1) (2 ^ 64 - 1)) → (way.help ≡ true → t ≡ 0 → opened2 ≡ opened) → (way.help ≡ false → way.variation ≡ false → seeks way.aim.battle (t + 1) ≡ true → opened2 ≤ opened + walk_count (legal_moves rule) (played rule) t (played rule board m)) → Steps rule way h p (f ∷ below) (opened_frame m (undo_of rule board m) (show way.aim.goal rule board m) (goes_on way (chess way.aim.goal rule) t (played rule board m)) ∷ (moved f next ∷ below)) after opened opened2 (gives way (chess way.aim.goal rule) t (played rule board m))
     steps-enter after opened opened2 lawful b at more same keys =
         let o = open-next rule way h p f next m below _ t fuel left here in
         let u = undo_of rule board m in
@@ -446,11 +448,11 @@ module _ (rule : RuleSet) (way : Way) (h : ℕ) (p : Position) (f : Frame) (belo
           deep = λ g. omega arith;
           falls = turns-enter rule way h p f next m below _ t fuel left here u s tried;
           opens = record {
-            whites = λ a c w. whites-none way.aim.selfmate m u s tried _ (goes_on-keys way (chess way.aim.goal rule) t _ a c (whites-top way.aim.selfmate f below t left w)) (whites-moved way.aim.selfmate f next below w);
+            whites = λ a c w. whites-none way.aim.battle m u s tried _ (goes_on-keys way (chess way.aim.goal rule) t _ a c (whites-top way.aim.battle f below t left w)) (whites-moved way.aim.battle f next below w);
             most = λ a c w.
-                let z : tried ≡ 0 = goes_on-keys way (chess way.aim.goal rule) t _ a c (whites-top way.aim.selfmate f below t left w) in
+                let z : tried ≡ 0 = goes_on-keys way (chess way.aim.goal rule) t _ a c (whites-top way.aim.battle f below t left w) in
                 let none : walk_behind rule tried q 0 ≡ 0 = walk_behind-none rule way tried q 0 (inl z) in
-                omega (arith, o, n, none, ap (walk_count (legal_moves rule) (played rule) t) after_here, keys a c (whites-top way.aim.selfmate f below t left w));
+                omega (arith, o, n, none, ap (walk_count (legal_moves rule) (played rule) t) after_here, keys a c (whites-top way.aim.battle f below t left w));
             helped = λ a.
                 let z : tried ≡ t = goes_on-help way (chess way.aim.goal rule) t _ a in
                 let w : walk_behind rule tried q 0 ≡ walk_behind rule t q 0 = ap (λ x. walk_behind rule x q 0) z in
@@ -477,11 +479,11 @@ module _ (rule : RuleSet) (way : Way) (h : ℕ) (p : Position) (f : Frame) (belo
     skips : (new : List Frame) (after : Position) (opened opened2 : ℕ) (given : Bool) → Steps rule way h p (moved f g.mid ∷ below) new after opened opened2 given → Steps rule way h p (f ∷ below) new after opened opened2 given
     skips new after opened opened2 given s = steps-skip rule way h p f below _ g new after opened opened2 given s
 
-    pub skips-pass : (after : Position) (opened opened2 : ℕ) → follows way (chess way.aim.goal rule) (eqb (length below) 0) t (played rule board m) ≡ false → after ≡ board → (way.help ≡ false → way.variation ≡ false → seeks way.aim.selfmate (t + 1) ≡ true → opened2 ≤ opened + walk_count (legal_moves rule) (played rule) t (played rule board m)) → Steps rule way h p (f ∷ below) (moved f next ∷ below) after opened opened2 false
+    pub skips-pass : (after : Position) (opened opened2 : ℕ) → follows way (chess way.aim.goal rule) (eqb (length below) 0) t (played rule board m) ≡ false → after ≡ board → (way.help ≡ false → way.variation ≡ false → seeks way.aim.battle (t + 1) ≡ true → opened2 ≤ opened + walk_count (legal_moves rule) (played rule) t (played rule board m)) → Steps rule way h p (f ∷ below) (moved f next ∷ below) after opened opened2 false
     skips-pass after opened opened2 b at keys =
         skips _ after opened opened2 false (steps-pass rule way h p (moved f g.mid) below board (passed_to g.mid) next m t left (rw r.board_at g.here) after opened opened2 b at keys)
 
-    pub skips-enter : (after : Position) (opened opened2 : ℕ) → legal rule board m ≡ true → follows way (chess way.aim.goal rule) (eqb (length below) 0) t (played rule board m) ≡ true → after ≡ played rule board m → (way.help ≡ true → 0 < t → opened2 ≡ min (opened + 1) (2 ^ 64 - 1)) → (way.help ≡ true → t ≡ 0 → opened2 ≡ opened) → (way.help ≡ false → way.variation ≡ false → seeks way.aim.selfmate (t + 1) ≡ true → opened2 ≤ opened + walk_count (legal_moves rule) (played rule) t (played rule board m)) → Steps rule way h p (f ∷ below) (opened_frame m (undo_of rule board m) (show way.aim.goal rule board m) (goes_on way (chess way.aim.goal rule) t (played rule board m)) ∷ (moved f next ∷ below)) after opened opened2 (gives way (chess way.aim.goal rule) t (played rule board m))
+    pub skips-enter : (after : Position) (opened opened2 : ℕ) → legal rule board m ≡ true → follows way (chess way.aim.goal rule) (eqb (length below) 0) t (played rule board m) ≡ true → after ≡ played rule board m → (way.help ≡ true → 0 < t → opened2 ≡ min (opened + 1) (2 ^ 64 - 1)) → (way.help ≡ true → t ≡ 0 → opened2 ≡ opened) → (way.help ≡ false → way.variation ≡ false → seeks way.aim.battle (t + 1) ≡ true → opened2 ≤ opened + walk_count (legal_moves rule) (played rule) t (played rule board m)) → Steps rule way h p (f ∷ below) (opened_frame m (undo_of rule board m) (show way.aim.goal rule board m) (goes_on way (chess way.aim.goal rule) t (played rule board m)) ∷ (moved f next ∷ below)) after opened opened2 (gives way (chess way.aim.goal rule) t (played rule board m))
     skips-enter after opened opened2 lawful b at more same keys =
         skips _ after opened opened2 _ (steps-enter rule way h p (moved f g.mid) below board (passed_to g.mid) next m t left (rw r.board_at g.here) after opened opened2 lawful b at more same keys)
 
@@ -533,7 +535,7 @@ module _ (rule : RuleSet) (way : Way) (h : ℕ) (top : Frame) (old new : List Fr
         → (follows way (chess way.aim.goal rule) root behind arrived ≡ false → (given ≡ false) × (after ≡ now) × (last ≡ mid))
         → (follows way (chess way.aim.goal rule) root behind arrived ≡ true → (given ≡ gives way (chess way.aim.goal rule) behind arrived) × (after ≡ arrived) × (last ≡ mid ++ opened_frame m (undo_of rule now m) (show way.aim.goal rule now m) (goes_on way (chess way.aim.goal rule) behind arrived) ∷ []))
         → (way.help ≡ true → 0 < behind → opened2 ≡ min (opened + 1) (2 ^ 64 - 1)) → (way.help ≡ true → behind ≡ 0 → opened2 ≡ opened)
-        → (way.help ≡ false → way.variation ≡ false → seeks way.aim.selfmate (behind + 1) ≡ true → opened2 ≤ opened + walk_count (legal_moves rule) (played rule) behind arrived)
+        → (way.help ≡ false → way.variation ≡ false → seeks way.aim.battle (behind + 1) ≡ true → opened2 ≤ opened + walk_count (legal_moves rule) (played rule) behind arrived)
         → (p : Position) → IsWalking way.aim.goal rule h p (reverse old) board → Steps rule way h p (reverse old) (reverse last) after opened opened2 given
     enter_steps root given after opened opened2 flag passes enters more none keys p r =
         let left : top.left ≡ suc behind = omega (arith, some.0) in

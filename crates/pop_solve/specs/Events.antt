@@ -1,5 +1,6 @@
 -- The events of a problem: its phases, their solutions and their totals. Set play, the limit of solutions and the order
 -- of events are this project's own; half-moves are numbered as in the Popeye manual.
+use Rattle.pop_solve.specs.Aims.{battle_of}
 use Rattle.pop_input.specs.declared.stipulation.Goal.{Goal}
 use Rattle.chess_rules.specs.Play.{after as played}
 use Rattle.chess_rules.specs.Legal.{moves as legal_moves}
@@ -12,7 +13,7 @@ use Rattle.chess_rules.specs.RuleSet.{RuleSet}
 use Rattle.pop_solve.specs.Game.{help_lines, reach, walk_count}
 use Rattle.pop_solve.specs.Tree.{tree, set_tree}
 use Rattle.pop_input.specs.Posed.{Posed, rule_of}
-use Rattle.pop_input.specs.Stipulations.{is_help, is_selfmate, first_half, half_moves}
+use Rattle.pop_input.specs.Stipulations.{is_help, first_half, half_moves}
 use Rattle.pop_solve.specs.Chess.{chess, is_impossible, nothing_shown, set_start, show}
 use Rattle.pop_solve.specs.Shown.{Shown}
 use Rattle.pop_solve.specs.declared.event.Event.{Event}
@@ -54,8 +55,8 @@ solutions rule problem phase =
     let h = phase_half_moves problem phase in
     let p = phase_start problem phase in
     if is_help problem.stipulation.form then map (λ path. path ∷ []) (help_lines (chess problem.stipulation.goal rule) h p)
-    else (if is_set phase then set_tree (is_selfmate problem.stipulation.form) (chess problem.stipulation.goal rule) problem.variation problem.stipulation.n h p
-    else tree (is_selfmate problem.stipulation.form) (chess problem.stipulation.goal rule) problem.variation problem.stipulation.n h p)
+    else (if is_set phase then set_tree (battle_of problem.stipulation.form) (chess problem.stipulation.goal rule) problem.variation problem.stipulation.n h p
+    else tree (battle_of problem.stipulation.form) (chess problem.stipulation.goal rule) problem.variation problem.stipulation.n h p)
 
 -- a phase with set play's first position is barred where that can't stand
 abbrev pub is_barred : RuleSet → Posed → Phase → Bool

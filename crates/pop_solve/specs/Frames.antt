@@ -60,8 +60,8 @@ untried rule p f = ahead rule p f.stretch f.place f.killer
 unfoldable pub deliver : RuleSet → Aim → Position → List Frame → Bool → Bool
 deliver rule aim p [] v = v
 deliver rule aim p (f ∷ below) v =
-    deliver rule aim p below (join (seeks aim.selfmate f.left) v
-    (joined aim.selfmate (chess aim.goal rule) f.left (position rule p (f ∷ below)) (untried rule (position rule p (f ∷ below)) f)))
+    deliver rule aim p below (join (seeks aim.battle f.left) v
+    (joined aim.battle (chess aim.goal rule) f.left (position rule p (f ∷ below)) (untried rule (position rule p (f ∷ below)) f)))
 
 -- the same before the next move of the top frame is tried: the answer for its last move may be known
 unfoldable pub pending : RuleSet → Aim → Position → List Frame → Option Bool → Bool
@@ -69,7 +69,7 @@ pending rule aim p [] answer = false
 pending rule aim p (f ∷ below) (Some v) = deliver rule aim p (f ∷ below) v
 pending rule aim p (f ∷ below) None =
     deliver rule aim p below
-    (joined aim.selfmate (chess aim.goal rule) f.left (position rule p (f ∷ below)) (untried rule (position rule p (f ∷ below)) f))
+    (joined aim.battle (chess aim.goal rule) f.left (position rule p (f ∷ below)) (untried rule (position rule p (f ∷ below)) f))
 
 -- the steps that a test takes, which falls at each one
 unfoldable pub steps : RuleSet → ℕ → Position → ℕ

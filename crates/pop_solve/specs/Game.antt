@@ -1,4 +1,4 @@
--- A game of two sides, by what its solutions are made of: nothing here is chess. What a direct mate, a selfmate and a
+-- A game of two sides, by what its solutions are made of: nothing here is chess. What a direct mate, a battle and a
 -- helpmate ask for is as in the Codex for Chess Composition and the Popeye manual.
 use Rattle.std.specs.Prelude.{ℕ, zero, suc, ◌+◌, ◌-◌, ◌==◌, Bool, false, not, ◌&&◌, ◌||◌, if◌then◌else◌, List, [], ◌∷◌, map, length}
 use Rattle.std.specs.List.{list_any, list_all, flat_map, sum_by}

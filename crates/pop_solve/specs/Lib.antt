@@ -1,3 +1,4 @@
+pub mod Aims
 pub mod Game
 pub mod Tree
 pub mod Shown

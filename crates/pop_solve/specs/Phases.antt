@@ -1,10 +1,11 @@
 -- What a search that stands in a phase has still to give.
+use Rattle.pop_solve.specs.Aims.{battle_of}
 use Rattle.std.specs.Prelude.{◌≡◌, ℕ, zero, suc, ◌+◌, ◌-◌, ◌≤◌, ◌^◌, min, ◌==◌, Bool, true, false, ◌||◌, if◌then◌else◌, List, [], ◌∷◌, ◌++◌, map, length, drop, ◌⊎◌}
 use Rattle.chess_core.specs.Position.{Position}
 use Rattle.chess_core.specs.Triple.{Triple}
 use Rattle.chess_rules.specs.RuleSet.{RuleSet}
 use Rattle.pop_input.specs.Posed.{Posed}
-use Rattle.pop_input.specs.Stipulations.{is_help, is_selfmate}
+use Rattle.pop_input.specs.Stipulations.{is_help}
 use Rattle.pop_solve.specs.Frames.{Frame, to_open}
 use Rattle.pop_solve.specs.Walk.{path, to_come, IsWalking, IsCounted, IsWhites}
 use Rattle.pop_solve.specs.Events.{Step, impossible, is_set, total, is_never_stopped, is_unstopped, is_walked_once, start, walk_from, whole_walk, steps_from, step_of, phase_start, phase_half_moves, event_of, StandsOn, events}
@@ -17,7 +18,7 @@ use Rattle.pop_solve.specs.declared.walk.Way.{Way}
 
 -- how a problem is walked
 abbrev pub way_of : Posed → Way
-way_of problem = record { help = is_help problem.stipulation.form; aim = record { selfmate = is_selfmate problem.stipulation.form; goal = problem.stipulation.goal }; variation = problem.variation }
+way_of problem = record { help = is_help problem.stipulation.form; aim = record { battle = battle_of problem.stipulation.form; goal = problem.stipulation.goal }; variation = problem.variation }
 
 module _ {M : Type 0} where
   -- whether a path begins a solution: each line does, and each node above which none stands
@@ -100,7 +101,7 @@ IsNarrow problem (Before phase) frames = (is_help problem.stipulation.form ≡ t
 IsNarrow problem Barred frames = is_help problem.stipulation.form ≡ true
 IsNarrow problem (Within phase count) frames =
     (is_help problem.stipulation.form ≡ true)
-    ⊎ (IsKeys problem phase × (IsWhites (is_selfmate problem.stipulation.form) frames ≡ true))
+    ⊎ (IsKeys problem phase × (IsWhites (battle_of problem.stipulation.form) frames ≡ true))
 IsNarrow problem Behind frames = Unit {0}
 
 -- what a call opens, `left` being the steps still to come before it

@@ -1,6 +1,8 @@
 -- The tree of a battle problem: its keys, all defences, and the continuations of least length. That a tree shows just
 -- these, in the order of moves, and what set play is, are this project's own; key and defence are the Codex's.
-use Rattle.std.specs.Prelude.{ℕ, zero, suc, ◌-◌, Bool, true, false, ◌||◌, if◌then◌else◌, List, [], ◌∷◌, map}
+use Rattle.pop_solve.specs.declared.aim.Battle.{Battle}
+use Rattle.pop_solve.specs.declared.aim.Battle.TheVariants.{Direct, Selfmate}
+use Rattle.std.specs.Prelude.{ℕ, zero, suc, ◌-◌, Bool, ◌||◌, if◌then◌else◌, List, [], ◌∷◌, map}
 use Rattle.std.specs.List.{filter, flat_map, position_or_len, range_with_len}
 use Rattle.pop_solve.specs.Game.{Game, lost, wins, self_wins, self_lost}
 
@@ -11,52 +13,52 @@ module _ {M : Type 0} where
 
 module _ {P M : Type 0} where
   -- after a move of White to q he still wins within n moves, that one counted
-  abbrev pub keeps : Bool → Game P M → ℕ → P → Bool
-  keeps false game n q = lost game (n - 1) q
-  keeps true game n q = self_lost game n q
+  abbrev pub keeps : Battle → Game P M → ℕ → P → Bool
+  keeps Direct game n q = lost game (n - 1) q
+  keeps Selfmate game n q = self_lost game n q
 
   -- White to move wins p within k moves
-  abbrev pub wins_in : Bool → Game P M → ℕ → P → Bool
-  wins_in false game k p = wins game k p
-  wins_in true game k p = self_wins game k p
+  abbrev pub wins_in : Battle → Game P M → ℕ → P → Bool
+  wins_in Direct game k p = wins game k p
+  wins_in Selfmate game k p = self_wins game k p
 
   -- the smallest number of moves, up to n, within which White to move wins p
-  abbrev pub least : Bool → Game P M → ℕ → P → ℕ
-  least selfmate game n p = position_or_len (λ k. wins_in selfmate game k p) (range_with_len 0 n)
+  abbrev pub least : Battle → Game P M → ℕ → P → ℕ
+  least battle game n p = position_or_len (λ k. wins_in battle game k p) (range_with_len 0 n)
 
   -- the moves to a win in the least number of moves, up to n
-  abbrev pub best : Bool → Game P M → ℕ → P → List M
-  best selfmate game n r = filter (λ m. keeps selfmate game (least selfmate game n r) (game.after r m)) (game.moves r)
+  abbrev pub best : Battle → Game P M → ℕ → P → List M
+  best battle game n r = filter (λ m. keeps battle game (least battle game n r) (game.after r m)) (game.moves r)
 
   unfoldable mutual
     -- the nodes below a position in which Black moves, with h half-moves left: every defence
-    pub below : Bool → Game P M → ℕ → ℕ → P → List (List M)
-    below selfmate game n zero q = []
-    below selfmate game n (suc h) q =
-        if game.goal q then [] else flat_map (λ d. node d (answers selfmate game n h (game.after q d))) (game.moves q)
+    pub below : Battle → Game P M → ℕ → ℕ → P → List (List M)
+    below battle game n zero q = []
+    below battle game n (suc h) q =
+        if game.goal q then [] else flat_map (λ d. node d (answers battle game n h (game.after q d))) (game.moves q)
 
     -- the nodes below a position in which White moves: his best continuations
-    pub answers : Bool → Game P M → ℕ → ℕ → P → List (List M)
-    answers selfmate game n zero r = []
-    answers selfmate game n (suc h) r =
-        if game.goal r then [] else flat_map (λ m. node m (below selfmate game n h (game.after r m))) (best selfmate game n r)
+    pub answers : Battle → Game P M → ℕ → ℕ → P → List (List M)
+    answers battle game n zero r = []
+    answers battle game n (suc h) r =
+        if game.goal r then [] else flat_map (λ m. node m (below battle game n h (game.after r m))) (best battle game n r)
 
   -- the play of a problem of n moves and h half-moves: a list of nodes for each key
-  abbrev pub tree : Bool → Game P M → Bool → ℕ → ℕ → P → List (List (List M))
-  tree selfmate game variation n h p =
-      map (λ m. node m (if variation then below selfmate game n (h - 1) (game.after p m) else []))
-      (filter (λ m. keeps selfmate game n (game.after p m)) (game.moves p))
+  abbrev pub tree : Battle → Game P M → Bool → ℕ → ℕ → P → List (List (List M))
+  tree battle game variation n h p =
+      map (λ m. node m (if variation then below battle game n (h - 1) (game.after p m) else []))
+      (filter (λ m. keeps battle game n (game.after p m)) (game.moves p))
 
   -- the moves of Black that set play shows
-  abbrev pub set_shows : Bool → Game P M → ℕ → P → Bool
-  set_shows false game n r = wins game (n - 1) r
-  set_shows true game n r = game.goal r || self_wins game (n - 1) r
+  abbrev pub set_shows : Battle → Game P M → ℕ → P → Bool
+  set_shows Direct game n r = wins game (n - 1) r
+  set_shows Selfmate game n r = game.goal r || self_wins game (n - 1) r
 
   -- set play, of h half-moves: a list of nodes for each first move of Black
-  unfoldable pub set_tree : Bool → Game P M → Bool → ℕ → ℕ → P → List (List (List M))
-  set_tree selfmate game variation n zero p = []
-  set_tree selfmate game variation n (suc h) p =
+  unfoldable pub set_tree : Battle → Game P M → Bool → ℕ → ℕ → P → List (List (List M))
+  set_tree battle game variation n zero p = []
+  set_tree battle game variation n (suc h) p =
       map (λ d. let r = game.after p d in
-      node d (if variation then answers selfmate game n h r
-      else (if game.goal r then [] else map (λ m. m ∷ []) (best selfmate game n r))))
-      (filter (λ d. set_shows selfmate game n (game.after p d)) (game.moves p))
+      node d (if variation then answers battle game n h r
+      else (if game.goal r then [] else map (λ m. m ∷ []) (best battle game n r))))
+      (filter (λ d. set_shows battle game n (game.after p d)) (game.moves p))

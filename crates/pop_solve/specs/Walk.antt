@@ -1,4 +1,6 @@
 -- What the frames of a walk stand for.
+use Rattle.pop_solve.specs.declared.aim.Battle.{Battle}
+use Rattle.pop_solve.specs.declared.aim.Battle.TheVariants.{Direct, Selfmate}
 use Rattle.pop_input.specs.declared.stipulation.Goal.{Goal}
 use Rattle.pop_input.specs.declared.stipulation.Goal.TheVariants.{Mate}
 use Rattle.std.specs.Prelude.{◌≡◌, ℕ, zero, suc, ◌+◌, ◌-◌, ◌/◌, ◌≤◌, ◌<◌, ◌^◌, min, ◌==◌, Bool, true, false, not, ◌&&◌, ◌||◌, if◌then◌else◌, List, [], ◌∷◌, ◌++◌, map, length, filter, ◌⊎◌}
@@ -16,25 +18,26 @@ use Rattle.pop_solve.specs.Shown.{Shown}
 use Rattle.pop_solve.specs.declared.walk.Way.{Way}
 
 -- the fewest half-moves with which a move of White is tried
-abbrev pub fewest : Bool → ℕ
-fewest selfmate = if selfmate then 2 else 1
+abbrev pub fewest : Battle → ℕ
+fewest Direct = 1
+fewest Selfmate = 2
 
 module _ {P M : Type 0} where
   -- the first of n + 1 numbers of half-moves, from a on by twos, with which White reaches his aim; the last untried
-  unfoldable pub first_from : Bool → Game P M → P → ℕ → ℕ → ℕ
-  first_from selfmate game q zero a = a
-  first_from selfmate game q (suc n) a = if value selfmate game a q then a else first_from selfmate game q n (a + 2)
+  unfoldable pub first_from : Battle → Game P M → P → ℕ → ℕ → ℕ
+  first_from battle game q zero a = a
+  first_from battle game q (suc n) a = if value battle game a q then a else first_from battle game q n (a + 2)
 
   -- with how many half-moves the moves of q are shown in battle play, where t are left: 0 for none
-  unfoldable pub open_length : Bool → Game P M → ℕ → P → ℕ
-  open_length selfmate game t q =
+  unfoldable pub open_length : Battle → Game P M → ℕ → P → ℕ
+  open_length battle game t q =
       if t == 0 || game.goal q then 0
-      else (if seeks selfmate t then first_from selfmate game q ((t - fewest selfmate) / 2) (fewest selfmate) else t)
+      else (if seeks battle t then first_from battle game q ((t - fewest battle) / 2) (fewest battle) else t)
 
   -- whether the walk follows a move to q, with t half-moves left there: moves of White and those of a root are tested
   unfoldable pub follows : Way → Game P M → Bool → ℕ → P → Bool
   follows way game root t q =
-      way.help || (not (root || seeks way.aim.selfmate (t + 1)) || value way.aim.selfmate game t q)
+      way.help || (not (root || seeks way.aim.battle (t + 1)) || value way.aim.battle game t q)
 
   -- whether it gives the path to q: in help play where the last half-move reaches the goal
   unfoldable pub gives : Way → Game P M → ℕ → P → Bool
@@ -44,7 +47,7 @@ module _ {P M : Type 0} where
   unfoldable pub goes_on : Way → Game P M → ℕ → P → ℕ
   goes_on way game t q =
       if way.help then t
-      else (if not way.variation && seeks way.aim.selfmate (t + 1) then 0 else open_length way.aim.selfmate game t q)
+      else (if not way.variation && seeks way.aim.battle (t + 1) then 0 else open_length way.aim.battle game t q)
 
   -- the paths that the walk gives from P by these moves, with `left` half-moves; `fuel` is at least `left`
   unfoldable pub shown : Way → Game P M → Bool → ℕ → ℕ → P → List M → List (List M)
@@ -109,14 +112,14 @@ pub record IsCounted (walk opened rest : ℕ) : Type 0 where
   pub counts : opened ≡ min (walk - rest) (2 ^ 64 - 1)
 
 -- at each frame White is to move, or nothing is tried
-unfoldable pub IsWhites : Bool → List Frame → Bool
-IsWhites selfmate frames = list_all (λ f. f.left == 0 || seeks selfmate f.left) frames
+unfoldable pub IsWhites : Battle → List Frame → Bool
+IsWhites battle frames = list_all (λ f. f.left == 0 || seeks battle f.left) frames
 
 -- the frames opened and still to be opened, before a part of a walk and after it: in help play and where keys alone are
 -- shown they grow by nothing
 pub record Opens (rule : RuleSet) (way : Way) (p : Position) (old new : List Frame) (before after : ℕ) : Type 0 where
-  pub whites : way.help ≡ false → way.variation ≡ false → IsWhites way.aim.selfmate old ≡ true → IsWhites way.aim.selfmate new ≡ true
-  pub most : way.help ≡ false → way.variation ≡ false → IsWhites way.aim.selfmate old ≡ true → after + to_open rule p new ≤ before + to_open rule p old
+  pub whites : way.help ≡ false → way.variation ≡ false → IsWhites way.aim.battle old ≡ true → IsWhites way.aim.battle new ≡ true
+  pub most : way.help ≡ false → way.variation ≡ false → IsWhites way.aim.battle old ≡ true → after + to_open rule p new ≤ before + to_open rule p old
   pub helped : way.help ≡ true → after + to_open rule p new ≤ before + to_open rule p old
   pub counted : way.help ≡ true → (walk : ℕ) → IsCounted walk before (to_open rule p old) → IsCounted walk after (to_open rule p new)
 

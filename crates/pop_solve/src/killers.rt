@@ -1,6 +1,8 @@
 //! The moves that decided tests.
-ghost use Rattle.std.specs.Prelude.{◌≡◌, ◌<◌, false, slice_index_or, slice_set};
+ghost use Rattle.std.specs.Prelude.{◌≡◌, ◌<◌, slice_index_or, slice_set};
+ghost use Rattle.pop_solve.specs.declared.aim.Battle.TheVariants.{Direct};
 
+use crate::aim::Battle;
 use chess_rules::moves::Moves;
 use chess_rules::rules::Rules;
 
@@ -21,10 +23,10 @@ impl<R: Rules> Killers<R> {
     }
 
     /// The place on the killer of a position with so many half-moves left.
-    pub fn of(&self, selfmate: bool, left: usize) -> Moves<R>
-        ensures { selfmate ≡ false → left < 32 → result ≡ slice_index_or self.now.places left 0 }
+    pub fn of(&self, battle: Battle, left: usize) -> Moves<R>
+        ensures { battle ≡ Direct → left < 32 → result ≡ slice_index_or self.now.places left 0 }
     {
-        if !selfmate && left < 32 {
+        if battle == Battle::Direct && left < 32 {
             self.places[left]
         } else {
             Moves::start()

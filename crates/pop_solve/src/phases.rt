@@ -7,7 +7,8 @@ ghost use Rattle.chess_core.specs.WellFormed.{IsWellFormed};
 ghost use Rattle.chess_rules.specs.RuleSet.{RuleSet};
 ghost use Rattle.pop_input.specs.declared.stipulation.Goal.{Goal};
 ghost use Rattle.pop_input.specs.Posed.{IsSound};
-ghost use Rattle.pop_input.specs.Stipulations.{half_moves, is_help, is_selfmate};
+ghost use Rattle.pop_input.specs.Stipulations.{half_moves, is_help};
+ghost use Rattle.pop_solve.specs.Aims.{battle_of};
 ghost use Rattle.pop_solve.specs.Chess.{set_start};
 ghost use Rattle.pop_solve.specs.Events.{first_phase, start, phase_half_moves as half_moves_of_phase, phase_start, phase_half as half_of_phase, event_of, is_barred, step_of, is_set, opening};
 ghost use Rattle.pop_solve.specs.Walk.{IsWalking, IsShowing, Opens, shows, path};
@@ -15,7 +16,7 @@ ghost use Rattle.pop_solve.specs.Phases.{way_of as way_of_problem, left_of, IsSt
 ghost use Rattle.pop_solve.specs.declared.event.Phase.TheVariants.{Play};
 ghost use Rattle.pop_solve.specs.declared.phases.Stage.TheVariants.{Before, Within, Behind};
 
-use crate::aim::Aim;
+use crate::aim::{Aim, Battle};
 use crate::chess::{is_impossible, turn_back, turn_over};
 use crate::event::{Event, Phase};
 use crate::frame::Frame;
@@ -63,6 +64,16 @@ fn is_help(problem: &Problem) -> bool
     }
 }
 
+/// The battle of a form.
+fn battle_of(form: Form) -> Battle
+    ensures { result ≡ battle_of form }
+{
+    match form {
+        Form::SelfMate => Battle::Selfmate,
+        Form::Direct | Form::Help | Form::HelpHalf => Battle::Direct,
+    }
+}
+
 /// How a problem is walked.
 fn way_of(problem: &Problem) -> Way
     ensures { result ≡ way_of_problem problem.now }
@@ -70,7 +81,7 @@ fn way_of(problem: &Problem) -> Way
     Way {
         help: is_help(problem),
         aim: Aim {
-            selfmate: problem.stipulation().form == Form::SelfMate,
+            battle: battle_of(problem.stipulation().form),
             goal: problem.stipulation().goal,
         },
         variation: problem.variation(),

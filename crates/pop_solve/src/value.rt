@@ -13,7 +13,7 @@ ghost use Rattle.pop_solve.specs.declared.frame.Stretch.TheVariants.{Before};
 ghost use Rattle.pop_solve.specs.Game.{can_move as has_move, walk_count};
 ghost use Rattle.pop_solve.specs.Values.{seeks, join, joined, value};
 
-use crate::aim::Aim;
+use crate::aim::{Aim, Battle};
 use crate::chess::{can_mate, can_move, is_for_mate, next_move, next_until, reaches_goal, retract};
 use crate::frame::{Frame, Stretch};
 use crate::killers::Killers;
@@ -25,13 +25,12 @@ use chess_rules::rules::Rules;
 use pop_input::stipulation::Goal;
 
 /// Whether one good move is enough with `left` half-moves left.
-pub(crate) fn seeking(selfmate: bool, left: usize) -> bool
-    ensures { result ≡ seeks selfmate left }
+pub(crate) fn seeking(battle: Battle, left: usize) -> bool
+    ensures { result ≡ seeks battle left }
 {
-    if selfmate {
-        left % 2 == 0
-    } else {
-        left % 2 == 1
+    match battle {
+        Battle::Direct => left % 2 == 1,
+        Battle::Selfmate => left % 2 == 0,
     }
 }
 
@@ -48,9 +47,9 @@ fn is_end<R: Rules>(goal: Goal, left: usize, board: &mut Board) -> bool
 fn is_open<R: Rules>(aim: Aim, left: usize, board: &mut Board) -> bool
     requires well_formed { IsWellFormed board.old }
     ensures unchanged { board.new ≡ board.old }
-    ensures open { result ≡ (seeks aim.selfmate left || has_move (chess aim.goal R.rule) board.old) }
+    ensures open { result ≡ (seeks aim.battle left || has_move (chess aim.goal R.rule) board.old) }
 {
-    seeking(aim.selfmate, left) || can_move::<R>(board)
+    seeking(aim.battle, left) || can_move::<R>(board)
 }
 
 /// The value of a position, where it is known without a frame. White's last half-move needs none, and is counted as one.
@@ -58,9 +57,9 @@ fn settled<R: Rules>(aim: Aim, left: usize, board: &mut Board, opened: &mut u64)
     requires well_formed { IsWellFormed board.old }
     ensures unchanged { board.new ≡ board.old }
     ensures value { MatchOption result
-        ((0 < left) × (value aim.selfmate (chess aim.goal R.rule) left board.old
-        ≡ joined aim.selfmate (chess aim.goal R.rule) left board.old (legal_moves R.rule board.old)))
-        (λ v. v ≡ value aim.selfmate (chess aim.goal R.rule) left board.old) }
+        ((0 < left) × (value aim.battle (chess aim.goal R.rule) left board.old
+        ≡ joined aim.battle (chess aim.goal R.rule) left board.old (legal_moves R.rule board.old)))
+        (λ v. v ≡ value aim.battle (chess aim.goal R.rule) left board.old) }
     ensures opened { MatchOption result (opened.new ≡ opened.old)
         (λ _. opened.new ≤ opened.old + walk_count (legal_moves R.rule) (played R.rule) left board.old) }
 {
@@ -70,7 +69,7 @@ fn settled<R: Rules>(aim: Aim, left: usize, board: &mut Board, opened: &mut u64)
     if left == 0 {
         return Some(false);
     }
-    if is_for_mate(aim.goal) && left == 1 && seeking(aim.selfmate, left) {
+    if is_for_mate(aim.goal) && left == 1 && seeking(aim.battle, left) {
         *opened = opened.saturating_add(1);
         return Some(can_mate::<R>(board));
     }
@@ -184,13 +183,13 @@ fn descend<R: Rules, const N: usize>(
         (λ _. opened.new ≤ opened.old + walk_count (legal_moves R.rule) (played R.rule) (top.left - 1) (played R.rule board.old by)) }
     ensures answer { MatchOption answer.new
         ((0 < top.left - 1)
-        × (value aim.selfmate (chess aim.goal R.rule) (top.left - 1) (played R.rule board.old by)
-        ≡ joined aim.selfmate (chess aim.goal R.rule) (top.left - 1) (played R.rule board.old by)
+        × (value aim.battle (chess aim.goal R.rule) (top.left - 1) (played R.rule board.old by)
+        ≡ joined aim.battle (chess aim.goal R.rule) (top.left - 1) (played R.rule board.old by)
         (legal_moves R.rule (played R.rule board.old by)))
         × (board.new ≡ played R.rule board.old by)
         × (frames.new.items ≡ (frames.old.items ++ top ∷ [])
         ++ tested killer by (undo_of R.rule board.old by) top.shown (top.left - 1) ∷ []))
-        (λ v. (v ≡ value aim.selfmate (chess aim.goal R.rule) (top.left - 1) (played R.rule board.old by))
+        (λ v. (v ≡ value aim.battle (chess aim.goal R.rule) (top.left - 1) (played R.rule board.old by))
         × (board.new ≡ board.old)
         × (frames.new.items ≡ frames.old.items ++ top ∷ [])) }
 {
@@ -237,7 +236,7 @@ fn turn<R: Rules, const N: usize>(
         return None;
     };
     let depth = frames.len();
-    let seek = seeking(aim.selfmate, top.left);
+    let seek = seeking(aim.battle, top.left);
     if decided(*answer, seek) {
         killers.put(top.left, top.place);
         return close::<R>(seek, floor, depth, top, board, answer);
@@ -255,7 +254,7 @@ fn turn<R: Rules, const N: usize>(
             ..top
         },
         by,
-        killers.of(aim.selfmate, top.left - 1),
+        killers.of(aim.battle, top.left - 1),
         board,
         frames,
         answer,
@@ -275,7 +274,7 @@ pub(crate) fn value_of<R: Rules, const N: usize>(
 ) -> bool
     requires well_formed { IsWellFormed board.old }
     requires room { array_vec_len frames.old + left ≤ N }
-    ensures value { result ≡ value aim.selfmate (chess aim.goal R.rule) left board.old }
+    ensures value { result ≡ value aim.battle (chess aim.goal R.rule) left board.old }
     ensures board { board.new ≡ board.old }
     ensures frames { frames.new.items ≡ frames.old.items }
     ensures opened { opened.new ≤ opened.old + walk_count (legal_moves R.rule) (played R.rule) left board.old }
@@ -284,7 +283,7 @@ pub(crate) fn value_of<R: Rules, const N: usize>(
         return known;
     }
     let floor = frames.len();
-    let killer = killers.of(aim.selfmate, left);
+    let killer = killers.of(aim.battle, left);
     *opened = opened.saturating_add(1);
     frames.push(Frame {
         place: killer.back(),

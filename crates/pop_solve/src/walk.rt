@@ -15,7 +15,7 @@ ghost use Rattle.pop_solve.specs.Game.{walk_count};
 ghost use Rattle.pop_solve.specs.Values.{seeks};
 ghost use Rattle.pop_solve.specs.Walk.{fewest as fewest_of, first_from, open_length, follows as is_followed, gives as is_given, goes_on, GoesTo, IsWalking, Steps};
 
-use crate::aim::Aim;
+use crate::aim::{Aim, Battle};
 use crate::chess::{
     has_reached, is_for_mate, mark_of, next_mate, next_move, reaches_goal, retract, shown_of,
 };
@@ -38,10 +38,13 @@ pub struct Way {
 }
 
 /// The fewest half-moves with which a move of White is tried.
-fn fewest(selfmate: bool) -> usize
-    ensures { result ≡ fewest_of selfmate }
+fn fewest(battle: Battle) -> usize
+    ensures { result ≡ fewest_of battle }
 {
-    if selfmate { 2 } else { 1 }
+    match battle {
+        Battle::Direct => 1,
+        Battle::Selfmate => 2,
+    }
 }
 
 /// The least number of half-moves, by rising lengths, with which White to move reaches his aim; the last, `left`, untried.
@@ -55,11 +58,11 @@ fn least_length<R: Rules, const N: usize>(
 ) -> usize
     requires well_formed { IsWellFormed board.old }
     requires room { array_vec_len frames.old + left ≤ N }
-    ensures least { result ≡ first_from aim.selfmate (chess aim.goal R.rule) board.old ((left - fewest_of aim.selfmate) / 2) (fewest_of aim.selfmate) }
+    ensures least { result ≡ first_from aim.battle (chess aim.goal R.rule) board.old ((left - fewest_of aim.battle) / 2) (fewest_of aim.battle) }
     ensures board { board.new ≡ board.old }
     ensures frames { frames.new.items ≡ frames.old.items }
 {
-    let mut tried = fewest(aim.selfmate);
+    let mut tried = fewest(aim.battle);
     while left >= 2 && tried <= left - 2 {
         if value_of::<R, N>(aim, tried, board, frames, killers, opened) {
             return tried;
@@ -81,14 +84,14 @@ fn length_shown<R: Rules, const N: usize>(
 ) -> usize
     requires well_formed { IsWellFormed board.old }
     requires room { array_vec_len frames.old + left ≤ N }
-    ensures length { result ≡ open_length aim.selfmate (chess aim.goal R.rule) left board.old }
+    ensures length { result ≡ open_length aim.battle (chess aim.goal R.rule) left board.old }
     ensures board { board.new ≡ board.old }
     ensures frames { frames.new.items ≡ frames.old.items }
 {
     if left == 0 || reaches_goal::<R>(aim.goal, board) {
         return 0;
     }
-    if !seeking(aim.selfmate, left) {
+    if !seeking(aim.battle, left) {
         return left;
     }
     least_length::<R, N>(aim, left, board, frames, killers, opened)
@@ -110,12 +113,12 @@ fn length_below<R: Rules, const N: usize>(
     ensures board { board.new ≡ board.old }
     ensures frames { frames.new.items ≡ frames.old.items }
     ensures opened { way.help ≡ true → opened.new ≡ opened.old }
-    ensures keys_alone { IsTrue (not way.variation && seeks way.aim.selfmate (left + 1)) → opened.new ≡ opened.old }
+    ensures keys_alone { IsTrue (not way.variation && seeks way.aim.battle (left + 1)) → opened.new ≡ opened.old }
 {
     if way.help {
         return left;
     }
-    if !way.variation && seeking(way.aim.selfmate, left + 1) {
+    if !way.variation && seeking(way.aim.battle, left + 1) {
         return 0;
     }
     length_shown::<R, N>(way.aim, left, board, frames, killers, opened)
@@ -124,9 +127,9 @@ fn length_below<R: Rules, const N: usize>(
 /// Whether a move is tested before it is followed, where `left` half-moves are left with it: in battle play the
 /// moves of White and those of the phase's first position.
 fn is_tested(way: Way, root: bool, left: usize) -> bool
-    ensures { result ≡ (not way.help && (root || seeks way.aim.selfmate left)) }
+    ensures { result ≡ (not way.help && (root || seeks way.aim.battle left)) }
 {
-    !way.help && (root || seeking(way.aim.selfmate, left))
+    !way.help && (root || seeking(way.aim.battle, left))
 }
 
 /// Whether the path by a move with this mark is given, after which `left` half-moves are left.
@@ -176,7 +179,7 @@ fn enter<R: Rules, const N: usize>(
         (show way.aim.goal R.rule board.old by) (goes_on way (chess way.aim.goal R.rule) left (played R.rule board.old by)) ∷ []) }
     ensures more { way.help ≡ true → 0 < left → opened.new ≡ min (opened.old + 1) (2 ^ 64 - 1) }
     ensures none { way.help ≡ true → left ≡ 0 → opened.new ≡ opened.old }
-    ensures keys { way.help ≡ false → way.variation ≡ false → seeks way.aim.selfmate (left + 1) ≡ true
+    ensures keys { way.help ≡ false → way.variation ≡ false → seeks way.aim.battle (left + 1) ≡ true
         → opened.new ≤ opened.old + walk_count (legal_moves R.rule) (played R.rule) left (played R.rule board.old by) }
 {
     let man = board.man_at(by.from);

@@ -22,7 +22,7 @@ returns-else-is_open-clause-value g c =
 
 pub returns-then-seeking-clause-value : goal.returns-then-seeking-clause-value
 returns-then-seeking-clause-value g c =
-    mate-goal g.R.Rules.rule c.args.aim.goal c.args.board.now _ (for_mate c.args.aim.goal (sym c.if-is_for_mate.ensures)) (rw c.is_end.ensures.unchanged at c.can_mate.ensures.mates) ∙ sym (values.value-mate c.args.aim.selfmate (chess c.args.aim.goal g.R.Rules.rule) c.args.left c.args.board.now (omega arith) (sym c.if-seeking.ensures))
+    mate-goal g.R.Rules.rule c.args.aim.goal c.args.board.now _ (for_mate c.args.aim.goal (sym c.if-is_for_mate.ensures)) (rw c.is_end.ensures.unchanged at c.can_mate.ensures.mates) ∙ sym (values.value-mate c.args.aim.battle (chess c.args.aim.goal g.R.Rules.rule) c.args.left c.args.board.now (omega arith) (sym c.if-seeking.ensures))
 
 pub returns-then-seeking-clause-opened : goal.returns-then-seeking-clause-opened
 returns-then-seeking-clause-opened g c =

@@ -5,8 +5,8 @@ use Rattle.pop_solve.proofs.walk.least_length.Given as goal
 
 abbrev pub invariant-loop-aim : goal.invariant-loop-aim
 invariant-loop-aim g l =
-    (first_from l.aim.selfmate (chess l.aim.goal g.R.Rules.rule) l.board ((l.left - l.tried) / 2) l.tried
-    ≡ first_from l.aim.selfmate (chess l.aim.goal g.R.Rules.rule) l.fn.board ((l.left - fewest l.aim.selfmate) / 2) (fewest l.aim.selfmate))
+    (first_from l.aim.battle (chess l.aim.goal g.R.Rules.rule) l.board ((l.left - l.tried) / 2) l.tried
+    ≡ first_from l.aim.battle (chess l.aim.goal g.R.Rules.rule) l.fn.board ((l.left - fewest l.aim.battle) / 2) (fewest l.aim.battle))
     × (l.board ≡ l.fn.board)
     × (l.frames.items ≡ l.fn.frames.items)
     × (l.tried ≤ l.left + 2)
