@@ -21,4 +21,4 @@ pub use crate::condition::Condition;
 pub use crate::item::{Fault, Item, Last};
 pub use crate::problem::Problem;
 pub use crate::reader::{Next, Reader};
-pub use crate::stipulation::{Form, Goal, MOST_HALF_MOVES, MOST_MOVES, Stipulation};
+pub use crate::stipulation::{Form, Goal, MOST_MOVES, Stipulation};

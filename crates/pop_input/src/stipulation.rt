@@ -29,9 +29,6 @@ pub enum Goal {
 /// The most moves of a stipulation (own).
 pub const MOST_MOVES: u8 = 16;
 
-/// The most half-moves of a stipulation: two a move.
-pub const MOST_HALF_MOVES: usize = 32;
-
 /// A form, its goal and its number of moves: 1 to 16, with `HelpHalf` 0 to 15.
 #[derive(Clone, Copy, Debug, PartialEq, Eq)]
 pub struct Stipulation {
