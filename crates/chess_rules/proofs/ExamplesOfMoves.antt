@@ -12,7 +12,7 @@ use Rattle.chess_rules.specs.Play.{after, after_by, capture_square, moved_men, r
 use Rattle.chess_rules.specs.Reaches.{hops, is_clear, leaps, reaches, reaches_as, rides}
 use Rattle.chess_rules.specs.RuleSet.{circe, madrasi, orthodox}
 use Rattle.chess_rules.proofs.Typed.{go, man, on, position, promoting}
-use Rattle.chess_rules.proofs.SquareNames.{a1, d1, e1, f1, g1, h1, f2, h2, b3, f3, h3, d5, e5, d6, g6, d7, e7, a8, b8, c8, e8, g8, h8}
+use Rattle.chess_core.specs.SquareNames.{a1, d1, e1, f1, g1, h1, f2, h2, b3, f3, h3, d5, e5, d6, g6, d7, e7, a8, b8, c8, e8, g8, h8}
 
 -- White Ke1 Rh1 Re8 Rg8, Black Kf3: castling mates
 abbrev castling : Position

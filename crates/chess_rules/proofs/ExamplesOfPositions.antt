@@ -12,7 +12,7 @@ use Rattle.chess_rules.specs.Play.{after, after_by, capture_square, moved_men, r
 use Rattle.chess_rules.specs.Reaches.{hops, is_clear, leaps, reaches, reaches_as, rides}
 use Rattle.chess_rules.specs.RuleSet.{orthodox}
 use Rattle.chess_rules.proofs.Typed.{on, position}
-use Rattle.chess_rules.proofs.SquareNames.{a1, b1, c1, d1, e1, f1, g1, h1, a2, b2, c2, d2, e2, f2, g2, h2, c3, f3, h3, b4, e4, d5, e5, a6, b6, e6, f6, g6, a7, b7, c7, d7, e7, f7, g7, h7, a8, b8, c8, d8, e8, f8, g8, h8}
+use Rattle.chess_core.specs.SquareNames.{a1, b1, c1, d1, e1, f1, g1, h1, a2, b2, c2, d2, e2, f2, g2, h2, c3, f3, h3, b4, e4, d5, e5, a6, b6, e6, f6, g6, a7, b7, c7, d7, e7, f7, g7, h7, a8, b8, c8, d8, e8, f8, g8, h8}
 
 -- the game array
 abbrev array : Position

@@ -10,7 +10,7 @@ use Rattle.chess_rules.specs.Attacks.{attacked, faces, faces_its_like, in_check,
 use Rattle.chess_rules.specs.Reaches.{hops, is_clear, leaps, reaches, reaches_as, rides}
 use Rattle.chess_rules.specs.RuleSet.{madrasi, orthodox}
 use Rattle.chess_rules.proofs.Typed.{man, on, set_up}
-use Rattle.chess_rules.proofs.SquareNames.{a1, e1, f1, a3, d3, a4, e4, a5, d5, e5, a6, d7, b8}
+use Rattle.chess_core.specs.SquareNames.{a1, e1, f1, a3, d3, a4, e4, a5, d5, e5, a6, d7, b8}
 
 -- White rook a1 and grasshopper a4, Black king e1
 abbrev three : List (Option Man)

@@ -1,5 +1,5 @@
--- Names of squares for the examples.
-use Rattle.std.proofs.Common.{ℕ}
+-- The squares by name: a letter for the file, a figure for the rank (FIDE Laws, appendix C).
+use Rattle.std.specs.Prelude.{ℕ}
 
 abbrev pub a1 : ℕ
 a1 = 0
