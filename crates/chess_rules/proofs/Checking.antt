@@ -86,7 +86,7 @@ fairy_alike men c = squares_same (may_check_from men c (enemy c Grasshopper)) (m
   by None s = refl
   by (Some k) s = refl
 
-other_twice : (c : Colour) → other (other c) ≡ c
+pub other_twice : (c : Colour) → other (other c) ≡ c
 other_twice White = refl
 other_twice Black = refl
 

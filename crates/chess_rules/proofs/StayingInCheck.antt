@@ -139,7 +139,7 @@ side_there : (o : Option Man) (c : Colour) → is_side o c ≡ true → (y : Man
 side_there None c h = cc
 side_there (Some y) c h = (y, (refl, h))
 
-king_there : (men : List (Option Man)) (c : Colour) (k : ℕ) → king_square men c ≡ Some k → (k < 64) × (is_man (man_on men k) c King ≡ true)
+pub king_there : (men : List (Option Man)) (c : Colour) (k : ℕ) → king_square men c ≡ Some k → (k < 64) × (is_man (man_on men k) c King ≡ true)
 unfolding king_square squares
 king_there men c k h =
     let f = find_first (λ s. is_man (man_on men s) c King) 0 64 k h in
