@@ -173,17 +173,17 @@ reached_near : (men : List (Option Man)) (c : Colour) (k w t : ℕ) → w ≡ wo
 unfolding reaches_as
 reached_near men c k w t h small on = sym (word_has (λ t. list_any (leaps k t) queen_steps) w t h small) ∙ on
 
-pub open_squares : (rule : RuleSet) (p : Position) (m : Move) (x : Man) (k w s l n : ℕ) → IsSeenFrom rule p m x k → m.to < 64 → is_circe rule ≡ false → w ≡ word (λ t. list_any (leaps k t) queen_steps)
-    → s ≡ side_of p.men (other p.turn) → l ≡ (sight_lifted p.men m.from (capture_square p x m) m.to k).standing → n ≡ squares_of p.men p.turn King
-    → AreOpen rule (after rule p m).men (other p.turn) k (bit_and w (bit_not w64 (bit_or (bit_and s l) n)))
+pub open_squares : (rule : RuleSet) (p : Position) (m : Move) (x : Man) (k w l h : ℕ) → IsSeenFrom rule p m x k → m.to < 64 → is_circe rule ≡ false → w ≡ word (λ t. list_any (leaps k t) queen_steps)
+    → l ≡ (sight_lifted p.men m.from (capture_square p x m) m.to k).standing → h ≡ bit_or (bit_and (side_of p.men (other p.turn)) l) (squares_of p.men p.turn King)
+    → AreOpen rule (after rule p m).men (other p.turn) k (bit_and w (bit_not w64 h))
 unfolding is_open
-open_squares rule p m x k w s l n i small circe near side standing kings =
-    let closed = closed_words p m.from (capture_square p x m) p.turn s n side kings l standing in
+open_squares rule p m x k w l h i small circe near standing held =
+    let closed = held ∙ closed_words p m.from (capture_square p x m) p.turn _ _ refl refl l standing in
     record {
       inside = λ t lt on.
           let reached : reaches_as (after rule p m).men (other p.turn) King k t ≡ true = reached_near (after rule p m).men (other p.turn) k w t near lt (on_first w _ t on) in
-          let off = unseen_bit _ w (bit_or (bit_and s l) n) t closed lt on in
-          let at : (is_side (man_on p.men t) (other p.turn) && (not (is_square (capture_square p x m) t) && not (m.from == t)) || is_man (man_on p.men t) p.turn King) ≡ false = sym (word_has _ (bit_or (bit_and s l) n) t closed lt) ∙ off in
+          let off = unseen_bit _ w h t closed lt on in
+          let at : (is_side (man_on p.men t) (other p.turn) && (not (is_square (capture_square p x m) t) && not (m.from == t)) || is_man (man_on p.men t) p.turn King) ≡ false = sym (word_has _ h t closed lt) ∙ off in
           let free : is_arrival_free (other p.turn) (man_on (arrived p x m) t) ≡ true = elim (cases_eq t m.to) [
             | inl e ↦
                 let there : man_on (arrived p x m) t ≡ Some (arriving x m.promo) = ap (man_on (arrived p x m)) e ∙ there_now p.men m.from (capture_square p x m) m.to (arriving x m.promo) (omega (arith, small, i.well_formed.size)) in

@@ -1,16 +1,18 @@
 //! Flights of the enemy king after a move, told without playing it.
 ghost use Rattle.std.specs.Prelude.{◌≡◌, ◌<◌, ◌==◌, ◌&&◌, ℕ, IfSome, List, Option, is_some, not, true};
 ghost use Rattle.std.specs.Int.{bit_at};
+ghost use Rattle.std.specs.Int.Bits.{bit_and, bit_or};
 ghost use Rattle.chess_core.specs.Position.{is_side, man_on, other, same_kind};
 ghost use Rattle.chess_core.specs.WellFormed.{IsWellFormed};
-ghost use Rattle.chess_core.specs.Words.{word};
+ghost use Rattle.chess_core.specs.Words.{side_of, squares_of, word};
 ghost use Rattle.chess_core.specs.declared.man.Man.{Man};
 ghost use Rattle.chess_core.specs.declared.man.Move.{Move};
 ghost use Rattle.chess_core.specs.declared.man.Kind.TheVariants.{King};
 ghost use Rattle.chess_rules.specs.Flights.{AreOpen, IsSeenFrom, has_flight, sight_lifted, sight_with};
 ghost use Rattle.chess_rules.specs.Legal.{pseudo};
-ghost use Rattle.chess_rules.specs.Play.{after, capture_square};
-ghost use Rattle.chess_rules.specs.Reaches.{reaches};
+ghost use Rattle.chess_rules.specs.Play.{after, arriving, capture_square};
+ghost use Rattle.chess_rules.specs.Lines.{occupied_squares};
+ghost use Rattle.chess_rules.specs.Reaches.{reaches, reaches_as};
 ghost use Rattle.chess_rules.specs.Sight.{AreSeen, is_simple};
 
 use crate::exposure::is_simple;
@@ -54,6 +56,25 @@ fn sight_with(sight: Sight, to: Square) -> Sight
     }
 }
 
+// The squares to which a king that isn't the mover's may not step: its own men stand there, as far as they
+// still stand, or the mover's king.
+fn held_squares(board: &Board, standing: u64) -> u64
+    ensures { result ≡ bit_or (bit_and (side_of board.now.men (other board.now.turn)) standing)
+        (squares_of board.now.men board.now.turn King) }
+{
+    let mover = board.turn();
+    board.side(mover.other()) & standing | board.squares(mover, Kind::King)
+}
+
+// The squares that the man sees from where it arrives, as what it is then.
+fn covered_squares(occupied: u64, man: Man, promo: Option<Kind>, to: Square) -> u64
+    ensures { (men : List (Option Man)) → occupied ≡ occupied_squares men
+        → result ≡ word (reaches_as men (arriving man promo).colour (arriving man promo).kind to) }
+{
+    let arrived = arriving(man, promo);
+    reach_over(occupied, arrived.colour, arrived.kind, to)
+}
+
 // The squares to which the enemy king on `king` may step after a simple move, attacks apart: no man of its
 // own and no king stands there, and in Circe nobody. `sight` is that after the move, the king lifted.
 fn open_squares<R: Rules>(board: &Board, sight: Sight, king: Square) -> u64
@@ -65,8 +86,7 @@ fn open_squares<R: Rules>(board: &Board, sight: Sight, king: Square) -> u64
     if R::is_circe() {
         return near & !sight.occupied;
     }
-    let mover = board.turn();
-    near & !(board.side(mover.other()) & sight.standing | board.squares(mover, Kind::King))
+    near & !held_squares(board, sight.standing)
 }
 
 // The first of the squares that no man of the colour attacks once the enemy king stands there, the man
@@ -102,8 +122,7 @@ fn has_flight_from<R: Rules>(
     let _small = m.to.index();
     let sight = sight_lifted(board, m.from, captured, m.to, king);
     let near = open_squares::<R>(board, sight, king);
-    let arrived = arriving(man, m.promo);
-    let covered = reach_over(sight.occupied, arrived.colour, arrived.kind, m.to);
+    let covered = covered_squares(sight.occupied, man, m.promo, m.to);
     first_safe(board, sight, near & !covered, board.turn()).is_some()
 }
 

@@ -1,7 +1,7 @@
 use Rattle.std.proofs.Common.{◌≡◌, ◌<◌, ◌∙◌, ap, arith, sym}
 use Rattle.chess_core.specs.Triple.{Triple}
 use Rattle.chess_rules.specs.Flights.{AreOpen, sight_lifted}
-use Rattle.chess_rules.specs.Play.{after, arriving, capture_square}
+use Rattle.chess_rules.specs.Play.{after, capture_square}
 use Rattle.chess_core.specs.Position.{other}
 use Rattle.chess_rules.proofs.Fleeing.{has_flight_first}
 use Rattle.chess_rules.proofs.flights.has_flight_from.Goals as goal
@@ -16,6 +16,6 @@ returns g c = λ h.
     let small : m.to < 64 = omega (arith, to, c.index-small.ensures.value, c.index-small.ensures.small) in
     let seen : c.sight_lifted-sight.result ≡ sight_lifted p.men m.from (capture_square p x m) m.to c.args.king = rw (c.requires.captured, from, to) at c.sight_lifted-sight.ensures in
     let near : AreOpen g.R.Rules.rule (after g.R.Rules.rule p m).men (other p.turn) c.args.king c.open_squares-near.result = c.open_squares-near.ensures m x c.requires.seen small seen in
-    let arrives : c.arriving-arrived.result ≡ arriving x m.promo = c.arriving-arrived.ensures ∙ ap (λ (v : Triple). arriving x v.promo) c.m.view_is in
-    has_flight_first g.R.Rules.rule p m x c.args.king c.open_squares-near.result c.reach_over-covered.result c.first_safe.result c.requires.seen small near
-    (rw (seen, arrives, to) at c.reach_over-covered.ensures) c.first_safe.ensures.within (rw (seen, c.turn.ensures) at c.first_safe.ensures.safe) (sym c.is_some.ensures ∙ h)
+    let promo : c.m.inside.promo ≡ m.promo = ap (λ (v : Triple). v.promo) c.m.view_is in
+    has_flight_first g.R.Rules.rule p m x c.args.king c.open_squares-near.result c.covered_squares-covered.result c.first_safe.result c.requires.seen small near
+    (rw (seen, promo, to) at c.covered_squares-covered.ensures) c.first_safe.ensures.within (rw (seen, c.turn.ensures) at c.first_safe.ensures.safe) (sym c.is_some.ensures ∙ h)

@@ -11,5 +11,4 @@ returns-then-is_circe g c = λ m x seen small sight.
 pub returns : goal.returns
 returns g c = λ m x seen small sight.
     let plain : is_circe g.R.Rules.rule ≡ false = sym c.is_circe.ensures ∙ c.if-is_circe.false in
-    open_squares g.R.Rules.rule c.args.board.now m x c.args.king c.king_leaps-near.result c.side.result c.args.sight.standing c.squares.result seen small plain c.king_leaps-near.ensures
-    (rw (c.other.ensures, c.turn-mover.ensures) at c.side.ensures) (ap (λ (v : Sight). v.standing) sight) (rw c.turn-mover.ensures at c.squares.ensures.word)
+    open_squares g.R.Rules.rule c.args.board.now m x c.args.king c.king_leaps-near.result c.args.sight.standing c.held_squares.result seen small plain c.king_leaps-near.ensures (ap (λ (v : Sight). v.standing) sight) c.held_squares.ensures
