@@ -100,6 +100,10 @@ module _ (rule : RuleSet) (p : Position) (x : Man) (s : CheckSquares) (f : ℕ) 
     by_kind None e = rw (← checked_from) off-a
     by_kind (Some k) e = absurd (let yes : arrives x m.to ≡ true = unpromoted p x m m.promo k (made rule p m x may stands).promotion e in let never = unturned in cc)
 
+    unnamed : (o : Option Kind) → m.promo ≡ o → o ≡ None
+    unnamed None e = refl
+    unnamed (Some k) e = absurd (let yes : arrives x m.to ≡ true = unpromoted p x m m.promo k (made rule p m x may stands).promotion e in let never = unturned in cc)
+
     no_castling : is_castling x m ≡ false
     no_castling = false_by (is_castling x m) (λ y.
         let king = (and_parts _ _ (and_parts _ _ y).0).0 in
@@ -130,7 +134,7 @@ module _ (rule : RuleSet) (p : Position) (x : Man) (s : CheckSquares) (f : ℕ) 
 
     no_check_elsewhere : in_check rule (after rule p m).men (other p.turn) ≡ false
     no_check_elsewhere =
-        no_check rule p x m s (arriving x m.promo) (check_squares_for s (arriving x m.promo).kind) m.to well may stands checks refl refl refl small (by_kind m.promo refl) covering
+        no_check rule p x m s (arriving x m.promo) (check_squares_for s (arriving x m.promo).kind) m.to well may stands checks refl refl refl small (by_kind m.promo refl) (unnamed m.promo refl) covering
 
   pub check_targets_some : AreCheckTargets rule p f (bit_or (bit_or (bit_or a b) c) d)
   check_targets_some = record { elsewhere = λ m at small may off. no_check_elsewhere m at small may off }

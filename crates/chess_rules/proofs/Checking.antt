@@ -86,15 +86,15 @@ fairy_alike men c = squares_same (may_check_from men c (enemy c Grasshopper)) (m
   by None s = refl
   by (Some k) s = refl
 
-other_twice : (c : Colour) → other (other c) ≡ c
+pub other_twice : (c : Colour) → other (other c) ≡ c
 other_twice White = refl
 other_twice Black = refl
 
 is_enemy : (x : Man) (c : Colour) → x.colour ≡ c → enemy (other c) x.kind ≡ x
 is_enemy x c h = ap (λ (d : Colour). record x { colour = d }) (other_twice c ∙ sym h)
 
-pub no_check : (rule : RuleSet) (p : Position) (x : Man) (m : Move) (s : CheckSquares) (y : Man) (w t : ℕ) → IsWellFormed p → pseudo rule p m ≡ true → man_on p.men m.from ≡ Some x → AreCheckSquares rule p.men (other p.turn) s → y ≡ arriving x m.promo → w ≡ check_squares_for s y.kind → t ≡ m.to → t < 64 → (bit_at w t == 1) ≡ false → cannot_expose rule p (other p.turn) m ≡ true → in_check rule (after rule p m).men (other p.turn) ≡ false
-no_check rule p x m s y w t well may here a is h same small off cover =
+pub no_check : (rule : RuleSet) (p : Position) (x : Man) (m : Move) (s : CheckSquares) (y : Man) (w t : ℕ) → IsWellFormed p → pseudo rule p m ≡ true → man_on p.men m.from ≡ Some x → AreCheckSquares rule p.men (other p.turn) s → y ≡ arriving x m.promo → w ≡ check_squares_for s y.kind → t ≡ m.to → t < 64 → (bit_at w t == 1) ≡ false → m.promo ≡ None → cannot_expose rule p (other p.turn) m ≡ true → in_check rule (after rule p m).men (other p.turn) ≡ false
+no_check rule p x m s y w t well may here a is h same small off unpromoted cover =
     let colour : y.colour ≡ p.turn = ap (λ (z : Man). z.colour) is ∙ arriving_colour x m.promo ∙ (made rule p m x may here).mine in
     let word_is : w ≡ word (may_check_from p.men (other p.turn) (enemy (other p.turn) y.kind)) = h ∙ squares_by_kind rule p.men (other p.turn) s y.kind a in
     let off1 : may_check_from p.men (other p.turn) (enemy (other p.turn) y.kind) t ≡ false = sym (word_has (may_check_from p.men (other p.turn) (enemy (other p.turn) y.kind)) w t word_is small) ∙ off in
@@ -102,4 +102,4 @@ no_check rule p x m s y w t well may here a is h same small off cover =
     let off3 : may_check_from p.men (other p.turn) (arriving x m.promo) t ≡ false = ap (λ (z : Man). may_check_from p.men (other p.turn) z t) (sym is) ∙ off2 in
     let off4 : may_check_from p.men (other p.turn) (arriving x m.promo) m.to ≡ false = ap (λ (n : ℕ). may_check_from p.men (other p.turn) (arriving x m.promo) n) (sym same) ∙ off3 in
     let to : m.to < 64 = omega arith in
-    gives_no_check rule p x m well may to here cover off4
+    gives_no_check rule p x m well may to here unpromoted cover off4

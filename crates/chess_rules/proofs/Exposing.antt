@@ -36,7 +36,7 @@ none_there b None h e = refl
 none_there true (Some s) h e = absurd (false≢true (sym h))
 none_there false (Some s) h e = absurd (false≢true e)
 
-simple_parts : (rule : RuleSet) (p : Position) (x : Man) (m : Move) → is_simple rule x m (is_some (capture_square p x m)) ≡ true → IsSimple rule p x m
+pub simple_parts : (rule : RuleSet) (p : Position) (x : Man) (m : Move) → is_simple rule x m (is_some (capture_square p x m)) ≡ true → IsSimple rule p x m
 simple_parts rule p x m h =
     let h1 = and_parts (not (is_madrasi rule) && not (is_castling x m)) (not (is_circe rule && is_some (capture_square p x m))) h in
     let h2 = and_parts (not (is_madrasi rule)) (not (is_castling x m)) h1.0 in
@@ -72,7 +72,7 @@ goes_capturing rule p x m well is small = record {
 }
 
 -- the king after the move
-free_of_king : (c : Colour) (o : Option Man) → is_arrival_free c o ≡ true → is_man o c King ≡ false
+pub free_of_king : (c : Colour) (o : Option Man) → is_arrival_free c o ≡ true → is_man o c King ≡ false
 free_of_king c None h = refl
 free_of_king c (Some y) h = and_left (same_colour y.colour c) _ (not-true _ (and_parts (not (same_colour y.colour c)) (not (same_kind y.kind King)) h).0)
 
@@ -110,7 +110,7 @@ king_is_after rule p x m well is small castling = elim (cases_Bool (same_kind x.
       ∙ sym (cond-false (same_kind x.kind King) _ _ other_man)
 ]
 
-check_is : (rule : RuleSet) (p : Position) (x : Man) (m : Move) (o : Option ℕ) → IsWellFormed p → IsMade rule p x m → m.to < 64 → IsSimple rule p x m → king_after p x m ≡ o → in_check rule (after rule p m).men p.turn ≡ check_of rule (arrived p x m) o (other p.turn)
+pub check_is : (rule : RuleSet) (p : Position) (x : Man) (m : Move) (o : Option ℕ) → IsWellFormed p → IsMade rule p x m → m.to < 64 → IsSimple rule p x m → king_after p x m ≡ o → in_check rule (after rule p m).men p.turn ≡ check_of rule (arrived p x m) o (other p.turn)
 unfolding in_check
 check_is rule p x m o well is small simple king =
     ap (λ (l : List (Option Man)). check_of rule l (king_square l p.turn) (other p.turn)) (simple_after rule p x m is.here simple.castling simple.rebirth)

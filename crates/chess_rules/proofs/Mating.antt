@@ -59,7 +59,7 @@ mates_behind-none rule p a b low high h = elim (cases_lt b a) [
 pub no_mate : (rule : RuleSet) (p : Position) (m : Move) → false ≡ pseudo rule p m → false ≡ mates rule p m
 no_mate rule p m h = sym (not_mating rule p m (sym h))
 
-turn_after : (rule : RuleSet) (p : Position) (m : Move) → pseudo rule p m ≡ true → (after rule p m).turn ≡ other p.turn
+pub turn_after : (rule : RuleSet) (p : Position) (m : Move) → pseudo rule p m ≡ true → (after rule p m).turn ≡ other p.turn
 unfolding after after_by
 turn_after rule p m h = let x = maker rule p m h in rw x.1 refl
 

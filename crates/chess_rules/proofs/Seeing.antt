@@ -20,15 +20,15 @@ use Rattle.chess_rules.proofs.Plays.{stays_empty}
 use Rattle.chess_rules.proofs.Shielding.{every_square}
 use Rattle.chess_rules.proofs.Tests.{differs}
 
-and_true : (a : Bool) → (a && true) ≡ a
+pub and_true : (a : Bool) → (a && true) ≡ a
 and_true true = refl
 and_true false = refl
 
 -- a man stands on s once the man on a is gone, that on o too, and one has come to b
-abbrev is_occupied_after : List (Option Man) → ℕ → Option ℕ → ℕ → ℕ → Bool
+abbrev pub is_occupied_after : List (Option Man) → ℕ → Option ℕ → ℕ → ℕ → Bool
 is_occupied_after men a o b s = (is_some (man_on men s) && not (is_square (Some a) s || is_square o s)) || is_square (Some b) s
 
-neither : (a b : Bool) → a ≡ false → b ≡ false → (a || b) ≡ false
+pub neither : (a b : Bool) → a ≡ false → b ≡ false → (a || b) ≡ false
 neither true b p q = absurd (false≢true (sym p))
 neither false b p q = q
 
@@ -41,7 +41,7 @@ seen_now men c k =
     ∙ squares_same _ _ (λ s b. and_true (is_man (man_on men s) c k))
 
 -- the words after a move, by tests
-occupied_words : (men : List (Option Man)) (a : ℕ) (o : Option ℕ) (b : ℕ) → (sight_after men a o b).occupied ≡ word (is_occupied_after men a o b)
+pub occupied_words : (men : List (Option Man)) (a : ℕ) (o : Option ℕ) (b : ℕ) → (sight_after men a o b).occupied ≡ word (is_occupied_after men a o b)
 occupied_words men a o b =
     let held : ℕ → Bool = λ s. is_some (man_on men s) in
     let left : ℕ → Bool = λ s. is_square (Some a) s || is_square o s in
@@ -54,11 +54,11 @@ occupied_words men a o b =
 abbrev pub gone_to : List (Option Man) → ℕ → Option ℕ → ℕ → Man → List (Option Man)
 gone_to men a o b z = with_man (without_at (without_man men a) o) b z
 
-length-without_at : (men : List (Option Man)) (o : Option ℕ) → length (without_at men o) ≡ length men
+pub length-without_at : (men : List (Option Man)) (o : Option ℕ) → length (without_at men o) ≡ length men
 length-without_at men None = refl
 length-without_at men (Some s) = length-set men s None
 
-there_now : (men : List (Option Man)) (a : ℕ) (o : Option ℕ) (b : ℕ) (z : Man) → b < length men → man_on (gone_to men a o b z) b ≡ Some z
+pub there_now : (men : List (Option Man)) (a : ℕ) (o : Option ℕ) (b : ℕ) (z : Man) → b < length men → man_on (gone_to men a o b z) b ≡ Some z
 there_now men a o b z small =
     man_on-with_same (without_at (without_man men a) o) b z (omega (arith, small, length-without_at (without_man men a) o, length-set men a None))
 
@@ -70,7 +70,7 @@ kept_at : (men : List (Option Man)) (o : Option ℕ) (q : ℕ) → is_square o q
 kept_at men None q h = refl
 kept_at men (Some s) q h = man_on-without_other men s q (λ e. false≢true (sym h ∙ eq-eqb s q (sym e)))
 
-left_now : (men : List (Option Man)) (a : ℕ) (o : Option ℕ) (b : ℕ) (z : Man) (q : ℕ) → q ≢ b → (is_square (Some a) q || is_square o q) ≡ true → man_on (gone_to men a o b z) q ≡ None
+pub left_now : (men : List (Option Man)) (a : ℕ) (o : Option ℕ) (b : ℕ) (z : Man) (q : ℕ) → q ≢ b → (is_square (Some a) q || is_square o q) ≡ true → man_on (gone_to men a o b z) q ≡ None
 left_now men a o b z q ne h =
     man_on-with_other (without_at (without_man men a) o) b q z ne
     ∙ elim (or_cases (is_square (Some a) q) (is_square o q) h) [
@@ -78,7 +78,7 @@ left_now men a o b z q ne h =
       | inr y ↦ gone_at (without_man men a) o q y
     ]
 
-kept_now : (men : List (Option Man)) (a : ℕ) (o : Option ℕ) (b : ℕ) (z : Man) (q : ℕ) → q ≢ b → (is_square (Some a) q || is_square o q) ≡ false → man_on (gone_to men a o b z) q ≡ man_on men q
+pub kept_now : (men : List (Option Man)) (a : ℕ) (o : Option ℕ) (b : ℕ) (z : Man) (q : ℕ) → q ≢ b → (is_square (Some a) q || is_square o q) ≡ false → man_on (gone_to men a o b z) q ≡ man_on men q
 kept_now men a o b z q ne h =
     let n = or_parts (is_square (Some a) q) (is_square o q) h in
     man_on-with_other (without_at (without_man men a) o) b q z ne ∙ kept_at (without_man men a) o q n.1 ∙ kept_at men (Some a) q n.0
@@ -97,7 +97,7 @@ is_kept h true t p q = absurd (false≢true (sym p))
 is_kept true false true p q = refl
 is_kept false false true p q = absurd (false≢true (sym q))
 
-occupied_now : (men : List (Option Man)) (a : ℕ) (o : Option ℕ) (b : ℕ) (z : Man) (q : ℕ) → b < length men → is_occupied_after men a o b q ≡ is_some (man_on (gone_to men a o b z) q)
+pub occupied_now : (men : List (Option Man)) (a : ℕ) (o : Option ℕ) (b : ℕ) (z : Man) (q : ℕ) → b < length men → is_occupied_after men a o b q ≡ is_some (man_on (gone_to men a o b z) q)
 occupied_now men a o b z q small = elim (cases_eq q b) [
   | inl e ↦
       let there : man_on (gone_to men a o b z) q ≡ Some z = ap (man_on (gone_to men a o b z)) e ∙ there_now men a o b z small in
@@ -117,7 +117,7 @@ pub record IsCapture (men : List (Option Man)) (a : ℕ) (o : Option ℕ) (b : �
   pub arriving : same_colour z.colour (other c) ≡ false
   pub captured : is_some (man_on men b) ≡ true → is_square o b ≡ true
 
-no_man : (o : Option Man) (c : Colour) (k : Kind) → is_side o c ≡ false → is_man o c k ≡ false
+pub no_man : (o : Option Man) (c : Colour) (k : Kind) → is_side o c ≡ false → is_man o c k ≡ false
 no_man None c k h = refl
 no_man (Some y) c k h = and_left (same_colour y.colour c) (same_kind y.kind k) h
 

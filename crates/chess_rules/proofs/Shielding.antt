@@ -3,7 +3,7 @@ use Rattle.std.proofs.Common.{◌≡◌, ◌≢◌, ℕ, zero, suc, ◌-◌, ◌
 use Rattle.std.specs.Int.{bit_at, bit_not, w64}
 use Rattle.std.specs.Int.Bits.{bit_or}
 use Rattle.std.specs.List.{list_all, list_any, range_with_len}
-use Rattle.std.proofs.lemmas.Bool.{and_from, and_left, and_parts, and_right, cases_Bool, cases_eq, cond-false, cond-true, eq-eqb, false_from_ne_true, not-true, or_cases, or_left, or_parts, or_right}
+use Rattle.std.proofs.lemmas.Bool.{and_from, and_left, and_parts, and_right, cases_Bool, cases_eq, cond-false, cond-true, eq-eqb, false_from_ne_true, false≢true, not-true, or_cases, or_left, or_parts, or_right}
 use Rattle.std.proofs.lemmas.List.Folds.{list_any-append}
 use Rattle.chess_core.specs.Position.{AtMostOneKing, Position, is_man, is_side, king_square, man_on, other, same_colour, same_kind, without_man}
 use Rattle.chess_core.specs.Squares.{is_square, squares, some_square}
@@ -22,14 +22,17 @@ use Rattle.chess_core.proofs.Ranges.{all_range_true, any_range_false, any_range_
 use Rattle.chess_core.proofs.Words.{squares_either, squares_not, squares_same}
 use Rattle.chess_rules.specs.Attacks.{attacked, check_of, in_check, paralysed, strikes}
 use Rattle.chess_rules.specs.CheckSquares.{may_check_from, may_check_from_on}
-use Rattle.chess_rules.specs.Shields.{cannot_expose, has_fairy, is_unshielded, is_fairy, is_plain, may_expose, may_expose_on}
+use Rattle.chess_rules.specs.Shields.{cannot_expose, has_fairy, is_behind, is_shut, is_unshielded, is_fairy, is_plain, may_expose, may_expose_on}
 use Rattle.chess_rules.specs.Legal.{is_promotion_right, pseudo}
 use Rattle.chess_rules.specs.Play.{after, after_by, arriving, capture_square, is_castling, is_diagonal, man_on_at, moved_men, put_at, reborn_at, reborn_square, without_at}
+use Rattle.chess_rules.specs.Lines.{is_ahead, is_on_some}
 use Rattle.chess_rules.specs.Reaches.{is_clear, is_vacant, reaches, reaches_as, rides}
 use Rattle.chess_rules.specs.RuleSet.{RuleSet, is_circe, is_madrasi}
 use Rattle.chess_rules.proofs.Bits.{not_zero, word_empty, word_has}
 use Rattle.chess_rules.proofs.Fits.{arrived, arrived_other, arriving_king}
-use Rattle.chess_rules.proofs.Flips.{diagonal-back, queen_rides-back, straight-back}
+use Rattle.chess_rules.proofs.Ends.{back}
+use Rattle.chess_rules.proofs.Flips.{diagonal-back, diagonal-flip, straight-back, straight-flip}
+use Rattle.chess_rules.proofs.Parting.{Frees, line_open}
 use Rattle.chess_rules.proofs.Plays.{none_from_is_some, stays_empty}
 use Rattle.chess_rules.proofs.Pseudo.{IsMade, made, on_board}
 use Rattle.chess_rules.proofs.Returns.{moved_arrival}
@@ -87,24 +90,77 @@ rides_before men after a b z k t (d ∷ ds) i ne h =
       | inr y ↦ or_right (rides men k t d) _ (rides_before men after a b z k t ds i n.1 y)
     ]
 
-unseen : (men : List (Option Man)) (k a : ℕ) → list_any (rides men k a) queen_steps ≡ false → (list_any (rides men k a) straight_steps ≡ false) × (list_any (rides men k a) diagonal_steps ≡ false)
-unseen men k a h =
-    or_parts (list_any (rides men k a) straight_steps) (list_any (rides men k a) diagonal_steps) (sym (list_any-append (rides men k a) straight_steps diagonal_steps) ∙ h)
+frees : (men after : List (Option Man)) (a b : ℕ) (z : Man) → IsShift men after a b z → Frees after men a
+frees men after a b z i = record { vacant = λ o free off. stays_vacant men after a b z o i free off }
+
+-- where a rider gets, a line goes
+ahead_of : (men : List (Option Man)) (k s : ℕ) (d : Step) → rides men k s d ≡ true → is_ahead k d s ≡ true
+unfolding rides is_ahead
+ahead_of men k s d h = elim (any_range_cases (λ n. is_square (along k d n) s && is_clear men k d (n - 1)) 1 7) [
+  | inl w ↦ any_range_true (λ n. is_square (along k d n) s) 1 7 w.0 w.1 w.2 (first_of_and _ _ w.3)
+  | inr none ↦ absurd (false≢true (sym (any_range_false (λ n. is_square (along k d n) s && is_clear men k d (n - 1)) 1 7 none) ∙ h))
+]
+
+goes_on : (men : List (Option Man)) (k s : ℕ) (ds : List Step) → list_any (rides men k s) ds ≡ true → list_any (λ d. is_ahead k d s) ds ≡ true
+goes_on men k s [] h = h
+goes_on men k s (d ∷ ds) h = elim (or_cases (rides men k s d) (list_any (rides men k s) ds) h) [
+  | inl y ↦ or_left (is_ahead k d s) _ (ahead_of men k s d y)
+  | inr y ↦ or_right (is_ahead k d s) _ (goes_on men k s ds y)
+]
+
+-- what rides to a now, where a is empty, rode there before
+rode_there : (men after : List (Option Man)) (a b : ℕ) (z : Man) (k : ℕ) (ds : List Step) → IsShift men after a b z → list_any (rides after k a) ds ≡ true → list_any (rides men k a) ds ≡ true
+rode_there men after a b z k ds i h = elim (cases_Bool (list_any (rides men k a) ds)) [
+  | inl y ↦ y
+  | inr n ↦ rides_before men after a b z k a ds i n h
+]
+
+-- a square that shuts a line between k and s is the first man's from both
+abbrev IsParted : List (Option Man) → ℕ → ℕ → ℕ → List Step → Type 0
+IsParted men a k s ds = (list_any (rides men k a) ds ≡ true) × (list_any (rides men s a) ds ≡ true)
+
+straight_before : (men after : List (Option Man)) (a b : ℕ) (z : Man) (k s : ℕ) → IsShift men after a b z → s < 64 → k < 64 → (is_on_some straight_steps k s ≡ true → IsParted men a k s straight_steps → ⊥)
+    → list_any (rides after s k) straight_steps ≡ true → list_any (rides men s k) straight_steps ≡ true
+unfolding is_on_some
+straight_before men after a b z k s i p q never h =
+    let line : list_any (rides after k s) straight_steps ≡ true = sym (straight-back after s k p q) ∙ h in
+    straight-back men s k p q
+    ∙ line_open after men a k s straight_steps (frees men after a b z i) line
+    (λ x y. never (goes_on after k s straight_steps line) (rode_there men after a b z k straight_steps i x, rode_there men after a b z s straight_steps i (sym (straight-flip (λ d. rides after s a (back d)) (rides after s a) (λ d. refl)) ∙ y)))
+
+diagonal_before : (men after : List (Option Man)) (a b : ℕ) (z : Man) (k s : ℕ) → IsShift men after a b z → s < 64 → k < 64 → (is_on_some diagonal_steps k s ≡ true → IsParted men a k s diagonal_steps → ⊥)
+    → list_any (rides after s k) diagonal_steps ≡ true → list_any (rides men s k) diagonal_steps ≡ true
+unfolding is_on_some
+diagonal_before men after a b z k s i p q never h =
+    let line : list_any (rides after k s) diagonal_steps ≡ true = sym (diagonal-back after s k p q) ∙ h in
+    diagonal-back men s k p q
+    ∙ line_open after men a k s diagonal_steps (frees men after a b z i) line
+    (λ x y. never (goes_on after k s diagonal_steps line) (rode_there men after a b z k diagonal_steps i x, rode_there men after a b z s diagonal_steps i (sym (diagonal-flip (λ d. rides after s a (back d)) (rides after s a) (λ d. refl)) ∙ y)))
+
+-- a doesn't shut a line along which a man of kind j on s would ride to k
+pub record NoneShut (men : List (Option Man)) (a k s : ℕ) (j : Kind) : Type 0 where
+  pub straight : (same_kind j Rook || same_kind j Queen) ≡ true → is_on_some straight_steps k s ≡ true → IsParted men a k s straight_steps → ⊥
+  pub diagonal : (same_kind j Bishop || same_kind j Queen) ≡ true → is_on_some diagonal_steps k s ≡ true → IsParted men a k s diagonal_steps → ⊥
 
 -- an orthodox man that reaches k now, where it stands, reached it before, had it stood there
-reaches_before : (men after : List (Option Man)) (a b : ℕ) (z : Man) (c e : Colour) (k s : ℕ) (j : Kind) → IsShift men after a b z → s < 64 → k < 64 → is_fairy j ≡ false → reaches_as men c Queen k a ≡ false → reaches_as after e j s k ≡ true → reaches_as men e j s k ≡ true
+reaches_before : (men after : List (Option Man)) (a b : ℕ) (z : Man) (e : Colour) (k s : ℕ) (j : Kind) → IsShift men after a b z → s < 64 → k < 64 → is_fairy j ≡ false → NoneShut men a k s j → reaches_as after e j s k ≡ true → reaches_as men e j s k ≡ true
 unfolding reaches_as
-reaches_before men after a b z c e k s King i p q f ne h = h
-reaches_before men after a b z c e k s Queen i p q f ne h =
-    queen_rides-back men s k p q ∙ rides_before men after a b z k s queen_steps i ne (sym (queen_rides-back after s k p q) ∙ h)
-reaches_before men after a b z c e k s Rook i p q f ne h =
-    straight-back men s k p q ∙ rides_before men after a b z k s straight_steps i (unseen men k a ne).0 (sym (straight-back after s k p q) ∙ h)
-reaches_before men after a b z c e k s Bishop i p q f ne h =
-    diagonal-back men s k p q ∙ rides_before men after a b z k s diagonal_steps i (unseen men k a ne).1 (sym (diagonal-back after s k p q) ∙ h)
-reaches_before men after a b z c e k s Knight i p q f ne h = h
-reaches_before men after a b z c e k s Pawn i p q f ne h = h
-reaches_before men after a b z c e k s Grasshopper i p q f ne h = cc
-reaches_before men after a b z c e k s Nightrider i p q f ne h = cc
+reaches_before men after a b z e k s King i p q f n h = h
+reaches_before men after a b z e k s Queen i p q f n h =
+    elim (or_cases (list_any (rides after s k) straight_steps) (list_any (rides after s k) diagonal_steps) (sym (list_any-append (rides after s k) straight_steps diagonal_steps) ∙ h)) [
+      | inl y ↦
+          let was : list_any (rides men s k) straight_steps ≡ true = straight_before men after a b z k s i p q (n.straight refl) y in
+          list_any-append (rides men s k) straight_steps diagonal_steps ∙ or_left _ _ was
+      | inr y ↦
+          let was : list_any (rides men s k) diagonal_steps ≡ true = diagonal_before men after a b z k s i p q (n.diagonal refl) y in
+          list_any-append (rides men s k) straight_steps diagonal_steps ∙ or_right (list_any (rides men s k) straight_steps) _ was
+    ]
+reaches_before men after a b z e k s Rook i p q f n h = straight_before men after a b z k s i p q (n.straight refl) h
+reaches_before men after a b z e k s Bishop i p q f n h = diagonal_before men after a b z k s i p q (n.diagonal refl) h
+reaches_before men after a b z e k s Knight i p q f n h = h
+reaches_before men after a b z e k s Pawn i p q f n h = h
+reaches_before men after a b z e k s Grasshopper i p q f n h = cc
+reaches_before men after a b z e k s Nightrider i p q f n h = cc
 
 pub orthodox_man : (men : List (Option Man)) (c : Colour) (s : ℕ) (y : Man) → s < 64 → man_on men s ≡ Some y → same_colour y.colour c ≡ true → has_fairy men c ≡ false → is_fairy y.kind ≡ false
 unfolding has_fairy
@@ -133,16 +189,32 @@ pub record IsCovered (rule : RuleSet) (men : List (Option Man)) (c : Colour) (a 
   pub no_fairy : has_fairy men (other c) ≡ false
   pub safe : attacked rule men k (other c) ≡ false
   pub apart : (k == a) ≡ false
-  pub unseen : reaches_as men c Queen k a ≡ false
+  pub straight : is_shut men (other c) Rook straight_steps k a ≡ false
+  pub diagonal : is_shut men (other c) Bishop diagonal_steps k a ≡ false
 
 covered_parts : (rule : RuleSet) (men : List (Option Man)) (c : Colour) (a k : ℕ) → may_expose_on rule men (Some k) c a ≡ false → IsCovered rule men c a k
 unfolding is_unshielded
 covered_parts rule men c a k h =
-    let h1 = or_parts (is_unshielded rule men c k || k == a) (reaches_as men c Queen k a) h in
+    let h0 = or_parts (is_unshielded rule men c k || k == a || is_shut men (other c) Rook straight_steps k a) (is_shut men (other c) Bishop diagonal_steps k a) h in
+    let h1 = or_parts (is_unshielded rule men c k || k == a) (is_shut men (other c) Rook straight_steps k a) h0.0 in
     let h2 = or_parts (is_unshielded rule men c k) (k == a) h1.0 in
     let h3 = or_parts (is_madrasi rule || has_fairy men (other c)) (attacked rule men k (other c)) h2.0 in
     let h4 = or_parts (is_madrasi rule) (has_fairy men (other c)) h3.0 in
-    record { orthodox = h4.0; no_fairy = h4.1; safe = h3.1; apart = h2.1; unseen = h1.1 }
+    record { orthodox = h4.0; no_fairy = h4.1; safe = h3.1; apart = h2.1; straight = h1.1; diagonal = h0.1 }
+
+-- what keeps one square from shutting a line to a man that stands on another
+not_parted : (men : List (Option Man)) (a k s : ℕ) (e : Colour) (j : Kind) (ds : List Step) → is_shut men e j ds k a ≡ false → (is_man (man_on men s) e j || is_man (man_on men s) e Queen) ≡ true → s < 64 → is_on_some ds k s ≡ true
+    → (list_any (rides men k a) ds ≡ true) × (list_any (rides men s a) ds ≡ true) → ⊥
+unfolding is_shut is_behind
+not_parted men a k s e j ds shut rider small on both =
+    let there : some_square (is_behind men e j ds k a) ≡ true = some_square_true (is_behind men e j ds k a) s small (and_from _ _ (and_from _ _ rider on) both.1) in
+    let bad : (list_any (rides men k a) ds && some_square (is_behind men e j ds k a)) ≡ true = and_from _ _ both.0 there in
+    false≢true (sym shut ∙ bad)
+
+rider_there : (men : List (Option Man)) (e : Colour) (s : ℕ) (y : Man) (j : Kind) → man_on men s ≡ Some y → same_colour y.colour e ≡ true → (same_kind y.kind j || same_kind y.kind Queen) ≡ true → (is_man (man_on men s) e j || is_man (man_on men s) e Queen) ≡ true
+rider_there men e s y j there side h =
+    ap (λ (o : Option Man). is_man o e j || is_man o e Queen) there
+    ∙ (λ i. (side i && same_kind y.kind j) || (side i && same_kind y.kind Queen)) ∙ h
 
 -- a man that checks the king now and hasn't moved checked it before
 checks_before : (rule : RuleSet) (men after : List (Option Man)) (a b : ℕ) (z : Man) (c : Colour) (k s : ℕ) (o : Option Man) → man_on after s ≡ o → IsShift men after a b z → IsCovered rule men c a k → s < 64 → k < 64 → s ≢ b → is_side o (other c) ≡ true → reaches after s k ≡ true → strikes rule men k (other c) s ≡ true
@@ -152,16 +224,54 @@ checks_before rule men after a b z c k s (Some y) at i g p q ne side h =
     let there : man_on men s ≡ Some y = i.others s y at ne in
     let now : reaches_as after y.colour y.kind s k ≡ true = rw at at h in
     let plain : is_fairy y.kind ≡ false = orthodox_man men (other c) s y p there side g.no_fairy in
-    let was : reaches_as men y.colour y.kind s k ≡ true = reaches_before men after a b z c y.colour k s y.kind i p q plain g.unseen now in
+    let rider : (j : Kind) → (same_kind y.kind j || same_kind y.kind Queen) ≡ true → (is_man (man_on men s) (other c) j || is_man (man_on men s) (other c) Queen) ≡ true = λ j h. rider_there men (other c) s y j there side h in
+    let none : NoneShut men a k s y.kind = record {
+      straight = λ h on both. not_parted men a k s (other c) Rook straight_steps g.straight (rider Rook h) p on both;
+      diagonal = λ h on both. not_parted men a k s (other c) Bishop diagonal_steps g.diagonal (rider Bishop h) p on both;
+    } in
+    let was : reaches_as men y.colour y.kind s k ≡ true = reaches_before men after a b z y.colour k s y.kind i p q plain none now in
     let mine : is_side (man_on men s) (other c) ≡ true = rw there side in
     let then : reaches men s k ≡ true = rw there was in
     and_from _ _ (and_from _ _ mine (ap not (and_left (is_madrasi rule) _ g.orthodox))) then
 
 -- and the one that has moved is no enemy, or doesn't reach the king
-pub record IsQuiet (men : List (Option Man)) (c : Colour) (b k : ℕ) (z : Man) : Type 0 where
+pub record IsQuiet (men : List (Option Man)) (c : Colour) (a b k : ℕ) (z : Man) : Type 0 where
   pub quiet : same_colour z.colour (other c) ≡ true → (is_fairy z.kind ≡ false) × (reaches_as men z.colour z.kind b k ≡ false)
+  pub stood : same_colour z.colour (other c) ≡ true → (man_on men a ≡ Some z) × (a < 64)
 
-arrival_strikes : (rule : RuleSet) (men after : List (Option Man)) (a b : ℕ) (z : Man) (c : Colour) (k : ℕ) (o : Option Man) → man_on after b ≡ o → IsShift men after a b z → IsCovered rule men c a k → IsQuiet men c b k z → b < 64 → k < 64 → is_side o (other c) ≡ true → reaches after b k ≡ true → ⊥
+-- a rider on a that a line leads to reaches along it
+straight_rider : (men : List (Option Man)) (e : Colour) (j : Kind) (a k : ℕ) → (same_kind j Rook || same_kind j Queen) ≡ true → list_any (rides men a k) straight_steps ≡ true → reaches_as men e j a k ≡ true
+unfolding reaches_as
+straight_rider men e Rook a k h r = r
+straight_rider men e Queen a k h r = list_any-append (rides men a k) straight_steps diagonal_steps ∙ or_left _ _ r
+straight_rider men e King a k h r = cc
+straight_rider men e Bishop a k h r = cc
+straight_rider men e Knight a k h r = cc
+straight_rider men e Pawn a k h r = cc
+straight_rider men e Grasshopper a k h r = cc
+straight_rider men e Nightrider a k h r = cc
+
+diagonal_rider : (men : List (Option Man)) (e : Colour) (j : Kind) (a k : ℕ) → (same_kind j Bishop || same_kind j Queen) ≡ true → list_any (rides men a k) diagonal_steps ≡ true → reaches_as men e j a k ≡ true
+unfolding reaches_as
+diagonal_rider men e Bishop a k h r = r
+diagonal_rider men e Queen a k h r = list_any-append (rides men a k) straight_steps diagonal_steps ∙ or_right (list_any (rides men a k) straight_steps) _ r
+diagonal_rider men e King a k h r = cc
+diagonal_rider men e Rook a k h r = cc
+diagonal_rider men e Knight a k h r = cc
+diagonal_rider men e Pawn a k h r = cc
+diagonal_rider men e Grasshopper a k h r = cc
+diagonal_rider men e Nightrider a k h r = cc
+
+-- a man that reached the king from its origin attacked it
+attacked_from : (rule : RuleSet) (men : List (Option Man)) (c : Colour) (a k : ℕ) (z : Man) → IsCovered rule men c a k → a < 64 → man_on men a ≡ Some z → same_colour z.colour (other c) ≡ true → reaches_as men z.colour z.kind a k ≡ true → ⊥
+unfolding attacked strikes paralysed reaches
+attacked_from rule men c a k z g small here side h =
+    let mine : is_side (man_on men a) (other c) ≡ true = rw here side in
+    let then : reaches men a k ≡ true = rw here h in
+    let yes : some_square (strikes rule men k (other c)) ≡ true = some_square_true (strikes rule men k (other c)) a small (and_from _ _ (and_from _ _ mine (ap not (and_left (is_madrasi rule) _ g.orthodox))) then) in
+    false≢true (sym g.safe ∙ yes)
+
+arrival_strikes : (rule : RuleSet) (men after : List (Option Man)) (a b : ℕ) (z : Man) (c : Colour) (k : ℕ) (o : Option Man) → man_on after b ≡ o → IsShift men after a b z → IsCovered rule men c a k → IsQuiet men c a b k z → b < 64 → k < 64 → is_side o (other c) ≡ true → reaches after b k ≡ true → ⊥
 unfolding reaches
 arrival_strikes rule men after a b z c k None at i g l p q side h = cc
 arrival_strikes rule men after a b z c k (Some y) at i g l p q side h =
@@ -170,11 +280,16 @@ arrival_strikes rule men after a b z c k (Some y) at i g l p q side h =
     let now : reaches_as after y.colour y.kind b k ≡ true = rw at at h in
     let came : reaches_as after z.colour z.kind b k ≡ true = ap (λ (x : Man). reaches_as after x.colour x.kind b k) (sym is) ∙ now in
     let n = l.quiet mine in
-    let was : reaches_as men z.colour z.kind b k ≡ true = reaches_before men after a b z c z.colour k b z.kind i p q n.0 g.unseen came in
+    let here = l.stood mine in
+    let none : NoneShut men a k b z.kind = record {
+      straight = λ h on both. attacked_from rule men c a k z g here.1 here.0 mine (straight_rider men z.colour z.kind a k h (straight-back men a k here.1 q ∙ both.0));
+      diagonal = λ h on both. attacked_from rule men c a k z g here.1 here.0 mine (diagonal_rider men z.colour z.kind a k h (diagonal-back men a k here.1 q ∙ both.0));
+    } in
+    let was : reaches_as men z.colour z.kind b k ≡ true = reaches_before men after a b z z.colour k b z.kind i p q n.0 none came in
     let no = n.1 in
     cc
 
-not_attacked : (rule : RuleSet) (men after : List (Option Man)) (a b : ℕ) (z : Man) (c : Colour) (k : ℕ) → IsShift men after a b z → IsCovered rule men c a k → IsQuiet men c b k z → k < 64 → attacked rule after k (other c) ≡ false
+not_attacked : (rule : RuleSet) (men after : List (Option Man)) (a b : ℕ) (z : Man) (c : Colour) (k : ℕ) → IsShift men after a b z → IsCovered rule men c a k → IsQuiet men c a b k z → k < 64 → attacked rule after k (other c) ≡ false
 unfolding attacked strikes
 not_attacked rule men after a b z c k i g l q =
     some_square_false (strikes rule after k (other c)) 64 (omega arith) (record {
@@ -211,7 +326,7 @@ pub record IsHarmless (rule : RuleSet) (men : List (Option Man)) (c : Colour) (a
   pub one : AtMostOneKing men
   pub king : is_man (Some z) c King ≡ true → king_square men c ≡ Some a
   pub cannot_expose : may_expose rule men c a ≡ false
-  pub quiet : (k : ℕ) → king_square men c ≡ Some k → IsQuiet men c b k z
+  pub quiet : (k : ℕ) → king_square men c ≡ Some k → IsQuiet men c a b k z
 
 king_stays : (rule : RuleSet) (men after : List (Option Man)) (a b : ℕ) (z : Man) (c : Colour) (k : ℕ) → IsShift men after a b z → IsHarmless rule men c a b z → k < 64 → is_man (man_on after k) c King ≡ true → king_square men c ≡ Some k
 unfolding may_expose
@@ -334,7 +449,7 @@ king_came p x m c well here right h =
     king_is p.men c m.from well.kings (on_board p.men m.from x well.size here) (rw here is)
 
 plain_safe : (rule : RuleSet) (p : Position) (x : Man) (m : Move) (c : Colour) → IsWellFormed p → IsMade rule p x m → m.to < 64 → IsPlain rule p x m → may_expose rule p.men c m.from ≡ false
-    → ((k : ℕ) → king_square p.men c ≡ Some k → IsQuiet p.men c m.to k (arriving x m.promo))
+    → ((k : ℕ) → king_square p.men c ≡ Some k → IsQuiet p.men c m.from m.to k (arriving x m.promo))
     → in_check rule (after rule p m).men c ≡ false
 plain_safe rule p x m c well is small plain cannot_expose quiet =
     ap (λ (l : List (Option Man)). in_check rule l c) (men_after rule p x m is.here plain)
@@ -363,21 +478,22 @@ cannot_expose_own rule p m well may small h =
     let x : Man = w.0 in
     let is : IsMade rule p x m = made rule p m x may w.1 in
     let parts = cannot_expose_parts rule p x p.turn m w.1 h in
+    let own : same_colour (arriving x m.promo).colour (other p.turn) ≡ false = ap (λ (c : Colour). same_colour c (other p.turn)) (arriving_colour x m.promo ∙ is.mine) ∙ other_differs p.turn in
     plain_safe rule p x m p.turn well is small parts.1 parts.0 (λ k at. record {
-      quiet = λ enemy.
-          let own : same_colour (arriving x m.promo).colour (other p.turn) ≡ false = ap (λ (c : Colour). same_colour c (other p.turn)) (arriving_colour x m.promo ∙ is.mine) ∙ other_differs p.turn in
-          absurd (let bad : true ≡ false = sym enemy ∙ own in cc);
+      quiet = λ enemy. absurd (false≢true (sym own ∙ enemy));
+      stood = λ enemy. absurd (false≢true (sym own ∙ enemy));
     })
 
 -- and, where the man that arrives doesn't strike the enemy's king, doesn't give check
-pub gives_no_check : (rule : RuleSet) (p : Position) (x : Man) (m : Move) → IsWellFormed p → pseudo rule p m ≡ true → m.to < 64 → man_on p.men m.from ≡ Some x → cannot_expose rule p (other p.turn) m ≡ true → may_check_from p.men (other p.turn) (arriving x m.promo) m.to ≡ false → in_check rule (after rule p m).men (other p.turn) ≡ false
+pub gives_no_check : (rule : RuleSet) (p : Position) (x : Man) (m : Move) → IsWellFormed p → pseudo rule p m ≡ true → m.to < 64 → man_on p.men m.from ≡ Some x → m.promo ≡ None → cannot_expose rule p (other p.turn) m ≡ true → may_check_from p.men (other p.turn) (arriving x m.promo) m.to ≡ false → in_check rule (after rule p m).men (other p.turn) ≡ false
 unfolding may_check_from
-gives_no_check rule p x m well may small here h off =
+gives_no_check rule p x m well may small here unpromoted h off =
     let parts = cannot_expose_parts rule p x (other p.turn) m here h in
     plain_safe rule p x m (other p.turn) well (made rule p m x may here) small parts.1 parts.0 (λ k at. record {
       quiet = λ enemy.
           let no : may_check_from_on p.men (Some k) (arriving x m.promo) m.to ≡ false = ap (λ (o : Option ℕ). may_check_from_on p.men o (arriving x m.promo) m.to) (sym at) ∙ off in
           or_parts (is_fairy (arriving x m.promo).kind) (reaches_as p.men (arriving x m.promo).colour (arriving x m.promo).kind m.to k) no;
+      stood = λ enemy. (here ∙ ap (λ (r : Option Kind). Some (arriving x r)) (sym unpromoted), on_board p.men m.from x well.size here);
     })
 
 -- a fairy man by the words of the two kinds
@@ -406,14 +522,17 @@ shield_squares_none rule men c h = word_empty (may_expose rule men c) (λ s b. a
 pub shield_squares_all : (rule : RuleSet) (men : List (Option Man)) (c : Colour) (k : ℕ) → king_square men c ≡ Some k → is_unshielded rule men c k ≡ true → bit_not w64 0 ≡ word (may_expose rule men c)
 unfolding may_expose
 shield_squares_all rule men c k at unshielded =
-    every_square (may_expose rule men c) (λ s b. ap (λ (o : Option ℕ). may_expose_on rule men o c s) at ∙ or_left _ _ (or_left _ _ unshielded))
+    every_square (may_expose rule men c) (λ s b. ap (λ (o : Option ℕ). may_expose_on rule men o c s) at ∙ or_left _ _ (or_left _ _ (or_left _ _ unshielded)))
 
-pub shield_squares_some : (rule : RuleSet) (men : List (Option Man)) (c : Colour) (k w n : ℕ) → king_square men c ≡ Some k → is_unshielded rule men c k ≡ false → w ≡ word (λ t. is_square (Some k) t) → n ≡ word (λ t. reaches_as men c Queen k t) → bit_or w n ≡ word (may_expose rule men c)
+pub shield_squares_some : (rule : RuleSet) (men : List (Option Man)) (c : Colour) (k w n l : ℕ) → king_square men c ≡ Some k → is_unshielded rule men c k ≡ false → w ≡ word (λ t. is_square (Some k) t) → n ≡ word (is_shut men (other c) Rook straight_steps k) → l ≡ word (is_shut men (other c) Bishop diagonal_steps k)
+    → bit_or (bit_or w n) l ≡ word (may_expose rule men c)
 unfolding may_expose
-shield_squares_some rule men c k w n at unshielded h i =
-    (λ j. bit_or (h j) (i j)) ∙ squares_either (λ t. is_square (Some k) t) (λ t. reaches_as men c Queen k t)
-    ∙ squares_same (λ t. is_square (Some k) t || reaches_as men c Queen k t) (may_expose rule men c)
-    (λ s b. sym (ap (λ (o : Option ℕ). may_expose_on rule men o c s) at ∙ ap (λ (x : Bool). x || k == s || reaches_as men c Queen k s) unshielded))
+shield_squares_some rule men c k w n l at unshielded h i g =
+    (λ j. bit_or (bit_or (h j) (i j)) (g j))
+    ∙ (λ j. bit_or (squares_either (λ t. is_square (Some k) t) (is_shut men (other c) Rook straight_steps k) j) (word (is_shut men (other c) Bishop diagonal_steps k)))
+    ∙ squares_either (λ t. is_square (Some k) t || is_shut men (other c) Rook straight_steps k t) (is_shut men (other c) Bishop diagonal_steps k)
+    ∙ squares_same _ (may_expose rule men c)
+    (λ s b. sym (ap (λ (o : Option ℕ). may_expose_on rule men o c s) at ∙ ap (λ (x : Bool). x || k == s || is_shut men (other c) Rook straight_steps k s || is_shut men (other c) Bishop diagonal_steps k s) unshielded))
 
 -- whether a move can't uncover a king, told by that word
 pub cannot_expose_is : (rule : RuleSet) (p : Position) (x : Man) (c : Colour) (m : Move) (w s : ℕ) (b : Bool) → man_on p.men m.from ≡ Some x → w ≡ word (may_expose rule p.men c) → s ≡ m.from → s < 64 → b ≡ (bit_at w s == 1) → (not b && is_plain rule p x m) ≡ cannot_expose rule p c m

@@ -30,6 +30,7 @@ use Rattle.chess_rules.proofs.Shielding.{IsPlain, IsShift, arrived_shift, every_
 use Rattle.chess_rules.proofs.Ends.{back, between, square_is}
 use Rattle.chess_rules.proofs.Fits.{arrived}
 use Rattle.chess_rules.proofs.Flips.{diagonal-back, diagonal-flip, queen-flip, queen_rides-back, straight-back, straight-flip}
+use Rattle.chess_rules.proofs.Parting.{Frees, line_open}
 use Rattle.chess_rules.proofs.Pseudo.{made, on_board}
 use Rattle.chess_rules.proofs.Stays.{after_well_formed}
 use Rattle.chess_rules.proofs.Tests.{all_at, any_range_cases, find_first, first_of_and, second_of_and}
@@ -51,62 +52,12 @@ stays_free men after a b z (Some q) i h ne = by (man_on after q) refl where
       let full : is_vacant men (Some q) ≡ false = rw there refl in
       cc
 
--- a line that b comes into was open from both ends to b
-blocked : (men after : List (Option Man)) (a b : ℕ) (z : Man) (k s : ℕ) (d : Step) → IsShift men after a b z → rides men k s d ≡ true → (rides men k b d && rides men s b (back d)) ≡ false → rides after k s d ≡ true
-unfolding rides is_clear
-blocked men after a b z k s d i h ne = elim (any_range_cases (λ n. is_square (along k d n) s && is_clear men k d (n - 1)) 1 7) [
-  | inl w ↦
-      let n : ℕ = w.0 in
-      let low : 1 ≤ n = w.1 in
-      let high : n < 8 = omega (arith, w.2) in
-      let ends : is_square (along k d n) s ≡ true = first_of_and _ _ w.3 in
-      let at : along k d n ≡ Some s = square_is _ s ends in
-      let clear : is_clear men k d (n - 1) ≡ true = second_of_and (is_square (along k d n) s) _ w.3 in
-      any_range_true (λ n. is_square (along k d n) s && is_clear after k d (n - 1)) 1 7 n low (omega arith)
-      (and_from _ _ ends (all_range_true (λ q. is_vacant after (along k d q)) 1 (n - 1) (λ j lo hi.
-      let free : is_vacant men (along k d j) ≡ true = all_at (λ q. is_vacant men (along k d q)) 1 (n - 1) j clear lo hi in
-      stays_free men after a b z (along k d j) i free (false_from_ne_true _ (λ y.
-      let near : is_clear men k d (j - 1) ≡ true = all_range_true (λ q. is_vacant men (along k d q)) 1 (j - 1) (λ q l u. all_at (λ q. is_vacant men (along k d q)) 1 (n - 1) q clear l (omega arith)) in
-      let one : rides men k b d ≡ true = any_range_true (λ q. is_square (along k d q) b && is_clear men k d (q - 1)) 1 7 j lo (omega arith) (and_from _ _ y near) in
-      let here : is_square (along s (back d) (n - j)) b ≡ true = ap (λ o. is_square o b) (between k s d n j (omega arith) at) ∙ y in
-      let far : is_clear men s (back d) (n - j - 1) ≡ true = all_range_true (λ q. is_vacant men (along s (back d) q)) 1 (n - j - 1) (λ q l u.
-      let e : q ≡ n - (n - q) = omega arith in
-      ap (λ r. is_vacant men (along s (back d) r)) e ∙ ap (is_vacant men) (between k s d n (n - q) (omega arith) at)
-      ∙ all_at (λ q. is_vacant men (along k d q)) 1 (n - 1) (n - q) clear (omega arith) (omega arith)) in
-      let two : rides men s b (back d) ≡ true = any_range_true (λ q. is_square (along s (back d) q) b && is_clear men s (back d) (q - 1)) 1 7 (n - j) (omega arith) (omega arith) (and_from _ _ here far) in
-      let both : (rides men k b d && rides men s b (back d)) ≡ true = and_from _ _ one two in
-      cc)))))
-  | inr none ↦
-      let bad : list_any (λ n. is_square (along k d n) s && is_clear men k d (n - 1)) (range_with_len 1 7) ≡ false = any_range_false (λ n. is_square (along k d n) s && is_clear men k d (n - 1)) 1 7 none in
-      cc
-]
-
-some_blocked : (men after : List (Option Man)) (a b : ℕ) (z : Man) (k s : ℕ) (ds : List Step) → IsShift men after a b z → list_any (rides men k s) ds ≡ true → list_any (rides after k s) ds ≡ false
-    → (list_any (rides men k b) ds ≡ true) × (list_any (λ d. rides men s b (back d)) ds ≡ true)
-some_blocked men after a b z k s [] i h ne = cc
-some_blocked men after a b z k s (d ∷ ds) i h ne =
-    let n = or_parts (rides after k s d) (list_any (rides after k s) ds) ne in
-    elim (or_cases (rides men k s d) (list_any (rides men k s) ds) h) [
-      | inl y ↦ elim (cases_Bool (rides men k b d && rides men s b (back d))) [
-        | inl both ↦
-            let parts = and_parts (rides men k b d) (rides men s b (back d)) both in
-            (or_left (rides men k b d) _ parts.0, or_left (rides men s b (back d)) _ parts.1)
-        | inr off ↦
-            let bad : rides after k s d ≡ true = blocked men after a b z k s d i y off in
-            let no = n.0 in
-            absurd (cc)
-      ]
-      | inr y ↦
-          let rest = some_blocked men after a b z k s ds i y n.1 in
-          (or_right (rides men k b d) _ rest.0, or_right (rides men s b (back d)) _ rest.1)
-    ]
+frees : (men after : List (Option Man)) (a b : ℕ) (z : Man) → IsShift men after a b z → Frees men after b
+frees men after a b z i = record { vacant = λ o free off. stays_free men after a b z o i free off }
 
 line_after : (men after : List (Option Man)) (a b : ℕ) (z : Man) (k s : ℕ) (ds : List Step) → IsShift men after a b z → list_any (rides men k s) ds ≡ true
     → (list_any (rides men k b) ds ≡ true → list_any (λ d. rides men s b (back d)) ds ≡ true → ⊥) → list_any (rides after k s) ds ≡ true
-line_after men after a b z k s ds i h no_evasion = elim (cases_Bool (list_any (rides after k s) ds)) [
-  | inl y ↦ y
-  | inr n ↦ absurd (let both = some_blocked men after a b z k s ds i h n in no_evasion both.0 both.1)
-]
+line_after men after a b z k s ds i h no_evasion = line_open men after b k s ds (frees men after a b z i) h no_evasion
 
 straight_seen : (p : Step → Bool) → list_any p straight_steps ≡ true → list_any p queen_steps ≡ true
 straight_seen p h = list_any-append p straight_steps diagonal_steps ∙ or_left (list_any p straight_steps) _ h
@@ -139,7 +90,7 @@ side_there : (o : Option Man) (c : Colour) → is_side o c ≡ true → (y : Man
 side_there None c h = cc
 side_there (Some y) c h = (y, (refl, h))
 
-king_there : (men : List (Option Man)) (c : Colour) (k : ℕ) → king_square men c ≡ Some k → (k < 64) × (is_man (man_on men k) c King ≡ true)
+pub king_there : (men : List (Option Man)) (c : Colour) (k : ℕ) → king_square men c ≡ Some k → (k < 64) × (is_man (man_on men k) c King ≡ true)
 unfolding king_square squares
 king_there men c k h =
     let f = find_first (λ s. is_man (man_on men s) c King) 0 64 k h in

@@ -20,7 +20,7 @@ use Rattle.chess_rules.proofs.Targeting.{arrival_needed, false_by, own_moves}
 use Rattle.chess_rules.proofs.Tests.{IsFirst, find_no}
 
 -- squares of two words
-on_first : (a b i : ℕ) → (bit_at (bit_and a b) i == 1) ≡ true → (bit_at a i == 1) ≡ true
+pub on_first : (a b i : ℕ) → (bit_at (bit_and a b) i == 1) ≡ true → (bit_at a i == 1) ≡ true
 on_first a b i h =
     let both : bit_at (bit_and a b) i ≡ 1 = eqb-true _ _ h in
     let e : bit_at (bit_and a b) i ≡ min (bit_at a i) (bit_at b i) = bit_at_and a b i in

@@ -9,7 +9,13 @@ use Rattle.chess_core.specs.declared.man.Kind.{Kind}
 use Rattle.chess_core.specs.declared.man.Kind.TheVariants.{King, Queen, Rook, Bishop, Knight, Pawn, Grasshopper, Nightrider}
 use Rattle.chess_rules.specs.Attacks.{attacked}
 use Rattle.chess_rules.specs.Play.{is_castling}
-use Rattle.chess_rules.specs.Reaches.{reaches_as}
+use Rattle.std.specs.List.{list_any}
+use Rattle.chess_core.specs.Steps.{diagonal_steps, straight_steps}
+use Rattle.chess_core.specs.declared.step.Step.{Step}
+use Rattle.chess_rules.specs.Lines.{is_on_some}
+use Rattle.chess_rules.specs.Reaches.{rides}
+use Rattle.chess_rules.specs.declared.shields.RiderLines.{RiderLines}
+use Rattle.chess_rules.specs.declared.shields.RiderLines.TheVariants.{Straight, Diagonal}
 use Rattle.chess_rules.specs.RuleSet.{RuleSet, is_circe, is_madrasi}
 
 -- whether it is one of the two fairy kinds
@@ -32,15 +38,36 @@ has_fairy men c =
 unfoldable pub is_unshielded : RuleSet → List (Option Man) → Colour → ℕ → Bool
 is_unshielded rule men c k = is_madrasi rule || has_fairy men (other c) || attacked rule men k (other c)
 
+-- a queen or a man of kind j, of colour e, stands on q, on one of the lines from k by these steps, and comes to s
+-- by such a step
+unfoldable pub is_behind : List (Option Man) → Colour → Kind → List Step → ℕ → ℕ → ℕ → Bool
+is_behind men e j ds k s q =
+    ((is_man (man_on men q) e j || is_man (man_on men q) e Queen) && is_on_some ds k q) && list_any (rides men q s) ds
+
+-- s shuts a line between k and such a man: both come to it
+unfoldable pub is_shut : List (Option Man) → Colour → Kind → List Step → ℕ → ℕ → Bool
+is_shut men e j ds k s = list_any (rides men k s) ds && some_square (is_behind men e j ds k s)
+
 -- the same test for the king's square, if there is a king
 abbrev pub may_expose_on : RuleSet → List (Option Man) → Option ℕ → Colour → ℕ → Bool
 may_expose_on rule men None c s = false
-may_expose_on rule men (Some k) c s = is_unshielded rule men c k || k == s || reaches_as men c Queen k s
+may_expose_on rule men (Some k) c s =
+    is_unshielded rule men c k || k == s || is_shut men (other c) Rook straight_steps k s || is_shut men (other c) Bishop diagonal_steps k s
 
--- a move from s may expose the king of colour c: it is the king's own, or s is the first square with a
--- man on one of the queen's lines from it, or an empty one before it
+-- a move from s may expose the king of colour c: it is the king's own, or s shuts a line between it and an
+-- enemy rider of that line
 unfoldable pub may_expose : RuleSet → List (Option Man) → Colour → ℕ → Bool
 may_expose rule men c s = may_expose_on rule men (king_square men c) c s
+
+-- the steps of a rook's lines, or of a bishop's
+abbrev pub steps_along : RiderLines → List Step
+steps_along Straight = straight_steps
+steps_along Diagonal = diagonal_steps
+
+-- the man that rides along them alone
+abbrev pub rider_along : RiderLines → Kind
+rider_along Straight = Rook
+rider_along Diagonal = Bishop
 
 -- the move changes nothing but that x leaves its origin and stands on the arrival: it is neither castling
 -- nor a capture en passant, and nobody is reborn

@@ -12,7 +12,6 @@ ghost use Rattle.chess_rules.specs.Play.{after};
 ghost use Rattle.chess_rules.specs.Targets.{steps_to};
 
 use crate::evasions::rebirth_captures;
-use crate::play::arriving;
 use crate::reach::reach_as;
 use crate::rules::Rules;
 use crate::shields::{cannot_expose, shield_squares};
@@ -130,7 +129,8 @@ fn may_discover<R: Rules>(board: &Board, squares: &CheckSquares, m: &Move) -> bo
     !cannot_expose::<R>(board, board.turn().other(), squares.shield_squares, m)
 }
 
-// Whether the move may give check: where it answers `false`, it gives none.
+// Whether the move may give check: where it answers `false`, it gives none. A promoted man may see through
+// the square that the pawn left, so a promotion always may.
 pub(crate) fn may_check<R: Rules>(board: &Board, squares: &CheckSquares, m: &Move) -> bool
     requires well_formed { IsWellFormed board.now }
     requires pseudo { pseudo R.rule board.now m.now ≡ true }
@@ -140,7 +140,10 @@ pub(crate) fn may_check<R: Rules>(board: &Board, squares: &CheckSquares, m: &Mov
     let Some(man) = board.man_at(m.from) else {
         return true;
     };
+    if m.promo.is_some() {
+        return true;
+    }
     let _small = m.to.index();
-    let from_there = check_squares_for(squares, arriving(man, m.promo).kind);
+    let from_there = check_squares_for(squares, man.kind);
     contains(from_there, m.to) || may_discover::<R>(board, squares, m)
 }

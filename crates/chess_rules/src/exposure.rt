@@ -27,7 +27,7 @@ fn king_after(board: &Board, man: Man, m: &Move) -> Option<Square>
 
 // Whether nothing more changes by the move than that this man goes and one is captured at most, and nobody
 // is paralysed.
-fn is_simple<R: Rules>(man: Man, m: &Move, captures: bool) -> bool
+pub(crate) fn is_simple<R: Rules>(man: Man, m: &Move, captures: bool) -> bool
     ensures { result ≡ is_simple R.rule man m.now captures }
 {
     !R::is_madrasi() && !is_castling(man, m) && !(R::is_circe() && captures)

@@ -10,6 +10,7 @@ ghost use Rattle.chess_rules.specs.Play.{after};
 ghost use Rattle.chess_rules.specs.Targets.{AreCandidates, AreKept, IsAimed};
 
 use crate::checks::{CheckSquares, check_squares, check_targets, may_check};
+use crate::flights::has_flight;
 use crate::legal::is_pseudo;
 use crate::moves::{Moves, has_legal_move, triple};
 use crate::rules::{Rules, in_check};
@@ -202,6 +203,9 @@ fn is_mating<R: Rules>(board: &mut Board, squares: &CheckSquares, m: Move) -> bo
         return false;
     }
     if !may_check::<R>(board, squares, &m) {
+        return false;
+    }
+    if has_flight::<R>(board, &m) {
         return false;
     }
     gives_mate::<R>(board, m)

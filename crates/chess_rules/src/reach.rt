@@ -1,6 +1,8 @@
 //! How men go: the squares that a man on one square reaches.
-ghost use Rattle.std.specs.Prelude.{◌≡◌, ℕ};
+ghost use Rattle.std.specs.Prelude.{◌≡◌, ℕ, List, Option};
 ghost use Rattle.chess_core.specs.Words.{word};
+ghost use Rattle.chess_core.specs.declared.man.Man.{Man};
+ghost use Rattle.chess_rules.specs.Lines.{occupied_squares};
 ghost use Rattle.chess_rules.specs.Reaches.{reaches, reaches_as};
 
 use crate::leaps::{king_leaps, knight_leaps, pawn_leaps};
@@ -13,21 +15,27 @@ use chess_core::man::{Colour, Kind};
 use chess_core::square::Square;
 
 // The squares to which a man of this colour and kind on `from` could go if enemies stood there (a
-// pawn captures, it doesn't step forward).
-#[tactic(auto, unfolding(crate::specs::Reaches::reaches_as))]
-pub(crate) fn reach_as(board: &Board, colour: Colour, kind: Kind, from: Square) -> u64
-    ensures { result ≡ word (λ t. reaches_as board.now.men colour kind from t) }
+// pawn captures, it doesn't step forward), whichever men stand on the occupied squares.
+pub(crate) fn reach_over(occupied: u64, colour: Colour, kind: Kind, from: Square) -> u64
+    ensures { (men : List (Option Man)) → occupied ≡ occupied_squares men → result ≡ word (reaches_as men colour kind from) }
 {
     match kind {
         Kind::King => king_leaps(from),
-        Kind::Queen => queen_rides(occupied(board), from),
-        Kind::Rook => straight_rides(occupied(board), from),
-        Kind::Bishop => diagonal_rides(occupied(board), from),
+        Kind::Queen => queen_rides(occupied, from),
+        Kind::Rook => straight_rides(occupied, from),
+        Kind::Bishop => diagonal_rides(occupied, from),
         Kind::Knight => knight_leaps(from),
         Kind::Pawn => pawn_leaps(colour, from),
-        Kind::Grasshopper => queen_hops(occupied(board), from),
-        Kind::Nightrider => knight_rides(occupied(board), from),
+        Kind::Grasshopper => queen_hops(occupied, from),
+        Kind::Nightrider => knight_rides(occupied, from),
     }
+}
+
+// The same over the men of the board.
+pub(crate) fn reach_as(board: &Board, colour: Colour, kind: Kind, from: Square) -> u64
+    ensures { result ≡ word (λ t. reaches_as board.now.men colour kind from t) }
+{
+    reach_over(occupied(board), colour, kind, from)
 }
 
 // Whether the man on `from`, if there is one, could go to `to` if an enemy stood there.

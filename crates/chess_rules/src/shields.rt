@@ -1,14 +1,21 @@
 //! The squares that shield a king, and the moves that can't expose it.
-ghost use Rattle.std.specs.Prelude.{◌≡◌, is_some};
-ghost use Rattle.chess_core.specs.Position.{other};
+ghost use Rattle.std.specs.Prelude.{◌≡◌, ◌==◌, ◌&&◌, ◌||◌, List, Option, is_some};
+ghost use Rattle.std.specs.Int.{bit_at};
+ghost use Rattle.std.specs.List.{list_any};
+ghost use Rattle.chess_core.specs.Position.{is_man, man_on, other};
+ghost use Rattle.chess_core.specs.Squares.{some_square};
+ghost use Rattle.chess_core.specs.declared.man.Man.{Man};
+ghost use Rattle.chess_core.specs.declared.man.Kind.TheVariants.{Queen};
+ghost use Rattle.chess_rules.specs.Lines.{is_on_some, occupied_squares};
+ghost use Rattle.chess_rules.specs.Reaches.{rides};
 ghost use Rattle.chess_core.specs.Words.{word};
-ghost use Rattle.chess_rules.specs.Shields.{cannot_expose, has_fairy, is_unshielded, is_plain, may_expose};
+ghost use Rattle.chess_rules.specs.Shields.{cannot_expose, has_fairy, is_shut, is_unshielded, is_plain, may_expose, rider_along, steps_along};
 ghost use Rattle.chess_rules.specs.RuleSet.{is_circe};
 
+use crate::lines::{diagonal_lines, diagonal_rides, occupied, straight_lines, straight_rides};
 use crate::play::is_castling;
-use crate::reach::reach_as;
 use crate::rules::Rules;
-use crate::words::{contains, only};
+use crate::words::{contains, next_bit, only};
 use chess_core::board::Board;
 use chess_core::man::{Colour, Kind, Man, Move};
 use chess_core::square::Square;
@@ -29,6 +36,80 @@ fn is_unshielded<R: Rules>(board: &Board, colour: Colour, king: Square) -> bool
     R::is_madrasi() || has_fairy(board, colour.other()) || R::attacked(board, king, colour.other())
 }
 
+/// The lines of a rook, or those of a bishop.
+#[derive(Clone, Copy)]
+enum RiderLines {
+    Straight,
+    Diagonal,
+}
+
+impl RiderLines {
+    // The man that rides along these lines alone.
+    fn rider(self) -> Kind
+        ensures { result ≡ rider_along self }
+    {
+        match self {
+            RiderLines::Straight => Kind::Rook,
+            RiderLines::Diagonal => Kind::Bishop,
+        }
+    }
+
+    // The squares of the lines of `from`, itself apart.
+    fn all(self, from: Square) -> u64
+        ensures { result ≡ word (is_on_some (steps_along self) from) }
+    {
+        match self {
+            RiderLines::Straight => straight_lines(from),
+            RiderLines::Diagonal => diagonal_lines(from),
+        }
+    }
+
+    // The squares to which a rider on `from` gets along them.
+    fn rides(self, occupied: u64, from: Square) -> u64
+        ensures { (men : List (Option Man)) → occupied ≡ occupied_squares men → result ≡ word (λ t. list_any (rides men from t) (steps_along self)) }
+    {
+        match self {
+            RiderLines::Straight => straight_rides(occupied, from),
+            RiderLines::Diagonal => diagonal_rides(occupied, from),
+        }
+    }
+}
+
+// The squares to which the riders on these squares get along the lines.
+fn ridden_squares(occupied: u64, riders: u64, lines: RiderLines) -> u64
+    ensures { (men : List (Option Man)) → occupied ≡ occupied_squares men
+        → result ≡ word (λ s. some_square (λ q. bit_at riders q == 1 && list_any (rides men q s) (steps_along lines))) }
+{
+    let mut ridden = 0u64;
+    let mut number = 0u8;
+    while let Some(rider) = next_bit(riders, number) {
+        ridden |= lines.rides(occupied, rider);
+        number = rider.index() + 1;
+    }
+    ridden
+}
+
+// The queens of this colour and the riders along these lines that stand on a line of the square.
+fn riders_on_lines(board: &Board, colour: Colour, square: Square, lines: RiderLines) -> u64
+    ensures { result ≡ word (λ q. (is_man (man_on board.now.men q) colour (rider_along lines) || is_man (man_on board.now.men q) colour Queen)
+        && is_on_some (steps_along lines) square q) }
+{
+    (board.squares(colour, lines.rider()) | board.squares(colour, Kind::Queen)) & lines.all(square)
+}
+
+// The squares that shut a line between the square and a rider of this colour. Mostly no such rider stands
+// on its lines.
+fn shut_squares(board: &Board, colour: Colour, square: Square, lines: RiderLines) -> u64
+    ensures { result ≡ word (is_shut board.now.men colour (rider_along lines) (steps_along lines) square) }
+{
+    let riders = riders_on_lines(board, colour, square, lines);
+    if riders == 0 {
+        return 0;
+    }
+    let occupied = occupied(board);
+    lines.rides(occupied, square) & ridden_squares(occupied, riders, lines)
+}
+
 // The squares from which a move may expose the colour's king.
 pub(crate) fn shield_squares<R: Rules>(board: &Board, colour: Colour) -> u64
     ensures { result ≡ word (may_expose R.rule board.now.men colour) }
@@ -39,7 +120,10 @@ pub(crate) fn shield_squares<R: Rules>(board: &Board, colour: Colour) -> u64
     if is_unshielded::<R>(board, colour, king) {
         return !0;
     }
-    only(Some(king)) | reach_as(board, colour, Kind::Queen, king)
+    let enemy = colour.other();
+    only(Some(king))
+        | shut_squares(board, enemy, king, RiderLines::Straight)
+        | shut_squares(board, enemy, king, RiderLines::Diagonal)
 }
 
 // Whether the man's move changes nothing but its own square.

@@ -11,4 +11,5 @@ returns-then-is_unshielded g c =
 
 pub returns : goal.returns
 returns g c =
-    shield_squares_some g.R.Rules.rule c.args.board.now.men c.args.colour c.in-Some.king c.only.result c.reach_as.result (sym c.king_of.ensures ∙ c.in-Some.is) (sym c.is_unshielded.ensures ∙ c.if-is_unshielded.false) c.only.ensures c.reach_as.ensures
+    shield_squares_some g.R.Rules.rule c.args.board.now.men c.args.colour c.in-Some.king c.only.result c.shut_squares.result c.shut_squares-2.result (sym c.king_of.ensures ∙ c.in-Some.is) (sym c.is_unshielded.ensures ∙ c.if-is_unshielded.false) c.only.ensures
+    (rw c.other-enemy.ensures at c.shut_squares.ensures) (rw c.other-enemy.ensures at c.shut_squares-2.ensures)

@@ -1,0 +1,7 @@
+use Rattle.chess_rules.specs.Shields.{rider_along, steps_along}
+use Rattle.chess_rules.proofs.Riding.{riders_are}
+use Rattle.chess_rules.proofs.shields.riders_on_lines.Goals as goal
+
+pub returns : goal.returns
+returns c =
+    riders_are c.args.board.now.men c.args.colour (rider_along c.args.lines) (steps_along c.args.lines) c.args.square c.squares.result c.squares-2.result c.all.result (rw c.rider.ensures at c.squares.ensures.word) c.squares-2.ensures.word c.all.ensures

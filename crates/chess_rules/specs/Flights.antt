@@ -1,0 +1,65 @@
+-- Flights: the squares to which a king may go (a composer's word; the moves are the Laws').
+use Rattle.std.specs.Prelude.{◌≡◌, ◌<◌, ℕ, Bool, true, false, ◌&&◌, ◌==◌, not, List, Option, Some, None, is_some}
+use Rattle.std.specs.Int.{bit_at, bit_not, w64}
+use Rattle.std.specs.Int.Bits.{bit_and, bit_or}
+use Rattle.chess_core.specs.Position.{Position, king_square, man_on, other, same_kind}
+use Rattle.chess_core.specs.Squares.{is_square, some_square}
+use Rattle.chess_core.specs.WellFormed.{IsWellFormed}
+use Rattle.chess_core.specs.Words.{word}
+use Rattle.chess_core.specs.declared.man.Colour.{Colour}
+use Rattle.chess_core.specs.declared.man.Kind.TheVariants.{King}
+use Rattle.chess_core.specs.declared.man.Man.{Man}
+use Rattle.chess_core.specs.declared.man.Move.{Move}
+use Rattle.chess_rules.specs.Legal.{is_arrival_free, legal, pseudo}
+use Rattle.chess_rules.specs.Play.{capture_square}
+use Rattle.chess_rules.specs.Reaches.{reaches_as}
+use Rattle.chess_rules.specs.RuleSet.{RuleSet, is_circe}
+use Rattle.chess_rules.specs.Sight.{is_simple, sight_after}
+use Rattle.chess_rules.specs.declared.sight.Sight.{Sight}
+
+-- the king on this square, if there is one, may go to t
+abbrev pub is_flight_from : RuleSet → Position → Option ℕ → ℕ → Bool
+is_flight_from rule p None t = false
+is_flight_from rule p (Some k) t = legal rule p (record { from = k; to = t; promo = None })
+
+-- the king of the side to move may go to t
+unfoldable pub is_flight : RuleSet → Position → ℕ → Bool
+is_flight rule p t = is_flight_from rule p (king_square p.men p.turn) t
+
+-- the side to move has a flight
+unfoldable pub has_flight : RuleSet → Position → Bool
+has_flight rule p = some_square (is_flight rule p)
+
+-- a king of colour c on k may step to t, attacks apart: no man of its own and no king stands there, and in
+-- Circe, where a man that is captured may be reborn, nobody
+unfoldable pub is_open : RuleSet → List (Option Man) → Colour → ℕ → ℕ → Bool
+is_open rule men c k t =
+    reaches_as men c King k t && is_arrival_free c (man_on men t) && not (is_circe rule && is_some (man_on men t))
+
+-- the king of colour c on k may step so to each square of the word
+pub record AreOpen (rule : RuleSet) (men : List (Option Man)) (c : Colour) (k w : ℕ) : Type 0 where
+  pub inside : (t : ℕ) → t < 64 → (bit_at w t == 1) ≡ true → is_open rule men c k t ≡ true
+
+-- x, that is no king, may make the simple move m, and the enemy king stands on k
+pub record IsSeenFrom (rule : RuleSet) (p : Position) (m : Move) (x : Man) (k : ℕ) : Type 0 where
+  pub well_formed : IsWellFormed p
+  pub pseudo : pseudo rule p m ≡ true
+  pub here : man_on p.men m.from ≡ Some x
+  pub mortal : same_kind x.kind King ≡ false
+  pub simple : is_simple rule x m (is_some (capture_square p x m)) ≡ true
+  pub king : king_square p.men (other p.turn) ≡ Some k
+
+-- the words once a man has gone from a to b, the man on o is gone, and the enemy king is lifted from k: the man
+-- that went doesn't count
+abbrev pub sight_lifted : List (Option Man) → ℕ → Option ℕ → ℕ → ℕ → Sight
+sight_lifted men a o b k = record {
+  occupied = bit_and (sight_after men a o b).occupied (bit_not w64 (word (is_square (Some k))));
+  standing = bit_and (sight_after men a o b).standing (bit_not w64 (word (is_square (Some a))));
+}
+
+-- the words once that king stands on t, whoever stood there
+abbrev pub sight_with : Sight → ℕ → Sight
+sight_with v t = record {
+  occupied = bit_or v.occupied (word (is_square (Some t)));
+  standing = bit_and v.standing (bit_not w64 (word (is_square (Some t))));
+}
