@@ -95,8 +95,9 @@ impl Reader {
                 Token::Line(keyword) => block.note(keyword, &text),
                 Token::TooLong(line) => block.read_long(line),
                 Token::Word => {
-                    block.read(&word);
-                    match closing_of(word.bytes.as_slice()) {
+                    let command = command_of(word.bytes.as_slice());
+                    block.read(&word, command);
+                    match closing_of(command) {
                         Some(last) => {
                             self.next_block = next_behind(last);
                             return block.closed(word.line, last);
@@ -134,12 +135,11 @@ fn skip_on(scanner: &mut Scanner, fault: Option<Fault>)
     }
 }
 
-// Which item a closing word leaves behind its own.
-fn closing_of(word: &[u8]) -> Option<Last>
-    requires { length word.now ≤ 160 }
-    ensures { result ≡ last_of (command_of word.now) }
+// Whether the item that a closing word ends is the last.
+fn closing_of(command: Option<Command>) -> Option<Last>
+    ensures { result ≡ last_of command }
 {
-    match command_of(word) {
+    match command {
         Some(Command::Next) => Some(Last::No),
         Some(Command::Last) => Some(Last::Yes),
         _ => None,
