@@ -519,6 +519,9 @@ fn is_there(diagram: &Diagram, colour: Colour, kind: Kind, square: Square) -> bo
 fn stands(diagram: &Diagram, colour: Colour, kind: Kind) -> bool
     ensures { result ≡ stands diagram.now.men colour kind }
 {
+    if !diagram.has_kind(kind) {
+        return false;
+    }
     for number in 0..64u8 {
         if is_there(diagram, colour, kind, Square::numbered(number)) {
             return true;

@@ -300,7 +300,7 @@ impl Scanner {
             Ok(Some(_)) => {
                 let line = self.line;
                 word.line = line;
-                word.bytes.clear();
+                word.bytes = ArrayVec::new();
                 match self.take_run(source, &mut word.bytes) {
                     Ok(true) => Ok(Found::Word),
                     Ok(false) => Err(ReadFault::TooLong(line)),
@@ -359,6 +359,7 @@ struct Front {
 }
 
 // How many blanks and line ends stand first: the near ones, and where they are many whole blocks behind them.
+#[inline(always)]
 fn gap_front(view: &[u8]) -> Front
     ensures within { result.count ≤ length view.now }
     ensures all { list_all is_gap (take result.count view.now) ≡ true }
@@ -410,6 +411,7 @@ fn near_gap(view: &[u8]) -> Front
 }
 
 // How many bytes the whole blocks of blanks and line ends have that stand first.
+#[inline(never)]
 fn gap_blocks(view: &[u8]) -> Front
     ensures within { result.count ≤ length view.now }
     ensures all { list_all is_gap (take result.count view.now) ≡ true }
