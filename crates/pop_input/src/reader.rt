@@ -1,10 +1,11 @@
 //! Problems and faults, one after another.
-ghost use Rattle.std.specs.Prelude.{◌≡◌, ◌<◌, ◌≤◌, ◌⊎◌, None, length, true};
+ghost use Rattle.std.specs.Prelude.{◌≡◌, ◌≢◌, ◌<◌, ◌≤◌, ◌⊎◌, None, length, true};
 ghost use Rattle.pop_text.specs.Bytes.{greatest};
 ghost use Rattle.pop_text.specs.Words.{limit};
 ghost use Rattle.pop_text.specs.Reading.{IsSeen, failures_after};
 ghost use Rattle.pop_text.specs.Plain.{Skips};
 ghost use Rattle.pop_text.specs.declared.scanner.End.{End};
+ghost use Rattle.pop_input.specs.declared.reader.Next.{Next};
 ghost use Rattle.pop_input.specs.Standing.{IsNumbered, NextItem, is_item, next_behind as behind, start, work_left};
 ghost use Rattle.pop_input.specs.Closings.{cut_fault, last_of};
 ghost use Rattle.pop_input.specs.Names.{command_of};
@@ -71,8 +72,9 @@ impl Reader {
     /// the first 2^30 is needed. 21: the source has failed.
     ///
     /// Behind faults 1 to 18 words are skipped up to the end of the problem; 20 and 21 come there as items of their own.
+    /// Behind the last item the source isn't asked, and its count of failures may be any.
     pub fn next_problem<S: Source>(&mut self, source: &mut S) -> Item
-        requires { self.old.at.end ≡ End.Open → S.failures source.old < greatest }
+        requires { self.old.next ≢ Next.Nothing → self.old.at.end ≡ End.Open → S.failures source.old < greatest }
         ensures item { NextItem self.old self.new (S.remaining source.old) (S.remaining source.new) result }
         ensures within { self.new.at.used ≤ limit }
         ensures waits { length self.new.at.window ≤ 4096 }
