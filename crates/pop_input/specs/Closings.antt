@@ -45,6 +45,14 @@ Closes block line last (Sound problem answered) = (closing_fault block line ≡ 
 Closes block line last (Faulty fault answered) = (closing_fault block line ≡ Some fault) × (answered ≡ last)
 Closes block line last NoItem = ⊥
 
+-- what is answered of words without a fault that a word in this line closes
+abbrev pub Poses : State → List ℕ → List ℕ → ℕ → Last → Item → Type 0
+Poses state title author line last (Sound problem answered) =
+    (end_fault_in state ≡ None) × (problem ≡ posed_of state title author) × (answered ≡ last)
+Poses state title author line last (Faulty fault answered) =
+    (at_line line (end_fault_in state) ≡ Some fault) × (answered ≡ last)
+Poses state title author line last NoItem = ⊥
+
 abbrev pub ended_by : Option Fault → Fault → Fault
 ended_by (Some fault) other = fault
 ended_by None other = other

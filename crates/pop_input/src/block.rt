@@ -1,6 +1,6 @@
 //! A block as far as it is read: the words up to NextProblem or EndProblem.
 ghost use Rattle.std.specs.Prelude.{◌≡◌, ◌≤◌, ℕ, List, [], length, None, Some, not, true};
-ghost use Rattle.pop_input.specs.Names.{or_else};
+ghost use Rattle.pop_input.specs.Names.{command_of, or_else};
 ghost use Rattle.pop_input.specs.Blocks.{at_line, fault_at};
 ghost use Rattle.pop_input.specs.Closings.{Closes, ended_item, noted, said_after};
 ghost use Rattle.pop_input.specs.State.{state_of};
@@ -9,7 +9,7 @@ ghost use Rattle.pop_input.specs.declared.names.TextWord.TheVariants.{Title, Aut
 
 use crate::draft::Draft;
 use crate::item::{Fault, Item, Last};
-use crate::names::{Command, TextWord, command_of};
+use crate::names::{Command, TextWord};
 use pop_text::text::Text;
 use pop_text::word::Word;
 
@@ -41,9 +41,10 @@ impl Block {
         }
     }
 
-    /// Reads a word, unless a fault has been met.
-    pub(crate) fn read(&mut self, word: &Word)
-        requires { length word.now.bytes.items ≤ 160 }
+    /// Reads a word, which names this command or none, unless a fault has been met.
+    pub(crate) fn read(&mut self, word: &Word, command: Option<Command>)
+        requires short { length word.now.bytes.items ≤ 160 }
+        requires command { command ≡ command_of word.now.bytes.items }
         ensures fault { self.new.fault ≡ or_else self.old.fault (at_line word.now.line (fault_of self.old.begun self.old.draft word.now.bytes.items)) }
         ensures begun { self.new.fault ≡ None → self.new.begun ≡ true }
         ensures draft { self.new.fault ≡ None → self.new.draft ≡ said_after self.old.begun self.old.draft word.now.bytes.items }
@@ -51,7 +52,7 @@ impl Block {
         ensures author { self.new.author ≡ self.old.author }
     {
         if self.fault.is_none() {
-            if let Some(number) = self.take(word.bytes.as_slice()) {
+            if let Some(number) = self.take(word.bytes.as_slice(), command) {
                 self.fault = Some(Fault {
                     number,
                     line: word.line,
@@ -61,8 +62,9 @@ impl Block {
     }
 
     // Takes a word, or answers its fault's number.
-    fn take(&mut self, word: &[u8]) -> Option<u8>
-        requires { length word.now ≤ 160 }
+    fn take(&mut self, word: &[u8], command: Option<Command>) -> Option<u8>
+        requires short { length word.now ≤ 160 }
+        requires command { command ≡ command_of word.now }
         ensures number { result ≡ fault_of self.old.begun self.old.draft word.now }
         ensures begun { result ≡ None → self.new.begun ≡ true }
         ensures draft { result ≡ None → self.new.draft ≡ said_after self.old.begun self.old.draft word.now }
@@ -71,9 +73,9 @@ impl Block {
         ensures author { self.new.author ≡ self.old.author }
     {
         if self.begun {
-            return self.draft.take(word);
+            return self.draft.take(word, command);
         }
-        match command_of(word) {
+        match command {
             Some(Command::Begin) => {
                 self.begun = true;
                 None
@@ -112,12 +114,9 @@ impl Block {
     pub(crate) fn closed(&self, line: u64, last: Last) -> Item
         ensures { Closes self.now line last result }
     {
-        if let Some(fault) = self.fault {
-            return Item::Faulty(fault, last);
-        }
-        match self.draft.posed(&self.title, &self.author) {
-            Ok(problem) => Item::Sound(problem, last),
-            Err(number) => Item::Faulty(Fault { number, line }, last),
+        match self.fault {
+            Some(fault) => Item::Faulty(fault, last),
+            None => self.draft.posed(&self.title, &self.author, line, last),
         }
     }
 

@@ -9,7 +9,8 @@ ghost use Rattle.chess_core.specs.WellFormed.{IsWellFormed, is_home};
 ghost use Rattle.chess_rules.specs.Attacks.{in_check};
 ghost use Rattle.pop_input.specs.Posed.{rule_of};
 ghost use Rattle.pop_input.specs.Ends.{counts, end_fault_in, is_taken, posed_of, setup_fault, setup_of, unmoved_of};
-ghost use Rattle.pop_input.specs.Names.{kind_of};
+ghost use Rattle.pop_input.specs.Names.{command_of, kind_of};
+ghost use Rattle.pop_input.specs.Closings.{Poses};
 ghost use Rattle.pop_input.specs.Values.{is_digit, squares_of};
 ghost use Rattle.pop_input.specs.Stipulations.{has_king_to_mate};
 ghost use Rattle.pop_input.specs.State.{State, awaited_by, put_kind, put_men, state_after, state_by, state_of, switches_with};
@@ -18,6 +19,7 @@ ghost use Rattle.pop_input.specs.declared.place.Role.TheVariants.{BarredSquares,
 ghost use Rattle.pop_input.specs.declared.names.Section.TheVariants.{Condition as Conditions, Options, Pieces, Stipulation as Stipulations};
 
 use crate::condition::Condition;
+use crate::item::{Fault, Item, Last};
 use crate::names::{
     Awaited, Command, OptionWord, Section, colour_of, condition_of, kind_of, option_of,
 };
@@ -86,13 +88,14 @@ impl Draft {
         }
     }
 
-    /// Takes a word, or answers the number of its fault.
-    pub(crate) fn take(&mut self, word: &[u8]) -> Option<u8>
-        requires { length word.now ≤ 160 }
+    /// Takes a word, which names this command or none, or answers the number of its fault.
+    pub(crate) fn take(&mut self, word: &[u8], command: Option<Command>) -> Option<u8>
+        requires short { length word.now ≤ 160 }
+        requires command { command ≡ command_of word.now }
         ensures number { result ≡ fault_in self.old word.now }
         ensures state { result ≡ None → self.new ≡ state_after self.old word.now }
     {
-        match self.place.role_of(word) {
+        match self.place.role_of(word, command) {
             Role::Limit => self.take_limit(word),
             Role::CrossedSquare => self.take_crossed(word),
             Role::BarredSquares => self.take_barred(word),
@@ -345,30 +348,31 @@ impl Draft {
 }
 
 impl Draft {
-    /// The problem that the words pose, or the number of the fault at their end: 10 without a stipulation,
+    /// The problem that the words pose, or the fault at their end, in this line: 10 without a stipulation,
     /// 11 without men, 15 where the crossed square cannot be, 17 where the side to be mated has no king,
     /// 18 where the side that isn't to move is in check under the condition.
     #[tactic(auto, unfolding(crate::specs::Ends::end_fault_in))]
-    pub(crate) fn posed(&self, title: &Text, author: &Text) -> Result<Problem, u8>
-        ensures { MatchResult result
-            (λ problem. (end_fault_in self.now ≡ None) × (problem ≡ posed_of self.now title.now author.now))
-            (λ number. end_fault_in self.now ≡ Some number) }
+    pub(crate) fn posed(&self, title: &Text, author: &Text, line: u64, last: Last) -> Item
+        ensures { Poses self.now title.now author.now line last result }
     {
         let Some(stipulation) = self.stipulation else {
-            return Err(10);
+            return Item::Faulty(Fault { number: 10, line }, last);
         };
         let diagram = self.diagram_for(stipulation.form);
         match self.setup_fault(&diagram, stipulation) {
-            Some(number) => Err(number),
-            None => Ok(Problem::new(
-                &diagram,
-                stipulation,
-                self.condition,
-                self.switches,
-                self.limit,
-                title,
-                author,
-            )),
+            Some(number) => Item::Faulty(Fault { number, line }, last),
+            None => Item::Sound(
+                Problem::new(
+                    &diagram,
+                    stipulation,
+                    self.condition,
+                    self.switches,
+                    self.limit,
+                    title,
+                    author,
+                ),
+                last,
+            ),
         }
     }
 
@@ -515,6 +519,9 @@ fn is_there(diagram: &Diagram, colour: Colour, kind: Kind, square: Square) -> bo
 fn stands(diagram: &Diagram, colour: Colour, kind: Kind) -> bool
     ensures { result ≡ stands diagram.now.men colour kind }
 {
+    if !diagram.has_kind(kind) {
+        return false;
+    }
     for number in 0..64u8 {
         if is_there(diagram, colour, kind, Square::numbered(number)) {
             return true;

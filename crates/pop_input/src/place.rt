@@ -3,7 +3,7 @@ ghost use Rattle.std.specs.Prelude.{◌≡◌, ◌≤◌, length};
 ghost use Rattle.pop_input.specs.Names.{command_of};
 ghost use Rattle.pop_input.specs.State.{role_of, plain_role};
 
-use crate::names::{Awaited, Command, Section, command_of};
+use crate::names::{Awaited, Command, Section};
 use crate::values::squares_of;
 
 /// The section, and what an option awaits.
@@ -24,9 +24,10 @@ pub enum Role {
 }
 
 impl Place {
-    /// What the word is at this place.
-    pub(crate) fn role_of(&self, word: &[u8]) -> Role
-        requires { length word.now ≤ 160 }
+    /// What the word, which names this command or none, is at this place.
+    pub(crate) fn role_of(&self, word: &[u8], command: Option<Command>) -> Role
+        requires short { length word.now ≤ 160 }
+        requires command { command ≡ command_of word.now }
         ensures { result ≡ role_of self.now word.now }
     {
         match self.awaited {
@@ -37,19 +38,18 @@ impl Place {
                 if squares_of(word).is_some() {
                     Role::BarredSquares
                 } else {
-                    self.plain_role_of(word)
+                    self.plain_role_of(command)
                 }
             }
-            None => self.plain_role_of(word),
+            None => self.plain_role_of(command),
         }
     }
 
     // What it is where it is no awaited value.
-    fn plain_role_of(&self, word: &[u8]) -> Role
-        requires { length word.now ≤ 160 }
-        ensures { result ≡ plain_role (command_of word.now) self.now.section }
+    fn plain_role_of(&self, command: Option<Command>) -> Role
+        ensures { result ≡ plain_role command self.now.section }
     {
-        match command_of(word) {
+        match command {
             Some(command) => Role::Control(command),
             None => Role::Within(self.section),
         }

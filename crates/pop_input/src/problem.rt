@@ -67,6 +67,13 @@ impl Problem {
         self.setup
     }
 
+    /// The same diagram where it lies, not copied.
+    pub fn setup(&self) -> &Diagram
+        ensures { result.now ≡ self.now.diagram }
+    {
+        &self.setup
+    }
+
     /// What is asked for.
     pub fn stipulation(&self) -> Stipulation
         ensures stipulation { result ≡ self.now.stipulation }

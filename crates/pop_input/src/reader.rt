@@ -1,10 +1,11 @@
 //! Problems and faults, one after another.
-ghost use Rattle.std.specs.Prelude.{◌≡◌, ◌<◌, ◌≤◌, ◌⊎◌, None, length, true};
+ghost use Rattle.std.specs.Prelude.{◌≡◌, ◌≢◌, ◌<◌, ◌≤◌, ◌⊎◌, None, length, true};
 ghost use Rattle.pop_text.specs.Bytes.{greatest};
 ghost use Rattle.pop_text.specs.Words.{limit};
 ghost use Rattle.pop_text.specs.Reading.{IsSeen, failures_after};
 ghost use Rattle.pop_text.specs.Plain.{Skips};
 ghost use Rattle.pop_text.specs.declared.scanner.End.{End};
+ghost use Rattle.pop_input.specs.declared.reader.Next.{Next};
 ghost use Rattle.pop_input.specs.Standing.{IsNumbered, NextItem, is_item, next_behind as behind, start, work_left};
 ghost use Rattle.pop_input.specs.Closings.{cut_fault, last_of};
 ghost use Rattle.pop_input.specs.Names.{command_of};
@@ -71,8 +72,9 @@ impl Reader {
     /// the first 2^30 is needed. 21: the source has failed.
     ///
     /// Behind faults 1 to 18 words are skipped up to the end of the problem; 20 and 21 come there as items of their own.
+    /// Behind the last item the source isn't asked, and its count of failures may be any.
     pub fn next_problem<S: Source>(&mut self, source: &mut S) -> Item
-        requires { self.old.at.end ≡ End.Open → S.failures source.old < greatest }
+        requires { self.old.next ≢ Next.Nothing → self.old.at.end ≡ End.Open → S.failures source.old < greatest }
         ensures item { NextItem self.old self.new (S.remaining source.old) (S.remaining source.new) result }
         ensures within { self.new.at.used ≤ limit }
         ensures waits { length self.new.at.window ≤ 4096 }
@@ -95,8 +97,9 @@ impl Reader {
                 Token::Line(keyword) => block.note(keyword, &text),
                 Token::TooLong(line) => block.read_long(line),
                 Token::Word => {
-                    block.read(&word);
-                    match closing_of(word.bytes.as_slice()) {
+                    let command = command_of(word.bytes.as_slice());
+                    block.read(&word, command);
+                    match closing_of(command) {
                         Some(last) => {
                             self.next_block = next_behind(last);
                             return block.closed(word.line, last);
@@ -134,12 +137,11 @@ fn skip_on(scanner: &mut Scanner, fault: Option<Fault>)
     }
 }
 
-// Which item a closing word leaves behind its own.
-fn closing_of(word: &[u8]) -> Option<Last>
-    requires { length word.now ≤ 160 }
-    ensures { result ≡ last_of (command_of word.now) }
+// Whether the item that a closing word ends is the last.
+fn closing_of(command: Option<Command>) -> Option<Last>
+    ensures { result ≡ last_of command }
 {
-    match command_of(word) {
+    match command {
         Some(Command::Next) => Some(Last::No),
         Some(Command::Last) => Some(Last::Yes),
         _ => None,

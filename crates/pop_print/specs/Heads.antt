@@ -84,3 +84,7 @@ unfoldable pub head_text : ℕ → Posed → Bool → List ℕ
 head_text number posed no_board =
     item_line number ++ names_text posed ++ (if no_board || posed.no_board then [] else board_text posed.diagram.men)
     ++ task_line posed
+
+-- a sound item whose solutions aren't asked for: its head, that it is sound, an empty line
+abbrev pub checked_text : ℕ → Posed → Bool → List ℕ
+checked_text number posed no_board = head_text number posed no_board ++ codes "sound\n" ++ codes "\n"

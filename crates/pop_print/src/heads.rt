@@ -3,7 +3,7 @@ ghost use Rattle.std.specs.Prelude.{◌≡◌, ◌<◌, ◌≤◌, ◌+◌, ◌+
 ghost use Rattle.chess_core.specs.Position.{man_on};
 ghost use Rattle.pop_text.specs.Bytes.{Writes, count_after, greatest};
 ghost use Rattle.pop_print.specs.Room.{room};
-ghost use Rattle.pop_print.specs.Heads.{board_text, cell_of as letter_on, condition_text as text_of_condition, form_text as text_of_form, goal_text as text_of_goal, half_text as text_of_half, head_text, item_line, labelled, names_text, rank_text, stipulation_text, task_line};
+ghost use Rattle.pop_print.specs.Heads.{board_text, cell_of as letter_on, condition_text as text_of_condition, form_text as text_of_form, goal_text as text_of_goal, checked_text, half_text as text_of_half, head_text, item_line, labelled, names_text, rank_text, stipulation_text, task_line};
 
 use crate::line::LineBuffer;
 use crate::notation::letter_of;
@@ -33,16 +33,43 @@ pub fn print_head<W: Sink>(
     lines.put(sink)
 }
 
+/// Writes a sound item whose solutions aren't asked for, in one write: its head, that it is sound, and an empty line.
+pub fn print_checked<W: Sink>(
+    sink: &mut W,
+    number: u64,
+    problem: &Problem,
+    no_board: bool,
+) -> Result<(), SinkFault>
+    requires { W.failures sink.old < greatest }
+    ensures bytes { Writes (W.taken sink.old) (W.taken sink.new) (checked_text number problem.now no_board) result }
+    ensures counted { W.failures sink.new ≡ count_after result (W.failures sink.old) }
+{
+    let mut lines = LineBuffer::new();
+    lines.add_checked(number, problem, no_board);
+    lines.put(sink)
+}
+
 impl LineBuffer {
     #[tactic(auto, unfolding(crate::specs::Heads::head_text))]
     fn add_head(&mut self, number: u64, problem: &Problem, no_board: bool)
         requires { length self.old + 600 ≤ room }
-        ensures { self.new ≡ self.old ++ head_text number problem.now no_board }
+        ensures text { self.new ≡ self.old ++ head_text number problem.now no_board }
+        ensures short { length self.new ≤ length self.old + 600 }
     {
         self.add_item_line(number);
         self.add_names(problem);
-        self.add_board_unless(is_left_out(no_board, problem), &problem.diagram());
+        self.add_board_unless(is_left_out(no_board, problem), problem.setup());
         self.add_task(problem);
+    }
+
+    // Adds the head, that the problem is sound, and an empty line.
+    fn add_checked(&mut self, number: u64, problem: &Problem, no_board: bool)
+        requires { length self.old + 700 ≤ room }
+        ensures { self.new ≡ self.old ++ checked_text number problem.now no_board }
+    {
+        self.add_head(number, problem, no_board);
+        self.add(b"sound\n");
+        self.add(b"\n");
     }
 
     // Adds the first line of an item.
@@ -72,7 +99,8 @@ impl LineBuffer {
     #[tactic(auto, unfolding(crate::specs::Heads::task_line))]
     fn add_task(&mut self, problem: &Problem)
         requires { length self.old + 33 ≤ room }
-        ensures { self.new ≡ self.old ++ task_line problem.now }
+        ensures text { self.new ≡ self.old ++ task_line problem.now }
+        ensures short { length self.new ≤ length self.old + 33 }
     {
         self.add_stipulation(problem.stipulation());
         self.add(condition_text(problem.condition()));

@@ -12,4 +12,4 @@ mod notation;
 
 pub use events::print_event;
 pub use faults::print_fault;
-pub use heads::print_head;
+pub use heads::{print_checked, print_head};

@@ -1,5 +1,5 @@
 //! Words and text lines of a source.
-ghost use Rattle.std.specs.Prelude.{◌≡◌, ◌<◌, ◌+◌, ◌-◌, ◌++◌, ◌⊎◌, ◌≢◌, [], ◌∷◌, List, ℕ, count_by, drop, length, nat_lt, slice_index, Some, None, Ok, take, Option, Err, IfErr, IfOk, IfSome, false, true, ◌≤◌};
+ghost use Rattle.std.specs.Prelude.{◌≡◌, ◌<◌, ◌+◌, ◌-◌, ◌^◌, ◌++◌, ◌⊎◌, ◌≢◌, [], ◌∷◌, List, ℕ, count_by, drop, length, nat_lt, slice_index, Some, None, Ok, take, Option, Err, IfErr, IfOk, IfSome, false, true, ◌≤◌};
 ghost use Rattle.pop_text.specs.Bytes.{greatest};
 ghost use Rattle.std.specs.List.{list_all};
 ghost use Rattle.pop_text.specs.Words.{limit, is_gap, is_in_line, is_in_word, is_line_end};
@@ -22,6 +22,12 @@ const LIMIT: u32 = 1 << 30;
 
 // The most bytes that wait.
 const WINDOW: usize = 4096;
+
+// The bytes of a gap that are looked at one by one, before blocks are.
+const NEAR: usize = 4;
+
+// The bytes of a gap that are looked at together.
+const BLOCK: usize = 32;
 
 /// How the input ends, as far as that is known.
 #[derive(Clone, Copy, Debug, PartialEq, Eq)]
@@ -152,7 +158,7 @@ impl Scanner {
     {
         self.start += count;
         self.used += count as u32;
-        self.line += line_ends as u64;
+        self.line = line_behind(self.line, line_ends);
     }
 
     // The bytes of the window that belong to the input.
@@ -294,7 +300,7 @@ impl Scanner {
             Ok(Some(_)) => {
                 let line = self.line;
                 word.line = line;
-                word.bytes.clear();
+                word.bytes = ArrayVec::new();
                 match self.take_run(source, &mut word.bytes) {
                     Ok(true) => Ok(Found::Word),
                     Ok(false) => Err(ReadFault::TooLong(line)),
@@ -337,6 +343,14 @@ impl Scanner {
     }
 }
 
+// The line behind so many line ends.
+fn line_behind(line: u64, line_ends: usize) -> u64
+    requires { line + line_ends < 2 ^ 64 }
+    ensures { result ≡ line + line_ends }
+{
+    line + line_ends as u64
+}
+
 // How many bytes, and how many of them are line ends.
 #[derive(Clone, Copy)]
 struct Front {
@@ -344,16 +358,46 @@ struct Front {
     line_ends: usize,
 }
 
-// How many blanks and line ends stand first.
+// How many blanks and line ends stand first: the near ones, and where they are many whole blocks behind them.
+#[inline(always)]
 fn gap_front(view: &[u8]) -> Front
     ensures within { result.count ≤ length view.now }
     ensures all { list_all is_gap (take result.count view.now) ≡ true }
     ensures lines { result.line_ends ≡ count_by is_line_end (take result.count view.now) }
     ensures some { (b : ℕ) → (rest : List ℕ) → view.now ≡ b ∷ rest → is_gap b ≡ true → 0 < result.count }
 {
+    let near = near_gap(view);
+    if near.count < NEAR {
+        return near;
+    }
+    let far = gap_blocks(&view[near.count..]);
+    both(near, far)
+}
+
+// So many bytes and those behind them.
+fn both(near: Front, far: Front) -> Front
+    requires bytes { near.count + far.count < 2 ^ 63 }
+    requires line_ends { near.line_ends + far.line_ends < 2 ^ 63 }
+    ensures count { result.count ≡ near.count + far.count }
+    ensures line_ends { result.line_ends ≡ near.line_ends + far.line_ends }
+{
+    Front {
+        count: near.count + far.count,
+        line_ends: near.line_ends + far.line_ends,
+    }
+}
+
+// How many of the near bytes are blanks and line ends that stand first.
+fn near_gap(view: &[u8]) -> Front
+    ensures within { result.count ≤ length view.now }
+    ensures all { list_all is_gap (take result.count view.now) ≡ true }
+    ensures lines { result.line_ends ≡ count_by is_line_end (take result.count view.now) }
+    ensures some { (b : ℕ) → (rest : List ℕ) → view.now ≡ b ∷ rest → is_gap b ≡ true → 0 < result.count }
+    ensures few { result.line_ends ≤ result.count }
+{
     let mut line_ends = 0;
     'gap: for (count, &byte) in view.iter().enumerate() {
-        if !in_gap(byte) {
+        if count == NEAR || !in_gap(byte) {
             return Front { count, line_ends };
         }
         if byte == b'\n' {
@@ -364,6 +408,55 @@ fn gap_front(view: &[u8]) -> Front
         count: view.len(),
         line_ends,
     }
+}
+
+// How many bytes the whole blocks of blanks and line ends have that stand first.
+#[inline(never)]
+fn gap_blocks(view: &[u8]) -> Front
+    ensures within { result.count ≤ length view.now }
+    ensures all { list_all is_gap (take result.count view.now) ≡ true }
+    ensures lines { result.line_ends ≡ count_by is_line_end (take result.count view.now) }
+    ensures few { result.line_ends ≤ result.count }
+{
+    let mut blocks = Front {
+        count: 0,
+        line_ends: 0,
+    };
+    'whole: while view.len() - blocks.count >= BLOCK {
+        let block = &view[blocks.count..blocks.count + BLOCK];
+        if !are_in_gap(block) {
+            return blocks;
+        }
+        blocks.count += BLOCK;
+        blocks.line_ends += line_ends_in(block) as usize;
+    }
+    blocks
+}
+
+// Whether all bytes are blanks or line ends: none ends the loop, so that many are looked at together.
+fn are_in_gap(block: &[u8]) -> bool
+    ensures { result ≡ list_all is_gap block.now }
+{
+    let mut all = true;
+    'block: for &byte in block {
+        all &= in_gap_of_block(byte);
+    }
+    all
+}
+
+// How many of the bytes are line ends.
+fn line_ends_in(block: &[u8]) -> u8
+    requires { length block.now < 256 }
+    ensures value { result ≡ count_by is_line_end block.now }
+    ensures few { result ≤ length block.now }
+{
+    let mut line_ends = 0;
+    'block: for &byte in block {
+        if byte == b'\n' {
+            line_ends += 1;
+        }
+    }
+    line_ends
 }
 
 // How many bytes stand before the first blank or line end.
@@ -400,8 +493,11 @@ fn plain_front(view: &[u8]) -> Front
         if run == 0 || run == behind.len() || is_named(&behind[..run]) {
             return plain;
         }
-        plain.count += gap.count + run;
-        plain.line_ends += gap.line_ends;
+        let more = Front {
+            count: gap.count + run,
+            line_ends: gap.line_ends,
+        };
+        plain = both(plain, more);
     }
     plain
 }
@@ -473,4 +569,11 @@ fn in_gap(byte: u8) -> bool
     ensures { result ≡ is_gap byte }
 {
     matches!(byte, 9..=13 | 32)
+}
+
+// The same without a branch, for bytes that are looked at together.
+fn in_gap_of_block(byte: u8) -> bool
+    ensures { result ≡ is_gap byte }
+{
+    (byte == b' ') | ((byte >= 9) & (byte <= 13))
 }

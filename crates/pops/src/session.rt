@@ -87,19 +87,20 @@ impl Session {
             return Ok(Step::Finished(self.so_far));
         }
         let number = self.next_number;
-        match self.reader.next_problem(source) {
+        let item = self.reader.next_problem(source);
+        match &item {
             Item::End => Ok(Step::Finished(self.so_far)),
             Item::Sound(problem, last) => {
                 self.next_number += 1;
-                self.last = last;
-                let printed = print_sound(sink, number, &problem, self.check, self.no_board);
+                self.last = *last;
+                let printed = print_sound(sink, number, problem, self.check, self.no_board);
                 self.answer(printed, true)
             }
             Item::Faulty(fault, last) => {
                 self.next_number += 1;
-                self.last = last;
-                self.so_far = status_with(self.so_far, &fault);
-                let printed = print_fault(sink, number, &fault);
+                self.last = *last;
+                self.so_far = status_with(self.so_far, fault);
+                let printed = print_fault(sink, number, fault);
                 self.answer(printed, false)
             }
         }

@@ -1,5 +1,5 @@
 //! What is printed of a sound problem.
-ghost use Rattle.std.specs.Prelude.{◌≡◌, ◌<◌, ◌++◌, codes};
+ghost use Rattle.std.specs.Prelude.{◌≡◌, ◌<◌, ◌++◌, codes, false};
 ghost use Rattle.std.specs.List.{flat_map};
 ghost use Rattle.pop_text.specs.Bytes.{Writes, count_after, greatest};
 ghost use Rattle.pop_input.specs.Blocks.{Sound as SoundEntry};
@@ -11,11 +11,11 @@ ghost use Rattle.pops.specs.Report.{entry_text, findings};
 use chess_rules::{Circe, Madrasi, Orthodox, Rules};
 use pop_input::condition::Condition;
 use pop_input::problem::Problem;
-use pop_print::{print_event, print_head};
+use pop_print::{print_checked, print_event, print_head};
 use pop_solve::search::Search;
 use pop_text::sink::{Sink, SinkFault, put_all};
 
-// Head and findings of a sound problem, and an empty line.
+// All that is told of a sound problem; where problems are tested alone in one write.
 #[tactic(auto, unfolding(crate::specs::Report::entry_text))]
 pub(crate) fn print_sound<W: Sink>(
     sink: &mut W,
@@ -28,20 +28,36 @@ pub(crate) fn print_sound<W: Sink>(
     ensures bytes { Writes (W.taken sink.old) (W.taken sink.new) (entry_text (record { check = check; no_board = no_board }) number (SoundEntry problem.now)) result }
     ensures counted { W.failures sink.new ≡ count_after result (W.failures sink.old) }
 {
+    if check {
+        print_checked(sink, number, problem, no_board)
+    } else {
+        print_solved(sink, number, problem, no_board)
+    }
+}
+
+// Head and solutions, and an empty line.
+#[tactic(auto, unfolding(crate::specs::Report::entry_text))]
+fn print_solved<W: Sink>(
+    sink: &mut W,
+    number: u64,
+    problem: &Problem,
+    no_board: bool,
+) -> Result<(), SinkFault>
+    requires { W.failures sink.old < greatest }
+    ensures bytes { Writes (W.taken sink.old) (W.taken sink.new) (entry_text (record { check = false; no_board = no_board }) number (SoundEntry problem.now)) result }
+    ensures counted { W.failures sink.new ≡ count_after result (W.failures sink.old) }
+{
     print_head(sink, number, problem, no_board)?;
-    print_findings(sink, problem, check)?;
+    print_play(sink, problem)?;
     put_all(sink, b"\n")
 }
 
-// That the problem is sound where problems are tested alone, else its solutions.
-fn print_findings<W: Sink>(sink: &mut W, problem: &Problem, check: bool) -> Result<(), SinkFault>
+// The solutions of a problem, under the rules of its condition.
+fn print_play<W: Sink>(sink: &mut W, problem: &Problem) -> Result<(), SinkFault>
     requires { W.failures sink.old < greatest }
-    ensures bytes { Writes (W.taken sink.old) (W.taken sink.new) (findings check problem.now) result }
+    ensures bytes { Writes (W.taken sink.old) (W.taken sink.new) (findings false problem.now) result }
     ensures counted { W.failures sink.new ≡ count_after result (W.failures sink.old) }
 {
-    if check {
-        return put_all(sink, b"sound\n");
-    }
     match problem.condition() {
         None => print_solutions::<Orthodox, W>(sink, problem),
         Some(Condition::Circe) => print_solutions::<Circe, W>(sink, problem),

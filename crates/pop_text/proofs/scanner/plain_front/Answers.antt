@@ -11,6 +11,7 @@ words-preserved c =
     let view = c.args.view.now in
     let left = slice_range view c.words.plain.count (length view) in
     let behind = slice_range left c.gap_front-gap.result.count (length left) in
-    step_more view left behind c.words.plain.count c.gap_front-gap.result.count c.run_front-run.result c.words.plain.line_ends c.gap_front-gap.result.line_ends
+    rw (c.both-plain.ensures.count, c.both-plain.ensures.line_ends)
+    (step_more view left behind c.words.plain.count c.gap_front-gap.result.count c.run_front-run.result c.words.plain.line_ends c.gap_front-gap.result.line_ends
     (take_rest view c.words.plain.count) (take_rest left c.gap_front-gap.result.count) c.if-run-eq0.false c.if-run-behind.false c.gap_front-gap.ensures.within c.run_front-run.ensures.within
-    c.gap_front-gap.ensures.all c.run_front-run.ensures.all c.run_front-run.ensures.over (sym c.is_named.ensures ∙ c.if-is_named.false) c.gap_front-gap.ensures.lines c.words.invariant
+    c.gap_front-gap.ensures.all c.run_front-run.ensures.all c.run_front-run.ensures.over (sym c.is_named.ensures ∙ c.if-is_named.false) c.gap_front-gap.ensures.lines c.words.invariant)

@@ -54,7 +54,7 @@ words-preserved g c =
     let t = c.next_token.ensures.token in
     let word = rw c.in-Word.is at t in
     let new = c.skip_on.new.scanner in
-    let is : last_of (command_of c.next_token.new.word.bytes.items) ≡ None = ap (λ text. last_of (command_of text)) (sym c.as_slice.ensures.value) ∙ sym c.closing_of.ensures ∙ c.in-None.is in
+    let is : last_of (command_of c.next_token.new.word.bytes.items) ≡ None = ap (λ text. last_of (command_of text)) (sym c.as_slice.ensures.value) ∙ ap last_of (sym c.command_of-command.ensures) ∙ sym c.closing_of.ensures ∙ c.in-None.is in
     record {
       block = skip_read c.match-self.first c.args.self.now.at c.next_token.new.scanner new (g.S.Source.remaining c.args.source.now) (g.S.Source.remaining c.next_token.new.source) c.read.new.self
           (open_read c.match-self.first c.args.self.now.at c.words.self-inside.scanner c.next_token.new.scanner (g.S.Source.remaining c.args.source.now) (g.S.Source.remaining c.words.source) (g.S.Source.remaining c.next_token.new.source) c.words.block c.read.new.self i.block
@@ -70,7 +70,7 @@ pub returns-in-Some-clause-item : goal.returns-in-Some-clause-item
 returns-in-Some-clause-item g c =
     let i = c.words.invariant in
     let t = c.in-Word.ensures.token in
-    let is : last_of (command_of c.next_token.new.word.bytes.items) ≡ Some c.in-Some.last = ap (λ text. last_of (command_of text)) (sym c.as_slice.ensures.value) ∙ sym c.closing_of.ensures ∙ c.in-Some.is in
+    let is : last_of (command_of c.next_token.new.word.bytes.items) ≡ Some c.in-Some.last = ap (λ text. last_of (command_of text)) (sym c.as_slice.ensures.value) ∙ ap last_of (sym c.command_of-command.ensures) ∙ sym c.closing_of.ensures ∙ c.in-Some.is in
     let new : Standing = record { next = c.next_behind-self-inside.result; at = c.next_token.new.scanner } in
     (word_closes c.match-self.first c.args.self.now new (g.S.Source.remaining c.args.source.now) (g.S.Source.remaining c.next_token.new.source) i.starts
     c.words.self-inside.scanner (g.S.Source.remaining c.words.source) c.words.block c.read.new.self i.block c.next_token.new.word.line c.next_token.new.word.bytes.items t.0

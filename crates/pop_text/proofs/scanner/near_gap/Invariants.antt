@@ -1,7 +1,7 @@
 use Rattle.std.proofs.Common.{◌≡◌, ◌≤◌, take, true, count_by}
 use Rattle.std.specs.List.{list_all}
 use Rattle.pop_text.specs.Words.{is_gap, is_line_end}
-use Rattle.pop_text.proofs.scanner.gap_front.Given as goal
+use Rattle.pop_text.proofs.scanner.near_gap.Given as goal
 
 -- only blanks and line ends so far
 abbrev pub invariant-gap : goal.invariant-gap
