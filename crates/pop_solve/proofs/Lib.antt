@@ -12,3 +12,5 @@ pub mod Sound
 pub mod Events
 pub mod Solved
 pub mod Opened
+pub mod Longer
+pub mod theorems
