@@ -13,4 +13,5 @@ pub mod Events
 pub mod Solved
 pub mod Opened
 pub mod Longer
+pub mod HelpPlay
 pub mod theorems
