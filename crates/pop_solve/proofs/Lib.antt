@@ -14,4 +14,5 @@ pub mod Solved
 pub mod Opened
 pub mod Longer
 pub mod HelpPlay
+pub mod Nodes
 pub mod theorems

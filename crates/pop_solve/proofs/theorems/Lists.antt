@@ -1,6 +1,6 @@
 -- Lists of moves: those that can be played from a position, and their lexicographic order by an order of the moves.
 use Rattle.std.proofs.Common.{◌≡◌, ◌≢◌, List, [], ◌∷◌, ◌++◌, ◌⊎◌, inl, inr, refl, sym, ap}
-use Rattle.std.specs.List.{Contains}
+use Rattle.std.specs.List.{Contains, flat_map}
 use Rattle.pop_solve.specs.Game.{Game}
 
 module _ {P M : Type 0} (game : Game P M) where
@@ -8,6 +8,15 @@ module _ {P M : Type 0} (game : Game P M) where
   abbrev pub IsPlayable : P → List M → Type 0
   IsPlayable p [] = Unit {0}
   IsPlayable p (m ∷ line) = Contains (game.moves p) m × IsPlayable (game.after p m) line
+
+module _ {M : Type 0} where
+  -- All paths of solutions, one solution after another.
+  abbrev pub paths : List (List (List M)) → List (List M)
+  paths solutions = flat_map (λ solution. solution) solutions
+
+  -- A beginning of a path, one move or more, is a path too: no node stands without the nodes above it.
+  abbrev pub HasBeginnings : List (List M) → Type 0
+  HasBeginnings paths = (x : M) (xs ys : List M) → Contains paths ((x ∷ xs) ++ ys) → Contains paths (x ∷ xs)
 
 module _ {M : Type 0} (before : M → M → Type 0) where
   -- xs stands before ys: it ends first and agrees so far, or at their first difference its move stands before the other's.
@@ -39,6 +48,15 @@ module _ {M : Type 0} (before : M → M → Type 0) where
     | inl w ↦ inl (w.0, w.1, λ i. sym same i ∷ w.2 i)
     | inr w ↦ inr (x ∷ w.0, w.1, w.2, w.3, w.4, ap (λ l. x ∷ l) w.5, (λ i. sym same i ∷ w.6 i), w.7)
   ]
+
+  -- What stands behind a list and doesn't begin with it stands behind every list that begins with it: so a node and all
+  -- below it stand before its next sibling.
+  pub all_below_first : (xs ys zs : List M) → StandsBefore xs zs → ((ws : List M) → zs ≡ xs ++ ws → ⊥) → StandsBefore (xs ++ ys) zs
+  all_below_first [] ys zs b apart = absurd (apart zs refl)
+  all_below_first (x ∷ xs) ys [] b apart = absurd b
+  all_below_first (x ∷ xs) ys (z ∷ zs) (inl less) apart = inl less
+  all_below_first (x ∷ xs) ys (z ∷ zs) (inr (same, b)) apart =
+      inr (same, all_below_first xs ys zs b (λ ws e. apart ws (λ i. sym same i ∷ e i)))
 
   -- Where no move stands before itself, no list does.
   pub never_before_itself : ((m : M) → before m m → ⊥) → (xs ys : List M) → StandsBefore xs ys → xs ≢ ys
