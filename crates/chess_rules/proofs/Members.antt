@@ -1,5 +1,5 @@
 -- The elements of lists that are made of others, and lists whose elements stand in order.
-use Rattle.std.proofs.Common.{◌≡◌, ℕ, zero, suc, ◌+◌, ◌<◌, ◌≤◌, Bool, true, false, cond, List, [], ◌∷◌, ◌++◌, map, take, get_or, ◌⊎◌, inl, inr, refl, sym, ◌∙◌, ap, arith}
+use Rattle.std.proofs.Common.{◌≡◌, ℕ, zero, suc, ◌+◌, ◌<◌, ◌≤◌, Bool, true, false, cond, List, [], ◌∷◌, ◌++◌, map, get_or, ◌⊎◌, inl, inr, refl, sym, ◌∙◌, ap, arith}
 use Rattle.std.specs.List.{AllPairs, Contains, filter, flat_map, range_with_len}
 use Rattle.std.proofs.lemmas.Bool.{cases_eq, false≢true}
 use Rattle.std.proofs.lemmas.List.Elements.{Contains-append_cases, Contains-append_left, Contains-append_right, Contains-get_or}
@@ -120,19 +120,10 @@ module _ {X : Type 0} (R : X → X → Type 0) where
         | inr there ↦ across x y (first_in x xs) there
       ]) (pairs_append xs ys (pairs_later x xs a) b (λ z y c. across z y (later_in x xs z c)))
 
-  pub pairs_take : (n : ℕ) (xs : List X) → AllPairs R xs → AllPairs R (take n xs)
-  pairs_take zero xs a = pairs_nil
-  pairs_take (suc n) [] a = pairs_nil
-  pairs_take (suc n) (x ∷ xs) a =
-      pairs_of x (take n xs) (λ y c. pairs_first x xs a y (from_take n xs y c)) (pairs_take n xs (pairs_later x xs a))
-    where
-      from_take : (n : ℕ) (xs : List X) (y : X) → Contains (take n xs) y → Contains xs y
-      from_take zero xs y c = absurd (none_in_nil y c)
-      from_take (suc n) [] y c = absurd (none_in_nil y c)
-      from_take (suc n) (x ∷ xs) y c = elim (in_cases x (take n xs) y c) [
-        | inl same ↦ (0, omega arith, same)
-        | inr r ↦ later_in x xs y (from_take n xs y r)
-      ]
+  pub pairs_front : (xs ys : List X) → AllPairs R (xs ++ ys) → AllPairs R xs
+  pairs_front [] ys a = pairs_nil
+  pairs_front (x ∷ xs) ys a =
+      pairs_of x xs (λ y c. pairs_first x (xs ++ ys) a y (Contains-append_left xs ys y c)) (pairs_front xs ys (pairs_later x (xs ++ ys) a))
 
 pub pairs_weaker : {X : Type 0} (R S : X → X → Type 0) (xs : List X) → ((x y : X) → R x y → S x y) → AllPairs R xs → AllPairs S xs
 pairs_weaker R S xs weaker a i j d low high = weaker (get_or xs i d) (get_or xs j d) (a i j d low high)

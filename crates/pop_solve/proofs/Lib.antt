@@ -15,4 +15,5 @@ pub mod Opened
 pub mod Longer
 pub mod HelpPlay
 pub mod Nodes
+pub mod PhasePaths
 pub mod theorems

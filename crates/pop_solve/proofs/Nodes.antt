@@ -1,13 +1,28 @@
 -- The paths of trees.
 use Rattle.std.proofs.Common.{◌≡◌, ◌≢◌, ℕ, zero, suc, ◌-◌, Bool, true, false, cond, List, [], ◌∷◌, ◌++◌, map, ◌⊎◌, ◌↔◌, inl, inr, refl, sym, ◌∙◌, ap, subst}
-use Rattle.std.specs.List.{AllPairs, Contains, filter, flat_map}
-use Rattle.std.proofs.lemmas.Bool.{false≢true}
+use Rattle.std.specs.List.{AllPairs, Contains, filter, flat_map, list_any}
+use Rattle.std.proofs.lemmas.Bool.{false≢true, or_cases, or_left, or_right}
 use Rattle.std.proofs.lemmas.List.Kept.{AllPairs-filter}
 use Rattle.chess_rules.proofs.Members.{first_in, from_filter, from_flat_map, from_map, in_cases, in_filter, in_flat_map, in_map, later_in, none_in_nil, pairs_flat_map, pairs_map, pairs_nil, pairs_of}
 use Rattle.pop_solve.specs.declared.aim.Battle.{Battle}
 use Rattle.pop_solve.specs.Game.{Game}
 use Rattle.pop_solve.specs.Tree.{answers, below, best, keeps, least, node, set_shows, set_tree, tree}
 use Rattle.pop_solve.proofs.theorems.Lists.{HasBeginnings, StandsBefore}
+
+-- some element passes a test
+pub any_from_element : {X : Type 0} (test : X → Bool) (xs : List X) (x : X) → Contains xs x → test x ≡ true → list_any test xs ≡ true
+any_from_element test [] x c t = absurd (none_in_nil x c)
+any_from_element test (y ∷ xs) x c t = elim (in_cases y xs x c) [
+  | inl same ↦ or_left (test y) (list_any test xs) (ap test same ∙ t)
+  | inr r ↦ or_right (test y) (list_any test xs) (any_from_element test xs x r t)
+]
+
+pub element_from_any : {X : Type 0} (test : X → Bool) (xs : List X) → list_any test xs ≡ true → (x : X) × (Contains xs x × (test x ≡ true))
+element_from_any test [] h = absurd (false≢true h)
+element_from_any test (y ∷ xs) h = elim (or_cases (test y) (list_any test xs) h) [
+  | inl here ↦ (y, (first_in y xs, here))
+  | inr r ↦ let w = element_from_any test xs r in (w.0, (later_in y xs w.0 w.1.0, w.1.1))
+]
 
 -- joined lists of a map
 pub joined : {X Y : Type 0} (g : X → List Y) (xs : List X) → flat_map (λ s. s) (map g xs) ≡ flat_map g xs
@@ -30,7 +45,10 @@ module _ {M : Type 0} where
   continues : (m : M) (below : List (List M)) (path : List M) → Contains (node m below) (m ∷ path) → (path ≡ []) ⊎ Contains below path
   continues m below path c = elim (in_cases (m ∷ []) (map (λ path. m ∷ path) below) (m ∷ path) c) [
     | inl same ↦ inl cc
-    | inr r ↦ let w = from_map (λ path. m ∷ path) below (m ∷ path) r in let same : w.0 ≡ path = tail_of (m ∷ w.0) (m ∷ path) w.2 in inr (subst (Contains below) same w.1)
+    | inr r ↦
+        let w = from_map (λ path. m ∷ path) below (m ∷ path) r in
+        let same : w.0 ≡ path = tail_of (m ∷ w.0) (m ∷ path) w.2 in
+        inr (subst (Contains below) same w.1)
   ]
     where
       rest : List M → List M
@@ -42,7 +60,8 @@ module _ {M : Type 0} where
 
   module _ (f : M → List (List M)) where
     -- a path of nodes: its first move is one of theirs, and the others are none or a path below it
-    pub from_nodes : (ms : List M) (m : M) (path : List M) → Contains (flat_map (λ m. node m (f m)) ms) (m ∷ path) → Contains ms m × ((path ≡ []) ⊎ Contains (f m) path)
+    pub from_nodes : (ms : List M) (m : M) (path : List M) → Contains (flat_map (λ m. node m (f m)) ms) (m ∷ path)
+        → Contains ms m × ((path ≡ []) ⊎ Contains (f m) path)
     from_nodes ms m path c =
         let w = from_flat_map (λ m. node m (f m)) ms (m ∷ path) c in
         let s = starts w.0 (f w.0) (m ∷ path) w.2 in
@@ -90,6 +109,10 @@ module _ {M : Type 0} where
 
           across : (m n : M) → before m n → (a b : List M) → ((x : List M) × (m ∷ x ≡ a)) → ((y : List M) × (n ∷ y ≡ b)) → StandsBefore before a b
           across m n less a b x y = rw (← x.1, ← y.1) (inl less)
+
+either_way : {A : Type 0} (Q : A → Type 0) (b : Bool) (x y : A) → Q x → Q y → Q (cond b x y)
+either_way Q true x y here other = here
+either_way Q false x y here other = other
 
 -- a list, unless the goal is reached
 pub in_unless : {X : Type 0} (g : Bool) (xs : List X) (x : X) → Contains (cond g [] xs) x ↔ ((g ≡ false) × Contains xs x)
@@ -174,16 +197,30 @@ module _ {P M : Type 0} (battle : Battle) (game : Game P M) (n : ℕ) where
     pub best_stand : (r : P) → AllPairs before (best battle game n r)
     best_stand r = AllPairs-filter before (λ m. keeps battle game (least battle game n r) (game.after r m)) (game.moves r) (order r)
 
-    pub trees_stand : (h : ℕ) → ((q : P) → AllPairs (StandsBefore before) (below battle game n h q)) × ((r : P) → AllPairs (StandsBefore before) (answers battle game n h r))
+    pub trees_stand : (h : ℕ) → ((q : P) → AllPairs (StandsBefore before) (below battle game n h q))
+        × ((r : P) → AllPairs (StandsBefore before) (answers battle game n h r))
     trees_stand zero = (λ q. rw (below_zero q) (pairs_nil (StandsBefore before)), λ r. rw (answers_zero r) (pairs_nil (StandsBefore before)))
     trees_stand (suc h) =
         let both = trees_stand h in
         let full = trees_not_empty h in (
           λ q. rw (below_more h q) (unless_stands (StandsBefore before) (game.goal q) _
-              (nodes_stand (λ d. answers battle game n h (game.after q d)) before (game.moves q) (order q) (λ d. both.1 (game.after q d)) (λ d. full.1 (game.after q d)))),
+              (nodes_stand (λ d. answers battle game n h (game.after q d)) before (game.moves q) (order q)
+              (λ d. both.1 (game.after q d)) (λ d. full.1 (game.after q d)))),
           λ r. rw (answers_more h r) (unless_stands (StandsBefore before) (game.goal r) _
-              (nodes_stand (λ m. below battle game n h (game.after r m)) before (best battle game n r) (best_stand r) (λ m. both.0 (game.after r m)) (λ m. full.0 (game.after r m)))),
+              (nodes_stand (λ m. below battle game n h (game.after r m)) before (best battle game n r) (best_stand r)
+              (λ m. both.0 (game.after r m)) (λ m. full.0 (game.after r m)))),
         )
+
+  -- the keys, and the moves that set play shows
+  abbrev pub kept : P → List M
+  kept p = filter (λ m. keeps battle game n (game.after p m)) (game.moves p)
+
+  abbrev pub set_moves : P → List M
+  set_moves p = filter (λ d. set_shows battle game n (game.after p d)) (game.moves p)
+
+  -- the answers of set play without variations
+  abbrev single_answers : P → List (List M)
+  single_answers r = cond (game.goal r) [] (map (λ m. m ∷ []) (best battle game n r))
 
   -- what stands below the first moves of a play and of set play
   module _ (variation : Bool) where
@@ -191,72 +228,61 @@ module _ {P M : Type 0} (battle : Battle) (game : Game P M) (n : ℕ) where
     below_key h p m = cond variation (below battle game n (h - 1) (game.after p m)) []
 
     unfoldable pub below_set : ℕ → P → M → List (List M)
-    below_set h p d =
-        cond variation (answers battle game n h (game.after p d)) (cond (game.goal (game.after p d)) [] (map (λ m. m ∷ []) (best battle game n (game.after p d))))
+    below_set h p d = cond variation (answers battle game n h (game.after p d)) (single_answers (game.after p d))
 
     pub below_key_not_empty : (h : ℕ) (p : P) (m : M) → HasNoEmpty (below_key h p m)
     unfolding below_key
-    below_key_not_empty h p m = pick variation
-      where
-        pick : (v : Bool) → HasNoEmpty (cond v (below battle game n (h - 1) (game.after p m)) [])
-        pick true = (trees_not_empty (h - 1)).0 (game.after p m)
-        pick false = nil_not_empty
+    below_key_not_empty h p m =
+        either_way (HasNoEmpty {M = M}) variation (below battle game n (h - 1) (game.after p m)) [] ((trees_not_empty (h - 1)).0 (game.after p m)) nil_not_empty
 
     pub below_set_not_empty : (h : ℕ) (p : P) (d : M) → HasNoEmpty (below_set h p d)
     unfolding below_set
-    below_set_not_empty h p d = pick variation
-      where
-        pick : (v : Bool) → HasNoEmpty (cond v (answers battle game n h (game.after p d)) (cond (game.goal (game.after p d)) [] (map (λ m. m ∷ []) (best battle game n (game.after p d)))))
-        pick true = (trees_not_empty h).1 (game.after p d)
-        pick false = unless_not_empty (game.goal (game.after p d)) _ (singles_not_empty (best battle game n (game.after p d)))
+    below_set_not_empty h p d =
+        let r = game.after p d in
+        either_way (HasNoEmpty {M = M}) variation (answers battle game n h r) (single_answers r) ((trees_not_empty h).1 r)
+        (unless_not_empty (game.goal r) (map (λ m. m ∷ []) (best battle game n r)) (singles_not_empty (best battle game n r)))
 
     pub below_key_has_beginnings : (h : ℕ) (p : P) (m : M) → HasBeginnings (below_key h p m)
     unfolding below_key
-    below_key_has_beginnings h p m = pick variation
-      where
-        pick : (v : Bool) → HasBeginnings (cond v (below battle game n (h - 1) (game.after p m)) [])
-        pick true = (trees_have_beginnings (h - 1)).0 (game.after p m)
-        pick false = nil_has_beginnings
+    below_key_has_beginnings h p m =
+        either_way (HasBeginnings {M = M}) variation (below battle game n (h - 1) (game.after p m)) [] ((trees_have_beginnings (h - 1)).0 (game.after p m))
+        nil_has_beginnings
 
     pub below_set_has_beginnings : (h : ℕ) (p : P) (d : M) → HasBeginnings (below_set h p d)
     unfolding below_set
-    below_set_has_beginnings h p d = pick variation
-      where
-        pick : (v : Bool) → HasBeginnings (cond v (answers battle game n h (game.after p d)) (cond (game.goal (game.after p d)) [] (map (λ m. m ∷ []) (best battle game n (game.after p d)))))
-        pick true = (trees_have_beginnings h).1 (game.after p d)
-        pick false = unless_has_beginnings (game.goal (game.after p d)) _ (singles_have_beginnings (best battle game n (game.after p d)))
+    below_set_has_beginnings h p d =
+        let r = game.after p d in
+        either_way (HasBeginnings {M = M}) variation (answers battle game n h r) (single_answers r) ((trees_have_beginnings h).1 r)
+        (unless_has_beginnings (game.goal r) (map (λ m. m ∷ []) (best battle game n r)) (singles_have_beginnings (best battle game n r)))
 
     module _ (before : M → M → Type 0) (order : (p : P) → AllPairs before (game.moves p)) where
       pub below_key_stands : (h : ℕ) (p : P) (m : M) → AllPairs (StandsBefore before) (below_key h p m)
       unfolding below_key
-      below_key_stands h p m = pick variation
-        where
-          pick : (v : Bool) → AllPairs (StandsBefore before) (cond v (below battle game n (h - 1) (game.after p m)) [])
-          pick true = (trees_stand before order (h - 1)).0 (game.after p m)
-          pick false = pairs_nil (StandsBefore before)
+      below_key_stands h p m =
+          either_way (AllPairs (StandsBefore before)) variation (below battle game n (h - 1) (game.after p m)) []
+          ((trees_stand before order (h - 1)).0 (game.after p m)) (pairs_nil (StandsBefore before))
 
       pub below_set_stands : (h : ℕ) (p : P) (d : M) → AllPairs (StandsBefore before) (below_set h p d)
       unfolding below_set
-      below_set_stands h p d = pick variation
-        where
-          pick : (v : Bool) → AllPairs (StandsBefore before) (cond v (answers battle game n h (game.after p d)) (cond (game.goal (game.after p d)) [] (map (λ m. m ∷ []) (best battle game n (game.after p d)))))
-          pick true = (trees_stand before order h).1 (game.after p d)
-          pick false = unless_stands (StandsBefore before) (game.goal (game.after p d)) _ (singles_stand before (best battle game n (game.after p d)) (best_stand before order (game.after p d)))
+      below_set_stands h p d =
+          let r = game.after p d in
+          either_way (AllPairs (StandsBefore before)) variation (answers battle game n h r) (single_answers r) ((trees_stand before order h).1 r)
+          (unless_stands (StandsBefore before) (game.goal r) (map (λ m. m ∷ []) (best battle game n r))
+          (singles_stand before (best battle game n r) (best_stand before order r)))
 
     -- all paths of a play and of set play
-    pub tree_paths : (h : ℕ) (p : P)
-        → flat_map (λ s. s) (tree battle game variation n h p) ≡ flat_map (λ m. node m (below_key h p m)) (filter (λ m. keeps battle game n (game.after p m)) (game.moves p))
+    pub tree_paths : (h : ℕ) (p : P) → flat_map (λ s. s) (tree battle game variation n h p) ≡ flat_map (λ m. node m (below_key h p m)) (kept p)
     unfolding below_key
-    tree_paths h p = joined (λ m. node m (cond variation (below battle game n (h - 1) (game.after p m)) [])) (filter (λ m. keeps battle game n (game.after p m)) (game.moves p))
+    tree_paths h p = joined (λ m. node m (cond variation (below battle game n (h - 1) (game.after p m)) [])) (kept p)
 
     pub set_tree_none : (p : P) → flat_map (λ s. s) (set_tree battle game variation n zero p) ≡ []
     unfolding set_tree
     set_tree_none p = refl
 
     pub set_tree_paths : (h : ℕ) (p : P)
-        → flat_map (λ s. s) (set_tree battle game variation n (suc h) p) ≡ flat_map (λ d. node d (below_set h p d)) (filter (λ d. set_shows battle game n (game.after p d)) (game.moves p))
+        → flat_map (λ s. s) (set_tree battle game variation n (suc h) p) ≡ flat_map (λ d. node d (below_set h p d)) (set_moves p)
     unfolding set_tree below_set
-    set_tree_paths h p = joined (λ d. node d (below_set h p d)) (filter (λ d. set_shows battle game n (game.after p d)) (game.moves p))
+    set_tree_paths h p = joined (λ d. node d (below_set h p d)) (set_moves p)
 
 -- the paths of nodes, unless the goal is reached
 module _ {M : Type 0} (f : M → List (List M)) (g : Bool) (ms : List M) (m : M) where

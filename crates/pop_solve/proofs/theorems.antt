@@ -3,3 +3,4 @@ pub mod Lengths
 pub mod Lists
 pub mod HelpLines
 pub mod Trees
+pub mod Solutions

@@ -43,15 +43,17 @@ module _ {P M : Type 0} (game : Game P M) where
       pairs_weaker (StandsBefore (λ m n. m ≢ n)) (λ a b. a ≢ b) (help_lines game h p) (never_before_itself (λ m n. m ≢ n) (λ m ne. ne refl))
       (help_lines_in_order (λ m n. m ≢ n) differ h p)
 
--- Chess, under a set of rules and for a goal.
-module _ (goal : Goal) (rule : RuleSet) where
+-- Chess, under a set of rules.
+module _ (rule : RuleSet) where
   -- Each move of the line is legal in the position in which it is made.
   abbrev pub IsLegalLine : Position → List Triple → Type 0
   IsLegalLine p [] = Unit {0}
   IsLegalLine p (m ∷ line) = (legal rule p m ≡ true) × IsLegalLine (played rule p m) line
 
+-- And for a goal.
+module _ (goal : Goal) (rule : RuleSet) where
   -- From a well-formed position a list can be played exactly where it is such a line.
-  pub playable_is_legal : (p : Position) (line : List Triple) → IsWellFormed p → IsPlayable (chess goal rule) p line ↔ IsLegalLine p line
+  pub playable_is_legal : (p : Position) (line : List Triple) → IsWellFormed p → IsPlayable (chess goal rule) p line ↔ IsLegalLine rule p line
   playable_is_legal p [] well = (λ w. tt, λ w. tt)
   playable_is_legal p (m ∷ line) well = (
     λ w.
@@ -67,7 +69,7 @@ module _ (goal : Goal) (rule : RuleSet) where
   -- legal where it is made, and the goal is reached in its last position.
   pub help_lines_of_chess_are : (h : ℕ) (p : Position) (line : List Triple) → IsWellFormed p
       → Contains (help_lines (chess goal rule) h p) line
-      ↔ ((1 ≤ h) × (length line ≡ h) × IsLegalLine p line × (is_reached goal rule (reach (played rule) p line) ≡ true))
+      ↔ ((1 ≤ h) × (length line ≡ h) × IsLegalLine rule p line × (is_reached goal rule (reach (played rule) p line) ≡ true))
   help_lines_of_chess_are h p line well = (
     λ c. let w = (help_lines_are (chess goal rule) h p line).0 c in (w.0, w.1, (playable_is_legal p line well).0 w.2, w.3),
     λ w. (help_lines_are (chess goal rule) h p line).1 (w.0, w.1, (playable_is_legal p line well).1 w.2, w.3),

@@ -1,12 +1,13 @@
 -- The trees of battle play, over any game: which moves stand in them, that no path stands twice, and in which order the paths stand.
-use Rattle.std.proofs.Common.{◌≡◌, ◌≢◌, ℕ, zero, suc, ◌-◌, ◌≤◌, ◌↔◌, Bool, true, false, List, [], ◌∷◌, refl, arith}
-use Rattle.std.specs.List.{AllPairs, Contains, filter}
+use Rattle.std.proofs.Common.{◌≡◌, ◌≢◌, ℕ, zero, suc, ◌-◌, ◌≤◌, ◌↔◌, Bool, true, false, List, [], ◌∷◌, refl, sym, ◌∙◌, arith}
+use Rattle.std.specs.List.{AllPairs, Contains}
 use Rattle.std.proofs.lemmas.List.Kept.{AllPairs-filter}
 use Rattle.chess_rules.proofs.Members.{from_filter, in_filter, none_in_nil, pairs_nil, pairs_weaker}
 use Rattle.pop_solve.specs.declared.aim.Battle.{Battle}
 use Rattle.pop_solve.specs.Game.{Game}
-use Rattle.pop_solve.specs.Tree.{answers, below, best, keeps, least, set_shows, set_tree, tree}
-use Rattle.pop_solve.proofs.Nodes.{answers_more, answers_zero, below_more, below_zero, deeper_unless, nil_has_beginnings, nodes_have_beginnings, nodes_stand, roots_are, roots_unless, deeper_are, tree_paths, set_tree_paths, set_tree_none, from_nodes, below_key, below_set, below_key_has_beginnings, below_key_not_empty, below_key_stands, below_set_has_beginnings, below_set_not_empty, below_set_stands}
+use Rattle.pop_solve.specs.Tree.{answers, below, best, keeps, least, set_shows, set_tree, tree, wins_in}
+use Rattle.pop_solve.proofs.Nodes.{any_from_element, element_from_any, answers_more, answers_zero, below_more, below_zero, deeper_unless, nil_has_beginnings, nodes_have_beginnings, nodes_stand, roots_are, roots_unless, deeper_are, tree_paths, set_tree_paths, set_tree_none, from_nodes, below_key, kept, set_moves, below_set, below_key_has_beginnings, below_key_not_empty, below_key_stands, below_set_has_beginnings, below_set_not_empty, below_set_stands}
+use Rattle.pop_solve.proofs.theorems.Lengths.{wins_by_a_move}
 use Rattle.pop_solve.proofs.theorems.Lists.{HasBeginnings, StandsBefore, never_before_itself, paths}
 
 module _ {P M : Type 0} (battle : Battle) (game : Game P M) (n : ℕ) where
@@ -18,15 +19,26 @@ module _ {P M : Type 0} (battle : Battle) (game : Game P M) (n : ℕ) where
   abbrev pub IsBest : P → M → Type 0
   IsBest r m = Contains (game.moves r) m × (keeps battle game (least battle game n r) (game.after r m) ≡ true)
 
-  -- The first move of every path of the play is a key, and every key is a path by itself.
+  -- A move stands alone as a path of the play, which is the first of a solution, exactly where it is a key.
   pub keys_are : (variation : Bool) (h : ℕ) (p : P) (m : M) → Contains (paths (tree battle game variation n h p)) (m ∷ []) ↔ IsKey p m
-  keys_are variation h p m = rw (tree_paths battle game n variation h p) (roots_are (below_key battle game n variation h p) (λ m. keeps battle game n (game.after p m)) (game.moves p) m)
+  keys_are variation h p m =
+      rw (tree_paths battle game n variation h p)
+      (roots_are (below_key battle game n variation h p) (λ m. keeps battle game n (game.after p m)) (game.moves p) m)
 
-  pub paths_begin_with_keys : (variation : Bool) (h : ℕ) (p : P) (m : M) (path : List M) → Contains (paths (tree battle game variation n h p)) (m ∷ path) → IsKey p m
+  -- There is a key exactly where White wins within n moves.
+  pub some_key_where_won : (p : P) → 1 ≤ n → ((m : M) × IsKey p m) ↔ (wins_in battle game n p ≡ true)
+  some_key_where_won p some = (
+    λ k. wins_by_a_move game battle n p some ∙ any_from_element (λ m. keeps battle game n (game.after p m)) (game.moves p) k.0 k.1.0 k.1.1,
+    λ w. element_from_any (λ m. keeps battle game n (game.after p m)) (game.moves p) (sym (wins_by_a_move game battle n p some) ∙ w),
+  )
+
+  -- Every path of the play begins with a key.
+  pub paths_begin_with_keys : (variation : Bool) (h : ℕ) (p : P) (m : M) (path : List M)
+      → Contains (paths (tree battle game variation n h p)) (m ∷ path) → IsKey p m
   paths_begin_with_keys variation h p m path c =
       let k = rw (tree_paths battle game n variation h p) at c in
       from_filter (λ m. keeps battle game n (game.after p m)) (game.moves p) m
-      (from_nodes (below_key battle game n variation h p) (filter (λ m. keeps battle game n (game.after p m)) (game.moves p)) m path k).0
+      (from_nodes (below_key battle game n variation h p) (kept battle game n p) m path k).0
 
   -- With variations a path goes on behind a key by the paths below it.
   pub variations_are : (h : ℕ) (p : P) (m x : M) (path : List M)
@@ -96,7 +108,7 @@ module _ {P M : Type 0} (battle : Battle) (game : Game P M) (n : ℕ) where
     play_has_beginnings =
         rw (tree_paths battle game n variation h p)
         (nodes_have_beginnings (below_key battle game n variation h p) (below_key_has_beginnings battle game n variation h p)
-        (filter (λ m. keeps battle game n (game.after p m)) (game.moves p)))
+        (kept battle game n p))
 
     -- In set play too.
     pub set_play_has_beginnings : HasBeginnings (paths (set_tree battle game variation n h p))
@@ -107,7 +119,7 @@ module _ {P M : Type 0} (battle : Battle) (game : Game P M) (n : ℕ) where
         by_half_moves (suc h) =
             rw (set_tree_paths battle game n variation h p)
             (nodes_have_beginnings (below_set battle game n variation h p) (below_set_has_beginnings battle game n variation h p)
-            (filter (λ d. set_shows battle game n (game.after p d)) (game.moves p)))
+            (set_moves battle game n p))
 
     -- Where the moves of each position stand in an order, the paths of the play stand in its lexicographic order: each node before
     -- what stands below it, and that before the next of its siblings.
@@ -115,7 +127,7 @@ module _ {P M : Type 0} (battle : Battle) (game : Game P M) (n : ℕ) where
         → AllPairs (StandsBefore before) (paths (tree battle game variation n h p))
     play_in_order before order =
         rw (tree_paths battle game n variation h p)
-        (nodes_stand (below_key battle game n variation h p) before (filter (λ m. keeps battle game n (game.after p m)) (game.moves p))
+        (nodes_stand (below_key battle game n variation h p) before (kept battle game n p)
         (AllPairs-filter before (λ m. keeps battle game n (game.after p m)) (game.moves p) (order p))
         (below_key_stands battle game n variation before order h p) (below_key_not_empty battle game n variation h p))
 
@@ -128,7 +140,7 @@ module _ {P M : Type 0} (battle : Battle) (game : Game P M) (n : ℕ) where
         by_half_moves zero = rw (set_tree_none battle game n variation p) (pairs_nil (StandsBefore before))
         by_half_moves (suc h) =
             rw (set_tree_paths battle game n variation h p)
-            (nodes_stand (below_set battle game n variation h p) before (filter (λ d. set_shows battle game n (game.after p d)) (game.moves p))
+            (nodes_stand (below_set battle game n variation h p) before (set_moves battle game n p)
             (AllPairs-filter before (λ d. set_shows battle game n (game.after p d)) (game.moves p) (order p))
             (below_set_stands battle game n variation before order h p) (below_set_not_empty battle game n variation h p))
 
