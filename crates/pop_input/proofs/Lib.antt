@@ -10,3 +10,4 @@ pub mod Numbered
 mod Rows
 pub mod Naming
 pub mod Skipping
+pub mod theorems
