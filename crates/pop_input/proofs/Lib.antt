@@ -11,3 +11,4 @@ mod Rows
 pub mod Naming
 pub mod Skipping
 pub mod Among
+pub mod theorems

@@ -12,3 +12,8 @@ pub mod Sound
 pub mod Events
 pub mod Solved
 pub mod Opened
+pub mod Longer
+pub mod HelpPlay
+pub mod Nodes
+pub mod PhasePaths
+pub mod theorems

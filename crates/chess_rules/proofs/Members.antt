@@ -1,0 +1,144 @@
+-- The elements of lists that are made of others, and lists whose elements stand in order.
+use Rattle.std.proofs.Common.{◌≡◌, ℕ, zero, suc, ◌+◌, ◌<◌, ◌≤◌, Bool, true, false, cond, List, [], ◌∷◌, ◌++◌, map, get_or, ◌⊎◌, inl, inr, refl, sym, ◌∙◌, ap, arith}
+use Rattle.std.specs.List.{AllPairs, Contains, filter, flat_map, range_with_len}
+use Rattle.std.proofs.lemmas.Bool.{cases_eq, false≢true}
+use Rattle.std.proofs.lemmas.List.Elements.{Contains-append_cases, Contains-append_left, Contains-append_right, Contains-get_or}
+use Rattle.std.proofs.lemmas.List.Kept.{AllPairs-cons}
+
+module _ {X : Type 0} where
+  pub none_in_nil : (x : X) → Contains [] x → ⊥
+  none_in_nil x (k, less, at) = omega (arith, less)
+
+  pub first_in : (x : X) (xs : List X) → Contains (x ∷ xs) x
+  first_in x xs = (0, omega arith, refl)
+
+  pub later_in : (y : X) (xs : List X) (x : X) → Contains xs x → Contains (y ∷ xs) x
+  later_in y xs x (k, less, at) = (suc k, omega (arith, less), at)
+
+  -- the first, or one of the others
+  pub in_cases : (y : X) (xs : List X) (x : X) → Contains (y ∷ xs) x → (y ≡ x) ⊎ Contains xs x
+  in_cases y xs x (zero, less, at) = inl at
+  in_cases y xs x (suc k, less, at) = inr (k, omega (arith, less), at)
+
+  -- the elements of a filter
+  pub from_filter : (test : X → Bool) (xs : List X) (x : X) → Contains (filter test xs) x → Contains xs x × (test x ≡ true)
+  from_filter test [] x c = absurd (none_in_nil x c)
+  from_filter test (y ∷ xs) x c = split (test y) refl (from_filter test xs x) c
+    where
+      later : Contains xs x × (test x ≡ true) → Contains (y ∷ xs) x × (test x ≡ true)
+      later w = (later_in y xs x w.0, w.1)
+
+      split : (b : Bool) → test y ≡ b → (Contains (filter test xs) x → Contains xs x × (test x ≡ true))
+          → Contains (cond b (y ∷ filter test xs) (filter test xs)) x → Contains (y ∷ xs) x × (test x ≡ true)
+      split true e rest h = elim (in_cases y (filter test xs) x h) [
+        | inl same ↦ ((0, omega arith, same), ap test (sym same) ∙ e)
+        | inr r ↦ later (rest r)
+      ]
+      split false e rest h = later (rest h)
+
+  pub in_filter : (test : X → Bool) (xs : List X) (x : X) → Contains xs x → test x ≡ true → Contains (filter test xs) x
+  in_filter test [] x c t = absurd (none_in_nil x c)
+  in_filter test (y ∷ xs) x c t = elim (in_cases y xs x c) [
+    | inl same ↦ here (test y) (ap test same ∙ t) same
+    | inr r ↦ behind (test y) (in_filter test xs x r t)
+  ]
+    where
+      here : (b : Bool) → b ≡ true → y ≡ x → Contains (cond b (y ∷ filter test xs) (filter test xs)) x
+      here true e same = (0, omega arith, same)
+      here false e same = absurd (false≢true e)
+
+      behind : (b : Bool) → Contains (filter test xs) x → Contains (cond b (y ∷ filter test xs) (filter test xs)) x
+      behind true w = later_in y (filter test xs) x w
+      behind false w = w
+
+-- the numbers of a range
+pub in_range : (a n k : ℕ) → a ≤ k → k < a + n → Contains (range_with_len a n) k
+in_range a zero k low high = absurd (omega (arith, low, high))
+in_range a (suc n) k low high = elim (cases_eq a k) [
+  | inl e ↦ (0, omega arith, e)
+  | inr ne ↦ later_in a (range_with_len (a + 1) n) k (in_range (a + 1) n k (omega (arith, low, ne)) (omega (arith, high)))
+]
+
+pub from_range : (a n k : ℕ) → Contains (range_with_len a n) k → (a ≤ k) × (k < a + n)
+from_range a zero k c = absurd (none_in_nil k c)
+from_range a (suc n) k c = elim (in_cases a (range_with_len (a + 1) n) k c) [
+  | inl e ↦ (omega (arith, e), omega (arith, e))
+  | inr r ↦ let w = from_range (a + 1) n k r in (omega (arith, w), omega (arith, w))
+]
+
+module _ {X Y : Type 0} where
+  -- the elements of a map
+  pub from_map : (f : X → Y) (xs : List X) (y : Y) → Contains (map f xs) y → (x : X) × Contains xs x × (f x ≡ y)
+  from_map f [] y c = absurd (none_in_nil y c)
+  from_map f (x ∷ xs) y c = elim (in_cases (f x) (map f xs) y c) [
+    | inl same ↦ (x, first_in x xs, same)
+    | inr r ↦ let w = from_map f xs y r in (w.0, later_in x xs w.0 w.1, w.2)
+  ]
+
+  pub in_map : (f : X → Y) (xs : List X) (x : X) → Contains xs x → Contains (map f xs) (f x)
+  in_map f [] x c = absurd (none_in_nil x c)
+  in_map f (z ∷ xs) x c = elim (in_cases z xs x c) [
+    | inl same ↦ (0, omega arith, ap f same)
+    | inr r ↦ later_in (f z) (map f xs) (f x) (in_map f xs x r)
+  ]
+
+  -- the elements of joined lists
+  pub from_flat_map : (f : X → List Y) (xs : List X) (y : Y) → Contains (flat_map f xs) y → (x : X) × Contains xs x × Contains (f x) y
+  from_flat_map f [] y c = absurd (none_in_nil y c)
+  from_flat_map f (x ∷ xs) y c = elim (Contains-append_cases (f x) (flat_map f xs) y c) [
+    | inl here ↦ (x, first_in x xs, here)
+    | inr r ↦ let w = from_flat_map f xs y r in (w.0, later_in x xs w.0 w.1, w.2)
+  ]
+
+  pub in_flat_map : (f : X → List Y) (xs : List X) (x : X) (y : Y) → Contains xs x → Contains (f x) y → Contains (flat_map f xs) y
+  in_flat_map f [] x y c h = absurd (none_in_nil x c)
+  in_flat_map f (z ∷ xs) x y c h = elim (in_cases z xs x c) [
+    | inl same ↦ Contains-append_left (f z) (flat_map f xs) y (rw same h)
+    | inr r ↦ Contains-append_right (f z) (flat_map f xs) y (in_flat_map f xs x y r h)
+  ]
+
+-- Lists of which each element stands before each later one.
+
+module _ {X : Type 0} (R : X → X → Type 0) where
+  pub pairs_nil : AllPairs R []
+  pairs_nil i j d low high = absurd (omega (arith, high))
+
+  pub pairs_first : (x : X) (xs : List X) → AllPairs R (x ∷ xs) → (y : X) → Contains xs y → R x y
+  pairs_first x xs pairs y (k, less, at) = rw at at (pairs 0 (suc k) y (omega arith) (omega (arith, less)))
+
+  pub pairs_later : (x : X) (xs : List X) → AllPairs R (x ∷ xs) → AllPairs R xs
+  pairs_later x xs pairs i j d low high = pairs (suc i) (suc j) d (omega (arith, low)) (omega (arith, high))
+
+  pub pairs_of : (x : X) (xs : List X) → ((y : X) → Contains xs y → R x y) → AllPairs R xs → AllPairs R (x ∷ xs)
+  pairs_of x xs first pairs = AllPairs-cons R x xs (λ k d less. first (get_or xs k d) (Contains-get_or xs k d less)) pairs
+
+  pub pairs_append : (xs ys : List X) → AllPairs R xs → AllPairs R ys → ((x y : X) → Contains xs x → Contains ys y → R x y) → AllPairs R (xs ++ ys)
+  pairs_append [] ys a b across = b
+  pairs_append (x ∷ xs) ys a b across =
+      pairs_of x (xs ++ ys) (λ y c. elim (Contains-append_cases xs ys y c) [
+        | inl here ↦ pairs_first x xs a y here
+        | inr there ↦ across x y (first_in x xs) there
+      ]) (pairs_append xs ys (pairs_later x xs a) b (λ z y c. across z y (later_in x xs z c)))
+
+  pub pairs_front : (xs ys : List X) → AllPairs R (xs ++ ys) → AllPairs R xs
+  pairs_front [] ys a = pairs_nil
+  pairs_front (x ∷ xs) ys a =
+      pairs_of x xs (λ y c. pairs_first x (xs ++ ys) a y (Contains-append_left xs ys y c)) (pairs_front xs ys (pairs_later x (xs ++ ys) a))
+
+pub pairs_weaker : {X : Type 0} (R S : X → X → Type 0) (xs : List X) → ((x y : X) → R x y → S x y) → AllPairs R xs → AllPairs S xs
+pairs_weaker R S xs weaker a i j d low high = weaker (get_or xs i d) (get_or xs j d) (a i j d low high)
+
+module _ {X Y : Type 0} (R : X → X → Type 0) (S : Y → Y → Type 0) where
+  pub pairs_map : (f : X → Y) (xs : List X) → ((x y : X) → R x y → S (f x) (f y)) → AllPairs R xs → AllPairs S (map f xs)
+  pairs_map f [] keeps a = pairs_nil S
+  pairs_map f (x ∷ xs) keeps a =
+      pairs_of S (f x) (map f xs) (λ y c. let w = from_map f xs y c in rw (w.2) at (keeps x w.0 (pairs_first R x xs a w.0 w.1)))
+      (pairs_map f xs keeps (pairs_later R x xs a))
+
+  -- joined lists: each in order, and those of an element before those of a later one
+  pub pairs_flat_map : (f : X → List Y) (xs : List X) → AllPairs R xs → ((x : X) → AllPairs S (f x))
+      → ((x y : X) → R x y → (a b : Y) → Contains (f x) a → Contains (f y) b → S a b) → AllPairs S (flat_map f xs)
+  pairs_flat_map f [] a each across = pairs_nil S
+  pairs_flat_map f (x ∷ xs) a each across =
+      pairs_append S (f x) (flat_map f xs) (each x) (pairs_flat_map f xs (pairs_later R x xs a) each across)
+      (λ u v c d. let w = from_flat_map f xs v d in across x w.0 (pairs_first R x xs a w.0 w.1) u v c w.2)

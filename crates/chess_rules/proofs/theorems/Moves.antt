@@ -1,0 +1,88 @@
+-- The moves of a position are its legal moves, each once, in the stated order; and what mate and stalemate say of legal moves.
+use Rattle.std.proofs.Common.{◌≡◌, ◌≢◌, ◌<◌, ◌↔◌, ◌⊎◌, true, false, not, sym, ap, ◌∙◌, arith}
+use Rattle.std.specs.List.{AllPairs, Contains}
+use Rattle.chess_core.specs.MoveOrder.{promotion_place, triple_number}
+use Rattle.chess_core.specs.Position.{Position}
+use Rattle.chess_core.specs.WellFormed.{IsWellFormed}
+use Rattle.chess_core.specs.declared.man.Move.{Move}
+use Rattle.chess_rules.specs.Attacks.{in_check}
+use Rattle.chess_rules.specs.Legal.{is_goal, is_nil, is_stalemate, legal, moves, promotions, triples}
+use Rattle.chess_rules.specs.RuleSet.{RuleSet}
+use Rattle.chess_rules.proofs.Calls.{pseudo-from_legal}
+use Rattle.chess_rules.proofs.Members.{from_filter, in_filter, pairs_weaker}
+use Rattle.chess_rules.proofs.Triples.{from_triples, in_triples, made_is_triple, triples_rise, by_parts, nil_where_nothing, nothing_in}
+use Rattle.std.proofs.lemmas.Bool.{and_from, and_parts, false_from_ne_true, not-true, not_from_false, true≢false}
+use Rattle.std.proofs.lemmas.List.Kept.{AllPairs-filter}
+
+-- The move goes from a square of the board to a square of the board, and names none or one of the promotions.
+abbrev pub IsTriple : Move → Type 0
+IsTriple m = (m.from < 64) × (m.to < 64) × Contains promotions m.promo
+
+-- m precedes n: it has the lower number among all triples, as the call `Move::precedes` says.
+abbrev pub Precedes : Move → Move → Type 0
+Precedes m n = triple_number m < triple_number n
+
+-- That is: the lower origin; or the same one, and the lower arrival; or the same two, and the promotion that is named first, none before all.
+pub precedes_by_parts : (m n : Move) → IsTriple m → IsTriple n
+    → Precedes m n ↔ ((m.from < n.from)
+    ⊎ ((m.from ≡ n.from) × ((m.to < n.to) ⊎ ((m.to ≡ n.to) × (promotion_place m.promo < promotion_place n.promo)))))
+precedes_by_parts m n a b = by_parts m n a.1 b.1
+
+module _ (rule : RuleSet) (p : Position) where
+  -- Each legal move of a well-formed position is such a triple.
+  pub legal_moves_are_triples : (m : Move) → IsWellFormed p → legal rule p m ≡ true → IsTriple m
+  legal_moves_are_triples m well h = made_is_triple rule p m well.size (pseudo-from_legal rule p m h)
+
+  -- In any position a move stands among the moves exactly where it is one of the triples and legal.
+  pub moves_are_the_legal_triples : (m : Move) → Contains (moves rule p) m ↔ (IsTriple m × (legal rule p m ≡ true))
+  unfolding moves
+  moves_are_the_legal_triples m = (
+    λ c. let w = from_filter (legal rule p) triples m c in (from_triples m w.0, w.1),
+    λ h. in_filter (legal rule p) triples m (in_triples m h.0.0 h.0.1 h.0.2) h.1,
+  )
+
+  -- In a well-formed position a move stands among the moves exactly where it is legal.
+  pub moves_are_the_legal_moves : (m : Move) → IsWellFormed p → Contains (moves rule p) m ↔ (legal rule p m ≡ true)
+  moves_are_the_legal_moves m well = (
+    λ c. ((moves_are_the_legal_triples m).0 c).1,
+    λ h. (moves_are_the_legal_triples m).1 (legal_moves_are_triples m well h, h),
+  )
+
+  -- The moves stand in order: each precedes every later one.
+  pub moves_in_order : AllPairs Precedes (moves rule p)
+  unfolding moves
+  moves_in_order = AllPairs-filter Precedes (legal rule p) triples triples_rise
+
+  -- Each stands once: no two are alike.
+  pub moves_differ : AllPairs (λ m n. m ≢ n) (moves rule p)
+  moves_differ = pairs_weaker Precedes (λ m n. m ≢ n) (moves rule p) (λ m n less same. apart m n less same) moves_in_order
+    where
+      apart : (m n : Move) → Precedes m n → m ≡ n → ⊥
+      apart m n less same = let e : triple_number m ≡ triple_number n = ap triple_number same in omega (arith, less, e)
+
+  -- There are no moves exactly where no move is legal.
+  pub no_moves_is : IsWellFormed p → (is_nil (moves rule p) ≡ true) ↔ ((m : Move) → legal rule p m ≡ false)
+  no_moves_is well = (
+    λ h m. false_from_ne_true (legal rule p m) (λ may. nothing_in (moves rule p) h m ((moves_are_the_legal_moves m well).1 may)),
+    λ h. nil_where_nothing (moves rule p) (λ m c. true≢false (sym ((moves_are_the_legal_triples m).0 c).1 ∙ h m)),
+  )
+
+  -- Mate: the side to move is in check, and no move is legal.
+  pub mate_is : IsWellFormed p → (is_goal rule p ≡ true) ↔ ((in_check rule p.men p.turn ≡ true) × ((m : Move) → legal rule p m ≡ false))
+  unfolding is_goal
+  mate_is well = (
+    λ h. let w = and_parts (in_check rule p.men p.turn) (is_nil (moves rule p)) h in (w.0, (no_moves_is well).0 w.1),
+    λ h. and_from (in_check rule p.men p.turn) (is_nil (moves rule p)) h.0 ((no_moves_is well).1 h.1),
+  )
+
+  -- Stalemate: it is not in check, and no move is legal.
+  pub stalemate_is : IsWellFormed p → (is_stalemate rule p ≡ true) ↔ ((in_check rule p.men p.turn ≡ false) × ((m : Move) → legal rule p m ≡ false))
+  unfolding is_stalemate
+  stalemate_is well = (
+    λ h.
+        let w = and_parts (not (in_check rule p.men p.turn)) (is_nil (moves rule p)) h in
+        (not-true (in_check rule p.men p.turn) w.0, (no_moves_is well).0 w.1),
+    λ h.
+        and_from (not (in_check rule p.men p.turn)) (is_nil (moves rule p)) (not_from_false (in_check rule p.men p.turn) h.0)
+        ((no_moves_is well).1 h.1),
+  )

@@ -1,0 +1,102 @@
+-- One more move never harms.
+use Rattle.std.proofs.Common.{◌≡◌, ℕ, zero, suc, ◌+◌, ◌-◌, ◌≤◌, ◌<◌, Bool, true, false, not, ◌&&◌, ◌||◌, List, [], ◌∷◌, length, get_or, inl, inr, refl, sym, ap, ◌∙◌, arith}
+use Rattle.std.specs.List.{list_any, list_all, position_or_len, range_with_len}
+use Rattle.std.proofs.lemmas.Bool.{and_from, and_parts, or_cases, or_left, or_right, cases_lt}
+use Rattle.std.proofs.lemmas.List.FromFn.{get_or-range_with_len, length-range_with_len}
+use Rattle.std.proofs.lemmas.List.Sums.{fails_before_first, passes_at_first, prefix_len-le-length}
+use Rattle.pop_solve.specs.Game.{Game, can_move, some_move, every_move, lost, wins, self_wins, self_lost}
+
+module _ {X : Type 0} (f g : X → Bool) (weaker : (x : X) → f x ≡ true → g x ≡ true) where
+  any_weaker : (xs : List X) → list_any f xs ≡ true → list_any g xs ≡ true
+  any_weaker [] h = h
+  any_weaker (x ∷ xs) h = elim (or_cases (f x) (list_any f xs) h) [
+    | inl a ↦ or_left (g x) (list_any g xs) (weaker x a)
+    | inr b ↦ or_right (g x) (list_any g xs) (any_weaker xs b)
+  ]
+
+  all_weaker : (xs : List X) → list_all f xs ≡ true → list_all g xs ≡ true
+  all_weaker [] h = h
+  all_weaker (x ∷ xs) h =
+      let both = and_parts (f x) (list_all f xs) h in
+      and_from (g x) (list_all g xs) (weaker x both.0) (all_weaker xs both.1)
+
+or_weaker : (a b c : Bool) → (b ≡ true → c ≡ true) → (a || b) ≡ true → (a || c) ≡ true
+or_weaker true b c w h = refl
+or_weaker false b c w h = w h
+
+and_weaker : (a b c : Bool) → (b ≡ true → c ≡ true) → (a && b) ≡ true → (a && c) ≡ true
+and_weaker true b c w h = w h
+and_weaker false b c w h = h
+
+module _ {P M : Type 0} (game : Game P M) where
+  some_weaker : (f g : P → Bool) → ((q : P) → f q ≡ true → g q ≡ true) → (p : P) → some_move game f p ≡ true → some_move game g p ≡ true
+  some_weaker f g w p h = any_weaker (λ m. f (game.after p m)) (λ m. g (game.after p m)) (λ m. w (game.after p m)) (game.moves p) h
+
+  every_weaker : (f g : P → Bool) → ((q : P) → f q ≡ true → g q ≡ true) → (p : P) → every_move game f p ≡ true
+      → every_move game g p ≡ true
+  every_weaker f g w p h = all_weaker (λ m. f (game.after p m)) (λ m. g (game.after p m)) (λ m. w (game.after p m)) (game.moves p) h
+
+  pub lost-more : (j : ℕ) (q : P) → lost game j q ≡ true → lost game (suc j) q ≡ true
+  unfolding lost
+  lost-more zero q h = or_left (game.goal q) _ h
+  lost-more (suc j) q h =
+      or_weaker (game.goal q) _ _ (and_weaker (can_move game q) _ _ (every_weaker (some_move game (lost game j)) (some_move game (lost game (suc j)))
+      (some_weaker (lost game j) (lost game (suc j)) (λ r. lost-more j r)) q)) h
+
+  pub wins-more : (k : ℕ) (p : P) → wins game k p ≡ true → wins game (suc k) p ≡ true
+  unfolding wins
+  wins-more zero p h = absurd cc
+  wins-more (suc k) p h = some_weaker (lost game k) (lost game (suc k)) (λ r. lost-more k r) p h
+
+  -- after Black's move White wins, or Black has reached the goal
+  won-more : (f g : P → Bool) → ((r : P) → f r ≡ true → g r ≡ true) → (q : P)
+      → (can_move game q && every_move game (λ r. game.goal r || f r) q) ≡ true → (can_move game q && every_move game (λ r. game.goal r || g r) q) ≡ true
+  won-more f g w q h =
+      and_weaker (can_move game q) _ _
+      (every_weaker (λ r. game.goal r || f r) (λ r. game.goal r || g r) (λ r. or_weaker (game.goal r) (f r) (g r) (w r)) q) h
+
+  pub self_wins-more : (k : ℕ) (p : P) → self_wins game k p ≡ true → self_wins game (suc k) p ≡ true
+  unfolding self_wins
+  self_wins-more zero p h = absurd cc
+  self_wins-more (suc k) p h =
+      some_weaker (λ q. can_move game q && every_move game (λ r. game.goal r || self_wins game k r) q)
+      (λ q. can_move game q && every_move game (λ r. game.goal r || self_wins game (suc k) r) q)
+      (won-more (self_wins game k) (self_wins game (suc k)) (λ r. self_wins-more k r)) p h
+
+  pub self_lost-more : (j : ℕ) (q : P) → self_lost game j q ≡ true → self_lost game (suc j) q ≡ true
+  unfolding self_lost
+  self_lost-more zero q h = h
+  self_lost-more (suc j) q h =
+      let a : suc j - 1 ≡ j = omega arith in
+      let b : suc (suc j) - 1 ≡ suc j = omega arith in
+      rw b (won-more (self_wins game j) (self_wins game (suc j)) (self_wins-more j) q (rw a at h))
+
+-- what holds a step on holds of each greater number
+pub climbs : (f : ℕ → Bool) → ((k : ℕ) → f k ≡ true → f (suc k) ≡ true) → (k n : ℕ) → k ≤ n → f k ≡ true → f n ≡ true
+climbs f up k n le h = go (n - k) n (omega (arith, le))
+  where
+    go : (d m : ℕ) → m ≡ k + d → f m ≡ true
+    go zero m e = let s : m ≡ k = omega (arith, e) in rw s h
+    go (suc d) m e = let s : m ≡ suc (k + d) = omega (arith, e) in rw s (up (k + d) (go d (k + d) refl))
+
+-- the first number that passes a test, looked for below n
+module _ (test : ℕ → Bool) (n : ℕ) where
+  long : length (range_with_len 0 n) ≡ n
+  long = length-range_with_len 0 n
+
+  pub first_at_most : position_or_len test (range_with_len 0 n) ≤ n
+  first_at_most = rw long at (prefix_len-le-length (λ k. not (test k)) (range_with_len 0 n))
+
+  at : (k : ℕ) → k < n → get_or (range_with_len 0 n) k 0 ≡ k
+  at k less = get_or-range_with_len 0 n k 0 less ∙ omega arith
+
+  pub first_is_first : (k : ℕ) → k < position_or_len test (range_with_len 0 n) → test k ≡ false
+  first_is_first k less =
+      let within : k < n = omega (arith, less, first_at_most) in
+      ap test (sym (at k within)) ∙ fails_before_first test (range_with_len 0 n) k 0 less
+
+  pub first_passes : test n ≡ true → test (position_or_len test (range_with_len 0 n)) ≡ true
+  first_passes h = elim (cases_lt (position_or_len test (range_with_len 0 n)) n) [
+    | inl less ↦ ap test (sym (at (position_or_len test (range_with_len 0 n)) less)) ∙ passes_at_first test (range_with_len 0 n) 0 (rw long less)
+    | inr ge ↦ let e : position_or_len test (range_with_len 0 n) ≡ n = omega (arith, ge, first_at_most) in ap test e ∙ h
+  ]

@@ -1,0 +1,325 @@
+-- The paths of trees.
+use Rattle.std.proofs.Common.{◌≡◌, ◌≢◌, ℕ, zero, suc, ◌-◌, Bool, true, false, cond, List, [], ◌∷◌, ◌++◌, map, ◌⊎◌, ◌↔◌, inl, inr, refl, sym, ◌∙◌, ap, subst}
+use Rattle.std.specs.List.{AllPairs, Contains, filter, flat_map, list_any}
+use Rattle.std.proofs.lemmas.Bool.{false≢true, or_cases, or_left, or_right}
+use Rattle.std.proofs.lemmas.List.Kept.{AllPairs-filter}
+use Rattle.chess_rules.proofs.Members.{first_in, from_filter, from_flat_map, from_map, in_cases, in_filter, in_flat_map, in_map, later_in, none_in_nil, pairs_flat_map, pairs_map, pairs_nil, pairs_of}
+use Rattle.pop_solve.specs.declared.aim.Battle.{Battle}
+use Rattle.pop_solve.specs.Game.{Game}
+use Rattle.pop_solve.specs.Tree.{answers, below, best, keeps, least, node, set_shows, set_tree, tree}
+use Rattle.pop_solve.proofs.theorems.Lists.{HasBeginnings, StandsBefore}
+
+-- some element passes a test
+pub any_from_element : {X : Type 0} (test : X → Bool) (xs : List X) (x : X) → Contains xs x → test x ≡ true → list_any test xs ≡ true
+any_from_element test [] x c t = absurd (none_in_nil x c)
+any_from_element test (y ∷ xs) x c t = elim (in_cases y xs x c) [
+  | inl same ↦ or_left (test y) (list_any test xs) (ap test same ∙ t)
+  | inr r ↦ or_right (test y) (list_any test xs) (any_from_element test xs x r t)
+]
+
+pub element_from_any : {X : Type 0} (test : X → Bool) (xs : List X) → list_any test xs ≡ true → (x : X) × (Contains xs x × (test x ≡ true))
+element_from_any test [] h = absurd (false≢true h)
+element_from_any test (y ∷ xs) h = elim (or_cases (test y) (list_any test xs) h) [
+  | inl here ↦ (y, (first_in y xs, here))
+  | inr r ↦ let w = element_from_any test xs r in (w.0, (later_in y xs w.0 w.1.0, w.1.1))
+]
+
+-- joined lists of a map
+pub joined : {X Y : Type 0} (g : X → List Y) (xs : List X) → flat_map (λ s. s) (map g xs) ≡ flat_map g xs
+joined g [] = refl
+joined g (x ∷ xs) = ap (λ ys. g x ++ ys) (joined g xs)
+
+-- no path is empty
+abbrev pub HasNoEmpty : {M : Type 0} → List (List M) → Type 0
+HasNoEmpty {M} paths = (path : List M) → Contains paths path → path ≢ []
+
+module _ {M : Type 0} where
+  -- a path of a node begins with its move
+  starts : (m : M) (below : List (List M)) (path : List M) → Contains (node m below) path → (rest : List M) × (m ∷ rest ≡ path)
+  starts m below path c = elim (in_cases (m ∷ []) (map (λ path. m ∷ path) below) path c) [
+    | inl same ↦ ([], same)
+    | inr r ↦ let w = from_map (λ path. m ∷ path) below path r in (w.0, w.2)
+  ]
+
+  -- and is the node itself or goes on by one of the paths below it
+  continues : (m : M) (below : List (List M)) (path : List M) → Contains (node m below) (m ∷ path) → (path ≡ []) ⊎ Contains below path
+  continues m below path c = elim (in_cases (m ∷ []) (map (λ path. m ∷ path) below) (m ∷ path) c) [
+    | inl same ↦ inl cc
+    | inr r ↦
+        let w = from_map (λ path. m ∷ path) below (m ∷ path) r in
+        let same : w.0 ≡ path = tail_of (m ∷ w.0) (m ∷ path) w.2 in
+        inr (subst (Contains below) same w.1)
+  ]
+    where
+      rest : List M → List M
+      rest [] = []
+      rest (y ∷ ys) = ys
+
+      tail_of : (xs ys : List M) → xs ≡ ys → rest xs ≡ rest ys
+      tail_of xs ys e = ap rest e
+
+  module _ (f : M → List (List M)) where
+    -- a path of nodes: its first move is one of theirs, and the others are none or a path below it
+    pub from_nodes : (ms : List M) (m : M) (path : List M) → Contains (flat_map (λ m. node m (f m)) ms) (m ∷ path)
+        → Contains ms m × ((path ≡ []) ⊎ Contains (f m) path)
+    from_nodes ms m path c =
+        let w = from_flat_map (λ m. node m (f m)) ms (m ∷ path) c in
+        let s = starts w.0 (f w.0) (m ∷ path) w.2 in
+        let same : w.0 ≡ m = cc in
+        (subst (Contains ms) same w.1, continues m (f m) path (subst (λ k. Contains (node k (f k)) (m ∷ path)) same w.2))
+
+    pub root_in_nodes : (ms : List M) (m : M) → Contains ms m → Contains (flat_map (λ m. node m (f m)) ms) (m ∷ [])
+    root_in_nodes ms m c = in_flat_map (λ m. node m (f m)) ms m (m ∷ []) c (first_in (m ∷ []) (map (λ path. m ∷ path) (f m)))
+
+    pub path_in_nodes : (ms : List M) (m : M) (path : List M) → Contains ms m → Contains (f m) path → Contains (flat_map (λ m. node m (f m)) ms) (m ∷ path)
+    path_in_nodes ms m path c b =
+        in_flat_map (λ m. node m (f m)) ms m (m ∷ path) c (later_in (m ∷ []) (map (λ path. m ∷ path) (f m)) (m ∷ path) (in_map (λ path. m ∷ path) (f m) path b))
+
+    pub nodes_not_empty : (ms : List M) → HasNoEmpty (flat_map (λ m. node m (f m)) ms)
+    nodes_not_empty ms path c e =
+        let w = from_flat_map (λ m. node m (f m)) ms path c in
+        let s = starts w.0 (f w.0) path w.2 in
+        cc
+
+    pub nodes_have_beginnings : ((m : M) → HasBeginnings (f m)) → (ms : List M) → HasBeginnings (flat_map (λ m. node m (f m)) ms)
+    nodes_have_beginnings closed ms x [] ys c = root_in_nodes ms x (from_nodes ms x ys c).0
+    nodes_have_beginnings closed ms x (y ∷ xs) ys c =
+        let w = from_nodes ms x ((y ∷ xs) ++ ys) c in
+        elim w.1 [
+          | inl none ↦ absurd cc
+          | inr b ↦ path_in_nodes ms x (y ∷ xs) w.0 (closed x y xs ys b)
+        ]
+
+    module _ (before : M → M → Type 0) where
+      -- nodes in order, with paths in order below each
+      pub nodes_stand : (ms : List M) → AllPairs before ms → ((m : M) → AllPairs (StandsBefore before) (f m)) → ((m : M) → HasNoEmpty (f m))
+          → AllPairs (StandsBefore before) (flat_map (λ m. node m (f m)) ms)
+      nodes_stand ms order each full =
+          pairs_flat_map before (StandsBefore before) (λ m. node m (f m)) ms order
+          (λ m. pairs_of (StandsBefore before) (m ∷ []) (map (λ path. m ∷ path) (f m)) (λ path c. behind m path (from_map (λ path. m ∷ path) (f m) path c))
+          (pairs_map (StandsBefore before) (StandsBefore before) (λ path. m ∷ path) (f m) (λ x y b. inr (refl, b)) (each m)))
+          (λ m n less a b c d. across m n less a b (starts m (f m) a c) (starts n (f n) b d))
+        where
+          behind : (m : M) (path : List M) → ((rest : List M) × Contains (f m) rest × (m ∷ rest ≡ path)) → StandsBefore before (m ∷ []) path
+          behind m path w = subst (StandsBefore before (m ∷ [])) w.2 (inr (refl, goes_on w.0 (full m w.0 w.1)))
+            where
+              goes_on : (rest : List M) → rest ≢ [] → StandsBefore before [] rest
+              goes_on [] some = absurd (some refl)
+              goes_on (x ∷ rest) some = tt
+
+          across : (m n : M) → before m n → (a b : List M) → ((x : List M) × (m ∷ x ≡ a)) → ((y : List M) × (n ∷ y ≡ b)) → StandsBefore before a b
+          across m n less a b x y = rw (← x.1, ← y.1) (inl less)
+
+either_way : {A : Type 0} (Q : A → Type 0) (b : Bool) (x y : A) → Q x → Q y → Q (cond b x y)
+either_way Q true x y here other = here
+either_way Q false x y here other = other
+
+-- a list, unless the goal is reached
+pub in_unless : {X : Type 0} (g : Bool) (xs : List X) (x : X) → Contains (cond g [] xs) x ↔ ((g ≡ false) × Contains xs x)
+in_unless true xs x = (λ c. absurd (none_in_nil x c), λ w. absurd (false≢true (sym w.0)))
+in_unless false xs x = (λ c. (refl, c), λ w. w.1)
+
+module _ {M : Type 0} where
+  nil_not_empty : HasNoEmpty {M = M} []
+  nil_not_empty path c e = none_in_nil path c
+
+  pub nil_has_beginnings : HasBeginnings {M = M} []
+  nil_has_beginnings x xs ys c = absurd (none_in_nil ((x ∷ xs) ++ ys) c)
+
+  unless_not_empty : (g : Bool) (paths : List (List M)) → HasNoEmpty paths → HasNoEmpty (cond g [] paths)
+  unless_not_empty true paths h = nil_not_empty
+  unless_not_empty false paths h = h
+
+  unless_has_beginnings : (g : Bool) (paths : List (List M)) → HasBeginnings paths → HasBeginnings (cond g [] paths)
+  unless_has_beginnings true paths h = nil_has_beginnings
+  unless_has_beginnings false paths h = h
+
+  unless_stands : (R : List M → List M → Type 0) (g : Bool) (paths : List (List M)) → AllPairs R paths → AllPairs R (cond g [] paths)
+  unless_stands R true paths h = pairs_nil R
+  unless_stands R false paths h = h
+
+  -- single moves
+  singles_not_empty : (ms : List M) → HasNoEmpty (map (λ m. m ∷ []) ms)
+  singles_not_empty ms path c e = let w = from_map (λ m. m ∷ []) ms path c in cc
+
+  singles_have_beginnings : (ms : List M) → HasBeginnings (map (λ m. m ∷ []) ms)
+  singles_have_beginnings ms x xs ys c =
+      let w = from_map (λ m. m ∷ []) ms ((x ∷ xs) ++ ys) c in
+      let none : xs ++ ys ≡ [] = cc in
+      let short : xs ≡ [] = front_nil xs ys none in
+      let back : ys ≡ [] = rw short at none in
+      subst (λ l. Contains (map (λ m. m ∷ []) ms) (x ∷ l)) (none ∙ sym short) c
+    where
+      front_nil : (xs ys : List M) → xs ++ ys ≡ [] → xs ≡ []
+      front_nil [] ys e = refl
+      front_nil (x ∷ xs) ys e = absurd cc
+
+  singles_stand : (before : M → M → Type 0) (ms : List M) → AllPairs before ms → AllPairs (StandsBefore before) (map (λ m. m ∷ []) ms)
+  singles_stand before ms order = pairs_map before (StandsBefore before) (λ m. m ∷ []) ms (λ x y less. inl less) order
+
+module _ {P M : Type 0} (battle : Battle) (game : Game P M) (n : ℕ) where
+  pub below_zero : (q : P) → below battle game n zero q ≡ []
+  unfolding below answers
+  below_zero q = refl
+
+  pub answers_zero : (r : P) → answers battle game n zero r ≡ []
+  unfolding below answers
+  answers_zero r = refl
+
+  pub below_more : (h : ℕ) (q : P)
+      → below battle game n (suc h) q ≡ cond (game.goal q) [] (flat_map (λ d. node d (answers battle game n h (game.after q d))) (game.moves q))
+  unfolding below answers
+  below_more h q = refl
+
+  pub answers_more : (h : ℕ) (r : P)
+      → answers battle game n (suc h) r ≡ cond (game.goal r) [] (flat_map (λ m. node m (below battle game n h (game.after r m))) (best battle game n r))
+  unfolding below answers
+  answers_more h r = refl
+
+  pub trees_not_empty : (h : ℕ) → ((q : P) → HasNoEmpty (below battle game n h q)) × ((r : P) → HasNoEmpty (answers battle game n h r))
+  trees_not_empty zero = (λ q. rw (below_zero q) nil_not_empty, λ r. rw (answers_zero r) nil_not_empty)
+  trees_not_empty (suc h) = (
+    λ q. rw (below_more h q) (unless_not_empty (game.goal q) _ (nodes_not_empty (λ d. answers battle game n h (game.after q d)) (game.moves q))),
+    λ r. rw (answers_more h r) (unless_not_empty (game.goal r) _ (nodes_not_empty (λ m. below battle game n h (game.after r m)) (best battle game n r))),
+  )
+
+  pub trees_have_beginnings : (h : ℕ) → ((q : P) → HasBeginnings (below battle game n h q)) × ((r : P) → HasBeginnings (answers battle game n h r))
+  trees_have_beginnings zero = (λ q. rw (below_zero q) nil_has_beginnings, λ r. rw (answers_zero r) nil_has_beginnings)
+  trees_have_beginnings (suc h) =
+      let both = trees_have_beginnings h in (
+        λ q. rw (below_more h q) (unless_has_beginnings (game.goal q) _
+            (nodes_have_beginnings (λ d. answers battle game n h (game.after q d)) (λ d. both.1 (game.after q d)) (game.moves q))),
+        λ r. rw (answers_more h r) (unless_has_beginnings (game.goal r) _
+            (nodes_have_beginnings (λ m. below battle game n h (game.after r m)) (λ m. both.0 (game.after r m)) (best battle game n r))),
+      )
+
+  module _ (before : M → M → Type 0) (order : (p : P) → AllPairs before (game.moves p)) where
+    pub best_stand : (r : P) → AllPairs before (best battle game n r)
+    best_stand r = AllPairs-filter before (λ m. keeps battle game (least battle game n r) (game.after r m)) (game.moves r) (order r)
+
+    pub trees_stand : (h : ℕ) → ((q : P) → AllPairs (StandsBefore before) (below battle game n h q))
+        × ((r : P) → AllPairs (StandsBefore before) (answers battle game n h r))
+    trees_stand zero = (λ q. rw (below_zero q) (pairs_nil (StandsBefore before)), λ r. rw (answers_zero r) (pairs_nil (StandsBefore before)))
+    trees_stand (suc h) =
+        let both = trees_stand h in
+        let full = trees_not_empty h in (
+          λ q. rw (below_more h q) (unless_stands (StandsBefore before) (game.goal q) _
+              (nodes_stand (λ d. answers battle game n h (game.after q d)) before (game.moves q) (order q)
+              (λ d. both.1 (game.after q d)) (λ d. full.1 (game.after q d)))),
+          λ r. rw (answers_more h r) (unless_stands (StandsBefore before) (game.goal r) _
+              (nodes_stand (λ m. below battle game n h (game.after r m)) before (best battle game n r) (best_stand r)
+              (λ m. both.0 (game.after r m)) (λ m. full.0 (game.after r m)))),
+        )
+
+  -- the keys, and the moves that set play shows
+  abbrev pub kept : P → List M
+  kept p = filter (λ m. keeps battle game n (game.after p m)) (game.moves p)
+
+  abbrev pub set_moves : P → List M
+  set_moves p = filter (λ d. set_shows battle game n (game.after p d)) (game.moves p)
+
+  -- the answers of set play without variations
+  abbrev single_answers : P → List (List M)
+  single_answers r = cond (game.goal r) [] (map (λ m. m ∷ []) (best battle game n r))
+
+  -- what stands below the first moves of a play and of set play
+  module _ (variation : Bool) where
+    unfoldable pub below_key : ℕ → P → M → List (List M)
+    below_key h p m = cond variation (below battle game n (h - 1) (game.after p m)) []
+
+    unfoldable pub below_set : ℕ → P → M → List (List M)
+    below_set h p d = cond variation (answers battle game n h (game.after p d)) (single_answers (game.after p d))
+
+    pub below_key_not_empty : (h : ℕ) (p : P) (m : M) → HasNoEmpty (below_key h p m)
+    unfolding below_key
+    below_key_not_empty h p m =
+        either_way (HasNoEmpty {M = M}) variation (below battle game n (h - 1) (game.after p m)) [] ((trees_not_empty (h - 1)).0 (game.after p m)) nil_not_empty
+
+    pub below_set_not_empty : (h : ℕ) (p : P) (d : M) → HasNoEmpty (below_set h p d)
+    unfolding below_set
+    below_set_not_empty h p d =
+        let r = game.after p d in
+        either_way (HasNoEmpty {M = M}) variation (answers battle game n h r) (single_answers r) ((trees_not_empty h).1 r)
+        (unless_not_empty (game.goal r) (map (λ m. m ∷ []) (best battle game n r)) (singles_not_empty (best battle game n r)))
+
+    pub below_key_has_beginnings : (h : ℕ) (p : P) (m : M) → HasBeginnings (below_key h p m)
+    unfolding below_key
+    below_key_has_beginnings h p m =
+        either_way (HasBeginnings {M = M}) variation (below battle game n (h - 1) (game.after p m)) [] ((trees_have_beginnings (h - 1)).0 (game.after p m))
+        nil_has_beginnings
+
+    pub below_set_has_beginnings : (h : ℕ) (p : P) (d : M) → HasBeginnings (below_set h p d)
+    unfolding below_set
+    below_set_has_beginnings h p d =
+        let r = game.after p d in
+        either_way (HasBeginnings {M = M}) variation (answers battle game n h r) (single_answers r) ((trees_have_beginnings h).1 r)
+        (unless_has_beginnings (game.goal r) (map (λ m. m ∷ []) (best battle game n r)) (singles_have_beginnings (best battle game n r)))
+
+    module _ (before : M → M → Type 0) (order : (p : P) → AllPairs before (game.moves p)) where
+      pub below_key_stands : (h : ℕ) (p : P) (m : M) → AllPairs (StandsBefore before) (below_key h p m)
+      unfolding below_key
+      below_key_stands h p m =
+          either_way (AllPairs (StandsBefore before)) variation (below battle game n (h - 1) (game.after p m)) []
+          ((trees_stand before order (h - 1)).0 (game.after p m)) (pairs_nil (StandsBefore before))
+
+      pub below_set_stands : (h : ℕ) (p : P) (d : M) → AllPairs (StandsBefore before) (below_set h p d)
+      unfolding below_set
+      below_set_stands h p d =
+          let r = game.after p d in
+          either_way (AllPairs (StandsBefore before)) variation (answers battle game n h r) (single_answers r) ((trees_stand before order h).1 r)
+          (unless_stands (StandsBefore before) (game.goal r) (map (λ m. m ∷ []) (best battle game n r))
+          (singles_stand before (best battle game n r) (best_stand before order r)))
+
+    -- all paths of a play and of set play
+    pub tree_paths : (h : ℕ) (p : P) → flat_map (λ s. s) (tree battle game variation n h p) ≡ flat_map (λ m. node m (below_key h p m)) (kept p)
+    unfolding below_key
+    tree_paths h p = joined (λ m. node m (cond variation (below battle game n (h - 1) (game.after p m)) [])) (kept p)
+
+    pub set_tree_none : (p : P) → flat_map (λ s. s) (set_tree battle game variation n zero p) ≡ []
+    unfolding set_tree
+    set_tree_none p = refl
+
+    pub set_tree_paths : (h : ℕ) (p : P)
+        → flat_map (λ s. s) (set_tree battle game variation n (suc h) p) ≡ flat_map (λ d. node d (below_set h p d)) (set_moves p)
+    unfolding set_tree below_set
+    set_tree_paths h p = joined (λ d. node d (below_set h p d)) (set_moves p)
+
+-- the paths of nodes, unless the goal is reached
+module _ {M : Type 0} (f : M → List (List M)) (g : Bool) (ms : List M) (m : M) where
+  pub roots_unless : Contains (cond g [] (flat_map (λ m. node m (f m)) ms)) (m ∷ []) ↔ ((g ≡ false) × Contains ms m)
+  roots_unless = (
+    λ c. let w = (in_unless g (flat_map (λ m. node m (f m)) ms) (m ∷ [])).0 c in (w.0, (from_nodes f ms m [] w.1).0),
+    λ w. (in_unless g (flat_map (λ m. node m (f m)) ms) (m ∷ [])).1 (w.0, root_in_nodes f ms m w.1),
+  )
+
+  deeper : (x : M) (path : List M) → (x ∷ path ≡ []) ⊎ Contains (f m) (x ∷ path) → Contains (f m) (x ∷ path)
+  deeper x path (inl none) = absurd cc
+  deeper x path (inr b) = b
+
+  pub deeper_unless : (x : M) (path : List M)
+      → Contains (cond g [] (flat_map (λ m. node m (f m)) ms)) (m ∷ (x ∷ path)) ↔ ((g ≡ false) × Contains ms m × Contains (f m) (x ∷ path))
+  deeper_unless x path = (
+    λ c.
+        let w = (in_unless g (flat_map (λ m. node m (f m)) ms) (m ∷ (x ∷ path))).0 c in
+        let k = from_nodes f ms m (x ∷ path) w.1 in
+        (w.0, k.0, deeper x path k.1),
+    λ w. (in_unless g (flat_map (λ m. node m (f m)) ms) (m ∷ (x ∷ path))).1 (w.0, path_in_nodes f ms m (x ∷ path) w.1 w.2),
+  )
+
+-- nodes of the moves that pass a test
+module _ {M : Type 0} (f : M → List (List M)) (test : M → Bool) (ms : List M) (m : M) where
+  pub roots_are : Contains (flat_map (λ m. node m (f m)) (filter test ms)) (m ∷ []) ↔ (Contains ms m × (test m ≡ true))
+  roots_are = (
+    λ c. from_filter test ms m (from_nodes f (filter test ms) m [] c).0,
+    λ w. root_in_nodes f (filter test ms) m (in_filter test ms m w.0 w.1),
+  )
+
+  pub deeper_are : (x : M) (path : List M)
+      → Contains (flat_map (λ m. node m (f m)) (filter test ms)) (m ∷ (x ∷ path)) ↔ (Contains ms m × (test m ≡ true) × Contains (f m) (x ∷ path))
+  deeper_are x path = (
+    λ c.
+        let w = (deeper_unless f false (filter test ms) m x path).0 c in
+        let k = from_filter test ms m w.1 in
+        (k.0, k.1, w.2),
+    λ w. path_in_nodes f (filter test ms) m (x ∷ path) (in_filter test ms m w.0 w.1) w.2,
+  )

@@ -1,0 +1,84 @@
+-- The lines of help play: which lists of moves they are, that each stands once, and in which order.
+use Rattle.std.proofs.Common.{◌≡◌, ◌≢◌, ℕ, zero, suc, ◌≤◌, ◌↔◌, true, List, [], ◌∷◌, length, refl, arith}
+use Rattle.std.specs.List.{AllPairs, Contains}
+use Rattle.chess_core.specs.Position.{Position}
+use Rattle.chess_core.specs.Triple.{Triple}
+use Rattle.chess_core.specs.WellFormed.{IsWellFormed}
+use Rattle.chess_rules.specs.Legal.{legal}
+use Rattle.chess_rules.specs.Play.{after as played}
+use Rattle.chess_rules.specs.RuleSet.{RuleSet}
+use Rattle.chess_rules.proofs.Calls.{pseudo-from_legal}
+use Rattle.chess_rules.proofs.Members.{none_in_nil, pairs_nil, pairs_weaker}
+use Rattle.chess_rules.proofs.Stays.{after_well_formed}
+use Rattle.chess_rules.proofs.theorems.Moves.{Precedes, moves_are_the_legal_moves, moves_differ, moves_in_order}
+use Rattle.pop_input.specs.declared.stipulation.Goal.{Goal}
+use Rattle.pop_solve.specs.Chess.{chess, is_reached}
+use Rattle.pop_solve.specs.Game.{Game, help_lines, reach}
+use Rattle.pop_solve.proofs.HelpPlay.{from_lines, in_lines, lines_stand}
+use Rattle.pop_solve.proofs.theorems.Lists.{IsPlayable, StandsBefore, never_before_itself}
+
+-- Any game.
+module _ {P M : Type 0} (game : Game P M) where
+  -- A list stands among the lines of help play in h half-moves, one or more, exactly where it has h moves, can be played from p,
+  -- and its last position has the goal.
+  pub help_lines_are : (h : ℕ) (p : P) (line : List M)
+      → Contains (help_lines game h p) line ↔ ((1 ≤ h) × (length line ≡ h) × IsPlayable game p line × (game.goal (reach game.after p line) ≡ true))
+  unfolding help_lines
+  help_lines_are zero p line = (λ c. absurd (none_in_nil line c), λ w. absurd (omega (arith, w.0)))
+  help_lines_are (suc h) p line = (
+    λ c. let w = from_lines game (suc h) p line c in (omega arith, w.0, w.1, w.2),
+    λ w. in_lines game (suc h) p line w.1 w.2 w.3,
+  )
+
+  -- They stand in lexicographic order of the order in which the moves of each position stand.
+  pub help_lines_in_order : (before : M → M → Type 0) → ((p : P) → AllPairs before (game.moves p))
+      → (h : ℕ) (p : P) → AllPairs (StandsBefore before) (help_lines game h p)
+  unfolding help_lines
+  help_lines_in_order before order zero p = pairs_nil (StandsBefore before)
+  help_lines_in_order before order (suc h) p = lines_stand game before order (suc h) p
+
+  -- Where no position has two moves alike, no two lines are alike.
+  pub help_lines_differ : ((p : P) → AllPairs (λ m n. m ≢ n) (game.moves p)) → (h : ℕ) (p : P) → AllPairs (λ a b. a ≢ b) (help_lines game h p)
+  help_lines_differ differ h p =
+      pairs_weaker (StandsBefore (λ m n. m ≢ n)) (λ a b. a ≢ b) (help_lines game h p) (never_before_itself (λ m n. m ≢ n) (λ m ne. ne refl))
+      (help_lines_in_order (λ m n. m ≢ n) differ h p)
+
+-- Chess, under a set of rules.
+module _ (rule : RuleSet) where
+  -- Each move of the line is legal in the position in which it is made.
+  abbrev pub IsLegalLine : Position → List Triple → Type 0
+  IsLegalLine p [] = Unit {0}
+  IsLegalLine p (m ∷ line) = (legal rule p m ≡ true) × IsLegalLine (played rule p m) line
+
+-- And for a goal.
+module _ (goal : Goal) (rule : RuleSet) where
+  -- From a well-formed position a list can be played exactly where it is such a line.
+  pub playable_is_legal : (p : Position) (line : List Triple) → IsWellFormed p → IsPlayable (chess goal rule) p line ↔ IsLegalLine rule p line
+  playable_is_legal p [] well = (λ w. tt, λ w. tt)
+  playable_is_legal p (m ∷ line) well = (
+    λ w.
+        let may = (moves_are_the_legal_moves rule p m well).0 w.0 in
+        (may, (playable_is_legal (played rule p m) line (after_well_formed rule p m well (pseudo-from_legal rule p m may))).0 w.1),
+    λ w. (
+      (moves_are_the_legal_moves rule p m well).1 w.0,
+      (playable_is_legal (played rule p m) line (after_well_formed rule p m well (pseudo-from_legal rule p m w.0))).1 w.1,
+    ),
+  )
+
+  -- From a well-formed position a list stands among the lines of help play in h half-moves, one or more, exactly where it has h moves, each
+  -- legal where it is made, and the goal is reached in its last position.
+  pub help_lines_of_chess_are : (h : ℕ) (p : Position) (line : List Triple) → IsWellFormed p
+      → Contains (help_lines (chess goal rule) h p) line
+      ↔ ((1 ≤ h) × (length line ≡ h) × IsLegalLine rule p line × (is_reached goal rule (reach (played rule) p line) ≡ true))
+  help_lines_of_chess_are h p line well = (
+    λ c. let w = (help_lines_are (chess goal rule) h p line).0 c in (w.0, w.1, (playable_is_legal p line well).0 w.2, w.3),
+    λ w. (help_lines_are (chess goal rule) h p line).1 (w.0, w.1, (playable_is_legal p line well).1 w.2, w.3),
+  )
+
+  -- They stand in lexicographic order of the moves.
+  pub help_lines_of_chess_in_order : (h : ℕ) (p : Position) → AllPairs (StandsBefore Precedes) (help_lines (chess goal rule) h p)
+  help_lines_of_chess_in_order h p = help_lines_in_order (chess goal rule) Precedes (moves_in_order rule) h p
+
+  -- Each stands once: no two are alike.
+  pub help_lines_of_chess_differ : (h : ℕ) (p : Position) → AllPairs (λ a b. a ≢ b) (help_lines (chess goal rule) h p)
+  help_lines_of_chess_differ h p = help_lines_differ (chess goal rule) (moves_differ rule) h p

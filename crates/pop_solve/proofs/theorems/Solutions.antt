@@ -1,0 +1,101 @@
+-- The solutions of a chess problem: which lines and keys they are, that no path of a phase stands twice, and in which order the paths stand.
+use Rattle.std.proofs.Common.{◌≡◌, ◌≢◌, ◌≤◌, ◌↔◌, Bool, true, false, List, [], ◌∷◌, take, length, refl}
+use Rattle.std.specs.List.{AllPairs, Contains}
+use Rattle.chess_core.specs.Triple.{Triple}
+use Rattle.chess_rules.specs.Legal.{legal}
+use Rattle.chess_rules.specs.Play.{after as played}
+use Rattle.chess_rules.specs.RuleSet.{RuleSet}
+use Rattle.chess_rules.proofs.Members.{pairs_weaker}
+use Rattle.chess_rules.proofs.theorems.Moves.{Precedes, moves_are_the_legal_moves, moves_in_order}
+use Rattle.pop_input.specs.Posed.{IsSound, Posed}
+use Rattle.pop_input.specs.Stipulations.{is_help}
+use Rattle.pop_solve.specs.declared.event.Phase.{Phase}
+use Rattle.pop_solve.specs.declared.event.Phase.TheVariants.{Set, Play}
+use Rattle.pop_solve.specs.Chess.{is_reached}
+use Rattle.pop_solve.specs.Events.{phase_half_moves, phase_start, solutions, start}
+use Rattle.pop_solve.specs.Game.{reach}
+use Rattle.pop_solve.specs.Tree.{keeps, set_shows}
+use Rattle.pop_solve.proofs.PhasePaths.{first_joined, game_of, its_battle, help_paths, never_itself, play_paths, set_paths}
+use Rattle.pop_solve.proofs.Sound.{start_sound}
+use Rattle.pop_solve.proofs.theorems.HelpLines.{IsLegalLine, help_lines_of_chess_are, help_lines_of_chess_in_order}
+use Rattle.pop_solve.proofs.theorems.Lists.{HasBeginnings, StandsBefore, never_before_itself, paths}
+use Rattle.pop_solve.proofs.theorems.Trees.{keys_are, play_has_beginnings, play_in_order, set_play_has_beginnings, set_play_in_order, set_play_is}
+
+module _ (rule : RuleSet) (problem : Posed) where
+  -- Help play: from a sound problem a list of moves is a line of a phase exactly where it has as many moves as the phase has half-moves,
+  -- one or more, each legal where it is made, and the goal is reached in its last position.
+  pub lines_of_a_phase_are : (phase : Phase) (line : List Triple) → IsSound problem → is_help problem.stipulation.form ≡ true
+      → Contains (paths (solutions rule problem phase)) line
+      ↔ ((1 ≤ phase_half_moves problem phase) × (length line ≡ phase_half_moves problem phase)
+      × IsLegalLine rule (phase_start problem phase) line
+      × (is_reached problem.stipulation.goal rule (reach (played rule) (phase_start problem phase) line) ≡ true))
+  lines_of_a_phase_are phase line sound help =
+      rw (help_paths rule problem phase help)
+      (help_lines_of_chess_are problem.stipulation.goal rule (phase_half_moves problem phase) (phase_start problem phase) line
+      (start_sound problem sound phase))
+
+  -- Battle play: a move is a key of a sound problem exactly where it is legal and keeps the win within the problem's number of moves.
+  pub keys_of_a_problem_are : (m : Triple) → IsSound problem → is_help problem.stipulation.form ≡ false
+      → Contains (paths (solutions rule problem Play)) (m ∷ [])
+      ↔ ((legal rule (start problem) m ≡ true)
+      × (keeps (its_battle problem) (game_of rule problem) problem.stipulation.n (played rule (start problem) m) ≡ true))
+  keys_of_a_problem_are m sound battle =
+      let game = game_of rule problem in
+      let are = keys_are (its_battle problem) game problem.stipulation.n problem.variation (phase_half_moves problem Play) (start problem) m in
+      let legal = moves_are_the_legal_moves rule (start problem) m (start_sound problem sound Play) in
+      rw (play_paths rule problem battle) (λ c. let w = are.0 c in (legal.0 w.0, w.1), λ w. are.1 (legal.1 w.0, w.1))
+
+  -- Set play: a move of Black stands among the first moves exactly where set play has half-moves, the move is legal in its first position,
+  -- and after it the goal is reached, if that is for Black to do, or White wins with a move less.
+  pub set_moves_of_a_problem_are : (d : Triple) → IsSound problem → is_help problem.stipulation.form ≡ false
+      → Contains (paths (solutions rule problem Set)) (d ∷ [])
+      ↔ ((1 ≤ phase_half_moves problem Set) × (legal rule (phase_start problem Set) d ≡ true)
+      × (set_shows (its_battle problem) (game_of rule problem) problem.stipulation.n (played rule (phase_start problem Set) d) ≡ true))
+  set_moves_of_a_problem_are d sound battle =
+      let game = game_of rule problem in
+      let from = phase_start problem Set in
+      let are = set_play_is (its_battle problem) game problem.stipulation.n problem.variation (phase_half_moves problem Set) from d in
+      let legal = moves_are_the_legal_moves rule from d (start_sound problem sound Set) in
+      rw (set_paths rule problem battle) (λ c. let w = are.0 c in (w.0, legal.0 w.1, w.2), λ w. are.1 (w.0, legal.1 w.1, w.2))
+
+  -- The paths of each phase stand in lexicographic order of the moves: lines in order, and in trees each node before what stands below it,
+  -- and that before the next of its siblings.
+  pub paths_in_order : (phase : Phase) → AllPairs (StandsBefore Precedes) (paths (solutions rule problem phase))
+  paths_in_order phase = by_form (is_help problem.stipulation.form) refl phase
+    where
+      by_form : (b : Bool) → is_help problem.stipulation.form ≡ b → (phase : Phase) → AllPairs (StandsBefore Precedes) (paths (solutions rule problem phase))
+      by_form true help phase =
+          rw (help_paths rule problem phase help)
+          (help_lines_of_chess_in_order problem.stipulation.goal rule (phase_half_moves problem phase) (phase_start problem phase))
+      by_form false battle Play =
+          rw (play_paths rule problem battle)
+          (play_in_order (its_battle problem) (game_of rule problem) problem.stipulation.n problem.variation
+          (phase_half_moves problem Play) (phase_start problem Play) Precedes (moves_in_order rule))
+      by_form false battle Set =
+          rw (set_paths rule problem battle)
+          (set_play_in_order (its_battle problem) (game_of rule problem) problem.stipulation.n problem.variation
+          (phase_half_moves problem Set) (phase_start problem Set) Precedes (moves_in_order rule))
+
+  -- No two paths of a phase are alike.
+  pub paths_differ : (phase : Phase) → AllPairs (λ a b. a ≢ b) (paths (solutions rule problem phase))
+  paths_differ phase =
+      pairs_weaker (StandsBefore Precedes) (λ a b. a ≢ b) (paths (solutions rule problem phase)) (never_before_itself Precedes never_itself)
+      (paths_in_order phase)
+
+  -- Nor two of those that are shown, which are the first solutions, up to the limit, and they stand in that order.
+  pub shown_paths_in_order : (phase : Phase) → AllPairs (StandsBefore Precedes) (paths (take problem.max_solutions (solutions rule problem phase)))
+  shown_paths_in_order phase = first_joined (StandsBefore Precedes) problem.max_solutions (solutions rule problem phase) (paths_in_order phase)
+
+  pub shown_paths_differ : (phase : Phase) → AllPairs (λ a b. a ≢ b) (paths (take problem.max_solutions (solutions rule problem phase)))
+  shown_paths_differ phase = first_joined (λ a b. a ≢ b) problem.max_solutions (solutions rule problem phase) (paths_differ phase)
+
+  -- In battle play a beginning of a path is a path too: no node stands without those above it.
+  pub nodes_stand_below_their_parents : (phase : Phase) → is_help problem.stipulation.form ≡ false → HasBeginnings (paths (solutions rule problem phase))
+  nodes_stand_below_their_parents Play battle =
+      rw (play_paths rule problem battle)
+      (play_has_beginnings (its_battle problem) (game_of rule problem) problem.stipulation.n problem.variation
+      (phase_half_moves problem Play) (phase_start problem Play))
+  nodes_stand_below_their_parents Set battle =
+      rw (set_paths rule problem battle)
+      (set_play_has_beginnings (its_battle problem) (game_of rule problem) problem.stipulation.n problem.variation
+      (phase_half_moves problem Set) (phase_start problem Set))
