@@ -3,8 +3,14 @@
 #![tactic(auto)]
 
 #[cfg(test)]
+mod counts;
+#[cfg(test)]
+mod made;
+#[cfg(test)]
 mod plain;
 #[cfg(test)]
 mod row;
 #[cfg(test)]
 mod tests;
+#[cfg(test)]
+mod watch;

@@ -134,14 +134,14 @@ fn shown<R: Rules>(goal: Goal, before: &Board, after: &Board, by: Move) -> Shown
 }
 
 /// Whether the side to move is mated, or stalemated, whichever is the goal.
-fn is_goal<R: Rules>(goal: Goal, board: &Board) -> bool
+pub(crate) fn is_goal<R: Rules>(goal: Goal, board: &Board) -> bool
     requires { IsWellFormed board.now }
 {
     in_check::<R>(board, board.turn()) == (goal == Goal::Mate) && !can_move::<R>(board)
 }
 
 /// Whether it has a legal move.
-fn can_move<R: Rules>(board: &Board) -> bool
+pub(crate) fn can_move<R: Rules>(board: &Board) -> bool
     requires { IsWellFormed board.now }
 {
     let mut here = *board;
@@ -411,7 +411,7 @@ fn phase<R: Rules>(
 }
 
 /// The first position of a phase: set play gives the move to the other side and has no crossed square.
-fn first_diagram(problem: &Problem, in_set: bool) -> Diagram {
+pub(crate) fn first_diagram(problem: &Problem, in_set: bool) -> Diagram {
     let mut diagram = problem.diagram();
     if in_set {
         diagram.turn = diagram.turn.other();

@@ -138,25 +138,32 @@ fn agrees_under<R: Rules>(problem: &Problem) -> bool
     given.text.as_slice() == plain.as_slice()
 }
 
-/// The same of a problem put together of its men, its stipulation and its options; nothing of one that isn't sound.
-pub(crate) fn agrees(men: &str, stipulation: &str, rest: &str) -> Option<bool> {
-    let mut text = ArrayVec::<u8, 512>::new();
-    for part in [
-        "BeginProblem Pieces ",
+/// The problem of men, a stipulation and the rest; nothing where it isn't sound.
+pub(crate) fn posed(men: &[u8], stipulation: &str, rest: &str) -> Option<Problem> {
+    let parts: [&[u8]; 7] = [
+        b"BeginProblem Pieces ",
         men,
-        " Stipulation ",
-        stipulation,
-        " ",
-        rest,
-        " EndProblem ",
-    ] {
-        let _fits = text.try_extend_from_slice(part.as_bytes());
+        b" Stipulation ",
+        stipulation.as_bytes(),
+        b" ",
+        rest.as_bytes(),
+        b" EndProblem ",
+    ];
+    let mut text = ArrayVec::<u8, 512>::new();
+    for part in parts {
+        let _fits = text.try_extend_from_slice(part);
     }
     let mut source = TrialSource::new(text.as_slice(), 4096, None);
     let mut reader = Reader::new();
-    let Item::Sound(problem, _) = reader.next_problem(&mut source) else {
-        return None;
-    };
+    match reader.next_problem(&mut source) {
+        Item::Sound(problem, _) => Some(problem),
+        _ => None,
+    }
+}
+
+/// The same of a problem put together of its men, its stipulation and its options; nothing of one that isn't sound.
+pub(crate) fn agrees(men: &str, stipulation: &str, rest: &str) -> Option<bool> {
+    let problem = posed(men.as_bytes(), stipulation, rest)?;
     Some(match problem.condition() {
         None => agrees_under::<Orthodox>(&problem),
         Some(Condition::Circe) => agrees_under::<Circe>(&problem),

@@ -2,5 +2,6 @@
 mod agreements;
 mod direct;
 mod help;
+mod opened;
 mod selfmate;
 mod stalemate;

@@ -1,0 +1,13 @@
+use Rattle.std.proofs.Common.{length}
+use Rattle.chess_core.specs.WellFormed.{IsWellFormed}
+use Rattle.chess_rules.specs.Places.{moves_behind}
+use Rattle.search_tests.proofs.counts.+smallest.Given as goal
+
+abbrev pub decreases-smallest : goal.decreases-smallest
+decreases-smallest g l = l.left
+
+abbrev pub invariant-loop-by : goal.invariant-loop-by
+invariant-loop-by g l = IsWellFormed l.here
+
+abbrev pub decreases-loop-by : goal.decreases-loop-by
+decreases-loop-by g l = length (moves_behind g.R.Rules.rule l.here l.moves)

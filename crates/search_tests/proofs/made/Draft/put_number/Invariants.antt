@@ -1,0 +1,4 @@
+use Rattle.search_tests.proofs.made.Draft.put_number.Given as goal
+
+abbrev pub decreases-loop-unit : goal.decreases-loop-unit
+decreases-loop-unit l = l.unit

@@ -1,0 +1,170 @@
+//! What a search says of the frames that it has opened, at each of its events.
+ghost use Rattle.std.specs.Prelude.{◌≡◌};
+ghost use Rattle.pop_input.specs.Posed.{rule_of};
+
+use crate::row::half_moves;
+use arrayvec::ArrayVec;
+use chess_rules::rules::{Circe, Madrasi, Orthodox, Rules};
+use pop_input::condition::Condition;
+use pop_input::problem::Problem;
+use pop_solve::{Event, Mark, Phase, Search, Shown};
+use std::process::Abort;
+
+/// More events than any problem here has.
+const ALL: u32 = 1_000_000;
+
+/// What a search gave.
+#[derive(Clone, Copy, Default)]
+pub(crate) struct Seen {
+    /// The frames opened when set play ended, and at the end.
+    pub after_set: u64,
+    pub opened: u64,
+    /// The solutions of all phases, and of the one that has most.
+    pub solutions: u32,
+    pub most: u32,
+    /// Phases that the limit ended, and set play that isn't possible.
+    pub stopped: u32,
+    pub barred: u32,
+    /// Lines and nodes with a check that is no mate, and those with a rebirth.
+    pub checks: u32,
+    pub rebirths: u32,
+}
+
+impl Seen {
+    fn phase_ends(&mut self, count: u32, stopped: bool) {
+        self.solutions = self.solutions.saturating_add(count);
+        self.most = self.most.max(count);
+        if stopped {
+            self.stopped = self.stopped.saturating_add(1);
+        }
+    }
+
+    fn moves(&mut self, moves: &[Shown]) {
+        let mut checks = 0;
+        let mut rebirths = 0;
+        for shown in moves {
+            if shown.mark == Mark::Check {
+                checks = 1;
+            }
+            if shown.rebirth.is_some() {
+                rebirths = 1;
+            }
+        }
+        self.checks = self.checks.saturating_add(checks);
+        self.rebirths = self.rebirths.saturating_add(rebirths);
+    }
+}
+
+/// From how many positions the moves of the lines and nodes given so far go on: a frame has been opened for each.
+#[derive(Drop)]
+struct Stood {
+    line: ArrayVec<Shown, 32>,
+    /// The depth from which on a node is the first below another.
+    below: u32,
+    positions: u64,
+}
+
+/// With how many moves both lines begin.
+fn alike(one: &[Shown], other: &[Shown]) -> usize {
+    let length = one.len().min(other.len());
+    for k in 0..length {
+        let (a, b) = (one[k], other[k]);
+        if a.from != b.from || a.to != b.to || a.promo != b.promo {
+            return k;
+        }
+    }
+    length
+}
+
+impl Stood {
+    fn phase_begins(&mut self) {
+        self.line = ArrayVec::new();
+        self.below = 0;
+    }
+
+    /// A line goes on from a position for each of its moves. Those up to the first other move are the last line's too.
+    fn line(&mut self, moves: &[Shown]) {
+        let shared = if self.line.is_empty() {
+            0
+        } else {
+            alike(self.line.as_slice(), moves).saturating_add(1)
+        };
+        let more = moves.len().saturating_sub(shared);
+        self.positions = self.positions.saturating_add(more as u64);
+        self.line = ArrayVec::new();
+        let _fits = self.line.try_extend_from_slice(moves);
+    }
+
+    /// The first node below another goes on from the position after that.
+    fn node(&mut self, depth: u32) {
+        if depth >= self.below {
+            self.positions = self.positions.saturating_add(1);
+        }
+        self.below = depth.saturating_add(1);
+    }
+}
+
+/// Takes an event in.
+fn note(event: &Event, opened: u64, seen: &mut Seen, stood: &mut Stood) {
+    match event {
+        Event::Phase(phase) => {
+            stood.phase_begins();
+            if *phase == Phase::Play {
+                seen.after_set = opened;
+            }
+        }
+        Event::Line { half: _, moves } => {
+            stood.line(moves.as_slice());
+            seen.moves(moves.as_slice());
+        }
+        Event::Node {
+            depth,
+            half: _,
+            shown,
+        } => {
+            stood.node(*depth);
+            seen.moves(&[*shown]);
+        }
+        Event::Impossible => seen.barred = seen.barred.saturating_add(1),
+        Event::Total { count, stopped } => seen.phase_ends(*count, *stopped),
+    }
+}
+
+/// Searches to the end. After each event `opened()` is no less than before, no less than the positions from which the given
+/// moves go on, and at most `most`; after the end it stays.
+fn watch_under<R: Rules>(rt: &impl Abort, problem: &Problem, most: u64) -> Seen
+    requires { R.rule ≡ rule_of problem.now.condition }
+{
+    let _half_moves = half_moves(problem);
+    let mut seen = Seen::default();
+    let mut stood = Stood {
+        line: ArrayVec::new(),
+        below: 0,
+        positions: 0,
+    };
+    let mut search = Search::<R, 33>::new(problem);
+    assert_eq!(rt; search.opened(), 0);
+    for _event in 0..ALL {
+        let Some(event) = search.next() else {
+            break;
+        };
+        let opened = search.opened();
+        note(&event, seen.opened, &mut seen, &mut stood);
+        assert!(rt; seen.opened <= opened);
+        assert!(rt; stood.positions <= opened);
+        assert!(rt; opened <= most);
+        seen.opened = opened;
+    }
+    assert!(rt; search.next().is_none());
+    assert_eq!(rt; search.opened(), seen.opened);
+    seen
+}
+
+/// The same under the rules of the problem's condition.
+pub(crate) fn watch(rt: &impl Abort, problem: &Problem, most: u64) -> Seen {
+    match problem.condition() {
+        None => watch_under::<Orthodox>(rt, problem, most),
+        Some(Condition::Circe) => watch_under::<Circe>(rt, problem, most),
+        Some(Condition::Madrasi) => watch_under::<Madrasi>(rt, problem, most),
+    }
+}
