@@ -28,7 +28,7 @@ use pop_input::stipulation::Goal;
 pub(crate) fn can_move<R: Rules>(board: &mut Board) -> bool
     requires well_formed { IsWellFormed board.old }
     ensures unchanged { board.new ≡ board.old }
-    ensures moves { (goal : Goal) → result ≡ has_move (chess goal R.rule) board.old }
+    ensures moves { result ≡ has_move (chess Mate R.rule) board.old }
 {
     has_legal_move::<R>(board)
 }

@@ -12,6 +12,7 @@ ghost use Rattle.pop_solve.specs.Chess.{set_start};
 ghost use Rattle.pop_solve.specs.Events.{first_phase, start, phase_half_moves as half_moves_of_phase, phase_start, phase_half as half_of_phase, event_of, is_barred, step_of, is_set, opening};
 ghost use Rattle.pop_solve.specs.Walk.{IsWalking, Opens, path};
 ghost use Rattle.pop_solve.specs.Phases.{way_of as way_of_problem, left_of, IsStanding, Walks, Gives, OpensOn};
+ghost use Rattle.pop_solve.specs.declared.event.Event.TheVariants.{Total};
 ghost use Rattle.pop_solve.specs.declared.event.Phase.TheVariants.{Play};
 ghost use Rattle.pop_solve.specs.declared.phases.Stage.TheVariants.{Before, Within, Behind};
 
@@ -301,17 +302,31 @@ fn go_on<R: Rules, const N: usize>(
         (reverse frames.new.items) opened.old opened.new
         (left_of R.rule problem.now (Within phase count) (reverse frames.old.items)) }
 {
-    let max_solutions = problem.max_solutions();
-    let limit = max_solutions - count;
+    let limit = still_to_begin(problem, count);
     if walk_on::<R, N>(problem, phase, limit, board, frames, killers, opened) {
         let count = count_with(problem, frames.len(), count);
         *stage = Stage::Within { phase, count };
         return event_at::<R>(problem, phase, frames.as_slice(), board);
     }
     *stage = end::<R, N>(problem, phase, board, frames);
+    total(problem, count)
+}
+
+/// How many solutions of a phase may still begin, once `count` have begun.
+fn still_to_begin(problem: &Problem, count: u32) -> u32
+    requires { count ≤ problem.now.max_solutions }
+    ensures { result ≡ problem.now.max_solutions - count }
+{
+    problem.max_solutions() - count
+}
+
+/// The event of the end of a phase that gave `count` solutions: the limit stopped it where they are as many.
+fn total(problem: &Problem, count: u32) -> Event
+    ensures { result ≡ Total count (count == problem.now.max_solutions) }
+{
     Event::Total {
         count,
-        stopped: count == max_solutions,
+        stopped: count == problem.max_solutions(),
     }
 }
 
