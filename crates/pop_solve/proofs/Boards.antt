@@ -1,17 +1,15 @@
 -- What the calls of the rules say in the words of the search.
 use Rattle.pop_input.specs.declared.stipulation.Goal.{Goal}
 use Rattle.pop_input.specs.declared.stipulation.Goal.TheVariants.{Mate, Stalemate}
-use Rattle.std.proofs.Common.{◌≡◌, ℕ, zero, suc, ◌<◌, ◌≤◌, Bool, true, false, ◌||◌, ◌&&◌, cond, not, eqb, List, [], ◌∷◌, length, filter, Option, Some, None, is_some, MatchOption, refl, sym, ap, ◌∙◌, arith}
+use Rattle.std.proofs.Common.{◌≡◌, ℕ, zero, suc, ◌<◌, ◌≤◌, Bool, true, false, ◌||◌, cond, not, eqb, List, [], ◌∷◌, length, filter, Option, Some, None, is_some, MatchOption, refl, sym, ap, ◌∙◌, arith}
 use Rattle.std.proofs.lemmas.Bool.Decides.{nat_tests}
 use Rattle.std.specs.List.{list_any}
 use Rattle.chess_core.specs.Position.{Position}
 use Rattle.chess_core.specs.Triple.{Triple}
-use Rattle.chess_rules.specs.Attacks.{in_check}
-use Rattle.chess_rules.specs.Legal.{is_goal, is_nil, is_stalemate, moves}
+use Rattle.chess_rules.specs.Legal.{is_goal, is_nil, moves}
 use Rattle.chess_rules.specs.Places.{is_mating, mates_behind, moves_behind}
 use Rattle.chess_rules.specs.RuleSet.{RuleSet}
-use Rattle.pop_solve.specs.Chess.{chess, is_for_mate, is_mark_of, is_reached, mark_of}
-use Rattle.pop_solve.specs.declared.shown.Mark.TheVariants.{Plain, Check, Mate as Mated, Stalemate as Stalemated}
+use Rattle.pop_solve.specs.Chess.{chess, is_for_mate}
 use Rattle.pop_solve.specs.Game.{can_move, some_move as some_good, walk_count}
 
 is_nil-length : (ms : List Triple) → not (is_nil ms) ≡ not (eqb (length ms) 0)
@@ -27,23 +25,6 @@ unfolding moves_behind moves
 behind_start rule p = refl
 
 pub ruleset some_move = (can_move-is)
-
--- the mark says whether the goal is reached
-pub mark-is : (goal : Goal) (rule : RuleSet) (q : Position) → is_mark_of goal (mark_of goal rule q) ≡ is_reached goal rule q
-unfolding mark_of is_goal is_stalemate
-mark-is Mate rule q = split (in_check rule q.men q.turn) (is_nil (moves rule q))
-  where
-    split : (c n : Bool) → is_mark_of Mate (cond (c && n) Mated (cond c Check (cond (false && (not c && n)) Stalemated Plain))) ≡ (c && n)
-    split true true = refl
-    split true false = refl
-    split false n = refl
-mark-is Stalemate rule q = split (in_check rule q.men q.turn) (is_nil (moves rule q))
-  where
-    split : (c n : Bool) → is_mark_of Stalemate (cond (c && n) Mated (cond c Check (cond (true && (not c && n)) Stalemated Plain))) ≡ (not c && n)
-    split true true = refl
-    split true false = refl
-    split false true = refl
-    split false false = refl
 
 pub for_mate : (goal : Goal) → is_for_mate goal ≡ true → goal ≡ Mate
 for_mate Mate e = refl

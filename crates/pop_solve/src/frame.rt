@@ -1,5 +1,4 @@
 //! Frames.
-use crate::shown::Shown;
 use chess_core::man::Move;
 use chess_rules::moves::Moves;
 use chess_rules::play::Undo;
@@ -25,8 +24,6 @@ pub struct Frame<R: Rules> {
     pub undo: Undo,
     /// The half-moves that are tried from here.
     pub left: usize,
-    /// The move that led here, as it is shown.
-    pub shown: Shown,
     /// In a test: the place on the killer, and the stretch of moves on which `place` stands.
     pub killer: Moves<R>,
     pub stretch: Stretch,
@@ -37,9 +34,9 @@ impl<R: Rules> Model for Frame<R> {
 
     ghost Value = { Level };
 
-    ghost view = { λ f. record { place = f.place; by = f.by; undo = f.undo; left = f.left; shown = f.shown; killer = f.killer; stretch = f.stretch } };
+    ghost view = { λ f. record { place = f.place; by = f.by; undo = f.undo; left = f.left; killer = f.killer; stretch = f.stretch } };
 
-    ghost inverse = { λ v. record { place = v.place; by = v.by; undo = v.undo; left = v.left; shown = v.shown; killer = v.killer; stretch = v.stretch } };
+    ghost inverse = { λ v. record { place = v.place; by = v.by; undo = v.undo; left = v.left; killer = v.killer; stretch = v.stretch } };
 }
 
 impl<R: Rules> Default for Frame<R> {
@@ -49,7 +46,6 @@ impl<R: Rules> Default for Frame<R> {
             by: Move::default(),
             undo: Undo::default(),
             left: 0,
-            shown: Shown::default(),
             killer: Moves::start(),
             stretch: Stretch::Behind,
         }
