@@ -201,6 +201,7 @@ fn enter<R: Rules, const N: usize>(
         shown,
         killer: Moves::start(),
         stretch: Stretch::Behind,
+        known: None,
     });
     *opened = opened_by(*opened, tried, tested);
     gives(way, left, mark)
