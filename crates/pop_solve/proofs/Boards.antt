@@ -14,6 +14,8 @@ use Rattle.chess_rules.specs.RuleSet.{RuleSet}
 use Rattle.pop_solve.specs.Chess.{chess, is_for_mate, is_mark_of, is_reached, mark_of}
 use Rattle.pop_solve.specs.declared.shown.Mark.TheVariants.{Plain, Check, Mate as Mated, Stalemate as Stalemated}
 use Rattle.pop_solve.specs.Game.{can_move, some_move as some_good, walk_count}
+use Rattle.pop_solve.specs.Values.{value}
+use Rattle.pop_solve.specs.declared.aim.Battle.{Battle}
 
 is_nil-length : (ms : List Triple) → not (is_nil ms) ≡ not (eqb (length ms) 0)
 is_nil-length [] = refl
@@ -50,9 +52,9 @@ pub for_mate : (goal : Goal) → is_for_mate goal ≡ true → goal ≡ Mate
 for_mate Mate e = refl
 for_mate Stalemate e = absurd cc
 
--- what is said of mates holds of the goal, where it is mate
-pub mate-goal : (rule : RuleSet) (goal : Goal) (p : Position) (v : Bool) → goal ≡ Mate → v ≡ some_good (chess Mate rule) (chess Mate rule).goal p → v ≡ some_good (chess goal rule) (chess goal rule).goal p
-mate-goal rule goal p v for e = rw for e
+-- what is said of mates, with one half-move left, holds where mate is the goal
+pub mate-value : (rule : RuleSet) (battle : Battle) (goal : Goal) (left : ℕ) (p : Position) (v : Bool) → goal ≡ Mate → left ≡ 1 → v ≡ value battle (chess Mate rule) 1 p → v ≡ value battle (chess goal rule) left p
+mate-value rule battle goal left p v for one e = rw (for, one) e
 
 -- the first mate says whether there is one
 pub mate-any : (rule : RuleSet) (p : Position) (next : ℕ) (o : Option Triple) → MatchOption o (mates_behind rule p 0 ≡ []) (λ m. mates_behind rule p 0 ≡ m ∷ mates_behind rule p next) → is_some o ≡ some_good (chess Mate rule) (is_goal rule) p

@@ -1,10 +1,11 @@
 -- The value of a position by what its tests say.
 use Rattle.pop_solve.specs.declared.aim.Battle.{Battle}
+use Rattle.pop_solve.specs.declared.aim.Battle.TheVariants.{Direct, Selfmate}
 use Rattle.std.proofs.Common.{◌≡◌, ℕ, zero, suc, ◌%◌, ◌<◌, Bool, true, false, ◌&&◌, ◌||◌, cond, not, List, [], ◌∷◌, length, refl, arith}
 use Rattle.std.proofs.lemmas.Bool.Decides.{nat_tests}
 use Rattle.std.specs.List.{list_any}
 use Rattle.std.specs.Prelude.{◌==◌}
-use Rattle.pop_solve.specs.Game.{Game, can_move, some_move}
+use Rattle.pop_solve.specs.Game.{Game, can_move, every_move, some_move}
 use Rattle.pop_solve.specs.Values.{seeks, value, joined}
 
 module _ {P M : Type 0} (battle : Battle) (game : Game P M) where
@@ -22,21 +23,20 @@ module _ {P M : Type 0} (battle : Battle) (game : Game P M) where
   both true false e = absurd cc
   both false b e = absurd cc
 
-  pub free-seeks : (t : ℕ) (s : Bool) → (t % 2 == 1 && s) ≡ true → s ≡ true
-  free-seeks t s e = (both (t % 2 == 1) s e).1
-
   odd-only : (t : ℕ) (g : Bool) → (t % 2 == 1) ≡ true → (t % 2 == 0 && g) ≡ false
   odd-only t g e = rw (odd (t % 2) e) refl
     where
       odd : (n : ℕ) → (n == 1) ≡ true → (n == 0) ≡ false
       odd n e = grind (arith, nat_tests, e)
 
-  -- White's last half-move
-  pub value-mate : (t : ℕ) (p : P) → t ≡ 1 → seeks battle t ≡ true → value battle game t p ≡ some_move game game.goal p
+  -- the last half-move
+  pub value-mates : (p : P) → battle ≡ Direct → value battle game 1 p ≡ some_move game game.goal p
   unfolding value
-  value-mate zero p one e = cc
-  value-mate (suc zero) p one e = rw e refl
-  value-mate (suc (suc t)) p one e = absurd (omega (arith, one))
+  value-mates p is = rw is refl
+
+  pub value-forced : (p : P) → battle ≡ Selfmate → value battle game 1 p ≡ (can_move game p && every_move game game.goal p)
+  unfolding value
+  value-forced p is = rw is refl
 
   value-joined : (t : ℕ) (p : P) → 0 < t → (t % 2 == 0 && game.goal p) ≡ false → (seeks battle t || can_move game p) ≡ true → value battle game t p ≡ joined battle game t p (game.moves p)
   unfolding value joined

@@ -1,5 +1,5 @@
 //! What the search does on the board.
-ghost use Rattle.std.specs.Prelude.{◌≡◌, ◌∷◌, [], IfSome, MatchOption, is_some, false, not, true};
+ghost use Rattle.std.specs.Prelude.{◌≡◌, ◌∷◌, [], ◌&&◌, IfSome, MatchOption, is_some, false, not, true};
 ghost use Rattle.chess_core.specs.Diagrams.{position_of};
 ghost use Rattle.chess_core.specs.Position.{Position};
 ghost use Rattle.chess_core.specs.WellFormed.{IsWellFormed};
@@ -11,28 +11,19 @@ ghost use Rattle.pop_input.specs.declared.stipulation.Goal.{Goal};
 ghost use Rattle.pop_input.specs.declared.stipulation.Goal.TheVariants.{Mate};
 ghost use Rattle.pop_solve.specs.Chess.{castling_side, chess, is_for_mate, is_impossible, is_mark_of, is_reached, mark_of, reborn, set_start, shown_by, shown_of};
 ghost use Rattle.pop_solve.specs.Frames.{CameBy};
-ghost use Rattle.pop_solve.specs.Game.{can_move as has_move, some_move};
+ghost use Rattle.pop_solve.specs.Game.{can_move as has_move, every_move, some_move};
 
 use crate::shown::{Mark, Shown, Side};
 use chess_core::board::Board;
 use chess_core::diagram::Diagram;
 use chess_core::man::{Man, Move};
 use chess_core::square::Square;
+use chess_rules::every_move::every_move_mates;
 use chess_rules::legal_moves::LegalMoves;
 use chess_rules::moves::{Moves, has_legal_move, is_mate, is_stalemate};
 use chess_rules::play::{Undo, is_castling};
 use chess_rules::rules::{Rules, in_check};
 use pop_input::stipulation::Goal;
-
-/// Whether the side to move has a legal move.
-#[tactic(auto, using(crate::proofs::Boards::some_move))]
-pub(crate) fn can_move<R: Rules>(board: &mut Board) -> bool
-    requires well_formed { IsWellFormed board.old }
-    ensures unchanged { board.new ≡ board.old }
-    ensures moves { (goal : Goal) → result ≡ has_move (chess goal R.rule) board.old }
-{
-    has_legal_move::<R>(board)
-}
 
 /// The next legal move behind the place, which moves on to it.
 pub(crate) fn next_move<R: Rules>(place: &mut Moves<R>, board: &mut Board) -> Option<Move>
@@ -131,6 +122,16 @@ pub(crate) fn can_mate<R: Rules>(board: &mut Board) -> bool
 {
     let mut place = Moves::<R>::start();
     place.next_mate(board).is_some()
+}
+
+/// Whether the side to move has a legal move and each of its legal moves mates.
+#[tactic(auto, using(crate::proofs::Boards::some_move))]
+pub(crate) fn must_mate<R: Rules>(board: &mut Board) -> bool
+    requires well_formed { IsWellFormed board.old }
+    ensures unchanged { board.new ≡ board.old }
+    ensures mates { result ≡ (has_move (chess Mate R.rule) board.old && every_move (chess Mate R.rule) (chess Mate R.rule).goal board.old) }
+{
+    every_move_mates::<R>(board)
 }
 
 /// Takes a move back.

@@ -10,13 +10,14 @@ ghost use Rattle.chess_rules.specs.Play.{undo_of};
 ghost use Rattle.arrayvec.specs.ArrayVec.{array_vec_len};
 ghost use Rattle.pop_solve.specs.Frames.{IsTesting, IsOpenedOn, CameFrom, CameFromAt, Turns, Ends, tests, tested, top_left, ahead};
 ghost use Rattle.pop_solve.specs.Chess.{chess, is_for_mate};
+ghost use Rattle.pop_input.specs.declared.stipulation.Goal.TheVariants.{Mate};
 ghost use Rattle.pop_solve.specs.declared.frame.Stretch.TheVariants.{Before};
 ghost use Rattle.pop_solve.specs.Game.{can_move as has_move, walk_count};
 ghost use Rattle.pop_solve.specs.Values.{seeks, join, joined, value};
 
 use crate::aim::{Aim, Battle};
 use crate::chess::{
-    can_mate, first_look, is_for_mate, is_reached_without_move, moves_at, next_behind, next_until, reaches_goal, retract,
+    can_mate, must_mate, first_look, is_for_mate, is_reached_without_move, moves_at, next_behind, next_until, reaches_goal, retract,
 };
 use crate::frame::{Frame, Stretch};
 use crate::killers::Killers;
@@ -53,8 +54,20 @@ fn value_without_move<R: Rules>(goal: Goal, left: usize, board: &Board) -> bool
     left % 2 == 0 && is_reached_without_move::<R>(goal, board)
 }
 
+/// The value of a position with one half-move left, where mate is the goal: White mates, or Black must.
+fn last_value<R: Rules>(battle: Battle, board: &mut Board) -> bool
+    requires well_formed { IsWellFormed board.old }
+    ensures unchanged { board.new ≡ board.old }
+    ensures value { result ≡ value battle (chess Mate R.rule) 1 board.old }
+{
+    match battle {
+        Battle::Direct => can_mate::<R>(board),
+        Battle::Selfmate => must_mate::<R>(board),
+    }
+}
+
 /// The value of a position, where it is known without a frame; else what is known of its moves, if they were looked for.
-/// White's last half-move needs no frame, and is counted as one.
+/// The last half-move needs no frame where mate is the goal, and is counted as one.
 fn settled<R: Rules>(
     aim: Aim,
     left: usize,
@@ -77,11 +90,11 @@ fn settled<R: Rules>(
     if left == 0 {
         return Some(reaches_goal::<R>(aim.goal, board));
     }
+    if is_for_mate(aim.goal) && left == 1 {
+        *opened = opened.saturating_add(1);
+        return Some(last_value::<R>(aim.battle, board));
+    }
     if is_free(aim.battle, left) {
-        if is_for_mate(aim.goal) && left == 1 {
-            *opened = opened.saturating_add(1);
-            return Some(can_mate::<R>(board));
-        }
         return None;
     }
     *known = first_look::<R>(killer, board);

@@ -2,7 +2,7 @@ use Rattle.chess_rules.specs.Legal.{moves as legal_moves}
 use Rattle.chess_rules.specs.Play.{after as played}
 use Rattle.std.proofs.Common.{◌<◌, sym, ◌∙◌, arith}
 use Rattle.pop_solve.specs.Chess.{chess}
-use Rattle.pop_solve.proofs.Boards.{for_mate, mate-goal, unreached, walk_count-some}
+use Rattle.pop_solve.proofs.Boards.{for_mate, mate-value, unreached, walk_count-some}
 use Rattle.pop_solve.proofs.Values as values
 use Rattle.pop_solve.proofs.value.settled.Goals as goal
 
@@ -11,7 +11,7 @@ returns-then-left-eq0-clause-value g c = c.reaches_goal.ensures.reached ∙ sym 
 
 pub returns-then-left-eq1-clause-value : goal.returns-then-left-eq1-clause-value
 returns-then-left-eq1-clause-value g c =
-    mate-goal g.R.Rules.rule c.args.aim.goal c.args.board.now _ (for_mate c.args.aim.goal (sym c.if-is_for_mate.ensures)) c.can_mate.ensures.mates ∙ sym (values.value-mate c.args.aim.battle (chess c.args.aim.goal g.R.Rules.rule) c.args.left c.args.board.now c.if-left-eq1.true (values.free-seeks c.args.aim.battle (chess c.args.aim.goal g.R.Rules.rule) _ _ (sym c.if-is_free.ensures)))
+    mate-value g.R.Rules.rule c.args.aim.battle c.args.aim.goal c.args.left c.args.board.now _ (for_mate c.args.aim.goal (sym c.if-is_for_mate.ensures)) c.if-left-eq1.true c.last_value.ensures.value
 
 pub returns-then-left-eq1-clause-opened : goal.returns-then-left-eq1-clause-opened
 returns-then-left-eq1-clause-opened g c =
