@@ -11,8 +11,7 @@ use Rattle.chess_rules.specs.Legal.{is_goal, is_nil, is_stalemate, legal, moves}
 use Rattle.chess_rules.specs.Places.{is_mating, mates_behind, moves_behind, moves_between}
 use Rattle.chess_rules.proofs.Between.{cut_moves}
 use Rattle.chess_rules.specs.RuleSet.{RuleSet}
-use Rattle.pop_solve.specs.Chess.{chess, is_for_mate, is_mark_of, is_reached, mark_of}
-use Rattle.pop_solve.specs.declared.shown.Mark.TheVariants.{Plain, Check, Mate as Mated, Stalemate as Stalemated}
+use Rattle.pop_solve.specs.Chess.{chess, is_for_mate, is_reached}
 use Rattle.pop_solve.specs.Game.{can_move, some_move as some_good, walk_count}
 use Rattle.pop_solve.specs.Values.{value}
 use Rattle.pop_solve.specs.declared.aim.Battle.{Battle}
@@ -30,23 +29,6 @@ unfolding moves_behind moves
 behind_start rule p = refl
 
 pub ruleset some_move = (can_move-is)
-
--- the mark says whether the goal is reached
-pub mark-is : (goal : Goal) (rule : RuleSet) (q : Position) → is_mark_of goal (mark_of goal rule q) ≡ is_reached goal rule q
-unfolding mark_of is_goal is_stalemate
-mark-is Mate rule q = split (in_check rule q.men q.turn) (is_nil (moves rule q))
-  where
-    split : (c n : Bool) → is_mark_of Mate (cond (c && n) Mated (cond c Check (cond (false && (not c && n)) Stalemated Plain))) ≡ (c && n)
-    split true true = refl
-    split true false = refl
-    split false n = refl
-mark-is Stalemate rule q = split (in_check rule q.men q.turn) (is_nil (moves rule q))
-  where
-    split : (c n : Bool) → is_mark_of Stalemate (cond (c && n) Mated (cond c Check (cond (true && (not c && n)) Stalemated Plain))) ≡ (not c && n)
-    split true true = refl
-    split true false = refl
-    split false true = refl
-    split false false = refl
 
 pub for_mate : (goal : Goal) → is_for_mate goal ≡ true → goal ≡ Mate
 for_mate Mate e = refl

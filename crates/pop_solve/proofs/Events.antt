@@ -1,9 +1,9 @@
 -- What a call gives.
 use Rattle.chess_rules.specs.Play.{after as played}
-use Rattle.std.proofs.Common.{◌≡◌, ℕ, zero, suc, ◌+◌, ◌-◌, ◌<◌, ◌≤◌, Bool, true, false, ◌||◌, eqb, cond, List, [], ◌∷◌, length, map, take, drop, reverse, get_or, refl, sym, ◌∙◌, ap, subst, append_assoc, arith, ◌^◌, min, Option, Some, None, MatchOption, is_some}
+use Rattle.std.proofs.Common.{◌≡◌, ℕ, zero, suc, ◌+◌, ◌-◌, ◌≤◌, Bool, true, false, ◌||◌, eqb, cond, List, [], ◌∷◌, length, map, take, drop, reverse, refl, sym, ◌∙◌, ap, append_assoc, arith, ◌^◌, min, Option, Some, None, MatchOption, is_some}
 use Rattle.std.specs.List.{flat_map}
 use Rattle.std.proofs.lemmas.Bool.Decides.{nat_tests}
-use Rattle.std.proofs.lemmas.List.{length-reverse, take_more, take_all}
+use Rattle.std.proofs.lemmas.List.{length-reverse}
 use Rattle.arrayvec.specs.ArrayVec.{ArrayVec}
 use Rattle.chess_core.specs.Position.{Position}
 use Rattle.chess_core.specs.Triple.{Triple}
@@ -16,7 +16,7 @@ use Rattle.pop_input.specs.Stipulations.{is_help, half_moves}
 use Rattle.pop_solve.proofs.Sound.{in_range}
 use Rattle.pop_solve.specs.Frames.{Frame, position, IsLinked}
 use Rattle.pop_solve.specs.Game.{reach}
-use Rattle.pop_solve.specs.Walk.{path, shows, IsShowing, IsWalking, IsRoomy}
+use Rattle.pop_solve.specs.Walk.{path, IsWalking, IsRoomy}
 use Rattle.pop_solve.specs.Events.{Step, start, is_set, opening, line, tree_node, total, step_of, event_of, StandsOn, phase_start, phase_half_moves, phase_half, shown_along, shown_last, steps_from, phase_steps, is_barred, counted, solutions, events}
 use Rattle.pop_solve.specs.Phases.{way_of, begins, keep, started, left_of, IsStanding, IsGiven, Walks, Gives, phase_paths}
 use Rattle.pop_solve.specs.Shown.{Shown}
@@ -24,8 +24,7 @@ use Rattle.pop_solve.specs.declared.event.Event.{Event}
 use Rattle.pop_solve.specs.declared.event.Event.TheVariants.{Line, Node, Total}
 use Rattle.pop_solve.specs.declared.phases.Stage.{Stage}
 use Rattle.pop_solve.specs.declared.phases.Stage.TheVariants.{Before, Barred, Within, Behind}
-use Rattle.pop_solve.proofs.Walking.{reverse-push}
-use Rattle.pop_solve.proofs.Paths.{path-length, reach-path, shows-path, shown-top}
+use Rattle.pop_solve.proofs.Paths.{path-length, reach-path}
 
 step-help : (problem : Posed) (phase : Phase) (path : List Triple) → is_help problem.stipulation.form ≡ true → step_of problem phase path ≡ line phase path
 step-help problem phase path e = rw e refl
@@ -33,31 +32,15 @@ step-help problem phase path e = rw e refl
 step-battle : (problem : Posed) (phase : Phase) (path : List Triple) → is_help problem.stipulation.form ≡ false → step_of problem phase path ≡ tree_node phase path
 step-battle problem phase path e = rw e refl
 
--- the event of a line, read off the frames
-pub line-event : (problem : Posed) (phase : Phase) (frames : List Frame) (half : ℕ) (moves : ArrayVec Shown) → is_help problem.stipulation.form ≡ true → half ≡ phase_half problem phase → moves.items ≡ shows frames → (rule : RuleSet) → IsShowing problem.stipulation.goal rule (phase_start problem phase) frames → Line half moves ≡ event_of rule problem (step_of problem phase (path frames))
-line-event problem phase frames half moves help h e rule s =
-    let m : moves.items ≡ shown_along problem.stipulation.goal rule (phase_start problem phase) (path frames) = e ∙ shows-path problem.stipulation.goal rule (phase_start problem phase) frames s in
-    rw (step-help problem phase (path frames) help, h, ← m) refl
-
--- the last frame is the top
-last-top : (frames : List Frame) (d : Frame) → 0 < length frames → reverse frames ≡ get_or frames (length frames - 1) d ∷ reverse (take (length frames - 1) frames)
-last-top frames d some =
-    let n : length frames - 1 + 1 ≡ length frames = omega (arith, some) in
-    let all : take (length frames - 1 + 1) frames ≡ frames = rw n (take_all (length frames) frames (omega arith)) in
-    sym (ap reverse all) ∙ ap reverse (take_more frames (length frames - 1) d (omega (arith, some))) ∙ reverse-push (take (length frames - 1) frames) (get_or frames (length frames - 1) d)
+-- the event of a line
+pub line-event : (problem : Posed) (phase : Phase) (frames : List Frame) (half : ℕ) (moves : ArrayVec Shown) → is_help problem.stipulation.form ≡ true → half ≡ phase_half problem phase → (rule : RuleSet) → moves.items ≡ shown_along problem.stipulation.goal rule (phase_start problem phase) (path frames) → Line half moves ≡ event_of rule problem (step_of problem phase (path frames))
+line-event problem phase frames half moves help h rule m = rw (step-help problem phase (path frames) help, h, ← m) refl
 
 -- the event of a node
-pub node-event : (problem : Posed) (phase : Phase) (frames : List Frame) (half depth : ℕ) (d : Frame) → is_help problem.stipulation.form ≡ false → 2 ≤ length frames → half ≡ phase_half problem phase → depth ≡ length frames - 2 → (rule : RuleSet) → IsShowing problem.stipulation.goal rule (phase_start problem phase) (reverse frames) → Node depth (half + depth) (get_or frames (length frames - 1) d).shown ≡ event_of rule problem (step_of problem phase (path (reverse frames)))
-node-event problem phase frames half depth d help deep h e rule s =
-    let p = phase_start problem phase in
-    let top = get_or frames (length frames - 1) d in
-    let below = reverse (take (length frames - 1) frames) in
-    let t : reverse frames ≡ top ∷ below = last-top frames d (omega (arith, deep)) in
+pub node-event : (problem : Posed) (phase : Phase) (frames : List Frame) (half depth : ℕ) (shown : Shown) → is_help problem.stipulation.form ≡ false → half ≡ phase_half problem phase → depth + 2 ≡ length frames → (rule : RuleSet) → shown ≡ shown_last problem.stipulation.goal rule (phase_start problem phase) (path (reverse frames)) → Node depth (half + depth) shown ≡ event_of rule problem (step_of problem phase (path (reverse frames)))
+node-event problem phase frames half depth shown help h e rule s =
     let l : length (path (reverse frames)) - 1 ≡ depth = omega (arith, path-length (reverse frames), length-reverse frames, e) in
-    let n : 0 < length below = omega (arith, ap length t, length-reverse frames, deep) in
-    let x : top.shown ≡ shown_last problem.stipulation.goal rule p (path (top ∷ below)) = shown-top problem.stipulation.goal rule p top below n (let T : List Frame → Type 0 = λ fs. IsShowing problem.stipulation.goal rule p fs in subst T t s) in
-    let y : top.shown ≡ shown_last problem.stipulation.goal rule p (path (reverse frames)) = x ∙ ap (λ fs. shown_last problem.stipulation.goal rule p (path fs)) (sym t) in
-    rw (step-battle problem phase (path (reverse frames)) help, l, h, y) refl
+    rw (step-battle problem phase (path (reverse frames)) help, l, h, s) refl
 
 pub room-length : (h : ℕ) (fs : List Frame) → IsRoomy h fs → length fs ≤ h + 1
 unfolding IsRoomy
@@ -65,7 +48,7 @@ room-length h [] s = omega arith
 room-length h (f ∷ below) s = omega (arith, s.0)
 
 -- the board after a path is given
-module _ (rule : RuleSet) (problem : Posed) (phase : Phase) (h : ℕ) (frames : List Frame) (board : Position) (r : IsWalking problem.stipulation.goal rule h (phase_start problem phase) (reverse frames) board) (deep : 2 ≤ length frames) where
+module _ (rule : RuleSet) (problem : Posed) (phase : Phase) (h : ℕ) (frames : List Frame) (board : Position) (r : IsWalking rule h (phase_start problem phase) (reverse frames) board) (deep : 2 ≤ length frames) where
   pub stands_at : StandsOn rule problem (step_of problem phase (path (reverse frames))) board (length frames)
   stands_at = go (is_help problem.stipulation.form)
     where
@@ -173,8 +156,8 @@ left-begun rule problem Play old new e kept begun =
     rw (n, kept, begun, z) refl
 
 pub standing-begun : (rule : RuleSet) (problem : Posed) (phase : Phase) (f : Frame) (board : Position) → f.left ≡ phase_half_moves problem phase → board ≡ phase_start problem phase → IsWellFormed board → IsStanding rule problem (Within phase 0) (f ∷ []) board
-unfolding IsStanding IsLinked IsShowing IsRoomy position
-standing-begun rule problem phase f board l e sound = (record { linked = tt; showing = tt; roomy = (omega (arith, l), tt); sound = sound; board_at = e }, omega arith)
+unfolding IsStanding IsLinked IsRoomy position
+standing-begun rule problem phase f board l e sound = (record { linked = tt; roomy = (omega (arith, l), tt); sound = sound; board_at = e }, omega arith)
 
 -- the frames in use
 pub depth-most : (rule : RuleSet) (problem : Posed) (stage : Stage) (frames : List Frame) (board : Position) → IsStanding rule problem stage (reverse frames) board → length frames ≤ half_moves problem.stipulation + 1

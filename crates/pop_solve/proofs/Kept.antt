@@ -117,7 +117,7 @@ module _ (rule : RuleSet) (way : Way) (h : ℕ) (p : Position) where
   none (f ∷ below) e = absurd (omega (arith, e))
 
   module _ (old mid : List Frame) (same : to_come rule way h p old ≡ to_come rule way h p mid) where
-    pub walks_none : (limit : ℕ) (board : Position) → IsWalking way.aim.goal rule h p mid board → length mid ≡ 0 → Walks rule way h p limit old mid board false
+    pub walks_none : (limit : ℕ) (board : Position) → IsWalking rule h p mid board → length mid ≡ 0 → Walks rule way h p limit old mid board false
     walks_none limit board r e = record {
       walking = r;
       come = λ g. absurd cc;
@@ -133,7 +133,7 @@ module _ (rule : RuleSet) (way : Way) (h : ℕ) (p : Position) where
     both_true true b e = (refl, e)
     both_true false b e = absurd cc
 
-    pub walks_full : (limit : ℕ) (board : Position) → IsWalking way.aim.goal rule h p mid board → (eqb limit 0 && (way.help || eqb (length mid) 1)) ≡ true → Walks rule way h p limit old mid board false
+    pub walks_full : (limit : ℕ) (board : Position) → IsWalking rule h p mid board → (eqb limit 0 && (way.help || eqb (length mid) 1)) ≡ true → Walks rule way h p limit old mid board false
     walks_full limit board r e =
         let x = both_true (eqb limit 0) (way.help || eqb (length mid) 1) e in
         let z : limit ≡ 0 = grind (arith, nat_tests, x.0) in

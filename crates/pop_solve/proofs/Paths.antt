@@ -1,33 +1,18 @@
 -- The path to the top frame, and what is shown of it.
 use Rattle.pop_input.specs.declared.stipulation.Goal.{Goal}
+use Rattle.chess_rules.specs.Legal.{legal}
 use Rattle.chess_rules.specs.Play.{after as played}
-use Rattle.std.proofs.Common.{◌≡◌, ℕ, ◌+◌, ◌-◌, ◌<◌, List, [], ◌∷◌, ◌++◌, length, take, get_or, reverse, refl, sym, ◌∙◌, ap, arith, length-append, length-take}
-use Rattle.std.proofs.lemmas.List.{length-reverse, take_more}
+use Rattle.std.proofs.Common.{◌≡◌, ℕ, zero, suc, ◌+◌, ◌-◌, ◌<◌, ◌≤◌, List, [], ◌∷◌, ◌++◌, length, take, drop, get_or, reverse, true, refl, sym, ◌∙◌, ap, subst, arith, length-append, length-take}
+use Rattle.std.proofs.lemmas.List.{length-reverse, reverse-append, take_all, take_more, take-append-drop}
 use Rattle.chess_core.specs.Position.{Position}
 use Rattle.chess_core.specs.Triple.{Triple}
 use Rattle.chess_rules.specs.RuleSet.{RuleSet}
 use Rattle.pop_solve.specs.Chess.{show}
 use Rattle.pop_solve.specs.Game.{reach}
-use Rattle.pop_solve.specs.Frames.{Frame, position}
-use Rattle.pop_solve.specs.Walk.{path, shows, IsShowing}
+use Rattle.pop_solve.specs.Frames.{Frame, position, IsLinked, CameFrom, CameFromAt}
+use Rattle.pop_solve.specs.Walk.{path, IsWalking}
 use Rattle.pop_solve.specs.Events.{shown_along, shown_last}
-use Rattle.pop_solve.proofs.Walking.{reverse-push}
-
-shows-top : (x : Frame) (fs : List Frame) → 0 < length fs → shows (x ∷ fs) ≡ shows fs ++ x.shown ∷ []
-unfolding shows
-shows-top x [] h = absurd (omega (arith, h))
-shows-top x (f ∷ fs) h = refl
-
--- what the first frames show, and one more
-pub shows-one : (frames : List Frame) → shows (reverse (take 1 frames)) ≡ []
-unfolding shows
-shows-one [] = refl
-shows-one (f ∷ frames) = refl
-
-pub shows-more : (frames : List Frame) (k : ℕ) (d : Frame) → 0 < k → k < length frames → shows (reverse (take (k + 1) frames)) ≡ shows (reverse (take k frames)) ++ (get_or frames k d).shown ∷ []
-shows-more frames k d some less =
-    ap (λ fs. shows (reverse fs)) (take_more frames k d less) ∙ ap shows (reverse-push (take k frames) (get_or frames k d))
-    ∙ shows-top (get_or frames k d) (reverse (take k frames)) (omega (arith, length-reverse (take k frames), length-take k frames, some, less))
+use Rattle.pop_solve.proofs.Walking.{popped, CameFrom-deep, walking-close}
 
 pub length-path : (f : Frame) (below : List Frame) → length (path (f ∷ below)) ≡ length below
 unfolding path
@@ -61,16 +46,97 @@ module _ (goal : Goal) (rule : RuleSet) where
   reach-path p (f ∷ (g ∷ below)) =
       ap (λ q. played rule q f.by) (reach-path p (g ∷ below)) ∙ sym (reach-append p (path (g ∷ below)) f.by)
 
-  -- the frames show it
-  pub shows-path : (p : Position) (frames : List Frame) → IsShowing goal rule p frames → shows frames ≡ shown_along goal rule p (path frames)
-  unfolding shows path IsShowing
-  shows-path p [] s = refl
-  shows-path p (f ∷ []) s = refl
-  shows-path p (f ∷ (g ∷ below)) s =
-      rw (along-append p (path (g ∷ below)) f.by, shows-path p (g ∷ below) s.1, s.0, reach-path p (g ∷ below)) refl
+  -- a move more
+  path-more : (p : Position) (f : Frame) (fs : List Frame) → 0 < length fs → path (f ∷ fs) ≡ path fs ++ f.by ∷ []
+  unfolding path
+  path-more p f [] some = absurd (omega (arith, some))
+  path-more p f (g ∷ below) some = refl
 
-  pub shown-top : (p : Position) (f : Frame) (below : List Frame) → 0 < length below → IsShowing goal rule p (f ∷ below) → f.shown ≡ shown_last goal rule p (path (f ∷ below))
-  unfolding path IsShowing
-  shown-top p f [] deep s = absurd (omega (arith, deep))
-  shown-top p f (g ∷ below) deep s =
-      rw (last-append p (path (g ∷ below)) f.by) (s.0 ∙ ap (λ q. show goal rule q f.by) (reach-path p (g ∷ below)))
+  pub along-more : (p : Position) (f : Frame) (fs : List Frame) → 0 < length fs → shown_along goal rule p (path (f ∷ fs)) ≡ shown_along goal rule p (path fs) ++ show goal rule (position rule p fs) f.by ∷ []
+  along-more p f fs some =
+      rw (path-more p f fs some, along-append p (path fs) f.by, reach-path p fs) refl
+
+  pub last-more : (p : Position) (f : Frame) (fs : List Frame) → 0 < length fs → shown_last goal rule p (path (f ∷ fs)) ≡ show goal rule (position rule p fs) f.by
+  last-more p f fs some = rw (path-more p f fs some, last-append p (path fs) f.by, reach-path p fs) refl
+
+module _ (rule : RuleSet) where
+  pub position-more : (p : Position) (f : Frame) (fs : List Frame) → 0 < length fs → position rule p (f ∷ fs) ≡ played rule (position rule p fs) f.by
+  unfolding position
+  position-more p f [] some = absurd (omega (arith, some))
+  position-more p f (g ∷ below) some = refl
+
+  linked-legal : (p : Position) (f : Frame) (fs : List Frame) → 0 < length fs → IsLinked rule p (f ∷ fs) → legal rule (position rule p fs) f.by ≡ true
+  unfolding IsLinked
+  linked-legal p f [] some l = absurd (omega (arith, some))
+  linked-legal p f (g ∷ below) some l = l.1
+
+  linked-cut : (p : Position) (xs ys : List Frame) → IsLinked rule p (xs ++ ys) → IsLinked rule p ys
+  unfolding IsLinked
+  linked-cut p [] ys l = l
+  linked-cut p (f ∷ []) [] l = tt
+  linked-cut p (f ∷ []) (y ∷ ys) l = l.3
+  linked-cut p (f ∷ (g ∷ xs)) ys l = linked-cut p (g ∷ xs) ys l.3
+
+  pub linked-take : (p : Position) (frames : List Frame) (n : ℕ) → IsLinked rule p (reverse frames) → IsLinked rule p (reverse (take n frames))
+  linked-take p frames n l =
+      let parts : reverse frames ≡ reverse (drop n frames) ++ reverse (take n frames) = ap reverse (sym (take-append-drop n frames)) ∙ reverse-append (take n frames) (drop n frames) in
+      let T : List Frame → Type 0 = λ fs. IsLinked rule p fs in
+      linked-cut p (reverse (drop n frames)) (reverse (take n frames)) (subst T parts l)
+
+  -- some frames and one above them
+  module _ (upper lower : List Frame) (f : Frame) (cut : upper ≡ lower ++ f ∷ []) (some : 0 < length lower) where
+    stacked : reverse upper ≡ f ∷ reverse lower
+    stacked = popped upper lower f cut
+
+    some-below : 0 < length (reverse lower)
+    some-below = omega (arith, length-reverse lower, some)
+
+    pub back-asks : (h : ℕ) (p board : Position) → IsWalking rule h p (reverse upper) board → CameFrom rule f board
+    back-asks h p board r = let T : List Frame → Type 0 = λ fs. IsWalking rule h p fs board in CameFrom-deep rule h p f (reverse lower) board (subst T stacked r) some-below
+
+    pub back-walking : (h : ℕ) (p board after : Position) → IsWalking rule h p (reverse upper) board → ((q : Position) → CameFromAt rule f board q → after ≡ q) → IsWalking rule h p (reverse lower) after
+    back-walking h p board after r before =
+        let T : List Frame → Type 0 = λ fs. IsWalking rule h p fs board in
+        walking-close rule h p f (reverse lower) board after (subst T stacked r) (λ z. absurd (omega (arith, z, some-below))) (λ q z cf. before q cf)
+
+    pub forth-legal : (p : Position) → IsLinked rule p (reverse upper) → legal rule (position rule p (reverse lower)) f.by ≡ true
+    forth-legal p l = let T : List Frame → Type 0 = λ fs. IsLinked rule p fs in linked-legal p f (reverse lower) some-below (subst T stacked l)
+
+    pub forth-position : (p : Position) → position rule p (reverse upper) ≡ played rule (position rule p (reverse lower)) f.by
+    forth-position p = ap (position rule p) stacked ∙ position-more p f (reverse lower) some-below
+
+    pub forth-along : (goal : Goal) (p : Position) → shown_along goal rule p (path (reverse upper)) ≡ shown_along goal rule p (path (reverse lower)) ++ show goal rule (position rule p (reverse lower)) f.by ∷ []
+    forth-along goal p = ap (λ fs. shown_along goal rule p (path fs)) stacked ∙ along-more goal rule p f (reverse lower) some-below
+
+    pub forth-last : (goal : Goal) (p : Position) → shown_last goal rule p (path (reverse upper)) ≡ show goal rule (position rule p (reverse lower)) f.by
+    forth-last goal p = ap (λ fs. shown_last goal rule p (path fs)) stacked ∙ last-more goal rule p f (reverse lower) some-below
+
+  -- with one frame left, or none, the board stands on the first position
+  one-position : (p : Position) (frames : List Frame) → length frames ≤ 1 → position rule p frames ≡ p
+  unfolding position
+  one-position p [] few = refl
+  one-position p (f ∷ []) few = refl
+  one-position p (f ∷ (g ∷ below)) few = absurd (omega (arith, few))
+
+  pub first-position : (p : Position) (frames : List Frame) (k : ℕ) → k ≤ 1 → position rule p (reverse (take k frames)) ≡ p
+  first-position p frames k few = one-position p (reverse (take k frames)) (omega (arith, length-reverse (take k frames), length-take-most k frames, few))
+    where
+      length-take-most : (n : ℕ) (fs : List Frame) → length (take n fs) ≤ n
+      length-take-most zero fs = omega arith
+      length-take-most (suc n) [] = omega arith
+      length-take-most (suc n) (f ∷ fs) = omega (arith, length-take-most n fs)
+
+  pub first-path : (goal : Goal) (p : Position) (frames : List Frame) → shown_along goal rule p (path (reverse (take 1 frames))) ≡ []
+  unfolding path
+  first-path goal p [] = refl
+  first-path goal p (f ∷ frames) = refl
+
+-- the frame at k stands above the first k
+pub cut-at : (frames : List Frame) (n k : ℕ) (f : Frame) → n ≡ k + 1 → f ≡ get_or frames k f → k < length frames → take n frames ≡ take k frames ++ f ∷ []
+cut-at frames n k f e at less = rw e (take_more frames k f less) ∙ ap (λ x. take k frames ++ x ∷ []) (sym at)
+
+pub cut-last : (frames : List Frame) (k : ℕ) (f : Frame) → length frames ≡ k + 1 → f ≡ get_or frames k f → frames ≡ take k frames ++ f ∷ []
+cut-last frames k f e at = sym (take_all (length frames) frames (omega arith)) ∙ cut-at frames (length frames) k f e at (omega (arith, e))
+
+pub some-taken : (frames : List Frame) (k : ℕ) → 0 < k → k ≤ length frames → 0 < length (take k frames)
+some-taken frames k some most = omega (arith, length-take k frames, some, most)

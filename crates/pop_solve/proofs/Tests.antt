@@ -25,7 +25,6 @@ use Rattle.pop_solve.specs.declared.frame.Stretch.TheVariants.{First}
 use Rattle.pop_solve.specs.Game.{walk_count}
 use Rattle.pop_solve.specs.Values.{seeks, join, value, joined}
 use Rattle.pop_solve.specs.Frames.{Frame, position, AreKnown, IsLinked, IsCut, IsOpenedOn, IsTesting, deliver, pending, steps, steps_among, work, CameFromAt, CameFrom, tests, Turns, Ends, tested, top_left, walk_among, to_test, ahead, untried}
-use Rattle.pop_solve.specs.Shown.{Shown}
 
 -- the frame with its place moved on
 abbrev pub moved : Frame → ℕ → Frame
@@ -157,7 +156,7 @@ module _ (rule : RuleSet) (aim : Aim) where
     unfolding deliver position
     deliver-next = rw (left, rest-next t P (untried rule P f) (ahead rule P s next f.killer) m e) refl
 
-    pub deliver-open : (v : Bool) → v ≡ joined aim.battle (chess aim.goal rule) t (played rule P m) (legal_moves rule (played rule P m)) → deliver rule aim p (passed f next s kn ∷ below) v ≡ pending rule aim p (tested k m undo f.shown t kq ∷ (passed f next s kn ∷ below)) None
+    pub deliver-open : (v : Bool) → v ≡ joined aim.battle (chess aim.goal rule) t (played rule P m) (legal_moves rule (played rule P m)) → deliver rule aim p (passed f next s kn ∷ below) v ≡ pending rule aim p (tested k m undo t kq ∷ (passed f next s kn ∷ below)) None
     unfolding pending position
     deliver-open v d = rw (d, sym (rest-start t (played rule P m) k)) refl
 
@@ -165,7 +164,7 @@ module _ (rule : RuleSet) (aim : Aim) where
     unfolding work position
     work-settled = rw (left, steps-next t P (untried rule P f) (ahead rule P s next f.killer) m e) (omega arith)
 
-    pub work-open : work rule p (tested k m undo f.shown t kq ∷ (passed f next s kn ∷ below)) < work rule p (f ∷ below)
+    pub work-open : work rule p (tested k m undo t kq ∷ (passed f next s kn ∷ below)) < work rule p (f ∷ below)
     unfolding work position
     work-open = rw (left, steps-next t P (untried rule P f) (ahead rule P s next f.killer) m e, steps-start t (played rule P m) k) (omega arith)
 
@@ -173,7 +172,7 @@ module _ (rule : RuleSet) (aim : Aim) where
     unfolding to_test position
     open-settled = rw (left, walk-next t P (untried rule P f) (ahead rule P s next f.killer) m e) (omega arith)
 
-    pub open-open : 0 < t → 1 + to_test rule p (tested k m undo f.shown t kq ∷ (passed f next s kn ∷ below)) ≤ to_test rule p (f ∷ below)
+    pub open-open : 0 < t → 1 + to_test rule p (tested k m undo t kq ∷ (passed f next s kn ∷ below)) ≤ to_test rule p (f ∷ below)
     unfolding to_test position
     open-open some = rw (left, walk-next t P (untried rule P f) (ahead rule P s next f.killer) m e, walk_count-start t (played rule P m) k some) (omega arith)
 
@@ -226,7 +225,7 @@ module _ (rule : RuleSet) (p : Position) where
   testing-settled f next s kn (g ∷ below) board r w =
       record { linked = r.linked; cut = r.cut; known = (rw (← r.board_at) w, r.known.1); sound = r.sound; board_at = r.board_at }
 
-  pub testing-open : (f : Frame) (next : ℕ) (s : Stretch) (m : Triple) (k t : ℕ) (kn kq : Option LegalPlace) (below : List Frame) (board : Position) → IsTesting rule p (f ∷ below) board → legal rule board m ≡ true → 0 < t → f.left ≡ suc t → IfSome kn (IsPlaceIn rule board) → IfSome kq (IsPlaceIn rule (played rule board m)) → IsTesting rule p (tested k m (undo_of rule board m) f.shown t kq ∷ (passed f next s kn ∷ below)) (played rule board m)
+  pub testing-open : (f : Frame) (next : ℕ) (s : Stretch) (m : Triple) (k t : ℕ) (kn kq : Option LegalPlace) (below : List Frame) (board : Position) → IsTesting rule p (f ∷ below) board → legal rule board m ≡ true → 0 < t → f.left ≡ suc t → IfSome kn (IsPlaceIn rule board) → IfSome kq (IsPlaceIn rule (played rule board m)) → IsTesting rule p (tested k m (undo_of rule board m) t kq ∷ (passed f next s kn ∷ below)) (played rule board m)
   unfolding IsLinked IsCut AreKnown position
   testing-open f next s m k t kn kq below board r lawful some left w wq =
       let settled = testing-settled f next s kn below board r w in
@@ -305,7 +304,7 @@ module _ (rule : RuleSet) (aim : Aim) (floor : ℕ) (top : Frame) (old new : Lis
         ((0 < top.left - 1)
         × (value aim.battle (chess aim.goal rule) (top.left - 1) (played rule board m) ≡ joined aim.battle (chess aim.goal rule) (top.left - 1) (played rule board m) (legal_moves rule (played rule board m)))
         × (after ≡ played rule board m)
-        × IsOpenedOn rule (played rule board m) (new ++ passed top place s kn ∷ []) last k m (undo_of rule board m) top.shown (top.left - 1))
+        × IsOpenedOn rule (played rule board m) (new ++ passed top place s kn ∷ []) last k m (undo_of rule board m) (top.left - 1))
         (λ v. (v ≡ value aim.battle (chess aim.goal rule) (top.left - 1) (played rule board m)) × (after ≡ board) × (last ≡ new ++ passed top place s kn ∷ []))
 
     left_is : top.left ≡ suc (top.left - 1)
@@ -324,7 +323,7 @@ module _ (rule : RuleSet) (aim : Aim) (floor : ℕ) (top : Frame) (old new : Lis
     descend_turns None d before count o p r =
         let at : board ≡ position rule p (top ∷ tests floor new) = (testing_top p board r).board_at in
         let here : untried rule (position rule p (top ∷ tests floor new)) top ≡ m ∷ ahead rule (position rule p (top ∷ tests floor new)) s place top.killer = rw (← at) next in
-        let last_is : tests floor last ≡ tested k m (undo_of rule board m) top.shown (top.left - 1) d.3.known ∷ (passed top place s kn ∷ tests floor new) = ap (tests floor) d.3.added ∙ tests-push floor (new ++ passed top place s kn ∷ []) _ low_mid ∙ ap (λ fs. tested k m (undo_of rule board m) top.shown (top.left - 1) d.3.known ∷ fs) mid_is in
+        let last_is : tests floor last ≡ tested k m (undo_of rule board m) (top.left - 1) d.3.known ∷ (passed top place s kn ∷ tests floor new) = ap (tests floor) d.3.added ∙ tests-push floor (new ++ passed top place s kn ∷ []) _ low_mid ∙ ap (λ fs. tested k m (undo_of rule board m) (top.left - 1) d.3.known ∷ fs) mid_is in
         record {
           testing = rw (last_is, d.2) (testing-open rule p top place s m k (top.left - 1) kn d.3.known (tests floor new) board (testing_top p board r) lawful d.0 left_is within d.3.within);
           same = ap (λ fs. pending rule aim p fs was) popped
@@ -333,7 +332,7 @@ module _ (rule : RuleSet) (aim : Aim) (floor : ℕ) (top : Frame) (old new : Lis
               ∙ deliver-open rule aim p top (tests floor new) place s m (undo_of rule board m) k (top.left - 1) kn d.3.known left_is here _ (rw (← at) d.1)
               ∙ ap (λ fs. pending rule aim p fs None) (sym last_is);
           falls = rw (last_is, popped) (work-open rule aim p top (tests floor new) place s m (undo_of rule board m) k (top.left - 1) kn d.3.known left_is here);
-          above = omega (arith, ap length d.3.added, length-append (new ++ passed top place s kn ∷ []) (tested k m (undo_of rule board m) top.shown (top.left - 1) d.3.known ∷ []), low_mid);
+          above = omega (arith, ap length d.3.added, length-append (new ++ passed top place s kn ∷ []) (tested k m (undo_of rule board m) (top.left - 1) d.3.known ∷ []), low_mid);
           base = ap (take floor) d.3.added ∙ take-append-le floor (new ++ passed top place s kn ∷ []) _ low_mid ∙ base_mid;
           counted = rw (last_is, popped) (omega (arith, o, open-open rule aim p top (tests floor new) place s m (undo_of rule board m) k (top.left - 1) kn d.3.known left_is here d.0));
         }
@@ -357,10 +356,10 @@ module _ (rule : RuleSet) (aim : Aim) (floor : ℕ) (top : Frame) (old new : Lis
 
     pub descend_room : (is : Option Bool) → Descends is → top_left (tests floor old) + length old ≤ N + 1 → top_left (tests floor last) + length last ≤ N + 1
     descend_room None d room =
-        let last_is : tests floor last ≡ tested k m (undo_of rule board m) top.shown (top.left - 1) d.3.known ∷ (passed top place s kn ∷ tests floor new) = ap (tests floor) d.3.added ∙ tests-push floor (new ++ passed top place s kn ∷ []) _ low_mid ∙ ap (λ fs. tested k m (undo_of rule board m) top.shown (top.left - 1) d.3.known ∷ fs) mid_is in
+        let last_is : tests floor last ≡ tested k m (undo_of rule board m) (top.left - 1) d.3.known ∷ (passed top place s kn ∷ tests floor new) = ap (tests floor) d.3.added ∙ tests-push floor (new ++ passed top place s kn ∷ []) _ low_mid ∙ ap (λ fs. tested k m (undo_of rule board m) (top.left - 1) d.3.known ∷ fs) mid_is in
         let t : top_left (tests floor old) ≡ top.left = ap top_left popped in
         let u : top_left (tests floor last) ≡ top.left - 1 = ap top_left last_is in
-        omega (arith, t, u, room, len, some, ap length d.3.added, length-append (new ++ passed top place s kn ∷ []) (tested k m (undo_of rule board m) top.shown (top.left - 1) d.3.known ∷ []), length-append new (passed top place s kn ∷ []))
+        omega (arith, t, u, room, len, some, ap length d.3.added, length-append (new ++ passed top place s kn ∷ []) (tested k m (undo_of rule board m) (top.left - 1) d.3.known ∷ []), length-append new (passed top place s kn ∷ []))
     descend_room (Some v) d room =
         let last_is : tests floor last ≡ passed top place s kn ∷ tests floor new = ap (tests floor) d.2 ∙ mid_is in
         let t : top_left (tests floor old) ≡ top.left = ap top_left popped in
@@ -406,12 +405,12 @@ pub record IsUnderway (rule : RuleSet) (aim : Aim) (floor : ℕ) (p : Position) 
   pub base : take floor frames ≡ under
 
 module _ (rule : RuleSet) (aim : Aim) where
-  pub begins : (floor : ℕ) (p : Position) (N left k : ℕ) (board : Position) (before count : ℕ) (by : Triple) (undo : Loss) (shown : Shown) (under frames : List Frame) (kn : Option LegalPlace) → floor ≡ length under → frames ≡ under ++ tested k by undo shown left kn ∷ [] → IfSome kn (IsPlaceIn rule p) → floor + left ≤ N → count ≤ before + 1 → board ≡ p → IsWellFormed board → (0 < left) × (value aim.battle (chess aim.goal rule) left p ≡ joined aim.battle (chess aim.goal rule) left p (legal_moves rule p)) → IsUnderway rule aim floor p N (value aim.battle (chess aim.goal rule) left p) under frames None board count (before + walk_count (legal_moves rule) (played rule) left p)
+  pub begins : (floor : ℕ) (p : Position) (N left k : ℕ) (board : Position) (before count : ℕ) (by : Triple) (undo : Loss) (under frames : List Frame) (kn : Option LegalPlace) → floor ≡ length under → frames ≡ under ++ tested k by undo left kn ∷ [] → IfSome kn (IsPlaceIn rule p) → floor + left ≤ N → count ≤ before + 1 → board ≡ p → IsWellFormed board → (0 < left) × (value aim.battle (chess aim.goal rule) left p ≡ joined aim.battle (chess aim.goal rule) left p (legal_moves rule p)) → IsUnderway rule aim floor p N (value aim.battle (chess aim.goal rule) left p) under frames None board count (before + walk_count (legal_moves rule) (played rule) left p)
   unfolding pending deliver IsLinked IsCut AreKnown position to_test
-  begins floor p N left k board before count by undo shown under frames kn low put within room more at sound d =
+  begins floor p N left k board before count by undo under frames kn low put within room more at sound d =
       let none : tests floor under ≡ [] = nil_of (tests floor under) (omega (arith, length-tests floor under, low)) in
-      let one : tests floor frames ≡ tested k by undo shown left kn ∷ [] = ap (tests floor) put ∙ tests-push floor under _ (omega (arith, low)) ∙ ap (λ fs. tested k by undo shown left kn ∷ fs) none in
-      let n = length-append under (tested k by undo shown left kn ∷ []) in
+      let one : tests floor frames ≡ tested k by undo left kn ∷ [] = ap (tests floor) put ∙ tests-push floor under _ (omega (arith, low)) ∙ ap (λ fs. tested k by undo left kn ∷ fs) none in
+      let n = length-append under (tested k by undo left kn ∷ []) in
       record {
         counted = rw one (omega (arith, more, walk_count-start rule aim left p k d.0));
         testing = rw one (record { linked = tt; cut = d.0; known = (within, tt); sound = sound; board_at = at });

@@ -1,7 +1,6 @@
 -- One step of a walk over frames.
 use Rattle.pop_solve.specs.declared.aim.Battle.{Battle}
 use Rattle.pop_solve.specs.declared.aim.Battle.TheVariants.{Direct, Selfmate}
-use Rattle.pop_input.specs.declared.stipulation.Goal.{Goal}
 use Rattle.pop_input.specs.declared.stipulation.Goal.TheVariants.{Mate}
 use Rattle.chess_rules.specs.Play.{after as played}
 use Rattle.chess_rules.specs.Legal.{moves as legal_moves}
@@ -21,13 +20,12 @@ use Rattle.chess_rules.specs.Loss.{Loss}
 use Rattle.chess_rules.specs.Places.{IsNextMate, is_mating, mates_behind, moves_behind}
 use Rattle.chess_rules.specs.Play.{undo_of}
 use Rattle.chess_rules.specs.RuleSet.{RuleSet}
-use Rattle.pop_solve.specs.Chess.{chess, show}
+use Rattle.pop_solve.specs.Chess.{chess}
 use Rattle.pop_solve.proofs.Boards.{behind_start}
 use Rattle.pop_solve.specs.Game.{Game, walk_count}
 use Rattle.pop_solve.specs.Values.{seeks, value}
 use Rattle.pop_solve.specs.Frames.{Frame, position, IsLinked, CameFromAt, CameFrom, opened, opened as opened_frame, steps, steps_behind, walk_behind, to_open}
-use Rattle.pop_solve.specs.Walk.{fewest, first_from, open_length, follows, gives, goes_on, shown, path, GoesTo, IsShowing, to_come, IsRoomy, IsWalking, turns, IsCounted, IsWhites, Steps}
-use Rattle.pop_solve.specs.Shown.{Shown}
+use Rattle.pop_solve.specs.Walk.{fewest, first_from, open_length, follows, gives, goes_on, shown, path, GoesTo, to_come, IsRoomy, IsWalking, turns, IsCounted, IsWhites, Steps}
 use Rattle.pop_solve.specs.declared.walk.Way.{Way}
 use Rattle.pop_solve.proofs.Tests.{moved}
 
@@ -101,11 +99,6 @@ module _ (rule : RuleSet) (way : Way) where
   IsLinked-moved p f place [] l = tt
   IsLinked-moved p f place (g ∷ below) l = l
 
-  IsShowing-moved : (goal : Goal) (p : Position) (f : Frame) (place : ℕ) (below : List Frame) → IsShowing goal rule p (f ∷ below) → IsShowing goal rule p (moved f place ∷ below)
-  unfolding IsShowing
-  IsShowing-moved goal p f place [] l = tt
-  IsShowing-moved goal p f place (g ∷ below) l = l
-
   position-moved : (p : Position) (f : Frame) (place : ℕ) (below : List Frame) → position rule p (moved f place ∷ below) ≡ position rule p (f ∷ below)
   unfolding position
   position-moved p f place [] = refl
@@ -166,9 +159,9 @@ module _ (rule : RuleSet) (way : Way) where
     come-pass b = rw (fuel, left, e, shown-next root k t (position rule p (f ∷ below)) m (moves_behind rule (position rule p (f ∷ below)) next), b) refl
 
     -- a move that is followed: its path, where that is given, and what stands below it
-    come-enter : (undo : Loss) (s : Shown) → follows way (chess way.aim.goal rule) root t q ≡ true → to_come rule way h p (f ∷ below) ≡ given_path (gives way (chess way.aim.goal rule) t q) (path (opened m undo s (goes_on way (chess way.aim.goal rule) t q) ∷ (moved f next ∷ below))) ++ to_come rule way h p (opened m undo s (goes_on way (chess way.aim.goal rule) t q) ∷ (moved f next ∷ below))
+    come-enter : (undo : Loss) → follows way (chess way.aim.goal rule) root t q ≡ true → to_come rule way h p (f ∷ below) ≡ given_path (gives way (chess way.aim.goal rule) t q) (path (opened m undo (goes_on way (chess way.aim.goal rule) t q) ∷ (moved f next ∷ below))) ++ to_come rule way h p (opened m undo (goes_on way (chess way.aim.goal rule) t q) ∷ (moved f next ∷ below))
     unfolding to_come position path
-    come-enter undo s b =
+    come-enter undo b =
         let less : h - suc (length below) ≡ k = omega arith in
         let P = position rule p (f ∷ below) in
         rw (fuel, less, left, e, shown-next root k t P m (moves_behind rule P next), b, behind_start rule q, no_zero (length below))
@@ -180,9 +173,9 @@ module _ (rule : RuleSet) (way : Way) where
     unfolding turns position
     turns-pass = rw (fuel, steps_behind-next k (position rule p (f ∷ below)) f.place next m e) (omega arith)
 
-    turns-enter : (undo : Loss) (s : Shown) (tried : ℕ) → turns rule h p (opened m undo s tried ∷ (moved f next ∷ below)) < turns rule h p (f ∷ below)
+    turns-enter : (undo : Loss) (tried : ℕ) → turns rule h p (opened m undo tried ∷ (moved f next ∷ below)) < turns rule h p (f ∷ below)
     unfolding turns position
-    turns-enter undo s tried =
+    turns-enter undo tried =
         let less : h - suc (length below) ≡ k = omega arith in
         rw (fuel, less, steps_behind-next k (position rule p (f ∷ below)) f.place next m e, steps-start k q) (omega arith)
 
@@ -190,9 +183,9 @@ module _ (rule : RuleSet) (way : Way) where
     unfolding to_open position
     open-next = rw (left, walk_behind-next t (position rule p (f ∷ below)) f.place next m e) (omega arith)
 
-    open-enter : (undo : Loss) (s : Shown) (tried : ℕ) → to_open rule p (opened m undo s tried ∷ (moved f next ∷ below)) ≡ walk_behind rule tried q 0 + to_open rule p (moved f next ∷ below)
+    open-enter : (undo : Loss) (tried : ℕ) → to_open rule p (opened m undo tried ∷ (moved f next ∷ below)) ≡ walk_behind rule tried q 0 + to_open rule p (moved f next ∷ below)
     unfolding to_open position
-    open-enter undo s tried = refl
+    open-enter undo tried = refl
 
   come-close : (h : ℕ) (p : Position) (f : Frame) (below : List Frame) → (f.left ≡ 0) ⊎ (moves_behind rule (position rule p (f ∷ below)) f.place ≡ []) → to_come rule way h p (f ∷ below) ≡ to_come rule way h p below
   unfolding to_come
@@ -297,46 +290,44 @@ module _ (rule : RuleSet) (way : Way) where
     }
 
 -- what undoes the top frame
-module _ {goal : Goal} (rule : RuleSet) (h : ℕ) (p : Position) where
-  CameFrom-top : (f g : Frame) (below : List Frame) (board : Position) → IsWalking goal rule h p (f ∷ (g ∷ below)) board → CameFromAt rule f board (position rule p (g ∷ below))
+module _ (rule : RuleSet) (h : ℕ) (p : Position) where
+  CameFrom-top : (f g : Frame) (below : List Frame) (board : Position) → IsWalking rule h p (f ∷ (g ∷ below)) board → CameFromAt rule f board (position rule p (g ∷ below))
   unfolding IsLinked position
   CameFrom-top f g below board r = record { sound = r.linked.0; legal = r.linked.1; led = r.board_at; undone = r.linked.2 }
 
-  pub CameFrom-deep : (f : Frame) (below : List Frame) (board : Position) → IsWalking goal rule h p (f ∷ below) board → 0 < length below → CameFrom rule f board
+  pub CameFrom-deep : (f : Frame) (below : List Frame) (board : Position) → IsWalking rule h p (f ∷ below) board → 0 < length below → CameFrom rule f board
   CameFrom-deep f [] board r deep = absurd (omega (arith, deep))
   CameFrom-deep f (g ∷ below) board r deep = (position rule p (g ∷ below), CameFrom-top f g below board r)
 
-  pub walking-close : (f : Frame) (below : List Frame) (board after : Position) → IsWalking goal rule h p (f ∷ below) board → (length below ≡ 0 → after ≡ board) → ((q : Position) → 0 < length below → CameFromAt rule f board q → after ≡ q) → IsWalking goal rule h p below after
-  unfolding IsLinked IsShowing IsRoomy position
+  pub walking-close : (f : Frame) (below : List Frame) (board after : Position) → IsWalking rule h p (f ∷ below) board → (length below ≡ 0 → after ≡ board) → ((q : Position) → 0 < length below → CameFromAt rule f board q → after ≡ q) → IsWalking rule h p below after
+  unfolding IsLinked IsRoomy position
   walking-close f [] board after r lowest before =
-      record { linked = tt; showing = tt; roomy = tt; sound = rw (lowest refl) r.sound; board_at = lowest refl ∙ r.board_at }
+      record { linked = tt; roomy = tt; sound = rw (lowest refl) r.sound; board_at = lowest refl ∙ r.board_at }
   walking-close f (g ∷ below) board after r lowest before =
       let back = before _ (omega arith) (CameFrom-top f g below board r) in
-      record { linked = r.linked.3; showing = r.showing.1; roomy = r.roomy.1; sound = rw back r.linked.0; board_at = back }
+      record { linked = r.linked.3; roomy = r.roomy.1; sound = rw back r.linked.0; board_at = back }
 
-  pub top_room : (f : Frame) (below : List Frame) (board : Position) → IsWalking goal rule h p (f ∷ below) board → f.left + length below ≤ h
+  pub top_room : (f : Frame) (below : List Frame) (board : Position) → IsWalking rule h p (f ∷ below) board → f.left + length below ≤ h
   unfolding IsRoomy
   top_room f below board r = r.roomy.0
 
-  walking-moved : (way : Way) (f : Frame) (next : ℕ) (below : List Frame) (board after : Position) → IsWalking goal rule h p (f ∷ below) board → after ≡ board → IsWalking goal rule h p (moved f next ∷ below) after
+  walking-moved : (way : Way) (f : Frame) (next : ℕ) (below : List Frame) (board after : Position) → IsWalking rule h p (f ∷ below) board → after ≡ board → IsWalking rule h p (moved f next ∷ below) after
   unfolding IsRoomy
   walking-moved way f next below board after r e =
       record {
         linked = IsLinked-moved rule way p f next below r.linked;
-        showing = IsShowing-moved rule way _ p f next below r.showing;
         roomy = r.roomy;
         sound = rw e r.sound;
         board_at = e ∙ r.board_at ∙ sym (position-moved rule way p f next below);
       }
 
-  walking-enter : (way : Way) (f : Frame) (next : ℕ) (m : Triple) (tried : ℕ) (below : List Frame) (board after : Position) → IsWalking goal rule h p (f ∷ below) board → tried < f.left → legal rule board m ≡ true → after ≡ played rule board m → IsWalking goal rule h p (opened m (undo_of rule board m) (show goal rule board m) tried ∷ (moved f next ∷ below)) after
-  unfolding IsLinked IsShowing IsRoomy position
+  walking-enter : (way : Way) (f : Frame) (next : ℕ) (m : Triple) (tried : ℕ) (below : List Frame) (board after : Position) → IsWalking rule h p (f ∷ below) board → tried < f.left → legal rule board m ≡ true → after ≡ played rule board m → IsWalking rule h p (opened m (undo_of rule board m) tried ∷ (moved f next ∷ below)) after
+  unfolding IsLinked IsRoomy position
   walking-enter way f next m tried below board after r less lawful e =
       let s = walking-moved way f next below board board r refl in
       let at : board ≡ position rule p (moved f next ∷ below) = s.board_at in
       record {
         linked = (rw (← at) s.sound, rw (← at) lawful, ap (λ b. undo_of rule b m) at, s.linked);
-        showing = (ap (λ b. show goal rule b m) at, s.showing);
         roomy = (omega (arith, less, r.roomy.0), s.roomy);
         sound = rw e (after_well_formed rule board m r.sound (pseudo-from_legal rule board m lawful));
         board_at = e ∙ ap (λ b. played rule b m) at;
@@ -366,9 +357,9 @@ whites-moved : (battle : Battle) (f : Frame) (place : ℕ) (below : List Frame) 
 unfolding IsWhites
 whites-moved battle f place below e = e
 
-whites-none : (battle : Battle) (m : Triple) (undo : Loss) (s : Shown) (tried : ℕ) (below : List Frame) → tried ≡ 0 → IsWhites battle below ≡ true → IsWhites battle (opened m undo s tried ∷ below) ≡ true
+whites-none : (battle : Battle) (m : Triple) (undo : Loss) (tried : ℕ) (below : List Frame) → tried ≡ 0 → IsWhites battle below ≡ true → IsWhites battle (opened m undo tried ∷ below) ≡ true
 unfolding IsWhites
-whites-none battle m undo s tried below z e = rw z e
+whites-none battle m undo tried below z e = rw z e
 
 pub goes_on-keys : {P M : Type 0} (way : Way) (game : Game P M) (t : ℕ) (q : P) → way.help ≡ false → way.variation ≡ false → seeks way.aim.battle (t + 1) ≡ true → goes_on way game t q ≡ 0
 unfolding goes_on
@@ -390,7 +381,7 @@ opened-most rule way zero opened opened2 more same = let s : opened2 ≡ opened 
 opened-most rule way (suc t) opened opened2 more same = let s : opened2 ≡ min (opened + 1) (2 ^ 64 - 1) = more (omega arith) in omega (arith, s)
 
 -- the outcomes of a step, for frames listed from the top down
-module _ (rule : RuleSet) (way : Way) (h : ℕ) (p : Position) (f : Frame) (below : List Frame) (board : Position) (r : IsWalking way.aim.goal rule h p (f ∷ below) board) where
+module _ (rule : RuleSet) (way : Way) (h : ℕ) (p : Position) (f : Frame) (below : List Frame) (board : Position) (r : IsWalking rule h p (f ∷ below) board) where
   pub steps-close : (after : Position) (count : ℕ) → (f.left ≡ 0) ⊎ (moves_behind rule board f.place ≡ []) → (length below ≡ 0 → after ≡ board) → ((q : Position) → 0 < length below → CameFromAt rule f board q → after ≡ q) → Steps rule way h p (f ∷ below) below after count count false
   steps-close after count e lowest before =
       let here : (f.left ≡ 0) ⊎ (moves_behind rule (position rule p (f ∷ below)) f.place ≡ []) = rw (← r.board_at) e in
@@ -434,21 +425,20 @@ module _ (rule : RuleSet) (way : Way) (h : ℕ) (p : Position) (f : Frame) (belo
           };
         }
 
-    pub steps-enter : (after : Position) (opened opened2 : ℕ) → legal rule board m ≡ true → follows way (chess way.aim.goal rule) (eqb (length below) 0) t (played rule board m) ≡ true → after ≡ played rule board m → (way.help ≡ true → 0 < t → opened2 ≡ min (opened + 1) (2 ^ 64 - 1)) → (way.help ≡ true → t ≡ 0 → opened2 ≡ opened) → (way.help ≡ false → way.variation ≡ false → seeks way.aim.battle (t + 1) ≡ true → opened2 ≤ opened + walk_count (legal_moves rule) (played rule) t (played rule board m)) → Steps rule way h p (f ∷ below) (opened_frame m (undo_of rule board m) (show way.aim.goal rule board m) (goes_on way (chess way.aim.goal rule) t (played rule board m)) ∷ (moved f next ∷ below)) after opened opened2 (gives way (chess way.aim.goal rule) t (played rule board m))
+    pub steps-enter : (after : Position) (opened opened2 : ℕ) → legal rule board m ≡ true → follows way (chess way.aim.goal rule) (eqb (length below) 0) t (played rule board m) ≡ true → after ≡ played rule board m → (way.help ≡ true → 0 < t → opened2 ≡ min (opened + 1) (2 ^ 64 - 1)) → (way.help ≡ true → t ≡ 0 → opened2 ≡ opened) → (way.help ≡ false → way.variation ≡ false → seeks way.aim.battle (t + 1) ≡ true → opened2 ≤ opened + walk_count (legal_moves rule) (played rule) t (played rule board m)) → Steps rule way h p (f ∷ below) (opened_frame m (undo_of rule board m) (goes_on way (chess way.aim.goal rule) t (played rule board m)) ∷ (moved f next ∷ below)) after opened opened2 (gives way (chess way.aim.goal rule) t (played rule board m))
     steps-enter after opened opened2 lawful b at more same keys =
         let o = open-next rule way h p f next m below _ t fuel left here in
         let u = undo_of rule board m in
-        let s = show way.aim.goal rule board m in
         let q = played rule (position rule p (f ∷ below)) m in
         let tried = goes_on way (chess way.aim.goal rule) t (played rule board m) in
-        let n = open-enter rule way h p f next m below _ t fuel left here u s tried in
+        let n = open-enter rule way h p f next m below _ t fuel left here u tried in
         record {
           walking = walking-enter rule h p way f next m tried below board after r (omega (arith, left, goes_on-most (chess way.aim.goal rule) way t (played rule board m))) lawful at;
-          come = rw after_here (come-enter rule way h p f next m below _ t fuel left here u s (rw (← after_here) b));
+          come = rw after_here (come-enter rule way h p f next m below _ t fuel left here u (rw (← after_here) b));
           deep = λ g. omega arith;
-          falls = turns-enter rule way h p f next m below _ t fuel left here u s tried;
+          falls = turns-enter rule way h p f next m below _ t fuel left here u tried;
           opens = record {
-            whites = λ a c w. whites-none way.aim.battle m u s tried _ (goes_on-keys way (chess way.aim.goal rule) t _ a c (whites-top way.aim.battle f below t left w)) (whites-moved way.aim.battle f next below w);
+            whites = λ a c w. whites-none way.aim.battle m u tried _ (goes_on-keys way (chess way.aim.goal rule) t _ a c (whites-top way.aim.battle f below t left w)) (whites-moved way.aim.battle f next below w);
             most = λ a c w.
                 let z : tried ≡ 0 = goes_on-keys way (chess way.aim.goal rule) t _ a c (whites-top way.aim.battle f below t left w) in
                 let none : walk_behind rule tried q 0 ≡ 0 = walk_behind-none rule way tried q 0 (inl z) in
@@ -465,8 +455,8 @@ module _ (rule : RuleSet) (way : Way) (h : ℕ) (p : Position) (f : Frame) (belo
         }
 
 -- the same once moves that don't count have been passed over
-module _ (rule : RuleSet) (way : Way) (h : ℕ) (p : Position) (f : Frame) (below : List Frame) (board : Position) (r : IsWalking way.aim.goal rule h p (f ∷ below) board) where
-  passed_to : (mid : ℕ) → IsWalking way.aim.goal rule h p (moved f mid ∷ below) board
+module _ (rule : RuleSet) (way : Way) (h : ℕ) (p : Position) (f : Frame) (below : List Frame) (board : Position) (r : IsWalking rule h p (f ∷ below) board) where
+  passed_to : (mid : ℕ) → IsWalking rule h p (moved f mid ∷ below) board
   passed_to mid = walking-moved rule h p way f mid below board board r refl
 
   pub skips-close : (after : Position) (count : ℕ) → (f.left ≡ 0) ⊎ GoesTo rule way f.left (position rule p (f ∷ below)) f.place [] → (length below ≡ 0 → after ≡ board) → ((q : Position) → 0 < length below → CameFromAt rule f board q → after ≡ q) → Steps rule way h p (f ∷ below) below after count count false
@@ -483,7 +473,7 @@ module _ (rule : RuleSet) (way : Way) (h : ℕ) (p : Position) (f : Frame) (belo
     skips-pass after opened opened2 b at keys =
         skips _ after opened opened2 false (steps-pass rule way h p (moved f g.mid) below board (passed_to g.mid) next m t left (rw r.board_at g.here) after opened opened2 b at keys)
 
-    pub skips-enter : (after : Position) (opened opened2 : ℕ) → legal rule board m ≡ true → follows way (chess way.aim.goal rule) (eqb (length below) 0) t (played rule board m) ≡ true → after ≡ played rule board m → (way.help ≡ true → 0 < t → opened2 ≡ min (opened + 1) (2 ^ 64 - 1)) → (way.help ≡ true → t ≡ 0 → opened2 ≡ opened) → (way.help ≡ false → way.variation ≡ false → seeks way.aim.battle (t + 1) ≡ true → opened2 ≤ opened + walk_count (legal_moves rule) (played rule) t (played rule board m)) → Steps rule way h p (f ∷ below) (opened_frame m (undo_of rule board m) (show way.aim.goal rule board m) (goes_on way (chess way.aim.goal rule) t (played rule board m)) ∷ (moved f next ∷ below)) after opened opened2 (gives way (chess way.aim.goal rule) t (played rule board m))
+    pub skips-enter : (after : Position) (opened opened2 : ℕ) → legal rule board m ≡ true → follows way (chess way.aim.goal rule) (eqb (length below) 0) t (played rule board m) ≡ true → after ≡ played rule board m → (way.help ≡ true → 0 < t → opened2 ≡ min (opened + 1) (2 ^ 64 - 1)) → (way.help ≡ true → t ≡ 0 → opened2 ≡ opened) → (way.help ≡ false → way.variation ≡ false → seeks way.aim.battle (t + 1) ≡ true → opened2 ≤ opened + walk_count (legal_moves rule) (played rule) t (played rule board m)) → Steps rule way h p (f ∷ below) (opened_frame m (undo_of rule board m) (goes_on way (chess way.aim.goal rule) t (played rule board m)) ∷ (moved f next ∷ below)) after opened opened2 (gives way (chess way.aim.goal rule) t (played rule board m))
     skips-enter after opened opened2 lawful b at more same keys =
         skips _ after opened opened2 _ (steps-enter rule way h p (moved f g.mid) below board (passed_to g.mid) next m t left (rw r.board_at g.here) after opened opened2 lawful b at more same keys)
 
@@ -502,23 +492,23 @@ module _ (rule : RuleSet) (way : Way) (h : ℕ) (top : Frame) (old new : List Fr
   depth_is : length (reverse new) ≡ length new
   depth_is = length-reverse new
 
-  walking_top : (p board now : Position) → IsWalking way.aim.goal rule h p (reverse old) board → now ≡ board → IsWalking way.aim.goal rule h p (top ∷ reverse new) now
+  walking_top : (p board now : Position) → IsWalking rule h p (reverse old) board → now ≡ board → IsWalking rule h p (top ∷ reverse new) now
   walking_top p board now r e =
-      let T : List Frame → Type 0 = λ fs. IsWalking way.aim.goal rule h p fs board in
+      let T : List Frame → Type 0 = λ fs. IsWalking rule h p fs board in
       let s = subst T (popped old new top taken) r in
-      record { linked = s.linked; showing = s.showing; roomy = s.roomy; sound = rw e s.sound; board_at = e ∙ s.board_at }
+      record { linked = s.linked; roomy = s.roomy; sound = rw e s.sound; board_at = e ∙ s.board_at }
 
-  pub close_asks : (p board now : Position) (depth : ℕ) → IsWalking way.aim.goal rule h p (reverse old) board → now ≡ board → depth ≡ length new → 0 < depth → CameFrom rule top now
+  pub close_asks : (p board now : Position) (depth : ℕ) → IsWalking rule h p (reverse old) board → now ≡ board → depth ≡ length new → 0 < depth → CameFrom rule top now
   close_asks p board now depth r e d deep = CameFrom-deep rule h p top (reverse new) now (walking_top p board now r e) (omega (arith, depth_is, d, deep))
 
-  pub close_steps : (p board now after : Position) (depth count : ℕ) → IsWalking way.aim.goal rule h p (reverse old) board → now ≡ board → depth ≡ length new → (top.left ≡ 0) ⊎ GoesTo rule way top.left board top.place [] → (depth ≡ 0 → after ≡ now) → ((q : Position) → 0 < depth → CameFromAt rule top now q → after ≡ q) → Steps rule way h p (reverse old) (reverse new) after count count false
+  pub close_steps : (p board now after : Position) (depth count : ℕ) → IsWalking rule h p (reverse old) board → now ≡ board → depth ≡ length new → (top.left ≡ 0) ⊎ GoesTo rule way top.left board top.place [] → (depth ≡ 0 → after ≡ now) → ((q : Position) → 0 < depth → CameFromAt rule top now q → after ≡ q) → Steps rule way h p (reverse old) (reverse new) after count count false
   close_steps p board now after depth count r e d none lowest before =
       let r2 = walking_top p board now r e in
       let T : Position → Type 0 = λ b. (top.left ≡ 0) ⊎ GoesTo rule way top.left b top.place [] in
       rw (popped old new top taken) (skips-close rule way h p top (reverse new) now r2 after count (subst T (sym e ∙ r2.board_at) none)
       (λ z. lowest (omega (arith, depth_is, d, z))) (λ q z cf. before q (omega (arith, depth_is, d, z)) cf))
 
-  pub room_left : (p board : Position) → IsWalking way.aim.goal rule h p (reverse old) board → top.left + length new ≤ h
+  pub room_left : (p board : Position) → IsWalking rule h p (reverse old) board → top.left + length new ≤ h
   room_left p board r = omega (arith, top_room rule h p top (reverse new) board (walking_top p board board r refl), depth_is)
 
   module _ (place : ℕ) (m : Triple) (board now : Position) (depth : ℕ) (mid last : List Frame) (at : now ≡ board) (d : depth ≡ length new) (some : (0 < top.left) × GoesTo rule way top.left board top.place (m ∷ moves_behind rule board place) × (legal rule board m ≡ true)) (put : mid ≡ new ++ moved top place ∷ []) where
@@ -533,10 +523,10 @@ module _ (rule : RuleSet) (way : Way) (h : ℕ) (top : Frame) (old new : List Fr
 
     pub enter_steps : (root given : Bool) (after : Position) (opened opened2 : ℕ) → root ≡ eqb depth 0
         → (follows way (chess way.aim.goal rule) root behind arrived ≡ false → (given ≡ false) × (after ≡ now) × (last ≡ mid))
-        → (follows way (chess way.aim.goal rule) root behind arrived ≡ true → (given ≡ gives way (chess way.aim.goal rule) behind arrived) × (after ≡ arrived) × (last ≡ mid ++ opened_frame m (undo_of rule now m) (show way.aim.goal rule now m) (goes_on way (chess way.aim.goal rule) behind arrived) ∷ []))
+        → (follows way (chess way.aim.goal rule) root behind arrived ≡ true → (given ≡ gives way (chess way.aim.goal rule) behind arrived) × (after ≡ arrived) × (last ≡ mid ++ opened_frame m (undo_of rule now m) (goes_on way (chess way.aim.goal rule) behind arrived) ∷ []))
         → (way.help ≡ true → 0 < behind → opened2 ≡ min (opened + 1) (2 ^ 64 - 1)) → (way.help ≡ true → behind ≡ 0 → opened2 ≡ opened)
         → (way.help ≡ false → way.variation ≡ false → seeks way.aim.battle (behind + 1) ≡ true → opened2 ≤ opened + walk_count (legal_moves rule) (played rule) behind arrived)
-        → (p : Position) → IsWalking way.aim.goal rule h p (reverse old) board → Steps rule way h p (reverse old) (reverse last) after opened opened2 given
+        → (p : Position) → IsWalking rule h p (reverse old) board → Steps rule way h p (reverse old) (reverse last) after opened opened2 given
     enter_steps root given after opened opened2 flag passes enters more none keys p r =
         let left : top.left ≡ suc behind = omega (arith, some.0) in
         let r2 = walking_top p board now r at in
@@ -554,19 +544,19 @@ module _ (rule : RuleSet) (way : Way) (h : ℕ) (top : Frame) (old new : List Fr
         ]
 
 -- a frame is closed, whatever is walked
-module _ {goal : Goal} (rule : RuleSet) (h : ℕ) (top : Frame) (old new : List Frame) (taken : old ≡ new ++ top ∷ []) where
-  walking_popped : (p board : Position) → IsWalking goal rule h p (reverse old) board → IsWalking goal rule h p (top ∷ reverse new) board
-  walking_popped p board r = let T : List Frame → Type 0 = λ fs. IsWalking goal rule h p fs board in subst T (popped old new top taken) r
+module _ (rule : RuleSet) (h : ℕ) (top : Frame) (old new : List Frame) (taken : old ≡ new ++ top ∷ []) where
+  walking_popped : (p board : Position) → IsWalking rule h p (reverse old) board → IsWalking rule h p (top ∷ reverse new) board
+  walking_popped p board r = let T : List Frame → Type 0 = λ fs. IsWalking rule h p fs board in subst T (popped old new top taken) r
 
-  pub back_asks : (p board : Position) (depth : ℕ) → IsWalking goal rule h p (reverse old) board → depth ≡ length new → 0 < depth → CameFrom rule top board
+  pub back_asks : (p board : Position) (depth : ℕ) → IsWalking rule h p (reverse old) board → depth ≡ length new → 0 < depth → CameFrom rule top board
   back_asks p board depth r d deep = CameFrom-deep rule h p top (reverse new) board (walking_popped p board r) (omega (arith, length-reverse new, d, deep))
 
-  pub back_walking : (p board after : Position) (depth : ℕ) → IsWalking goal rule h p (reverse old) board → depth ≡ length new → (depth ≡ 0 → after ≡ board) → ((q : Position) → 0 < depth → CameFromAt rule top board q → after ≡ q) → IsWalking goal rule h p (reverse new) after
+  pub back_walking : (p board after : Position) (depth : ℕ) → IsWalking rule h p (reverse old) board → depth ≡ length new → (depth ≡ 0 → after ≡ board) → ((q : Position) → 0 < depth → CameFromAt rule top board q → after ≡ q) → IsWalking rule h p (reverse new) after
   back_walking p board after depth r d lowest before =
       walking-close rule h p top (reverse new) board after (walking_popped p board r) (λ z. lowest (omega (arith, length-reverse new, d, z))) (λ q z cf. before q (omega (arith, length-reverse new, d, z)) cf)
 
 -- with no frame left the board stands on the first position
-pub walking_back : {goal : Goal} (rule : RuleSet) (h : ℕ) (p board : Position) (frames : List Frame) → IsWalking goal rule h p (reverse frames) board → length frames ≡ 0 → board ≡ p
+pub walking_back : (rule : RuleSet) (h : ℕ) (p board : Position) (frames : List Frame) → IsWalking rule h p (reverse frames) board → length frames ≡ 0 → board ≡ p
 unfolding position
 walking_back rule h p board [] r none = r.board_at
 walking_back rule h p board (f ∷ frames) r none = absurd (omega (arith, none))

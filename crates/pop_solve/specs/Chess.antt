@@ -40,13 +40,6 @@ mark_of goal rule q =
     else (if in_check rule q.men q.turn then Check
     else (if is_for_stalemate goal && is_stalemate rule q then Stalemated else Plain))
 
--- the mark of a move that reaches the goal
-abbrev pub is_mark_of : Goal → Mark → Bool
-is_mark_of goal Plain = false
-is_mark_of goal Check = false
-is_mark_of goal Mated = is_for_mate goal
-is_mark_of goal Stalemated = not (is_for_mate goal)
-
 -- to which side the man castles, if it does
 abbrev pub castling_side : Man → Triple → Option Side
 castling_side x m = if is_castling x m then Some (if nat_lt m.from m.to then H else A) else None

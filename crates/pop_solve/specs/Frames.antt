@@ -15,19 +15,17 @@ use Rattle.chess_rules.specs.RuleSet.{RuleSet}
 use Rattle.pop_solve.specs.Chess.{chess}
 use Rattle.pop_solve.specs.Game.{walk_count}
 use Rattle.pop_solve.specs.Values.{seeks, join, joined}
-use Rattle.pop_solve.specs.Shown.{Shown}
 use Rattle.pop_solve.specs.declared.frame.Stretch.{Stretch}
 use Rattle.pop_solve.specs.declared.frame.Stretch.TheVariants.{First, Before, Behind}
 
 -- a frame: the place up to which the moves of its position have been tried, the move that led there and what it
--- destroyed, the half-moves that are tried there, and the move as it is shown; in a test the place on the killer, the
--- move that is tried first, and the stretch of moves on which the place stands; and what is known of the legal moves
+-- destroyed, and the half-moves that are tried there; in a test the place on the killer, the move that is tried first,
+-- and the stretch of moves on which the place stands; and what is known of the position's legal moves
 pub record Frame : Type 0 where
   pub place : ℕ
   pub by : Triple
   pub undo : Loss
   pub left : ℕ
-  pub shown : Shown
   pub killer : ℕ
   pub stretch : Stretch
   pub known : Option LegalPlace
@@ -167,18 +165,18 @@ pub record Ends (rule : RuleSet) (aim : Aim) (floor : ℕ) (p : Position) (old n
   pub counted : after ≤ before + to_test rule p (tests floor old)
 
 -- the frame of a position that a move has reached, of which no move has been tried
-abbrev pub opened : Triple → Loss → Shown → ℕ → Frame
-opened by undo shown left = record { place = 0; by = by; undo = undo; left = left; shown = shown; killer = 0; stretch = Behind; known = None }
+abbrev pub opened : Triple → Loss → ℕ → Frame
+opened by undo left = record { place = 0; by = by; undo = undo; left = left; killer = 0; stretch = Behind; known = None }
 
 -- the same in a test, where the killer is tried first
-abbrev pub tested : ℕ → Triple → Loss → Shown → ℕ → Option LegalPlace → Frame
-tested killer by undo shown left known = record { place = killer - 1; by = by; undo = undo; left = left; shown = shown; killer = killer; stretch = First; known = known }
+abbrev pub tested : ℕ → Triple → Loss → ℕ → Option LegalPlace → Frame
+tested killer by undo left known = record { place = killer - 1; by = by; undo = undo; left = left; killer = killer; stretch = First; known = known }
 
 -- to some frames one of a test is added, which knows at most its own position
-pub record IsOpenedOn (rule : RuleSet) (p : Position) (old new : List Frame) (killer : ℕ) (by : Triple) (undo : Loss) (shown : Shown) (left : ℕ) : Type 0 where
+pub record IsOpenedOn (rule : RuleSet) (p : Position) (old new : List Frame) (killer : ℕ) (by : Triple) (undo : Loss) (left : ℕ) : Type 0 where
   pub known : Option LegalPlace
   pub within : IfSome known (IsPlaceIn rule p)
-  pub added : new ≡ old ++ tested killer by undo shown left known ∷ []
+  pub added : new ≡ old ++ tested killer by undo left known ∷ []
 
 -- the half-moves left at the top frame
 abbrev pub top_left : List Frame → ℕ

@@ -59,13 +59,13 @@ unfoldable pub IsStanding : RuleSet → Posed → Stage → List Frame → Posit
 IsStanding rule problem (Before phase) frames board = (frames ≡ []) × (board ≡ start problem)
 IsStanding rule problem Barred frames board = (frames ≡ []) × (board ≡ start problem)
 IsStanding rule problem (Within phase count) frames board =
-    IsWalking problem.stipulation.goal rule (phase_half_moves problem phase) (phase_start problem phase) frames board
+    IsWalking rule (phase_half_moves problem phase) (phase_start problem phase) frames board
     × (count ≤ problem.max_solutions)
 IsStanding rule problem Behind frames board = (frames ≡ []) × (board ≡ start problem)
 
 -- what walking on in a phase leaves, at most `limit` solutions being still to begin
 pub record Walks (rule : RuleSet) (way : Way) (h : ℕ) (p : Position) (limit : ℕ) (old new : List Frame) (board : Position) (given : Bool) : Type 0 where
-  pub walking : IsWalking way.aim.goal rule h p new board
+  pub walking : IsWalking rule h p new board
   pub come : given ≡ true → keep way.help limit (to_come rule way h p old) ≡ path new ∷ keep way.help (limit - (if begins way.help (path new) then 1 else 0)) (to_come rule way h p new)
   pub starts : given ≡ true → started way.help limit (to_come rule way h p old) ≡ (if begins way.help (path new) then 1 else 0) + started way.help (limit - (if begins way.help (path new) then 1 else 0)) (to_come rule way h p new)
   pub within : given ≡ true → (if begins way.help (path new) then 1 else 0) ≤ limit

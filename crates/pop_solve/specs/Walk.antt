@@ -1,7 +1,6 @@
 -- What the frames of a walk stand for.
 use Rattle.pop_solve.specs.declared.aim.Battle.{Battle}
 use Rattle.pop_solve.specs.declared.aim.Battle.TheVariants.{Direct, Selfmate}
-use Rattle.pop_input.specs.declared.stipulation.Goal.{Goal}
 use Rattle.pop_input.specs.declared.stipulation.Goal.TheVariants.{Mate}
 use Rattle.std.specs.Prelude.{◌≡◌, ℕ, zero, suc, ◌+◌, ◌-◌, ◌/◌, ◌≤◌, ◌<◌, ◌^◌, min, ◌==◌, Bool, true, false, not, ◌&&◌, ◌||◌, if◌then◌else◌, List, [], ◌∷◌, ◌++◌, map, length, filter, ◌⊎◌}
 use Rattle.std.specs.List.{flat_map, list_all}
@@ -12,9 +11,8 @@ use Rattle.chess_rules.specs.Places.{is_mating, moves_behind}
 use Rattle.chess_rules.specs.RuleSet.{RuleSet}
 use Rattle.pop_solve.specs.Game.{Game}
 use Rattle.pop_solve.specs.Values.{seeks, value}
-use Rattle.pop_solve.specs.Chess.{chess, show}
+use Rattle.pop_solve.specs.Chess.{chess}
 use Rattle.pop_solve.specs.Frames.{Frame, position, IsLinked, steps_behind, to_open}
-use Rattle.pop_solve.specs.Shown.{Shown}
 use Rattle.pop_solve.specs.declared.walk.Way.{Way}
 
 -- the fewest half-moves with which a move of White is tried
@@ -66,19 +64,6 @@ path [] = []
 path (f ∷ []) = []
 path (f ∷ (g ∷ below)) = path (g ∷ below) ++ f.by ∷ []
 
--- the same moves as they are shown
-unfoldable pub shows : List Frame → List Shown
-shows [] = []
-shows (f ∷ []) = []
-shows (f ∷ (g ∷ below)) = shows (g ∷ below) ++ f.shown ∷ []
-
--- each frame but the lowest holds its move as it is shown
-unfoldable pub IsShowing : Goal → RuleSet → Position → List Frame → Type 0
-IsShowing goal rule p [] = Unit {0}
-IsShowing goal rule p (f ∷ []) = Unit {0}
-IsShowing goal rule p (f ∷ (g ∷ below)) =
-    (f.shown ≡ show goal rule (position rule p (g ∷ below)) f.by) × IsShowing goal rule p (g ∷ below)
-
 -- the paths still to come from all frames, in order
 unfoldable pub to_come : RuleSet → Way → ℕ → Position → List Frame → List (List Triple)
 to_come rule way h p [] = []
@@ -93,9 +78,8 @@ IsRoomy h [] = Unit {0}
 IsRoomy h (f ∷ below) = (f.left + length below ≤ h) × IsRoomy h below
 
 -- the board stands on the top frame of a walk
-pub record IsWalking (goal : Goal) (rule : RuleSet) (h : ℕ) (p : Position) (frames : List Frame) (board : Position) : Type 0 where
+pub record IsWalking (rule : RuleSet) (h : ℕ) (p : Position) (frames : List Frame) (board : Position) : Type 0 where
   pub linked : IsLinked rule p frames
-  pub showing : IsShowing goal rule p frames
   pub roomy : IsRoomy h frames
   pub sound : IsWellFormed board
   pub board_at : board ≡ position rule p frames
@@ -134,7 +118,7 @@ pub record GoesTo (rule : RuleSet) (way : Way) (left : ℕ) (p : Position) (plac
 
 -- what one step of a walk leaves, for frames listed from the top down; `given` says whether the path to the new top is given
 pub record Steps (rule : RuleSet) (way : Way) (h : ℕ) (p : Position) (old new : List Frame) (board : Position) (before after : ℕ) (given : Bool) : Type 0 where
-  pub walking : IsWalking way.aim.goal rule h p new board
+  pub walking : IsWalking rule h p new board
   pub come : to_come rule way h p old ≡ (if given then path new ∷ [] else []) ++ to_come rule way h p new
   pub deep : given ≡ true → length new ≡ length old + 1
   pub falls : turns rule h p new < turns rule h p old

@@ -9,7 +9,7 @@ ghost use Rattle.chess_rules.specs.Places.{IsNextMate, IsPlaceIn, mates_behind, 
 ghost use Rattle.chess_rules.specs.RuleSet.{RuleSet};
 ghost use Rattle.pop_input.specs.declared.stipulation.Goal.{Goal};
 ghost use Rattle.pop_input.specs.declared.stipulation.Goal.TheVariants.{Mate};
-ghost use Rattle.pop_solve.specs.Chess.{castling_side, chess, is_for_mate, is_impossible, is_mark_of, is_reached, mark_of, reborn, set_start, shown_by, shown_of};
+ghost use Rattle.pop_solve.specs.Chess.{castling_side, chess, is_for_mate, is_impossible, is_reached, mark_of, reborn, set_start, shown_by, shown_of};
 ghost use Rattle.pop_solve.specs.Frames.{CameBy};
 ghost use Rattle.pop_solve.specs.Game.{can_move as has_move, every_move, some_move};
 
@@ -164,17 +164,6 @@ pub(crate) fn mark_of<R: Rules>(goal: Goal, board: &mut Board) -> Mark
     }
 }
 
-/// Whether a move with this mark has reached the goal.
-fn is_mark_of(goal: Goal, mark: Mark) -> bool
-    ensures { result ≡ is_mark_of goal mark }
-{
-    match mark {
-        Mark::Plain | Mark::Check => false,
-        Mark::Mate => is_for_mate(goal),
-        Mark::Stalemate => !is_for_mate(goal),
-    }
-}
-
 /// Whether the goal is mate.
 pub(crate) fn is_for_mate(goal: Goal) -> bool
     ensures { result ≡ is_for_mate goal }
@@ -183,13 +172,6 @@ pub(crate) fn is_for_mate(goal: Goal) -> bool
         Goal::Mate => true,
         Goal::Stalemate => false,
     }
-}
-
-/// Whether the goal is reached by the move before, whose mark this is.
-pub(crate) fn has_reached(goal: Goal, mark: Mark) -> bool
-    ensures { (rule : RuleSet) (q : Position) → mark ≡ mark_of goal rule q → result ≡ is_reached goal rule q }
-{
-    is_mark_of(goal, mark)
 }
 
 /// Whether the goal is reached in the board's position.

@@ -8,6 +8,7 @@ pub mod frame;
 mod killers;
 mod phases;
 pub mod search;
+mod showing;
 pub mod shown;
 mod value;
 mod walk;

@@ -5,13 +5,12 @@ ghost use Rattle.chess_core.specs.Diagrams.{position_of};
 ghost use Rattle.chess_core.specs.Position.{Position};
 ghost use Rattle.chess_core.specs.WellFormed.{IsWellFormed};
 ghost use Rattle.chess_rules.specs.RuleSet.{RuleSet};
-ghost use Rattle.pop_input.specs.declared.stipulation.Goal.{Goal};
 ghost use Rattle.pop_input.specs.Posed.{IsSound};
 ghost use Rattle.pop_input.specs.Stipulations.{half_moves, is_help};
 ghost use Rattle.pop_solve.specs.Aims.{battle_of};
 ghost use Rattle.pop_solve.specs.Chess.{set_start};
 ghost use Rattle.pop_solve.specs.Events.{first_phase, start, phase_half_moves as half_moves_of_phase, phase_start, phase_half as half_of_phase, event_of, is_barred, step_of, is_set, opening};
-ghost use Rattle.pop_solve.specs.Walk.{IsWalking, IsShowing, Opens, shows, path};
+ghost use Rattle.pop_solve.specs.Walk.{IsWalking, Opens, path};
 ghost use Rattle.pop_solve.specs.Phases.{way_of as way_of_problem, left_of, IsStanding, Walks, Gives, OpensOn};
 ghost use Rattle.pop_solve.specs.declared.event.Phase.TheVariants.{Play};
 ghost use Rattle.pop_solve.specs.declared.phases.Stage.TheVariants.{Before, Within, Behind};
@@ -21,7 +20,7 @@ use crate::chess::{is_impossible, turn_back, turn_over};
 use crate::event::{Event, Phase};
 use crate::frame::Frame;
 use crate::killers::Killers;
-use crate::shown::Shown;
+use crate::showing::{last_shown, line};
 use crate::walk::{Way, opened_by, step, step_back};
 use arrayvec::ArrayVec;
 use chess_core::board::Board;
@@ -126,26 +125,6 @@ fn phase_half(problem: &Problem, phase: Phase) -> u32
     }
 }
 
-/// The move that led to a frame, as it is shown.
-fn shown_at<R: Rules>(frame: &Frame<R>) -> Shown
-    ensures { result ≡ frame.now.shown }
-{
-    frame.shown
-}
-
-/// The moves that lead to the top frame, as they are shown.
-fn line<R: Rules, const N: usize>(frames: &ArrayVec<Frame<R>, N>) -> ArrayVec<Shown, 32>
-    requires { array_vec_len frames.now ≤ 33 }
-    ensures { result.items ≡ shows (reverse frames.now.items) }
-{
-    let frames = frames.as_slice();
-    let mut line = ArrayVec::new();
-    for k in 1..frames.len() {
-        line.push(shown_at(&frames[k]));
-    }
-    line
-}
-
 /// Whether a phase ends before another solution begins: so many have begun, and none is on the way.
 fn is_full(way: Way, depth: usize, limit: u32) -> bool
     ensures { result ≡ ((limit == 0) && (way.help || (depth == 1))) }
@@ -166,7 +145,7 @@ fn walk_on<R: Rules, const N: usize>(
 ) -> bool
     requires sound { IsSound problem.now }
     requires room { half_moves problem.now.stipulation < N }
-    requires walking { IsWalking problem.now.stipulation.goal R.rule (half_moves_of_phase problem.now phase) (phase_start problem.now phase)
+    requires walking { IsWalking R.rule (half_moves_of_phase problem.now phase) (phase_start problem.now phase)
         (reverse frames.old.items) board.old }
     ensures walks { Walks R.rule (way_of_problem problem.now) (half_moves_of_phase problem.now phase)
         (phase_start problem.now phase) limit (reverse frames.old.items) (reverse frames.new.items) board.new result }
@@ -189,40 +168,41 @@ fn close_all<R: Rules, const N: usize>(
     board: &mut Board,
     frames: &mut ArrayVec<Frame<R>, N>,
 )
-    requires walking { (goal : Goal) × (p : Position) × IsWalking goal R.rule half_moves p (reverse frames.old.items) board.old }
+    requires walking { (p : Position) × IsWalking R.rule half_moves p (reverse frames.old.items) board.old }
     ensures none { frames.new.items ≡ [] }
-    ensures back { (goal : Goal) (p : Position) → IsWalking goal R.rule half_moves p (reverse frames.old.items) board.old → board.new ≡ p }
+    ensures back { (p : Position) → IsWalking R.rule half_moves p (reverse frames.old.items) board.old → board.new ≡ p }
 {
     while let Some(top) = frames.pop() {
         step_back::<R>(frames.len(), top, board);
     }
 }
 
-/// The event of the path to the top frame.
-fn event_at<R: Rules, const N: usize>(
+/// The event of the path to the top frame, where the board stands.
+fn event_at<R: Rules>(
     problem: &Problem,
     phase: Phase,
-    frames: &ArrayVec<Frame<R>, N>,
+    frames: &[Frame<R>],
+    board: &mut Board,
 ) -> Event
-    requires deep { 2 ≤ array_vec_len frames.now }
-    requires shallow { array_vec_len frames.now ≤ 33 }
-    ensures { IsShowing problem.now.stipulation.goal R.rule (phase_start problem.now phase) (reverse frames.now.items)
-        → result ≡ event_of R.rule problem.now (step_of problem.now phase (path (reverse frames.now.items))) }
+    requires deep { 2 ≤ length frames.now }
+    requires shallow { length frames.now ≤ 33 }
+    requires walking { (h : ℕ) × IsWalking R.rule h (phase_start problem.now phase) (reverse frames.now) board.old }
+    ensures unchanged { board.new ≡ board.old }
+    ensures event { result ≡ event_of R.rule problem.now (step_of problem.now phase (path (reverse frames.now))) }
 {
     let half = phase_half(problem, phase);
+    let goal = problem.stipulation().goal;
     if is_help(problem) {
         return Event::Line {
             half,
-            moves: line::<R, N>(frames),
+            moves: line::<R>(goal, frames, board),
         };
     }
-    let frames = frames.as_slice();
-    let last = frames.len() - 1;
-    let depth = (last - 1) as u32;
+    let depth = (frames.len() - 2) as u32;
     Event::Node {
         depth,
         half: half + depth,
-        shown: shown_at(&frames[last]),
+        shown: last_shown::<R>(goal, frames, board),
     }
 }
 
@@ -282,7 +262,7 @@ fn end<R: Rules, const N: usize>(
     frames: &mut ArrayVec<Frame<R>, N>,
 ) -> Stage
     requires sound { IsSound problem.now }
-    requires walking { IsWalking problem.now.stipulation.goal R.rule (half_moves_of_phase problem.now phase) (phase_start problem.now phase)
+    requires walking { IsWalking R.rule (half_moves_of_phase problem.now phase) (phase_start problem.now phase)
         (reverse frames.old.items) board.old }
     ensures stage { result ≡ (if is_set phase then Before Play else Behind) }
     ensures none { frames.new.items ≡ [] }
@@ -326,7 +306,7 @@ fn go_on<R: Rules, const N: usize>(
     if walk_on::<R, N>(problem, phase, limit, board, frames, killers, opened) {
         let count = count_with(problem, frames.len(), count);
         *stage = Stage::Within { phase, count };
-        return event_at::<R, N>(problem, phase, frames);
+        return event_at::<R>(problem, phase, frames.as_slice(), board);
     }
     *stage = end::<R, N>(problem, phase, board, frames);
     Event::Total {

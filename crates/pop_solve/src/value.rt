@@ -192,7 +192,7 @@ fn close<R: Rules>(
 }
 
 /// Plays a move of the top frame, which `top` is once its place has moved on. A frame is opened where the
-/// moves of the position after it decide; a test shows nothing.
+/// moves of the position after it decide.
 #[tactic(auto, using(chess_rules::proofs::Calls::playing))]
 fn descend<R: Rules, const N: usize>(
     aim: Aim,
@@ -217,7 +217,7 @@ fn descend<R: Rules, const N: usize>(
         (legal_moves R.rule (played R.rule board.old by)))
         × (board.new ≡ played R.rule board.old by)
         × IsOpenedOn R.rule (played R.rule board.old by) (frames.old.items ++ top ∷ []) frames.new.items
-        killer by (undo_of R.rule board.old by) top.shown (top.left - 1))
+        killer by (undo_of R.rule board.old by) (top.left - 1))
         (λ v. (v ≡ value aim.battle (chess aim.goal R.rule) (top.left - 1) (played R.rule board.old by))
         × (board.new ≡ board.old)
         × (frames.new.items ≡ frames.old.items ++ top ∷ [])) }

@@ -7,21 +7,17 @@ ghost use Rattle.chess_core.specs.WellFormed.{IsWellFormed};
 ghost use Rattle.chess_rules.specs.Legal.{legal};
 ghost use Rattle.chess_rules.specs.Places.{moves_behind};
 ghost use Rattle.chess_rules.specs.Play.{undo_of};
-ghost use Rattle.chess_rules.specs.RuleSet.{RuleSet};
 ghost use Rattle.arrayvec.specs.ArrayVec.{array_vec_len};
 ghost use Rattle.pop_solve.specs.Frames.{CameFrom, CameFromAt, opened as opened_frame};
-ghost use Rattle.pop_solve.specs.Chess.{chess, mark_of, show};
+ghost use Rattle.pop_solve.specs.Chess.{chess};
 ghost use Rattle.pop_solve.specs.Game.{walk_count};
 ghost use Rattle.pop_solve.specs.Values.{seeks};
 ghost use Rattle.pop_solve.specs.Walk.{fewest as fewest_of, first_from, open_length, follows as is_followed, gives as is_given, goes_on, GoesTo, IsWalking, Steps};
 
 use crate::aim::{Aim, Battle};
-use crate::chess::{
-    has_reached, is_for_mate, mark_of, next_mate, next_move, reaches_goal, retract, shown_of,
-};
+use crate::chess::{is_for_mate, next_mate, next_move, reaches_goal, retract};
 use crate::frame::{Frame, Stretch};
 use crate::killers::Killers;
-use crate::shown::Mark;
 use crate::value::{seeking, value_of};
 use arrayvec::ArrayVec;
 use chess_core::board::Board;
@@ -132,12 +128,14 @@ fn is_tested(way: Way, root: bool, left: usize) -> bool
     !way.help && (root || seeking(way.aim.battle, left))
 }
 
-/// Whether the path by a move with this mark is given, after which `left` half-moves are left.
+/// Whether the path to the board's position is given, with `left` half-moves left there.
 #[tactic(auto, unfolding(crate::specs::Walk::gives))]
-fn gives(way: Way, left: usize, mark: Mark) -> bool
-    ensures { (rule : RuleSet) (q : Position) → mark ≡ mark_of way.aim.goal rule q → result ≡ is_given way (chess way.aim.goal rule) left q }
+fn gives<R: Rules>(way: Way, left: usize, board: &mut Board) -> bool
+    requires well_formed { IsWellFormed board.old }
+    ensures unchanged { board.new ≡ board.old }
+    ensures given { result ≡ is_given way (chess way.aim.goal R.rule) left board.old }
 {
-    !way.help || left == 0 && has_reached(way.aim.goal, mark)
+    !way.help || left == 0 && reaches_goal::<R>(way.aim.goal, board)
 }
 
 /// The count of opened frames once a frame has been opened that has `tried` half-moves below it. One with none isn't
@@ -156,7 +154,7 @@ pub(crate) fn opened_by(opened: u64, tried: usize, tested: bool) -> u64
 
 /// Plays a legal move, after which `left` half-moves are left, and opens the frame of the position after it where the
 /// walk follows the move. Answers whether its path is given.
-#[tactic(auto, using(chess_rules::proofs::Calls::playing), unfolding(crate::specs::Walk::follows, crate::specs::Walk::goes_on, crate::specs::Chess::show))]
+#[tactic(auto, using(chess_rules::proofs::Calls::playing), unfolding(crate::specs::Walk::follows, crate::specs::Walk::goes_on))]
 fn enter<R: Rules, const N: usize>(
     way: Way,
     root: bool,
@@ -176,35 +174,30 @@ fn enter<R: Rules, const N: usize>(
         → (result ≡ is_given way (chess way.aim.goal R.rule) left (played R.rule board.old by))
         × (board.new ≡ played R.rule board.old by)
         × (frames.new.items ≡ frames.old.items ++ opened_frame by (undo_of R.rule board.old by)
-        (show way.aim.goal R.rule board.old by) (goes_on way (chess way.aim.goal R.rule) left (played R.rule board.old by)) ∷ []) }
+        (goes_on way (chess way.aim.goal R.rule) left (played R.rule board.old by)) ∷ []) }
     ensures more { way.help ≡ true → 0 < left → opened.new ≡ min (opened.old + 1) (2 ^ 64 - 1) }
     ensures none { way.help ≡ true → left ≡ 0 → opened.new ≡ opened.old }
     ensures keys { way.help ≡ false → way.variation ≡ false → seeks way.aim.battle (left + 1) ≡ true
         → opened.new ≤ opened.old + walk_count (legal_moves R.rule) (played R.rule) left (played R.rule board.old by) }
 {
-    let man = board.man_at(by.from);
-    let there = board.man_at(by.to);
     let undo = R::play(board, by);
     let tested = is_tested(way, root, left + 1);
     if tested && !value_of::<R, N>(way.aim, left, board, frames, killers, opened) {
         retract::<R>(board, by, undo);
         return false;
     }
-    let mark = mark_of::<R>(way.aim.goal, board);
-    let shown = shown_of(man, there, &by, &undo, mark);
     let tried = length_below::<R, N>(way, left, board, frames, killers, opened);
     frames.push(Frame {
         place: Moves::start(),
         by,
         undo,
         left: tried,
-        shown,
         killer: Moves::start(),
         stretch: Stretch::Behind,
         known: None,
     });
     *opened = opened_by(*opened, tried, tested);
-    gives(way, left, mark)
+    gives::<R>(way, left, board)
 }
 
 /// The next move behind a place, in a position from which `left` half-moves are tried: the next mate, where help play
@@ -249,8 +242,8 @@ pub(crate) fn step<R: Rules, const N: usize>(
     requires well_formed { IsWellFormed board.old }
     requires room { half_moves < N }
     requires open { 0 < array_vec_len frames.old }
-    requires walking { (p : Position) × IsWalking way.aim.goal R.rule half_moves p (reverse frames.old.items) board.old }
-    ensures steps { (p : Position) → IsWalking way.aim.goal R.rule half_moves p (reverse frames.old.items) board.old
+    requires walking { (p : Position) × IsWalking R.rule half_moves p (reverse frames.old.items) board.old }
+    ensures steps { (p : Position) → IsWalking R.rule half_moves p (reverse frames.old.items) board.old
         → Steps R.rule way half_moves p (reverse frames.old.items) (reverse frames.new.items) board.new opened.old opened.new result }
 {
     let Some(top) = frames.pop() else {

@@ -1,4 +1,3 @@
-use Rattle.pop_input.specs.declared.stipulation.Goal.{Goal}
 use Rattle.std.proofs.Common.{length, reverse}
 use Rattle.chess_core.specs.Position.{Position}
 use Rattle.pop_solve.specs.Walk.{IsWalking}
@@ -6,8 +5,8 @@ use Rattle.pop_solve.proofs.phases.close_all.Given as goal
 
 abbrev pub invariant-loop-top : goal.invariant-loop-top
 invariant-loop-top g l =
-    (aim : Goal) (p : Position) → IsWalking aim g.R.Rules.rule l.half_moves p (reverse l.fn.frames.items) l.fn.board
-    → IsWalking aim g.R.Rules.rule l.half_moves p (reverse l.frames.items) l.board
+    (p : Position) → IsWalking g.R.Rules.rule l.half_moves p (reverse l.fn.frames.items) l.fn.board
+    → IsWalking g.R.Rules.rule l.half_moves p (reverse l.frames.items) l.board
 
 abbrev pub decreases-loop-top : goal.decreases-loop-top
 decreases-loop-top g l = length l.frames.items

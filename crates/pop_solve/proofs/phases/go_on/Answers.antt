@@ -1,4 +1,5 @@
 use Rattle.std.proofs.Common.{refl, rules}
+use Rattle.pop_solve.specs.Events.{phase_half_moves}
 use Rattle.pop_solve.specs.Phases.{IsStanding}
 use Rattle.pop_solve.proofs.Events as events
 use Rattle.pop_solve.proofs.Opened as opened
@@ -15,24 +16,23 @@ count_with-count-requires-clause-begins g c =
 
 pub event_at-requires : goal.event_at-requires
 unfolding IsStanding
-event_at-requires g c = (
-  search rules,
-  (
-    events.deep-given g.R.Rules.rule c.args.problem.now c.args.phase _ _ _ _ c.requires.standing.1 (rw c.max_solutions-max_solutions.ensures.limit at c.if-walk_on.ensures.walks),
-    events.shallow-given g.R.Rules.rule c.args.problem.now c.args.phase _ _ _ _ c.requires.standing.1 (rw c.max_solutions-max_solutions.ensures.limit at c.if-walk_on.ensures.walks) c.requires.sound,
-  ),
-)
+event_at-requires g c =
+    let w = rw c.max_solutions-max_solutions.ensures.limit at c.if-walk_on.ensures.walks in record {
+      deep = rw c.as_slice.ensures.value (events.deep-given g.R.Rules.rule c.args.problem.now c.args.phase _ _ _ _ c.requires.standing.1 w);
+      shallow = rw c.as_slice.ensures.value (events.shallow-given g.R.Rules.rule c.args.problem.now c.args.phase _ _ _ _ c.requires.standing.1 w c.requires.sound);
+      walking = (phase_half_moves c.args.problem.now c.args.phase, rw c.as_slice.ensures.value w.walking);
+    }
 
 pub returns-then-walk_on-clause-standing : goal.returns-then-walk_on-clause-standing
 unfolding IsStanding
 returns-then-walk_on-clause-standing g c =
-    events.standing-given g.R.Rules.rule c.args.problem.now c.args.phase _ _ _ _ c.requires.standing.1 (rw c.max_solutions-max_solutions.ensures.limit at c.if-walk_on.ensures.walks) _ (rw c.len.ensures.value at c.count_with-count.ensures)
+    rw c.event_at.ensures.unchanged (events.standing-given g.R.Rules.rule c.args.problem.now c.args.phase _ _ _ _ c.requires.standing.1 (rw c.max_solutions-max_solutions.ensures.limit at c.if-walk_on.ensures.walks) _ (rw c.len.ensures.value at c.count_with-count.ensures))
 
 pub returns-then-walk_on-clause-gives : goal.returns-then-walk_on-clause-gives
 unfolding IsStanding
 returns-then-walk_on-clause-gives g c =
-    events.gives-given g.R.Rules.rule c.args.problem.now c.args.phase _ _ _ _ c.requires.standing.1 (rw c.max_solutions-max_solutions.ensures.limit at c.if-walk_on.ensures.walks) _ _ (rw c.len.ensures.value at c.count_with-count.ensures)
-    (c.event_at.ensures c.if-walk_on.ensures.walks.walking.showing)
+    rw c.event_at.ensures.unchanged (events.gives-given g.R.Rules.rule c.args.problem.now c.args.phase _ _ _ _ c.requires.standing.1 (rw c.max_solutions-max_solutions.ensures.limit at c.if-walk_on.ensures.walks) _ _ (rw c.len.ensures.value at c.count_with-count.ensures)
+    (rw c.as_slice.ensures.value at c.event_at.ensures.event))
 
 pub returns-clause-standing : goal.returns-clause-standing
 returns-clause-standing g c =

@@ -6,7 +6,7 @@ use Rattle.pop_solve.proofs.Opened as opened
 use Rattle.pop_solve.proofs.phases.walk_on.Goals as goal
 
 pub loop-frames-init : goal.loop-frames-init
-loop-frames-init g c = (rw (c.way_of-way.ensures, c.phase_half_moves-half_moves.ensures) c.requires.walking, refl, opened.opens-none _ _ _ _ _)
+loop-frames-init g c = (rw c.phase_half_moves-half_moves.ensures c.requires.walking, refl, opened.opens-none _ _ _ _ _)
 
 pub loop-frames-preserved : goal.loop-frames-preserved
 loop-frames-preserved g c =

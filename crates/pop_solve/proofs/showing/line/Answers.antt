@@ -1,0 +1,43 @@
+use Rattle.std.proofs.Common.{◌+◌, refl, sym, ◌∙◌, ap, reverse, arith}
+use Rattle.std.proofs.lemmas.List.{take_all}
+use Rattle.chess_rules.specs.Play.{after as played}
+use Rattle.pop_solve.specs.Frames.{position}
+use Rattle.pop_solve.proofs.Paths as paths
+use Rattle.pop_solve.proofs.showing.line.Goals as goal
+
+pub loop-k-init : goal.loop-k-init
+loop-k-init g c = (
+  λ h p w. (
+    c.new-line.ensures ∙ sym (paths.first-path g.R.Rules.rule c.args.goal p c.args.frames.now),
+    c.take_all_back.ensures.start h p w ∙ sym (paths.first-position g.R.Rules.rule p c.args.frames.now 1 (omega arith)),
+  ),
+  c.take_all_back.ensures.well_formed,
+  rw c.new-line.ensures refl,
+)
+
+pub play_shown-requires-clause-legal : goal.play_shown-requires-clause-legal
+play_shown-requires-clause-legal g c =
+    let w = c.requires.walking in
+    let cut = paths.cut-at c.args.frames.now (c.loop-k.k + 1) c.loop-k.k c.index-frames-k.result refl c.index-frames-k.is c.loop-k-test.true in
+    let some = paths.some-taken c.args.frames.now c.loop-k.k c.loop-k.auto.k (omega arith) in
+    let at = c.loop-k.invariant.0 w.0 w.1 w.2 in
+    rw at.1 (paths.forth-legal g.R.Rules.rule _ _ _ cut some w.1 (paths.linked-take g.R.Rules.rule w.1 c.args.frames.now (c.loop-k.k + 1) w.2.linked))
+
+pub loop-k-preserved : goal.loop-k-preserved
+loop-k-preserved g c = (
+  λ h p w.
+      let cut = paths.cut-at c.args.frames.now (c.loop-k.k + 1) c.loop-k.k c.index-frames-k.result refl c.index-frames-k.is c.loop-k-test.true in
+      let some = paths.some-taken c.args.frames.now c.loop-k.k c.loop-k.auto.k (omega arith) in
+      let at = c.loop-k.invariant.0 h p w in (
+        rw (c.push.ensures.items, c.play_shown.ensures.shown, at.0, at.1) (sym (paths.forth-along g.R.Rules.rule _ _ _ cut some c.args.goal p)),
+        c.play_shown.ensures.after ∙ ap (λ b. played g.R.Rules.rule b c.index-frames-k.result.by) at.1 ∙ sym (paths.forth-position g.R.Rules.rule _ _ _ cut some p),
+      ),
+  c.play_shown.ensures.well_formed,
+  omega (arith, c.push.ensures.len, c.loop-k.invariant.2),
+)
+
+pub returns-clause-unchanged : goal.returns-clause-unchanged
+returns-clause-unchanged g c =
+    let w = c.requires.walking in
+    let at = c.loop-k.invariant.0 w.0 w.1 w.2 in
+    at.1 ∙ ap (λ fs. position g.R.Rules.rule w.1 (reverse fs)) (take_all c.loop-k.k c.args.frames.now (omega arith)) ∙ sym w.2.board_at

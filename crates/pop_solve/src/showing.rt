@@ -1,0 +1,89 @@
+//! The moves that lead to the top frame as they are shown: they are taken back on the board and played again.
+ghost use Rattle.chess_core.specs.Position.{Position};
+ghost use Rattle.chess_core.specs.WellFormed.{IsWellFormed};
+ghost use Rattle.chess_rules.specs.Legal.{legal};
+ghost use Rattle.chess_rules.specs.Play.{after as played};
+ghost use Rattle.pop_solve.specs.Chess.{show};
+ghost use Rattle.pop_solve.specs.Events.{shown_along, shown_last};
+ghost use Rattle.pop_solve.specs.Frames.{CameFrom, CameFromAt};
+ghost use Rattle.pop_solve.specs.Walk.{IsWalking, path};
+ghost use Rattle.std.specs.Prelude.{◌≡◌, ◌≤◌, ℕ, length, reverse, true};
+
+use crate::chess::{mark_of, retract, shown_of};
+use crate::frame::Frame;
+use crate::shown::Shown;
+use arrayvec::ArrayVec;
+use chess_core::board::Board;
+use chess_rules::rules::Rules;
+use pop_input::stipulation::Goal;
+
+/// Takes back the move of a frame.
+fn take_back<R: Rules>(frame: &Frame<R>, board: &mut Board)
+    requires came { CameFrom R.rule frame.now board.old }
+    ensures before { (p : Position) → CameFromAt R.rule frame.now board.old p → board.new ≡ p }
+{
+    retract::<R>(board, frame.by, frame.undo);
+}
+
+/// Plays the move of a frame again, and answers it as it is shown.
+#[tactic(auto, using(chess_rules::proofs::Calls::playing), unfolding(crate::specs::Chess::show))]
+fn play_shown<R: Rules>(goal: Goal, frame: &Frame<R>, board: &mut Board) -> Shown
+    requires well_formed { IsWellFormed board.old }
+    requires legal { legal R.rule board.old frame.now.by ≡ true }
+    ensures shown { result ≡ show goal R.rule board.old frame.now.by }
+    ensures after { board.new ≡ played R.rule board.old frame.now.by }
+    ensures well_formed { IsWellFormed board.new }
+{
+    let by = frame.by;
+    let man = board.man_at(by.from);
+    let there = board.man_at(by.to);
+    let undo = R::play(board, by);
+    let mark = mark_of::<R>(goal, board);
+    shown_of(man, there, &by, &undo, mark)
+}
+
+/// Takes back all moves that lead to the top frame.
+fn take_all_back<R: Rules>(frames: &[Frame<R>], board: &mut Board)
+    requires walking { (h : ℕ) × (p : Position) × IsWalking R.rule h p (reverse frames.now) board.old }
+    ensures start { (h : ℕ) (p : Position) → IsWalking R.rule h p (reverse frames.now) board.old → board.new ≡ p }
+    ensures well_formed { IsWellFormed board.new }
+{
+    let mut k = frames.len();
+    while k > 1 {
+        k -= 1;
+        take_back::<R>(&frames[k], board);
+    }
+}
+
+/// The moves that lead to the top frame.
+pub(crate) fn line<R: Rules>(
+    goal: Goal,
+    frames: &[Frame<R>],
+    board: &mut Board,
+) -> ArrayVec<Shown, 32>
+    requires shallow { length frames.now ≤ 33 }
+    requires walking { (h : ℕ) × (p : Position) × IsWalking R.rule h p (reverse frames.now) board.old }
+    ensures unchanged { board.new ≡ board.old }
+    ensures line { (h : ℕ) (p : Position) → IsWalking R.rule h p (reverse frames.now) board.old
+        → result.items ≡ shown_along goal R.rule p (path (reverse frames.now)) }
+{
+    take_all_back::<R>(frames, board);
+    let mut line = ArrayVec::new();
+    for k in 1..frames.len() {
+        line.push(play_shown::<R>(goal, &frames[k], board));
+    }
+    line
+}
+
+/// The last of them.
+pub(crate) fn last_shown<R: Rules>(goal: Goal, frames: &[Frame<R>], board: &mut Board) -> Shown
+    requires deep { 2 ≤ length frames.now }
+    requires walking { (h : ℕ) × (p : Position) × IsWalking R.rule h p (reverse frames.now) board.old }
+    ensures unchanged { board.new ≡ board.old }
+    ensures shown { (h : ℕ) (p : Position) → IsWalking R.rule h p (reverse frames.now) board.old
+        → result ≡ shown_last goal R.rule p (path (reverse frames.now)) }
+{
+    let top = &frames[frames.len() - 1];
+    take_back::<R>(top, board);
+    play_shown::<R>(goal, top, board)
+}
