@@ -30,6 +30,10 @@ use Rattle.pop_solve.specs.Frames.{Frame, position, AreKnown, IsLinked, IsCut, I
 abbrev pub moved : Frame → ℕ → Frame
 moved f place = record f { place = place }
 
+-- the frame once something is known of its position's moves
+abbrev pub learned : Frame → Option LegalPlace → Frame
+learned f known = record f { known = known }
+
 -- the same in a test
 abbrev pub passed : Frame → ℕ → Stretch → Option LegalPlace → Frame
 passed f place s known = record f { place = place; stretch = s; known = known }

@@ -25,17 +25,6 @@ use chess_rules::play::{Undo, is_castling};
 use chess_rules::rules::{Rules, in_check};
 use pop_input::stipulation::Goal;
 
-/// The next legal move behind the place, which moves on to it.
-pub(crate) fn next_move<R: Rules>(place: &mut Moves<R>, board: &mut Board) -> Option<Move>
-    requires well_formed { IsWellFormed board.old }
-    ensures unchanged { board.new ≡ board.old }
-    ensures next { MatchOption result (moves_behind R.rule board.old place.old ≡ [])
-        (λ m. (moves_behind R.rule board.old place.old ≡ m ∷ moves_behind R.rule board.old place.new)
-        × (legal R.rule board.old m ≡ true)) }
-{
-    place.next(board)
-}
-
 /// The place among the moves of the board's position, of which something may be known already.
 pub(crate) fn moves_at<R: Rules>(
     known: Option<LegalMoves<R>>,
@@ -65,6 +54,27 @@ pub(crate) fn next_behind<R: Rules>(moves: &mut LegalMoves<R>, board: &mut Board
         × (legal R.rule board.old m ≡ true)) }
 {
     moves.next(board)
+}
+
+/// The next legal move behind the place, which moves on to it; what is then known of the position's moves is kept.
+pub(crate) fn next_move<R: Rules>(
+    known: &mut Option<LegalMoves<R>>,
+    place: &mut Moves<R>,
+    board: &mut Board,
+) -> Option<Move>
+    requires well_formed { IsWellFormed board.old }
+    requires known { IfSome known.old (λ k. IsPlaceIn R.rule board.old k) }
+    ensures unchanged { board.new ≡ board.old }
+    ensures within { IfSome known.new (λ k. IsPlaceIn R.rule board.old k) }
+    ensures next { MatchOption result (moves_behind R.rule board.old place.old ≡ [])
+        (λ m. (moves_behind R.rule board.old place.old ≡ m ∷ moves_behind R.rule board.old place.new)
+        × (legal R.rule board.old m ≡ true)) }
+{
+    let mut moves = moves_at::<R>(*known, *place, board);
+    let found = next_behind::<R>(&mut moves, board);
+    *place = moves.place();
+    *known = Some(moves);
+    found
 }
 
 /// The next legal move behind the place that doesn't lie behind `end`.
