@@ -1,16 +1,20 @@
 -- What the calls of the rules say in the words of the search.
 use Rattle.pop_input.specs.declared.stipulation.Goal.{Goal}
 use Rattle.pop_input.specs.declared.stipulation.Goal.TheVariants.{Mate, Stalemate}
-use Rattle.std.proofs.Common.{◌≡◌, ℕ, zero, suc, ◌<◌, ◌≤◌, Bool, true, false, ◌||◌, cond, not, eqb, List, [], ◌∷◌, length, filter, Option, Some, None, is_some, MatchOption, refl, sym, ap, ◌∙◌, arith}
+use Rattle.std.proofs.Common.{◌≡◌, ℕ, zero, suc, ◌-◌, ◌<◌, ◌≤◌, Bool, true, false, ◌||◌, ◌&&◌, cond, not, eqb, List, [], ◌∷◌, ◌++◌, length, filter, Option, Some, None, is_some, MatchOption, refl, sym, ap, ◌∙◌, arith}
 use Rattle.std.proofs.lemmas.Bool.Decides.{nat_tests}
 use Rattle.std.specs.List.{list_any}
 use Rattle.chess_core.specs.Position.{Position}
 use Rattle.chess_core.specs.Triple.{Triple}
-use Rattle.chess_rules.specs.Legal.{is_goal, is_nil, moves}
-use Rattle.chess_rules.specs.Places.{is_mating, mates_behind, moves_behind}
+use Rattle.chess_rules.specs.Attacks.{in_check}
+use Rattle.chess_rules.specs.Legal.{is_goal, is_nil, is_stalemate, legal, moves}
+use Rattle.chess_rules.specs.Places.{is_mating, mates_behind, moves_behind, moves_between}
+use Rattle.chess_rules.proofs.Between.{cut_moves}
 use Rattle.chess_rules.specs.RuleSet.{RuleSet}
-use Rattle.pop_solve.specs.Chess.{chess, is_for_mate}
+use Rattle.pop_solve.specs.Chess.{chess, is_for_mate, is_reached}
 use Rattle.pop_solve.specs.Game.{can_move, some_move as some_good, walk_count}
+use Rattle.pop_solve.specs.Values.{value}
+use Rattle.pop_solve.specs.declared.aim.Battle.{Battle}
 
 is_nil-length : (ms : List Triple) → not (is_nil ms) ≡ not (eqb (length ms) 0)
 is_nil-length [] = refl
@@ -30,9 +34,9 @@ pub for_mate : (goal : Goal) → is_for_mate goal ≡ true → goal ≡ Mate
 for_mate Mate e = refl
 for_mate Stalemate e = absurd cc
 
--- what is said of mates holds of the goal, where it is mate
-pub mate-goal : (rule : RuleSet) (goal : Goal) (p : Position) (v : Bool) → goal ≡ Mate → v ≡ some_good (chess Mate rule) (chess Mate rule).goal p → v ≡ some_good (chess goal rule) (chess goal rule).goal p
-mate-goal rule goal p v for e = rw for e
+-- what is said of mates, with one half-move left, holds where mate is the goal
+pub mate-value : (rule : RuleSet) (battle : Battle) (goal : Goal) (left : ℕ) (p : Position) (v : Bool) → goal ≡ Mate → left ≡ 1 → v ≡ value battle (chess Mate rule) 1 p → v ≡ value battle (chess goal rule) left p
+mate-value rule battle goal left p v for one e = rw (for, one) e
 
 -- the first mate says whether there is one
 pub mate-any : (rule : RuleSet) (p : Position) (next : ℕ) (o : Option Triple) → MatchOption o (mates_behind rule p 0 ≡ []) (λ m. mates_behind rule p 0 ≡ m ∷ mates_behind rule p next) → is_some o ≡ some_good (chess Mate rule) (is_goal rule) p
@@ -62,3 +66,35 @@ pub walk_count-some : {P M : Type 0} (moves : P → List M) (after : P → M →
 unfolding walk_count
 walk_count-some moves after zero p some = absurd (omega (arith, some))
 walk_count-some moves after (suc t) p some = omega arith
+
+-- a move that is found says that there is one, wherever it was looked for
+module _ (goal : Goal) (rule : RuleSet) (p : Position) where
+  some-then : (ms : List Triple) (m : Triple) (more : List Triple) → ms ≡ m ∷ more → not (eqb (length ms) 0) ≡ true
+  some-then ms m more e = rw e (grind (arith, nat_tests))
+
+  some-within : (before here behind : List Triple) (m : Triple) (more : List Triple) → here ≡ m ∷ more → not (eqb (length (before ++ (here ++ behind))) 0) ≡ true
+  some-within [] here behind m more e = rw e (grind (arith, nat_tests))
+  some-within (x ∷ before) here behind m more e = grind (arith, nat_tests)
+
+  pub has_killer : (killer place next : ℕ) (o : Option Triple) → place ≡ killer - 1 → is_some o ≡ true → MatchOption o (moves_between rule p place killer ≡ []) (λ m. (moves_between rule p place killer ≡ m ∷ moves_between rule p next killer) × (legal rule p m ≡ true)) → true ≡ can_move (chess goal rule) p
+  has_killer killer place next None at e found = absurd cc
+  has_killer killer place next (Some m) at e found =
+      rw (cut_moves rule p place killer (omega (arith, at))) (sym (some-within (moves_between rule p 0 place) (moves_between rule p place killer) (moves_behind rule p killer) m _ found.0))
+
+  pub has_first : (place next : ℕ) (o : Option Triple) → place ≡ 0 → MatchOption o (moves_behind rule p place ≡ []) (λ m. (moves_behind rule p place ≡ m ∷ moves_behind rule p next) × (legal rule p m ≡ true)) → is_some o ≡ can_move (chess goal rule) p
+  has_first place next None at found = rw (sym (behind_start rule p) ∙ (rw at at found)) refl
+  has_first place next (Some m) at found = sym (some-then (moves rule p) m _ (sym (behind_start rule p) ∙ (rw at at found.0)))
+
+  -- where there is a move the goal isn't reached
+  pub unreached : can_move (chess goal rule) p ≡ true → is_reached goal rule p ≡ false
+  unfolding is_goal is_stalemate
+  unreached e = by goal (can_move-is goal rule p ∙ e)
+    where
+      pair : (c n : Bool) → not n ≡ true → (c && n) ≡ false
+      pair true true h = absurd cc
+      pair true false h = refl
+      pair false n h = refl
+
+      by : (goal : Goal) → not (is_nil (moves rule p)) ≡ true → is_reached goal rule p ≡ false
+      by Mate h = pair (in_check rule p.men p.turn) (is_nil (moves rule p)) h
+      by Stalemate h = pair (not (in_check rule p.men p.turn)) (is_nil (moves rule p)) h

@@ -14,7 +14,7 @@ use Rattle.pop_solve.specs.declared.event.Phase.{Phase}
 use Rattle.pop_solve.specs.declared.event.Phase.TheVariants.{Set, Play}
 use Rattle.pop_input.specs.Stipulations.{is_help, half_moves}
 use Rattle.pop_solve.proofs.Sound.{in_range}
-use Rattle.pop_solve.specs.Frames.{Frame, position, IsLinked}
+use Rattle.pop_solve.specs.Frames.{AreKnown, Frame, position, IsLinked}
 use Rattle.pop_solve.specs.Game.{reach}
 use Rattle.pop_solve.specs.Walk.{path, IsWalking, IsRoomy}
 use Rattle.pop_solve.specs.Events.{Step, start, is_set, opening, line, tree_node, total, step_of, event_of, StandsOn, phase_start, phase_half_moves, phase_half, shown_along, shown_last, steps_from, phase_steps, is_barred, counted, solutions, events}
@@ -155,9 +155,9 @@ left-begun rule problem Play old new e kept begun =
     let z : 0 + counted rule problem Play ≡ counted rule problem Play = omega arith in
     rw (n, kept, begun, z) refl
 
-pub standing-begun : (rule : RuleSet) (problem : Posed) (phase : Phase) (f : Frame) (board : Position) → f.left ≡ phase_half_moves problem phase → board ≡ phase_start problem phase → IsWellFormed board → IsStanding rule problem (Within phase 0) (f ∷ []) board
-unfolding IsStanding IsLinked IsRoomy position
-standing-begun rule problem phase f board l e sound = (record { linked = tt; roomy = (omega (arith, l), tt); sound = sound; board_at = e }, omega arith)
+pub standing-begun : (rule : RuleSet) (problem : Posed) (phase : Phase) (f : Frame) (board : Position) → f.left ≡ phase_half_moves problem phase → f.known ≡ None → board ≡ phase_start problem phase → IsWellFormed board → IsStanding rule problem (Within phase 0) (f ∷ []) board
+unfolding IsStanding IsLinked IsRoomy AreKnown position
+standing-begun rule problem phase f board l none e sound = (record { linked = tt; roomy = (omega (arith, l), tt); known = (rw none tt, tt); sound = sound; board_at = e }, omega arith)
 
 -- the frames in use
 pub depth-most : (rule : RuleSet) (problem : Posed) (stage : Stage) (frames : List Frame) (board : Position) → IsStanding rule problem stage (reverse frames) board → length frames ≤ half_moves problem.stipulation + 1

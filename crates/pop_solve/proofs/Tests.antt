@@ -2,7 +2,7 @@
 use Rattle.chess_rules.specs.Play.{after as played}
 use Rattle.chess_rules.specs.Legal.{moves as legal_moves}
 use Rattle.pop_solve.specs.declared.aim.Aim.{Aim}
-use Rattle.std.proofs.Common.{◌≡◌, ℕ, zero, suc, ◌+◌, ◌-◌, ◌<◌, ◌≤◌, Bool, true, false, not, ◌&&◌, ◌||◌, cond, Option, Some, None, List, [], ◌∷◌, ◌++◌, length, take, drop, reverse, refl, sym, ◌∙◌, ap, arith, subst, ◌⊎◌, inl, inr, MatchOption, IfNone}
+use Rattle.std.proofs.Common.{◌≡◌, ℕ, zero, suc, ◌+◌, ◌-◌, ◌<◌, ◌≤◌, Bool, true, false, not, ◌&&◌, ◌||◌, cond, Option, Some, None, List, [], ◌∷◌, ◌++◌, length, take, drop, reverse, refl, sym, ◌∙◌, ap, arith, subst, ◌⊎◌, inl, inr, MatchOption, IfNone, IfSome}
 use Rattle.std.proofs.lemmas.List.{reverse-append, length-reverse, length-drop, length-append, drop-append-le, take-append-le, take_all}
 use Rattle.std.proofs.lemmas.Bool.{cases_lt}
 use Rattle.std.proofs.lemmas.List.Folds.{list_any-append, list_all-append}
@@ -15,7 +15,7 @@ use Rattle.chess_rules.proofs.Calls.{pseudo-from_legal}
 use Rattle.chess_rules.proofs.Stays.{after_well_formed}
 use Rattle.chess_rules.specs.Legal.{legal}
 use Rattle.chess_rules.specs.Loss.{Loss}
-use Rattle.chess_rules.specs.Places.{moves_behind, moves_between}
+use Rattle.chess_rules.specs.Places.{IsPlaceIn, LegalPlace, moves_behind, moves_between}
 use Rattle.chess_rules.specs.Play.{undo_of}
 use Rattle.chess_rules.specs.RuleSet.{RuleSet}
 use Rattle.pop_solve.specs.Chess.{chess}
@@ -24,15 +24,19 @@ use Rattle.pop_solve.specs.declared.frame.Stretch.{Stretch}
 use Rattle.pop_solve.specs.declared.frame.Stretch.TheVariants.{First}
 use Rattle.pop_solve.specs.Game.{walk_count}
 use Rattle.pop_solve.specs.Values.{seeks, join, value, joined}
-use Rattle.pop_solve.specs.Frames.{Frame, position, IsLinked, IsCut, IsTesting, deliver, pending, steps, steps_among, work, CameFromAt, CameFrom, tests, Turns, Ends, tested, top_left, walk_among, to_test, ahead, untried}
+use Rattle.pop_solve.specs.Frames.{Frame, position, AreKnown, IsLinked, IsCut, IsOpenedOn, IsTesting, deliver, pending, steps, steps_among, work, CameFromAt, CameFrom, tests, Turns, Ends, tested, top_left, walk_among, to_test, ahead, untried}
 
 -- the frame with its place moved on
 abbrev pub moved : Frame → ℕ → Frame
 moved f place = record f { place = place }
 
+-- the frame once something is known of its position's moves
+abbrev pub learned : Frame → Option LegalPlace → Frame
+learned f known = record f { known = known }
+
 -- the same in a test
-abbrev pub passed : Frame → ℕ → Stretch → Frame
-passed f place s = record f { place = place; stretch = s }
+abbrev pub passed : Frame → ℕ → Stretch → Option LegalPlace → Frame
+passed f place s known = record f { place = place; stretch = s; known = known }
 
 join-decided : (s rest : Bool) → join s s rest ≡ s
 join-decided true rest = refl
@@ -147,32 +151,32 @@ module _ (rule : RuleSet) (aim : Aim) where
   unfolding walk_among
   walk-next t P ms more m e = rw e (sum_by-cons (λ x. walk_count (legal_moves rule) (played rule) t (played rule P x)) m more)
 
-  module _ (p : Position) (f : Frame) (below : List Frame) (next : ℕ) (s : Stretch) (m : Triple) (undo : Loss) (k t : ℕ) (left : f.left ≡ suc t) (e : untried rule (position rule p (f ∷ below)) f ≡ m ∷ ahead rule (position rule p (f ∷ below)) s next f.killer) where
+  module _ (p : Position) (f : Frame) (below : List Frame) (next : ℕ) (s : Stretch) (m : Triple) (undo : Loss) (k t : ℕ) (kn kq : Option LegalPlace) (left : f.left ≡ suc t) (e : untried rule (position rule p (f ∷ below)) f ≡ m ∷ ahead rule (position rule p (f ∷ below)) s next f.killer) where
     abbrev P : Position
     P = position rule p (f ∷ below)
 
     -- the value of the position after the move decides with the moves still untried
-    pub deliver-next : deliver rule aim p below (rest f.left P (untried rule P f)) ≡ deliver rule aim p (passed f next s ∷ below) (value aim.battle (chess aim.goal rule) t (played rule P m))
+    pub deliver-next : deliver rule aim p below (rest f.left P (untried rule P f)) ≡ deliver rule aim p (passed f next s kn ∷ below) (value aim.battle (chess aim.goal rule) t (played rule P m))
     unfolding deliver position
     deliver-next = rw (left, rest-next t P (untried rule P f) (ahead rule P s next f.killer) m e) refl
 
-    pub deliver-open : (v : Bool) → v ≡ joined aim.battle (chess aim.goal rule) t (played rule P m) (legal_moves rule (played rule P m)) → deliver rule aim p (passed f next s ∷ below) v ≡ pending rule aim p (tested k m undo t ∷ (passed f next s ∷ below)) None
+    pub deliver-open : (v : Bool) → v ≡ joined aim.battle (chess aim.goal rule) t (played rule P m) (legal_moves rule (played rule P m)) → deliver rule aim p (passed f next s kn ∷ below) v ≡ pending rule aim p (tested k m undo t kq ∷ (passed f next s kn ∷ below)) None
     unfolding pending position
     deliver-open v d = rw (d, sym (rest-start t (played rule P m) k)) refl
 
-    pub work-settled : work rule p (passed f next s ∷ below) < work rule p (f ∷ below)
+    pub work-settled : work rule p (passed f next s kn ∷ below) < work rule p (f ∷ below)
     unfolding work position
     work-settled = rw (left, steps-next t P (untried rule P f) (ahead rule P s next f.killer) m e) (omega arith)
 
-    pub work-open : work rule p (tested k m undo t ∷ (passed f next s ∷ below)) < work rule p (f ∷ below)
+    pub work-open : work rule p (tested k m undo t kq ∷ (passed f next s kn ∷ below)) < work rule p (f ∷ below)
     unfolding work position
     work-open = rw (left, steps-next t P (untried rule P f) (ahead rule P s next f.killer) m e, steps-start t (played rule P m) k) (omega arith)
 
-    pub open-settled : walk_count (legal_moves rule) (played rule) t (played rule P m) + to_test rule p (passed f next s ∷ below) ≤ to_test rule p (f ∷ below)
+    pub open-settled : walk_count (legal_moves rule) (played rule) t (played rule P m) + to_test rule p (passed f next s kn ∷ below) ≤ to_test rule p (f ∷ below)
     unfolding to_test position
     open-settled = rw (left, walk-next t P (untried rule P f) (ahead rule P s next f.killer) m e) (omega arith)
 
-    pub open-open : 0 < t → 1 + to_test rule p (tested k m undo t ∷ (passed f next s ∷ below)) ≤ to_test rule p (f ∷ below)
+    pub open-open : 0 < t → 1 + to_test rule p (tested k m undo t kq ∷ (passed f next s kn ∷ below)) ≤ to_test rule p (f ∷ below)
     unfolding to_test position
     open-open some = rw (left, walk-next t P (untried rule P f) (ahead rule P s next f.killer) m e, walk_count-start t (played rule P m) k some) (omega arith)
 
@@ -203,11 +207,11 @@ module _ (rule : RuleSet) (p : Position) where
   CameFrom-deep f (g ∷ below) board r deep = (position rule p (g ∷ below), CameFrom-top f g below board r)
 
   pub testing-close : (f : Frame) (below : List Frame) (board after : Position) → IsTesting rule p (f ∷ below) board → 0 < length below → ((q : Position) → CameFromAt rule f board q → after ≡ q) → IsTesting rule p below after
-  unfolding IsLinked IsCut position
+  unfolding IsLinked IsCut AreKnown position
   testing-close f [] board after r deep before = absurd (omega (arith, deep))
   testing-close f (g ∷ below) board after r deep before =
       let back = before _ (CameFrom-top f g below board r) in
-      record { linked = r.linked.3; cut = r.cut.2; sound = rw back r.linked.0; board_at = back }
+      record { linked = r.linked.3; cut = r.cut.2; known = r.known.1; sound = rw back r.linked.0; board_at = back }
 
   pub room-close : (f : Frame) (below : List Frame) (board : Position) → IsTesting rule p (f ∷ below) board → 0 < length below → f.left + 1 ≡ top_left below
   unfolding IsCut
@@ -219,19 +223,21 @@ module _ (rule : RuleSet) (p : Position) where
   lowest-back f [] board r none = r.board_at
   lowest-back f (g ∷ below) board r none = absurd (omega (arith, none))
 
-  pub testing-settled : (f : Frame) (next : ℕ) (s : Stretch) (below : List Frame) (board : Position) → IsTesting rule p (f ∷ below) board → IsTesting rule p (passed f next s ∷ below) board
-  unfolding IsLinked IsCut position
-  testing-settled f next s [] board r = record { linked = tt; cut = r.cut; sound = r.sound; board_at = r.board_at }
-  testing-settled f next s (g ∷ below) board r = record { linked = r.linked; cut = r.cut; sound = r.sound; board_at = r.board_at }
+  pub testing-settled : (f : Frame) (next : ℕ) (s : Stretch) (kn : Option LegalPlace) (below : List Frame) (board : Position) → IsTesting rule p (f ∷ below) board → IfSome kn (IsPlaceIn rule board) → IsTesting rule p (passed f next s kn ∷ below) board
+  unfolding IsLinked IsCut AreKnown position
+  testing-settled f next s kn [] board r w = record { linked = tt; cut = r.cut; known = (rw (← r.board_at) w, tt); sound = r.sound; board_at = r.board_at }
+  testing-settled f next s kn (g ∷ below) board r w =
+      record { linked = r.linked; cut = r.cut; known = (rw (← r.board_at) w, r.known.1); sound = r.sound; board_at = r.board_at }
 
-  pub testing-open : (f : Frame) (next : ℕ) (s : Stretch) (m : Triple) (k t : ℕ) (below : List Frame) (board : Position) → IsTesting rule p (f ∷ below) board → legal rule board m ≡ true → 0 < t → f.left ≡ suc t → IsTesting rule p (tested k m (undo_of rule board m) t ∷ (passed f next s ∷ below)) (played rule board m)
-  unfolding IsLinked IsCut position
-  testing-open f next s m k t below board r lawful some left =
-      let settled = testing-settled f next s below board r in
-      let at : board ≡ position rule p (passed f next s ∷ below) = settled.board_at in
+  pub testing-open : (f : Frame) (next : ℕ) (s : Stretch) (m : Triple) (k t : ℕ) (kn kq : Option LegalPlace) (below : List Frame) (board : Position) → IsTesting rule p (f ∷ below) board → legal rule board m ≡ true → 0 < t → f.left ≡ suc t → IfSome kn (IsPlaceIn rule board) → IfSome kq (IsPlaceIn rule (played rule board m)) → IsTesting rule p (tested k m (undo_of rule board m) t kq ∷ (passed f next s kn ∷ below)) (played rule board m)
+  unfolding IsLinked IsCut AreKnown position
+  testing-open f next s m k t kn kq below board r lawful some left w wq =
+      let settled = testing-settled f next s kn below board r w in
+      let at : board ≡ position rule p (passed f next s kn ∷ below) = settled.board_at in
       record {
         linked = (rw (← at) settled.sound, rw (← at) lawful, ap (λ b. undo_of rule b m) at, settled.linked);
         cut = (some, omega (arith, left), settled.cut);
+        known = (rw (← at) wq, settled.known);
         sound = after_well_formed rule board m r.sound (pseudo-from_legal rule board m lawful);
         board_at = ap (λ b. played rule b m) at;
       }
@@ -294,7 +300,7 @@ module _ (rule : RuleSet) (aim : Aim) (floor : ℕ) (top : Frame) (old new : Lis
       | inr low ↦ rw (lowest low).0 tt
     ]
 
-  module _ (place : ℕ) (s : Stretch) (m : Triple) (k : ℕ) (board after : Position) (N : ℕ) (was : Option Bool) (last : List Frame) (some : 0 < top.left) (open_yet : (was ≡ None) ⊎ (was ≡ Some (not (seeks aim.battle top.left)))) (next : untried rule board top ≡ m ∷ ahead rule board s place top.killer) (lawful : legal rule board m ≡ true) where
+  module _ (place : ℕ) (s : Stretch) (kn : Option LegalPlace) (m : Triple) (k : ℕ) (board after : Position) (N : ℕ) (was : Option Bool) (last : List Frame) (some : 0 < top.left) (open_yet : (was ≡ None) ⊎ (was ≡ Some (not (seeks aim.battle top.left)))) (next : untried rule board top ≡ m ∷ ahead rule board s place top.killer) (lawful : legal rule board m ≡ true) (within : IfSome kn (IsPlaceIn rule board)) where
     -- what `descend` leaves
     abbrev pub Descends : Option Bool → Type 0
     Descends is =
@@ -302,71 +308,75 @@ module _ (rule : RuleSet) (aim : Aim) (floor : ℕ) (top : Frame) (old new : Lis
         ((0 < top.left - 1)
         × (value aim.battle (chess aim.goal rule) (top.left - 1) (played rule board m) ≡ joined aim.battle (chess aim.goal rule) (top.left - 1) (played rule board m) (legal_moves rule (played rule board m)))
         × (after ≡ played rule board m)
-        × (last ≡ (new ++ passed top place s ∷ []) ++ tested k m (undo_of rule board m) (top.left - 1) ∷ []))
-        (λ v. (v ≡ value aim.battle (chess aim.goal rule) (top.left - 1) (played rule board m)) × (after ≡ board) × (last ≡ new ++ passed top place s ∷ []))
+        × IsOpenedOn rule (played rule board m) (new ++ passed top place s kn ∷ []) last k m (undo_of rule board m) (top.left - 1))
+        (λ v. (v ≡ value aim.battle (chess aim.goal rule) (top.left - 1) (played rule board m)) × (after ≡ board) × (last ≡ new ++ passed top place s kn ∷ []))
 
     left_is : top.left ≡ suc (top.left - 1)
     left_is = omega (arith, some)
 
-    mid_is : tests floor (new ++ passed top place s ∷ []) ≡ passed top place s ∷ tests floor new
-    mid_is = tests-push floor new (passed top place s) low_new
+    mid_is : tests floor (new ++ passed top place s kn ∷ []) ≡ passed top place s kn ∷ tests floor new
+    mid_is = tests-push floor new (passed top place s kn) low_new
 
-    low_mid : floor ≤ length (new ++ passed top place s ∷ [])
-    low_mid = omega (arith, low_new, length-append new (passed top place s ∷ []))
+    low_mid : floor ≤ length (new ++ passed top place s kn ∷ [])
+    low_mid = omega (arith, low_new, length-append new (passed top place s kn ∷ []))
 
-    base_mid : take floor (new ++ passed top place s ∷ []) ≡ take floor old
-    base_mid = take-append-le floor new (passed top place s ∷ []) low_new ∙ base_new
+    base_mid : take floor (new ++ passed top place s kn ∷ []) ≡ take floor old
+    base_mid = take-append-le floor new (passed top place s kn ∷ []) low_new ∙ base_new
 
     pub descend_turns : (is : Option Bool) → Descends is → (before count : ℕ) → MatchOption is (count ≤ before + 1) (λ _. count ≤ before + walk_count (legal_moves rule) (played rule) (top.left - 1) (played rule board m)) → (p : Position) → IsTesting rule p (tests floor old) board → Turns rule aim floor p old last was is after before count
     descend_turns None d before count o p r =
         let at : board ≡ position rule p (top ∷ tests floor new) = (testing_top p board r).board_at in
         let here : untried rule (position rule p (top ∷ tests floor new)) top ≡ m ∷ ahead rule (position rule p (top ∷ tests floor new)) s place top.killer = rw (← at) next in
-        let last_is : tests floor last ≡ tested k m (undo_of rule board m) (top.left - 1) ∷ (passed top place s ∷ tests floor new) = ap (tests floor) d.3 ∙ tests-push floor (new ++ passed top place s ∷ []) _ low_mid ∙ ap (λ fs. tested k m (undo_of rule board m) (top.left - 1) ∷ fs) mid_is in
+        let last_is : tests floor last ≡ tested k m (undo_of rule board m) (top.left - 1) d.3.known ∷ (passed top place s kn ∷ tests floor new) = ap (tests floor) d.3.added ∙ tests-push floor (new ++ passed top place s kn ∷ []) _ low_mid ∙ ap (λ fs. tested k m (undo_of rule board m) (top.left - 1) d.3.known ∷ fs) mid_is in
         record {
-          testing = rw (last_is, d.2) (testing-open rule p top place s m k (top.left - 1) (tests floor new) board (testing_top p board r) lawful d.0 left_is);
+          testing = rw (last_is, d.2) (testing-open rule p top place s m k (top.left - 1) kn d.3.known (tests floor new) board (testing_top p board r) lawful d.0 left_is within d.3.within);
           same = ap (λ fs. pending rule aim p fs was) popped
               ∙ pending-undecided rule aim p top (tests floor new) was open_yet
-              ∙ deliver-next rule aim p top (tests floor new) place s m (undo_of rule board m) k (top.left - 1) left_is here
-              ∙ deliver-open rule aim p top (tests floor new) place s m (undo_of rule board m) k (top.left - 1) left_is here _ (rw (← at) d.1)
+              ∙ deliver-next rule aim p top (tests floor new) place s m (undo_of rule board m) k (top.left - 1) kn d.3.known left_is here
+              ∙ deliver-open rule aim p top (tests floor new) place s m (undo_of rule board m) k (top.left - 1) kn d.3.known left_is here _ (rw (← at) d.1)
               ∙ ap (λ fs. pending rule aim p fs None) (sym last_is);
-          falls = rw (last_is, popped) (work-open rule aim p top (tests floor new) place s m (undo_of rule board m) k (top.left - 1) left_is here);
-          above = omega (arith, ap length d.3, length-append (new ++ passed top place s ∷ []) (tested k m (undo_of rule board m) (top.left - 1) ∷ []), low_mid);
-          base = ap (take floor) d.3 ∙ take-append-le floor (new ++ passed top place s ∷ []) _ low_mid ∙ base_mid;
-          counted = rw (last_is, popped) (omega (arith, o, open-open rule aim p top (tests floor new) place s m (undo_of rule board m) k (top.left - 1) left_is here d.0));
+          falls = rw (last_is, popped) (work-open rule aim p top (tests floor new) place s m (undo_of rule board m) k (top.left - 1) kn d.3.known left_is here);
+          above = omega (arith, ap length d.3.added, length-append (new ++ passed top place s kn ∷ []) (tested k m (undo_of rule board m) (top.left - 1) d.3.known ∷ []), low_mid);
+          base = ap (take floor) d.3.added ∙ take-append-le floor (new ++ passed top place s kn ∷ []) _ low_mid ∙ base_mid;
+          counted = rw (last_is, popped) (omega (arith, o, open-open rule aim p top (tests floor new) place s m (undo_of rule board m) k (top.left - 1) kn d.3.known left_is here d.0));
         }
     descend_turns (Some v) d before count o p r =
         let at : board ≡ position rule p (top ∷ tests floor new) = (testing_top p board r).board_at in
         let here : untried rule (position rule p (top ∷ tests floor new)) top ≡ m ∷ ahead rule (position rule p (top ∷ tests floor new)) s place top.killer = rw (← at) next in
-        let last_is : tests floor last ≡ passed top place s ∷ tests floor new = ap (tests floor) d.2 ∙ mid_is in
+        let last_is : tests floor last ≡ passed top place s kn ∷ tests floor new = ap (tests floor) d.2 ∙ mid_is in
         record {
-          testing = rw (last_is, d.1) (testing-settled rule p top place s (tests floor new) board (testing_top p board r));
+          testing = rw (last_is, d.1) (testing-settled rule p top place s kn (tests floor new) board (testing_top p board r) within);
           same = ap (λ fs. pending rule aim p fs was) popped
               ∙ pending-undecided rule aim p top (tests floor new) was open_yet
-              ∙ deliver-next rule aim p top (tests floor new) place s m (undo_of rule board m) k (top.left - 1) left_is here
-              ∙ ap (deliver rule aim p (passed top place s ∷ tests floor new)) (rw (← at) (sym d.0))
-              ∙ deliver-some rule aim p (passed top place s ∷ tests floor new) v (omega arith)
+              ∙ deliver-next rule aim p top (tests floor new) place s m (undo_of rule board m) k (top.left - 1) kn None left_is here
+              ∙ ap (deliver rule aim p (passed top place s kn ∷ tests floor new)) (rw (← at) (sym d.0))
+              ∙ deliver-some rule aim p (passed top place s kn ∷ tests floor new) v (omega arith)
               ∙ ap (λ fs. pending rule aim p fs (Some v)) (sym last_is);
-          falls = rw (last_is, popped) (work-settled rule aim p top (tests floor new) place s m (undo_of rule board m) k (top.left - 1) left_is here);
-          above = omega (arith, ap length d.2, length-append new (passed top place s ∷ []), low_new);
+          falls = rw (last_is, popped) (work-settled rule aim p top (tests floor new) place s m (undo_of rule board m) k (top.left - 1) kn None left_is here);
+          above = omega (arith, ap length d.2, length-append new (passed top place s kn ∷ []), low_new);
           base = ap (take floor) d.2 ∙ base_mid;
-          counted = rw (last_is, popped) (omega (arith, o, ap (λ b. walk_count (legal_moves rule) (played rule) (top.left - 1) (played rule b m)) at, open-settled rule aim p top (tests floor new) place s m (undo_of rule board m) k (top.left - 1) left_is here));
+          counted = rw (last_is, popped) (omega (arith, o, ap (λ b. walk_count (legal_moves rule) (played rule) (top.left - 1) (played rule b m)) at, open-settled rule aim p top (tests floor new) place s m (undo_of rule board m) k (top.left - 1) kn None left_is here));
         }
 
     pub descend_room : (is : Option Bool) → Descends is → top_left (tests floor old) + length old ≤ N + 1 → top_left (tests floor last) + length last ≤ N + 1
     descend_room None d room =
-        let last_is : tests floor last ≡ tested k m (undo_of rule board m) (top.left - 1) ∷ (passed top place s ∷ tests floor new) = ap (tests floor) d.3 ∙ tests-push floor (new ++ passed top place s ∷ []) _ low_mid ∙ ap (λ fs. tested k m (undo_of rule board m) (top.left - 1) ∷ fs) mid_is in
+        let last_is : tests floor last ≡ tested k m (undo_of rule board m) (top.left - 1) d.3.known ∷ (passed top place s kn ∷ tests floor new) = ap (tests floor) d.3.added ∙ tests-push floor (new ++ passed top place s kn ∷ []) _ low_mid ∙ ap (λ fs. tested k m (undo_of rule board m) (top.left - 1) d.3.known ∷ fs) mid_is in
         let t : top_left (tests floor old) ≡ top.left = ap top_left popped in
         let u : top_left (tests floor last) ≡ top.left - 1 = ap top_left last_is in
-        omega (arith, t, u, room, len, some, ap length d.3, length-append (new ++ passed top place s ∷ []) (tested k m (undo_of rule board m) (top.left - 1) ∷ []), length-append new (passed top place s ∷ []))
+        omega (arith, t, u, room, len, some, ap length d.3.added, length-append (new ++ passed top place s kn ∷ []) (tested k m (undo_of rule board m) (top.left - 1) d.3.known ∷ []), length-append new (passed top place s kn ∷ []))
     descend_room (Some v) d room =
-        let last_is : tests floor last ≡ passed top place s ∷ tests floor new = ap (tests floor) d.2 ∙ mid_is in
+        let last_is : tests floor last ≡ passed top place s kn ∷ tests floor new = ap (tests floor) d.2 ∙ mid_is in
         let t : top_left (tests floor old) ≡ top.left = ap top_left popped in
         let u : top_left (tests floor last) ≡ top.left = ap top_left last_is in
-        omega (arith, t, u, room, len, ap length d.2, length-append new (passed top place s ∷ []))
+        omega (arith, t, u, room, len, ap length d.2, length-append new (passed top place s kn ∷ []))
 
   -- what the top frame asks of the calls
   pub top_some : (p board : Position) → IsTesting rule p (tests floor old) board → 0 < top.left
   top_some p board r = top_cut rule p top (tests floor new) board (testing_top p board r)
+
+  pub top_known : (p board : Position) → IsTesting rule p (tests floor old) board → IfSome top.known (IsPlaceIn rule board)
+  unfolding AreKnown
+  top_known p board r = let f = testing_top p board r in rw f.board_at f.known.0
 
   pub top_room : (N : ℕ) → top_left (tests floor old) + length old ≤ N + 1 → length new + top.left ≤ N
   top_room N room = let t : top_left (tests floor old) ≡ top.left = ap top_left popped in omega (arith, t, room, len)
@@ -399,15 +409,15 @@ pub record IsUnderway (rule : RuleSet) (aim : Aim) (floor : ℕ) (p : Position) 
   pub base : take floor frames ≡ under
 
 module _ (rule : RuleSet) (aim : Aim) where
-  pub begins : (floor : ℕ) (p : Position) (N left k : ℕ) (board : Position) (before count : ℕ) (by : Triple) (undo : Loss) (under frames : List Frame) → floor ≡ length under → frames ≡ under ++ tested k by undo left ∷ [] → floor + left ≤ N → count ≤ before + 1 → board ≡ p → IsWellFormed board → (0 < left) × (value aim.battle (chess aim.goal rule) left p ≡ joined aim.battle (chess aim.goal rule) left p (legal_moves rule p)) → IsUnderway rule aim floor p N (value aim.battle (chess aim.goal rule) left p) under frames None board count (before + walk_count (legal_moves rule) (played rule) left p)
-  unfolding pending deliver IsLinked IsCut position to_test
-  begins floor p N left k board before count by undo under frames low put room more at sound d =
+  pub begins : (floor : ℕ) (p : Position) (N left k : ℕ) (board : Position) (before count : ℕ) (by : Triple) (undo : Loss) (under frames : List Frame) (kn : Option LegalPlace) → floor ≡ length under → frames ≡ under ++ tested k by undo left kn ∷ [] → IfSome kn (IsPlaceIn rule p) → floor + left ≤ N → count ≤ before + 1 → board ≡ p → IsWellFormed board → (0 < left) × (value aim.battle (chess aim.goal rule) left p ≡ joined aim.battle (chess aim.goal rule) left p (legal_moves rule p)) → IsUnderway rule aim floor p N (value aim.battle (chess aim.goal rule) left p) under frames None board count (before + walk_count (legal_moves rule) (played rule) left p)
+  unfolding pending deliver IsLinked IsCut AreKnown position to_test
+  begins floor p N left k board before count by undo under frames kn low put within room more at sound d =
       let none : tests floor under ≡ [] = nil_of (tests floor under) (omega (arith, length-tests floor under, low)) in
-      let one : tests floor frames ≡ tested k by undo left ∷ [] = ap (tests floor) put ∙ tests-push floor under _ (omega (arith, low)) ∙ ap (λ fs. tested k by undo left ∷ fs) none in
-      let n = length-append under (tested k by undo left ∷ []) in
+      let one : tests floor frames ≡ tested k by undo left kn ∷ [] = ap (tests floor) put ∙ tests-push floor under _ (omega (arith, low)) ∙ ap (λ fs. tested k by undo left kn ∷ fs) none in
+      let n = length-append under (tested k by undo left kn ∷ []) in
       record {
         counted = rw one (omega (arith, more, walk_count-start rule aim left p k d.0));
-        testing = rw one (record { linked = tt; cut = d.0; sound = sound; board_at = at });
+        testing = rw one (record { linked = tt; cut = d.0; known = (within, tt); sound = sound; board_at = at });
         same = rw (one, rest-start rule aim left p k) (sym d.1);
         above = omega (arith, ap length put, n, low);
         room = let t : top_left (tests floor frames) ≡ left = ap top_left one in omega (arith, t, ap length put, n, low, room);

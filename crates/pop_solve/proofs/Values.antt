@@ -1,8 +1,11 @@
 -- The value of a position by what its tests say.
 use Rattle.pop_solve.specs.declared.aim.Battle.{Battle}
-use Rattle.std.proofs.Common.{◌≡◌, ℕ, zero, suc, ◌%◌, ◌<◌, Bool, true, false, ◌&&◌, ◌||◌, cond, refl, arith}
+use Rattle.pop_solve.specs.declared.aim.Battle.TheVariants.{Direct, Selfmate}
+use Rattle.std.proofs.Common.{◌≡◌, ℕ, zero, suc, ◌%◌, ◌<◌, Bool, true, false, ◌&&◌, ◌||◌, cond, not, List, [], ◌∷◌, length, refl, arith}
+use Rattle.std.proofs.lemmas.Bool.Decides.{nat_tests}
+use Rattle.std.specs.List.{list_any}
 use Rattle.std.specs.Prelude.{◌==◌}
-use Rattle.pop_solve.specs.Game.{Game, can_move, some_move}
+use Rattle.pop_solve.specs.Game.{Game, can_move, every_move, some_move}
 use Rattle.pop_solve.specs.Values.{seeks, value, joined}
 
 module _ {P M : Type 0} (battle : Battle) (game : Game P M) where
@@ -10,33 +13,65 @@ module _ {P M : Type 0} (battle : Battle) (game : Game P M) where
   cases e true c a b h k = rw h refl
   cases e false c a b h k = rw (h, k) refl
 
-  stuck : (e s c a b : Bool) → e ≡ false → (s || c) ≡ false → (e || cond s a (c && b)) ≡ false
-  stuck e true c a b h k = cc
-  stuck e false c a b h k = rw (h, k) refl
-
-  pub value-end : (t : ℕ) (p : P) → (t % 2 == 0 && game.goal p) ≡ true → value battle game t p ≡ true
+  pub value-last : (t : ℕ) (p : P) → t ≡ 0 → value battle game t p ≡ game.goal p
   unfolding value
-  value-end zero p e = e
-  value-end (suc t) p e = rw e refl
+  value-last zero p z = refl
+  value-last (suc t) p z = absurd (omega (arith, z))
 
-  pub value-last : (t : ℕ) (p : P) → t ≡ 0 → (t % 2 == 0 && game.goal p) ≡ false → value battle game t p ≡ false
+  pub both : (a b : Bool) → (a && b) ≡ true → (a ≡ true) × (b ≡ true)
+  both true true e = (refl, refl)
+  both true false e = absurd cc
+  both false b e = absurd cc
+
+  odd-only : (t : ℕ) (g : Bool) → (t % 2 == 1) ≡ true → (t % 2 == 0 && g) ≡ false
+  odd-only t g e = rw (odd (t % 2) e) refl
+    where
+      odd : (n : ℕ) → (n == 1) ≡ true → (n == 0) ≡ false
+      odd n e = grind (arith, nat_tests, e)
+
+  -- the last half-move
+  pub value-mates : (p : P) → battle ≡ Direct → value battle game 1 p ≡ some_move game game.goal p
   unfolding value
-  value-last zero p z e = e
-  value-last (suc t) p z e = absurd (omega (arith, z))
+  value-mates p is = rw is refl
 
-  -- White's last half-move
-  pub value-mate : (t : ℕ) (p : P) → t ≡ 1 → seeks battle t ≡ true → value battle game t p ≡ some_move game game.goal p
+  pub value-forced : (p : P) → battle ≡ Selfmate → value battle game 1 p ≡ (can_move game p && every_move game game.goal p)
   unfolding value
-  value-mate zero p one e = cc
-  value-mate (suc zero) p one e = rw e refl
-  value-mate (suc (suc t)) p one e = absurd (omega (arith, one))
+  value-forced p is = rw is refl
 
-  pub value-stuck : (t : ℕ) (p : P) → 0 < t → (t % 2 == 0 && game.goal p) ≡ false → (seeks battle t || can_move game p) ≡ false → value battle game t p ≡ false
-  unfolding value
-  value-stuck zero p some e k = absurd (omega (arith, some))
-  value-stuck (suc t) p some e k = stuck _ (seeks battle (suc t)) _ _ _ e k
-
-  pub value-open : (t : ℕ) (p : P) → 0 < t → (t % 2 == 0 && game.goal p) ≡ false → (seeks battle t || can_move game p) ≡ true → value battle game t p ≡ joined battle game t p (game.moves p)
+  value-joined : (t : ℕ) (p : P) → 0 < t → (t % 2 == 0 && game.goal p) ≡ false → (seeks battle t || can_move game p) ≡ true → value battle game t p ≡ joined battle game t p (game.moves p)
   unfolding value joined
-  value-open zero p some e k = absurd (omega (arith, some))
-  value-open (suc t) p some e k = cases _ (seeks battle (suc t)) _ _ _ e k
+  value-joined zero p some e k = absurd (omega (arith, some))
+  value-joined (suc t) p some e k = cases _ (seeks battle (suc t)) _ _ _ e k
+
+  -- White with a half-move that nothing ends before
+  pub value-free : (t : ℕ) (p : P) → 0 < t → (t % 2 == 1 && seeks battle t) ≡ true → value battle game t p ≡ joined battle game t p (game.moves p)
+  value-free t p some e =
+      let b = both (t % 2 == 1) (seeks battle t) e in
+      value-joined t p some (odd-only t (game.goal p) b.0) (rw b.1 refl)
+
+  -- with a move, and the goal not reached
+  pub value-open : (t : ℕ) (p : P) → 0 < t → can_move game p ≡ true → game.goal p ≡ false → value battle game t p ≡ joined battle game t p (game.moves p)
+  value-open t p some k e = value-joined t p some (rw e (and_false (t % 2 == 0))) (rw k (or_true (seeks battle t)))
+    where
+      and_false : (b : Bool) → (b && false) ≡ false
+      and_false true = refl
+      and_false false = refl
+
+      or_true : (b : Bool) → (b || true) ≡ true
+      or_true true = refl
+      or_true false = refl
+
+  -- without a move
+  pub value-stuck : (t : ℕ) (p : P) → 0 < t → can_move game p ≡ false → value battle game t p ≡ (t % 2 == 0 && game.goal p)
+  unfolding value
+  value-stuck zero p some k = absurd (omega (arith, some))
+  value-stuck (suc t) p some k = stuck _ (seeks battle (suc t)) (can_move game p) _ (game.moves p) k (none (game.moves p) k)
+    where
+      none : (ms : List M) → not (length ms == 0) ≡ false → ms ≡ []
+      none [] e = refl
+      none (m ∷ ms) e = absurd (grind (arith, nat_tests, e))
+
+      stuck : (e s c b : Bool) (ms : List M) → c ≡ false → ms ≡ [] → (e || cond s (list_any (λ m. value battle game t (game.after p m)) ms) (c && b)) ≡ e
+      stuck true s c b ms h k = refl
+      stuck false true c b ms h k = rw k refl
+      stuck false false c b ms h k = rw h refl

@@ -4,7 +4,7 @@ use Rattle.pop_solve.specs.declared.aim.Battle.TheVariants.{Direct, Selfmate}
 use Rattle.pop_input.specs.declared.stipulation.Goal.TheVariants.{Mate}
 use Rattle.chess_rules.specs.Play.{after as played}
 use Rattle.chess_rules.specs.Legal.{moves as legal_moves}
-use Rattle.std.proofs.Common.{◌≡◌, ℕ, zero, suc, ◌+◌, ◌-◌, ◌*◌, ◌/◌, ◌%◌, ◌<◌, ◌≤◌, ◌^◌, min, Bool, true, false, not, ◌&&◌, ◌||◌, eqb, cond, List, [], ◌∷◌, ◌++◌, length, filter, map, reverse, Option, Some, None, MatchOption, refl, sym, ◌∙◌, ap, append_assoc, arith, subst, ◌⊎◌, inl, inr}
+use Rattle.std.proofs.Common.{◌≡◌, ℕ, zero, suc, ◌+◌, ◌-◌, ◌*◌, ◌/◌, ◌%◌, ◌<◌, ◌≤◌, ◌^◌, min, Bool, true, false, not, ◌&&◌, ◌||◌, eqb, cond, List, [], ◌∷◌, ◌++◌, length, filter, map, reverse, Option, Some, None, IfSome, MatchOption, refl, sym, ◌∙◌, ap, append_assoc, arith, subst, ◌⊎◌, inl, inr}
 use Rattle.std.proofs.lemmas.List.{map-append, reverse-append, length-reverse}
 use Rattle.std.proofs.lemmas.Bool.{cond-true, cond-false}
 use Rattle.std.proofs.lemmas.List.Sums.{sum_by-append, sum_by-cons}
@@ -17,17 +17,17 @@ use Rattle.chess_rules.proofs.Places.{moves_behind-end}
 use Rattle.chess_rules.proofs.Stays.{after_well_formed}
 use Rattle.chess_rules.specs.Legal.{is_goal, legal}
 use Rattle.chess_rules.specs.Loss.{Loss}
-use Rattle.chess_rules.specs.Places.{IsNextMate, is_mating, mates_behind, moves_behind}
+use Rattle.chess_rules.specs.Places.{IsNextMate, IsPlaceIn, LegalPlace, is_mating, mates_behind, moves_behind}
 use Rattle.chess_rules.specs.Play.{undo_of}
 use Rattle.chess_rules.specs.RuleSet.{RuleSet}
 use Rattle.pop_solve.specs.Chess.{chess}
 use Rattle.pop_solve.proofs.Boards.{behind_start}
 use Rattle.pop_solve.specs.Game.{Game, walk_count}
 use Rattle.pop_solve.specs.Values.{seeks, value}
-use Rattle.pop_solve.specs.Frames.{Frame, position, IsLinked, CameFromAt, CameFrom, opened, opened as opened_frame, steps, steps_behind, walk_behind, to_open}
+use Rattle.pop_solve.specs.Frames.{AreKnown, Frame, position, IsLinked, CameFromAt, CameFrom, opened, opened as opened_frame, steps, steps_behind, walk_behind, to_open}
 use Rattle.pop_solve.specs.Walk.{fewest, first_from, open_length, follows, gives, goes_on, shown, path, GoesTo, to_come, IsRoomy, IsWalking, turns, IsCounted, IsWhites, Steps}
 use Rattle.pop_solve.specs.declared.walk.Way.{Way}
-use Rattle.pop_solve.proofs.Tests.{moved}
+use Rattle.pop_solve.proofs.Tests.{learned, moved}
 
 pub cases : (b : Bool) → (b ≡ false) ⊎ (b ≡ true)
 cases false = inl refl
@@ -300,16 +300,28 @@ module _ (rule : RuleSet) (h : ℕ) (p : Position) where
   CameFrom-deep f (g ∷ below) board r deep = (position rule p (g ∷ below), CameFrom-top f g below board r)
 
   pub walking-close : (f : Frame) (below : List Frame) (board after : Position) → IsWalking rule h p (f ∷ below) board → (length below ≡ 0 → after ≡ board) → ((q : Position) → 0 < length below → CameFromAt rule f board q → after ≡ q) → IsWalking rule h p below after
-  unfolding IsLinked IsRoomy position
+  unfolding IsLinked IsRoomy AreKnown position
   walking-close f [] board after r lowest before =
-      record { linked = tt; roomy = tt; sound = rw (lowest refl) r.sound; board_at = lowest refl ∙ r.board_at }
+      record { linked = tt; roomy = tt; known = tt; sound = rw (lowest refl) r.sound; board_at = lowest refl ∙ r.board_at }
   walking-close f (g ∷ below) board after r lowest before =
       let back = before _ (omega arith) (CameFrom-top f g below board r) in
-      record { linked = r.linked.3; roomy = r.roomy.1; sound = rw back r.linked.0; board_at = back }
+      record { linked = r.linked.3; roomy = r.roomy.1; known = r.known.1; sound = rw back r.linked.0; board_at = back }
 
   pub top_room : (f : Frame) (below : List Frame) (board : Position) → IsWalking rule h p (f ∷ below) board → f.left + length below ≤ h
   unfolding IsRoomy
   top_room f below board r = r.roomy.0
+
+  known-moved : (f : Frame) (place : ℕ) (below : List Frame) → AreKnown rule p (f ∷ below) → AreKnown rule p (moved f place ∷ below)
+  unfolding AreKnown position
+  known-moved f place [] k = k
+  known-moved f place (g ∷ below) k = k
+
+  -- the top frame learns something of its position
+  pub walking-learned : (f : Frame) (known : Option LegalPlace) (below : List Frame) (board : Position) → IsWalking rule h p (f ∷ below) board → IfSome known (IsPlaceIn rule board) → IsWalking rule h p (learned f known ∷ below) board
+  unfolding IsLinked IsRoomy AreKnown position
+  walking-learned f known [] board r w = record { linked = tt; roomy = r.roomy; known = (rw (← r.board_at) w, tt); sound = r.sound; board_at = r.board_at }
+  walking-learned f known (g ∷ below) board r w =
+      record { linked = r.linked; roomy = r.roomy; known = (rw (← r.board_at) w, r.known.1); sound = r.sound; board_at = r.board_at }
 
   walking-moved : (way : Way) (f : Frame) (next : ℕ) (below : List Frame) (board after : Position) → IsWalking rule h p (f ∷ below) board → after ≡ board → IsWalking rule h p (moved f next ∷ below) after
   unfolding IsRoomy
@@ -317,18 +329,20 @@ module _ (rule : RuleSet) (h : ℕ) (p : Position) where
       record {
         linked = IsLinked-moved rule way p f next below r.linked;
         roomy = r.roomy;
+        known = known-moved f next below r.known;
         sound = rw e r.sound;
         board_at = e ∙ r.board_at ∙ sym (position-moved rule way p f next below);
       }
 
   walking-enter : (way : Way) (f : Frame) (next : ℕ) (m : Triple) (tried : ℕ) (below : List Frame) (board after : Position) → IsWalking rule h p (f ∷ below) board → tried < f.left → legal rule board m ≡ true → after ≡ played rule board m → IsWalking rule h p (opened m (undo_of rule board m) tried ∷ (moved f next ∷ below)) after
-  unfolding IsLinked IsRoomy position
+  unfolding IsLinked IsRoomy AreKnown position
   walking-enter way f next m tried below board after r less lawful e =
       let s = walking-moved way f next below board board r refl in
       let at : board ≡ position rule p (moved f next ∷ below) = s.board_at in
       record {
         linked = (rw (← at) s.sound, rw (← at) lawful, ap (λ b. undo_of rule b m) at, s.linked);
         roomy = (omega (arith, less, r.roomy.0), s.roomy);
+        known = (tt, s.known);
         sound = rw e (after_well_formed rule board m r.sound (pseudo-from_legal rule board m lawful));
         board_at = e ∙ ap (λ b. played rule b m) at;
       }
@@ -477,6 +491,14 @@ module _ (rule : RuleSet) (way : Way) (h : ℕ) (p : Position) (f : Frame) (belo
     skips-enter after opened opened2 lawful b at more same keys =
         skips _ after opened opened2 _ (steps-enter rule way h p (moved f g.mid) below board (passed_to g.mid) next m t left (rw r.board_at g.here) after opened opened2 lawful b at more same keys)
 
+-- what the top frame knows changes nothing of what is to come
+pub steps-learned : (rule : RuleSet) (way : Way) (h : ℕ) (p : Position) (f : Frame) (known : Option LegalPlace) (below new : List Frame) (after : Position) (opened opened2 : ℕ) (given : Bool) → Steps rule way h p (learned f known ∷ below) new after opened opened2 given → Steps rule way h p (f ∷ below) new after opened opened2 given
+unfolding to_come path position turns to_open IsWhites
+steps-learned rule way h p f known [] new after opened opened2 given s =
+    record { walking = s.walking; come = s.come; deep = s.deep; falls = s.falls; opens = record { whites = s.opens.whites; most = s.opens.most; helped = s.opens.helped; counted = s.opens.counted } }
+steps-learned rule way h p f known (g ∷ below) new after opened opened2 given s =
+    record { walking = s.walking; come = s.come; deep = s.deep; falls = s.falls; opens = record { whites = s.opens.whites; most = s.opens.most; helped = s.opens.helped; counted = s.opens.counted } }
+
 -- a push, and the frames before a frame was taken off, seen from the top
 pub reverse-push : (xs : List Frame) (x : Frame) → reverse (xs ++ x ∷ []) ≡ x ∷ reverse xs
 reverse-push xs x = reverse-append xs (x ∷ [])
@@ -496,7 +518,7 @@ module _ (rule : RuleSet) (way : Way) (h : ℕ) (top : Frame) (old new : List Fr
   walking_top p board now r e =
       let T : List Frame → Type 0 = λ fs. IsWalking rule h p fs board in
       let s = subst T (popped old new top taken) r in
-      record { linked = s.linked; roomy = s.roomy; sound = rw e s.sound; board_at = e ∙ s.board_at }
+      record { linked = s.linked; roomy = s.roomy; known = s.known; sound = rw e s.sound; board_at = e ∙ s.board_at }
 
   pub close_asks : (p board now : Position) (depth : ℕ) → IsWalking rule h p (reverse old) board → now ≡ board → depth ≡ length new → 0 < depth → CameFrom rule top now
   close_asks p board now depth r e d deep = CameFrom-deep rule h p top (reverse new) now (walking_top p board now r e) (omega (arith, depth_is, d, deep))
@@ -511,14 +533,18 @@ module _ (rule : RuleSet) (way : Way) (h : ℕ) (top : Frame) (old new : List Fr
   pub room_left : (p board : Position) → IsWalking rule h p (reverse old) board → top.left + length new ≤ h
   room_left p board r = omega (arith, top_room rule h p top (reverse new) board (walking_top p board board r refl), depth_is)
 
-  module _ (place : ℕ) (m : Triple) (board now : Position) (depth : ℕ) (mid last : List Frame) (at : now ≡ board) (d : depth ≡ length new) (some : (0 < top.left) × GoesTo rule way top.left board top.place (m ∷ moves_behind rule board place) × (legal rule board m ≡ true)) (put : mid ≡ new ++ moved top place ∷ []) where
+  pub top_known : (p board : Position) → IsWalking rule h p (reverse old) board → IfSome top.known (IsPlaceIn rule board)
+  unfolding AreKnown
+  top_known p board r = let s = walking_top p board board r refl in rw s.board_at s.known.0
+
+  module _ (place : ℕ) (known : Option LegalPlace) (m : Triple) (board now : Position) (depth : ℕ) (mid last : List Frame) (at : now ≡ board) (d : depth ≡ length new) (some : (0 < top.left) × GoesTo rule way top.left board top.place (m ∷ moves_behind rule board place) × (legal rule board m ≡ true)) (within : IfSome known (IsPlaceIn rule board)) (put : mid ≡ new ++ moved (learned top known) place ∷ []) where
     abbrev behind : ℕ
     behind = top.left - 1
 
     abbrev arrived : Position
     arrived = played rule now m
 
-    mid_is : reverse mid ≡ moved top place ∷ reverse new
+    mid_is : reverse mid ≡ moved (learned top known) place ∷ reverse new
     mid_is = popped mid new _ put
 
     pub enter_steps : (root given : Bool) (after : Position) (opened opened2 : ℕ) → root ≡ eqb depth 0
@@ -529,7 +555,7 @@ module _ (rule : RuleSet) (way : Way) (h : ℕ) (top : Frame) (old new : List Fr
         → (p : Position) → IsWalking rule h p (reverse old) board → Steps rule way h p (reverse old) (reverse last) after opened opened2 given
     enter_steps root given after opened opened2 flag passes enters more none keys p r =
         let left : top.left ≡ suc behind = omega (arith, some.0) in
-        let r2 = walking_top p board now r at in
+        let r2 = walking-learned rule h p top known (reverse new) now (walking_top p board now r at) (rw at within) in
         let flag2 : eqb (length (reverse new)) 0 ≡ root = zero_test _ _ (depth_is ∙ sym d) ∙ sym flag in
         let lawful : legal rule now m ≡ true = rw at some.2 in
         let T : Position → Type 0 = λ b. GoesTo rule way top.left b top.place (m ∷ moves_behind rule b place) in
@@ -537,10 +563,10 @@ module _ (rule : RuleSet) (way : Way) (h : ℕ) (top : Frame) (old new : List Fr
         elim (cases (follows way (chess way.aim.goal rule) root behind arrived)) [
           | inl passed ↦
               let x = passes passed in
-              rw (popped old new top taken, x.2, mid_is, x.0) (skips-pass rule way h p top (reverse new) now r2 place m behind left next after opened opened2 (rw flag2 passed) x.1 keys)
+              rw (popped old new top taken, x.2, mid_is, x.0) (steps-learned rule way h p top known (reverse new) _ after opened opened2 false (skips-pass rule way h p (learned top known) (reverse new) now r2 place m behind left next after opened opened2 (rw flag2 passed) x.1 keys))
           | inr entered ↦
               let x = enters entered in
-              rw (popped old new top taken, x.2, reverse-push mid, mid_is, x.0) (skips-enter rule way h p top (reverse new) now r2 place m behind left next after opened opened2 lawful (rw flag2 entered) x.1 more none keys)
+              rw (popped old new top taken, x.2, reverse-push mid, mid_is, x.0) (steps-learned rule way h p top known (reverse new) _ after opened opened2 _ (skips-enter rule way h p (learned top known) (reverse new) now r2 place m behind left next after opened opened2 lawful (rw flag2 entered) x.1 more none keys))
         ]
 
 -- a frame is closed, whatever is walked

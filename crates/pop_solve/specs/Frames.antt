@@ -2,14 +2,14 @@
 use Rattle.chess_rules.specs.Play.{after as played}
 use Rattle.chess_rules.specs.Legal.{moves as legal_moves}
 use Rattle.pop_solve.specs.declared.aim.Aim.{Aim}
-use Rattle.std.specs.Prelude.{◌≡◌, ◌<◌, Bool, true, false, Option, Some, None, ℕ, zero, suc, ◌+◌, ◌-◌, ◌≤◌, List, [], ◌∷◌, ◌++◌, length, take, drop, reverse}
+use Rattle.std.specs.Prelude.{◌≡◌, ◌<◌, IfSome, Bool, true, false, Option, Some, None, ℕ, zero, suc, ◌+◌, ◌-◌, ◌≤◌, List, [], ◌∷◌, ◌++◌, length, take, drop, reverse}
 use Rattle.std.specs.List.{sum_by}
 use Rattle.chess_core.specs.Position.{Position}
 use Rattle.chess_core.specs.Triple.{Triple}
 use Rattle.chess_core.specs.WellFormed.{IsWellFormed}
 use Rattle.chess_rules.specs.Legal.{legal}
 use Rattle.chess_rules.specs.Loss.{Loss}
-use Rattle.chess_rules.specs.Places.{moves_behind, moves_between}
+use Rattle.chess_rules.specs.Places.{IsPlaceIn, LegalPlace, moves_behind, moves_between}
 use Rattle.chess_rules.specs.Play.{undo_of}
 use Rattle.chess_rules.specs.RuleSet.{RuleSet}
 use Rattle.pop_solve.specs.Chess.{chess}
@@ -20,7 +20,7 @@ use Rattle.pop_solve.specs.declared.frame.Stretch.TheVariants.{First, Before, Be
 
 -- a frame: the place up to which the moves of its position have been tried, the move that led there and what it
 -- destroyed, and the half-moves that are tried there; in a test the place on the killer, the move that is tried first,
--- and the stretch of moves on which the place stands
+-- and the stretch of moves on which the place stands; and what is known of the position's legal moves
 pub record Frame : Type 0 where
   pub place : ℕ
   pub by : Triple
@@ -28,6 +28,7 @@ pub record Frame : Type 0 where
   pub left : ℕ
   pub killer : ℕ
   pub stretch : Stretch
+  pub known : Option LegalPlace
 
 -- Frames are listed from the top down. The position on the top frame, the lowest being at p
 unfoldable pub position : RuleSet → Position → List Frame → Position
@@ -116,10 +117,16 @@ IsCut [] = Unit {0}
 IsCut (f ∷ []) = 0 < f.left
 IsCut (f ∷ (g ∷ below)) = (0 < f.left) × (f.left + 1 ≡ g.left) × IsCut (g ∷ below)
 
+-- what each frame knows is of its own position
+unfoldable pub AreKnown : RuleSet → Position → List Frame → Type 0
+AreKnown rule p [] = Unit {0}
+AreKnown rule p (f ∷ below) = IfSome f.known (IsPlaceIn rule (position rule p (f ∷ below))) × AreKnown rule p below
+
 -- the board stands on the top frame of a test
 pub record IsTesting (rule : RuleSet) (p : Position) (frames : List Frame) (board : Position) : Type 0 where
   pub linked : IsLinked rule p frames
   pub cut : IsCut frames
+  pub known : AreKnown rule p frames
   pub sound : IsWellFormed board
   pub board_at : board ≡ position rule p frames
 
@@ -159,11 +166,17 @@ pub record Ends (rule : RuleSet) (aim : Aim) (floor : ℕ) (p : Position) (old n
 
 -- the frame of a position that a move has reached, of which no move has been tried
 abbrev pub opened : Triple → Loss → ℕ → Frame
-opened by undo left = record { place = 0; by = by; undo = undo; left = left; killer = 0; stretch = Behind }
+opened by undo left = record { place = 0; by = by; undo = undo; left = left; killer = 0; stretch = Behind; known = None }
 
 -- the same in a test, where the killer is tried first
-abbrev pub tested : ℕ → Triple → Loss → ℕ → Frame
-tested killer by undo left = record { place = killer - 1; by = by; undo = undo; left = left; killer = killer; stretch = First }
+abbrev pub tested : ℕ → Triple → Loss → ℕ → Option LegalPlace → Frame
+tested killer by undo left known = record { place = killer - 1; by = by; undo = undo; left = left; killer = killer; stretch = First; known = known }
+
+-- to some frames one of a test is added, which knows at most its own position
+pub record IsOpenedOn (rule : RuleSet) (p : Position) (old new : List Frame) (killer : ℕ) (by : Triple) (undo : Loss) (left : ℕ) : Type 0 where
+  pub known : Option LegalPlace
+  pub within : IfSome known (IsPlaceIn rule p)
+  pub added : new ≡ old ++ tested killer by undo left known ∷ []
 
 -- the half-moves left at the top frame
 abbrev pub top_left : List Frame → ℕ

@@ -12,7 +12,7 @@ use Rattle.chess_rules.specs.RuleSet.{RuleSet}
 use Rattle.pop_solve.specs.Game.{Game}
 use Rattle.pop_solve.specs.Values.{seeks, value}
 use Rattle.pop_solve.specs.Chess.{chess}
-use Rattle.pop_solve.specs.Frames.{Frame, position, IsLinked, steps_behind, to_open}
+use Rattle.pop_solve.specs.Frames.{AreKnown, Frame, position, IsLinked, steps_behind, to_open}
 use Rattle.pop_solve.specs.declared.walk.Way.{Way}
 
 -- the fewest half-moves with which a move of White is tried
@@ -81,6 +81,7 @@ IsRoomy h (f ∷ below) = (f.left + length below ≤ h) × IsRoomy h below
 pub record IsWalking (rule : RuleSet) (h : ℕ) (p : Position) (frames : List Frame) (board : Position) : Type 0 where
   pub linked : IsLinked rule p frames
   pub roomy : IsRoomy h frames
+  pub known : AreKnown rule p frames
   pub sound : IsWellFormed board
   pub board_at : board ≡ position rule p frames
 

@@ -1,62 +1,117 @@
 //! What the search does on the board.
-ghost use Rattle.std.specs.Prelude.{◌≡◌, ◌∷◌, [], MatchOption, true};
+ghost use Rattle.std.specs.Prelude.{◌≡◌, ◌∷◌, [], ◌&&◌, IfSome, MatchOption, is_some, false, not, true};
 ghost use Rattle.chess_core.specs.Diagrams.{position_of};
 ghost use Rattle.chess_core.specs.Position.{Position};
 ghost use Rattle.chess_core.specs.WellFormed.{IsWellFormed};
 ghost use Rattle.chess_rules.specs.Attacks.{in_check};
 ghost use Rattle.chess_rules.specs.Legal.{legal};
-ghost use Rattle.chess_rules.specs.Places.{IsNextMate, mates_behind, moves_behind, moves_between};
+ghost use Rattle.chess_rules.specs.Places.{IsNextMate, IsPlaceIn, mates_behind, moves_behind, moves_between};
 ghost use Rattle.chess_rules.specs.RuleSet.{RuleSet};
 ghost use Rattle.pop_input.specs.declared.stipulation.Goal.{Goal};
 ghost use Rattle.pop_input.specs.declared.stipulation.Goal.TheVariants.{Mate};
 ghost use Rattle.pop_solve.specs.Chess.{castling_side, chess, is_for_mate, is_impossible, is_reached, mark_of, reborn, set_start, shown_by, shown_of};
 ghost use Rattle.pop_solve.specs.Frames.{CameBy};
-ghost use Rattle.pop_solve.specs.Game.{can_move as has_move, some_move};
+ghost use Rattle.pop_solve.specs.Game.{can_move as has_move, every_move, some_move};
 
 use crate::shown::{Mark, Shown, Side};
 use chess_core::board::Board;
 use chess_core::diagram::Diagram;
 use chess_core::man::{Man, Move};
 use chess_core::square::Square;
+use chess_rules::every_move::every_move_mates;
+use chess_rules::legal_moves::LegalMoves;
 use chess_rules::moves::{Moves, has_legal_move, is_mate, is_stalemate};
 use chess_rules::play::{Undo, is_castling};
 use chess_rules::rules::{Rules, in_check};
 use pop_input::stipulation::Goal;
 
-/// Whether the side to move has a legal move.
-#[tactic(auto, using(crate::proofs::Boards::some_move))]
-pub(crate) fn can_move<R: Rules>(board: &mut Board) -> bool
-    requires well_formed { IsWellFormed board.old }
-    ensures unchanged { board.new ≡ board.old }
-    ensures moves { result ≡ has_move (chess Mate R.rule) board.old }
+/// The place among the moves of the board's position, of which something may be known already.
+pub(crate) fn moves_at<R: Rules>(
+    known: Option<LegalMoves<R>>,
+    place: Moves<R>,
+    board: &Board,
+) -> LegalMoves<R>
+    requires known { IfSome known (λ k. IsPlaceIn R.rule board.now k) }
+    ensures place { result.place ≡ place }
+    ensures within { IsPlaceIn R.rule board.now result }
 {
-    has_legal_move::<R>(board)
+    let mut moves = match known {
+        Some(moves) => moves,
+        None => LegalMoves::of(board),
+    };
+    moves.go_to(place);
+    moves
 }
 
-/// The next legal move behind the place, which moves on to it.
-pub(crate) fn next_move<R: Rules>(place: &mut Moves<R>, board: &mut Board) -> Option<Move>
+/// The next legal move behind the place, in a position of which something is known.
+pub(crate) fn next_behind<R: Rules>(moves: &mut LegalMoves<R>, board: &mut Board) -> Option<Move>
     requires well_formed { IsWellFormed board.old }
+    requires known { IsPlaceIn R.rule board.old moves.old }
     ensures unchanged { board.new ≡ board.old }
+    ensures within { IsPlaceIn R.rule board.old moves.new }
+    ensures next { MatchOption result (moves_behind R.rule board.old moves.old.place ≡ [])
+        (λ m. (moves_behind R.rule board.old moves.old.place ≡ m ∷ moves_behind R.rule board.old moves.new.place)
+        × (legal R.rule board.old m ≡ true)) }
+{
+    moves.next(board)
+}
+
+/// The next legal move behind the place, which moves on to it; what is then known of the position's moves is kept.
+pub(crate) fn next_move<R: Rules>(
+    known: &mut Option<LegalMoves<R>>,
+    place: &mut Moves<R>,
+    board: &mut Board,
+) -> Option<Move>
+    requires well_formed { IsWellFormed board.old }
+    requires known { IfSome known.old (λ k. IsPlaceIn R.rule board.old k) }
+    ensures unchanged { board.new ≡ board.old }
+    ensures within { IfSome known.new (λ k. IsPlaceIn R.rule board.old k) }
     ensures next { MatchOption result (moves_behind R.rule board.old place.old ≡ [])
         (λ m. (moves_behind R.rule board.old place.old ≡ m ∷ moves_behind R.rule board.old place.new)
         × (legal R.rule board.old m ≡ true)) }
 {
-    place.next(board)
+    let mut moves = moves_at::<R>(*known, *place, board);
+    let found = next_behind::<R>(&mut moves, board);
+    *place = moves.place();
+    *known = Some(moves);
+    found
 }
 
 /// The next legal move behind the place that doesn't lie behind `end`.
 pub(crate) fn next_until<R: Rules>(
-    place: &mut Moves<R>,
+    moves: &mut LegalMoves<R>,
     end: Moves<R>,
     board: &mut Board,
 ) -> Option<Move>
     requires well_formed { IsWellFormed board.old }
+    requires known { IsPlaceIn R.rule board.old moves.old }
     ensures unchanged { board.new ≡ board.old }
-    ensures next { MatchOption result (moves_between R.rule board.old place.old end ≡ [])
-        (λ m. (moves_between R.rule board.old place.old end ≡ m ∷ moves_between R.rule board.old place.new end)
+    ensures within { IsPlaceIn R.rule board.old moves.new }
+    ensures next { MatchOption result (moves_between R.rule board.old moves.old.place end ≡ [])
+        (λ m. (moves_between R.rule board.old moves.old.place end ≡ m ∷ moves_between R.rule board.old moves.new.place end)
         × (legal R.rule board.old m ≡ true)) }
 {
-    place.next_until(end, board)
+    moves.next_until(end, board)
+}
+
+/// The moves of the board's position, if it has one; the killer is looked at first.
+#[tactic(auto, using(crate::proofs::Boards::some_move))]
+pub(crate) fn first_look<R: Rules>(killer: Moves<R>, board: &mut Board) -> Option<LegalMoves<R>>
+    requires well_formed { IsWellFormed board.old }
+    ensures unchanged { board.new ≡ board.old }
+    ensures within { IfSome result (λ k. IsPlaceIn R.rule board.old k) }
+    ensures moves { (goal : Goal) → is_some result ≡ has_move (chess goal R.rule) board.old }
+{
+    let mut moves = LegalMoves::<R>::of(board);
+    moves.go_to(killer.back());
+    if next_until::<R>(&mut moves, killer, board).is_some() {
+        return Some(moves);
+    }
+    moves.go_to(Moves::start());
+    if next_behind::<R>(&mut moves, board).is_some() {
+        return Some(moves);
+    }
+    None
 }
 
 /// The next legal move behind the place that mates.
@@ -77,6 +132,16 @@ pub(crate) fn can_mate<R: Rules>(board: &mut Board) -> bool
 {
     let mut place = Moves::<R>::start();
     place.next_mate(board).is_some()
+}
+
+/// Whether the side to move has a legal move and each of its legal moves mates.
+#[tactic(auto, using(crate::proofs::Boards::some_move))]
+pub(crate) fn must_mate<R: Rules>(board: &mut Board) -> bool
+    requires well_formed { IsWellFormed board.old }
+    ensures unchanged { board.new ≡ board.old }
+    ensures mates { result ≡ (has_move (chess Mate R.rule) board.old && every_move (chess Mate R.rule) (chess Mate R.rule).goal board.old) }
+{
+    every_move_mates::<R>(board)
 }
 
 /// Takes a move back.
@@ -129,6 +194,15 @@ pub(crate) fn reaches_goal<R: Rules>(goal: Goal, board: &mut Board) -> bool
         Goal::Mate => is_mate::<R>(board),
         Goal::Stalemate => is_stalemate::<R>(board),
     }
+}
+
+/// Whether the goal is reached in the board's position, which has no legal move.
+#[tactic(auto, unfolding(chess_rules::specs::Legal::is_goal, chess_rules::specs::Legal::is_stalemate))]
+pub(crate) fn is_reached_without_move<R: Rules>(goal: Goal, board: &Board) -> bool
+    requires { has_move (chess goal R.rule) board.now ≡ false }
+    ensures { result ≡ (chess goal R.rule).goal board.now }
+{
+    in_check::<R>(board, board.turn()) == is_for_mate(goal)
 }
 
 /// To which side the man castles, if it does.

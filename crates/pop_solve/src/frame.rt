@@ -1,5 +1,6 @@
 //! Frames.
 use chess_core::man::Move;
+use chess_rules::legal_moves::LegalMoves;
 use chess_rules::moves::Moves;
 use chess_rules::play::Undo;
 use chess_rules::rules::Rules;
@@ -27,6 +28,8 @@ pub struct Frame<R: Rules> {
     /// In a test: the place on the killer, and the stretch of moves on which `place` stands.
     pub killer: Moves<R>,
     pub stretch: Stretch,
+    /// What is known of the legal moves of the position, once they have been looked for.
+    pub known: Option<LegalMoves<R>>,
 }
 
 impl<R: Rules> Model for Frame<R> {
@@ -34,9 +37,9 @@ impl<R: Rules> Model for Frame<R> {
 
     ghost Value = { Level };
 
-    ghost view = { λ f. record { place = f.place; by = f.by; undo = f.undo; left = f.left; killer = f.killer; stretch = f.stretch } };
+    ghost view = { λ f. record { place = f.place; by = f.by; undo = f.undo; left = f.left; killer = f.killer; stretch = f.stretch; known = f.known } };
 
-    ghost inverse = { λ v. record { place = v.place; by = v.by; undo = v.undo; left = v.left; killer = v.killer; stretch = v.stretch } };
+    ghost inverse = { λ v. record { place = v.place; by = v.by; undo = v.undo; left = v.left; killer = v.killer; stretch = v.stretch; known = v.known } };
 }
 
 impl<R: Rules> Default for Frame<R> {
@@ -48,6 +51,7 @@ impl<R: Rules> Default for Frame<R> {
             left: 0,
             killer: Moves::start(),
             stretch: Stretch::Behind,
+            known: None,
         }
     }
 }

@@ -249,6 +249,7 @@ fn begin<R: Rules, const N: usize>(
     frames.push(Frame {
         place: Moves::start(),
         left,
+        known: None,
         ..Frame::default()
     });
     *opened = opened_by(*opened, left, false);

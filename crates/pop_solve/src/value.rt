@@ -1,25 +1,30 @@
 //! The tests of battle play.
 ghost use Rattle.chess_rules.specs.Play.{after as played};
 ghost use Rattle.chess_rules.specs.Legal.{moves as legal_moves};
-ghost use Rattle.std.specs.Prelude.{◌≡◌, ◌+◌, ◌<◌, ◌≤◌, ◌%◌, ℕ, List, [], ◌∷◌, ◌++◌, length, reverse, IfSome, IfNone, IsTrue, true, Bool, Option, Some, None, not, if◌then◌else◌, MatchOption, MatchBool, ◌⊎◌, ◌&&◌, ◌||◌, ◌==◌, ◌-◌, ◌^◌, min};
+ghost use Rattle.std.specs.Prelude.{◌≡◌, ◌+◌, ◌<◌, ◌≤◌, ◌%◌, ℕ, List, [], ◌∷◌, ◌++◌, length, reverse, IfSome, IfNone, IsTrue, true, false, Bool, Option, Some, None, not, if◌then◌else◌, MatchOption, MatchBool, ◌⊎◌, ◌&&◌, ◌||◌, ◌==◌, ◌-◌, ◌^◌, min};
 ghost use Rattle.chess_core.specs.Position.{Position};
 ghost use Rattle.chess_core.specs.WellFormed.{IsWellFormed};
 ghost use Rattle.chess_rules.specs.Legal.{legal};
+ghost use Rattle.chess_rules.specs.Places.{IsPlaceIn};
 ghost use Rattle.chess_rules.specs.Play.{undo_of};
 ghost use Rattle.arrayvec.specs.ArrayVec.{array_vec_len};
-ghost use Rattle.pop_solve.specs.Frames.{IsTesting, CameFrom, CameFromAt, Turns, Ends, tests, tested, top_left, ahead};
+ghost use Rattle.pop_solve.specs.Frames.{IsTesting, IsOpenedOn, CameFrom, CameFromAt, Turns, Ends, tests, tested, top_left, ahead};
 ghost use Rattle.pop_solve.specs.Chess.{chess, is_for_mate};
+ghost use Rattle.pop_input.specs.declared.stipulation.Goal.TheVariants.{Mate};
 ghost use Rattle.pop_solve.specs.declared.frame.Stretch.TheVariants.{Before};
 ghost use Rattle.pop_solve.specs.Game.{can_move as has_move, walk_count};
 ghost use Rattle.pop_solve.specs.Values.{seeks, join, joined, value};
 
 use crate::aim::{Aim, Battle};
-use crate::chess::{can_mate, can_move, is_for_mate, next_move, next_until, reaches_goal, retract};
+use crate::chess::{
+    can_mate, must_mate, first_look, is_for_mate, is_reached_without_move, moves_at, next_behind, next_until, reaches_goal, retract,
+};
 use crate::frame::{Frame, Stretch};
 use crate::killers::Killers;
 use arrayvec::ArrayVec;
 use chess_core::board::Board;
 use chess_core::man::Move;
+use chess_rules::legal_moves::LegalMoves;
 use chess_rules::moves::Moves;
 use chess_rules::rules::Rules;
 use pop_input::stipulation::Goal;
@@ -34,49 +39,69 @@ pub(crate) fn seeking(battle: Battle, left: usize) -> bool
     }
 }
 
-/// Whether the goal is reached where it counts, after a move of White in `left`.
-fn is_end<R: Rules>(goal: Goal, left: usize, board: &mut Board) -> bool
-    requires well_formed { IsWellFormed board.old }
-    ensures unchanged { board.new ≡ board.old }
-    ensures end { result ≡ ((left % 2 == 0) && (chess goal R.rule).goal board.old) }
+/// Whether White is to move with a half-move that nothing ends before: his moves decide, whether he has one or not.
+fn is_free(battle: Battle, left: usize) -> bool
+    ensures { result ≡ (left % 2 == 1 && seeks battle left) }
 {
-    left % 2 == 0 && reaches_goal::<R>(goal, board)
+    left % 2 == 1 && seeking(battle, left)
 }
 
-/// Whether the moves decide.
-fn is_open<R: Rules>(aim: Aim, left: usize, board: &mut Board) -> bool
-    requires well_formed { IsWellFormed board.old }
-    ensures unchanged { board.new ≡ board.old }
-    ensures open { result ≡ (seeks aim.battle left || has_move (chess aim.goal R.rule) board.old) }
+/// The value of a position without a legal move, with `left` half-moves left where a move counts.
+fn value_without_move<R: Rules>(goal: Goal, left: usize, board: &Board) -> bool
+    requires { has_move (chess goal R.rule) board.now ≡ false }
+    ensures { result ≡ ((left % 2 == 0) && (chess goal R.rule).goal board.now) }
 {
-    seeking(aim.battle, left) || can_move::<R>(board)
+    left % 2 == 0 && is_reached_without_move::<R>(goal, board)
 }
 
-/// The value of a position, where it is known without a frame. White's last half-move needs none, and is counted as one.
-fn settled<R: Rules>(aim: Aim, left: usize, board: &mut Board, opened: &mut u64) -> Option<bool>
+/// The value of a position with one half-move left, where mate is the goal: White mates, or Black must.
+fn last_value<R: Rules>(battle: Battle, board: &mut Board) -> bool
+    requires well_formed { IsWellFormed board.old }
+    ensures unchanged { board.new ≡ board.old }
+    ensures value { result ≡ value battle (chess Mate R.rule) 1 board.old }
+{
+    match battle {
+        Battle::Direct => can_mate::<R>(board),
+        Battle::Selfmate => must_mate::<R>(board),
+    }
+}
+
+/// The value of a position, where it is known without a frame; else what is known of its moves, if they were looked for.
+/// The last half-move needs no frame where mate is the goal, and is counted as one.
+fn settled<R: Rules>(
+    aim: Aim,
+    left: usize,
+    killer: Moves<R>,
+    board: &mut Board,
+    known: &mut Option<LegalMoves<R>>,
+    opened: &mut u64,
+) -> Option<bool>
     requires well_formed { IsWellFormed board.old }
     ensures unchanged { board.new ≡ board.old }
     ensures value { MatchOption result
         ((0 < left) × (value aim.battle (chess aim.goal R.rule) left board.old
         ≡ joined aim.battle (chess aim.goal R.rule) left board.old (legal_moves R.rule board.old)))
         (λ v. v ≡ value aim.battle (chess aim.goal R.rule) left board.old) }
+    ensures known { IfSome known.new (λ k. IsPlaceIn R.rule board.old k) }
     ensures opened { MatchOption result (opened.new ≡ opened.old)
         (λ _. opened.new ≤ opened.old + walk_count (legal_moves R.rule) (played R.rule) left board.old) }
 {
-    if is_end::<R>(aim.goal, left, board) {
-        return Some(true);
-    }
+    *known = None;
     if left == 0 {
-        return Some(false);
+        return Some(reaches_goal::<R>(aim.goal, board));
     }
-    if is_for_mate(aim.goal) && left == 1 && seeking(aim.battle, left) {
+    if is_for_mate(aim.goal) && left == 1 {
         *opened = opened.saturating_add(1);
-        return Some(can_mate::<R>(board));
+        return Some(last_value::<R>(aim.battle, board));
     }
-    if is_open::<R>(aim, left, board) {
+    if is_free(aim.battle, left) {
+        return None;
+    }
+    *known = first_look::<R>(killer, board);
+    if known.is_some() {
         None
     } else {
-        Some(false)
+        Some(value_without_move::<R>(aim.goal, left, board))
     }
 }
 
@@ -95,22 +120,24 @@ fn decided(answer: Option<bool>, seek: bool) -> bool
 fn next_in_order<R: Rules>(
     killer: Moves<R>,
     stretch: &mut Stretch,
-    place: &mut Moves<R>,
+    moves: &mut LegalMoves<R>,
     board: &mut Board,
 ) -> Option<Move>
     requires well_formed { IsWellFormed board.old }
+    requires known { IsPlaceIn R.rule board.old moves.old }
     ensures unchanged { board.new ≡ board.old }
-    ensures next { MatchOption result (ahead R.rule board.old Before place.old killer ≡ [])
-        (λ m. (ahead R.rule board.old Before place.old killer ≡ m ∷ ahead R.rule board.old stretch.new place.new killer)
+    ensures within { IsPlaceIn R.rule board.old moves.new }
+    ensures next { MatchOption result (ahead R.rule board.old Before moves.old.place killer ≡ [])
+        (λ m. (ahead R.rule board.old Before moves.old.place killer ≡ m ∷ ahead R.rule board.old stretch.new moves.new.place killer)
         × (legal R.rule board.old m ≡ true)) }
 {
-    if let Some(by) = next_until::<R>(place, killer.back(), board) {
+    if let Some(by) = next_until::<R>(moves, killer.back(), board) {
         *stretch = Stretch::Before;
         return Some(by);
     }
     *stretch = Stretch::Behind;
-    *place = killer;
-    next_move::<R>(place, board)
+    moves.go_to(killer);
+    next_behind::<R>(moves, board)
 }
 
 /// The next move of a test: the killer, then the others in order.
@@ -118,25 +145,27 @@ fn next_in_order<R: Rules>(
 fn next_tried<R: Rules>(
     killer: Moves<R>,
     stretch: &mut Stretch,
-    place: &mut Moves<R>,
+    moves: &mut LegalMoves<R>,
     board: &mut Board,
 ) -> Option<Move>
     requires well_formed { IsWellFormed board.old }
+    requires known { IsPlaceIn R.rule board.old moves.old }
     ensures unchanged { board.new ≡ board.old }
-    ensures next { MatchOption result (ahead R.rule board.old stretch.old place.old killer ≡ [])
-        (λ m. (ahead R.rule board.old stretch.old place.old killer ≡ m ∷ ahead R.rule board.old stretch.new place.new killer)
+    ensures within { IsPlaceIn R.rule board.old moves.new }
+    ensures next { MatchOption result (ahead R.rule board.old stretch.old moves.old.place killer ≡ [])
+        (λ m. (ahead R.rule board.old stretch.old moves.old.place killer ≡ m ∷ ahead R.rule board.old stretch.new moves.new.place killer)
         × (legal R.rule board.old m ≡ true)) }
 {
     match *stretch {
         Stretch::First => {
-            if let Some(by) = next_until::<R>(place, killer, board) {
+            if let Some(by) = next_until::<R>(moves, killer, board) {
                 return Some(by);
             }
-            *place = Moves::start();
-            next_in_order::<R>(killer, stretch, place, board)
+            moves.go_to(Moves::start());
+            next_in_order::<R>(killer, stretch, moves, board)
         }
-        Stretch::Before => next_in_order::<R>(killer, stretch, place, board),
-        Stretch::Behind => next_move::<R>(place, board),
+        Stretch::Before => next_in_order::<R>(killer, stretch, moves, board),
+        Stretch::Behind => next_behind::<R>(moves, board),
     }
 }
 
@@ -187,8 +216,8 @@ fn descend<R: Rules, const N: usize>(
         ≡ joined aim.battle (chess aim.goal R.rule) (top.left - 1) (played R.rule board.old by)
         (legal_moves R.rule (played R.rule board.old by)))
         × (board.new ≡ played R.rule board.old by)
-        × (frames.new.items ≡ (frames.old.items ++ top ∷ [])
-        ++ tested killer by (undo_of R.rule board.old by) (top.left - 1) ∷ []))
+        × IsOpenedOn R.rule (played R.rule board.old by) (frames.old.items ++ top ∷ []) frames.new.items
+        killer by (undo_of R.rule board.old by) (top.left - 1))
         (λ v. (v ≡ value aim.battle (chess aim.goal R.rule) (top.left - 1) (played R.rule board.old by))
         × (board.new ≡ board.old)
         × (frames.new.items ≡ frames.old.items ++ top ∷ [])) }
@@ -196,7 +225,8 @@ fn descend<R: Rules, const N: usize>(
     frames.push(top);
     let left = top.left - 1;
     let undo = R::play(board, by);
-    *answer = settled::<R>(aim, left, board, opened);
+    let mut known = None;
+    *answer = settled::<R>(aim, left, killer, board, &mut known, opened);
     if answer.is_some() {
         retract::<R>(board, by, undo);
     } else {
@@ -208,6 +238,7 @@ fn descend<R: Rules, const N: usize>(
             left,
             killer,
             stretch: Stretch::First,
+            known,
             ..top
         });
     }
@@ -241,16 +272,17 @@ fn turn<R: Rules, const N: usize>(
         killers.put(top.left, top.place);
         return close::<R>(seek, floor, depth, top, board, answer);
     }
-    let mut place = top.place;
+    let mut moves = moves_at::<R>(top.known, top.place, board);
     let mut stretch = top.stretch;
-    let Some(by) = next_tried::<R>(top.killer, &mut stretch, &mut place, board) else {
+    let Some(by) = next_tried::<R>(top.killer, &mut stretch, &mut moves, board) else {
         return close::<R>(!seek, floor, depth, top, board, answer);
     };
     descend::<R, N>(
         aim,
         Frame {
-            place,
+            place: moves.place(),
             stretch,
+            known: Some(moves),
             ..top
         },
         by,
@@ -279,17 +311,19 @@ pub(crate) fn value_of<R: Rules, const N: usize>(
     ensures frames { frames.new.items ≡ frames.old.items }
     ensures opened { opened.new ≤ opened.old + walk_count (legal_moves R.rule) (played R.rule) left board.old }
 {
-    if let Some(known) = settled::<R>(aim, left, board, opened) {
-        return known;
+    let killer = killers.of(aim.battle, left);
+    let mut known = None;
+    if let Some(v) = settled::<R>(aim, left, killer, board, &mut known, opened) {
+        return v;
     }
     let floor = frames.len();
-    let killer = killers.of(aim.battle, left);
     *opened = opened.saturating_add(1);
     frames.push(Frame {
         place: killer.back(),
         left,
         killer,
         stretch: Stretch::First,
+        known,
         ..Frame::default()
     });
     let mut answer = None;

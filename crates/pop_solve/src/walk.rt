@@ -1,11 +1,11 @@
 //! The walk over the moves of a phase, on frames.
 ghost use Rattle.chess_rules.specs.Play.{after as played};
 ghost use Rattle.chess_rules.specs.Legal.{moves as legal_moves};
-ghost use Rattle.std.specs.Prelude.{◌≡◌, ◌+◌, ◌<◌, ◌≤◌, ◌/◌, ℕ, List, [], ◌∷◌, ◌++◌, length, reverse, IsTrue, true, false, if◌then◌else◌, MatchOption, ◌⊎◌, not, ◌&&◌, ◌||◌, ◌==◌, ◌-◌, ◌^◌, min};
+ghost use Rattle.std.specs.Prelude.{◌≡◌, ◌+◌, ◌<◌, ◌≤◌, ◌/◌, ℕ, List, [], ◌∷◌, ◌++◌, length, reverse, IsTrue, true, false, if◌then◌else◌, IfSome, MatchOption, ◌⊎◌, not, ◌&&◌, ◌||◌, ◌==◌, ◌-◌, ◌^◌, min};
 ghost use Rattle.chess_core.specs.Position.{Position};
 ghost use Rattle.chess_core.specs.WellFormed.{IsWellFormed};
 ghost use Rattle.chess_rules.specs.Legal.{legal};
-ghost use Rattle.chess_rules.specs.Places.{moves_behind};
+ghost use Rattle.chess_rules.specs.Places.{IsPlaceIn, moves_behind};
 ghost use Rattle.chess_rules.specs.Play.{undo_of};
 ghost use Rattle.arrayvec.specs.ArrayVec.{array_vec_len};
 ghost use Rattle.pop_solve.specs.Frames.{CameFrom, CameFromAt, opened as opened_frame};
@@ -22,6 +22,7 @@ use crate::value::{seeking, value_of};
 use arrayvec::ArrayVec;
 use chess_core::board::Board;
 use chess_core::man::Move;
+use chess_rules::legal_moves::LegalMoves;
 use chess_rules::moves::Moves;
 use chess_rules::rules::Rules;
 
@@ -194,6 +195,7 @@ fn enter<R: Rules, const N: usize>(
         left: tried,
         killer: Moves::start(),
         stretch: Stretch::Behind,
+        known: None,
     });
     *opened = opened_by(*opened, tried, tested);
     gives::<R>(way, left, board)
@@ -201,9 +203,17 @@ fn enter<R: Rules, const N: usize>(
 
 /// The next move behind a place, in a position from which `left` half-moves are tried: the next mate, where help play
 /// ends with it.
-fn next_of<R: Rules>(way: Way, left: usize, place: &mut Moves<R>, board: &mut Board) -> Option<Move>
+fn next_of<R: Rules>(
+    way: Way,
+    left: usize,
+    known: &mut Option<LegalMoves<R>>,
+    place: &mut Moves<R>,
+    board: &mut Board,
+) -> Option<Move>
     requires well_formed { IsWellFormed board.old }
+    requires known { IfSome known.old (λ k. IsPlaceIn R.rule board.old k) }
     ensures unchanged { board.new ≡ board.old }
+    ensures within { IfSome known.new (λ k. IsPlaceIn R.rule board.old k) }
     ensures next { MatchOption result ((left ≡ 0) ⊎ GoesTo R.rule way left board.old place.old [])
         (λ m. (0 < left) × GoesTo R.rule way left board.old place.old (m ∷ moves_behind R.rule board.old place.new)
         × (legal R.rule board.old m ≡ true)) }
@@ -214,7 +224,7 @@ fn next_of<R: Rules>(way: Way, left: usize, place: &mut Moves<R>, board: &mut Bo
     if is_for_mate(way.aim.goal) && way.help && left == 1 {
         return next_mate::<R>(place, board);
     }
-    next_move::<R>(place, board)
+    next_move::<R>(known, place, board)
 }
 
 /// Takes back the move of a frame that is closed, unless it is the lowest.
@@ -250,11 +260,16 @@ pub(crate) fn step<R: Rules, const N: usize>(
     };
     let depth = frames.len();
     let mut place = top.place;
-    let Some(by) = next_of::<R>(way, top.left, &mut place, board) else {
+    let mut known = top.known;
+    let Some(by) = next_of::<R>(way, top.left, &mut known, &mut place, board) else {
         step_back::<R>(depth, top, board);
         return false;
     };
-    frames.push(Frame { place, ..top });
+    frames.push(Frame {
+        place,
+        known,
+        ..top
+    });
     enter::<R, N>(
         way,
         depth == 0,

@@ -25,7 +25,7 @@ unfolding IsStanding
 returns-clause-standing g c =
     let set = rw c.if-not-set_up.false at c.set_up.ensures.board in
     rw (c.push-2.ensures.items, walking.reverse-push, c.requires.standing.0)
-    (events.standing-begun g.R.Rules.rule c.args.problem.now c.args.phase _ _ c.phase_half_moves-left.ensures set (rw set (start_sound c.args.problem.now c.requires.sound c.args.phase)))
+    (events.standing-begun g.R.Rules.rule c.args.problem.now c.args.phase _ _ c.phase_half_moves-left.ensures refl set (rw set (start_sound c.args.problem.now c.requires.sound c.args.phase)))
 
 pub returns-clause-left : goal.returns-clause-left
 unfolding IsStanding

@@ -7,6 +7,11 @@ pub step_back-requires : goal.step_back-requires
 step_back-requires g c = λ deep.
     walking.close_asks g.R.Rules.rule c.args.way c.args.half_moves _ _ _ c.in-Some.ensures.items _ _ _ _ c.requires.walking.1 c.next_of.ensures.unchanged c.len-depth.ensures.value deep
 
+pub next_of-requires : goal.next_of-requires
+next_of-requires g c =
+    let taken = rw (← c.top.view_is) at c.in-Some.ensures.items in
+    record { well_formed = c.requires.well_formed; known = walking.top_known g.R.Rules.rule c.args.way c.args.half_moves _ _ _ taken _ _ c.requires.walking.1 }
+
 pub returns-in_default-next_of : goal.returns-in_default-next_of
 returns-in_default-next_of g c = record {
   steps = λ p r.
@@ -31,5 +36,5 @@ pub returns : goal.returns
 returns g c = record {
   steps =
       let taken = rw (← c.top.view_is) at c.in-Some.ensures.items in
-      walking.enter_steps g.R.Rules.rule c.args.way c.args.half_moves _ _ _ taken _ _ _ _ _ _ _ c.next_of.ensures.unchanged c.len-depth.ensures.value c.in-Some-next_of.ensures.next c.push.ensures.items _ _ _ _ _ refl c.enter.ensures.passes c.enter.ensures.enters c.enter.ensures.more c.enter.ensures.none c.enter.ensures.keys;
+      walking.enter_steps g.R.Rules.rule c.args.way c.args.half_moves _ _ _ taken _ _ _ _ _ _ _ _ c.next_of.ensures.unchanged c.len-depth.ensures.value c.in-Some-next_of.ensures.next c.next_of.ensures.within c.push.ensures.items _ _ _ _ _ refl c.enter.ensures.passes c.enter.ensures.enters c.enter.ensures.more c.enter.ensures.none c.enter.ensures.keys;
 }

@@ -1,0 +1,15 @@
+use Rattle.std.proofs.Common.{◌≡◌, ◌&&◌, ◌||◌, not, length}
+use Rattle.std.specs.List.{list_all}
+use Rattle.chess_rules.specs.Legal.{is_nil}
+use Rattle.chess_rules.specs.Places.{IsPlaceIn, is_mating, moves_behind}
+use Rattle.chess_rules.proofs.every_move.has_mates_alone.Given as goal
+
+abbrev pub invariant-loop-m : goal.invariant-loop-m
+invariant-loop-m g l = record {
+  board : l.board ≡ l.fn.board;
+  within : IsPlaceIn g.R.Rules.rule l.fn.board l.moves;
+  rest : ((l.some || not (is_nil (moves_behind g.R.Rules.rule l.fn.board l.moves.place))) && list_all (is_mating g.R.Rules.rule l.fn.board) (moves_behind g.R.Rules.rule l.fn.board l.moves.place)) ≡ (not (is_nil (moves_behind g.R.Rules.rule l.fn.board l.fn.moves.place)) && list_all (is_mating g.R.Rules.rule l.fn.board) (moves_behind g.R.Rules.rule l.fn.board l.fn.moves.place));
+}
+
+abbrev pub decreases-loop-m : goal.decreases-loop-m
+decreases-loop-m g l = length (moves_behind g.R.Rules.rule l.fn.board l.moves.place)
