@@ -95,8 +95,8 @@ module _ (rule : RuleSet) (problem : Posed) (phase : Phase) (count : ℕ) (old :
   pub room-given : cond (is_help problem.stipulation.form || eqb (length frames) 2) 1 0 ≤ problem.max_solutions - count
   room-given = rw begins-given (w.within refl)
 
-  pub gives-given : (next : ℕ) (event : Event) → next ≡ count + cond (is_help problem.stipulation.form || eqb (length frames) 2) 1 0 → event ≡ event_of rule problem (step_of problem phase (path (reverse frames))) → Gives rule problem (left_of rule problem (Within phase count) old) (left_of rule problem (Within phase next) (reverse frames)) event board (length frames)
-  gives-given next event n e = record {
+  gives-here : (next : ℕ) (event : Event) → next ≡ count + cond (is_help problem.stipulation.form || eqb (length frames) 2) 1 0 → event ≡ event_of rule problem (step_of problem phase (path (reverse frames))) → Gives rule problem (left_of rule problem (Within phase count) old) (left_of rule problem (Within phase next) (reverse frames)) event board (length frames)
+  gives-here next event n e = record {
     step = step_of problem phase (path (reverse frames));
     left = left-given rule problem phase count old (reverse frames) board most w next (n ∙ ap (λ b. count + cond b 1 0) begins-given);
     event_is = e;
@@ -106,6 +106,11 @@ module _ (rule : RuleSet) (problem : Posed) (phase : Phase) (count : ℕ) (old :
   pub standing-given : (next : ℕ) → next ≡ count + cond (is_help problem.stipulation.form || eqb (length frames) 2) 1 0 → IsStanding rule problem (Within phase next) (reverse frames) board
   unfolding IsStanding
   standing-given next n = (w.walking, omega (arith, n, most, room-given))
+
+  -- once board and frames still stand as they were left
+  module _ (left : List Frame) (stand : Position) (kept : left ≡ frames) (stays : stand ≡ board) where
+    pub gives-given : (next : ℕ) (event : Event) → next ≡ count + cond (is_help problem.stipulation.form || eqb (length frames) 2) 1 0 → event ≡ event_of rule problem (step_of problem phase (path (reverse frames))) → Gives rule problem (left_of rule problem (Within phase count) old) (left_of rule problem (Within phase next) (reverse left)) event stand (length left)
+    gives-given next event n e = rw (kept, stays) (gives-here next event n e)
 
   pub shallow-given : IsSound problem → length frames ≤ 33
   shallow-given s = shallow rule problem phase (phase_half_moves problem phase) frames board w.walking deep-given (at_most phase)

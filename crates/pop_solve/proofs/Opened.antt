@@ -156,6 +156,11 @@ module _ (rule : RuleSet) (problem : Posed) where
         narrowed Set (inr k) = let f : true ≡ false = k.0.play in absurd cc
         narrowed Play n = tt
 
+  -- a call that walked again from the phase's first position would count what had been opened before twice
+  pub no_second_walk : (old new : Stage) (frames last : List Frame) (before after again walk : ℕ) (left : List Step) → OpensOn rule problem old new frames last before after left → is_help problem.stipulation.form ≡ true → is_unstopped left ≡ true → IsCounted walk before (rest_open rule problem old frames) → 0 < before → walk - rest_open rule problem new last ≤ again → after ≡ before + again → after < 2 ^ 64 → ⊥
+  no_second_walk old new frames last before after again walk left x h u c some whole sum fits =
+      let is = x.counted h u walk c in absurd (omega (arith, is.counts, some, whole, sum, fits))
+
   -- before the play where set play isn't possible, and behind all
   pub opens-play : (frames : List Frame) (count : ℕ) (left : List Step) → OpensOn rule problem Barred (Before Play) frames frames count count left
   unfolding rest_open IsNarrow

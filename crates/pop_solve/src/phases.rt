@@ -306,8 +306,9 @@ fn go_on<R: Rules, const N: usize>(
     let limit = still_to_begin(problem, count);
     if walk_on::<R, N>(problem, phase, limit, board, frames, killers, opened) {
         let count = count_with(problem, frames.len(), count);
+        let event = event_at::<R>(problem, phase, frames.as_slice(), board);
         *stage = Stage::Within { phase, count };
-        return event_at::<R>(problem, phase, frames.as_slice(), board);
+        return event;
     }
     *stage = end::<R, N>(problem, phase, board, frames);
     total(problem, count)

@@ -14,9 +14,9 @@ unfolding IsStanding
 count_with-count-requires-clause-begins g c =
     rw c.len.ensures.value (events.room-given g.R.Rules.rule c.args.problem.now c.args.phase _ _ _ _ c.requires.standing.1 (rw c.still_to_begin-limit.ensures at c.if-walk_on.ensures.walks))
 
-pub event_at-requires : goal.event_at-requires
+pub event_at-event-requires : goal.event_at-event-requires
 unfolding IsStanding
-event_at-requires g c =
+event_at-event-requires g c =
     let w = rw c.still_to_begin-limit.ensures at c.if-walk_on.ensures.walks in record {
       deep = rw c.as_slice.ensures.value (events.deep-given g.R.Rules.rule c.args.problem.now c.args.phase _ _ _ _ c.requires.standing.1 w);
       shallow = rw c.as_slice.ensures.value (events.shallow-given g.R.Rules.rule c.args.problem.now c.args.phase _ _ _ _ c.requires.standing.1 w c.requires.sound);
@@ -26,13 +26,13 @@ event_at-requires g c =
 pub returns-then-walk_on-clause-standing : goal.returns-then-walk_on-clause-standing
 unfolding IsStanding
 returns-then-walk_on-clause-standing g c =
-    rw c.event_at.ensures.unchanged (events.standing-given g.R.Rules.rule c.args.problem.now c.args.phase _ _ _ _ c.requires.standing.1 (rw c.still_to_begin-limit.ensures at c.if-walk_on.ensures.walks) _ (rw c.len.ensures.value at c.count_with-count.ensures))
+    rw c.event_at-event.ensures.unchanged (events.standing-given g.R.Rules.rule c.args.problem.now c.args.phase _ _ _ _ c.requires.standing.1 (rw c.still_to_begin-limit.ensures at c.if-walk_on.ensures.walks) _ (rw c.len.ensures.value at c.count_with-count.ensures))
 
 pub returns-then-walk_on-clause-gives : goal.returns-then-walk_on-clause-gives
 unfolding IsStanding
 returns-then-walk_on-clause-gives g c =
-    rw c.event_at.ensures.unchanged (events.gives-given g.R.Rules.rule c.args.problem.now c.args.phase _ _ _ _ c.requires.standing.1 (rw c.still_to_begin-limit.ensures at c.if-walk_on.ensures.walks) _ _ (rw c.len.ensures.value at c.count_with-count.ensures)
-    (rw c.as_slice.ensures.value at c.event_at.ensures.event))
+    events.gives-given g.R.Rules.rule c.args.problem.now c.args.phase _ _ _ _ c.requires.standing.1 (rw c.still_to_begin-limit.ensures at c.if-walk_on.ensures.walks) _ _ (search rules) (search rules) _ _ (rw c.len.ensures.value at c.count_with-count.ensures)
+    (rw c.as_slice.ensures.value at c.event_at-event.ensures.event)
 
 pub returns-clause-standing : goal.returns-clause-standing
 returns-clause-standing g c =
