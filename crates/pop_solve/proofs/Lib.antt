@@ -17,3 +17,4 @@ pub mod HelpPlay
 pub mod Nodes
 pub mod PhasePaths
 pub mod theorems
+pub mod Excluded
