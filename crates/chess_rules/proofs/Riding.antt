@@ -72,10 +72,10 @@ ridden_all men ds w n r le h none =
 abbrev pub is_rider : List (Option Man) → Colour → Kind → List Step → ℕ → ℕ → Bool
 is_rider men e j ds k q = (is_man (man_on men q) e j || is_man (man_on men q) e Queen) && is_on_some ds k q
 
-pub riders_are : (men : List (Option Man)) (e : Colour) (j : Kind) (ds : List Step) (k a b l : ℕ) → a ≡ squares_of men e j → b ≡ squares_of men e Queen → l ≡ word (is_on_some ds k) → bit_and (bit_or a b) l ≡ word (is_rider men e j ds k)
+pub riders_are : (men : List (Option Man)) (e : Colour) (j : Kind) (ds : List Step) (k r l : ℕ) → r ≡ bit_or (squares_of men e j) (squares_of men e Queen) → l ≡ word (is_on_some ds k) → bit_and r l ≡ word (is_rider men e j ds k)
 unfolding squares_of
-riders_are men e j ds k a b l h i g =
-    (λ y. bit_and (bit_or (h y) (i y)) (g y))
+riders_are men e j ds k r l h g =
+    (λ y. bit_and (h y) (g y))
     ∙ ap (λ (w : ℕ). bit_and w (word (is_on_some ds k))) (squares_either (λ s. is_man (man_on men s) e j) (λ s. is_man (man_on men s) e Queen))
     ∙ squares_both (λ s. is_man (man_on men s) e j || is_man (man_on men s) e Queen) (is_on_some ds k)
 

@@ -524,11 +524,12 @@ unfolding may_expose
 shield_squares_all rule men c k at unshielded =
     every_square (may_expose rule men c) (λ s b. ap (λ (o : Option ℕ). may_expose_on rule men o c s) at ∙ or_left _ _ (or_left _ _ (or_left _ _ unshielded)))
 
-pub shield_squares_some : (rule : RuleSet) (men : List (Option Man)) (c : Colour) (k w n l : ℕ) → king_square men c ≡ Some k → is_unshielded rule men c k ≡ false → w ≡ word (λ t. is_square (Some k) t) → n ≡ word (is_shut men (other c) Rook straight_steps k) → l ≡ word (is_shut men (other c) Bishop diagonal_steps k)
-    → bit_or (bit_or w n) l ≡ word (may_expose rule men c)
+pub shield_squares_some : (rule : RuleSet) (men : List (Option Man)) (c : Colour) (k w : ℕ) → king_square men c ≡ Some k → is_unshielded rule men c k ≡ false
+    → w ≡ bit_or (bit_or (word (is_square (Some k))) (word (is_shut men (other c) Rook straight_steps k))) (word (is_shut men (other c) Bishop diagonal_steps k))
+    → w ≡ word (may_expose rule men c)
 unfolding may_expose
-shield_squares_some rule men c k w n l at unshielded h i g =
-    (λ j. bit_or (bit_or (h j) (i j)) (g j))
+shield_squares_some rule men c k w at unshielded h =
+    h
     ∙ (λ j. bit_or (squares_either (λ t. is_square (Some k) t) (is_shut men (other c) Rook straight_steps k) j) (word (is_shut men (other c) Bishop diagonal_steps k)))
     ∙ squares_either (λ t. is_square (Some k) t || is_shut men (other c) Rook straight_steps k t) (is_shut men (other c) Bishop diagonal_steps k)
     ∙ squares_same _ (may_expose rule men c)

@@ -1,5 +1,5 @@
 //! Moves that give no check, told before they are made.
-ghost use Rattle.std.specs.Prelude.{◌≡◌, ℕ, false, not, true};
+ghost use Rattle.std.specs.Prelude.{◌≡◌, ℕ, None, false, not, true};
 ghost use Rattle.chess_core.specs.Position.{other, same_kind};
 ghost use Rattle.chess_core.specs.declared.man.Kind.TheVariants.{Pawn};
 ghost use Rattle.chess_core.specs.WellFormed.{IsWellFormed};
@@ -129,6 +129,13 @@ fn may_discover<R: Rules>(board: &Board, squares: &CheckSquares, m: &Move) -> bo
     !cannot_expose::<R>(board, board.turn().other(), squares.shield_squares, m)
 }
 
+// Whether no man is promoted.
+fn keeps_its_kind(m: &Move) -> bool
+    ensures { result ≡ true → m.now.promo ≡ None }
+{
+    m.promo.is_none()
+}
+
 // Whether the move may give check: where it answers `false`, it gives none. A promoted man may see through
 // the square that the pawn left, so a promotion always may.
 pub(crate) fn may_check<R: Rules>(board: &Board, squares: &CheckSquares, m: &Move) -> bool
@@ -140,7 +147,7 @@ pub(crate) fn may_check<R: Rules>(board: &Board, squares: &CheckSquares, m: &Mov
     let Some(man) = board.man_at(m.from) else {
         return true;
     };
-    if m.promo.is_some() {
+    if !keeps_its_kind(m) {
         return true;
     }
     let _small = m.to.index();

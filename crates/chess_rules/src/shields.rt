@@ -1,14 +1,16 @@
 //! The squares that shield a king, and the moves that can't expose it.
 ghost use Rattle.std.specs.Prelude.{◌≡◌, ◌==◌, ◌&&◌, ◌||◌, List, Option, is_some};
 ghost use Rattle.std.specs.Int.{bit_at};
+ghost use Rattle.std.specs.Int.Bits.{bit_or};
 ghost use Rattle.std.specs.List.{list_any};
 ghost use Rattle.chess_core.specs.Position.{is_man, man_on, other};
-ghost use Rattle.chess_core.specs.Squares.{some_square};
+ghost use Rattle.chess_core.specs.Squares.{is_square, some_square};
+ghost use Rattle.chess_core.specs.Steps.{diagonal_steps, straight_steps};
 ghost use Rattle.chess_core.specs.declared.man.Man.{Man};
-ghost use Rattle.chess_core.specs.declared.man.Kind.TheVariants.{Queen};
+ghost use Rattle.chess_core.specs.declared.man.Kind.TheVariants.{Bishop, Queen, Rook};
 ghost use Rattle.chess_rules.specs.Lines.{is_on_some, occupied_squares};
 ghost use Rattle.chess_rules.specs.Reaches.{rides};
-ghost use Rattle.chess_core.specs.Words.{word};
+ghost use Rattle.chess_core.specs.Words.{squares_of, word};
 ghost use Rattle.chess_rules.specs.Shields.{cannot_expose, has_fairy, is_shut, is_unshielded, is_plain, may_expose, rider_along, steps_along};
 ghost use Rattle.chess_rules.specs.RuleSet.{is_circe};
 
@@ -89,12 +91,19 @@ fn ridden_squares(occupied: u64, riders: u64, lines: RiderLines) -> u64
     ridden
 }
 
-// The queens of this colour and the riders along these lines that stand on a line of the square.
+// The squares of the queens of this colour and of its riders along these lines.
+fn line_riders(board: &Board, colour: Colour, lines: RiderLines) -> u64
+    ensures { result ≡ bit_or (squares_of board.now.men colour (rider_along lines)) (squares_of board.now.men colour Queen) }
+{
+    board.squares(colour, lines.rider()) | board.squares(colour, Kind::Queen)
+}
+
+// Those that stand on one of the lines of the square.
 fn riders_on_lines(board: &Board, colour: Colour, square: Square, lines: RiderLines) -> u64
     ensures { result ≡ word (λ q. (is_man (man_on board.now.men q) colour (rider_along lines) || is_man (man_on board.now.men q) colour Queen)
         && is_on_some (steps_along lines) square q) }
 {
-    (board.squares(colour, lines.rider()) | board.squares(colour, Kind::Queen)) & lines.all(square)
+    line_riders(board, colour, lines) & lines.all(square)
 }
 
 // The squares that shut a line between the square and a rider of this colour. Mostly no such rider stands
@@ -110,6 +119,18 @@ fn shut_squares(board: &Board, colour: Colour, square: Square, lines: RiderLines
     lines.rides(occupied, square) & ridden_squares(occupied, riders, lines)
 }
 
+// The square of the colour's king, and those that shut a line between it and an enemy rider.
+fn shields_of(board: &Board, colour: Colour, king: Square) -> u64
+    ensures { result ≡ bit_or (bit_or (word (is_square (Some king)))
+        (word (is_shut board.now.men (other colour) Rook straight_steps king)))
+        (word (is_shut board.now.men (other colour) Bishop diagonal_steps king)) }
+{
+    let enemy = colour.other();
+    only(Some(king))
+        | shut_squares(board, enemy, king, RiderLines::Straight)
+        | shut_squares(board, enemy, king, RiderLines::Diagonal)
+}
+
 // The squares from which a move may expose the colour's king.
 pub(crate) fn shield_squares<R: Rules>(board: &Board, colour: Colour) -> u64
     ensures { result ≡ word (may_expose R.rule board.now.men colour) }
@@ -120,10 +141,7 @@ pub(crate) fn shield_squares<R: Rules>(board: &Board, colour: Colour) -> u64
     if is_unshielded::<R>(board, colour, king) {
         return !0;
     }
-    let enemy = colour.other();
-    only(Some(king))
-        | shut_squares(board, enemy, king, RiderLines::Straight)
-        | shut_squares(board, enemy, king, RiderLines::Diagonal)
+    shields_of(board, colour, king)
 }
 
 // Whether the man's move changes nothing but its own square.

@@ -1,9 +1,8 @@
-use Rattle.std.proofs.Common.{◌≡◌, ◌<◌, ◌==◌, ◌∙◌, Option, None, Some, is_some, refl, false, ap, arith, sym}
+use Rattle.std.proofs.Common.{◌≡◌, ◌<◌, ◌==◌, ◌∙◌, None, Some, false, ap, arith, sym}
 use Rattle.std.specs.Int.{bit_at}
 use Rattle.std.proofs.lemmas.Bool.{not-false}
 use Rattle.chess_core.specs.Position.{man_on}
 use Rattle.chess_core.specs.Triple.{Triple}
-use Rattle.chess_core.specs.declared.man.Kind.{Kind}
 use Rattle.chess_rules.specs.Play.{arriving}
 use Rattle.chess_rules.proofs.Checking.{no_check}
 use Rattle.chess_rules.proofs.checks.may_check.Goals as goal
@@ -16,11 +15,7 @@ returns-else-contains g c = λ h.
     let to : c.m.inside.to ≡ c.args.m.now.to = ap (λ (v : Triple). v.to) c.m.view_is in
     let small : c.m.inside.to < 64 = omega (arith, c.index-small.ensures.value, c.index-small.ensures.small) in
     let here : man_on p.men c.args.m.now.from ≡ Some x = ap (man_on p.men) (sym from) ∙ sym c.man_at.ensures ∙ c.in-Some.is in
-    let unpromoted : c.args.m.now.promo ≡ None = ap (λ (v : Triple). v.promo) (sym c.m.view_is) ∙ none_from (c.m.inside.promo) (sym c.is_some.ensures ∙ c.if-is_some.false) in
+    let unpromoted : c.args.m.now.promo ≡ None = c.keeps_its_kind.ensures c.if-not-keeps_its_kind.false in
     let arrives : x ≡ arriving x c.args.m.now.promo = ap (arriving x) (sym unpromoted) in
     let off : (bit_at c.check_squares_for-from_there.result c.m.inside.to == 1) ≡ false = sym c.contains.ensures ∙ c.if-contains.false in
     no_check g.R.Rules.rule p x c.args.m.now c.args.squares.now x c.check_squares_for-from_there.result c.m.inside.to c.requires.well_formed c.requires.pseudo here c.requires.squares arrives c.check_squares_for-from_there.ensures to small off unpromoted (not-false _ (sym c.may_discover.ensures ∙ h))
-  where
-    none_from : (o : Option Kind) → is_some o ≡ false → o ≡ None
-    none_from None e = refl
-    none_from (Some k) e = cc

@@ -11,5 +11,4 @@ returns-then-is_unshielded g c =
 
 pub returns : goal.returns
 returns g c =
-    shield_squares_some g.R.Rules.rule c.args.board.now.men c.args.colour c.in-Some.king c.only.result c.shut_squares.result c.shut_squares-2.result (sym c.king_of.ensures ∙ c.in-Some.is) (sym c.is_unshielded.ensures ∙ c.if-is_unshielded.false) c.only.ensures
-    (rw c.other-enemy.ensures at c.shut_squares.ensures) (rw c.other-enemy.ensures at c.shut_squares-2.ensures)
+    shield_squares_some g.R.Rules.rule c.args.board.now.men c.args.colour c.in-Some.king c.shields_of.result (sym c.king_of.ensures ∙ c.in-Some.is) (sym c.is_unshielded.ensures ∙ c.if-is_unshielded.false) c.shields_of.ensures
