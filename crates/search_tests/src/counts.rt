@@ -1,5 +1,4 @@
 //! How many half-moves are tried, counted plainly: by recursion over copied positions.
-ghost use Rattle.std.specs.Prelude.{◌<◌, ◌≤◌};
 ghost use Rattle.chess_core.specs.WellFormed.{IsWellFormed};
 
 use crate::plain::{can_move, first_diagram, is_goal};
