@@ -20,7 +20,7 @@ use Rattle.chess_rules.specs.Reaches.{hops, is_clear, leaps, reaches, reaches_as
 use Rattle.chess_rules.specs.RuleSet.{orthodox}
 use Rattle.chess_rules.specs.Shields.{has_fairy, is_unshielded, may_expose}
 use Rattle.chess_rules.proofs.Typed.{go, man, on, position, set_up}
-use Rattle.chess_rules.proofs.SquareNames.{a1, b1, b3, a4, d5, e4, a5, a6, b6, d6, e5, a8, g8, h8}
+use Rattle.chess_core.specs.SquareNames.{a1, b1, b3, a4, d5, e4, a5, a6, b6, d6, e5, a8, g8, h8}
 
 -- White rooks a1 and a8 see each other, and neither is faced by its like: only enemies paralyse
 abbrev own_rooks : List (Option Man)
