@@ -26,3 +26,5 @@ fails-here test ms more m e h = rw (e, h) refl
 pub none-all : (none all : Bool) → all ≡ false → false ≡ (not none && all)
 none-all true all e = refl
 none-all false all e = sym e
+
+pub ruleset quietly = (pseudo-from_legal, quiet)

@@ -44,11 +44,22 @@ fn has_quiet_move<R: Rules>(
     ensures board { board.new ≡ board.old }
 {
     while let Some(m) = moves.next(board) {
-        if !may_check::<R>(board, squares, &m) {
+        if is_quiet::<R>(board, squares, &m) {
             return true;
         }
     }
     false
+}
+
+// Whether a legal move can't give check, so that it doesn't mate.
+#[tactic(auto, using(crate::proofs::EveryMove::quietly))]
+fn is_quiet<R: Rules>(board: &Board, squares: &CheckSquares, m: &Move) -> bool
+    requires well_formed { IsWellFormed board.now }
+    requires legal { legal R.rule board.now m.now ≡ true }
+    requires squares { AreCheckSquares R.rule board.now.men (other board.now.turn) squares.now }
+    ensures { result ≡ true → is_mating R.rule board.now m.now ≡ false }
+{
+    !may_check::<R>(board, squares, m)
 }
 
 // Whether there is a legal move behind the place, and each of them mates.

@@ -17,7 +17,8 @@ ghost use Rattle.pop_solve.specs.Values.{seeks, join, joined, value};
 
 use crate::aim::{Aim, Battle};
 use crate::chess::{
-    can_mate, must_mate, first_look, is_for_mate, is_reached_without_move, moves_at, next_behind, next_until, reaches_goal, retract,
+    can_mate, first_look, is_for_mate, is_reached_without_move, moves_at, must_mate, next_behind,
+    next_until, reaches_goal, retract,
 };
 use crate::frame::{Frame, Stretch};
 use crate::killers::Killers;

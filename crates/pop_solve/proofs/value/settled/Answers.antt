@@ -1,7 +1,6 @@
 use Rattle.chess_rules.specs.Legal.{moves as legal_moves}
 use Rattle.chess_rules.specs.Play.{after as played}
 use Rattle.std.proofs.Common.{◌<◌, sym, ◌∙◌, arith}
-use Rattle.pop_solve.specs.Chess.{chess}
 use Rattle.pop_solve.proofs.Boards.{for_mate, mate-value, unreached, walk_count-some}
 use Rattle.pop_solve.proofs.Values as values
 use Rattle.pop_solve.proofs.value.settled.Goals as goal
