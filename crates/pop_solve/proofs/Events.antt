@@ -33,11 +33,17 @@ step-battle : (problem : Posed) (phase : Phase) (path : List Triple) → is_help
 step-battle problem phase path e = rw e refl
 
 -- the event of a line
-pub line-event : (problem : Posed) (phase : Phase) (frames : List Frame) (half : ℕ) (moves : ArrayVec Shown) → is_help problem.stipulation.form ≡ true → half ≡ phase_half problem phase → (rule : RuleSet) → moves.items ≡ shown_along problem.stipulation.goal rule (phase_start problem phase) (path frames) → Line half moves ≡ event_of rule problem (step_of problem phase (path frames))
+pub line-event : (problem : Posed) (phase : Phase) (frames : List Frame) (half : ℕ) (moves : ArrayVec Shown) → is_help problem.stipulation.form ≡ true
+    → half ≡ phase_half problem phase → (rule : RuleSet)
+    → moves.items ≡ shown_along problem.stipulation.goal rule (phase_start problem phase) (path frames)
+    → Line half moves ≡ event_of rule problem (step_of problem phase (path frames))
 line-event problem phase frames half moves help h rule m = rw (step-help problem phase (path frames) help, h, ← m) refl
 
 -- the event of a node
-pub node-event : (problem : Posed) (phase : Phase) (frames : List Frame) (half depth : ℕ) (shown : Shown) → is_help problem.stipulation.form ≡ false → half ≡ phase_half problem phase → depth + 2 ≡ length frames → (rule : RuleSet) → shown ≡ shown_last problem.stipulation.goal rule (phase_start problem phase) (path (reverse frames)) → Node depth (half + depth) shown ≡ event_of rule problem (step_of problem phase (path (reverse frames)))
+pub node-event : (problem : Posed) (phase : Phase) (frames : List Frame) (half depth : ℕ) (shown : Shown) → is_help problem.stipulation.form ≡ false
+    → half ≡ phase_half problem phase → depth + 2 ≡ length frames → (rule : RuleSet)
+    → shown ≡ shown_last problem.stipulation.goal rule (phase_start problem phase) (path (reverse frames))
+    → Node depth (half + depth) shown ≡ event_of rule problem (step_of problem phase (path (reverse frames)))
 node-event problem phase frames half depth shown help h e rule s =
     let l : length (path (reverse frames)) - 1 ≡ depth = omega (arith, path-length (reverse frames), length-reverse frames, e) in
     rw (step-battle problem phase (path (reverse frames)) help, l, h, s) refl
@@ -95,7 +101,9 @@ module _ (rule : RuleSet) (problem : Posed) (phase : Phase) (count : ℕ) (old :
   pub room-given : cond (is_help problem.stipulation.form || eqb (length frames) 2) 1 0 ≤ problem.max_solutions - count
   room-given = rw begins-given (w.within refl)
 
-  gives-here : (next : ℕ) (event : Event) → next ≡ count + cond (is_help problem.stipulation.form || eqb (length frames) 2) 1 0 → event ≡ event_of rule problem (step_of problem phase (path (reverse frames))) → Gives rule problem (left_of rule problem (Within phase count) old) (left_of rule problem (Within phase next) (reverse frames)) event board (length frames)
+  gives-here : (next : ℕ) (event : Event) → next ≡ count + cond (is_help problem.stipulation.form || eqb (length frames) 2) 1 0
+      → event ≡ event_of rule problem (step_of problem phase (path (reverse frames)))
+      → Gives rule problem (left_of rule problem (Within phase count) old) (left_of rule problem (Within phase next) (reverse frames)) event board (length frames)
   gives-here next event n e = record {
     step = step_of problem phase (path (reverse frames));
     left = left-given rule problem phase count old (reverse frames) board most w next (n ∙ ap (λ b. count + cond b 1 0) begins-given);
@@ -109,7 +117,9 @@ module _ (rule : RuleSet) (problem : Posed) (phase : Phase) (count : ℕ) (old :
 
   -- once board and frames still stand as they were left
   module _ (left : List Frame) (stand : Position) (kept : left ≡ frames) (stays : stand ≡ board) where
-    pub gives-given : (next : ℕ) (event : Event) → next ≡ count + cond (is_help problem.stipulation.form || eqb (length frames) 2) 1 0 → event ≡ event_of rule problem (step_of problem phase (path (reverse frames))) → Gives rule problem (left_of rule problem (Within phase count) old) (left_of rule problem (Within phase next) (reverse left)) event stand (length left)
+    pub gives-given : (next : ℕ) (event : Event) → next ≡ count + cond (is_help problem.stipulation.form || eqb (length frames) 2) 1 0
+        → event ≡ event_of rule problem (step_of problem phase (path (reverse frames)))
+        → Gives rule problem (left_of rule problem (Within phase count) old) (left_of rule problem (Within phase next) (reverse left)) event stand (length left)
     gives-given next event n e = rw (kept, stays) (gives-here next event n e)
 
   pub shallow-given : IsSound problem → length frames ≤ 33

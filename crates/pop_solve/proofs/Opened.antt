@@ -157,7 +157,10 @@ module _ (rule : RuleSet) (problem : Posed) where
         narrowed Play n = tt
 
   -- a call that walked again from the phase's first position would count what had been opened before twice
-  pub no_second_walk : (old new : Stage) (frames last : List Frame) (before after again walk : ℕ) (left : List Step) → OpensOn rule problem old new frames last before after left → is_help problem.stipulation.form ≡ true → is_unstopped left ≡ true → IsCounted walk before (rest_open rule problem old frames) → 0 < before → walk - rest_open rule problem new last ≤ again → after ≡ before + again → after < 2 ^ 64 → ⊥
+  pub no_second_walk : (old new : Stage) (frames last : List Frame) (before after again walk : ℕ) (left : List Step)
+      → OpensOn rule problem old new frames last before after left → is_help problem.stipulation.form ≡ true → is_unstopped left ≡ true
+      → IsCounted walk before (rest_open rule problem old frames) → 0 < before → walk - rest_open rule problem new last ≤ again
+      → after ≡ before + again → after < 2 ^ 64 → ⊥
   no_second_walk old new frames last before after again walk left x h u c some whole sum fits =
       let is = x.counted h u walk c in absurd (omega (arith, is.counts, some, whole, sum, fits))
 

@@ -52,11 +52,13 @@ module _ (goal : Goal) (rule : RuleSet) where
   path-more p f [] some = absurd (omega (arith, some))
   path-more p f (g ∷ below) some = refl
 
-  pub along-more : (p : Position) (f : Frame) (fs : List Frame) → 0 < length fs → shown_along goal rule p (path (f ∷ fs)) ≡ shown_along goal rule p (path fs) ++ show goal rule (position rule p fs) f.by ∷ []
+  pub along-more : (p : Position) (f : Frame) (fs : List Frame) → 0 < length fs
+      → shown_along goal rule p (path (f ∷ fs)) ≡ shown_along goal rule p (path fs) ++ show goal rule (position rule p fs) f.by ∷ []
   along-more p f fs some =
       rw (path-more p f fs some, along-append p (path fs) f.by, reach-path p fs) refl
 
-  pub last-more : (p : Position) (f : Frame) (fs : List Frame) → 0 < length fs → shown_last goal rule p (path (f ∷ fs)) ≡ show goal rule (position rule p fs) f.by
+  pub last-more : (p : Position) (f : Frame) (fs : List Frame) → 0 < length fs
+      → shown_last goal rule p (path (f ∷ fs)) ≡ show goal rule (position rule p fs) f.by
   last-more p f fs some = rw (path-more p f fs some, last-append p (path fs) f.by, reach-path p fs) refl
 
 module _ (rule : RuleSet) where
@@ -79,7 +81,8 @@ module _ (rule : RuleSet) where
 
   pub linked-take : (p : Position) (frames : List Frame) (n : ℕ) → IsLinked rule p (reverse frames) → IsLinked rule p (reverse (take n frames))
   linked-take p frames n l =
-      let parts : reverse frames ≡ reverse (drop n frames) ++ reverse (take n frames) = ap reverse (sym (take-append-drop n frames)) ∙ reverse-append (take n frames) (drop n frames) in
+      let parts : reverse frames ≡ reverse (drop n frames) ++ reverse (take n frames) =
+      ap reverse (sym (take-append-drop n frames)) ∙ reverse-append (take n frames) (drop n frames) in
       let T : List Frame → Type 0 = λ fs. IsLinked rule p fs in
       linked-cut p (reverse (drop n frames)) (reverse (take n frames)) (subst T parts l)
 
@@ -92,12 +95,16 @@ module _ (rule : RuleSet) where
     some-below = omega (arith, length-reverse lower, some)
 
     pub back-asks : (h : ℕ) (p board : Position) → IsWalking rule h p (reverse upper) board → CameFrom rule f board
-    back-asks h p board r = let T : List Frame → Type 0 = λ fs. IsWalking rule h p fs board in CameFrom-deep rule h p f (reverse lower) board (subst T stacked r) some-below
+    back-asks h p board r =
+        let T : List Frame → Type 0 = λ fs. IsWalking rule h p fs board in
+        CameFrom-deep rule h p f (reverse lower) board (subst T stacked r) some-below
 
-    pub back-walking : (h : ℕ) (p board after : Position) → IsWalking rule h p (reverse upper) board → ((q : Position) → CameFromAt rule f board q → after ≡ q) → IsWalking rule h p (reverse lower) after
+    pub back-walking : (h : ℕ) (p board after : Position) → IsWalking rule h p (reverse upper) board → ((q : Position) → CameFromAt rule f board q
+        → after ≡ q) → IsWalking rule h p (reverse lower) after
     back-walking h p board after r before =
         let T : List Frame → Type 0 = λ fs. IsWalking rule h p fs board in
-        walking-close rule h p f (reverse lower) board after (subst T stacked r) (λ z. absurd (omega (arith, z, some-below))) (λ q z cf. before q cf)
+        walking-close rule h p f (reverse lower) board after (subst T stacked r)
+        (λ z. absurd (omega (arith, z, some-below))) (λ q z cf. before q cf)
 
     pub forth-legal : (p : Position) → IsLinked rule p (reverse upper) → legal rule (position rule p (reverse lower)) f.by ≡ true
     forth-legal p l = let T : List Frame → Type 0 = λ fs. IsLinked rule p fs in linked-legal p f (reverse lower) some-below (subst T stacked l)
@@ -105,7 +112,8 @@ module _ (rule : RuleSet) where
     pub forth-position : (p : Position) → position rule p (reverse upper) ≡ played rule (position rule p (reverse lower)) f.by
     forth-position p = ap (position rule p) stacked ∙ position-more p f (reverse lower) some-below
 
-    pub forth-along : (goal : Goal) (p : Position) → shown_along goal rule p (path (reverse upper)) ≡ shown_along goal rule p (path (reverse lower)) ++ show goal rule (position rule p (reverse lower)) f.by ∷ []
+    pub forth-along : (goal : Goal) (p : Position)
+        → shown_along goal rule p (path (reverse upper)) ≡ shown_along goal rule p (path (reverse lower)) ++ show goal rule (position rule p (reverse lower)) f.by ∷ []
     forth-along goal p = ap (λ fs. shown_along goal rule p (path fs)) stacked ∙ along-more goal rule p f (reverse lower) some-below
 
     pub forth-last : (goal : Goal) (p : Position) → shown_last goal rule p (path (reverse upper)) ≡ show goal rule (position rule p (reverse lower)) f.by

@@ -1,14 +1,10 @@
 //! The phases of a search.
 ghost use Rattle.std.specs.Prelude.{◌≡◌, ◌+◌, ◌<◌, ◌≤◌, ℕ, List, [], ◌∷◌, ◌++◌, length, reverse, IsTrue, true, false, if◌then◌else◌, MatchOption, Some, None, not, ◌&&◌, ◌||◌, ◌==◌, ◌-◌, ◌^◌, min, slice_get, drop};
 ghost use Rattle.arrayvec.specs.ArrayVec.{array_vec_len};
-ghost use Rattle.chess_core.specs.Diagrams.{position_of};
 ghost use Rattle.chess_core.specs.Position.{Position};
-ghost use Rattle.chess_core.specs.WellFormed.{IsWellFormed};
-ghost use Rattle.chess_rules.specs.RuleSet.{RuleSet};
 ghost use Rattle.pop_input.specs.Posed.{IsSound};
 ghost use Rattle.pop_input.specs.Stipulations.{half_moves, is_help};
 ghost use Rattle.pop_solve.specs.Aims.{battle_of};
-ghost use Rattle.pop_solve.specs.Chess.{set_start};
 ghost use Rattle.pop_solve.specs.Events.{first_phase, start, phase_half_moves as half_moves_of_phase, phase_start, phase_half as half_of_phase, event_of, is_barred, step_of, is_set, opening};
 ghost use Rattle.pop_solve.specs.Walk.{IsWalking, Opens, path};
 ghost use Rattle.pop_solve.specs.Phases.{way_of as way_of_problem, left_of, IsStanding, Walks, Gives, OpensOn};

@@ -1,4 +1,5 @@
-//! The moves that lead to the top frame as they are shown: they are taken back on the board and played again.
+//! The moves that lead to the top frame as they are shown: they are taken back on the board and
+//! played again.
 ghost use Rattle.chess_core.specs.Position.{Position};
 ghost use Rattle.chess_core.specs.WellFormed.{IsWellFormed};
 ghost use Rattle.chess_rules.specs.Legal.{legal};
@@ -44,8 +45,10 @@ fn play_shown<R: Rules>(goal: Goal, frame: &Frame<R>, board: &mut Board) -> Show
 
 /// Takes back all moves that lead to the top frame.
 fn take_all_back<R: Rules>(frames: &[Frame<R>], board: &mut Board)
-    requires walking { (h : ℕ) × (p : Position) × IsWalking R.rule h p (reverse frames.now) board.old }
-    ensures start { (h : ℕ) (p : Position) → IsWalking R.rule h p (reverse frames.now) board.old → board.new ≡ p }
+    requires walking { (h : ℕ) × (p : Position)
+        × IsWalking R.rule h p (reverse frames.now) board.old }
+    ensures start { (h : ℕ) (p : Position) → IsWalking R.rule h p (reverse frames.now) board.old
+        → board.new ≡ p }
     ensures well_formed { IsWellFormed board.new }
 {
     let mut k = frames.len();
@@ -62,7 +65,8 @@ pub(crate) fn line<R: Rules>(
     board: &mut Board,
 ) -> ArrayVec<Shown, 32>
     requires shallow { length frames.now ≤ 33 }
-    requires walking { (h : ℕ) × (p : Position) × IsWalking R.rule h p (reverse frames.now) board.old }
+    requires walking { (h : ℕ) × (p : Position)
+        × IsWalking R.rule h p (reverse frames.now) board.old }
     ensures unchanged { board.new ≡ board.old }
     ensures line { (h : ℕ) (p : Position) → IsWalking R.rule h p (reverse frames.now) board.old
         → result.items ≡ shown_along goal R.rule p (path (reverse frames.now)) }
@@ -78,7 +82,8 @@ pub(crate) fn line<R: Rules>(
 /// The last of them.
 pub(crate) fn last_shown<R: Rules>(goal: Goal, frames: &[Frame<R>], board: &mut Board) -> Shown
     requires deep { 2 ≤ length frames.now }
-    requires walking { (h : ℕ) × (p : Position) × IsWalking R.rule h p (reverse frames.now) board.old }
+    requires walking { (h : ℕ) × (p : Position)
+        × IsWalking R.rule h p (reverse frames.now) board.old }
     ensures unchanged { board.new ≡ board.old }
     ensures shown { (h : ℕ) (p : Position) → IsWalking R.rule h p (reverse frames.now) board.old
         → result ≡ shown_last goal R.rule p (path (reverse frames.now)) }

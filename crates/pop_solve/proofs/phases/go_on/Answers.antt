@@ -26,12 +26,14 @@ event_at-event-requires g c =
 pub returns-then-walk_on-clause-standing : goal.returns-then-walk_on-clause-standing
 unfolding IsStanding
 returns-then-walk_on-clause-standing g c =
-    rw c.event_at-event.ensures.unchanged (events.standing-given g.R.Rules.rule c.args.problem.now c.args.phase _ _ _ _ c.requires.standing.1 (rw c.still_to_begin-limit.ensures at c.if-walk_on.ensures.walks) _ (rw c.len.ensures.value at c.count_with-count.ensures))
+    rw c.event_at-event.ensures.unchanged
+    (events.standing-given g.R.Rules.rule c.args.problem.now c.args.phase _ _ _ _ c.requires.standing.1 (rw c.still_to_begin-limit.ensures at c.if-walk_on.ensures.walks) _ (rw c.len.ensures.value at c.count_with-count.ensures))
 
 pub returns-then-walk_on-clause-gives : goal.returns-then-walk_on-clause-gives
 unfolding IsStanding
 returns-then-walk_on-clause-gives g c =
-    events.gives-given g.R.Rules.rule c.args.problem.now c.args.phase _ _ _ _ c.requires.standing.1 (rw c.still_to_begin-limit.ensures at c.if-walk_on.ensures.walks) _ _ (search rules) (search rules) _ _ (rw c.len.ensures.value at c.count_with-count.ensures)
+    events.gives-given g.R.Rules.rule c.args.problem.now c.args.phase _ _ _ _ c.requires.standing.1
+    (rw c.still_to_begin-limit.ensures at c.if-walk_on.ensures.walks) _ _ (search rules) (search rules) _ _ (rw c.len.ensures.value at c.count_with-count.ensures)
     (rw c.as_slice.ensures.value at c.event_at-event.ensures.event)
 
 pub returns-clause-standing : goal.returns-clause-standing
