@@ -1,7 +1,6 @@
 -- The report of an input is the texts of its items, each a function of its own block, its number and what is chosen: no neighbour changes it.
-use Rattle.std.proofs.Common.{◌≡◌, ℕ, zero, suc, ◌+◌, List, [], ◌∷◌, ◌++◌, map, length, get_or, count_by, ◌<◌, true, false, refl, sym, ap, ◌∙◌, arith, append_assoc, length-append}
+use Rattle.std.proofs.Common.{◌≡◌, ℕ, suc, ◌+◌, List, [], ◌∷◌, ◌++◌, map, length, get_or, count_by, ◌<◌, true, false, refl, sym, ap, ◌∙◌, arith, append_assoc}
 use Rattle.std.specs.List.{enumerate_from, flat_map}
-use Rattle.std.proofs.lemmas.List.{length-map}
 use Rattle.pop_text.specs.Left.{put_before}
 use Rattle.pop_text.specs.Words.{Input, Words, is_line_end, limit, words_of}
 use Rattle.pop_input.specs.Blocks.{Entry, entries_of}
@@ -41,7 +40,8 @@ module _ (choice : Choice) where
   report_of_both number (entry ∷ first) others =
       let e : number + 1 + length first ≡ number + suc (length first) = omega arith in
       ap (λ r. entry_text choice number entry ++ r) (report_of_both (number + 1) first others)
-      ∙ rw e (sym (append_assoc (entry_text choice number entry) (report_from choice (number + 1) first) (report_from choice (number + suc (length first)) others)))
+      ∙ rw e (sym (append_assoc (entry_text choice number entry) (report_from choice (number + 1) first)
+      (report_from choice (number + suc (length first)) others)))
 
   text_behind : (number : ℕ) (first : List Entry) (entry : Entry) (others : List Entry)
       → get_or (texts_from number (first ++ entry ∷ others)) (length first) [] ≡ entry_text choice (number + length first) entry
@@ -62,7 +62,8 @@ module _ (choice : Choice) where
       ap (λ w. report_from choice 1 (entries_of true w)) are
       ∙ ap (report_from choice 1) (entries_are before block words)
       ∙ report_of_both 1 (own_entries before) (own_entry (is_first before) block ∷ entries_of false words)
-      ∙ ap (λ n. report_from choice 1 (own_entries before) ++ report_from choice (1 + n) (own_entry (is_first before) block ∷ entries_of false words)) (length-own_entries before)
+      ∙ ap (λ n. report_from choice 1 (own_entries before) ++ report_from choice (1 + n) (own_entry (is_first before) block ∷ entries_of false words))
+      (length-own_entries before)
 
   -- In such an input the text at the block's place is that of its own entry.
   pub text_of_a_block : (input : Input) (before : List NextBlock) (block : NextBlock) (words : Words)
@@ -72,7 +73,8 @@ module _ (choice : Choice) where
   text_of_a_block input before block words are =
       ap (λ w. get_or (texts_from 1 (entries_of true w)) (length before) []) are
       ∙ ap (λ entries. get_or (texts_from 1 entries) (length before) []) (entries_are before block words)
-      ∙ ap (λ n. get_or (texts_from 1 (own_entries before ++ own_entry (is_first before) block ∷ entries_of false words)) n []) (sym (length-own_entries before))
+      ∙ ap (λ n. get_or (texts_from 1 (own_entries before ++ own_entry (is_first before) block ∷ entries_of false words)) n [])
+      (sym (length-own_entries before))
       ∙ text_behind 1 (own_entries before) (own_entry (is_first before) block) (entries_of false words)
       ∙ ap (λ n. entry_text choice (1 + n) (own_entry (is_first before) block)) (length-own_entries before)
 
