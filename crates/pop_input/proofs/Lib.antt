@@ -11,4 +11,6 @@ mod Rows
 pub mod Naming
 pub mod Skipping
 pub mod Among
+pub mod Pieces
 pub mod theorems
+mod ExampleOfBlocks

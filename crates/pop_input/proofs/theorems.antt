@@ -1,2 +1,3 @@
 -- What the definitions mean, for readers: theorems over every input.
 pub mod Entries
+pub mod Inputs

@@ -1,13 +1,14 @@
 -- The trees of battle play, over any game: which moves stand in them, that no path stands twice, and in which order the paths stand.
 use Rattle.std.proofs.Common.{◌≡◌, ◌≢◌, ℕ, zero, suc, ◌-◌, ◌≤◌, ◌↔◌, Bool, true, false, List, [], ◌∷◌, refl, sym, ◌∙◌, arith}
 use Rattle.std.specs.List.{AllPairs, Contains}
+use Rattle.std.proofs.lemmas.Bool.{false≢true}
 use Rattle.std.proofs.lemmas.List.Kept.{AllPairs-filter}
 use Rattle.chess_rules.proofs.Members.{from_filter, in_filter, none_in_nil, pairs_nil, pairs_weaker}
 use Rattle.pop_solve.specs.declared.aim.Battle.{Battle}
 use Rattle.pop_solve.specs.Game.{Game}
 use Rattle.pop_solve.specs.Tree.{answers, below, best, keeps, least, set_shows, set_tree, tree, wins_in}
 use Rattle.pop_solve.proofs.Nodes.{any_from_element, element_from_any, answers_more, answers_zero, below_more, below_zero, deeper_unless, nil_has_beginnings, nodes_have_beginnings, nodes_stand, roots_are, roots_unless, deeper_are, tree_paths, set_tree_paths, set_tree_none, from_nodes, below_key, kept, set_moves, below_set, below_key_has_beginnings, below_key_not_empty, below_key_stands, below_set_has_beginnings, below_set_not_empty, below_set_stands}
-use Rattle.pop_solve.proofs.theorems.Lengths.{wins_by_a_move}
+use Rattle.pop_solve.proofs.theorems.Lengths.{no_win_in_none, wins_by_a_move, wins_in_least}
 use Rattle.pop_solve.proofs.theorems.Lists.{HasBeginnings, StandsBefore, never_before_itself, paths}
 
 module _ {P M : Type 0} (battle : Battle) (game : Game P M) (n : ℕ) where
@@ -15,7 +16,7 @@ module _ {P M : Type 0} (battle : Battle) (game : Game P M) (n : ℕ) where
   abbrev pub IsKey : P → M → Type 0
   IsKey p m = Contains (game.moves p) m × (keeps battle game n (game.after p m) ≡ true)
 
-  -- m is a best continuation: a move of the position that wins in the least number of moves, up to n.
+  -- m is a best continuation: a move of the position with which White wins in the least number of moves, up to n.
   abbrev pub IsBest : P → M → Type 0
   IsBest r m = Contains (game.moves r) m × (keeps battle game (least battle game n r) (game.after r m) ≡ true)
 
@@ -74,6 +75,17 @@ module _ {P M : Type 0} (battle : Battle) (game : Game P M) (n : ℕ) where
     from_filter (λ m. keeps battle game (least battle game n r) (game.after r m)) (game.moves r) m,
     λ w. in_filter (λ m. keeps battle game (least battle game n r) (game.after r m)) (game.moves r) m w.0 w.1,
   )
+
+  -- Where White wins within n moves he has a best continuation.
+  pub some_best_where_won : (r : P) → wins_in battle game n r ≡ true → (m : M) × IsBest r m
+  some_best_where_won r h =
+      let won : wins_in battle game (least battle game n r) r ≡ true = wins_in_least game battle n r h in
+      element_from_any (λ m. keeps battle game (least battle game n r) (game.after r m)) (game.moves r)
+      (sym (wins_by_a_move game battle (least battle game n r) r (some_move_needed (least battle game n r) won)) ∙ won)
+    where
+      some_move_needed : (k : ℕ) → wins_in battle game k r ≡ true → 1 ≤ k
+      some_move_needed zero w = absurd (false≢true (sym (no_win_in_none game battle r) ∙ w))
+      some_move_needed (suc k) w = omega arith
 
   -- Below a position in which White moves, with half-moves left and the goal not reached, his best continuations stand.
   pub continuations_are : (h : ℕ) (r : P) (m : M) → Contains (answers battle game n h r) (m ∷ []) ↔ ((1 ≤ h) × (game.goal r ≡ false) × IsBest r m)
