@@ -12,7 +12,7 @@ use Rattle.chess_rules.specs.Attacks.{in_check}
 use Rattle.pop_input.specs.Posed.{IsSound, rule_of}
 use Rattle.pop_input.specs.State.{State}
 use Rattle.pop_input.specs.Stipulations.{has_king_to_mate, starts}
-use Rattle.pop_input.specs.Ends.{ArePut, counts, is_stated, is_taken, posed_by, setup_fault, setup_of, unmoved_of}
+use Rattle.pop_input.specs.Ends.{position_fault, ArePut, counts, is_stated, is_taken, posed_by, setup_fault, setup_of, unmoved_of}
 use Rattle.pop_input.specs.Values.{most_solutions}
 use Rattle.pop_input.specs.declared.stipulation.Form.{Form}
 use Rattle.pop_input.specs.declared.stipulation.Stipulation.{Stipulation}
@@ -69,9 +69,6 @@ crossed_fine setup well = well.crossed
 
 -- The faults.
 
-abbrev pub check_number : Bool → Option ℕ
-check_number check = if check then Some 18 else None
-
 pub shown_men : (setup : Setup) → (position_of setup).men ≡ setup.men
 unfolding position_of
 shown_men setup = refl
@@ -86,13 +83,11 @@ module _ (state : State) (stipulation : Stipulation) (setup : Setup) (is : setup
     right : is_crossed_right setup.men setup.turn setup.crossed ≡ true
     right = crossed_fine setup well
 
-    pub king_fault : has_king_to_mate stipulation setup.men ≡ false → Some 17 ≡ setup_fault state stipulation setup
-    king_fault none = rw (some, right, none) refl
-
-    pub check_fault : (check : Bool) → has_king_to_mate stipulation setup.men ≡ true → check ≡ in_check (rule_of state.condition) setup.men (other (starts stipulation.form)) → check_number check ≡ setup_fault state stipulation setup
-    check_fault check king at =
+    -- the faults of the position
+    pub position_told : (king check : Bool) → king ≡ has_king_to_mate stipulation setup.men → check ≡ in_check (rule_of state.condition) setup.men (other (starts stipulation.form)) → position_fault king check ≡ setup_fault state stipulation setup
+    position_told king check k at =
         let turn : setup.turn ≡ starts stipulation.form = ap (λ s. s.turn) is in
-        rw (some, right, king, turn, ← at) refl
+        rw (some, right, ← k, turn, ← at) refl
 
 abbrev tests_by : Bool → Bool → Bool → Bool → Option ℕ
 tests_by some right king check = if not some then Some 11 else (if not right then Some 15 else (if not king then Some 17 else (if check then Some 18 else None)))

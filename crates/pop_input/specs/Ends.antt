@@ -55,13 +55,16 @@ posed_of state title author = posed_by state (unwrap_or state.stipulation no_sti
 unfoldable pub is_taken : List (Option Man) → ℕ → Bool
 is_taken men square = is_some (man_on men square)
 
--- no men, en passant not possible, no king to be mated, the side that isn't to move in check
+-- no king to be mated, the side that isn't to move in check
+abbrev pub position_fault : Bool → Bool → Option ℕ
+position_fault has_king in_check = if not has_king then Some 17 else (if in_check then Some 18 else None)
+
+-- no men, en passant not possible, and the faults of the position
 abbrev pub setup_fault : State → Stipulation → Setup → Option ℕ
 setup_fault state stipulation setup =
     if not (some_square (is_taken setup.men)) then Some 11
     else (if not (is_crossed_right setup.men setup.turn setup.crossed) then Some 15
-    else (if not (has_king_to_mate stipulation setup.men) then Some 17
-    else (if in_check (rule_of state.condition) setup.men (other setup.turn) then Some 18 else None)))
+    else position_fault (has_king_to_mate stipulation setup.men) (in_check (rule_of state.condition) setup.men (other setup.turn)))
 
 abbrev pub stated_fault : State → Option Stipulation → Option ℕ
 stated_fault state None = Some 10

@@ -88,8 +88,9 @@ impl Block {
     pub(crate) fn read_long(&mut self, line: u64)
         ensures fault { self.new.fault ≡ or_else self.old.fault (Some (fault_at 3 line)) }
     {
-        if self.fault.is_none() {
-            self.fault = Some(Fault { number: 3, line });
+        match self.fault {
+            Some(_) => {}
+            None => self.fault = Some(Fault { number: 3, line }),
         }
     }
 

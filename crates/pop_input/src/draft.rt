@@ -8,7 +8,7 @@ ghost use Rattle.chess_core.specs.Diagrams.{position_of};
 ghost use Rattle.chess_core.specs.WellFormed.{IsWellFormed, is_home};
 ghost use Rattle.chess_rules.specs.Attacks.{in_check};
 ghost use Rattle.pop_input.specs.Posed.{rule_of};
-ghost use Rattle.pop_input.specs.Ends.{counts, end_fault_in, is_taken, posed_of, setup_fault, setup_of, unmoved_of};
+ghost use Rattle.pop_input.specs.Ends.{counts, end_fault_in, is_taken, posed_of, position_fault, setup_fault, setup_of, unmoved_of};
 ghost use Rattle.pop_input.specs.Names.{command_of, kind_of};
 ghost use Rattle.pop_input.specs.Closings.{Poses};
 ghost use Rattle.pop_input.specs.Values.{is_digit, squares_of};
@@ -401,13 +401,9 @@ impl Draft {
             return Some(15);
         }
         let board = Board::of(diagram);
-        if !has_king_to_mate(stipulation, &board) {
-            return Some(17);
-        }
-        if is_in_check(&board, condition, stipulation.form.starts().other()) {
-            return Some(18);
-        }
-        None
+        let has_king = has_king_to_mate(stipulation, &board);
+        let in_check = is_in_check(&board, condition, stipulation.form.starts().other());
+        position_fault(has_king, in_check)
     }
 
     // Whether that diagram is well formed: only the crossed square may be wrong in it.
@@ -483,6 +479,20 @@ fn is_taken(diagram: &Diagram, square: Square) -> bool
     ensures { result ≡ is_taken diagram.now.men square }
 {
     diagram.man_at(square).is_some()
+}
+
+// The fault of a position by whether the king that is to be mated stands in it, and whether the side that isn't to move
+// is in check.
+fn position_fault(has_king: bool, in_check: bool) -> Option<u8>
+    ensures { result ≡ position_fault has_king in_check }
+{
+    if !has_king {
+        Some(17)
+    } else if in_check {
+        Some(18)
+    } else {
+        None
+    }
 }
 
 // Whether the king that is to be mated stands on the board; stalemate asks for none.

@@ -26,7 +26,7 @@ const WINDOW: usize = 4096;
 // The bytes of a gap that are looked at one by one, before blocks are.
 const NEAR: usize = 4;
 
-// The bytes of a gap that are looked at together.
+// The bytes of a gap or a run that are looked at together.
 const BLOCK: usize = 32;
 
 /// How the input ends, as far as that is known.
@@ -181,12 +181,12 @@ impl Scanner {
         &view[..line_front(view)]
     }
 
-    // The bytes of the window that belong to the run and to the input.
-    fn run_part(&self) -> &[u8]
+    // The bytes of the window that belong to the run, which is long already or not, and to the input.
+    fn run_part(&self, is_long: bool) -> &[u8]
         ensures { IsFront is_in_word self.now result.now }
     {
         let view = self.view();
-        &view[..run_front(view)]
+        &view[..run_length(view, is_long)]
     }
 
     // Uses the blanks and line ends that stand first in the window and belong to the input.
@@ -239,7 +239,7 @@ impl Scanner {
         'run: loop {
             match self.peek(source)? {
                 Some(byte) if !in_gap(byte) => {
-                    let part = self.run_part();
+                    let part = self.run_part(!fits);
                     let count = part.len();
                     fits = keep_run(word, part);
                     self.advance(count, 0);
@@ -450,13 +450,22 @@ fn line_ends_in(block: &[u8]) -> u8
     ensures value { result ≡ count_by is_line_end block.now }
     ensures few { result ≤ length block.now }
 {
-    let mut line_ends = 0;
+    let mut ends = 0;
     'block: for &byte in block {
         if byte == b'\n' {
-            line_ends += 1;
+            ends += 1;
         }
     }
-    line_ends
+    ends
+}
+
+// How many bytes of a run stand before the first blank or line end, where it is long already or not.
+fn run_length(view: &[u8], is_long: bool) -> usize
+    ensures within { result ≤ length view.now }
+    ensures all { list_all is_in_word (take result view.now) ≡ true }
+    ensures some { (b : ℕ) → (rest : List ℕ) → view.now ≡ b ∷ rest → is_in_word b ≡ true → 0 < result }
+{
+    if is_long { far_run(view) } else { run_front(view) }
 }
 
 // How many bytes stand before the first blank or line end.
@@ -472,6 +481,43 @@ fn run_front(view: &[u8]) -> usize
         }
     }
     view.len()
+}
+
+// The same, counted by whole blocks, and behind them byte by byte.
+#[inline(never)]
+fn far_run(view: &[u8]) -> usize
+    ensures within { result ≤ length view.now }
+    ensures all { list_all is_in_word (take result view.now) ≡ true }
+    ensures some { (b : ℕ) → (rest : List ℕ) → view.now ≡ b ∷ rest → is_in_word b ≡ true → 0 < result }
+{
+    let whole = run_blocks(view);
+    whole + run_front(&view[whole..])
+}
+
+// How many bytes the whole blocks without a blank or line end have that stand first.
+fn run_blocks(view: &[u8]) -> usize
+    ensures within { result ≤ length view.now }
+    ensures all { list_all is_in_word (take result view.now) ≡ true }
+{
+    let mut count = 0;
+    'whole: while view.len() - count >= BLOCK {
+        if !are_in_run(&view[count..count + BLOCK]) {
+            return count;
+        }
+        count += BLOCK;
+    }
+    count
+}
+
+// Whether no byte is a blank or line end: none ends the loop, so that many are looked at together.
+fn are_in_run(block: &[u8]) -> bool
+    ensures { result ≡ list_all is_in_word block.now }
+{
+    let mut all = true;
+    'block: for &byte in block {
+        all &= !in_gap_of_block(byte);
+    }
+    all
 }
 
 // How many bytes the plain words have that stand first, with the gaps before them. Behind each stands a gap.
@@ -490,7 +536,7 @@ fn plain_front(view: &[u8]) -> Front
         let gap = gap_front(left);
         let behind = &left[gap.count..];
         let run = run_front(behind);
-        if run == 0 || run == behind.len() || is_named(&behind[..run]) {
+        if !says_nothing(behind, run) {
             return plain;
         }
         let more = Front {
@@ -500,6 +546,16 @@ fn plain_front(view: &[u8]) -> Front
         plain = both(plain, more);
     }
     plain
+}
+
+// Whether so many bytes are a word that says nothing in skipped text: it ends within the view, and isn't named.
+fn says_nothing(view: &[u8], count: usize) -> bool
+    requires { count ≤ length view.now }
+    ensures some { result ≡ true → 0 < count }
+    ensures whole { result ≡ true → count < length view.now }
+    ensures plain { result ≡ true → is_named (take count view.now) ≡ false }
+{
+    count > 0 && count < view.len() && !is_named(&view[..count])
 }
 
 // Whether the word begins like a text word or a closing word.

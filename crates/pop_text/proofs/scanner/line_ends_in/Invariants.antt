@@ -5,6 +5,6 @@ use Rattle.pop_text.proofs.scanner.line_ends_in.Given as goal
 -- the line ends so far
 abbrev pub invariant-block : goal.invariant-block
 invariant-block l = record {
-  lines : l.line_ends ≡ count_by is_line_end (take l.byte-index l.block);
-  few : l.line_ends ≤ l.byte-index;
+  lines : l.ends ≡ count_by is_line_end (take l.byte-index l.block);
+  few : l.ends ≤ l.byte-index;
 }

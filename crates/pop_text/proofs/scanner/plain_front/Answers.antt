@@ -1,4 +1,4 @@
-use Rattle.std.proofs.Common.{slice_range, ◌∙◌, refl, sym, arith, length}
+use Rattle.std.proofs.Common.{slice_range, refl, arith, length}
 use Rattle.std.proofs.lemmas.List.{take_rest}
 use Rattle.pop_text.proofs.Plain.{none_plain, none_out, step_more}
 use Rattle.pop_text.proofs.scanner.plain_front.Goals as goal
@@ -11,7 +11,11 @@ words-preserved c =
     let view = c.args.view.now in
     let left = slice_range view c.words.plain.count (length view) in
     let behind = slice_range left c.gap_front-gap.result.count (length left) in
+    let told = c.says_nothing.ensures in
+    let yes = c.if-not-says_nothing.false in
+    let some = told.some yes in
+    let whole = told.whole yes in
     rw (c.both-plain.ensures.count, c.both-plain.ensures.line_ends)
     (step_more view left behind c.words.plain.count c.gap_front-gap.result.count c.run_front-run.result c.words.plain.line_ends c.gap_front-gap.result.line_ends
-    (take_rest view c.words.plain.count) (take_rest left c.gap_front-gap.result.count) c.if-run-eq0.false c.if-run-behind.false c.gap_front-gap.ensures.within c.run_front-run.ensures.within
-    c.gap_front-gap.ensures.all c.run_front-run.ensures.all c.run_front-run.ensures.over (sym c.is_named.ensures ∙ c.if-is_named.false) c.gap_front-gap.ensures.lines c.words.invariant)
+    (take_rest view c.words.plain.count) (take_rest left c.gap_front-gap.result.count) (λ none. omega (arith, none, some)) (λ all. omega (arith, all, whole)) c.gap_front-gap.ensures.within c.run_front-run.ensures.within
+    c.gap_front-gap.ensures.all c.run_front-run.ensures.all c.run_front-run.ensures.over (told.plain yes) c.gap_front-gap.ensures.lines c.words.invariant)

@@ -1,10 +1,10 @@
-use Rattle.std.proofs.Common.{◌≡◌, ◌∙◌, sym, ap, true, false}
+use Rattle.std.proofs.Common.{◌≡◌, ◌∙◌, sym, ap}
 use Rattle.chess_core.specs.Position.{other}
 use Rattle.chess_rules.specs.Attacks.{in_check}
 use Rattle.pop_input.specs.Ends.{ArePut}
 use Rattle.pop_input.specs.Posed.{rule_of}
 use Rattle.pop_input.specs.Stipulations.{has_king_to_mate, starts}
-use Rattle.pop_input.proofs.Posing.{ill_fault, king_fault, check_fault, shown_men}
+use Rattle.pop_input.proofs.Posing.{ill_fault, position_told, shown_men}
 use Rattle.pop_input.proofs.draft.Draft.setup_fault.Goals as goal
 
 pub returns-then-not-is_well_formed-clause-number : goal.returns-then-not-is_well_formed-clause-number
@@ -12,27 +12,11 @@ returns-then-not-is_well_formed-clause-number c =
     let put : ArePut c.args.self.now.men = rw (← c.self.view_is) c.self.invariant.0 in
     ill_fault c.args.self.now c.args.stipulation c.args.diagram.now c.requires put (sym c.has_men.ensures ∙ c.if-not-has_men.false) c.if-not-is_well_formed.ensures
 
-pub returns-then-not-has_king_to_mate-clause-number : goal.returns-then-not-has_king_to_mate-clause-number
-returns-then-not-has_king_to_mate-clause-number c =
-    let put : ArePut c.args.self.now.men = rw (← c.self.view_is) c.self.invariant.0 in
-    let men = ap (λ p. p.men) c.of-board.ensures ∙ shown_men c.args.diagram.now in
-    let king : c.has_king_to_mate.result ≡ has_king_to_mate c.args.stipulation c.args.diagram.now.men = rw (← men) c.has_king_to_mate.ensures in
-    king_fault c.args.self.now c.args.stipulation c.args.diagram.now c.requires put (sym c.has_men.ensures ∙ c.if-not-has_men.false) c.if-not-is_well_formed.ensures (sym king ∙ c.if-not-has_king_to_mate.true)
-
-pub returns-then-is_in_check-clause-number : goal.returns-then-is_in_check-clause-number
-returns-then-is_in_check-clause-number c =
-    let put : ArePut c.args.self.now.men = rw (← c.self.view_is) c.self.invariant.0 in
-    let men = ap (λ p. p.men) c.of-board.ensures ∙ shown_men c.args.diagram.now in
-    let condition = ap (λ s. s.condition) c.self.view_is in
-    let king : c.has_king_to_mate.result ≡ has_king_to_mate c.args.stipulation c.args.diagram.now.men = rw (← men) c.has_king_to_mate.ensures in
-    let check : c.is_in_check.result ≡ in_check (rule_of c.args.self.now.condition) c.args.diagram.now.men (other (starts c.args.stipulation.form)) = rw (← condition, ← men, ← c.starts.ensures, ← c.other.ensures) c.is_in_check.ensures in
-    check_fault c.args.self.now c.args.stipulation c.args.diagram.now c.requires put (sym c.has_men.ensures ∙ c.if-not-has_men.false) c.if-not-is_well_formed.ensures true (sym king ∙ c.if-not-has_king_to_mate.false) (sym c.if-is_in_check.true ∙ check)
-
 pub returns-clause-number : goal.returns-clause-number
 returns-clause-number c =
     let put : ArePut c.args.self.now.men = rw (← c.self.view_is) c.self.invariant.0 in
     let men = ap (λ p. p.men) c.of-board.ensures ∙ shown_men c.args.diagram.now in
     let condition = ap (λ s. s.condition) c.self.view_is in
-    let king : c.has_king_to_mate.result ≡ has_king_to_mate c.args.stipulation c.args.diagram.now.men = rw (← men) c.has_king_to_mate.ensures in
-    let check : c.is_in_check.result ≡ in_check (rule_of c.args.self.now.condition) c.args.diagram.now.men (other (starts c.args.stipulation.form)) = rw (← condition, ← men, ← c.starts.ensures, ← c.other.ensures) c.is_in_check.ensures in
-    check_fault c.args.self.now c.args.stipulation c.args.diagram.now c.requires put (sym c.has_men.ensures ∙ c.if-not-has_men.false) c.if-not-is_well_formed.ensures false (sym king ∙ c.if-not-has_king_to_mate.false) (sym c.if-is_in_check.false ∙ check)
+    let king : c.has_king_to_mate-has_king.result ≡ has_king_to_mate c.args.stipulation c.args.diagram.now.men = rw (← men) c.has_king_to_mate-has_king.ensures in
+    let check : c.is_in_check-in_check.result ≡ in_check (rule_of c.args.self.now.condition) c.args.diagram.now.men (other (starts c.args.stipulation.form)) = rw (← condition, ← men, ← c.starts.ensures, ← c.other.ensures) c.is_in_check-in_check.ensures in
+    c.position_fault.ensures ∙ position_told c.args.self.now c.args.stipulation c.args.diagram.now c.requires put (sym c.has_men.ensures ∙ c.if-not-has_men.false) c.if-not-is_well_formed.ensures c.has_king_to_mate-has_king.result c.is_in_check-in_check.result king check
