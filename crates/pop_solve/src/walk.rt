@@ -1,7 +1,7 @@
 //! The walk over the moves of a phase, on frames.
 ghost use Rattle.chess_rules.specs.Play.{after as played};
 ghost use Rattle.chess_rules.specs.Legal.{moves as legal_moves};
-ghost use Rattle.std.specs.Prelude.{◌≡◌, ◌+◌, ◌<◌, ◌≤◌, ◌/◌, ℕ, List, [], ◌∷◌, ◌++◌, length, reverse, IsTrue, true, false, if◌then◌else◌, IfSome, MatchOption, ◌⊎◌, not, ◌&&◌, ◌||◌, ◌==◌, ◌-◌, ◌^◌, min};
+ghost use Rattle.std.specs.Prelude.{◌≡◌, ◌↔◌, ◌+◌, ◌<◌, ◌≤◌, ◌/◌, ℕ, List, [], ◌∷◌, ◌++◌, length, reverse, IsTrue, true, false, if◌then◌else◌, IfSome, MatchOption, ◌⊎◌, not, ◌&&◌, ◌||◌, ◌==◌, ◌-◌, ◌^◌, min};
 ghost use Rattle.chess_core.specs.Position.{Position};
 ghost use Rattle.chess_core.specs.WellFormed.{IsWellFormed};
 ghost use Rattle.chess_rules.specs.Legal.{legal};
@@ -9,7 +9,7 @@ ghost use Rattle.chess_rules.specs.Places.{IsPlaceIn, moves_behind};
 ghost use Rattle.chess_rules.specs.Play.{undo_of};
 ghost use Rattle.arrayvec.specs.ArrayVec.{array_vec_len};
 ghost use Rattle.pop_solve.specs.Frames.{CameFrom, CameFromAt, opened as opened_frame};
-ghost use Rattle.pop_solve.specs.Chess.{chess};
+ghost use Rattle.pop_solve.specs.Chess.{chess, is_for_mate};
 ghost use Rattle.pop_solve.specs.Game.{walk_count};
 ghost use Rattle.pop_solve.specs.Values.{seeks};
 ghost use Rattle.pop_solve.specs.Walk.{fewest as fewest_of, first_from, open_length, follows as is_followed, gives as is_given, goes_on, GoesTo, IsWalking, Steps};
@@ -201,6 +201,13 @@ fn enter<R: Rules, const N: usize>(
     gives::<R>(way, left, board)
 }
 
+/// Whether each path that is given ends with the next half-move, which mates: the last of help play for mate.
+fn ends_with_mate(way: Way, left: usize) -> bool
+    ensures { IsTrue result ↔ ((is_for_mate way.aim.goal ≡ true) × (way.help ≡ true) × (left ≡ 1)) }
+{
+    is_for_mate(way.aim.goal) && way.help && left == 1
+}
+
 /// The next move behind a place, in a position from which `left` half-moves are tried: the next mate, where help play
 /// ends with it.
 fn next_of<R: Rules>(
@@ -221,7 +228,7 @@ fn next_of<R: Rules>(
     if left == 0 {
         return None;
     }
-    if is_for_mate(way.aim.goal) && way.help && left == 1 {
+    if ends_with_mate(way, left) {
         return next_mate::<R>(place, board);
     }
     next_move::<R>(known, place, board)
