@@ -465,7 +465,11 @@ fn run_length(view: &[u8], is_long: bool) -> usize
     ensures all { list_all is_in_word (take result view.now) ≡ true }
     ensures some { (b : ℕ) → (rest : List ℕ) → view.now ≡ b ∷ rest → is_in_word b ≡ true → 0 < result }
 {
-    if is_long { far_run(view) } else { run_front(view) }
+    if is_long {
+        far_run(view)
+    } else {
+        run_front(view)
+    }
 }
 
 // How many bytes stand before the first blank or line end.
