@@ -341,20 +341,25 @@ impl<'a> Case<'a> {
     }
 
     fn covers_flight(&self) -> bool {
-        self.refuges().iter().any(|refuge| !self.was_attacked(*refuge))
+        self.refuges()
+            .iter()
+            .any(|refuge| !self.was_attacked(*refuge))
     }
 
     fn bars_flight_behind(&self) -> bool {
-        self.refuges()
-            .iter()
-            .any(|refuge| !self.after.is_attacked(self.rule, *refuge, self.man.colour))
+        self.refuges().iter().any(|refuge| !self
+            .after
+            .is_attacked(self.rule, *refuge, self.man.colour))
     }
 
     // Whether a man of the mover that stood there attacks the square after the move.
     fn is_attacked_from_behind(&self, square: Square) -> bool {
         for number in 0..64u8 {
             let from = Square::numbered(number);
-            let own = self.after.man(from).is_some_and(|man| man.colour == self.man.colour);
+            let own = self
+                .after
+                .man(from)
+                .is_some_and(|man| man.colour == self.man.colour);
             if own
                 && self.stood(from)
                 && !self.after.is_paralysed(self.rule, from)
