@@ -44,12 +44,14 @@ off_right a b i h = false_by (bit_at b i == 1) (λ y.
 
 -- a pawn's last rank is in the word of both
 last_rank_on : (c : Colour) (t : ℕ) → t < 64 → (rank_of t == last_rank c) ≡ true → (bit_at 18374686479671623935 t == 1) ≡ true
-last_rank_on White t lt h = shown (rank_of t == 8) _ h (agree_below_at (λ n. not (rank_of n == 8) || bit_at 18374686479671623935 n == 1) (λ _. true) 64 t refl lt)
+last_rank_on White t lt h = shown (rank_of t == 8) _ h (agree_below_at (λ n. not (rank_of n == 8) || bit_at 18374686479671623935 n == 1) (λ _. true) 64 t refl
+    lt)
   where
     shown : (a b : Bool) → a ≡ true → (not a || b) ≡ true → b ≡ true
     shown true b e h = h
     shown false b e h = cc
-last_rank_on Black t lt h = shown (rank_of t == 1) _ h (agree_below_at (λ n. not (rank_of n == 1) || bit_at 18374686479671623935 n == 1) (λ _. true) 64 t refl lt)
+last_rank_on Black t lt h = shown (rank_of t == 1) _ h (agree_below_at (λ n. not (rank_of n == 1) || bit_at 18374686479671623935 n == 1) (λ _. true) 64 t refl
+    lt)
   where
     shown : (a b : Bool) → a ≡ true → (not a || b) ≡ true → b ≡ true
     shown true b e h = h
@@ -71,8 +73,13 @@ check_targets_all rule p f = record {
   elsewhere = λ m at small may off. absurd (let on = every_square_on m.to small in cc);
 }
 
-module _ (rule : RuleSet) (p : Position) (x : Man) (s : CheckSquares) (f : ℕ) (well : IsWellFormed p) (here : man_on p.men f ≡ Some x) (checks : AreCheckSquares rule p.men (other p.turn) s) (inside : f < 64) (covered : (bit_at s.shield_squares f == 1) ≡ false) (a b c d : ℕ) (checked_from : a ≡ check_squares_for s x.kind) (crossed : b ≡ word (λ t. is_square p.crossed t)) (promotes : same_kind x.kind Pawn ≡ true → c ≡ 18374686479671623935) (castles : same_kind x.kind Pawn ≡ false → c ≡ word (steps_to x f)) (reborn : is_circe rule ≡ true → d ≡ word (λ t. is_some (man_on p.men t))) where
-  module _ (m : Move) (at : m.from ≡ f) (small : m.to < 64) (may : pseudo rule p m ≡ true) (off : (bit_at (bit_or (bit_or (bit_or a b) c) d) m.to == 1) ≡ false) where
+module _ (rule : RuleSet) (p : Position) (x : Man) (s : CheckSquares) (f : ℕ) (well : IsWellFormed p) (here : man_on p.men f ≡ Some x)
+    (checks : AreCheckSquares rule p.men (other p.turn) s) (inside : f < 64) (covered : (bit_at s.shield_squares f == 1) ≡ false) (a b c d : ℕ)
+    (checked_from : a ≡ check_squares_for s x.kind) (crossed : b ≡ word (λ t. is_square p.crossed t))
+    (promotes : same_kind x.kind Pawn ≡ true → c ≡ 18374686479671623935) (castles : same_kind x.kind Pawn ≡ false → c ≡ word (steps_to x f))
+    (reborn : is_circe rule ≡ true → d ≡ word (λ t. is_some (man_on p.men t))) where
+  module _ (m : Move) (at : m.from ≡ f) (small : m.to < 64) (may : pseudo rule p m ≡ true)
+      (off : (bit_at (bit_or (bit_or (bit_or a b) c) d) m.to == 1) ≡ false) where
     stands : man_on p.men m.from ≡ Some x
     stands = ap (man_on p.men) at ∙ here
 
@@ -98,11 +105,13 @@ module _ (rule : RuleSet) (p : Position) (x : Man) (s : CheckSquares) (f : ℕ) 
 
     by_kind : (o : Option Kind) → m.promo ≡ o → (bit_at (check_squares_for s (arriving x o).kind) m.to == 1) ≡ false
     by_kind None e = rw (← checked_from) off-a
-    by_kind (Some k) e = absurd (let yes : arrives x m.to ≡ true = unpromoted p x m m.promo k (made rule p m x may stands).promotion e in let never = unturned in cc)
+    by_kind (Some k) e = absurd (let yes : arrives x m.to ≡ true = unpromoted p x m m.promo k (made rule p m x may stands).promotion e in let never =
+        unturned in cc)
 
     unnamed : (o : Option Kind) → m.promo ≡ o → o ≡ None
     unnamed None e = refl
-    unnamed (Some k) e = absurd (let yes : arrives x m.to ≡ true = unpromoted p x m m.promo k (made rule p m x may stands).promotion e in let never = unturned in cc)
+    unnamed (Some k) e = absurd (let yes : arrives x m.to ≡ true = unpromoted p x m m.promo k (made rule p m x may stands).promotion e in let never =
+        unturned in cc)
 
     no_castling : is_castling x m ≡ false
     no_castling = false_by (is_castling x m) (λ y.
@@ -129,12 +138,14 @@ module _ (rule : RuleSet) (p : Position) (x : Man) (s : CheckSquares) (f : ℕ) 
     covering : cannot_expose rule p (other p.turn) m ≡ true
     unfolding cannot_expose
     covering =
-        let off : may_expose rule p.men (other p.turn) m.from ≡ false = rw at (sym (word_has (may_expose rule p.men (other p.turn)) s.shield_squares f checks.shield_squares inside) ∙ covered) in
+        let off : may_expose rule p.men (other p.turn) m.from ≡ false =
+        rw at (sym (word_has (may_expose rule p.men (other p.turn)) s.shield_squares f checks.shield_squares inside) ∙ covered) in
         rw (stands, off, plain) refl
 
     no_check_elsewhere : in_check rule (after rule p m).men (other p.turn) ≡ false
     no_check_elsewhere =
-        no_check rule p x m s (arriving x m.promo) (check_squares_for s (arriving x m.promo).kind) m.to well may stands checks refl refl refl small (by_kind m.promo refl) (unnamed m.promo refl) covering
+        no_check rule p x m s (arriving x m.promo) (check_squares_for s (arriving x m.promo).kind) m.to well may stands checks refl refl refl small
+        (by_kind m.promo refl) (unnamed m.promo refl) covering
 
   pub check_targets_some : AreCheckTargets rule p f (bit_or (bit_or (bit_or a b) c) d)
   check_targets_some = record { elsewhere = λ m at small may off. no_check_elsewhere m at small may off }

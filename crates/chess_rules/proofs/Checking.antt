@@ -29,7 +29,8 @@ use Rattle.chess_rules.proofs.Flips.{diagonal-back, king-back, knight-back, pawn
 use Rattle.chess_rules.proofs.Pseudo.{made}
 
 -- an orthodox man goes to where an enemy of its kind would come from
-comes_back : (men : List (Option Man)) (c : Colour) (j : Kind) (k t : ℕ) → is_fairy j ≡ false → k < 64 → t < 64 → reaches_as men c j k t ≡ reaches_as men (other c) j t k
+comes_back : (men : List (Option Man)) (c : Colour) (j : Kind) (k t : ℕ) → is_fairy j ≡ false → k < 64 → t < 64
+    → reaches_as men c j k t ≡ reaches_as men (other c) j t k
 unfolding reaches_as
 comes_back men c King k t f p q = king-back k t p q
 comes_back men c Queen k t f p q = queen_rides-back men k t p q
@@ -44,12 +45,14 @@ pub check_squares_of_none : (men : List (Option Man)) (c : Colour) (j : Kind) �
 unfolding may_check_from
 check_squares_of_none men c j h = word_empty (may_check_from men c (enemy c j)) (λ s b. ap (λ (o : Option ℕ). may_check_from_on men o (enemy c j) s) h)
 
-pub check_squares_of_all : (men : List (Option Man)) (c : Colour) (j : Kind) (k : ℕ) → king_square men c ≡ Some k → is_fairy j ≡ true → bit_not w64 0 ≡ word (may_check_from men c (enemy c j))
+pub check_squares_of_all : (men : List (Option Man)) (c : Colour) (j : Kind) (k : ℕ) → king_square men c ≡ Some k → is_fairy j ≡ true
+    → bit_not w64 0 ≡ word (may_check_from men c (enemy c j))
 unfolding may_check_from
 check_squares_of_all men c j k at fairy =
     every_square (may_check_from men c (enemy c j)) (λ s b. ap (λ (o : Option ℕ). may_check_from_on men o (enemy c j) s) at ∙ or_left _ _ fairy)
 
-pub check_squares_of_some : (men : List (Option Man)) (c : Colour) (j : Kind) (k w : ℕ) → king_square men c ≡ Some k → k < 64 → is_fairy j ≡ false → w ≡ word (λ t. reaches_as men c j k t) → w ≡ word (may_check_from men c (enemy c j))
+pub check_squares_of_some : (men : List (Option Man)) (c : Colour) (j : Kind) (k w : ℕ) → king_square men c ≡ Some k → k < 64 → is_fairy j ≡ false
+    → w ≡ word (λ t. reaches_as men c j k t) → w ≡ word (may_check_from men c (enemy c j))
 unfolding may_check_from
 check_squares_of_some men c j k w at small plain h =
     h ∙ squares_same (λ t. reaches_as men c j k t) (may_check_from men c (enemy c j))
@@ -57,18 +60,22 @@ check_squares_of_some men c j k w at small plain h =
     ∙ sym (ap (λ (o : Option ℕ). may_check_from_on men o (enemy c j) s) at ∙ ap (λ (x : Bool). x || reaches_as men (other c) j s k) plain))
 
 -- a queen's squares are a rook's and a bishop's
-queen_on : (men : List (Option Man)) (c : Colour) (o : Option ℕ) (s : ℕ) → (may_check_from_on men o (enemy c Rook) s || may_check_from_on men o (enemy c Bishop) s) ≡ may_check_from_on men o (enemy c Queen) s
+queen_on : (men : List (Option Man)) (c : Colour) (o : Option ℕ) (s : ℕ)
+    → (may_check_from_on men o (enemy c Rook) s || may_check_from_on men o (enemy c Bishop) s) ≡ may_check_from_on men o (enemy c Queen) s
 unfolding reaches_as
 queen_on men c None s = refl
 queen_on men c (Some k) s = sym (list_any-append (rides men s k) straight_steps diagonal_steps)
 
-queen_squares : (men : List (Option Man)) (c : Colour) (r b : ℕ) → r ≡ word (may_check_from men c (enemy c Rook)) → b ≡ word (may_check_from men c (enemy c Bishop)) → bit_or r b ≡ word (may_check_from men c (enemy c Queen))
+queen_squares : (men : List (Option Man)) (c : Colour) (r b : ℕ) → r ≡ word (may_check_from men c (enemy c Rook))
+    → b ≡ word (may_check_from men c (enemy c Bishop)) → bit_or r b ≡ word (may_check_from men c (enemy c Queen))
 unfolding may_check_from
 queen_squares men c r b h i =
     (λ j. bit_or (h j) (i j)) ∙ squares_either (may_check_from men c (enemy c Rook)) (may_check_from men c (enemy c Bishop))
-    ∙ squares_same (λ s. may_check_from men c (enemy c Rook) s || may_check_from men c (enemy c Bishop) s) (may_check_from men c (enemy c Queen)) (λ s p. queen_on men c (king_square men c) s)
+    ∙ squares_same (λ s. may_check_from men c (enemy c Rook) s || may_check_from men c (enemy c Bishop) s) (may_check_from men c (enemy c Queen))
+    (λ s p. queen_on men c (king_square men c) s)
 
-squares_by_kind : (rule : RuleSet) (men : List (Option Man)) (c : Colour) (s : CheckSquares) (j : Kind) → AreCheckSquares rule men c s → check_squares_for s j ≡ word (may_check_from men c (enemy c j))
+squares_by_kind : (rule : RuleSet) (men : List (Option Man)) (c : Colour) (s : CheckSquares) (j : Kind) → AreCheckSquares rule men c s
+    → check_squares_for s j ≡ word (may_check_from men c (enemy c j))
 squares_by_kind rule men c s King a = a.king
 squares_by_kind rule men c s Queen a = queen_squares men c s.straight s.diagonal a.straight a.diagonal
 squares_by_kind rule men c s Rook a = a.straight
@@ -81,10 +88,11 @@ squares_by_kind rule men c s Nightrider a = a.nightrider
 -- both fairy kinds strike from everywhere
 pub fairy_alike : (men : List (Option Man)) (c : Colour) → word (may_check_from men c (enemy c Grasshopper)) ≡ word (may_check_from men c (enemy c Nightrider))
 unfolding may_check_from
-fairy_alike men c = squares_same (may_check_from men c (enemy c Grasshopper)) (may_check_from men c (enemy c Nightrider)) (λ s b. by (king_square men c) s) where
-  by : (o : Option ℕ) (s : ℕ) → may_check_from_on men o (enemy c Grasshopper) s ≡ may_check_from_on men o (enemy c Nightrider) s
-  by None s = refl
-  by (Some k) s = refl
+fairy_alike men c = squares_same (may_check_from men c (enemy c Grasshopper)) (may_check_from men c (enemy c Nightrider)) (λ s b. by (king_square men c) s)
+  where
+    by : (o : Option ℕ) (s : ℕ) → may_check_from_on men o (enemy c Grasshopper) s ≡ may_check_from_on men o (enemy c Nightrider) s
+    by None s = refl
+    by (Some k) s = refl
 
 pub other_twice : (c : Colour) → other (other c) ≡ c
 other_twice White = refl
@@ -93,13 +101,18 @@ other_twice Black = refl
 is_enemy : (x : Man) (c : Colour) → x.colour ≡ c → enemy (other c) x.kind ≡ x
 is_enemy x c h = ap (λ (d : Colour). record x { colour = d }) (other_twice c ∙ sym h)
 
-pub no_check : (rule : RuleSet) (p : Position) (x : Man) (m : Move) (s : CheckSquares) (y : Man) (w t : ℕ) → IsWellFormed p → pseudo rule p m ≡ true → man_on p.men m.from ≡ Some x → AreCheckSquares rule p.men (other p.turn) s → y ≡ arriving x m.promo → w ≡ check_squares_for s y.kind → t ≡ m.to → t < 64 → (bit_at w t == 1) ≡ false → m.promo ≡ None → cannot_expose rule p (other p.turn) m ≡ true → in_check rule (after rule p m).men (other p.turn) ≡ false
+pub no_check : (rule : RuleSet) (p : Position) (x : Man) (m : Move) (s : CheckSquares) (y : Man) (w t : ℕ) → IsWellFormed p → pseudo rule p m ≡ true
+    → man_on p.men m.from ≡ Some x → AreCheckSquares rule p.men (other p.turn) s → y ≡ arriving x m.promo → w ≡ check_squares_for s y.kind → t ≡ m.to → t < 64
+    → (bit_at w t == 1) ≡ false → m.promo ≡ None → cannot_expose rule p (other p.turn) m ≡ true → in_check rule (after rule p m).men (other p.turn) ≡ false
 no_check rule p x m s y w t well may here a is h same small off unpromoted cover =
     let colour : y.colour ≡ p.turn = ap (λ (z : Man). z.colour) is ∙ arriving_colour x m.promo ∙ (made rule p m x may here).mine in
     let word_is : w ≡ word (may_check_from p.men (other p.turn) (enemy (other p.turn) y.kind)) = h ∙ squares_by_kind rule p.men (other p.turn) s y.kind a in
-    let off1 : may_check_from p.men (other p.turn) (enemy (other p.turn) y.kind) t ≡ false = sym (word_has (may_check_from p.men (other p.turn) (enemy (other p.turn) y.kind)) w t word_is small) ∙ off in
-    let off2 : may_check_from p.men (other p.turn) y t ≡ false = ap (λ (z : Man). may_check_from p.men (other p.turn) z t) (sym (is_enemy y p.turn colour)) ∙ off1 in
+    let off1 : may_check_from p.men (other p.turn) (enemy (other p.turn) y.kind) t ≡ false =
+    sym (word_has (may_check_from p.men (other p.turn) (enemy (other p.turn) y.kind)) w t word_is small) ∙ off in
+    let off2 : may_check_from p.men (other p.turn) y t ≡ false = ap (λ (z : Man). may_check_from p.men (other p.turn) z t) (sym (is_enemy y p.turn colour))
+    ∙ off1 in
     let off3 : may_check_from p.men (other p.turn) (arriving x m.promo) t ≡ false = ap (λ (z : Man). may_check_from p.men (other p.turn) z t) (sym is) ∙ off2 in
-    let off4 : may_check_from p.men (other p.turn) (arriving x m.promo) m.to ≡ false = ap (λ (n : ℕ). may_check_from p.men (other p.turn) (arriving x m.promo) n) (sym same) ∙ off3 in
+    let off4 : may_check_from p.men (other p.turn) (arriving x m.promo) m.to ≡ false =
+    ap (λ (n : ℕ). may_check_from p.men (other p.turn) (arriving x m.promo) n) (sym same) ∙ off3 in
     let to : m.to < 64 = omega arith in
     gives_no_check rule p x m well may to here unpromoted cover off4

@@ -52,7 +52,8 @@ unparalysed true false f r h = refl
 unparalysed false m f r h = refl
 unparalysed true true f r h = absurd (false≢true (sym h))
 
-attacked_free : (rule : RuleSet) (men : List (Option Man)) (k w : ℕ) (c : Colour) → is_madrasi rule ≡ false → w ≡ word (λ s. is_side (man_on men s) c && reaches men s k) → not (w == 0) ≡ attacked rule men k c
+attacked_free : (rule : RuleSet) (men : List (Option Man)) (k w : ℕ) (c : Colour) → is_madrasi rule ≡ false
+    → w ≡ word (λ s. is_side (man_on men s) c && reaches men s k) → not (w == 0) ≡ attacked rule men k c
 unfolding attacked strikes paralysed
 attacked_free rule men k w c free h =
     ap (λ n. not (n == 0)) h ∙ not_zero (λ s. is_side (man_on men s) c && reaches men s k)
@@ -63,7 +64,8 @@ captures_arrival : (p : Position) (x : Man) (m : Move) → is_some (man_on p.men
 unfolding capture_square
 captures_arrival p x m h = ap (λ (o : Option ℕ). is_square o m.to) (cond-true (is_some (man_on p.men m.to)) _ _ h) ∙ eq-eqb m.to m.to refl
 
-goes_capturing : (rule : RuleSet) (p : Position) (x : Man) (m : Move) → IsWellFormed p → IsMade rule p x m → m.to < 64 → IsCapture p.men m.from (capture_square p x m) m.to (arriving x m.promo) p.turn
+goes_capturing : (rule : RuleSet) (p : Position) (x : Man) (m : Move) → IsWellFormed p → IsMade rule p x m → m.to < 64
+    → IsCapture p.men m.from (capture_square p x m) m.to (arriving x m.promo) p.turn
 goes_capturing rule p x m well is small = record {
   small = omega (arith, small, well.size);
   own = ap (λ (o : Option Man). is_side o (other p.turn)) is.here ∙ ap (λ (c : Colour). same_colour c (other p.turn)) is.mine ∙ other_differs p.turn;
@@ -82,7 +84,8 @@ king_stays_king p x m (Some k) right king =
     let pawn : same_kind x.kind Pawn ≡ true = (and_parts _ _ (and_parts _ _ right).0).0 in
     absurd (false≢true (sym (pawn_is_no_king x.kind pawn) ∙ king))
 
-goes_without_king : (rule : RuleSet) (p : Position) (x : Man) (m : Move) → IsWellFormed p → IsMade rule p x m → m.to < 64 → same_kind x.kind King ≡ false → IsNoKing p.men m.from (capture_square p x m) m.to (arriving x m.promo) p.turn
+goes_without_king : (rule : RuleSet) (p : Position) (x : Man) (m : Move) → IsWellFormed p → IsMade rule p x m → m.to < 64 → same_kind x.kind King ≡ false
+    → IsNoKing p.men m.from (capture_square p x m) m.to (arriving x m.promo) p.turn
 goes_without_king rule p x m well is small other_man = record {
   small = omega (arith, small, well.size);
   here = ap (λ (o : Option Man). is_man o p.turn King) is.here ∙ and_right (same_colour x.colour p.turn) _ other_man;
@@ -96,32 +99,39 @@ goes_without_king rule p x m well is small other_man = record {
       ap (λ (o : Option Man). is_man o p.turn King) t.there ∙ and_right (same_colour t.man.colour p.turn) _ t.mortal;
 }
 
-pub king_is_after : (rule : RuleSet) (p : Position) (x : Man) (m : Move) → IsWellFormed p → IsMade rule p x m → m.to < 64 → is_castling x m ≡ false → king_square (arrived p x m) p.turn ≡ king_after p x m
+pub king_is_after : (rule : RuleSet) (p : Position) (x : Man) (m : Move) → IsWellFormed p → IsMade rule p x m → m.to < 64 → is_castling x m ≡ false
+    → king_square (arrived p x m) p.turn ≡ king_after p x m
 king_is_after rule p x m well is small castling = elim (cases_Bool (same_kind x.kind King)) [
   | inl king ↦
       let same : arriving x m.promo ≡ x = king_stays_king p x m m.promo is.promotion king in
       let kings : AtMostOneKing (arrived p x m) = rw (moved_plainly p x m castling) at (moved_sound rule p x m well is).kings in
-      let there : man_on (arrived p x m) m.to ≡ Some (arriving x m.promo) = ap (λ (l : List (Option Man)). man_on l m.to) (sym (moved_plainly p x m castling)) ∙ moved_arrival rule p x m well is small in
+      let there : man_on (arrived p x m) m.to ≡ Some (arriving x m.promo) = ap (λ (l : List (Option Man)). man_on l m.to) (sym (moved_plainly p x m castling))
+      ∙ moved_arrival rule p x m well is small in
       let mine : same_colour x.colour p.turn ≡ true = ap (λ (c : Colour). same_colour c p.turn) is.mine ∙ colour_self p.turn in
-      let at : is_man (man_on (arrived p x m) m.to) p.turn King ≡ true = ap (λ (o : Option Man). is_man o p.turn King) there ∙ ap (λ (y : Man). is_man (Some y) p.turn King) same ∙ and_from _ _ mine king in
+      let at : is_man (man_on (arrived p x m) m.to) p.turn King ≡ true = ap (λ (o : Option Man). is_man o p.turn King) there
+      ∙ ap (λ (y : Man). is_man (Some y) p.turn King) same ∙ and_from _ _ mine king in
       king_is (arrived p x m) p.turn m.to kings small at ∙ sym (cond-true (same_kind x.kind King) _ _ king)
   | inr other_man ↦
       king_stands p.men m.from (capture_square p x m) m.to (arriving x m.promo) p.turn (goes_without_king rule p x m well is small other_man)
       ∙ sym (cond-false (same_kind x.kind King) _ _ other_man)
 ]
 
-pub check_is : (rule : RuleSet) (p : Position) (x : Man) (m : Move) (o : Option ℕ) → IsWellFormed p → IsMade rule p x m → m.to < 64 → IsSimple rule p x m → king_after p x m ≡ o → in_check rule (after rule p m).men p.turn ≡ check_of rule (arrived p x m) o (other p.turn)
+pub check_is : (rule : RuleSet) (p : Position) (x : Man) (m : Move) (o : Option ℕ) → IsWellFormed p → IsMade rule p x m → m.to < 64 → IsSimple rule p x m
+    → king_after p x m ≡ o → in_check rule (after rule p m).men p.turn ≡ check_of rule (arrived p x m) o (other p.turn)
 unfolding in_check
 check_is rule p x m o well is small simple king =
     ap (λ (l : List (Option Man)). check_of rule l (king_square l p.turn) (other p.turn)) (simple_after rule p x m is.here simple.castling simple.rebirth)
     ∙ ap (λ (k : Option ℕ). check_of rule (arrived p x m) k (other p.turn)) (king_is_after rule p x m well is small simple.castling ∙ king)
 
-pub no_king_exposed : (rule : RuleSet) (p : Position) (x : Man) (m : Move) → IsWellFormed p → pseudo rule p m ≡ true → m.to < 64 → man_on p.men m.from ≡ Some x → is_simple rule x m (is_some (capture_square p x m)) ≡ true → king_after p x m ≡ None → false ≡ in_check rule (after rule p m).men p.turn
+pub no_king_exposed : (rule : RuleSet) (p : Position) (x : Man) (m : Move) → IsWellFormed p → pseudo rule p m ≡ true → m.to < 64 → man_on p.men m.from ≡ Some x
+    → is_simple rule x m (is_some (capture_square p x m)) ≡ true → king_after p x m ≡ None → false ≡ in_check rule (after rule p m).men p.turn
 no_king_exposed rule p x m well may small here simple king =
     sym (check_is rule p x m None well (made rule p m x may here) small (simple_parts rule p x m simple) king)
 
-pub exposed_is : (rule : RuleSet) (p : Position) (x : Man) (m : Move) (k w : ℕ) → IsWellFormed p → pseudo rule p m ≡ true → m.to < 64 → man_on p.men m.from ≡ Some x → is_simple rule x m (is_some (capture_square p x m)) ≡ true → king_after p x m ≡ Some k
-    → ((men : List (Option Man)) → AreSeen p.men men (other p.turn) (sight_after p.men m.from (capture_square p x m) m.to) → w ≡ word (λ s. is_side (man_on men s) (other p.turn) && reaches men s k))
+pub exposed_is : (rule : RuleSet) (p : Position) (x : Man) (m : Move) (k w : ℕ) → IsWellFormed p → pseudo rule p m ≡ true → m.to < 64
+    → man_on p.men m.from ≡ Some x → is_simple rule x m (is_some (capture_square p x m)) ≡ true → king_after p x m ≡ Some k
+    → ((men : List (Option Man)) → AreSeen p.men men (other p.turn) (sight_after p.men m.from (capture_square p x m) m.to)
+    → w ≡ word (λ s. is_side (man_on men s) (other p.turn) && reaches men s k))
     → not (w == 0) ≡ in_check rule (after rule p m).men p.turn
 exposed_is rule p x m k w well may small here simple king attackers =
     let is : IsMade rule p x m = made rule p m x may here in

@@ -46,7 +46,8 @@ use Rattle.chess_rules.proofs.Tests.{any_range_cases, differs, first_of_and}
 use Rattle.chess_rules.proofs.Walks.{on_first}
 
 -- a legal move is one of the moves
-some_left : (rule : RuleSet) (p : Position) (n : ℕ) → n < 28672 → legal rule p (triple_at n) ≡ true → (j a : ℕ) → a + j ≡ n → is_nil (moves_behind rule p a) ≡ false
+some_left : (rule : RuleSet) (p : Position) (n : ℕ) → n < 28672 → legal rule p (triple_at n) ≡ true → (j a : ℕ) → a + j ≡ n
+    → is_nil (moves_behind rule p a) ≡ false
 some_left rule p n lt h zero a e =
     let at : a ≡ n = omega (arith, e) in
     ap is_nil (ap (moves_behind rule p) at ∙ moves_behind-here rule p n lt h)
@@ -63,13 +64,15 @@ triple_there k t there =
     let none : (k * 448 + t * 7) % 7 ≡ 0 = omega (arith, there) in
     (λ j. record { from = from j; to = to j; promo = promotion_at (none j) })
 
-some_legal : (rule : RuleSet) (p : Position) (k t : ℕ) → k < 64 → t < 64 → legal rule p (record { from = k; to = t; promo = None }) ≡ true → is_nil (moves rule p) ≡ false
+some_legal : (rule : RuleSet) (p : Position) (k t : ℕ) → k < 64 → t < 64 → legal rule p (record { from = k; to = t; promo = None }) ≡ true
+    → is_nil (moves rule p) ≡ false
 some_legal rule p k t small there h =
     ap is_nil (sym (moves_behind-start rule p))
     ∙ some_left rule p (k * 448 + t * 7) (omega (arith, small, there)) (ap (legal rule p) (triple_there k t there) ∙ h) (k * 448 + t * 7) 0 (omega arith)
 
 -- a side with a flight isn't mated
-flight_is_legal : (rule : RuleSet) (p : Position) (o : Option ℕ) (t : ℕ) → king_square p.men p.turn ≡ o → t < 64 → is_flight_from rule p o t ≡ true → is_nil (moves rule p) ≡ false
+flight_is_legal : (rule : RuleSet) (p : Position) (o : Option ℕ) (t : ℕ) → king_square p.men p.turn ≡ o → t < 64 → is_flight_from rule p o t ≡ true
+    → is_nil (moves rule p) ≡ false
 flight_is_legal rule p None t at small h = absurd (false≢true h)
 flight_is_legal rule p (Some k) t at small h = some_legal rule p k t (king_there p.men p.turn k at).0 small h
 
@@ -105,7 +108,8 @@ no_king_arrives rule p m x k i = false_from_ne_true _ (λ king.
     let same : arriving x m.promo ≡ x = arriving_king p x m m.promo is.promotion king in
     false≢true (sym i.mortal ∙ ap (λ (y : Man). same_kind y.kind King) (sym same) ∙ king))
 
-king_not_touched : (rule : RuleSet) (p : Position) (m : Move) (x : Man) (k : ℕ) → IsSeenFrom rule p m x k → m.to < 64 → IsNoKing p.men m.from (capture_square p x m) m.to (arriving x m.promo) (other p.turn)
+king_not_touched : (rule : RuleSet) (p : Position) (m : Move) (x : Man) (k : ℕ) → IsSeenFrom rule p m x k → m.to < 64
+    → IsNoKing p.men m.from (capture_square p x m) m.to (arriving x m.promo) (other p.turn)
 king_not_touched rule p m x k i small =
     let is : IsMade rule p x m = made rule p m x i.pseudo i.here in
     record {
@@ -118,7 +122,8 @@ king_not_touched rule p m x k i small =
           ap (λ (o : Option Man). is_man o (other p.turn) King) t.there ∙ and_right (same_colour t.man.colour (other p.turn)) _ t.mortal;
     }
 
-king_seen : (rule : RuleSet) (p : Position) (m : Move) (x : Man) (k : ℕ) → IsSeenFrom rule p m x k → m.to < 64 → king_square (after rule p m).men (other p.turn) ≡ Some k
+king_seen : (rule : RuleSet) (p : Position) (m : Move) (x : Man) (k : ℕ) → IsSeenFrom rule p m x k → m.to < 64
+    → king_square (after rule p m).men (other p.turn) ≡ Some k
 king_seen rule p m x k i small =
     ap (λ (l : List (Option Man)). king_square l (other p.turn)) (after_seen rule p m x k i)
     ∙ king_stands p.men m.from (capture_square p x m) m.to (arriving x m.promo) (other p.turn) (king_not_touched rule p m x k i small)
@@ -133,14 +138,16 @@ on_second a b i h =
 
 unseen_bit : (test : ℕ → Bool) (n w t : ℕ) → w ≡ word test → t < 64 → (bit_at (bit_and n (bit_not w64 w)) t == 1) ≡ true → (bit_at w t == 1) ≡ false
 unseen_bit test n w t h small on =
-    let off : not (test t) ≡ true = sym (word_has (λ s. not (test s)) (bit_not w64 w) t (ap (bit_not w64) h ∙ squares_not test) small) ∙ on_second n (bit_not w64 w) t on in
+    let off : not (test t) ≡ true = sym (word_has (λ s. not (test s)) (bit_not w64 w) t (ap (bit_not w64) h ∙ squares_not test) small)
+    ∙ on_second n (bit_not w64 w) t on in
     word_has test w t h small ∙ not-true (test t) off
 
 -- the squares to which a king may step, attacks apart
 free_of : (c : Colour) (o : Option Man) → is_side o (other c) ≡ false → is_man o c King ≡ false → is_arrival_free (other c) o ≡ true
 free_of c None side king = refl
 free_of c (Some y) side king = by c (y.colour) refl side king where
-  by : (c e : Colour) → y.colour ≡ e → same_colour y.colour (other c) ≡ false → (same_colour y.colour c && same_kind y.kind King) ≡ false → (not (same_colour y.colour (other c)) && not (same_kind y.kind King)) ≡ true
+  by : (c e : Colour) → y.colour ≡ e → same_colour y.colour (other c) ≡ false → (same_colour y.colour c && same_kind y.kind King) ≡ false
+      → (not (same_colour y.colour (other c)) && not (same_kind y.kind King)) ≡ true
   by White White q s h = rw q (ap not (rw q at h))
   by Black Black q s h = rw q (ap not (rw q at h))
   by White Black q s h = absurd (let bad : true ≡ false = rw q at s in false≢true (sym bad))
@@ -155,51 +162,67 @@ unless true true false m h x y = absurd (false≢true y)
 unless true false q m h x y = absurd (false≢true x)
 unless false p q m h x y = (refl, h)
 
-closed_words : (p : Position) (a : ℕ) (o : Option ℕ) (c : Colour) (w n : ℕ) → w ≡ side_of p.men (other c) → n ≡ squares_of p.men c King → (l : ℕ) → l ≡ bit_and (bit_not w64 (word (is_square o))) (bit_not w64 (word (is_square (Some a))))
+closed_words : (p : Position) (a : ℕ) (o : Option ℕ) (c : Colour) (w n : ℕ) → w ≡ side_of p.men (other c) → n ≡ squares_of p.men c King → (l : ℕ)
+    → l ≡ bit_and (bit_not w64 (word (is_square o))) (bit_not w64 (word (is_square (Some a))))
     → bit_or (bit_and w l) n ≡ word (λ s. (is_side (man_on p.men s) (other c) && (not (is_square o s) && not (a == s))) || is_man (man_on p.men s) c King)
 unfolding side_of squares_of
 closed_words p a o c w n side kings l standing =
     (λ j. bit_or (bit_and (side j) (standing j)) (kings j))
-    ∙ (λ j. bit_or (bit_and (word (λ s. is_side (man_on p.men s) (other c))) (bit_and (squares_not (is_square o) j) (squares_not (is_square (Some a)) j))) (word (λ s. is_man (man_on p.men s) c King)))
-    ∙ (λ j. bit_or (bit_and (word (λ s. is_side (man_on p.men s) (other c))) (squares_both (λ s. not (is_square o s)) (λ s. not (a == s)) j)) (word (λ s. is_man (man_on p.men s) c King)))
-    ∙ (λ j. bit_or (squares_both (λ s. is_side (man_on p.men s) (other c)) (λ s. not (is_square o s) && not (a == s)) j) (word (λ s. is_man (man_on p.men s) c King)))
+    ∙ (λ j. bit_or (bit_and (word (λ s. is_side (man_on p.men s) (other c))) (bit_and (squares_not (is_square o) j) (squares_not (is_square (Some a)) j)))
+    (word (λ s. is_man (man_on p.men s) c King)))
+    ∙ (λ j. bit_or (bit_and (word (λ s. is_side (man_on p.men s) (other c))) (squares_both (λ s. not (is_square o s)) (λ s. not (a == s)) j))
+    (word (λ s. is_man (man_on p.men s) c King)))
+    ∙ (λ j. bit_or (squares_both (λ s. is_side (man_on p.men s) (other c)) (λ s. not (is_square o s) && not (a == s)) j)
+    (word (λ s. is_man (man_on p.men s) c King)))
     ∙ squares_either (λ s. is_side (man_on p.men s) (other c) && (not (is_square o s) && not (a == s))) (λ s. is_man (man_on p.men s) c King)
 
-no_own_arrives : (rule : RuleSet) (p : Position) (m : Move) (x : Man) (k : ℕ) → IsSeenFrom rule p m x k → same_colour (arriving x m.promo).colour (other p.turn) ≡ false
+no_own_arrives : (rule : RuleSet) (p : Position) (m : Move) (x : Man) (k : ℕ) → IsSeenFrom rule p m x k
+    → same_colour (arriving x m.promo).colour (other p.turn) ≡ false
 no_own_arrives rule p m x k i =
     ap (λ (c : Colour). same_colour c (other p.turn)) (arriving_colour x m.promo ∙ (made rule p m x i.pseudo i.here).mine) ∙ other_differs p.turn
 
-reached_near : (men : List (Option Man)) (c : Colour) (k w t : ℕ) → w ≡ word (λ t. list_any (leaps k t) queen_steps) → t < 64 → (bit_at w t == 1) ≡ true → reaches_as men c King k t ≡ true
+reached_near : (men : List (Option Man)) (c : Colour) (k w t : ℕ) → w ≡ word (λ t. list_any (leaps k t) queen_steps) → t < 64 → (bit_at w t == 1) ≡ true
+    → reaches_as men c King k t ≡ true
 unfolding reaches_as
 reached_near men c k w t h small on = sym (word_has (λ t. list_any (leaps k t) queen_steps) w t h small) ∙ on
 
-pub open_squares : (rule : RuleSet) (p : Position) (m : Move) (x : Man) (k w l h : ℕ) → IsSeenFrom rule p m x k → m.to < 64 → is_circe rule ≡ false → w ≡ word (λ t. list_any (leaps k t) queen_steps)
-    → l ≡ (sight_lifted p.men m.from (capture_square p x m) m.to k).standing → h ≡ bit_or (bit_and (side_of p.men (other p.turn)) l) (squares_of p.men p.turn King)
+pub open_squares : (rule : RuleSet) (p : Position) (m : Move) (x : Man) (k w l h : ℕ) → IsSeenFrom rule p m x k → m.to < 64 → is_circe rule ≡ false
+    → w ≡ word (λ t. list_any (leaps k t) queen_steps)
+    → l ≡ (sight_lifted p.men m.from (capture_square p x m) m.to k).standing
+    → h ≡ bit_or (bit_and (side_of p.men (other p.turn)) l) (squares_of p.men p.turn King)
     → AreOpen rule (after rule p m).men (other p.turn) k (bit_and w (bit_not w64 h))
 unfolding is_open
 open_squares rule p m x k w l h i small circe near standing held =
     let closed = held ∙ closed_words p m.from (capture_square p x m) p.turn _ _ refl refl l standing in
     record {
       inside = λ t lt on.
-          let reached : reaches_as (after rule p m).men (other p.turn) King k t ≡ true = reached_near (after rule p m).men (other p.turn) k w t near lt (on_first w _ t on) in
+          let reached : reaches_as (after rule p m).men (other p.turn) King k t ≡ true =
+          reached_near (after rule p m).men (other p.turn) k w t near lt (on_first w _ t on) in
           let off = unseen_bit _ w h t closed lt on in
-          let at : (is_side (man_on p.men t) (other p.turn) && (not (is_square (capture_square p x m) t) && not (m.from == t)) || is_man (man_on p.men t) p.turn King) ≡ false = sym (word_has _ h t closed lt) ∙ off in
+          let at : (is_side (man_on p.men t) (other p.turn) && (not (is_square (capture_square p x m) t) && not (m.from == t)) || is_man (man_on p.men t)
+          p.turn King) ≡ false = sym (word_has _ h t closed lt) ∙ off in
           let free : is_arrival_free (other p.turn) (man_on (arrived p x m) t) ≡ true = elim (cases_eq t m.to) [
             | inl e ↦
-                let there : man_on (arrived p x m) t ≡ Some (arriving x m.promo) = ap (man_on (arrived p x m)) e ∙ there_now p.men m.from (capture_square p x m) m.to (arriving x m.promo) (omega (arith, small, i.well_formed.size)) in
-                ap (is_arrival_free (other p.turn)) there ∙ arrived_free p.turn (arriving x m.promo) (no_own_arrives rule p m x k i) (no_king_arrives rule p m x k i)
+                let there : man_on (arrived p x m) t ≡ Some (arriving x m.promo) = ap (man_on (arrived p x m)) e
+                ∙ there_now p.men m.from (capture_square p x m) m.to (arriving x m.promo) (omega (arith, small, i.well_formed.size)) in
+                ap (is_arrival_free (other p.turn)) there ∙ arrived_free p.turn (arriving x m.promo) (no_own_arrives rule p m x k i)
+                (no_king_arrives rule p m x k i)
             | inr ne ↦ elim (cases_Bool (is_square (Some m.from) t || is_square (capture_square p x m) t)) [
               | inl y ↦ ap (is_arrival_free (other p.turn)) (left_now p.men m.from (capture_square p x m) m.to (arriving x m.promo) t ne y)
               | inr y ↦
                   let parts = or_parts (m.from == t) (is_square (capture_square p x m) t) y in
-                  let clear = unless (is_side (man_on p.men t) (other p.turn)) (not (is_square (capture_square p x m) t)) (not (m.from == t)) _ at (ap not parts.1) (ap not parts.0) in
-                  ap (is_arrival_free (other p.turn)) (kept_now p.men m.from (capture_square p x m) m.to (arriving x m.promo) t ne y) ∙ free_of p.turn (man_on p.men t) clear.0 clear.1
+                  let clear = unless (is_side (man_on p.men t) (other p.turn)) (not (is_square (capture_square p x m) t)) (not (m.from == t)) _ at
+                  (ap not parts.1) (ap not parts.0) in
+                  ap (is_arrival_free (other p.turn)) (kept_now p.men m.from (capture_square p x m) m.to (arriving x m.promo) t ne y)
+                  ∙ free_of p.turn (man_on p.men t) clear.0 clear.1
             ]
           ] in
-          and_from _ _ (and_from _ _ reached (ap (λ (l : List (Option Man)). is_arrival_free (other p.turn) (man_on l t)) (after_seen rule p m x k i) ∙ free)) (ap not (and_left (is_circe rule) _ circe));
+          and_from _ _ (and_from _ _ reached (ap (λ (l : List (Option Man)). is_arrival_free (other p.turn) (man_on l t)) (after_seen rule p m x k i) ∙ free))
+          (ap not (and_left (is_circe rule) _ circe));
     }
 
-pub open_squares_in_circe : (rule : RuleSet) (p : Position) (m : Move) (x : Man) (k w l : ℕ) → IsSeenFrom rule p m x k → m.to < 64 → w ≡ word (λ t. list_any (leaps k t) queen_steps)
+pub open_squares_in_circe : (rule : RuleSet) (p : Position) (m : Move) (x : Man) (k w l : ℕ) → IsSeenFrom rule p m x k → m.to < 64
+    → w ≡ word (λ t. list_any (leaps k t) queen_steps)
     → l ≡ (sight_lifted p.men m.from (capture_square p x m) m.to k).occupied
     → AreOpen rule (after rule p m).men (other p.turn) k (bit_and w (bit_not w64 l))
 unfolding is_open
@@ -207,10 +230,16 @@ open_squares_in_circe rule p m x k w l i small near occupied =
     let held = occupied ∙ lifted_words p.men m.from (capture_square p x m) m.to k in
     record {
       inside = λ t lt on.
-          let reached : reaches_as (after rule p m).men (other p.turn) King k t ≡ true = reached_near (after rule p m).men (other p.turn) k w t near lt (on_first w _ t on) in
-          let off : (is_occupied_after p.men m.from (capture_square p x m) m.to t && not (k == t)) ≡ false = sym (word_has _ l t held lt) ∙ unseen_bit _ w l t held lt on in
-          let apart : not (k == t) ≡ true = ap not (differs k t (λ e. false≢true (sym (no_step_there (after rule p m).men (other p.turn) t lt) ∙ ap (λ (s : ℕ). reaches_as (after rule p m).men (other p.turn) King s t) (sym e) ∙ reached))) in
-          let nobody : man_on (arrived p x m) t ≡ None = none_from_is_some _ (sym (occupied_now p.men m.from (capture_square p x m) m.to (arriving x m.promo) t (omega (arith, small, i.well_formed.size))) ∙ first_false (is_occupied_after p.men m.from (capture_square p x m) m.to t) _ off apart) in
+          let reached : reaches_as (after rule p m).men (other p.turn) King k t ≡ true =
+          reached_near (after rule p m).men (other p.turn) k w t near lt (on_first w _ t on) in
+          let off : (is_occupied_after p.men m.from (capture_square p x m) m.to t && not (k == t)) ≡ false = sym (word_has _ l t held lt)
+          ∙ unseen_bit _ w l t held lt on in
+          let apart : not (k == t) ≡ true = ap not (differs k t
+          (λ e. false≢true (sym (no_step_there (after rule p m).men (other p.turn) t lt)
+          ∙ ap (λ (s : ℕ). reaches_as (after rule p m).men (other p.turn) King s t) (sym e) ∙ reached))) in
+          let nobody : man_on (arrived p x m) t ≡ None = none_from_is_some _
+          (sym (occupied_now p.men m.from (capture_square p x m) m.to (arriving x m.promo) t (omega (arith, small, i.well_formed.size)))
+          ∙ first_false (is_occupied_after p.men m.from (capture_square p x m) m.to t) _ off apart) in
           let empty : man_on (after rule p m).men t ≡ None = ap (λ (l : List (Option Man)). man_on l t) (after_seen rule p m x k i) ∙ nobody in
           and_from _ _ (and_from _ _ reached (ap (is_arrival_free (other p.turn)) empty)) (ap not (and_right (is_circe rule) _ (ap is_some empty)));
     } where
@@ -219,12 +248,13 @@ open_squares_in_circe rule p m x k w l i small near occupied =
       first_false true b h e = absurd (false≢true (sym h ∙ e))
 
 -- nobody attacks a king that has stepped there
-pub record IsSafeStep (men : List (Option Man)) (a : ℕ) (o : Option ℕ) (b : ℕ) (z : Man) (k : ℕ) (u : Option ℕ) (t : ℕ) (x : Man) (c : Colour) (r : ℕ) : Type 0 where
-  pub step : IsStep men a o b k u t x c
-  pub size : length men ≡ 64
-  pub arrived : (l : List (Option Man)) → (sight_lifted men a o b k).occupied ≡ occupied_squares l → r ≡ word (reaches_as l z.colour z.kind b)
-  pub unseen : (bit_at r t == 1) ≡ false
-  pub others : (l : List (Option Man)) → AreSeen men l c (sight_with (sight_lifted men a o b k) t) → 0 ≡ word (λ s. is_side (man_on l s) c && reaches l s t)
+pub record IsSafeStep (men : List (Option Man)) (a : ℕ) (o : Option ℕ) (b : ℕ) (z : Man) (k : ℕ) (u : Option ℕ) (t : ℕ) (x : Man) (c : Colour) (r : ℕ) : Type 0
+  where
+    pub step : IsStep men a o b k u t x c
+    pub size : length men ≡ 64
+    pub arrived : (l : List (Option Man)) → (sight_lifted men a o b k).occupied ≡ occupied_squares l → r ≡ word (reaches_as l z.colour z.kind b)
+    pub unseen : (bit_at r t == 1) ≡ false
+    pub others : (l : List (Option Man)) → AreSeen men l c (sight_with (sight_lifted men a o b k) t) → 0 ≡ word (λ s. is_side (man_on l s) c && reaches l s t)
 
 reaches_alike_of : (men others : List (Option Man)) (o : Option Man) (s t : ℕ) → StandAlike men others t → reaches_of men o s t ≡ reaches_of others o s t
 reaches_alike_of men others None s t a = refl
@@ -238,15 +268,18 @@ no_strike false p r h = refl
 zero_false : (test : ℕ → Bool) (s : ℕ) → 0 ≡ word test → s < 64 → test s ≡ false
 zero_false test s h small = sym (word_has test 0 s h small) ∙ ap (λ (n : ℕ). n == 1) (bit_at-zero s)
 
-arrival_unseen : (men : List (Option Man)) (a : ℕ) (o : Option ℕ) (b : ℕ) (z : Man) (k : ℕ) (u : Option ℕ) (t : ℕ) (x : Man) (c : Colour) (r : ℕ) → IsSafeStep men a o b z k u t x c r
+arrival_unseen : (men : List (Option Man)) (a : ℕ) (o : Option ℕ) (b : ℕ) (z : Man) (k : ℕ) (u : Option ℕ) (t : ℕ) (x : Man) (c : Colour) (r : ℕ)
+    → IsSafeStep men a o b z k u t x c r
     → reaches_as (stepped men a o b z k u t x) z.colour z.kind b t ≡ false
 arrival_unseen men a o b z k u t x c r i =
     let lifted : List (Option Man) = without_man (gone_to men a o b z) k in
     reaches_alike (stepped men a o b z k u t x) lifted z.colour z.kind b t (lifted_alike men a o b z k u t x i.step.arrival i.step.flight i.step.taken)
-    ∙ sym (word_has (reaches_as lifted z.colour z.kind b) r t (i.arrived lifted (occupied_lifted men a o b z k i.step.arrival)) (omega (arith, i.step.flight, i.size)))
+    ∙ sym (word_has (reaches_as lifted z.colour z.kind b) r t (i.arrived lifted (occupied_lifted men a o b z k i.step.arrival))
+    (omega (arith, i.step.flight, i.size)))
     ∙ i.unseen
 
-nobody_strikes : (men : List (Option Man)) (a : ℕ) (o : Option ℕ) (b : ℕ) (z : Man) (k : ℕ) (u : Option ℕ) (t : ℕ) (x : Man) (c : Colour) (r s : ℕ) → IsSafeStep men a o b z k u t x c r → s < 64
+nobody_strikes : (men : List (Option Man)) (a : ℕ) (o : Option ℕ) (b : ℕ) (z : Man) (k : ℕ) (u : Option ℕ) (t : ℕ) (x : Man) (c : Colour) (r s : ℕ)
+    → IsSafeStep men a o b z k u t x c r → s < 64
     → (is_side (man_on (stepped men a o b z k u t x) s) c && reaches (stepped men a o b z k u t x) s t) ≡ false
 unfolding reaches
 nobody_strikes men a o b z k u t x c r s i small = elim (cases_eq s b) [
@@ -255,23 +288,31 @@ nobody_strikes men a o b z k u t x c r s i small = elim (cases_eq s b) [
     | inr off ↦
         let here : man_on (stepped men a o b z k u t x) s ≡ Some z = stands_arrived men a o b z k u t x s i.step.arrival i.step.taken e off i.step.apart in
         and_right (is_side (man_on (stepped men a o b z k u t x) s) c) _
-        (ap (λ (y : Option Man). reaches_of (stepped men a o b z k u t x) y s t) here ∙ ap (λ (q : ℕ). reaches_as (stepped men a o b z k u t x) z.colour z.kind q t) e ∙ arrival_unseen men a o b z k u t x c r i)
+        (ap (λ (y : Option Man). reaches_of (stepped men a o b z k u t x) y s t) here
+        ∙ ap (λ (q : ℕ). reaches_as (stepped men a o b z k u t x) z.colour z.kind q t) e ∙ arrival_unseen men a o b z k u t x c r i)
   ]
   | inr ne ↦ elsewhere (λ e. absurd (ne e))
 ] where
-  elsewhere : (s ≡ b → s ≡ t) → (is_side (man_on (stepped men a o b z k u t x) s) c && reaches_of (stepped men a o b z k u t x) (man_on (stepped men a o b z k u t x) s) s t) ≡ false
+  elsewhere : (s ≡ b → s ≡ t) → (is_side (man_on (stepped men a o b z k u t x) s) c && reaches_of (stepped men a o b z k u t x)
+      (man_on (stepped men a o b z k u t x) s) s t) ≡ false
   elsewhere off =
-      let same : man_on (stepped men a o b z k u t x) s ≡ man_on (stepped men a o b x k u t x) s = same_elsewhere men a o b z x k u t x s i.step.flight i.step.taken off in
-      let there : reaches_of (stepped men a o b z k u t x) (man_on (stepped men a o b x k u t x) s) s t ≡ reaches_of (stepped men a o b x k u t x) (man_on (stepped men a o b x k u t x) s) s t = reaches_alike_of (stepped men a o b z k u t x) (stepped men a o b x k u t x) (man_on (stepped men a o b x k u t x) s) s t (arrival_alike men a o b z x k u t x i.step.arrival i.step.flight i.step.taken) in
+      let same : man_on (stepped men a o b z k u t x) s ≡ man_on (stepped men a o b x k u t x) s =
+      same_elsewhere men a o b z x k u t x s i.step.flight i.step.taken off in
+      let there : reaches_of (stepped men a o b z k u t x) (man_on (stepped men a o b x k u t x) s) s t ≡ reaches_of (stepped men a o b x k u t x)
+      (man_on (stepped men a o b x k u t x) s) s t = reaches_alike_of (stepped men a o b z k u t x) (stepped men a o b x k u t x)
+      (man_on (stepped men a o b x k u t x) s) s t (arrival_alike men a o b z x k u t x i.step.arrival i.step.flight i.step.taken) in
       ap (λ (y : Option Man). is_side y c && reaches_of (stepped men a o b z k u t x) y s t) same
       ∙ ap (λ (y : Bool). is_side (man_on (stepped men a o b x k u t x) s) c && y) there
-      ∙ zero_false (λ s. is_side (man_on (stepped men a o b x k u t x) s) c && reaches (stepped men a o b x k u t x) s t) s (i.others (stepped men a o b x k u t x) (seen_stepped men a o b k u t x c i.step)) small
+      ∙ zero_false (λ s. is_side (man_on (stepped men a o b x k u t x) s) c && reaches (stepped men a o b x k u t x) s t) s
+      (i.others (stepped men a o b x k u t x) (seen_stepped men a o b k u t x c i.step)) small
 
-not_attacked : (rule : RuleSet) (men : List (Option Man)) (a : ℕ) (o : Option ℕ) (b : ℕ) (z : Man) (k : ℕ) (u : Option ℕ) (t : ℕ) (x : Man) (c : Colour) (r : ℕ) → IsSafeStep men a o b z k u t x c r → attacked rule (stepped men a o b z k u t x) t c ≡ false
+not_attacked : (rule : RuleSet) (men : List (Option Man)) (a : ℕ) (o : Option ℕ) (b : ℕ) (z : Man) (k : ℕ) (u : Option ℕ) (t : ℕ) (x : Man) (c : Colour)
+    (r : ℕ) → IsSafeStep men a o b z k u t x c r → attacked rule (stepped men a o b z k u t x) t c ≡ false
 unfolding attacked strikes
 not_attacked rule men a o b z k u t x c r i =
     some_square_false (strikes rule (stepped men a o b z k u t x) t c) 64 (omega arith) (record {
-      fails = λ s small. no_strike (is_side (man_on (stepped men a o b z k u t x) s) c) (not (paralysed rule (stepped men a o b z k u t x) s)) _ (nobody_strikes men a o b z k u t x c r s i small);
+      fails = λ s small. no_strike (is_side (man_on (stepped men a o b z k u t x) s) c) (not (paralysed rule (stepped men a o b z k u t x) s)) _
+          (nobody_strikes men a o b z k u t x c r s i small);
     })
 
 -- the step itself
@@ -282,7 +323,8 @@ other_side (Some y) c h = by c (same_colour-true y.colour (other c) (first_of_an
   by White q = rw q refl
   by Black q = rw q refl
 
-steps_there : (men : List (Option Man)) (x : Man) (c : Colour) (k t : ℕ) → man_on men k ≡ Some x → same_colour x.colour c ≡ true → same_kind x.kind King ≡ true → reaches_as men c King k t ≡ true → reaches men k t ≡ true
+steps_there : (men : List (Option Man)) (x : Man) (c : Colour) (k t : ℕ) → man_on men k ≡ Some x → same_colour x.colour c ≡ true → same_kind x.kind King ≡ true
+    → reaches_as men c King k t ≡ true → reaches men k t ≡ true
 unfolding reaches
 steps_there men x c k t here mine king h =
     ap (λ (o : Option Man). reaches_of men o k t) here
@@ -328,7 +370,8 @@ may_step rule q x k t i =
     let piece : same_kind x.kind Pawn ≡ false = king_is_no_pawn x.kind i.king in
     let able : not (paralysed rule q.men k) ≡ true = ap not (and_left (is_madrasi rule) _ i.free) in
     let right : is_promotion_right q x (step_to k t) None ≡ true = ap not (and_left (same_kind x.kind Pawn) _ piece) in
-    let gone : goes rule q x (step_to k t) ≡ true = cond-false (same_kind x.kind Pawn) _ _ piece ∙ or_left (reaches q.men k t) _ (steps_there q.men x q.turn k t i.here i.mine i.king way.reached) in
+    let gone : goes rule q x (step_to k t) ≡ true = cond-false (same_kind x.kind Pawn) _ _ piece
+    ∙ or_left (reaches q.men k t) _ (steps_there q.men x q.turn k t i.here i.mine i.king way.reached) in
     ap (λ (o : Option Man). pseudo_of rule q o (step_to k t)) i.here
     ∙ and_from _ _ (and_from _ _ (and_from _ _ (and_from _ _ i.mine able) way.free) right) gone
 
@@ -337,16 +380,19 @@ simple_step rule q x k t i =
     let way = open_parts rule q.men q.turn k t i.near in
     record {
       free = i.free;
-      castling = false_from_ne_true _ (λ y. king_no_step q x (step_to k t) i.well_formed i.here y i.king (steps_there q.men x q.turn k t i.here i.mine i.king way.reached));
+      castling = false_from_ne_true _ (λ y. king_no_step q x (step_to k t) i.well_formed i.here y i.king
+          (steps_there q.men x q.turn k t i.here i.mine i.king way.reached));
       rebirth = λ circe. no_capture q x (step_to k t) (way.nobody circe) (and_left (same_kind x.kind Pawn) _ (king_is_no_pawn x.kind i.king));
     }
 
-step_is_legal : (rule : RuleSet) (q : Position) (x : Man) (k t : ℕ) → IsKingStep rule q x k t → attacked rule (arrived q x (step_to k t)) t (other q.turn) ≡ false → legal rule q (step_to k t) ≡ true
+step_is_legal : (rule : RuleSet) (q : Position) (x : Man) (k t : ℕ) → IsKingStep rule q x k t
+    → attacked rule (arrived q x (step_to k t)) t (other q.turn) ≡ false → legal rule q (step_to k t) ≡ true
 unfolding legal
 step_is_legal rule q x k t i safe =
     let may : pseudo rule q (step_to k t) ≡ true = may_step rule q x k t i in
     let king : king_after q x (step_to k t) ≡ Some t = cond-true (same_kind x.kind King) _ _ i.king in
-    and_from _ _ may (ap not (check_is rule q x (step_to k t) (Some t) i.well_formed (made rule q (step_to k t) x may i.here) i.small (simple_step rule q x k t i) king ∙ safe))
+    and_from _ _ may (ap not (check_is rule q x (step_to k t) (Some t) i.well_formed (made rule q (step_to k t) x may i.here) i.small
+    (simple_step rule q x k t i) king ∙ safe))
 
 -- the king's square and the arrival
 pub record IsKingOn (men : List (Option Man)) (c : Colour) (k : ℕ) (x : Man) : Type 0 where
@@ -373,14 +419,16 @@ no_king_square : (men : List (Option Man)) (c d : Colour) (k b : ℕ) → king_s
 no_king_square men c d k b at free e =
     false≢true (sym (no_king_free c d (man_on men b) free) ∙ ap (λ (s : ℕ). is_man (man_on men s) d King) e ∙ (king_there men d k at).1)
 
-is_step : (rule : RuleSet) (p : Position) (m : Move) (x y : Man) (k t : ℕ) → IsSeenFrom rule p m x k → m.to < 64 → t < 64 → IsKingOn (after rule p m).men (other p.turn) k y
+is_step : (rule : RuleSet) (p : Position) (m : Move) (x y : Man) (k t : ℕ) → IsSeenFrom rule p m x k → m.to < 64 → t < 64
+    → IsKingOn (after rule p m).men (other p.turn) k y
     → IsStep p.men m.from (capture_square p x m) m.to k (capture_square (after rule p m) y (step_to k t)) t y p.turn
 is_step rule p m x y k t i small there king =
     let is : IsMade rule p x m = made rule p m x i.pseudo i.here in
     record {
       arrival = omega (arith, small, i.well_formed.size);
       flight = omega (arith, there, i.well_formed.size);
-      taken = λ s at. capture_of_piece (after rule p m) y (step_to k t) s (king_is_no_pawn y.kind king.king) (is_square-some (capture_square (after rule p m) y (step_to k t)) s at);
+      taken = λ s at. capture_of_piece (after rule p m) y (step_to k t) s (king_is_no_pawn y.kind king.king)
+          (is_square-some (capture_square (after rule p m) y (step_to k t)) s at);
       king = king_is_other y p.turn king.mine;
       lifted = other_side (man_on p.men k) p.turn (king_there p.men (other p.turn) k i.king).1;
       entered = no_own_free p.turn (man_on p.men m.to) is.arrival;
@@ -389,9 +437,11 @@ is_step rule p m x y k t i small there king =
 
 pub has_flight_to : (rule : RuleSet) (p : Position) (m : Move) (x : Man) (k n r t : ℕ) → IsSeenFrom rule p m x k → m.to < 64 → t < 64
     → AreOpen rule (after rule p m).men (other p.turn) k n
-    → ((l : List (Option Man)) → (sight_lifted p.men m.from (capture_square p x m) m.to k).occupied ≡ occupied_squares l → r ≡ word (reaches_as l (arriving x m.promo).colour (arriving x m.promo).kind m.to))
+    → ((l : List (Option Man)) → (sight_lifted p.men m.from (capture_square p x m) m.to k).occupied ≡ occupied_squares l
+    → r ≡ word (reaches_as l (arriving x m.promo).colour (arriving x m.promo).kind m.to))
     → (bit_at (bit_and n (bit_not w64 r)) t == 1) ≡ true
-    → ((l : List (Option Man)) → AreSeen p.men l p.turn (sight_with (sight_lifted p.men m.from (capture_square p x m) m.to k) t) → 0 ≡ word (λ s. is_side (man_on l s) p.turn && reaches l s t))
+    → ((l : List (Option Man)) → AreSeen p.men l p.turn (sight_with (sight_lifted p.men m.from (capture_square p x m) m.to k) t)
+    → 0 ≡ word (λ s. is_side (man_on l s) p.turn && reaches l s t))
     → has_flight rule (after rule p m) ≡ true
 unfolding has_flight is_flight
 has_flight_to rule p m x k n r t i small there near arrives on others =
@@ -400,7 +450,8 @@ has_flight_to rule p m x k n r t i small there near arrives on others =
     let at : king_square (after rule p m).men (other p.turn) ≡ Some k = king_seen rule p m x k i small in
     let king = king_on (after rule p m).men (other p.turn) k at in
     let lifted : List (Option Man) = without_man (gone_to p.men m.from (capture_square p x m) m.to (arriving x m.promo)) k in
-    let seen : r ≡ word (reaches_as lifted (arriving x m.promo).colour (arriving x m.promo).kind m.to) = arrives lifted (occupied_lifted p.men m.from (capture_square p x m) m.to (arriving x m.promo) k (omega (arith, small, i.well_formed.size))) in
+    let seen : r ≡ word (reaches_as lifted (arriving x m.promo).colour (arriving x m.promo).kind m.to) =
+    arrives lifted (occupied_lifted p.men m.from (capture_square p x m) m.to (arriving x m.promo) k (omega (arith, small, i.well_formed.size))) in
     let step : IsKingStep rule (after rule p m) king.0 k t = record {
       well_formed = after_well_formed rule p m i.well_formed i.pseudo;
       free = (simple_parts rule p x m i.simple).free;
@@ -410,7 +461,8 @@ has_flight_to rule p m x k n r t i small there near arrives on others =
       small = there;
       near = ap (λ (c : Colour). is_open rule (after rule p m).men c k t) turn ∙ near.inside t there (on_first n (bit_not w64 r) t on);
     } in
-    let safe : IsSafeStep p.men m.from (capture_square p x m) m.to (arriving x m.promo) k (capture_square (after rule p m) king.0 (step_to k t)) t king.0 p.turn r = record {
+    let safe : IsSafeStep p.men m.from (capture_square p x m) m.to (arriving x m.promo) k (capture_square (after rule p m) king.0 (step_to k t)) t king.0
+    p.turn r = record {
       step = is_step rule p m x king.0 k t i small there king.1;
       size = i.well_formed.size;
       arrived = arrives;
@@ -420,15 +472,20 @@ has_flight_to rule p m x k n r t i small there near arrives on others =
     some_square_true (is_flight rule (after rule p m)) t there
     (ap (λ (o : Option ℕ). is_flight_from rule (after rule p m) o t) (ap (king_square (after rule p m).men) turn ∙ at)
     ∙ step_is_legal rule (after rule p m) king.0 k t step
-    (ap (λ (l : List (Option Man)). attacked rule (gone_to l k (capture_square (after rule p m) king.0 (step_to k t)) t king.0) t (other (after rule p m).turn)) (after_seen rule p m x k i)
-    ∙ ap (attacked rule (stepped p.men m.from (capture_square p x m) m.to (arriving x m.promo) k (capture_square (after rule p m) king.0 (step_to k t)) t king.0) t) (ap other turn ∙ other_twice p.turn)
-    ∙ not_attacked rule p.men m.from (capture_square p x m) m.to (arriving x m.promo) k (capture_square (after rule p m) king.0 (step_to k t)) t king.0 p.turn r safe))
+    (ap (λ (l : List (Option Man)). attacked rule (gone_to l k (capture_square (after rule p m) king.0 (step_to k t)) t king.0) t
+    (other (after rule p m).turn)) (after_seen rule p m x k i)
+    ∙ ap (attacked rule (stepped p.men m.from (capture_square p x m) m.to (arriving x m.promo) k (capture_square (after rule p m) king.0 (step_to k t)) t
+    king.0) t) (ap other turn ∙ other_twice p.turn)
+    ∙ not_attacked rule p.men m.from (capture_square p x m) m.to (arriving x m.promo) k (capture_square (after rule p m) king.0 (step_to k t)) t king.0 p.turn
+    r safe))
 
 pub has_flight_first : (rule : RuleSet) (p : Position) (m : Move) (x : Man) (k n r : ℕ) (o : Option ℕ) → IsSeenFrom rule p m x k → m.to < 64
     → AreOpen rule (after rule p m).men (other p.turn) k n
-    → ((l : List (Option Man)) → (sight_lifted p.men m.from (capture_square p x m) m.to k).occupied ≡ occupied_squares l → r ≡ word (reaches_as l (arriving x m.promo).colour (arriving x m.promo).kind m.to))
+    → ((l : List (Option Man)) → (sight_lifted p.men m.from (capture_square p x m) m.to k).occupied ≡ occupied_squares l
+    → r ≡ word (reaches_as l (arriving x m.promo).colour (arriving x m.promo).kind m.to))
     → IfSome o (λ t. (t < 64) × ((bit_at (bit_and n (bit_not w64 r)) t == 1) ≡ true))
-    → IfSome o (λ t. (l : List (Option Man)) → AreSeen p.men l p.turn (sight_with (sight_lifted p.men m.from (capture_square p x m) m.to k) t) → 0 ≡ word (λ s. is_side (man_on l s) p.turn && reaches l s t))
+    → IfSome o (λ t. (l : List (Option Man)) → AreSeen p.men l p.turn (sight_with (sight_lifted p.men m.from (capture_square p x m) m.to k) t)
+    → 0 ≡ word (λ s. is_side (man_on l s) p.turn && reaches l s t))
     → is_some o ≡ true → has_flight rule (after rule p m) ≡ true
 has_flight_first rule p m x k n r None i small near arrives within safe h = absurd (false≢true h)
 has_flight_first rule p m x k n r (Some t) i small near arrives within safe h = has_flight_to rule p m x k n r t i small within.0 near arrives within.1 safe

@@ -37,10 +37,12 @@ not_yet s t d k i o at lt here = let less : place d t < place d t = o.in_order s
 all_range_same : (p q : ℕ → Bool) (a n : ℕ) → ((k : ℕ) → a ≤ k → k < a + n → p k ≡ q k) → list_all p (range_with_len a n) ≡ list_all q (range_with_len a n)
 all_range_same p q a zero h = refl
 all_range_same p q a (suc n) h =
-    let r : list_all p (range_with_len (a + 1) n) ≡ list_all q (range_with_len (a + 1) n) = all_range_same p q (a + 1) n (λ k lo hi. h k (omega arith) (omega arith)) in
+    let r : list_all p (range_with_len (a + 1) n) ≡ list_all q (range_with_len (a + 1) n) =
+    all_range_same p q (a + 1) n (λ k lo hi. h k (omega arith) (omega arith)) in
     (λ j. h a (omega arith) (omega arith) j && r j)
 
-clear_alike : (men others : List (Option Man)) (s t : ℕ) (d : Step) (k n : ℕ) → Ordered d → StandAlike men others t → along s d k ≡ Some t → n < k → is_clear men s d n ≡ is_clear others s d n
+clear_alike : (men others : List (Option Man)) (s t : ℕ) (d : Step) (k n : ℕ) → Ordered d → StandAlike men others t → along s d k ≡ Some t → n < k
+    → is_clear men s d n ≡ is_clear others s d n
 unfolding is_clear
 clear_alike men others s t d k n o a at lt =
     all_range_same (λ i. is_vacant men (along s d i)) (λ i. is_vacant others (along s d i)) 1 n
@@ -58,11 +60,13 @@ ride_alike men others s t d o a =
 hop_alike : (men others : List (Option Man)) (s t : ℕ) (d : Step) → Ordered d → StandAlike men others t → hops men s t d ≡ hops others s t d
 unfolding hops
 hop_alike men others s t d o a =
-    any_range_same (λ k. is_square (along s d k) t && is_occupied men (along s d (k - 1)) && is_clear men s d (k - 2)) (λ k. is_square (along s d k) t && is_occupied others (along s d (k - 1)) && is_clear others s d (k - 2)) 2 6
+    any_range_same (λ k. is_square (along s d k) t && is_occupied men (along s d (k - 1)) && is_clear men s d (k - 2))
+    (λ k. is_square (along s d k) t && is_occupied others (along s d (k - 1)) && is_clear others s d (k - 2)) 2 6
     (λ k lo hi. elim (cases_Bool (is_square (along s d k) t)) [
       | inl y ↦
           let at : along s d k ≡ Some t = square_is _ t y in
-          let hurdle : is_occupied men (along s d (k - 1)) ≡ is_occupied others (along s d (k - 1)) = occupied_alike men others t (along s d (k - 1)) a (not_yet s t d k (k - 1) o at (omega arith)) in
+          let hurdle : is_occupied men (along s d (k - 1)) ≡ is_occupied others (along s d (k - 1)) =
+          occupied_alike men others t (along s d (k - 1)) a (not_yet s t d k (k - 1) o at (omega arith)) in
           let free : is_clear men s d (k - 2) ≡ is_clear others s d (k - 2) = clear_alike men others s t d k (k - 2) o a at (omega arith) in
           (λ j. is_square (along s d k) t && hurdle j && free j)
       | inr n ↦ rw n refl
@@ -81,9 +85,11 @@ queen_same f g h =
 
 knight_same : (f g : Step → Bool) → ((x : Direction) → f (step_of x) ≡ g (step_of x)) → list_any f knight_steps ≡ list_any g knight_steps
 knight_same f g h =
-    (λ j. h NorthNorthEast j || (h SouthSouthEast j || (h NorthNorthWest j || (h SouthSouthWest j || (h EastNorthEast j || (h EastSouthEast j || (h WestNorthWest j || (h WestSouthWest j || false))))))))
+    (λ j. h NorthNorthEast j || (h SouthSouthEast j || (h NorthNorthWest
+    j || (h SouthSouthWest j || (h EastNorthEast j || (h EastSouthEast j || (h WestNorthWest j || (h WestSouthWest j || false))))))))
 
-pub reaches_alike : (men others : List (Option Man)) (c : Colour) (j : Kind) (s t : ℕ) → StandAlike men others t → reaches_as men c j s t ≡ reaches_as others c j s t
+pub reaches_alike : (men others : List (Option Man)) (c : Colour) (j : Kind) (s t : ℕ) → StandAlike men others t
+    → reaches_as men c j s t ≡ reaches_as others c j s t
 unfolding reaches_as
 reaches_alike men others c King s t a = refl
 reaches_alike men others c Queen s t a = queen_same (rides men s t) (rides others s t) (λ x. ride_alike men others s t (step_of x) (ordered x) a)
@@ -97,7 +103,8 @@ reaches_alike men others c Nightrider s t a = knight_same (rides men s t) (rides
 -- a king doesn't step where it stands
 no_step_off : (s : ℕ) (d : Step) → Ordered d → s < 64 → leaps s s d ≡ false
 unfolding leaps
-no_step_off s d o small = false_from_ne_true _ (λ y. let less : place d s < place d s = o.in_order s 0 1 s s (stays s d small) (square_is _ s y) (omega arith) in omega arith)
+no_step_off s d o small = false_from_ne_true _ (λ y. let less : place d s < place d s =
+    o.in_order s 0 1 s s (stays s d small) (square_is _ s y) (omega arith) in omega arith)
 
 pub no_step_there : (men : List (Option Man)) (c : Colour) (s : ℕ) → s < 64 → reaches_as men c King s s ≡ false
 unfolding reaches_as

@@ -12,7 +12,8 @@ use Rattle.chess_rules.proofs.Places.{moves_behind-end, moves_behind-here, moves
 use Rattle.chess_rules.proofs.Stays.{maker}
 use Rattle.chess_rules.proofs.Tests.{first_of_and, second_of_and}
 
-pub mates_behind-here : (rule : RuleSet) (p : Position) (n : ℕ) → n < 28672 → mates rule p (triple_at n) ≡ true → mates_behind rule p n ≡ (triple_at n ∷ mates_behind rule p (n + 1))
+pub mates_behind-here : (rule : RuleSet) (p : Position) (n : ℕ) → n < 28672 → mates rule p (triple_at n) ≡ true
+    → mates_behind rule p n ≡ (triple_at n ∷ mates_behind rule p (n + 1))
 unfolding mates_behind mates
 mates_behind-here rule p n lt h =
     ap (λ (l : List Move). filter (λ m. is_goal rule (after rule p m)) l) (moves_behind-here rule p n lt (first_of_and _ _ h))
@@ -22,7 +23,8 @@ false_second : (a b : Bool) → a ≡ true → (a && b) ≡ false → b ≡ fals
 false_second true b e h = h
 false_second false b e h = cc
 
-pub mates_behind-skip : (rule : RuleSet) (p : Position) (n : ℕ) → n < 28672 → mates rule p (triple_at n) ≡ false → mates_behind rule p n ≡ mates_behind rule p (n + 1)
+pub mates_behind-skip : (rule : RuleSet) (p : Position) (n : ℕ) → n < 28672 → mates rule p (triple_at n) ≡ false
+    → mates_behind rule p n ≡ mates_behind rule p (n + 1)
 unfolding mates_behind mates
 mates_behind-skip rule p n lt h = elim (cases_Bool (legal rule p (triple_at n))) [
   | inl may ↦
@@ -46,7 +48,8 @@ pub mates_behind-end : (rule : RuleSet) (p : Position) (n : ℕ) → 28672 ≤ n
 unfolding mates_behind
 mates_behind-end rule p n ge = ap (λ (l : List Move). filter (λ m. is_goal rule (after rule p m)) l) (moves_behind-end rule p n ge)
 
-pub mates_behind-none : (rule : RuleSet) (p : Position) (a b : ℕ) → (b < 28672 → a ≤ b) → b ≤ 28672 → HaveNone (mates rule p) a b → mates_behind rule p a ≡ mates_behind rule p b
+pub mates_behind-none : (rule : RuleSet) (p : Position) (a b : ℕ) → (b < 28672 → a ≤ b) → b ≤ 28672 → HaveNone (mates rule p) a b
+    → mates_behind rule p a ≡ mates_behind rule p b
 mates_behind-none rule p a b low high h = elim (cases_lt b a) [
   | inr ge ↦ skip_by rule p (b - a) a b (omega arith) high h
   | inl lt ↦ elim (cases_lt b 28672) [
@@ -63,19 +66,22 @@ pub turn_after : (rule : RuleSet) (p : Position) (m : Move) → pseudo rule p m 
 unfolding after after_by
 turn_after rule p m h = let x = maker rule p m h in rw x.1 refl
 
-pub no_mate_quietly : (rule : RuleSet) (p : Position) (m : Move) → pseudo rule p m ≡ true → in_check rule (after rule p m).men (other p.turn) ≡ false → false ≡ mates rule p m
+pub no_mate_quietly : (rule : RuleSet) (p : Position) (m : Move) → pseudo rule p m ≡ true → in_check rule (after rule p m).men (other p.turn) ≡ false
+    → false ≡ mates rule p m
 unfolding mates is_goal
 no_mate_quietly rule p m may quiet =
     let calm : in_check rule (after rule p m).men (after rule p m).turn ≡ false = rw (turn_after rule p m may) quiet in
     sym (and_right (legal rule p m) _ (and_left (in_check rule (after rule p m).men (after rule p m).turn) _ calm))
 
 -- a move that may be made, tested in the position after it
-pub mates_after : (rule : RuleSet) (p : Position) (m : Move) → pseudo rule p m ≡ true → (not (in_check rule (after rule p m).men p.turn) && is_goal rule (after rule p m)) ≡ mates rule p m
+pub mates_after : (rule : RuleSet) (p : Position) (m : Move) → pseudo rule p m ≡ true
+    → (not (in_check rule (after rule p m).men p.turn) && is_goal rule (after rule p m)) ≡ mates rule p m
 unfolding mates legal
 mates_after rule p m may = sym (ap (λ (b : Bool). b && not (in_check rule (after rule p m).men p.turn) && is_goal rule (after rule p m)) may)
 
 -- the first move that mates from a place on, by its number
-pub mates_numbered : (rule : RuleSet) (p : Position) (start n : ℕ) → n < 28672 → mates_behind rule p n ≡ mates_behind rule p start → mates rule p (triple_at n) ≡ true → mates_behind rule p start ≡ (triple_at n ∷ mates_behind rule p (n + 1))
+pub mates_numbered : (rule : RuleSet) (p : Position) (start n : ℕ) → n < 28672 → mates_behind rule p n ≡ mates_behind rule p start
+    → mates rule p (triple_at n) ≡ true → mates_behind rule p start ≡ (triple_at n ∷ mates_behind rule p (n + 1))
 mates_numbered rule p start n lt same h = sym same ∙ mates_behind-here rule p n lt h
 
 pub legal_of_mate : (rule : RuleSet) (p : Position) (m : Move) → mates rule p m ≡ true → legal rule p m ≡ true

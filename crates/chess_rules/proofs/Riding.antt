@@ -23,7 +23,8 @@ use Rattle.chess_rules.proofs.Bits.{word_empty, word_has}
 use Rattle.chess_rules.proofs.Tests.{IsFirst, any_range_cases, same_Bool}
 
 -- some number passes up to q, if some does below n, or q itself, and those between don't
-upto : (p : ℕ → Bool) (n q : ℕ) → n ≤ q → ((j : ℕ) → n ≤ j → j < q → p j ≡ false) → (list_any p (range_with_len 0 n) || p q) ≡ list_any p (range_with_len 0 (q + 1))
+upto : (p : ℕ → Bool) (n q : ℕ) → n ≤ q → ((j : ℕ) → n ≤ j → j < q → p j ≡ false)
+    → (list_any p (range_with_len 0 n) || p q) ≡ list_any p (range_with_len 0 (q + 1))
 upto p n q le none = elim (any_range_cases p 0 n) [
   | inl w ↦
       or_left (list_any p (range_with_len 0 n)) _ (any_range_true p 0 n w.0 w.1 w.2 w.3)
@@ -51,7 +52,8 @@ none_more p n m le none = elim (any_range_cases p 0 n) [
 abbrev pub ridden_below : List (Option Man) → List Step → ℕ → ℕ → ℕ → Bool
 ridden_below men ds w n s = list_any (λ q. bit_at w q == 1 && list_any (rides men q s) ds) (range_with_len 0 n)
 
-pub ridden_more : (men : List (Option Man)) (ds : List Step) (w n q r v : ℕ) → r ≡ word (ridden_below men ds w n) → v ≡ word (λ s. list_any (rides men q s) ds) → IsFirst (λ s. bit_at w s == 1) n (64 - n) q
+pub ridden_more : (men : List (Option Man)) (ds : List Step) (w n q r v : ℕ) → r ≡ word (ridden_below men ds w n) → v ≡ word (λ s. list_any (rides men q s) ds)
+    → IsFirst (λ s. bit_at w s == 1) n (64 - n) q
     → bit_or r v ≡ word (ridden_below men ds w (q + 1))
 ridden_more men ds w n q r v h i first =
     (λ j. bit_or (h j) (i j)) ∙ squares_either (ridden_below men ds w n) (λ s. list_any (rides men q s) ds)
@@ -62,7 +64,8 @@ ridden_more men ds w n q r v h i first =
 pub ridden_none : (men : List (Option Man)) (ds : List Step) (w : ℕ) → 0 ≡ word (ridden_below men ds w 0)
 ridden_none men ds w = word_empty (ridden_below men ds w 0) (λ s small. refl)
 
-pub ridden_all : (men : List (Option Man)) (ds : List Step) (w n r : ℕ) → n ≤ 64 → r ≡ word (ridden_below men ds w n) → ((j : ℕ) → n ≤ j → j < 64 → (bit_at w j == 1) ≡ false) → r ≡ word (λ s. some_square (λ q. bit_at w q == 1 && list_any (rides men q s) ds))
+pub ridden_all : (men : List (Option Man)) (ds : List Step) (w n r : ℕ) → n ≤ 64 → r ≡ word (ridden_below men ds w n)
+    → ((j : ℕ) → n ≤ j → j < 64 → (bit_at w j == 1) ≡ false) → r ≡ word (λ s. some_square (λ q. bit_at w q == 1 && list_any (rides men q s) ds))
 unfolding some_square squares
 ridden_all men ds w n r le h none =
     h ∙ squares_same (ridden_below men ds w n) (λ s. list_any (λ q. bit_at w q == 1 && list_any (rides men q s) ds) (range_with_len 0 64)) (λ s small.
@@ -72,24 +75,30 @@ ridden_all men ds w n r le h none =
 abbrev pub is_rider : List (Option Man) → Colour → Kind → List Step → ℕ → ℕ → Bool
 is_rider men e j ds k q = (is_man (man_on men q) e j || is_man (man_on men q) e Queen) && is_on_some ds k q
 
-pub riders_are : (men : List (Option Man)) (e : Colour) (j : Kind) (ds : List Step) (k r l : ℕ) → r ≡ bit_or (squares_of men e j) (squares_of men e Queen) → l ≡ word (is_on_some ds k) → bit_and r l ≡ word (is_rider men e j ds k)
+pub riders_are : (men : List (Option Man)) (e : Colour) (j : Kind) (ds : List Step) (k r l : ℕ) → r ≡ bit_or (squares_of men e j) (squares_of men e Queen)
+    → l ≡ word (is_on_some ds k) → bit_and r l ≡ word (is_rider men e j ds k)
 unfolding squares_of
 riders_are men e j ds k r l h g =
     (λ y. bit_and (h y) (g y))
     ∙ ap (λ (w : ℕ). bit_and w (word (is_on_some ds k))) (squares_either (λ s. is_man (man_on men s) e j) (λ s. is_man (man_on men s) e Queen))
     ∙ squares_both (λ s. is_man (man_on men s) e j || is_man (man_on men s) e Queen) (is_on_some ds k)
 
-pub none_shut : (men : List (Option Man)) (e : Colour) (j : Kind) (ds : List Step) (k w : ℕ) → w ≡ word (is_rider men e j ds k) → w ≡ 0 → 0 ≡ word (is_shut men e j ds k)
+pub none_shut : (men : List (Option Man)) (e : Colour) (j : Kind) (ds : List Step) (k w : ℕ) → w ≡ word (is_rider men e j ds k) → w ≡ 0
+    → 0 ≡ word (is_shut men e j ds k)
 unfolding is_shut is_behind
 none_shut men e j ds k w h zero =
-    word_empty (is_shut men e j ds k) (λ s small. and_right (list_any (rides men k s) ds) _ (some_square_false (is_behind men e j ds k s) 64 (omega arith) (record {
-      fails = λ q lt. and_left (is_rider men e j ds k q) _ (sym (word_has (is_rider men e j ds k) w q h lt) ∙ ap (λ (n : ℕ). bit_at n q == 1) zero ∙ ap (λ (n : ℕ). n == 1) (bit_at-zero q));
+    word_empty (is_shut men e j ds k) (λ s small. and_right (list_any (rides men k s) ds) _
+    (some_square_false (is_behind men e j ds k s) 64 (omega arith) (record {
+      fails = λ q lt. and_left (is_rider men e j ds k q) _ (sym (word_has (is_rider men e j ds k) w q h lt) ∙ ap (λ (n : ℕ). bit_at n q == 1) zero
+          ∙ ap (λ (n : ℕ). n == 1) (bit_at-zero q));
     })))
 
-pub shut_are : (men : List (Option Man)) (e : Colour) (j : Kind) (ds : List Step) (k w n r : ℕ) → w ≡ word (is_rider men e j ds k) → n ≡ word (λ t. list_any (rides men k t) ds) → r ≡ word (λ s. some_square (λ q. bit_at w q == 1 && list_any (rides men q s) ds))
+pub shut_are : (men : List (Option Man)) (e : Colour) (j : Kind) (ds : List Step) (k w n r : ℕ) → w ≡ word (is_rider men e j ds k)
+    → n ≡ word (λ t. list_any (rides men k t) ds) → r ≡ word (λ s. some_square (λ q. bit_at w q == 1 && list_any (rides men q s) ds))
     → bit_and n r ≡ word (is_shut men e j ds k)
 unfolding is_shut is_behind
 shut_are men e j ds k w n r h i g =
     (λ y. bit_and (i y) (g y)) ∙ squares_both (λ t. list_any (rides men k t) ds) (λ s. some_square (λ q. bit_at w q == 1 && list_any (rides men q s) ds))
     ∙ squares_same _ (is_shut men e j ds k) (λ s small. ap (λ (b : Bool). list_any (rides men k s) ds && b)
-    (some_square_same (λ q. bit_at w q == 1 && list_any (rides men q s) ds) (is_behind men e j ds k s) (λ q lt. ap (λ (b : Bool). b && list_any (rides men q s) ds) (word_has (is_rider men e j ds k) w q h lt))))
+    (some_square_same (λ q. bit_at w q == 1 && list_any (rides men q s) ds) (is_behind men e j ds k s)
+    (λ q lt. ap (λ (b : Bool). b && list_any (rides men q s) ds) (word_has (is_rider men e j ds k) w q h lt))))

@@ -70,7 +70,8 @@ kept_at : (men : List (Option Man)) (o : Option ℕ) (q : ℕ) → is_square o q
 kept_at men None q h = refl
 kept_at men (Some s) q h = man_on-without_other men s q (λ e. false≢true (sym h ∙ eq-eqb s q (sym e)))
 
-pub left_now : (men : List (Option Man)) (a : ℕ) (o : Option ℕ) (b : ℕ) (z : Man) (q : ℕ) → q ≢ b → (is_square (Some a) q || is_square o q) ≡ true → man_on (gone_to men a o b z) q ≡ None
+pub left_now : (men : List (Option Man)) (a : ℕ) (o : Option ℕ) (b : ℕ) (z : Man) (q : ℕ) → q ≢ b → (is_square (Some a) q || is_square o q) ≡ true
+    → man_on (gone_to men a o b z) q ≡ None
 left_now men a o b z q ne h =
     man_on-with_other (without_at (without_man men a) o) b q z ne
     ∙ elim (or_cases (is_square (Some a) q) (is_square o q) h) [
@@ -78,7 +79,8 @@ left_now men a o b z q ne h =
       | inr y ↦ gone_at (without_man men a) o q y
     ]
 
-pub kept_now : (men : List (Option Man)) (a : ℕ) (o : Option ℕ) (b : ℕ) (z : Man) (q : ℕ) → q ≢ b → (is_square (Some a) q || is_square o q) ≡ false → man_on (gone_to men a o b z) q ≡ man_on men q
+pub kept_now : (men : List (Option Man)) (a : ℕ) (o : Option ℕ) (b : ℕ) (z : Man) (q : ℕ) → q ≢ b → (is_square (Some a) q || is_square o q) ≡ false
+    → man_on (gone_to men a o b z) q ≡ man_on men q
 kept_now men a o b z q ne h =
     let n = or_parts (is_square (Some a) q) (is_square o q) h in
     man_on-with_other (without_at (without_man men a) o) b q z ne ∙ kept_at (without_man men a) o q n.1 ∙ kept_at men (Some a) q n.0
@@ -97,7 +99,8 @@ is_kept h true t p q = absurd (false≢true (sym p))
 is_kept true false true p q = refl
 is_kept false false true p q = absurd (false≢true (sym q))
 
-pub occupied_now : (men : List (Option Man)) (a : ℕ) (o : Option ℕ) (b : ℕ) (z : Man) (q : ℕ) → b < length men → is_occupied_after men a o b q ≡ is_some (man_on (gone_to men a o b z) q)
+pub occupied_now : (men : List (Option Man)) (a : ℕ) (o : Option ℕ) (b : ℕ) (z : Man) (q : ℕ) → b < length men
+    → is_occupied_after men a o b q ≡ is_some (man_on (gone_to men a o b z) q)
 occupied_now men a o b z q small = elim (cases_eq q b) [
   | inl e ↦
       let there : man_on (gone_to men a o b z) q ≡ Some z = ap (man_on (gone_to men a o b z)) e ∙ there_now men a o b z small in
@@ -105,8 +108,10 @@ occupied_now men a o b z q small = elim (cases_eq q b) [
   | inr ne ↦
       let off : is_square (Some b) q ≡ false = differs b q (λ e. ne (sym e)) in
       elim (cases_Bool (is_square (Some a) q || is_square o q)) [
-        | inl y ↦ is_gone (is_some (man_on men q)) (is_square (Some a) q || is_square o q) (is_square (Some b) q) y off ∙ sym (ap is_some (left_now men a o b z q ne y))
-        | inr n ↦ is_kept (is_some (man_on men q)) (is_square (Some a) q || is_square o q) (is_square (Some b) q) n off ∙ sym (ap is_some (kept_now men a o b z q ne n))
+        | inl y ↦ is_gone (is_some (man_on men q)) (is_square (Some a) q || is_square o q) (is_square (Some b) q) y off
+            ∙ sym (ap is_some (left_now men a o b z q ne y))
+        | inr n ↦ is_kept (is_some (man_on men q)) (is_square (Some a) q || is_square o q) (is_square (Some b) q) n off
+            ∙ sym (ap is_some (kept_now men a o b z q ne n))
       ]
 ]
 
@@ -125,14 +130,17 @@ nobody : (o : Option Man) (c : Colour) (k : Kind) → is_some o ≡ false → is
 nobody None c k h = refl
 nobody (Some y) c k h = absurd (false≢true (sym h))
 
-enemy_now : (men : List (Option Man)) (a : ℕ) (o : Option ℕ) (b : ℕ) (z : Man) (c : Colour) (k : Kind) (q : ℕ) → IsCapture men a o b z c → (is_man (man_on men q) (other c) k && not (is_square o q)) ≡ is_man (man_on (gone_to men a o b z) q) (other c) k
+enemy_now : (men : List (Option Man)) (a : ℕ) (o : Option ℕ) (b : ℕ) (z : Man) (c : Colour) (k : Kind) (q : ℕ) → IsCapture men a o b z c
+    → (is_man (man_on men q) (other c) k && not (is_square o q)) ≡ is_man (man_on (gone_to men a o b z) q) (other c) k
 enemy_now men a o b z c k q i = elim (cases_eq q b) [
   | inl e ↦
       let there : man_on (gone_to men a o b z) q ≡ Some z = ap (man_on (gone_to men a o b z)) e ∙ there_now men a o b z i.small in
-      let none : is_man (man_on (gone_to men a o b z) q) (other c) k ≡ false = rw there (and_left (same_colour z.colour (other c)) (same_kind z.kind k) i.arriving) in
+      let none : is_man (man_on (gone_to men a o b z) q) (other c) k ≡ false =
+      rw there (and_left (same_colour z.colour (other c)) (same_kind z.kind k) i.arriving) in
       elim (cases_Bool (is_some (man_on men b))) [
         | inl y ↦ and_right (is_man (man_on men q) (other c) k) (not (is_square o q)) (ap not (ap (is_square o) e ∙ i.captured y)) ∙ sym none
-        | inr n ↦ and_left (is_man (man_on men q) (other c) k) (not (is_square o q)) (nobody (man_on men q) (other c) k (ap (λ (s : ℕ). is_some (man_on men s)) e ∙ n)) ∙ sym none
+        | inr n ↦ and_left (is_man (man_on men q) (other c) k) (not (is_square o q))
+            (nobody (man_on men q) (other c) k (ap (λ (s : ℕ). is_some (man_on men s)) e ∙ n)) ∙ sym none
       ]
   | inr ne ↦ elim (cases_Bool (is_square o q)) [
     | inl y ↦
@@ -141,20 +149,24 @@ enemy_now men a o b z c k q i = elim (cases_eq q b) [
     | inr n ↦ elim (cases_Bool (is_square (Some a) q)) [
       | inl y ↦
           let left : man_on (gone_to men a o b z) q ≡ None = left_now men a o b z q ne (or_left (is_square (Some a) q) (is_square o q) y) in
-          let mine : is_man (man_on men q) (other c) k ≡ false = ap (λ (s : ℕ). is_man (man_on men s) (other c) k) (sym (eqb-true a q y)) ∙ no_man (man_on men a) (other c) k i.own in
+          let mine : is_man (man_on men q) (other c) k ≡ false = ap (λ (s : ℕ). is_man (man_on men s) (other c) k) (sym (eqb-true a q y))
+          ∙ no_man (man_on men a) (other c) k i.own in
           and_left (is_man (man_on men q) (other c) k) (not (is_square o q)) mine ∙ sym (rw left refl)
       | inr off ↦
           let kept : man_on (gone_to men a o b z) q ≡ man_on men q = kept_now men a o b z q ne (neither (is_square (Some a) q) (is_square o q) off n) in
-          ap (λ (x : Bool). is_man (man_on men q) (other c) k && not x) n ∙ and_true (is_man (man_on men q) (other c) k) ∙ sym (ap (λ (y : Option Man). is_man y (other c) k) kept)
+          ap (λ (x : Bool). is_man (man_on men q) (other c) k && not x) n ∙ and_true (is_man (man_on men q) (other c) k)
+          ∙ sym (ap (λ (y : Option Man). is_man y (other c) k) kept)
     ]
   ]
 ]
 
 -- the words after a move are those of the men after it
-pub seen_after : (men : List (Option Man)) (a : ℕ) (o : Option ℕ) (b : ℕ) (z : Man) (c : Colour) → IsCapture men a o b z c → AreSeen men (gone_to men a o b z) (other c) (sight_after men a o b)
+pub seen_after : (men : List (Option Man)) (a : ℕ) (o : Option ℕ) (b : ℕ) (z : Man) (c : Colour) → IsCapture men a o b z c
+    → AreSeen men (gone_to men a o b z) (other c) (sight_after men a o b)
 unfolding squares_of
 seen_after men a o b z c i = record {
-  occupied = occupied_words men a o b ∙ squares_same (is_occupied_after men a o b) (λ s. is_some (man_on (gone_to men a o b z) s)) (λ s q. occupied_now men a o b z s i.small);
+  occupied = occupied_words men a o b ∙ squares_same (is_occupied_after men a o b) (λ s. is_some (man_on (gone_to men a o b z) s))
+      (λ s q. occupied_now men a o b z s i.small);
   standing = λ k.
       ap (bit_and (word (λ s. is_man (man_on men s) (other c) k))) (squares_not (λ s. is_square o s))
       ∙ squares_both (λ s. is_man (man_on men s) (other c) k) (λ s. not (is_square o s))
@@ -174,7 +186,8 @@ pub record IsNoKing (men : List (Option Man)) (a : ℕ) (o : Option ℕ) (b : �
   pub arrival : is_man (man_on men b) c King ≡ false
   pub captured : (s : ℕ) → is_square o s ≡ true → is_man (man_on men s) c King ≡ false
 
-king_now : (men : List (Option Man)) (a : ℕ) (o : Option ℕ) (b : ℕ) (z : Man) (c : Colour) (q : ℕ) → IsNoKing men a o b z c → is_man (man_on (gone_to men a o b z) q) c King ≡ is_man (man_on men q) c King
+king_now : (men : List (Option Man)) (a : ℕ) (o : Option ℕ) (b : ℕ) (z : Man) (c : Colour) (q : ℕ) → IsNoKing men a o b z c
+    → is_man (man_on (gone_to men a o b z) q) c King ≡ is_man (man_on men q) c King
 king_now men a o b z c q i = elim (cases_eq q b) [
   | inl e ↦
       let there : man_on (gone_to men a o b z) q ≡ Some z = ap (man_on (gone_to men a o b z)) e ∙ there_now men a o b z i.small in
@@ -191,7 +204,8 @@ king_now men a o b z c q i = elim (cases_eq q b) [
   ]
 ]
 
-pub king_stands : (men : List (Option Man)) (a : ℕ) (o : Option ℕ) (b : ℕ) (z : Man) (c : Colour) → IsNoKing men a o b z c → king_square (gone_to men a o b z) c ≡ king_square men c
+pub king_stands : (men : List (Option Man)) (a : ℕ) (o : Option ℕ) (b : ℕ) (z : Man) (c : Colour) → IsNoKing men a o b z c
+    → king_square (gone_to men a o b z) c ≡ king_square men c
 unfolding king_square squares
 king_stands men a o b z c i =
     find_same (λ s. is_man (man_on (gone_to men a o b z) s) c King) (λ s. is_man (man_on men s) c King) 0 64 (λ q. king_now men a o b z c q i)

@@ -45,7 +45,8 @@ pub record IsShift (men after : List (Option Man)) (a b : ℕ) (z : Man) : Type 
   pub others : (q : ℕ) (y : Man) → man_on after q ≡ Some y → q ≢ b → man_on men q ≡ Some y
   pub arrived : (y : Man) → man_on after b ≡ Some y → y ≡ z
 
-stays_vacant : (men after : List (Option Man)) (a b : ℕ) (z : Man) (o : Option ℕ) → IsShift men after a b z → is_vacant after o ≡ true → is_square o a ≡ false → is_vacant men o ≡ true
+stays_vacant : (men after : List (Option Man)) (a b : ℕ) (z : Man) (o : Option ℕ) → IsShift men after a b z → is_vacant after o ≡ true → is_square o a ≡ false
+    → is_vacant men o ≡ true
 stays_vacant men after a b z None i h ne = h
 stays_vacant men after a b z (Some q) i h ne =
     let none : man_on after q ≡ None = none_from_is_some (man_on after q) (not-true _ h) in
@@ -53,7 +54,8 @@ stays_vacant men after a b z (Some q) i h ne =
     rw free refl
 
 -- squares that are empty now were empty before, as far as the queen's line from k doesn't end on a
-clear_before : (men after : List (Option Man)) (a b : ℕ) (z : Man) (k : ℕ) (d : Step) (n j : ℕ) → IsShift men after a b z → n ≤ 6 → is_clear after k d n ≡ true → rides men k a d ≡ false → j ≤ n → is_clear men k d j ≡ true
+clear_before : (men after : List (Option Man)) (a b : ℕ) (z : Man) (k : ℕ) (d : Step) (n j : ℕ) → IsShift men after a b z → n ≤ 6 → is_clear after k d n ≡ true
+    → rides men k a d ≡ false → j ≤ n → is_clear men k d j ≡ true
 unfolding is_clear rides
 clear_before men after a b z k d n zero i le clear ne lt = refl
 clear_before men after a b z k d n (suc j) i le clear ne lt =
@@ -62,7 +64,8 @@ clear_before men after a b z k d n (suc j) i le clear ne lt =
     let one : suc j - 1 ≡ j = omega arith in
     let off : is_square (along k d (suc j)) a ≡ false = false_from_ne_true _ (λ y.
     let ride : rides men k a d ≡ true =
-    any_range_true (λ q. is_square (along k d q) a && is_clear men k d (q - 1)) 1 7 (suc j) (omega arith) (omega arith) (and_from _ _ y (ap (λ n. list_all (λ q. is_vacant men (along k d q)) (range_with_len 1 n)) one ∙ before)) in
+    any_range_true (λ q. is_square (along k d q) a && is_clear men k d (q - 1)) 1 7 (suc j) (omega arith) (omega arith)
+    (and_from _ _ y (ap (λ n. list_all (λ q. is_vacant men (along k d q)) (range_with_len 1 n)) one ∙ before)) in
     cc) in
     let last : is_vacant men (along k d (suc j)) ≡ true = stays_vacant men after a b z (along k d (suc j)) i here off in
     all_range_true (λ q. is_vacant men (along k d q)) 1 (suc j) (λ q lo hi. elim (cases_eq q (suc j)) [
@@ -70,18 +73,22 @@ clear_before men after a b z k d n (suc j) i le clear ne lt =
       | inr other ↦ all_at (λ q. is_vacant men (along k d q)) 1 j q before lo (omega arith)
     ])
 
-ride_before : (men after : List (Option Man)) (a b : ℕ) (z : Man) (k t : ℕ) (d : Step) → IsShift men after a b z → rides men k a d ≡ false → rides after k t d ≡ true → rides men k t d ≡ true
+ride_before : (men after : List (Option Man)) (a b : ℕ) (z : Man) (k t : ℕ) (d : Step) → IsShift men after a b z → rides men k a d ≡ false
+    → rides after k t d ≡ true → rides men k t d ≡ true
 unfolding rides
 ride_before men after a b z k t d i ne h = elim (any_range_cases (λ q. is_square (along k d q) t && is_clear after k d (q - 1)) 1 7) [
   | inl w ↦
       any_range_true (λ q. is_square (along k d q) t && is_clear men k d (q - 1)) 1 7 w.0 w.1 (omega (arith, w.2))
-      (and_from _ _ (first_of_and _ _ w.3) (clear_before men after a b z k d (w.0 - 1) (w.0 - 1) i (omega (arith, w.2)) (second_of_and (is_square (along k d w.0) t) _ w.3) ne (omega arith)))
+      (and_from _ _ (first_of_and _ _ w.3) (clear_before men after a b z k d (w.0 - 1) (w.0 - 1) i (omega (arith, w.2))
+      (second_of_and (is_square (along k d w.0) t) _ w.3) ne (omega arith)))
   | inr none ↦
-      let bad : list_any (λ q. is_square (along k d q) t && is_clear after k d (q - 1)) (range_with_len 1 7) ≡ false = any_range_false (λ q. is_square (along k d q) t && is_clear after k d (q - 1)) 1 7 none in
+      let bad : list_any (λ q. is_square (along k d q) t && is_clear after k d (q - 1)) (range_with_len 1 7) ≡ false =
+      any_range_false (λ q. is_square (along k d q) t && is_clear after k d (q - 1)) 1 7 none in
       cc
 ]
 
-rides_before : (men after : List (Option Man)) (a b : ℕ) (z : Man) (k t : ℕ) (ds : List Step) → IsShift men after a b z → list_any (rides men k a) ds ≡ false → list_any (rides after k t) ds ≡ true → list_any (rides men k t) ds ≡ true
+rides_before : (men after : List (Option Man)) (a b : ℕ) (z : Man) (k t : ℕ) (ds : List Step) → IsShift men after a b z → list_any (rides men k a) ds ≡ false
+    → list_any (rides after k t) ds ≡ true → list_any (rides men k t) ds ≡ true
 rides_before men after a b z k t [] i ne h = h
 rides_before men after a b z k t (d ∷ ds) i ne h =
     let n = or_parts (rides men k a d) (list_any (rides men k a) ds) ne in
@@ -109,7 +116,8 @@ goes_on men k s (d ∷ ds) h = elim (or_cases (rides men k s d) (list_any (rides
 ]
 
 -- what rides to a now, where a is empty, rode there before
-rode_there : (men after : List (Option Man)) (a b : ℕ) (z : Man) (k : ℕ) (ds : List Step) → IsShift men after a b z → list_any (rides after k a) ds ≡ true → list_any (rides men k a) ds ≡ true
+rode_there : (men after : List (Option Man)) (a b : ℕ) (z : Man) (k : ℕ) (ds : List Step) → IsShift men after a b z → list_any (rides after k a) ds ≡ true
+    → list_any (rides men k a) ds ≡ true
 rode_there men after a b z k ds i h = elim (cases_Bool (list_any (rides men k a) ds)) [
   | inl y ↦ y
   | inr n ↦ rides_before men after a b z k a ds i n h
@@ -119,23 +127,33 @@ rode_there men after a b z k ds i h = elim (cases_Bool (list_any (rides men k a)
 abbrev IsParted : List (Option Man) → ℕ → ℕ → ℕ → List Step → Type 0
 IsParted men a k s ds = (list_any (rides men k a) ds ≡ true) × (list_any (rides men s a) ds ≡ true)
 
-straight_before : (men after : List (Option Man)) (a b : ℕ) (z : Man) (k s : ℕ) → IsShift men after a b z → s < 64 → k < 64 → (is_on_some straight_steps k s ≡ true → IsParted men a k s straight_steps → ⊥)
+straight_before : (men after : List (Option Man)) (a b : ℕ) (z : Man) (k s : ℕ) → IsShift men after a b z → s < 64 → k < 64
+    → (is_on_some straight_steps k s ≡ true → IsParted men a k s straight_steps → ⊥)
     → list_any (rides after s k) straight_steps ≡ true → list_any (rides men s k) straight_steps ≡ true
 unfolding is_on_some
 straight_before men after a b z k s i p q never h =
     let line : list_any (rides after k s) straight_steps ≡ true = sym (straight-back after s k p q) ∙ h in
     straight-back men s k p q
     ∙ line_open after men a k s straight_steps (frees men after a b z i) line
-    (λ x y. never (goes_on after k s straight_steps line) (rode_there men after a b z k straight_steps i x, rode_there men after a b z s straight_steps i (sym (straight-flip (λ d. rides after s a (back d)) (rides after s a) (λ d. refl)) ∙ y)))
+    (λ x y. never (goes_on after k s straight_steps line) (
+      rode_there men after a b z k straight_steps i x,
+      rode_there men after a b z s straight_steps i
+          (sym (straight-flip (λ d. rides after s a (back d)) (rides after s a) (λ d. refl)) ∙ y),
+    ))
 
-diagonal_before : (men after : List (Option Man)) (a b : ℕ) (z : Man) (k s : ℕ) → IsShift men after a b z → s < 64 → k < 64 → (is_on_some diagonal_steps k s ≡ true → IsParted men a k s diagonal_steps → ⊥)
+diagonal_before : (men after : List (Option Man)) (a b : ℕ) (z : Man) (k s : ℕ) → IsShift men after a b z → s < 64 → k < 64
+    → (is_on_some diagonal_steps k s ≡ true → IsParted men a k s diagonal_steps → ⊥)
     → list_any (rides after s k) diagonal_steps ≡ true → list_any (rides men s k) diagonal_steps ≡ true
 unfolding is_on_some
 diagonal_before men after a b z k s i p q never h =
     let line : list_any (rides after k s) diagonal_steps ≡ true = sym (diagonal-back after s k p q) ∙ h in
     diagonal-back men s k p q
     ∙ line_open after men a k s diagonal_steps (frees men after a b z i) line
-    (λ x y. never (goes_on after k s diagonal_steps line) (rode_there men after a b z k diagonal_steps i x, rode_there men after a b z s diagonal_steps i (sym (diagonal-flip (λ d. rides after s a (back d)) (rides after s a) (λ d. refl)) ∙ y)))
+    (λ x y. never (goes_on after k s diagonal_steps line) (
+      rode_there men after a b z k diagonal_steps i x,
+      rode_there men after a b z s diagonal_steps i
+          (sym (diagonal-flip (λ d. rides after s a (back d)) (rides after s a) (λ d. refl)) ∙ y),
+    ))
 
 -- a doesn't shut a line along which a man of kind j on s would ride to k
 pub record NoneShut (men : List (Option Man)) (a k s : ℕ) (j : Kind) : Type 0 where
@@ -143,11 +161,13 @@ pub record NoneShut (men : List (Option Man)) (a k s : ℕ) (j : Kind) : Type 0 
   pub diagonal : (same_kind j Bishop || same_kind j Queen) ≡ true → is_on_some diagonal_steps k s ≡ true → IsParted men a k s diagonal_steps → ⊥
 
 -- an orthodox man that reaches k now, where it stands, reached it before, had it stood there
-reaches_before : (men after : List (Option Man)) (a b : ℕ) (z : Man) (e : Colour) (k s : ℕ) (j : Kind) → IsShift men after a b z → s < 64 → k < 64 → is_fairy j ≡ false → NoneShut men a k s j → reaches_as after e j s k ≡ true → reaches_as men e j s k ≡ true
+reaches_before : (men after : List (Option Man)) (a b : ℕ) (z : Man) (e : Colour) (k s : ℕ) (j : Kind) → IsShift men after a b z → s < 64 → k < 64
+    → is_fairy j ≡ false → NoneShut men a k s j → reaches_as after e j s k ≡ true → reaches_as men e j s k ≡ true
 unfolding reaches_as
 reaches_before men after a b z e k s King i p q f n h = h
 reaches_before men after a b z e k s Queen i p q f n h =
-    elim (or_cases (list_any (rides after s k) straight_steps) (list_any (rides after s k) diagonal_steps) (sym (list_any-append (rides after s k) straight_steps diagonal_steps) ∙ h)) [
+    elim (or_cases (list_any (rides after s k) straight_steps) (list_any (rides after s k) diagonal_steps)
+    (sym (list_any-append (rides after s k) straight_steps diagonal_steps) ∙ h)) [
       | inl y ↦
           let was : list_any (rides men s k) straight_steps ≡ true = straight_before men after a b z k s i p q (n.straight refl) y in
           list_any-append (rides men s k) straight_steps diagonal_steps ∙ or_left _ _ was
@@ -162,7 +182,8 @@ reaches_before men after a b z e k s Pawn i p q f n h = h
 reaches_before men after a b z e k s Grasshopper i p q f n h = cc
 reaches_before men after a b z e k s Nightrider i p q f n h = cc
 
-pub orthodox_man : (men : List (Option Man)) (c : Colour) (s : ℕ) (y : Man) → s < 64 → man_on men s ≡ Some y → same_colour y.colour c ≡ true → has_fairy men c ≡ false → is_fairy y.kind ≡ false
+pub orthodox_man : (men : List (Option Man)) (c : Colour) (s : ℕ) (y : Man) → s < 64 → man_on men s ≡ Some y → same_colour y.colour c ≡ true
+    → has_fairy men c ≡ false → is_fairy y.kind ≡ false
 unfolding has_fairy
 orthodox_man men c s y small there side none = by y.kind refl where
   by : (j : Kind) → y.kind ≡ j → is_fairy j ≡ false
@@ -174,12 +195,16 @@ orthodox_man men c s y small there side none = by y.kind refl where
   by Pawn e = refl
   by Grasshopper e =
       let n = or_parts (some_square (λ s. is_man (man_on men s) c Grasshopper)) (some_square (λ s. is_man (man_on men s) c Nightrider)) none in
-      let yes : some_square (λ s. is_man (man_on men s) c Grasshopper) ≡ true = some_square_true (λ s. is_man (man_on men s) c Grasshopper) s small (rw there (and_from (same_colour y.colour c) (same_kind y.kind Grasshopper) side (rw e refl))) in
+      let yes : some_square (λ s. is_man (man_on men s) c Grasshopper) ≡ true =
+      some_square_true (λ s. is_man (man_on men s) c Grasshopper) s small
+      (rw there (and_from (same_colour y.colour c) (same_kind y.kind Grasshopper) side (rw e refl))) in
       let no = n.0 in
       cc
   by Nightrider e =
       let n = or_parts (some_square (λ s. is_man (man_on men s) c Grasshopper)) (some_square (λ s. is_man (man_on men s) c Nightrider)) none in
-      let yes : some_square (λ s. is_man (man_on men s) c Nightrider) ≡ true = some_square_true (λ s. is_man (man_on men s) c Nightrider) s small (rw there (and_from (same_colour y.colour c) (same_kind y.kind Nightrider) side (rw e refl))) in
+      let yes : some_square (λ s. is_man (man_on men s) c Nightrider) ≡ true =
+      some_square_true (λ s. is_man (man_on men s) c Nightrider) s small
+      (rw there (and_from (same_colour y.colour c) (same_kind y.kind Nightrider) side (rw e refl))) in
       let no = n.1 in
       cc
 
@@ -195,7 +220,8 @@ pub record IsCovered (rule : RuleSet) (men : List (Option Man)) (c : Colour) (a 
 covered_parts : (rule : RuleSet) (men : List (Option Man)) (c : Colour) (a k : ℕ) → may_expose_on rule men (Some k) c a ≡ false → IsCovered rule men c a k
 unfolding is_unshielded
 covered_parts rule men c a k h =
-    let h0 = or_parts (is_unshielded rule men c k || k == a || is_shut men (other c) Rook straight_steps k a) (is_shut men (other c) Bishop diagonal_steps k a) h in
+    let h0 = or_parts (is_unshielded rule men c k || k == a || is_shut men (other c) Rook straight_steps k a) (is_shut men (other c) Bishop diagonal_steps k a)
+    h in
     let h1 = or_parts (is_unshielded rule men c k || k == a) (is_shut men (other c) Rook straight_steps k a) h0.0 in
     let h2 = or_parts (is_unshielded rule men c k) (k == a) h1.0 in
     let h3 = or_parts (is_madrasi rule || has_fairy men (other c)) (attacked rule men k (other c)) h2.0 in
@@ -203,28 +229,34 @@ covered_parts rule men c a k h =
     record { orthodox = h4.0; no_fairy = h4.1; safe = h3.1; apart = h2.1; straight = h1.1; diagonal = h0.1 }
 
 -- what keeps one square from shutting a line to a man that stands on another
-not_parted : (men : List (Option Man)) (a k s : ℕ) (e : Colour) (j : Kind) (ds : List Step) → is_shut men e j ds k a ≡ false → (is_man (man_on men s) e j || is_man (man_on men s) e Queen) ≡ true → s < 64 → is_on_some ds k s ≡ true
+not_parted : (men : List (Option Man)) (a k s : ℕ) (e : Colour) (j : Kind) (ds : List Step) → is_shut men e j ds k a ≡ false
+    → (is_man (man_on men s) e j || is_man (man_on men s) e Queen) ≡ true → s < 64 → is_on_some ds k s ≡ true
     → (list_any (rides men k a) ds ≡ true) × (list_any (rides men s a) ds ≡ true) → ⊥
 unfolding is_shut is_behind
 not_parted men a k s e j ds shut rider small on both =
-    let there : some_square (is_behind men e j ds k a) ≡ true = some_square_true (is_behind men e j ds k a) s small (and_from _ _ (and_from _ _ rider on) both.1) in
+    let there : some_square (is_behind men e j ds k a) ≡ true =
+    some_square_true (is_behind men e j ds k a) s small (and_from _ _ (and_from _ _ rider on) both.1) in
     let bad : (list_any (rides men k a) ds && some_square (is_behind men e j ds k a)) ≡ true = and_from _ _ both.0 there in
     false≢true (sym shut ∙ bad)
 
-rider_there : (men : List (Option Man)) (e : Colour) (s : ℕ) (y : Man) (j : Kind) → man_on men s ≡ Some y → same_colour y.colour e ≡ true → (same_kind y.kind j || same_kind y.kind Queen) ≡ true → (is_man (man_on men s) e j || is_man (man_on men s) e Queen) ≡ true
+rider_there : (men : List (Option Man)) (e : Colour) (s : ℕ) (y : Man) (j : Kind) → man_on men s ≡ Some y → same_colour y.colour e ≡ true
+    → (same_kind y.kind j || same_kind y.kind Queen) ≡ true → (is_man (man_on men s) e j || is_man (man_on men s) e Queen) ≡ true
 rider_there men e s y j there side h =
     ap (λ (o : Option Man). is_man o e j || is_man o e Queen) there
     ∙ (λ i. (side i && same_kind y.kind j) || (side i && same_kind y.kind Queen)) ∙ h
 
 -- a man that checks the king now and hasn't moved checked it before
-checks_before : (rule : RuleSet) (men after : List (Option Man)) (a b : ℕ) (z : Man) (c : Colour) (k s : ℕ) (o : Option Man) → man_on after s ≡ o → IsShift men after a b z → IsCovered rule men c a k → s < 64 → k < 64 → s ≢ b → is_side o (other c) ≡ true → reaches after s k ≡ true → strikes rule men k (other c) s ≡ true
+checks_before : (rule : RuleSet) (men after : List (Option Man)) (a b : ℕ) (z : Man) (c : Colour) (k s : ℕ) (o : Option Man) → man_on after s ≡ o
+    → IsShift men after a b z → IsCovered rule men c a k → s < 64 → k < 64 → s ≢ b → is_side o (other c) ≡ true → reaches after s k ≡ true
+    → strikes rule men k (other c) s ≡ true
 unfolding strikes paralysed reaches
 checks_before rule men after a b z c k s None at i g p q ne side h = cc
 checks_before rule men after a b z c k s (Some y) at i g p q ne side h =
     let there : man_on men s ≡ Some y = i.others s y at ne in
     let now : reaches_as after y.colour y.kind s k ≡ true = rw at at h in
     let plain : is_fairy y.kind ≡ false = orthodox_man men (other c) s y p there side g.no_fairy in
-    let rider : (j : Kind) → (same_kind y.kind j || same_kind y.kind Queen) ≡ true → (is_man (man_on men s) (other c) j || is_man (man_on men s) (other c) Queen) ≡ true = λ j h. rider_there men (other c) s y j there side h in
+    let rider : (j : Kind) → (same_kind y.kind j || same_kind y.kind Queen) ≡ true
+    → (is_man (man_on men s) (other c) j || is_man (man_on men s) (other c) Queen) ≡ true = λ j h. rider_there men (other c) s y j there side h in
     let none : NoneShut men a k s y.kind = record {
       straight = λ h on both. not_parted men a k s (other c) Rook straight_steps g.straight (rider Rook h) p on both;
       diagonal = λ h on both. not_parted men a k s (other c) Bishop diagonal_steps g.diagonal (rider Bishop h) p on both;
@@ -240,7 +272,8 @@ pub record IsQuiet (men : List (Option Man)) (c : Colour) (a b k : ℕ) (z : Man
   pub stood : same_colour z.colour (other c) ≡ true → (man_on men a ≡ Some z) × (a < 64)
 
 -- a rider on a that a line leads to reaches along it
-straight_rider : (men : List (Option Man)) (e : Colour) (j : Kind) (a k : ℕ) → (same_kind j Rook || same_kind j Queen) ≡ true → list_any (rides men a k) straight_steps ≡ true → reaches_as men e j a k ≡ true
+straight_rider : (men : List (Option Man)) (e : Colour) (j : Kind) (a k : ℕ) → (same_kind j Rook || same_kind j Queen) ≡ true
+    → list_any (rides men a k) straight_steps ≡ true → reaches_as men e j a k ≡ true
 unfolding reaches_as
 straight_rider men e Rook a k h r = r
 straight_rider men e Queen a k h r = list_any-append (rides men a k) straight_steps diagonal_steps ∙ or_left _ _ r
@@ -251,7 +284,8 @@ straight_rider men e Pawn a k h r = cc
 straight_rider men e Grasshopper a k h r = cc
 straight_rider men e Nightrider a k h r = cc
 
-diagonal_rider : (men : List (Option Man)) (e : Colour) (j : Kind) (a k : ℕ) → (same_kind j Bishop || same_kind j Queen) ≡ true → list_any (rides men a k) diagonal_steps ≡ true → reaches_as men e j a k ≡ true
+diagonal_rider : (men : List (Option Man)) (e : Colour) (j : Kind) (a k : ℕ) → (same_kind j Bishop || same_kind j Queen) ≡ true
+    → list_any (rides men a k) diagonal_steps ≡ true → reaches_as men e j a k ≡ true
 unfolding reaches_as
 diagonal_rider men e Bishop a k h r = r
 diagonal_rider men e Queen a k h r = list_any-append (rides men a k) straight_steps diagonal_steps ∙ or_right (list_any (rides men a k) straight_steps) _ r
@@ -263,15 +297,18 @@ diagonal_rider men e Grasshopper a k h r = cc
 diagonal_rider men e Nightrider a k h r = cc
 
 -- a man that reached the king from its origin attacked it
-attacked_from : (rule : RuleSet) (men : List (Option Man)) (c : Colour) (a k : ℕ) (z : Man) → IsCovered rule men c a k → a < 64 → man_on men a ≡ Some z → same_colour z.colour (other c) ≡ true → reaches_as men z.colour z.kind a k ≡ true → ⊥
+attacked_from : (rule : RuleSet) (men : List (Option Man)) (c : Colour) (a k : ℕ) (z : Man) → IsCovered rule men c a k → a < 64 → man_on men a ≡ Some z
+    → same_colour z.colour (other c) ≡ true → reaches_as men z.colour z.kind a k ≡ true → ⊥
 unfolding attacked strikes paralysed reaches
 attacked_from rule men c a k z g small here side h =
     let mine : is_side (man_on men a) (other c) ≡ true = rw here side in
     let then : reaches men a k ≡ true = rw here h in
-    let yes : some_square (strikes rule men k (other c)) ≡ true = some_square_true (strikes rule men k (other c)) a small (and_from _ _ (and_from _ _ mine (ap not (and_left (is_madrasi rule) _ g.orthodox))) then) in
+    let yes : some_square (strikes rule men k (other c)) ≡ true =
+    some_square_true (strikes rule men k (other c)) a small (and_from _ _ (and_from _ _ mine (ap not (and_left (is_madrasi rule) _ g.orthodox))) then) in
     false≢true (sym g.safe ∙ yes)
 
-arrival_strikes : (rule : RuleSet) (men after : List (Option Man)) (a b : ℕ) (z : Man) (c : Colour) (k : ℕ) (o : Option Man) → man_on after b ≡ o → IsShift men after a b z → IsCovered rule men c a k → IsQuiet men c a b k z → b < 64 → k < 64 → is_side o (other c) ≡ true → reaches after b k ≡ true → ⊥
+arrival_strikes : (rule : RuleSet) (men after : List (Option Man)) (a b : ℕ) (z : Man) (c : Colour) (k : ℕ) (o : Option Man) → man_on after b ≡ o
+    → IsShift men after a b z → IsCovered rule men c a k → IsQuiet men c a b k z → b < 64 → k < 64 → is_side o (other c) ≡ true → reaches after b k ≡ true → ⊥
 unfolding reaches
 arrival_strikes rule men after a b z c k None at i g l p q side h = cc
 arrival_strikes rule men after a b z c k (Some y) at i g l p q side h =
@@ -282,14 +319,17 @@ arrival_strikes rule men after a b z c k (Some y) at i g l p q side h =
     let n = l.quiet mine in
     let here = l.stood mine in
     let none : NoneShut men a k b z.kind = record {
-      straight = λ h on both. attacked_from rule men c a k z g here.1 here.0 mine (straight_rider men z.colour z.kind a k h (straight-back men a k here.1 q ∙ both.0));
-      diagonal = λ h on both. attacked_from rule men c a k z g here.1 here.0 mine (diagonal_rider men z.colour z.kind a k h (diagonal-back men a k here.1 q ∙ both.0));
+      straight = λ h on both. attacked_from rule men c a k z g here.1 here.0 mine
+          (straight_rider men z.colour z.kind a k h (straight-back men a k here.1 q ∙ both.0));
+      diagonal = λ h on both. attacked_from rule men c a k z g here.1 here.0 mine
+          (diagonal_rider men z.colour z.kind a k h (diagonal-back men a k here.1 q ∙ both.0));
     } in
     let was : reaches_as men z.colour z.kind b k ≡ true = reaches_before men after a b z z.colour k b z.kind i p q n.0 none came in
     let no = n.1 in
     cc
 
-not_attacked : (rule : RuleSet) (men after : List (Option Man)) (a b : ℕ) (z : Man) (c : Colour) (k : ℕ) → IsShift men after a b z → IsCovered rule men c a k → IsQuiet men c a b k z → k < 64 → attacked rule after k (other c) ≡ false
+not_attacked : (rule : RuleSet) (men after : List (Option Man)) (a b : ℕ) (z : Man) (c : Colour) (k : ℕ) → IsShift men after a b z → IsCovered rule men c a k
+    → IsQuiet men c a b k z → k < 64 → attacked rule after k (other c) ≡ false
 unfolding attacked strikes
 not_attacked rule men after a b z c k i g l q =
     some_square_false (strikes rule after k (other c)) 64 (omega arith) (record {
@@ -303,7 +343,8 @@ not_attacked rule men after a b z c k i g l q =
                 let hit : reaches after b k ≡ true = ap (λ (n : ℕ). reaches after n k) (sym e) ∙ h1.1 in
                 arrival_strikes rule men after a b z c k (man_on after b) refl i g l small q side hit
             | inr ne ↦
-                let yes : some_square (strikes rule men k (other c)) ≡ true = some_square_true (strikes rule men k (other c)) s p (checks_before rule men after a b z c k s (man_on after s) refl i g p q ne h2.0 h1.1) in
+                let yes : some_square (strikes rule men k (other c)) ≡ true =
+                some_square_true (strikes rule men k (other c)) s p (checks_before rule men after a b z c k s (man_on after s) refl i g p q ne h2.0 h1.1) in
                 let no = g.safe in
                 cc
           ]);
@@ -328,7 +369,8 @@ pub record IsHarmless (rule : RuleSet) (men : List (Option Man)) (c : Colour) (a
   pub cannot_expose : may_expose rule men c a ≡ false
   pub quiet : (k : ℕ) → king_square men c ≡ Some k → IsQuiet men c a b k z
 
-king_stays : (rule : RuleSet) (men after : List (Option Man)) (a b : ℕ) (z : Man) (c : Colour) (k : ℕ) → IsShift men after a b z → IsHarmless rule men c a b z → k < 64 → is_man (man_on after k) c King ≡ true → king_square men c ≡ Some k
+king_stays : (rule : RuleSet) (men after : List (Option Man)) (a b : ℕ) (z : Man) (c : Colour) (k : ℕ) → IsShift men after a b z → IsHarmless rule men c a b z
+    → k < 64 → is_man (man_on after k) c King ≡ true → king_square men c ≡ Some k
 unfolding may_expose
 king_stays rule men after a b z c k i g small h =
     let y = man_there (man_on after k) c King h in
@@ -347,7 +389,8 @@ king_stays rule men after a b z c k i g small h =
           king_is men c k g.one small (rw there is)
     ]
 
-pub stays_safe : (rule : RuleSet) (men after : List (Option Man)) (a b : ℕ) (z : Man) (c : Colour) → IsShift men after a b z → IsHarmless rule men c a b z → in_check rule after c ≡ false
+pub stays_safe : (rule : RuleSet) (men after : List (Option Man)) (a b : ℕ) (z : Man) (c : Colour) → IsShift men after a b z → IsHarmless rule men c a b z
+    → in_check rule after c ≡ false
 unfolding in_check king_square squares may_expose
 stays_safe rule men after a b z c i g = by (king_square after c) refl where
   by : (o : Option ℕ) → king_square after c ≡ o → check_of rule after o (other c) ≡ false
@@ -376,7 +419,8 @@ captures_there p x m s off h = elim (cases_Bool (is_some (man_on p.men m.to))) [
   | inl e ↦ let c : Some m.to ≡ Some s = sym (cond-true (is_some (man_on p.men m.to)) _ _ e) ∙ h in cc
   | inr e ↦
       let h1 = sym (cond-false (is_some (man_on p.men m.to)) _ _ e) ∙ h in
-      let h2 : None ≡ Some s = sym (cond-false (same_kind x.kind Pawn && is_diagonal m && is_square p.crossed m.to) _ _ (and_right (same_kind x.kind Pawn && is_diagonal m) _ off)) ∙ h1 in
+      let h2 : None ≡ Some s = sym (cond-false (same_kind x.kind Pawn && is_diagonal m && is_square p.crossed m.to) _ _
+      (and_right (same_kind x.kind Pawn && is_diagonal m) _ off)) ∙ h1 in
       cc
 ]
 
@@ -413,18 +457,22 @@ unfolding moved_men
 moved_plainly p x m h = rw h refl
 
 -- where nobody castles and nobody is reborn
-pub simple_after : (rule : RuleSet) (p : Position) (x : Man) (m : Move) → man_on p.men m.from ≡ Some x → is_castling x m ≡ false → (is_circe rule ≡ true → capture_square p x m ≡ None) → (after rule p m).men ≡ arrived p x m
+pub simple_after : (rule : RuleSet) (p : Position) (x : Man) (m : Move) → man_on p.men m.from ≡ Some x → is_castling x m ≡ false
+    → (is_circe rule ≡ true → capture_square p x m ≡ None) → (after rule p m).men ≡ arrived p x m
 unfolding after after_by reborn_square
 simple_after rule p x m here castling rebirth =
-    let nobody : reborn_at (is_circe rule) (moved_men p x m) (man_on_at p.men (capture_square p x m)) (capture_square p x m) ≡ None = nobody_reborn (is_circe rule) (moved_men p x m) p.men (capture_square p x m) rebirth in
+    let nobody : reborn_at (is_circe rule) (moved_men p x m) (man_on_at p.men (capture_square p x m)) (capture_square p x m) ≡ None =
+    nobody_reborn (is_circe rule) (moved_men p x m) p.men (capture_square p x m) rebirth in
     rw here (ap (λ (o : Option ℕ). put_at (moved_men p x m) o (man_on_at p.men (capture_square p x m))) nobody ∙ moved_plainly p x m castling)
 
 pub men_after : (rule : RuleSet) (p : Position) (x : Man) (m : Move) → man_on p.men m.from ≡ Some x → IsPlain rule p x m → (after rule p m).men ≡ arrived p x m
 men_after rule p x m here plain = simple_after rule p x m here plain.castling plain.rebirth
 
-pub arrived_shift : (rule : RuleSet) (p : Position) (x : Man) (m : Move) → IsWellFormed p → IsMade rule p x m → m.to < 64 → IsPlain rule p x m → IsShift p.men (arrived p x m) m.from m.to (arriving x m.promo)
+pub arrived_shift : (rule : RuleSet) (p : Position) (x : Man) (m : Move) → IsWellFormed p → IsMade rule p x m → m.to < 64 → IsPlain rule p x m
+    → IsShift p.men (arrived p x m) m.from m.to (arriving x m.promo)
 arrived_shift rule p x m well is small plain =
-    let there : man_on (arrived p x m) m.to ≡ Some (arriving x m.promo) = ap (λ (l : List (Option Man)). man_on l m.to) (sym (moved_plainly p x m plain.castling)) ∙ moved_arrival rule p x m well is small in
+    let there : man_on (arrived p x m) m.to ≡ Some (arriving x m.promo) =
+    ap (λ (l : List (Option Man)). man_on l m.to) (sym (moved_plainly p x m plain.castling)) ∙ moved_arrival rule p x m well is small in
     record {
       vacated = λ q none off. elim (cases_eq q m.to) [
         | inl e ↦ let bad : None ≡ Some (arriving x m.promo) = sym none ∙ ap (λ (n : ℕ). man_on (arrived p x m) n) e ∙ there in cc
@@ -433,7 +481,8 @@ arrived_shift rule p x m well is small plain =
       others = λ q y at ne. elim (cases_eq q m.from) [
         | inl e ↦
             let gone : man_on (without_man p.men m.from) q ≡ None = rw e (man_on-without_same p.men m.from) in
-            let none : man_on (arrived p x m) q ≡ None = man_on-with_other (without_at (without_man p.men m.from) (capture_square p x m)) m.to q (arriving x m.promo) ne ∙ stays_empty (without_man p.men m.from) (capture_square p x m) q gone in
+            let none : man_on (arrived p x m) q ≡ None = man_on-with_other (without_at (without_man p.men m.from) (capture_square p x m)) m.to q
+            (arriving x m.promo) ne ∙ stays_empty (without_man p.men m.from) (capture_square p x m) q gone in
             let bad : None ≡ Some y = sym none ∙ at in
             cc
         | inr off ↦ sym (arrived_other p x m q off (λ s cap e. ne (e ∙ captures_there p x m s plain.crossed cap)) ne) ∙ at
@@ -442,13 +491,15 @@ arrived_shift rule p x m well is small plain =
     }
 
 -- a king that arrives left its own square
-king_came : (p : Position) (x : Man) (m : Move) (c : Colour) → IsWellFormed p → man_on p.men m.from ≡ Some x → is_promotion_right p x m m.promo ≡ true → is_man (Some (arriving x m.promo)) c King ≡ true → king_square p.men c ≡ Some m.from
+king_came : (p : Position) (x : Man) (m : Move) (c : Colour) → IsWellFormed p → man_on p.men m.from ≡ Some x → is_promotion_right p x m m.promo ≡ true
+    → is_man (Some (arriving x m.promo)) c King ≡ true → king_square p.men c ≡ Some m.from
 king_came p x m c well here right h =
     let same : arriving x m.promo ≡ x = arriving_king p x m m.promo right (and_parts (same_colour (arriving x m.promo).colour c) _ h).1 in
     let is : is_man (Some x) c King ≡ true = ap (λ (y : Man). is_man (Some y) c King) (sym same) ∙ h in
     king_is p.men c m.from well.kings (on_board p.men m.from x well.size here) (rw here is)
 
-plain_safe : (rule : RuleSet) (p : Position) (x : Man) (m : Move) (c : Colour) → IsWellFormed p → IsMade rule p x m → m.to < 64 → IsPlain rule p x m → may_expose rule p.men c m.from ≡ false
+plain_safe : (rule : RuleSet) (p : Position) (x : Man) (m : Move) (c : Colour) → IsWellFormed p → IsMade rule p x m → m.to < 64 → IsPlain rule p x m
+    → may_expose rule p.men c m.from ≡ false
     → ((k : ℕ) → king_square p.men c ≡ Some k → IsQuiet p.men c m.from m.to k (arriving x m.promo))
     → in_check rule (after rule p m).men c ≡ false
 plain_safe rule p x m c well is small plain cannot_expose quiet =
@@ -464,7 +515,8 @@ pub other_differs : (c : Colour) → same_colour c (other c) ≡ false
 other_differs White = refl
 other_differs Black = refl
 
-cannot_expose_parts : (rule : RuleSet) (p : Position) (x : Man) (c : Colour) (m : Move) → man_on p.men m.from ≡ Some x → cannot_expose rule p c m ≡ true → (may_expose rule p.men c m.from ≡ false) × IsPlain rule p x m
+cannot_expose_parts : (rule : RuleSet) (p : Position) (x : Man) (c : Colour) (m : Move) → man_on p.men m.from ≡ Some x → cannot_expose rule p c m ≡ true
+    → (may_expose rule p.men c m.from ≡ false) × IsPlain rule p x m
 unfolding cannot_expose
 cannot_expose_parts rule p x c m here h =
     let h0 : (not (may_expose rule p.men c m.from) && is_plain rule p x m) ≡ true = rw here at h in
@@ -472,26 +524,31 @@ cannot_expose_parts rule p x c m here h =
     (not-true _ h1.0, plain_parts rule p x m h1.1)
 
 -- such a move doesn't leave its mover in check
-pub cannot_expose_own : (rule : RuleSet) (p : Position) (m : Move) → IsWellFormed p → pseudo rule p m ≡ true → m.to < 64 → cannot_expose rule p p.turn m ≡ true → in_check rule (after rule p m).men p.turn ≡ false
+pub cannot_expose_own : (rule : RuleSet) (p : Position) (m : Move) → IsWellFormed p → pseudo rule p m ≡ true → m.to < 64 → cannot_expose rule p p.turn m ≡ true
+    → in_check rule (after rule p m).men p.turn ≡ false
 cannot_expose_own rule p m well may small h =
     let w = maker rule p m may in
     let x : Man = w.0 in
     let is : IsMade rule p x m = made rule p m x may w.1 in
     let parts = cannot_expose_parts rule p x p.turn m w.1 h in
-    let own : same_colour (arriving x m.promo).colour (other p.turn) ≡ false = ap (λ (c : Colour). same_colour c (other p.turn)) (arriving_colour x m.promo ∙ is.mine) ∙ other_differs p.turn in
+    let own : same_colour (arriving x m.promo).colour (other p.turn) ≡ false =
+    ap (λ (c : Colour). same_colour c (other p.turn)) (arriving_colour x m.promo ∙ is.mine) ∙ other_differs p.turn in
     plain_safe rule p x m p.turn well is small parts.1 parts.0 (λ k at. record {
       quiet = λ enemy. absurd (false≢true (sym own ∙ enemy));
       stood = λ enemy. absurd (false≢true (sym own ∙ enemy));
     })
 
 -- and, where the man that arrives doesn't strike the enemy's king, doesn't give check
-pub gives_no_check : (rule : RuleSet) (p : Position) (x : Man) (m : Move) → IsWellFormed p → pseudo rule p m ≡ true → m.to < 64 → man_on p.men m.from ≡ Some x → m.promo ≡ None → cannot_expose rule p (other p.turn) m ≡ true → may_check_from p.men (other p.turn) (arriving x m.promo) m.to ≡ false → in_check rule (after rule p m).men (other p.turn) ≡ false
+pub gives_no_check : (rule : RuleSet) (p : Position) (x : Man) (m : Move) → IsWellFormed p → pseudo rule p m ≡ true → m.to < 64 → man_on p.men m.from ≡ Some x
+    → m.promo ≡ None → cannot_expose rule p (other p.turn) m ≡ true → may_check_from p.men (other p.turn) (arriving x m.promo) m.to ≡ false
+    → in_check rule (after rule p m).men (other p.turn) ≡ false
 unfolding may_check_from
 gives_no_check rule p x m well may small here unpromoted h off =
     let parts = cannot_expose_parts rule p x (other p.turn) m here h in
     plain_safe rule p x m (other p.turn) well (made rule p m x may here) small parts.1 parts.0 (λ k at. record {
       quiet = λ enemy.
-          let no : may_check_from_on p.men (Some k) (arriving x m.promo) m.to ≡ false = ap (λ (o : Option ℕ). may_check_from_on p.men o (arriving x m.promo) m.to) (sym at) ∙ off in
+          let no : may_check_from_on p.men (Some k) (arriving x m.promo) m.to ≡ false =
+          ap (λ (o : Option ℕ). may_check_from_on p.men o (arriving x m.promo) m.to) (sym at) ∙ off in
           or_parts (is_fairy (arriving x m.promo).kind) (reaches_as p.men (arriving x m.promo).colour (arriving x m.promo).kind m.to k) no;
       stood = λ enemy. (here ∙ ap (λ (r : Option Kind). Some (arriving x r)) (sym unpromoted), on_board p.men m.from x well.size here);
     })
@@ -503,10 +560,12 @@ some_grasshopper men c w h some =
     let yes : not (w == 0) ≡ true = ap not (differs w 0 some) in
     yes ∙ sym (or_left _ _ (sym (not_zero (λ s. is_man (man_on men s) c Grasshopper)) ∙ ap (λ n. not (n == 0)) (sym h) ∙ yes))
 
-pub some_nightrider : (men : List (Option Man)) (c : Colour) (w n : ℕ) → w ≡ squares_of men c Grasshopper → w ≡ 0 → n ≡ squares_of men c Nightrider → not (n == 0) ≡ has_fairy men c
+pub some_nightrider : (men : List (Option Man)) (c : Colour) (w n : ℕ) → w ≡ squares_of men c Grasshopper → w ≡ 0 → n ≡ squares_of men c Nightrider
+    → not (n == 0) ≡ has_fairy men c
 unfolding has_fairy squares_of
 some_nightrider men c w n h none i =
-    let no : some_square (λ s. is_man (man_on men s) c Grasshopper) ≡ false = sym (not_zero (λ s. is_man (man_on men s) c Grasshopper)) ∙ ap (λ k. not (k == 0)) (sym h ∙ none) in
+    let no : some_square (λ s. is_man (man_on men s) c Grasshopper) ≡ false = sym (not_zero (λ s. is_man (man_on men s) c Grasshopper))
+    ∙ ap (λ k. not (k == 0)) (sym h ∙ none) in
     ap (λ k. not (k == 0)) i ∙ not_zero (λ s. is_man (man_on men s) c Nightrider)
     ∙ sym (ap (λ (b : Bool). b || some_square (λ s. is_man (man_on men s) c Nightrider)) no)
 
@@ -519,24 +578,29 @@ pub shield_squares_none : (rule : RuleSet) (men : List (Option Man)) (c : Colour
 unfolding may_expose
 shield_squares_none rule men c h = word_empty (may_expose rule men c) (λ s b. ap (λ (o : Option ℕ). may_expose_on rule men o c s) h)
 
-pub shield_squares_all : (rule : RuleSet) (men : List (Option Man)) (c : Colour) (k : ℕ) → king_square men c ≡ Some k → is_unshielded rule men c k ≡ true → bit_not w64 0 ≡ word (may_expose rule men c)
+pub shield_squares_all : (rule : RuleSet) (men : List (Option Man)) (c : Colour) (k : ℕ) → king_square men c ≡ Some k → is_unshielded rule men c k ≡ true
+    → bit_not w64 0 ≡ word (may_expose rule men c)
 unfolding may_expose
 shield_squares_all rule men c k at unshielded =
     every_square (may_expose rule men c) (λ s b. ap (λ (o : Option ℕ). may_expose_on rule men o c s) at ∙ or_left _ _ (or_left _ _ (or_left _ _ unshielded)))
 
 pub shield_squares_some : (rule : RuleSet) (men : List (Option Man)) (c : Colour) (k w : ℕ) → king_square men c ≡ Some k → is_unshielded rule men c k ≡ false
-    → w ≡ bit_or (bit_or (word (is_square (Some k))) (word (is_shut men (other c) Rook straight_steps k))) (word (is_shut men (other c) Bishop diagonal_steps k))
+    → w ≡ bit_or (bit_or (word (is_square (Some k))) (word (is_shut men (other c) Rook straight_steps k)))
+    (word (is_shut men (other c) Bishop diagonal_steps k))
     → w ≡ word (may_expose rule men c)
 unfolding may_expose
 shield_squares_some rule men c k w at unshielded h =
     h
-    ∙ (λ j. bit_or (squares_either (λ t. is_square (Some k) t) (is_shut men (other c) Rook straight_steps k) j) (word (is_shut men (other c) Bishop diagonal_steps k)))
+    ∙ (λ j. bit_or (squares_either (λ t. is_square (Some k) t) (is_shut men (other c) Rook straight_steps k) j)
+    (word (is_shut men (other c) Bishop diagonal_steps k)))
     ∙ squares_either (λ t. is_square (Some k) t || is_shut men (other c) Rook straight_steps k t) (is_shut men (other c) Bishop diagonal_steps k)
     ∙ squares_same _ (may_expose rule men c)
-    (λ s b. sym (ap (λ (o : Option ℕ). may_expose_on rule men o c s) at ∙ ap (λ (x : Bool). x || k == s || is_shut men (other c) Rook straight_steps k s || is_shut men (other c) Bishop diagonal_steps k s) unshielded))
+    (λ s b. sym (ap (λ (o : Option ℕ). may_expose_on rule men o c s) at
+    ∙ ap (λ (x : Bool). x || k == s || is_shut men (other c) Rook straight_steps k s || is_shut men (other c) Bishop diagonal_steps k s) unshielded))
 
 -- whether a move can't uncover a king, told by that word
-pub cannot_expose_is : (rule : RuleSet) (p : Position) (x : Man) (c : Colour) (m : Move) (w s : ℕ) (b : Bool) → man_on p.men m.from ≡ Some x → w ≡ word (may_expose rule p.men c) → s ≡ m.from → s < 64 → b ≡ (bit_at w s == 1) → (not b && is_plain rule p x m) ≡ cannot_expose rule p c m
+pub cannot_expose_is : (rule : RuleSet) (p : Position) (x : Man) (c : Colour) (m : Move) (w s : ℕ) (b : Bool) → man_on p.men m.from ≡ Some x
+    → w ≡ word (may_expose rule p.men c) → s ≡ m.from → s < 64 → b ≡ (bit_at w s == 1) → (not b && is_plain rule p x m) ≡ cannot_expose rule p c m
 unfolding cannot_expose
 cannot_expose_is rule p x c m w s b here h same small e =
     rw here (ap (λ (u : Bool). not u && is_plain rule p x m) (e ∙ word_has (may_expose rule p.men c) w s h small ∙ ap (may_expose rule p.men c) same))

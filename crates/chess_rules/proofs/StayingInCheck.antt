@@ -36,13 +36,15 @@ use Rattle.chess_rules.proofs.Stays.{after_well_formed}
 use Rattle.chess_rules.proofs.Tests.{all_at, any_range_cases, find_first, first_of_and, second_of_and}
 
 -- what stood elsewhere stands there
-keeps : (men after : List (Option Man)) (a b : ℕ) (z : Man) (q : ℕ) (y : Man) → IsShift men after a b z → man_on men q ≡ Some y → q ≢ a → q ≢ b → man_on after q ≡ Some y
+keeps : (men after : List (Option Man)) (a b : ℕ) (z : Man) (q : ℕ) (y : Man) → IsShift men after a b z → man_on men q ≡ Some y → q ≢ a → q ≢ b
+    → man_on after q ≡ Some y
 keeps men after a b z q y i here na nb = by (man_on after q) refl where
   by : (o : Option Man) → man_on after q ≡ o → o ≡ Some y
   by None e = absurd (let bad : None ≡ Some y = sym (i.vacated q e na) ∙ here in cc)
   by (Some u) e = sym (i.others q u e nb) ∙ here
 
-stays_free : (men after : List (Option Man)) (a b : ℕ) (z : Man) (o : Option ℕ) → IsShift men after a b z → is_vacant men o ≡ true → is_square o b ≡ false → is_vacant after o ≡ true
+stays_free : (men after : List (Option Man)) (a b : ℕ) (z : Man) (o : Option ℕ) → IsShift men after a b z → is_vacant men o ≡ true → is_square o b ≡ false
+    → is_vacant after o ≡ true
 stays_free men after a b z None i h ne = h
 stays_free men after a b z (Some q) i h ne = by (man_on after q) refl where
   by : (u : Option Man) → man_on after q ≡ u → is_vacant after (Some q) ≡ true
@@ -69,18 +71,25 @@ both_seen : (a b : Bool) → (a && b) ≡ false → a ≡ true → b ≡ true �
 both_seen a b h x y = let both : (a && b) ≡ true = and_from a b x y in cc
 
 -- an orthodox man that reached k and isn't met reaches it
-reaches_after : (men after : List (Option Man)) (a b : ℕ) (z : Man) (c e : Colour) (k s : ℕ) (j : Kind) → IsShift men after a b z → s < 64 → k < 64 → is_fairy j ≡ false → (reaches_as men c Queen k b && reaches_as men c Queen s b) ≡ false → reaches_as men e j s k ≡ true → reaches_as after e j s k ≡ true
+reaches_after : (men after : List (Option Man)) (a b : ℕ) (z : Man) (c e : Colour) (k s : ℕ) (j : Kind) → IsShift men after a b z → s < 64 → k < 64
+    → is_fairy j ≡ false → (reaches_as men c Queen k b && reaches_as men c Queen s b) ≡ false → reaches_as men e j s k ≡ true → reaches_as after e j s k ≡ true
 unfolding reaches_as
 reaches_after men after a b z c e k s King i p q f ne h = h
 reaches_after men after a b z c e k s Queen i p q f ne h =
     queen_rides-back after s k p q
-    ∙ line_after men after a b z k s queen_steps i (sym (queen_rides-back men s k p q) ∙ h) (λ x y. both_seen (list_any (rides men k b) queen_steps) (list_any (rides men s b) queen_steps) ne x (sym (queen-flip (λ d. rides men s b (back d)) (rides men s b) (λ d. refl)) ∙ y))
+    ∙ line_after men after a b z k s queen_steps i (sym (queen_rides-back men s k p q) ∙ h)
+    (λ x y. both_seen (list_any (rides men k b) queen_steps) (list_any (rides men s b) queen_steps) ne x
+    (sym (queen-flip (λ d. rides men s b (back d)) (rides men s b) (λ d. refl)) ∙ y))
 reaches_after men after a b z c e k s Rook i p q f ne h =
     straight-back after s k p q
-    ∙ line_after men after a b z k s straight_steps i (sym (straight-back men s k p q) ∙ h) (λ x y. both_seen (list_any (rides men k b) queen_steps) (list_any (rides men s b) queen_steps) ne (straight_seen (rides men k b) x) (straight_seen (rides men s b) (sym (straight-flip (λ d. rides men s b (back d)) (rides men s b) (λ d. refl)) ∙ y)))
+    ∙ line_after men after a b z k s straight_steps i (sym (straight-back men s k p q) ∙ h)
+    (λ x y. both_seen (list_any (rides men k b) queen_steps) (list_any (rides men s b) queen_steps) ne (straight_seen (rides men k b) x)
+    (straight_seen (rides men s b) (sym (straight-flip (λ d. rides men s b (back d)) (rides men s b) (λ d. refl)) ∙ y)))
 reaches_after men after a b z c e k s Bishop i p q f ne h =
     diagonal-back after s k p q
-    ∙ line_after men after a b z k s diagonal_steps i (sym (diagonal-back men s k p q) ∙ h) (λ x y. both_seen (list_any (rides men k b) queen_steps) (list_any (rides men s b) queen_steps) ne (diagonal_seen (rides men k b) x) (diagonal_seen (rides men s b) (sym (diagonal-flip (λ d. rides men s b (back d)) (rides men s b) (λ d. refl)) ∙ y)))
+    ∙ line_after men after a b z k s diagonal_steps i (sym (diagonal-back men s k p q) ∙ h)
+    (λ x y. both_seen (list_any (rides men k b) queen_steps) (list_any (rides men s b) queen_steps) ne (diagonal_seen (rides men k b) x)
+    (diagonal_seen (rides men s b) (sym (diagonal-flip (λ d. rides men s b (back d)) (rides men s b) (λ d. refl)) ∙ y)))
 reaches_after men after a b z c e k s Knight i p q f ne h = h
 reaches_after men after a b z c e k s Pawn i p q f ne h = h
 reaches_after men after a b z c e k s Grasshopper i p q f ne h = cc
@@ -102,7 +111,8 @@ pub record IsAway (men : List (Option Man)) (c : Colour) (a b : ℕ) : Type 0 wh
   pub king : (k : ℕ) → king_square men c ≡ Some k → (k ≢ a) × (k ≢ b)
   pub enemy : (s : ℕ) → is_side (man_on men s) (other c) ≡ true → s ≢ a
 
-no_evasion_stays : (rule : RuleSet) (men after : List (Option Man)) (a b : ℕ) (z : Man) (c : Colour) → IsShift men after a b z → AtMostOneKing after → IsAway men c a b → IsNoEvasion rule men c b → in_check rule after c ≡ true
+no_evasion_stays : (rule : RuleSet) (men after : List (Option Man)) (a b : ℕ) (z : Man) (c : Colour) → IsShift men after a b z → AtMostOneKing after
+    → IsAway men c a b → IsNoEvasion rule men c b → in_check rule after c ≡ true
 unfolding in_check attacked strikes paralysed reaches
 no_evasion_stays rule men after a b z c i one away u =
     let k : ℕ = u.king in
@@ -121,7 +131,8 @@ no_evasion_stays rule men after a b z c i one away u =
     let y_stays : man_on after u.checker ≡ Some y.0 = keeps men after a b z u.checker y.0 i y.1.0 (away.enemy u.checker u.enemy) off in
     let plain : is_fairy y.0.kind ≡ false = orthodox_man men (other c) u.checker y.0 small y.1.0 y.1.1 u.no_fairy in
     let hit = rw y.1.0 at u.check in
-    let hits : reaches_as after y.0.colour y.0.kind u.checker u.king ≡ true = reaches_after men after a b z c y.0.colour u.king u.checker y.0.kind i small king.0 plain free.1 hit in
+    let hits : reaches_as after y.0.colour y.0.kind u.checker u.king ≡ true =
+    reaches_after men after a b z c y.0.colour u.king u.checker y.0.kind i small king.0 plain free.1 hit in
     let mine : is_side (man_on after u.checker) (other c) ≡ true = rw y_stays y.1.1 in
     let reach : reaches after u.checker u.king ≡ true = rw y_stays hits in
     ap (λ (o : Option ℕ). check_of rule after o (other c)) at
@@ -141,7 +152,8 @@ free_of_king (Some y) c h k =
     cc
 
 -- a plain move that doesn't meet a check, and isn't the king's, leaves its mover in check
-pub check_stays : (rule : RuleSet) (p : Position) (x : Man) (m : Move) → IsWellFormed p → pseudo rule p m ≡ true → man_on p.men m.from ≡ Some x → m.to < 64 → IsPlain rule p x m → same_kind x.kind King ≡ false → IsNoEvasion rule p.men p.turn m.to → in_check rule (after rule p m).men p.turn ≡ true
+pub check_stays : (rule : RuleSet) (p : Position) (x : Man) (m : Move) → IsWellFormed p → pseudo rule p m ≡ true → man_on p.men m.from ≡ Some x → m.to < 64
+    → IsPlain rule p x m → same_kind x.kind King ≡ false → IsNoEvasion rule p.men p.turn m.to → in_check rule (after rule p m).men p.turn ≡ true
 check_stays rule p x m well may here small plain piece u =
     let is = made rule p m x may here in
     let same : (after rule p m).men ≡ arrived p x m = men_after rule p x m here plain in
@@ -156,7 +168,8 @@ check_stays rule p x m well may here small plain piece u =
             λ e. free_of_king (man_on p.men m.to) p.turn is.arrival (ap (λ (n : ℕ). is_man (man_on p.men n) p.turn King) (sym e) ∙ king.1),
           );
       enemy = λ s side e.
-          let own : is_side (Some x) (other p.turn) ≡ true = sym (ap (λ (o : Option Man). is_side o (other p.turn)) here) ∙ ap (λ (n : ℕ). is_side (man_on p.men n) (other p.turn)) (sym e) ∙ side in
+          let own : is_side (Some x) (other p.turn) ≡ true = sym (ap (λ (o : Option Man). is_side o (other p.turn)) here)
+          ∙ ap (λ (n : ℕ). is_side (man_on p.men n) (other p.turn)) (sym e) ∙ side in
           let not_own : same_colour x.colour (other p.turn) ≡ false = ap (λ (c : Colour). same_colour c (other p.turn)) is.mine ∙ other_differs p.turn in
           let bad : true ≡ false = sym own ∙ not_own in
           cc;
@@ -171,13 +184,18 @@ evasion_squares_all rule men c = record {
 }
 
 -- the squares that meet one check
-pub evasion_squares_one : (rule : RuleSet) (men : List (Option Man)) (c : Colour) (k s w n r t : ℕ) → king_square men c ≡ Some k → is_madrasi rule ≡ false → has_fairy men (other c) ≡ false → t ≡ word (λ q. is_side (man_on men q) (other c) && reaches men q k) → s < 64 → (bit_at t s == 1) ≡ true
-    → w ≡ word (λ q. is_square (Some s) q) → n ≡ word (λ q. reaches_as men c Queen k q) → r ≡ word (λ q. reaches_as men c Queen s q) → AreEvasions rule men c (bit_or w (bit_and n r))
+pub evasion_squares_one : (rule : RuleSet) (men : List (Option Man)) (c : Colour) (k s w n r t : ℕ) → king_square men c ≡ Some k → is_madrasi rule ≡ false
+    → has_fairy men (other c) ≡ false → t ≡ word (λ q. is_side (man_on men q) (other c) && reaches men q k) → s < 64 → (bit_at t s == 1) ≡ true
+    → w ≡ word (λ q. is_square (Some s) q) → n ≡ word (λ q. reaches_as men c Queen k q) → r ≡ word (λ q. reaches_as men c Queen s q)
+    → AreEvasions rule men c (bit_or w (bit_and n r))
 evasion_squares_one rule men c k s w n r t at orthodox no_fairy all small set h i j =
     let test : ℕ → Bool = λ q. is_square (Some s) q || (reaches_as men c Queen k q && reaches_as men c Queen s q) in
     let joined : bit_or w (bit_and n r) ≡ word (λ q. is_square (Some s) q || (reaches_as men c Queen k q && reaches_as men c Queen s q)) =
-    (λ a. bit_or (h a) (bit_and (i a) (j a))) ∙ (λ a. bit_or (word (λ q. is_square (Some s) q)) (squares_both (λ q. reaches_as men c Queen k q) (λ q. reaches_as men c Queen s q) a)) ∙ squares_either (λ q. is_square (Some s) q) (λ q. reaches_as men c Queen k q && reaches_as men c Queen s q) in
-    let strikes : (is_side (man_on men s) (other c) && reaches men s k) ≡ true = sym (word_has (λ q. is_side (man_on men q) (other c) && reaches men q k) t s all small) ∙ set in
+    (λ a. bit_or (h a) (bit_and (i a) (j a))) ∙ (λ a. bit_or (word (λ q. is_square (Some s) q))
+    (squares_both (λ q. reaches_as men c Queen k q) (λ q. reaches_as men c Queen s q) a))
+    ∙ squares_either (λ q. is_square (Some s) q) (λ q. reaches_as men c Queen k q && reaches_as men c Queen s q) in
+    let strikes : (is_side (man_on men s) (other c) && reaches men s k) ≡ true =
+    sym (word_has (λ q. is_side (man_on men q) (other c) && reaches men q k) t s all small) ∙ set in
     record {
       elsewhere = λ q b off. record {
         king = k;
@@ -187,12 +205,15 @@ evasion_squares_one rule men c k s w n r t at orthodox no_fairy all small set h 
         no_fairy = no_fairy;
         enemy = first_of_and _ _ strikes;
         check = second_of_and (is_side (man_on men s) (other c)) _ strikes;
-        no_evasion = sym (word_has (λ q. is_square (Some s) q || (reaches_as men c Queen k q && reaches_as men c Queen s q)) (bit_or w (bit_and n r)) q joined b) ∙ off;
+        no_evasion = sym (word_has (λ q. is_square (Some s) q || (reaches_as men c Queen k q && reaches_as men c Queen s q)) (bit_or w (bit_and n r)) q joined
+            b) ∙ off;
       };
     }
 
 -- the same, for a word
-pub check_unmet : (rule : RuleSet) (p : Position) (x : Man) (m : Move) (w t : ℕ) → IsWellFormed p → pseudo rule p m ≡ true → man_on p.men m.from ≡ Some x → t ≡ m.to → t < 64 → is_plain rule p x m ≡ true → same_kind x.kind King ≡ false → AreEvasions rule p.men p.turn w → (bit_at w t == 1) ≡ false → in_check rule (after rule p m).men p.turn ≡ true
+pub check_unmet : (rule : RuleSet) (p : Position) (x : Man) (m : Move) (w t : ℕ) → IsWellFormed p → pseudo rule p m ≡ true → man_on p.men m.from ≡ Some x
+    → t ≡ m.to → t < 64 → is_plain rule p x m ≡ true → same_kind x.kind King ≡ false → AreEvasions rule p.men p.turn w → (bit_at w t == 1) ≡ false
+    → in_check rule (after rule p m).men p.turn ≡ true
 check_unmet rule p x m w t well may here same small plain piece evasion_squares off =
     let to : m.to < 64 = omega arith in
     let off2 : (bit_at w m.to == 1) ≡ false = ap (λ (n : ℕ). bit_at w n == 1) (sym same) ∙ off in

@@ -41,18 +41,22 @@ taken_nowhere : (u : Option ℕ) (t q : ℕ) → ((s : ℕ) → is_square u s �
 taken_nowhere u t q h ne = false_from_ne_true _ (λ y. ne (h q y))
 
 -- the man on a square
-on_flight : (men : List (Option Man)) (a : ℕ) (o : Option ℕ) (b : ℕ) (z : Man) (k : ℕ) (u : Option ℕ) (t : ℕ) (x : Man) (q : ℕ) → t < length men → q ≡ t → man_on (stepped men a o b z k u t x) q ≡ Some x
+on_flight : (men : List (Option Man)) (a : ℕ) (o : Option ℕ) (b : ℕ) (z : Man) (k : ℕ) (u : Option ℕ) (t : ℕ) (x : Man) (q : ℕ) → t < length men → q ≡ t
+    → man_on (stepped men a o b z k u t x) q ≡ Some x
 on_flight men a o b z k u t x q small e =
     ap (man_on (stepped men a o b z k u t x)) e ∙ there_now (gone_to men a o b z) k u t x (omega (arith, small, length-gone men a o b z))
 
-on_left : (men : List (Option Man)) (a : ℕ) (o : Option ℕ) (b : ℕ) (z : Man) (k : ℕ) (u : Option ℕ) (t : ℕ) (x : Man) (q : ℕ) → q ≢ t → (k == q) ≡ true → man_on (stepped men a o b z k u t x) q ≡ None
+on_left : (men : List (Option Man)) (a : ℕ) (o : Option ℕ) (b : ℕ) (z : Man) (k : ℕ) (u : Option ℕ) (t : ℕ) (x : Man) (q : ℕ) → q ≢ t → (k == q) ≡ true
+    → man_on (stepped men a o b z k u t x) q ≡ None
 on_left men a o b z k u t x q ne y = left_now (gone_to men a o b z) k u t x q ne (or_left (k == q) (is_square u q) y)
 
-on_others : (men : List (Option Man)) (a : ℕ) (o : Option ℕ) (b : ℕ) (z : Man) (k : ℕ) (u : Option ℕ) (t : ℕ) (x : Man) (q : ℕ) → ((s : ℕ) → is_square u s ≡ true → s ≡ t) → q ≢ t → (k == q) ≡ false
+on_others : (men : List (Option Man)) (a : ℕ) (o : Option ℕ) (b : ℕ) (z : Man) (k : ℕ) (u : Option ℕ) (t : ℕ) (x : Man) (q : ℕ)
+    → ((s : ℕ) → is_square u s ≡ true → s ≡ t) → q ≢ t → (k == q) ≡ false
     → man_on (stepped men a o b z k u t x) q ≡ man_on (gone_to men a o b z) q
 on_others men a o b z k u t x q h ne off = kept_now (gone_to men a o b z) k u t x q ne (neither (k == q) (is_square u q) off (taken_nowhere u t q h ne))
 
-pub stands_arrived : (men : List (Option Man)) (a : ℕ) (o : Option ℕ) (b : ℕ) (z : Man) (k : ℕ) (u : Option ℕ) (t : ℕ) (x : Man) (q : ℕ) → b < length men → ((s : ℕ) → is_square u s ≡ true → s ≡ t) → q ≡ b → q ≢ t → b ≢ k
+pub stands_arrived : (men : List (Option Man)) (a : ℕ) (o : Option ℕ) (b : ℕ) (z : Man) (k : ℕ) (u : Option ℕ) (t : ℕ) (x : Man) (q : ℕ) → b < length men
+    → ((s : ℕ) → is_square u s ≡ true → s ≡ t) → q ≡ b → q ≢ t → b ≢ k
     → man_on (stepped men a o b z k u t x) q ≡ Some z
 stands_arrived men a o b z k u t x q arrival h e ne off =
     on_others men a o b z k u t x q h ne (differs k q (λ y. off (sym e ∙ sym y))) ∙ ap (man_on (gone_to men a o b z)) e ∙ there_now men a o b z arrival
@@ -64,18 +68,21 @@ without_taken h false false e f = refl
 without_taken true false true e f = sym (f refl)
 without_taken false false true e f = refl
 
-pub stands : (men : List (Option Man)) (a : ℕ) (o : Option ℕ) (b : ℕ) (z : Man) (k : ℕ) (u : Option ℕ) (t : ℕ) (x : Man) (q : ℕ) → b < length men → t < length men → ((s : ℕ) → is_square u s ≡ true → s ≡ t)
+pub stands : (men : List (Option Man)) (a : ℕ) (o : Option ℕ) (b : ℕ) (z : Man) (k : ℕ) (u : Option ℕ) (t : ℕ) (x : Man) (q : ℕ) → b < length men
+    → t < length men → ((s : ℕ) → is_square u s ≡ true → s ≡ t)
     → ((is_occupied_after men a o b q && not (k == q)) || t == q) ≡ is_some (man_on (stepped men a o b z k u t x) q)
 stands men a o b z k u t x q arrival flight h =
     ap (λ (held : Bool). (held && not (k == q)) || t == q) (occupied_now men a o b z q arrival)
     ∙ without_taken (is_some (man_on (gone_to men a o b z) q)) (k == q) (is_square u q) (t == q) (λ y. eq-eqb t q (sym (h q y)))
     ∙ occupied_now (gone_to men a o b z) k u t x q (omega (arith, flight, length-gone men a o b z))
 
-pub lifted_words : (men : List (Option Man)) (a : ℕ) (o : Option ℕ) (b k : ℕ) → (sight_lifted men a o b k).occupied ≡ word (λ s. is_occupied_after men a o b s && not (k == s))
+pub lifted_words : (men : List (Option Man)) (a : ℕ) (o : Option ℕ) (b k : ℕ)
+    → (sight_lifted men a o b k).occupied ≡ word (λ s. is_occupied_after men a o b s && not (k == s))
 lifted_words men a o b k =
     (λ j. bit_and (occupied_words men a o b j) (squares_not (is_square (Some k)) j)) ∙ squares_both (is_occupied_after men a o b) (λ s. not (k == s))
 
-occupied_stepped : (men : List (Option Man)) (a : ℕ) (o : Option ℕ) (b : ℕ) (z : Man) (k : ℕ) (u : Option ℕ) (t : ℕ) (x : Man) → b < length men → t < length men → ((s : ℕ) → is_square u s ≡ true → s ≡ t)
+occupied_stepped : (men : List (Option Man)) (a : ℕ) (o : Option ℕ) (b : ℕ) (z : Man) (k : ℕ) (u : Option ℕ) (t : ℕ) (x : Man) → b < length men
+    → t < length men → ((s : ℕ) → is_square u s ≡ true → s ≡ t)
     → (sight_with (sight_lifted men a o b k) t).occupied ≡ occupied_squares (stepped men a o b z k u t x)
 occupied_stepped men a o b z k u t x arrival flight h =
     ap (λ (w : ℕ). bit_or w (word (is_square (Some t)))) (lifted_words men a o b k)
@@ -83,7 +90,8 @@ occupied_stepped men a o b z k u t x arrival flight h =
     ∙ squares_same _ (λ s. is_some (man_on (stepped men a o b z k u t x) s)) (λ s lt. stands men a o b z k u t x s arrival flight h)
 
 -- the king lifted, nobody on the flight yet but who stood there
-lifted_one : (men : List (Option Man)) (a : ℕ) (o : Option ℕ) (b : ℕ) (z : Man) (k q : ℕ) → b < length men → (is_occupied_after men a o b q && not (k == q)) ≡ is_some (man_on (without_man (gone_to men a o b z) k) q)
+lifted_one : (men : List (Option Man)) (a : ℕ) (o : Option ℕ) (b : ℕ) (z : Man) (k q : ℕ) → b < length men
+    → (is_occupied_after men a o b q && not (k == q)) ≡ is_some (man_on (without_man (gone_to men a o b z) k) q)
 lifted_one men a o b z k q arrival = elim (cases_eq q k) [
   | inl e ↦
       and_right (is_occupied_after men a o b q) (not (k == q)) (ap not (eq-eqb k q (sym e)))
@@ -98,11 +106,13 @@ lifted_one men a o b z k q arrival = elim (cases_eq q k) [
   and_true true = refl
   and_true false = refl
 
-pub occupied_lifted : (men : List (Option Man)) (a : ℕ) (o : Option ℕ) (b : ℕ) (z : Man) (k : ℕ) → b < length men → (sight_lifted men a o b k).occupied ≡ occupied_squares (without_man (gone_to men a o b z) k)
+pub occupied_lifted : (men : List (Option Man)) (a : ℕ) (o : Option ℕ) (b : ℕ) (z : Man) (k : ℕ) → b < length men
+    → (sight_lifted men a o b k).occupied ≡ occupied_squares (without_man (gone_to men a o b z) k)
 occupied_lifted men a o b z k arrival =
     lifted_words men a o b k ∙ squares_same _ (λ s. is_some (man_on (without_man (gone_to men a o b z) k) s)) (λ s lt. lifted_one men a o b z k s arrival)
 
-pub lifted_alike : (men : List (Option Man)) (a : ℕ) (o : Option ℕ) (b : ℕ) (z : Man) (k : ℕ) (u : Option ℕ) (t : ℕ) (x : Man) → b < length men → t < length men → ((s : ℕ) → is_square u s ≡ true → s ≡ t)
+pub lifted_alike : (men : List (Option Man)) (a : ℕ) (o : Option ℕ) (b : ℕ) (z : Man) (k : ℕ) (u : Option ℕ) (t : ℕ) (x : Man) → b < length men
+    → t < length men → ((s : ℕ) → is_square u s ≡ true → s ≡ t)
     → StandAlike (stepped men a o b z k u t x) (without_man (gone_to men a o b z) k) t
 lifted_alike men a o b z k u t x arrival flight h = record {
   alike = λ q ne.
@@ -116,13 +126,15 @@ lifted_alike men a o b z k u t x arrival flight h = record {
   or_false false = refl
 
 -- whichever man has arrived
-pub arrival_alike : (men : List (Option Man)) (a : ℕ) (o : Option ℕ) (b : ℕ) (z y : Man) (k : ℕ) (u : Option ℕ) (t : ℕ) (x : Man) → b < length men → t < length men → ((s : ℕ) → is_square u s ≡ true → s ≡ t)
+pub arrival_alike : (men : List (Option Man)) (a : ℕ) (o : Option ℕ) (b : ℕ) (z y : Man) (k : ℕ) (u : Option ℕ) (t : ℕ) (x : Man) → b < length men
+    → t < length men → ((s : ℕ) → is_square u s ≡ true → s ≡ t)
     → StandAlike (stepped men a o b z k u t x) (stepped men a o b y k u t x) t
 arrival_alike men a o b z y k u t x arrival flight h = record {
   alike = λ q ne. sym (stands men a o b z k u t x q arrival flight h) ∙ stands men a o b y k u t x q arrival flight h;
 }
 
-pub same_elsewhere : (men : List (Option Man)) (a : ℕ) (o : Option ℕ) (b : ℕ) (z y : Man) (k : ℕ) (u : Option ℕ) (t : ℕ) (x : Man) (q : ℕ) → t < length men → ((s : ℕ) → is_square u s ≡ true → s ≡ t) → (q ≡ b → q ≡ t)
+pub same_elsewhere : (men : List (Option Man)) (a : ℕ) (o : Option ℕ) (b : ℕ) (z y : Man) (k : ℕ) (u : Option ℕ) (t : ℕ) (x : Man) (q : ℕ) → t < length men
+    → ((s : ℕ) → is_square u s ≡ true → s ≡ t) → (q ≡ b → q ≡ t)
     → man_on (stepped men a o b z k u t x) q ≡ man_on (stepped men a o b y k u t x) q
 same_elsewhere men a o b z y k u t x q flight h off = elim (cases_eq q t) [
   | inl e ↦ on_flight men a o b z k u t x q flight e ∙ sym (on_flight men a o b y k u t x q flight e)
@@ -157,7 +169,8 @@ all_in true true false r h q = absurd (false≢true (sym h))
 all_in true o true r h q = absurd (false≢true (sym h))
 all_in true false false false h q = absurd (false≢true q)
 
-attacker_stands : (men : List (Option Man)) (a : ℕ) (o : Option ℕ) (b k : ℕ) (u : Option ℕ) (t : ℕ) (x : Man) (c : Colour) (j : Kind) (q : ℕ) → IsStep men a o b k u t x c
+attacker_stands : (men : List (Option Man)) (a : ℕ) (o : Option ℕ) (b k : ℕ) (u : Option ℕ) (t : ℕ) (x : Man) (c : Colour) (j : Kind) (q : ℕ)
+    → IsStep men a o b k u t x c
     → (is_man (man_on men q) c j && ((not (is_square o q) && not (a == q)) && not (t == q))) ≡ is_man (man_on (stepped men a o b x k u t x) q) c j
 attacker_stands men a o b k u t x c j q i = elim (cases_eq q t) [
   | inl e ↦
@@ -171,12 +184,14 @@ attacker_stands men a o b k u t x c j q i = elim (cases_eq q t) [
     | inr n ↦ ours ne n ∙ sym (ap (λ (y : Option Man). is_man y c j) (on_others men a o b x k u t x q i.taken ne n))
   ]
 ] where
-  ours : q ≢ t → (k == q) ≡ false → (is_man (man_on men q) c j && ((not (is_square o q) && not (a == q)) && not (t == q))) ≡ is_man (man_on (gone_to men a o b x) q) c j
+  ours : q ≢ t → (k == q) ≡ false → (is_man (man_on men q) c j && ((not (is_square o q) && not (a == q)) && not (t == q))) ≡ is_man
+      (man_on (gone_to men a o b x) q) c j
   ours ne n = elim (cases_eq q b) [
     | inl e ↦
         let none : is_man (man_on men q) c j ≡ false = ap (λ (s : ℕ). is_man (man_on men s) c j) e ∙ no_man (man_on men b) c j i.entered in
         first_out (is_man (man_on men q) c j) (not (is_square o q)) (not (a == q)) (not (t == q)) none
-        ∙ sym (ap (λ (y : Option Man). is_man y c j) (ap (man_on (gone_to men a o b x)) e ∙ there_now men a o b x i.arrival) ∙ and_left (same_colour x.colour c) (same_kind x.kind j) i.king)
+        ∙ sym (ap (λ (y : Option Man). is_man y c j) (ap (man_on (gone_to men a o b x)) e ∙ there_now men a o b x i.arrival)
+        ∙ and_left (same_colour x.colour c) (same_kind x.kind j) i.king)
     | inr off ↦ elim (cases_Bool (is_square (Some a) q || is_square o q)) [
       | inl y ↦
           gone_out (is_man (man_on men q) c j) (is_square o q) (a == q) (not (t == q)) y
@@ -188,7 +203,8 @@ attacker_stands men a o b k u t x c j q i = elim (cases_eq q t) [
   ]
 
 -- the words are those of the men once a man of the other side has come to b too
-pub seen_stepped : (men : List (Option Man)) (a : ℕ) (o : Option ℕ) (b k : ℕ) (u : Option ℕ) (t : ℕ) (x : Man) (c : Colour) → IsStep men a o b k u t x c → AreSeen men (stepped men a o b x k u t x) c (sight_with (sight_lifted men a o b k) t)
+pub seen_stepped : (men : List (Option Man)) (a : ℕ) (o : Option ℕ) (b k : ℕ) (u : Option ℕ) (t : ℕ) (x : Man) (c : Colour) → IsStep men a o b k u t x c
+    → AreSeen men (stepped men a o b x k u t x) c (sight_with (sight_lifted men a o b k) t)
 unfolding squares_of
 seen_stepped men a o b k u t x c i = record {
   occupied = occupied_stepped men a o b x k u t x i.arrival i.flight i.taken;

@@ -43,7 +43,9 @@ not_aimed rule p m small h = false_by (pseudo rule p m) (λ y. let t = arrival_n
 
 module _ (rule : RuleSet) (p : Position) (test : Move → Bool) (needs : (m : Move) → pseudo rule p m ≡ false → test m ≡ false) where
   -- the candidates of one origin
-  pub candidates : (s a w : ℕ) → a ≡ word (is_arrival rule p s) → ((m : Move) → m.from ≡ s → m.to < 64 → pseudo rule p m ≡ true → (bit_at w m.to == 1) ≡ false → test m ≡ false) → AreCandidates rule p test s (bit_and a w)
+  pub candidates : (s a w : ℕ) → a ≡ word (is_arrival rule p s)
+      → ((m : Move) → m.from ≡ s → m.to < 64 → pseudo rule p m ≡ true → (bit_at w m.to == 1) ≡ false → test m ≡ false)
+      → AreCandidates rule p test s (bit_and a w)
   candidates s a w arrivals h = record {
     inside = λ t small on. sym (word_has (is_arrival rule p s) a t arrivals small) ∙ on_first a w t on;
     outside = λ m at small off. elim (cases_Bool (pseudo rule p m)) [
@@ -54,7 +56,8 @@ module _ (rule : RuleSet) (p : Position) (test : Move → Bool) (needs : (m : Mo
     ];
   }
 
-  pub no_candidates : (s w : ℕ) → w ≡ 0 → ((m : Move) → m.from ≡ s → m.to < 64 → pseudo rule p m ≡ true → (bit_at w m.to == 1) ≡ false → test m ≡ false) → AreCandidates rule p test s 0
+  pub no_candidates : (s w : ℕ) → w ≡ 0 → ((m : Move) → m.from ≡ s → m.to < 64 → pseudo rule p m ≡ true → (bit_at w m.to == 1) ≡ false → test m ≡ false)
+      → AreCandidates rule p test s 0
   no_candidates s w zero h = record {
     inside = λ t small on. absurd (let never = off_zero t in cc);
     outside = λ m at small off. elim (cases_Bool (pseudo rule p m)) [
@@ -78,7 +81,8 @@ module _ (rule : RuleSet) (p : Position) (test : Move → Bool) (needs : (m : Mo
   pub none-one : (a : ℕ) → test (triple_at a) ≡ false → HaveNone test a (a + 1)
   none-one a h = record { fails = λ k lo hi. let e : k ≡ a = omega (arith, lo, hi) in rw e h }
 
-  none-move : (s w : ℕ) (m : Move) → AreCandidates rule p test s w → m.from ≡ s → m.to < 64 → ((bit_at w m.to == 1) ≡ true → pseudo rule p m ≡ false) → test m ≡ false
+  none-move : (s w : ℕ) (m : Move) → AreCandidates rule p test s w → m.from ≡ s → m.to < 64 → ((bit_at w m.to == 1) ≡ true → pseudo rule p m ≡ false)
+      → test m ≡ false
   none-move s w m are at small h = elim (cases_Bool (bit_at w m.to == 1)) [
     | inl on ↦ needs m (h on)
     | inr off ↦ are.outside m at small off
@@ -91,20 +95,25 @@ module _ (rule : RuleSet) (p : Position) (test : Move → Bool) (needs : (m : Mo
         let from : k / 448 ≡ s = omega (arith, lo, hi, le) in
         let to : k / 7 % 64 ≡ (k - 448 * s) / 7 = omega (arith, lo, hi, le) in
         let promo : k % 7 ≡ (k - 448 * s) % 7 = omega (arith, lo, hi, le) in
-        rw (from, to, promo) (none-move s w (record { from = s; to = (k - 448 * s) / 7; promo = promotion_at ((k - 448 * s) % 7) }) are refl (omega (arith, hi, le)) (h.fails rule (k - 448 * s) (omega (arith, lo)) (omega (arith, lo, hi))));
+        rw (from, to, promo) (none-move s w (record { from = s; to = (k - 448 * s) / 7; promo = promotion_at ((k - 448 * s) % 7) }) are refl
+        (omega (arith, hi, le)) (h.fails rule (k - 448 * s) (omega (arith, lo)) (omega (arith, lo, hi))));
   }
 
   -- on the squares from the first one on and before the next origin stands no man of the side to move
-  none-missed : (a b o : ℕ) → o ≡ side_of p.men p.turn → b ≤ 28672 → ((s : ℕ) → a / 448 ≤ s → s < (b + 447) / 448 → (bit_at o s == 1) ≡ false) → HaveNone test a b
+  none-missed : (a b o : ℕ) → o ≡ side_of p.men p.turn → b ≤ 28672 → ((s : ℕ) → a / 448 ≤ s → s < (b + 447) / 448 → (bit_at o s == 1) ≡ false)
+      → HaveNone test a b
   unfolding side_of triple_at
   none-missed a b o h le none = record {
     fails = λ k lo hi.
-        needs (record { from = k / 448; to = k / 7 % 64; promo = promotion_at (k % 7) }) (own_moves p rule (record { from = k / 448; to = k / 7 % 64; promo = promotion_at (k % 7) }) (man_on p.men (k / 448)) refl
+        needs (record { from = k / 448; to = k / 7 % 64; promo = promotion_at (k % 7) })
+        (own_moves p rule (record { from = k / 448; to = k / 7 % 64; promo = promotion_at (k % 7) }) (man_on p.men (k / 448)) refl
         (sym (word_has (λ s. is_side (man_on p.men s) p.turn) o (k / 448) h (omega (arith, hi, le))) ∙ none (k / 448) (omega (arith, lo)) (omega (arith, hi))));
   }
 
   -- up to a triple of the next origin
-  pub none-origin : (start number s a o w : ℕ) → o ≡ side_of p.men p.turn → HaveNone test start number → IsFirst (λ q. bit_at o q == 1) (number / 448) (64 - number / 448) s → a ≤ 448 → AreCandidates rule p test s w → IsBarrenFrom p s w (number - 448 * s) a → HaveNone test start (448 * s + a)
+  pub none-origin : (start number s a o w : ℕ) → o ≡ side_of p.men p.turn → HaveNone test start number
+      → IsFirst (λ q. bit_at o q == 1) (number / 448) (64 - number / 448) s → a ≤ 448 → AreCandidates rule p test s w → IsBarrenFrom p s w (number - 448 * s) a
+      → HaveNone test start (448 * s + a)
   none-origin start number s a o w h past f le are here = elim (cases_lt (448 * s) number) [
     | inl lt ↦
         let e : 448 * s + (number - 448 * s) ≡ number = omega (arith, lt) in
@@ -117,30 +126,42 @@ module _ (rule : RuleSet) (p : Position) (test : Move → Bool) (needs : (m : Mo
   ]
 
   -- up to the end, where there is none
-  pub none-end : (start number o : ℕ) → o ≡ side_of p.men p.turn → HaveNone test start number → find (λ q. bit_at o q == 1) (range_with_len (number / 448) (64 - number / 448)) ≡ None → HaveNone test start 28672
+  pub none-end : (start number o : ℕ) → o ≡ side_of p.men p.turn → HaveNone test start number
+      → find (λ q. bit_at o q == 1) (range_with_len (number / 448) (64 - number / 448)) ≡ None → HaveNone test start 28672
   none-end start number o h past none =
-      none-join start number 28672 past (none-missed number 28672 o h (omega arith) (λ q lo hi. find_no (λ q. bit_at o q == 1) (number / 448) (64 - number / 448) q none lo (omega (arith, hi))))
+      none-join start number 28672 past (none-missed number 28672 o h (omega arith)
+      (λ q lo hi. find_no (λ q. bit_at o q == 1) (number / 448) (64 - number / 448) q none lo (omega (arith, hi))))
 
 -- the triple that is found
-pub aimed_from : (rule : RuleSet) (p : Position) (test : Move → Bool) (s w a : ℕ) → a < 448 → AreCandidates rule p test s w → IsNamed p s w a → IsAimed rule p (triple_at (448 * s + a))
+pub aimed_from : (rule : RuleSet) (p : Position) (test : Move → Bool) (s w a : ℕ) → a < 448 → AreCandidates rule p test s w → IsNamed p s w a
+    → IsAimed rule p (triple_at (448 * s + a))
 unfolding triple_at
 aimed_from rule p test s w a lt are named =
     let from : (448 * s + a) / 448 ≡ s = omega (arith, lt) in
     let to : (448 * s + a) / 7 % 64 ≡ a / 7 = omega (arith, lt) in
     let promo : (448 * s + a) % 7 ≡ a % 7 = omega (arith, lt) in
-    rw (from, to, promo) (record { man = named.man; here = named.here; arrival = are.inside (a / 7) (omega (arith, lt)) named.inside; promotion = named.promotion })
+    rw (from, to, promo) (record {
+      man = named.man;
+      here = named.here;
+      arrival = are.inside (a / 7) (omega (arith, lt)) named.inside;
+      promotion =
+          named.promotion;
+    })
 
 -- what is kept: nothing, or the word of one origin
 pub kept_none : (rule : RuleSet) (p : Position) (test : Move → Bool) → AreKept rule p test (record { origin = None; squares = 0 })
 kept_none rule p test = record { are = λ s e. cc }
 
-pub kept_one : (rule : RuleSet) (p : Position) (test : Move → Bool) (s w : ℕ) → AreCandidates rule p test s w → AreKept rule p test (record { origin = Some s; squares = w })
+pub kept_one : (rule : RuleSet) (p : Position) (test : Move → Bool) (s w : ℕ) → AreCandidates rule p test s w
+    → AreKept rule p test (record { origin = Some s; squares = w })
 kept_one rule p test s w h = record { are = λ t e. let same : s ≡ t = cc in subst (λ n. AreCandidates rule p test n w) same h }
 
 -- a move to no square that ends a check isn't legal, and one to no square that gives check doesn't mate
-pub evasions_elsewhere : (rule : RuleSet) (p : Position) (s w : ℕ) → AreEvasionsFrom rule p s w → (m : Move) → m.from ≡ s → m.to < 64 → pseudo rule p m ≡ true → (bit_at w m.to == 1) ≡ false → legal rule p m ≡ false
+pub evasions_elsewhere : (rule : RuleSet) (p : Position) (s w : ℕ) → AreEvasionsFrom rule p s w → (m : Move) → m.from ≡ s → m.to < 64 → pseudo rule p m ≡ true
+    → (bit_at w m.to == 1) ≡ false → legal rule p m ≡ false
 unfolding legal
 evasions_elsewhere rule p s w h m at small may off = and_right (pseudo rule p m) _ (ap not (h.elsewhere m at small may off))
 
-pub checks_elsewhere : (rule : RuleSet) (p : Position) (s w : ℕ) → AreCheckTargets rule p s w → (m : Move) → m.from ≡ s → m.to < 64 → pseudo rule p m ≡ true → (bit_at w m.to == 1) ≡ false → mates rule p m ≡ false
+pub checks_elsewhere : (rule : RuleSet) (p : Position) (s w : ℕ) → AreCheckTargets rule p s w → (m : Move) → m.from ≡ s → m.to < 64 → pseudo rule p m ≡ true
+    → (bit_at w m.to == 1) ≡ false → mates rule p m ≡ false
 checks_elsewhere rule p s w h m at small may off = sym (no_mate_quietly rule p m may (h.elsewhere m at small may off))

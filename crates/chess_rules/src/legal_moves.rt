@@ -13,8 +13,8 @@ use crate::legal::is_legal;
 use crate::moves::{Moves, triple};
 use crate::rules::Rules;
 use crate::shields::shield_squares;
-use crate::targets::{Kept, PER_ORIGIN, TRIPLES, arrivals, next_from};
-use crate::words::next_bit;
+use crate::sought::{Sought, next_passing};
+use crate::targets::{Kept, TRIPLES, arrivals};
 use chess_core::board::Board;
 use chess_core::man::Move;
 use chess_core::square::Square;
@@ -157,62 +157,41 @@ pub(crate) fn next_legal<R: Rules>(
     ensures kept { AreKept R.rule board.old (legal R.rule board.old) kept.new }
     ensures board { board.new ≡ board.old }
 {
-    let mut number = start;
-    while number < end {
-        number = next_candidate::<R>(board, evasion_squares, kept, number);
-        if number >= end {
-            return end;
-        }
-        if is_legal::<R>(board, squares, evasion_squares, triple(number)) {
-            return number;
-        }
-        number += 1;
-    }
-    end
+    let known = Known {
+        shield_squares: squares,
+        evasion_squares,
+    };
+    next_passing::<R, Known>(board, &known, kept, start, end)
 }
 
-// The first triple that may be a legal move, from the one numbered `start` on; 28,672 where there is none.
-// `evasion_squares` are the squares to which a move may go that ends a check.
-fn next_candidate<R: Rules>(board: &Board, evasion_squares: u64, kept: &mut Kept, start: u16) -> u16
-    requires well_formed { IsWellFormed board.now }
-    requires evasion_squares { AreEvasions R.rule board.now.men board.now.turn evasion_squares }
-    requires kept { AreKept R.rule board.now (legal R.rule board.now) kept.old }
-    ensures low { result < 28672 → start ≤ result }
-    ensures high { result ≤ 28672 }
-    ensures none { HaveNone (legal R.rule board.now) start result }
-    ensures aimed { result < 28672 → IsAimed R.rule board.now (triple_at result) }
-    ensures kept { AreKept R.rule board.now (legal R.rule board.now) kept.new }
-{
-    let own = board.side(board.turn());
-    let mut number = start;
-    while let Some(from) = next_bit(own, (number / PER_ORIGIN) as u8) {
-        let first = u16::from(from.index()) * PER_ORIGIN;
-        *kept = keep::<R>(board, evasion_squares, *kept, from);
-        let at = next_from(board, from, kept.squares, number.saturating_sub(first));
-        if at < PER_ORIGIN {
-            return first + at;
-        }
-        number = first + PER_ORIGIN;
-    }
-    TRIPLES
+/// What is known of a position where legal moves are looked for.
+#[derive(Clone, Copy)]
+struct Known {
+    shield_squares: u64,
+    evasion_squares: u64,
 }
 
-// What was kept, if it is of this origin, and else the squares to which the man on it may go by a legal
-// move.
-fn keep<R: Rules>(board: &Board, evasion_squares: u64, kept: Kept, from: Square) -> Kept
-    requires well_formed { IsWellFormed board.now }
-    requires evasion_squares { AreEvasions R.rule board.now.men board.now.turn evasion_squares }
-    requires kept { AreKept R.rule board.now (legal R.rule board.now) kept }
-    ensures origin { result.origin ≡ Some from }
-    ensures kept { AreKept R.rule board.now (legal R.rule board.now) result }
-{
-    if kept.origin == Some(from) {
-        return kept;
+impl Sought for Known {
+    ghost use Rattle.std.specs.Prelude.{◌≡◌};
+    ghost use Rattle.chess_core.specs.Words.{word};
+    ghost use Rattle.chess_rules.specs.Evasions.{AreEvasions};
+    ghost use Rattle.chess_rules.specs.Legal.{legal};
+    ghost use Rattle.chess_rules.specs.Shields.{may_expose};
+    ghost use Rattle.chess_rules.specs.Idle.{legal-idle};
+
+    ghost test = { legal };
+
+    ghost fits = { λ s rule p. (s.shield_squares ≡ word (may_expose rule p.men p.turn)) × AreEvasions rule p.men p.turn s.evasion_squares };
+
+    fn candidates<R: Rules>(&self, board: &Board, from: Square) -> u64 {
+        candidates::<R>(board, self.evasion_squares, from)
     }
-    Kept {
-        origin: Some(from),
-        squares: candidates::<R>(board, evasion_squares, from),
+
+    fn passes<R: Rules>(&self, board: &mut Board, m: Move) -> bool {
+        is_legal::<R>(board, self.shield_squares, self.evasion_squares, m)
     }
+
+    ghost idle = { λ rule p m h. legal-idle rule p m h };
 }
 
 // The squares to which the man on `from` may go by a legal move, and perhaps more.

@@ -14,8 +14,8 @@ use crate::flights::has_flight;
 use crate::legal::is_pseudo;
 use crate::moves::{Moves, has_legal_move, triple};
 use crate::rules::{Rules, in_check};
-use crate::targets::{Kept, PER_ORIGIN, TRIPLES, arrivals, next_from};
-use crate::words::next_bit;
+use crate::sought::{Sought, next_passing};
+use crate::targets::{Kept, TRIPLES, arrivals};
 use chess_core::board::Board;
 use chess_core::man::{Colour, Move};
 use chess_core::square::Square;
@@ -116,66 +116,28 @@ pub(crate) fn next_mating<R: Rules>(
     ensures kept { AreKept R.rule board.old (mates R.rule board.old) kept.new }
     ensures board { board.new ≡ board.old }
 {
-    let mut number = start;
-    while number < TRIPLES {
-        number = next_candidate::<R>(board, squares, kept, number);
-        if number >= TRIPLES {
-            return TRIPLES;
-        }
-        if is_mating::<R>(board, squares, triple(number)) {
-            return number;
-        }
-        number += 1;
-    }
-    TRIPLES
+    next_passing::<R, CheckSquares>(board, squares, kept, start, TRIPLES)
 }
 
-// The first triple that may be a move with check, from the one numbered `start` on; 28,672 where there
-// is none.
-fn next_candidate<R: Rules>(
-    board: &Board,
-    squares: &CheckSquares,
-    kept: &mut Kept,
-    start: u16,
-) -> u16
-    requires well_formed { IsWellFormed board.now }
-    requires squares { AreCheckSquares R.rule board.now.men (other board.now.turn) squares.now }
-    requires kept { AreKept R.rule board.now (mates R.rule board.now) kept.old }
-    ensures low { result < 28672 → start ≤ result }
-    ensures high { result ≤ 28672 }
-    ensures none { HaveNone (mates R.rule board.now) start result }
-    ensures aimed { result < 28672 → IsAimed R.rule board.now (triple_at result) }
-    ensures kept { AreKept R.rule board.now (mates R.rule board.now) kept.new }
-{
-    let own = board.side(board.turn());
-    let mut number = start;
-    while let Some(from) = next_bit(own, (number / PER_ORIGIN) as u8) {
-        let first = u16::from(from.index()) * PER_ORIGIN;
-        *kept = keep::<R>(board, squares, *kept, from);
-        let at = next_from(board, from, kept.squares, number.saturating_sub(first));
-        if at < PER_ORIGIN {
-            return first + at;
-        }
-        number = first + PER_ORIGIN;
-    }
-    TRIPLES
-}
+impl Sought for CheckSquares {
+    ghost use Rattle.chess_core.specs.Position.{other};
+    ghost use Rattle.chess_rules.specs.CheckSquares.{AreCheckSquares};
+    ghost use Rattle.chess_rules.specs.Places.{mates};
+    ghost use Rattle.chess_rules.specs.Idle.{mates-idle};
 
-// What was kept, if it is of this origin, and else the squares to which the man on it may go with check.
-fn keep<R: Rules>(board: &Board, squares: &CheckSquares, kept: Kept, from: Square) -> Kept
-    requires well_formed { IsWellFormed board.now }
-    requires squares { AreCheckSquares R.rule board.now.men (other board.now.turn) squares.now }
-    requires kept { AreKept R.rule board.now (mates R.rule board.now) kept }
-    ensures origin { result.origin ≡ Some from }
-    ensures kept { AreKept R.rule board.now (mates R.rule board.now) result }
-{
-    if kept.origin == Some(from) {
-        return kept;
+    ghost test = { mates };
+
+    ghost fits = { λ s rule p. AreCheckSquares rule p.men (other p.turn) s };
+
+    fn candidates<R: Rules>(&self, board: &Board, from: Square) -> u64 {
+        candidates::<R>(board, self, from)
     }
-    Kept {
-        origin: Some(from),
-        squares: candidates::<R>(board, squares, from),
+
+    fn passes<R: Rules>(&self, board: &mut Board, m: Move) -> bool {
+        is_mating::<R>(board, self, m)
     }
+
+    ghost idle = { λ rule p m h. mates-idle rule p m h };
 }
 
 // The squares to which the man on `from` may go with check, and perhaps more.

@@ -28,6 +28,8 @@ pub(crate) enum Family {
     KingSteps,
     // A king at the edge with few flights.
     Flights,
+    // A king among his men, with lines through the free squares beside him.
+    Refuges,
     // Positions without one king or both.
     MissingKings,
     // Grasshoppers and hurdles before kings.
@@ -54,6 +56,7 @@ impl Family {
             Family::Castling => castling::castling(draw),
             Family::KingSteps => kings::king_steps(draw),
             Family::Flights => kings::flights(draw),
+            Family::Refuges => kings::refuges(draw),
             Family::MissingKings => kings::missing_kings(draw),
             Family::Hurdles => fairy::hurdles(draw),
             Family::NightriderLines => fairy::nightrider_lines(draw),

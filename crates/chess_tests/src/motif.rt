@@ -61,6 +61,10 @@ pub(crate) enum Motif {
     FlightOpened,
     // Mate, with a square beside the king that wasn't attacked before the move.
     FlightCovered,
+    // Mate, with a free square beside the king that is attacked only once he has gone there.
+    FlightBehind,
+    // Mate, with a free square beside the king that wasn't attacked before, and is by a man that stood there.
+    FlightUnmasked,
     // The mover has no king.
     KinglessMover,
     // The other side has none.
@@ -176,6 +180,8 @@ impl<'a> Case<'a> {
             Motif::StepsAlong => self.steps_along(),
             Motif::FlightOpened => self.opens_flight(),
             Motif::FlightCovered => self.mates() && self.covers_flight(),
+            Motif::FlightBehind => self.mates() && self.bars_flight_behind(),
+            Motif::FlightUnmasked => self.mates() && self.unmasks_flight(),
             Motif::KinglessMover => self.legal && self.king(self.man.colour).is_none(),
             Motif::KinglessEnemy => self.legal && self.king(self.man.colour.other()).is_none(),
             other => self.shows_special(other),
@@ -312,18 +318,62 @@ impl<'a> Case<'a> {
         true
     }
 
-    fn covers_flight(&self) -> bool {
+    // The squares beside the other king on which none of his men stands after the move.
+    fn refuges(&self) -> Squares {
+        let mut squares = ArrayVec::new();
         let Some(king) = self.king(self.man.colour.other()) else {
-            return false;
+            return squares;
         };
-        LINES.iter().any(|way| {
-            next(king, *way).is_some_and(|flight| {
-                let free = self
-                    .after
-                    .man(flight)
-                    .is_none_or(|man| man.colour == self.man.colour);
-                free && !self.before.is_attacked(self.rule, flight, self.man.colour)
-            })
+        for way in &LINES {
+            if let Some(refuge) = next(king, *way) {
+                let held = self.after.man(refuge);
+                if held.is_none_or(|man| man.colour == self.man.colour) {
+                    let _fits = squares.try_push(refuge);
+                }
+            }
+        }
+        squares
+    }
+
+    // Whether the mover's men attack the square before the move.
+    fn was_attacked(&self, square: Square) -> bool {
+        self.before.is_attacked(self.rule, square, self.man.colour)
+    }
+
+    fn covers_flight(&self) -> bool {
+        self.refuges()
+            .iter()
+            .any(|refuge| !self.was_attacked(*refuge))
+    }
+
+    fn bars_flight_behind(&self) -> bool {
+        self.refuges().iter().any(|refuge| !self
+            .after
+            .is_attacked(self.rule, *refuge, self.man.colour))
+    }
+
+    // Whether a man of the mover that stood there attacks the square after the move.
+    fn is_attacked_from_behind(&self, square: Square) -> bool {
+        for number in 0..64u8 {
+            let from = Square::numbered(number);
+            let own = self
+                .after
+                .man(from)
+                .is_some_and(|man| man.colour == self.man.colour);
+            if own
+                && self.stood(from)
+                && !self.after.is_paralysed(self.rule, from)
+                && self.after.reaches(from, square)
+            {
+                return true;
+            }
+        }
+        false
+    }
+
+    fn unmasks_flight(&self) -> bool {
+        self.refuges().iter().any(|refuge| {
+            !self.was_attacked(*refuge) && self.is_attacked_from_behind(*refuge)
         })
     }
 

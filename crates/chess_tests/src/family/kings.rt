@@ -63,6 +63,35 @@ pub(crate) fn flights(draw: &mut Draw) -> Diagram {
     diagram
 }
 
+// The other side's king among his men, riders of the mover on lines to him and to the squares beside him, and
+// one behind a man of the mover's on a line to such a square.
+pub(crate) fn refuges(draw: &mut Draw) -> Diagram {
+    let mut diagram = Diagram::new();
+    diagram.turn = draw.colour();
+    let mover = diagram.turn;
+    let kinds = draw.kinds();
+    let at = draw.square();
+    let _king = put(&mut diagram, Some(at), man(mover.other(), Kind::King));
+    for way in &LINES {
+        if draw.once_in(2) {
+            let guard = [Kind::Pawn, Kind::Knight][draw.below(2) as usize];
+            let _guard = put(&mut diagram, next(at, *way), man(mover.other(), guard));
+        }
+    }
+    let beside = next(at, draw.line()).unwrap_or(at);
+    let front = man(mover, draw.kind(kinds));
+    let line = draw.line();
+    let _battery = put_battery(&mut diagram, draw, beside, line, front, mover);
+    for _rider in 0..3u8 {
+        let near = next(at, draw.line()).unwrap_or(at);
+        let line = draw.line();
+        let _rider = put_rider(&mut diagram, draw, near, line, mover);
+    }
+    let _own = put_king(&mut diagram, draw, mover);
+    let _queen = put(&mut diagram, Some(draw.square()), man(mover, Kind::Queen));
+    diagram
+}
+
 // Lines to kings that stand there and to squares where none does.
 pub(crate) fn missing_kings(draw: &mut Draw) -> Diagram {
     let mut diagram = Diagram::new();

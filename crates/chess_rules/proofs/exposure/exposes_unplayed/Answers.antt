@@ -15,7 +15,8 @@ returns-in_default-king_after g c =
     let to : c.m.inside.to ≡ m.to = ap (λ (v : Triple). v.to) c.m.view_is in
     let small : m.to < 64 = omega (arith, to, c.index-small.ensures.value, c.index-small.ensures.small) in
     let here : man_on p.men m.from ≡ Some x = ap (man_on p.men) (sym from) ∙ sym c.man_at.ensures ∙ c.in-Some.is in
-    let simple : is_simple g.R.Rules.rule x m (is_some (capture_square p x m)) ≡ true = rw (c.is_some.ensures, c.capture_square-captured.ensures) at (sym c.is_simple.ensures ∙ c.if-not-is_simple.false) in
+    let simple : is_simple g.R.Rules.rule x m (is_some (capture_square p x m)) ≡ true =
+    rw (c.is_some.ensures, c.capture_square-captured.ensures) at (sym c.is_simple.ensures ∙ c.if-not-is_simple.false) in
     let king : king_after p x m ≡ None = sym c.king_after.ensures ∙ c.in_default-king_after.is in
     no_king_exposed g.R.Rules.rule p x m c.requires.well_formed c.requires.pseudo small here simple king
 
@@ -28,7 +29,10 @@ returns g c =
     let to : c.m.inside.to ≡ m.to = ap (λ (v : Triple). v.to) c.m.view_is in
     let small : m.to < 64 = omega (arith, to, c.index-small.ensures.value, c.index-small.ensures.small) in
     let here : man_on p.men m.from ≡ Some x = ap (man_on p.men) (sym from) ∙ sym c.man_at.ensures ∙ c.in-Some.is in
-    let simple : is_simple g.R.Rules.rule x m (is_some (capture_square p x m)) ≡ true = rw (c.is_some.ensures, c.capture_square-captured.ensures) at (sym c.is_simple.ensures ∙ c.if-not-is_simple.false) in
+    let simple : is_simple g.R.Rules.rule x m (is_some (capture_square p x m)) ≡ true =
+    rw (c.is_some.ensures, c.capture_square-captured.ensures) at (sym c.is_simple.ensures ∙ c.if-not-is_simple.false) in
     let king : king_after p x m ≡ Some c.in-Some-king_after.king = sym c.king_after.ensures ∙ c.in-Some-king_after.is in
-    let seen : c.sight_after-sight.result ≡ sight_after p.men m.from (capture_square p x m) m.to = rw (c.capture_square-captured.ensures, from, to) at c.sight_after-sight.ensures in
-    exposed_is g.R.Rules.rule p x m c.in-Some-king_after.king c.attackers_seen.result c.requires.well_formed c.requires.pseudo small here simple king (rw (seen, c.other.ensures, c.turn.ensures) at c.attackers_seen.ensures)
+    let seen : c.sight_after-sight.result ≡ sight_after p.men m.from (capture_square p x m) m.to =
+    rw (c.capture_square-captured.ensures, from, to) at c.sight_after-sight.ensures in
+    exposed_is g.R.Rules.rule p x m c.in-Some-king_after.king c.attackers_seen.result c.requires.well_formed c.requires.pseudo small here simple king
+    (rw (seen, c.other.ensures, c.turn.ensures) at c.attackers_seen.ensures)

@@ -12,7 +12,8 @@ returns-then-not-contains g c =
     let small : c.m.inside.from < 64 = omega (arith, c.index-small.ensures.value, c.index-small.ensures.small) in
     let here : man_on p.men c.args.m.now.from ≡ Some c.in-Some.man = ap (man_on p.men) (sym from) ∙ sym c.man_at.ensures ∙ c.in-Some.is in
     c.is_plain.ensures ∙ sym (ap (λ (u : Bool). not u && is_plain g.R.Rules.rule p c.in-Some.man c.args.m.now) c.if-not-contains.true)
-    ∙ cannot_expose_is g.R.Rules.rule p c.in-Some.man c.args.colour c.args.m.now c.args.squares c.m.inside.from c.contains.result here c.requires from small c.contains.ensures
+    ∙ cannot_expose_is g.R.Rules.rule p c.in-Some.man c.args.colour c.args.m.now c.args.squares c.m.inside.from c.contains.result here c.requires from small
+    c.contains.ensures
 
 pub returns-else-not-contains : goal.returns-else-not-contains
 returns-else-not-contains g c =
@@ -21,7 +22,8 @@ returns-else-not-contains g c =
     let small : c.m.inside.from < 64 = omega (arith, c.index-small.ensures.value, c.index-small.ensures.small) in
     let here : man_on p.men c.args.m.now.from ≡ Some c.in-Some.man = ap (man_on p.men) (sym from) ∙ sym c.man_at.ensures ∙ c.in-Some.is in
     ap not c.if-not-contains.false ∙ sym (ap (λ (u : Bool). not u && is_plain g.R.Rules.rule p c.in-Some.man c.args.m.now) c.if-not-contains.false)
-    ∙ cannot_expose_is g.R.Rules.rule p c.in-Some.man c.args.colour c.args.m.now c.args.squares c.m.inside.from c.contains.result here c.requires from small c.contains.ensures
+    ∙ cannot_expose_is g.R.Rules.rule p c.in-Some.man c.args.colour c.args.m.now c.args.squares c.m.inside.from c.contains.result here c.requires from small
+    c.contains.ensures
 
 pub returns-in-None : goal.returns-in-None
 returns-in-None g c =

@@ -7,4 +7,5 @@ returns-then-squares-ne0 c =
 
 pub returns-else-squares-ne0 : goal.returns-else-squares-ne0
 returns-else-squares-ne0 c =
-    some_nightrider c.args.board.now.men c.args.colour c.squares.result c.squares-else-squares-ne0.result c.squares.ensures.word c.if-squares-ne0.false c.squares-else-squares-ne0.ensures.word
+    some_nightrider c.args.board.now.men c.args.colour c.squares.result c.squares-else-squares-ne0.result c.squares.ensures.word c.if-squares-ne0.false
+    c.squares-else-squares-ne0.ensures.word

@@ -10,13 +10,17 @@ loop-rider-init c = record { small = omega arith; ridden = λ men held. ridden_n
 
 pub loop-rider-preserved : goal.loop-rider-preserved
 loop-rider-preserved c =
-    let first = find_first (λ s. bit_at c.args.riders s == 1) c.loop-rider.number (64 - c.loop-rider.number) c.in-Some.rider (sym c.next_bit.ensures.value ∙ c.in-Some.is) in
+    let first = find_first (λ s. bit_at c.args.riders s == 1) c.loop-rider.number (64 - c.loop-rider.number) c.in-Some.rider
+    (sym c.next_bit.ensures.value ∙ c.in-Some.is) in
     record {
       small = omega (arith, first.high, first.low, c.loop-rider.invariant.small, c.index-number.ensures.value);
-      ridden = λ men held. rw c.index-number.ensures.value (ridden_more men (steps_along c.args.lines) c.args.riders c.loop-rider.number c.in-Some.rider c.loop-rider.ridden c.rides-ridden.result (c.loop-rider.invariant.ridden men held) (c.rides-ridden.ensures men held) first);
+      ridden = λ men held. rw c.index-number.ensures.value (ridden_more men (steps_along c.args.lines) c.args.riders c.loop-rider.number c.in-Some.rider
+          c.loop-rider.ridden c.rides-ridden.result (c.loop-rider.invariant.ridden men held) (c.rides-ridden.ensures men held) first);
     }
 
 pub returns : goal.returns
 returns c = λ men held.
-    ridden_all men (steps_along c.args.lines) c.args.riders c.loop-rider.number c.loop-rider.ridden c.loop-rider.invariant.small (c.loop-rider.invariant.ridden men held)
-    (λ j lo hi. find_no (λ s. bit_at c.args.riders s == 1) c.loop-rider.number (64 - c.loop-rider.number) j (sym c.next_bit.ensures.value ∙ c.in_default.is) lo (omega (arith, lo, hi)))
+    ridden_all men (steps_along c.args.lines) c.args.riders c.loop-rider.number c.loop-rider.ridden c.loop-rider.invariant.small
+    (c.loop-rider.invariant.ridden men held)
+    (λ j lo hi. find_no (λ s. bit_at c.args.riders s == 1) c.loop-rider.number (64 - c.loop-rider.number) j (sym c.next_bit.ensures.value ∙ c.in_default.is) lo
+    (omega (arith, lo, hi)))

@@ -7,8 +7,10 @@ returns-in_default g c = shield_squares_none g.R.Rules.rule c.args.board.now.men
 
 pub returns-then-is_unshielded : goal.returns-then-is_unshielded
 returns-then-is_unshielded g c =
-    shield_squares_all g.R.Rules.rule c.args.board.now.men c.args.colour c.in-Some.king (sym c.king_of.ensures ∙ c.in-Some.is) (sym c.is_unshielded.ensures ∙ c.if-is_unshielded.true)
+    shield_squares_all g.R.Rules.rule c.args.board.now.men c.args.colour c.in-Some.king (sym c.king_of.ensures ∙ c.in-Some.is)
+    (sym c.is_unshielded.ensures ∙ c.if-is_unshielded.true)
 
 pub returns : goal.returns
 returns g c =
-    shield_squares_some g.R.Rules.rule c.args.board.now.men c.args.colour c.in-Some.king c.shields_of.result (sym c.king_of.ensures ∙ c.in-Some.is) (sym c.is_unshielded.ensures ∙ c.if-is_unshielded.false) c.shields_of.ensures
+    shield_squares_some g.R.Rules.rule c.args.board.now.men c.args.colour c.in-Some.king c.shields_of.result (sym c.king_of.ensures ∙ c.in-Some.is)
+    (sym c.is_unshielded.ensures ∙ c.if-is_unshielded.false) c.shields_of.ensures

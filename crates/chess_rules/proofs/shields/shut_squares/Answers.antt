@@ -4,10 +4,12 @@ use Rattle.chess_rules.proofs.shields.shut_squares.Goals as goal
 
 pub returns-then-riders-eq0 : goal.returns-then-riders-eq0
 returns-then-riders-eq0 c =
-    none_shut c.args.board.now.men c.args.colour (rider_along c.args.lines) (steps_along c.args.lines) c.args.square c.riders_on_lines-riders.result c.riders_on_lines-riders.ensures c.if-riders-eq0.true
+    none_shut c.args.board.now.men c.args.colour (rider_along c.args.lines) (steps_along c.args.lines) c.args.square c.riders_on_lines-riders.result
+    c.riders_on_lines-riders.ensures c.if-riders-eq0.true
 
 pub returns : goal.returns
 returns c =
     let men = c.args.board.now.men in
-    shut_are men c.args.colour (rider_along c.args.lines) (steps_along c.args.lines) c.args.square c.riders_on_lines-riders.result c.rides.result c.ridden_squares.result c.riders_on_lines-riders.ensures
+    shut_are men c.args.colour (rider_along c.args.lines) (steps_along c.args.lines) c.args.square c.riders_on_lines-riders.result c.rides.result
+    c.ridden_squares.result c.riders_on_lines-riders.ensures
     (c.rides.ensures men c.occupied-occupied.ensures) (c.ridden_squares.ensures men c.occupied-occupied.ensures)

@@ -43,6 +43,20 @@ fn flights(rt: HostRuntime) {
 }
 
 #[test]
+fn refuges(rt: HostRuntime) {
+    let motifs = [
+        Motif::FlightBehind,
+        Motif::FlightUnmasked,
+        Motif::FlightOpened,
+        Motif::FlightCovered,
+    ];
+    for survey in under_all_rules(Family::Refuges, 400, &motifs) {
+        assert_eq!(rt; survey.unlike, None);
+        assert_eq!(rt; survey.rare(&motifs, 20), None);
+    }
+}
+
+#[test]
 fn missing_kings(rt: HostRuntime) {
     let motifs = [Motif::KinglessMover, Motif::KinglessEnemy];
     for survey in under_all_rules(Family::MissingKings, 400, &motifs) {

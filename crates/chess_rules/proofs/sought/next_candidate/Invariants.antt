@@ -1,14 +1,13 @@
 use Rattle.std.proofs.Common.{◌-◌, ◌≤◌}
-use Rattle.chess_rules.specs.Legal.{legal}
 use Rattle.chess_rules.specs.Places.{HaveNone}
 use Rattle.chess_rules.specs.Targets.{AreKept}
-use Rattle.chess_rules.proofs.legal_moves.next_candidate.Given as goal
+use Rattle.chess_rules.proofs.sought.next_candidate.Given as goal
 
 abbrev pub invariant-loop-from : goal.invariant-loop-from
 invariant-loop-from g l = record {
   low : l.fn.start ≤ l.number;
-  none : HaveNone (legal g.R.Rules.rule l.board) l.fn.start l.number;
-  kept : AreKept g.R.Rules.rule l.board (legal g.R.Rules.rule l.board) l.kept;
+  none : HaveNone (g.S.Sought.test g.R.Rules.rule l.board) l.fn.start l.number;
+  kept : AreKept g.R.Rules.rule l.board (g.S.Sought.test g.R.Rules.rule l.board) l.kept;
 }
 
 abbrev pub decreases-loop-from : goal.decreases-loop-from

@@ -1,17 +1,16 @@
 use Rattle.std.proofs.Common.{◌≡◌, ◌∙◌, ◌+◌, ◌-◌, ◌*◌, ◌/◌, ◌==◌, arith, sym}
 use Rattle.std.specs.Int.{bit_at}
-use Rattle.chess_rules.specs.Places.{HaveNone, IsBarrenFrom, mates}
+use Rattle.chess_rules.specs.Places.{HaveNone, IsBarrenFrom}
 use Rattle.chess_rules.specs.Targets.{AreCandidates}
-use Rattle.chess_rules.proofs.Mating.{not_mating}
 use Rattle.chess_rules.proofs.Walks.{aimed_from, none-empty, none-end, none-origin}
 use Rattle.chess_rules.proofs.Tests.{find_first}
-use Rattle.chess_rules.proofs.mating_moves.next_candidate.Goals as goal
+use Rattle.chess_rules.proofs.sought.next_candidate.Goals as goal
 
 pub loop-from-init : goal.loop-from-init
 loop-from-init g c =
     let rule = g.R.Rules.rule in
     let p = c.args.board.now in
-    record { low = omega arith; none = none-empty rule p (mates rule p) (λ m h. not_mating rule p m h) c.args.start; kept = c.requires.kept }
+    record { low = omega arith; none = none-empty rule p (g.S.Sought.test rule p) (λ m h. g.met.S.Sought.idle rule p m h) c.args.start; kept = c.requires.kept }
 
 pub returns-then-at-lt-PER_ORIGIN-clause-none : goal.returns-then-at-lt-PER_ORIGIN-clause-none
 returns-then-at-lt-PER_ORIGIN-clause-none g c =
@@ -19,12 +18,14 @@ returns-then-at-lt-PER_ORIGIN-clause-none g c =
     let p = c.args.board.now in
     let s = c.in-Some.from in
     let w = c.keep.result.squares in
-    let first = find_first (λ q. bit_at c.side-own.result q == 1) (c.loop-from.number / 448) (64 - c.loop-from.number / 448) s (sym c.next_bit.ensures.value ∙ c.in-Some.is) in
+    let first = find_first (λ q. bit_at c.side-own.result q == 1) (c.loop-from.number / 448) (64 - c.loop-from.number / 448) s
+    (sym c.next_bit.ensures.value ∙ c.in-Some.is) in
     let at : c.from-first.result * 448 ≡ 448 * s = omega (arith, c.from-first.ensures, c.index.ensures.value) in
     let here : IsBarrenFrom p s w (c.loop-from.number - 448 * s) c.next_from-at.result = rw (c.saturating_sub.ensures, at) at c.next_from-at.ensures.barren in
-    let are : AreCandidates rule p (mates rule p) s w = c.keep.ensures.kept.are s c.keep.ensures.origin in
-    let past : HaveNone (mates rule p) c.args.start (448 * s + c.next_from-at.result) =
-    none-origin rule p (mates rule p) (λ m h. not_mating rule p m h) c.args.start c.loop-from.number s c.next_from-at.result c.side-own.result w (rw c.turn.ensures at c.side-own.ensures) c.loop-from.invariant.none first c.next_from-at.ensures.high are here in
+    let are : AreCandidates rule p (g.S.Sought.test rule p) s w = c.keep.ensures.kept.are s c.keep.ensures.origin in
+    let past : HaveNone (g.S.Sought.test rule p) c.args.start (448 * s + c.next_from-at.result) =
+    none-origin rule p (g.S.Sought.test rule p) (λ m h. g.met.S.Sought.idle rule p m h) c.args.start c.loop-from.number s c.next_from-at.result
+    c.side-own.result w (rw c.turn.ensures at c.side-own.ensures) c.loop-from.invariant.none first c.next_from-at.ensures.high are here in
     rw at past
 
 pub returns-then-at-lt-PER_ORIGIN-clause-aimed : goal.returns-then-at-lt-PER_ORIGIN-clause-aimed
@@ -34,8 +35,9 @@ returns-then-at-lt-PER_ORIGIN-clause-aimed g c lt =
     let s = c.in-Some.from in
     let w = c.keep.result.squares in
     let at : c.from-first.result * 448 ≡ 448 * s = omega (arith, c.from-first.ensures, c.index.ensures.value) in
-    let are : AreCandidates rule p (mates rule p) s w = c.keep.ensures.kept.are s c.keep.ensures.origin in
-    rw at (aimed_from rule p (mates rule p) s w c.next_from-at.result c.if-at-lt-PER_ORIGIN.true are (c.next_from-at.ensures.named c.if-at-lt-PER_ORIGIN.true))
+    let are : AreCandidates rule p (g.S.Sought.test rule p) s w = c.keep.ensures.kept.are s c.keep.ensures.origin in
+    rw at (aimed_from rule p (g.S.Sought.test rule p) s w c.next_from-at.result c.if-at-lt-PER_ORIGIN.true are
+    (c.next_from-at.ensures.named c.if-at-lt-PER_ORIGIN.true))
 
 pub loop-from-preserved : goal.loop-from-preserved
 loop-from-preserved g c =
@@ -43,12 +45,14 @@ loop-from-preserved g c =
     let p = c.args.board.now in
     let s = c.in-Some.from in
     let w = c.keep.result.squares in
-    let first = find_first (λ q. bit_at c.side-own.result q == 1) (c.loop-from.number / 448) (64 - c.loop-from.number / 448) s (sym c.next_bit.ensures.value ∙ c.in-Some.is) in
+    let first = find_first (λ q. bit_at c.side-own.result q == 1) (c.loop-from.number / 448) (64 - c.loop-from.number / 448) s
+    (sym c.next_bit.ensures.value ∙ c.in-Some.is) in
     let at : c.from-first.result * 448 ≡ 448 * s = omega (arith, c.from-first.ensures, c.index.ensures.value) in
     let here : IsBarrenFrom p s w (c.loop-from.number - 448 * s) c.next_from-at.result = rw (c.saturating_sub.ensures, at) at c.next_from-at.ensures.barren in
-    let are : AreCandidates rule p (mates rule p) s w = c.keep.ensures.kept.are s c.keep.ensures.origin in
-    let past : HaveNone (mates rule p) c.args.start (448 * s + c.next_from-at.result) =
-    none-origin rule p (mates rule p) (λ m h. not_mating rule p m h) c.args.start c.loop-from.number s c.next_from-at.result c.side-own.result w (rw c.turn.ensures at c.side-own.ensures) c.loop-from.invariant.none first c.next_from-at.ensures.high are here in
+    let are : AreCandidates rule p (g.S.Sought.test rule p) s w = c.keep.ensures.kept.are s c.keep.ensures.origin in
+    let past : HaveNone (g.S.Sought.test rule p) c.args.start (448 * s + c.next_from-at.result) =
+    none-origin rule p (g.S.Sought.test rule p) (λ m h. g.met.S.Sought.idle rule p m h) c.args.start c.loop-from.number s c.next_from-at.result
+    c.side-own.result w (rw c.turn.ensures at c.side-own.ensures) c.loop-from.invariant.none first c.next_from-at.ensures.high are here in
     let all : c.next_from-at.result ≡ 448 = omega (arith, c.next_from-at.ensures.high) in
     record {
       low = omega (arith, c.loop-from.invariant.low, first.low);
@@ -60,4 +64,5 @@ pub returns-clause-none : goal.returns-clause-none
 returns-clause-none g c =
     let rule = g.R.Rules.rule in
     let p = c.args.board.now in
-    none-end rule p (mates rule p) (λ m h. not_mating rule p m h) c.args.start c.loop-from.number c.side-own.result (rw c.turn.ensures at c.side-own.ensures) c.loop-from.invariant.none (sym c.next_bit.ensures.value ∙ c.in_default.is)
+    none-end rule p (g.S.Sought.test rule p) (λ m h. g.met.S.Sought.idle rule p m h) c.args.start c.loop-from.number c.side-own.result
+    (rw c.turn.ensures at c.side-own.ensures) c.loop-from.invariant.none (sym c.next_bit.ensures.value ∙ c.in_default.is)

@@ -1,0 +1,126 @@
+//! The triples looked through for those that pass a test, most of them left out by what is known of a
+//! position.
+ghost use Rattle.std.specs.Prelude.{◌≡◌, ◌≤◌, ◌<◌, Some, true};
+ghost use Rattle.chess_core.specs.WellFormed.{IsWellFormed};
+ghost use Rattle.chess_rules.specs.Places.{HaveNone, triple_at};
+ghost use Rattle.chess_rules.specs.Targets.{AreCandidates, AreKept, IsAimed};
+
+use crate::moves::triple;
+use crate::rules::Rules;
+use crate::targets::{Kept, PER_ORIGIN, TRIPLES, next_from};
+use crate::words::next_bit;
+use chess_core::board::Board;
+use chess_core::man::Move;
+use chess_core::square::Square;
+
+/// What is known of a position where moves that pass a test are looked for: the test, and when the knowledge
+/// is of a position.
+pub(crate) trait Sought {
+    ghost use Rattle.std.specs.Prelude.{Bool, ◌≡◌, true, false};
+    ghost use Rattle.chess_core.specs.Position.{Position};
+    ghost use Rattle.chess_core.specs.declared.man.Move.{Move};
+    ghost use Rattle.chess_rules.specs.RuleSet.{RuleSet};
+    ghost use Rattle.chess_rules.specs.Legal.{pseudo};
+
+    ghost test: { RuleSet → Position → Move → Bool };
+
+    ghost fits: { Self → RuleSet → Position → Type 0 };
+
+    // The squares to which the man on `from` may go by a move that passes, and perhaps more.
+    fn candidates<R: Rules>(&self, board: &Board, from: Square) -> u64
+        requires well_formed { IsWellFormed board.now }
+        requires fits { fits self.now R.rule board.now }
+        ensures { AreCandidates R.rule board.now (test R.rule board.now) from result };
+
+    // Whether the move passes. The board is unchanged after it.
+    fn passes<R: Rules>(&self, board: &mut Board, m: Move) -> bool
+        requires well_formed { IsWellFormed board.old }
+        requires aimed { IsAimed R.rule board.old m }
+        requires fits { fits self.now R.rule board.old }
+        ensures answer { result ≡ test R.rule board.old m }
+        ensures board { board.new ≡ board.old };
+
+    ghost idle: { (rule : RuleSet) (p : Position) (m : Move) → pseudo rule p m ≡ false → test rule p m ≡ false };
+}
+
+// What was kept, if it is of this origin, and else the squares to which the man on it may go by a move that
+// passes.
+fn keep<R: Rules, S: Sought>(board: &Board, sought: &S, kept: Kept, from: Square) -> Kept
+    requires well_formed { IsWellFormed board.now }
+    requires fits { S.fits sought.now R.rule board.now }
+    requires kept { AreKept R.rule board.now (S.test R.rule board.now) kept }
+    ensures origin { result.origin ≡ Some from }
+    ensures kept { AreKept R.rule board.now (S.test R.rule board.now) result }
+{
+    if kept.origin == Some(from) {
+        return kept;
+    }
+    Kept {
+        origin: Some(from),
+        squares: sought.candidates::<R>(board, from),
+    }
+}
+
+// The first triple that may pass, from the one numbered `start` on; 28,672 where there is none.
+fn next_candidate<R: Rules, S: Sought>(
+    board: &Board,
+    sought: &S,
+    kept: &mut Kept,
+    start: u16,
+) -> u16
+    requires well_formed { IsWellFormed board.now }
+    requires fits { S.fits sought.now R.rule board.now }
+    requires kept { AreKept R.rule board.now (S.test R.rule board.now) kept.old }
+    ensures low { result < 28672 → start ≤ result }
+    ensures high { result ≤ 28672 }
+    ensures none { HaveNone (S.test R.rule board.now) start result }
+    ensures aimed { result < 28672 → IsAimed R.rule board.now (triple_at result) }
+    ensures kept { AreKept R.rule board.now (S.test R.rule board.now) kept.new }
+{
+    let own = board.side(board.turn());
+    let mut number = start;
+    while let Some(from) = next_bit(own, (number / PER_ORIGIN) as u8) {
+        let first = u16::from(from.index()) * PER_ORIGIN;
+        *kept = keep::<R, S>(board, sought, *kept, from);
+        let at = next_from(board, from, kept.squares, number.saturating_sub(first));
+        if at < PER_ORIGIN {
+            return first + at;
+        }
+        number = first + PER_ORIGIN;
+    }
+    TRIPLES
+}
+
+// The number of the first move that passes from the triple numbered `start` on and before the one numbered
+// `end`; `end` where there is none. The board is unchanged.
+pub(crate) fn next_passing<R: Rules, S: Sought>(
+    board: &mut Board,
+    sought: &S,
+    kept: &mut Kept,
+    start: u16,
+    end: u16,
+) -> u16
+    requires well_formed { IsWellFormed board.old }
+    requires fits { S.fits sought.now R.rule board.old }
+    requires kept { AreKept R.rule board.old (S.test R.rule board.old) kept.old }
+    requires end { end ≤ 28672 }
+    ensures low { result < end → start ≤ result }
+    ensures high { result ≤ end }
+    ensures none { HaveNone (S.test R.rule board.old) start result }
+    ensures passes { result < end → S.test R.rule board.old (triple_at result) ≡ true }
+    ensures kept { AreKept R.rule board.old (S.test R.rule board.old) kept.new }
+    ensures board { board.new ≡ board.old }
+{
+    let mut number = start;
+    while number < end {
+        number = next_candidate::<R, S>(board, sought, kept, number);
+        if number >= end {
+            return end;
+        }
+        if sought.passes::<R>(board, triple(number)) {
+            return number;
+        }
+        number += 1;
+    }
+    end
+}
