@@ -3,7 +3,7 @@ use Rattle.std.proofs.Common.{map, ◌≡◌, ◌≤◌, ◌<◌, ℕ, ◌+◌, 
 use Rattle.std.specs.List.{list_all}
 use Rattle.std.proofs.lemmas.List.{drop_more}
 use Rattle.std.proofs.Math.Seq.{drop-length}
-use Rattle.pop_input.specs.Values.{squares_from, squares_of, square_by, before_squares, is_digit, value_of, most_solutions, stipulation_by}
+use Rattle.pop_input.specs.Values.{squares_from, squares_of, square_by, before_squares, is_digit, value_of, most_solutions, stipulation_in_small_letters}
 use Rattle.std.specs.Char.{to_ascii_lowercase}
 
 -- squares before those of a text
@@ -45,7 +45,7 @@ pair_step word at square lt e =
     rw (drop_more word at 0 (omega arith), drop_more word (at + 1) 0 lt, e, two) refl
 
 -- a stipulation has at most six bytes
-pub long_stipulation : (word : List ℕ) → 6 < length word → None ≡ stipulation_by (map to_ascii_lowercase word)
+pub long_stipulation : (word : List ℕ) → 6 < length word → None ≡ stipulation_in_small_letters (map to_ascii_lowercase word)
 long_stipulation [] h = absurd (omega arith)
 long_stipulation (a ∷ []) h = absurd (omega arith)
 long_stipulation (a ∷ b ∷ []) h = absurd (omega arith)

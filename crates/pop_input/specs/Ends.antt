@@ -1,6 +1,6 @@
 -- The problem that the words of a block pose (Codex, Popeye manual), and the tests at its end (own).
 use Rattle.std.specs.Prelude.{◌≡◌, ℕ, List, [], ◌∷◌, length, fold, not, ◌&&◌, Bool, true, if◌then◌else◌, Option, Some, None, is_some, unwrap_or}
-use Rattle.chess_core.specs.Castling.{has_unmoved, mark_unmoved, none_unmoved}
+use Rattle.chess_core.specs.Castling.{castling_squares, has_unmoved, mark_unmoved, none_unmoved}
 use Rattle.chess_core.specs.Diagrams.{Setup}
 use Rattle.chess_core.specs.Position.{AtMostOneKing, man_on, other}
 use Rattle.chess_core.specs.Squares.{some_square}
@@ -24,7 +24,7 @@ counts men barred square = is_home (man_on men square) square && not (has_unmove
 
 -- the castling squares that count as unmoved
 unfoldable pub unmoved_of : List (Option Man) → Unmoved → Unmoved
-unmoved_of men barred = fold (λ set square. mark_unmoved set square (counts men barred square)) none_unmoved (0 ∷ 4 ∷ 7 ∷ 56 ∷ 60 ∷ 63 ∷ [])
+unmoved_of men barred = fold (λ set square. mark_unmoved set square (counts men barred square)) none_unmoved castling_squares
 
 abbrev pub setup_of : State → Form → Setup
 setup_of state form = record { men = state.men; turn = starts form; unmoved = unmoved_of state.men state.barred; crossed = state.crossed }

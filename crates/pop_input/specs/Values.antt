@@ -68,22 +68,22 @@ stated form None _ = None
 stated form (Some goal) None = None
 
 -- `#n`, `s#n`, `h#n` and `h#n.5`, and the same with `=`, in small letters
-abbrev pub stipulation_by : List ℕ → Option Stipulation
-stipulation_by [] = None
-stipulation_by (a ∷ []) = None
-stipulation_by (a ∷ n ∷ []) = stated Direct (goal_of a) (one_digit n)
-stipulation_by (a ∷ b ∷ n ∷ []) =
+abbrev pub stipulation_in_small_letters : List ℕ → Option Stipulation
+stipulation_in_small_letters [] = None
+stipulation_in_small_letters (a ∷ []) = None
+stipulation_in_small_letters (a ∷ n ∷ []) = stated Direct (goal_of a) (one_digit n)
+stipulation_in_small_letters (a ∷ b ∷ n ∷ []) =
     if a == 115 then stated SelfMate (goal_of b) (one_digit n)
     else (if a == 104 then stated Help (goal_of b) (one_digit n) else stated Direct (goal_of a) (two_digits b n))
-stipulation_by (a ∷ b ∷ m ∷ n ∷ []) =
+stipulation_in_small_letters (a ∷ b ∷ m ∷ n ∷ []) =
     if a == 115 then stated SelfMate (goal_of b) (two_digits m n)
     else (if a == 104 then stated Help (goal_of b) (two_digits m n) else None)
-stipulation_by (a ∷ b ∷ n ∷ c ∷ d ∷ []) =
+stipulation_in_small_letters (a ∷ b ∷ n ∷ c ∷ d ∷ []) =
     if (a == 104) && ((c == 46) && (d == 53)) then stated HelpHalf (goal_of b) (one_digit n) else None
-stipulation_by (a ∷ b ∷ m ∷ n ∷ c ∷ d ∷ []) =
+stipulation_in_small_letters (a ∷ b ∷ m ∷ n ∷ c ∷ d ∷ []) =
     if (a == 104) && ((c == 46) && (d == 53)) then stated HelpHalf (goal_of b) (two_digits m n) else None
-stipulation_by (a ∷ b ∷ m ∷ n ∷ c ∷ d ∷ e ∷ text) = None
+stipulation_in_small_letters (a ∷ b ∷ m ∷ n ∷ c ∷ d ∷ e ∷ text) = None
 
 -- the stipulation that a word states
 unfoldable pub stipulation_of : List ℕ → Option Stipulation
-stipulation_of text = stipulation_by (map to_ascii_lowercase text)
+stipulation_of text = stipulation_in_small_letters (map to_ascii_lowercase text)

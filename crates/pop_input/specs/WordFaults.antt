@@ -2,6 +2,7 @@
 use Rattle.std.specs.Prelude.{ℕ, List, [], ◌∷◌, length, nat_le, nat_lt, not, ◌&&◌, ◌||◌, Bool, if◌then◌else◌, Option, Some, None, is_some}
 use Rattle.std.specs.Prelude.{◌==◌}
 use Rattle.std.specs.List.{list_any, list_all}
+use Rattle.chess_core.specs.Castling.{castling_squares}
 use Rattle.chess_core.specs.Position.{is_man, man_on, same_kind, with_man}
 use Rattle.chess_core.specs.Squares.{some_square}
 use Rattle.chess_core.specs.WellFormed.{is_pawn_inside}
@@ -26,7 +27,7 @@ fault_if holds number = if holds then Some number else None
 
 -- a castling square
 abbrev pub is_castling : ℕ → Bool
-is_castling square = list_any (λ s. s == square) (0 ∷ 4 ∷ 7 ∷ 56 ∷ 60 ∷ 63 ∷ [])
+is_castling square = list_any (λ s. s == square) castling_squares
 
 abbrev pub barred_fault : Option (List ℕ) → Option ℕ
 barred_fault None = Some 14

@@ -41,15 +41,15 @@ mark_text Check = codes "+"
 mark_text Plain = []
 
 -- a move that isn't castling, without its mark
-abbrev pub way_text : Shown → List ℕ
-way_text shown =
+abbrev pub going_text : Shown → List ℕ
+going_text shown =
     man_text shown.man.kind ++ square_text shown.from ++ step_text shown.capture ++ square_text shown.to
     ++ en_passant_text shown.ep ++ promotion_text shown.promo ++ rebirth_text shown.rebirth
 
-abbrev pub path_text : Option Side → Shown → List ℕ
-path_text (Some side) shown = castling_text side
-path_text None shown = way_text shown
+abbrev pub unmarked_text : Option Side → Shown → List ℕ
+unmarked_text (Some side) shown = castling_text side
+unmarked_text None shown = going_text shown
 
 -- a move
 unfoldable pub move_text : Shown → List ℕ
-move_text shown = path_text shown.castling shown ++ mark_text shown.mark
+move_text shown = unmarked_text shown.castling shown ++ mark_text shown.mark

@@ -1,7 +1,7 @@
 //! Moves as they are written.
 ghost use Rattle.std.specs.Prelude.{◌≡◌, ◌≤◌, ◌+◌, ◌++◌, [], ◌∷◌, length};
 ghost use Rattle.pop_print.specs.Room.{room};
-ghost use Rattle.pop_print.specs.Moves.{castling_text as text_of_castling, en_passant_text as text_of_en_passant, mark_text as text_of_mark, move_text, promotion_text, rebirth_text, step_text as text_of_step, way_text};
+ghost use Rattle.pop_print.specs.Moves.{castling_text as text_of_castling, en_passant_text as text_of_en_passant, mark_text as text_of_mark, move_text, promotion_text, rebirth_text, step_text as text_of_step, going_text};
 
 use crate::line::LineBuffer;
 use crate::notation::{colour_letter, letter_of};
@@ -62,7 +62,7 @@ impl LineBuffer {
     // Adds a move that isn't castling, without its mark.
     fn add_way(&mut self, shown: &Shown)
         requires { length self.old + 19 ≤ room }
-        ensures text { self.new ≡ self.old ++ way_text shown.now }
+        ensures text { self.new ≡ self.old ++ going_text shown.now }
         ensures short { length self.new ≤ length self.old + 19 }
     {
         self.add_man(shown.man.kind);

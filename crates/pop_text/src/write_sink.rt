@@ -1,7 +1,7 @@
 //! A writer of the standard library as a sink.
 ghost use Rattle.std.specs.Prelude.{◌≡◌, ℕ, List, ◌<◌, ◌≤◌, ◌+◌, ◌^◌, ◌-◌, Option, IfOk, IsOk, IsErr, OnErr, OnOk, length};
 ghost use Rattle.std.specs.Io.{WritesAtMost};
-ghost use Rattle.pop_text.specs.Bytes.{Keeps, Appends, WriteAppends, count_after, greatest, Writes, joined};
+ghost use Rattle.pop_text.specs.Bytes.{Keeps, Appends, WriteAppends, count_after, greatest, Writes};
 
 use crate::sink::{Sink, SinkFault};
 use std::io::Write;
