@@ -17,7 +17,8 @@ use Rattle.chess_core.specs.declared.man.Man.{Man}
 use Rattle.chess_core.specs.declared.man.Move.{Move}
 use Rattle.chess_core.proofs.Words.{squares_both, squares_either, squares_not, squares_same}
 use Rattle.chess_rules.specs.Attacks.{paralysed}
-use Rattle.chess_rules.specs.Legal.{forward, goes, is_arrival_free, is_empty_at, is_promotion_right, pawn_steps, pseudo, second_rank}
+use Rattle.chess_rules.specs.Legal.{forward, goes, is_arrival_free, is_promotion_right, pawn_steps, pseudo, second_rank}
+use Rattle.chess_core.specs.WellFormed.{is_vacant_at}
 use Rattle.chess_rules.specs.Lines.{is_advance}
 use Rattle.chess_rules.specs.Reaches.{leaps, reaches, reaches_as}
 use Rattle.chess_rules.specs.RuleSet.{RuleSet}
@@ -111,7 +112,7 @@ module _ (p : Position) (x : Man) (s : ℕ) (small : s < 64) (a o k : ℕ) (adva
 
   pub goes-blocked : find (λ q. bit_at (bit_and (bit_and a (bit_not w64 o)) k) q == 1) (range_with_len 0 64) ≡ None → 0 ≡ word (pawn_goes p x s)
   goes-blocked none = word_empty (pawn_goes p x s) (λ t lt. false_by (pawn_goes p x s t) (λ y.
-      let parts = and_parts (is_empty_at p.men t) (is_square (along s (forward x.colour) 1) t || (rank_of s == second_rank x.colour && is_square (along s (forward x.colour) 2) t && is_empty_at p.men ((s + t) / 2))) y in
+      let parts = and_parts (is_vacant_at p.men t) (is_square (along s (forward x.colour) 1) t || (rank_of s == second_rank x.colour && is_square (along s (forward x.colour) 2) t && is_vacant_at p.men ((s + t) / 2))) y in
       elim (or_cases (is_square (along s (forward x.colour) 1) t) _ parts.1) [
         | inl one ↦ blocked t lt one parts.0
         | inr two ↦
@@ -139,17 +140,17 @@ module _ (p : Position) (x : Man) (s : ℕ) (small : s < 64) (a o k : ℕ) (adva
       onto t lt h =
           let n = and_parts (is_advance x.colour s t) (not (is_some (man_on p.men t))) h in
           and_from _ _ n.1 (elim (or_cases (is_square (along s (forward x.colour) 1) t) (is_square (along s (forward x.colour) 2) t) n.0) [
-            | inl one ↦ or_left (is_square (along s (forward x.colour) 1) t) (rank_of s == second_rank x.colour && is_square (along s (forward x.colour) 2) t && is_empty_at p.men ((s + t) / 2)) one
+            | inl one ↦ or_left (is_square (along s (forward x.colour) 1) t) (rank_of s == second_rank x.colour && is_square (along s (forward x.colour) 2) t && is_vacant_at p.men ((s + t) / 2)) one
             | inr two ↦
                 let same : (s + t) / 2 ≡ u = one_is (along s (forward x.colour) 1) ((s + t) / 2) u (half_one x.colour s t small lt two) (one_of u u_small on) in
                 let free : not (is_some (man_on p.men u)) ≡ true = (and_parts (is_advance x.colour s u) _ (and_parts (ahead u) _ on).0).1 in
-                let between : is_empty_at p.men ((s + t) / 2) ≡ true = rw same free in
+                let between : is_vacant_at p.men ((s + t) / 2) ≡ true = rw same free in
                 or_right (is_square (along s (forward x.colour) 1) t) _ (and_from _ _ (and_from _ _ second two) between)
           ])
 
       back : (t : ℕ) → pawn_goes p x s t ≡ true → ahead t ≡ true
       back t h =
-          let parts = and_parts (is_empty_at p.men t) (is_square (along s (forward x.colour) 1) t || (rank_of s == second_rank x.colour && is_square (along s (forward x.colour) 2) t && is_empty_at p.men ((s + t) / 2))) h in
+          let parts = and_parts (is_vacant_at p.men t) (is_square (along s (forward x.colour) 1) t || (rank_of s == second_rank x.colour && is_square (along s (forward x.colour) 2) t && is_vacant_at p.men ((s + t) / 2))) h in
           and_from _ _ (elim (or_cases (is_square (along s (forward x.colour) 1) t) _ parts.1) [
             | inl one ↦ or_left (is_square (along s (forward x.colour) 1) t) (is_square (along s (forward x.colour) 2) t) one
             | inr two ↦ or_right (is_square (along s (forward x.colour) 1) t) _ (and_parts _ _ (and_parts _ _ two).0).1
@@ -163,7 +164,7 @@ module _ (p : Position) (x : Man) (s : ℕ) (small : s < 64) (a o k : ℕ) (adva
 
       back : (t : ℕ) → t < 64 → pawn_goes p x s t ≡ true → next t ≡ true
       back t lt h =
-          let parts = and_parts (is_empty_at p.men t) (is_square (along s (forward x.colour) 1) t || (rank_of s == second_rank x.colour && is_square (along s (forward x.colour) 2) t && is_empty_at p.men ((s + t) / 2))) h in
+          let parts = and_parts (is_vacant_at p.men t) (is_square (along s (forward x.colour) 1) t || (rank_of s == second_rank x.colour && is_square (along s (forward x.colour) 2) t && is_vacant_at p.men ((s + t) / 2))) h in
           elim (or_cases (is_square (along s (forward x.colour) 1) t) _ parts.1) [
             | inl one ↦ next_of t lt one parts.0
             | inr two ↦ absurd (let yea : (rank_of s == second_rank x.colour) ≡ true = (and_parts _ _ (and_parts _ _ two).0).0 in cc)

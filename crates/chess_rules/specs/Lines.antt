@@ -40,6 +40,7 @@ occupied_squares men = word (λ s. is_some (man_on men s))
 abbrev pub steep_steps : List Step
 steep_steps = step_of NorthNorthEast ∷ step_of SouthSouthEast ∷ step_of NorthNorthWest ∷ step_of SouthSouthWest ∷ []
 
+-- those of one
 abbrev pub flat_steps : List Step
 flat_steps = step_of EastNorthEast ∷ step_of EastSouthEast ∷ step_of WestNorthWest ∷ step_of WestSouthWest ∷ []
 
@@ -91,6 +92,7 @@ abbrev pub place_by : Bool → ℕ → ℕ
 place_by true s = s
 place_by false s = 63 - s
 
+-- the same by the direction of a line
 abbrev pub place : Step → ℕ → ℕ
 place d s = place_by (rises d) s
 

@@ -13,6 +13,7 @@ use Rattle.pop_input.specs.declared.names.Command.TheVariants.{Begin, Enter, Nex
 use Rattle.pop_input.specs.declared.names.TextWord.{TextWord}
 use Rattle.pop_input.specs.declared.names.TextWord.TheVariants.{Title, Author}
 
+-- a fault with its number and its line
 abbrev pub fault_at : ℕ → ℕ → Fault
 fault_at number line = record { number = number; line = line }
 
@@ -28,12 +29,14 @@ words_before before ((TextLine line keyword text) ∷ tokens) = words_before bef
 
 -- The words and text lines of a problem: those of its block, in the first block those after the first word, which is BeginProblem.
 
+-- whether a problem has begun when these tokens are over: in the first block a word has to come first
 abbrev pub has_begun : Bool → List Token → Bool
 has_begun false tokens = true
 has_begun true [] = false
 has_begun true ((Word line text) ∷ tokens) = true
 has_begun true ((TextLine line keyword text) ∷ tokens) = has_begun true tokens
 
+-- the tokens of the problem itself
 abbrev pub inside : Bool → List Token → List Token
 inside false tokens = tokens
 inside true [] = []
@@ -42,11 +45,13 @@ inside true ((TextLine line keyword text) ∷ tokens) = inside true tokens
 
 -- The first fault of the words of a problem after the words before, and of those of a block.
 
+-- the first fault of tokens, after these words
 abbrev pub first_fault : List (List ℕ) → List Token → Option Fault
 first_fault before [] = None
 first_fault before ((Word line text) ∷ tokens) = or_else (at_line line (fault_of true (state_of before) text)) (first_fault (text ∷ before) tokens)
 first_fault before ((TextLine line keyword text) ∷ tokens) = first_fault before tokens
 
+-- the first fault of the tokens of a block, which is the first of the input or a later one
 abbrev pub block_fault : Bool → List Token → Option Fault
 block_fault false tokens = first_fault [] tokens
 block_fault true [] = None
@@ -58,6 +63,7 @@ abbrev pub closing_of : Token → Option Command
 closing_of (Word line text) = command_of text
 closing_of (TextLine line keyword text) = None
 
+-- a token before blocks, the first of which it may close
 abbrev pub cut_by : Option Command → Token → List (List Token) → List (List Token)
 cut_by (Some Next) token blocks = (token ∷ []) ∷ blocks
 cut_by (Some Last) token blocks = (token ∷ []) ∷ []
@@ -70,10 +76,12 @@ abbrev pub blocks_of : List Token → List (List Token)
 blocks_of [] = [] ∷ []
 blocks_of (token ∷ tokens) = cut_by (closing_of token) token (blocks_of tokens)
 
+-- the line in which a token stands
 abbrev pub line_of : Token → ℕ
 line_of (Word line text) = line
 line_of (TextLine line keyword text) = line
 
+-- a line, or none
 abbrev pub line_if : Bool → ℕ → Option ℕ
 line_if true line = Some line
 line_if false line = None
@@ -85,6 +93,7 @@ closing_line (token ∷ tokens) = or_else (closing_line tokens) (line_if (closes
 
 -- The text lines of a problem.
 
+-- the text behind a wanted text word, after one more text line
 abbrev pub text_after : TextWord → List ℕ → Option TextWord → List ℕ → List ℕ
 text_after Title old (Some Title) line = text_of_line line
 text_after Author old (Some Author) line = text_of_line line
@@ -112,11 +121,13 @@ tail_fault false End = 1
 tail_fault begun Long = 20
 tail_fault begun Broken = 21
 
+-- what an input says behind its last block: that it was too long, or that its source failed
 abbrev pub more_entries : Tail → ℕ → List Entry
 more_entries End line = []
 more_entries Long line = Faulty (fault_at 20 line) ∷ []
 more_entries Broken line = Faulty (fault_at 21 line) ∷ []
 
+-- a problem, or its fault in its place
 abbrev pub entry_of : Option Fault → Posed → Entry
 entry_of None problem = Sound problem
 entry_of (Some fault) problem = Faulty fault
@@ -131,6 +142,7 @@ entries_by fault (Some line) first tail tail_line block = closed_entry fault lin
 entries_by (Some fault) None first tail tail_line block = Faulty fault ∷ more_entries tail tail_line
 entries_by None None first tail tail_line block = Faulty (fault_at (tail_fault (has_begun first block) tail) tail_line) ∷ []
 
+-- the entries of blocks, the first block of the input among them or not
 abbrev pub block_entries : Bool → Tail → ℕ → List (List Token) → List Entry
 block_entries first tail tail_line [] = []
 block_entries first tail tail_line (block ∷ blocks) =

@@ -53,6 +53,7 @@ Poses state title author line last (Faulty fault answered) =
     (at_line line (end_fault_in state) ≡ Some fault) × (answered ≡ last)
 Poses state title author line last NoItem = ⊥
 
+-- the fault of a block, if it has one, before that of its end
 abbrev pub ended_by : Option Fault → Fault → Fault
 ended_by (Some fault) other = fault
 ended_by None other = other
@@ -61,6 +62,7 @@ ended_by None other = other
 abbrev pub ended_item : Block → ℕ → Item
 ended_item block line = Faulty (ended_by block.fault (fault_at (tail_fault block.begun End) line)) Yes
 
+-- the fault of an input that is cut
 abbrev pub cut_fault : ReadFault → Fault
 cut_fault (TooLong line) = fault_at 20 line
 cut_fault (InputTooLong line) = fault_at 20 line

@@ -26,6 +26,7 @@ counts men barred square = is_home (man_on men square) square && not (has_unmove
 unfoldable pub unmoved_of : List (Option Man) → Unmoved → Unmoved
 unmoved_of men barred = fold (λ set square. mark_unmoved set square (counts men barred square)) none_unmoved castling_squares
 
+-- the diagram that words pose: who starts is said by the form
 abbrev pub setup_of : State → Form → Setup
 setup_of state form = record { men = state.men; turn = starts form; unmoved = unmoved_of state.men state.barred; crossed = state.crossed }
 
@@ -33,6 +34,7 @@ setup_of state form = record { men = state.men; turn = starts form; unmoved = un
 abbrev pub no_stipulation : Stipulation
 no_stipulation = record { form = Direct; goal = Mate; n = 1 }
 
+-- the problem that words pose with this stipulation
 abbrev pub posed_by : State → Stipulation → List ℕ → List ℕ → Posed
 posed_by state stipulation title author = record {
   diagram = setup_of state stipulation.form;
@@ -52,6 +54,7 @@ posed_of state title author = posed_by state (unwrap_or state.stipulation no_sti
 
 -- The tests, in their order.
 
+-- a man stands on the square
 unfoldable pub is_taken : List (Option Man) → ℕ → Bool
 is_taken men square = is_some (man_on men square)
 
@@ -66,6 +69,7 @@ setup_fault state stipulation setup =
     else (if not (is_crossed_right setup.men setup.turn setup.crossed) then Some 15
     else position_fault (has_king_to_mate stipulation setup.men) (in_check (rule_of state.condition) setup.men (other setup.turn)))
 
+-- no stipulation, or a fault of the diagram
 abbrev pub stated_fault : State → Option Stipulation → Option ℕ
 stated_fault state None = Some 10
 stated_fault state (Some stipulation) = setup_fault state stipulation (setup_of state stipulation.form)
@@ -82,6 +86,7 @@ pub record ArePut (men : List (Option Man)) : Type 0 where
   pub kings : AtMostOneKing men
   pub pawns : (s : ℕ) → is_pawn_inside (man_on men s) s ≡ true
 
+-- a stipulation, if there is one, that may stand
 abbrev pub is_stated : Option Stipulation → Bool
 is_stated None = true
 is_stated (Some stipulation) = is_in_range stipulation

@@ -24,19 +24,24 @@ use Rattle.pop_input.specs.declared.names.TextWord.TheVariants.{Title, Author, O
 abbrev pub look_up : {A : Type 0} → List (List ℕ × A) → List ℕ → Option A
 look_up table text = option_map (λ entry. entry.1) (find (λ entry. is_short_form entry.0 text) table)
 
+-- the first of two, if it is there
 abbrev pub or_else : {A : Type 0} → Option A → Option A → Option A
 or_else None later = later
 or_else (Some a) later = Some a
 
+-- the section that a command opens
 unfoldable pub section_of : List ℕ → Option Section
 section_of text = look_up ((codes "pieces", Pieces) ∷ (codes "stipulation", Stipulation) ∷ (codes "condition", Conditions) ∷ (codes "option", Options) ∷ []) text
 
+-- the command that a word is, if it is one
 unfoldable pub command_of : List ℕ → Option Command
 command_of text = or_else (look_up ((codes "beginproblem", Begin) ∷ (codes "nextproblem", Next) ∷ (codes "endproblem", Last) ∷ []) text) (option_map Enter (section_of text))
 
+-- the text word that a word is, if it is one
 unfoldable pub text_word_of : List ℕ → Option TextWord
 text_word_of text = look_up ((codes "title", Title) ∷ (codes "author", Author) ∷ (codes "origin", Origin) ∷ (codes "remark", Remark) ∷ []) text
 
+-- the condition that a word names
 unfoldable pub condition_of : List ℕ → Option Condition
 condition_of text = look_up ((codes "circe", Circe) ∷ (codes "madrasi", Madrasi) ∷ []) text
 
@@ -44,6 +49,7 @@ condition_of text = look_up ((codes "circe", Circe) ∷ (codes "madrasi", Madras
 unfoldable pub awaited_of : List ℕ → Option Awaited
 awaited_of text = look_up ((codes "maxsolutions", Number) ∷ (codes "enpassant", OneSquare) ∷ (codes "nocastling", Squares) ∷ []) text
 
+-- the option that a word names
 unfoldable pub option_of : List ℕ → Option OptionWord
 option_of text = or_else (look_up ((codes "setplay", SetPlay) ∷ (codes "variation", Variation) ∷ (codes "noboard", NoBoard) ∷ []) text) (option_map Awaits (awaited_of text))
 
@@ -51,6 +57,7 @@ option_of text = or_else (look_up ((codes "setplay", SetPlay) ∷ (codes "variat
 abbrev pub is_colour : List ℕ → List ℕ → Bool
 is_colour name text = nat_le 1 (length text) && starts_with nat_eq name (map to_ascii_lowercase text)
 
+-- the colour that a word names
 unfoldable pub colour_of : List ℕ → Option Colour
 colour_of text = if is_colour (codes "white") text then Some White else (if is_colour (codes "black") text then Some Black else None)
 

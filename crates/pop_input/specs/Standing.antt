@@ -22,6 +22,7 @@ pub record Standing : Type 0 where
 abbrev pub start : Standing
 start = record { next = First; at = beginning }
 
+-- the items of what is left of an input, where this block is next
 abbrev pub entries_at : Next → Reading → Input → List Entry
 entries_at First place rest = entries_of true (words_left None place rest)
 entries_at Later place rest = entries_of false (words_left None place rest)
@@ -56,9 +57,11 @@ work_by Nothing used = 0
 work_by First used = limit - used + 1
 work_by Later used = limit - used + 1
 
+-- how much may still be read at a place
 abbrev pub work_left : Standing → ℕ
 work_left standing = work_by standing.next standing.at.used
 
+-- the answer is an item, and not the end
 abbrev pub is_item : Item → Bool
 is_item End = false
 is_item (Sound problem last) = true

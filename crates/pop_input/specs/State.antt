@@ -32,6 +32,7 @@ abbrev pub plain_role : Option Command → Option Section → Role
 plain_role (Some command) section = Control command
 plain_role None section = Within section
 
+-- what a word at a place is, where an option awaits this
 abbrev pub role_by : Option Awaited → Place → List ℕ → Role
 role_by (Some Number) place text = Limit
 role_by (Some OneSquare) place text = CrossedSquare
@@ -43,19 +44,23 @@ role_by None place text = plain_role (command_of text) place.section
 abbrev pub role_of : Place → List ℕ → Role
 role_of place text = role_by place.awaited place text
 
+-- the section that is open behind a word
 abbrev pub opened_by : Option Section → Role → Option Section
 opened_by section (Control (Enter opened)) = Some opened
 opened_by section _ = section
 
+-- what an option awaits
 abbrev pub awaited_by : Option OptionWord → Option Awaited
 awaited_by (Some (Awaits awaited)) = Some awaited
 awaited_by _ = None
 
+-- what is awaited behind a word
 abbrev pub awaited_after : Role → List ℕ → Option Awaited
 awaited_after BarredSquares text = Some MoreSquares
 awaited_after (Within (Some Options)) text = awaited_by (option_of text)
 awaited_after _ text = None
 
+-- the place behind one more word
 abbrev pub place_after : Role → Place → List ℕ → Place
 place_after role place text = record { section = opened_by place.section role; awaited = awaited_after role text }
 
@@ -70,6 +75,7 @@ role_at before text = role_of (place_at before) text
 
 -- What was given.
 
+-- the colour behind one more word: a command ends it
 abbrev pub colour_by : Role → List ℕ → Option Colour → Option Colour
 colour_by (Control command) text old = None
 colour_by (Within (Some Pieces)) text old = or_else (colour_of text) old
@@ -85,6 +91,7 @@ abbrev pub put_men : List (Option Man) → Man → List ℕ → List (Option Man
 put_men men man [] = men
 put_men men man (square ∷ squares) = put_men (with_man men square man) man squares
 
+-- the men with those that a colour, a letter and squares put, if all three are there
 abbrev pub put_kind : Option Colour → Option Kind → List ℕ → List (Option Man) → List (Option Man)
 put_kind (Some colour) (Some kind) squares men = put_men men (record { colour = colour; kind = kind }) squares
 put_kind _ _ squares men = men
@@ -94,10 +101,12 @@ abbrev pub put_word : Option Colour → List ℕ → List (Option Man) → List 
 put_word colour [] men = men
 put_word colour (letter ∷ text) men = if is_some (colour_of (letter ∷ text)) then men else put_kind colour (kind_of letter) (unwrap_or (squares_of text) []) men
 
+-- the men behind one more word
 abbrev pub men_by : Role → Option Colour → List ℕ → List (Option Man) → List (Option Man)
 men_by (Within (Some Pieces)) colour text men = put_word colour text men
 men_by _ colour text men = men
 
+-- the empty board
 abbrev pub no_men : List (Option Man)
 no_men = repeat 64 (None ∷ [])
 
@@ -106,18 +115,22 @@ abbrev pub men_at : List (List ℕ) → List (Option Man)
 men_at [] = no_men
 men_at (text ∷ before) = men_by (role_at before text) (colour_at before) text (men_at before)
 
+-- the stipulation behind one more word: the first counts
 abbrev pub stipulation_by : Role → List ℕ → Option Stipulation → Option Stipulation
 stipulation_by (Within (Some Stipulations)) text old = or_else old (stipulation_of text)
 stipulation_by _ text old = old
 
+-- the stipulation that words give
 abbrev pub stipulation_at : List (List ℕ) → Option Stipulation
 stipulation_at [] = None
 stipulation_at (text ∷ before) = stipulation_by (role_at before text) text (stipulation_at before)
 
+-- the condition behind one more word: the first counts
 abbrev pub condition_by : Role → List ℕ → Option Condition → Option Condition
 condition_by (Within (Some Conditions)) text old = or_else old (condition_of text)
 condition_by _ text old = old
 
+-- the condition that words name
 abbrev pub condition_at : List (List ℕ) → Option Condition
 condition_at [] = None
 condition_at (text ∷ before) = condition_by (role_at before text) text (condition_at before)
@@ -130,14 +143,17 @@ switches_with (Some NoBoard) old = record old { no_board = true }
 switches_with (Some (Awaits awaited)) old = old
 switches_with None old = old
 
+-- the options that hold behind one more word
 abbrev pub switches_by : Role → List ℕ → Switches → Switches
 switches_by (Within (Some Options)) text old = switches_with (option_of text) old
 switches_by _ text old = old
 
+-- the options that words name
 abbrev pub switches_at : List (List ℕ) → Switches
 switches_at [] = record { set_play = false; variation = false; no_board = false }
 switches_at (text ∷ before) = switches_by (role_at before text) text (switches_at before)
 
+-- the limit of solutions behind one more word
 abbrev pub limit_by : Role → List ℕ → ℕ → ℕ
 limit_by Limit text old = unwrap_or (limit_of text) old
 limit_by _ text old = old
@@ -147,6 +163,7 @@ abbrev pub limit_at : List (List ℕ) → ℕ
 limit_at [] = most_solutions
 limit_at (text ∷ before) = limit_by (role_at before text) text (limit_at before)
 
+-- the crossed square behind one more word
 abbrev pub crossed_by : Role → List ℕ → Option ℕ → Option ℕ
 crossed_by CrossedSquare text old = or_else (only (squares_of text)) old
 crossed_by _ text old = old
@@ -156,6 +173,7 @@ abbrev pub crossed_at : List (List ℕ) → Option ℕ
 crossed_at [] = None
 crossed_at (text ∷ before) = crossed_by (role_at before text) text (crossed_at before)
 
+-- the squares of NoCastling behind one more word
 abbrev pub barred_by : Role → List ℕ → Unmoved → Unmoved
 barred_by BarredSquares text old = fold with_unmoved old (unwrap_or (squares_of text) [])
 barred_by _ text old = old
@@ -177,6 +195,7 @@ pub record State : Type 0 where
   pub crossed : Option ℕ
   pub barred : Unmoved
 
+-- all that words say, the newest first
 abbrev pub state_of : List (List ℕ) → State
 state_of before = record {
   place = place_at before;
@@ -204,5 +223,6 @@ state_by role state text = record {
   barred = barred_by role text state.barred;
 }
 
+-- what words say with one more
 abbrev pub state_after : State → List ℕ → State
 state_after state text = state_by (role_of state.place text) state text

@@ -52,6 +52,7 @@ half_moves_of SelfMate n = 2 * n
 half_moves_of Help n = 2 * n
 half_moves_of HelpHalf n = 2 * n + 1
 
+-- the half-moves of a stipulation
 abbrev pub half_moves : Stipulation → ℕ
 half_moves stipulation = half_moves_of stipulation.form stipulation.n
 
@@ -75,5 +76,6 @@ may_have SelfMate n = nat_le 1 n && nat_le n most_moves
 may_have Help n = nat_le 1 n && nat_le n most_moves
 may_have HelpHalf n = nat_le (n + 1) most_moves
 
+-- the number of moves is one that its form may have
 abbrev pub is_in_range : Stipulation → Bool
 is_in_range stipulation = may_have stipulation.form stipulation.n

@@ -19,6 +19,7 @@ TakesPart old new had left part = Takes (among old) (among new) had left (part �
 abbrev pub TakesNothing : Reading → Reading → Option (List ℕ) → Option (List ℕ) → Tail → ℕ → Type 0
 TakesNothing old new had left tail line = Takes (among old) (among new) had left [] × IsOver new tail × (line ≡ new.line) × StaysWithin old new
 
+-- the input is cut
 abbrev pub CutsOff : Reading → Reading → Option (List ℕ) → Option (List ℕ) → ReadFault → Type 0
 CutsOff old new had left (LongWord line) = ⊥
 CutsOff old new had left (InputTooLong line) = TakesNothing old new had left Long line

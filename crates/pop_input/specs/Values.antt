@@ -14,11 +14,13 @@ use Rattle.pop_input.specs.declared.stipulation.Stipulation.{Stipulation}
 abbrev pub square_by : ℕ → ℕ → Option ℕ
 square_by letter digit = square_at (to_ascii_lowercase letter - 96) (digit - 48)
 
+-- a square before others, where it is one
 abbrev pub before_squares : Option ℕ → Option (List ℕ) → Option (List ℕ)
 before_squares (Some square) (Some squares) = Some (square ∷ squares)
 before_squares (Some square) None = None
 before_squares None squares = None
 
+-- the squares of pairs of a letter and a digit
 abbrev pub squares_from : List ℕ → Option (List ℕ)
 squares_from [] = Some []
 squares_from (letter ∷ []) = None
@@ -29,12 +31,14 @@ unfoldable pub squares_of : List ℕ → Option (List ℕ)
 squares_of [] = None
 squares_of (b ∷ text) = squares_from (b ∷ text)
 
+-- the one square of a word of a single square
 abbrev pub only : Option (List ℕ) → Option ℕ
 only (Some (square ∷ [])) = Some square
 only (Some []) = None
 only (Some (square ∷ other ∷ squares)) = None
 only None = None
 
+-- a digit in ASCII
 abbrev pub is_digit : ℕ → Bool
 is_digit b = nat_le 48 b && nat_le b 57
 
@@ -58,6 +62,7 @@ goal_of sign = if sign == 35 then Some Mate else (if sign == 61 then Some Stalem
 abbrev pub one_digit : ℕ → Option ℕ
 one_digit a = if is_digit a then Some (a - 48) else None
 
+-- the number that two digits write, of which the first isn't 0
 abbrev pub two_digits : ℕ → ℕ → Option ℕ
 two_digits a b = if (is_digit a && not (a == 48)) && is_digit b then Some (10 * (a - 48) + (b - 48)) else None
 

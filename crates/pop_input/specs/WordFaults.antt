@@ -22,6 +22,7 @@ use Rattle.pop_input.specs.declared.names.Command.{Command}
 use Rattle.pop_input.specs.declared.names.Command.TheVariants.{Begin, Enter, Next, Last}
 use Rattle.pop_input.specs.declared.stipulation.Stipulation.{Stipulation}
 
+-- a fault where something holds
 abbrev pub fault_if : Bool → ℕ → Option ℕ
 fault_if holds number = if holds then Some number else None
 
@@ -29,10 +30,12 @@ fault_if holds number = if holds then Some number else None
 abbrev pub is_castling : ℕ → Bool
 is_castling square = list_any (λ s. s == square) castling_squares
 
+-- of a word of NoCastling: no squares, or one from which none castles
 abbrev pub barred_fault : Option (List ℕ) → Option ℕ
 barred_fault None = Some 14
 barred_fault (Some squares) = fault_if (not (list_all is_castling squares)) 16
 
+-- of a command: BeginProblem stands before the first problem alone
 abbrev pub control_fault : Command → Option ℕ
 control_fault Begin = Some 2
 control_fault (Enter section) = None
@@ -59,6 +62,7 @@ abbrev pub men_fault : List (Option Man) → Man → List ℕ → Option ℕ
 men_fault men man [] = None
 men_fault men man (square ∷ squares) = or_else (man_fault men man square) (men_fault (with_man men square man) man squares)
 
+-- of a word of men: no colour yet, no squares, or a fault of a man
 abbrev pub put_fault : List (Option Man) → Option Colour → Kind → Option (List ℕ) → Option ℕ
 put_fault men None man_kind squares = Some 4
 put_fault men (Some colour) man_kind None = Some 14
@@ -68,11 +72,13 @@ put_fault men (Some colour) man_kind (Some squares) = men_fault men (record { co
 abbrev pub is_foreign : List ℕ → Bool
 is_foreign text = nat_le 2 (length text) && not (list_any is_digit text)
 
+-- of a word of this letter in Pieces
 abbrev pub letter_fault : State → Option Kind → List ℕ → Option ℕ
 letter_fault state None text = Some 2
 letter_fault state (Some letter) text =
     if not (is_some (squares_of text)) && is_foreign text then Some 2 else put_fault state.men state.colour letter (squares_of text)
 
+-- of a word in Pieces: a colour, or a letter and squares
 abbrev pub pieces_fault : State → List ℕ → Option ℕ
 pieces_fault state [] = None
 pieces_fault state (letter ∷ text) = if is_some (colour_of (letter ∷ text)) then None else letter_fault state (kind_of letter) text
@@ -82,9 +88,11 @@ abbrev pub stipulation_fault : Option Stipulation → List ℕ → Option ℕ
 stipulation_fault None text = fault_if (not (is_some (stipulation_of text))) 8
 stipulation_fault (Some given) text = if list_any (λ b. b == 35) text || list_any (λ b. b == 61) text then Some 9 else Some 2
 
+-- of a word in Condition: no condition, or a second one
 abbrev pub condition_fault : Option Condition → List ℕ → Option ℕ
 condition_fault given text = if not (is_some (condition_of text)) then Some 2 else fault_if (is_some given) 12
 
+-- of a word in a section
 abbrev pub section_fault : State → Option Section → List ℕ → Option ℕ
 section_fault state None text = Some 2
 section_fault state (Some Pieces) text = pieces_fault state text
@@ -92,6 +100,7 @@ section_fault state (Some Stipulations) text = stipulation_fault state.stipulati
 section_fault state (Some Conditions) text = condition_fault state.condition text
 section_fault state (Some Options) text = fault_if (not (is_some (option_of text))) 2
 
+-- of a word that is this
 abbrev pub role_fault : State → Role → List ℕ → Option ℕ
 role_fault state Limit text = fault_if (not (is_some (limit_of text))) 13
 role_fault state CrossedSquare text = fault_if (not (is_some (only (squares_of text)))) 14

@@ -29,14 +29,17 @@ line_text half moves = moves_text true half moves ++ codes "\n"
 abbrev pub node_text : ℕ → ℕ → Shown → List ℕ
 node_text depth half shown = replicate (2 * depth) 32 ++ prefix_text half ++ move_text shown ++ codes "\n"
 
+-- the line that opens a phase
 abbrev pub phase_text : PhaseOf → List ℕ
 phase_text Set = codes "set\n"
 phase_text Play = codes "play\n"
 
+-- whether the limit of solutions ended the phase
 abbrev pub stopped_text : Bool → List ℕ
 stopped_text true = codes ", stopped\n"
 stopped_text false = codes "\n"
 
+-- the count at the end of a phase
 abbrev pub total_text : ℕ → Bool → List ℕ
 total_text count stopped = codes "solutions: " ++ decimal count ++ stopped_text stopped
 

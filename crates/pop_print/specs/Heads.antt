@@ -45,6 +45,7 @@ form_text SelfMate = codes "s"
 form_text Help = codes "h"
 form_text HelpHalf = codes "h"
 
+-- behind its number of moves
 abbrev pub half_text : Form → List ℕ
 half_text Direct = []
 half_text SelfMate = []

@@ -19,10 +19,12 @@ abbrev pub step_text : Bool → List ℕ
 step_text true = codes "*"
 step_text false = codes "-"
 
+-- a capture en passant
 abbrev pub en_passant_text : Bool → List ℕ
 en_passant_text true = codes " ep."
 en_passant_text false = []
 
+-- the man that a pawn becomes
 abbrev pub promotion_text : Option Kind → List ℕ
 promotion_text None = []
 promotion_text (Some kind) = 61 ∷ letter_of kind ∷ []
@@ -46,6 +48,7 @@ going_text shown =
     man_text shown.man.kind ++ square_text shown.from ++ step_text shown.capture ++ square_text shown.to
     ++ en_passant_text shown.ep ++ promotion_text shown.promo ++ rebirth_text shown.rebirth
 
+-- a move without its mark
 abbrev pub unmarked_text : Option Side → Shown → List ℕ
 unmarked_text (Some side) shown = castling_text side
 unmarked_text None shown = going_text shown

@@ -29,6 +29,7 @@ is_reached Stalemate rule q = is_stalemate rule q
 abbrev pub chess : Goal → RuleSet → Game Position Triple
 chess goal rule = record { moves = moves rule; after = after rule; goal = is_reached goal rule }
 
+-- the goal is mate
 abbrev pub is_for_mate : Goal → Bool
 is_for_mate Mate = true
 is_for_mate Stalemate = false
@@ -78,6 +79,7 @@ nothing_shown = record {
   mark = Plain;
 }
 
+-- a move as it is shown, by the man on its origin, the one on its arrival, its undo, and its mark
 unfoldable pub shown_of : Option Man → Option Man → Triple → Loss → Mark → Shown
 shown_of None there m lost mark = nothing_shown
 shown_of (Some x) there m lost mark = shown_by x there m lost mark

@@ -29,6 +29,7 @@ pub data Step : Type 0 where
   tree_node : Phase → List Triple → Step
   total : ℕ → Bool → Step
 
+-- the phase is set play
 abbrev pub is_set : Phase → Bool
 is_set Set = true
 is_set Play = false
@@ -91,6 +92,7 @@ abbrev pub shown_along : Goal → RuleSet → Position → List Triple → List 
 shown_along goal rule p [] = []
 shown_along goal rule p (m ∷ path) = show goal rule p m ∷ shown_along goal rule (played rule p m) path
 
+-- the last move of a path from p as it is shown
 abbrev pub shown_last : Goal → RuleSet → Position → List Triple → Shown
 shown_last goal rule p [] = nothing_shown
 shown_last goal rule p (m ∷ []) = show goal rule p m
@@ -133,6 +135,7 @@ abbrev pub walk_from : RuleSet → Posed → Phase → ℕ
 walk_from rule problem phase =
     if is_set phase then phase_walk rule problem Set + phase_walk rule problem Play else phase_walk rule problem Play
 
+-- the same of all phases of a problem
 abbrev pub whole_walk : RuleSet → Posed → ℕ
 whole_walk rule problem = walk_from rule problem (first_phase problem)
 
@@ -144,9 +147,11 @@ is_stop (line phase path) = false
 is_stop (tree_node phase path) = false
 is_stop (total count stopped) = stopped
 
+-- the limit of solutions ended none of these phases
 abbrev pub is_unstopped : List Step → Bool
 is_unstopped steps = list_all (λ step. not (is_stop step)) steps
 
+-- it ended no phase of the problem
 abbrev pub is_never_stopped : RuleSet → Posed → Bool
 is_never_stopped rule problem = is_unstopped (events rule problem)
 

@@ -52,6 +52,7 @@ ahead rule p First place killer = moves_between rule p place killer ++ (moves_be
 ahead rule p Before place killer = moves_between rule p place (killer - 1) ++ moves_behind rule p killer
 ahead rule p Behind place killer = moves_behind rule p place
 
+-- the moves of a frame that a test has still to try
 abbrev pub untried : RuleSet → Position → Frame → List Triple
 untried rule p f = ahead rule p f.stretch f.place f.killer
 
@@ -75,6 +76,7 @@ unfoldable pub steps : RuleSet → ℕ → Position → ℕ
 steps rule zero p = 1
 steps rule (suc h) p = 1 + sum_by (λ m. 1 + steps rule h (played rule p m)) (legal_moves rule p)
 
+-- the same of the moves behind a place
 unfoldable pub steps_behind : RuleSet → ℕ → Position → ℕ → ℕ
 steps_behind rule zero p place = 0
 steps_behind rule (suc h) p place =
@@ -85,6 +87,7 @@ unfoldable pub steps_among : RuleSet → ℕ → Position → List Triple → �
 steps_among rule zero p ms = 0
 steps_among rule (suc h) p ms = sum_by (λ m. 1 + steps rule h (played rule p m)) ms
 
+-- the steps that are left to all frames of a test
 unfoldable pub work : RuleSet → Position → List Frame → ℕ
 work rule p [] = 0
 work rule p (f ∷ below) =
@@ -96,6 +99,7 @@ walk_behind rule zero p place = 0
 walk_behind rule (suc h) p place =
     sum_by (λ m. walk_count (legal_moves rule) (played rule) h (played rule p m)) (moves_behind rule p place)
 
+-- the same of all frames of a walk
 unfoldable pub to_open : RuleSet → Position → List Frame → ℕ
 to_open rule p [] = 0
 to_open rule p (f ∷ below) =
@@ -106,6 +110,7 @@ unfoldable pub walk_among : RuleSet → ℕ → Position → List Triple → ℕ
 walk_among rule zero p ms = 0
 walk_among rule (suc h) p ms = sum_by (λ m. walk_count (legal_moves rule) (played rule) h (played rule p m)) ms
 
+-- the same of all frames of a test
 unfoldable pub to_test : RuleSet → Position → List Frame → ℕ
 to_test rule p [] = 0
 to_test rule p (f ∷ below) =
@@ -158,6 +163,7 @@ pub record Turns (rule : RuleSet) (aim : Aim) (floor : ℕ) (p : Position) (old 
   pub base : take floor new ≡ take floor old
   pub counted : after + to_test rule p (tests floor new) ≤ before + to_test rule p (tests floor old)
 
+-- the value, the board and the frames as they were before the test, and no more frames opened than its moves allow
 pub record Ends (rule : RuleSet) (aim : Aim) (floor : ℕ) (p : Position) (old new : List Frame) (was : Option Bool) (board : Position) (before after : ℕ) (v : Bool) : Type 0 where
   pub value : pending rule aim p (tests floor old) was ≡ v
   pub back : board ≡ p

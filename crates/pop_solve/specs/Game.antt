@@ -48,6 +48,7 @@ module _ {P M : Type 0} where
   lines_to_goal game (suc h) p =
       flat_map (λ m. map (λ line. m ∷ line) (lines_to_goal game h (game.after p m))) (game.moves p)
 
+  -- those of a problem: with no half-move there is no line
   unfoldable pub help_lines : Game P M → ℕ → P → List (List M)
   help_lines game zero p = []
   help_lines game (suc h) p = lines_to_goal game (suc h) p

@@ -43,9 +43,11 @@ pub record Takes (old new : Spot) (had left : Option (List ℕ)) (tokens : List 
   pub begin : (rest : Input) → MayFollow new.at.end rest → words_left old.behind old.at (after bytes rest) ≡ put_before tokens (words_left new.behind new.at rest)
   pub amount : length bytes + (old.at.used + length old.at.window) ≡ new.at.used + length new.at.window
 
+-- among words
 abbrev pub among : Reading → Spot
 among place = record { behind = None; at = place }
 
+-- behind a text word, in whose line it stands
 abbrev pub behind_word : List ℕ → Reading → Spot
 behind_word keyword place = record { behind = Some keyword; at = place }
 

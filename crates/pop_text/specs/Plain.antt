@@ -18,6 +18,7 @@ is_named (a ∷ []) = false
 is_named (a ∷ b ∷ []) = false
 is_named (a ∷ b ∷ c ∷ word) = is_named_front (to_ascii_lowercase a) (to_ascii_lowercase b) (to_ascii_lowercase c)
 
+-- a word that says nothing in skipped text
 abbrev pub is_plain : Token → Bool
 is_plain (Word line text) = not (is_named text)
 is_plain (TextLine line keyword text) = false

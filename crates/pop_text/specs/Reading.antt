@@ -13,6 +13,7 @@ pub record Reading : Type 0 where
   pub line : ℕ
   pub end : End
 
+-- before all bytes
 abbrev pub beginning : Reading
 beginning = record { window = []; used = 0; line = 1; end = Open }
 

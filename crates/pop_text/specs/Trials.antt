@@ -31,6 +31,7 @@ abbrev pub round_from : List ℕ → List ℕ → List ℕ
 round_from text [] = text
 round_from text (b ∷ rest) = b ∷ rest
 
+-- what is left of the round, or the next one
 abbrev pub round_of : TrialInput → List ℕ
 round_of trial = round_from trial.text trial.rest
 

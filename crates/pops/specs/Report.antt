@@ -18,6 +18,7 @@ pub record Choice : Type 0 where
   pub check : Bool
   pub no_board : Bool
 
+-- the same of settings
 abbrev pub choice_of : Settings → Choice
 choice_of settings = record { check = settings.check; no_board = settings.no_board }
 
@@ -49,6 +50,7 @@ abbrev pub tells_failure : Entry → Bool
 tells_failure (SoundEntry posed) = false
 tells_failure (FaultyEntry fault) = fault.number == 21
 
+-- the entry is a fault
 abbrev pub is_faulty : Entry → Bool
 is_faulty (SoundEntry posed) = false
 is_faulty (FaultyEntry fault) = true

@@ -29,6 +29,7 @@ ends First = false
 ends Later = false
 ends Nothing = true
 
+-- the item says that it is the last
 abbrev pub says_last : Last → Bool
 says_last Yes = true
 says_last No = false
@@ -70,6 +71,7 @@ Steps old new had left before now (Ok (Finished status)) =
 Steps old new had left before now (Err fault) =
     (entry : Entry) × TakesItem old new had left entry × Begins before now (entry_text old.choice old.number entry) × (new.stopped ≡ true)
 
+-- the step is a problem
 abbrev pub is_problem : Result Step SinkFault → Bool
 is_problem (Ok (Problem sound)) = true
 is_problem (Ok (Finished status)) = false
