@@ -10,8 +10,8 @@ use Rattle.chess_core.specs.declared.man.Kind.{Kind}
 use Rattle.chess_core.specs.declared.man.Kind.TheVariants.{King, Queen, Rook, Bishop, Knight, Pawn, Grasshopper, Nightrider}
 use Rattle.chess_core.specs.Position.{is_side, is_man, man_on, same_kind, same_colour, kind_number}
 use Rattle.chess_core.specs.Diagrams.{is_kind}
-use Rattle.chess_core.specs.Words.{word_of}
-use Rattle.chess_core.specs.Kept.{IsInStep, colour_number, colours, kinds, kind_words, side_words}
+use Rattle.chess_core.specs.ties.Words.{word_of}
+use Rattle.chess_core.specs.ties.Kept.{IsInStep, colour_number, colours, kinds, kind_words, side_words}
 use Rattle.chess_core.proofs.Words.{word_with, word_without, word_same, word_both}
 use Rattle.chess_core.proofs.Men.{same_colour-true}
 

@@ -6,7 +6,7 @@ use Rattle.chess_core.specs.declared.man.Man.{Man}
 use Rattle.chess_core.specs.declared.man.Colour.{Colour}
 use Rattle.chess_core.specs.declared.man.Kind.TheVariants.{King}
 use Rattle.chess_core.specs.Position.{is_man, king_square, man_on}
-use Rattle.chess_core.specs.Words.{squares_of}
+use Rattle.chess_core.specs.ties.Words.{squares_of}
 use Rattle.chess_core.proofs.Words.{bit_false, bit_true, square_bit, square_word_small}
 use Rattle.chess_core.proofs.Ranges.{find_square_some, find_square_none}
 

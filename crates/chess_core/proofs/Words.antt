@@ -9,7 +9,7 @@ use Rattle.std.proofs.lemmas.Nat.Bits.{bit_at_lowest, bit_at-suc, bit_at_and, bi
 use Rattle.std.proofs.lemmas.List.FromFn.{get_or-range_with_len}
 use Rattle.chess_core.specs.Squares.{squares, some_square}
 use Rattle.chess_core.proofs.Ranges.{some_square_true, some_square_false}
-use Rattle.chess_core.specs.Words.{bit_of, word_of, word}
+use Rattle.chess_core.specs.ties.Words.{bit_of, word_of, word}
 
 low : (b : Bool) (n : ℕ) → ((bit_of b + 2 * n) % 2 ≡ bit_of b) × ((bit_of b + 2 * n) / 2 ≡ n)
 low true n = omega arith

@@ -3,7 +3,7 @@ ghost use Rattle.std.specs.Prelude.{◌≡◌, IsSome, None, [], ◌∷◌};
 ghost use Rattle.std.specs.List.{repeat};
 ghost use Rattle.chess_core.specs.Diagrams.{shows};
 ghost use Rattle.chess_core.specs.Position.{king_square, man_on, with_man, without_man};
-ghost use Rattle.chess_core.specs.Words.{side_of, squares_of, word};
+ghost use Rattle.chess_core.specs.ties.Words.{side_of, squares_of, word};
 
 use crate::man::{Colour, Kind, Man};
 use crate::square::Square;
@@ -24,7 +24,7 @@ impl Model for Placement {
 
     ghost Value = { List (Option Man) };
 
-    ghost use Rattle.chess_core.specs.Kept.{IsInStep, kind_words, side_words};
+    ghost use Rattle.chess_core.specs.ties.Kept.{IsInStep, kind_words, side_words};
     ghost use Rattle.std.proofs.Common.{◌≡◌, length, sym};
 
     ghost view = { λ p. p.array };
@@ -63,7 +63,7 @@ impl Placement {
     }
 
     // The squares of the men of this colour.
-    #[tactic(auto, unfolding(crate::specs::Words::side_of))]
+    #[tactic(auto, unfolding(crate::specs::ties::Words::side_of))]
     pub(crate) fn of_colour(&self, colour: Colour) -> u64
         ensures { result ≡ side_of self.now colour }
     {
@@ -71,7 +71,7 @@ impl Placement {
     }
 
     // The squares of the men of this colour and kind.
-    #[tactic(auto, unfolding(crate::specs::Words::squares_of))]
+    #[tactic(auto, unfolding(crate::specs::ties::Words::squares_of))]
     pub(crate) fn squares(&self, colour: Colour, kind: Kind) -> u64
         ensures { result ≡ squares_of self.now colour kind }
     {

@@ -5,7 +5,7 @@ use Rattle.std.proofs.lemmas.Bool.{and_from, cases_lt, leb-true}
 use Rattle.chess_core.specs.Squares.{is_on_board, square_at, file_of, rank_of}
 use Rattle.chess_core.specs.Steps.{along, step_by}
 use Rattle.chess_core.specs.declared.step.Step.{Step}
-use Rattle.chess_rules.specs.Lines.{place, rises, step_of}
+use Rattle.chess_rules.specs.ties.Lines.{place, rises, step_of}
 use Rattle.chess_rules.specs.declared.lines.Direction.{Direction}
 use Rattle.chess_rules.specs.declared.lines.Direction.TheVariants.{East, West, North, South, NorthEast, SouthEast, NorthWest, SouthWest, NorthNorthEast, SouthSouthEast, NorthNorthWest, SouthSouthWest, EastNorthEast, EastSouthEast, WestNorthWest, WestSouthWest}
 use Rattle.chess_rules.proofs.Ends.{Placed, cond-on, on_board, placed_from}

@@ -8,7 +8,7 @@ use Rattle.chess_core.specs.Castling.{has_unmoved}
 use Rattle.chess_core.specs.Position.{Position, is_man, is_side, man_on, may_promote, other, same_colour, same_kind}
 use Rattle.chess_core.specs.Squares.{is_square, rank_of}
 use Rattle.chess_core.specs.Steps.{along, queen_steps}
-use Rattle.chess_core.specs.Words.{side_of, squares_of, word}
+use Rattle.chess_core.specs.ties.Words.{side_of, squares_of, word}
 use Rattle.chess_core.specs.declared.man.Colour.{Colour}
 use Rattle.chess_core.specs.declared.man.Colour.TheVariants.{Black, White}
 use Rattle.chess_core.specs.declared.man.Kind.{Kind}
@@ -19,10 +19,10 @@ use Rattle.chess_core.proofs.Words.{squares_both, squares_either, squares_not, s
 use Rattle.chess_rules.specs.Attacks.{paralysed}
 use Rattle.chess_rules.specs.Legal.{forward, goes, is_arrival_free, is_promotion_right, pawn_steps, pseudo, second_rank}
 use Rattle.chess_core.specs.WellFormed.{is_vacant_at}
-use Rattle.chess_rules.specs.Lines.{is_advance}
+use Rattle.chess_rules.specs.ties.Lines.{is_advance}
 use Rattle.chess_rules.specs.Reaches.{leaps, reaches, reaches_as}
 use Rattle.chess_rules.specs.RuleSet.{RuleSet}
-use Rattle.chess_rules.specs.Targets.{IsAimed, arrives, is_arrival, is_arrival_of, may_go, pawn_goes, steps_to}
+use Rattle.chess_rules.specs.ties.Targets.{IsAimed, arrives, is_arrival, is_arrival_of, may_go, pawn_goes, steps_to}
 use Rattle.chess_rules.proofs.Bits.{word_empty, word_has}
 use Rattle.chess_rules.proofs.Targeting.{false_by}
 use Rattle.chess_rules.proofs.Tests.{IsFirst, find_no, same_Bool}

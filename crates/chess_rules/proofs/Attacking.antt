@@ -8,7 +8,7 @@ use Rattle.std.proofs.lemmas.List.Folds.{list_any-append}
 use Rattle.chess_core.specs.Position.{is_man, is_side, man_on, other, same_colour, same_kind}
 use Rattle.chess_core.specs.Squares.{is_square, some_square}
 use Rattle.chess_core.specs.Steps.{along, diagonal_steps, knight_steps, pawn_captures, queen_steps, straight_steps}
-use Rattle.chess_core.specs.Words.{squares_of, word}
+use Rattle.chess_core.specs.ties.Words.{squares_of, word}
 use Rattle.chess_core.specs.declared.man.Colour.{Colour}
 use Rattle.chess_core.specs.declared.man.Kind.{Kind}
 use Rattle.chess_core.specs.declared.man.Kind.TheVariants.{King, Queen, Rook, Bishop, Knight, Pawn, Grasshopper, Nightrider}
@@ -19,8 +19,8 @@ use Rattle.chess_core.proofs.Men.{same_colour-true}
 use Rattle.chess_core.proofs.Ranges.{any_range_false, any_range_true, some_square_true, some_square_false}
 use Rattle.chess_core.proofs.Words.{squares_both, squares_either, squares_same}
 use Rattle.chess_rules.specs.Attacks.{attacked, faces, faces_its_like, paralysed, strikes}
-use Rattle.chess_rules.specs.Lines.{is_ahead, is_on_some}
-use Rattle.chess_rules.specs.Outward.{hopped_from, is_met}
+use Rattle.chess_rules.specs.ties.Lines.{is_ahead, is_on_some}
+use Rattle.chess_rules.specs.ties.Outward.{hopped_from, is_met}
 use Rattle.chess_rules.specs.Reaches.{is_clear, leaps, reaches, reaches_as, reaches_of, rides}
 use Rattle.chess_rules.specs.RuleSet.{RuleSet}
 use Rattle.chess_rules.proofs.Bits.{not_zero, word_empty, word_has}

@@ -7,7 +7,7 @@ use Rattle.chess_core.specs.Position.{Position}
 use Rattle.chess_core.specs.declared.man.Move.{Move}
 use Rattle.chess_rules.specs.RuleSet.{RuleSet}
 use Rattle.chess_rules.specs.Legal.{legal, moves, triples}
-use Rattle.chess_rules.specs.Places.{HaveNone, IsNextMate, is_mating, mates, mates_behind, moves_behind, moves_between, triple_at}
+use Rattle.chess_rules.specs.ties.Places.{HaveNone, IsNextMate, is_mating, mates, mates_behind, moves_behind, moves_between, triple_at}
 use Rattle.chess_rules.proofs.Places.{drop_triples, drop_triples_past, moves_behind-here}
 use Rattle.chess_rules.proofs.Tests.{first_of_and, second_of_and}
 

@@ -9,7 +9,7 @@ use Rattle.std.proofs.lemmas.Nat.{one_shl}
 use Rattle.std.proofs.lemmas.Nat.Bits.{bit_at-pow_same, bit_at-pow_other}
 use Rattle.std.proofs.lemmas.Bool.{cases_eq}
 use Rattle.chess_core.specs.Squares.{is_square, some_square}
-use Rattle.chess_core.specs.Words.{bit_of, word}
+use Rattle.chess_core.specs.ties.Words.{bit_of, word}
 use Rattle.chess_core.proofs.Ranges.{find_range_some, find_range_none}
 use Rattle.chess_core.proofs.Words.{square_bit, square_word, squares_none, squares_some}
 use Rattle.chess_rules.proofs.Tests.{differs}

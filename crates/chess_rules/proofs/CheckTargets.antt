@@ -7,7 +7,7 @@ use Rattle.std.proofs.lemmas.Nat.Bits.{bit_at_or, bit_at-lt}
 use Rattle.chess_core.specs.Position.{Position, man_on, other, same_kind}
 use Rattle.chess_core.specs.Squares.{is_square, rank_of}
 use Rattle.chess_core.specs.WellFormed.{IsWellFormed}
-use Rattle.chess_core.specs.Words.{word}
+use Rattle.chess_core.specs.ties.Words.{word}
 use Rattle.chess_core.specs.declared.man.Colour.{Colour}
 use Rattle.chess_core.specs.declared.man.Colour.TheVariants.{White, Black}
 use Rattle.chess_core.specs.declared.man.Kind.{Kind}
@@ -16,12 +16,12 @@ use Rattle.chess_core.specs.declared.man.Man.{Man}
 use Rattle.chess_core.specs.declared.man.Move.{Move}
 use Rattle.chess_rules.specs.declared.checks.CheckSquares.{CheckSquares}
 use Rattle.chess_rules.specs.Attacks.{in_check}
-use Rattle.chess_rules.specs.CheckSquares.{AreCheckSquares, AreCheckTargets, check_squares_for}
-use Rattle.chess_rules.specs.Shields.{cannot_expose, is_plain, may_expose}
+use Rattle.chess_rules.specs.ties.CheckSquares.{AreCheckSquares, AreCheckTargets, check_squares_for}
+use Rattle.chess_rules.specs.ties.Shields.{cannot_expose, is_plain, may_expose}
 use Rattle.chess_rules.specs.Legal.{last_rank, pseudo}
 use Rattle.chess_rules.specs.Play.{after, arriving, is_castling}
 use Rattle.chess_rules.specs.RuleSet.{RuleSet, is_circe}
-use Rattle.chess_rules.specs.Targets.{arrives, steps_to}
+use Rattle.chess_rules.specs.ties.Targets.{arrives, steps_to}
 use Rattle.chess_rules.proofs.Bits.{word_has}
 use Rattle.chess_rules.proofs.Checking.{no_check}
 use Rattle.chess_rules.proofs.Pseudo.{king_is_no_pawn, made}

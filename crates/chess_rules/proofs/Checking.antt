@@ -7,7 +7,7 @@ use Rattle.std.proofs.lemmas.List.Folds.{list_any-append}
 use Rattle.chess_core.specs.Position.{Position, king_square, man_on, other}
 use Rattle.chess_core.specs.Steps.{diagonal_steps, straight_steps}
 use Rattle.chess_core.specs.WellFormed.{IsWellFormed}
-use Rattle.chess_core.specs.Words.{word}
+use Rattle.chess_core.specs.ties.Words.{word}
 use Rattle.chess_core.specs.declared.man.Colour.{Colour}
 use Rattle.chess_core.specs.declared.man.Colour.TheVariants.{White, Black}
 use Rattle.chess_core.specs.declared.man.Kind.{Kind}
@@ -17,8 +17,8 @@ use Rattle.chess_core.specs.declared.man.Move.{Move}
 use Rattle.chess_core.proofs.Words.{squares_either, squares_same}
 use Rattle.chess_rules.specs.declared.checks.CheckSquares.{CheckSquares}
 use Rattle.chess_rules.specs.Attacks.{in_check}
-use Rattle.chess_rules.specs.CheckSquares.{AreCheckSquares, enemy, may_check_from, may_check_from_on, check_squares_for}
-use Rattle.chess_rules.specs.Shields.{cannot_expose, is_fairy}
+use Rattle.chess_rules.specs.ties.CheckSquares.{AreCheckSquares, enemy, may_check_from, may_check_from_on, check_squares_for}
+use Rattle.chess_rules.specs.ties.Shields.{cannot_expose, is_fairy}
 use Rattle.chess_rules.specs.Legal.{pseudo}
 use Rattle.chess_rules.specs.Play.{after, arriving}
 use Rattle.chess_rules.specs.Reaches.{reaches_as, rides}

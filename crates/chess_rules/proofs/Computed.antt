@@ -5,8 +5,8 @@ use Rattle.std.proofs.lemmas.List.FromFn.{get_or-map-range_with_len}
 use Rattle.chess_core.specs.Squares.{squares}
 use Rattle.chess_core.specs.Steps.{along, diagonal_steps, knight_steps, pawn_captures, queen_steps, straight_steps}
 use Rattle.chess_core.specs.declared.man.Colour.TheVariants.{White, Black}
-use Rattle.chess_core.specs.Words.{word, word_of}
-use Rattle.chess_rules.specs.Lines.{direction_number, is_advance, is_ahead, is_aside, is_on_some, ray, step_of}
+use Rattle.chess_core.specs.ties.Words.{word, word_of}
+use Rattle.chess_rules.specs.ties.Lines.{direction_number, is_advance, is_ahead, is_aside, is_on_some, ray, step_of}
 use Rattle.chess_rules.specs.Reaches.{leaps}
 use Rattle.chess_rules.specs.declared.geometry.TheConstants.{ASIDE, BLACK_CAPTURES, BLACK_STEPS, DIAGONAL_LINES, KNIGHT_LEAPS, NEIGHBOURS, RAYS, STRAIGHT_LINES, WHITE_CAPTURES, WHITE_STEPS}
 use Rattle.chess_rules.specs.declared.lines.Direction.{Direction}

@@ -6,13 +6,13 @@ use Rattle.std.proofs.lemmas.Bool.{and_left, and_parts, and_right, cases_Bool}
 use Rattle.chess_core.specs.Position.{Position, man_on, same_kind}
 use Rattle.chess_core.specs.Squares.{is_square}
 use Rattle.chess_core.specs.WellFormed.{IsWellFormed}
-use Rattle.chess_core.specs.Words.{word}
+use Rattle.chess_core.specs.ties.Words.{word}
 use Rattle.chess_core.specs.declared.man.Kind.TheVariants.{King}
 use Rattle.chess_core.specs.declared.man.Man.{Man}
 use Rattle.chess_core.specs.declared.man.Move.{Move}
 use Rattle.chess_rules.specs.Attacks.{in_check}
-use Rattle.chess_rules.specs.Evasions.{AreEvasionsFrom, AreEvasions}
-use Rattle.chess_rules.specs.Shields.{is_plain}
+use Rattle.chess_rules.specs.ties.Evasions.{AreEvasionsFrom, AreEvasions}
+use Rattle.chess_rules.specs.ties.Shields.{is_plain}
 use Rattle.chess_rules.specs.Legal.{pseudo}
 use Rattle.chess_rules.specs.Play.{after, is_castling}
 use Rattle.chess_rules.specs.RuleSet.{RuleSet, is_circe}

@@ -5,7 +5,7 @@ use Rattle.chess_core.specs.Position.{Position, other}
 use Rattle.chess_core.specs.declared.man.Move.{Move}
 use Rattle.chess_rules.specs.Attacks.{in_check}
 use Rattle.chess_rules.specs.Legal.{legal}
-use Rattle.chess_rules.specs.Places.{is_mating, mates}
+use Rattle.chess_rules.specs.ties.Places.{is_mating, mates}
 use Rattle.chess_rules.specs.Play.{after}
 use Rattle.chess_rules.specs.RuleSet.{RuleSet}
 use Rattle.chess_rules.proofs.Calls.{pseudo-from_legal}

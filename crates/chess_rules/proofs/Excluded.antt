@@ -11,14 +11,14 @@ use Rattle.chess_core.specs.declared.man.Colour.TheVariants.{White, Black}
 use Rattle.chess_core.specs.declared.man.Kind.TheVariants.{King, Queen, Rook, Bishop, Pawn}
 use Rattle.chess_core.specs.declared.man.Man.{Man}
 use Rattle.chess_rules.specs.Attacks.{attacked, faces, faces_its_like, in_check, paralysed, strikes}
-use Rattle.chess_rules.specs.CheckSquares.{AreCheckTargets, enemy, may_check_from}
-use Rattle.chess_rules.specs.Evasions.{AreEvasionsFrom, is_evasion}
+use Rattle.chess_rules.specs.ties.CheckSquares.{AreCheckTargets, enemy, may_check_from}
+use Rattle.chess_rules.specs.ties.Evasions.{AreEvasionsFrom, is_evasion}
 use Rattle.chess_rules.specs.Legal.{castles, may_castle, pseudo}
-use Rattle.chess_rules.specs.Outward.{is_met}
+use Rattle.chess_rules.specs.ties.Outward.{is_met}
 use Rattle.chess_rules.specs.Play.{after, after_by, capture_square, moved_men, reborn_square, rebirth, unmoved_after}
 use Rattle.chess_rules.specs.Reaches.{hops, is_clear, leaps, reaches, reaches_as, rides}
 use Rattle.chess_rules.specs.RuleSet.{orthodox}
-use Rattle.chess_rules.specs.Shields.{has_fairy, is_behind, is_shut, is_unshielded, may_expose}
+use Rattle.chess_rules.specs.ties.Shields.{has_fairy, is_behind, is_shut, is_unshielded, may_expose}
 use Rattle.chess_rules.proofs.Typed.{go, man, on, position, set_up}
 use Rattle.chess_core.specs.SquareNames.{a1, b1, b3, a4, d5, e4, a5, a6, b6, d6, e5, a8, g8, h8}
 

@@ -4,7 +4,7 @@ use Rattle.std.proofs.lemmas.Bool.{and_from, and_left, and_parts, and_right, cas
 use Rattle.chess_core.specs.Position.{AtMostOneKing, Position, is_man, is_side, king_square, man_on, other, same_colour, same_kind}
 use Rattle.chess_core.specs.Squares.{is_square}
 use Rattle.chess_core.specs.WellFormed.{IsWellFormed}
-use Rattle.chess_core.specs.Words.{word}
+use Rattle.chess_core.specs.ties.Words.{word}
 use Rattle.chess_core.specs.declared.man.Colour.{Colour}
 use Rattle.chess_core.specs.declared.man.Kind.{Kind}
 use Rattle.chess_core.specs.declared.man.Kind.TheVariants.{King, Pawn}
@@ -15,7 +15,7 @@ use Rattle.chess_rules.specs.Legal.{is_arrival_free, is_promotion_right, pseudo}
 use Rattle.chess_rules.specs.Play.{after, arriving, capture_square, is_castling}
 use Rattle.chess_rules.specs.Reaches.{reaches}
 use Rattle.chess_rules.specs.RuleSet.{RuleSet, is_circe, is_madrasi}
-use Rattle.chess_rules.specs.Sight.{AreSeen, is_simple, king_after, sight_after}
+use Rattle.chess_rules.specs.ties.Sight.{AreSeen, is_simple, king_after, sight_after}
 use Rattle.chess_rules.proofs.Attacking.{some_square_same}
 use Rattle.chess_rules.proofs.Bits.{not_zero}
 use Rattle.chess_rules.proofs.Fits.{arrived, arriving_king, is_square-some, pawn_is_no_king, taken}

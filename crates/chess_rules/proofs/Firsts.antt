@@ -7,7 +7,7 @@ use Rattle.std.proofs.lemmas.Bool.{cases_eq, cases_lt}
 use Rattle.std.proofs.lemmas.Nat.{or_lt}
 use Rattle.std.proofs.lemmas.Nat.Bits.{bit_at_above, bit_at_or, bit_at-lt, bit_at-trailing_zeros, bit_at-zero, bit_at_set_other, bit_at_set_same}
 use Rattle.chess_core.specs.declared.step.Step.{Step}
-use Rattle.chess_rules.specs.Lines.{IsStop, rises}
+use Rattle.chess_rules.specs.ties.Lines.{IsStop, rises}
 
 -- a number with a bit isn't 0
 pub has_bit : (n i : ℕ) → bit_at n i ≡ 1 → 0 < n

@@ -8,7 +8,7 @@ use Rattle.std.proofs.lemmas.Nat.Bits.{bit_at-lt, bit_at-zero, bit_at_and}
 use Rattle.chess_core.specs.Position.{Position, is_man, is_side, king_square, man_on, other, same_colour, same_kind, without_man}
 use Rattle.chess_core.specs.Squares.{is_square, some_square, squares}
 use Rattle.chess_core.specs.WellFormed.{IsWellFormed}
-use Rattle.chess_core.specs.Words.{side_of, squares_of, word}
+use Rattle.chess_core.specs.ties.Words.{side_of, squares_of, word}
 use Rattle.chess_core.specs.Steps.{queen_steps}
 use Rattle.chess_core.specs.declared.man.Colour.{Colour}
 use Rattle.chess_core.specs.declared.man.Colour.TheVariants.{White, Black}
@@ -20,14 +20,14 @@ use Rattle.chess_core.proofs.Men.{same_colour-true}
 use Rattle.chess_core.proofs.Ranges.{any_range_false, some_square_false, some_square_true}
 use Rattle.chess_core.proofs.Words.{squares_both, squares_either, squares_not}
 use Rattle.chess_rules.specs.Attacks.{attacked, in_check, paralysed, strikes}
-use Rattle.chess_rules.specs.Flights.{AreOpen, IsSeenFrom, has_flight, is_flight, is_flight_from, is_open, sight_lifted, sight_with}
+use Rattle.chess_rules.specs.ties.Flights.{AreOpen, IsSeenFrom, has_flight, is_flight, is_flight_from, is_open, sight_lifted, sight_with}
 use Rattle.chess_rules.specs.Legal.{goes, is_arrival_free, is_goal, is_nil, is_promotion_right, legal, moves, pseudo, pseudo_of}
-use Rattle.chess_rules.specs.Lines.{occupied_squares}
-use Rattle.chess_rules.specs.Places.{mates, moves_behind, promotion_at, triple_at}
+use Rattle.chess_rules.specs.ties.Lines.{occupied_squares}
+use Rattle.chess_rules.specs.ties.Places.{mates, moves_behind, promotion_at, triple_at}
 use Rattle.chess_rules.specs.Play.{after, arriving, capture_square, is_castling}
 use Rattle.chess_rules.specs.Reaches.{leaps, reaches, reaches_as, reaches_of}
 use Rattle.chess_rules.specs.RuleSet.{RuleSet, is_circe, is_madrasi}
-use Rattle.chess_rules.specs.Sight.{AreSeen, king_after}
+use Rattle.chess_rules.specs.ties.Sight.{AreSeen, king_after}
 use Rattle.chess_rules.proofs.Bits.{word_has}
 use Rattle.chess_rules.proofs.Checking.{other_twice}
 use Rattle.chess_rules.proofs.Exposing.{IsSimple, check_is, simple_parts}

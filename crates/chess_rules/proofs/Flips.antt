@@ -11,7 +11,7 @@ use Rattle.chess_rules.specs.Reaches.{rides, leaps, hops}
 use Rattle.chess_rules.proofs.Ends.{back, rides-back, returns_to}
 use Rattle.chess_rules.proofs.Tests.{same_Bool}
 use Rattle.chess_rules.proofs.Hops.{hops-back}
-use Rattle.chess_rules.specs.Outward.{hopped_from}
+use Rattle.chess_rules.specs.ties.Outward.{hopped_from}
 
 -- pairs change places
 pairs : (a b c d e : Bool) → (b || (a || (d || (c || e)))) ≡ (a || (b || (c || (d || e))))

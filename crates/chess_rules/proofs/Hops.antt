@@ -7,7 +7,7 @@ use Rattle.chess_core.specs.Steps.{along}
 use Rattle.chess_core.specs.declared.step.Step.{Step}
 use Rattle.chess_core.specs.declared.man.Man.{Man}
 use Rattle.chess_core.proofs.Ranges.{all_range_true, any_range_false}
-use Rattle.chess_rules.specs.Outward.{hopped_from, rides_on}
+use Rattle.chess_rules.specs.ties.Outward.{hopped_from, rides_on}
 use Rattle.chess_rules.specs.Reaches.{is_vacant, is_occupied, is_clear, hops}
 use Rattle.chess_rules.proofs.Tests.{all_at, any_range_same, same_Bool}
 use Rattle.chess_rules.proofs.Ends.{back, between, returns_to, square_is}

@@ -10,7 +10,7 @@ use Rattle.chess_core.specs.declared.man.Kind.{Kind}
 use Rattle.chess_core.specs.declared.man.Kind.TheVariants.{King, Queen, Rook, Bishop, Knight, Pawn, Grasshopper, Nightrider}
 use Rattle.chess_core.specs.declared.man.Man.{Man}
 use Rattle.chess_core.specs.declared.step.Step.{Step}
-use Rattle.chess_rules.specs.Lines.{place, step_of}
+use Rattle.chess_rules.specs.ties.Lines.{place, step_of}
 use Rattle.chess_rules.specs.Reaches.{hops, leaps, is_clear, is_occupied, is_vacant, reaches_as, rides}
 use Rattle.chess_rules.specs.declared.lines.Direction.{Direction}
 use Rattle.chess_rules.specs.declared.lines.Direction.TheVariants.{East, West, North, South, NorthEast, SouthEast, NorthWest, SouthWest, NorthNorthEast, SouthSouthEast, NorthNorthWest, SouthSouthWest, EastNorthEast, EastSouthEast, WestNorthWest, WestSouthWest}

@@ -5,7 +5,7 @@ use Rattle.chess_core.specs.Position.{Position, other}
 use Rattle.chess_core.specs.declared.man.Move.{Move}
 use Rattle.chess_rules.specs.Attacks.{in_check}
 use Rattle.chess_rules.specs.Legal.{is_goal, legal, pseudo}
-use Rattle.chess_rules.specs.Places.{HaveNone, mates, mates_behind, triple_at}
+use Rattle.chess_rules.specs.ties.Places.{HaveNone, mates, mates_behind, triple_at}
 use Rattle.chess_rules.specs.Play.{after, after_by}
 use Rattle.chess_rules.specs.RuleSet.{RuleSet}
 use Rattle.chess_rules.proofs.Places.{moves_behind-end, moves_behind-here, moves_behind-skip, not_pseudo}

@@ -7,7 +7,7 @@ use Rattle.std.proofs.lemmas.Bool.{and_left, and_right, cases_Bool, cases_eq, ca
 use Rattle.std.proofs.lemmas.Nat.Bits.{bit_at-zero}
 use Rattle.chess_core.specs.Position.{is_man, man_on}
 use Rattle.chess_core.specs.Squares.{some_square, squares}
-use Rattle.chess_core.specs.Words.{squares_of, word}
+use Rattle.chess_core.specs.ties.Words.{squares_of, word}
 use Rattle.chess_core.specs.declared.man.Colour.{Colour}
 use Rattle.chess_core.specs.declared.man.Kind.{Kind}
 use Rattle.chess_core.specs.declared.man.Kind.TheVariants.{Queen}
@@ -15,9 +15,9 @@ use Rattle.chess_core.specs.declared.man.Man.{Man}
 use Rattle.chess_core.specs.declared.step.Step.{Step}
 use Rattle.chess_core.proofs.Ranges.{any_range_false, any_range_true, some_square_false}
 use Rattle.chess_core.proofs.Words.{squares_both, squares_either, squares_same}
-use Rattle.chess_rules.specs.Lines.{is_on_some}
+use Rattle.chess_rules.specs.ties.Lines.{is_on_some}
 use Rattle.chess_rules.specs.Reaches.{rides}
-use Rattle.chess_rules.specs.Shields.{is_behind, is_shut}
+use Rattle.chess_rules.specs.ties.Shields.{is_behind, is_shut}
 use Rattle.chess_rules.proofs.Attacking.{some_square_same}
 use Rattle.chess_rules.proofs.Bits.{word_empty, word_has}
 use Rattle.chess_rules.proofs.Tests.{IsFirst, any_range_cases, same_Bool}

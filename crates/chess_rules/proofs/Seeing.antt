@@ -7,7 +7,7 @@ use Rattle.std.proofs.lemmas.Bool.{and_left, and_right, cases_Bool, cases_eq, eq
 use Rattle.std.proofs.lemmas.List.{length-set}
 use Rattle.chess_core.specs.Position.{is_man, is_side, king_square, man_on, other, same_colour, same_kind, with_man, without_man}
 use Rattle.chess_core.specs.Squares.{is_square, squares}
-use Rattle.chess_core.specs.Words.{squares_of, word}
+use Rattle.chess_core.specs.ties.Words.{squares_of, word}
 use Rattle.chess_core.specs.declared.man.Colour.{Colour}
 use Rattle.chess_core.specs.declared.man.Kind.{Kind}
 use Rattle.chess_core.specs.declared.man.Kind.TheVariants.{King}
@@ -15,7 +15,7 @@ use Rattle.chess_core.specs.declared.man.Man.{Man}
 use Rattle.chess_core.proofs.Men.{man_on-with_other, man_on-with_same, man_on-without_other, man_on-without_same}
 use Rattle.chess_core.proofs.Words.{squares_both, squares_either, squares_not, squares_same}
 use Rattle.chess_rules.specs.Play.{without_at}
-use Rattle.chess_rules.specs.Sight.{AreSeen, sight_after}
+use Rattle.chess_rules.specs.ties.Sight.{AreSeen, sight_after}
 use Rattle.chess_rules.proofs.Plays.{stays_empty}
 use Rattle.chess_rules.proofs.Shielding.{every_square}
 use Rattle.chess_rules.proofs.Tests.{differs}

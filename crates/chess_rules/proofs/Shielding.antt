@@ -9,7 +9,7 @@ use Rattle.chess_core.specs.Position.{AtMostOneKing, Position, is_man, is_side, 
 use Rattle.chess_core.specs.Squares.{is_square, squares, some_square}
 use Rattle.chess_core.specs.Steps.{along, diagonal_steps, queen_steps, straight_steps}
 use Rattle.chess_core.specs.WellFormed.{IsWellFormed}
-use Rattle.chess_core.specs.Words.{squares_of, word}
+use Rattle.chess_core.specs.ties.Words.{squares_of, word}
 use Rattle.chess_core.specs.declared.man.Colour.{Colour}
 use Rattle.chess_core.specs.declared.man.Colour.TheVariants.{White, Black}
 use Rattle.chess_core.specs.declared.man.Kind.{Kind}
@@ -21,11 +21,11 @@ use Rattle.chess_core.proofs.Men.{man_on-with_other, man_on-without_same}
 use Rattle.chess_core.proofs.Ranges.{all_range_true, any_range_false, any_range_true, find_square_some, some_square_false, some_square_true}
 use Rattle.chess_core.proofs.Words.{squares_either, squares_not, squares_same}
 use Rattle.chess_rules.specs.Attacks.{attacked, check_of, in_check, paralysed, strikes}
-use Rattle.chess_rules.specs.CheckSquares.{may_check_from, may_check_from_on}
-use Rattle.chess_rules.specs.Shields.{cannot_expose, has_fairy, is_behind, is_shut, is_unshielded, is_fairy, is_plain, may_expose, may_expose_on}
+use Rattle.chess_rules.specs.ties.CheckSquares.{may_check_from, may_check_from_on}
+use Rattle.chess_rules.specs.ties.Shields.{cannot_expose, has_fairy, is_behind, is_shut, is_unshielded, is_fairy, is_plain, may_expose, may_expose_on}
 use Rattle.chess_rules.specs.Legal.{is_promotion_right, pseudo}
 use Rattle.chess_rules.specs.Play.{after, after_by, arriving, capture_square, is_castling, is_diagonal, man_on_at, moved_men, put_at, reborn_at, reborn_square, without_at}
-use Rattle.chess_rules.specs.Lines.{is_ahead, is_on_some}
+use Rattle.chess_rules.specs.ties.Lines.{is_ahead, is_on_some}
 use Rattle.chess_rules.specs.Reaches.{is_clear, is_vacant, reaches, reaches_as, rides}
 use Rattle.chess_rules.specs.RuleSet.{RuleSet, is_circe, is_madrasi}
 use Rattle.chess_rules.proofs.Bits.{not_zero, word_empty, word_has}

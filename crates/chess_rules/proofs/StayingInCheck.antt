@@ -9,7 +9,7 @@ use Rattle.chess_core.specs.Position.{AtMostOneKing, Position, is_man, is_side, 
 use Rattle.chess_core.specs.Squares.{is_square, squares}
 use Rattle.chess_core.specs.Steps.{along, diagonal_steps, queen_steps, straight_steps}
 use Rattle.chess_core.specs.WellFormed.{IsWellFormed}
-use Rattle.chess_core.specs.Words.{word}
+use Rattle.chess_core.specs.ties.Words.{word}
 use Rattle.chess_core.specs.declared.man.Colour.{Colour}
 use Rattle.chess_core.specs.declared.man.Kind.{Kind}
 use Rattle.chess_core.specs.declared.man.Kind.TheVariants.{King, Queen, Rook, Bishop, Knight, Pawn, Grasshopper, Nightrider}
@@ -19,8 +19,8 @@ use Rattle.chess_core.specs.declared.step.Step.{Step}
 use Rattle.chess_core.proofs.Ranges.{all_range_true, any_range_false, any_range_true, some_square_true}
 use Rattle.chess_core.proofs.Words.{squares_both, squares_either}
 use Rattle.chess_rules.specs.Attacks.{attacked, check_of, in_check, paralysed, strikes}
-use Rattle.chess_rules.specs.Evasions.{AreEvasions, IsNoEvasion}
-use Rattle.chess_rules.specs.Shields.{has_fairy, is_fairy, is_plain}
+use Rattle.chess_rules.specs.ties.Evasions.{AreEvasions, IsNoEvasion}
+use Rattle.chess_rules.specs.ties.Shields.{has_fairy, is_fairy, is_plain}
 use Rattle.chess_rules.specs.Legal.{is_arrival_free, pseudo}
 use Rattle.chess_rules.specs.Play.{after, arriving}
 use Rattle.chess_rules.specs.Reaches.{is_clear, is_vacant, reaches, reaches_as, rides}

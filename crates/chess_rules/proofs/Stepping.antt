@@ -6,16 +6,16 @@ use Rattle.std.proofs.lemmas.Bool.{and_left, and_right, cases_Bool, cases_eq, eq
 use Rattle.std.proofs.lemmas.List.{length-set}
 use Rattle.chess_core.specs.Position.{is_man, is_side, man_on, same_colour, same_kind, with_man, without_man}
 use Rattle.chess_core.specs.Squares.{is_square}
-use Rattle.chess_core.specs.Words.{squares_of, word}
+use Rattle.chess_core.specs.ties.Words.{squares_of, word}
 use Rattle.chess_core.specs.declared.man.Colour.{Colour}
 use Rattle.chess_core.specs.declared.man.Kind.{Kind}
 use Rattle.chess_core.specs.declared.man.Man.{Man}
 use Rattle.chess_core.proofs.Men.{man_on-with_other, man_on-without_other, man_on-without_same}
 use Rattle.chess_core.proofs.Words.{squares_both, squares_either, squares_not, squares_same}
-use Rattle.chess_rules.specs.Flights.{sight_lifted, sight_with}
-use Rattle.chess_rules.specs.Lines.{occupied_squares}
+use Rattle.chess_rules.specs.ties.Flights.{sight_lifted, sight_with}
+use Rattle.chess_rules.specs.ties.Lines.{occupied_squares}
 use Rattle.chess_rules.specs.Play.{without_at}
-use Rattle.chess_rules.specs.Sight.{AreSeen, sight_after}
+use Rattle.chess_rules.specs.ties.Sight.{AreSeen, sight_after}
 use Rattle.chess_rules.proofs.Landing.{StandAlike}
 use Rattle.chess_rules.proofs.Seeing.{gone_to, is_occupied_after, kept_now, left_now, length-without_at, neither, no_man, occupied_now, occupied_words, there_now}
 use Rattle.chess_rules.proofs.Tests.{differs}

@@ -6,12 +6,12 @@ use Rattle.std.proofs.lemmas.Bool.{and_from, and_left, cases_Bool, cases_eq, cas
 use Rattle.chess_core.specs.Squares.{is_square}
 use Rattle.chess_core.specs.Steps.{along}
 use Rattle.chess_core.specs.Position.{man_on}
-use Rattle.chess_core.specs.Words.{word}
+use Rattle.chess_core.specs.ties.Words.{word}
 use Rattle.chess_core.specs.declared.man.Man.{Man}
 use Rattle.chess_core.specs.declared.step.Step.{Step}
 use Rattle.chess_core.proofs.Ranges.{any_range_true, any_range_false, all_range_true, all_range_false}
 use Rattle.chess_core.proofs.Words.{squares_both, squares_not, squares_same}
-use Rattle.chess_rules.specs.Lines.{IsStop, is_ahead, place, place_by, ray, rises}
+use Rattle.chess_rules.specs.ties.Lines.{IsStop, is_ahead, place, place_by, ray, rises}
 use Rattle.chess_rules.specs.Reaches.{is_clear, is_vacant, rides}
 use Rattle.chess_rules.proofs.Ahead.{Ordered, onward, passes}
 use Rattle.chess_rules.proofs.Bits.{word_has}

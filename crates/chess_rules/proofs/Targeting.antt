@@ -6,7 +6,7 @@ use Rattle.std.proofs.lemmas.Bool.{agree_below_at, and_from, and_parts, cases_Bo
 use Rattle.chess_core.specs.Position.{Position, is_side, man_on, same_colour, same_kind}
 use Rattle.chess_core.specs.Squares.{file_of, is_on_board, is_square, rank_of, square_at}
 use Rattle.chess_core.specs.Steps.{along}
-use Rattle.chess_core.specs.Words.{word}
+use Rattle.chess_core.specs.ties.Words.{word}
 use Rattle.chess_core.specs.declared.man.Colour.{Colour}
 use Rattle.chess_core.specs.declared.man.Colour.TheVariants.{White, Black}
 use Rattle.chess_core.specs.declared.man.Kind.{Kind}
@@ -15,12 +15,12 @@ use Rattle.chess_core.specs.declared.man.Man.{Man}
 use Rattle.chess_core.specs.declared.man.Move.{Move}
 use Rattle.chess_core.proofs.Words.{squares_same}
 use Rattle.chess_rules.specs.Legal.{castles, goes, is_promotion_right, may_castle, pseudo, pseudo_of}
-use Rattle.chess_rules.specs.Lines.{is_advance, is_aside}
-use Rattle.chess_rules.specs.Places.{IsBarrenFrom, IsNamed, promotion_at}
+use Rattle.chess_rules.specs.ties.Lines.{is_advance, is_aside}
+use Rattle.chess_rules.specs.ties.Places.{IsBarrenFrom, IsNamed, promotion_at}
 use Rattle.chess_rules.specs.Play.{is_castling}
 use Rattle.chess_rules.specs.Reaches.{reaches, reaches_as}
 use Rattle.chess_rules.specs.RuleSet.{RuleSet}
-use Rattle.chess_rules.specs.Targets.{arrives, is_arrival, may_go, steps_to}
+use Rattle.chess_rules.specs.ties.Targets.{arrives, is_arrival, may_go, steps_to}
 use Rattle.chess_rules.proofs.Bits.{word_empty}
 use Rattle.chess_rules.proofs.Ends.{cond-on, on_board}
 use Rattle.chess_rules.proofs.Pseudo.{king_is_no_pawn, made, ways}

@@ -15,7 +15,7 @@ use Rattle.chess_core.specs.declared.man.Move.{Move}
 use Rattle.chess_core.specs.declared.step.Step.{Step}
 use Rattle.chess_core.proofs.Boards.{along-is}
 use Rattle.chess_rules.specs.Legal.{castles, is_nil, is_promotion_right, may_castle, promotions, pseudo, triples}
-use Rattle.chess_rules.specs.Places.{triple_at}
+use Rattle.chess_rules.specs.ties.Places.{triple_at}
 use Rattle.chess_rules.specs.Play.{is_castling}
 use Rattle.chess_rules.specs.Reaches.{hops, is_clear, is_occupied, leaps, reaches, reaches_as, reaches_of, rides}
 use Rattle.chess_rules.specs.RuleSet.{RuleSet}

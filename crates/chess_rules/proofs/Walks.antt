@@ -6,14 +6,14 @@ use Rattle.std.specs.List.{range_with_len}
 use Rattle.std.proofs.lemmas.Bool.{and_right, cases_Bool, cases_lt, eqb-true, eq-eqb}
 use Rattle.std.proofs.lemmas.Nat.Bits.{bit_at_and, bit_at-lt, bit_at-zero}
 use Rattle.chess_core.specs.Position.{Position, is_side, man_on}
-use Rattle.chess_core.specs.Words.{side_of, word}
+use Rattle.chess_core.specs.ties.Words.{side_of, word}
 use Rattle.chess_core.specs.declared.man.Move.{Move}
-use Rattle.chess_rules.specs.CheckSquares.{AreCheckTargets}
-use Rattle.chess_rules.specs.Evasions.{AreEvasionsFrom}
+use Rattle.chess_rules.specs.ties.CheckSquares.{AreCheckTargets}
+use Rattle.chess_rules.specs.ties.Evasions.{AreEvasionsFrom}
 use Rattle.chess_rules.specs.Legal.{legal, pseudo}
-use Rattle.chess_rules.specs.Places.{HaveNone, IsBarrenFrom, IsNamed, mates, promotion_at, triple_at}
+use Rattle.chess_rules.specs.ties.Places.{HaveNone, IsBarrenFrom, IsNamed, mates, promotion_at, triple_at}
 use Rattle.chess_rules.specs.RuleSet.{RuleSet}
-use Rattle.chess_rules.specs.Targets.{AreCandidates, AreKept, IsAimed, is_arrival}
+use Rattle.chess_rules.specs.ties.Targets.{AreCandidates, AreKept, IsAimed, is_arrival}
 use Rattle.chess_rules.proofs.Bits.{word_has}
 use Rattle.chess_rules.proofs.Mating.{no_mate_quietly}
 use Rattle.chess_rules.proofs.Targeting.{arrival_needed, false_by, own_moves}

@@ -3,13 +3,13 @@ ghost use Rattle.std.specs.Prelude.{◌≡◌, ℕ, None, false, not, true};
 ghost use Rattle.chess_core.specs.Position.{other, same_kind};
 ghost use Rattle.chess_core.specs.declared.man.Kind.TheVariants.{Pawn};
 ghost use Rattle.chess_core.specs.WellFormed.{IsWellFormed};
-ghost use Rattle.chess_core.specs.Words.{word};
+ghost use Rattle.chess_core.specs.ties.Words.{word};
 ghost use Rattle.chess_rules.specs.Attacks.{in_check};
-ghost use Rattle.chess_rules.specs.CheckSquares.{AreCheckSquares, AreCheckTargets, enemy, may_check_from, check_squares_for};
-ghost use Rattle.chess_rules.specs.Shields.{cannot_expose, is_fairy};
+ghost use Rattle.chess_rules.specs.ties.CheckSquares.{AreCheckSquares, AreCheckTargets, enemy, may_check_from, check_squares_for};
+ghost use Rattle.chess_rules.specs.ties.Shields.{cannot_expose, is_fairy};
 ghost use Rattle.chess_rules.specs.Legal.{pseudo};
 ghost use Rattle.chess_rules.specs.Play.{after};
-ghost use Rattle.chess_rules.specs.Targets.{steps_to};
+ghost use Rattle.chess_rules.specs.ties.Targets.{steps_to};
 
 use crate::evasions::rebirth_captures;
 use crate::reach::reach_as;

@@ -2,10 +2,10 @@
 ghost use Rattle.std.specs.Prelude.{◌≡◌, ◌==◌, is_some, not, true};
 ghost use Rattle.chess_core.specs.Position.{man_on, other};
 ghost use Rattle.chess_core.specs.WellFormed.{IsWellFormed};
-ghost use Rattle.chess_core.specs.Words.{word};
+ghost use Rattle.chess_core.specs.ties.Words.{word};
 ghost use Rattle.chess_rules.specs.Attacks.{in_check};
-ghost use Rattle.chess_rules.specs.Evasions.{AreEvasionsFrom, AreEvasions};
-ghost use Rattle.chess_rules.specs.Shields.{cannot_expose, has_fairy, is_plain, may_expose};
+ghost use Rattle.chess_rules.specs.ties.Evasions.{AreEvasionsFrom, AreEvasions};
+ghost use Rattle.chess_rules.specs.ties.Shields.{cannot_expose, has_fairy, is_plain, may_expose};
 ghost use Rattle.chess_rules.specs.Legal.{pseudo};
 ghost use Rattle.chess_rules.specs.Play.{after};
 ghost use Rattle.chess_rules.specs.RuleSet.{is_circe};

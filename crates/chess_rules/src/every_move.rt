@@ -3,9 +3,9 @@ ghost use Rattle.std.specs.Prelude.{◌≡◌, ◌&&◌, false, not, true};
 ghost use Rattle.std.specs.List.{list_all};
 ghost use Rattle.chess_core.specs.Position.{other};
 ghost use Rattle.chess_core.specs.WellFormed.{IsWellFormed};
-ghost use Rattle.chess_rules.specs.CheckSquares.{AreCheckSquares};
+ghost use Rattle.chess_rules.specs.ties.CheckSquares.{AreCheckSquares};
 ghost use Rattle.chess_rules.specs.Legal.{is_nil, legal, moves};
-ghost use Rattle.chess_rules.specs.Places.{IsPlaceIn, is_mating, moves_behind};
+ghost use Rattle.chess_rules.specs.ties.Places.{IsPlaceIn, is_mating, moves_behind};
 
 use crate::checks::{CheckSquares, check_squares, may_check};
 use crate::legal_moves::LegalMoves;

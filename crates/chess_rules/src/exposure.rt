@@ -4,7 +4,7 @@ ghost use Rattle.chess_core.specs.WellFormed.{IsWellFormed};
 ghost use Rattle.chess_rules.specs.Attacks.{in_check};
 ghost use Rattle.chess_rules.specs.Legal.{pseudo};
 ghost use Rattle.chess_rules.specs.Play.{after};
-ghost use Rattle.chess_rules.specs.Sight.{is_simple, king_after};
+ghost use Rattle.chess_rules.specs.ties.Sight.{is_simple, king_after};
 
 use crate::outward::attackers_seen;
 use crate::play::{capture_square, is_castling};

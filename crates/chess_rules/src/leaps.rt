@@ -2,8 +2,8 @@
 ghost use Rattle.std.specs.Prelude.{◌≡◌, ℕ};
 ghost use Rattle.std.specs.List.{list_any};
 ghost use Rattle.chess_core.specs.Steps.{knight_steps, pawn_captures, queen_steps};
-ghost use Rattle.chess_core.specs.Words.{word};
-ghost use Rattle.chess_rules.specs.Lines.{is_advance, is_aside};
+ghost use Rattle.chess_core.specs.ties.Words.{word};
+ghost use Rattle.chess_rules.specs.ties.Lines.{is_advance, is_aside};
 ghost use Rattle.chess_rules.specs.Reaches.{leaps};
 
 use crate::geometry::{

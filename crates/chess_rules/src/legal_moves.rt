@@ -1,12 +1,12 @@
 //! The legal moves of one position, most of them found without being played.
 ghost use Rattle.std.specs.Prelude.{◌≡◌, ℕ, ◌≤◌, ◌<◌, ◌∷◌, [], IfSome, MatchOption, None, Some, true};
 ghost use Rattle.chess_core.specs.WellFormed.{IsWellFormed};
-ghost use Rattle.chess_core.specs.Words.{word};
-ghost use Rattle.chess_rules.specs.Evasions.{AreEvasions};
-ghost use Rattle.chess_rules.specs.Shields.{may_expose};
+ghost use Rattle.chess_core.specs.ties.Words.{word};
+ghost use Rattle.chess_rules.specs.ties.Evasions.{AreEvasions};
+ghost use Rattle.chess_rules.specs.ties.Shields.{may_expose};
 ghost use Rattle.chess_rules.specs.Legal.{legal};
-ghost use Rattle.chess_rules.specs.Places.{HaveNone, IsPlaceIn, first_behind, moves_behind, moves_between, place_of, triple_at};
-ghost use Rattle.chess_rules.specs.Targets.{AreCandidates, AreKept, IsAimed};
+ghost use Rattle.chess_rules.specs.ties.Places.{HaveNone, IsPlaceIn, first_behind, moves_behind, moves_between, place_of, triple_at};
+ghost use Rattle.chess_rules.specs.ties.Targets.{AreCandidates, AreKept, IsAimed};
 
 use crate::evasions::{evasion_squares, evasions_from};
 use crate::legal::is_legal;
@@ -33,7 +33,7 @@ pub struct LegalMoves<R> {
 }
 
 impl<R> Model for LegalMoves<R> {
-    ghost use Rattle.chess_rules.specs.Places.{LegalPlace};
+    ghost use Rattle.chess_rules.specs.ties.Places.{LegalPlace};
 
     ghost Value = { LegalPlace };
 
@@ -173,11 +173,11 @@ struct Known {
 
 impl Sought for Known {
     ghost use Rattle.std.specs.Prelude.{◌≡◌};
-    ghost use Rattle.chess_core.specs.Words.{word};
-    ghost use Rattle.chess_rules.specs.Evasions.{AreEvasions};
+    ghost use Rattle.chess_core.specs.ties.Words.{word};
+    ghost use Rattle.chess_rules.specs.ties.Evasions.{AreEvasions};
     ghost use Rattle.chess_rules.specs.Legal.{legal};
-    ghost use Rattle.chess_rules.specs.Shields.{may_expose};
-    ghost use Rattle.chess_rules.specs.Idle.{legal-idle};
+    ghost use Rattle.chess_rules.specs.ties.Shields.{may_expose};
+    ghost use Rattle.chess_rules.specs.ties.Idle.{legal-idle};
 
     ghost test = { legal };
 

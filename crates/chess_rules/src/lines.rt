@@ -3,9 +3,9 @@ ghost use Rattle.std.specs.Prelude.{◌≡◌, ℕ, ◌<◌, List, Option};
 ghost use Rattle.std.specs.List.{list_any};
 ghost use Rattle.chess_core.specs.declared.man.Man.{Man};
 ghost use Rattle.chess_core.specs.Steps.{along, diagonal_steps, knight_steps, queen_steps, straight_steps};
-ghost use Rattle.chess_core.specs.Words.{word};
-ghost use Rattle.chess_rules.specs.Lines.{IsStop, direction_number, flat_steps, is_on_some, occupied_squares, ray, rises, steep_steps, step_of};
-ghost use Rattle.chess_rules.specs.Outward.{hopped_from};
+ghost use Rattle.chess_core.specs.ties.Words.{word};
+ghost use Rattle.chess_rules.specs.ties.Lines.{IsStop, direction_number, flat_steps, is_on_some, occupied_squares, ray, rises, steep_steps, step_of};
+ghost use Rattle.chess_rules.specs.ties.Outward.{hopped_from};
 ghost use Rattle.chess_rules.specs.Reaches.{hops, rides};
 
 use crate::geometry::{DIAGONAL_LINES, RAYS, STRAIGHT_LINES};
@@ -37,7 +37,7 @@ pub(crate) enum Direction {
 
 impl Direction {
     // Whether the numbers of the squares rise along the line.
-    #[tactic(auto, unfolding(crate::specs::Lines::rises))]
+    #[tactic(auto, unfolding(crate::specs::ties::Lines::rises))]
     fn rises(self) -> bool
         ensures { result ≡ rises (step_of self) }
     {

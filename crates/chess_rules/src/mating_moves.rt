@@ -3,11 +3,11 @@ ghost use Rattle.std.specs.Prelude.{◌≡◌, ℕ, ◌≤◌, ◌<◌, ◌∷�
 ghost use Rattle.chess_core.specs.Position.{other};
 ghost use Rattle.chess_core.specs.WellFormed.{IsWellFormed};
 ghost use Rattle.chess_rules.specs.Attacks.{in_check};
-ghost use Rattle.chess_rules.specs.CheckSquares.{AreCheckSquares};
+ghost use Rattle.chess_rules.specs.ties.CheckSquares.{AreCheckSquares};
 ghost use Rattle.chess_rules.specs.Legal.{is_goal, legal, pseudo};
-ghost use Rattle.chess_rules.specs.Places.{HaveNone, IsMatingPlaceIn, IsNextMate, mates, mates_behind, place_of, triple_at};
+ghost use Rattle.chess_rules.specs.ties.Places.{HaveNone, IsMatingPlaceIn, IsNextMate, mates, mates_behind, place_of, triple_at};
 ghost use Rattle.chess_rules.specs.Play.{after};
-ghost use Rattle.chess_rules.specs.Targets.{AreCandidates, AreKept, IsAimed};
+ghost use Rattle.chess_rules.specs.ties.Targets.{AreCandidates, AreKept, IsAimed};
 
 use crate::checks::{CheckSquares, check_squares, check_targets, may_check};
 use crate::flights::has_flight;
@@ -32,7 +32,7 @@ pub struct MatingMoves<R> {
 }
 
 impl<R> Model for MatingMoves<R> {
-    ghost use Rattle.chess_rules.specs.Places.{MatingPlace};
+    ghost use Rattle.chess_rules.specs.ties.Places.{MatingPlace};
 
     ghost Value = { MatingPlace };
 
@@ -121,9 +121,9 @@ pub(crate) fn next_mating<R: Rules>(
 
 impl Sought for CheckSquares {
     ghost use Rattle.chess_core.specs.Position.{other};
-    ghost use Rattle.chess_rules.specs.CheckSquares.{AreCheckSquares};
-    ghost use Rattle.chess_rules.specs.Places.{mates};
-    ghost use Rattle.chess_rules.specs.Idle.{mates-idle};
+    ghost use Rattle.chess_rules.specs.ties.CheckSquares.{AreCheckSquares};
+    ghost use Rattle.chess_rules.specs.ties.Places.{mates};
+    ghost use Rattle.chess_rules.specs.ties.Idle.{mates-idle};
 
     ghost test = { mates };
 

@@ -3,12 +3,12 @@ ghost use Rattle.std.specs.Prelude.{◌≡◌, ℕ, ◌&&◌, ◌==◌, not, Lis
 ghost use Rattle.std.specs.Int.{bit_at};
 ghost use Rattle.chess_core.specs.Position.{is_man, is_side, man_on};
 ghost use Rattle.chess_core.specs.declared.man.Man.{Man};
-ghost use Rattle.chess_rules.specs.Lines.{occupied_squares};
-ghost use Rattle.chess_rules.specs.Sight.{AreSeen};
+ghost use Rattle.chess_rules.specs.ties.Lines.{occupied_squares};
+ghost use Rattle.chess_rules.specs.ties.Sight.{AreSeen};
 ghost use Rattle.chess_core.specs.Squares.{some_square};
-ghost use Rattle.chess_core.specs.Words.{word};
+ghost use Rattle.chess_core.specs.ties.Words.{word};
 ghost use Rattle.chess_rules.specs.Attacks.{paralysed};
-ghost use Rattle.chess_rules.specs.Outward.{is_met};
+ghost use Rattle.chess_rules.specs.ties.Outward.{is_met};
 ghost use Rattle.chess_rules.specs.Reaches.{reaches, reaches_as};
 ghost use Rattle.chess_core.specs.Steps.{diagonal_steps, straight_steps};
 ghost use Rattle.chess_core.specs.declared.man.Kind.TheVariants.{Bishop, Rook};

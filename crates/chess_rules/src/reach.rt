@@ -1,8 +1,8 @@
 //! How men go: the squares that a man on one square reaches.
 ghost use Rattle.std.specs.Prelude.{◌≡◌, ℕ, List, Option};
-ghost use Rattle.chess_core.specs.Words.{word};
+ghost use Rattle.chess_core.specs.ties.Words.{word};
 ghost use Rattle.chess_core.specs.declared.man.Man.{Man};
-ghost use Rattle.chess_rules.specs.Lines.{occupied_squares};
+ghost use Rattle.chess_rules.specs.ties.Lines.{occupied_squares};
 ghost use Rattle.chess_rules.specs.Reaches.{reaches, reaches_as};
 
 use crate::leaps::{king_leaps, knight_leaps, pawn_leaps};

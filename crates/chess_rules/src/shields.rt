@@ -8,10 +8,10 @@ ghost use Rattle.chess_core.specs.Squares.{is_square, some_square};
 ghost use Rattle.chess_core.specs.Steps.{diagonal_steps, straight_steps};
 ghost use Rattle.chess_core.specs.declared.man.Man.{Man};
 ghost use Rattle.chess_core.specs.declared.man.Kind.TheVariants.{Bishop, Queen, Rook};
-ghost use Rattle.chess_rules.specs.Lines.{is_on_some, occupied_squares};
+ghost use Rattle.chess_rules.specs.ties.Lines.{is_on_some, occupied_squares};
 ghost use Rattle.chess_rules.specs.Reaches.{rides};
-ghost use Rattle.chess_core.specs.Words.{squares_of, word};
-ghost use Rattle.chess_rules.specs.Shields.{cannot_expose, has_fairy, is_shut, is_unshielded, is_plain, may_expose, rider_along, steps_along};
+ghost use Rattle.chess_core.specs.ties.Words.{squares_of, word};
+ghost use Rattle.chess_rules.specs.ties.Shields.{cannot_expose, has_fairy, is_shut, is_unshielded, is_plain, may_expose, rider_along, steps_along};
 ghost use Rattle.chess_rules.specs.RuleSet.{is_circe};
 
 use crate::lines::{diagonal_lines, diagonal_rides, occupied, straight_lines, straight_rides};
@@ -31,7 +31,7 @@ pub(crate) fn has_fairy(board: &Board, colour: Colour) -> bool
 
 // Whether the colour's king, on this square, is in check, or check may come to it by other ways than an
 // orthodox man's.
-#[tactic(auto, unfolding(crate::specs::Shields::is_unshielded))]
+#[tactic(auto, unfolding(crate::specs::ties::Shields::is_unshielded))]
 fn is_unshielded<R: Rules>(board: &Board, colour: Colour, king: Square) -> bool
     ensures { result ≡ is_unshielded R.rule board.now.men colour king }
 {
@@ -145,7 +145,7 @@ pub(crate) fn shield_squares<R: Rules>(board: &Board, colour: Colour) -> u64
 }
 
 // Whether the man's move changes nothing but its own square.
-#[tactic(auto, unfolding(crate::specs::Shields::is_plain))]
+#[tactic(auto, unfolding(crate::specs::ties::Shields::is_plain))]
 pub(crate) fn is_plain<R: Rules>(board: &Board, man: Man, m: &Move) -> bool
     ensures { result ≡ is_plain R.rule board.now man m.now }
 {

@@ -2,8 +2,8 @@
 ghost use Rattle.std.specs.Prelude.{◌≡◌, List, Option};
 ghost use Rattle.chess_core.specs.declared.man.Colour.{Colour};
 ghost use Rattle.chess_core.specs.declared.man.Man.{Man};
-ghost use Rattle.chess_core.specs.Words.{squares_of};
-ghost use Rattle.chess_rules.specs.Sight.{AreSeen, sight_after};
+ghost use Rattle.chess_core.specs.ties.Words.{squares_of};
+ghost use Rattle.chess_rules.specs.ties.Sight.{AreSeen, sight_after};
 
 use crate::lines::occupied;
 use crate::words::only;

@@ -2,8 +2,8 @@
 //! position.
 ghost use Rattle.std.specs.Prelude.{◌≡◌, ◌≤◌, ◌<◌, Some, true};
 ghost use Rattle.chess_core.specs.WellFormed.{IsWellFormed};
-ghost use Rattle.chess_rules.specs.Places.{HaveNone, triple_at};
-ghost use Rattle.chess_rules.specs.Targets.{AreCandidates, AreKept, IsAimed};
+ghost use Rattle.chess_rules.specs.ties.Places.{HaveNone, triple_at};
+ghost use Rattle.chess_rules.specs.ties.Targets.{AreCandidates, AreKept, IsAimed};
 
 use crate::moves::triple;
 use crate::rules::Rules;

@@ -2,10 +2,10 @@
 ghost use Rattle.std.specs.Prelude.{◌≡◌, ℕ, ◌<◌, ◌≤◌, ◌&&◌, ◌||◌, None};
 ghost use Rattle.chess_core.specs.Castling.{has_unmoved};
 ghost use Rattle.chess_core.specs.Position.{man_on};
-ghost use Rattle.chess_core.specs.Words.{word};
+ghost use Rattle.chess_core.specs.ties.Words.{word};
 ghost use Rattle.chess_rules.specs.Legal.{is_arrival_free};
-ghost use Rattle.chess_rules.specs.Places.{IsBarrenFrom, IsNamed};
-ghost use Rattle.chess_rules.specs.Targets.{arrives, is_arrival, may_go, pawn_goes, steps_to};
+ghost use Rattle.chess_rules.specs.ties.Places.{IsBarrenFrom, IsNamed};
+ghost use Rattle.chess_rules.specs.ties.Targets.{arrives, is_arrival, may_go, pawn_goes, steps_to};
 
 use crate::leaps::{king_leaps, pawn_advances, squares_aside};
 use crate::legal::{last_rank, second_rank};

@@ -3,7 +3,7 @@ use Rattle.std.proofs.Common.{◌≡◌, ℕ, List, [], ◌∷◌, ◌++◌, Opt
 use Rattle.std.specs.List.{list_all, onto_first}
 use Rattle.std.proofs.lemmas.List.{append-nil}
 use Rattle.pop_text.specs.Words.{Words, Token, Word, TextLine, Tail}
-use Rattle.pop_text.specs.Left.{put_before, no_words}
+use Rattle.pop_text.specs.ties.Left.{put_before, no_words}
 use Rattle.pop_input.specs.Names.{command_of, text_word_of, closes, or_else}
 use Rattle.pop_input.specs.State.{State, state_of}
 use Rattle.pop_input.specs.WordFaults.{fault_of}

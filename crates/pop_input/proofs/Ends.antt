@@ -2,17 +2,17 @@
 use Rattle.std.proofs.Common.{◌≡◌, ℕ, List, [], ◌∷◌, ◌++◌, Option, None, Some, Bool, true, false, refl, sym, ◌∙◌, ap, subst}
 use Rattle.std.proofs.lemmas.List.{append-nil}
 use Rattle.pop_text.specs.Words.{Input, Token as Part, Word, Tail, End as AtEnd, Long, Broken as Failing}
-use Rattle.pop_text.specs.Reading.{Reading}
-use Rattle.pop_text.specs.Left.{after, MayFollow, words_left, put_before, no_words, Takes, among, IsOver}
+use Rattle.pop_text.specs.ties.Reading.{Reading}
+use Rattle.pop_text.specs.ties.Left.{after, MayFollow, words_left, put_before, no_words, Takes, among, IsOver}
 use Rattle.pop_text.specs.declared.read_fault.ReadFault.{ReadFault}
 use Rattle.pop_text.specs.declared.read_fault.ReadFault.TheVariants.{TooLong, InputTooLong, Device}
 use Rattle.pop_input.specs.Names.{command_of}
 use Rattle.pop_input.specs.Names.{or_else}
 use Rattle.pop_input.specs.Blocks.{at_line, fault_at, has_begun, inside, block_fault, Entry, Faulty as FaultyEntry, Sound as SoundEntry, entry_of, problem_of, closed_entry, entries_by, entries_of, tail_fault, more_entries}
-use Rattle.pop_input.specs.Tokens.{CutsOff, TakesPart, TakesNothing}
-use Rattle.pop_input.specs.Closings.{Closes, closing_fault, ended_by, ended_item, cut_fault, last_of}
+use Rattle.pop_input.specs.ties.Tokens.{CutsOff, TakesPart, TakesNothing}
+use Rattle.pop_input.specs.ties.Closings.{Closes, closing_fault, ended_by, ended_item, cut_fault, last_of}
 use Rattle.pop_input.specs.Ends.{end_fault_in, posed_of}
-use Rattle.pop_input.specs.Standing.{Standing, entries_at, entries_left, Reads, NextItem, next_behind}
+use Rattle.pop_input.specs.ties.Standing.{Standing, entries_at, entries_left, Reads, NextItem, next_behind}
 use Rattle.pop_input.specs.declared.block.Block.{Block}
 use Rattle.pop_input.specs.declared.item.Item.{Item}
 use Rattle.pop_input.specs.declared.item.Fault.{Fault}

@@ -7,14 +7,14 @@ use Rattle.std.proofs.lemmas.Bool.{lt-ltb}
 use Rattle.std.proofs.lemmas.List.Folds.{list_all-append}
 use Rattle.pop_text.specs.Bytes.{Consumes}
 use Rattle.pop_text.specs.Words.{Token as Part, Word, TextLine, text_of_line}
-use Rattle.pop_text.specs.Reading.{Reading}
-use Rattle.pop_text.specs.Left.{Takes, among}
+use Rattle.pop_text.specs.ties.Reading.{Reading}
+use Rattle.pop_text.specs.ties.Left.{Takes, among}
 use Rattle.pop_input.specs.Names.{command_of, section_of, text_word_of, closes, or_else}
 use Rattle.pop_input.specs.State.{State, state_of}
 use Rattle.pop_input.specs.WordFaults.{fault_of}
 use Rattle.pop_input.specs.Blocks.{at_line, fault_at, has_begun, inside, words_before, block_fault, text_after, last_text}
-use Rattle.pop_input.specs.Tokens.{TakesPart}
-use Rattle.pop_input.specs.Closings.{last_of, noted, said_after, text_with}
+use Rattle.pop_input.specs.ties.Tokens.{TakesPart}
+use Rattle.pop_input.specs.ties.Closings.{last_of, noted, said_after, text_with}
 use Rattle.pop_input.specs.declared.block.Block.{Block}
 use Rattle.pop_input.specs.declared.item.Fault.{Fault}
 use Rattle.pop_input.specs.declared.names.Command.{Command}

@@ -1,10 +1,10 @@
 -- The fault of a block that is read so far, and of the item that closes it.
 use Rattle.std.proofs.Common.{ℕ, List, [], ◌∷◌, ◌++◌, Option, Bool, sym, subst}
 use Rattle.pop_text.specs.Words.{Word}
-use Rattle.pop_text.specs.Reading.{Reading}
-use Rattle.pop_input.specs.Closings.{Closes}
-use Rattle.pop_input.specs.Standing.{Standing, IsNumbered}
-use Rattle.pop_input.specs.Tokens.{TakesPart}
+use Rattle.pop_text.specs.ties.Reading.{Reading}
+use Rattle.pop_input.specs.ties.Closings.{Closes}
+use Rattle.pop_input.specs.ties.Standing.{Standing, IsNumbered}
+use Rattle.pop_input.specs.ties.Tokens.{TakesPart}
 use Rattle.pop_input.specs.declared.block.Block.{Block}
 use Rattle.pop_input.specs.declared.item.Item.{Item}
 use Rattle.pop_input.specs.declared.item.Last.{Last}

@@ -9,7 +9,7 @@ use Rattle.chess_core.specs.declared.man.Man.{Man}
 use Rattle.chess_core.specs.declared.man.Colour.{Colour}
 use Rattle.chess_core.specs.declared.man.Kind.{Kind}
 use Rattle.pop_text.specs.Words.{Token, Word, TextLine, End as AtEnd}
-use Rattle.pop_text.specs.Reading.{Reading}
+use Rattle.pop_text.specs.ties.Reading.{Reading}
 use Rattle.pop_text.specs.declared.read_fault.ReadFault.{ReadFault}
 use Rattle.pop_text.specs.declared.read_fault.ReadFault.TheVariants.{TooLong, InputTooLong, Device}
 use Rattle.pop_input.specs.Names.{command_of, colour_of, kind_of, or_else}
@@ -20,9 +20,9 @@ use Rattle.pop_input.specs.Ends.{end_fault_in, is_taken, setup_of, stated_fault}
 use Rattle.pop_input.specs.Posed.{rule_of}
 use Rattle.pop_input.specs.Stipulations.{has_king_to_mate}
 use Rattle.pop_input.specs.Blocks.{at_line, fault_at, first_fault, block_fault, tail_fault}
-use Rattle.pop_input.specs.Closings.{Closes, closing_fault, cut_fault, ended_by, ended_item}
-use Rattle.pop_input.specs.Standing.{IsNumbered}
-use Rattle.pop_input.specs.Tokens.{CutsOff}
+use Rattle.pop_input.specs.ties.Closings.{Closes, closing_fault, cut_fault, ended_by, ended_item}
+use Rattle.pop_input.specs.ties.Standing.{IsNumbered}
+use Rattle.pop_input.specs.ties.Tokens.{CutsOff}
 use Rattle.pop_input.specs.declared.block.Block.{Block}
 use Rattle.pop_input.specs.declared.condition.Condition.{Condition}
 use Rattle.pop_input.specs.declared.item.Fault.{Fault}

@@ -3,7 +3,7 @@ use Rattle.std.proofs.Common.{◌≡◌, ℕ, zero, suc, ◌+◌, ◌-◌, ◌<�
 use Rattle.std.specs.List.{onto_first, slice_split}
 use Rattle.std.proofs.lemmas.List.Splits.{length-slice_split}
 use Rattle.std.proofs.lemmas.List.Sums.{sum_by-append}
-use Rattle.pop_text.specs.Left.{put_before}
+use Rattle.pop_text.specs.ties.Left.{put_before}
 use Rattle.pop_text.specs.Words.{Input, Tail, Token, is_cut, is_line_end, lines_tokens, runs_of, tail_of, tokens_of, words_by, words_from}
 
 onto_both : (x : ℕ) (ls ms : List (List ℕ)) → 0 < length ls → onto_first x (ls ++ ms) ≡ onto_first x ls ++ ms

@@ -5,9 +5,9 @@ use Rattle.std.proofs.lemmas.List.{append-nil}
 use Rattle.std.proofs.lemmas.List.Folds.{list_all-append}
 use Rattle.std.specs.Prelude.{◌&&◌, codes, option_map}
 use Rattle.pop_text.specs.Words.{Token as Part, Word, TextLine, is_short_form}
-use Rattle.pop_text.specs.Plain.{Skips, is_named, is_plain}
-use Rattle.pop_text.specs.Reading.{Reading}
-use Rattle.pop_text.specs.Left.{among}
+use Rattle.pop_text.specs.ties.Plain.{Skips, is_named, is_plain}
+use Rattle.pop_text.specs.ties.Reading.{Reading}
+use Rattle.pop_text.specs.ties.Left.{among}
 use Rattle.pop_text.proofs.Plain.{plain_no_closing}
 use Rattle.pop_input.specs.Names.{closes, command_of, or_else, section_of}
 use Rattle.pop_input.specs.Blocks.{at_line, block_fault, has_begun}

@@ -2,13 +2,13 @@
 use Rattle.std.proofs.Common.{◌≡◌, ◌≤◌, ℕ, List, [], ◌∷◌, ◌++◌, Option, None, Some, true, refl, ◌∙◌, ap, arith, append_assoc, length-append, subst, Ok, Err}
 use Rattle.pop_text.specs.Bytes.{Consumes}
 use Rattle.pop_text.specs.Words.{Input, Words, Token as Part, TextLine, is_text_word, limit}
-use Rattle.pop_text.specs.Reading.{Reading}
-use Rattle.pop_text.specs.Left.{after, words_left, put_before, Spot, Takes, among, behind_word, TakesWord, GoesOn, RestOfLine, TakesNone}
+use Rattle.pop_text.specs.ties.Reading.{Reading}
+use Rattle.pop_text.specs.ties.Left.{after, words_left, put_before, Spot, Takes, among, behind_word, TakesWord, GoesOn, RestOfLine, TakesNone}
 use Rattle.pop_text.specs.declared.read_fault.ReadFault.{ReadFault}
 use Rattle.pop_text.specs.declared.read_fault.ReadFault.TheVariants.{TooLong, InputTooLong, Device}
 use Rattle.pop_text.specs.declared.word.Word.{Word as Room}
 use Rattle.pop_input.specs.Names.{text_word_of}
-use Rattle.pop_input.specs.Tokens.{NextToken}
+use Rattle.pop_input.specs.ties.Tokens.{NextToken}
 use Rattle.pop_input.specs.declared.names.TextWord.{TextWord}
 use Rattle.pop_input.specs.declared.token.Token.TheVariants.{Line, Cut}
 

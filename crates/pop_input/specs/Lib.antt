@@ -6,6 +6,4 @@ pub mod State
 pub mod WordFaults
 pub mod Ends
 pub mod Blocks
-pub mod Closings
-pub mod Tokens
-pub mod Standing
+pub mod ties

@@ -2,7 +2,7 @@
 ghost use Rattle.std.specs.Prelude.{◌≡◌, ◌≤◌, ℕ, List, [], length, None, Some, not, true};
 ghost use Rattle.pop_input.specs.Names.{command_of, or_else};
 ghost use Rattle.pop_input.specs.Blocks.{at_line, fault_at};
-ghost use Rattle.pop_input.specs.Closings.{Closes, ended_item, noted, said_after};
+ghost use Rattle.pop_input.specs.ties.Closings.{Closes, ended_item, noted, said_after};
 ghost use Rattle.pop_input.specs.State.{state_of};
 ghost use Rattle.pop_input.specs.WordFaults.{fault_of};
 ghost use Rattle.pop_input.specs.declared.names.TextWord.TheVariants.{Title, Author};

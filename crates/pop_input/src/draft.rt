@@ -10,7 +10,7 @@ ghost use Rattle.chess_rules.specs.Attacks.{in_check};
 ghost use Rattle.pop_input.specs.Posed.{rule_of};
 ghost use Rattle.pop_input.specs.Ends.{counts, end_fault_in, is_taken, posed_of, position_fault, setup_fault, setup_of, unmoved_of};
 ghost use Rattle.pop_input.specs.Names.{command_of, kind_of};
-ghost use Rattle.pop_input.specs.Closings.{Poses};
+ghost use Rattle.pop_input.specs.ties.Closings.{Poses};
 ghost use Rattle.pop_input.specs.Values.{is_digit, squares_of};
 ghost use Rattle.pop_input.specs.Stipulations.{has_king_to_mate};
 ghost use Rattle.pop_input.specs.State.{State, awaited_by, put_kind, put_men, state_after, state_by, state_of, switches_with};

@@ -2,12 +2,12 @@
 ghost use Rattle.std.specs.Prelude.{◌≡◌, ◌≢◌, ◌<◌, ◌≤◌, ◌⊎◌, None, length, true};
 ghost use Rattle.pop_text.specs.Bytes.{greatest};
 ghost use Rattle.pop_text.specs.Words.{limit};
-ghost use Rattle.pop_text.specs.Reading.{IsSeen, failures_after};
-ghost use Rattle.pop_text.specs.Plain.{Skips};
+ghost use Rattle.pop_text.specs.ties.Reading.{IsSeen, failures_after};
+ghost use Rattle.pop_text.specs.ties.Plain.{Skips};
 ghost use Rattle.pop_text.specs.declared.scanner.End.{End};
 ghost use Rattle.pop_input.specs.declared.reader.Next.{Next};
-ghost use Rattle.pop_input.specs.Standing.{IsNumbered, NextItem, is_item, next_behind as behind, start, work_left};
-ghost use Rattle.pop_input.specs.Closings.{cut_fault, last_of};
+ghost use Rattle.pop_input.specs.ties.Standing.{IsNumbered, NextItem, is_item, next_behind as behind, start, work_left};
+ghost use Rattle.pop_input.specs.ties.Closings.{cut_fault, last_of};
 ghost use Rattle.pop_input.specs.Names.{command_of};
 
 use crate::block::Block;
@@ -38,7 +38,7 @@ pub struct Reader {
 }
 
 impl Model for Reader {
-    ghost use Rattle.pop_input.specs.Standing.{Standing};
+    ghost use Rattle.pop_input.specs.ties.Standing.{Standing};
 
     ghost Value = { Standing };
 

@@ -2,9 +2,9 @@
 ghost use Rattle.std.specs.Prelude.{◌≡◌, ◌<◌, ◌≤◌, ◌⊎◌, length};
 ghost use Rattle.pop_text.specs.Words.{limit};
 ghost use Rattle.pop_text.specs.Bytes.{greatest};
-ghost use Rattle.pop_text.specs.Reading.{IsSeen, failures_after};
+ghost use Rattle.pop_text.specs.ties.Reading.{IsSeen, failures_after};
 ghost use Rattle.pop_text.specs.declared.scanner.End.{End};
-ghost use Rattle.pop_input.specs.Tokens.{NextToken};
+ghost use Rattle.pop_input.specs.ties.Tokens.{NextToken};
 
 use crate::names::{TextWord, text_word_of};
 use pop_text::read_fault::ReadFault;

@@ -1,6 +1,6 @@
-pub mod Room
 pub mod Notation
 pub mod Heads
 pub mod Moves
 pub mod Events
 pub mod Faults
+pub mod ties

@@ -1,7 +1,7 @@
 //! Events as they are written.
 ghost use Rattle.std.specs.Prelude.{◌≡◌, ◌<◌, ◌≤◌, ◌+◌, ◌++◌, [], ◌∷◌, ◌^◌, length, replicate, codes, true};
 ghost use Rattle.pop_text.specs.Bytes.{Writes, count_after, greatest};
-ghost use Rattle.pop_print.specs.Room.{room};
+ghost use Rattle.pop_print.specs.ties.Room.{room};
 ghost use Rattle.pop_print.specs.Moves.{move_text};
 ghost use Rattle.pop_print.specs.Events.{event_text, lead_text, line_text, moves_text, node_text, prefix_text, stopped_text as text_of_stopped, total_text};
 

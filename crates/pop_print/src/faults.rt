@@ -1,7 +1,7 @@
 //! Faults as they are written.
 ghost use Rattle.std.specs.Prelude.{◌≡◌, ◌<◌, ◌≤◌, ◌+◌, ◌++◌, length};
 ghost use Rattle.pop_text.specs.Bytes.{Writes, count_after, greatest};
-ghost use Rattle.pop_print.specs.Room.{room};
+ghost use Rattle.pop_print.specs.ties.Room.{room};
 ghost use Rattle.pop_print.specs.Faults.{fault_text, message_of as text_of_number};
 
 use crate::line::LineBuffer;

@@ -2,7 +2,7 @@
 ghost use Rattle.std.specs.Prelude.{◌≡◌, ◌<◌, ◌≤◌, ◌+◌, ◌++◌, ◌||◌, List, ℕ, [], length, codes, if◌then◌else◌};
 ghost use Rattle.chess_core.specs.Position.{man_on};
 ghost use Rattle.pop_text.specs.Bytes.{Writes, count_after, greatest};
-ghost use Rattle.pop_print.specs.Room.{room};
+ghost use Rattle.pop_print.specs.ties.Room.{room};
 ghost use Rattle.pop_print.specs.Heads.{board_text, cell_of as letter_on, condition_text as text_of_condition, form_text as text_of_form, goal_text as text_of_goal, checked_text, half_text as text_of_half, head_text, item_line, labelled, names_text, rank_text, stipulation_text, task_line};
 
 use crate::line::LineBuffer;

@@ -1,7 +1,7 @@
 //! Fixed room in which lines are put together.
 ghost use Rattle.std.specs.Prelude.{◌≡◌, ◌<◌, ◌≤◌, ◌+◌, ◌++◌, [], ◌∷◌, length, decimal};
 ghost use Rattle.pop_text.specs.Bytes.{Writes, count_after, greatest};
-ghost use Rattle.pop_print.specs.Room.{room};
+ghost use Rattle.pop_print.specs.ties.Room.{room};
 
 use arrayvec::ArrayVec;
 use itoa::Buffer;

@@ -1,6 +1,6 @@
 //! Moves as they are written.
 ghost use Rattle.std.specs.Prelude.{◌≡◌, ◌≤◌, ◌+◌, ◌++◌, [], ◌∷◌, length};
-ghost use Rattle.pop_print.specs.Room.{room};
+ghost use Rattle.pop_print.specs.ties.Room.{room};
 ghost use Rattle.pop_print.specs.Moves.{castling_text as text_of_castling, en_passant_text as text_of_en_passant, mark_text as text_of_mark, move_text, promotion_text, rebirth_text, step_text as text_of_step, going_text};
 
 use crate::line::LineBuffer;

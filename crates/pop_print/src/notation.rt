@@ -1,6 +1,6 @@
 //! Squares and men as they are written.
 ghost use Rattle.std.specs.Prelude.{◌≡◌, ◌<◌, ◌≤◌, ◌+◌, ◌++◌, [], ◌∷◌, length};
-ghost use Rattle.pop_print.specs.Room.{room};
+ghost use Rattle.pop_print.specs.ties.Room.{room};
 ghost use Rattle.pop_print.specs.Notation.{colour_letter as letter_of_colour, letter_of as letter_of_kind, man_text, square_text};
 
 use crate::line::LineBuffer;

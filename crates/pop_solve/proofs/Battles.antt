@@ -4,7 +4,7 @@ use Rattle.pop_solve.specs.declared.aim.Battle.TheVariants.{Direct, Selfmate}
 use Rattle.std.proofs.Common.{◌≡◌, ℕ, zero, suc, ◌*◌, ◌-◌, ◌%◌, Bool, true, false, ◌&&◌, ◌||◌, refl, ◌∙◌, ap, arith}
 use Rattle.std.specs.Prelude.{◌==◌}
 use Rattle.pop_solve.specs.Game.{Game, can_move, some_move, every_move, lost, wins, self_wins, self_lost}
-use Rattle.pop_solve.specs.Values.{value}
+use Rattle.pop_solve.specs.ties.Values.{value}
 
 even-is : (t : ℕ) → t % 2 ≡ 0 → (t % 2 == 0) ≡ true
 even-is t e = rw e refl

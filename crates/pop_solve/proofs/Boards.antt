@@ -8,12 +8,14 @@ use Rattle.chess_core.specs.Position.{Position}
 use Rattle.chess_core.specs.Triple.{Triple}
 use Rattle.chess_rules.specs.Attacks.{in_check}
 use Rattle.chess_rules.specs.Legal.{is_goal, is_nil, is_stalemate, legal, moves}
-use Rattle.chess_rules.specs.Places.{is_mating, mates_behind, moves_behind, moves_between}
+use Rattle.chess_rules.specs.ties.Places.{is_mating, mates_behind, moves_behind, moves_between}
 use Rattle.chess_rules.proofs.Between.{cut_moves}
 use Rattle.chess_rules.specs.RuleSet.{RuleSet}
-use Rattle.pop_solve.specs.Chess.{chess, is_for_mate, is_reached}
-use Rattle.pop_solve.specs.Game.{can_move, some_move as some_good, walk_count}
-use Rattle.pop_solve.specs.Values.{value}
+use Rattle.pop_solve.specs.Chess.{chess, is_reached}
+use Rattle.pop_solve.specs.ties.Marks.{is_for_mate}
+use Rattle.pop_solve.specs.Game.{can_move, some_move as some_good}
+use Rattle.pop_solve.specs.ties.Counts.{walk_count}
+use Rattle.pop_solve.specs.ties.Values.{value}
 use Rattle.pop_solve.specs.declared.aim.Battle.{Battle}
 
 is_nil-length : (ms : List Triple) → not (is_nil ms) ≡ not (eqb (length ms) 0)

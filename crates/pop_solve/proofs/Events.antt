@@ -14,11 +14,12 @@ use Rattle.pop_solve.specs.declared.event.Phase.{Phase}
 use Rattle.pop_solve.specs.declared.event.Phase.TheVariants.{Set, Play}
 use Rattle.pop_input.specs.Stipulations.{is_help, half_moves}
 use Rattle.pop_solve.proofs.Sound.{in_range}
-use Rattle.pop_solve.specs.Frames.{AreKnown, Frame, position, IsLinked}
+use Rattle.pop_solve.specs.ties.Frames.{AreKnown, Frame, position, IsLinked}
 use Rattle.pop_solve.specs.Game.{reach}
-use Rattle.pop_solve.specs.Walk.{path, IsWalking, IsRoomy}
-use Rattle.pop_solve.specs.Events.{Step, start, is_set, opening, line, tree_node, total, step_of, event_of, StandsOn, phase_start, phase_half_moves, phase_half, shown_along, shown_last, steps_from, phase_steps, is_barred, counted, solutions, events}
-use Rattle.pop_solve.specs.Phases.{way_of, begins, keep, started, left_of, IsStanding, IsGiven, Walks, Gives, phase_paths}
+use Rattle.pop_solve.specs.ties.Walk.{path, IsWalking, IsRoomy}
+use Rattle.pop_solve.specs.Events.{Step, start, is_set, opening, line, tree_node, total, step_of, event_of, phase_start, phase_half_moves, phase_half, shown_along, shown_last, steps_from, phase_steps, is_barred, counted, solutions, events}
+use Rattle.pop_solve.specs.ties.Seen.{StandsOn}
+use Rattle.pop_solve.specs.ties.Phases.{way_of, begins, keep, started, left_of, IsStanding, IsGiven, Walks, Gives, phase_paths}
 use Rattle.pop_solve.specs.Shown.{Shown}
 use Rattle.pop_solve.specs.declared.event.Event.{Event}
 use Rattle.pop_solve.specs.declared.event.Event.TheVariants.{Line, Node, Total}

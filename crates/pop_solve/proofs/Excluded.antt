@@ -9,9 +9,10 @@ use Rattle.pop_input.specs.Stipulations.{is_help}
 use Rattle.pop_solve.specs.declared.event.Phase.{Phase}
 use Rattle.pop_solve.specs.declared.event.Event.TheVariants.{Line, Node, Total}
 use Rattle.pop_solve.specs.declared.phases.Stage.TheVariants.{Within}
-use Rattle.pop_solve.specs.Frames.{Frame}
-use Rattle.pop_solve.specs.Events.{Step, opening, impossible, line, tree_node, total, step_of, event_of, StandsOn}
-use Rattle.pop_solve.specs.Phases.{keep, left_of, phase_paths, Gives}
+use Rattle.pop_solve.specs.ties.Frames.{Frame}
+use Rattle.pop_solve.specs.Events.{Step, opening, impossible, line, tree_node, total, step_of, event_of}
+use Rattle.pop_solve.specs.ties.Seen.{StandsOn}
+use Rattle.pop_solve.specs.ties.Phases.{keep, left_of, phase_paths, Gives}
 use Rattle.pop_solve.specs.Shown.{Shown}
 
 module _ (rule : RuleSet) (problem : Posed) (old new : List Step) (board : Position) where

@@ -4,13 +4,13 @@ use Rattle.std.proofs.lemmas.List.{append-nil}
 use Rattle.std.proofs.lemmas.Bool.Decides.{nat_tests}
 use Rattle.chess_core.specs.Position.{Position}
 use Rattle.chess_core.specs.Triple.{Triple}
-use Rattle.chess_rules.specs.Places.{moves_behind}
+use Rattle.chess_rules.specs.ties.Places.{moves_behind}
 use Rattle.chess_rules.specs.RuleSet.{RuleSet}
 use Rattle.pop_solve.specs.Chess.{chess}
 use Rattle.pop_solve.specs.Game.{Game}
-use Rattle.pop_solve.specs.Frames.{Frame, position}
-use Rattle.pop_solve.specs.Walk.{follows, gives, shown, path, to_come, IsWalking, Steps}
-use Rattle.pop_solve.specs.Phases.{begins, keep, started, Walks}
+use Rattle.pop_solve.specs.ties.Frames.{Frame, position}
+use Rattle.pop_solve.specs.ties.Walk.{follows, gives, shown, path, to_come, IsWalking, Steps}
+use Rattle.pop_solve.specs.ties.Phases.{begins, keep, started, Walks}
 use Rattle.pop_solve.specs.declared.walk.Way.{Way}
 use Rattle.pop_solve.proofs.Paths.{path-length}
 

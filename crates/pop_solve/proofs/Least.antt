@@ -3,8 +3,8 @@ use Rattle.pop_solve.specs.declared.aim.Battle.TheVariants.{Direct, Selfmate}
 use Rattle.std.proofs.Common.{◌≡◌, ℕ, zero, suc, ◌+◌, ◌*◌, Bool, true, false, not, ◌||◌, cond, refl, ◌∙◌, ap, arith, add-one}
 use Rattle.std.specs.List.{position_or_len, range_with_len}
 use Rattle.pop_solve.specs.Game.{Game, wins, self_wins}
-use Rattle.pop_solve.specs.Values.{value}
-use Rattle.pop_solve.specs.Walk.{first_from}
+use Rattle.pop_solve.specs.ties.Values.{value}
+use Rattle.pop_solve.specs.ties.Walk.{first_from}
 use Rattle.pop_solve.specs.Tree.{least}
 use Rattle.pop_solve.proofs.Battles.{value-wins, value-self_wins}
 

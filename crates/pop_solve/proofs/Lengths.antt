@@ -2,8 +2,8 @@
 use Rattle.pop_solve.specs.declared.aim.Battle.{Battle}
 use Rattle.std.proofs.Common.{◌≡◌, ℕ, zero, suc, ◌+◌, ◌-◌, ◌/◌, ◌<◌, ◌≤◌, true, false, cond, refl, sym, ap, arith}
 use Rattle.pop_solve.specs.Game.{Game}
-use Rattle.pop_solve.specs.Values.{value}
-use Rattle.pop_solve.specs.Walk.{first_from}
+use Rattle.pop_solve.specs.ties.Values.{value}
+use Rattle.pop_solve.specs.ties.Walk.{first_from}
 
 module _ {P M : Type 0} (battle : Battle) (game : Game P M) (q : P) where
   found : (n a : ℕ) → value battle game a q ≡ true → first_from battle game q n a ≡ a

@@ -11,11 +11,12 @@ use Rattle.pop_input.specs.declared.stipulation.Form.{Form}
 use Rattle.pop_input.specs.declared.stipulation.Form.TheVariants.{Direct, SelfMate, Help, HelpHalf}
 use Rattle.pop_solve.specs.declared.event.Phase.{Phase}
 use Rattle.pop_solve.specs.declared.event.Phase.TheVariants.{Set, Play}
-use Rattle.pop_solve.specs.Events.{Step, total, first_phase, is_set, is_stop, is_unstopped, is_barred, events, phase_start, phase_half_moves, phase_steps, phase_walk, walk_from, whole_walk}
-use Rattle.pop_solve.specs.Frames.{Frame, position, to_open}
-use Rattle.pop_solve.specs.Phases.{way_of, left_of, rest_open, IsKeys, IsNarrow, IsGiven, IsOpened, OpensOn}
-use Rattle.pop_solve.specs.Values.{seeks}
-use Rattle.pop_solve.specs.Walk.{IsCounted, IsWhites, Opens}
+use Rattle.pop_solve.specs.Events.{Step, total, first_phase, is_set, is_barred, events, phase_start, phase_half_moves, phase_steps}
+use Rattle.pop_solve.specs.ties.Seen.{is_stop, is_unstopped, phase_walk, walk_from, whole_walk}
+use Rattle.pop_solve.specs.ties.Frames.{Frame, position, to_open}
+use Rattle.pop_solve.specs.ties.Phases.{way_of, left_of, rest_open, IsKeys, IsNarrow, IsGiven, IsOpened, OpensOn}
+use Rattle.pop_solve.specs.ties.Values.{seeks}
+use Rattle.pop_solve.specs.ties.Walk.{IsCounted, IsWhites, Opens}
 use Rattle.pop_solve.specs.declared.phases.Stage.{Stage}
 use Rattle.pop_solve.specs.declared.phases.Stage.TheVariants.{Before, Barred, Within, Behind}
 use Rattle.pop_solve.specs.declared.walk.Way.{Way}

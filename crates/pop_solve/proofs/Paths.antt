@@ -9,8 +9,8 @@ use Rattle.chess_core.specs.Triple.{Triple}
 use Rattle.chess_rules.specs.RuleSet.{RuleSet}
 use Rattle.pop_solve.specs.Chess.{show}
 use Rattle.pop_solve.specs.Game.{reach}
-use Rattle.pop_solve.specs.Frames.{Frame, position, IsLinked, CameFrom, CameFromAt}
-use Rattle.pop_solve.specs.Walk.{path, IsWalking}
+use Rattle.pop_solve.specs.ties.Frames.{Frame, position, IsLinked, CameFrom, CameFromAt}
+use Rattle.pop_solve.specs.ties.Walk.{path, IsWalking}
 use Rattle.pop_solve.specs.Events.{shown_along, shown_last}
 use Rattle.pop_solve.proofs.Walking.{popped, CameFrom-deep, walking-close}
 

@@ -9,18 +9,18 @@ use Rattle.std.proofs.lemmas.Bool.Decides.{nat_tests}
 use Rattle.pop_solve.specs.declared.event.Phase.{Phase}
 use Rattle.pop_solve.specs.declared.event.Phase.TheVariants.{Set, Play}
 use Rattle.pop_solve.specs.Game.{Game, help_lines}
-use Rattle.pop_solve.specs.Values.{seeks, value}
-use Rattle.chess_rules.specs.Places.{moves_behind}
+use Rattle.pop_solve.specs.ties.Values.{seeks, value}
+use Rattle.chess_rules.specs.ties.Places.{moves_behind}
 use Rattle.chess_rules.specs.RuleSet.{RuleSet}
 use Rattle.pop_input.specs.Posed.{Posed, IsSound}
 use Rattle.pop_solve.specs.Chess.{chess}
 use Rattle.pop_input.specs.Stipulations.{is_help, half_moves_of}
 use Rattle.pop_solve.proofs.Sound.{some_way}
-use Rattle.pop_solve.specs.Frames.{Frame}
+use Rattle.pop_solve.specs.ties.Frames.{Frame}
 use Rattle.pop_solve.specs.Tree.{node, keeps, tree, set_shows, set_tree}
-use Rattle.pop_solve.specs.Walk.{follows, gives, goes_on, shown}
+use Rattle.pop_solve.specs.ties.Walk.{follows, gives, goes_on, shown}
 use Rattle.pop_solve.specs.Events.{is_set, solutions, phase_start, phase_half_moves}
-use Rattle.pop_solve.specs.Phases.{way_of, keep, started, phase_paths}
+use Rattle.pop_solve.specs.ties.Phases.{way_of, keep, started, phase_paths}
 use Rattle.pop_input.specs.declared.stipulation.Form.{Form}
 use Rattle.pop_input.specs.declared.stipulation.Form.TheVariants.{Direct, SelfMate, Help, HelpHalf}
 use Rattle.pop_solve.specs.declared.walk.Way.{Way}

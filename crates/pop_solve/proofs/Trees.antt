@@ -7,9 +7,9 @@ use Rattle.std.proofs.lemmas.List.{append-nil}
 use Rattle.std.proofs.lemmas.List.Concat.{flat_map_single}
 use Rattle.std.proofs.lemmas.Bool.Decides.{nat_tests}
 use Rattle.pop_solve.specs.Game.{Game, can_move, every_move, lines_to_goal}
-use Rattle.pop_solve.specs.Values.{seeks, value}
+use Rattle.pop_solve.specs.ties.Values.{seeks, value}
 use Rattle.pop_solve.specs.Tree.{node, keeps, least, best, below, answers}
-use Rattle.pop_solve.specs.Walk.{fewest, first_from, open_length, follows, gives, goes_on, shown}
+use Rattle.pop_solve.specs.ties.Walk.{fewest, first_from, open_length, follows, gives, goes_on, shown}
 use Rattle.pop_solve.specs.declared.walk.Way.{Way}
 use Rattle.pop_solve.proofs.Battles.{value-lost, value-self_lost}
 use Rattle.pop_solve.proofs.Lengths.{length-more}

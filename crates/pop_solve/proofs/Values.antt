@@ -6,7 +6,7 @@ use Rattle.std.proofs.lemmas.Bool.Decides.{nat_tests}
 use Rattle.std.specs.List.{list_any}
 use Rattle.std.specs.Prelude.{◌==◌}
 use Rattle.pop_solve.specs.Game.{Game, can_move, every_move, some_move}
-use Rattle.pop_solve.specs.Values.{seeks, value, joined}
+use Rattle.pop_solve.specs.ties.Values.{seeks, value, joined}
 
 module _ {P M : Type 0} (battle : Battle) (game : Game P M) where
   cases : (e s c a b : Bool) → e ≡ false → (s || c) ≡ true → (e || cond s a (c && b)) ≡ cond s a b

@@ -17,15 +17,16 @@ use Rattle.chess_rules.proofs.Places.{moves_behind-end}
 use Rattle.chess_rules.proofs.Stays.{after_well_formed}
 use Rattle.chess_rules.specs.Legal.{is_goal, legal}
 use Rattle.chess_rules.specs.Loss.{Loss}
-use Rattle.chess_rules.specs.Places.{IsNextMate, IsPlaceIn, LegalPlace, is_mating, mates_behind, moves_behind}
+use Rattle.chess_rules.specs.ties.Places.{IsNextMate, IsPlaceIn, LegalPlace, is_mating, mates_behind, moves_behind}
 use Rattle.chess_rules.specs.Play.{undo_of}
 use Rattle.chess_rules.specs.RuleSet.{RuleSet}
 use Rattle.pop_solve.specs.Chess.{chess}
 use Rattle.pop_solve.proofs.Boards.{behind_start}
-use Rattle.pop_solve.specs.Game.{Game, walk_count}
-use Rattle.pop_solve.specs.Values.{seeks, value}
-use Rattle.pop_solve.specs.Frames.{AreKnown, Frame, position, IsLinked, CameFromAt, CameFrom, opened, opened as opened_frame, steps, steps_behind, walk_behind, to_open}
-use Rattle.pop_solve.specs.Walk.{fewest, first_from, open_length, follows, gives, goes_on, shown, path, GoesTo, to_come, IsRoomy, IsWalking, turns, IsCounted, IsWhites, Steps}
+use Rattle.pop_solve.specs.Game.{Game}
+use Rattle.pop_solve.specs.ties.Counts.{walk_count}
+use Rattle.pop_solve.specs.ties.Values.{seeks, value}
+use Rattle.pop_solve.specs.ties.Frames.{AreKnown, Frame, position, IsLinked, CameFromAt, CameFrom, opened, opened as opened_frame, steps, steps_behind, walk_behind, to_open}
+use Rattle.pop_solve.specs.ties.Walk.{fewest, first_from, open_length, follows, gives, goes_on, shown, path, GoesTo, to_come, IsRoomy, IsWalking, turns, IsCounted, IsWhites, Steps}
 use Rattle.pop_solve.specs.declared.walk.Way.{Way}
 use Rattle.pop_solve.proofs.Tests.{learned, moved}
 

@@ -1,5 +1,5 @@
 -- Chess as a game of two sides, and how its moves are shown (FIDE Laws, appendix C; rebirths by the Popeye manual).
-use Rattle.std.specs.Prelude.{ℕ, Bool, false, true, not, ◌&&◌, nat_lt, Option, Some, None, is_some, if◌then◌else◌}
+use Rattle.std.specs.Prelude.{ℕ, Bool, false, not, ◌&&◌, nat_lt, Option, Some, None, is_some, if◌then◌else◌}
 use Rattle.chess_core.specs.Position.{Position, man_on, other}
 use Rattle.chess_core.specs.Triple.{Triple}
 use Rattle.chess_core.specs.declared.man.Colour.TheVariants.{White}
@@ -28,11 +28,6 @@ is_reached Stalemate rule q = is_stalemate rule q
 -- chess under a set of rules, played for a goal
 abbrev pub chess : Goal → RuleSet → Game Position Triple
 chess goal rule = record { moves = moves rule; after = after rule; goal = is_reached goal rule }
-
--- the goal is mate
-abbrev pub is_for_mate : Goal → Bool
-is_for_mate Mate = true
-is_for_mate Stalemate = false
 
 -- what a move has done to the side that is to move in q: stalemate is marked where it is the goal alone (own)
 unfoldable pub mark_of : Goal → RuleSet → Position → Mark

@@ -3,14 +3,13 @@
 use Rattle.pop_solve.specs.Aims.{battle_of}
 use Rattle.pop_input.specs.declared.stipulation.Goal.{Goal}
 use Rattle.chess_rules.specs.Play.{after as played}
-use Rattle.chess_rules.specs.Legal.{moves as legal_moves}
-use Rattle.std.specs.Prelude.{◌≡◌, ℕ, ◌+◌, ◌-◌, ◌==◌, Bool, true, false, not, ◌&&◌, ◌||◌, if◌then◌else◌, List, [], ◌∷◌, ◌++◌, map, take, length}
-use Rattle.std.specs.List.{flat_map, list_all}
+use Rattle.std.specs.Prelude.{ℕ, ◌+◌, ◌-◌, ◌==◌, Bool, true, false, ◌&&◌, if◌then◌else◌, List, [], ◌∷◌, ◌++◌, map, take, length}
+use Rattle.std.specs.List.{flat_map}
 use Rattle.chess_core.specs.Diagrams.{position_of}
 use Rattle.chess_core.specs.Position.{Position}
 use Rattle.chess_core.specs.Triple.{Triple}
 use Rattle.chess_rules.specs.RuleSet.{RuleSet}
-use Rattle.pop_solve.specs.Game.{help_lines, reach, walk_count}
+use Rattle.pop_solve.specs.Game.{help_lines}
 use Rattle.pop_solve.specs.Tree.{tree, set_tree}
 use Rattle.pop_input.specs.Posed.{Posed, rule_of}
 use Rattle.pop_input.specs.Stipulations.{is_help, first_half, half_moves}
@@ -115,58 +114,3 @@ event_of rule problem (total count stopped) = Total count stopped
 -- all events of a problem, under its own condition
 unfoldable pub events_of : Posed → List Event
 events_of problem = map (event_of (rule_of problem.condition) problem) (events (rule_of problem.condition) problem)
-
--- after a step: the board where its path leads, and one frame more than the path has moves
-abbrev pub StandsOn : RuleSet → Posed → Step → Position → ℕ → Type 0
-StandsOn rule problem (opening phase) board depth = Unit {0}
-StandsOn rule problem impossible board depth = Unit {0}
-StandsOn rule problem (line phase path) board depth = (board ≡ reach (played rule) (phase_start problem phase) path) × (depth ≡ length path + 1)
-StandsOn rule problem (tree_node phase path) board depth = (board ≡ reach (played rule) (phase_start problem phase) path) × (depth ≡ length path + 1)
-StandsOn rule problem (total count stopped) board depth = Unit {0}
-
--- how many lists of fewer moves than its half-moves, each legal where it stands, a phase has: none where it is barred
-abbrev pub phase_walk : RuleSet → Posed → Phase → ℕ
-phase_walk rule problem phase =
-    if is_barred rule problem phase then 0
-    else walk_count (legal_moves rule) (played rule) (phase_half_moves problem phase) (phase_start problem phase)
-
--- the same of all phases from one on
-abbrev pub walk_from : RuleSet → Posed → Phase → ℕ
-walk_from rule problem phase =
-    if is_set phase then phase_walk rule problem Set + phase_walk rule problem Play else phase_walk rule problem Play
-
--- the same of all phases of a problem
-abbrev pub whole_walk : RuleSet → Posed → ℕ
-whole_walk rule problem = walk_from rule problem (first_phase problem)
-
--- whether the limit of solutions ended a phase
-abbrev pub is_stop : Step → Bool
-is_stop (opening phase) = false
-is_stop impossible = false
-is_stop (line phase path) = false
-is_stop (tree_node phase path) = false
-is_stop (total count stopped) = stopped
-
--- the limit of solutions ended none of these phases
-abbrev pub is_unstopped : List Step → Bool
-is_unstopped steps = list_all (λ step. not (is_stop step)) steps
-
--- it ended no phase of the problem
-abbrev pub is_never_stopped : RuleSet → Posed → Bool
-is_never_stopped rule problem = is_unstopped (events rule problem)
-
--- problems whose walk makes no move twice: help play, and keys alone
-abbrev pub is_walked_once : Posed → Bool
-is_walked_once problem = is_help problem.stipulation.form || (not problem.variation && not problem.set_play)
-
--- what a contract sees of a search
-pub record Seen : Type 0 where
-  pub problem : Posed
-  -- the steps still to come
-  pub left : List Step
-  -- the position on the board, and the frames in use
-  pub board : Position
-  pub depth : ℕ
-  -- the events given and the frames opened so far, each up to the greatest u64
-  pub given : ℕ
-  pub opened : ℕ

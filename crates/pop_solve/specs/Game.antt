@@ -1,7 +1,7 @@
 -- A game of two sides, by what its solutions are made of: nothing here is chess. What a direct mate, a battle and a
 -- helpmate ask for is as in the Codex for Chess Composition and the Popeye manual.
-use Rattle.std.specs.Prelude.{ℕ, zero, suc, ◌+◌, ◌-◌, ◌==◌, Bool, false, not, ◌&&◌, ◌||◌, if◌then◌else◌, List, [], ◌∷◌, map, length}
-use Rattle.std.specs.List.{list_any, list_all, flat_map, sum_by}
+use Rattle.std.specs.Prelude.{ℕ, zero, suc, ◌-◌, ◌==◌, Bool, false, not, ◌&&◌, ◌||◌, if◌then◌else◌, List, [], ◌∷◌, map, length}
+use Rattle.std.specs.List.{list_any, list_all, flat_map}
 
 -- the legal moves of a position in order, the position after a move, and whether the goal is reached
 pub record Game (P M : Type 0) : Type 0 where
@@ -52,11 +52,6 @@ module _ {P M : Type 0} where
   unfoldable pub help_lines : Game P M → ℕ → P → List (List M)
   help_lines game zero p = []
   help_lines game (suc h) p = lines_to_goal game (suc h) p
-
-  -- how many lists of fewer than r moves there are, each legal where it stands
-  unfoldable pub walk_count : (P → List M) → (P → M → P) → ℕ → P → ℕ
-  walk_count moves after zero p = 0
-  walk_count moves after (suc r) p = 1 + sum_by (λ m. walk_count moves after r (after p m)) (moves p)
 
   -- the position to which a path leads
   abbrev pub reach : (P → M → P) → P → List M → P

@@ -4,7 +4,4 @@ pub mod Tree
 pub mod Shown
 pub mod Chess
 pub mod Events
-pub mod Values
-pub mod Frames
-pub mod Walk
-pub mod Phases
+pub mod ties

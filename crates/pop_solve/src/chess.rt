@@ -5,11 +5,12 @@ ghost use Rattle.chess_core.specs.Position.{Position};
 ghost use Rattle.chess_core.specs.WellFormed.{IsWellFormed};
 ghost use Rattle.chess_rules.specs.Attacks.{in_check};
 ghost use Rattle.chess_rules.specs.Legal.{legal};
-ghost use Rattle.chess_rules.specs.Places.{IsNextMate, IsPlaceIn, mates_behind, moves_behind, moves_between};
+ghost use Rattle.chess_rules.specs.ties.Places.{IsNextMate, IsPlaceIn, mates_behind, moves_behind, moves_between};
 ghost use Rattle.pop_input.specs.declared.stipulation.Goal.{Goal};
 ghost use Rattle.pop_input.specs.declared.stipulation.Goal.TheVariants.{Mate};
-ghost use Rattle.pop_solve.specs.Chess.{castling_side, chess, is_for_mate, is_impossible, mark_of, reborn, set_start, shown_of};
-ghost use Rattle.pop_solve.specs.Frames.{CameBy};
+ghost use Rattle.pop_solve.specs.Chess.{castling_side, chess, is_impossible, mark_of, reborn, set_start, shown_of};
+ghost use Rattle.pop_solve.specs.ties.Marks.{is_for_mate};
+ghost use Rattle.pop_solve.specs.ties.Frames.{CameBy};
 ghost use Rattle.pop_solve.specs.Game.{can_move as has_move, every_move, some_move};
 
 use crate::shown::{Mark, Shown, Side};

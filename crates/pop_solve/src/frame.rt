@@ -33,7 +33,7 @@ pub struct Frame<R: Rules> {
 }
 
 impl<R: Rules> Model for Frame<R> {
-    ghost use Rattle.pop_solve.specs.Frames.{Frame as Level};
+    ghost use Rattle.pop_solve.specs.ties.Frames.{Frame as Level};
 
     ghost Value = { Level };
 

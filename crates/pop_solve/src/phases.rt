@@ -6,8 +6,8 @@ ghost use Rattle.pop_input.specs.Posed.{IsSound};
 ghost use Rattle.pop_input.specs.Stipulations.{half_moves, is_help};
 ghost use Rattle.pop_solve.specs.Aims.{battle_of};
 ghost use Rattle.pop_solve.specs.Events.{first_phase, start, phase_half_moves as half_moves_of_phase, phase_start, phase_half as half_of_phase, event_of, is_barred, step_of, is_set, opening};
-ghost use Rattle.pop_solve.specs.Walk.{IsWalking, Opens, path};
-ghost use Rattle.pop_solve.specs.Phases.{way_of as way_of_problem, left_of, IsStanding, Walks, Gives, OpensOn};
+ghost use Rattle.pop_solve.specs.ties.Walk.{IsWalking, Opens, path};
+ghost use Rattle.pop_solve.specs.ties.Phases.{way_of as way_of_problem, left_of, IsStanding, Walks, Gives, OpensOn};
 ghost use Rattle.pop_solve.specs.declared.event.Event.TheVariants.{Total};
 ghost use Rattle.pop_solve.specs.declared.event.Phase.TheVariants.{Play};
 ghost use Rattle.pop_solve.specs.declared.phases.Stage.TheVariants.{Before, Within, Behind};
@@ -221,7 +221,7 @@ fn set_up<R: Rules>(problem: &Problem, phase: Phase, board: &mut Board) -> bool
 }
 
 /// Begins a phase, or finds that it isn't possible.
-#[tactic(auto, unfolding(crate::specs::Phases::IsStanding))]
+#[tactic(auto, unfolding(crate::specs::ties::Phases::IsStanding))]
 fn begin<R: Rules, const N: usize>(
     problem: &Problem,
     phase: Phase,
@@ -277,7 +277,7 @@ fn end<R: Rules, const N: usize>(
 }
 
 /// Goes on within a phase, of which `count` solutions have begun.
-#[tactic(auto, unfolding(crate::specs::Phases::IsStanding))]
+#[tactic(auto, unfolding(crate::specs::ties::Phases::IsStanding))]
 fn go_on<R: Rules, const N: usize>(
     problem: &Problem,
     phase: Phase,
@@ -343,7 +343,7 @@ fn count_with(problem: &Problem, depth: usize, count: u32) -> u32
 }
 
 /// The next event of a search, whose stage moves on.
-#[tactic(auto, unfolding(crate::specs::Phases::IsStanding, crate::specs::Phases::left_of))]
+#[tactic(auto, unfolding(crate::specs::ties::Phases::IsStanding, crate::specs::ties::Phases::left_of))]
 pub(crate) fn advance<R: Rules, const N: usize>(
     problem: &Problem,
     stage: &mut Stage,

@@ -29,8 +29,9 @@ impl<R: Rules, const N: usize> Model for Search<R, N> {
     ghost use Rattle.arrayvec.specs.ArrayVec.{array_vec_len};
     ghost use Rattle.pop_input.specs.Posed.{IsSound};
     ghost use Rattle.pop_input.specs.Stipulations.{half_moves};
-    ghost use Rattle.pop_solve.specs.Events.{Seen, events};
-    ghost use Rattle.pop_solve.specs.Phases.{left_of, IsStanding, IsGiven, IsOpened};
+    ghost use Rattle.pop_solve.specs.Events.{events};
+    ghost use Rattle.pop_solve.specs.ties.Seen.{Seen};
+    ghost use Rattle.pop_solve.specs.ties.Phases.{left_of, IsStanding, IsGiven, IsOpened};
 
     ghost Value = { Seen };
 
@@ -55,7 +56,8 @@ impl<R: Rules, const N: usize> Search<R, N> {
     ghost use Rattle.std.specs.Option.{option_map};
     ghost use Rattle.pop_input.specs.Posed.{rule_of};
     ghost use Rattle.pop_input.specs.Stipulations.{half_moves, is_help};
-    ghost use Rattle.pop_solve.specs.Events.{events, event_of, is_never_stopped, is_walked_once, start, whole_walk, StandsOn};
+    ghost use Rattle.pop_solve.specs.Events.{events, event_of, start};
+    ghost use Rattle.pop_solve.specs.ties.Seen.{is_never_stopped, is_walked_once, whole_walk, StandsOn};
 
     /// A search that has given nothing. `N` is at least the half-moves of the play plus one, and `R` are the rules of the
     /// problem's condition.

@@ -6,8 +6,8 @@ ghost use Rattle.chess_rules.specs.Legal.{legal};
 ghost use Rattle.chess_rules.specs.Play.{after as played};
 ghost use Rattle.pop_solve.specs.Chess.{show};
 ghost use Rattle.pop_solve.specs.Events.{shown_along, shown_last};
-ghost use Rattle.pop_solve.specs.Frames.{CameFrom, CameFromAt};
-ghost use Rattle.pop_solve.specs.Walk.{IsWalking, path};
+ghost use Rattle.pop_solve.specs.ties.Frames.{CameFrom, CameFromAt};
+ghost use Rattle.pop_solve.specs.ties.Walk.{IsWalking, path};
 ghost use Rattle.std.specs.Prelude.{◌≡◌, ◌≤◌, ℕ, length, reverse, true};
 
 use crate::chess::{mark_of, retract, shown_of};

@@ -5,15 +5,17 @@ ghost use Rattle.std.specs.Prelude.{◌≡◌, ◌+◌, ◌<◌, ◌≤◌, ◌%
 ghost use Rattle.chess_core.specs.Position.{Position};
 ghost use Rattle.chess_core.specs.WellFormed.{IsWellFormed};
 ghost use Rattle.chess_rules.specs.Legal.{legal};
-ghost use Rattle.chess_rules.specs.Places.{IsPlaceIn};
+ghost use Rattle.chess_rules.specs.ties.Places.{IsPlaceIn};
 ghost use Rattle.chess_rules.specs.Play.{undo_of};
 ghost use Rattle.arrayvec.specs.ArrayVec.{array_vec_len};
-ghost use Rattle.pop_solve.specs.Frames.{IsTesting, IsOpenedOn, CameFrom, CameFromAt, Turns, Ends, tests, tested, top_left, ahead};
-ghost use Rattle.pop_solve.specs.Chess.{chess, is_for_mate};
+ghost use Rattle.pop_solve.specs.ties.Frames.{IsTesting, IsOpenedOn, CameFrom, CameFromAt, Turns, Ends, tests, tested, top_left, ahead};
+ghost use Rattle.pop_solve.specs.Chess.{chess};
+ghost use Rattle.pop_solve.specs.ties.Marks.{is_for_mate};
 ghost use Rattle.pop_input.specs.declared.stipulation.Goal.TheVariants.{Mate};
 ghost use Rattle.pop_solve.specs.declared.frame.Stretch.TheVariants.{Before};
-ghost use Rattle.pop_solve.specs.Game.{can_move as has_move, walk_count};
-ghost use Rattle.pop_solve.specs.Values.{seeks, join, joined, value};
+ghost use Rattle.pop_solve.specs.Game.{can_move as has_move};
+ghost use Rattle.pop_solve.specs.ties.Counts.{walk_count};
+ghost use Rattle.pop_solve.specs.ties.Values.{seeks, join, joined, value};
 
 use crate::aim::{Aim, Battle};
 use crate::chess::{
@@ -117,7 +119,7 @@ fn decided(answer: Option<bool>, seek: bool) -> bool
 }
 
 /// The next move of a test on its second or third stretch.
-#[tactic(auto, unfolding(crate::specs::Frames::ahead))]
+#[tactic(auto, unfolding(crate::specs::ties::Frames::ahead))]
 fn next_in_order<R: Rules>(
     killer: Moves<R>,
     stretch: &mut Stretch,
@@ -142,7 +144,7 @@ fn next_in_order<R: Rules>(
 }
 
 /// The next move of a test: the killer, then the others in order.
-#[tactic(auto, unfolding(crate::specs::Frames::ahead))]
+#[tactic(auto, unfolding(crate::specs::ties::Frames::ahead))]
 fn next_tried<R: Rules>(
     killer: Moves<R>,
     stretch: &mut Stretch,

@@ -5,14 +5,15 @@ ghost use Rattle.std.specs.Prelude.{◌≡◌, ◌↔◌, ◌+◌, ◌<◌, ◌�
 ghost use Rattle.chess_core.specs.Position.{Position};
 ghost use Rattle.chess_core.specs.WellFormed.{IsWellFormed};
 ghost use Rattle.chess_rules.specs.Legal.{legal};
-ghost use Rattle.chess_rules.specs.Places.{IsPlaceIn, moves_behind};
+ghost use Rattle.chess_rules.specs.ties.Places.{IsPlaceIn, moves_behind};
 ghost use Rattle.chess_rules.specs.Play.{undo_of};
 ghost use Rattle.arrayvec.specs.ArrayVec.{array_vec_len};
-ghost use Rattle.pop_solve.specs.Frames.{CameFrom, CameFromAt, opened as opened_frame};
-ghost use Rattle.pop_solve.specs.Chess.{chess, is_for_mate};
-ghost use Rattle.pop_solve.specs.Game.{walk_count};
-ghost use Rattle.pop_solve.specs.Values.{seeks};
-ghost use Rattle.pop_solve.specs.Walk.{fewest as fewest_of, first_from, open_length, follows as is_followed, gives as is_given, goes_on, GoesTo, IsWalking, Steps};
+ghost use Rattle.pop_solve.specs.ties.Frames.{CameFrom, CameFromAt, opened as opened_frame};
+ghost use Rattle.pop_solve.specs.Chess.{chess};
+ghost use Rattle.pop_solve.specs.ties.Marks.{is_for_mate};
+ghost use Rattle.pop_solve.specs.ties.Counts.{walk_count};
+ghost use Rattle.pop_solve.specs.ties.Values.{seeks};
+ghost use Rattle.pop_solve.specs.ties.Walk.{fewest as fewest_of, first_from, open_length, follows as is_followed, gives as is_given, goes_on, GoesTo, IsWalking, Steps};
 
 use crate::aim::{Aim, Battle};
 use crate::chess::{is_for_mate, next_mate, next_move, reaches_goal, retract};
@@ -70,7 +71,7 @@ fn least_length<R: Rules, const N: usize>(
 }
 
 /// With how many half-moves the moves of the board's position are shown in battle play, where `left` are left.
-#[tactic(auto, unfolding(crate::specs::Walk::open_length))]
+#[tactic(auto, unfolding(crate::specs::ties::Walk::open_length))]
 fn length_shown<R: Rules, const N: usize>(
     aim: Aim,
     left: usize,
@@ -95,7 +96,7 @@ fn length_shown<R: Rules, const N: usize>(
 }
 
 /// With how many half-moves the walk goes on from the board's position, where `left` are left.
-#[tactic(auto, unfolding(crate::specs::Walk::goes_on))]
+#[tactic(auto, unfolding(crate::specs::ties::Walk::goes_on))]
 fn length_below<R: Rules, const N: usize>(
     way: Way,
     left: usize,
@@ -130,7 +131,7 @@ fn is_tested(way: Way, root: bool, left: usize) -> bool
 }
 
 /// Whether the path to the board's position is given, with `left` half-moves left there.
-#[tactic(auto, unfolding(crate::specs::Walk::gives))]
+#[tactic(auto, unfolding(crate::specs::ties::Walk::gives))]
 fn gives<R: Rules>(way: Way, left: usize, board: &mut Board) -> bool
     requires well_formed { IsWellFormed board.old }
     ensures unchanged { board.new ≡ board.old }
@@ -155,7 +156,7 @@ pub(crate) fn opened_by(opened: u64, tried: usize, tested: bool) -> u64
 
 /// Plays a legal move, after which `left` half-moves are left, and opens the frame of the position after it where the
 /// walk follows the move. Answers whether its path is given.
-#[tactic(auto, using(chess_rules::proofs::Calls::playing), unfolding(crate::specs::Walk::follows, crate::specs::Walk::goes_on))]
+#[tactic(auto, using(chess_rules::proofs::Calls::playing), unfolding(crate::specs::ties::Walk::follows, crate::specs::ties::Walk::goes_on))]
 fn enter<R: Rules, const N: usize>(
     way: Way,
     root: bool,

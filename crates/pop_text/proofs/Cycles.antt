@@ -3,7 +3,7 @@ use Rattle.std.proofs.Common.{◌≡◌, ◌≤◌, ◌<◌, inl, inr, ℕ, zero
 use Rattle.std.proofs.lemmas.Bool.{cases_lt}
 use Rattle.std.proofs.lemmas.List.{length-take-le}
 use Rattle.std.proofs.Math.Seq.{take-append_seam}
-use Rattle.pop_text.specs.Trials.{cycled}
+use Rattle.pop_text.specs.ties.Trials.{cycled}
 
 -- the first bytes of the rest come first
 pub cycled_front : (text rest : List ℕ) (n k : ℕ) → k ≤ n → k ≤ length rest → cycled text rest n ≡ take k rest ++ cycled text (drop k rest) (n - k)

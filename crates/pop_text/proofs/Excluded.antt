@@ -3,8 +3,8 @@ use Rattle.std.proofs.Common.{◌≡◌, ℕ, ◌+◌, List, [], ◌∷◌, ◌+
 use Rattle.std.specs.List.{list_all}
 use Rattle.std.proofs.lemmas.List.{append_cancel_right}
 use Rattle.pop_text.specs.Words.{is_gap, is_in_line, is_in_word, is_line_end}
-use Rattle.pop_text.specs.Reading.{Reading, Uses}
-use Rattle.pop_text.specs.Runs.{UsesRun, UsesLine}
+use Rattle.pop_text.specs.ties.Reading.{Reading, Uses}
+use Rattle.pop_text.specs.ties.Runs.{UsesRun, UsesLine}
 use Rattle.pop_text.specs.declared.text.Text.{Text}
 use Rattle.pop_text.proofs.WordLaws.{all_parts}
 

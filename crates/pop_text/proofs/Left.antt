@@ -9,9 +9,9 @@ use Rattle.std.proofs.lemmas.List.Sums.{sum_by-append}
 use Rattle.pop_text.specs.Bytes.{Consumes}
 use Rattle.pop_text.specs.Words.{Input, Clean, Failed, Words, Token, Word, Tail, End as AtEnd, Long, Broken as Failing, limit, words_by, tail_of, is_cut, is_text_word, is_short_form, is_gap, is_in_word, is_line_end}
 use Rattle.pop_text.proofs.WordLaws.{all_parts, skip_gap, take_run, drop_run, run_tokens, RunEnds, with_view, with_gap}
-use Rattle.pop_text.specs.Reading.{Reading, Uses, UsesAll}
-use Rattle.pop_text.specs.Runs.{Peeks, IsRunOver}
-use Rattle.pop_text.specs.Left.{after, MayFollow, words_left, put_before, Takes, among, no_words, IsOver, TakesWord}
+use Rattle.pop_text.specs.ties.Reading.{Reading, Uses, UsesAll}
+use Rattle.pop_text.specs.ties.Runs.{Peeks, IsRunOver}
+use Rattle.pop_text.specs.ties.Left.{after, MayFollow, words_left, put_before, Takes, among, no_words, IsOver, TakesWord}
 use Rattle.pop_text.specs.declared.scanner.End.{End}
 use Rattle.pop_text.specs.declared.scanner.End.TheVariants.{Open, Ended, Broken}
 use Rattle.pop_text.specs.declared.read_fault.ReadFault.{ReadFault}

@@ -7,10 +7,10 @@ use Rattle.std.proofs.lemmas.List.Sums.{sum_by-append}
 use Rattle.std.proofs.lemmas.Bool.{lt-ltb, le-ltb, cases_lt}
 use Rattle.pop_text.specs.Words.{TextLine, Tail, End as AtEnd, words_by, is_cut, is_in_line, is_line_end, is_blank, limit, without_leading, without_trailing}
 use Rattle.pop_text.proofs.WordLaws.{all_parts, take_line, take_last_line}
-use Rattle.pop_text.specs.Reading.{Reading, Uses, UsesAll}
-use Rattle.pop_text.specs.Runs.{Peeks, UsesLine}
-use Rattle.pop_text.specs.Texts.{with_byte}
-use Rattle.pop_text.specs.Left.{put_before, no_words, Takes, among, behind_word, TakesNone}
+use Rattle.pop_text.specs.ties.Reading.{Reading, Uses, UsesAll}
+use Rattle.pop_text.specs.ties.Runs.{Peeks, UsesLine}
+use Rattle.pop_text.specs.ties.Texts.{with_byte}
+use Rattle.pop_text.specs.ties.Left.{put_before, no_words, Takes, among, behind_word, TakesNone}
 use Rattle.pop_text.specs.declared.read_fault.ReadFault.{ReadFault}
 use Rattle.pop_text.specs.declared.read_fault.ReadFault.TheVariants.{TooLong, InputTooLong, Device}
 use Rattle.pop_text.proofs.Using.{uses_then, keeps_bytes, amount_is}

@@ -3,9 +3,9 @@ use Rattle.std.proofs.Common.{◌≡◌, ◌<◌, ◌≤◌, ℕ, List, length, 
 use Rattle.std.proofs.lemmas.Bool.{ltb-true, ltb-false}
 use Rattle.std.proofs.lemmas.List.{take_all}
 use Rattle.pop_text.specs.Words.{is_text_word, is_gap, is_in_word}
-use Rattle.pop_text.specs.Reading.{Reading, UsesAll}
-use Rattle.pop_text.specs.Runs.{Peeks, IsRunOver, Runs, UsesRun, UsesWord}
-use Rattle.pop_text.specs.Left.{TakesWord, NextWord, GoesOn}
+use Rattle.pop_text.specs.ties.Reading.{Reading, UsesAll}
+use Rattle.pop_text.specs.ties.Runs.{Peeks, IsRunOver, Runs, UsesRun, UsesWord}
+use Rattle.pop_text.specs.ties.Left.{TakesWord, NextWord, GoesOn}
 use Rattle.pop_text.specs.declared.read_fault.ReadFault.{ReadFault}
 use Rattle.pop_text.specs.declared.read_fault.ReadFault.TheVariants.{TooLong, InputTooLong, Device}
 use Rattle.pop_text.proofs.Left.{end_takes, end_over, cut_takes, word_takes, run_some, run_within, long_no_text, fault_over, same_line}

@@ -7,9 +7,9 @@ use Rattle.std.proofs.Math.Seq.{take-add}
 use Rattle.std.proofs.lemmas.List.{drop-take, drop-drop, drop_more, take-append-drop}
 use Rattle.std.proofs.lemmas.List.Folds.{list_all-append}
 use Rattle.pop_text.specs.Words.{Input, Words, Token, Word, Tail, is_cut, is_gap, is_in_word, is_line_end, is_short_form, is_text_word, limit, words_by}
-use Rattle.pop_text.specs.Reading.{Reading, Uses}
-use Rattle.pop_text.specs.Left.{Takes, among, put_before}
-use Rattle.pop_text.specs.Plain.{IsPlain, RunsOut, Skips, is_named, is_plain}
+use Rattle.pop_text.specs.ties.Reading.{Reading, Uses}
+use Rattle.pop_text.specs.ties.Left.{Takes, among, put_before}
+use Rattle.pop_text.specs.ties.Plain.{IsPlain, RunsOut, Skips, is_named, is_plain}
 use Rattle.pop_text.proofs.WordLaws.{all_parts, RunEnds, with_gap}
 use Rattle.pop_text.proofs.Using.{amount_is, keeps_bytes}
 use Rattle.pop_text.proofs.Excluded.{gap_or_word}

@@ -8,11 +8,11 @@ use Rattle.std.proofs.lemmas.List.{append-nil, take_all, take-append-le}
 use Rattle.std.proofs.lemmas.Bool.{le-ltb, cases_lt}
 use Rattle.std.specs.Prelude.{nat_lt}
 use Rattle.std.proofs.Math.Seq.{take-append-add}
-use Rattle.pop_text.specs.Runs.{Peeks, Runs, UsesRun}
+use Rattle.pop_text.specs.ties.Runs.{Peeks, Runs, UsesRun}
 use Rattle.pop_text.specs.declared.read_fault.ReadFault.{ReadFault}
 use Rattle.pop_text.specs.Words.{is_gap, is_in_word, is_line_end}
 use Rattle.pop_text.specs.Bytes.{Consumes}
-use Rattle.pop_text.specs.Reading.{IsFront, Reading, Uses, UsesAll, failures_after}
+use Rattle.pop_text.specs.ties.Reading.{IsFront, Reading, Uses, UsesAll, failures_after}
 use Rattle.pop_text.specs.declared.scanner.End.{End}
 use Rattle.pop_text.specs.declared.scanner.End.TheVariants.{Open, Ended, Broken}
 

@@ -4,9 +4,9 @@ use Rattle.std.specs.List.{list_all}
 use Rattle.std.proofs.lemmas.Bool.{cases_Bool, le-ltb}
 use Rattle.std.proofs.lemmas.List.{append-nil, take-append-drop, drop-take, drop-drop, drop_more, length-take-le, take-take}
 use Rattle.pop_text.specs.Words.{is_in_line, is_line_end, limit}
-use Rattle.pop_text.specs.Reading.{IsFront, Reading, Uses}
-use Rattle.pop_text.specs.Runs.{Peeks}
-use Rattle.pop_text.specs.Texts.{with_byte}
+use Rattle.pop_text.specs.ties.Reading.{IsFront, Reading, Uses}
+use Rattle.pop_text.specs.ties.Runs.{Peeks}
+use Rattle.pop_text.specs.ties.Texts.{with_byte}
 use Rattle.pop_text.specs.declared.scanner.End.{End}
 use Rattle.pop_text.proofs.Using.{keeps_bytes}
 

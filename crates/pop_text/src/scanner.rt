@@ -3,10 +3,10 @@ ghost use Rattle.std.specs.Prelude.{◌≡◌, ◌<◌, ◌+◌, ◌-◌, ◌^�
 ghost use Rattle.pop_text.specs.Bytes.{greatest};
 ghost use Rattle.std.specs.List.{list_all};
 ghost use Rattle.pop_text.specs.Words.{limit, is_gap, is_in_line, is_in_word, is_line_end};
-ghost use Rattle.pop_text.specs.Reading.{beginning, IsFront, Uses, UsesAll, IsSeen, failures_after};
-ghost use Rattle.pop_text.specs.Runs.{Peeks, RunsTo, Sticks, UsesLine, UsesWord};
-ghost use Rattle.pop_text.specs.Plain.{IsPlain, RunsOut, Skips, is_named, is_named_front};
-ghost use Rattle.pop_text.specs.Left.{NextWord, RestOfLine, found_by};
+ghost use Rattle.pop_text.specs.ties.Reading.{beginning, IsFront, Uses, UsesAll, IsSeen, failures_after};
+ghost use Rattle.pop_text.specs.ties.Runs.{Peeks, RunsTo, Sticks, UsesLine, UsesWord};
+ghost use Rattle.pop_text.specs.ties.Plain.{IsPlain, RunsOut, Skips, is_named, is_named_front};
+ghost use Rattle.pop_text.specs.ties.Left.{NextWord, RestOfLine, found_by};
 ghost use Rattle.pop_text.specs.declared.read_fault.ReadFault.{ReadFault};
 
 use crate::read_fault::ReadFault;
@@ -62,7 +62,7 @@ pub struct Scanner {
 
 impl Model for Scanner {
     ghost use Rattle.std.specs.Prelude.{◌≤◌, ◌+◌, ◌^◌, slice_range};
-    ghost use Rattle.pop_text.specs.Reading.{Reading};
+    ghost use Rattle.pop_text.specs.ties.Reading.{Reading};
 
     ghost Value = { Reading };
 

@@ -1,7 +1,7 @@
 //! The text behind a text word.
 ghost use Rattle.std.specs.Prelude.{◌≡◌, ◌≤◌, ℕ, List, [], fold, length};
 ghost use Rattle.pop_text.specs.Words.{is_blank, without_trailing};
-ghost use Rattle.pop_text.specs.Texts.{with_byte};
+ghost use Rattle.pop_text.specs.ties.Texts.{with_byte};
 
 use arrayvec::ArrayVec;
 use std::marker::Model;
@@ -16,7 +16,7 @@ pub struct Text {
 impl Model for Text {
     ghost use Rattle.std.specs.Prelude.{ℕ, List, length, take};
     ghost use Rattle.std.proofs.Common.{ap₂};
-    ghost use Rattle.pop_text.specs.Texts.{IsPadded, padded};
+    ghost use Rattle.pop_text.specs.ties.Texts.{IsPadded, padded};
 
     ghost Value = { List ℕ };
 

@@ -2,7 +2,7 @@
 ghost use Rattle.std.specs.Prelude.{◌≡◌, ◌≢◌, ℕ, List, [], ◌<◌, ◌≤◌, ◌+◌, ◌-◌, Some, drop, length, option_map};
 ghost use Rattle.std.specs.Io.{ReadsAtMost};
 ghost use Rattle.pop_text.specs.Bytes.{ReadConsumes, count_after, greatest};
-ghost use Rattle.pop_text.specs.Trials.{Gives, cycled, handed_out, repeated, round_of};
+ghost use Rattle.pop_text.specs.ties.Trials.{Gives, cycled, handed_out, repeated, round_of};
 
 use crate::source::{Device, Source};
 use std::marker::Model;
@@ -20,7 +20,7 @@ pub struct TrialSource<'a> {
 
 impl<'a> Model for TrialSource<'a> {
     ghost use Rattle.std.specs.Prelude.{◌<◌};
-    ghost use Rattle.pop_text.specs.Trials.{TrialInput};
+    ghost use Rattle.pop_text.specs.ties.Trials.{TrialInput};
 
     ghost Value = { TrialInput };
 
@@ -102,7 +102,7 @@ impl<'a> TrialSource<'a> {
 
 impl<'a> Source for TrialSource<'a> {
     ghost use Rattle.std.specs.Prelude.{Some};
-    ghost use Rattle.pop_text.specs.Trials.{cycled};
+    ghost use Rattle.pop_text.specs.ties.Trials.{cycled};
 
     ghost remaining = { λ s. Some (cycled s.text s.rest s.left) };
 

@@ -9,16 +9,16 @@ use Rattle.pop_text.specs.declared.sink.SinkFault.{SinkFault}
 use Rattle.pop_text.specs.declared.scanner.End.{End}
 use Rattle.pop_text.specs.declared.scanner.End.TheVariants.{Open, Ended, Broken}
 use Rattle.pop_text.specs.Bytes.{Appends, Consumes, Writes}
-use Rattle.pop_text.specs.Left.{after, MayFollow}
-use Rattle.pop_text.specs.Reading.{IsSeen, failures_after}
+use Rattle.pop_text.specs.ties.Left.{after, MayFollow}
+use Rattle.pop_text.specs.ties.Reading.{IsSeen, failures_after}
 use Rattle.pop_text.specs.Words.{Input, Ending, Clean, Failed, limit, words_from}
 use Rattle.pop_text.proofs.Appending.{appends_then, appends_kept, appends_none, begins_later, begins_longer}
 use Rattle.pop_text.proofs.Using.{consumes_then}
 use Rattle.pop_input.specs.Blocks.{Entry, entries_of}
-use Rattle.pop_input.specs.Standing.{Standing, Reads, entries_left, start as before_all}
+use Rattle.pop_input.specs.ties.Standing.{Standing, Reads, entries_left, start as before_all}
 use Rattle.pops.specs.Report.{Choice, entries_in, entry_text, is_faulty, report, report_from, status_of, tells_failure}
 use Rattle.pops.specs.Run.{Runs, grew, met, taken_of}
-use Rattle.pops.specs.Sessions.{Place, Steps, TakesItem, start, status_with, step_of}
+use Rattle.pops.specs.ties.Sessions.{Place, Steps, TakesItem, start, status_with, step_of}
 use Rattle.pops.specs.declared.status.Status.{Status}
 use Rattle.pops.specs.declared.status.Status.TheVariants.{Sound, Faulty, InputFailed, OutputFailed}
 use Rattle.pops.specs.declared.status.Step.TheVariants.{Problem, Finished}

@@ -1,4 +1,4 @@
 pub mod CommandLine
 pub mod Report
 pub mod Run
-pub mod Sessions
+pub mod ties

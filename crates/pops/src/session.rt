@@ -2,11 +2,11 @@
 ghost use Rattle.std.specs.Prelude.{◌≡◌, ◌==◌, ◌<◌, ◌≤◌, ◌+◌, ◌⊎◌, ◌||◌, IsErr, false, true, is_err, length};
 ghost use Rattle.pop_text.specs.Words.{limit};
 ghost use Rattle.pop_text.specs.Bytes.{count_after, greatest};
-ghost use Rattle.pop_text.specs.Reading.{IsSeen, failures_after};
+ghost use Rattle.pop_text.specs.ties.Reading.{IsSeen, failures_after};
 ghost use Rattle.pop_text.specs.declared.scanner.End.{End};
-ghost use Rattle.pop_input.specs.Standing.{work_left};
+ghost use Rattle.pop_input.specs.ties.Standing.{work_left};
 ghost use Rattle.pops.specs.Report.{choice_of};
-ghost use Rattle.pops.specs.Sessions.{GoesOn, Steps, is_problem, start, status_with as with_item, step_of};
+ghost use Rattle.pops.specs.ties.Sessions.{GoesOn, Steps, is_problem, start, status_with as with_item, step_of};
 
 use crate::settings::Settings;
 use crate::solutions::print_sound;
@@ -33,8 +33,8 @@ pub struct Session {
 impl Model for Session {
     ghost use Rattle.std.specs.Prelude.{◌≡◌, ◌≤◌, ◌+◌, ◌^◌, length};
     ghost use Rattle.pop_text.specs.Words.{limit};
-    ghost use Rattle.pop_input.specs.Standing.{work_left};
-    ghost use Rattle.pops.specs.Sessions.{Place, ends, says_last};
+    ghost use Rattle.pop_input.specs.ties.Standing.{work_left};
+    ghost use Rattle.pops.specs.ties.Sessions.{Place, ends, says_last};
 
     ghost Value = { Place };
 

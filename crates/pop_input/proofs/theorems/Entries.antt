@@ -2,7 +2,7 @@
 use Rattle.std.proofs.Common.{◌≡◌, ℕ, suc, Bool, true, false, List, [], ◌∷◌, ◌++◌, map, length, get_or, None, Some, refl, sym, ap, ◌∙◌, append_assoc}
 use Rattle.std.specs.List.{flat_map, list_all}
 use Rattle.std.proofs.lemmas.List.{get_or_at, length-map}
-use Rattle.pop_text.specs.Left.{no_words, put_before}
+use Rattle.pop_text.specs.ties.Left.{no_words, put_before}
 use Rattle.pop_text.specs.Words.{Tail, Token, Word, Words}
 use Rattle.pop_input.specs.Blocks.{Entry, block_fault, closed_entry, entries_by, entries_of, inside}
 use Rattle.pop_input.specs.Names.{command_of}

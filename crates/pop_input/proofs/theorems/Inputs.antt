@@ -1,6 +1,6 @@
 -- Whole lines of an input: their words are their own, up to the numbers of their lines.
 use Rattle.std.proofs.Common.{◌≡◌, ℕ, ◌+◌, ◌-◌, ◌<◌, List, ◌∷◌, ◌++◌, length, count_by, None, ◌∙◌, ap, refl, arith}
-use Rattle.pop_text.specs.Left.{put_before}
+use Rattle.pop_text.specs.ties.Left.{put_before}
 use Rattle.pop_text.specs.Words.{Input, Words, is_line_end, limit, words_from, words_of}
 use Rattle.pop_input.proofs.Pieces.{tokens_at, words_from_behind}
 

@@ -1,7 +1,7 @@
 -- The report of an input is the texts of its items, each a function of its own block, its number and what is chosen: no neighbour changes it.
 use Rattle.std.proofs.Common.{◌≡◌, ℕ, suc, ◌+◌, List, [], ◌∷◌, ◌++◌, map, length, get_or, count_by, ◌<◌, true, false, refl, sym, ap, ◌∙◌, arith, append_assoc}
 use Rattle.std.specs.List.{enumerate_from, flat_map}
-use Rattle.pop_text.specs.Left.{put_before}
+use Rattle.pop_text.specs.ties.Left.{put_before}
 use Rattle.pop_text.specs.Words.{Input, Words, is_line_end, limit, words_of}
 use Rattle.pop_input.specs.Blocks.{Entry, entries_of}
 use Rattle.pop_input.proofs.theorems.Entries.{NextBlock, entries_are, is_first, length-own_entries, own_entries, own_entry, tokens_in}

@@ -1,4 +1,4 @@
-use Rattle.chess_rules.specs.Places.{is_mating}
+use Rattle.chess_rules.specs.ties.Places.{is_mating}
 use Rattle.chess_rules.proofs.EveryMove.{fails-here}
 use Rattle.chess_rules.proofs.every_move.has_quiet_move.Goals as goal
 

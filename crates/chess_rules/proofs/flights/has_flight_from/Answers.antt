@@ -1,6 +1,6 @@
 use Rattle.std.proofs.Common.{◌≡◌, ◌<◌, ◌∙◌, ap, arith, sym}
 use Rattle.chess_core.specs.Triple.{Triple}
-use Rattle.chess_rules.specs.Flights.{AreOpen, sight_lifted}
+use Rattle.chess_rules.specs.ties.Flights.{AreOpen, sight_lifted}
 use Rattle.chess_rules.specs.Play.{after, capture_square}
 use Rattle.chess_core.specs.Position.{other}
 use Rattle.chess_rules.proofs.Fleeing.{has_flight_first}

@@ -1,7 +1,7 @@
 use Rattle.std.proofs.Common.{◌≡◌, true, ◌||◌, refl, ◌∙◌, List, Option, Some, None, is_some}
 use Rattle.std.specs.Int.Bits.{bit_or}
 use Rattle.chess_core.specs.Position.{is_side, man_on, same_colour}
-use Rattle.chess_core.specs.Words.{side_of, word}
+use Rattle.chess_core.specs.ties.Words.{side_of, word}
 use Rattle.chess_core.specs.declared.man.Man.{Man}
 use Rattle.chess_core.specs.declared.man.Colour.{Colour}
 use Rattle.chess_core.specs.declared.man.Colour.TheVariants.{White, Black}

@@ -1,5 +1,5 @@
 use Rattle.std.proofs.Common.{◌<◌}
-use Rattle.chess_rules.specs.Lines.{step_of}
+use Rattle.chess_rules.specs.ties.Lines.{step_of}
 use Rattle.chess_rules.proofs.Ahead.{ordered}
 use Rattle.chess_rules.proofs.Stopping.{ride_is}
 use Rattle.chess_rules.proofs.lines.ride.Goals as goal

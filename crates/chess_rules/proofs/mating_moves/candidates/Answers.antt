@@ -1,4 +1,4 @@
-use Rattle.chess_rules.specs.Places.{mates}
+use Rattle.chess_rules.specs.ties.Places.{mates}
 use Rattle.chess_rules.proofs.Mating.{not_mating}
 use Rattle.chess_rules.proofs.Walks.{candidates, checks_elsewhere, no_candidates}
 use Rattle.chess_rules.proofs.mating_moves.candidates.Goals as goal

@@ -1,7 +1,7 @@
 use Rattle.std.proofs.Common.{◌≡◌, ◌<◌, ◌&&◌, ◌∙◌, Bool, Some, None, ap, arith, not, sym}
 use Rattle.chess_core.specs.Position.{man_on}
 use Rattle.chess_core.specs.Triple.{Triple}
-use Rattle.chess_rules.specs.Shields.{is_plain}
+use Rattle.chess_rules.specs.ties.Shields.{is_plain}
 use Rattle.chess_rules.proofs.Shielding.{cannot_expose_is, cannot_expose_nobody}
 use Rattle.chess_rules.proofs.shields.cannot_expose.Goals as goal
 

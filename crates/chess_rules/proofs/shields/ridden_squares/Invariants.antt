@@ -1,8 +1,8 @@
 use Rattle.std.proofs.Common.{◌≡◌, ◌-◌, ◌≤◌, List, Option}
-use Rattle.chess_core.specs.Words.{word}
+use Rattle.chess_core.specs.ties.Words.{word}
 use Rattle.chess_core.specs.declared.man.Man.{Man}
-use Rattle.chess_rules.specs.Lines.{occupied_squares}
-use Rattle.chess_rules.specs.Shields.{steps_along}
+use Rattle.chess_rules.specs.ties.Lines.{occupied_squares}
+use Rattle.chess_rules.specs.ties.Shields.{steps_along}
 use Rattle.chess_rules.proofs.Riding.{ridden_below}
 use Rattle.chess_rules.proofs.shields.ridden_squares.Given as goal
 

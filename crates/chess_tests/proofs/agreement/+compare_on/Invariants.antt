@@ -1,5 +1,5 @@
 use Rattle.std.proofs.Common.{◌≡◌, length}
-use Rattle.chess_rules.specs.Places.{moves_behind}
+use Rattle.chess_rules.specs.ties.Places.{moves_behind}
 use Rattle.chess_tests.proofs.agreement.+compare_on.Given as goal
 
 abbrev pub decreases-compare_on : goal.decreases-compare_on

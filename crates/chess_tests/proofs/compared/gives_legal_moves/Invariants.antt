@@ -1,5 +1,5 @@
 use Rattle.std.proofs.Common.{◌≡◌}
-use Rattle.chess_rules.specs.Places.{IsPlaceIn}
+use Rattle.chess_rules.specs.ties.Places.{IsPlaceIn}
 use Rattle.chess_tests.proofs.compared.gives_legal_moves.Given as goal
 
 abbrev pub invariant-loop-choice : goal.invariant-loop-choice

@@ -1,5 +1,5 @@
 use Rattle.std.proofs.Common.{◌≡◌, length}
-use Rattle.chess_rules.specs.Places.{moves_behind}
+use Rattle.chess_rules.specs.ties.Places.{moves_behind}
 use Rattle.chess_tests.proofs.compared.unlike_of_play.Given as goal
 
 abbrev pub invariant-loop-m : goal.invariant-loop-m

@@ -1,5 +1,5 @@
 use Rattle.std.proofs.Common.{◌≡◌, length}
-use Rattle.chess_rules.specs.Places.{moves_behind}
+use Rattle.chess_rules.specs.ties.Places.{moves_behind}
 use Rattle.chess_tests.proofs.count.+walk_on.Given as goal
 
 abbrev pub decreases-walk_on : goal.decreases-walk_on

@@ -1,6 +1,6 @@
 use Rattle.std.proofs.Common.{refl, rules}
 use Rattle.pop_solve.specs.Events.{phase_half_moves}
-use Rattle.pop_solve.specs.Phases.{IsStanding}
+use Rattle.pop_solve.specs.ties.Phases.{IsStanding}
 use Rattle.pop_solve.proofs.Events as events
 use Rattle.pop_solve.proofs.Opened as opened
 use Rattle.pop_solve.proofs.phases.go_on.Goals as goal

@@ -1,5 +1,5 @@
 use Rattle.std.proofs.Common.{◌≡◌, reverse}
-use Rattle.pop_solve.specs.Walk.{IsWalking, Opens, to_come, turns}
+use Rattle.pop_solve.specs.ties.Walk.{IsWalking, Opens, to_come, turns}
 use Rattle.pop_solve.specs.Events.{phase_start}
 use Rattle.pop_solve.proofs.phases.walk_on.Given as goal
 

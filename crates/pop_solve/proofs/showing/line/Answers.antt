@@ -1,7 +1,7 @@
 use Rattle.std.proofs.Common.{◌+◌, refl, sym, ◌∙◌, ap, reverse, arith}
 use Rattle.std.proofs.lemmas.List.{take_all}
 use Rattle.chess_rules.specs.Play.{after as played}
-use Rattle.pop_solve.specs.Frames.{position}
+use Rattle.pop_solve.specs.ties.Frames.{position}
 use Rattle.pop_solve.proofs.Paths as paths
 use Rattle.pop_solve.proofs.showing.line.Goals as goal
 

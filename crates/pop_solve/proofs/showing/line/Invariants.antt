@@ -3,8 +3,8 @@ use Rattle.arrayvec.specs.ArrayVec.{array_vec_len}
 use Rattle.chess_core.specs.Position.{Position}
 use Rattle.chess_core.specs.WellFormed.{IsWellFormed}
 use Rattle.pop_solve.specs.Events.{shown_along}
-use Rattle.pop_solve.specs.Frames.{position}
-use Rattle.pop_solve.specs.Walk.{IsWalking, path}
+use Rattle.pop_solve.specs.ties.Frames.{position}
+use Rattle.pop_solve.specs.ties.Walk.{IsWalking, path}
 use Rattle.pop_solve.proofs.showing.line.Given as goal
 
 abbrev pub invariant-loop-k : goal.invariant-loop-k

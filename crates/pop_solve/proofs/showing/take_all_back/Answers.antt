@@ -1,7 +1,7 @@
 use Rattle.std.proofs.Common.{◌-◌, List, reverse, sym, ◌∙◌, subst, arith}
 use Rattle.std.proofs.lemmas.List.{take_all}
-use Rattle.pop_solve.specs.Frames.{Frame}
-use Rattle.pop_solve.specs.Walk.{IsWalking}
+use Rattle.pop_solve.specs.ties.Frames.{Frame}
+use Rattle.pop_solve.specs.ties.Walk.{IsWalking}
 use Rattle.pop_solve.proofs.Paths as paths
 use Rattle.pop_solve.proofs.showing.take_all_back.Goals as goal
 

@@ -2,9 +2,9 @@ use Rattle.chess_rules.specs.Play.{after as played}
 use Rattle.chess_rules.specs.Legal.{moves as legal_moves}
 use Rattle.std.proofs.Common.{◌+◌}
 use Rattle.pop_solve.specs.Chess.{chess}
-use Rattle.pop_solve.specs.Game.{walk_count}
-use Rattle.pop_solve.specs.Frames.{work, tests}
-use Rattle.pop_solve.specs.Values.{value}
+use Rattle.pop_solve.specs.ties.Counts.{walk_count}
+use Rattle.pop_solve.specs.ties.Frames.{work, tests}
+use Rattle.pop_solve.specs.ties.Values.{value}
 use Rattle.pop_solve.proofs.Tests.{IsUnderway}
 use Rattle.pop_solve.proofs.value.value_of.Given as goal
 

@@ -1,6 +1,6 @@
 use Rattle.std.proofs.Common.{◌≡◌, ◌+◌, ◌-◌, ◌/◌, ◌≤◌}
 use Rattle.pop_solve.specs.Chess.{chess}
-use Rattle.pop_solve.specs.Walk.{fewest, first_from}
+use Rattle.pop_solve.specs.ties.Walk.{fewest, first_from}
 use Rattle.pop_solve.proofs.walk.least_length.Given as goal
 
 abbrev pub invariant-loop-aim : goal.invariant-loop-aim

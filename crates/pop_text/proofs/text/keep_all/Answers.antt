@@ -1,7 +1,7 @@
 use Rattle.std.proofs.Common.{◌≡◌, ◌∙◌, sym, ap, get_or, length}
 use Rattle.std.proofs.lemmas.Bool.{eqb-true}
 use Rattle.std.proofs.lemmas.List.Folds.{fold_stuck}
-use Rattle.pop_text.specs.Texts.{with_byte}
+use Rattle.pop_text.specs.ties.Texts.{with_byte}
 use Rattle.pop_text.proofs.Windows.{full_stays}
 use Rattle.pop_text.proofs.text.keep_all.Goals as goal
 

@@ -1,6 +1,6 @@
 use Rattle.std.proofs.Common.{length}
 use Rattle.chess_core.specs.WellFormed.{IsWellFormed}
-use Rattle.chess_rules.specs.Places.{moves_behind}
+use Rattle.chess_rules.specs.ties.Places.{moves_behind}
 use Rattle.search_tests.proofs.plain.+lost.Given as goal
 
 abbrev pub decreases-lost : goal.decreases-lost

@@ -1,7 +1,7 @@
 use Rattle.std.proofs.Common.{◌≡◌, ◌<◌, ◌∙◌, ◌*◌, ◌%◌, ◌^◌, ap, true}
 use Rattle.std.specs.Int.Bits.{bit_and, bit_or}
 use Rattle.chess_core.specs.Castling.{has_unmoved, mark_unmoved}
-use Rattle.chess_core.specs.Words.{word}
+use Rattle.chess_core.specs.ties.Words.{word}
 use Rattle.chess_core.proofs.Castlings.{with_word, word_in_step, word_read}
 use Rattle.chess_core.proofs.man.Unmoved.with.Goals as goal
 

@@ -2,7 +2,7 @@ use Rattle.std.proofs.Common.{◌≡◌, ◌<◌, ◌∙◌, ◌*◌, ◌%◌, �
 use Rattle.std.specs.Int.{bit_not, w64}
 use Rattle.std.specs.Int.Bits.{bit_and}
 use Rattle.chess_core.specs.Castling.{has_unmoved, mark_unmoved}
-use Rattle.chess_core.specs.Words.{word}
+use Rattle.chess_core.specs.ties.Words.{word}
 use Rattle.chess_core.proofs.Castlings.{without_word, word_in_step, word_read}
 use Rattle.chess_core.proofs.man.Unmoved.without.Goals as goal
 

@@ -2,7 +2,7 @@ use Rattle.std.proofs.Common.{◌∙◌, None}
 use Rattle.chess_core.proofs.Kept.{side_kept}
 use Rattle.chess_core.specs.Position.{is_side}
 use Rattle.chess_core.proofs.Words.{word_on}
-use Rattle.chess_core.specs.Words.{side_of}
+use Rattle.chess_core.specs.ties.Words.{side_of}
 use Rattle.chess_core.proofs.placement.Placement.of_colour.Goals as goal
 
 pub returns : goal.returns

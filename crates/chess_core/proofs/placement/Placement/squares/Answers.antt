@@ -2,7 +2,7 @@ use Rattle.std.proofs.Common.{◌∙◌, None}
 use Rattle.chess_core.proofs.Kept.{men_kept}
 use Rattle.chess_core.specs.Position.{is_man}
 use Rattle.chess_core.proofs.Words.{word_on}
-use Rattle.chess_core.specs.Words.{squares_of}
+use Rattle.chess_core.specs.ties.Words.{squares_of}
 use Rattle.chess_core.proofs.placement.Placement.squares.Goals as goal
 
 pub returns : goal.returns

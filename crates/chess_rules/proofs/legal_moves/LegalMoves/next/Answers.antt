@@ -1,5 +1,5 @@
 use Rattle.std.proofs.Common.{◌≡◌, ◌+◌, Some, ap, sym}
-use Rattle.chess_rules.specs.Places.{LegalPlace, first_behind, place_of}
+use Rattle.chess_rules.specs.ties.Places.{LegalPlace, first_behind, place_of}
 use Rattle.chess_rules.proofs.Places.{first_behind-none, first_missing, first_numbered, place_of_triple, rest_missing, rest_numbered}
 use Rattle.chess_rules.proofs.legal_moves.LegalMoves.next.Goals as goal
 

@@ -1,6 +1,6 @@
 use Rattle.std.proofs.Common.{◌≡◌, ◌<◌, ◌≤◌, ap, arith}
 use Rattle.chess_rules.specs.Legal.{legal}
-use Rattle.chess_rules.specs.Places.{HaveNone, LegalPlace}
+use Rattle.chess_rules.specs.ties.Places.{HaveNone, LegalPlace}
 use Rattle.chess_rules.proofs.Between.{until-end, until-legal}
 use Rattle.chess_rules.proofs.legal_moves.LegalMoves.next_until.Goals as goal
 

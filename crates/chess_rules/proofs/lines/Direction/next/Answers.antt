@@ -1,5 +1,5 @@
 use Rattle.std.proofs.Common.{◌<◌}
-use Rattle.chess_rules.specs.Lines.{step_of}
+use Rattle.chess_rules.specs.ties.Lines.{step_of}
 use Rattle.chess_rules.proofs.HopWords.{next_none, next_some}
 use Rattle.chess_rules.proofs.lines.Direction.next.Goals as goal
 

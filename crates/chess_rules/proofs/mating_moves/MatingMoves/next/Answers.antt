@@ -1,5 +1,5 @@
 use Rattle.std.proofs.Common.{◌≡◌, ◌∙◌, ◌+◌, Some, ap, sym}
-use Rattle.chess_rules.specs.Places.{MatingPlace, mates_behind, place_of}
+use Rattle.chess_rules.specs.ties.Places.{MatingPlace, mates_behind, place_of}
 use Rattle.chess_rules.proofs.Between.{next_mate_numbered}
 use Rattle.chess_rules.proofs.Mating.{legal_of_mate, mates_behind-end, mates_behind-none, mates_numbered}
 use Rattle.chess_rules.proofs.Places.{place_of_triple}

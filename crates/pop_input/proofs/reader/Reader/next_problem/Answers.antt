@@ -1,8 +1,8 @@
 use Rattle.std.proofs.Common.{◌≡◌, ◌∙◌, refl, sym, ap, inr, Some, None, subst}
 use Rattle.pop_text.proofs.Using.{ends_then, failures_then, failures_same}
 use Rattle.pop_input.specs.Names.{command_of}
-use Rattle.pop_input.specs.Closings.{last_of}
-use Rattle.pop_input.specs.Standing.{Standing}
+use Rattle.pop_input.specs.ties.Closings.{last_of}
+use Rattle.pop_input.specs.ties.Standing.{Standing}
 use Rattle.pop_input.specs.declared.reader.Next.TheVariants.{Later, Nothing}
 use Rattle.pop_input.proofs.Items.{block_starts, line_read, long_read, open_read, not_closing}
 use Rattle.pop_input.proofs.Skipping.{skip_read}

@@ -1,6 +1,6 @@
 use Rattle.std.proofs.Common.{◌≡◌, ◌-◌, ◌⊎◌}
 use Rattle.pop_text.specs.Words.{limit}
-use Rattle.pop_text.specs.Reading.{IsSeen, failures_after}
+use Rattle.pop_text.specs.ties.Reading.{IsSeen, failures_after}
 use Rattle.pop_text.specs.declared.scanner.End.TheVariants.{Open}
 use Rattle.pop_input.proofs.Items.{BlockSoFar}
 use Rattle.pop_input.proofs.Ends.{block_of}

@@ -1,6 +1,6 @@
 use Rattle.std.proofs.Common.{ap, arith}
 use Rattle.pop_input.specs.Stipulations.{half_moves}
-use Rattle.pop_solve.specs.Events.{Seen}
+use Rattle.pop_solve.specs.ties.Seen.{Seen}
 use Rattle.pop_solve.proofs.Events as events
 use Rattle.pop_solve.proofs.search.Search.depth.Goals as goal
 

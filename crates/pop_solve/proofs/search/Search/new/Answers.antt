@@ -1,7 +1,7 @@
 use Rattle.std.proofs.Common.{◌∙◌, ap, refl}
 use Rattle.chess_core.specs.Diagrams.{position_of}
 use Rattle.pop_solve.specs.Events.{steps_from}
-use Rattle.pop_solve.specs.Phases.{IsStanding, left_of}
+use Rattle.pop_solve.specs.ties.Phases.{IsStanding, left_of}
 use Rattle.pop_solve.proofs.Events.{given-all}
 use Rattle.pop_solve.proofs.Opened.{opened-start}
 use Rattle.pop_solve.proofs.search.Search.new.Goals as goal

@@ -1,6 +1,6 @@
 use Rattle.std.proofs.Common.{◌≡◌, [], reverse, ap, ◌∙◌, arith}
-use Rattle.pop_solve.specs.Events.{Seen}
-use Rattle.pop_solve.specs.Phases.{left_of}
+use Rattle.pop_solve.specs.ties.Seen.{Seen}
+use Rattle.pop_solve.specs.ties.Phases.{left_of}
 use Rattle.pop_solve.proofs.Opened as opened
 use Rattle.pop_solve.proofs.search.Search.opened.Goals as goal
 

@@ -1,5 +1,5 @@
 use Rattle.std.proofs.Common.{refl, length, not, ◌∙◌, ◌<◌, ◌-◌, sym, ap, arith, subst}
-use Rattle.pop_text.specs.Reading.{Uses}
+use Rattle.pop_text.specs.ties.Reading.{Uses}
 use Rattle.pop_text.specs.Words.{is_in_line, limit, without_trailing}
 use Rattle.pop_text.proofs.Using.{ends_then, failures_then, no_line_ends, one_line_end, still_stuck}
 use Rattle.pop_text.proofs.Lines.{line_lines, line_more, line_ends, input_ends, line_fault, no_ten, uses_line, uses_last, uses_some}

@@ -1,8 +1,8 @@
 use Rattle.std.proofs.Common.{Err, ◌≡◌, ◌-◌, ◌⊎◌}
-use Rattle.pop_text.specs.Runs.{Peeks}
+use Rattle.pop_text.specs.ties.Runs.{Peeks}
 use Rattle.pop_text.specs.declared.read_fault.ReadFault.{ReadFault}
 use Rattle.pop_text.specs.Words.{limit}
-use Rattle.pop_text.specs.Reading.{IsSeen, failures_after}
+use Rattle.pop_text.specs.ties.Reading.{IsSeen, failures_after}
 use Rattle.pop_text.specs.declared.scanner.End.TheVariants.{Open}
 use Rattle.pop_text.proofs.Lines.{LineSoFar}
 use Rattle.pop_text.proofs.scanner.Scanner.rest_of_line.Given as goal

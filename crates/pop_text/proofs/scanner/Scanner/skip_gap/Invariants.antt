@@ -1,8 +1,8 @@
 use Rattle.std.proofs.Common.{Err, ◌≡◌, ◌-◌, ◌⊎◌}
-use Rattle.pop_text.specs.Runs.{Peeks}
+use Rattle.pop_text.specs.ties.Runs.{Peeks}
 use Rattle.pop_text.specs.declared.read_fault.ReadFault.{ReadFault}
 use Rattle.pop_text.specs.Words.{is_gap, limit}
-use Rattle.pop_text.specs.Reading.{UsesAll, IsSeen, failures_after}
+use Rattle.pop_text.specs.ties.Reading.{UsesAll, IsSeen, failures_after}
 use Rattle.pop_text.specs.declared.scanner.End.TheVariants.{Open}
 use Rattle.pop_text.proofs.scanner.Scanner.skip_gap.Given as goal
 

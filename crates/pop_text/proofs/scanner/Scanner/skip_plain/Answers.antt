@@ -1,6 +1,6 @@
 use Rattle.std.proofs.Common.{◌∙◌, ◌≡◌, ◌-◌, ap, arith, count_by, drop, length, length-drop, subst, sym, take}
 use Rattle.pop_text.specs.Words.{is_line_end, limit}
-use Rattle.pop_text.specs.Reading.{Uses}
+use Rattle.pop_text.specs.ties.Reading.{Uses}
 use Rattle.pop_text.proofs.Plain.{behind_view, skips}
 use Rattle.pop_text.proofs.Windows.{view_few, view_front, view_room}
 use Rattle.pop_text.proofs.scanner.Scanner.skip_plain.Goals as goal

@@ -2,7 +2,7 @@ use Rattle.std.proofs.Common.{refl, length, ◌≡◌, ◌∙◌, ◌-◌, ◌<�
 use Rattle.std.proofs.lemmas.List.{append-nil}
 use Rattle.std.proofs.lemmas.Result.{err_from_is_err_and}
 use Rattle.pop_text.specs.Words.{is_in_word, limit}
-use Rattle.pop_text.specs.Reading.{Uses}
+use Rattle.pop_text.specs.ties.Reading.{Uses}
 use Rattle.pop_text.proofs.Left.{solid_lines}
 use Rattle.pop_text.proofs.Using.{uses_then, runs_kept, runs_more, ends_then, failures_then, no_line_ends}
 use Rattle.pop_text.proofs.scanner.Scanner.take_run.Goals as goal

@@ -1,7 +1,7 @@
 use Rattle.std.proofs.Common.{◌≡◌, ◌-◌, ◌⊎◌}
 use Rattle.pop_text.specs.Words.{limit}
-use Rattle.pop_text.specs.Reading.{IsSeen, failures_after}
-use Rattle.pop_text.specs.Runs.{Runs}
+use Rattle.pop_text.specs.ties.Reading.{IsSeen, failures_after}
+use Rattle.pop_text.specs.ties.Runs.{Runs}
 use Rattle.pop_text.specs.declared.scanner.End.TheVariants.{Open}
 use Rattle.pop_text.proofs.scanner.Scanner.take_run.Given as goal
 

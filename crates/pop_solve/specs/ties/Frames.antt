@@ -9,12 +9,12 @@ use Rattle.chess_core.specs.Triple.{Triple}
 use Rattle.chess_core.specs.WellFormed.{IsWellFormed}
 use Rattle.chess_rules.specs.Legal.{legal}
 use Rattle.chess_rules.specs.Loss.{Loss}
-use Rattle.chess_rules.specs.Places.{IsPlaceIn, LegalPlace, moves_behind, moves_between}
+use Rattle.chess_rules.specs.ties.Places.{IsPlaceIn, LegalPlace, moves_behind, moves_between}
 use Rattle.chess_rules.specs.Play.{undo_of}
 use Rattle.chess_rules.specs.RuleSet.{RuleSet}
 use Rattle.pop_solve.specs.Chess.{chess}
-use Rattle.pop_solve.specs.Game.{walk_count}
-use Rattle.pop_solve.specs.Values.{seeks, join, joined}
+use Rattle.pop_solve.specs.ties.Counts.{walk_count}
+use Rattle.pop_solve.specs.ties.Values.{seeks, join, joined}
 use Rattle.pop_solve.specs.declared.frame.Stretch.{Stretch}
 use Rattle.pop_solve.specs.declared.frame.Stretch.TheVariants.{First, Before, Behind}
 

@@ -6,9 +6,10 @@ use Rattle.chess_core.specs.Triple.{Triple}
 use Rattle.chess_rules.specs.RuleSet.{RuleSet}
 use Rattle.pop_input.specs.Posed.{Posed}
 use Rattle.pop_input.specs.Stipulations.{is_help}
-use Rattle.pop_solve.specs.Frames.{Frame, to_open}
-use Rattle.pop_solve.specs.Walk.{path, to_come, IsWalking, IsCounted, IsWhites}
-use Rattle.pop_solve.specs.Events.{Step, impossible, is_set, total, is_never_stopped, is_unstopped, is_walked_once, start, walk_from, whole_walk, steps_from, step_of, phase_start, phase_half_moves, event_of, StandsOn, events}
+use Rattle.pop_solve.specs.ties.Frames.{Frame, to_open}
+use Rattle.pop_solve.specs.ties.Walk.{path, to_come, IsWalking, IsCounted, IsWhites}
+use Rattle.pop_solve.specs.Events.{Step, impossible, is_set, total, start, steps_from, step_of, phase_start, phase_half_moves, event_of, events}
+use Rattle.pop_solve.specs.ties.Seen.{is_never_stopped, is_unstopped, is_walked_once, walk_from, whole_walk, StandsOn}
 use Rattle.pop_solve.specs.declared.event.Event.{Event}
 use Rattle.pop_solve.specs.declared.event.Phase.{Phase}
 use Rattle.pop_solve.specs.declared.event.Phase.TheVariants.{Play}

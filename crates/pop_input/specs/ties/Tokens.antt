@@ -1,8 +1,8 @@
 -- What next_token does (own).
 use Rattle.std.specs.Prelude.{◌≡◌, ◌<◌, ◌≤◌, ℕ, List, [], ◌∷◌, length, Option, Some}
 use Rattle.pop_text.specs.Words.{Token as Part, Word, TextLine, Tail, End as AtEnd, Long, Broken as Failing, text_of_line}
-use Rattle.pop_text.specs.Reading.{Reading}
-use Rattle.pop_text.specs.Left.{Takes, among, IsOver, GoesOn, StaysWithin}
+use Rattle.pop_text.specs.ties.Reading.{Reading}
+use Rattle.pop_text.specs.ties.Left.{Takes, among, IsOver, GoesOn, StaysWithin}
 use Rattle.pop_text.specs.declared.read_fault.ReadFault.{ReadFault}
 use Rattle.pop_text.specs.declared.scanner.End.TheVariants.{Broken}
 use Rattle.pop_text.specs.declared.read_fault.ReadFault.TheVariants.{TooLong as LongWord, InputTooLong, Device}

@@ -4,7 +4,7 @@ use Rattle.std.proofs.lemmas.Bool.{and_left}
 use Rattle.chess_core.specs.Position.{Position}
 use Rattle.chess_core.specs.declared.man.Move.{Move}
 use Rattle.chess_rules.specs.Legal.{legal, pseudo}
-use Rattle.chess_rules.specs.Places.{mates}
+use Rattle.chess_rules.specs.ties.Places.{mates}
 use Rattle.chess_rules.specs.RuleSet.{RuleSet}
 
 -- it isn't legal

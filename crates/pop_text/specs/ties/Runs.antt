@@ -1,7 +1,7 @@
 -- What stands at a place, and runs of a word (own).
 use Rattle.std.specs.Prelude.{◌≡◌, ◌<◌, ◌≤◌, ℕ, ◌+◌, List, [], ◌∷◌, ◌++◌, length, take, nat_lt, count_by, Option, Some, None, Result, Ok, Err, Bool, true, ◌⊎◌}
 use Rattle.std.specs.List.{list_all}
-use Rattle.pop_text.specs.Reading.{Reading, Uses, UsesAll}
+use Rattle.pop_text.specs.ties.Reading.{Reading, Uses, UsesAll}
 use Rattle.pop_text.specs.Words.{is_line_end, is_gap, is_in_line, is_in_word, limit, text_of_line}
 use Rattle.pop_text.specs.declared.scanner.End.TheVariants.{Ended, Broken}
 use Rattle.pop_text.specs.declared.read_fault.ReadFault.{ReadFault}

@@ -10,7 +10,7 @@ use Rattle.chess_rules.specs.Attacks.{in_check}
 use Rattle.chess_rules.specs.Legal.{pseudo}
 use Rattle.chess_rules.specs.Play.{after}
 use Rattle.chess_rules.specs.Reaches.{reaches, reaches_as}
-use Rattle.chess_rules.specs.Shields.{has_fairy}
+use Rattle.chess_rules.specs.ties.Shields.{has_fairy}
 use Rattle.chess_rules.specs.RuleSet.{RuleSet, is_madrasi}
 
 -- a move to t answers the check that the man on q gives to the king of colour c on k: it takes that man, or

@@ -2,8 +2,8 @@
 use Rattle.std.specs.Prelude.{◌≡◌, ◌≤◌, ℕ, List, [], ◌∷◌, ◌++◌, Option, None, Bool, true, false, ◌+◌, ◌-◌, length}
 use Rattle.pop_text.specs.Bytes.{Consumes}
 use Rattle.pop_text.specs.Words.{Input, limit}
-use Rattle.pop_text.specs.Reading.{Reading, beginning}
-use Rattle.pop_text.specs.Left.{after, MayFollow, words_left}
+use Rattle.pop_text.specs.ties.Reading.{Reading, beginning}
+use Rattle.pop_text.specs.ties.Left.{after, MayFollow, words_left}
 use Rattle.pop_input.specs.Blocks.{Entry, Sound as SoundEntry, Faulty as FaultyEntry, entries_of}
 use Rattle.pop_input.specs.declared.item.Last.{Last}
 use Rattle.pop_input.specs.declared.item.Last.TheVariants.{Yes, No}

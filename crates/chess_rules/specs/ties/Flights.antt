@@ -5,7 +5,7 @@ use Rattle.std.specs.Int.Bits.{bit_and, bit_or}
 use Rattle.chess_core.specs.Position.{Position, king_square, man_on, other, same_kind}
 use Rattle.chess_core.specs.Squares.{is_square, some_square}
 use Rattle.chess_core.specs.WellFormed.{IsWellFormed}
-use Rattle.chess_core.specs.Words.{word}
+use Rattle.chess_core.specs.ties.Words.{word}
 use Rattle.chess_core.specs.declared.man.Colour.{Colour}
 use Rattle.chess_core.specs.declared.man.Kind.TheVariants.{King}
 use Rattle.chess_core.specs.declared.man.Man.{Man}
@@ -14,7 +14,7 @@ use Rattle.chess_rules.specs.Legal.{is_arrival_free, legal, pseudo}
 use Rattle.chess_rules.specs.Play.{capture_square}
 use Rattle.chess_rules.specs.Reaches.{reaches_as}
 use Rattle.chess_rules.specs.RuleSet.{RuleSet, is_circe}
-use Rattle.chess_rules.specs.Sight.{is_simple, sight_after}
+use Rattle.chess_rules.specs.ties.Sight.{is_simple, sight_after}
 use Rattle.chess_rules.specs.declared.sight.Sight.{Sight}
 
 -- the king on this square, if there is one, may go to t

@@ -12,7 +12,7 @@ use Rattle.chess_rules.specs.Play.{is_castling}
 use Rattle.std.specs.List.{list_any}
 use Rattle.chess_core.specs.Steps.{diagonal_steps, straight_steps}
 use Rattle.chess_core.specs.declared.step.Step.{Step}
-use Rattle.chess_rules.specs.Lines.{is_on_some}
+use Rattle.chess_rules.specs.ties.Lines.{is_on_some}
 use Rattle.chess_rules.specs.Reaches.{rides}
 use Rattle.chess_rules.specs.declared.shields.RiderLines.{RiderLines}
 use Rattle.chess_rules.specs.declared.shields.RiderLines.TheVariants.{Straight, Diagonal}

@@ -2,7 +2,7 @@
 use Rattle.std.specs.Prelude.{◌≡◌, ◌<◌, ◌≤◌, ℕ, ◌+◌, ◌-◌, List, [], ◌∷◌, ◌++◌, length, Option, None, Some, Result, Ok, Err, Bool, true, false}
 use Rattle.pop_text.specs.Bytes.{Consumes}
 use Rattle.pop_text.specs.Words.{Input, Clean, Failed, Words, Token, Word, TextLine, Tail, End as AtEnd, Long, Broken as Failing, limit, words_from, is_text_word, text_of_line}
-use Rattle.pop_text.specs.Reading.{Reading}
+use Rattle.pop_text.specs.ties.Reading.{Reading}
 use Rattle.pop_text.specs.declared.scanner.End.{End}
 use Rattle.pop_text.specs.declared.scanner.End.TheVariants.{Open, Ended, Broken}
 use Rattle.pop_text.specs.declared.scanner.Found.{Found}

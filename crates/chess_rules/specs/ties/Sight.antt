@@ -4,13 +4,13 @@ use Rattle.std.specs.Int.{bit_not, w64}
 use Rattle.std.specs.Int.Bits.{bit_and, bit_or}
 use Rattle.chess_core.specs.Position.{Position, king_square, same_kind}
 use Rattle.chess_core.specs.Squares.{is_square}
-use Rattle.chess_core.specs.Words.{squares_of, word}
+use Rattle.chess_core.specs.ties.Words.{squares_of, word}
 use Rattle.chess_core.specs.declared.man.Colour.{Colour}
 use Rattle.chess_core.specs.declared.man.Kind.{Kind}
 use Rattle.chess_core.specs.declared.man.Kind.TheVariants.{King}
 use Rattle.chess_core.specs.declared.man.Man.{Man}
 use Rattle.chess_core.specs.declared.man.Move.{Move}
-use Rattle.chess_rules.specs.Lines.{occupied_squares}
+use Rattle.chess_rules.specs.ties.Lines.{occupied_squares}
 use Rattle.chess_rules.specs.Play.{is_castling}
 use Rattle.chess_rules.specs.RuleSet.{RuleSet, is_circe, is_madrasi}
 use Rattle.chess_rules.specs.declared.sight.Sight.{Sight}

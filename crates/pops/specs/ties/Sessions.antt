@@ -8,7 +8,7 @@ use Rattle.pop_input.specs.declared.item.Last.TheVariants.{Yes, No}
 use Rattle.pop_input.specs.declared.reader.Next.{Next}
 use Rattle.pop_input.specs.declared.reader.Next.TheVariants.{First, Later, Nothing}
 use Rattle.pop_input.specs.Blocks.{Entry}
-use Rattle.pop_input.specs.Standing.{Standing, Reads, entries_left, start as before_all}
+use Rattle.pop_input.specs.ties.Standing.{Standing, Reads, entries_left, start as before_all}
 use Rattle.pops.specs.Report.{Choice, entry_text, is_faulty, tells_failure}
 use Rattle.pops.specs.declared.status.Status.{Status}
 use Rattle.pops.specs.declared.status.Status.TheVariants.{Sound, Faulty, InputFailed}

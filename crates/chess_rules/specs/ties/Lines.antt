@@ -5,7 +5,7 @@ use Rattle.std.specs.List.{list_any, range_with_len}
 use Rattle.chess_core.specs.Position.{man_on}
 use Rattle.chess_core.specs.Squares.{is_square}
 use Rattle.chess_core.specs.Steps.{along, step_by}
-use Rattle.chess_core.specs.Words.{word}
+use Rattle.chess_core.specs.ties.Words.{word}
 use Rattle.chess_core.specs.declared.step.Step.{Step}
 use Rattle.chess_core.specs.declared.man.Colour.{Colour}
 use Rattle.chess_core.specs.declared.man.Man.{Man}

@@ -7,12 +7,12 @@ use Rattle.std.specs.List.{flat_map, list_all}
 use Rattle.chess_core.specs.Position.{Position}
 use Rattle.chess_core.specs.Triple.{Triple}
 use Rattle.chess_core.specs.WellFormed.{IsWellFormed}
-use Rattle.chess_rules.specs.Places.{is_mating, moves_behind}
+use Rattle.chess_rules.specs.ties.Places.{is_mating, moves_behind}
 use Rattle.chess_rules.specs.RuleSet.{RuleSet}
 use Rattle.pop_solve.specs.Game.{Game}
-use Rattle.pop_solve.specs.Values.{seeks, value}
+use Rattle.pop_solve.specs.ties.Values.{seeks, value}
 use Rattle.pop_solve.specs.Chess.{chess}
-use Rattle.pop_solve.specs.Frames.{AreKnown, Frame, position, IsLinked, steps_behind, to_open}
+use Rattle.pop_solve.specs.ties.Frames.{AreKnown, Frame, position, IsLinked, steps_behind, to_open}
 use Rattle.pop_solve.specs.declared.walk.Way.{Way}
 
 -- the fewest half-moves with which a move of White is tried

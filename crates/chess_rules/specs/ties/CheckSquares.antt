@@ -3,7 +3,7 @@ use Rattle.std.specs.Prelude.{◌≡◌, ◌<◌, ℕ, Bool, true, false, ◌||�
 use Rattle.std.specs.Int.{bit_at}
 use Rattle.std.specs.Int.Bits.{bit_or}
 use Rattle.chess_core.specs.Position.{Position, king_square, other}
-use Rattle.chess_core.specs.Words.{word}
+use Rattle.chess_core.specs.ties.Words.{word}
 use Rattle.chess_core.specs.declared.man.Man.{Man}
 use Rattle.chess_core.specs.declared.man.Move.{Move}
 use Rattle.chess_core.specs.declared.man.Colour.{Colour}
@@ -15,7 +15,7 @@ use Rattle.chess_rules.specs.Legal.{pseudo}
 use Rattle.chess_rules.specs.Play.{after}
 use Rattle.chess_rules.specs.Reaches.{reaches_as}
 use Rattle.chess_rules.specs.RuleSet.{RuleSet}
-use Rattle.chess_rules.specs.Shields.{is_fairy, may_expose}
+use Rattle.chess_rules.specs.ties.Shields.{is_fairy, may_expose}
 
 -- x, on t, may give check to a king on this square, if there is one
 abbrev pub may_check_from_on : List (Option Man) → Option ℕ → Man → ℕ → Bool

@@ -3,8 +3,8 @@ use Rattle.std.specs.Prelude.{◌≡◌, ◌≤◌, ℕ, ◌+◌, ◌==◌, ◌&
 use Rattle.std.specs.List.{list_all}
 use Rattle.std.specs.Char.{to_ascii_lowercase}
 use Rattle.pop_text.specs.Words.{Token, Word, TextLine, Tail, is_gap, is_line_end, limit, words_by}
-use Rattle.pop_text.specs.Reading.{Reading}
-use Rattle.pop_text.specs.Left.{Takes, among, put_before}
+use Rattle.pop_text.specs.ties.Reading.{Reading}
+use Rattle.pop_text.specs.ties.Left.{Takes, among, put_before}
 
 -- tit, aut, ori, rem, nex, end: the first letters of title, author, origin, remark, nextproblem and endproblem
 abbrev pub is_named_front : ℕ → ℕ → ℕ → Bool

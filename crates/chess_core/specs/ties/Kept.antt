@@ -2,7 +2,7 @@
 use Rattle.std.specs.Prelude.{◌≡◌, ℕ, List, [], ◌∷◌, Option, map}
 use Rattle.chess_core.specs.Diagrams.{is_kind}
 use Rattle.chess_core.specs.Position.{is_side}
-use Rattle.chess_core.specs.Words.{word_of}
+use Rattle.chess_core.specs.ties.Words.{word_of}
 use Rattle.chess_core.specs.declared.man.Man.{Man}
 use Rattle.chess_core.specs.declared.man.Colour.{Colour}
 use Rattle.chess_core.specs.declared.man.Colour.TheVariants.{White, Black}

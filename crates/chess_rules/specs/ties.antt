@@ -1,0 +1,13 @@
+pub mod CheckSquares
+pub mod Evasions
+pub mod Flights
+pub mod Games
+pub mod Idle
+pub mod Lines
+pub mod Outward
+pub mod Places
+pub mod Playing
+pub mod Shields
+pub mod Sight
+pub mod Targets
+pub mod Undoing

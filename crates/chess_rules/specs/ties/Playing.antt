@@ -1,0 +1,25 @@
+-- What a move asks of the board before it is played.
+use Rattle.std.specs.Prelude.{ℕ, true, false, List, Option, Some, None, IsSome, ◌≡◌}
+use Rattle.chess_core.specs.Position.{Position, man_on, with_man, without_man, same_kind, HasNoKing}
+use Rattle.chess_core.specs.declared.man.Man.{Man}
+use Rattle.chess_core.specs.declared.man.Move.{Move}
+use Rattle.chess_core.specs.declared.man.Kind.TheVariants.{King}
+use Rattle.chess_rules.specs.RuleSet.{RuleSet}
+use Rattle.chess_rules.specs.Play.{arriving, capture_square, corner, halfway, is_castling, without_at}
+
+-- a rook can be taken from one square and put on another
+pub record CanCastle (men : List (Option Man)) (a b : ℕ) : Type 0 where
+  pub free : man_on (without_man men a) b ≡ None
+  pub no_king : (z : Man) → man_on men a ≡ Some z → same_kind z.kind King ≡ false
+
+-- what the board's calls ask for when the men are moved one by one
+pub record CanMove (p : Position) (x : Man) (m : Move) : Type 0 where
+  pub here : man_on p.men m.from ≡ Some x
+  pub taken : (s : ℕ) → capture_square p x m ≡ Some s → IsSome (man_on (without_man p.men m.from) s)
+  pub one_king : same_kind (arriving x m.promo).kind King ≡ true → HasNoKing (without_at (without_man p.men m.from) (capture_square p x m)) (arriving x m.promo).colour
+  pub rook : is_castling x m ≡ true → CanCastle (with_man (without_at (without_man p.men m.from) (capture_square p x m)) m.to (arriving x m.promo)) (corner m) (halfway m)
+
+-- and when the move is made whole
+pub record CanPlay (rule : RuleSet) (p : Position) (m : Move) : Type 0 where
+  pub moves : (x : Man) → man_on p.men m.from ≡ Some x → CanMove p x m
+  pub mortal : (x y : Man) (s : ℕ) → man_on p.men m.from ≡ Some x → capture_square p x m ≡ Some s → man_on p.men s ≡ Some y → same_kind y.kind King ≡ false

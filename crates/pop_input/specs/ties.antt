@@ -1,0 +1,3 @@
+pub mod Closings
+pub mod Standing
+pub mod Tokens

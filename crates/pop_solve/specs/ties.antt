@@ -1,0 +1,7 @@
+pub mod Counts
+pub mod Frames
+pub mod Marks
+pub mod Phases
+pub mod Seen
+pub mod Values
+pub mod Walk
