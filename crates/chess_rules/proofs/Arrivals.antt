@@ -224,7 +224,7 @@ goes_as_pawn rule p x m here pawn h =
       | inr e ↦ or_right (reaches p.men m.from m.to && (is_some (man_on p.men m.to) || is_square p.crossed m.to)) (pawn_steps p x m) e
     ]
 
-no_steps : (x : Man) (s t : ℕ) (a u : Bool) → same_kind x.kind Pawn ≡ false → same_kind x.kind King ≡ false → (a || (u && steps_to x s t)) ≡ true → a ≡ true
+pub no_steps : (x : Man) (s t : ℕ) (a u : Bool) → same_kind x.kind Pawn ≡ false → same_kind x.kind King ≡ false → (a || (u && steps_to x s t)) ≡ true → a ≡ true
 unfolding steps_to
 no_steps x s t a u none piece h = elim (or_cases a _ h) [
   | inl e ↦ e

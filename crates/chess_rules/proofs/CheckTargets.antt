@@ -1,7 +1,7 @@
 -- A move that goes to no square from which its man may give check gives none.
 use Rattle.std.proofs.Common.{◌≡◌, ℕ, ◌<◌, Bool, true, false, ◌&&◌, ◌||◌, ◌==◌, not, Option, Some, None, is_some, max, refl, sym, ap, ◌∙◌, arith, inl, inr}
 use Rattle.std.specs.Int.{bit_at, bit_not, w64}
-use Rattle.std.specs.Int.Bits.{bit_or}
+use Rattle.std.specs.Int.Bits.{bit_and, bit_or}
 use Rattle.std.proofs.lemmas.Bool.{agree_below_at, and_left, and_parts, and_right, cases_Bool, eq-eqb, eqb-true}
 use Rattle.std.proofs.lemmas.Nat.Bits.{bit_at_or, bit_at-lt}
 use Rattle.chess_core.specs.Position.{Position, man_on, other, same_kind}
@@ -21,11 +21,13 @@ use Rattle.chess_rules.specs.ties.Shields.{cannot_expose, is_plain, may_expose}
 use Rattle.chess_rules.specs.Legal.{last_rank, pseudo}
 use Rattle.chess_rules.specs.Play.{after, arriving, is_castling}
 use Rattle.chess_rules.specs.RuleSet.{RuleSet, is_circe}
-use Rattle.chess_rules.specs.ties.Targets.{arrives, steps_to}
+use Rattle.chess_rules.specs.ties.Targets.{arrives, is_arrival, may_go, steps_to}
+use Rattle.chess_rules.proofs.Arrivals.{may_go_aimed}
 use Rattle.chess_rules.proofs.Bits.{word_has}
 use Rattle.chess_rules.proofs.Checking.{no_check}
 use Rattle.chess_rules.proofs.Pseudo.{king_is_no_pawn, made}
-use Rattle.chess_rules.proofs.Targeting.{castling_steps, every_square_on, false_by, nobody_moves, unpromoted}
+use Rattle.chess_rules.proofs.Walks.{off_second}
+use Rattle.chess_rules.proofs.Targeting.{arrival_needed, castling_steps, every_square_on, false_by, nobody_moves, unpromoted}
 
 -- a square off both words is off each
 pub off_left : (a b i : ℕ) → (bit_at (bit_or a b) i == 1) ≡ false → (bit_at a i == 1) ≡ false
@@ -149,3 +151,13 @@ module _ (rule : RuleSet) (p : Position) (x : Man) (s : CheckSquares) (f : ℕ) 
 
   pub check_targets_some : AreCheckTargets rule p f (bit_or (bit_or (bit_or a b) c) d)
   check_targets_some = record { elsewhere = λ m at small may off. no_check_elsewhere m at small may off }
+
+-- the targets among the squares to which the man might go
+pub check_targets_there : (rule : RuleSet) (p : Position) (x : Man) (f o w : ℕ) → man_on p.men f ≡ Some x
+    → ((t : ℕ) → t < 64 → may_go p x f t ≡ true → (bit_at o t == 1) ≡ true) → AreCheckTargets rule p f w → AreCheckTargets rule p f (bit_and o w)
+check_targets_there rule p x f o w here there are = record {
+  elsewhere = λ m at small may off.
+      let arrives_there : is_arrival rule p m.from m.to ≡ true = arrival_needed rule p m small may in
+      let goes : may_go p x m.from m.to ≡ true = may_go_aimed rule p x m (ap (man_on p.men) at ∙ here) arrives_there in
+      are.elsewhere m at small may (off_second o w m.to off (there m.to small (ap (λ s. may_go p x s m.to) (sym at) ∙ goes)));
+}

@@ -12,7 +12,6 @@ use Rattle.chess_core.specs.ties.Words.{side_of, squares_of, word}
 use Rattle.chess_core.specs.Steps.{queen_steps}
 use Rattle.chess_core.specs.declared.man.Colour.{Colour}
 use Rattle.chess_core.specs.declared.man.Colour.TheVariants.{White, Black}
-use Rattle.chess_core.specs.declared.man.Kind.{Kind}
 use Rattle.chess_core.specs.declared.man.Kind.TheVariants.{King, Pawn}
 use Rattle.chess_core.specs.declared.man.Man.{Man}
 use Rattle.chess_core.specs.declared.man.Move.{Move}
@@ -24,7 +23,7 @@ use Rattle.chess_rules.specs.ties.Flights.{AreOpen, IsSeenFrom, has_flight, is_f
 use Rattle.chess_rules.specs.Legal.{goes, is_arrival_free, is_goal, is_nil, is_promotion_right, legal, moves, pseudo, pseudo_of}
 use Rattle.chess_rules.specs.ties.Lines.{occupied_squares}
 use Rattle.chess_rules.specs.ties.Places.{mates, moves_behind, promotion_at, triple_at}
-use Rattle.chess_rules.specs.Play.{after, arriving, capture_square, is_castling}
+use Rattle.chess_rules.specs.Play.{after, arriving, capture_square}
 use Rattle.chess_rules.specs.Reaches.{leaps, reaches, reaches_as, reaches_of}
 use Rattle.chess_rules.specs.RuleSet.{RuleSet, is_circe, is_madrasi}
 use Rattle.chess_rules.specs.ties.Sight.{AreSeen, king_after}
@@ -40,7 +39,7 @@ use Rattle.chess_rules.proofs.Pseudo.{IsMade, king_is_no_pawn, made}
 use Rattle.chess_rules.proofs.Seeing.{IsNoKing, gone_to, is_occupied_after, kept_now, king_stands, left_now, occupied_now, there_now}
 use Rattle.chess_rules.proofs.Shielding.{arriving_colour, man_there, other_differs, simple_after}
 use Rattle.chess_rules.proofs.StayingInCheck.{king_there}
-use Rattle.chess_rules.proofs.Stays.{after_well_formed, colour_self}
+use Rattle.chess_rules.proofs.Stays.{after_well_formed}
 use Rattle.chess_rules.proofs.Stepping.{IsStep, arrival_alike, lifted_alike, lifted_words, occupied_lifted, same_elsewhere, seen_stepped, stands_arrived, stepped}
 use Rattle.chess_rules.proofs.Tests.{any_range_cases, differs, first_of_and}
 use Rattle.chess_rules.proofs.Walks.{on_first}

@@ -1,5 +1,5 @@
 -- The words of the squares that shut lines.
-use Rattle.std.proofs.Common.{◌≡◌, ℕ, ◌+◌, ◌-◌, ◌<◌, ◌≤◌, Bool, true, false, ◌&&◌, ◌||◌, ◌==◌, List, Option, refl, sym, ap, ◌∙◌, arith, inl, inr}
+use Rattle.std.proofs.Common.{◌≡◌, ℕ, ◌+◌, ◌-◌, ◌<◌, ◌≤◌, Bool, false, ◌&&◌, ◌||◌, ◌==◌, List, Option, refl, sym, ap, ◌∙◌, arith, inl, inr}
 use Rattle.std.specs.Int.{bit_at}
 use Rattle.std.specs.Int.Bits.{bit_and, bit_or}
 use Rattle.std.specs.List.{list_any, range_with_len}
@@ -20,7 +20,7 @@ use Rattle.chess_rules.specs.Reaches.{rides}
 use Rattle.chess_rules.specs.ties.Shields.{is_behind, is_shut}
 use Rattle.chess_rules.proofs.Attacking.{some_square_same}
 use Rattle.chess_rules.proofs.Bits.{word_empty, word_has}
-use Rattle.chess_rules.proofs.Tests.{IsFirst, any_range_cases, same_Bool}
+use Rattle.chess_rules.proofs.Tests.{IsFirst, any_range_cases}
 
 -- some number passes up to q, if some does below n, or q itself, and those between don't
 upto : (p : ℕ → Bool) (n q : ℕ) → n ≤ q → ((j : ℕ) → n ≤ j → j < q → p j ≡ false)

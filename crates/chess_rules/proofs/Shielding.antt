@@ -7,7 +7,7 @@ use Rattle.std.proofs.lemmas.Bool.{and_from, and_left, and_parts, and_right, cas
 use Rattle.std.proofs.lemmas.List.Folds.{list_any-append}
 use Rattle.chess_core.specs.Position.{AtMostOneKing, Position, is_man, is_side, king_square, man_on, other, same_colour, same_kind, without_man}
 use Rattle.chess_core.specs.Squares.{is_square, squares, some_square}
-use Rattle.chess_core.specs.Steps.{along, diagonal_steps, queen_steps, straight_steps}
+use Rattle.chess_core.specs.Steps.{along, diagonal_steps, straight_steps}
 use Rattle.chess_core.specs.WellFormed.{IsWellFormed}
 use Rattle.chess_core.specs.ties.Words.{squares_of, word}
 use Rattle.chess_core.specs.declared.man.Colour.{Colour}
@@ -108,7 +108,7 @@ ahead_of men k s d h = elim (any_range_cases (λ n. is_square (along k d n) s &&
   | inr none ↦ absurd (false≢true (sym (any_range_false (λ n. is_square (along k d n) s && is_clear men k d (n - 1)) 1 7 none) ∙ h))
 ]
 
-goes_on : (men : List (Option Man)) (k s : ℕ) (ds : List Step) → list_any (rides men k s) ds ≡ true → list_any (λ d. is_ahead k d s) ds ≡ true
+pub goes_on : (men : List (Option Man)) (k s : ℕ) (ds : List Step) → list_any (rides men k s) ds ≡ true → list_any (λ d. is_ahead k d s) ds ≡ true
 goes_on men k s [] h = h
 goes_on men k s (d ∷ ds) h = elim (or_cases (rides men k s d) (list_any (rides men k s) ds) h) [
   | inl y ↦ or_left (is_ahead k d s) _ (ahead_of men k s d y)

@@ -1,13 +1,13 @@
 -- A check that isn't met stays.
-use Rattle.std.proofs.Common.{◌≡◌, ◌≢◌, ℕ, ◌-◌, ◌<◌, ◌≤◌, Bool, true, false, ◌&&◌, ◌||◌, ◌==◌, not, List, [], ◌∷◌, Option, Some, None, refl, subst, sym, ap, ◌∙◌, arith, inl, inr}
+use Rattle.std.proofs.Common.{◌≡◌, ◌≢◌, ℕ, ◌<◌, Bool, true, false, ◌&&◌, ◌||◌, ◌==◌, not, List, Option, Some, None, refl, subst, sym, ap, ◌∙◌, arith}
 use Rattle.std.specs.Int.{bit_at, bit_not, w64}
 use Rattle.std.specs.Int.Bits.{bit_and, bit_or}
-use Rattle.std.specs.List.{list_any, range_with_len}
-use Rattle.std.proofs.lemmas.Bool.{and_from, and_left, and_parts, cases_Bool, eq-eqb, false_from_ne_true, or_cases, or_left, or_parts, or_right}
+use Rattle.std.specs.List.{list_any}
+use Rattle.std.proofs.lemmas.Bool.{and_from, and_left, and_parts, eq-eqb, or_left, or_parts, or_right}
 use Rattle.std.proofs.lemmas.List.Folds.{list_any-append}
 use Rattle.chess_core.specs.Position.{AtMostOneKing, Position, is_man, is_side, king_square, man_on, other, same_colour, same_kind}
 use Rattle.chess_core.specs.Squares.{is_square, squares}
-use Rattle.chess_core.specs.Steps.{along, diagonal_steps, queen_steps, straight_steps}
+use Rattle.chess_core.specs.Steps.{diagonal_steps, queen_steps, straight_steps}
 use Rattle.chess_core.specs.WellFormed.{IsWellFormed}
 use Rattle.chess_core.specs.ties.Words.{word}
 use Rattle.chess_core.specs.declared.man.Colour.{Colour}
@@ -16,24 +16,24 @@ use Rattle.chess_core.specs.declared.man.Kind.TheVariants.{King, Queen, Rook, Bi
 use Rattle.chess_core.specs.declared.man.Man.{Man}
 use Rattle.chess_core.specs.declared.man.Move.{Move}
 use Rattle.chess_core.specs.declared.step.Step.{Step}
-use Rattle.chess_core.proofs.Ranges.{all_range_true, any_range_false, any_range_true, some_square_true}
+use Rattle.chess_core.proofs.Ranges.{some_square_true}
 use Rattle.chess_core.proofs.Words.{squares_both, squares_either}
 use Rattle.chess_rules.specs.Attacks.{attacked, check_of, in_check, paralysed, strikes}
 use Rattle.chess_rules.specs.ties.Evasions.{AreEvasions, IsNoEvasion}
 use Rattle.chess_rules.specs.ties.Shields.{has_fairy, is_fairy, is_plain}
 use Rattle.chess_rules.specs.Legal.{is_arrival_free, pseudo}
 use Rattle.chess_rules.specs.Play.{after, arriving}
-use Rattle.chess_rules.specs.Reaches.{is_clear, is_vacant, reaches, reaches_as, rides}
+use Rattle.chess_rules.specs.Reaches.{is_vacant, reaches, reaches_as, rides}
 use Rattle.chess_rules.specs.RuleSet.{RuleSet, is_madrasi}
 use Rattle.chess_rules.proofs.Bits.{word_has}
 use Rattle.chess_rules.proofs.Shielding.{IsPlain, IsShift, arrived_shift, every_square, king_is, man_there, men_after, orthodox_man, other_differs, plain_parts}
-use Rattle.chess_rules.proofs.Ends.{back, between, square_is}
+use Rattle.chess_rules.proofs.Ends.{back}
 use Rattle.chess_rules.proofs.Fits.{arrived}
 use Rattle.chess_rules.proofs.Flips.{diagonal-back, diagonal-flip, queen-flip, queen_rides-back, straight-back, straight-flip}
 use Rattle.chess_rules.proofs.Parting.{Frees, line_open}
 use Rattle.chess_rules.proofs.Pseudo.{made, on_board}
 use Rattle.chess_rules.proofs.Stays.{after_well_formed}
-use Rattle.chess_rules.proofs.Tests.{all_at, any_range_cases, find_first, first_of_and, second_of_and}
+use Rattle.chess_rules.proofs.Tests.{find_first, first_of_and, second_of_and}
 
 -- what stood elsewhere stands there
 keeps : (men after : List (Option Man)) (a b : ℕ) (z : Man) (q : ℕ) (y : Man) → IsShift men after a b z → man_on men q ≡ Some y → q ≢ a → q ≢ b

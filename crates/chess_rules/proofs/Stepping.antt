@@ -1,10 +1,9 @@
 -- The men once a man has made a move and the enemy king a step, and what an attack then sees.
 use Rattle.std.proofs.Common.{◌≡◌, ◌≢◌, ℕ, ◌<◌, Bool, true, false, ◌&&◌, ◌||◌, ◌==◌, not, List, length, Option, Some, None, is_some, refl, sym, ap, ◌∙◌, arith, inl, inr}
-use Rattle.std.specs.Int.{bit_not, w64}
 use Rattle.std.specs.Int.Bits.{bit_and, bit_or}
-use Rattle.std.proofs.lemmas.Bool.{and_left, and_right, cases_Bool, cases_eq, eq-eqb, eqb-true, false_from_ne_true, false≢true, or_left, or_parts, or_right}
+use Rattle.std.proofs.lemmas.Bool.{and_left, and_right, cases_Bool, cases_eq, eq-eqb, eqb-true, false_from_ne_true, false≢true, or_left}
 use Rattle.std.proofs.lemmas.List.{length-set}
-use Rattle.chess_core.specs.Position.{is_man, is_side, man_on, same_colour, same_kind, with_man, without_man}
+use Rattle.chess_core.specs.Position.{is_man, is_side, man_on, same_colour, same_kind, without_man}
 use Rattle.chess_core.specs.Squares.{is_square}
 use Rattle.chess_core.specs.ties.Words.{squares_of, word}
 use Rattle.chess_core.specs.declared.man.Colour.{Colour}
@@ -15,7 +14,7 @@ use Rattle.chess_core.proofs.Words.{squares_both, squares_either, squares_not, s
 use Rattle.chess_rules.specs.ties.Flights.{sight_lifted, sight_with}
 use Rattle.chess_rules.specs.ties.Lines.{occupied_squares}
 use Rattle.chess_rules.specs.Play.{without_at}
-use Rattle.chess_rules.specs.ties.Sight.{AreSeen, sight_after}
+use Rattle.chess_rules.specs.ties.Sight.{AreSeen}
 use Rattle.chess_rules.proofs.Landing.{StandAlike}
 use Rattle.chess_rules.proofs.Seeing.{gone_to, is_occupied_after, kept_now, left_now, length-without_at, neither, no_man, occupied_now, occupied_words, there_now}
 use Rattle.chess_rules.proofs.Tests.{differs}

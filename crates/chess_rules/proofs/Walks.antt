@@ -26,7 +26,7 @@ on_first a b i h =
     let e : bit_at (bit_and a b) i ≡ min (bit_at a i) (bit_at b i) = bit_at_and a b i in
     eq-eqb _ _ (omega (arith, both, e, bit_at-lt a i, bit_at-lt b i))
 
-off_second : (a b i : ℕ) → (bit_at (bit_and a b) i == 1) ≡ false → (bit_at a i == 1) ≡ true → (bit_at b i == 1) ≡ false
+pub off_second : (a b i : ℕ) → (bit_at (bit_and a b) i == 1) ≡ false → (bit_at a i == 1) ≡ true → (bit_at b i == 1) ≡ false
 off_second a b i h on = false_by (bit_at b i == 1) (λ y.
     let e : bit_at (bit_and a b) i ≡ min (bit_at a i) (bit_at b i) = bit_at_and a b i in
     let one : bit_at a i ≡ 1 = eqb-true _ _ on in

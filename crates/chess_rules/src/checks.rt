@@ -12,6 +12,7 @@ ghost use Rattle.chess_rules.specs.Play.{after};
 ghost use Rattle.chess_rules.specs.ties.Targets.{steps_to};
 
 use crate::evasions::rebirth_captures;
+use crate::open_board::open_targets;
 use crate::reach::reach_as;
 use crate::rules::Rules;
 use crate::shields::{cannot_expose, shield_squares};
@@ -118,6 +119,22 @@ pub(crate) fn check_targets<R: Rules>(board: &Board, squares: &CheckSquares, fro
     }
     let checked_from = check_squares_for(squares, man.kind);
     checked_from | only(board.crossed()) | special_targets(man, from) | rebirth_captures::<R>(board)
+}
+
+// Those of them to which he might go, were the others gone.
+pub(crate) fn near_check_targets<R: Rules>(
+    board: &Board,
+    squares: &CheckSquares,
+    from: Square,
+) -> u64
+    requires well_formed { IsWellFormed board.now }
+    requires squares { AreCheckSquares R.rule board.now.men (other board.now.turn) squares.now }
+    ensures { AreCheckTargets R.rule board.now from result }
+{
+    let Some(man) = board.man_at(from) else {
+        return 0;
+    };
+    open_targets(man, from) & check_targets::<R>(board, squares, from)
 }
 
 // Whether the move may expose the enemy's king, by the man that leaves its square or by one that is

@@ -9,7 +9,7 @@ ghost use Rattle.chess_rules.specs.ties.Places.{HaveNone, IsMatingPlaceIn, IsNex
 ghost use Rattle.chess_rules.specs.Play.{after};
 ghost use Rattle.chess_rules.specs.ties.Targets.{AreCandidates, AreKept, IsAimed};
 
-use crate::checks::{CheckSquares, check_squares, check_targets, may_check};
+use crate::checks::{CheckSquares, check_squares, may_check, near_check_targets};
 use crate::flights::has_flight;
 use crate::legal::is_pseudo;
 use crate::moves::{Moves, has_legal_move, triple};
@@ -146,7 +146,7 @@ fn candidates<R: Rules>(board: &Board, squares: &CheckSquares, from: Square) -> 
     requires squares { AreCheckSquares R.rule board.now.men (other board.now.turn) squares.now }
     ensures { AreCandidates R.rule board.now (mates R.rule board.now) from result }
 {
-    let word = check_targets::<R>(board, squares, from);
+    let word = near_check_targets::<R>(board, squares, from);
     if word == 0 {
         return 0;
     }

@@ -1,4 +1,3 @@
-use Rattle.std.proofs.Common.{◌≡◌, ◌∙◌, refl, sym}
 use Rattle.chess_rules.specs.Legal.{is_nil, moves}
 use Rattle.chess_rules.proofs.EveryMove.{none-all}
 use Rattle.chess_rules.proofs.Places.{moves_behind-start}

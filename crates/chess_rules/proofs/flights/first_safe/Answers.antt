@@ -1,4 +1,4 @@
-use Rattle.std.proofs.Common.{◌-◌, ◌/◌, ◌==◌, ◌∙◌, arith, sym}
+use Rattle.std.proofs.Common.{◌-◌, ◌==◌, ◌∙◌, arith, sym}
 use Rattle.std.specs.Int.{bit_at}
 use Rattle.chess_rules.proofs.Tests.{find_first}
 use Rattle.chess_rules.proofs.flights.first_safe.Goals as goal

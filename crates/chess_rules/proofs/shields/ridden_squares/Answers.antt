@@ -1,4 +1,4 @@
-use Rattle.std.proofs.Common.{◌≡◌, ◌-◌, ◌==◌, ◌∙◌, arith, sym}
+use Rattle.std.proofs.Common.{◌-◌, ◌==◌, ◌∙◌, arith, sym}
 use Rattle.std.specs.Int.{bit_at}
 use Rattle.chess_rules.specs.ties.Shields.{steps_along}
 use Rattle.chess_rules.proofs.Riding.{ridden_all, ridden_more, ridden_none}

@@ -1,0 +1,106 @@
+-- Where a man goes, he might go on an empty board.
+use Rattle.std.proofs.Common.{◌≡◌, ℕ, ◌<◌, Bool, true, false, ◌&&◌, ◌||◌, ◌==◌, List, Option, is_some, refl, sym, ◌∙◌, inl, inr}
+use Rattle.std.specs.Int.{bit_at}
+use Rattle.std.specs.Int.Bits.{bit_or}
+use Rattle.std.specs.List.{list_any}
+use Rattle.std.proofs.lemmas.List.Folds.{list_any-append}
+use Rattle.std.proofs.lemmas.Bool.{and_parts, cases_Bool, cond-false, cond-true, false≢true, or_cases}
+use Rattle.chess_core.specs.Castling.{has_unmoved}
+use Rattle.chess_core.specs.Position.{Position, man_on, same_kind}
+use Rattle.chess_core.specs.Squares.{is_square}
+use Rattle.chess_core.specs.Steps.{along, diagonal_steps, knight_steps, pawn_captures, queen_steps, straight_steps}
+use Rattle.chess_core.specs.ties.Words.{word}
+use Rattle.chess_core.specs.declared.man.Kind.TheVariants.{Bishop, King, Knight, Pawn, Queen, Rook}
+use Rattle.chess_core.specs.declared.man.Man.{Man}
+use Rattle.chess_rules.specs.Legal.{forward}
+use Rattle.chess_rules.specs.Reaches.{leaps, reaches_as, rides}
+use Rattle.chess_rules.specs.ties.Lines.{is_advance, is_on_some}
+use Rattle.chess_rules.specs.ties.Targets.{may_go, pawn_goes}
+use Rattle.chess_rules.proofs.Arrivals.{no_steps}
+use Rattle.chess_rules.proofs.Bits.{word_has}
+use Rattle.chess_rules.proofs.CheckTargets.{off_left, off_right}
+use Rattle.chess_rules.proofs.Shielding.{goes_on}
+
+-- a square of either word is one of both together
+on_left : (a b i : ℕ) → (bit_at a i == 1) ≡ true → (bit_at (bit_or a b) i == 1) ≡ true
+on_left a b i h = elim (cases_Bool (bit_at (bit_or a b) i == 1)) [
+  | inl e ↦ e
+  | inr e ↦ absurd (let no : (bit_at a i == 1) ≡ false = off_left a b i e in cc)
+]
+
+on_right : (a b i : ℕ) → (bit_at b i == 1) ≡ true → (bit_at (bit_or a b) i == 1) ≡ true
+on_right a b i h = elim (cases_Bool (bit_at (bit_or a b) i == 1)) [
+  | inl e ↦ e
+  | inr e ↦ absurd (let no : (bit_at b i == 1) ≡ false = off_right a b i e in cc)
+]
+
+-- a piece that is no king reaches where it goes
+reached : (p : Position) (x : Man) (s t : ℕ) → same_kind x.kind Pawn ≡ false → same_kind x.kind King ≡ false → may_go p x s t ≡ true
+    → reaches_as p.men x.colour x.kind s t ≡ true
+unfolding may_go
+reached p x s t none piece h = no_steps x s t _ (has_unmoved p.unmoved s) none piece (sym (cond-false (same_kind x.kind Pawn) _ _ none) ∙ h)
+
+rides_on : (men : List (Option Man)) (s t : ℕ) (ds : List _) → list_any (rides men s t) ds ≡ true → is_on_some ds s t ≡ true
+unfolding is_on_some
+rides_on men s t ds h = goes_on men s t ds h
+
+-- where a queen rides, a rook or a bishop does
+parted : (men : List (Option Man)) (s t : ℕ) → list_any (rides men s t) queen_steps ≡ true
+    → (list_any (rides men s t) straight_steps || list_any (rides men s t) diagonal_steps) ≡ true
+parted men s t h = sym (list_any-append (rides men s t) straight_steps diagonal_steps) ∙ h
+
+-- a pawn steps one square or two
+advances : (v one two rank free : Bool) → (v && (one || (rank && two && free))) ≡ true → (one || two) ≡ true
+advances true true two rank free h = refl
+advances true false two true free h = (and_parts two free h).0
+advances true false two false free h = absurd (false≢true h)
+advances false one two rank free h = absurd (false≢true h)
+
+module _ (p : Position) (x : Man) (s t : ℕ) (small : t < 64) (h : may_go p x s t ≡ true) where
+  pub rook_lines : (l : ℕ) → x.kind ≡ Rook → l ≡ word (is_on_some straight_steps s) → (bit_at l t == 1) ≡ true
+  unfolding reaches_as
+  rook_lines l kind lines =
+      let r : reaches_as p.men x.colour x.kind s t ≡ true = reached p x s t (rw kind refl) (rw kind refl) h in
+      let r2 : reaches_as p.men x.colour Rook s t ≡ true = rw kind at r in
+      word_has (is_on_some straight_steps s) l t lines small ∙ rides_on p.men s t straight_steps r2
+
+  pub bishop_lines : (l : ℕ) → x.kind ≡ Bishop → l ≡ word (is_on_some diagonal_steps s) → (bit_at l t == 1) ≡ true
+  unfolding reaches_as
+  bishop_lines l kind lines =
+      let r : reaches_as p.men x.colour x.kind s t ≡ true = reached p x s t (rw kind refl) (rw kind refl) h in
+      let r2 : reaches_as p.men x.colour Bishop s t ≡ true = rw kind at r in
+      word_has (is_on_some diagonal_steps s) l t lines small ∙ rides_on p.men s t diagonal_steps r2
+
+  pub queen_lines : (l d : ℕ) → x.kind ≡ Queen → l ≡ word (is_on_some straight_steps s) → d ≡ word (is_on_some diagonal_steps s)
+      → (bit_at (bit_or l d) t == 1) ≡ true
+  unfolding reaches_as
+  queen_lines l d kind lines slants =
+      let r : reaches_as p.men x.colour x.kind s t ≡ true = reached p x s t (rw kind refl) (rw kind refl) h in
+      let r2 : reaches_as p.men x.colour Queen s t ≡ true = rw kind at r in
+      elim (or_cases _ _ (parted p.men s t r2)) [
+        | inl y ↦ on_left l d t (word_has (is_on_some straight_steps s) l t lines small ∙ rides_on p.men s t straight_steps y)
+        | inr y ↦ on_right l d t (word_has (is_on_some diagonal_steps s) d t slants small ∙ rides_on p.men s t diagonal_steps y)
+      ]
+
+  pub knight_squares : (l : ℕ) → x.kind ≡ Knight → l ≡ word (λ q. list_any (leaps s q) knight_steps) → (bit_at l t == 1) ≡ true
+  unfolding reaches_as
+  knight_squares l kind squares =
+      let r : reaches_as p.men x.colour x.kind s t ≡ true = reached p x s t (rw kind refl) (rw kind refl) h in
+      let r2 : reaches_as p.men x.colour Knight s t ≡ true = rw kind at r in
+      word_has (λ q. list_any (leaps s q) knight_steps) l t squares small ∙ r2
+
+  pub pawn_squares : (l a : ℕ) → x.kind ≡ Pawn → l ≡ word (λ q. list_any (leaps s q) (pawn_captures x.colour)) → a ≡ word (is_advance x.colour s)
+      → (bit_at (bit_or l a) t == 1) ≡ true
+  unfolding may_go reaches_as
+  pawn_squares l a kind squares steps =
+      let pawn : same_kind x.kind Pawn ≡ true = rw kind refl in
+      let reach = reaches_as p.men x.colour x.kind s t in
+      let taken = is_some (man_on p.men t) || is_square p.crossed t in
+      let h0 : ((reach && taken) || pawn_goes p x s t) ≡ true = sym (cond-true (same_kind x.kind Pawn) _ _ pawn) ∙ h in
+      elim (or_cases (reach && taken) (pawn_goes p x s t) h0) [
+        | inl y ↦
+            let r : reaches_as p.men x.colour x.kind s t ≡ true = (and_parts reach taken y).0 in
+            let r2 : reaches_as p.men x.colour Pawn s t ≡ true = rw kind at r in
+            on_left l a t (word_has (λ q. list_any (leaps s q) (pawn_captures x.colour)) l t squares small ∙ r2)
+        | inr y ↦ on_right l a t (word_has (is_advance x.colour s) a t steps small ∙ advances _ (is_square (along s (forward x.colour) 1) t) (is_square (along s (forward x.colour) 2) t) _ _ y)
+      ]
