@@ -24,6 +24,7 @@ use Rattle.chess_rules.specs.Reaches.{leaps, reaches, reaches_as}
 use Rattle.chess_rules.specs.RuleSet.{RuleSet}
 use Rattle.chess_rules.specs.ties.Targets.{IsAimed, arrives, is_arrival, is_arrival_of, may_go, pawn_goes, steps_to}
 use Rattle.chess_rules.proofs.Bits.{word_empty, word_has}
+use Rattle.chess_rules.proofs.Pseudo.{king_is_no_pawn}
 use Rattle.chess_rules.proofs.Targeting.{false_by}
 use Rattle.chess_rules.proofs.Tests.{IsFirst, find_no, same_Bool}
 
@@ -239,10 +240,26 @@ goes_as_piece rule p x m here none piece h =
     let r2 : reaches p.men m.from m.to ≡ true = rw here r in
     cond-false (same_kind x.kind Pawn) _ _ none ∙ or_left _ _ r2
 
-pub goes_on : (rule : RuleSet) (p : Position) (x : Man) (m : Move) → man_on p.men m.from ≡ Some x → may_go p x m.from m.to ≡ true → same_kind x.kind King ≡ false → true ≡ goes rule p x m
-goes_on rule p x m here h piece = elim (cases_Bool (same_kind x.kind Pawn)) [
+-- a king that doesn't stand unmoved reaches where he goes
+goes_as_king : (rule : RuleSet) (p : Position) (x : Man) (m : Move) → man_on p.men m.from ≡ Some x → same_kind x.kind King ≡ true → has_unmoved p.unmoved m.from ≡ false
+    → may_go p x m.from m.to ≡ true → goes rule p x m ≡ true
+unfolding may_go reaches
+goes_as_king rule p x m here king moved h =
+    let none : same_kind x.kind Pawn ≡ false = king_is_no_pawn x.kind king in
+    let h0 : (reaches_as p.men x.colour x.kind m.from m.to || (has_unmoved p.unmoved m.from && steps_to x m.from m.to)) ≡ true = sym (cond-false (same_kind x.kind Pawn) _ _ none) ∙ h in
+    cond-false (same_kind x.kind Pawn) _ _ none ∙ elim (or_cases (reaches_as p.men x.colour x.kind m.from m.to) (has_unmoved p.unmoved m.from && steps_to x m.from m.to) h0) [
+      | inl r ↦ let r2 : reaches p.men m.from m.to ≡ true = rw here r in or_left _ _ r2
+      | inr e ↦ absurd (let still = (and_parts (has_unmoved p.unmoved m.from) (steps_to x m.from m.to) e).0 in cc)
+    ]
+
+pub goes_on : (rule : RuleSet) (p : Position) (x : Man) (m : Move) → man_on p.men m.from ≡ Some x → may_go p x m.from m.to ≡ true
+    → (same_kind x.kind King && has_unmoved p.unmoved m.from) ≡ false → true ≡ goes rule p x m
+goes_on rule p x m here h free = elim (cases_Bool (same_kind x.kind Pawn)) [
   | inl pawn ↦ sym (goes_as_pawn rule p x m here pawn h)
-  | inr none ↦ sym (goes_as_piece rule p x m here none piece h)
+  | inr none ↦ elim (cases_Bool (same_kind x.kind King)) [
+    | inl king ↦ sym (goes_as_king rule p x m here king (sym (ap (λ b. b && has_unmoved p.unmoved m.from) king) ∙ free) h)
+    | inr piece ↦ sym (goes_as_piece rule p x m here none piece h)
+  ]
 ]
 
 last_two : (a b c : Bool) → a ≡ true → (a && b && c) ≡ (b && c)
