@@ -1,14 +1,16 @@
 -- What the clauses of attack, of lines and of targets exclude: small positions in which the definitions say otherwise than a wrong body would.
-use Rattle.std.proofs.Common.{◌≡◌, ℕ, true, false, [], ◌∷◌, List, Option, Some, refl, sym, ◌∙◌, inl, inr, arith}
+use Rattle.std.proofs.Common.{◌≡◌, ℕ, true, false, [], ◌∷◌, List, Option, Some, find, refl, sym, ◌∙◌, inl, inr, arith}
 use Rattle.std.specs.Prelude.{◌==◌, ◌&&◌}
 use Rattle.std.specs.Int.{bit_at}
+use Rattle.std.specs.List.{range_with_len}
+use Rattle.chess_rules.specs.ties.Places.{triple_at}
 use Rattle.std.proofs.lemmas.Bool.{cases_Bool, true≢false, false≢true}
 use Rattle.chess_core.specs.Castling.{none_unmoved, has_unmoved, mark_unmoved}
-use Rattle.chess_core.specs.Position.{Position, is_man, king_square, man_on}
+use Rattle.chess_core.specs.Position.{Position, is_man, king_square, man_on, may_promote}
 use Rattle.chess_core.specs.Squares.{squares, some_square}
 use Rattle.chess_core.specs.Steps.{along, step_by, straight_steps}
 use Rattle.chess_core.specs.declared.man.Colour.TheVariants.{White, Black}
-use Rattle.chess_core.specs.declared.man.Kind.TheVariants.{King, Queen, Rook, Bishop, Pawn}
+use Rattle.chess_core.specs.declared.man.Kind.TheVariants.{King, Queen, Rook, Bishop, Grasshopper, Pawn}
 use Rattle.chess_core.specs.declared.man.Man.{Man}
 use Rattle.chess_rules.specs.Attacks.{attacked, faces, faces_its_like, in_check, paralysed, strikes}
 use Rattle.chess_rules.specs.ties.CheckSquares.{AreCheckTargets, enemy, may_check_from}
@@ -20,7 +22,7 @@ use Rattle.chess_rules.specs.Reaches.{hops, is_clear, leaps, reaches, reaches_as
 use Rattle.chess_rules.specs.RuleSet.{orthodox}
 use Rattle.chess_rules.specs.ties.Shields.{has_fairy, is_behind, is_shut, is_unshielded, may_expose}
 use Rattle.chess_rules.proofs.Typed.{go, man, on, position, set_up}
-use Rattle.chess_core.specs.SquareNames.{a1, b1, b3, a4, d5, e4, a5, a6, b6, d6, e5, a8, g8, h8}
+use Rattle.chess_core.specs.SquareNames.{a1, b1, b3, d3, a4, d5, e4, a5, a6, b6, d6, e5, a8, g8, h8}
 
 -- White rooks a1 and a8 see each other, and neither is faced by its like: only enemies paralyse
 abbrev own_rooks : List (Option Man)
@@ -115,3 +117,32 @@ king_may_leave_a_check w are = elim (cases_Bool (bit_at w b1 == 1)) [
 pub no_other_man_meets_it_there : is_evasion rook_check.men White a1 a8 b1 ≡ false
 unfolding reaches_as rides is_clear along
 no_other_man_meets_it_there = refl
+
+-- a man who arrives on a4 shuts the file: a rook on a8 reached a1 before
+pub arriving_man_shuts : (reaches (set_up (on Black Rook a8 ∷ [])) a8 a1 ≡ true)
+    × (reaches (set_up (on Black Rook a8 ∷ on White Pawn a4 ∷ [])) a8 a1 ≡ false)
+unfolding reaches reaches_as rides is_clear along
+arriving_man_shuts = (refl, refl)
+
+-- no pawn becomes a grasshopper where the diagram has none, though he may become a queen
+pub promotion_needs_its_man : (may_promote (position [] White) Grasshopper ≡ false) × (may_promote (position [] White) Queen ≡ true)
+promotion_needs_its_man = (refl, refl)
+
+-- the last 448 triples are those of a man on h8
+pub last_triples_are_from_h8 : (triple_at 28224).from ≡ h8
+unfolding triple_at
+last_triples_are_from_h8 = refl
+
+-- of a1 and b1 the first from b1 on is b1
+pub earlier_squares_are_passed : find (λ s. bit_at 3 s == 1) (range_with_len 1 63) ≡ Some b1
+earlier_squares_are_passed = refl
+
+-- with rooks on a1 and b1 the second moves too
+pub next_origin_moves : pseudo orthodox (position (on White Rook a1 ∷ on White Rook b1 ∷ []) White) (go b1 b3) ≡ true
+unfolding check_after_a_move
+next_origin_moves = refl
+
+-- a White pawn on e4 strikes d5, and not d3
+pub pawn_strikes_forward : (reaches_as [] White Pawn e4 d5 ≡ true) × (reaches_as [] White Pawn e4 d3 ≡ false)
+unfolding reaches_as leaps along
+pawn_strikes_forward = (refl, refl)

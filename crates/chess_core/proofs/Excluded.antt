@@ -1,0 +1,82 @@
+-- What the clauses of men, diagrams and boards exclude: small boards on which the definitions say otherwise than a wrong body would.
+use Rattle.std.proofs.Common.{◌≡◌, true, false, [], ◌∷◌, List, Option, Some, None, refl}
+use Rattle.std.specs.List.{repeat}
+use Rattle.chess_core.specs.Castling.{has_unmoved, mark_unmoved, none_unmoved, with_unmoved, without_unmoved}
+use Rattle.chess_core.specs.Diagrams.{has_kind, is_other_king, is_second_king, is_stray_pawn, shows}
+use Rattle.chess_core.specs.Position.{king_square, man_on, with_man, without_man}
+use Rattle.chess_core.specs.SquareNames.{a1, b1, e1, a2, e8, h8}
+use Rattle.chess_core.specs.Squares.{some_square, squares}
+use Rattle.chess_core.specs.WellFormed.{is_home}
+use Rattle.chess_core.specs.ties.Words.{side_of, squares_of, word, word_of}
+use Rattle.chess_core.specs.declared.man.Colour.TheVariants.{White}
+use Rattle.chess_core.specs.declared.man.Kind.TheVariants.{King, Pawn}
+use Rattle.chess_core.specs.declared.man.Man.{Man}
+
+abbrev white_king : Man
+white_king = record { colour = White; kind = King }
+
+abbrev white_pawn : Man
+white_pawn = record { colour = White; kind = Pawn }
+
+abbrev empty : List (Option Man)
+empty = repeat 64 (None ∷ [])
+
+-- White kings on a1 and h8
+abbrev two_kings : List (Option Man)
+two_kings = with_man (with_man empty h8 white_king) a1 white_king
+
+-- a square that is put into the set is in it, h8 too; one that is taken out isn't; the empty set has none
+pub square_is_in : has_unmoved (with_unmoved none_unmoved a1) a1 ≡ true
+unfolding has_unmoved mark_unmoved none_unmoved
+square_is_in = refl
+
+pub h8_is_in : has_unmoved (with_unmoved none_unmoved h8) h8 ≡ true
+unfolding has_unmoved mark_unmoved none_unmoved
+h8_is_in = refl
+
+pub square_is_out : has_unmoved (without_unmoved (with_unmoved none_unmoved a1) a1) a1 ≡ false
+unfolding has_unmoved mark_unmoved none_unmoved
+square_is_out = refl
+
+pub none_has_no_e8 : has_unmoved none_unmoved e8 ≡ false
+unfolding has_unmoved none_unmoved
+none_has_no_e8 = refl
+
+-- a king is at home on e1 and not on a1
+pub king_at_home : (is_home (Some white_king) e1 ≡ true) × (is_home (Some white_king) a1 ≡ false)
+unfolding is_home
+king_at_home = (refl, refl)
+
+-- a man who is put on a square stands there, with his colour; lifted, he doesn't
+pub man_stands : man_on (with_man empty a1 white_king) a1 ≡ Some white_king
+man_stands = refl
+
+pub man_is_gone : man_on (without_man (with_man empty a1 white_king) a1) a1 ≡ None
+man_is_gone = refl
+
+-- his square is in the words of his colour and of his kind, at its own bit
+pub colour_has_square : side_of (with_man empty a1 white_king) White ≡ 1
+unfolding side_of word word_of squares
+colour_has_square = refl
+
+pub kind_has_square : squares_of (with_man empty b1 white_king) White King ≡ 2
+unfolding squares_of word word_of squares
+kind_has_square = refl
+
+-- a pawn on a2 is seen, and one on a1 is out of place
+pub pawn_is_seen : has_kind (with_man empty a2 white_pawn) Pawn ≡ true
+unfolding has_kind shows some_square squares
+pawn_is_seen = refl
+
+pub pawn_is_astray : some_square (is_stray_pawn (with_man empty a1 white_pawn)) ≡ true
+unfolding is_stray_pawn some_square squares
+pawn_is_astray = refl
+
+-- of two kings the first is found, and the second seen
+pub first_king_is_found : king_square two_kings White ≡ Some a1
+unfolding king_square squares
+first_king_is_found = refl
+
+pub second_king_is_seen : some_square (is_second_king two_kings White) ≡ true
+unfolding is_second_king is_other_king some_square squares
+second_king_is_seen = refl
