@@ -10,27 +10,13 @@ use Rattle.chess_rules.specs.ties.Lines.{direction_number, is_advance, is_ahead,
 use Rattle.chess_rules.specs.Reaches.{leaps}
 use Rattle.chess_rules.specs.declared.geometry.TheConstants.{ASIDE, BLACK_CAPTURES, BLACK_STEPS, DIAGONAL_LINES, KNIGHT_LEAPS, NEIGHBOURS, RAYS, STRAIGHT_LINES, WHITE_CAPTURES, WHITE_STEPS}
 use Rattle.chess_rules.specs.declared.lines.Direction.{Direction}
-use Rattle.chess_rules.specs.declared.lines.Direction.TheVariants.{East, West, North, South, NorthEast, SouthEast, NorthWest, SouthWest, NorthNorthEast, SouthSouthEast, NorthNorthWest, SouthSouthWest, EastNorthEast, EastSouthEast, WestNorthWest, WestSouthWest}
+use Rattle.chess_rules.specs.declared.lines.Direction.TheVariants.{East}
 
 -- a row of the table holds the lines of its direction from all squares
 row : (x : Direction) (none : List ℕ) → get_or RAYS (direction_number x) none ≡ map (λ s. ray s (step_of x)) (range_with_len 0 64)
 unfolding ray is_ahead along word word_of squares
 row East none = refl
-row West none = refl
-row North none = refl
-row South none = refl
-row NorthEast none = refl
-row SouthEast none = refl
-row NorthWest none = refl
-row SouthWest none = refl
-row NorthNorthEast none = refl
-row SouthSouthEast none = refl
-row NorthNorthWest none = refl
-row SouthSouthWest none = refl
-row EastNorthEast none = refl
-row EastSouthEast none = refl
-row WestNorthWest none = refl
-row WestSouthWest none = refl
+row k none = refl
 
 pub ray_at : (x : Direction) (s : ℕ) (none : List ℕ) (d : ℕ) → s < 64 → get_or (get_or RAYS (direction_number x) none) s d ≡ ray s (step_of x)
 ray_at x s none d p = ap (λ r. get_or r s d) (row x none) ∙ get_or-map-range_with_len (λ s. ray s (step_of x)) 0 64 s s d p (omega arith)
@@ -70,21 +56,7 @@ nowhere s = None
 off : (x : Direction) → map (λ s. along s (step_of x) 8) (range_with_len 0 64) ≡ map nowhere (range_with_len 0 64)
 unfolding along
 off East = refl
-off West = refl
-off North = refl
-off South = refl
-off NorthEast = refl
-off SouthEast = refl
-off NorthWest = refl
-off SouthWest = refl
-off NorthNorthEast = refl
-off SouthSouthEast = refl
-off NorthNorthWest = refl
-off SouthSouthWest = refl
-off EastNorthEast = refl
-off EastSouthEast = refl
-off WestNorthWest = refl
-off WestSouthWest = refl
+off k = refl
 
 pub eighth : (x : Direction) (s : ℕ) → s < 64 → along s (step_of x) 8 ≡ None
 eighth x s p =

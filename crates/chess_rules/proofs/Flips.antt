@@ -1,99 +1,90 @@
 -- Lists of steps that hold each step with its opposite.
-use Rattle.std.proofs.Common.{◌≡◌, ℕ, ◌<◌, Bool, true, false, ◌||◌, List, refl, ap, ◌∙◌, Option}
-use Rattle.std.specs.List.{list_any}
-use Rattle.chess_core.specs.Steps.{step_by, straight_steps, diagonal_steps, queen_steps, knight_steps, pawn_captures}
+use Rattle.std.proofs.Common.{◌≡◌, ℕ, ◌<◌, Bool, true, ◌&&◌, ◌==◌, List, [], ◌∷◌, refl, sym, ap, ◌∙◌, Option, inl, inr}
+use Rattle.std.specs.List.{list_all, list_any}
+use Rattle.std.proofs.lemmas.Bool.{and_parts, eqb-true, or_cases, or_left, or_right}
+use Rattle.chess_core.specs.Steps.{straight_steps, diagonal_steps, queen_steps, knight_steps, pawn_captures}
 use Rattle.chess_core.specs.Position.{other}
 use Rattle.chess_core.specs.declared.man.Colour.{Colour}
 use Rattle.chess_core.specs.declared.man.Colour.TheVariants.{White, Black}
 use Rattle.chess_core.specs.declared.step.Step.{Step}
 use Rattle.chess_core.specs.declared.man.Man.{Man}
 use Rattle.chess_rules.specs.Reaches.{rides, leaps, hops}
+use Rattle.chess_rules.specs.ties.Outward.{hopped_from}
 use Rattle.chess_rules.proofs.Ends.{back, rides-back, returns_to}
 use Rattle.chess_rules.proofs.Tests.{same_Bool}
 use Rattle.chess_rules.proofs.Hops.{hops-back}
-use Rattle.chess_rules.specs.ties.Outward.{hopped_from}
 
--- pairs change places
-pairs : (a b c d e : Bool) → (b || (a || (d || (c || e)))) ≡ (a || (b || (c || (d || e))))
-pairs true true c d e = refl
-pairs true false c d e = refl
-pairs false true c d e = refl
-pairs false false true true e = refl
-pairs false false true false e = refl
-pairs false false false true e = refl
-pairs false false false false e = refl
+-- equality of steps as a test
+abbrev pub same_step : Step → Step → Bool
+same_step a b = (a.right == b.right && a.left == b.left) && (a.up == b.up && a.down == b.down)
 
--- four in the other order
-turned : (a b c d e : Bool) → (d || (c || (b || (a || e)))) ≡ (a || (b || (c || (d || e))))
-turned true true true true e = refl
-turned true true true false e = refl
-turned true true false true e = refl
-turned true true false false e = refl
-turned true false true true e = refl
-turned true false true false e = refl
-turned true false false true e = refl
-turned true false false false e = refl
-turned false true true true e = refl
-turned false true true false e = refl
-turned false true false true e = refl
-turned false true false false e = refl
-turned false false true true e = refl
-turned false false true false e = refl
-turned false false false true e = refl
-turned false false false false e = refl
+step_is : (a b : Step) → same_step a b ≡ true → a ≡ b
+step_is a b h =
+    let h1 = and_parts (a.right == b.right && a.left == b.left) (a.up == b.up && a.down == b.down) h in
+    let sides = and_parts (a.right == b.right) (a.left == b.left) h1.0 in
+    let ranks = and_parts (a.up == b.up) (a.down == b.down) h1.1 in
+    (λ j. record { right = eqb-true _ _ sides.0 j; left = eqb-true _ _ sides.1 j; up = eqb-true _ _ ranks.0 j; down = eqb-true _ _ ranks.1 j })
 
-swapped : (a b : Bool) → (b || (a || false)) ≡ (a || (b || false))
-swapped true true = refl
-swapped true false = refl
-swapped false true = refl
-swapped false false = refl
+-- each step of the first list has its opposite in the second
+abbrev pub opposed : List Step → List Step → Bool
+opposed xs ds = list_all (λ d. list_any (same_step (back d)) ds) xs
 
-pub straight-flip : (p q : Step → Bool) → ((d : Step) → p d ≡ q (back d)) → list_any p straight_steps ≡ list_any q straight_steps
-straight-flip p q h = (λ j. h (step_by 1 0 0 0) j || (h (step_by 0 1 0 0) j || (h (step_by 0 0 1 0) j || (h (step_by 0 0 0 1) j || false)))) ∙ pairs (q (step_by 1 0 0 0)) (q (step_by 0 1 0 0)) (q (step_by 0 0 1 0)) (q (step_by 0 0 0 1)) (false)
+held : (q : Step → Bool) (ds : List Step) (d : Step) → list_any (same_step d) ds ≡ true → q d ≡ true → list_any q ds ≡ true
+held q [] d h y = h
+held q (x ∷ ds) d h y = elim (or_cases (same_step d x) (list_any (same_step d) ds) h) [
+  | inl e ↦ or_left (q x) _ (ap q (sym (step_is d x e)) ∙ y)
+  | inr r ↦ or_right (q x) _ (held q ds d r y)
+]
 
-pub diagonal-flip : (p q : Step → Bool) → ((d : Step) → p d ≡ q (back d)) → list_any p diagonal_steps ≡ list_any q diagonal_steps
-diagonal-flip p q h = (λ j. h (step_by 1 0 1 0) j || (h (step_by 1 0 0 1) j || (h (step_by 0 1 1 0) j || (h (step_by 0 1 0 1) j || false)))) ∙ turned (q (step_by 1 0 1 0)) (q (step_by 1 0 0 1)) (q (step_by 0 1 1 0)) (q (step_by 0 1 0 1)) (false)
+across : (p q : Step → Bool) (xs ds : List Step) → ((d : Step) → p d ≡ true → q (back d) ≡ true) → opposed xs ds ≡ true → list_any p xs ≡ true
+    → list_any q ds ≡ true
+across p q [] ds h o y = let empty : list_any p [] ≡ true = y in cc
+across p q (x ∷ xs) ds h o y =
+    let parts = and_parts (list_any (same_step (back x)) ds) (opposed xs ds) o in
+    elim (or_cases (p x) (list_any p xs) y) [ inl e ↦ held q ds (back x) parts.0 (h x e) | inr r ↦ across p q xs ds h parts.1 r ]
 
-pub queen-flip : (p q : Step → Bool) → ((d : Step) → p d ≡ q (back d)) → list_any p queen_steps ≡ list_any q queen_steps
-queen-flip p q h =
-    (λ j. h (step_by 1 0 0 0) j || (h (step_by 0 1 0 0) j || (h (step_by 0 0 1 0) j || (h (step_by 0 0 0 1) j || (h (step_by 1 0 1 0) j || (h (step_by 1 0 0 1) j || (h (step_by 0 1 1 0) j || (h (step_by 0 1 0 1) j || false))))))))
-    ∙ pairs (q (step_by 1 0 0 0)) (q (step_by 0 1 0 0)) (q (step_by 0 0 1 0)) (q (step_by 0 0 0 1)) (q (step_by 0 1 0 1) || (q (step_by 0 1 1 0) || (q (step_by 1 0 0 1) || (q (step_by 1 0 1 0) || false))))
-    ∙ ap (λ (x : Bool). q (step_by 1 0 0 0) || (q (step_by 0 1 0 0) || (q (step_by 0 0 1 0) || (q (step_by 0 0 0 1) || x)))) (turned (q (step_by 1 0 1 0)) (q (step_by 1 0 0 1)) (q (step_by 0 1 1 0)) (q (step_by 0 1 0 1)) (false))
+pub flip : (xs ds : List Step) (p q : Step → Bool) → opposed xs ds ≡ true → opposed ds xs ≡ true → ((d : Step) → p d ≡ q (back d))
+    → list_any p xs ≡ list_any q ds
+flip xs ds p q there here h = same_Bool _ _ (across p q xs ds (λ d e. sym (h d) ∙ e) there) (across q p ds xs (λ d e. h (back d) ∙ e) here)
 
-pub knight-flip : (p q : Step → Bool) → ((d : Step) → p d ≡ q (back d)) → list_any p knight_steps ≡ list_any q knight_steps
-knight-flip p q h =
-    (λ j. h (step_by 1 0 2 0) j || (h (step_by 1 0 0 2) j || (h (step_by 0 1 2 0) j || (h (step_by 0 1 0 2) j || (h (step_by 2 0 1 0) j || (h (step_by 2 0 0 1) j || (h (step_by 0 2 1 0) j || (h (step_by 0 2 0 1) j || false))))))))
-    ∙ turned (q (step_by 1 0 2 0)) (q (step_by 1 0 0 2)) (q (step_by 0 1 2 0)) (q (step_by 0 1 0 2)) (q (step_by 0 2 0 1) || (q (step_by 0 2 1 0) || (q (step_by 2 0 0 1) || (q (step_by 2 0 1 0) || false))))
-    ∙ ap (λ (x : Bool). q (step_by 1 0 2 0) || (q (step_by 1 0 0 2) || (q (step_by 0 1 2 0) || (q (step_by 0 1 0 2) || x)))) (turned (q (step_by 2 0 1 0)) (q (step_by 2 0 0 1)) (q (step_by 0 2 1 0)) (q (step_by 0 2 0 1)) (false))
+-- lines looked at backward
+pub backward : (ds : List Step) (p : Step → Bool) → opposed ds ds ≡ true → list_any (λ d. p (back d)) ds ≡ list_any p ds
+backward ds p o = flip ds ds (λ d. p (back d)) p o o (λ d. refl)
 
-pub leaps-back : (s t : ℕ) (d : Step) → s < 64 → t < 64 → leaps s t d ≡ leaps t s (back d)
+pub rides_turned : (ds : List Step) (men : List (Option Man)) (s t : ℕ) → opposed ds ds ≡ true → s < 64 → t < 64
+    → list_any (rides men s t) ds ≡ list_any (rides men t s) ds
+rides_turned ds men s t o p q = flip ds ds (rides men s t) (rides men t s) o o (λ d. rides-back men s t d p q)
+
+leaps_turned : (xs ds : List Step) (s t : ℕ) → opposed xs ds ≡ true → opposed ds xs ≡ true → s < 64 → t < 64
+    → list_any (leaps s t) xs ≡ list_any (leaps t s) ds
 unfolding leaps
-leaps-back s t d p q = same_Bool _ _ (returns_to s t d 1 p) (returns_to t s (back d) 1 q)
+leaps_turned xs ds s t there here p q =
+    flip xs ds (leaps s t) (leaps t s) there here (λ d. same_Bool _ _ (returns_to s t d 1 p) (returns_to t s (back d) 1 q))
 
 pub queen_rides-back : (men : List (Option Man)) (s t : ℕ) → s < 64 → t < 64 → list_any (rides men s t) queen_steps ≡ list_any (rides men t s) queen_steps
-queen_rides-back men s t p q = queen-flip (rides men s t) (rides men t s) (λ d. rides-back men s t d p q)
+queen_rides-back men s t = rides_turned queen_steps men s t refl
+
+pub straight-back : (men : List (Option Man)) (s t : ℕ) → s < 64 → t < 64
+    → list_any (rides men s t) straight_steps ≡ list_any (rides men t s) straight_steps
+straight-back men s t = rides_turned straight_steps men s t refl
+
+pub diagonal-back : (men : List (Option Man)) (s t : ℕ) → s < 64 → t < 64
+    → list_any (rides men s t) diagonal_steps ≡ list_any (rides men t s) diagonal_steps
+diagonal-back men s t = rides_turned diagonal_steps men s t refl
 
 pub nightrider-back : (men : List (Option Man)) (s t : ℕ) → s < 64 → t < 64 → list_any (rides men s t) knight_steps ≡ list_any (rides men t s) knight_steps
-nightrider-back men s t p q = knight-flip (rides men s t) (rides men t s) (λ d. rides-back men s t d p q)
+nightrider-back men s t = rides_turned knight_steps men s t refl
 
 pub knight-back : (s t : ℕ) → s < 64 → t < 64 → list_any (leaps s t) knight_steps ≡ list_any (leaps t s) knight_steps
-knight-back s t p q = knight-flip (leaps s t) (leaps t s) (λ d. leaps-back s t d p q)
+knight-back s t = leaps_turned knight_steps knight_steps s t refl refl
 
-pub grasshopper-back : (men : List (Option Man)) (s t : ℕ) → s < 64 → t < 64 → list_any (hops men s t) queen_steps ≡ list_any (hopped_from men t s) queen_steps
-grasshopper-back men s t p q = queen-flip (hops men s t) (hopped_from men t s) (λ d. hops-back men s t d p q)
+pub king-back : (s t : ℕ) → s < 64 → t < 64 → list_any (leaps s t) queen_steps ≡ list_any (leaps t s) queen_steps
+king-back s t = leaps_turned queen_steps queen_steps s t refl refl
 
 -- a pawn captures back as one of the other colour
 pub pawn-back : (c : Colour) (s t : ℕ) → s < 64 → t < 64 → list_any (leaps s t) (pawn_captures c) ≡ list_any (leaps t s) (pawn_captures (other c))
-pawn-back White s t p q =
-    (λ j. leaps-back s t (step_by 0 1 1 0) p q j || (leaps-back s t (step_by 1 0 1 0) p q j || false)) ∙ swapped (leaps t s (step_by 0 1 0 1)) (leaps t s (step_by 1 0 0 1))
-pawn-back Black s t p q =
-    (λ j. leaps-back s t (step_by 0 1 0 1) p q j || (leaps-back s t (step_by 1 0 0 1) p q j || false)) ∙ swapped (leaps t s (step_by 0 1 1 0)) (leaps t s (step_by 1 0 1 0))
+pawn-back White s t = leaps_turned (pawn_captures White) (pawn_captures Black) s t refl refl
+pawn-back Black s t = leaps_turned (pawn_captures Black) (pawn_captures White) s t refl refl
 
-pub straight-back : (men : List (Option Man)) (s t : ℕ) → s < 64 → t < 64 → list_any (rides men s t) straight_steps ≡ list_any (rides men t s) straight_steps
-straight-back men s t p q = straight-flip (rides men s t) (rides men t s) (λ d. rides-back men s t d p q)
-
-pub diagonal-back : (men : List (Option Man)) (s t : ℕ) → s < 64 → t < 64 → list_any (rides men s t) diagonal_steps ≡ list_any (rides men t s) diagonal_steps
-diagonal-back men s t p q = diagonal-flip (rides men s t) (rides men t s) (λ d. rides-back men s t d p q)
-
-pub king-back : (s t : ℕ) → s < 64 → t < 64 → list_any (leaps s t) queen_steps ≡ list_any (leaps t s) queen_steps
-king-back s t p q = queen-flip (leaps s t) (leaps t s) (λ d. leaps-back s t d p q)
+pub grasshopper-back : (men : List (Option Man)) (s t : ℕ) → s < 64 → t < 64 → list_any (hops men s t) queen_steps ≡ list_any (hopped_from men t s) queen_steps
+grasshopper-back men s t p q = flip queen_steps queen_steps (hops men s t) (hopped_from men t s) refl refl (λ d. hops-back men s t d p q)

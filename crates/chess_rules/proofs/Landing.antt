@@ -7,7 +7,7 @@ use Rattle.chess_core.specs.Squares.{is_square}
 use Rattle.chess_core.specs.Steps.{along, diagonal_steps, knight_steps, queen_steps, straight_steps}
 use Rattle.chess_core.specs.declared.man.Colour.{Colour}
 use Rattle.chess_core.specs.declared.man.Kind.{Kind}
-use Rattle.chess_core.specs.declared.man.Kind.TheVariants.{King, Queen, Rook, Bishop, Knight, Pawn, Grasshopper, Nightrider}
+use Rattle.chess_core.specs.declared.man.Kind.TheVariants.{King, Queen, Rook, Bishop, Grasshopper, Nightrider}
 use Rattle.chess_core.specs.declared.man.Man.{Man}
 use Rattle.chess_core.specs.declared.step.Step.{Step}
 use Rattle.chess_rules.specs.ties.Lines.{place, step_of}
@@ -91,14 +91,12 @@ knight_same f g h =
 pub reaches_alike : (men others : List (Option Man)) (c : Colour) (j : Kind) (s t : ℕ) → StandAlike men others t
     → reaches_as men c j s t ≡ reaches_as others c j s t
 unfolding reaches_as
-reaches_alike men others c King s t a = refl
 reaches_alike men others c Queen s t a = queen_same (rides men s t) (rides others s t) (λ x. ride_alike men others s t (step_of x) (ordered x) a)
 reaches_alike men others c Rook s t a = straight_same (rides men s t) (rides others s t) (λ x. ride_alike men others s t (step_of x) (ordered x) a)
 reaches_alike men others c Bishop s t a = diagonal_same (rides men s t) (rides others s t) (λ x. ride_alike men others s t (step_of x) (ordered x) a)
-reaches_alike men others c Knight s t a = refl
-reaches_alike men others c Pawn s t a = refl
 reaches_alike men others c Grasshopper s t a = queen_same (hops men s t) (hops others s t) (λ x. hop_alike men others s t (step_of x) (ordered x) a)
 reaches_alike men others c Nightrider s t a = knight_same (rides men s t) (rides others s t) (λ x. ride_alike men others s t (step_of x) (ordered x) a)
+reaches_alike men others c k s t a = refl
 
 -- a king doesn't step where it stands
 no_step_off : (s : ℕ) (d : Step) → Ordered d → s < 64 → leaps s s d ≡ false

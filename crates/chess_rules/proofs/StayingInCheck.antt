@@ -3,7 +3,7 @@ use Rattle.std.proofs.Common.{◌≡◌, ◌≢◌, ℕ, ◌<◌, Bool, true, fa
 use Rattle.std.specs.Int.{bit_at, bit_not, w64}
 use Rattle.std.specs.Int.Bits.{bit_and, bit_or}
 use Rattle.std.specs.List.{list_any}
-use Rattle.std.proofs.lemmas.Bool.{and_from, and_left, and_parts, eq-eqb, or_left, or_parts, or_right}
+use Rattle.std.proofs.lemmas.Bool.{and_from, and_left, and_parts, eq-eqb, false≢true, or_left, or_parts, or_right}
 use Rattle.std.proofs.lemmas.List.Folds.{list_any-append}
 use Rattle.chess_core.specs.Position.{AtMostOneKing, Position, is_man, is_side, king_square, man_on, other, same_colour, same_kind}
 use Rattle.chess_core.specs.Squares.{is_square, squares}
@@ -12,7 +12,7 @@ use Rattle.chess_core.specs.WellFormed.{IsWellFormed}
 use Rattle.chess_core.specs.ties.Words.{word}
 use Rattle.chess_core.specs.declared.man.Colour.{Colour}
 use Rattle.chess_core.specs.declared.man.Kind.{Kind}
-use Rattle.chess_core.specs.declared.man.Kind.TheVariants.{King, Queen, Rook, Bishop, Knight, Pawn, Grasshopper, Nightrider}
+use Rattle.chess_core.specs.declared.man.Kind.TheVariants.{King, Queen, Rook, Bishop, Grasshopper, Nightrider}
 use Rattle.chess_core.specs.declared.man.Man.{Man}
 use Rattle.chess_core.specs.declared.man.Move.{Move}
 use Rattle.chess_core.specs.declared.step.Step.{Step}
@@ -27,10 +27,9 @@ use Rattle.chess_rules.specs.Reaches.{is_vacant, reaches, reaches_as, rides}
 use Rattle.chess_rules.specs.RuleSet.{RuleSet, is_madrasi}
 use Rattle.chess_rules.proofs.Bits.{word_has}
 use Rattle.chess_rules.proofs.Shielding.{IsPlain, IsShift, arrived_shift, every_square, king_is, man_there, men_after, orthodox_man, other_differs, plain_parts}
-use Rattle.chess_rules.proofs.Ends.{back}
 use Rattle.chess_rules.proofs.Fits.{arrived}
-use Rattle.chess_rules.proofs.Flips.{diagonal-back, diagonal-flip, queen-flip, queen_rides-back, straight-back, straight-flip}
-use Rattle.chess_rules.proofs.Parting.{Frees, line_open}
+use Rattle.chess_rules.proofs.Flips.{backward, opposed, rides_turned}
+use Rattle.chess_rules.proofs.Parting.{line_open}
 use Rattle.chess_rules.proofs.Pseudo.{made, on_board}
 use Rattle.chess_rules.proofs.Stays.{after_well_formed}
 use Rattle.chess_rules.proofs.Tests.{find_first, first_of_and, second_of_and}
@@ -54,46 +53,27 @@ stays_free men after a b z (Some q) i h ne = by (man_on after q) refl where
       let full : is_vacant men (Some q) ≡ false = rw there refl in
       cc
 
-frees : (men after : List (Option Man)) (a b : ℕ) (z : Man) → IsShift men after a b z → Frees men after b
-frees men after a b z i = record { vacant = λ o free off. stays_free men after a b z o i free off }
-
-line_after : (men after : List (Option Man)) (a b : ℕ) (z : Man) (k s : ℕ) (ds : List Step) → IsShift men after a b z → list_any (rides men k s) ds ≡ true
-    → (list_any (rides men k b) ds ≡ true → list_any (λ d. rides men s b (back d)) ds ≡ true → ⊥) → list_any (rides after k s) ds ≡ true
-line_after men after a b z k s ds i h no_evasion = line_open men after b k s ds (frees men after a b z i) h no_evasion
-
-straight_seen : (p : Step → Bool) → list_any p straight_steps ≡ true → list_any p queen_steps ≡ true
-straight_seen p h = list_any-append p straight_steps diagonal_steps ∙ or_left (list_any p straight_steps) _ h
-
-diagonal_seen : (p : Step → Bool) → list_any p diagonal_steps ≡ true → list_any p queen_steps ≡ true
-diagonal_seen p h = list_any-append p straight_steps diagonal_steps ∙ or_right (list_any p straight_steps) _ h
-
-both_seen : (a b : Bool) → (a && b) ≡ false → a ≡ true → b ≡ true → ⊥
-both_seen a b h x y = let both : (a && b) ≡ true = and_from a b x y in cc
-
 -- an orthodox man that reached k and isn't met reaches it
-reaches_after : (men after : List (Option Man)) (a b : ℕ) (z : Man) (c e : Colour) (k s : ℕ) (j : Kind) → IsShift men after a b z → s < 64 → k < 64
-    → is_fairy j ≡ false → (reaches_as men c Queen k b && reaches_as men c Queen s b) ≡ false → reaches_as men e j s k ≡ true → reaches_as after e j s k ≡ true
-unfolding reaches_as
-reaches_after men after a b z c e k s King i p q f ne h = h
-reaches_after men after a b z c e k s Queen i p q f ne h =
-    queen_rides-back after s k p q
-    ∙ line_after men after a b z k s queen_steps i (sym (queen_rides-back men s k p q) ∙ h)
-    (λ x y. both_seen (list_any (rides men k b) queen_steps) (list_any (rides men s b) queen_steps) ne x
-    (sym (queen-flip (λ d. rides men s b (back d)) (rides men s b) (λ d. refl)) ∙ y))
-reaches_after men after a b z c e k s Rook i p q f ne h =
-    straight-back after s k p q
-    ∙ line_after men after a b z k s straight_steps i (sym (straight-back men s k p q) ∙ h)
-    (λ x y. both_seen (list_any (rides men k b) queen_steps) (list_any (rides men s b) queen_steps) ne (straight_seen (rides men k b) x)
-    (straight_seen (rides men s b) (sym (straight-flip (λ d. rides men s b (back d)) (rides men s b) (λ d. refl)) ∙ y)))
-reaches_after men after a b z c e k s Bishop i p q f ne h =
-    diagonal-back after s k p q
-    ∙ line_after men after a b z k s diagonal_steps i (sym (diagonal-back men s k p q) ∙ h)
-    (λ x y. both_seen (list_any (rides men k b) queen_steps) (list_any (rides men s b) queen_steps) ne (diagonal_seen (rides men k b) x)
-    (diagonal_seen (rides men s b) (sym (diagonal-flip (λ d. rides men s b (back d)) (rides men s b) (λ d. refl)) ∙ y)))
-reaches_after men after a b z c e k s Knight i p q f ne h = h
-reaches_after men after a b z c e k s Pawn i p q f ne h = h
-reaches_after men after a b z c e k s Grasshopper i p q f ne h = cc
-reaches_after men after a b z c e k s Nightrider i p q f ne h = cc
+module _ (men after : List (Option Man)) (a b : ℕ) (z : Man) (c : Colour) (k s : ℕ) (i : IsShift men after a b z) (p : s < 64) (q : k < 64)
+    (ne : (reaches_as men c Queen k b && reaches_as men c Queen s b) ≡ false) where
+  -- a line of the queen's that is open and isn't shut on b stays open
+  line_after : (ds : List Step) → opposed ds ds ≡ true → ((f : Step → Bool) → list_any f ds ≡ true → list_any f queen_steps ≡ true)
+      → list_any (rides men s k) ds ≡ true → list_any (rides after s k) ds ≡ true
+  unfolding reaches_as
+  line_after ds o seen h =
+      rides_turned ds after s k o p q
+      ∙ line_open men after b k s ds (record { vacant = λ u free off. stays_free men after a b z u i free off }) (rides_turned ds men k s o q p ∙ h)
+      (λ x y. let both = and_from _ _ (seen (rides men k b) x) (seen (rides men s b) (sym (backward ds (rides men s b) o) ∙ y)) in false≢true (sym ne ∙ both))
+
+  reaches_after : (e : Colour) (j : Kind) → is_fairy j ≡ false → reaches_as men e j s k ≡ true → reaches_as after e j s k ≡ true
+  unfolding reaches_as
+  reaches_after e Queen f h = line_after queen_steps refl (λ g y. y) h
+  reaches_after e Rook f h = line_after straight_steps refl (λ g y. list_any-append g straight_steps diagonal_steps ∙ or_left (list_any g straight_steps) _ y) h
+  reaches_after e Bishop f h =
+      line_after diagonal_steps refl (λ g y. list_any-append g straight_steps diagonal_steps ∙ or_right (list_any g straight_steps) _ y) h
+  reaches_after e Grasshopper f h = cc
+  reaches_after e Nightrider f h = cc
+  reaches_after e j f h = h
 
 side_there : (o : Option Man) (c : Colour) → is_side o c ≡ true → (y : Man) × ((o ≡ Some y) × (same_colour y.colour c ≡ true))
 side_there None c h = cc
@@ -132,7 +112,7 @@ no_evasion_stays rule men after a b z c i one away u =
     let plain : is_fairy y.0.kind ≡ false = orthodox_man men (other c) u.checker y.0 small y.1.0 y.1.1 u.no_fairy in
     let hit = rw y.1.0 at u.check in
     let hits : reaches_as after y.0.colour y.0.kind u.checker u.king ≡ true =
-    reaches_after men after a b z c y.0.colour u.king u.checker y.0.kind i small king.0 plain free.1 hit in
+    reaches_after men after a b z c u.king u.checker i small king.0 free.1 y.0.colour y.0.kind plain hit in
     let mine : is_side (man_on after u.checker) (other c) ≡ true = rw y_stays y.1.1 in
     let reach : reaches after u.checker u.king ≡ true = rw y_stays hits in
     ap (λ (o : Option ℕ). check_of rule after o (other c)) at
