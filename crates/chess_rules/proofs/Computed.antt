@@ -18,36 +18,28 @@ unfolding ray is_ahead along word word_of squares
 row East none = refl
 row k none = refl
 
-pub ray_at : (x : Direction) (s : ℕ) (none : List ℕ) (d : ℕ) → s < 64 → get_or (get_or RAYS (direction_number x) none) s d ≡ ray s (step_of x)
-ray_at x s none d p = ap (λ r. get_or r s d) (row x none) ∙ get_or-map-range_with_len (λ s. ray s (step_of x)) 0 64 s s d p (omega arith)
+-- an entry of a computed table
+entry : (f : ℕ → ℕ) (table : List ℕ) (s i d : ℕ) → table ≡ map f (range_with_len 0 64) → i ≡ s → i < 64 → get_or table i d ≡ f s
+entry f table s i d is same small = ap (λ r. get_or r i d) is ∙ get_or-map-range_with_len f 0 64 i i d small (omega arith) ∙ ap f same
 
-neighbours : NEIGHBOURS ≡ map (λ s. word (λ t. list_any (leaps s t) queen_steps)) (range_with_len 0 64)
+pub ray_at : (x : Direction) (s i : ℕ) (none : List ℕ) (d : ℕ) → i ≡ s → i < 64 → get_or (get_or RAYS (direction_number x) none) i d ≡ ray s (step_of x)
+ray_at x s i none d = entry (λ s. ray s (step_of x)) (get_or RAYS (direction_number x) none) s i d (row x none)
+
+pub neighbours_at : (s i d : ℕ) → i ≡ s → i < 64 → get_or NEIGHBOURS i d ≡ word (λ t. list_any (leaps s t) queen_steps)
 unfolding leaps along word word_of squares
-neighbours = refl
+neighbours_at s i d = entry (λ s. word (λ t. list_any (leaps s t) queen_steps)) NEIGHBOURS s i d refl
 
-pub neighbours_at : (s d : ℕ) → s < 64 → get_or NEIGHBOURS s d ≡ word (λ t. list_any (leaps s t) queen_steps)
-neighbours_at s d p = ap (λ r. get_or r s d) neighbours ∙ get_or-map-range_with_len (λ s. word (λ t. list_any (leaps s t) queen_steps)) 0 64 s s d p (omega arith)
-
-knight_leaps : KNIGHT_LEAPS ≡ map (λ s. word (λ t. list_any (leaps s t) knight_steps)) (range_with_len 0 64)
+pub knight_leaps_at : (s i d : ℕ) → i ≡ s → i < 64 → get_or KNIGHT_LEAPS i d ≡ word (λ t. list_any (leaps s t) knight_steps)
 unfolding leaps along word word_of squares
-knight_leaps = refl
+knight_leaps_at s i d = entry (λ s. word (λ t. list_any (leaps s t) knight_steps)) KNIGHT_LEAPS s i d refl
 
-pub knight_leaps_at : (s d : ℕ) → s < 64 → get_or KNIGHT_LEAPS s d ≡ word (λ t. list_any (leaps s t) knight_steps)
-knight_leaps_at s d p = ap (λ r. get_or r s d) knight_leaps ∙ get_or-map-range_with_len (λ s. word (λ t. list_any (leaps s t) knight_steps)) 0 64 s s d p (omega arith)
-
-white_captures : WHITE_CAPTURES ≡ map (λ s. word (λ t. list_any (leaps s t) (pawn_captures White))) (range_with_len 0 64)
+pub white_captures_at : (s i d : ℕ) → i ≡ s → i < 64 → get_or WHITE_CAPTURES i d ≡ word (λ t. list_any (leaps s t) (pawn_captures White))
 unfolding leaps along word word_of squares
-white_captures = refl
+white_captures_at s i d = entry (λ s. word (λ t. list_any (leaps s t) (pawn_captures White))) WHITE_CAPTURES s i d refl
 
-pub white_captures_at : (s d : ℕ) → s < 64 → get_or WHITE_CAPTURES s d ≡ word (λ t. list_any (leaps s t) (pawn_captures White))
-white_captures_at s d p = ap (λ r. get_or r s d) white_captures ∙ get_or-map-range_with_len (λ s. word (λ t. list_any (leaps s t) (pawn_captures White))) 0 64 s s d p (omega arith)
-
-black_captures : BLACK_CAPTURES ≡ map (λ s. word (λ t. list_any (leaps s t) (pawn_captures Black))) (range_with_len 0 64)
+pub black_captures_at : (s i d : ℕ) → i ≡ s → i < 64 → get_or BLACK_CAPTURES i d ≡ word (λ t. list_any (leaps s t) (pawn_captures Black))
 unfolding leaps along word word_of squares
-black_captures = refl
-
-pub black_captures_at : (s d : ℕ) → s < 64 → get_or BLACK_CAPTURES s d ≡ word (λ t. list_any (leaps s t) (pawn_captures Black))
-black_captures_at s d p = ap (λ r. get_or r s d) black_captures ∙ get_or-map-range_with_len (λ s. word (λ t. list_any (leaps s t) (pawn_captures Black))) 0 64 s s d p (omega arith)
+black_captures_at s i d = entry (λ s. word (λ t. list_any (leaps s t) (pawn_captures Black))) BLACK_CAPTURES s i d refl
 
 abbrev nowhere : ℕ → Option ℕ
 nowhere s = None
@@ -63,37 +55,22 @@ eighth x s p =
     sym (get_or-map-range_with_len (λ s. along s (step_of x) 8) 0 64 s s None p (omega arith)) ∙ ap (λ r. get_or r s None) (off x)
     ∙ get_or-map-range_with_len nowhere 0 64 s s None p (omega arith)
 
-white_steps : WHITE_STEPS ≡ map (λ s. word (is_advance White s)) (range_with_len 0 64)
+pub white_steps_at : (s i d : ℕ) → i ≡ s → i < 64 → get_or WHITE_STEPS i d ≡ word (is_advance White s)
 unfolding along word word_of squares
-white_steps = refl
+white_steps_at s i d = entry (λ s. word (is_advance White s)) WHITE_STEPS s i d refl
 
-pub white_steps_at : (s d : ℕ) → s < 64 → get_or WHITE_STEPS s d ≡ word (is_advance White s)
-white_steps_at s d p = ap (λ r. get_or r s d) white_steps ∙ get_or-map-range_with_len (λ s. word (is_advance White s)) 0 64 s s d p (omega arith)
-
-black_steps : BLACK_STEPS ≡ map (λ s. word (is_advance Black s)) (range_with_len 0 64)
+pub black_steps_at : (s i d : ℕ) → i ≡ s → i < 64 → get_or BLACK_STEPS i d ≡ word (is_advance Black s)
 unfolding along word word_of squares
-black_steps = refl
+black_steps_at s i d = entry (λ s. word (is_advance Black s)) BLACK_STEPS s i d refl
 
-pub black_steps_at : (s d : ℕ) → s < 64 → get_or BLACK_STEPS s d ≡ word (is_advance Black s)
-black_steps_at s d p = ap (λ r. get_or r s d) black_steps ∙ get_or-map-range_with_len (λ s. word (is_advance Black s)) 0 64 s s d p (omega arith)
-
-aside : ASIDE ≡ map (λ s. word (is_aside s)) (range_with_len 0 64)
+pub aside_at : (s i d : ℕ) → i ≡ s → i < 64 → get_or ASIDE i d ≡ word (is_aside s)
 unfolding along word word_of squares
-aside = refl
+aside_at s i d = entry (λ s. word (is_aside s)) ASIDE s i d refl
 
-pub aside_at : (s d : ℕ) → s < 64 → get_or ASIDE s d ≡ word (is_aside s)
-aside_at s d p = ap (λ r. get_or r s d) aside ∙ get_or-map-range_with_len (λ s. word (is_aside s)) 0 64 s s d p (omega arith)
-
-straight_lines : STRAIGHT_LINES ≡ map (λ s. word (is_on_some straight_steps s)) (range_with_len 0 64)
+pub straight_lines_at : (s i d : ℕ) → i ≡ s → i < 64 → get_or STRAIGHT_LINES i d ≡ word (is_on_some straight_steps s)
 unfolding is_on_some is_ahead along word word_of squares
-straight_lines = refl
+straight_lines_at s i d = entry (λ s. word (is_on_some straight_steps s)) STRAIGHT_LINES s i d refl
 
-pub straight_lines_at : (s d : ℕ) → s < 64 → get_or STRAIGHT_LINES s d ≡ word (is_on_some straight_steps s)
-straight_lines_at s d p = ap (λ r. get_or r s d) straight_lines ∙ get_or-map-range_with_len (λ s. word (is_on_some straight_steps s)) 0 64 s s d p (omega arith)
-
-diagonal_lines : DIAGONAL_LINES ≡ map (λ s. word (is_on_some diagonal_steps s)) (range_with_len 0 64)
+pub diagonal_lines_at : (s i d : ℕ) → i ≡ s → i < 64 → get_or DIAGONAL_LINES i d ≡ word (is_on_some diagonal_steps s)
 unfolding is_on_some is_ahead along word word_of squares
-diagonal_lines = refl
-
-pub diagonal_lines_at : (s d : ℕ) → s < 64 → get_or DIAGONAL_LINES s d ≡ word (is_on_some diagonal_steps s)
-diagonal_lines_at s d p = ap (λ r. get_or r s d) diagonal_lines ∙ get_or-map-range_with_len (λ s. word (is_on_some diagonal_steps s)) 0 64 s s d p (omega arith)
+diagonal_lines_at s i d = entry (λ s. word (is_on_some diagonal_steps s)) DIAGONAL_LINES s i d refl

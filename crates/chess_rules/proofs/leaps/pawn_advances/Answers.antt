@@ -1,13 +1,8 @@
-use Rattle.std.proofs.Common.{◌<◌}
 use Rattle.chess_rules.proofs.Computed.{black_steps_at, white_steps_at}
 use Rattle.chess_rules.proofs.leaps.pawn_advances.Goals as goal
 
 pub returns-in-White : goal.returns-in-White
-returns-in-White c =
-    let small : c.args.from < 64 = rw c.index-index.ensures.value at c.index-index.ensures.small in
-    rw (c.in-White.is, c.index-index.ensures.value) (white_steps_at c.args.from _ small)
+returns-in-White c = rw c.in-White.is (white_steps_at c.args.from _ _ c.index-index.ensures.value c.index-index.ensures.small)
 
 pub returns-in-Black : goal.returns-in-Black
-returns-in-Black c =
-    let small : c.args.from < 64 = rw c.index-index.ensures.value at c.index-index.ensures.small in
-    rw (c.in-Black.is, c.index-index.ensures.value) (black_steps_at c.args.from _ small)
+returns-in-Black c = rw c.in-Black.is (black_steps_at c.args.from _ _ c.index-index.ensures.value c.index-index.ensures.small)
