@@ -1,28 +1,33 @@
 -- What the clauses of attack, of lines and of targets exclude: small positions in which the definitions say otherwise than a wrong body would.
-use Rattle.std.proofs.Common.{◌≡◌, ℕ, true, false, [], ◌∷◌, List, Option, Some, find, refl, sym, ◌∙◌, inl, inr, arith}
+use Rattle.std.proofs.Common.{◌≡◌, ℕ, ◌-◌, ◌/◌, ◌%◌, ◌^◌, ◌<◌, ◌≤◌, Bool, true, false, not, [], ◌∷◌, List, Option, Some, find, take, drop, filter, refl, sym, ap, ◌∙◌, inl, inr, arith}
 use Rattle.std.specs.Prelude.{◌==◌, ◌&&◌}
 use Rattle.std.specs.Int.{bit_at}
 use Rattle.std.specs.List.{range_with_len}
-use Rattle.chess_rules.specs.ties.Places.{triple_at}
-use Rattle.std.proofs.lemmas.Bool.{cases_Bool, true≢false, false≢true}
-use Rattle.chess_core.specs.Castling.{none_unmoved, has_unmoved, mark_unmoved}
-use Rattle.chess_core.specs.Position.{Position, is_man, king_square, man_on, may_promote}
+use Rattle.chess_rules.specs.ties.Places.{IsBarrenFrom, moves_between, promotion_at, triple_at}
+use Rattle.std.proofs.lemmas.Bool.{agree_below_at, and_from, cases_Bool, cases_lt, true≢false, false≢true}
+use Rattle.chess_core.specs.Castling.{none_unmoved, has_unmoved, mark_unmoved, with_unmoved}
+use Rattle.chess_core.specs.Position.{Position, is_man, is_side, king_square, man_on, may_promote}
 use Rattle.chess_core.specs.Squares.{squares, some_square}
 use Rattle.chess_core.specs.Steps.{along, step_by, straight_steps}
 use Rattle.chess_core.specs.declared.man.Colour.TheVariants.{White, Black}
-use Rattle.chess_core.specs.declared.man.Kind.TheVariants.{King, Queen, Rook, Bishop, Grasshopper, Pawn}
+use Rattle.chess_core.specs.declared.man.Kind.TheVariants.{King, Queen, Rook, Bishop, Knight, Grasshopper, Pawn}
 use Rattle.chess_core.specs.declared.man.Man.{Man}
 use Rattle.chess_rules.specs.Attacks.{attacked, faces, faces_its_like, in_check, paralysed, strikes}
 use Rattle.chess_rules.specs.ties.CheckSquares.{AreCheckTargets, enemy, may_check_from}
-use Rattle.chess_rules.specs.ties.Evasions.{AreEvasionsFrom, is_evasion}
-use Rattle.chess_rules.specs.Legal.{castles, may_castle, pseudo}
-use Rattle.chess_rules.specs.ties.Outward.{is_met}
+use Rattle.chess_rules.specs.ties.Evasions.{AreEvasions, AreEvasionsFrom, is_evasion}
+use Rattle.chess_rules.specs.Legal.{castles, goes, is_arrival_free, legal, may_castle, pseudo, triples}
+use Rattle.chess_rules.specs.ties.Outward.{hopped_from, is_met, rides_on}
 use Rattle.chess_rules.specs.Play.{after, after_by, capture_square, moved_men, reborn_square, rebirth, unmoved_after}
 use Rattle.chess_rules.specs.Reaches.{hops, is_clear, leaps, reaches, reaches_as, rides}
-use Rattle.chess_rules.specs.RuleSet.{orthodox}
+use Rattle.chess_rules.specs.RuleSet.{RuleSet, madrasi, orthodox}
 use Rattle.chess_rules.specs.ties.Shields.{has_fairy, is_behind, is_shut, is_unshielded, may_expose}
+use Rattle.chess_core.specs.ties.Words.{word, word_of}
+use Rattle.chess_rules.specs.ties.Sight.{sight_after}
+use Rattle.chess_rules.specs.ties.Targets.{may_go, pawn_goes, steps_to}
+use Rattle.chess_rules.proofs.Pseudo.{on_board}
+use Rattle.chess_rules.proofs.StayingInCheck.{side_there}
 use Rattle.chess_rules.proofs.Typed.{go, man, on, position, set_up}
-use Rattle.chess_core.specs.SquareNames.{a1, b1, b3, d3, a4, d5, e4, a5, a6, b6, d6, e5, a8, g8, h8}
+use Rattle.chess_core.specs.SquareNames.{a1, b1, c1, d1, e1, g1, h1, a2, a3, b3, d3, a4, d5, e4, a5, a6, b6, d6, e5, e7, a8, e8, f8, g8, h8}
 
 -- White rooks a1 and a8 see each other, and neither is faced by its like: only enemies paralyse
 abbrev own_rooks : List (Option Man)
@@ -146,3 +151,121 @@ next_origin_moves = refl
 pub pawn_strikes_forward : (reaches_as [] White Pawn e4 d5 ≡ true) × (reaches_as [] White Pawn e4 d3 ≡ false)
 unfolding reaches_as leaps along
 pawn_strikes_forward = (refl, refl)
+
+-- a man's own men and the enemy king aren't captured, other enemies are
+pub enemies_alone_are_captured : (is_arrival_free White (Some (man Black Rook)) ≡ true) × (is_arrival_free White (Some (man White Rook)) ≡ false)
+    × (is_arrival_free White (Some (man Black King)) ≡ false)
+enemies_alone_are_captured = (refl, refl, refl)
+
+-- a king castles on both sides
+pub king_castles_on_both_sides : (steps_to (man White King) e1 g1 ≡ true) × (steps_to (man White King) e1 c1 ≡ true)
+unfolding steps_to along
+king_castles_on_both_sides = (refl, refl)
+
+-- White Ke1 Rh1, both unmoved, Black Ke8 Rf8: the king would cross an attacked square
+abbrev crossing_a_line : Position
+crossing_a_line =
+    record (position (on White King e1 ∷ on White Rook h1 ∷ on Black King e8 ∷ on Black Rook f8 ∷ []) White) { unmoved = with_unmoved (with_unmoved none_unmoved e1) h1 }
+
+pub no_castling_through_an_attack : (may_go crossing_a_line (man White King) e1 g1 ≡ true) × (castles orthodox crossing_a_line (man White King) (go e1 g1) ≡ false)
+    × (goes orthodox crossing_a_line (man White King) (go e1 g1) ≡ false)
+unfolding may_go steps_to check_after_a_move
+no_castling_through_an_attack = (refl, refl, refl)
+
+-- a pawn goes two squares from its second rank alone, and to no square that is taken, nor over one
+pub pawn_steps_over_empty_squares : (pawn_goes (position [] White) (man White Pawn) a2 a4 ≡ true) × (pawn_goes (position [] White) (man White Pawn) a3 a5 ≡ false)
+    × (pawn_goes (position (on Black Rook a3 ∷ []) White) (man White Pawn) a2 a3 ≡ false)
+    × (pawn_goes (position (on Black Rook a3 ∷ []) White) (man White Pawn) a2 a4 ≡ false)
+unfolding along
+pawn_steps_over_empty_squares = (refl, refl, refl, refl)
+
+-- a knight on a8 doesn't attack a1 along the file, where a rider gets from a1
+pub knight_attacks_along_no_file : is_met (set_up (on White Knight a8 ∷ [])) White Rook straight_steps a1 a8 ≡ false
+unfolding is_met rides is_clear along
+knight_attacks_along_no_file = refl
+
+-- a rider on a1 gets to a2
+pub rider_gets_to_the_next_square : rides (set_up []) a1 a2 (step_by 0 0 1 0) ≡ true
+unfolding rides is_clear along
+rider_gets_to_the_next_square = refl
+
+-- looked for from a6, a grasshopper that hops over a5 stands on a4, and not on a5
+pub grasshopper_stands_behind_its_hurdle : (hopped_from (set_up (on Black Pawn a5 ∷ [])) a6 a4 (step_by 0 0 0 1) ≡ true)
+    × (hopped_from (set_up (on Black Pawn a5 ∷ [])) a6 a5 (step_by 0 0 0 1) ≡ false)
+unfolding hopped_from rides_on along
+grasshopper_stands_behind_its_hurdle = (refl, refl)
+
+-- a grasshopper on the board
+pub grasshopper_is_seen : has_fairy (set_up (on Black Grasshopper a1 ∷ [])) Black ≡ true
+unfolding has_fairy squares some_square
+grasshopper_is_seen = refl
+
+must_be : (b : Bool) → (b ≡ false → ⊥) → b ≡ true
+must_be true f = refl
+must_be false f = absurd (f refl)
+
+-- may meet a check from everywhere
+pub any_square_may_meet_a_fairy_check : (w t : ℕ) → t < 64 → AreEvasions orthodox (set_up (on Black Grasshopper a1 ∷ [])) White w → (bit_at w t == 1) ≡ true
+any_square_may_meet_a_fairy_check w t small are = must_be _ (λ e. false≢true (sym (are.elsewhere t small e).no_fairy ∙ grasshopper_is_seen))
+
+-- an enemy on s gives check to the king on a1, and a man that goes to t doesn't meet it
+abbrev unmet : ℕ → ℕ → Bool
+unmet t s = (is_side (man_on rook_check.men s) Black && reaches rook_check.men s a1) && not (is_evasion rook_check.men White a1 s t)
+
+-- the rook's check is met where no such enemy is
+met_there : (w t : ℕ) → t < 64 → ((s : ℕ) → s < 64 → unmet t s ≡ false) → AreEvasions orthodox rook_check.men White w → (bit_at w t == 1) ≡ true
+unfolding king_square squares
+met_there w t small none are = must_be _ (λ e.
+    let u = are.elsewhere t small e in
+    let enemy = side_there (man_on rook_check.men u.checker) Black u.enemy in
+    let on : u.checker < 64 = on_board rook_check.men u.checker enemy.0 refl enemy.1.0 in
+    let here : Some a1 ≡ Some u.king = u.here in
+    let king : u.king ≡ a1 = cc in
+    false≢true (sym (none u.checker on) ∙ and_from _ _ (and_from _ _ u.enemy (rw king at u.check)) (ap not (rw king at u.no_evasion))))
+
+-- so a man may capture the rook on a8, or shut the file on a4
+pub captures_and_shuts_meet_a_check : (w : ℕ) → AreEvasions orthodox rook_check.men White w → ((bit_at w a8 == 1) ≡ true) × ((bit_at w a4 == 1) ≡ true)
+unfolding reaches reaches_as rides hops leaps is_clear along
+captures_and_shuts_meet_a_check w are = (
+  met_there w a8 (omega arith) (λ s lt. agree_below_at (unmet a8) (λ _. false) 64 s refl lt) are,
+  met_there w a4 (omega arith) (λ s lt. agree_below_at (unmet a4) (λ _. false) 64 s refl lt) are,
+)
+
+-- a rook on a8 attacks a1, which is no flight then
+pub attacked_square_is_no_flight : word (λ s. is_side (man_on (set_up (on Black Rook a8 ∷ [])) s) Black && reaches (set_up (on Black Rook a8 ∷ [])) s a1) ≡ 2 ^ 56
+unfolding word word_of squares reaches reaches_as rides hops leaps is_clear along
+attacked_square_is_no_flight = refl
+
+-- after a capture en passant from e5 to d6 neither e5 nor d5 shuts a line, and the captured pawn attacks nothing
+pub captured_man_is_gone : (bit_at (sight_after opening_capture.men e5 (Some d5) d6).occupied e5 ≡ 0)
+    × (bit_at (sight_after opening_capture.men e5 (Some d5) d6).occupied d5 ≡ 0) × (bit_at (sight_after opening_capture.men e5 (Some d5) d6).standing d5 ≡ 0)
+unfolding word word_of squares
+captured_man_is_gone = (refl, refl, refl)
+
+-- rooks on a1 and h1 paralyse each other: in Madrasi neither attacks d1
+pub paralysed_man_attacks_nothing : (attacked orthodox (set_up (on White Rook a1 ∷ on Black Rook h1 ∷ [])) d1 Black ≡ true)
+    × (attacked madrasi (set_up (on White Rook a1 ∷ on Black Rook h1 ∷ [])) d1 Black ≡ false)
+unfolding check_after_a_move
+paralysed_man_attacks_nothing = (refl, refl)
+
+-- a stretch without a move ends before a move to one of the word's squares
+ends_at : (p : Position) (s w k b : ℕ) → (bit_at w (k / 7) == 1) ≡ true → pseudo orthodox p (record { from = s; to = k / 7; promo = promotion_at (k % 7) }) ≡ true
+    → IsBarrenFrom p s w 0 b → b ≤ k
+ends_at p s w k b on may barren = elim (cases_lt k b) [
+  | inl lt ↦ absurd (false≢true (sym (barren.fails orthodox k (omega arith) lt on) ∙ may))
+  | inr le ↦ le
+]
+
+-- of a rook on a1 to b1, and of a pawn that becomes a queen on e8
+pub stretch_ends_at_a_move : (w b : ℕ) → (bit_at w b1 == 1) ≡ true → IsBarrenFrom (position (on White Rook a1 ∷ []) White) a1 w 0 b → b ≤ 7
+unfolding check_after_a_move
+stretch_ends_at_a_move w b there barren = ends_at (position (on White Rook a1 ∷ []) White) a1 w 7 b there refl barren
+
+pub stretch_ends_at_a_promotion : (w b : ℕ) → (bit_at w e8 == 1) ≡ true → IsBarrenFrom (position (on White Pawn e7 ∷ []) White) e7 w 0 b → b ≤ 421
+unfolding check_after_a_move
+stretch_ends_at_a_promotion w b there barren = ends_at (position (on White Pawn e7 ∷ []) White) e7 w 421 b there refl barren
+
+-- no move lies between a place and itself
+pub no_move_lies_between : (rule : RuleSet) (p : Position) (a : ℕ) → moves_between rule p a a ≡ []
+unfolding moves_between
+no_move_lies_between rule p a = let none : a - a ≡ 0 = omega arith in ap (λ n. filter (legal rule p) (take n (drop a triples))) none

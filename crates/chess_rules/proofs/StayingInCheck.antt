@@ -75,7 +75,7 @@ module _ (men after : List (Option Man)) (a b : ℕ) (z : Man) (c : Colour) (k s
   reaches_after e Nightrider f h = cc
   reaches_after e j f h = h
 
-side_there : (o : Option Man) (c : Colour) → is_side o c ≡ true → (y : Man) × ((o ≡ Some y) × (same_colour y.colour c ≡ true))
+pub side_there : (o : Option Man) (c : Colour) → is_side o c ≡ true → (y : Man) × ((o ≡ Some y) × (same_colour y.colour c ≡ true))
 side_there None c h = cc
 side_there (Some y) c h = (y, (refl, h))
 

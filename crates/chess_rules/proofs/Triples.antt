@@ -186,13 +186,7 @@ made_is_triple rule p m size h =
 place_small : (r : Option Kind) → promotion_place r < 9
 place_small None = omega arith
 place_small (Some King) = omega arith
-place_small (Some Queen) = omega arith
-place_small (Some Rook) = omega arith
-place_small (Some Bishop) = omega arith
-place_small (Some Knight) = omega arith
-place_small (Some Pawn) = omega arith
-place_small (Some Grasshopper) = omega arith
-place_small (Some Nightrider) = omega arith
+place_small (Some k) = omega arith
 
 parts_of : (a b c d e f : ℕ) → b < 64 → e < 64 → c < 9 → f < 9 → (a * 64 + b) * 9 + c < (d * 64 + e) * 9 + f
     → (a < d) ⊎ ((a ≡ d) × ((b < e) ⊎ ((b ≡ e) × (c < f))))

@@ -1,5 +1,5 @@
 -- No move is missed by walking from candidate to candidate.
-use Rattle.std.proofs.Common.{◌≡◌, ℕ, ◌+◌, ◌-◌, ◌*◌, ◌/◌, ◌%◌, ◌<◌, ◌≤◌, Bool, true, false, ◌==◌, not, Some, None, find, min, refl, subst, sym, ap, ◌∙◌, arith, inl, inr}
+use Rattle.std.proofs.Common.{◌≡◌, ℕ, ◌+◌, ◌-◌, ◌*◌, ◌/◌, ◌%◌, ◌<◌, ◌≤◌, Bool, true, false, ◌==◌, not, None, find, min, refl, subst, sym, ap, ◌∙◌, arith, inl, inr}
 use Rattle.std.specs.Int.{bit_at}
 use Rattle.std.specs.Int.Bits.{bit_and}
 use Rattle.std.specs.List.{range_with_len}
@@ -13,7 +13,7 @@ use Rattle.chess_rules.specs.ties.Evasions.{AreEvasionsFrom}
 use Rattle.chess_rules.specs.Legal.{legal, pseudo}
 use Rattle.chess_rules.specs.ties.Places.{HaveNone, IsBarrenFrom, IsNamed, mates, promotion_at, triple_at}
 use Rattle.chess_rules.specs.RuleSet.{RuleSet}
-use Rattle.chess_rules.specs.ties.Targets.{AreCandidates, AreKept, IsAimed, is_arrival}
+use Rattle.chess_rules.specs.ties.Targets.{AreCandidates, IsAimed, is_arrival}
 use Rattle.chess_rules.proofs.Bits.{word_has}
 use Rattle.chess_rules.proofs.Mating.{no_mate_quietly}
 use Rattle.chess_rules.proofs.Targeting.{arrival_needed, false_by, own_moves}
@@ -36,10 +36,6 @@ off_second a b i h on = false_by (bit_at b i == 1) (λ y.
 
 off_zero : (i : ℕ) → (bit_at 0 i == 1) ≡ false
 off_zero i = rw (bit_at-zero i) refl
-
--- a move that doesn't go where its man may go can't be made
-not_aimed : (rule : RuleSet) (p : Position) (m : Move) → m.to < 64 → is_arrival rule p m.from m.to ≡ false → pseudo rule p m ≡ false
-not_aimed rule p m small h = false_by (pseudo rule p m) (λ y. let t = arrival_needed rule p m small y in cc)
 
 module _ (rule : RuleSet) (p : Position) (test : Move → Bool) (needs : (m : Move) → pseudo rule p m ≡ false → test m ≡ false) where
   -- the candidates of one origin
@@ -147,14 +143,6 @@ aimed_from rule p test s w a lt are named =
       promotion =
           named.promotion;
     })
-
--- what is kept: nothing, or the word of one origin
-pub kept_none : (rule : RuleSet) (p : Position) (test : Move → Bool) → AreKept rule p test (record { origin = None; squares = 0 })
-kept_none rule p test = record { are = λ s e. cc }
-
-pub kept_one : (rule : RuleSet) (p : Position) (test : Move → Bool) (s w : ℕ) → AreCandidates rule p test s w
-    → AreKept rule p test (record { origin = Some s; squares = w })
-kept_one rule p test s w h = record { are = λ t e. let same : s ≡ t = cc in subst (λ n. AreCandidates rule p test n w) same h }
 
 -- a move to no square that ends a check isn't legal, and one to no square that gives check doesn't mate
 pub evasions_elsewhere : (rule : RuleSet) (p : Position) (s w : ℕ) → AreEvasionsFrom rule p s w → (m : Move) → m.from ≡ s → m.to < 64 → pseudo rule p m ≡ true
