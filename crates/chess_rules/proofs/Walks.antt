@@ -8,14 +8,14 @@ use Rattle.std.proofs.lemmas.Nat.Bits.{bit_at_and, bit_at-lt, bit_at-zero}
 use Rattle.chess_core.specs.Position.{Position, is_side, man_on}
 use Rattle.chess_core.specs.ties.Words.{side_of, word}
 use Rattle.chess_core.specs.declared.man.Move.{Move}
-use Rattle.chess_rules.specs.ties.CheckSquares.{AreCheckTargets}
+use Rattle.chess_rules.specs.ties.CheckSquares.{AreCheckOrigins, AreCheckTargets}
 use Rattle.chess_rules.specs.ties.Evasions.{AreEvasionsFrom}
 use Rattle.chess_rules.specs.Legal.{legal, pseudo}
 use Rattle.chess_rules.specs.ties.Places.{HaveNone, IsBarrenFrom, IsNamed, mates, promotion_at, triple_at}
 use Rattle.chess_rules.specs.RuleSet.{RuleSet}
-use Rattle.chess_rules.specs.ties.Targets.{AreCandidates, IsAimed, is_arrival}
+use Rattle.chess_rules.specs.ties.Targets.{AreCandidates, AreKept, AreOrigins, IsAimed, is_arrival}
 use Rattle.chess_rules.proofs.Bits.{word_has}
-use Rattle.chess_rules.proofs.Mating.{no_mate_quietly}
+use Rattle.chess_rules.proofs.Mating.{no_mate_quietly, not_mating}
 use Rattle.chess_rules.proofs.Targeting.{arrival_needed, false_by, own_moves}
 use Rattle.chess_rules.proofs.Tests.{IsFirst, find_no}
 
@@ -34,7 +34,7 @@ off_second a b i h on = false_by (bit_at b i == 1) (λ y.
     let both : (bit_at (bit_and a b) i == 1) ≡ true = eq-eqb _ _ (omega (arith, e, one, two)) in
     cc)
 
-off_zero : (i : ℕ) → (bit_at 0 i == 1) ≡ false
+pub off_zero : (i : ℕ) → (bit_at 0 i == 1) ≡ false
 off_zero i = rw (bit_at-zero i) refl
 
 module _ (rule : RuleSet) (p : Position) (test : Move → Bool) (needs : (m : Move) → pseudo rule p m ≡ false → test m ≡ false) where
@@ -95,19 +95,26 @@ module _ (rule : RuleSet) (p : Position) (test : Move → Bool) (needs : (m : Mo
         (omega (arith, hi, le)) (h.fails rule (k - 448 * s) (omega (arith, lo)) (omega (arith, lo, hi))));
   }
 
-  -- on the squares from the first one on and before the next origin stands no man of the side to move
-  none-missed : (a b o : ℕ) → o ≡ side_of p.men p.turn → b ≤ 28672 → ((s : ℕ) → a / 448 ≤ s → s < (b + 447) / 448 → (bit_at o s == 1) ≡ false)
+  -- the squares of the side to move are all its origins
+  pub own-origins : (o : ℕ) → o ≡ side_of p.men p.turn → AreOrigins test o
+  unfolding side_of
+  own-origins o h = record {
+    elsewhere = λ m inside small off.
+        needs m (own_moves p rule m (man_on p.men m.from) refl (sym (word_has (λ s. is_side (man_on p.men s) p.turn) o m.from h inside) ∙ off));
+  }
+
+  -- none of the squares from the first one on and before the next origin is in the word
+  none-missed : (a b o : ℕ) → AreOrigins test o → b ≤ 28672 → ((s : ℕ) → a / 448 ≤ s → s < (b + 447) / 448 → (bit_at o s == 1) ≡ false)
       → HaveNone test a b
-  unfolding side_of triple_at
+  unfolding triple_at
   none-missed a b o h le none = record {
     fails = λ k lo hi.
-        needs (record { from = k / 448; to = k / 7 % 64; promo = promotion_at (k % 7) })
-        (own_moves p rule (record { from = k / 448; to = k / 7 % 64; promo = promotion_at (k % 7) }) (man_on p.men (k / 448)) refl
-        (sym (word_has (λ s. is_side (man_on p.men s) p.turn) o (k / 448) h (omega (arith, hi, le))) ∙ none (k / 448) (omega (arith, lo)) (omega (arith, hi))));
+        h.elsewhere (record { from = k / 448; to = k / 7 % 64; promo = promotion_at (k % 7) }) (omega (arith, hi, le)) (omega arith)
+        (none (k / 448) (omega (arith, lo)) (omega (arith, hi)));
   }
 
   -- up to a triple of the next origin
-  pub none-origin : (start number s a o w : ℕ) → o ≡ side_of p.men p.turn → HaveNone test start number
+  pub none-origin : (start number s a o w : ℕ) → AreOrigins test o → HaveNone test start number
       → IsFirst (λ q. bit_at o q == 1) (number / 448) (64 - number / 448) s → a ≤ 448 → AreCandidates rule p test s w → IsBarrenFrom p s w (number - 448 * s) a
       → HaveNone test start (448 * s + a)
   none-origin start number s a o w h past f le are here = elim (cases_lt (448 * s) number) [
@@ -122,7 +129,7 @@ module _ (rule : RuleSet) (p : Position) (test : Move → Bool) (needs : (m : Mo
   ]
 
   -- up to the end, where there is none
-  pub none-end : (start number o : ℕ) → o ≡ side_of p.men p.turn → HaveNone test start number
+  pub none-end : (start number o : ℕ) → AreOrigins test o → HaveNone test start number
       → find (λ q. bit_at o q == 1) (range_with_len (number / 448) (64 - number / 448)) ≡ None → HaveNone test start 28672
   none-end start number o h past none =
       none-join start number 28672 past (none-missed number 28672 o h (omega arith)
@@ -153,3 +160,12 @@ evasions_elsewhere rule p s w h m at small may off = and_right (pseudo rule p m)
 pub checks_elsewhere : (rule : RuleSet) (p : Position) (s w : ℕ) → AreCheckTargets rule p s w → (m : Move) → m.from ≡ s → m.to < 64 → pseudo rule p m ≡ true
     → (bit_at w m.to == 1) ≡ false → mates rule p m ≡ false
 checks_elsewhere rule p s w h m at small may off = sym (no_mate_quietly rule p m may (h.elsewhere m at small may off))
+
+-- a move from no square from which one may give check doesn't mate
+pub mating_origins : (rule : RuleSet) (p : Position) (w : ℕ) → AreCheckOrigins rule p w → AreOrigins (mates rule p) w
+mating_origins rule p w h = record {
+  elsewhere = λ m inside small off. elim (cases_Bool (pseudo rule p m)) [
+    | inr idle ↦ not_mating rule p m idle
+    | inl may ↦ sym (no_mate_quietly rule p m may (h.elsewhere m inside small may off))
+  ];
+}

@@ -1,6 +1,6 @@
 //! Moves that give no check, told before they are made.
-ghost use Rattle.std.specs.Prelude.{◌≡◌, ℕ, None, false, not, true};
-ghost use Rattle.chess_core.specs.Position.{other, same_kind};
+ghost use Rattle.std.specs.Prelude.{◌≡◌, ℕ, None, Some, false, not, true};
+ghost use Rattle.chess_core.specs.Position.{man_on, other, same_kind};
 ghost use Rattle.chess_core.specs.declared.man.Kind.TheVariants.{Pawn};
 ghost use Rattle.chess_core.specs.WellFormed.{IsWellFormed};
 ghost use Rattle.chess_core.specs.ties.Words.{word};
@@ -104,16 +104,14 @@ fn special_targets(man: Man, from: Square) -> u64
     }
 }
 
-// The squares to which the man on `from` must go to give check.
-pub(crate) fn check_targets<R: Rules>(board: &Board, squares: &CheckSquares, from: Square) -> u64
+// The squares to which this man must go from here to give check.
+fn check_targets<R: Rules>(board: &Board, squares: &CheckSquares, man: Man, from: Square) -> u64
     requires well_formed { IsWellFormed board.now }
     requires squares { AreCheckSquares R.rule board.now.men (other board.now.turn) squares.now }
+    requires here { man_on board.now.men from ≡ Some man }
     ensures { AreCheckTargets R.rule board.now from result }
 {
     let _small = from.index();
-    let Some(man) = board.man_at(from) else {
-        return 0;
-    };
     if contains(squares.shield_squares, from) {
         return !0;
     }
@@ -122,6 +120,22 @@ pub(crate) fn check_targets<R: Rules>(board: &Board, squares: &CheckSquares, fro
 }
 
 // Those of them to which he might go, were the others gone.
+#[inline(always)]
+pub(crate) fn near_targets_of<R: Rules>(
+    board: &Board,
+    squares: &CheckSquares,
+    man: Man,
+    from: Square,
+) -> u64
+    requires well_formed { IsWellFormed board.now }
+    requires squares { AreCheckSquares R.rule board.now.men (other board.now.turn) squares.now }
+    requires here { man_on board.now.men from ≡ Some man }
+    ensures { AreCheckTargets R.rule board.now from result }
+{
+    open_targets(man, from) & check_targets::<R>(board, squares, man, from)
+}
+
+// The same for the man on the square, if one stands there.
 pub(crate) fn near_check_targets<R: Rules>(
     board: &Board,
     squares: &CheckSquares,
@@ -134,7 +148,7 @@ pub(crate) fn near_check_targets<R: Rules>(
     let Some(man) = board.man_at(from) else {
         return 0;
     };
-    open_targets(man, from) & check_targets::<R>(board, squares, from)
+    near_targets_of::<R>(board, squares, man, from)
 }
 
 // Whether the move may expose the enemy's king, by the man that leaves its square or by one that is

@@ -6,7 +6,7 @@ ghost use Rattle.chess_rules.specs.ties.Evasions.{AreEvasions};
 ghost use Rattle.chess_rules.specs.ties.Shields.{may_expose};
 ghost use Rattle.chess_rules.specs.Legal.{legal};
 ghost use Rattle.chess_rules.specs.ties.Places.{HaveNone, IsPlaceIn, first_behind, moves_behind, moves_between, place_of, triple_at};
-ghost use Rattle.chess_rules.specs.ties.Targets.{AreCandidates, AreKept, IsAimed};
+ghost use Rattle.chess_rules.specs.ties.Targets.{AreCandidates, AreKept, AreOrigins, IsAimed};
 
 use crate::evasions::{evasion_squares, evasions_from};
 use crate::legal::is_legal;
@@ -183,6 +183,10 @@ impl Sought for Known {
 
     ghost fits = { λ s rule p. (s.shield_squares ≡ word (may_expose rule p.men p.turn)) × AreEvasions rule p.men p.turn s.evasion_squares };
 
+    fn origins<R: Rules>(&self, board: &Board) -> u64 {
+        own_origins::<R>(board)
+    }
+
     fn candidates<R: Rules>(&self, board: &Board, from: Square) -> u64 {
         candidates::<R>(board, self.evasion_squares, from)
     }
@@ -192,6 +196,13 @@ impl Sought for Known {
     }
 
     ghost idle = { λ rule p m h. legal-idle rule p m h };
+}
+
+// The squares from which the side to move has a legal move, and perhaps more: those of its men.
+fn own_origins<R: Rules>(board: &Board) -> u64
+    ensures { AreOrigins (legal R.rule board.now) result }
+{
+    board.side(board.turn())
 }
 
 // The squares to which the man on `from` may go by a legal move, and perhaps more.

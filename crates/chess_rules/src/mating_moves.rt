@@ -7,12 +7,13 @@ ghost use Rattle.chess_rules.specs.ties.CheckSquares.{AreCheckSquares};
 ghost use Rattle.chess_rules.specs.Legal.{is_goal, legal, pseudo};
 ghost use Rattle.chess_rules.specs.ties.Places.{HaveNone, IsMatingPlaceIn, IsNextMate, mates, mates_behind, place_of, triple_at};
 ghost use Rattle.chess_rules.specs.Play.{after};
-ghost use Rattle.chess_rules.specs.ties.Targets.{AreCandidates, AreKept, IsAimed};
+ghost use Rattle.chess_rules.specs.ties.Targets.{AreCandidates, AreKept, AreOrigins, IsAimed};
 
 use crate::checks::{CheckSquares, check_squares, may_check, near_check_targets};
 use crate::flights::has_flight;
 use crate::legal::is_pseudo;
 use crate::moves::{Moves, has_legal_move, triple};
+use crate::origins::check_origins;
 use crate::rules::{Rules, in_check};
 use crate::sought::{Sought, next_passing};
 use crate::targets::{Kept, TRIPLES, arrivals};
@@ -129,6 +130,10 @@ impl Sought for CheckSquares {
 
     ghost fits = { λ s rule p. AreCheckSquares rule p.men (other p.turn) s };
 
+    fn origins<R: Rules>(&self, board: &Board) -> u64 {
+        mating_origins::<R>(board, self)
+    }
+
     fn candidates<R: Rules>(&self, board: &Board, from: Square) -> u64 {
         candidates::<R>(board, self, from)
     }
@@ -138,6 +143,15 @@ impl Sought for CheckSquares {
     }
 
     ghost idle = { λ rule p m h. mates-idle rule p m h };
+}
+
+// The squares from which a move may mate, and perhaps more: those from which one may give check.
+fn mating_origins<R: Rules>(board: &Board, squares: &CheckSquares) -> u64
+    requires well_formed { IsWellFormed board.now }
+    requires squares { AreCheckSquares R.rule board.now.men (other board.now.turn) squares.now }
+    ensures { AreOrigins (mates R.rule board.now) result }
+{
+    check_origins::<R>(board, squares)
 }
 
 // The squares to which the man on `from` may go with check, and perhaps more.

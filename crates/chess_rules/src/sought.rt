@@ -3,7 +3,7 @@
 ghost use Rattle.std.specs.Prelude.{◌≡◌, ◌≤◌, ◌<◌, Some, true};
 ghost use Rattle.chess_core.specs.WellFormed.{IsWellFormed};
 ghost use Rattle.chess_rules.specs.ties.Places.{HaveNone, triple_at};
-ghost use Rattle.chess_rules.specs.ties.Targets.{AreCandidates, AreKept, IsAimed};
+ghost use Rattle.chess_rules.specs.ties.Targets.{AreCandidates, AreKept, AreOrigins, IsAimed};
 
 use crate::moves::triple;
 use crate::rules::Rules;
@@ -25,6 +25,12 @@ pub(crate) trait Sought {
     ghost test: { RuleSet → Position → Move → Bool };
 
     ghost fits: { Self → RuleSet → Position → Type 0 };
+
+    // The squares from which a move may pass, and perhaps more.
+    fn origins<R: Rules>(&self, board: &Board) -> u64
+        requires well_formed { IsWellFormed board.now }
+        requires fits { fits self.now R.rule board.now }
+        ensures { AreOrigins (test R.rule board.now) result };
 
     // The squares to which the man on `from` may go by a move that passes, and perhaps more.
     fn candidates<R: Rules>(&self, board: &Board, from: Square) -> u64
@@ -61,15 +67,18 @@ fn keep<R: Rules, S: Sought>(board: &Board, sought: &S, kept: Kept, from: Square
     }
 }
 
-// The first triple that may pass, from the one numbered `start` on; 28,672 where there is none.
+// The first triple with one of these origins that may pass, from the one numbered `start` on; 28,672 where
+// there is none.
 fn next_candidate<R: Rules, S: Sought>(
     board: &Board,
     sought: &S,
+    origins: u64,
     kept: &mut Kept,
     start: u16,
 ) -> u16
     requires well_formed { IsWellFormed board.now }
     requires fits { S.fits sought.now R.rule board.now }
+    requires origins { AreOrigins (S.test R.rule board.now) origins }
     requires kept { AreKept R.rule board.now (S.test R.rule board.now) kept.old }
     ensures low { result < 28672 → start ≤ result }
     ensures high { result ≤ 28672 }
@@ -77,9 +86,8 @@ fn next_candidate<R: Rules, S: Sought>(
     ensures aimed { result < 28672 → IsAimed R.rule board.now (triple_at result) }
     ensures kept { AreKept R.rule board.now (S.test R.rule board.now) kept.new }
 {
-    let own = board.side(board.turn());
     let mut number = start;
-    while let Some(from) = next_bit(own, (number / PER_ORIGIN) as u8) {
+    while let Some(from) = next_bit(origins, (number / PER_ORIGIN) as u8) {
         let first = u16::from(from.index()) * PER_ORIGIN;
         *kept = keep::<R, S>(board, sought, *kept, from);
         let at = next_from(board, from, kept.squares, number.saturating_sub(first));
@@ -111,9 +119,10 @@ pub(crate) fn next_passing<R: Rules, S: Sought>(
     ensures kept { AreKept R.rule board.old (S.test R.rule board.old) kept.new }
     ensures board { board.new ≡ board.old }
 {
+    let origins = sought.origins::<R>(board);
     let mut number = start;
     while number < end {
-        number = next_candidate::<R, S>(board, sought, kept, number);
+        number = next_candidate::<R, S>(board, sought, origins, kept, number);
         if number >= end {
             return end;
         }

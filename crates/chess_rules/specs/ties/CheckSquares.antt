@@ -56,3 +56,7 @@ check_squares_for s Nightrider = s.fairy
 -- a move from s that may be made gives no check, if it goes to a square not in the word
 pub record AreCheckTargets (rule : RuleSet) (p : Position) (s w : ℕ) : Type 0 where
   pub elsewhere : (m : Move) → m.from ≡ s → m.to < 64 → pseudo rule p m ≡ true → (bit_at w m.to == 1) ≡ false → in_check rule (after rule p m).men (other p.turn) ≡ false
+
+-- a move that may be made gives no check, if it goes from a square not in the word
+pub record AreCheckOrigins (rule : RuleSet) (p : Position) (w : ℕ) : Type 0 where
+  pub elsewhere : (m : Move) → m.from < 64 → m.to < 64 → pseudo rule p m ≡ true → (bit_at w m.from == 1) ≡ false → in_check rule (after rule p m).men (other p.turn) ≡ false

@@ -60,3 +60,7 @@ pub record AreCandidates (rule : RuleSet) (p : Position) (test : Move → Bool) 
 -- the word that is kept is that of the origin that is kept with it
 pub record AreKept (rule : RuleSet) (p : Position) (test : Move → Bool) (k : Kept) : Type 0 where
   pub are : (s : ℕ) → k.origin ≡ Some s → AreCandidates rule p test s k.squares
+
+-- no move from a square that isn't in the word passes the test
+pub record AreOrigins (test : Move → Bool) (w : ℕ) : Type 0 where
+  pub elsewhere : (m : Move) → m.from < 64 → m.to < 64 → (bit_at w m.from == 1) ≡ false → test m ≡ false

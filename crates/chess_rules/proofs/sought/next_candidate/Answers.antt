@@ -18,14 +18,14 @@ returns-then-at-lt-PER_ORIGIN-clause-none g c =
     let p = c.args.board.now in
     let s = c.in-Some.from in
     let w = c.keep.result.squares in
-    let first = find_first (λ q. bit_at c.side-own.result q == 1) (c.loop-from.number / 448) (64 - c.loop-from.number / 448) s
+    let first = find_first (λ q. bit_at c.args.origins q == 1) (c.loop-from.number / 448) (64 - c.loop-from.number / 448) s
     (sym c.next_bit.ensures.value ∙ c.in-Some.is) in
     let at : c.from-first.result * 448 ≡ 448 * s = omega (arith, c.from-first.ensures, c.index.ensures.value) in
     let here : IsBarrenFrom p s w (c.loop-from.number - 448 * s) c.next_from-at.result = rw (c.saturating_sub.ensures, at) at c.next_from-at.ensures.barren in
     let are : AreCandidates rule p (g.S.Sought.test rule p) s w = c.keep.ensures.kept.are s c.keep.ensures.origin in
     let past : HaveNone (g.S.Sought.test rule p) c.args.start (448 * s + c.next_from-at.result) =
     none-origin rule p (g.S.Sought.test rule p) (λ m h. g.met.S.Sought.idle rule p m h) c.args.start c.loop-from.number s c.next_from-at.result
-    c.side-own.result w (rw c.turn.ensures at c.side-own.ensures) c.loop-from.invariant.none first c.next_from-at.ensures.high are here in
+    c.args.origins w c.requires.origins c.loop-from.invariant.none first c.next_from-at.ensures.high are here in
     rw at past
 
 pub returns-then-at-lt-PER_ORIGIN-clause-aimed : goal.returns-then-at-lt-PER_ORIGIN-clause-aimed
@@ -45,14 +45,14 @@ loop-from-preserved g c =
     let p = c.args.board.now in
     let s = c.in-Some.from in
     let w = c.keep.result.squares in
-    let first = find_first (λ q. bit_at c.side-own.result q == 1) (c.loop-from.number / 448) (64 - c.loop-from.number / 448) s
+    let first = find_first (λ q. bit_at c.args.origins q == 1) (c.loop-from.number / 448) (64 - c.loop-from.number / 448) s
     (sym c.next_bit.ensures.value ∙ c.in-Some.is) in
     let at : c.from-first.result * 448 ≡ 448 * s = omega (arith, c.from-first.ensures, c.index.ensures.value) in
     let here : IsBarrenFrom p s w (c.loop-from.number - 448 * s) c.next_from-at.result = rw (c.saturating_sub.ensures, at) at c.next_from-at.ensures.barren in
     let are : AreCandidates rule p (g.S.Sought.test rule p) s w = c.keep.ensures.kept.are s c.keep.ensures.origin in
     let past : HaveNone (g.S.Sought.test rule p) c.args.start (448 * s + c.next_from-at.result) =
     none-origin rule p (g.S.Sought.test rule p) (λ m h. g.met.S.Sought.idle rule p m h) c.args.start c.loop-from.number s c.next_from-at.result
-    c.side-own.result w (rw c.turn.ensures at c.side-own.ensures) c.loop-from.invariant.none first c.next_from-at.ensures.high are here in
+    c.args.origins w c.requires.origins c.loop-from.invariant.none first c.next_from-at.ensures.high are here in
     let all : c.next_from-at.result ≡ 448 = omega (arith, c.next_from-at.ensures.high) in
     record {
       low = omega (arith, c.loop-from.invariant.low, first.low);
@@ -64,5 +64,5 @@ pub returns-clause-none : goal.returns-clause-none
 returns-clause-none g c =
     let rule = g.R.Rules.rule in
     let p = c.args.board.now in
-    none-end rule p (g.S.Sought.test rule p) (λ m h. g.met.S.Sought.idle rule p m h) c.args.start c.loop-from.number c.side-own.result
-    (rw c.turn.ensures at c.side-own.ensures) c.loop-from.invariant.none (sym c.next_bit.ensures.value ∙ c.in_default.is)
+    none-end rule p (g.S.Sought.test rule p) (λ m h. g.met.S.Sought.idle rule p m h) c.args.start c.loop-from.number c.args.origins
+    c.requires.origins c.loop-from.invariant.none (sym c.next_bit.ensures.value ∙ c.in_default.is)

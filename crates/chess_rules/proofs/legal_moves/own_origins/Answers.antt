@@ -1,0 +1,10 @@
+use Rattle.chess_rules.specs.Legal.{legal}
+use Rattle.chess_rules.specs.ties.Idle.{legal-idle}
+use Rattle.chess_rules.proofs.Walks.{own-origins}
+use Rattle.chess_rules.proofs.legal_moves.own_origins.Goals as goal
+
+pub returns : goal.returns
+returns g c =
+    let rule = g.R.Rules.rule in
+    let p = c.args.board.now in
+    own-origins rule p (legal rule p) (λ m h. legal-idle rule p m h) c.side.result (rw c.turn.ensures at c.side.ensures)
