@@ -3,7 +3,7 @@ use Rattle.std.proofs.Common.{◌≡◌, ◌≢◌, ℕ, zero, suc, ◌-◌, ◌
 use Rattle.std.specs.Int.{bit_at, bit_not, w64}
 use Rattle.std.specs.Int.Bits.{bit_or}
 use Rattle.std.specs.List.{list_all, list_any, range_with_len}
-use Rattle.std.proofs.lemmas.Bool.{and_from, and_left, and_parts, and_right, cases_Bool, cases_eq, cond-false, cond-true, eq-eqb, false_from_ne_true, false≢true, not-true, or_cases, or_left, or_parts, or_right}
+use Rattle.std.proofs.lemmas.Bool.{and_from, and_parts, and_right, cases_Bool, cases_eq, cond-false, cond-true, eq-eqb, false_from_ne_true, false≢true, not-true, or_cases, or_left, or_parts, or_right}
 use Rattle.std.proofs.lemmas.List.Folds.{list_any-append}
 use Rattle.chess_core.specs.Position.{AtMostOneKing, Position, is_man, is_side, king_square, man_on, other, same_colour, same_kind, without_man}
 use Rattle.chess_core.specs.Squares.{is_square, squares, some_square}
@@ -22,12 +22,12 @@ use Rattle.chess_core.proofs.Ranges.{all_range_true, any_range_false, any_range_
 use Rattle.chess_core.proofs.Words.{squares_either, squares_not, squares_same}
 use Rattle.chess_rules.specs.Attacks.{attacked, check_of, in_check, paralysed, strikes}
 use Rattle.chess_rules.specs.ties.CheckSquares.{may_check_from, may_check_from_on}
-use Rattle.chess_rules.specs.ties.Shields.{cannot_expose, has_fairy, is_behind, is_shut, is_unshielded, is_fairy, is_plain, may_expose, may_expose_on}
+use Rattle.chess_rules.specs.ties.Shields.{cannot_expose, has_fairy, is_behind, is_reached, is_shut, is_unshielded, is_fairy, is_plain, may_expose, may_expose_on}
 use Rattle.chess_rules.specs.Legal.{is_promotion_right, pseudo}
 use Rattle.chess_rules.specs.Play.{after, after_by, arriving, capture_square, is_castling, is_diagonal, man_on_at, moved_men, put_at, reborn_at, reborn_square, without_at}
 use Rattle.chess_rules.specs.ties.Lines.{is_ahead, is_on_some}
 use Rattle.chess_rules.specs.Reaches.{is_clear, is_vacant, reaches, reaches_as, rides}
-use Rattle.chess_rules.specs.RuleSet.{RuleSet, is_circe, is_madrasi}
+use Rattle.chess_rules.specs.RuleSet.{RuleSet, is_circe}
 use Rattle.chess_rules.proofs.Bits.{not_zero, word_empty, word_has}
 use Rattle.chess_rules.proofs.Fits.{arrived, arrived_other, arriving_king}
 use Rattle.chess_rules.proofs.Ends.{back}
@@ -210,9 +210,8 @@ orthodox_man men c s y small there side none = by y.kind refl where
 
 -- what keeps a king on k from being uncovered
 pub record IsCovered (rule : RuleSet) (men : List (Option Man)) (c : Colour) (a k : ℕ) : Type 0 where
-  pub orthodox : is_madrasi rule ≡ false
   pub no_fairy : has_fairy men (other c) ≡ false
-  pub safe : attacked rule men k (other c) ≡ false
+  pub safe : is_reached men k (other c) ≡ false
   pub apart : (k == a) ≡ false
   pub straight : is_shut men (other c) Rook straight_steps k a ≡ false
   pub diagonal : is_shut men (other c) Bishop diagonal_steps k a ≡ false
@@ -220,13 +219,12 @@ pub record IsCovered (rule : RuleSet) (men : List (Option Man)) (c : Colour) (a 
 covered_parts : (rule : RuleSet) (men : List (Option Man)) (c : Colour) (a k : ℕ) → may_expose_on rule men (Some k) c a ≡ false → IsCovered rule men c a k
 unfolding is_unshielded
 covered_parts rule men c a k h =
-    let h0 = or_parts (is_unshielded rule men c k || k == a || is_shut men (other c) Rook straight_steps k a) (is_shut men (other c) Bishop diagonal_steps k a)
+    let h0 = or_parts (is_unshielded men c k || k == a || is_shut men (other c) Rook straight_steps k a) (is_shut men (other c) Bishop diagonal_steps k a)
     h in
-    let h1 = or_parts (is_unshielded rule men c k || k == a) (is_shut men (other c) Rook straight_steps k a) h0.0 in
-    let h2 = or_parts (is_unshielded rule men c k) (k == a) h1.0 in
-    let h3 = or_parts (is_madrasi rule || has_fairy men (other c)) (attacked rule men k (other c)) h2.0 in
-    let h4 = or_parts (is_madrasi rule) (has_fairy men (other c)) h3.0 in
-    record { orthodox = h4.0; no_fairy = h4.1; safe = h3.1; apart = h2.1; straight = h1.1; diagonal = h0.1 }
+    let h1 = or_parts (is_unshielded men c k || k == a) (is_shut men (other c) Rook straight_steps k a) h0.0 in
+    let h2 = or_parts (is_unshielded men c k) (k == a) h1.0 in
+    let h3 = or_parts (has_fairy men (other c)) (is_reached men k (other c)) h2.0 in
+    record { no_fairy = h3.0; safe = h3.1; apart = h2.1; straight = h1.1; diagonal = h0.1 }
 
 -- what keeps one square from shutting a line to a man that stands on another
 not_parted : (men : List (Option Man)) (a k s : ℕ) (e : Colour) (j : Kind) (ds : List Step) → is_shut men e j ds k a ≡ false
@@ -245,11 +243,11 @@ rider_there men e s y j there side h =
     ap (λ (o : Option Man). is_man o e j || is_man o e Queen) there
     ∙ (λ i. (side i && same_kind y.kind j) || (side i && same_kind y.kind Queen)) ∙ h
 
--- a man that checks the king now and hasn't moved checked it before
+-- a man that reaches the king now and hasn't moved reached it before
 checks_before : (rule : RuleSet) (men after : List (Option Man)) (a b : ℕ) (z : Man) (c : Colour) (k s : ℕ) (o : Option Man) → man_on after s ≡ o
     → IsShift men after a b z → IsCovered rule men c a k → s < 64 → k < 64 → s ≢ b → is_side o (other c) ≡ true → reaches after s k ≡ true
-    → strikes rule men k (other c) s ≡ true
-unfolding strikes paralysed reaches
+    → (is_side (man_on men s) (other c) && reaches men s k) ≡ true
+unfolding reaches
 checks_before rule men after a b z c k s None at i g p q ne side h = cc
 checks_before rule men after a b z c k s (Some y) at i g p q ne side h =
     let there : man_on men s ≡ Some y = i.others s y at ne in
@@ -264,7 +262,7 @@ checks_before rule men after a b z c k s (Some y) at i g p q ne side h =
     let was : reaches_as men y.colour y.kind s k ≡ true = reaches_before men after a b z y.colour k s y.kind i p q plain none now in
     let mine : is_side (man_on men s) (other c) ≡ true = rw there side in
     let then : reaches men s k ≡ true = rw there was in
-    and_from _ _ (and_from _ _ mine (ap not (and_left (is_madrasi rule) _ g.orthodox))) then
+    and_from _ _ mine then
 
 -- and the one that has moved is no enemy, or doesn't reach the king
 pub record IsQuiet (men : List (Option Man)) (c : Colour) (a b k : ℕ) (z : Man) : Type 0 where
@@ -296,15 +294,15 @@ diagonal_rider men e Pawn a k h r = cc
 diagonal_rider men e Grasshopper a k h r = cc
 diagonal_rider men e Nightrider a k h r = cc
 
--- a man that reached the king from its origin attacked it
+-- no man reached the king from its origin
 attacked_from : (rule : RuleSet) (men : List (Option Man)) (c : Colour) (a k : ℕ) (z : Man) → IsCovered rule men c a k → a < 64 → man_on men a ≡ Some z
     → same_colour z.colour (other c) ≡ true → reaches_as men z.colour z.kind a k ≡ true → ⊥
-unfolding attacked strikes paralysed reaches
+unfolding is_reached reaches
 attacked_from rule men c a k z g small here side h =
     let mine : is_side (man_on men a) (other c) ≡ true = rw here side in
     let then : reaches men a k ≡ true = rw here h in
-    let yes : some_square (strikes rule men k (other c)) ≡ true =
-    some_square_true (strikes rule men k (other c)) a small (and_from _ _ (and_from _ _ mine (ap not (and_left (is_madrasi rule) _ g.orthodox))) then) in
+    let yes : some_square (λ s. is_side (man_on men s) (other c) && reaches men s k) ≡ true =
+    some_square_true (λ s. is_side (man_on men s) (other c) && reaches men s k) a small (and_from _ _ mine then) in
     false≢true (sym g.safe ∙ yes)
 
 arrival_strikes : (rule : RuleSet) (men after : List (Option Man)) (a b : ℕ) (z : Man) (c : Colour) (k : ℕ) (o : Option Man) → man_on after b ≡ o
@@ -330,7 +328,7 @@ arrival_strikes rule men after a b z c k (Some y) at i g l p q side h =
 
 not_attacked : (rule : RuleSet) (men after : List (Option Man)) (a b : ℕ) (z : Man) (c : Colour) (k : ℕ) → IsShift men after a b z → IsCovered rule men c a k
     → IsQuiet men c a b k z → k < 64 → attacked rule after k (other c) ≡ false
-unfolding attacked strikes
+unfolding attacked strikes is_reached
 not_attacked rule men after a b z c k i g l q =
     some_square_false (strikes rule after k (other c)) 64 (omega arith) (record {
       fails = λ s p. false_from_ne_true _ (λ h.
@@ -343,8 +341,8 @@ not_attacked rule men after a b z c k i g l q =
                 let hit : reaches after b k ≡ true = ap (λ (n : ℕ). reaches after n k) (sym e) ∙ h1.1 in
                 arrival_strikes rule men after a b z c k (man_on after b) refl i g l small q side hit
             | inr ne ↦
-                let yes : some_square (strikes rule men k (other c)) ≡ true =
-                some_square_true (strikes rule men k (other c)) s p (checks_before rule men after a b z c k s (man_on after s) refl i g p q ne h2.0 h1.1) in
+                let yes : some_square (λ s. is_side (man_on men s) (other c) && reaches men s k) ≡ true =
+                some_square_true (λ s. is_side (man_on men s) (other c) && reaches men s k) s p (checks_before rule men after a b z c k s (man_on after s) refl i g p q ne h2.0 h1.1) in
                 let no = g.safe in
                 cc
           ]);
@@ -578,13 +576,13 @@ pub shield_squares_none : (rule : RuleSet) (men : List (Option Man)) (c : Colour
 unfolding may_expose
 shield_squares_none rule men c h = word_empty (may_expose rule men c) (λ s b. ap (λ (o : Option ℕ). may_expose_on rule men o c s) h)
 
-pub shield_squares_all : (rule : RuleSet) (men : List (Option Man)) (c : Colour) (k : ℕ) → king_square men c ≡ Some k → is_unshielded rule men c k ≡ true
+pub shield_squares_all : (rule : RuleSet) (men : List (Option Man)) (c : Colour) (k : ℕ) → king_square men c ≡ Some k → is_unshielded men c k ≡ true
     → bit_not w64 0 ≡ word (may_expose rule men c)
 unfolding may_expose
 shield_squares_all rule men c k at unshielded =
     every_square (may_expose rule men c) (λ s b. ap (λ (o : Option ℕ). may_expose_on rule men o c s) at ∙ or_left _ _ (or_left _ _ (or_left _ _ unshielded)))
 
-pub shield_squares_some : (rule : RuleSet) (men : List (Option Man)) (c : Colour) (k w : ℕ) → king_square men c ≡ Some k → is_unshielded rule men c k ≡ false
+pub shield_squares_some : (rule : RuleSet) (men : List (Option Man)) (c : Colour) (k w : ℕ) → king_square men c ≡ Some k → is_unshielded men c k ≡ false
     → w ≡ bit_or (bit_or (word (is_square (Some k))) (word (is_shut men (other c) Rook straight_steps k)))
     (word (is_shut men (other c) Bishop diagonal_steps k))
     → w ≡ word (may_expose rule men c)
