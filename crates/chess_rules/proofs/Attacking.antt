@@ -21,6 +21,7 @@ use Rattle.chess_core.proofs.Words.{squares_both, squares_either, squares_same}
 use Rattle.chess_rules.specs.Attacks.{attacked, faces, faces_its_like, paralysed, strikes}
 use Rattle.chess_rules.specs.ties.Lines.{is_ahead, is_on_some}
 use Rattle.chess_rules.specs.ties.Outward.{hopped_from, is_met}
+use Rattle.chess_rules.specs.ties.Shields.{is_reached}
 use Rattle.chess_rules.specs.Reaches.{is_clear, leaps, reaches, reaches_as, reaches_of, rides}
 use Rattle.chess_rules.specs.RuleSet.{RuleSet}
 use Rattle.chess_rules.proofs.Bits.{not_zero, word_empty, word_has}
@@ -232,6 +233,11 @@ attacked_by rule men t w c h =
     some_square_same _ _ (λ s b.
     ap (λ x. x && not (paralysed rule men s)) (word_has _ w s h b)
     ∙ last_two (is_side (man_on men s) c) (reaches men s t) (not (paralysed rule men s)))
+
+pub is_reached_by : (men : List (Option Man)) (t w : ℕ) (c : Colour) → w ≡ word (λ s. is_side (man_on men s) c && reaches men s t)
+    → not (w == 0) ≡ is_reached men t c
+unfolding is_reached
+is_reached_by men t w c h = ap (λ n. not (n == 0)) h ∙ not_zero (λ s. is_side (man_on men s) c && reaches men s t)
 
 pub faced : (men : List (Option Man)) (x : Man) (t w : ℕ) → w ≡ word (λ s. is_man (man_on men s) (other x.colour) x.kind && reaches men s t) → not (w == 0) ≡ faces_its_like men x t
 unfolding faces_its_like faces

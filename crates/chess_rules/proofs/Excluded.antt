@@ -20,7 +20,7 @@ use Rattle.chess_rules.specs.ties.Outward.{hopped_from, is_met, rides_on}
 use Rattle.chess_rules.specs.Play.{after, after_by, capture_square, moved_men, reborn_square, rebirth, unmoved_after}
 use Rattle.chess_rules.specs.Reaches.{hops, is_clear, leaps, reaches, reaches_as, rides}
 use Rattle.chess_rules.specs.RuleSet.{RuleSet, madrasi, orthodox}
-use Rattle.chess_rules.specs.ties.Shields.{has_fairy, is_behind, is_shut, is_unshielded, may_expose}
+use Rattle.chess_rules.specs.ties.Shields.{has_fairy, is_behind, is_reached, is_shut, is_unshielded, may_expose}
 use Rattle.chess_core.specs.ties.Words.{word, word_of}
 use Rattle.chess_rules.specs.ties.Sight.{sight_after}
 use Rattle.chess_rules.specs.ties.Targets.{may_go, pawn_goes, steps_to}
@@ -81,7 +81,7 @@ crossed_square_may_give_check w are = elim (cases_Bool (bit_at w d6 == 1)) [
 -- and no man that leaves e5 opens a line
 pub no_pawn_checks_from_there : (may_check_from opening_capture.men Black (enemy Black Pawn) d6 ≡ false)
     × (may_expose orthodox opening_capture.men Black e5 ≡ false)
-unfolding may_check_from may_expose is_unshielded has_fairy is_shut is_behind check_after_a_move
+unfolding may_check_from may_expose is_unshielded is_reached has_fairy is_shut is_behind check_after_a_move
 no_pawn_checks_from_there = (refl, refl)
 
 -- White Ke4 Pe5, Black Kh8 Pd5, which gives check and has just passed d6: the capture en passant meets the check

@@ -18,7 +18,7 @@ use Rattle.chess_core.specs.declared.man.Move.{Move}
 use Rattle.chess_core.proofs.Men.{same_colour-true}
 use Rattle.chess_core.proofs.Ranges.{any_range_false, some_square_false, some_square_true}
 use Rattle.chess_core.proofs.Words.{squares_both, squares_either, squares_not}
-use Rattle.chess_rules.specs.Attacks.{attacked, in_check, paralysed, strikes}
+use Rattle.chess_rules.specs.Attacks.{attacked, in_check, is_faced, paralysed, strikes}
 use Rattle.chess_rules.specs.ties.Flights.{AreOpen, IsSeenFrom, has_flight, is_flight, is_flight_from, is_open, sight_lifted, sight_with}
 use Rattle.chess_rules.specs.Legal.{goes, is_arrival_free, is_goal, is_nil, is_promotion_right, legal, moves, pseudo, pseudo_of}
 use Rattle.chess_rules.specs.ties.Lines.{occupied_squares}
@@ -331,7 +331,6 @@ steps_there men x c k t here mine king h =
 
 pub record IsKingStep (rule : RuleSet) (q : Position) (x : Man) (k t : ℕ) : Type 0 where
   pub well_formed : IsWellFormed q
-  pub free : is_madrasi rule ≡ false
   pub here : man_on q.men k ≡ Some x
   pub mine : same_colour x.colour q.turn ≡ true
   pub king : same_kind x.kind King ≡ true
@@ -362,12 +361,19 @@ open_parts rule men c k t h =
 abbrev step_to : ℕ → ℕ → Move
 step_to k t = record { from = k; to = t; promo = None }
 
+-- a king isn't paralysed
+king_is_able : (rule : RuleSet) (men : List (Option Man)) (x : Man) (k : ℕ) → man_on men k ≡ Some x → same_kind x.kind King ≡ true
+    → paralysed rule men k ≡ false
+unfolding paralysed
+king_is_able rule men x k here king =
+    and_right (is_madrasi rule) _ (ap (λ (o : Option Man). is_faced men o k) here ∙ and_left (not (same_kind x.kind King)) _ (ap not king))
+
 may_step : (rule : RuleSet) (q : Position) (x : Man) (k t : ℕ) → IsKingStep rule q x k t → pseudo rule q (step_to k t) ≡ true
-unfolding pseudo paralysed
+unfolding pseudo
 may_step rule q x k t i =
     let way = open_parts rule q.men q.turn k t i.near in
     let piece : same_kind x.kind Pawn ≡ false = king_is_no_pawn x.kind i.king in
-    let able : not (paralysed rule q.men k) ≡ true = ap not (and_left (is_madrasi rule) _ i.free) in
+    let able : not (paralysed rule q.men k) ≡ true = ap not (king_is_able rule q.men x k i.here i.king) in
     let right : is_promotion_right q x (step_to k t) None ≡ true = ap not (and_left (same_kind x.kind Pawn) _ piece) in
     let gone : goes rule q x (step_to k t) ≡ true = cond-false (same_kind x.kind Pawn) _ _ piece
     ∙ or_left (reaches q.men k t) _ (steps_there q.men x q.turn k t i.here i.mine i.king way.reached) in
@@ -378,7 +384,6 @@ simple_step : (rule : RuleSet) (q : Position) (x : Man) (k t : ℕ) → IsKingSt
 simple_step rule q x k t i =
     let way = open_parts rule q.men q.turn k t i.near in
     record {
-      free = i.free;
       castling = false_from_ne_true _ (λ y. king_no_step q x (step_to k t) i.well_formed i.here y i.king
           (steps_there q.men x q.turn k t i.here i.mine i.king way.reached));
       rebirth = λ circe. no_capture q x (step_to k t) (way.nobody circe) (and_left (same_kind x.kind Pawn) _ (king_is_no_pawn x.kind i.king));
@@ -453,7 +458,6 @@ has_flight_to rule p m x k n r t i small there near arrives on others =
     arrives lifted (occupied_lifted p.men m.from (capture_square p x m) m.to (arriving x m.promo) k (omega (arith, small, i.well_formed.size))) in
     let step : IsKingStep rule (after rule p m) king.0 k t = record {
       well_formed = after_well_formed rule p m i.well_formed i.pseudo;
-      free = (simple_parts rule p x m i.simple).free;
       here = king.1.here;
       mine = ap (same_colour king.0.colour) turn ∙ king.1.mine;
       king = king.1.king;

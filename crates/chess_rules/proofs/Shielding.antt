@@ -22,12 +22,12 @@ use Rattle.chess_core.proofs.Ranges.{any_range_false, any_range_true, find_squar
 use Rattle.chess_core.proofs.Words.{squares_either, squares_not, squares_same}
 use Rattle.chess_rules.specs.Attacks.{attacked, check_of, in_check, paralysed, strikes}
 use Rattle.chess_rules.specs.ties.CheckSquares.{may_check_from, may_check_from_on}
-use Rattle.chess_rules.specs.ties.Shields.{cannot_expose, has_fairy, is_behind, is_shut, is_unshielded, is_fairy, is_plain, may_expose, may_expose_on, rider_along, steps_along}
+use Rattle.chess_rules.specs.ties.Shields.{cannot_expose, has_fairy, is_behind, is_reached, is_shut, is_unshielded, is_fairy, is_plain, may_expose, may_expose_on, rider_along, steps_along}
 use Rattle.chess_rules.specs.Legal.{is_promotion_right, pseudo}
 use Rattle.chess_rules.specs.Play.{after, after_by, arriving, capture_square, is_castling, is_diagonal, man_on_at, moved_men, put_at, reborn_at, reborn_square, without_at}
 use Rattle.chess_rules.specs.ties.Lines.{is_ahead, is_on_some}
 use Rattle.chess_rules.specs.Reaches.{is_clear, is_vacant, reaches, reaches_as, rides}
-use Rattle.chess_rules.specs.RuleSet.{RuleSet, is_circe, is_madrasi}
+use Rattle.chess_rules.specs.RuleSet.{RuleSet, is_circe}
 use Rattle.chess_rules.proofs.Bits.{not_zero, word_empty, word_has}
 use Rattle.chess_rules.proofs.Fits.{arrived, arrived_other, arriving_king}
 use Rattle.chess_rules.specs.declared.shields.RiderLines.{RiderLines}
@@ -139,9 +139,8 @@ orthodox_man men c s y small there side none = by y.kind refl where
 
 -- what keeps a king on k from being uncovered
 pub record IsCovered (rule : RuleSet) (men : List (Option Man)) (c : Colour) (a k : ℕ) : Type 0 where
-  pub orthodox : is_madrasi rule ≡ false
   pub no_fairy : has_fairy men (other c) ≡ false
-  pub safe : attacked rule men k (other c) ≡ false
+  pub safe : is_reached men k (other c) ≡ false
   pub apart : (k == a) ≡ false
   pub open_lines : (l : RiderLines) → is_shut men (other c) (rider_along l) (steps_along l) k a ≡ false
 
@@ -153,12 +152,11 @@ covered_parts : (rule : RuleSet) (men : List (Option Man)) (c : Colour) (a k : �
 unfolding is_unshielded
 covered_parts rule men c a k h =
     let shut : RiderLines → Bool = λ l. is_shut men (other c) (rider_along l) (steps_along l) k a in
-    let h0 = or_parts (is_unshielded rule men c k || k == a || shut Straight) (shut Diagonal) h in
-    let h1 = or_parts (is_unshielded rule men c k || k == a) (shut Straight) h0.0 in
-    let h2 = or_parts (is_unshielded rule men c k) (k == a) h1.0 in
-    let h3 = or_parts (is_madrasi rule || has_fairy men (other c)) (attacked rule men k (other c)) h2.0 in
-    let h4 = or_parts (is_madrasi rule) (has_fairy men (other c)) h3.0 in
-    record { orthodox = h4.0; no_fairy = h4.1; safe = h3.1; apart = h2.1; open_lines = on_both (λ l. shut l ≡ false) h1.1 h0.1 }
+    let h0 = or_parts (is_unshielded men c k || k == a || shut Straight) (shut Diagonal) h in
+    let h1 = or_parts (is_unshielded men c k || k == a) (shut Straight) h0.0 in
+    let h2 = or_parts (is_unshielded men c k) (k == a) h1.0 in
+    let h3 = or_parts (has_fairy men (other c)) (is_reached men k (other c)) h2.0 in
+    record { no_fairy = h3.0; safe = h3.1; apart = h2.1; open_lines = on_both (λ l. shut l ≡ false) h1.1 h0.1 }
 
 -- and the one that has moved is no enemy, or doesn't reach the king
 pub record IsQuiet (men : List (Option Man)) (c : Colour) (a b k : ℕ) (z : Man) : Type 0 where
@@ -190,20 +188,16 @@ module _ (rule : RuleSet) (men after : List (Option Man)) (a b : ℕ) (z : Man) 
       let behind = some_square_true (is_behind men (other c) j (steps_along l) k a) s p (and_from _ _ (and_from _ _ rider on) both.1) in
       false≢true (sym (g.open_lines l) ∙ and_from _ _ both.0 behind)
 
-  -- a man that reaches the king from where it stood strikes it
-  struck : (s : ℕ) (y : Man) → man_on men s ≡ Some y → same_colour y.colour (other c) ≡ true → reaches_as men y.colour y.kind s k ≡ true
-      → strikes rule men k (other c) s ≡ true
-  unfolding strikes paralysed reaches
-  struck s y there side was =
+  -- no enemy reached the king from where it stood
+  not_reaching : (s : ℕ) (y : Man) → s < 64 → man_on men s ≡ Some y → same_colour y.colour (other c) ≡ true
+      → reaches_as men y.colour y.kind s k ≡ true → ⊥
+  unfolding is_reached reaches
+  not_reaching s y p there side was =
       let mine : is_side (man_on men s) (other c) ≡ true = rw there side in
       let reach : reaches men s k ≡ true = rw there was in
-      and_from _ _ (and_from _ _ mine (ap not (and_left (is_madrasi rule) _ g.orthodox))) reach
+      false≢true (sym g.safe ∙ some_square_true (λ s. is_side (man_on men s) (other c) && reaches men s k) s p (and_from _ _ mine reach))
 
-  not_struck : (s : ℕ) → s < 64 → strikes rule men k (other c) s ≡ true → ⊥
-  unfolding attacked
-  not_struck s p hit = false≢true (sym g.safe ∙ some_square_true (strikes rule men k (other c)) s p hit)
-
-  -- a man that checks the king now and hasn't moved checked it before
+  -- a man that reaches the king now and hasn't moved reached it before
   checks_before : (s : ℕ) (o : Option Man) → man_on after s ≡ o → s < 64 → s ≢ b → is_side o (other c) ≡ true → reaches after s k ≡ true → ⊥
   unfolding reaches
   checks_before s None at p ne side h = cc
@@ -211,8 +205,8 @@ module _ (rule : RuleSet) (men after : List (Option Man)) (a b : ℕ) (z : Man) 
       let there : man_on men s ≡ Some y = i.others s y at ne in
       let now : reaches_as after y.colour y.kind s k ≡ true = rw at at h in
       let plain = orthodox_man men (other c) s y p there side g.no_fairy in
-      not_struck s p (struck s y there side (reaches_before men after a b z i y.colour k s y.kind p small plain
-      (record { apart = λ l. not_parted s y l p there side }) now))
+      not_reaching s y p there side (reaches_before men after a b z i y.colour k s y.kind p small plain
+      (record { apart = λ l. not_parted s y l p there side }) now)
 
   -- nor does the one that arrives
   arrival_strikes : (o : Option Man) → man_on after b ≡ o → IsQuiet men c a b k z → b < 64 → is_side o (other c) ≡ true → reaches after b k ≡ true → ⊥
@@ -225,8 +219,8 @@ module _ (rule : RuleSet) (men after : List (Option Man)) (a b : ℕ) (z : Man) 
       let came : reaches_as after z.colour z.kind b k ≡ true = ap (λ (x : Man). reaches_as after x.colour x.kind b k) (sym is) ∙ now in
       let n = l.quiet mine in
       false≢true (sym n.1 ∙ reaches_before men after a b z i z.colour k b z.kind p small n.0 (record {
-        apart = λ v h on both. not_struck a i.inside (struck a z (l.stood mine) mine (rider_reaches men z.colour z.kind v a k h
-            (rides_turned (steps_along v) men a k (both_ways v) i.inside small ∙ both.0)));
+        apart = λ v h on both. not_reaching a z i.inside (l.stood mine) mine (rider_reaches men z.colour z.kind v a k h
+            (rides_turned (steps_along v) men a k (both_ways v) i.inside small ∙ both.0));
       }) came)
 
   not_attacked : IsQuiet men c a b k z → attacked rule after k (other c) ≡ false
@@ -473,13 +467,13 @@ pub shield_squares_none : (rule : RuleSet) (men : List (Option Man)) (c : Colour
 unfolding may_expose
 shield_squares_none rule men c h = word_empty (may_expose rule men c) (λ s b. ap (λ (o : Option ℕ). may_expose_on rule men o c s) h)
 
-pub shield_squares_all : (rule : RuleSet) (men : List (Option Man)) (c : Colour) (k : ℕ) → king_square men c ≡ Some k → is_unshielded rule men c k ≡ true
+pub shield_squares_all : (rule : RuleSet) (men : List (Option Man)) (c : Colour) (k : ℕ) → king_square men c ≡ Some k → is_unshielded men c k ≡ true
     → bit_not w64 0 ≡ word (may_expose rule men c)
 unfolding may_expose
 shield_squares_all rule men c k at unshielded =
     every_square (may_expose rule men c) (λ s b. ap (λ (o : Option ℕ). may_expose_on rule men o c s) at ∙ or_left _ _ (or_left _ _ (or_left _ _ unshielded)))
 
-pub shield_squares_some : (rule : RuleSet) (men : List (Option Man)) (c : Colour) (k w : ℕ) → king_square men c ≡ Some k → is_unshielded rule men c k ≡ false
+pub shield_squares_some : (rule : RuleSet) (men : List (Option Man)) (c : Colour) (k w : ℕ) → king_square men c ≡ Some k → is_unshielded men c k ≡ false
     → w ≡ bit_or (bit_or (word (is_square (Some k))) (word (is_shut men (other c) Rook straight_steps k)))
     (word (is_shut men (other c) Bishop diagonal_steps k))
     → w ≡ word (may_expose rule men c)

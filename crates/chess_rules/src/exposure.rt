@@ -1,15 +1,22 @@
 //! Whether a move leaves its mover in check.
-ghost use Rattle.std.specs.Prelude.{◌≡◌, IfSome, true};
+ghost use Rattle.std.specs.Prelude.{◌≡◌, ◌==◌, ◌&&◌, IfSome, List, Option, not, true};
+ghost use Rattle.std.specs.Int.{bit_at};
+ghost use Rattle.chess_core.specs.Position.{is_man, is_side, man_on, other};
+ghost use Rattle.chess_core.specs.Squares.{some_square};
+ghost use Rattle.chess_core.specs.ties.Words.{word};
+ghost use Rattle.chess_core.specs.declared.man.Man.{Man};
 ghost use Rattle.chess_core.specs.WellFormed.{IsWellFormed};
-ghost use Rattle.chess_rules.specs.Attacks.{in_check};
+ghost use Rattle.chess_rules.specs.Attacks.{in_check, paralysed};
 ghost use Rattle.chess_rules.specs.Legal.{pseudo};
 ghost use Rattle.chess_rules.specs.Play.{after};
-ghost use Rattle.chess_rules.specs.ties.Sight.{is_simple, king_after};
+ghost use Rattle.chess_rules.specs.Reaches.{reaches};
+ghost use Rattle.chess_rules.specs.ties.Sight.{AreArrived, AreOthers, is_arriving_as, is_simple, king_after, own_after};
 
-use crate::outward::attackers_seen;
-use crate::play::{capture_square, is_castling};
+use crate::outward::{attackers_seen, those_reaching};
+use crate::play::{arriving, capture_square, is_castling};
 use crate::rules::{Rules, in_check};
-use crate::sight::sight_after;
+use crate::sight::{Sight, sight_after};
+use crate::words::{next_bit, only};
 use chess_core::board::Board;
 use chess_core::man::{Kind, Man, Move};
 use chess_core::square::Square;
@@ -25,12 +32,84 @@ fn king_after(board: &Board, man: Man, m: &Move) -> Option<Square>
     }
 }
 
-// Whether nothing more changes by the move than that this man goes and one is captured at most, and nobody
-// is paralysed.
+// Whether nothing more changes by the move than that this man goes and one is captured at most.
 pub(crate) fn is_simple<R: Rules>(man: Man, m: &Move, captures: bool) -> bool
     ensures { result ≡ is_simple R.rule man m.now captures }
 {
-    !R::is_madrasi() && !is_castling(man, m) && !(R::is_circe() && captures)
+    !is_castling(man, m) && !(R::is_circe() && captures)
+}
+
+// The arrival, where the man is of this kind once it stands there.
+fn arrival_as(man: Man, m: &Move, kind: Kind) -> u64
+    ensures { result ≡ word (is_arriving_as man m.now kind) }
+{
+    if arriving(man, m.promo).kind.is(kind) {
+        only(Some(m.to))
+    } else {
+        0
+    }
+}
+
+// The squares of the mover's men of this kind once the man has made a simple move; `sight` is that after it.
+fn own_squares_after(board: &Board, sight: Sight, man: Man, m: &Move, kind: Kind) -> u64
+    ensures { result ≡ own_after board.now.men sight man m.now kind }
+{
+    board.squares(man.colour, kind) & sight.standing & !only(Some(m.from))
+        | arrival_as(man, m, kind)
+}
+
+// Whether one of the mover's men of this kind reaches the square then.
+fn is_faced_after(
+    board: &Board,
+    sight: Sight,
+    man: Man,
+    m: &Move,
+    square: Square,
+    kind: Kind,
+) -> bool
+    ensures { (men : List (Option Man)) → AreArrived board.now.men men man m.now sight
+        → result ≡ some_square (λ s. is_man (man_on men s) man.colour kind && reaches men s square) }
+{
+    let own = own_squares_after(board, sight, man, m, kind);
+    those_reaching(sight.occupied, own, square, man.colour, kind) != 0
+}
+
+// Whether the enemy man on the square is paralysed then.
+fn is_paralysed_after<R: Rules>(
+    board: &Board,
+    sight: Sight,
+    man: Man,
+    m: &Move,
+    square: Square,
+) -> bool
+    ensures { (men : List (Option Man)) → AreArrived board.now.men men man m.now sight
+        → is_side (man_on men square) (other man.colour) ≡ true → result ≡ paralysed R.rule men square }
+{
+    if !R::is_madrasi() {
+        return false;
+    }
+    match board.man_at(square) {
+        Some(enemy) => {
+            !enemy.kind.is(Kind::King) && is_faced_after(board, sight, man, m, square, enemy.kind)
+        }
+        None => false,
+    }
+}
+
+// Whether an enemy man on one of the word's squares isn't paralysed then.
+fn some_free_after<R: Rules>(board: &Board, sight: Sight, man: Man, m: &Move, word: u64) -> bool
+    ensures { (men : List (Option Man)) → AreArrived board.now.men men man m.now sight
+        → AreOthers men man.colour word
+        → result ≡ some_square (λ s. bit_at word s == 1 && not (paralysed R.rule men s)) }
+{
+    let mut number = 0u8;
+    while let Some(square) = next_bit(word, number) {
+        if !is_paralysed_after::<R>(board, sight, man, m, square) {
+            return true;
+        }
+        number = square.index() + 1;
+    }
+    false
 }
 
 // Whether the move leaves its mover in check, told without playing it: by an attack on the squares as they
@@ -52,7 +131,8 @@ fn exposes_unplayed<R: Rules>(board: &Board, m: &Move) -> Option<bool>
         return Some(false);
     };
     let sight = sight_after(board, m.from, captured, m.to);
-    Some(attackers_seen(board, sight, king, board.turn().other()) != 0)
+    let attackers = attackers_seen(board, sight, king, board.turn().other());
+    Some(some_free_after::<R>(board, sight, man, m, attackers))
 }
 
 // Whether the move leaves its mover in check. The board is unchanged after it.

@@ -126,8 +126,7 @@ fn has_flight_from<R: Rules>(
     first_safe(board, sight, near & !covered, board.turn()).is_some()
 }
 
-// Whether flights after the man's move are looked for: nobody castles, is reborn or is paralysed, and it
-// is no king.
+// Whether flights after the man's move are looked for: nobody castles or is reborn, and it is no king.
 fn is_looked_at<R: Rules>(man: Man, m: &Move, captures: bool) -> bool
     ensures { result ≡ (not (same_kind man.kind King) && is_simple R.rule man m.now captures) }
 {

@@ -6,9 +6,10 @@ ghost use Rattle.chess_core.specs.declared.man.Man.{Man};
 ghost use Rattle.chess_rules.specs.ties.Lines.{occupied_squares};
 ghost use Rattle.chess_rules.specs.ties.Sight.{AreSeen};
 ghost use Rattle.chess_core.specs.Squares.{some_square};
-ghost use Rattle.chess_core.specs.ties.Words.{word};
+ghost use Rattle.chess_core.specs.ties.Words.{squares_of, word};
 ghost use Rattle.chess_rules.specs.Attacks.{paralysed};
 ghost use Rattle.chess_rules.specs.ties.Outward.{is_met};
+ghost use Rattle.chess_rules.specs.ties.Shields.{is_reached};
 ghost use Rattle.chess_rules.specs.Reaches.{reaches, reaches_as};
 ghost use Rattle.chess_core.specs.Steps.{diagonal_steps, straight_steps};
 ghost use Rattle.chess_core.specs.declared.man.Kind.TheVariants.{Bishop, Rook};
@@ -54,10 +55,24 @@ pub(crate) fn reached_by(
         → result ≡ word (λ s. is_man (man_on men s) colour kind && reaches men s square) }
 {
     let men = squares_seen(board, sight, colour, kind);
-    if men == 0 {
+    those_reaching(sight.occupied, men, square, colour, kind)
+}
+
+// Of the squares of all men of this colour and kind, those from which they reach the square.
+pub(crate) fn those_reaching(
+    occupied: u64,
+    squares: u64,
+    square: Square,
+    colour: Colour,
+    kind: Kind,
+) -> u64
+    ensures { (men : List (Option Man)) → occupied ≡ occupied_squares men → squares ≡ squares_of men colour kind
+        → result ≡ word (λ s. is_man (man_on men s) colour kind && reaches men s square) }
+{
+    if squares == 0 {
         return 0;
     }
-    men & comes_as(sight.occupied, colour, kind, square)
+    squares & comes_as(occupied, colour, kind, square)
 }
 
 // The squares of the queens and rooks of this colour that a rider on the square gets to along its file
@@ -107,6 +122,14 @@ pub(crate) fn attackers(board: &Board, square: Square, colour: Colour) -> u64
     ensures { result ≡ word (λ s. is_side (man_on board.now.men s) colour && reaches board.now.men s square) }
 {
     attackers_seen(board, sight_now(board), square, colour)
+}
+
+// Whether some man of this colour reaches the square, be it paralysed or not.
+#[tactic(auto, using(crate::proofs::Attacking::is_reached_by))]
+pub(crate) fn is_reached(board: &Board, square: Square, colour: Colour) -> bool
+    ensures { result ≡ is_reached board.now.men square colour }
+{
+    attackers(board, square, colour) != 0
 }
 
 // Whether a man on one of the word's squares isn't paralysed, or no man stands there.

@@ -15,6 +15,7 @@ ghost use Rattle.chess_rules.specs.ties.Shields.{cannot_expose, has_fairy, is_sh
 ghost use Rattle.chess_rules.specs.RuleSet.{is_circe};
 
 use crate::lines::{diagonal_lines, diagonal_rides, occupied, straight_lines, straight_rides};
+use crate::outward::is_reached;
 use crate::play::is_castling;
 use crate::rules::Rules;
 use crate::words::{contains, next_bit, only};
@@ -29,13 +30,13 @@ pub(crate) fn has_fairy(board: &Board, colour: Colour) -> bool
     board.squares(colour, Kind::Grasshopper) != 0 || board.squares(colour, Kind::Nightrider) != 0
 }
 
-// Whether the colour's king, on this square, is in check, or check may come to it by other ways than an
-// orthodox man's.
+// Whether an enemy reaches the colour's king, on this square, be it paralysed or not, or check may come to it
+// by other ways than an orthodox man's.
 #[tactic(auto, unfolding(crate::specs::ties::Shields::is_unshielded))]
-fn is_unshielded<R: Rules>(board: &Board, colour: Colour, king: Square) -> bool
-    ensures { result ≡ is_unshielded R.rule board.now.men colour king }
+fn is_unshielded(board: &Board, colour: Colour, king: Square) -> bool
+    ensures { result ≡ is_unshielded board.now.men colour king }
 {
-    R::is_madrasi() || has_fairy(board, colour.other()) || R::attacked(board, king, colour.other())
+    has_fairy(board, colour.other()) || is_reached(board, king, colour.other())
 }
 
 /// The lines of a rook, or those of a bishop.
@@ -138,7 +139,7 @@ pub(crate) fn shield_squares<R: Rules>(board: &Board, colour: Colour) -> u64
     let Some(king) = board.king_of(colour) else {
         return 0;
     };
-    if is_unshielded::<R>(board, colour, king) {
+    if is_unshielded(board, colour, king) {
         return !0;
     }
     shields_of(board, colour, king)

@@ -1,22 +1,21 @@
 -- Squares that shield a king along the lines to it, and moves that can't expose it (own).
 use Rattle.std.specs.Prelude.{ℕ, Bool, true, false, ◌&&◌, ◌||◌, ◌==◌, not, List, Option, Some, None, is_some}
 use Rattle.chess_core.specs.Squares.{is_square, some_square}
-use Rattle.chess_core.specs.Position.{Position, is_man, king_square, man_on, other}
+use Rattle.chess_core.specs.Position.{Position, is_man, is_side, king_square, man_on, other}
 use Rattle.chess_core.specs.declared.man.Man.{Man}
 use Rattle.chess_core.specs.declared.man.Move.{Move}
 use Rattle.chess_core.specs.declared.man.Colour.{Colour}
 use Rattle.chess_core.specs.declared.man.Kind.{Kind}
 use Rattle.chess_core.specs.declared.man.Kind.TheVariants.{King, Queen, Rook, Bishop, Knight, Pawn, Grasshopper, Nightrider}
-use Rattle.chess_rules.specs.Attacks.{attacked}
 use Rattle.chess_rules.specs.Play.{is_castling}
 use Rattle.std.specs.List.{list_any}
 use Rattle.chess_core.specs.Steps.{diagonal_steps, straight_steps}
 use Rattle.chess_core.specs.declared.step.Step.{Step}
 use Rattle.chess_rules.specs.ties.Lines.{is_on_some}
-use Rattle.chess_rules.specs.Reaches.{rides}
+use Rattle.chess_rules.specs.Reaches.{reaches, rides}
 use Rattle.chess_rules.specs.declared.shields.RiderLines.{RiderLines}
 use Rattle.chess_rules.specs.declared.shields.RiderLines.TheVariants.{Straight, Diagonal}
-use Rattle.chess_rules.specs.RuleSet.{RuleSet, is_circe, is_madrasi}
+use Rattle.chess_rules.specs.RuleSet.{RuleSet, is_circe}
 
 -- whether it is one of the two fairy kinds
 abbrev pub is_fairy : Kind → Bool
@@ -34,9 +33,14 @@ unfoldable pub has_fairy : List (Option Man) → Colour → Bool
 has_fairy men c =
     some_square (λ s. is_man (man_on men s) c Grasshopper) || some_square (λ s. is_man (man_on men s) c Nightrider)
 
--- the king of colour c on k is in check, or check may come to it by other ways than an orthodox man's
-unfoldable pub is_unshielded : RuleSet → List (Option Man) → Colour → ℕ → Bool
-is_unshielded rule men c k = is_madrasi rule || has_fairy men (other c) || attacked rule men k (other c)
+-- some man of colour e reaches k, be it paralysed or not
+unfoldable pub is_reached : List (Option Man) → ℕ → Colour → Bool
+is_reached men k e = some_square (λ s. is_side (man_on men s) e && reaches men s k)
+
+-- an enemy reaches the king of colour c on k, be it paralysed or not, or check may come to it by other ways than an
+-- orthodox man's
+unfoldable pub is_unshielded : List (Option Man) → Colour → ℕ → Bool
+is_unshielded men c k = has_fairy men (other c) || is_reached men k (other c)
 
 -- a queen or a man of kind j, of colour e, stands on q, on one of the lines from k by these steps, and comes to s
 -- by such a step
@@ -52,7 +56,7 @@ is_shut men e j ds k s = list_any (rides men k s) ds && some_square (is_behind m
 abbrev pub may_expose_on : RuleSet → List (Option Man) → Option ℕ → Colour → ℕ → Bool
 may_expose_on rule men None c s = false
 may_expose_on rule men (Some k) c s =
-    is_unshielded rule men c k || k == s || is_shut men (other c) Rook straight_steps k s || is_shut men (other c) Bishop diagonal_steps k s
+    is_unshielded men c k || k == s || is_shut men (other c) Rook straight_steps k s || is_shut men (other c) Bishop diagonal_steps k s
 
 -- a move from s may expose the king of colour c: it is the king's own, or s shuts a line between it and an
 -- enemy rider of that line

@@ -1,8 +1,8 @@
 -- What men an attack sees, on the board or once a move is made (own).
-use Rattle.std.specs.Prelude.{◌≡◌, ℕ, Bool, ◌&&◌, not, List, Option, Some, if◌then◌else◌}
-use Rattle.std.specs.Int.{bit_not, w64}
+use Rattle.std.specs.Prelude.{◌≡◌, ◌<◌, ◌==◌, ℕ, Bool, true, ◌&&◌, not, List, Option, Some, if◌then◌else◌}
+use Rattle.std.specs.Int.{bit_at, bit_not, w64}
 use Rattle.std.specs.Int.Bits.{bit_and, bit_or}
-use Rattle.chess_core.specs.Position.{Position, king_square, same_kind}
+use Rattle.chess_core.specs.Position.{Position, is_side, king_square, man_on, other, same_kind}
 use Rattle.chess_core.specs.Squares.{is_square}
 use Rattle.chess_core.specs.ties.Words.{squares_of, word}
 use Rattle.chess_core.specs.declared.man.Colour.{Colour}
@@ -11,8 +11,8 @@ use Rattle.chess_core.specs.declared.man.Kind.TheVariants.{King}
 use Rattle.chess_core.specs.declared.man.Man.{Man}
 use Rattle.chess_core.specs.declared.man.Move.{Move}
 use Rattle.chess_rules.specs.ties.Lines.{occupied_squares}
-use Rattle.chess_rules.specs.Play.{is_castling}
-use Rattle.chess_rules.specs.RuleSet.{RuleSet, is_circe, is_madrasi}
+use Rattle.chess_rules.specs.Play.{arriving, is_castling}
+use Rattle.chess_rules.specs.RuleSet.{RuleSet, is_circe}
 use Rattle.chess_rules.specs.declared.sight.Sight.{Sight}
 
 -- the words are those of these men: of colour c stand just those of the men before whose squares are in a word
@@ -27,10 +27,29 @@ sight_after men a o b = record {
   standing = bit_not w64 (word (is_square o));
 }
 
--- nothing more changes by the move of x than that it goes and, if it captures, one man is gone, and nobody
--- is paralysed
+-- nothing more changes by the move of x than that it goes and, if it captures, one man is gone
 abbrev pub is_simple : RuleSet → Man → Move → Bool → Bool
-is_simple rule x m captures = not (is_madrasi rule) && not (is_castling x m) && not (is_circe rule && captures)
+is_simple rule x m captures = not (is_castling x m) && not (is_circe rule && captures)
+
+-- x arrives on s by the move m, as a man of kind k
+abbrev pub is_arriving_as : Man → Move → Kind → ℕ → Bool
+is_arriving_as x m k s = same_kind (arriving x m.promo).kind k && is_square (Some m.to) s
+
+-- the squares of the men of its colour and of kind k once x has made the move m
+abbrev pub own_after : List (Option Man) → Sight → Man → Move → Kind → ℕ
+own_after men v x m k =
+    bit_or (bit_and (bit_and (squares_of men x.colour k) v.standing) (bit_not w64 (word (is_square (Some m.from))))) (word (is_arriving_as x m k))
+
+-- the words are those of these men, the ones after the move m of x: its colour's men stand as above, and the
+-- others where they stood
+pub record AreArrived (before men : List (Option Man)) (x : Man) (m : Move) (v : Sight) : Type 0 where
+  pub occupied : v.occupied ≡ occupied_squares men
+  pub own : (k : Kind) → own_after before v x m k ≡ squares_of men x.colour k
+  pub others : (s : ℕ) → is_side (man_on men s) (other x.colour) ≡ true → man_on men s ≡ man_on before s
+
+-- men of the other colour than c stand on all squares of the word
+pub record AreOthers (men : List (Option Man)) (c : Colour) (w : ℕ) : Type 0 where
+  pub side : (s : ℕ) → s < 64 → (bit_at w s == 1) ≡ true → is_side (man_on men s) (other c) ≡ true
 
 -- the square of the mover's king once x has moved
 abbrev pub king_after : Position → Man → Move → Option ℕ

@@ -1,0 +1,15 @@
+use Rattle.std.proofs.Common.{◌-◌, ◌==◌, ◌&&◌, not, List, Option}
+use Rattle.std.specs.Int.{bit_at}
+use Rattle.chess_core.proofs.Ranges.{NoneBelow}
+use Rattle.chess_core.specs.declared.man.Man.{Man}
+use Rattle.chess_rules.specs.Attacks.{paralysed}
+use Rattle.chess_rules.specs.ties.Sight.{AreArrived, AreOthers}
+use Rattle.chess_rules.proofs.exposure.some_free_after.Given as goal
+
+abbrev pub invariant-loop-square : goal.invariant-loop-square
+invariant-loop-square g l =
+    (men : List (Option Man)) → AreArrived l.board.men men l.man l.m l.sight → AreOthers men l.man.colour l.word
+    → NoneBelow (λ s. bit_at l.word s == 1 && not (paralysed g.R.Rules.rule men s)) l.number
+
+abbrev pub decreases-loop-square : goal.decreases-loop-square
+decreases-loop-square g l = 64 - l.number

@@ -1,0 +1,10 @@
+use Rattle.chess_rules.proofs.Attacking.{reached, reached_none}
+use Rattle.chess_rules.proofs.outward.those_reaching.Goals as goal
+
+pub returns-then-squares-eq0 : goal.returns-then-squares-eq0
+returns-then-squares-eq0 c = λ men occupied squares.
+    reached_none men c.args.colour c.args.kind c.args.square c.args.squares squares c.if-squares-eq0.true
+
+pub returns : goal.returns
+returns c = λ men occupied squares.
+    reached men c.args.colour c.args.kind c.args.square c.args.squares c.comes_as.result squares (c.comes_as.ensures men occupied)
