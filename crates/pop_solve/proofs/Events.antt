@@ -1,6 +1,6 @@
 -- What a call gives.
 use Rattle.chess_rules.specs.Play.{after as played}
-use Rattle.std.proofs.Common.{◌≡◌, ℕ, zero, suc, ◌+◌, ◌-◌, ◌≤◌, Bool, true, false, ◌||◌, eqb, cond, List, [], ◌∷◌, length, map, take, drop, reverse, refl, sym, ◌∙◌, ap, append_assoc, arith, ◌^◌, min, Option, Some, None, MatchOption, is_some}
+use Rattle.std.proofs.Common.{option_map, slice_get, ◌≡◌, ℕ, zero, suc, ◌+◌, ◌-◌, ◌≤◌, Bool, true, false, ◌||◌, eqb, cond, List, [], ◌∷◌, length, map, take, drop, reverse, refl, sym, ◌∙◌, ap, append_assoc, arith, ◌^◌, min, Option, Some, None, MatchOption, is_some}
 use Rattle.std.specs.List.{flat_map}
 use Rattle.std.proofs.lemmas.Bool.Decides.{nat_tests}
 use Rattle.std.proofs.lemmas.List.{length-reverse}
@@ -16,10 +16,10 @@ use Rattle.pop_input.specs.Stipulations.{is_help, half_moves}
 use Rattle.pop_solve.proofs.Sound.{in_range}
 use Rattle.pop_solve.specs.ties.Frames.{AreKnown, Frame, position, IsLinked}
 use Rattle.pop_solve.specs.Game.{reach}
-use Rattle.pop_solve.specs.ties.Walk.{path, IsWalking, IsRoomy}
+use Rattle.pop_solve.specs.ties.Walk.{way_of, path, IsWalking, IsRoomy}
 use Rattle.pop_solve.specs.Events.{Step, start, is_set, opening, line, tree_node, total, step_of, event_of, phase_start, phase_half_moves, phase_half, shown_along, shown_last, steps_from, phase_steps, is_barred, counted, solutions, events}
 use Rattle.pop_solve.specs.ties.Seen.{StandsOn}
-use Rattle.pop_solve.specs.ties.Phases.{way_of, begins, keep, started, left_of, IsStanding, IsGiven, Walks, Gives, phase_paths}
+use Rattle.pop_solve.specs.ties.Phases.{begins, keep, started, left_of, IsStanding, IsGiven, Walks, Gives, phase_paths}
 use Rattle.pop_solve.specs.Shown.{Shown}
 use Rattle.pop_solve.specs.declared.event.Event.{Event}
 use Rattle.pop_solve.specs.declared.event.Event.TheVariants.{Line, Node, Total}
@@ -221,3 +221,20 @@ given-event rule problem (Some e) old new board depth given given2 some x more g
 pub given-none : (rule : RuleSet) (problem : Posed) (event : Option Event) (old new : List Step) (board : Position) (depth given : ℕ) → is_some event ≡ false → MatchOption event ((old ≡ []) × (board ≡ start problem) × (new ≡ [])) (λ e. Gives rule problem old new e board depth) → IsGiven rule problem old given → IsGiven rule problem new given
 given-none rule problem None old new board depth given none x g = let e : old ≡ new = x.0 ∙ sym x.2 in rw (← e) g
 given-none rule problem (Some e) old new board depth given none x g = absurd cc
+
+-- what a call answers, and where it leaves the search
+module _ (rule : RuleSet) (problem : Posed) where
+  abbrev Given : Option Event → List Step → List Step → Position → ℕ → Type 0
+  Given event old new board depth = MatchOption event ((old ≡ []) × (board ≡ start problem) × (new ≡ [])) (λ e. Gives rule problem old new e board depth)
+
+  pub next-event : (event : Option Event) (old new : List Step) (board : Position) (depth : ℕ) → Given event old new board depth → event ≡ option_map (event_of rule problem) (slice_get old 0)
+  next-event None old new board depth x = rw x.0 refl
+  next-event (Some e) old new board depth x = rw (x.left, x.event_is) refl
+
+  pub next-left : (event : Option Event) (old new : List Step) (board : Position) (depth : ℕ) → Given event old new board depth → new ≡ drop 1 old
+  next-left None old new board depth x = rw (x.0, x.2) refl
+  next-left (Some e) old new board depth x = rw x.left refl
+
+  pub next-board : (event : Option Event) (old new : List Step) (board : Position) (depth : ℕ) → Given event old new board depth → MatchOption (slice_get old 0) (board ≡ start problem) (λ step. StandsOn rule problem step board depth)
+  next-board None old new board depth x = rw x.0 x.1
+  next-board (Some e) old new board depth x = rw x.left x.stands

@@ -1,5 +1,6 @@
 pub mod Boards
 pub mod Values
+pub mod SmallestTrees
 pub mod Tests
 pub mod Battles
 pub mod Lengths

@@ -12,16 +12,17 @@ use Rattle.pop_input.specs.declared.stipulation.Form.TheVariants.{Direct, SelfMa
 use Rattle.pop_solve.specs.declared.event.Phase.{Phase}
 use Rattle.pop_solve.specs.declared.event.Phase.TheVariants.{Set, Play}
 use Rattle.pop_solve.specs.Events.{Step, total, first_phase, is_set, is_barred, events, phase_start, phase_half_moves, phase_steps}
-use Rattle.pop_solve.specs.ties.Seen.{is_stop, is_unstopped, phase_walk, walk_from, whole_walk}
+use Rattle.pop_solve.specs.ties.Seen.{fewest_from, is_stop, is_unstopped, phase_fewest, phase_walk, walk_from, whole_walk}
 use Rattle.pop_solve.specs.ties.Frames.{Frame, position, to_open}
-use Rattle.pop_solve.specs.ties.Phases.{way_of, left_of, rest_open, IsKeys, IsNarrow, IsGiven, IsOpened, OpensOn}
+use Rattle.pop_solve.specs.ties.Phases.{left_of, rest_fewest, rest_open, IsKeys, IsNarrow, IsGiven, IsOpened, OpensOn}
 use Rattle.pop_solve.specs.ties.Values.{seeks}
-use Rattle.pop_solve.specs.ties.Walk.{IsCounted, IsWhites, Opens}
+use Rattle.pop_solve.specs.ties.Walk.{fewest_left, way_of, IsCounted, IsWhites, Opens, Tries}
 use Rattle.pop_solve.specs.declared.phases.Stage.{Stage}
 use Rattle.pop_solve.specs.declared.phases.Stage.TheVariants.{Before, Barred, Within, Behind}
 use Rattle.pop_solve.specs.declared.walk.Way.{Way}
+use Rattle.pop_solve.proofs.Boards.{behind_start}
 use Rattle.pop_solve.proofs.Sound.{some_way}
-use Rattle.pop_solve.proofs.Walking.{counted_by, one, opened-most, walk_count-start}
+use Rattle.pop_solve.proofs.Walking.{counted_by, no_zero, one, opened-most, walk_count-start}
 
 -- one part of a walk after another
 module _ (rule : RuleSet) (way : Way) (p : Position) where
@@ -35,6 +36,23 @@ module _ (rule : RuleSet) (way : Way) (p : Position) where
     helped = λ h. omega (arith, x.helped h, y.helped h);
     counted = λ h walk k. y.counted h walk (x.counted h walk k);
   }
+
+  pub tries-none : (h : ℕ) (frames : List Frame) (count : ℕ) → Tries rule way h p frames frames count count
+  tries-none h frames count = record { grows = omega arith; fewest = λ a. omega arith }
+
+  pub tries-then : (h : ℕ) (old mid new : List Frame) (a b c : ℕ) → Tries rule way h p old mid a b → Tries rule way h p mid new b c → Tries rule way h p old new a c
+  tries-then h old mid new a b c x y = record {
+    grows = omega (arith, x.grows, y.grows);
+    fewest = λ e. omega (arith, x.fewest e, y.fewest e);
+  }
+
+-- the root of a phase counts where half-moves are tried from it
+root-counted : (n count count2 : ℕ) → (0 < n → count2 ≡ min (count + 1) (2 ^ 64 - 1)) → (n ≡ 0 → count2 ≡ count) → min (count + cond (eqb n 0) 0 1) (2 ^ 64 - 1) ≤ count2
+root-counted zero count count2 more same = omega (arith, same refl)
+root-counted (suc k) count count2 more same = rw (no_zero k) (omega (arith, more (omega arith)))
+
+less_none : (n : ℕ) → n - 0 ≡ n
+less_none n = omega arith
 
 -- what is opened in a later phase, counted apart
 counted-apart : (walk later opened rest : ℕ) → IsCounted walk opened (rest + later) → IsCounted (walk - later) opened rest
@@ -65,13 +83,18 @@ module _ (rule : RuleSet) (problem : Posed) where
   abbrev later : Phase → ℕ
   later phase = cond (is_set phase) (phase_walk rule problem Play) 0
 
+  abbrev later_fewest : Phase → ℕ
+  later_fewest phase = cond (is_set phase) (phase_fewest rule problem Play) 0
+
   -- a phase that isn't possible
   pub opens-barred : (phase : Phase) (old new : List Frame) (count : ℕ) (left : List Step) → is_barred rule problem phase ≡ true → OpensOn rule problem (Before phase) Barred old new count count left
-  unfolding rest_open IsNarrow
+  unfolding rest_open rest_fewest IsNarrow
   opens-barred Set old new count left e = record {
     narrow = λ n. narrowed n;
     most = λ n. rw e (omega arith);
     counted = λ h u walk c. (let z : 0 + phase_walk rule problem Play ≡ phase_walk rule problem Play = omega arith in rw (e, z) at c);
+    grows = omega arith;
+    fewest = λ h u. rw e (omega arith);
   }
     where
       narrowed : (is_help problem.stipulation.form ≡ true) ⊎ IsKeys problem Set → is_help problem.stipulation.form ≡ true
@@ -95,12 +118,25 @@ module _ (rule : RuleSet) (problem : Posed) where
         go Set e = rw e (omega arith)
         go Play e = omega (arith, e)
 
+    root-fewest : phase_fewest rule problem phase ≡ cond (eqb f.left 0) 0 1 + fewest_left rule way (phase_half_moves problem phase) (phase_start problem phase) (f ∷ [])
+    unfolding fewest_left position
+    root-fewest = rw (possible, place_is, behind_start rule (phase_start problem phase), ← left_is, less_none f.left) (omega arith)
+
+    from-fewest : fewest_from rule problem phase ≡ cond (eqb f.left 0) 0 1 + (fewest_left rule way (phase_half_moves problem phase) (phase_start problem phase) (f ∷ []) + later_fewest phase)
+    from-fewest = go phase root-fewest
+      where
+        go : (b : Phase) → phase_fewest rule problem b ≡ cond (eqb f.left 0) 0 1 + fewest_left rule way (phase_half_moves problem phase) (phase_start problem phase) (f ∷ []) → fewest_from rule problem b ≡ cond (eqb f.left 0) 0 1 + (fewest_left rule way (phase_half_moves problem phase) (phase_start problem phase) (f ∷ []) + later_fewest b)
+        go Set e = rw e (omega arith)
+        go Play e = omega (arith, e)
+
     pub opens-begun : (old : List Frame) (count count2 : ℕ) (left : List Step) → (0 < f.left → count2 ≡ min (count + 1) (2 ^ 64 - 1)) → (f.left ≡ 0 → count2 ≡ count) → OpensOn rule problem (Before phase) (Within phase 0) old (f ∷ []) count count2 left
-    unfolding rest_open IsNarrow
+    unfolding rest_open rest_fewest IsNarrow
     opens-begun old count count2 left more same = record {
       narrow = λ n. narrowed n;
       most = λ n. omega (arith, from-open, opened-most rule way f.left count count2 more same);
       counted = λ h u walk c. counted_by rule way f.left walk count count2 _ _ from-open more same c;
+      grows = omega (arith, root-counted f.left count count2 more same);
+      fewest = λ h u. omega (arith, root-counted f.left count count2 more same, from-fewest);
     }
       where
         narrowed : (is_help problem.stipulation.form ≡ true) ⊎ IsKeys problem phase → (is_help problem.stipulation.form ≡ true) ⊎ (IsKeys problem phase × (IsWhites (battle_of problem.stipulation.form) (f ∷ []) ≡ true))
@@ -110,7 +146,7 @@ module _ (rule : RuleSet) (problem : Posed) where
             inr (k, whites-root (battle_of problem.stipulation.form) f (rw l (white-starts problem.stipulation.form problem.stipulation.n k.battle (some_way problem sound))))
 
   -- within a phase
-  module _ (phase : Phase) (count : ℕ) (old new : List Frame) (before after : ℕ) (x : Opens rule (way_of problem) (phase_start problem phase) old new before after) where
+  module _ (phase : Phase) (count : ℕ) (old new : List Frame) (before after : ℕ) (x : Opens rule (way_of problem) (phase_start problem phase) old new before after) (y : Tries rule (way_of problem) (phase_half_moves problem phase) (phase_start problem phase) old new before after) where
     walked-most : (is_help problem.stipulation.form ≡ true) ⊎ (IsKeys problem phase × (IsWhites (battle_of problem.stipulation.form) old ≡ true)) → after + to_open rule (phase_start problem phase) new ≤ before + to_open rule (phase_start problem phase) old
     walked-most (inl h) = x.helped h
     walked-most (inr k) = x.most k.0.battle k.0.keys k.1
@@ -120,11 +156,13 @@ module _ (rule : RuleSet) (problem : Posed) where
         counted-along walk (later phase) after _ (omega (arith, c.within)) (x.counted h (walk - later phase) (counted-apart walk (later phase) before _ c))
 
     pub opens-given : (next : ℕ) (left : List Step) → OpensOn rule problem (Within phase count) (Within phase next) old new before after left
-    unfolding rest_open IsNarrow
+    unfolding rest_open rest_fewest IsNarrow
     opens-given next left = record {
       narrow = λ n. narrowed n;
       most = λ n. omega (arith, walked-most n);
       counted = λ h u walk c. walked-counted h walk c;
+      grows = y.grows;
+      fewest = λ h u. omega (arith, y.fewest h);
     }
       where
         narrowed : (is_help problem.stipulation.form ≡ true) ⊎ (IsKeys problem phase × (IsWhites (battle_of problem.stipulation.form) old ≡ true)) → (is_help problem.stipulation.form ≡ true) ⊎ (IsKeys problem phase × (IsWhites (battle_of problem.stipulation.form) new ≡ true))
@@ -140,17 +178,31 @@ module _ (rule : RuleSet) (problem : Posed) where
         let t : eqb count problem.max_solutions ≡ true = grind (arith, nat_tests, e) in
         let f : false ≡ true = rw t at u in absurd cc
 
+    nothing_fewest : (left : List Step) → is_unstopped (total count (eqb count problem.max_solutions) ∷ left) ≡ true → count ≤ problem.max_solutions → (new ≡ []) ⊎ (problem.max_solutions - count ≡ 0) → fewest_left rule (way_of problem) (phase_half_moves problem phase) (phase_start problem phase) new ≡ 0
+    unfolding fewest_left
+    nothing_fewest left u most (inl none) = rw none refl
+    nothing_fewest left u most (inr full) =
+        let e : count ≡ problem.max_solutions = omega (arith, full, most) in
+        let t : eqb count problem.max_solutions ≡ true = grind (arith, nat_tests, e) in
+        let f : false ≡ true = rw t at u in absurd cc
+
     pub opens-ended : (stage : Stage) (last : List Frame) (left : List Step) → stage ≡ cond (is_set phase) (Before Play) Behind → count ≤ problem.max_solutions → (new ≡ []) ⊎ (problem.max_solutions - count ≡ 0) → OpensOn rule problem (Within phase count) stage old last before after (total count (eqb count problem.max_solutions) ∷ left)
-    unfolding rest_open IsNarrow
+    unfolding rest_open rest_fewest IsNarrow
     opens-ended stage last left at most over = record {
       narrow = λ n. rw at (narrowed phase n);
       most = λ n. rw (at, rest-is phase) (omega (arith, walked-most n));
       counted = λ h u walk c. rw (at, rest-is phase) (let w = walked-counted h walk c in let z = nothing_open left u most over in record { within = omega (arith, w.within); counts = omega (arith, z, w.counts) });
+      grows = y.grows;
+      fewest = λ h u. rw (at, fewest-is phase) (omega (arith, y.fewest h, nothing_fewest left u most over));
     }
       where
         rest-is : (b : Phase) → rest_open rule problem (cond (is_set b) (Before Play) Behind) last ≡ later b
         rest-is Set = refl
         rest-is Play = refl
+
+        fewest-is : (b : Phase) → rest_fewest rule problem (cond (is_set b) (Before Play) Behind) last ≡ later_fewest b
+        fewest-is Set = refl
+        fewest-is Play = refl
 
         narrowed : (b : Phase) → (is_help problem.stipulation.form ≡ true) ⊎ (IsKeys problem b × (IsWhites (battle_of problem.stipulation.form) old ≡ true)) → IsNarrow problem (cond (is_set b) (Before Play) Behind) last
         narrowed Set (inl h) = inl h
@@ -167,19 +219,20 @@ module _ (rule : RuleSet) (problem : Posed) where
 
   -- before the play where set play isn't possible, and behind all
   pub opens-play : (frames : List Frame) (count : ℕ) (left : List Step) → OpensOn rule problem Barred (Before Play) frames frames count count left
-  unfolding rest_open IsNarrow
-  opens-play frames count left = record { narrow = λ h. inl h; most = λ n. omega arith; counted = λ h u walk c. c }
+  unfolding rest_open rest_fewest IsNarrow
+  opens-play frames count left = record { narrow = λ h. inl h; most = λ n. omega arith; counted = λ h u walk c. c; grows = omega arith; fewest = λ h u. omega arith }
 
   pub opens-behind : (stage : Stage) (frames : List Frame) (count : ℕ) (left : List Step) → OpensOn rule problem stage stage frames frames count count left
-  opens-behind stage frames count left = record { narrow = λ n. n; most = λ n. omega arith; counted = λ h u walk c. c }
+  opens-behind stage frames count left = record { narrow = λ n. n; most = λ n. omega arith; counted = λ h u walk c. c; grows = omega arith; fewest = λ h u. omega arith }
 
   -- a search that has opened nothing
   pub opened-start : (frames : List Frame) → IsOpened rule problem (Before (first_phase problem)) frames 0
-  unfolding rest_open IsNarrow
+  unfolding rest_open rest_fewest IsNarrow
   opened-start frames = record {
     narrow = λ w. narrowed (is_help problem.stipulation.form) problem.variation problem.set_play refl refl refl w;
     most = λ w. omega arith;
     counted = λ h u. record { within = omega arith; counts = omega arith };
+    fewest = λ h u. omega arith;
   }
     where
       narrowed : (h v s : Bool) → is_help problem.stipulation.form ≡ h → problem.variation ≡ v → problem.set_play ≡ s → (h || (not v && not s)) ≡ true → (is_help problem.stipulation.form ≡ true) ⊎ IsKeys problem (first_phase problem)
@@ -202,6 +255,7 @@ module _ (rule : RuleSet) (problem : Posed) where
     narrow = λ w. x.narrow (o.narrow w);
     most = λ w. omega (arith, x.most (o.narrow w), o.most w);
     counted = λ h u. x.counted h (rw g.ending (all-drop _ (events rule problem) u)) (whole_walk rule problem) (o.counted h u);
+    fewest = λ h u. omega (arith, o.fewest h u, x.fewest h (rw g.ending (all-drop _ (events rule problem) u)));
   }
 
   -- at the end nothing is to be opened
@@ -216,3 +270,15 @@ module _ (rule : RuleSet) (problem : Posed) where
       some [] y ys e = cc
       some (x ∷ xs) y ys e = cc
   rest-none Behind frames e = refl
+
+  pub fewest-none : (stage : Stage) (frames : List Frame) → left_of rule problem stage frames ≡ [] → rest_fewest rule problem stage frames ≡ 0
+  unfolding left_of rest_fewest phase_steps
+  fewest-none (Before Set) frames e = absurd cc
+  fewest-none (Before Play) frames e = absurd cc
+  fewest-none Barred frames e = absurd cc
+  fewest-none (Within phase count) frames e = absurd (some _ _ _ e)
+    where
+      some : (xs : List Step) (y : Step) (ys : List Step) → (xs ++ y ∷ ys) ≡ [] → ⊥
+      some [] y ys e = cc
+      some (x ∷ xs) y ys e = cc
+  fewest-none Behind frames e = refl

@@ -18,9 +18,9 @@ use Rattle.pop_input.specs.Stipulations.{is_help, half_moves_of}
 use Rattle.pop_solve.proofs.Sound.{some_way}
 use Rattle.pop_solve.specs.ties.Frames.{Frame}
 use Rattle.pop_solve.specs.Tree.{node, keeps, tree, set_shows, set_tree}
-use Rattle.pop_solve.specs.ties.Walk.{follows, gives, goes_on, shown}
+use Rattle.pop_solve.specs.ties.Walk.{way_of, follows, gives, goes_on, shown}
 use Rattle.pop_solve.specs.Events.{is_set, solutions, phase_start, phase_half_moves}
-use Rattle.pop_solve.specs.ties.Phases.{way_of, keep, started, phase_paths}
+use Rattle.pop_solve.specs.ties.Phases.{keep, started, phase_paths}
 use Rattle.pop_input.specs.declared.stipulation.Form.{Form}
 use Rattle.pop_input.specs.declared.stipulation.Form.TheVariants.{Direct, SelfMate, Help, HelpHalf}
 use Rattle.pop_solve.specs.declared.walk.Way.{Way}

@@ -2,7 +2,7 @@
 use Rattle.chess_rules.specs.Play.{after as played}
 use Rattle.chess_rules.specs.Legal.{moves as legal_moves}
 use Rattle.pop_solve.specs.declared.aim.Aim.{Aim}
-use Rattle.std.proofs.Common.{◌≡◌, ℕ, zero, suc, ◌+◌, ◌-◌, ◌<◌, ◌≤◌, Bool, true, false, not, ◌&&◌, ◌||◌, cond, Option, Some, None, List, [], ◌∷◌, ◌++◌, length, take, drop, reverse, refl, sym, ◌∙◌, ap, arith, subst, ◌⊎◌, inl, inr, MatchOption, IfNone, IfSome}
+use Rattle.std.proofs.Common.{◌≡◌, ℕ, zero, suc, ◌+◌, ◌-◌, ◌<◌, ◌≤◌, ◌^◌, min, Bool, true, false, not, ◌&&◌, ◌||◌, cond, Option, Some, None, List, [], ◌∷◌, ◌++◌, length, take, drop, reverse, refl, sym, ◌∙◌, ap, arith, subst, ◌⊎◌, inl, inr, MatchOption, IfNone, IfSome}
 use Rattle.std.proofs.lemmas.List.{reverse-append, length-reverse, length-drop, length-append, drop-append-le, take-append-le, take_all}
 use Rattle.std.proofs.lemmas.Bool.{cases_lt}
 use Rattle.std.proofs.lemmas.List.Folds.{list_any-append, list_all-append}
@@ -22,9 +22,10 @@ use Rattle.pop_solve.specs.Chess.{chess}
 use Rattle.chess_rules.proofs.Between.{cut_moves}
 use Rattle.pop_solve.specs.declared.frame.Stretch.{Stretch}
 use Rattle.pop_solve.specs.declared.frame.Stretch.TheVariants.{First}
-use Rattle.pop_solve.specs.ties.Counts.{walk_count}
-use Rattle.pop_solve.specs.ties.Values.{seeks, join, value, joined}
-use Rattle.pop_solve.specs.ties.Frames.{Frame, position, AreKnown, IsLinked, IsCut, IsOpenedOn, IsTesting, deliver, pending, steps, steps_among, work, CameFromAt, CameFrom, tests, Turns, Ends, tested, top_left, walk_among, to_test, ahead, untried}
+use Rattle.pop_solve.specs.ties.Counts.{HasCounted, smallest_below, smallest_tree, walk_count}
+use Rattle.pop_solve.specs.ties.Values.{decides, seeks, join, value, joined}
+use Rattle.pop_solve.specs.ties.Frames.{Frame, position, AreKnown, IsLinked, IsCut, IsOpenedOn, IsTesting, deliver, pending, steps, steps_among, work, CameFromAt, CameFrom, tests, Turns, Ends, tested, top_left, walk_among, to_test, to_try, to_try_with, ahead, untried}
+use Rattle.pop_solve.proofs.SmallestTrees.{trees-next, trees-swap, trees-end, trees-start}
 
 -- the frame with its place moved on
 abbrev pub moved : Frame → ℕ → Frame
@@ -45,6 +46,14 @@ join-decided false rest = refl
 join-undecided : (s rest : Bool) → join s (not s) rest ≡ rest
 join-undecided true rest = refl
 join-undecided false rest = refl
+
+decides-self : (s : Bool) → decides s s ≡ true
+decides-self true = refl
+decides-self false = refl
+
+decides-not : (s : Bool) → decides s (not s) ≡ false
+decides-not true = refl
+decides-not false = refl
 
 -- a position's moves with the killer first are all its moves, in another order
 module _ (rule : RuleSet) (q : Position) (k : ℕ) where
@@ -133,6 +142,36 @@ module _ (rule : RuleSet) (aim : Aim) where
   deliver-none p [] v none = refl
   deliver-none p (g ∷ below) v none = absurd (omega (arith, none))
 
+  -- the same of the positions that have to be tried
+  abbrev pub fewest : ℕ → Position → List Triple → ℕ
+  fewest left P ms = smallest_below aim.battle (chess aim.goal rule) left P ms
+
+  fewest-start : (t : ℕ) (q : Position) (k : ℕ) → smallest_tree aim.battle (chess aim.goal rule) t q ≤ 1 + fewest t q (ahead rule q First (k - 1) k)
+  fewest-start t q k =
+      let s = trees-start aim.battle (chess aim.goal rule) t q in
+      let w = trees-swap aim.battle (chess aim.goal rule) t q (here rule q k) (before rule q k) (behind rule q k) in
+      rw (killer-first rule q k) (omega (arith, s, w, ap (fewest t q) (in-order rule q k)))
+
+  pub try-decided : (p : Position) (f : Frame) (below : List Frame) (answer : Option Bool) → answer ≡ Some (seeks aim.battle f.left) → to_try rule aim p (f ∷ below) answer ≡ to_try_with rule aim p below (seeks aim.battle f.left)
+  unfolding to_try to_try_with
+  try-decided p f below answer e = rw (e, decides-self (seeks aim.battle f.left), join-decided) (omega arith)
+
+  pub try-undecided : (p : Position) (f : Frame) (below : List Frame) (answer : Option Bool) → (answer ≡ None) ⊎ (answer ≡ Some (not (seeks aim.battle f.left)))
+      → to_try rule aim p (f ∷ below) answer ≡ fewest f.left (position rule p (f ∷ below)) (untried rule (position rule p (f ∷ below)) f) + to_try_with rule aim p below (rest f.left (position rule p (f ∷ below)) (untried rule (position rule p (f ∷ below)) f))
+  unfolding to_try to_try_with
+  try-undecided p f below answer (inl e) = rw e refl
+  try-undecided p f below answer (inr e) = rw (e, decides-not (seeks aim.battle f.left), join-undecided) refl
+
+  pub try-some : (p : Position) (below : List Frame) (v : Bool) → 0 < length below → to_try_with rule aim p below v ≡ to_try rule aim p below (Some v)
+  unfolding to_try
+  try-some p [] v some = absurd (omega (arith, some))
+  try-some p (g ∷ below) v some = refl
+
+  pub try-none : (p : Position) (below : List Frame) (v : Bool) → length below ≡ 0 → to_try_with rule aim p below v ≡ 0
+  unfolding to_try_with
+  try-none p [] v none = refl
+  try-none p (g ∷ below) v none = absurd (omega (arith, none))
+
   steps-start : (t : ℕ) (q : Position) (k : ℕ) → steps rule t q ≡ 1 + steps_among rule t q (ahead rule q First (k - 1) k)
   unfolding steps steps_among
   steps-start zero q k = refl
@@ -163,6 +202,18 @@ module _ (rule : RuleSet) (aim : Aim) where
     pub deliver-open : (v : Bool) → v ≡ joined aim.battle (chess aim.goal rule) t (played rule P m) (legal_moves rule (played rule P m)) → deliver rule aim p (passed f next s kn ∷ below) v ≡ pending rule aim p (tested k m undo t kq ∷ (passed f next s kn ∷ below)) None
     unfolding pending position
     deliver-open v d = rw (d, sym (rest-start t (played rule P m) k)) refl
+
+    pub try-next : fewest f.left P (untried rule P f) + to_try_with rule aim p below (rest f.left P (untried rule P f))
+        ≤ smallest_tree aim.battle (chess aim.goal rule) t (played rule P m) + to_try_with rule aim p (passed f next s kn ∷ below) (value aim.battle (chess aim.goal rule) t (played rule P m))
+    unfolding to_try_with position
+    try-next =
+        let n = trees-next aim.battle (chess aim.goal rule) t P m (ahead rule P s next f.killer) in
+        rw (left, rest-next t P (untried rule P f) (ahead rule P s next f.killer) m e, e) (omega (arith, n))
+
+    pub try-open : (v : Bool) → v ≡ joined aim.battle (chess aim.goal rule) t (played rule P m) (legal_moves rule (played rule P m))
+        → smallest_tree aim.battle (chess aim.goal rule) t (played rule P m) + to_try_with rule aim p (passed f next s kn ∷ below) v ≤ 1 + to_try rule aim p (tested k m undo t kq ∷ (passed f next s kn ∷ below)) None
+    unfolding to_try position
+    try-open v d = let n = fewest-start t (played rule P m) k in rw (d, sym (rest-start t (played rule P m) k)) (omega (arith, n))
 
     pub work-settled : work rule p (passed f next s kn ∷ below) < work rule p (f ∷ below)
     unfolding work position
@@ -271,8 +322,9 @@ module _ (rule : RuleSet) (aim : Aim) (floor : ℕ) (top : Frame) (old new : Lis
   close_asks p board depth d r deep = CameFrom-deep rule p top (tests floor new) board (testing_top p board r) (omega (arith, length-tests floor new, d))
 
   module _ (board after : Position) (depth : ℕ) (v : Bool) (was is result : Option Bool) (d : depth ≡ length new) (lowest : depth ≤ floor → (result ≡ Some v) × (after ≡ board)) (above : floor < depth → (result ≡ None) × (is ≡ Some v)) (before : (q : Position) → floor < depth → CameFromAt rule top board q → after ≡ q) where
-    pub close_turns : (count : ℕ) (p : Position) → IsTesting rule p (tests floor old) board → pending rule aim p (top ∷ tests floor new) was ≡ deliver rule aim p (tests floor new) v → MatchOption result (Turns rule aim floor p old new was is after count count) (λ w. Ends rule aim floor p old new was after count count w)
-    close_turns count p r e = elim (cases_lt floor depth) [
+    pub close_turns : (count : ℕ) (p : Position) → IsTesting rule p (tests floor old) board → pending rule aim p (top ∷ tests floor new) was ≡ deliver rule aim p (tests floor new) v
+        → to_try rule aim p (top ∷ tests floor new) was ≡ to_try_with rule aim p (tests floor new) v → MatchOption result (Turns rule aim floor p old new was is after count count) (λ w. Ends rule aim floor p old new was after count count w)
+    close_turns count p r e left = elim (cases_lt floor depth) [
       | inl deep ↦
           rw (above deep).0 (record {
             testing = testing-close rule p top (tests floor new) board after (testing_top p board r) (omega (arith, length-tests floor new, d)) (λ q cf. before q deep cf);
@@ -281,6 +333,7 @@ module _ (rule : RuleSet) (aim : Aim) (floor : ℕ) (top : Frame) (old new : Lis
             above = omega (arith, d);
             base = base_new;
             counted = rw popped (omega (arith, open-close rule aim p top (tests floor new)));
+            tried = rw (popped, (above deep).1) (omega (arith, left, try-some rule aim p (tests floor new) v (omega (arith, length-tests floor new, d))));
           })
       | inr low ↦
           rw (lowest low).0 (record {
@@ -288,6 +341,7 @@ module _ (rule : RuleSet) (aim : Aim) (floor : ℕ) (top : Frame) (old new : Lis
             back = (lowest low).1 ∙ lowest-back rule p top (tests floor new) board (testing_top p board r) (omega (arith, length-tests floor new, d));
             base = sym (take_all floor new (omega (arith, d))) ∙ base_new;
             counted = omega arith;
+            tried = rw popped (omega (arith, left, try-none rule aim p (tests floor new) v (omega (arith, length-tests floor new, d))));
           })
     ]
 
@@ -323,8 +377,10 @@ module _ (rule : RuleSet) (aim : Aim) (floor : ℕ) (top : Frame) (old new : Lis
     base_mid : take floor (new ++ passed top place s kn ∷ []) ≡ take floor old
     base_mid = take-append-le floor new (passed top place s kn ∷ []) low_new ∙ base_new
 
-    pub descend_turns : (is : Option Bool) → Descends is → (before count : ℕ) → MatchOption is (count ≤ before + 1) (λ _. count ≤ before + walk_count (legal_moves rule) (played rule) (top.left - 1) (played rule board m)) → (p : Position) → IsTesting rule p (tests floor old) board → Turns rule aim floor p old last was is after before count
-    descend_turns None d before count o p r =
+    pub descend_turns : (is : Option Bool) → Descends is → (before count : ℕ) → MatchOption is (count ≤ before + 1) (λ _. count ≤ before + walk_count (legal_moves rule) (played rule) (top.left - 1) (played rule board m))
+        → MatchOption is (HasCounted before count 1) (λ _. HasCounted before count (smallest_tree aim.battle (chess aim.goal rule) (top.left - 1) (played rule board m)))
+        → (p : Position) → IsTesting rule p (tests floor old) board → Turns rule aim floor p old last was is after before count
+    descend_turns None d before count o tries p r =
         let at : board ≡ position rule p (top ∷ tests floor new) = (testing_top p board r).board_at in
         let here : untried rule (position rule p (top ∷ tests floor new)) top ≡ m ∷ ahead rule (position rule p (top ∷ tests floor new)) s place top.killer = rw (← at) next in
         let last_is : tests floor last ≡ tested k m (undo_of rule board m) (top.left - 1) d.3.known ∷ (passed top place s kn ∷ tests floor new) = ap (tests floor) d.3.added ∙ tests-push floor (new ++ passed top place s kn ∷ []) _ low_mid ∙ ap (λ fs. tested k m (undo_of rule board m) (top.left - 1) d.3.known ∷ fs) mid_is in
@@ -339,8 +395,13 @@ module _ (rule : RuleSet) (aim : Aim) (floor : ℕ) (top : Frame) (old new : Lis
           above = omega (arith, ap length d.3.added, length-append (new ++ passed top place s kn ∷ []) (tested k m (undo_of rule board m) (top.left - 1) d.3.known ∷ []), low_mid);
           base = ap (take floor) d.3.added ∙ take-append-le floor (new ++ passed top place s kn ∷ []) _ low_mid ∙ base_mid;
           counted = rw (last_is, popped) (omega (arith, o, open-open rule aim p top (tests floor new) place s m (undo_of rule board m) k (top.left - 1) kn d.3.known left_is here d.0));
+          tried =
+              let n = try-next rule aim p top (tests floor new) place s m (undo_of rule board m) k (top.left - 1) kn d.3.known left_is here in
+              let v = value aim.battle (chess aim.goal rule) (top.left - 1) (played rule (position rule p (top ∷ tests floor new)) m) in
+              let t = try-open rule aim p top (tests floor new) place s m (undo_of rule board m) k (top.left - 1) kn d.3.known left_is here v (rw (← at) d.1) in
+              rw (last_is, popped) (omega (arith, tries, try-undecided rule aim p top (tests floor new) was open_yet, n, t));
         }
-    descend_turns (Some v) d before count o p r =
+    descend_turns (Some v) d before count o tries p r =
         let at : board ≡ position rule p (top ∷ tests floor new) = (testing_top p board r).board_at in
         let here : untried rule (position rule p (top ∷ tests floor new)) top ≡ m ∷ ahead rule (position rule p (top ∷ tests floor new)) s place top.killer = rw (← at) next in
         let last_is : tests floor last ≡ passed top place s kn ∷ tests floor new = ap (tests floor) d.2 ∙ mid_is in
@@ -356,6 +417,11 @@ module _ (rule : RuleSet) (aim : Aim) (floor : ℕ) (top : Frame) (old new : Lis
           above = omega (arith, ap length d.2, length-append new (passed top place s kn ∷ []), low_new);
           base = ap (take floor) d.2 ∙ base_mid;
           counted = rw (last_is, popped) (omega (arith, o, ap (λ b. walk_count (legal_moves rule) (played rule) (top.left - 1) (played rule b m)) at, open-settled rule aim p top (tests floor new) place s m (undo_of rule board m) k (top.left - 1) kn None left_is here));
+          tried =
+              let n = try-next rule aim p top (tests floor new) place s m (undo_of rule board m) k (top.left - 1) kn None left_is here in
+              let e : v ≡ value aim.battle (chess aim.goal rule) (top.left - 1) (played rule (position rule p (top ∷ tests floor new)) m) = rw (← at) d.0 in
+              let t = try-some rule aim p (passed top place s kn ∷ tests floor new) v (omega arith) in
+              rw (last_is, popped) (omega (arith, tries, ap (λ b. smallest_tree aim.battle (chess aim.goal rule) (top.left - 1) (played rule b m)) at, try-undecided rule aim p top (tests floor new) was open_yet, n, ap (to_try_with rule aim p (passed top place s kn ∷ tests floor new)) e, t));
         }
 
     pub descend_room : (is : Option Bool) → Descends is → top_left (tests floor old) + length old ≤ N + 1 → top_left (tests floor last) + length last ≤ N + 1
@@ -391,6 +457,18 @@ module _ (rule : RuleSet) (aim : Aim) (floor : ℕ) (top : Frame) (old new : Lis
       pending-undecided rule aim p top (tests floor new) was u
       ∙ ap (deliver rule aim p (tests floor new)) (rest-none rule aim top.left (position rule p (top ∷ tests floor new)) (untried rule (position rule p (top ∷ tests floor new)) top) (top_some p board r) (rw (← at) e))
 
+  -- and the positions that are to be tried then
+  pub decided_left : (p : Position) (was : Option Bool) → was ≡ Some (seeks aim.battle top.left) → to_try rule aim p (top ∷ tests floor new) was ≡ to_try_with rule aim p (tests floor new) (seeks aim.battle top.left)
+  decided_left p was e = try-decided rule aim p top (tests floor new) was e
+
+  pub exhausted_left : (p board : Position) (was : Option Bool) → IsTesting rule p (tests floor old) board → (was ≡ None) ⊎ (was ≡ Some (not (seeks aim.battle top.left))) → untried rule board top ≡ [] → to_try rule aim p (top ∷ tests floor new) was ≡ to_try_with rule aim p (tests floor new) (not (seeks aim.battle top.left))
+  exhausted_left p board was r u e =
+      let at : board ≡ position rule p (top ∷ tests floor new) = (testing_top p board r).board_at in
+      let none : untried rule (position rule p (top ∷ tests floor new)) top ≡ [] = rw (← at) e in
+      let v = rest-none rule aim top.left (position rule p (top ∷ tests floor new)) _ (top_some p board r) none in
+      try-undecided rule aim p top (tests floor new) was u
+      ∙ (rw (v, none, trees-end aim.battle (chess aim.goal rule) top.left (position rule p (top ∷ tests floor new))) (omega arith))
+
 -- a call that leaves the board as it was
 pub testing_same : (rule : RuleSet) (p : Position) (frames : List Frame) (board now : Position) → IsTesting rule p frames board → now ≡ board → IsTesting rule p frames now
 testing_same rule p frames board now r e = rw e r
@@ -400,8 +478,9 @@ nil_of [] e = refl
 nil_of (x ∷ xs) e = absurd (omega (arith, e))
 
 -- a test of the position p, of the value v, over the frames `under`
-pub record IsUnderway (rule : RuleSet) (aim : Aim) (floor : ℕ) (p : Position) (N : ℕ) (v : Bool) (under frames : List Frame) (answer : Option Bool) (board : Position) (opened most : ℕ) : Type 0 where
+pub record IsUnderway (rule : RuleSet) (aim : Aim) (floor : ℕ) (p : Position) (N : ℕ) (v : Bool) (under frames : List Frame) (answer : Option Bool) (board : Position) (opened most fewest : ℕ) : Type 0 where
   pub counted : opened + to_test rule p (tests floor frames) ≤ most
+  pub tried : min fewest (2 ^ 64 - 1) ≤ opened + to_try rule aim p (tests floor frames) answer
   pub testing : IsTesting rule p (tests floor frames) board
   pub same : pending rule aim p (tests floor frames) answer ≡ v
   pub above : floor < length frames
@@ -409,14 +488,15 @@ pub record IsUnderway (rule : RuleSet) (aim : Aim) (floor : ℕ) (p : Position) 
   pub base : take floor frames ≡ under
 
 module _ (rule : RuleSet) (aim : Aim) where
-  pub begins : (floor : ℕ) (p : Position) (N left k : ℕ) (board : Position) (before count : ℕ) (by : Triple) (undo : Loss) (under frames : List Frame) (kn : Option LegalPlace) → floor ≡ length under → frames ≡ under ++ tested k by undo left kn ∷ [] → IfSome kn (IsPlaceIn rule p) → floor + left ≤ N → count ≤ before + 1 → board ≡ p → IsWellFormed board → (0 < left) × (value aim.battle (chess aim.goal rule) left p ≡ joined aim.battle (chess aim.goal rule) left p (legal_moves rule p)) → IsUnderway rule aim floor p N (value aim.battle (chess aim.goal rule) left p) under frames None board count (before + walk_count (legal_moves rule) (played rule) left p)
-  unfolding pending deliver IsLinked IsCut AreKnown position to_test
-  begins floor p N left k board before count by undo under frames kn low put within room more at sound d =
+  pub begins : (floor : ℕ) (p : Position) (N left k : ℕ) (board : Position) (before count : ℕ) (by : Triple) (undo : Loss) (under frames : List Frame) (kn : Option LegalPlace) → floor ≡ length under → frames ≡ under ++ tested k by undo left kn ∷ [] → IfSome kn (IsPlaceIn rule p) → floor + left ≤ N → count ≤ before + 1 → HasCounted before count 1 → board ≡ p → IsWellFormed board → (0 < left) × (value aim.battle (chess aim.goal rule) left p ≡ joined aim.battle (chess aim.goal rule) left p (legal_moves rule p)) → IsUnderway rule aim floor p N (value aim.battle (chess aim.goal rule) left p) under frames None board count (before + walk_count (legal_moves rule) (played rule) left p) (before + smallest_tree aim.battle (chess aim.goal rule) left p)
+  unfolding pending deliver IsLinked IsCut AreKnown position to_test to_try to_try_with
+  begins floor p N left k board before count by undo under frames kn low put within room more one_more at sound d =
       let none : tests floor under ≡ [] = nil_of (tests floor under) (omega (arith, length-tests floor under, low)) in
       let one : tests floor frames ≡ tested k by undo left kn ∷ [] = ap (tests floor) put ∙ tests-push floor under _ (omega (arith, low)) ∙ ap (λ fs. tested k by undo left kn ∷ fs) none in
       let n = length-append under (tested k by undo left kn ∷ []) in
       record {
         counted = rw one (omega (arith, more, walk_count-start rule aim left p k d.0));
+        tried = rw one (omega (arith, one_more, fewest-start rule aim left p k));
         testing = rw one (record { linked = tt; cut = d.0; known = (within, tt); sound = sound; board_at = at });
         same = rw (one, rest-start rule aim left p k) (sym d.1);
         above = omega (arith, ap length put, n, low);
@@ -424,6 +504,6 @@ module _ (rule : RuleSet) (aim : Aim) where
         base = ap (take floor) put ∙ take-append-le floor under _ (omega (arith, low)) ∙ take_all floor under (omega (arith, low));
       }
 
-  pub goes_on : (floor : ℕ) (p : Position) (N : ℕ) (v : Bool) (under old new : List Frame) (was is : Option Bool) (board after : Position) (before count most : ℕ) → IsUnderway rule aim floor p N v under old was board before most → Turns rule aim floor p old new was is after before count → top_left (tests floor new) + length new ≤ N + 1 → IsUnderway rule aim floor p N v under new is after count most
-  goes_on floor p N v under old new was is board after before count most u t room =
-      record { counted = omega (arith, t.counted, u.counted); testing = t.testing; same = sym t.same ∙ u.same; above = t.above; room = room; base = t.base ∙ u.base }
+  pub goes_on : (floor : ℕ) (p : Position) (N : ℕ) (v : Bool) (under old new : List Frame) (was is : Option Bool) (board after : Position) (before count most fewest : ℕ) → IsUnderway rule aim floor p N v under old was board before most fewest → Turns rule aim floor p old new was is after before count → top_left (tests floor new) + length new ≤ N + 1 → IsUnderway rule aim floor p N v under new is after count most fewest
+  goes_on floor p N v under old new was is board after before count most fewest u t room =
+      record { counted = omega (arith, t.counted, u.counted); tried = omega (arith, t.tried, u.tried); testing = t.testing; same = sym t.same ∙ u.same; above = t.above; room = room; base = t.base ∙ u.base }

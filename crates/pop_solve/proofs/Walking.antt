@@ -23,10 +23,10 @@ use Rattle.chess_rules.specs.RuleSet.{RuleSet}
 use Rattle.pop_solve.specs.Chess.{chess}
 use Rattle.pop_solve.proofs.Boards.{behind_start}
 use Rattle.pop_solve.specs.Game.{Game}
-use Rattle.pop_solve.specs.ties.Counts.{walk_count}
+use Rattle.pop_solve.specs.ties.Counts.{HasCounted, walk_count}
 use Rattle.pop_solve.specs.ties.Values.{seeks, value}
 use Rattle.pop_solve.specs.ties.Frames.{AreKnown, Frame, position, IsLinked, CameFromAt, CameFrom, opened, opened as opened_frame, steps, steps_behind, walk_behind, to_open}
-use Rattle.pop_solve.specs.ties.Walk.{fewest, first_from, open_length, follows, gives, goes_on, shown, path, GoesTo, to_come, IsRoomy, IsWalking, turns, IsCounted, IsWhites, Steps}
+use Rattle.pop_solve.specs.ties.Walk.{fewest, first_from, open_length, follows, gives, goes_on, shown, path, GoesTo, to_come, IsRoomy, IsWalking, turns, IsCounted, IsWhites, Steps, fewest_for, fewest_left, fewest_walked}
 use Rattle.pop_solve.specs.declared.walk.Way.{Way}
 use Rattle.pop_solve.proofs.Tests.{learned, moved}
 
@@ -34,7 +34,10 @@ pub cases : (b : Bool) → (b ≡ false) ⊎ (b ≡ true)
 cases false = inl refl
 cases true = inr refl
 
-no_zero : (k : ℕ) → eqb (suc k) 0 ≡ false
+both : (b : Bool) → b ≡ true → b ≡ false → ⊥
+both b t f = cc
+
+pub no_zero : (k : ℕ) → eqb (suc k) 0 ≡ false
 no_zero k = grind (arith, nat_tests)
 
 -- a path, where it is given
@@ -117,6 +120,23 @@ module _ (rule : RuleSet) (way : Way) where
   shown-none root (suc k) (suc t) P ms (inl e) = cc
   shown-none root (suc k) (suc t) P ms (inr e) = rw e refl
 
+  -- the positions to be tried for the next move, and for the others
+  fewest-next : (root : Bool) (k t : ℕ) (P : Position) (m : Triple) (ms : List Triple) → fewest_walked way (chess way.aim.goal rule) root (suc k) (suc t) P (m ∷ ms)
+      ≡ (fewest_for way (chess way.aim.goal rule) root t (played rule P m) + cond (follows way (chess way.aim.goal rule) root t (played rule P m)) (fewest_walked way (chess way.aim.goal rule) false k (goes_on way (chess way.aim.goal rule) t (played rule P m)) (played rule P m) (legal_moves rule (played rule P m))) 0)
+      + fewest_walked way (chess way.aim.goal rule) root (suc k) (suc t) P ms
+  unfolding fewest_walked
+  fewest-next root k t P m ms =
+      sum_by-cons (λ m. let q = played rule P m in
+      fewest_for way (chess way.aim.goal rule) root t q
+      + cond (follows way (chess way.aim.goal rule) root t q) (fewest_walked way (chess way.aim.goal rule) false k (goes_on way (chess way.aim.goal rule) t q) q (legal_moves rule q)) 0) m ms
+
+  fewest-none : (root : Bool) (k left : ℕ) (P : Position) (ms : List Triple) → (left ≡ 0) ⊎ (ms ≡ []) → fewest_walked way (chess way.aim.goal rule) root k left P ms ≡ 0
+  unfolding fewest_walked
+  fewest-none root zero left P ms e = refl
+  fewest-none root (suc k) zero P ms e = refl
+  fewest-none root (suc k) (suc t) P ms (inl e) = cc
+  fewest-none root (suc k) (suc t) P ms (inr e) = rw e refl
+
   steps-start : (k : ℕ) (q : Position) → steps rule k q ≡ 1 + steps_behind rule k q 0
   unfolding steps steps_behind
   steps-start zero q = refl
@@ -170,6 +190,22 @@ module _ (rule : RuleSet) (way : Way) where
         (shown way (chess way.aim.goal rule) false k (goes_on way (chess way.aim.goal rule) t q) q (legal_moves rule q))
         (shown way (chess way.aim.goal rule) root (suc k) (suc t) P (moves_behind rule P next)) (to_come rule way h p below))
 
+    tries-pass : follows way (chess way.aim.goal rule) root t q ≡ false → fewest_left rule way h p (f ∷ below) ≡ fewest_for way (chess way.aim.goal rule) root t q + fewest_left rule way h p (moved f next ∷ below)
+    unfolding fewest_left position
+    tries-pass b =
+        let P = position rule p (f ∷ below) in
+        let n = fewest-next root k t P m (moves_behind rule P next) in
+        rw (fuel, left, e) (omega (arith, rw b at n))
+
+    tries-enter : (undo : Loss) → follows way (chess way.aim.goal rule) root t q ≡ true → fewest_left rule way h p (f ∷ below)
+        ≡ fewest_for way (chess way.aim.goal rule) root t q + fewest_left rule way h p (opened m undo (goes_on way (chess way.aim.goal rule) t q) ∷ (moved f next ∷ below))
+    unfolding fewest_left position
+    tries-enter undo b =
+        let less : h - suc (length below) ≡ k = omega arith in
+        let P = position rule p (f ∷ below) in
+        let n = fewest-next root k t P m (moves_behind rule P next) in
+        rw (fuel, less, left, e, behind_start rule q, no_zero (length below)) (omega (arith, rw b at n))
+
     turns-pass : turns rule h p (moved f next ∷ below) < turns rule h p (f ∷ below)
     unfolding turns position
     turns-pass = rw (fuel, steps_behind-next k (position rule p (f ∷ below)) f.place next m e) (omega arith)
@@ -191,6 +227,10 @@ module _ (rule : RuleSet) (way : Way) where
   come-close : (h : ℕ) (p : Position) (f : Frame) (below : List Frame) → (f.left ≡ 0) ⊎ (moves_behind rule (position rule p (f ∷ below)) f.place ≡ []) → to_come rule way h p (f ∷ below) ≡ to_come rule way h p below
   unfolding to_come
   come-close h p f below e = rw (shown-none (eqb (length below) 0) (h - length below) f.left (position rule p (f ∷ below)) _ e) refl
+
+  tries-close : (h : ℕ) (p : Position) (f : Frame) (below : List Frame) → (f.left ≡ 0) ⊎ (moves_behind rule (position rule p (f ∷ below)) f.place ≡ []) → fewest_left rule way h p (f ∷ below) ≡ fewest_left rule way h p below
+  unfolding fewest_left
+  tries-close h p f below e = omega (arith, fewest-none (eqb (length below) 0) (h - length below) f.left (position rule p (f ∷ below)) _ e)
 
   turns-close : (h : ℕ) (p : Position) (f : Frame) (below : List Frame) → turns rule h p below < turns rule h p (f ∷ below)
   unfolding turns
@@ -275,6 +315,13 @@ module _ (rule : RuleSet) (way : Way) where
       | inr e ↦ omega (arith, nothing f.left f.place e.2, nothing f.left g.mid e.2)
     ]
 
+    tries-skip : way.help ≡ false → fewest_left rule way h p (f ∷ below) ≡ fewest_left rule way h p later
+    unfolding fewest_left position
+    tries-skip a = elim g.none [
+      | inl e ↦ rw (g.passed, e) refl
+      | inr e ↦ absurd (both _ e.0 a)
+    ]
+
     pub steps-skip : (new : List Frame) (board : Position) (before after : ℕ) (given : Bool) → Steps rule way h p later new board before after given → Steps rule way h p (f ∷ below) new board before after given
     unfolding IsWhites
     steps-skip new board before after given s = record {
@@ -288,6 +335,7 @@ module _ (rule : RuleSet) (way : Way) where
         helped = λ a. omega (arith, s.opens.helped a, open-skip);
         counted = λ a walk c. s.opens.counted a walk (let T : ℕ → Type 0 = λ n. IsCounted walk before n in subst T open-skip c);
       };
+      tries = record { grows = s.tries.grows; fewest = λ a. omega (arith, s.tries.fewest a, tries-skip a) };
     }
 
 -- what undoes the top frame
@@ -380,9 +428,6 @@ pub goes_on-keys : {P M : Type 0} (way : Way) (game : Game P M) (t : ℕ) (q : P
 unfolding goes_on
 goes_on-keys way game t q a b c = rw (a, b, c) refl
 
-both : (b : Bool) → b ≡ true → b ≡ false → ⊥
-both b t f = cc
-
 pub counted_by : (rule : RuleSet) (way : Way) (t walk opened opened2 before after : ℕ) → before ≡ one rule way t + after → (0 < t → opened2 ≡ min (opened + 1) (2 ^ 64 - 1)) → (t ≡ 0 → opened2 ≡ opened) → IsCounted walk opened before → IsCounted walk opened2 after
 counted_by rule way zero walk opened opened2 before after e more same c =
     let s : opened2 ≡ opened = same refl in
@@ -412,6 +457,7 @@ module _ (rule : RuleSet) (way : Way) (h : ℕ) (p : Position) (f : Frame) (belo
           helped = λ a. omega (arith, o);
           counted = λ a walk c. (let T : ℕ → Type 0 = λ n. IsCounted walk count n in subst T o c);
         };
+        tries = record { grows = omega arith; fewest = λ a. omega (arith, tries-close rule way h p f below here) };
       }
 
   module _ (next : ℕ) (m : Triple) (t : ℕ) (left : f.left ≡ suc t) (e : moves_behind rule board f.place ≡ m ∷ moves_behind rule board next) where
@@ -424,8 +470,8 @@ module _ (rule : RuleSet) (way : Way) (h : ℕ) (p : Position) (f : Frame) (belo
     fuel : h - length below ≡ suc (h - length below - 1)
     fuel = omega (arith, top_room rule h p f below board r, left)
 
-    pub steps-pass : (after : Position) (opened opened2 : ℕ) → follows way (chess way.aim.goal rule) (eqb (length below) 0) t (played rule board m) ≡ false → after ≡ board → (way.help ≡ false → way.variation ≡ false → seeks way.aim.battle (t + 1) ≡ true → opened2 ≤ opened + walk_count (legal_moves rule) (played rule) t (played rule board m)) → Steps rule way h p (f ∷ below) (moved f next ∷ below) after opened opened2 false
-    steps-pass after opened opened2 b at keys =
+    pub steps-pass : (after : Position) (opened opened2 : ℕ) → follows way (chess way.aim.goal rule) (eqb (length below) 0) t (played rule board m) ≡ false → after ≡ board → (way.help ≡ false → way.variation ≡ false → seeks way.aim.battle (t + 1) ≡ true → opened2 ≤ opened + walk_count (legal_moves rule) (played rule) t (played rule board m)) → HasCounted opened opened2 (fewest_for way (chess way.aim.goal rule) (eqb (length below) 0) t (played rule board m)) → Steps rule way h p (f ∷ below) (moved f next ∷ below) after opened opened2 false
+    steps-pass after opened opened2 b at keys tried =
         let o = open-next rule way h p f next m below _ t fuel left here in
         record {
           walking = walking-moved rule h p way f next below board after r at;
@@ -438,10 +484,14 @@ module _ (rule : RuleSet) (way : Way) (h : ℕ) (p : Position) (f : Frame) (belo
             helped = λ a. absurd (both _ (follows-help way (chess way.aim.goal rule) (eqb (length below) 0) t (played rule board m) a) b);
             counted = λ a walk c. absurd (both _ (follows-help way (chess way.aim.goal rule) (eqb (length below) 0) t (played rule board m) a) b);
           };
+          tries = record {
+            grows = omega (arith, tried);
+            fewest = λ a. omega (arith, tried, ap (fewest_for way (chess way.aim.goal rule) (eqb (length below) 0) t) after_here, tries-pass rule way h p f next m below _ t fuel left here (rw (← after_here) b));
+          };
         }
 
-    pub steps-enter : (after : Position) (opened opened2 : ℕ) → legal rule board m ≡ true → follows way (chess way.aim.goal rule) (eqb (length below) 0) t (played rule board m) ≡ true → after ≡ played rule board m → (way.help ≡ true → 0 < t → opened2 ≡ min (opened + 1) (2 ^ 64 - 1)) → (way.help ≡ true → t ≡ 0 → opened2 ≡ opened) → (way.help ≡ false → way.variation ≡ false → seeks way.aim.battle (t + 1) ≡ true → opened2 ≤ opened + walk_count (legal_moves rule) (played rule) t (played rule board m)) → Steps rule way h p (f ∷ below) (opened_frame m (undo_of rule board m) (goes_on way (chess way.aim.goal rule) t (played rule board m)) ∷ (moved f next ∷ below)) after opened opened2 (gives way (chess way.aim.goal rule) t (played rule board m))
-    steps-enter after opened opened2 lawful b at more same keys =
+    pub steps-enter : (after : Position) (opened opened2 : ℕ) → legal rule board m ≡ true → follows way (chess way.aim.goal rule) (eqb (length below) 0) t (played rule board m) ≡ true → after ≡ played rule board m → (way.help ≡ true → 0 < t → opened2 ≡ min (opened + 1) (2 ^ 64 - 1)) → (way.help ≡ true → t ≡ 0 → opened2 ≡ opened) → (way.help ≡ false → way.variation ≡ false → seeks way.aim.battle (t + 1) ≡ true → opened2 ≤ opened + walk_count (legal_moves rule) (played rule) t (played rule board m)) → HasCounted opened opened2 (fewest_for way (chess way.aim.goal rule) (eqb (length below) 0) t (played rule board m)) → Steps rule way h p (f ∷ below) (opened_frame m (undo_of rule board m) (goes_on way (chess way.aim.goal rule) t (played rule board m)) ∷ (moved f next ∷ below)) after opened opened2 (gives way (chess way.aim.goal rule) t (played rule board m))
+    steps-enter after opened opened2 lawful b at more same keys tried_for =
         let o = open-next rule way h p f next m below _ t fuel left here in
         let u = undo_of rule board m in
         let q = played rule (position rule p (f ∷ below)) m in
@@ -467,6 +517,10 @@ module _ (rule : RuleSet) (way : Way) (h : ℕ) (p : Position) (f : Frame) (belo
                 let w : walk_behind rule tried q 0 ≡ walk_behind rule t q 0 = ap (λ x. walk_behind rule x q 0) z in
                 counted_by rule way t walk opened opened2 _ _ (omega (arith, o, n, w, walk_count-start rule way t q)) (more a) (same a) c;
           };
+          tries = record {
+            grows = omega (arith, tried_for);
+            fewest = λ a. rw after_here (omega (arith, rw after_here at tried_for, tries-enter rule way h p f next m below _ t fuel left here u (rw (← after_here) b)));
+          };
         }
 
 -- the same once moves that don't count have been passed over
@@ -484,21 +538,21 @@ module _ (rule : RuleSet) (way : Way) (h : ℕ) (p : Position) (f : Frame) (belo
     skips : (new : List Frame) (after : Position) (opened opened2 : ℕ) (given : Bool) → Steps rule way h p (moved f g.mid ∷ below) new after opened opened2 given → Steps rule way h p (f ∷ below) new after opened opened2 given
     skips new after opened opened2 given s = steps-skip rule way h p f below _ g new after opened opened2 given s
 
-    pub skips-pass : (after : Position) (opened opened2 : ℕ) → follows way (chess way.aim.goal rule) (eqb (length below) 0) t (played rule board m) ≡ false → after ≡ board → (way.help ≡ false → way.variation ≡ false → seeks way.aim.battle (t + 1) ≡ true → opened2 ≤ opened + walk_count (legal_moves rule) (played rule) t (played rule board m)) → Steps rule way h p (f ∷ below) (moved f next ∷ below) after opened opened2 false
-    skips-pass after opened opened2 b at keys =
-        skips _ after opened opened2 false (steps-pass rule way h p (moved f g.mid) below board (passed_to g.mid) next m t left (rw r.board_at g.here) after opened opened2 b at keys)
+    pub skips-pass : (after : Position) (opened opened2 : ℕ) → follows way (chess way.aim.goal rule) (eqb (length below) 0) t (played rule board m) ≡ false → after ≡ board → (way.help ≡ false → way.variation ≡ false → seeks way.aim.battle (t + 1) ≡ true → opened2 ≤ opened + walk_count (legal_moves rule) (played rule) t (played rule board m)) → HasCounted opened opened2 (fewest_for way (chess way.aim.goal rule) (eqb (length below) 0) t (played rule board m)) → Steps rule way h p (f ∷ below) (moved f next ∷ below) after opened opened2 false
+    skips-pass after opened opened2 b at keys tried =
+        skips _ after opened opened2 false (steps-pass rule way h p (moved f g.mid) below board (passed_to g.mid) next m t left (rw r.board_at g.here) after opened opened2 b at keys tried)
 
-    pub skips-enter : (after : Position) (opened opened2 : ℕ) → legal rule board m ≡ true → follows way (chess way.aim.goal rule) (eqb (length below) 0) t (played rule board m) ≡ true → after ≡ played rule board m → (way.help ≡ true → 0 < t → opened2 ≡ min (opened + 1) (2 ^ 64 - 1)) → (way.help ≡ true → t ≡ 0 → opened2 ≡ opened) → (way.help ≡ false → way.variation ≡ false → seeks way.aim.battle (t + 1) ≡ true → opened2 ≤ opened + walk_count (legal_moves rule) (played rule) t (played rule board m)) → Steps rule way h p (f ∷ below) (opened_frame m (undo_of rule board m) (goes_on way (chess way.aim.goal rule) t (played rule board m)) ∷ (moved f next ∷ below)) after opened opened2 (gives way (chess way.aim.goal rule) t (played rule board m))
-    skips-enter after opened opened2 lawful b at more same keys =
-        skips _ after opened opened2 _ (steps-enter rule way h p (moved f g.mid) below board (passed_to g.mid) next m t left (rw r.board_at g.here) after opened opened2 lawful b at more same keys)
+    pub skips-enter : (after : Position) (opened opened2 : ℕ) → legal rule board m ≡ true → follows way (chess way.aim.goal rule) (eqb (length below) 0) t (played rule board m) ≡ true → after ≡ played rule board m → (way.help ≡ true → 0 < t → opened2 ≡ min (opened + 1) (2 ^ 64 - 1)) → (way.help ≡ true → t ≡ 0 → opened2 ≡ opened) → (way.help ≡ false → way.variation ≡ false → seeks way.aim.battle (t + 1) ≡ true → opened2 ≤ opened + walk_count (legal_moves rule) (played rule) t (played rule board m)) → HasCounted opened opened2 (fewest_for way (chess way.aim.goal rule) (eqb (length below) 0) t (played rule board m)) → Steps rule way h p (f ∷ below) (opened_frame m (undo_of rule board m) (goes_on way (chess way.aim.goal rule) t (played rule board m)) ∷ (moved f next ∷ below)) after opened opened2 (gives way (chess way.aim.goal rule) t (played rule board m))
+    skips-enter after opened opened2 lawful b at more same keys tried =
+        skips _ after opened opened2 _ (steps-enter rule way h p (moved f g.mid) below board (passed_to g.mid) next m t left (rw r.board_at g.here) after opened opened2 lawful b at more same keys tried)
 
 -- what the top frame knows changes nothing of what is to come
 pub steps-learned : (rule : RuleSet) (way : Way) (h : ℕ) (p : Position) (f : Frame) (known : Option LegalPlace) (below new : List Frame) (after : Position) (opened opened2 : ℕ) (given : Bool) → Steps rule way h p (learned f known ∷ below) new after opened opened2 given → Steps rule way h p (f ∷ below) new after opened opened2 given
-unfolding to_come path position turns to_open IsWhites
+unfolding to_come path position turns to_open fewest_left IsWhites
 steps-learned rule way h p f known [] new after opened opened2 given s =
-    record { walking = s.walking; come = s.come; deep = s.deep; falls = s.falls; opens = record { whites = s.opens.whites; most = s.opens.most; helped = s.opens.helped; counted = s.opens.counted } }
+    record { walking = s.walking; come = s.come; deep = s.deep; falls = s.falls; opens = record { whites = s.opens.whites; most = s.opens.most; helped = s.opens.helped; counted = s.opens.counted }; tries = record { grows = s.tries.grows; fewest = s.tries.fewest } }
 steps-learned rule way h p f known (g ∷ below) new after opened opened2 given s =
-    record { walking = s.walking; come = s.come; deep = s.deep; falls = s.falls; opens = record { whites = s.opens.whites; most = s.opens.most; helped = s.opens.helped; counted = s.opens.counted } }
+    record { walking = s.walking; come = s.come; deep = s.deep; falls = s.falls; opens = record { whites = s.opens.whites; most = s.opens.most; helped = s.opens.helped; counted = s.opens.counted }; tries = record { grows = s.tries.grows; fewest = s.tries.fewest } }
 
 -- a push, and the frames before a frame was taken off, seen from the top
 pub reverse-push : (xs : List Frame) (x : Frame) → reverse (xs ++ x ∷ []) ≡ x ∷ reverse xs
@@ -553,8 +607,9 @@ module _ (rule : RuleSet) (way : Way) (h : ℕ) (top : Frame) (old new : List Fr
         → (follows way (chess way.aim.goal rule) root behind arrived ≡ true → (given ≡ gives way (chess way.aim.goal rule) behind arrived) × (after ≡ arrived) × (last ≡ mid ++ opened_frame m (undo_of rule now m) (goes_on way (chess way.aim.goal rule) behind arrived) ∷ []))
         → (way.help ≡ true → 0 < behind → opened2 ≡ min (opened + 1) (2 ^ 64 - 1)) → (way.help ≡ true → behind ≡ 0 → opened2 ≡ opened)
         → (way.help ≡ false → way.variation ≡ false → seeks way.aim.battle (behind + 1) ≡ true → opened2 ≤ opened + walk_count (legal_moves rule) (played rule) behind arrived)
+        → HasCounted opened opened2 (fewest_for way (chess way.aim.goal rule) root behind arrived)
         → (p : Position) → IsWalking rule h p (reverse old) board → Steps rule way h p (reverse old) (reverse last) after opened opened2 given
-    enter_steps root given after opened opened2 flag passes enters more none keys p r =
+    enter_steps root given after opened opened2 flag passes enters more none keys tried p r =
         let left : top.left ≡ suc behind = omega (arith, some.0) in
         let r2 = walking-learned rule h p top known (reverse new) now (walking_top p board now r at) (rw at within) in
         let flag2 : eqb (length (reverse new)) 0 ≡ root = zero_test _ _ (depth_is ∙ sym d) ∙ sym flag in
@@ -564,10 +619,10 @@ module _ (rule : RuleSet) (way : Way) (h : ℕ) (top : Frame) (old new : List Fr
         elim (cases (follows way (chess way.aim.goal rule) root behind arrived)) [
           | inl passed ↦
               let x = passes passed in
-              rw (popped old new top taken, x.2, mid_is, x.0) (steps-learned rule way h p top known (reverse new) _ after opened opened2 false (skips-pass rule way h p (learned top known) (reverse new) now r2 place m behind left next after opened opened2 (rw flag2 passed) x.1 keys))
+              rw (popped old new top taken, x.2, mid_is, x.0) (steps-learned rule way h p top known (reverse new) _ after opened opened2 false (skips-pass rule way h p (learned top known) (reverse new) now r2 place m behind left next after opened opened2 (rw flag2 passed) x.1 keys (rw flag2 tried)))
           | inr entered ↦
               let x = enters entered in
-              rw (popped old new top taken, x.2, reverse-push mid, mid_is, x.0) (steps-learned rule way h p top known (reverse new) _ after opened opened2 _ (skips-enter rule way h p (learned top known) (reverse new) now r2 place m behind left next after opened opened2 lawful (rw flag2 entered) x.1 more none keys))
+              rw (popped old new top taken, x.2, reverse-push mid, mid_is, x.0) (steps-learned rule way h p top known (reverse new) _ after opened opened2 _ (skips-enter rule way h p (learned top known) (reverse new) now r2 place m behind left next after opened opened2 lawful (rw flag2 entered) x.1 more none keys (rw flag2 tried)))
         ]
 
 -- a frame is closed, whatever is walked

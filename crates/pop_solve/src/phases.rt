@@ -6,8 +6,8 @@ ghost use Rattle.pop_input.specs.Posed.{IsSound};
 ghost use Rattle.pop_input.specs.Stipulations.{half_moves, is_help};
 ghost use Rattle.pop_solve.specs.Aims.{battle_of};
 ghost use Rattle.pop_solve.specs.Events.{first_phase, start, phase_half_moves as half_moves_of_phase, phase_start, phase_half as half_of_phase, event_of, is_barred, step_of, is_set, opening};
-ghost use Rattle.pop_solve.specs.ties.Walk.{IsWalking, Opens, path};
-ghost use Rattle.pop_solve.specs.ties.Phases.{way_of as way_of_problem, left_of, IsStanding, Walks, Gives, OpensOn};
+ghost use Rattle.pop_solve.specs.ties.Walk.{IsWalking, Opens, Tries, path, way_of as way_of_problem};
+ghost use Rattle.pop_solve.specs.ties.Phases.{left_of, IsStanding, Walks, Gives, OpensOn};
 ghost use Rattle.pop_solve.specs.declared.event.Event.TheVariants.{Total};
 ghost use Rattle.pop_solve.specs.declared.event.Phase.TheVariants.{Play};
 ghost use Rattle.pop_solve.specs.declared.phases.Stage.TheVariants.{Before, Within, Behind};
@@ -148,6 +148,8 @@ fn walk_on<R: Rules, const N: usize>(
         (phase_start problem.now phase) limit (reverse frames.old.items) (reverse frames.new.items) board.new result }
     ensures opens { Opens R.rule (way_of_problem problem.now) (phase_start problem.now phase) (reverse frames.old.items)
         (reverse frames.new.items) opened.old opened.new }
+    ensures tries { Tries R.rule (way_of_problem problem.now) (half_moves_of_phase problem.now phase)
+        (phase_start problem.now phase) (reverse frames.old.items) (reverse frames.new.items) opened.old opened.new }
 {
     let way = way_of(problem);
     let half_moves = phase_half_moves(problem, phase);

@@ -52,12 +52,12 @@ impl<R: Rules, const N: usize> Model for Search<R, N> {
 }
 
 impl<R: Rules, const N: usize> Search<R, N> {
-    ghost use Rattle.std.specs.Prelude.{[], true, ◌≡◌, ◌+◌, ◌-◌, ◌<◌, ◌≤◌, ◌^◌, min, MatchOption, slice_get, drop, length};
+    ghost use Rattle.std.specs.Prelude.{[], false, true, ◌≡◌, ◌+◌, ◌-◌, ◌<◌, ◌≤◌, ◌^◌, min, MatchOption, slice_get, drop, length};
     ghost use Rattle.std.specs.Option.{option_map};
     ghost use Rattle.pop_input.specs.Posed.{rule_of};
     ghost use Rattle.pop_input.specs.Stipulations.{half_moves, is_help};
     ghost use Rattle.pop_solve.specs.Events.{events, event_of, start};
-    ghost use Rattle.pop_solve.specs.ties.Seen.{is_never_stopped, is_walked_once, whole_walk, StandsOn};
+    ghost use Rattle.pop_solve.specs.ties.Seen.{fewest_tried, is_never_stopped, is_walked_once, whole_walk, StandsOn};
 
     /// A search that has given nothing. `N` is at least the half-moves of the play plus one, and `R` are the rules of the
     /// problem's condition.
@@ -88,6 +88,7 @@ impl<R: Rules, const N: usize> Search<R, N> {
         ensures board { MatchOption (slice_get self.old.left 0) (self.new.board ≡ start self.old.problem)
             (λ step. StandsOn R.rule self.old.problem step self.new.board self.new.depth) }
         ensures problem { self.new.problem ≡ self.old.problem }
+        ensures opened { self.old.opened ≤ self.new.opened }
     {
         let event = advance::<R, N>(
             &self.problem,
@@ -120,12 +121,15 @@ impl<R: Rules, const N: usize> Search<R, N> {
     }
 
     /// The frames opened for a half-move so far, the test of mate apart, up to the greatest u64. In help play, and where
-    /// keys alone are shown, no line of moves is walked twice.
+    /// keys alone are shown, no line of moves is walked twice. In battle play no fewer than a smallest tree has positions are
+    /// opened for each tested move.
     pub fn opened(&self) -> u64
         ensures opened { result ≡ self.now.opened }
         ensures most { is_walked_once self.now.problem ≡ true → result ≤ whole_walk R.rule self.now.problem }
         ensures all { is_help self.now.problem.stipulation.form ≡ true → is_never_stopped R.rule self.now.problem ≡ true
             → self.now.left ≡ [] → result ≡ min (whole_walk R.rule self.now.problem) (2 ^ 64 - 1) }
+        ensures fewest { is_help self.now.problem.stipulation.form ≡ false → is_never_stopped R.rule self.now.problem ≡ true
+            → self.now.left ≡ [] → min (fewest_tried R.rule self.now.problem) (2 ^ 64 - 1) ≤ result }
     {
         self.opened
     }

@@ -14,7 +14,7 @@ ghost use Rattle.pop_solve.specs.ties.Marks.{is_for_mate};
 ghost use Rattle.pop_input.specs.declared.stipulation.Goal.TheVariants.{Mate};
 ghost use Rattle.pop_solve.specs.declared.frame.Stretch.TheVariants.{Before};
 ghost use Rattle.pop_solve.specs.Game.{can_move as has_move};
-ghost use Rattle.pop_solve.specs.ties.Counts.{walk_count};
+ghost use Rattle.pop_solve.specs.ties.Counts.{HasCounted, smallest_tree, walk_count};
 ghost use Rattle.pop_solve.specs.ties.Values.{seeks, join, joined, value};
 
 use crate::aim::{Aim, Battle};
@@ -88,6 +88,8 @@ fn settled<R: Rules>(
     ensures known { IfSome known.new (λ k. IsPlaceIn R.rule board.old k) }
     ensures opened { MatchOption result (opened.new ≡ opened.old)
         (λ _. opened.new ≤ opened.old + walk_count (legal_moves R.rule) (played R.rule) left board.old) }
+    ensures tried { IfSome result
+        (λ _. HasCounted opened.old opened.new (smallest_tree aim.battle (chess aim.goal R.rule) left board.old)) }
 {
     *known = None;
     if left == 0 {
@@ -213,6 +215,9 @@ fn descend<R: Rules, const N: usize>(
     requires legal { legal R.rule board.old by ≡ true }
     ensures opened { MatchOption answer.new (opened.new ≤ opened.old + 1)
         (λ _. opened.new ≤ opened.old + walk_count (legal_moves R.rule) (played R.rule) (top.left - 1) (played R.rule board.old by)) }
+    ensures tried { MatchOption answer.new (HasCounted opened.old opened.new 1)
+        (λ _. HasCounted opened.old opened.new
+        (smallest_tree aim.battle (chess aim.goal R.rule) (top.left - 1) (played R.rule board.old by))) }
     ensures answer { MatchOption answer.new
         ((0 < top.left - 1)
         × (value aim.battle (chess aim.goal R.rule) (top.left - 1) (played R.rule board.old by)
@@ -313,6 +318,7 @@ pub(crate) fn value_of<R: Rules, const N: usize>(
     ensures board { board.new ≡ board.old }
     ensures frames { frames.new.items ≡ frames.old.items }
     ensures opened { opened.new ≤ opened.old + walk_count (legal_moves R.rule) (played R.rule) left board.old }
+    ensures tried { HasCounted opened.old opened.new (smallest_tree aim.battle (chess aim.goal R.rule) left board.old) }
 {
     let killer = killers.of(aim.battle, left);
     let mut known = None;

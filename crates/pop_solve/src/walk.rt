@@ -11,9 +11,9 @@ ghost use Rattle.arrayvec.specs.ArrayVec.{array_vec_len};
 ghost use Rattle.pop_solve.specs.ties.Frames.{CameFrom, CameFromAt, opened as opened_frame};
 ghost use Rattle.pop_solve.specs.Chess.{chess};
 ghost use Rattle.pop_solve.specs.ties.Marks.{is_for_mate};
-ghost use Rattle.pop_solve.specs.ties.Counts.{walk_count};
+ghost use Rattle.pop_solve.specs.ties.Counts.{HasCounted, walk_count};
 ghost use Rattle.pop_solve.specs.ties.Values.{seeks};
-ghost use Rattle.pop_solve.specs.ties.Walk.{fewest as fewest_of, first_from, open_length, follows as is_followed, gives as is_given, goes_on, GoesTo, IsWalking, Steps};
+ghost use Rattle.pop_solve.specs.ties.Walk.{fewest as fewest_of, fewest_for, first_from, open_length, follows as is_followed, gives as is_given, goes_on, GoesTo, IsWalking, Steps};
 
 use crate::aim::{Aim, Battle};
 use crate::chess::{is_for_mate, next_mate, next_move, reaches_goal, retract};
@@ -59,6 +59,7 @@ fn least_length<R: Rules, const N: usize>(
     ensures least { result ≡ first_from aim.battle (chess aim.goal R.rule) board.old ((left - fewest_of aim.battle) / 2) (fewest_of aim.battle) }
     ensures board { board.new ≡ board.old }
     ensures frames { frames.new.items ≡ frames.old.items }
+    ensures grows { HasCounted opened.old opened.new 0 }
 {
     let mut tried = fewest(aim.battle);
     while left >= 2 && tried <= left - 2 {
@@ -85,6 +86,7 @@ fn length_shown<R: Rules, const N: usize>(
     ensures length { result ≡ open_length aim.battle (chess aim.goal R.rule) left board.old }
     ensures board { board.new ≡ board.old }
     ensures frames { frames.new.items ≡ frames.old.items }
+    ensures grows { HasCounted opened.old opened.new 0 }
 {
     if left == 0 || reaches_goal::<R>(aim.goal, board) {
         return 0;
@@ -112,6 +114,7 @@ fn length_below<R: Rules, const N: usize>(
     ensures frames { frames.new.items ≡ frames.old.items }
     ensures opened { way.help ≡ true → opened.new ≡ opened.old }
     ensures keys_alone { IsTrue (not way.variation && seeks way.aim.battle (left + 1)) → opened.new ≡ opened.old }
+    ensures grows { HasCounted opened.old opened.new 0 }
 {
     if way.help {
         return left;
@@ -181,6 +184,8 @@ fn enter<R: Rules, const N: usize>(
     ensures none { way.help ≡ true → left ≡ 0 → opened.new ≡ opened.old }
     ensures keys { way.help ≡ false → way.variation ≡ false → seeks way.aim.battle (left + 1) ≡ true
         → opened.new ≤ opened.old + walk_count (legal_moves R.rule) (played R.rule) left (played R.rule board.old by) }
+    ensures tries { HasCounted opened.old opened.new
+        (fewest_for way (chess way.aim.goal R.rule) root left (played R.rule board.old by)) }
 {
     let undo = R::play(board, by);
     let tested = is_tested(way, root, left + 1);

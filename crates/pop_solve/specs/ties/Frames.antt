@@ -2,7 +2,7 @@
 use Rattle.chess_rules.specs.Play.{after as played}
 use Rattle.chess_rules.specs.Legal.{moves as legal_moves}
 use Rattle.pop_solve.specs.declared.aim.Aim.{Aim}
-use Rattle.std.specs.Prelude.{◌≡◌, ◌<◌, IfSome, Bool, true, false, Option, Some, None, ℕ, zero, suc, ◌+◌, ◌-◌, ◌≤◌, List, [], ◌∷◌, ◌++◌, length, take, drop, reverse}
+use Rattle.std.specs.Prelude.{◌≡◌, ◌<◌, IfSome, Bool, true, false, Option, Some, None, ℕ, zero, suc, ◌+◌, ◌-◌, ◌≤◌, ◌^◌, min, if◌then◌else◌, List, [], ◌∷◌, ◌++◌, length, take, drop, reverse}
 use Rattle.std.specs.List.{sum_by}
 use Rattle.chess_core.specs.Position.{Position}
 use Rattle.chess_core.specs.Triple.{Triple}
@@ -13,8 +13,8 @@ use Rattle.chess_rules.specs.ties.Places.{IsPlaceIn, LegalPlace, moves_behind, m
 use Rattle.chess_rules.specs.Play.{undo_of}
 use Rattle.chess_rules.specs.RuleSet.{RuleSet}
 use Rattle.pop_solve.specs.Chess.{chess}
-use Rattle.pop_solve.specs.ties.Counts.{walk_count}
-use Rattle.pop_solve.specs.ties.Values.{seeks, join, joined}
+use Rattle.pop_solve.specs.ties.Counts.{smallest_below, walk_count}
+use Rattle.pop_solve.specs.ties.Values.{decides, seeks, join, joined}
 use Rattle.pop_solve.specs.declared.frame.Stretch.{Stretch}
 use Rattle.pop_solve.specs.declared.frame.Stretch.TheVariants.{First, Before, Behind}
 
@@ -116,6 +116,24 @@ to_test rule p [] = 0
 to_test rule p (f ∷ below) =
     walk_among rule f.left (position rule p (f ∷ below)) (untried rule (position rule p (f ∷ below)) f) + to_test rule p below
 
+-- the fewest positions that a test has still to try, once v is the value of the position after the top frame's last move
+unfoldable pub to_try_with : RuleSet → Aim → Position → List Frame → Bool → ℕ
+to_try_with rule aim p [] v = 0
+to_try_with rule aim p (f ∷ below) v =
+    (if decides (seeks aim.battle f.left) v then 0
+    else smallest_below aim.battle (chess aim.goal rule) f.left (position rule p (f ∷ below)) (untried rule (position rule p (f ∷ below)) f))
+    + to_try_with rule aim p below (join (seeks aim.battle f.left) v
+    (joined aim.battle (chess aim.goal rule) f.left (position rule p (f ∷ below)) (untried rule (position rule p (f ∷ below)) f)))
+
+-- the same before the next move of the top frame is tried
+unfoldable pub to_try : RuleSet → Aim → Position → List Frame → Option Bool → ℕ
+to_try rule aim p [] answer = 0
+to_try rule aim p (f ∷ below) (Some v) = to_try_with rule aim p (f ∷ below) v
+to_try rule aim p (f ∷ below) None =
+    smallest_below aim.battle (chess aim.goal rule) f.left (position rule p (f ∷ below)) (untried rule (position rule p (f ∷ below)) f)
+    + to_try_with rule aim p below
+    (joined aim.battle (chess aim.goal rule) f.left (position rule p (f ∷ below)) (untried rule (position rule p (f ∷ below)) f))
+
 -- from the top down each frame has a half-move to make, and one less than the frame below it
 unfoldable pub IsCut : List Frame → Type 0
 IsCut [] = Unit {0}
@@ -162,13 +180,16 @@ pub record Turns (rule : RuleSet) (aim : Aim) (floor : ℕ) (p : Position) (old 
   pub above : floor < length new
   pub base : take floor new ≡ take floor old
   pub counted : after + to_test rule p (tests floor new) ≤ before + to_test rule p (tests floor old)
+  pub tried : min (before + to_try rule aim p (tests floor old) was) (2 ^ 64 - 1) ≤ after + to_try rule aim p (tests floor new) is
 
--- the value, the board and the frames as they were before the test, and no more frames opened than its moves allow
+-- the value, the board and the frames as they were before the test, and no more frames opened than its moves allow, and
+-- no fewer than a smallest tree has positions
 pub record Ends (rule : RuleSet) (aim : Aim) (floor : ℕ) (p : Position) (old new : List Frame) (was : Option Bool) (board : Position) (before after : ℕ) (v : Bool) : Type 0 where
   pub value : pending rule aim p (tests floor old) was ≡ v
   pub back : board ≡ p
   pub base : new ≡ take floor old
   pub counted : after ≤ before + to_test rule p (tests floor old)
+  pub tried : min (before + to_try rule aim p (tests floor old) was) (2 ^ 64 - 1) ≤ after
 
 -- the frame of a position that a move has reached, of which no move has been tried
 abbrev pub opened : Triple → Loss → ℕ → Frame

@@ -7,19 +7,15 @@ use Rattle.chess_rules.specs.RuleSet.{RuleSet}
 use Rattle.pop_input.specs.Posed.{Posed}
 use Rattle.pop_input.specs.Stipulations.{is_help}
 use Rattle.pop_solve.specs.ties.Frames.{Frame, to_open}
-use Rattle.pop_solve.specs.ties.Walk.{path, to_come, IsWalking, IsCounted, IsWhites}
+use Rattle.pop_solve.specs.ties.Walk.{fewest_left, path, to_come, way_of, IsWalking, IsCounted, IsWhites}
 use Rattle.pop_solve.specs.Events.{Step, impossible, is_set, total, start, steps_from, step_of, phase_start, phase_half_moves, event_of, events}
-use Rattle.pop_solve.specs.ties.Seen.{is_never_stopped, is_unstopped, is_walked_once, walk_from, whole_walk, StandsOn}
+use Rattle.pop_solve.specs.ties.Seen.{fewest_from, fewest_tried, is_never_stopped, is_unstopped, is_walked_once, walk_from, whole_walk, StandsOn}
 use Rattle.pop_solve.specs.declared.event.Event.{Event}
 use Rattle.pop_solve.specs.declared.event.Phase.{Phase}
 use Rattle.pop_solve.specs.declared.event.Phase.TheVariants.{Play}
 use Rattle.pop_solve.specs.declared.phases.Stage.{Stage}
 use Rattle.pop_solve.specs.declared.phases.Stage.TheVariants.{Before, Barred, Within, Behind}
 use Rattle.pop_solve.specs.declared.walk.Way.{Way}
-
--- how a problem is walked
-abbrev pub way_of : Posed → Way
-way_of problem = record { help = is_help problem.stipulation.form; aim = record { battle = battle_of problem.stipulation.form; goal = problem.stipulation.goal }; variation = problem.variation }
 
 module _ {M : Type 0} where
   -- whether a path begins a solution: each line does, and each node above which none stands
@@ -90,6 +86,15 @@ rest_open rule problem (Within phase count) frames =
     to_open rule (phase_start problem phase) frames + (if is_set phase then walk_from rule problem Play else 0)
 rest_open rule problem Behind frames = 0
 
+-- the fewest positions that have still to be tried
+unfoldable pub rest_fewest : RuleSet → Posed → Stage → List Frame → ℕ
+rest_fewest rule problem (Before phase) frames = fewest_from rule problem phase
+rest_fewest rule problem Barred frames = fewest_from rule problem Play
+rest_fewest rule problem (Within phase count) frames =
+    fewest_left rule (way_of problem) (phase_half_moves problem phase) (phase_start problem phase) frames
+    + (if is_set phase then fewest_from rule problem Play else 0)
+rest_fewest rule problem Behind frames = 0
+
 -- the play of a battle, whose keys alone are shown
 pub record IsKeys (problem : Posed) (phase : Phase) : Type 0 where
   pub battle : is_help problem.stipulation.form ≡ false
@@ -110,12 +115,18 @@ pub record OpensOn (rule : RuleSet) (problem : Posed) (old new : Stage) (frames 
   pub narrow : IsNarrow problem old frames → IsNarrow problem new last
   pub most : IsNarrow problem old frames → after + rest_open rule problem new last ≤ before + rest_open rule problem old frames
   pub counted : is_help problem.stipulation.form ≡ true → is_unstopped left ≡ true → (walk : ℕ) → IsCounted walk before (rest_open rule problem old frames) → IsCounted walk after (rest_open rule problem new last)
+  pub grows : min before (2 ^ 64 - 1) ≤ after
+  pub fewest : is_help problem.stipulation.form ≡ false → is_unstopped left ≡ true
+      → min (before + rest_fewest rule problem old frames) (2 ^ 64 - 1) ≤ after + rest_fewest rule problem new last
 
--- the frames opened so far: never too many, and in help play exactly those that aren't still to be opened
+-- the frames opened so far: never too many, in help play exactly those that aren't still to be opened, and in a battle no
+-- fewer than have to be
 pub record IsOpened (rule : RuleSet) (problem : Posed) (stage : Stage) (frames : List Frame) (opened : ℕ) : Type 0 where
   pub narrow : is_walked_once problem ≡ true → IsNarrow problem stage frames
   pub most : is_walked_once problem ≡ true → opened + rest_open rule problem stage frames ≤ whole_walk rule problem
   pub counted : is_help problem.stipulation.form ≡ true → is_never_stopped rule problem ≡ true → IsCounted (whole_walk rule problem) opened (rest_open rule problem stage frames)
+  pub fewest : is_help problem.stipulation.form ≡ false → is_never_stopped rule problem ≡ true
+      → min (fewest_tried rule problem) (2 ^ 64 - 1) ≤ opened + rest_fewest rule problem stage frames
 
 -- the events given, counted up to the greatest u64; the steps still to come are an ending of all
 pub record IsGiven (rule : RuleSet) (problem : Posed) (left : List Step) (given : ℕ) : Type 0 where

@@ -1,17 +1,19 @@
 -- What contracts see of a search: the steps still to come, the board, the frames in use, and the counts.
 use Rattle.chess_rules.specs.Play.{after as played}
 use Rattle.chess_rules.specs.Legal.{moves as legal_moves}
-use Rattle.std.specs.Prelude.{◌≡◌, ℕ, ◌+◌, Bool, false, not, ◌&&◌, ◌||◌, if◌then◌else◌, List, [], length}
+use Rattle.std.specs.Prelude.{◌≡◌, ℕ, ◌+◌, Bool, false, not, ◌==◌, ◌&&◌, ◌||◌, true, if◌then◌else◌, List, length}
 use Rattle.std.specs.List.{list_all}
 use Rattle.chess_core.specs.Position.{Position}
 use Rattle.chess_rules.specs.RuleSet.{RuleSet}
 use Rattle.pop_solve.specs.Game.{reach}
+use Rattle.pop_solve.specs.Chess.{chess}
 use Rattle.pop_solve.specs.ties.Counts.{walk_count}
+use Rattle.pop_solve.specs.ties.Walk.{fewest_walked, way_of}
 use Rattle.pop_input.specs.Posed.{Posed}
 use Rattle.pop_input.specs.Stipulations.{is_help}
 use Rattle.pop_solve.specs.declared.event.Phase.{Phase}
 use Rattle.pop_solve.specs.declared.event.Phase.TheVariants.{Set, Play}
-use Rattle.pop_solve.specs.Events.{Step, events, first_phase, impossible, is_barred, is_set, line, opening, phase_half_moves, phase_start, solutions, total, tree_node}
+use Rattle.pop_solve.specs.Events.{Step, events, first_phase, impossible, is_barred, is_set, line, opening, phase_half_moves, phase_start, total, tree_node}
 
 -- after a step: the board where its path leads, and one frame more than the path has moves
 abbrev pub StandsOn : RuleSet → Posed → Step → Position → ℕ → Type 0
@@ -35,6 +37,24 @@ walk_from rule problem phase =
 -- the same of all phases of a problem
 abbrev pub whole_walk : RuleSet → Posed → ℕ
 whole_walk rule problem = walk_from rule problem (first_phase problem)
+
+-- the fewest positions that have to be tried to show a phase of a battle: the first, and for each move of White and each first
+-- move those of a smallest tree that decides it, for any other move that is shown the position behind it
+abbrev pub phase_fewest : RuleSet → Posed → Phase → ℕ
+phase_fewest rule problem phase =
+    if is_barred rule problem phase then 0
+    else (if phase_half_moves problem phase == 0 then 0 else 1)
+    + fewest_walked (way_of problem) (chess problem.stipulation.goal rule) true (phase_half_moves problem phase) (phase_half_moves problem phase)
+    (phase_start problem phase) (legal_moves rule (phase_start problem phase))
+
+-- the same of all phases from one on
+abbrev pub fewest_from : RuleSet → Posed → Phase → ℕ
+fewest_from rule problem phase =
+    if is_set phase then phase_fewest rule problem Set + phase_fewest rule problem Play else phase_fewest rule problem Play
+
+-- the same of all phases of a problem
+abbrev pub fewest_tried : RuleSet → Posed → ℕ
+fewest_tried rule problem = fewest_from rule problem (first_phase problem)
 
 -- whether the limit of solutions ended a phase
 abbrev pub is_stop : Step → Bool

@@ -1,7 +1,7 @@
 -- Battle play by half-moves: one value for both sides and both battles.
 use Rattle.pop_solve.specs.declared.aim.Battle.{Battle}
 use Rattle.pop_solve.specs.declared.aim.Battle.TheVariants.{Direct, Selfmate}
-use Rattle.std.specs.Prelude.{ℕ, zero, suc, ◌%◌, ◌==◌, Bool, false, ◌&&◌, ◌||◌, if◌then◌else◌, List}
+use Rattle.std.specs.Prelude.{ℕ, zero, suc, ◌%◌, ◌==◌, Bool, false, not, ◌&&◌, ◌||◌, if◌then◌else◌, List}
 use Rattle.std.specs.List.{list_any, list_all}
 use Rattle.pop_solve.specs.Game.{Game, can_move, some_move, every_move}
 
@@ -13,6 +13,10 @@ seeks Selfmate t = t % 2 == 0
 -- the values of all moves joined: some is true, or all are
 abbrev pub join : Bool → Bool → Bool → Bool
 join seeking v rest = if seeking then v || rest else v && rest
+
+-- a value that decides: a good one where one good move is enough, else a bad one
+abbrev pub decides : Bool → Bool → Bool
+decides seeking v = if seeking then v else not v
 
 module _ {P M : Type 0} where
   -- whether White reaches his aim from p with t half-moves left

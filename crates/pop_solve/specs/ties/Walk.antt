@@ -3,17 +3,25 @@ use Rattle.pop_solve.specs.declared.aim.Battle.{Battle}
 use Rattle.pop_solve.specs.declared.aim.Battle.TheVariants.{Direct, Selfmate}
 use Rattle.pop_input.specs.declared.stipulation.Goal.TheVariants.{Mate}
 use Rattle.std.specs.Prelude.{◌≡◌, ℕ, zero, suc, ◌+◌, ◌-◌, ◌/◌, ◌≤◌, ◌<◌, ◌^◌, min, ◌==◌, Bool, true, false, not, ◌&&◌, ◌||◌, if◌then◌else◌, List, [], ◌∷◌, ◌++◌, map, length, filter, ◌⊎◌}
-use Rattle.std.specs.List.{flat_map, list_all}
+use Rattle.std.specs.List.{flat_map, list_all, sum_by}
 use Rattle.chess_core.specs.Position.{Position}
 use Rattle.chess_core.specs.Triple.{Triple}
 use Rattle.chess_core.specs.WellFormed.{IsWellFormed}
 use Rattle.chess_rules.specs.ties.Places.{is_mating, moves_behind}
 use Rattle.chess_rules.specs.RuleSet.{RuleSet}
+use Rattle.pop_input.specs.Posed.{Posed}
+use Rattle.pop_input.specs.Stipulations.{is_help}
+use Rattle.pop_solve.specs.Aims.{battle_of}
 use Rattle.pop_solve.specs.Game.{Game}
+use Rattle.pop_solve.specs.ties.Counts.{smallest_tree}
 use Rattle.pop_solve.specs.ties.Values.{seeks, value}
 use Rattle.pop_solve.specs.Chess.{chess}
 use Rattle.pop_solve.specs.ties.Frames.{AreKnown, Frame, position, IsLinked, steps_behind, to_open}
 use Rattle.pop_solve.specs.declared.walk.Way.{Way}
+
+-- how a problem is walked
+abbrev pub way_of : Posed → Way
+way_of problem = record { help = is_help problem.stipulation.form; aim = record { battle = battle_of problem.stipulation.form; goal = problem.stipulation.goal }; variation = problem.variation }
 
 -- the fewest half-moves with which a move of White is tried
 abbrev pub fewest : Battle → ℕ
@@ -58,6 +66,22 @@ module _ {P M : Type 0} where
       ++ map (λ path. m ∷ path) (shown way game false fuel (goes_on way game t q) q (game.moves q))
       else []) ms
 
+  -- the fewest positions that are tried for a move to q, with t half-moves left there: where the move is tested those of a
+  -- smallest tree, else q itself if the walk goes on from it
+  abbrev pub fewest_for : Way → Game P M → Bool → ℕ → P → ℕ
+  fewest_for way game root t q =
+      if not way.help && (root || seeks way.aim.battle (t + 1)) then smallest_tree way.aim.battle game t q
+      else (if goes_on way game t q == 0 then 0 else 1)
+
+  -- the same for these moves of p, with `left` half-moves, and for all that the walk gives below them
+  unfoldable pub fewest_walked : Way → Game P M → Bool → ℕ → ℕ → P → List M → ℕ
+  fewest_walked way game root zero left p ms = 0
+  fewest_walked way game root (suc fuel) zero p ms = 0
+  fewest_walked way game root (suc fuel) (suc t) p ms =
+      sum_by (λ m. let q = game.after p m in
+      fewest_for way game root t q
+      + (if follows way game root t q then fewest_walked way game false fuel (goes_on way game t q) q (game.moves q) else 0)) ms
+
 -- the moves that lead to the top frame
 unfoldable pub path : List Frame → List Triple
 path [] = []
@@ -71,6 +95,13 @@ to_come rule way h p (f ∷ below) =
     map (λ line. path (f ∷ below) ++ line)
     (shown way (chess way.aim.goal rule) (length below == 0) (h - length below) f.left (position rule p (f ∷ below)) (moves_behind rule (position rule p (f ∷ below)) f.place))
     ++ to_come rule way h p below
+
+-- the fewest positions that are still to be tried for all frames
+unfoldable pub fewest_left : RuleSet → Way → ℕ → Position → List Frame → ℕ
+fewest_left rule way h p [] = 0
+fewest_left rule way h p (f ∷ below) =
+    fewest_walked way (chess way.aim.goal rule) (length below == 0) (h - length below) f.left (position rule p (f ∷ below)) (moves_behind rule (position rule p (f ∷ below)) f.place)
+    + fewest_left rule way h p below
 
 -- each frame has room for its half-moves
 unfoldable pub IsRoomy : ℕ → List Frame → Type 0
@@ -108,6 +139,11 @@ pub record Opens (rule : RuleSet) (way : Way) (p : Position) (old new : List Fra
   pub helped : way.help ≡ true → after + to_open rule p new ≤ before + to_open rule p old
   pub counted : way.help ≡ true → (walk : ℕ) → IsCounted walk before (to_open rule p old) → IsCounted walk after (to_open rule p new)
 
+-- a part of a walk counts on, and in a battle it tries no fewer positions than have to be
+pub record Tries (rule : RuleSet) (way : Way) (h : ℕ) (p : Position) (old new : List Frame) (before after : ℕ) : Type 0 where
+  pub grows : min before (2 ^ 64 - 1) ≤ after
+  pub fewest : way.help ≡ false → min (before + fewest_left rule way h p old) (2 ^ 64 - 1) ≤ after + fewest_left rule way h p new
+
 -- from a place to the moves `rest` behind a later one only moves are passed over whose paths aren't given: in help play
 -- for mate, with one half-move left, those that don't mate
 pub record GoesTo (rule : RuleSet) (way : Way) (left : ℕ) (p : Position) (place : ℕ) (rest : List Triple) : Type 0 where
@@ -124,3 +160,4 @@ pub record Steps (rule : RuleSet) (way : Way) (h : ℕ) (p : Position) (old new 
   pub deep : given ≡ true → length new ≡ length old + 1
   pub falls : turns rule h p new < turns rule h p old
   pub opens : Opens rule way p old new before after
+  pub tries : Tries rule way h p old new before after

@@ -46,11 +46,11 @@ returns-clause-gives g c =
 
 pub returns-then-walk_on-clause-opens : goal.returns-then-walk_on-clause-opens
 returns-then-walk_on-clause-opens g c =
-    opened.opens-given g.R.Rules.rule c.args.problem.now c.args.phase _ _ _ _ _ c.walk_on.ensures.opens _ _
+    opened.opens-given g.R.Rules.rule c.args.problem.now c.args.phase _ _ _ _ _ c.walk_on.ensures.opens c.walk_on.ensures.tries _ _
 
 pub returns-clause-opens : goal.returns-clause-opens
 unfolding IsStanding
 returns-clause-opens g c =
     let w = rw c.still_to_begin-limit.ensures at c.if-walk_on.ensures.walks in
     rw (events.left-ended g.R.Rules.rule c.args.problem.now c.args.phase _ _ _ _ w)
-    (opened.opens-ended g.R.Rules.rule c.args.problem.now c.args.phase _ _ _ _ _ c.walk_on.ensures.opens _ _ _ c.end.ensures.stage c.requires.standing.1 (w.over refl))
+    (opened.opens-ended g.R.Rules.rule c.args.problem.now c.args.phase _ _ _ _ _ c.walk_on.ensures.opens c.walk_on.ensures.tries _ _ _ c.end.ensures.stage c.requires.standing.1 (w.over refl))

@@ -6,7 +6,7 @@ use Rattle.pop_solve.proofs.Opened as opened
 use Rattle.pop_solve.proofs.phases.walk_on.Goals as goal
 
 pub loop-frames-init : goal.loop-frames-init
-loop-frames-init g c = (rw c.phase_half_moves-half_moves.ensures c.requires.walking, refl, opened.opens-none _ _ _ _ _)
+loop-frames-init g c = (rw c.phase_half_moves-half_moves.ensures c.requires.walking, refl, opened.opens-none _ _ _ _ _, opened.tries-none _ _ _ _ _ _)
 
 pub loop-frames-preserved : goal.loop-frames-preserved
 loop-frames-preserved g c =
@@ -14,6 +14,7 @@ loop-frames-preserved g c =
       s.walking,
       c.loop-frames.invariant.1 ∙ (rw c.if-step.false at s.come),
       opened.opens-then _ _ _ _ _ _ _ _ _ c.loop-frames.invariant.2 s.opens,
+      opened.tries-then _ _ _ _ _ _ _ _ _ _ c.loop-frames.invariant.3 s.tries,
     )
 
 pub returns-then-step : goal.returns-then-step
@@ -26,6 +27,8 @@ returns-then-step g c =
           (omega (arith, l, some)) (rw (l, ← c.len.ensures.value) (sym c.is_full.ensures ∙ c.if-not-is_full.true)));
       opens = rw (← c.way_of-way.ensures)
           (opened.opens-then _ _ _ _ _ _ _ _ _ c.loop-frames.invariant.2 (c.step.ensures.steps _ c.loop-frames.invariant.0).opens);
+      tries = rw (← c.way_of-way.ensures, ← c.phase_half_moves-half_moves.ensures)
+          (opened.tries-then _ _ _ _ _ _ _ _ _ _ c.loop-frames.invariant.3 (c.step.ensures.steps _ c.loop-frames.invariant.0).tries);
     }
 
 pub returns-else-not-is_full : goal.returns-else-not-is_full
@@ -36,6 +39,7 @@ returns-else-not-is_full g c =
           (kept.walks_full g.R.Rules.rule _ _ _ _ _ c.loop-frames.invariant.1 _ _ c.loop-frames.invariant.0
           (rw (l, ← c.len.ensures.value) (sym c.is_full.ensures ∙ c.if-not-is_full.false)));
       opens = rw (← c.way_of-way.ensures) c.loop-frames.invariant.2;
+      tries = rw (← c.way_of-way.ensures, ← c.phase_half_moves-half_moves.ensures) c.loop-frames.invariant.3;
     }
 
 pub returns-after-loop-frames : goal.returns-after-loop-frames
@@ -45,4 +49,5 @@ returns-after-loop-frames g c =
       walks = rw (← c.way_of-way.ensures, ← c.phase_half_moves-half_moves.ensures)
           (kept.walks_none g.R.Rules.rule _ _ _ _ _ c.loop-frames.invariant.1 _ _ c.loop-frames.invariant.0 (omega (arith, none, length-reverse c.loop-frames.frames.items)));
       opens = rw (← c.way_of-way.ensures) c.loop-frames.invariant.2;
+      tries = rw (← c.way_of-way.ensures, ← c.phase_half_moves-half_moves.ensures) c.loop-frames.invariant.3;
     }

@@ -1,5 +1,5 @@
 use Rattle.std.proofs.Common.{◌≡◌, reverse}
-use Rattle.pop_solve.specs.ties.Walk.{IsWalking, Opens, to_come, turns}
+use Rattle.pop_solve.specs.ties.Walk.{IsWalking, Opens, Tries, to_come, turns}
 use Rattle.pop_solve.specs.Events.{phase_start}
 use Rattle.pop_solve.proofs.phases.walk_on.Given as goal
 
@@ -9,6 +9,7 @@ invariant-loop-frames g l =
     × (to_come g.R.Rules.rule l.way l.half_moves (phase_start l.problem l.fn.phase) (reverse l.fn.frames.items)
     ≡ to_come g.R.Rules.rule l.way l.half_moves (phase_start l.problem l.fn.phase) (reverse l.frames.items))
     × Opens g.R.Rules.rule l.way (phase_start l.problem l.fn.phase) (reverse l.fn.frames.items) (reverse l.frames.items) l.fn.opened l.opened
+    × Tries g.R.Rules.rule l.way l.half_moves (phase_start l.problem l.fn.phase) (reverse l.fn.frames.items) (reverse l.frames.items) l.fn.opened l.opened
 
 abbrev pub decreases-loop-frames : goal.decreases-loop-frames
 decreases-loop-frames g l = turns g.R.Rules.rule l.half_moves (phase_start l.problem l.fn.phase) (reverse l.frames.items)

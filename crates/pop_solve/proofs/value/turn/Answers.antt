@@ -18,6 +18,7 @@ returns-then-decided-clause-next g c = λ p r.
     let s : c.args.answer.now ≡ Some (seeks c.args.aim.battle c.in-Some.top.left) = rw (← seek) c.if-decided.ensures in
     test.close_turns g.R.Rules.rule c.args.aim _ _ _ _ c.in-Some.ensures.items c.requires.above _ _ _ _ _ _ _ c.len-depth.ensures.value c.close.ensures.lowest c.close.ensures.above c.close.ensures.before _ p r
     (rw seek (test.decided_value g.R.Rules.rule c.args.aim _ _ _ _ c.in-Some.ensures.items c.requires.above p _ s))
+    (rw seek (test.decided_left g.R.Rules.rule c.args.aim _ _ _ _ c.in-Some.ensures.items c.requires.above p _ s))
 
 pub moves_at-moves-requires : goal.moves_at-moves-requires
 moves_at-moves-requires g c =
@@ -39,6 +40,7 @@ returns-in_default-next_tried-clause-next g c = λ p r.
     let u : (c.args.answer.now ≡ None) ⊎ (c.args.answer.now ≡ Some (not (seeks c.args.aim.battle c.in-Some.top.left))) = rw (← seek) c.if-decided.ensures in
     test.close_turns g.R.Rules.rule c.args.aim _ _ _ _ c.in-Some.ensures.items c.requires.above _ _ _ _ _ _ _ c.len-depth.ensures.value c.close-in_default-next_tried.ensures.lowest c.close-in_default-next_tried.ensures.above c.close-in_default-next_tried.ensures.before _ p (test.testing_same _ _ _ _ _ r c.next_tried.ensures.unchanged)
     (rw seek (test.exhausted_value g.R.Rules.rule c.args.aim _ _ _ _ c.in-Some.ensures.items c.requires.above p _ _ r u (sym same ∙ (rw c.moves_at-moves.ensures.place at c.in_default-next_tried.ensures.next))))
+    (rw seek (test.exhausted_left g.R.Rules.rule c.args.aim _ _ _ _ c.in-Some.ensures.items c.requires.above p _ _ r u (sym same ∙ (rw c.moves_at-moves.ensures.place at c.in_default-next_tried.ensures.next))))
 
 pub overflow_sub-top-inside : goal.overflow_sub-top-inside
 overflow_sub-top-inside g c =
@@ -73,4 +75,4 @@ returns-clause-next g c = λ p r.
     let taken = rw (← c.top.view_is) at c.in-Some.ensures.items in
     let u : (c.args.answer.now ≡ None) ⊎ (c.args.answer.now ≡ Some (not (seeks c.args.aim.battle c.top.inside.left))) = rw (← c.seeking-seek.ensures) c.if-decided.ensures in
     let some = test.top_some g.R.Rules.rule c.args.aim _ _ _ _ taken c.requires.above _ _ r in
-    test.descend_turns g.R.Rules.rule c.args.aim _ _ _ _ taken c.requires.above _ _ _ _ _ _ _ 0 _ _ some u (rw (c.moves_at-moves.ensures.place, ← c.place.ensures) at c.in-Some-next_tried.ensures.next.0) c.in-Some-next_tried.ensures.next.1 c.next_tried.ensures.within c.descend.new.answer (rw c.next_tried.ensures.unchanged at c.descend.ensures.answer) _ _ (rw c.next_tried.ensures.unchanged at c.descend.ensures.opened) p r
+    test.descend_turns g.R.Rules.rule c.args.aim _ _ _ _ taken c.requires.above _ _ _ _ _ _ _ 0 _ _ some u (rw (c.moves_at-moves.ensures.place, ← c.place.ensures) at c.in-Some-next_tried.ensures.next.0) c.in-Some-next_tried.ensures.next.1 c.next_tried.ensures.within c.descend.new.answer (rw c.next_tried.ensures.unchanged at c.descend.ensures.answer) _ _ (rw c.next_tried.ensures.unchanged at c.descend.ensures.opened) (rw c.next_tried.ensures.unchanged at c.descend.ensures.tried) p r

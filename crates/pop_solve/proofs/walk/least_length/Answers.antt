@@ -12,6 +12,7 @@ loop-aim-preserved g c = (
   c.value_of.ensures.board ∙ c.loop-aim.invariant.1,
   c.value_of.ensures.frames ∙ c.loop-aim.invariant.2,
   omega arith,
+  omega (arith, c.loop-aim.invariant.4, c.value_of.ensures.tried),
 )
 
 pub returns-else-tried-left-clause-least : goal.returns-else-tried-left-clause-least

@@ -1,5 +1,6 @@
 use Rattle.std.proofs.Common.{◌≡◌, ◌+◌, ◌-◌, ◌/◌, ◌≤◌}
 use Rattle.pop_solve.specs.Chess.{chess}
+use Rattle.pop_solve.specs.ties.Counts.{HasCounted}
 use Rattle.pop_solve.specs.ties.Walk.{fewest, first_from}
 use Rattle.pop_solve.proofs.walk.least_length.Given as goal
 
@@ -10,6 +11,7 @@ invariant-loop-aim g l =
     × (l.board ≡ l.fn.board)
     × (l.frames.items ≡ l.fn.frames.items)
     × (l.tried ≤ l.left + 2)
+    × HasCounted l.fn.opened l.opened 0
 
 abbrev pub decreases-loop-aim : goal.decreases-loop-aim
 decreases-loop-aim g l = l.left + 2 - l.tried
