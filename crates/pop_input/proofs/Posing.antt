@@ -16,6 +16,8 @@ use Rattle.pop_input.specs.Ends.{position_fault, ArePut, counts, is_stated, is_t
 use Rattle.pop_input.specs.Values.{most_solutions}
 use Rattle.pop_input.specs.declared.stipulation.Form.{Form}
 use Rattle.pop_input.specs.declared.stipulation.Stipulation.{Stipulation}
+use Rattle.pop_input.specs.declared.fault_kind.FaultKind.{FaultKind}
+use Rattle.pop_input.specs.declared.fault_kind.FaultKind.TheVariants.{NoMen, EnPassantImpossible, KingMissing, WaitingSideInCheck}
 
 module _ (men : List (Option Man)) (barred : Unmoved) where
   home_or : (s n : ℕ) (rest : Bool) → (if s == n then counts men barred n else rest) ≡ true → (is_home (man_on men s) s ≡ true) ⊎ (rest ≡ true)
@@ -74,7 +76,7 @@ unfolding position_of
 shown_men setup = refl
 
 module _ (state : State) (stipulation : Stipulation) (setup : Setup) (is : setup ≡ setup_of state stipulation.form) (put : ArePut state.men) (some : some_square (is_taken setup.men) ≡ true) where
-  pub ill_fault : (IsWellFormed (position_of setup) → ⊥) → Some 15 ≡ setup_fault state stipulation setup
+  pub ill_fault : (IsWellFormed (position_of setup) → ⊥) → Some EnPassantImpossible ≡ setup_fault state stipulation setup
   ill_fault ill =
       let wrong : is_crossed_right setup.men setup.turn setup.crossed ≡ false = rw is (crossed_wrong state stipulation.form put (rw is at ill)) in
       rw (some, wrong) refl
@@ -89,8 +91,8 @@ module _ (state : State) (stipulation : Stipulation) (setup : Setup) (is : setup
         let turn : setup.turn ≡ starts stipulation.form = ap (λ s. s.turn) is in
         rw (some, right, ← k, turn, ← at) refl
 
-abbrev tests_by : Bool → Bool → Bool → Bool → Option ℕ
-tests_by some right king check = if not some then Some 11 else (if not right then Some 15 else (if not king then Some 17 else (if check then Some 18 else None)))
+abbrev tests_by : Bool → Bool → Bool → Bool → Option FaultKind
+tests_by some right king check = if not some then Some NoMen else (if not right then Some EnPassantImpossible else (if not king then Some KingMissing else (if check then Some WaitingSideInCheck else None)))
 
 passed : (some right king check : Bool) → tests_by some right king check ≡ None → (king ≡ true) × (check ≡ false)
 passed false right king check h = cc

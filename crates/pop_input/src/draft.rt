@@ -19,6 +19,7 @@ ghost use Rattle.pop_input.specs.declared.place.Role.TheVariants.{BarredSquares,
 ghost use Rattle.pop_input.specs.declared.names.Section.TheVariants.{Condition as Conditions, Options, Pieces, Stipulation as Stipulations};
 
 use crate::condition::Condition;
+use crate::fault_kind::FaultKind;
 use crate::item::{Fault, Item, Last};
 use crate::names::{
     Awaited, Command, OptionWord, Section, colour_of, condition_of, kind_of, option_of,
@@ -88,11 +89,11 @@ impl Draft {
         }
     }
 
-    /// Takes a word, which names this command or none, or answers the number of its fault.
-    pub(crate) fn take(&mut self, word: &[u8], command: Option<Command>) -> Option<u8>
+    /// Takes a word, which names this command or none, or answers its fault.
+    pub(crate) fn take(&mut self, word: &[u8], command: Option<Command>) -> Option<FaultKind>
         requires short { length word.now ≤ 160 }
         requires command { command ≡ command_of word.now }
-        ensures number { result ≡ fault_in self.old word.now }
+        ensures fault { result ≡ fault_in self.old word.now }
         ensures state { result ≡ None → self.new ≡ state_after self.old word.now }
     {
         match self.place.role_of(word, command) {
@@ -105,8 +106,8 @@ impl Draft {
     }
 
     // The number of MaxSolutions.
-    fn take_limit(&mut self, word: &[u8]) -> Option<u8>
-        ensures number { result ≡ role_fault self.old Limit word.now }
+    fn take_limit(&mut self, word: &[u8]) -> Option<FaultKind>
+        ensures fault { result ≡ role_fault self.old Limit word.now }
         ensures state { result ≡ None → self.new ≡ state_by Limit self.old word.now }
     {
         match limit_of(word) {
@@ -115,14 +116,14 @@ impl Draft {
                 self.place.awaited = None;
                 None
             }
-            None => Some(13),
+            None => Some(FaultKind::BadLimit),
         }
     }
 
     // The square of EnPassant.
-    fn take_crossed(&mut self, word: &[u8]) -> Option<u8>
+    fn take_crossed(&mut self, word: &[u8]) -> Option<FaultKind>
         requires { length word.now ≤ 160 }
-        ensures number { result ≡ role_fault self.old CrossedSquare word.now }
+        ensures fault { result ≡ role_fault self.old CrossedSquare word.now }
         ensures state { result ≡ None → self.new ≡ state_by CrossedSquare self.old word.now }
     {
         match square_of(word) {
@@ -131,14 +132,14 @@ impl Draft {
                 self.place.awaited = None;
                 None
             }
-            None => Some(14),
+            None => Some(FaultKind::SquareMissing),
         }
     }
 
     // Squares of NoCastling.
-    fn take_barred(&mut self, word: &[u8]) -> Option<u8>
+    fn take_barred(&mut self, word: &[u8]) -> Option<FaultKind>
         requires { length word.now ≤ 160 }
-        ensures number { result ≡ role_fault self.old BarredSquares word.now }
+        ensures fault { result ≡ role_fault self.old BarredSquares word.now }
         ensures state { result ≡ None → self.new ≡ state_by BarredSquares self.old word.now }
     {
         match squares_of(word) {
@@ -148,21 +149,21 @@ impl Draft {
                     self.place.awaited = Some(Awaited::MoreSquares);
                     None
                 }
-                None => Some(16),
+                None => Some(FaultKind::NoneCastlesThere),
             },
-            None => Some(14),
+            None => Some(FaultKind::SquareMissing),
         }
     }
 
     // A command.
-    fn take_command(&mut self, command: Command) -> Option<u8>
-        ensures number { result ≡ control_fault command }
+    fn take_command(&mut self, command: Command) -> Option<FaultKind>
+        ensures fault { result ≡ control_fault command }
         ensures state { result ≡ None → self.new ≡ state_by (Control command) self.old [] }
     {
         self.colour = None;
         self.place.awaited = None;
         match command {
-            Command::Begin => Some(2),
+            Command::Begin => Some(FaultKind::WordMisplaced),
             Command::Enter(section) => {
                 self.place.section = Some(section);
                 None
@@ -172,13 +173,13 @@ impl Draft {
     }
 
     // A word that is no command and no awaited value.
-    fn take_in(&mut self, section: Option<Section>, word: &[u8]) -> Option<u8>
+    fn take_in(&mut self, section: Option<Section>, word: &[u8]) -> Option<FaultKind>
         requires { length word.now ≤ 160 }
-        ensures number { result ≡ role_fault self.old (Within section) word.now }
+        ensures fault { result ≡ role_fault self.old (Within section) word.now }
         ensures state { result ≡ None → self.new ≡ state_by (Within section) self.old word.now }
     {
         match section {
-            None => Some(2),
+            None => Some(FaultKind::WordMisplaced),
             Some(Section::Pieces) => self.take_pieces(word),
             Some(Section::Stipulation) => self.take_stipulation(word),
             Some(Section::Condition) => self.take_condition(word),
@@ -186,16 +187,16 @@ impl Draft {
         }
     }
 
-    fn take_stipulation(&mut self, word: &[u8]) -> Option<u8>
+    fn take_stipulation(&mut self, word: &[u8]) -> Option<FaultKind>
         requires { length word.now ≤ 160 }
-        ensures number { result ≡ role_fault self.old (Within (Some Stipulations)) word.now }
+        ensures fault { result ≡ role_fault self.old (Within (Some Stipulations)) word.now }
         ensures state { result ≡ None → self.new ≡ state_by (Within (Some Stipulations)) self.old word.now }
     {
         if self.stipulation.is_some() {
             return if word.contains(&b'#') || word.contains(&b'=') {
-                Some(9)
+                Some(FaultKind::SecondStipulation)
             } else {
-                Some(2)
+                Some(FaultKind::WordMisplaced)
             };
         }
         match stipulation_of(word) {
@@ -204,31 +205,31 @@ impl Draft {
                 self.place.awaited = None;
                 None
             }
-            None => Some(8),
+            None => Some(FaultKind::BadStipulation),
         }
     }
 
-    fn take_condition(&mut self, word: &[u8]) -> Option<u8>
+    fn take_condition(&mut self, word: &[u8]) -> Option<FaultKind>
         requires { length word.now ≤ 160 }
-        ensures number { result ≡ role_fault self.old (Within (Some Conditions)) word.now }
+        ensures fault { result ≡ role_fault self.old (Within (Some Conditions)) word.now }
         ensures state { result ≡ None → self.new ≡ state_by (Within (Some Conditions)) self.old word.now }
     {
         match condition_of(word) {
             Some(condition) => {
                 if self.condition.is_some() {
-                    return Some(12);
+                    return Some(FaultKind::SecondCondition);
                 }
                 self.condition = Some(condition);
                 self.place.awaited = None;
                 None
             }
-            None => Some(2),
+            None => Some(FaultKind::WordMisplaced),
         }
     }
 
-    fn take_option(&mut self, word: &[u8]) -> Option<u8>
+    fn take_option(&mut self, word: &[u8]) -> Option<FaultKind>
         requires { length word.now ≤ 160 }
-        ensures number { result ≡ role_fault self.old (Within (Some Options)) word.now }
+        ensures fault { result ≡ role_fault self.old (Within (Some Options)) word.now }
         ensures state { result ≡ None → self.new ≡ state_by (Within (Some Options)) self.old word.now }
     {
         match option_of(word) {
@@ -236,7 +237,7 @@ impl Draft {
                 self.apply(option);
                 None
             }
-            None => Some(2),
+            None => Some(FaultKind::WordMisplaced),
         }
     }
 
@@ -254,9 +255,9 @@ impl Draft {
     }
 
     // A colour, or men on squares.
-    fn take_pieces(&mut self, word: &[u8]) -> Option<u8>
+    fn take_pieces(&mut self, word: &[u8]) -> Option<FaultKind>
         requires { length word.now ≤ 160 }
-        ensures number { result ≡ role_fault self.old (Within (Some Pieces)) word.now }
+        ensures fault { result ≡ role_fault self.old (Within (Some Pieces)) word.now }
         ensures state { result ≡ None → self.new ≡ state_by (Within (Some Pieces)) self.old word.now }
     {
         self.place.awaited = None;
@@ -271,76 +272,76 @@ impl Draft {
     }
 
     // A letter and squares.
-    fn take_men(&mut self, letter: u8, text: &[u8]) -> Option<u8>
+    fn take_men(&mut self, letter: u8, text: &[u8]) -> Option<FaultKind>
         requires { length text.now ≤ 160 }
-        ensures number { result ≡ letter_fault self.old (kind_of letter) text.now }
+        ensures fault { result ≡ letter_fault self.old (kind_of letter) text.now }
         ensures state { result ≡ None → self.new ≡ record self.old { men = put_kind self.old.colour (kind_of letter) (unwrap_or (squares_of text.now) []) self.old.men } }
     {
         match kind_of(letter) {
             Some(kind) => self.take_kind(kind, text),
-            None => Some(2),
+            None => Some(FaultKind::WordMisplaced),
         }
     }
 
     // Squares behind a letter.
-    fn take_kind(&mut self, kind: Kind, text: &[u8]) -> Option<u8>
+    fn take_kind(&mut self, kind: Kind, text: &[u8]) -> Option<FaultKind>
         requires { length text.now ≤ 160 }
-        ensures number { result ≡ letter_fault self.old (Some kind) text.now }
+        ensures fault { result ≡ letter_fault self.old (Some kind) text.now }
         ensures state { result ≡ None → self.new ≡ record self.old { men = put_kind self.old.colour (Some kind) (unwrap_or (squares_of text.now) []) self.old.men } }
     {
         match squares_of(text) {
             Some(squares) => match self.colour {
                 Some(colour) => self.put_men(Man { colour, kind }, squares.as_slice()),
-                None => Some(4),
+                None => Some(FaultKind::ColourMissing),
             },
             None => {
                 if is_foreign(text) {
-                    Some(2)
+                    Some(FaultKind::WordMisplaced)
                 } else if self.colour.is_none() {
-                    Some(4)
+                    Some(FaultKind::ColourMissing)
                 } else {
-                    Some(14)
+                    Some(FaultKind::SquareMissing)
                 }
             }
         }
     }
 
     // Puts the man on the squares in turn, up to a fault.
-    fn put_men(&mut self, man: Man, squares: &[Square]) -> Option<u8>
-        ensures number { result ≡ men_fault self.old.men man squares.now }
+    fn put_men(&mut self, man: Man, squares: &[Square]) -> Option<FaultKind>
+        ensures fault { result ≡ men_fault self.old.men man squares.now }
         ensures state { result ≡ None → self.new ≡ record self.old { men = put_men self.old.men man squares.now } }
     {
         'squares: for &square in squares {
-            if let Some(number) = self.put_man(man, square) {
-                return Some(number);
+            if let Some(fault) = self.put_man(man, square) {
+                return Some(fault);
             }
         }
         None
     }
 
-    fn put_man(&mut self, man: Man, square: Square) -> Option<u8>
-        ensures number { result ≡ man_fault self.old.men man square }
+    fn put_man(&mut self, man: Man, square: Square) -> Option<FaultKind>
+        ensures fault { result ≡ man_fault self.old.men man square }
         ensures state { result ≡ None → self.new ≡ record self.old { men = with_man self.old.men square man } }
     {
-        if let Some(number) = self.man_fault(man, square) {
-            return Some(number);
+        if let Some(fault) = self.man_fault(man, square) {
+            return Some(fault);
         }
         match self.diagram.put(square, man) {
             Ok(()) => None,
-            Err(_) => Some(5),
+            Err(_) => Some(FaultKind::SquareTaken),
         }
     }
 
     // Why the man may not be put there.
-    fn man_fault(&self, man: Man, square: Square) -> Option<u8>
+    fn man_fault(&self, man: Man, square: Square) -> Option<FaultKind>
         ensures { result ≡ man_fault self.now.men man square }
     {
         if self.diagram.man_at(square).is_some() {
-            Some(5)
+            Some(FaultKind::SquareTaken)
         } else if man.kind.is(Kind::Pawn) && !(square.rank() >= 2 && square.rank() <= 7) {
-            Some(6)
+            Some(FaultKind::PawnOnOuterRank)
         } else if man.kind.is(Kind::King) && stands(&self.diagram, man.colour, Kind::King) {
-            Some(7)
+            Some(FaultKind::SecondKing)
         } else {
             None
         }
@@ -356,11 +357,11 @@ impl Draft {
         ensures { Poses self.now title.now author.now line last result }
     {
         let Some(stipulation) = self.stipulation else {
-            return Item::Faulty(Fault { number: 10, line }, last);
+            return Item::Faulty(Fault::at(FaultKind::StipulationMissing, line), last);
         };
         let diagram = self.diagram_for(stipulation.form);
         match self.setup_fault(&diagram, stipulation) {
-            Some(number) => Item::Faulty(Fault { number, line }, last),
+            Some(fault) => Item::Faulty(Fault::at(fault, line), last),
             None => Item::Sound(
                 Problem::new(
                     &diagram,
@@ -388,17 +389,17 @@ impl Draft {
     }
 
     // The fault of that diagram.
-    fn setup_fault(&self, diagram: &Diagram, stipulation: Stipulation) -> Option<u8>
+    fn setup_fault(&self, diagram: &Diagram, stipulation: Stipulation) -> Option<FaultKind>
         requires { diagram.now ≡ setup_of self.now stipulation.form }
-        ensures number { result ≡ setup_fault self.now stipulation diagram.now }
+        ensures fault { result ≡ setup_fault self.now stipulation diagram.now }
         ensures well_formed { result ≡ None → IsWellFormed (position_of diagram.now) }
     {
         let condition = self.condition;
         if !has_men(diagram) {
-            return Some(11);
+            return Some(FaultKind::NoMen);
         }
         if !self.is_well_formed(diagram, stipulation.form) {
-            return Some(15);
+            return Some(FaultKind::EnPassantImpossible);
         }
         let board = Board::of(diagram);
         let has_king = has_king_to_mate(stipulation, &board);
@@ -483,13 +484,13 @@ fn is_taken(diagram: &Diagram, square: Square) -> bool
 
 // The fault of a position by whether the king that is to be mated stands in it, and whether the side that isn't to move
 // is in check.
-fn position_fault(has_king: bool, in_check: bool) -> Option<u8>
+fn position_fault(has_king: bool, in_check: bool) -> Option<FaultKind>
     ensures { result ≡ position_fault has_king in_check }
 {
     if !has_king {
-        Some(17)
+        Some(FaultKind::KingMissing)
     } else if in_check {
-        Some(18)
+        Some(FaultKind::WaitingSideInCheck)
     } else {
         None
     }
