@@ -1,7 +1,6 @@
 -- The numbers of faults.
 use Rattle.std.proofs.Common.{◌≡◌, ◌≤◌, ℕ, List, [], ◌∷◌, Option, None, Some, Bool, true, false, not, ◌&&◌, arith, if◌then◌else◌, subst, is_some}
 use Rattle.chess_core.specs.Position.{man_on, other, same_kind, with_man}
-use Rattle.chess_core.specs.Squares.{some_square}
 use Rattle.chess_core.specs.WellFormed.{is_crossed_right, is_pawn_inside}
 use Rattle.chess_core.specs.declared.man.Kind.TheVariants.{King}
 use Rattle.chess_rules.specs.Attacks.{in_check}
@@ -12,11 +11,12 @@ use Rattle.pop_text.specs.Words.{Token, Word, TextLine, End as AtEnd}
 use Rattle.pop_text.specs.ties.Reading.{Reading}
 use Rattle.pop_text.specs.declared.read_fault.ReadFault.{ReadFault}
 use Rattle.pop_text.specs.declared.read_fault.ReadFault.TheVariants.{TooLong, InputTooLong as PastLimit, Device}
+use Rattle.chess_core.specs.Diagrams.{has_men, stands}
 use Rattle.pop_input.specs.Names.{command_of, colour_of, kind_of, or_else}
 use Rattle.pop_input.specs.Values.{squares_of}
 use Rattle.pop_input.specs.State.{State, state_of, role_of}
-use Rattle.pop_input.specs.WordFaults.{fault_if, barred_fault, control_fault, man_fault, men_fault, put_fault, letter_fault, pieces_fault, stipulation_fault, condition_fault, role_fault, begin_fault, fault_of, stands}
-use Rattle.pop_input.specs.Ends.{end_fault_in, is_taken, setup_of, stated_fault}
+use Rattle.pop_input.specs.WordFaults.{fault_if, barred_fault, control_fault, man_fault, men_fault, put_fault, letter_fault, pieces_fault, stipulation_fault, condition_fault, role_fault, begin_fault, fault_of}
+use Rattle.pop_input.specs.Ends.{end_fault_in, setup_of, stated_fault}
 use Rattle.pop_input.specs.Posed.{rule_of}
 use Rattle.pop_input.specs.Stipulations.{has_king_to_mate}
 use Rattle.pop_input.specs.Blocks.{first_fault, block_fault, tail_fault}
@@ -126,7 +126,7 @@ setup_small : (state : State) (of : Option Stipulation) → IsSmall (stated_faul
 setup_small state None = (omega arith, omega arith)
 setup_small state (Some stipulation) =
     let setup = setup_of state stipulation.form in
-    four_small (some_square (is_taken setup.men)) (is_crossed_right setup.men setup.turn setup.crossed) (has_king_to_mate stipulation setup.men) (in_check (rule_of state.condition) setup.men (other setup.turn))
+    four_small (has_men setup.men) (is_crossed_right setup.men setup.turn setup.crossed) (has_king_to_mate stipulation setup.men) (in_check (rule_of state.condition) setup.men (other setup.turn))
 
 end_small : (state : State) → IsSmall (end_fault_in state)
 unfolding end_fault_in

@@ -14,12 +14,12 @@ use Rattle.chess_core.specs.declared.man.Man.{Man}
 use Rattle.chess_rules.specs.Attacks.{attacked, faces, faces_its_like, in_check, paralysed, strikes}
 use Rattle.chess_rules.specs.Reaches.{hops, is_clear, leaps, reaches, reaches_as, rides}
 use Rattle.pop_text.specs.Words.{Clean, Failed, Ending, words_of, limit}
+use Rattle.chess_core.specs.Diagrams.{is_taken, is_there, stands}
 use Rattle.pop_input.specs.Blocks.{Entry, Sound, Faulty, entries_of}
-use Rattle.pop_input.specs.Ends.{end_fault_in, is_taken, unmoved_of}
+use Rattle.pop_input.specs.Ends.{end_fault_in, unmoved_of}
 use Rattle.pop_input.specs.Names.{awaited_of, colour_of, command_of, condition_of, kind_of, option_of, section_of, text_word_of}
 use Rattle.pop_input.specs.State.{no_men}
 use Rattle.pop_input.specs.Values.{limit_of, squares_of, stipulation_of}
-use Rattle.pop_input.specs.WordFaults.{is_there, stands}
 use Rattle.pop_input.specs.declared.condition.Condition.TheVariants.{Madrasi}
 use Rattle.pop_input.specs.declared.stipulation.Goal.TheVariants.{Mate, Stalemate}
 use Rattle.pop_input.specs.declared.stipulation.Form.TheVariants.{Direct, Help}

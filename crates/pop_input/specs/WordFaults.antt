@@ -4,9 +4,9 @@ use Rattle.pop_input.specs.declared.fault_kind.FaultKind.TheVariants.{BeginProbl
 use Rattle.std.specs.Prelude.{ℕ, List, [], ◌∷◌, length, nat_le, nat_lt, not, ◌&&◌, ◌||◌, Bool, if◌then◌else◌, Option, Some, None, is_some}
 use Rattle.std.specs.Prelude.{◌==◌}
 use Rattle.std.specs.List.{list_any, list_all}
-use Rattle.chess_core.specs.Castling.{castling_squares}
-use Rattle.chess_core.specs.Position.{is_man, man_on, same_kind, with_man}
-use Rattle.chess_core.specs.Squares.{some_square}
+use Rattle.chess_core.specs.Castling.{is_castling}
+use Rattle.chess_core.specs.Diagrams.{stands}
+use Rattle.chess_core.specs.Position.{man_on, same_kind, with_man}
 use Rattle.chess_core.specs.WellFormed.{is_pawn_inside}
 use Rattle.chess_core.specs.declared.man.Colour.{Colour}
 use Rattle.chess_core.specs.declared.man.Kind.{Kind}
@@ -28,10 +28,6 @@ use Rattle.pop_input.specs.declared.stipulation.Stipulation.{Stipulation}
 abbrev pub fault_if : Bool → FaultKind → Option FaultKind
 fault_if holds kind = if holds then Some kind else None
 
--- a castling square
-abbrev pub is_castling : ℕ → Bool
-is_castling square = list_any (λ s. s == square) castling_squares
-
 -- of a word of NoCastling: no squares, or one from which none castles
 abbrev pub barred_fault : Option (List ℕ) → Option FaultKind
 barred_fault None = Some SquareMissing
@@ -43,14 +39,6 @@ control_fault Begin = Some WordMisplaced
 control_fault (Enter section) = None
 control_fault Next = None
 control_fault Last = None
-
--- the man on this square is of this colour and kind
-unfoldable pub is_there : List (Option Man) → Colour → Kind → ℕ → Bool
-is_there men colour man_kind square = is_man (man_on men square) colour man_kind
-
--- a man of this colour and kind stands somewhere
-unfoldable pub stands : List (Option Man) → Colour → Kind → Bool
-stands men colour man_kind = some_square (is_there men colour man_kind)
 
 -- a man stands there already, a pawn on rank 1 or 8, a second king
 abbrev pub man_fault : List (Option Man) → Man → ℕ → Option FaultKind
