@@ -7,11 +7,12 @@ use Rattle.pop_text.specs.ties.Left.{put_before, no_words}
 use Rattle.pop_input.specs.Names.{command_of, text_word_of, closes, or_else}
 use Rattle.pop_input.specs.State.{State, state_of}
 use Rattle.pop_input.specs.WordFaults.{fault_of}
-use Rattle.pop_input.specs.Blocks.{at_line, words_before, has_begun, inside, first_fault, block_fault, closing_of, cut_by, blocks_of, line_of, closing_line, closed_entry, entries_by, block_entries, entries_of, text_after, last_text}
+use Rattle.pop_input.specs.Blocks.{words_before, has_begun, inside, first_fault, block_fault, closing_of, cut_by, blocks_of, line_of, closing_line, closed_entry, entries_by, block_entries, entries_of, text_after, last_text}
 use Rattle.pop_input.specs.declared.item.Fault.{Fault}
 use Rattle.pop_input.specs.declared.names.Command.{Command}
 use Rattle.pop_input.specs.declared.names.Command.TheVariants.{Begin, Enter, Next, Last}
 use Rattle.pop_input.specs.declared.names.TextWord.{TextWord}
+use Rattle.pop_input.specs.FaultKinds.{at_line}
 
 -- One more token.
 

@@ -5,10 +5,10 @@ use Rattle.pop_text.specs.Words.{Input, Token as Part, Word, Tail, End as AtEnd,
 use Rattle.pop_text.specs.ties.Reading.{Reading}
 use Rattle.pop_text.specs.ties.Left.{after, MayFollow, words_left, put_before, no_words, Takes, among, IsOver}
 use Rattle.pop_text.specs.declared.read_fault.ReadFault.{ReadFault}
-use Rattle.pop_text.specs.declared.read_fault.ReadFault.TheVariants.{TooLong, InputTooLong, Device}
+use Rattle.pop_text.specs.declared.read_fault.ReadFault.TheVariants.{TooLong, InputTooLong as PastLimit, Device}
 use Rattle.pop_input.specs.Names.{command_of}
 use Rattle.pop_input.specs.Names.{or_else}
-use Rattle.pop_input.specs.Blocks.{at_line, fault_at, has_begun, inside, block_fault, Entry, Faulty as FaultyEntry, Sound as SoundEntry, entry_of, problem_of, closed_entry, entries_by, entries_of, tail_fault, more_entries}
+use Rattle.pop_input.specs.Blocks.{has_begun, inside, block_fault, Entry, Faulty as FaultyEntry, Sound as SoundEntry, entry_of, problem_of, closed_entry, entries_by, entries_of, tail_fault, more_entries}
 use Rattle.pop_input.specs.ties.Tokens.{CutsOff, TakesPart, TakesNothing}
 use Rattle.pop_input.specs.ties.Closings.{Closes, closing_fault, ended_by, ended_item, cut_fault, last_of}
 use Rattle.pop_input.specs.Ends.{end_fault_in, posed_of}
@@ -26,12 +26,15 @@ use Rattle.pop_input.specs.declared.reader.Next.TheVariants.{First, Later, Nothi
 use Rattle.pop_input.proofs.Taking.{takes_then}
 use Rattle.pop_input.proofs.Blocks.{said, next_entries, last_entries, ended_entries}
 use Rattle.pop_input.proofs.Items.{BlockSoFar, Tells, or_first, ReadsWord, word_read, takes_more}
+use Rattle.pop_input.specs.declared.fault_kind.FaultKind.{FaultKind}
+use Rattle.pop_input.specs.declared.fault_kind.FaultKind.TheVariants.{InputTooLong, DeviceFailed}
+use Rattle.pop_input.specs.FaultKinds.{at_line, fault_at}
 
-long_tail : (begun : Bool) → tail_fault begun Long ≡ 20
+long_tail : (begun : Bool) → tail_fault begun Long ≡ InputTooLong
 long_tail true = refl
 long_tail false = refl
 
-failing_tail : (begun : Bool) → tail_fault begun Failing ≡ 21
+failing_tail : (begun : Bool) → tail_fault begun Failing ≡ DeviceFailed
 failing_tail true = refl
 failing_tail false = refl
 
@@ -148,20 +151,20 @@ module _ (first : Bool) (old new : Standing) (had left : Option (List ℕ)) (sta
 
     pub cut_with_fault : (fault : Fault) (cut : ReadFault) → block.fault ≡ Some fault → CutsOff mid new.at met left cut → new.next ≡ Later → NextItem old new had left (FaultyItem fault No)
     cut_with_fault fault (TooLong line) is t later = absurd t
-    cut_with_fault fault (InputTooLong line) is t later = fault_then_cut fault Long is t.0 t.1 refl later
+    cut_with_fault fault (PastLimit line) is t later = fault_then_cut fault Long is t.0 t.1 refl later
     cut_with_fault fault (Device line) is t later = fault_then_cut fault Failing is t.0.0 t.0.1 refl later
 
     -- and in one without
-    cut_alone : (number line : ℕ) (tail : Tail) → block.fault ≡ None → Takes (among mid) (among new.at) met left [] → IsOver new.at tail → line ≡ new.at.line → ((begun : Bool) → tail_fault begun tail ≡ number) → new.next ≡ Nothing → NextItem old new had left (FaultyItem (fault_at number line) Yes)
-    cut_alone number line tail is t over here tails nothing = (
+    cut_alone : (kind : FaultKind) (line : ℕ) (tail : Tail) → block.fault ≡ None → Takes (among mid) (among new.at) met left [] → IsOver new.at tail → line ≡ new.at.line → ((begun : Bool) → tail_fault begun tail ≡ kind) → new.next ≡ Nothing → NextItem old new had left (FaultyItem (fault_at kind line) Yes)
+    cut_alone kind line tail is t over here tails nothing = (
       reads_by b.done (all_taken t) _ (λ rest may.
           left_over tail over rest may
           ∙ ap (λ f. entries_by f None first tail new.at.line b.done) (sym b.fault ∙ is)
-          ∙ rw (tails (has_begun first b.done), here) (ap (λ n. FaultyEntry (fault_at number new.at.line) ∷ entries_at n new.at rest) (sym nothing))),
+          ∙ rw (tails (has_begun first b.done), here) (ap (λ n. FaultyEntry (fault_at kind new.at.line) ∷ entries_at n new.at rest) (sym nothing))),
       nothing,
     )
 
     pub cut_without_fault : (cut : ReadFault) → block.fault ≡ None → CutsOff mid new.at met left cut → new.next ≡ Nothing → NextItem old new had left (FaultyItem (cut_fault cut) Yes)
     cut_without_fault (TooLong line) is t nothing = absurd t
-    cut_without_fault (InputTooLong line) is t nothing = cut_alone 20 line Long is t.0 t.1 t.2 long_tail nothing
-    cut_without_fault (Device line) is t nothing = cut_alone 21 line Failing is t.0.0 t.0.1 t.0.2 failing_tail nothing
+    cut_without_fault (PastLimit line) is t nothing = cut_alone InputTooLong line Long is t.0 t.1 t.2 long_tail nothing
+    cut_without_fault (Device line) is t nothing = cut_alone DeviceFailed line Failing is t.0.0 t.0.1 t.0.2 failing_tail nothing

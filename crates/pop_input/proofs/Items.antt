@@ -12,7 +12,7 @@ use Rattle.pop_text.specs.ties.Left.{Takes, among}
 use Rattle.pop_input.specs.Names.{command_of, section_of, text_word_of, closes, or_else}
 use Rattle.pop_input.specs.State.{State, state_of}
 use Rattle.pop_input.specs.WordFaults.{fault_of}
-use Rattle.pop_input.specs.Blocks.{at_line, fault_at, has_begun, inside, words_before, block_fault, text_after, last_text}
+use Rattle.pop_input.specs.Blocks.{has_begun, inside, words_before, block_fault, text_after, last_text}
 use Rattle.pop_input.specs.ties.Tokens.{TakesPart}
 use Rattle.pop_input.specs.ties.Closings.{last_of, noted, said_after, text_with}
 use Rattle.pop_input.specs.declared.block.Block.{Block}
@@ -23,6 +23,8 @@ use Rattle.pop_input.specs.declared.names.TextWord.{TextWord}
 use Rattle.pop_input.specs.declared.names.TextWord.TheVariants.{Title, Author, Origin, Remark}
 use Rattle.pop_input.proofs.Taking.{takes_then}
 use Rattle.pop_input.proofs.Blocks.{is_open, said, block_more, block_line, begun_word, begun_line, inside_more, inside_none, inside_first, words_more, words_line, text_more, text_line}
+use Rattle.pop_input.specs.declared.fault_kind.FaultKind.TheVariants.{WordTooLong}
+use Rattle.pop_input.specs.FaultKinds.{at_line, fault_at}
 
 -- what a block says of its tokens
 pub record Tells (first : Bool) (block : Block) (done : List Part) : Type 0 where
@@ -76,7 +78,7 @@ long_no_command text long =
       no_short_form (codes "option") text (omega arith),
     ) refl
 
-long_fault : (begun : Bool) (state : State) (text : List ℕ) → 160 < length text → fault_of begun state text ≡ Some 3
+long_fault : (begun : Bool) (state : State) (text : List ℕ) → 160 < length text → fault_of begun state text ≡ Some WordTooLong
 long_fault begun state text long = rw (lt-ltb 160 (length text) long) refl
 
 title_with : (k : TextWord) (text : List ℕ) (rest : List ℕ) (had : List ℕ) (before : List ℕ) → text ≡ text_of_line rest → had ≡ before → text_with Title had k text ≡ text_after Title before (Some k) rest
@@ -197,10 +199,10 @@ module _ (first : Bool) (old mid new : Reading) (had met left : Option (List ℕ
       }
 
   -- a word that was too long
-  pub long_read : (line : ℕ) (text : List ℕ) → TakesPart mid new met left (Word line text) → 160 < length text → next.fault ≡ or_else block.fault (Some (fault_at 3 line)) → BlockSoFar first old new had left next
+  pub long_read : (line : ℕ) (text : List ℕ) → TakesPart mid new met left (Word line text) → 160 < length text → next.fault ≡ or_else block.fault (Some (fault_at WordTooLong line)) → BlockSoFar first old new had left next
   long_read line text t long fault =
       open_read line text t (ap closes (long_no_command text long))
-      (fault ∙ ap (λ n. or_else block.fault (at_line line n)) (sym (long_fault block.begun block.draft text long)), λ none. absurd (never block.fault (fault_at 3 line) (sym fault ∙ none)))
+      (fault ∙ ap (λ n. or_else block.fault (at_line line n)) (sym (long_fault block.begun block.draft text long)), λ none. absurd (never block.fault (fault_at WordTooLong line) (sym fault ∙ none)))
 
 pub not_closing : (c : Option Command) → last_of c ≡ None → closes c ≡ false
 not_closing None h = refl

@@ -10,7 +10,6 @@ pub mod Numbered
 mod Rows
 pub mod Naming
 pub mod Skipping
-pub mod Among
 pub mod Pieces
 pub mod theorems
 mod ExampleOfBlocks

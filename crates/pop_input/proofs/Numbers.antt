@@ -1,7 +1,6 @@
 -- The numbers of faults.
 use Rattle.std.proofs.Common.{◌≡◌, ◌≤◌, ℕ, List, [], ◌∷◌, Option, None, Some, Bool, true, false, not, ◌&&◌, arith, if◌then◌else◌, subst, is_some}
 use Rattle.chess_core.specs.Position.{man_on, other, same_kind, with_man}
-use Rattle.chess_core.specs.Squares.{some_square}
 use Rattle.chess_core.specs.WellFormed.{is_crossed_right, is_pawn_inside}
 use Rattle.chess_core.specs.declared.man.Kind.TheVariants.{King}
 use Rattle.chess_rules.specs.Attacks.{in_check}
@@ -11,15 +10,16 @@ use Rattle.chess_core.specs.declared.man.Kind.{Kind}
 use Rattle.pop_text.specs.Words.{Token, Word, TextLine, End as AtEnd}
 use Rattle.pop_text.specs.ties.Reading.{Reading}
 use Rattle.pop_text.specs.declared.read_fault.ReadFault.{ReadFault}
-use Rattle.pop_text.specs.declared.read_fault.ReadFault.TheVariants.{TooLong, InputTooLong, Device}
+use Rattle.pop_text.specs.declared.read_fault.ReadFault.TheVariants.{TooLong, InputTooLong as PastLimit, Device}
+use Rattle.chess_core.specs.Diagrams.{has_men, stands}
 use Rattle.pop_input.specs.Names.{command_of, colour_of, kind_of, or_else}
 use Rattle.pop_input.specs.Values.{squares_of}
 use Rattle.pop_input.specs.State.{State, state_of, role_of}
-use Rattle.pop_input.specs.WordFaults.{fault_if, barred_fault, control_fault, man_fault, men_fault, put_fault, letter_fault, pieces_fault, stipulation_fault, condition_fault, role_fault, begin_fault, fault_of, stands}
-use Rattle.pop_input.specs.Ends.{end_fault_in, is_taken, setup_of, stated_fault}
+use Rattle.pop_input.specs.WordFaults.{fault_if, barred_fault, control_fault, man_fault, men_fault, put_fault, letter_fault, pieces_fault, stipulation_fault, condition_fault, role_fault, begin_fault, fault_of}
+use Rattle.pop_input.specs.Ends.{end_fault_in, setup_of, stated_fault}
 use Rattle.pop_input.specs.Posed.{rule_of}
 use Rattle.pop_input.specs.Stipulations.{has_king_to_mate}
-use Rattle.pop_input.specs.Blocks.{at_line, fault_at, first_fault, block_fault, tail_fault}
+use Rattle.pop_input.specs.Blocks.{first_fault, block_fault, tail_fault}
 use Rattle.pop_input.specs.ties.Closings.{Closes, closing_fault, cut_fault, ended_by, ended_item}
 use Rattle.pop_input.specs.ties.Standing.{IsNumbered}
 use Rattle.pop_input.specs.ties.Tokens.{CutsOff}
@@ -36,23 +36,26 @@ use Rattle.pop_input.specs.declared.names.Section.TheVariants.{Pieces, Stipulati
 use Rattle.pop_input.specs.declared.place.Role.{Role}
 use Rattle.pop_input.specs.declared.place.Role.TheVariants.{Limit, CrossedSquare, BarredSquares, Control, Within}
 use Rattle.pop_input.specs.declared.stipulation.Stipulation.{Stipulation}
+use Rattle.pop_input.specs.declared.fault_kind.FaultKind.{FaultKind}
+use Rattle.pop_input.specs.declared.fault_kind.FaultKind.TheVariants.{WordMisplaced, WordTooLong, SquareTaken, PawnOnOuterRank, SecondKing, BadStipulation, SecondStipulation, NoMen, SecondCondition, BadLimit, SquareMissing, EnPassantImpossible, NoneCastlesThere, KingMissing, WaitingSideInCheck}
+use Rattle.pop_input.specs.FaultKinds.{at_line, fault_at, number_of}
 
--- no number, or one that a word or the end of its block gives
-abbrev pub IsSmall : Option ℕ → Type 0
+-- no fault, or one of a word or of the end of its block
+abbrev pub IsSmall : Option FaultKind → Type 0
 IsSmall None = Unit {0}
-IsSmall (Some n) = (1 ≤ n) × (n ≤ 19)
+IsSmall (Some kind) = (1 ≤ number_of kind) × (number_of kind ≤ 19)
 
-small_if : (b : Bool) (x y : Option ℕ) → IsSmall x → IsSmall y → IsSmall (if b then x else y)
+small_if : (b : Bool) (x y : Option FaultKind) → IsSmall x → IsSmall y → IsSmall (if b then x else y)
 small_if true x y p q = p
 small_if false x y p q = q
 
-small_else : (a b : Option ℕ) → IsSmall a → IsSmall b → IsSmall (or_else a b)
+small_else : (a b : Option FaultKind) → IsSmall a → IsSmall b → IsSmall (or_else a b)
 small_else None b p q = q
-small_else (Some n) b p q = p
+small_else (Some kind) b p q = p
 
 barred_small : (squares : Option (List ℕ)) → IsSmall (barred_fault squares)
 barred_small None = (omega arith, omega arith)
-barred_small (Some squares) = small_if _ (Some 16) None (omega arith, omega arith) tt
+barred_small (Some squares) = small_if _ (Some NoneCastlesThere) None (omega arith, omega arith) tt
 
 control_small : (command : Command) → IsSmall (control_fault command)
 control_small Begin = (omega arith, omega arith)
@@ -60,10 +63,10 @@ control_small (Enter section) = tt
 control_small Next = tt
 control_small EndProblem = tt
 
-three_small : (a b c : Bool) → IsSmall (if a then Some 5 else (if not b then Some 6 else fault_if c 7))
+three_small : (a b c : Bool) → IsSmall (if a then Some SquareTaken else (if not b then Some PawnOnOuterRank else fault_if c SecondKing))
 three_small true b c = (omega arith, omega arith)
 three_small false false c = (omega arith, omega arith)
-three_small false true c = small_if c (Some 7) None (omega arith, omega arith) tt
+three_small false true c = small_if c (Some SecondKing) None (omega arith, omega arith) tt
 
 man_small : (men : List (Option Man)) (man : Man) (square : ℕ) → IsSmall (man_fault men man square)
 man_small men man square = three_small (is_some (man_on men square)) (is_pawn_inside (Some man) square) (same_kind man.kind King && stands men man.colour King)
@@ -79,29 +82,29 @@ put_small men (Some colour) of (Some squares) = men_small men (record { colour =
 
 letter_small : (state : State) (of : Option Kind) (text : List ℕ) → IsSmall (letter_fault state of text)
 letter_small state None text = (omega arith, omega arith)
-letter_small state (Some of) text = small_if _ (Some 2) _ (omega arith, omega arith) (put_small state.men state.colour of (squares_of text))
+letter_small state (Some of) text = small_if _ (Some WordMisplaced) _ (omega arith, omega arith) (put_small state.men state.colour of (squares_of text))
 
 pieces_small : (state : State) (text : List ℕ) → IsSmall (pieces_fault state text)
 pieces_small state [] = tt
 pieces_small state (letter ∷ text) = small_if (is_some (colour_of (letter ∷ text))) None (letter_fault state (kind_of letter) text) tt (letter_small state (kind_of letter) text)
 
 stipulation_small : (given : Option Stipulation) (text : List ℕ) → IsSmall (stipulation_fault given text)
-stipulation_small None text = small_if _ (Some 8) None (omega arith, omega arith) tt
-stipulation_small (Some given) text = small_if _ (Some 9) (Some 2) (omega arith, omega arith) (omega arith, omega arith)
+stipulation_small None text = small_if _ (Some BadStipulation) None (omega arith, omega arith) tt
+stipulation_small (Some given) text = small_if _ (Some SecondStipulation) (Some WordMisplaced) (omega arith, omega arith) (omega arith, omega arith)
 
 condition_small : (given : Option Condition) (text : List ℕ) → IsSmall (condition_fault given text)
-condition_small given text = small_if _ (Some 2) _ (omega arith, omega arith) (small_if (is_some given) (Some 12) None (omega arith, omega arith) tt)
+condition_small given text = small_if _ (Some WordMisplaced) _ (omega arith, omega arith) (small_if (is_some given) (Some SecondCondition) None (omega arith, omega arith) tt)
 
 role_small : (state : State) (role : Role) (text : List ℕ) → IsSmall (role_fault state role text)
-role_small state Limit text = small_if _ (Some 13) None (omega arith, omega arith) tt
-role_small state CrossedSquare text = small_if _ (Some 14) None (omega arith, omega arith) tt
+role_small state Limit text = small_if _ (Some BadLimit) None (omega arith, omega arith) tt
+role_small state CrossedSquare text = small_if _ (Some SquareMissing) None (omega arith, omega arith) tt
 role_small state BarredSquares text = barred_small (squares_of text)
 role_small state (Control command) text = control_small command
 role_small state (Within None) text = (omega arith, omega arith)
 role_small state (Within (Some Pieces)) text = pieces_small state text
 role_small state (Within (Some Stipulations)) text = stipulation_small state.stipulation text
 role_small state (Within (Some Conditions)) text = condition_small state.condition text
-role_small state (Within (Some Options)) text = small_if _ (Some 2) None (omega arith, omega arith) tt
+role_small state (Within (Some Options)) text = small_if _ (Some WordMisplaced) None (omega arith, omega arith) tt
 
 begin_small : (command : Option Command) → IsSmall (begin_fault command)
 begin_small (Some Begin) = tt
@@ -111,19 +114,19 @@ begin_small (Some EndProblem) = (omega arith, omega arith)
 begin_small None = (omega arith, omega arith)
 
 word_small : (begun : Bool) (state : State) (text : List ℕ) → IsSmall (fault_of begun state text)
-word_small begun state text = small_if _ (Some 3) _ (omega arith, omega arith) (small_if begun (role_fault state (role_of state.place text) text) (begin_fault (command_of text)) (role_small state (role_of state.place text) text) (begin_small (command_of text)))
+word_small begun state text = small_if _ (Some WordTooLong) _ (omega arith, omega arith) (small_if begun (role_fault state (role_of state.place text) text) (begin_fault (command_of text)) (role_small state (role_of state.place text) text) (begin_small (command_of text)))
 
-four_small : (a b c d : Bool) → IsSmall (if not a then Some 11 else (if not b then Some 15 else (if not c then Some 17 else (if d then Some 18 else None))))
+four_small : (a b c d : Bool) → IsSmall (if not a then Some NoMen else (if not b then Some EnPassantImpossible else (if not c then Some KingMissing else (if d then Some WaitingSideInCheck else None))))
 four_small false b c d = (omega arith, omega arith)
 four_small true false c d = (omega arith, omega arith)
 four_small true true false d = (omega arith, omega arith)
-four_small true true true d = small_if d (Some 18) None (omega arith, omega arith) tt
+four_small true true true d = small_if d (Some WaitingSideInCheck) None (omega arith, omega arith) tt
 
 setup_small : (state : State) (of : Option Stipulation) → IsSmall (stated_fault state of)
 setup_small state None = (omega arith, omega arith)
 setup_small state (Some stipulation) =
     let setup = setup_of state stipulation.form in
-    four_small (some_square (is_taken setup.men)) (is_crossed_right setup.men setup.turn setup.crossed) (has_king_to_mate stipulation setup.men) (in_check (rule_of state.condition) setup.men (other setup.turn))
+    four_small (has_men setup.men) (is_crossed_right setup.men setup.turn setup.crossed) (has_king_to_mate stipulation setup.men) (in_check (rule_of state.condition) setup.men (other setup.turn))
 
 end_small : (state : State) → IsSmall (end_fault_in state)
 unfolding end_fault_in
@@ -135,9 +138,9 @@ abbrev pub SmallFault : Option Fault → Type 0
 SmallFault None = Unit {0}
 SmallFault (Some fault) = (1 ≤ fault.number) × (fault.number ≤ 19)
 
-small_at : (line : ℕ) (number : Option ℕ) → IsSmall number → SmallFault (at_line line number)
+small_at : (line : ℕ) (fault : Option FaultKind) → IsSmall fault → SmallFault (at_line line fault)
 small_at line None p = tt
-small_at line (Some number) p = p
+small_at line (Some kind) p = p
 
 fault_else : (a b : Option Fault) → SmallFault a → SmallFault b → SmallFault (or_else a b)
 fault_else None b p q = q
@@ -146,16 +149,16 @@ fault_else (Some fault) b p q = p
 first_small : (before : List (List ℕ)) (tokens : List Token) → SmallFault (first_fault before tokens)
 first_small before [] = tt
 first_small before (Word line text ∷ tokens) =
-    let number = fault_of true (state_of before) text in
-    fault_else (at_line line number) (first_fault (text ∷ before) tokens) (small_at line number (word_small true (state_of before) text)) (first_small (text ∷ before) tokens)
+    let fault = fault_of true (state_of before) text in
+    fault_else (at_line line fault) (first_fault (text ∷ before) tokens) (small_at line fault (word_small true (state_of before) text)) (first_small (text ∷ before) tokens)
 first_small before (TextLine line keyword text ∷ tokens) = first_small before tokens
 
 pub block_small : (first : Bool) (tokens : List Token) → SmallFault (block_fault first tokens)
 block_small false tokens = first_small [] tokens
 block_small true [] = tt
 block_small true (Word line text ∷ tokens) =
-    let number = fault_of false (state_of []) text in
-    fault_else (at_line line number) (first_fault [] tokens) (small_at line number (word_small false (state_of []) text)) (first_small [] tokens)
+    let fault = fault_of false (state_of []) text in
+    fault_else (at_line line fault) (first_fault [] tokens) (small_at line fault (word_small false (state_of []) text)) (first_small [] tokens)
 block_small true (TextLine line keyword text ∷ tokens) = block_small true tokens
 
 -- Items.
@@ -185,5 +188,5 @@ ended_numbered place block line p = small_item place (ended_by block.fault (faul
 
 pub cut_numbered : (old new : Reading) (had left : Option (List ℕ)) (cut : ReadFault) → CutsOff old new had left cut → IsNumbered new (Faulty (cut_fault cut) Yes)
 cut_numbered old new had left (TooLong line) t = absurd t
-cut_numbered old new had left (InputTooLong line) t = (omega arith, omega arith, λ is. absurd (omega (arith, is)))
+cut_numbered old new had left (PastLimit line) t = (omega arith, omega arith, λ is. absurd (omega (arith, is)))
 cut_numbered old new had left (Device line) t = (omega arith, omega arith, λ is. t.1)

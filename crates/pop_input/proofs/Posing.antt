@@ -2,9 +2,8 @@
 use Rattle.std.proofs.Common.{◌≡◌, ◌≤◌, ℕ, List, Option, Some, None, Bool, true, false, refl, sym, ◌∙◌, ap, arith, ◌⊎◌, inl, inr, not, ◌==◌, if◌then◌else◌}
 use Rattle.std.proofs.lemmas.Bool.{cases_Bool, cases_eq, and_parts, cond-true, cond-false}
 use Rattle.chess_core.specs.Castling.{has_unmoved, mark_unmoved, none_unmoved}
-use Rattle.chess_core.specs.Diagrams.{Setup, position_of}
+use Rattle.chess_core.specs.Diagrams.{Setup, has_men, position_of}
 use Rattle.chess_core.specs.Position.{man_on, other}
-use Rattle.chess_core.specs.Squares.{some_square}
 use Rattle.chess_core.specs.WellFormed.{IsWellFormed, is_crossed_right, is_home}
 use Rattle.chess_core.specs.declared.man.Man.{Man}
 use Rattle.chess_core.specs.declared.man.Unmoved.{Unmoved}
@@ -12,10 +11,12 @@ use Rattle.chess_rules.specs.Attacks.{in_check}
 use Rattle.pop_input.specs.Posed.{IsSound, rule_of}
 use Rattle.pop_input.specs.State.{State}
 use Rattle.pop_input.specs.Stipulations.{has_king_to_mate, starts}
-use Rattle.pop_input.specs.Ends.{position_fault, ArePut, counts, is_stated, is_taken, posed_by, setup_fault, setup_of, unmoved_of}
+use Rattle.pop_input.specs.Ends.{position_fault, ArePut, counts, is_stated, posed_by, setup_fault, setup_of, unmoved_of}
 use Rattle.pop_input.specs.Values.{most_solutions}
 use Rattle.pop_input.specs.declared.stipulation.Form.{Form}
 use Rattle.pop_input.specs.declared.stipulation.Stipulation.{Stipulation}
+use Rattle.pop_input.specs.declared.fault_kind.FaultKind.{FaultKind}
+use Rattle.pop_input.specs.declared.fault_kind.FaultKind.TheVariants.{NoMen, EnPassantImpossible, KingMissing, WaitingSideInCheck}
 
 module _ (men : List (Option Man)) (barred : Unmoved) where
   home_or : (s n : ℕ) (rest : Bool) → (if s == n then counts men barred n else rest) ≡ true → (is_home (man_on men s) s ≡ true) ⊎ (rest ≡ true)
@@ -73,8 +74,8 @@ pub shown_men : (setup : Setup) → (position_of setup).men ≡ setup.men
 unfolding position_of
 shown_men setup = refl
 
-module _ (state : State) (stipulation : Stipulation) (setup : Setup) (is : setup ≡ setup_of state stipulation.form) (put : ArePut state.men) (some : some_square (is_taken setup.men) ≡ true) where
-  pub ill_fault : (IsWellFormed (position_of setup) → ⊥) → Some 15 ≡ setup_fault state stipulation setup
+module _ (state : State) (stipulation : Stipulation) (setup : Setup) (is : setup ≡ setup_of state stipulation.form) (put : ArePut state.men) (some : has_men setup.men ≡ true) where
+  pub ill_fault : (IsWellFormed (position_of setup) → ⊥) → Some EnPassantImpossible ≡ setup_fault state stipulation setup
   ill_fault ill =
       let wrong : is_crossed_right setup.men setup.turn setup.crossed ≡ false = rw is (crossed_wrong state stipulation.form put (rw is at ill)) in
       rw (some, wrong) refl
@@ -89,8 +90,8 @@ module _ (state : State) (stipulation : Stipulation) (setup : Setup) (is : setup
         let turn : setup.turn ≡ starts stipulation.form = ap (λ s. s.turn) is in
         rw (some, right, ← k, turn, ← at) refl
 
-abbrev tests_by : Bool → Bool → Bool → Bool → Option ℕ
-tests_by some right king check = if not some then Some 11 else (if not right then Some 15 else (if not king then Some 17 else (if check then Some 18 else None)))
+abbrev tests_by : Bool → Bool → Bool → Bool → Option FaultKind
+tests_by some right king check = if not some then Some NoMen else (if not right then Some EnPassantImpossible else (if not king then Some KingMissing else (if check then Some WaitingSideInCheck else None)))
 
 passed : (some right king check : Bool) → tests_by some right king check ≡ None → (king ≡ true) × (check ≡ false)
 passed false right king check h = cc
@@ -104,7 +105,7 @@ pub sound_by : (state : State) (stipulation : Stipulation) (title author : List 
     → IsWellFormed (position_of (setup_of state stipulation.form)) → setup_fault state stipulation (setup_of state stipulation.form) ≡ None → IsSound (posed_by state stipulation title author)
 sound_by state stipulation title author is stated low high well none =
     let setup = setup_of state stipulation.form in
-    let tests = passed (some_square (is_taken setup.men)) (is_crossed_right setup.men setup.turn setup.crossed) (has_king_to_mate stipulation setup.men) (in_check (rule_of state.condition) setup.men (other setup.turn)) none in
+    let tests = passed (has_men setup.men) (is_crossed_right setup.men setup.turn setup.crossed) (has_king_to_mate stipulation setup.men) (in_check (rule_of state.condition) setup.men (other setup.turn)) none in
     record {
       well_formed = well;
       turn = refl;

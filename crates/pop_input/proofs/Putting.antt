@@ -7,7 +7,7 @@ use Rattle.std.proofs.lemmas.Bool.{cases_Bool, cases_eq, cases_lt}
 use Rattle.std.proofs.Math.ListN.{get_or-eq_default}
 use Rattle.chess_core.specs.Position.{HasNoKing, is_man, man_on, same_kind, with_man}
 use Rattle.chess_core.specs.WellFormed.{is_pawn_inside}
-use Rattle.chess_core.specs.Diagrams.{Setup}
+use Rattle.chess_core.specs.Diagrams.{Setup, is_there, stands}
 use Rattle.chess_core.specs.declared.diagram.Taken.{Taken}
 use Rattle.chess_core.specs.declared.man.Man.{Man}
 use Rattle.chess_core.specs.declared.man.Colour.{Colour}
@@ -16,7 +16,8 @@ use Rattle.chess_core.proofs.Men.{AtMostOneKing-with, man_on-with_same, man_on-w
 use Rattle.chess_core.proofs.Ranges.{some_square_true}
 use Rattle.pop_input.specs.Ends.{ArePut}
 use Rattle.pop_input.specs.State.{no_men}
-use Rattle.pop_input.specs.WordFaults.{fault_if, is_there, man_fault, stands}
+use Rattle.pop_input.specs.WordFaults.{fault_if, man_fault}
+use Rattle.pop_input.specs.declared.fault_kind.FaultKind.TheVariants.{SquareTaken, PawnOnOuterRank, SecondKing}
 
 nobody : (n s : ℕ) → ◌≡◌ {A = Option Man} (get_or (repeat n (None ∷ [])) s None) None
 nobody zero s = refl
@@ -56,7 +57,7 @@ more_put men man square put inside king = record {
   ];
 }
 
-fits_by : (taken inside king second : Bool) → (if taken then Some 5 else (if not inside then Some 6 else fault_if (king && second) 7)) ≡ None → (inside ≡ true) × (king ≡ true → second ≡ false)
+fits_by : (taken inside king second : Bool) → (if taken then Some SquareTaken else (if not inside then Some PawnOnOuterRank else fault_if (king && second) SecondKing)) ≡ None → (inside ≡ true) × (king ≡ true → second ≡ false)
 fits_by true inside king second h = cc
 fits_by false false king second h = cc
 fits_by false true false second h = (refl, λ is. cc)

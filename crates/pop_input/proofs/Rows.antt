@@ -14,15 +14,18 @@ use Rattle.chess_core.specs.declared.man.Man.{Man}
 use Rattle.chess_rules.specs.Attacks.{attacked, faces, faces_its_like, in_check, paralysed, strikes}
 use Rattle.chess_rules.specs.Reaches.{hops, is_clear, leaps, reaches, reaches_as, rides}
 use Rattle.pop_text.specs.Words.{Clean, Failed, Ending, words_of, limit}
-use Rattle.pop_input.specs.Blocks.{Entry, Sound, Faulty, entries_of, fault_at}
-use Rattle.pop_input.specs.Ends.{end_fault_in, is_taken, unmoved_of}
+use Rattle.chess_core.specs.Diagrams.{is_taken, is_there, stands}
+use Rattle.pop_input.specs.Blocks.{Entry, Sound, Faulty, entries_of}
+use Rattle.pop_input.specs.Ends.{end_fault_in, unmoved_of}
 use Rattle.pop_input.specs.Names.{awaited_of, colour_of, command_of, condition_of, kind_of, option_of, section_of, text_word_of}
 use Rattle.pop_input.specs.State.{no_men}
 use Rattle.pop_input.specs.Values.{limit_of, squares_of, stipulation_of}
-use Rattle.pop_input.specs.WordFaults.{is_there, stands}
 use Rattle.pop_input.specs.declared.condition.Condition.TheVariants.{Madrasi}
 use Rattle.pop_input.specs.declared.stipulation.Goal.TheVariants.{Mate, Stalemate}
 use Rattle.pop_input.specs.declared.stipulation.Form.TheVariants.{Direct, Help}
+use Rattle.pop_input.specs.declared.fault_kind.FaultKind.{FaultKind}
+use Rattle.pop_input.specs.declared.fault_kind.FaultKind.TheVariants.{BeginProblemMissing, WordMisplaced, WordTooLong, ColourMissing, SquareTaken, PawnOnOuterRank, SecondKing, BadStipulation, SecondStipulation, StipulationMissing, NoMen, SecondCondition, BadLimit, SquareMissing, EnPassantImpossible, NoneCastlesThere, KingMissing, WaitingSideInCheck, EndProblemMissing, DeviceFailed}
+use Rattle.pop_input.specs.FaultKinds.{fault_at}
 
 abbrev items_by : Ending → List ℕ → List Entry
 items_by ending bytes = entries_of true (words_of (record { bytes = bytes; ending = ending }))
@@ -30,51 +33,51 @@ items_by ending bytes = entries_of true (words_of (record { bytes = bytes; endin
 abbrev items : List ℕ → List Entry
 items bytes = items_by Clean bytes
 
-abbrev only_fault : ℕ → ℕ → List Entry
-only_fault number line = Faulty (fault_at number line) ∷ []
+abbrev only_fault : FaultKind → ℕ → List Entry
+only_fault kind line = Faulty (fault_at kind line) ∷ []
 
 -- an input without words, and a first word too short
-no_words : (items [] ≡ only_fault 1 1) × (items (codes "Be") ≡ only_fault 1 1) × (items (codes "Beg") ≡ only_fault 19 1)
+no_words : (items [] ≡ only_fault BeginProblemMissing 1) × (items (codes "Be") ≡ only_fault BeginProblemMissing 1) × (items (codes "Beg") ≡ only_fault EndProblemMissing 1)
 unfolding limit command_of section_of
 no_words = (refl, refl, refl)
 
 -- men without a colour, an unknown word, a word that is a man and no squares
-men_misplaced : (items (codes "BeginProblem\nPieces Kg6\n") ≡ only_fault 4 2) × (items (codes "BeginProblem\nPieces White Protocol\n") ≡ only_fault 2 2) × (items (codes "BeginProblem\nPieces White Kg6h\n") ≡ only_fault 14 2) × (items (codes "BeginProblem\nPieces White Kg") ≡ only_fault 14 2)
+men_misplaced : (items (codes "BeginProblem\nPieces Kg6\n") ≡ only_fault ColourMissing 2) × (items (codes "BeginProblem\nPieces White Protocol\n") ≡ only_fault WordMisplaced 2) × (items (codes "BeginProblem\nPieces White Kg6h\n") ≡ only_fault SquareMissing 2) × (items (codes "BeginProblem\nPieces White Kg") ≡ only_fault SquareMissing 2)
 unfolding limit awaited_of colour_of command_of condition_of kind_of option_of section_of text_word_of limit_of squares_of stipulation_of is_there stands some_square squares
 men_misplaced = (refl, refl, refl, refl)
 
 -- a square given twice, a pawn on rank 8, a second king
-squares_misplaced : (items (codes "BeginProblem\nPieces White Kg6 Rg6 Black Kg8\n") ≡ only_fault 5 2) × (items (codes "BeginProblem\nPieces White Pa8\n") ≡ only_fault 6 2) × (items (codes "BeginProblem\nPieces White Kg6h1\n") ≡ only_fault 7 2)
+squares_misplaced : (items (codes "BeginProblem\nPieces White Kg6 Rg6 Black Kg8\n") ≡ only_fault SquareTaken 2) × (items (codes "BeginProblem\nPieces White Pa8\n") ≡ only_fault PawnOnOuterRank 2) × (items (codes "BeginProblem\nPieces White Kg6h1\n") ≡ only_fault SecondKing 2)
 unfolding limit awaited_of colour_of command_of condition_of kind_of option_of section_of text_word_of limit_of squares_of stipulation_of is_there stands some_square squares
 squares_misplaced = (refl, refl, refl)
 
 -- a second stipulation, another word behind one, one out of range
-stipulations_misplaced : (items (codes "BeginProblem\nPieces White Kg6 Ra1 Black Kg8\nStipulation #1 #1\nEndProblem\n") ≡ only_fault 9 3) × (items (codes "BeginProblem\nPieces White Kg6 Ra1 Black Kg8\nStipulation #1 foo\nEndProblem\n") ≡ only_fault 2 3) × (items (codes "BeginProblem\nPieces White Kg6 Ra1 Black Kg8\nStipulation h#16.5\nEndProblem\n") ≡ only_fault 8 3) × (items (codes "BeginProblem\nPieces White Kg6 Ra1 Black Kg8\nStipulation #0\nEndProblem\n") ≡ only_fault 8 3)
+stipulations_misplaced : (items (codes "BeginProblem\nPieces White Kg6 Ra1 Black Kg8\nStipulation #1 #1\nEndProblem\n") ≡ only_fault SecondStipulation 3) × (items (codes "BeginProblem\nPieces White Kg6 Ra1 Black Kg8\nStipulation #1 foo\nEndProblem\n") ≡ only_fault WordMisplaced 3) × (items (codes "BeginProblem\nPieces White Kg6 Ra1 Black Kg8\nStipulation h#16.5\nEndProblem\n") ≡ only_fault BadStipulation 3) × (items (codes "BeginProblem\nPieces White Kg6 Ra1 Black Kg8\nStipulation #0\nEndProblem\n") ≡ only_fault BadStipulation 3)
 unfolding limit awaited_of colour_of command_of condition_of kind_of option_of section_of text_word_of limit_of squares_of stipulation_of is_there stands some_square squares
 stipulations_misplaced = (refl, refl, refl, refl)
 
 -- with the other goal: a second stipulation, numbers out of range and with a leading zero
-goals_misplaced : (items (codes "BeginProblem\nPieces White Kg6 Ra1 Black Kg8\nStipulation #1 =1\nEndProblem\n") ≡ only_fault 9 3) × (items (codes "BeginProblem\nStipulation =0\n") ≡ only_fault 8 2) × (items (codes "BeginProblem\nStipulation =17\n") ≡ only_fault 8 2) × (items (codes "BeginProblem\nStipulation s=01\n") ≡ only_fault 8 2) × (items (codes "BeginProblem\nStipulation h=16.5\n") ≡ only_fault 8 2)
+goals_misplaced : (items (codes "BeginProblem\nPieces White Kg6 Ra1 Black Kg8\nStipulation #1 =1\nEndProblem\n") ≡ only_fault SecondStipulation 3) × (items (codes "BeginProblem\nStipulation =0\n") ≡ only_fault BadStipulation 2) × (items (codes "BeginProblem\nStipulation =17\n") ≡ only_fault BadStipulation 2) × (items (codes "BeginProblem\nStipulation s=01\n") ≡ only_fault BadStipulation 2) × (items (codes "BeginProblem\nStipulation h=16.5\n") ≡ only_fault BadStipulation 2)
 unfolding limit awaited_of colour_of command_of condition_of kind_of option_of section_of text_word_of limit_of squares_of stipulation_of is_there stands some_square squares
 goals_misplaced = (refl, refl, refl, refl, refl)
 
 -- limits out of range, a square that does not come, a square from which none castles, a second condition
-values_misplaced : (items (codes "BeginProblem\nPieces White Kg6 Ra1 Black Kg8\nStipulation #1\nOption MaxSolutions 4000000001\nEndProblem\n") ≡ only_fault 13 4) × (items (codes "BeginProblem\nPieces White Kg6 Ra1 Black Kg8\nStipulation #1\nOption MaxSolutions 0\nEndProblem\n") ≡ only_fault 13 4) × (items (codes "BeginProblem\nPieces White Kg6 Ra1 Black Kg8\nStipulation #1\nOption EnPassant\nEndProblem\n") ≡ only_fault 14 5) × (items (codes "BeginProblem\nPieces White Kg6 Ra1 Black Kg8\nStipulation #1\nOption NoCastling a2\nEndProblem\n") ≡ only_fault 16 4) × (items (codes "BeginProblem\nPieces White Kg6 Ra1 Black Kg8\nStipulation #1\nCondition Circe Circe\nEndProblem\n") ≡ only_fault 12 4)
+values_misplaced : (items (codes "BeginProblem\nPieces White Kg6 Ra1 Black Kg8\nStipulation #1\nOption MaxSolutions 4000000001\nEndProblem\n") ≡ only_fault BadLimit 4) × (items (codes "BeginProblem\nPieces White Kg6 Ra1 Black Kg8\nStipulation #1\nOption MaxSolutions 0\nEndProblem\n") ≡ only_fault BadLimit 4) × (items (codes "BeginProblem\nPieces White Kg6 Ra1 Black Kg8\nStipulation #1\nOption EnPassant\nEndProblem\n") ≡ only_fault SquareMissing 5) × (items (codes "BeginProblem\nPieces White Kg6 Ra1 Black Kg8\nStipulation #1\nOption NoCastling a2\nEndProblem\n") ≡ only_fault NoneCastlesThere 4) × (items (codes "BeginProblem\nPieces White Kg6 Ra1 Black Kg8\nStipulation #1\nCondition Circe Circe\nEndProblem\n") ≡ only_fault SecondCondition 4)
 unfolding limit awaited_of colour_of command_of condition_of kind_of option_of section_of text_word_of limit_of squares_of stipulation_of is_there stands some_square squares
 values_misplaced = (refl, refl, refl, refl, refl)
 
 -- a word of 161 bytes, and one of 160
-long_words : (items (codes "BeginProblem\n" ++ replicate 161 120 ++ codes "\nEndProblem\n") ≡ only_fault 3 2) × (items (codes "BeginProblem\n" ++ replicate 160 120 ++ codes "\nEndProblem\n") ≡ only_fault 2 2)
+long_words : (items (codes "BeginProblem\n" ++ replicate 161 120 ++ codes "\nEndProblem\n") ≡ only_fault WordTooLong 2) × (items (codes "BeginProblem\n" ++ replicate 160 120 ++ codes "\nEndProblem\n") ≡ only_fault WordMisplaced 2)
 unfolding limit awaited_of colour_of command_of condition_of kind_of option_of section_of text_word_of limit_of squares_of stipulation_of is_there stands some_square squares
 long_words = (refl, refl)
 
 -- a source that fails in a problem, and behind a fault of one
-failing_source : (items_by Failed (codes "BeginProblem\nPieces White Kg6\nxx") ≡ only_fault 21 3) × (items_by Failed (codes "BeginProblem\nxx\n") ≡ Faulty (fault_at 2 2) ∷ only_fault 21 3)
+failing_source : (items_by Failed (codes "BeginProblem\nPieces White Kg6\nxx") ≡ only_fault DeviceFailed 3) × (items_by Failed (codes "BeginProblem\nxx\n") ≡ Faulty (fault_at WordMisplaced 2) ∷ only_fault DeviceFailed 3)
 unfolding limit awaited_of colour_of command_of condition_of kind_of option_of section_of text_word_of limit_of squares_of stipulation_of is_there stands some_square squares
 failing_source = (refl, refl)
 
 -- a stipulation missing, no men, en passant not possible, no king to be mated, check to the side that is not to move
-ends : (items (codes "BeginProblem\nEndProblem\n") ≡ only_fault 10 2) × (items (codes "BeginProblem\nStipulation #1\nEndProblem\n") ≡ only_fault 11 3) × (items (codes "BeginProblem\nPieces White Kg6 Ba1 Bb3 Pe5 Black Kh8\nStipulation #1\nOption EnPassant d6\nEndProblem\n") ≡ only_fault 15 5) × (items (codes "BeginProblem\nPieces White Kg6 Ra1\nStipulation #1\nEndProblem\n") ≡ only_fault 17 4) × (items (codes "BeginProblem\nPieces White Kg6 Rh1 Black Kh8\nStipulation #1\nEndProblem\n") ≡ only_fault 18 4)
+ends : (items (codes "BeginProblem\nEndProblem\n") ≡ only_fault StipulationMissing 2) × (items (codes "BeginProblem\nStipulation #1\nEndProblem\n") ≡ only_fault NoMen 3) × (items (codes "BeginProblem\nPieces White Kg6 Ba1 Bb3 Pe5 Black Kh8\nStipulation #1\nOption EnPassant d6\nEndProblem\n") ≡ only_fault EnPassantImpossible 5) × (items (codes "BeginProblem\nPieces White Kg6 Ra1\nStipulation #1\nEndProblem\n") ≡ only_fault KingMissing 4) × (items (codes "BeginProblem\nPieces White Kg6 Rh1 Black Kh8\nStipulation #1\nEndProblem\n") ≡ only_fault WaitingSideInCheck 4)
 unfolding limit awaited_of colour_of command_of condition_of kind_of option_of section_of text_word_of limit_of squares_of stipulation_of is_there stands some_square squares end_fault_in is_taken unmoved_of has_unmoved mark_unmoved none_unmoved is_home is_crossed_right king_square attacked faces faces_its_like in_check paralysed strikes hops is_clear leaps reaches reaches_as rides along
 ends = (refl, refl, refl, refl, refl)
 
@@ -113,6 +116,6 @@ sound_options : items (codes "beg\nopt set max 5 max 007 noc h1a1\nsti H=12\ncon
       max_solutions = 7;
       title = [];
       author = [];
-    }) ∷ only_fault 19 9
+    }) ∷ only_fault EndProblemMissing 9
 unfolding limit awaited_of colour_of command_of condition_of kind_of option_of section_of text_word_of limit_of squares_of stipulation_of is_there stands some_square squares end_fault_in is_taken unmoved_of has_unmoved mark_unmoved none_unmoved is_home is_crossed_right king_square attacked faces faces_its_like in_check paralysed strikes hops is_clear leaps reaches reaches_as rides along
 sound_options = refl

@@ -10,7 +10,7 @@ use Rattle.pop_text.specs.ties.Reading.{Reading}
 use Rattle.pop_text.specs.ties.Left.{among}
 use Rattle.pop_text.proofs.Plain.{plain_no_closing}
 use Rattle.pop_input.specs.Names.{closes, command_of, or_else, section_of}
-use Rattle.pop_input.specs.Blocks.{at_line, block_fault, has_begun}
+use Rattle.pop_input.specs.Blocks.{block_fault, has_begun}
 use Rattle.pop_input.specs.WordFaults.{fault_of}
 use Rattle.pop_input.specs.declared.block.Block.{Block}
 use Rattle.pop_input.specs.declared.item.Fault.{Fault}
@@ -19,6 +19,7 @@ use Rattle.pop_input.specs.declared.names.Command.TheVariants.{Enter}
 use Rattle.pop_input.proofs.Blocks.{block_more, is_open, said}
 use Rattle.pop_input.proofs.Items.{BlockSoFar}
 use Rattle.pop_input.proofs.Taking.{takes_then}
+use Rattle.pop_input.specs.FaultKinds.{at_line}
 
 enter_open : (section : Option Section) → closes (option_map Enter section) ≡ false
 enter_open None = refl

@@ -1,5 +1,8 @@
 -- The blocks of an input, and the entry of each (own; commands of the Popeye manual).
-use Rattle.std.specs.Prelude.{ℕ, List, [], ◌∷◌, ◌++◌, Bool, true, false, Option, Some, None, option_map}
+use Rattle.pop_input.specs.declared.fault_kind.FaultKind.{FaultKind}
+use Rattle.pop_input.specs.declared.fault_kind.FaultKind.TheVariants.{BeginProblemMissing, EndProblemMissing, InputTooLong, DeviceFailed}
+use Rattle.pop_input.specs.FaultKinds.{at_line, fault_at}
+use Rattle.std.specs.Prelude.{ℕ, List, [], ◌∷◌, ◌++◌, Bool, true, false, Option, Some, None}
 use Rattle.std.specs.List.{onto_first}
 use Rattle.pop_text.specs.Words.{Words, Token, Word, TextLine, Tail, End, Long, Broken, text_of_line}
 use Rattle.pop_input.specs.Names.{command_of, text_word_of, closes, or_else}
@@ -12,14 +15,6 @@ use Rattle.pop_input.specs.declared.names.Command.{Command}
 use Rattle.pop_input.specs.declared.names.Command.TheVariants.{Begin, Enter, Next, Last}
 use Rattle.pop_input.specs.declared.names.TextWord.{TextWord}
 use Rattle.pop_input.specs.declared.names.TextWord.TheVariants.{Title, Author}
-
--- a fault with its number and its line
-abbrev pub fault_at : ℕ → ℕ → Fault
-fault_at number line = record { number = number; line = line }
-
--- a fault's number with its line
-abbrev pub at_line : ℕ → Option ℕ → Option Fault
-at_line line number = option_map (λ n. fault_at n line) number
 
 -- the words of tokens after others, the newest first
 abbrev pub words_before : List (List ℕ) → List Token → List (List ℕ)
@@ -115,17 +110,17 @@ pub data Entry : Type 0 where
   Faulty : Fault → Entry
 
 -- the fault of a tail
-abbrev pub tail_fault : Bool → Tail → ℕ
-tail_fault true End = 19
-tail_fault false End = 1
-tail_fault begun Long = 20
-tail_fault begun Broken = 21
+abbrev pub tail_fault : Bool → Tail → FaultKind
+tail_fault true End = EndProblemMissing
+tail_fault false End = BeginProblemMissing
+tail_fault begun Long = InputTooLong
+tail_fault begun Broken = DeviceFailed
 
 -- what an input says behind its last block: that it was too long, or that its source failed
 abbrev pub more_entries : Tail → ℕ → List Entry
 more_entries End line = []
-more_entries Long line = Faulty (fault_at 20 line) ∷ []
-more_entries Broken line = Faulty (fault_at 21 line) ∷ []
+more_entries Long line = Faulty (fault_at InputTooLong line) ∷ []
+more_entries Broken line = Faulty (fault_at DeviceFailed line) ∷ []
 
 -- a problem, or its fault in its place
 abbrev pub entry_of : Option Fault → Posed → Entry

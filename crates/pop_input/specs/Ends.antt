@@ -1,9 +1,10 @@
 -- The problem that the words of a block pose (Codex, Popeye manual), and the tests at its end (own).
-use Rattle.std.specs.Prelude.{◌≡◌, ℕ, List, [], ◌∷◌, length, fold, not, ◌&&◌, Bool, true, if◌then◌else◌, Option, Some, None, is_some, unwrap_or}
+use Rattle.pop_input.specs.declared.fault_kind.FaultKind.{FaultKind}
+use Rattle.pop_input.specs.declared.fault_kind.FaultKind.TheVariants.{StipulationMissing, NoMen, EnPassantImpossible, KingMissing, WaitingSideInCheck}
+use Rattle.std.specs.Prelude.{◌≡◌, ℕ, List, length, fold, not, ◌&&◌, Bool, true, if◌then◌else◌, Option, Some, None, unwrap_or}
 use Rattle.chess_core.specs.Castling.{castling_squares, has_unmoved, mark_unmoved, none_unmoved}
-use Rattle.chess_core.specs.Diagrams.{Setup}
+use Rattle.chess_core.specs.Diagrams.{Setup, has_men}
 use Rattle.chess_core.specs.Position.{AtMostOneKing, man_on, other}
-use Rattle.chess_core.specs.Squares.{some_square}
 use Rattle.chess_core.specs.WellFormed.{is_crossed_right, is_home, is_pawn_inside}
 use Rattle.chess_core.specs.declared.man.Man.{Man}
 use Rattle.chess_core.specs.declared.man.Unmoved.{Unmoved}
@@ -54,28 +55,24 @@ posed_of state title author = posed_by state (unwrap_or state.stipulation no_sti
 
 -- The tests, in their order.
 
--- a man stands on the square
-unfoldable pub is_taken : List (Option Man) → ℕ → Bool
-is_taken men square = is_some (man_on men square)
-
 -- no king to be mated, the side that isn't to move in check
-abbrev pub position_fault : Bool → Bool → Option ℕ
-position_fault has_king in_check = if not has_king then Some 17 else (if in_check then Some 18 else None)
+abbrev pub position_fault : Bool → Bool → Option FaultKind
+position_fault has_king in_check = if not has_king then Some KingMissing else (if in_check then Some WaitingSideInCheck else None)
 
 -- no men, en passant not possible, and the faults of the position
-abbrev pub setup_fault : State → Stipulation → Setup → Option ℕ
+abbrev pub setup_fault : State → Stipulation → Setup → Option FaultKind
 setup_fault state stipulation setup =
-    if not (some_square (is_taken setup.men)) then Some 11
-    else (if not (is_crossed_right setup.men setup.turn setup.crossed) then Some 15
+    if not (has_men setup.men) then Some NoMen
+    else (if not (is_crossed_right setup.men setup.turn setup.crossed) then Some EnPassantImpossible
     else position_fault (has_king_to_mate stipulation setup.men) (in_check (rule_of state.condition) setup.men (other setup.turn)))
 
 -- no stipulation, or a fault of the diagram
-abbrev pub stated_fault : State → Option Stipulation → Option ℕ
-stated_fault state None = Some 10
+abbrev pub stated_fault : State → Option Stipulation → Option FaultKind
+stated_fault state None = Some StipulationMissing
 stated_fault state (Some stipulation) = setup_fault state stipulation (setup_of state stipulation.form)
 
 -- the fault at the end of a block whose words have none
-unfoldable pub end_fault_in : State → Option ℕ
+unfoldable pub end_fault_in : State → Option FaultKind
 end_fault_in state = stated_fault state state.stipulation
 
 -- What words without a fault keep.

@@ -3,6 +3,7 @@ pub mod Posed
 pub mod Names
 pub mod Values
 pub mod State
+pub mod FaultKinds
 pub mod WordFaults
 pub mod Ends
 pub mod Blocks

@@ -1,10 +1,12 @@
--- The fault of a word, by its number: what the words before say decides (own).
+-- The fault of a word: what the words before say decides (own).
+use Rattle.pop_input.specs.declared.fault_kind.FaultKind.{FaultKind}
+use Rattle.pop_input.specs.declared.fault_kind.FaultKind.TheVariants.{BeginProblemMissing, WordMisplaced, WordTooLong, ColourMissing, SquareTaken, PawnOnOuterRank, SecondKing, BadStipulation, SecondStipulation, SecondCondition, BadLimit, SquareMissing, NoneCastlesThere}
 use Rattle.std.specs.Prelude.{ℕ, List, [], ◌∷◌, length, nat_le, nat_lt, not, ◌&&◌, ◌||◌, Bool, if◌then◌else◌, Option, Some, None, is_some}
 use Rattle.std.specs.Prelude.{◌==◌}
 use Rattle.std.specs.List.{list_any, list_all}
-use Rattle.chess_core.specs.Castling.{castling_squares}
-use Rattle.chess_core.specs.Position.{is_man, man_on, same_kind, with_man}
-use Rattle.chess_core.specs.Squares.{some_square}
+use Rattle.chess_core.specs.Castling.{is_castling}
+use Rattle.chess_core.specs.Diagrams.{stands}
+use Rattle.chess_core.specs.Position.{man_on, same_kind, with_man}
 use Rattle.chess_core.specs.WellFormed.{is_pawn_inside}
 use Rattle.chess_core.specs.declared.man.Colour.{Colour}
 use Rattle.chess_core.specs.declared.man.Kind.{Kind}
@@ -23,49 +25,37 @@ use Rattle.pop_input.specs.declared.names.Command.TheVariants.{Begin, Enter, Nex
 use Rattle.pop_input.specs.declared.stipulation.Stipulation.{Stipulation}
 
 -- a fault where something holds
-abbrev pub fault_if : Bool → ℕ → Option ℕ
-fault_if holds number = if holds then Some number else None
-
--- a castling square
-abbrev pub is_castling : ℕ → Bool
-is_castling square = list_any (λ s. s == square) castling_squares
+abbrev pub fault_if : Bool → FaultKind → Option FaultKind
+fault_if holds kind = if holds then Some kind else None
 
 -- of a word of NoCastling: no squares, or one from which none castles
-abbrev pub barred_fault : Option (List ℕ) → Option ℕ
-barred_fault None = Some 14
-barred_fault (Some squares) = fault_if (not (list_all is_castling squares)) 16
+abbrev pub barred_fault : Option (List ℕ) → Option FaultKind
+barred_fault None = Some SquareMissing
+barred_fault (Some squares) = fault_if (not (list_all is_castling squares)) NoneCastlesThere
 
 -- of a command: BeginProblem stands before the first problem alone
-abbrev pub control_fault : Command → Option ℕ
-control_fault Begin = Some 2
+abbrev pub control_fault : Command → Option FaultKind
+control_fault Begin = Some WordMisplaced
 control_fault (Enter section) = None
 control_fault Next = None
 control_fault Last = None
 
--- the man on this square is of this colour and kind
-unfoldable pub is_there : List (Option Man) → Colour → Kind → ℕ → Bool
-is_there men colour man_kind square = is_man (man_on men square) colour man_kind
-
--- a man of this colour and kind stands somewhere
-unfoldable pub stands : List (Option Man) → Colour → Kind → Bool
-stands men colour man_kind = some_square (is_there men colour man_kind)
-
 -- a man stands there already, a pawn on rank 1 or 8, a second king
-abbrev pub man_fault : List (Option Man) → Man → ℕ → Option ℕ
+abbrev pub man_fault : List (Option Man) → Man → ℕ → Option FaultKind
 man_fault men man square =
-    if is_some (man_on men square) then Some 5
-    else (if not (is_pawn_inside (Some man) square) then Some 6
-    else fault_if (same_kind man.kind King && stands men man.colour King) 7)
+    if is_some (man_on men square) then Some SquareTaken
+    else (if not (is_pawn_inside (Some man) square) then Some PawnOnOuterRank
+    else fault_if (same_kind man.kind King && stands men man.colour King) SecondKing)
 
 -- the fault of squares on which a man is put in turn
-abbrev pub men_fault : List (Option Man) → Man → List ℕ → Option ℕ
+abbrev pub men_fault : List (Option Man) → Man → List ℕ → Option FaultKind
 men_fault men man [] = None
 men_fault men man (square ∷ squares) = or_else (man_fault men man square) (men_fault (with_man men square man) man squares)
 
 -- of a word of men: no colour yet, no squares, or a fault of a man
-abbrev pub put_fault : List (Option Man) → Option Colour → Kind → Option (List ℕ) → Option ℕ
-put_fault men None man_kind squares = Some 4
-put_fault men (Some colour) man_kind None = Some 14
+abbrev pub put_fault : List (Option Man) → Option Colour → Kind → Option (List ℕ) → Option FaultKind
+put_fault men None man_kind squares = Some ColourMissing
+put_fault men (Some colour) man_kind None = Some SquareMissing
 put_fault men (Some colour) man_kind (Some squares) = men_fault men (record { colour = colour; kind = man_kind }) squares
 
 -- two bytes or more, and no digit among them: such a word is none of a man and squares at all
@@ -73,55 +63,55 @@ abbrev pub is_foreign : List ℕ → Bool
 is_foreign text = nat_le 2 (length text) && not (list_any is_digit text)
 
 -- of a word of this letter in Pieces
-abbrev pub letter_fault : State → Option Kind → List ℕ → Option ℕ
-letter_fault state None text = Some 2
+abbrev pub letter_fault : State → Option Kind → List ℕ → Option FaultKind
+letter_fault state None text = Some WordMisplaced
 letter_fault state (Some letter) text =
-    if not (is_some (squares_of text)) && is_foreign text then Some 2 else put_fault state.men state.colour letter (squares_of text)
+    if not (is_some (squares_of text)) && is_foreign text then Some WordMisplaced else put_fault state.men state.colour letter (squares_of text)
 
 -- of a word in Pieces: a colour, or a letter and squares
-abbrev pub pieces_fault : State → List ℕ → Option ℕ
+abbrev pub pieces_fault : State → List ℕ → Option FaultKind
 pieces_fault state [] = None
 pieces_fault state (letter ∷ text) = if is_some (colour_of (letter ∷ text)) then None else letter_fault state (kind_of letter) text
 
 -- where one was given: a second one holds the sign #
-abbrev pub stipulation_fault : Option Stipulation → List ℕ → Option ℕ
-stipulation_fault None text = fault_if (not (is_some (stipulation_of text))) 8
-stipulation_fault (Some given) text = if list_any (λ b. b == 35) text || list_any (λ b. b == 61) text then Some 9 else Some 2
+abbrev pub stipulation_fault : Option Stipulation → List ℕ → Option FaultKind
+stipulation_fault None text = fault_if (not (is_some (stipulation_of text))) BadStipulation
+stipulation_fault (Some given) text = if list_any (λ b. b == 35) text || list_any (λ b. b == 61) text then Some SecondStipulation else Some WordMisplaced
 
 -- of a word in Condition: no condition, or a second one
-abbrev pub condition_fault : Option Condition → List ℕ → Option ℕ
-condition_fault given text = if not (is_some (condition_of text)) then Some 2 else fault_if (is_some given) 12
+abbrev pub condition_fault : Option Condition → List ℕ → Option FaultKind
+condition_fault given text = if not (is_some (condition_of text)) then Some WordMisplaced else fault_if (is_some given) SecondCondition
 
 -- of a word in a section
-abbrev pub section_fault : State → Option Section → List ℕ → Option ℕ
-section_fault state None text = Some 2
+abbrev pub section_fault : State → Option Section → List ℕ → Option FaultKind
+section_fault state None text = Some WordMisplaced
 section_fault state (Some Pieces) text = pieces_fault state text
 section_fault state (Some Stipulations) text = stipulation_fault state.stipulation text
 section_fault state (Some Conditions) text = condition_fault state.condition text
-section_fault state (Some Options) text = fault_if (not (is_some (option_of text))) 2
+section_fault state (Some Options) text = fault_if (not (is_some (option_of text))) WordMisplaced
 
 -- of a word that is this
-abbrev pub role_fault : State → Role → List ℕ → Option ℕ
-role_fault state Limit text = fault_if (not (is_some (limit_of text))) 13
-role_fault state CrossedSquare text = fault_if (not (is_some (only (squares_of text)))) 14
+abbrev pub role_fault : State → Role → List ℕ → Option FaultKind
+role_fault state Limit text = fault_if (not (is_some (limit_of text))) BadLimit
+role_fault state CrossedSquare text = fault_if (not (is_some (only (squares_of text)))) SquareMissing
 role_fault state BarredSquares text = barred_fault (squares_of text)
 role_fault state (Control command) text = control_fault command
 role_fault state (Within section) text = section_fault state section text
 
 -- the fault of a word of at most 160 bytes in a problem
-abbrev pub fault_in : State → List ℕ → Option ℕ
+abbrev pub fault_in : State → List ℕ → Option FaultKind
 fault_in state text = role_fault state (role_of state.place text) text
 
 -- and of the first word of the input, which has to be BeginProblem
-abbrev pub begin_fault : Option Command → Option ℕ
+abbrev pub begin_fault : Option Command → Option FaultKind
 begin_fault (Some Begin) = None
-begin_fault (Some (Enter section)) = Some 1
-begin_fault (Some Next) = Some 1
-begin_fault (Some Last) = Some 1
-begin_fault None = Some 1
+begin_fault (Some (Enter section)) = Some BeginProblemMissing
+begin_fault (Some Next) = Some BeginProblemMissing
+begin_fault (Some Last) = Some BeginProblemMissing
+begin_fault None = Some BeginProblemMissing
 
 -- the fault of a word, in a problem that has begun or before the first
-abbrev pub fault_of : Bool → State → List ℕ → Option ℕ
+abbrev pub fault_of : Bool → State → List ℕ → Option FaultKind
 fault_of begun state text =
-    if nat_lt 160 (length text) then Some 3
+    if nat_lt 160 (length text) then Some WordTooLong
     else (if begun then fault_in state text else begin_fault (command_of text))

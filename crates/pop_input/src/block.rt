@@ -1,13 +1,15 @@
 //! A block as far as it is read: the words up to NextProblem or EndProblem.
 ghost use Rattle.std.specs.Prelude.{◌≡◌, ◌≤◌, ℕ, List, [], length, None, Some, not, true};
 ghost use Rattle.pop_input.specs.Names.{command_of, or_else};
-ghost use Rattle.pop_input.specs.Blocks.{at_line, fault_at};
+ghost use Rattle.pop_input.specs.FaultKinds.{at_line, fault_at};
 ghost use Rattle.pop_input.specs.ties.Closings.{Closes, ended_item, noted, said_after};
 ghost use Rattle.pop_input.specs.State.{state_of};
 ghost use Rattle.pop_input.specs.WordFaults.{fault_of};
+ghost use Rattle.pop_input.specs.declared.fault_kind.FaultKind.TheVariants.{WordTooLong};
 ghost use Rattle.pop_input.specs.declared.names.TextWord.TheVariants.{Title, Author};
 
 use crate::draft::Draft;
+use crate::fault_kind::FaultKind;
 use crate::item::{Fault, Item, Last};
 use crate::names::{Command, TextWord};
 use pop_text::text::Text;
@@ -52,20 +54,17 @@ impl Block {
         ensures author { self.new.author ≡ self.old.author }
     {
         if self.fault.is_none() {
-            if let Some(number) = self.take(word.bytes.as_slice(), command) {
-                self.fault = Some(Fault {
-                    number,
-                    line: word.line,
-                });
+            if let Some(kind) = self.take(word.bytes.as_slice(), command) {
+                self.fault = Some(Fault::at(kind, word.line));
             }
         }
     }
 
-    // Takes a word, or answers its fault's number.
-    fn take(&mut self, word: &[u8], command: Option<Command>) -> Option<u8>
+    // Takes a word, or answers its fault.
+    fn take(&mut self, word: &[u8], command: Option<Command>) -> Option<FaultKind>
         requires short { length word.now ≤ 160 }
         requires command { command ≡ command_of word.now }
-        ensures number { result ≡ fault_of self.old.begun self.old.draft word.now }
+        ensures kind { result ≡ fault_of self.old.begun self.old.draft word.now }
         ensures begun { result ≡ None → self.new.begun ≡ true }
         ensures draft { result ≡ None → self.new.draft ≡ said_after self.old.begun self.old.draft word.now }
         ensures fault { self.new.fault ≡ self.old.fault }
@@ -80,17 +79,17 @@ impl Block {
                 self.begun = true;
                 None
             }
-            _ => Some(1),
+            _ => Some(FaultKind::BeginProblemMissing),
         }
     }
 
     /// A word in this line was too long.
     pub(crate) fn read_long(&mut self, line: u64)
-        ensures fault { self.new.fault ≡ or_else self.old.fault (Some (fault_at 3 line)) }
+        ensures fault { self.new.fault ≡ or_else self.old.fault (Some (fault_at WordTooLong line)) }
     {
         match self.fault {
             Some(_) => {}
-            None => self.fault = Some(Fault { number: 3, line }),
+            None => self.fault = Some(Fault::at(FaultKind::WordTooLong, line)),
         }
     }
 
@@ -128,8 +127,12 @@ impl Block {
         match self.fault {
             Some(fault) => Item::Faulty(fault, Last::Yes),
             None => {
-                let number = if self.begun { 19 } else { 1 };
-                Item::Faulty(Fault { number, line }, Last::Yes)
+                let kind = if self.begun {
+                    FaultKind::EndProblemMissing
+                } else {
+                    FaultKind::BeginProblemMissing
+                };
+                Item::Faulty(Fault::at(kind, line), Last::Yes)
             }
         }
     }

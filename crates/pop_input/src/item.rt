@@ -1,13 +1,36 @@
 //! Items of an input, one after another.
+ghost use Rattle.std.specs.Prelude.{◌≡◌};
+ghost use Rattle.pop_input.specs.FaultKinds.{fault_at, kind_numbered};
+
+use crate::fault_kind::FaultKind;
 use crate::problem::Problem;
 
 /// Why an item is not sound.
 #[derive(Clone, Copy, Debug, PartialEq, Eq)]
 pub struct Fault {
-    /// Its number, 1 to 21.
+    /// The number of its kind, 1 to 21.
     pub number: u8,
     /// The line that it is told of, counted from 1.
     pub line: u64,
+}
+
+impl Fault {
+    /// A fault of this kind in a line.
+    pub(crate) fn at(kind: FaultKind, line: u64) -> Fault
+        ensures { result ≡ fault_at kind line }
+    {
+        Fault {
+            number: kind.number(),
+            line,
+        }
+    }
+
+    /// Its kind: each fault of an item has one.
+    pub fn kind(&self) -> Option<FaultKind>
+        ensures { result ≡ kind_numbered self.now.number }
+    {
+        FaultKind::numbered(self.number)
+    }
 }
 
 /// Whether an item is the last of its input.

@@ -7,6 +7,7 @@
 mod block;
 pub mod condition;
 mod draft;
+pub mod fault_kind;
 pub mod item;
 mod names;
 mod place;
@@ -18,6 +19,7 @@ mod token;
 mod values;
 
 pub use crate::condition::Condition;
+pub use crate::fault_kind::FaultKind;
 pub use crate::item::{Fault, Item, Last};
 pub use crate::problem::Problem;
 pub use crate::reader::{Next, Reader};

@@ -11,6 +11,7 @@ ghost use Rattle.pop_input.specs.ties.Closings.{cut_fault, last_of};
 ghost use Rattle.pop_input.specs.Names.{command_of};
 
 use crate::block::Block;
+use crate::fault_kind::FaultKind;
 use crate::item::{Fault, Item, Last};
 use crate::names::{Command, command_of};
 use crate::token::{Token, next_token};
@@ -161,7 +162,9 @@ fn fault_of_cut(cut: ReadFault) -> Fault
     ensures { result ≡ cut_fault cut }
 {
     match cut {
-        ReadFault::Device(line) => Fault { number: 21, line },
-        ReadFault::InputTooLong(line) | ReadFault::TooLong(line) => Fault { number: 20, line },
+        ReadFault::Device(line) => Fault::at(FaultKind::DeviceFailed, line),
+        ReadFault::InputTooLong(line) | ReadFault::TooLong(line) => {
+            Fault::at(FaultKind::InputTooLong, line)
+        }
     }
 }

@@ -2,9 +2,10 @@
 ghost use Rattle.std.specs.Prelude.{◌≡◌, ◌<◌, ◌≤◌, ◌+◌, ◌++◌, length};
 ghost use Rattle.pop_text.specs.Bytes.{Writes, count_after, greatest};
 ghost use Rattle.pop_print.specs.ties.Room.{room};
-ghost use Rattle.pop_print.specs.Faults.{fault_text, message_of as text_of_number};
+ghost use Rattle.pop_print.specs.Faults.{fault_text, message_if as text_if, message_of as text_of_kind};
 
 use crate::line::LineBuffer;
+use pop_input::fault_kind::FaultKind;
 use pop_input::item::Fault;
 use pop_text::sink::{Sink, SinkFault};
 
@@ -20,43 +21,51 @@ pub fn print_fault<W: Sink>(sink: &mut W, number: u64, fault: &Fault) -> Result<
     lines.put(sink)
 }
 
-/// What a fault's number says, 1 to 21.
-#[tactic(auto, unfolding(crate::specs::Faults::message_of))]
-pub(crate) fn message_of(number: u8) -> &'static [u8]
-    requires { (1 ≤ number) × (number ≤ 21) }
-    ensures text { result.now ≡ text_of_number number }
+/// What is said of a fault of this kind.
+pub(crate) fn message_of(kind: FaultKind) -> &'static [u8]
+    ensures text { result.now ≡ text_of_kind kind }
     ensures short { length result.now ≤ 40 }
 {
-    match number {
-        1 => b"BeginProblem expected",
-        2 => b"unknown or misplaced word",
-        3 => b"word too long",
-        4 => b"colour expected before men",
-        5 => b"square given twice",
-        6 => b"pawn on rank 1 or 8",
-        7 => b"second king of a colour",
-        8 => b"bad stipulation",
-        9 => b"second stipulation",
-        10 => b"stipulation missing",
-        11 => b"no men",
-        12 => b"second condition",
-        13 => b"number expected or out of range",
-        14 => b"square expected",
-        15 => b"en passant not possible there",
-        16 => b"NoCastling square is none of the six",
-        17 => b"side to be mated has no king",
-        18 => b"side not to move is in check",
-        19 => b"input ended before EndProblem",
-        20 => b"input too long",
-        _ => b"input device failed",
+    match kind {
+        FaultKind::BeginProblemMissing => b"BeginProblem expected",
+        FaultKind::WordMisplaced => b"unknown or misplaced word",
+        FaultKind::WordTooLong => b"word too long",
+        FaultKind::ColourMissing => b"colour expected before men",
+        FaultKind::SquareTaken => b"square given twice",
+        FaultKind::PawnOnOuterRank => b"pawn on rank 1 or 8",
+        FaultKind::SecondKing => b"second king of a colour",
+        FaultKind::BadStipulation => b"bad stipulation",
+        FaultKind::SecondStipulation => b"second stipulation",
+        FaultKind::StipulationMissing => b"stipulation missing",
+        FaultKind::NoMen => b"no men",
+        FaultKind::SecondCondition => b"second condition",
+        FaultKind::BadLimit => b"number expected or out of range",
+        FaultKind::SquareMissing => b"square expected",
+        FaultKind::EnPassantImpossible => b"en passant not possible there",
+        FaultKind::NoneCastlesThere => b"NoCastling square is none of the six",
+        FaultKind::KingMissing => b"side to be mated has no king",
+        FaultKind::WaitingSideInCheck => b"side not to move is in check",
+        FaultKind::EndProblemMissing => b"input ended before EndProblem",
+        FaultKind::InputTooLong => b"input too long",
+        FaultKind::DeviceFailed => b"input device failed",
+    }
+}
+
+// What is said of a fault of this kind, nothing where there is none.
+fn message_if(kind: Option<FaultKind>) -> &'static [u8]
+    ensures text { result.now ≡ text_if kind }
+    ensures short { length result.now ≤ 40 }
+{
+    match kind {
+        Some(kind) => message_of(kind),
+        None => b"",
     }
 }
 
 impl LineBuffer {
     #[tactic(auto, unfolding(crate::specs::Faults::fault_text))]
     fn add_fault(&mut self, number: u64, fault: &Fault)
-        requires room { length self.old + 140 ≤ room }
-        requires known { (1 ≤ fault.now.number) × (fault.now.number ≤ 21) }
+        requires { length self.old + 140 ≤ room }
         ensures { self.new ≡ self.old ++ fault_text number fault.now }
     {
         self.add_item_line(number);
@@ -65,7 +74,7 @@ impl LineBuffer {
         self.add(b": fault ");
         self.add_number(u64::from(fault.number));
         self.add(b": ");
-        self.add(message_of(fault.number));
+        self.add(message_if(fault.kind()));
         self.add(b"\n\n");
     }
 }

@@ -4,7 +4,9 @@ use Rattle.std.specs.List.{flat_map, list_any}
 use Rattle.std.specs.Prelude.{None}
 use Rattle.pop_text.specs.Words.{Input, words_from, limit}
 use Rattle.pop_input.specs.Blocks.{Entry, Sound as SoundEntry, Faulty as FaultyEntry, entries_of}
+use Rattle.pop_input.specs.FaultKinds.{number_of}
 use Rattle.pop_input.specs.Posed.{Posed}
+use Rattle.pop_input.specs.declared.fault_kind.FaultKind.TheVariants.{DeviceFailed}
 use Rattle.pop_solve.specs.Events.{events_of}
 use Rattle.pop_print.specs.Events.{event_text}
 use Rattle.pop_print.specs.Faults.{fault_text}
@@ -45,10 +47,10 @@ entries_in input = entries_of true (words_from None limit 1 input)
 abbrev pub report : Choice → Input → List ℕ
 report choice input = report_from choice 1 (entries_in input)
 
--- whether an item tells of a failed device: fault 21
+-- whether an item tells of a failed device
 abbrev pub tells_failure : Entry → Bool
 tells_failure (SoundEntry posed) = false
-tells_failure (FaultyEntry fault) = fault.number == 21
+tells_failure (FaultyEntry fault) = fault.number == number_of DeviceFailed
 
 -- the entry is a fault
 abbrev pub is_faulty : Entry → Bool

@@ -4,6 +4,8 @@ ghost use Rattle.pop_text.specs.Words.{limit};
 ghost use Rattle.pop_text.specs.Bytes.{count_after, greatest};
 ghost use Rattle.pop_text.specs.ties.Reading.{IsSeen, failures_after};
 ghost use Rattle.pop_text.specs.declared.scanner.End.{End};
+ghost use Rattle.pop_input.specs.FaultKinds.{number_of};
+ghost use Rattle.pop_input.specs.declared.fault_kind.FaultKind.TheVariants.{DeviceFailed};
 ghost use Rattle.pop_input.specs.ties.Standing.{work_left};
 ghost use Rattle.pops.specs.Report.{choice_of};
 ghost use Rattle.pops.specs.ties.Sessions.{GoesOn, Steps, is_problem, start, status_with as with_item, step_of};
@@ -11,6 +13,7 @@ ghost use Rattle.pops.specs.ties.Sessions.{GoesOn, Steps, is_problem, start, sta
 use crate::settings::Settings;
 use crate::solutions::print_sound;
 use crate::status::{Status, Step};
+use pop_input::fault_kind::FaultKind;
 use pop_input::item::{Fault, Item, Last};
 use pop_input::reader::Reader;
 use pop_print::print_fault;
@@ -123,10 +126,11 @@ impl Session {
 
 // The status with one more fault.
 fn status_with(so_far: Status, fault: &Fault) -> Status
-    ensures { result ≡ with_item so_far (fault.now.number == 21) true }
+    ensures { result ≡ with_item so_far (fault.now.number == number_of DeviceFailed) true }
 {
+    let failed = FaultKind::DeviceFailed.number();
     match so_far {
-        _ if fault.number == 21 => Status::InputFailed,
+        _ if fault.number == failed => Status::InputFailed,
         Status::Sound => Status::Faulty,
         so_far => so_far,
     }

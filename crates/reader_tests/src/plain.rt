@@ -4,6 +4,7 @@ use crate::summary::{CORNERS, Summary, Told, digest};
 use arrayvec::ArrayVec;
 use chess_core::{Board, Colour, Diagram, Kind, Man, Square};
 use chess_rules::{Circe, Madrasi, Orthodox, in_check};
+use pop_input::FaultKind;
 
 /// More items than any input here has.
 pub(crate) const ITEMS: usize = 64;
@@ -47,7 +48,7 @@ struct Known {
     barred: [bool; 6],
     title: u64,
     author: u64,
-    fault: u8,
+    fault: Option<FaultKind>,
     line: u64,
 }
 
@@ -69,7 +70,7 @@ fn nothing_known(begun: bool) -> Known {
         barred: [false; 6],
         title: digest(b""),
         author: digest(b""),
-        fault: 0,
+        fault: None,
         line: 0,
     }
 }
@@ -150,14 +151,18 @@ fn is_command(word: &[u8]) -> bool {
         || is_short(b"endproblem", word, 3)
 }
 
-// The fault of a word, 0 for none.
-fn read(known: &mut Known, word: &[u8]) -> u8 {
+// The fault of a word.
+fn read(known: &mut Known, word: &[u8]) -> Option<FaultKind> {
     if word.len() > 160 {
-        return 3;
+        return Some(FaultKind::WordTooLong);
     }
     if !known.begun {
         known.begun = is_short(b"beginproblem", word, 3);
-        return if known.begun { 0 } else { 1 };
+        return if known.begun {
+            None
+        } else {
+            Some(FaultKind::BeginProblemMissing)
+        };
     }
     match known.wait {
         Await::Nothing => read_plain(known, word),
@@ -166,9 +171,9 @@ fn read(known: &mut Known, word: &[u8]) -> u8 {
             match number_of(word) {
                 Some(value) if value >= 1 && value <= 4_000_000_000 => {
                     known.limit = value as u32;
-                    0
+                    None
                 }
-                _ => 13,
+                _ => Some(FaultKind::BadLimit),
             }
         }
         Await::Square => {
@@ -177,16 +182,16 @@ fn read(known: &mut Known, word: &[u8]) -> u8 {
                 Some(squares) => match squares.as_slice() {
                     [square] => {
                         known.crossed = *square;
-                        0
+                        None
                     }
-                    _ => 14,
+                    _ => Some(FaultKind::SquareMissing),
                 },
-                None => 14,
+                None => Some(FaultKind::SquareMissing),
             }
         }
         Await::Squares => match squares_of(word) {
             Some(squares) => bar(known, squares.as_slice()),
-            None => 14,
+            None => Some(FaultKind::SquareMissing),
         },
         Await::MoreSquares => match squares_of(word) {
             Some(squares) => bar(known, squares.as_slice()),
@@ -198,7 +203,7 @@ fn read(known: &mut Known, word: &[u8]) -> u8 {
     }
 }
 
-fn bar(known: &mut Known, squares: &[u8]) -> u8 {
+fn bar(known: &mut Known, squares: &[u8]) -> Option<FaultKind> {
     known.wait = Await::MoreSquares;
     for square in squares {
         let mut castles = false;
@@ -209,18 +214,18 @@ fn bar(known: &mut Known, squares: &[u8]) -> u8 {
             }
         }
         if !castles {
-            return 16;
+            return Some(FaultKind::NoneCastlesThere);
         }
     }
-    0
+    None
 }
 
 // A word that no option awaits.
-fn read_plain(known: &mut Known, word: &[u8]) -> u8 {
+fn read_plain(known: &mut Known, word: &[u8]) -> Option<FaultKind> {
     if is_command(word) {
         known.colour = 0;
         if is_short(b"beginproblem", word, 3) {
-            return 2;
+            return Some(FaultKind::WordMisplaced);
         }
         if is_short(b"pieces", word, 3) {
             known.open = Open::Pieces;
@@ -231,17 +236,17 @@ fn read_plain(known: &mut Known, word: &[u8]) -> u8 {
         } else if is_short(b"option", word, 3) {
             known.open = Open::Options;
         }
-        return 0;
+        return None;
     }
     match known.open {
-        Open::Nothing => 2,
+        Open::Nothing => Some(FaultKind::WordMisplaced),
         Open::Pieces => read_men(known, word),
         Open::Stipulation => {
             if known.stated {
                 return if word.contains(&b'#') || word.contains(&b'=') {
-                    9
+                    Some(FaultKind::SecondStipulation)
                 } else {
-                    2
+                    Some(FaultKind::WordMisplaced)
                 };
             }
             match stipulation_of(word) {
@@ -250,9 +255,9 @@ fn read_plain(known: &mut Known, word: &[u8]) -> u8 {
                     known.form = form;
                     known.sign = sign;
                     known.n = n;
-                    0
+                    None
                 }
-                None => 8,
+                None => Some(FaultKind::BadStipulation),
             }
         }
         Open::Condition => {
@@ -261,19 +266,19 @@ fn read_plain(known: &mut Known, word: &[u8]) -> u8 {
             } else if is_short(b"madrasi", word, 3) {
                 2
             } else {
-                return 2;
+                return Some(FaultKind::WordMisplaced);
             };
             if known.condition != 0 {
-                return 12;
+                return Some(FaultKind::SecondCondition);
             }
             known.condition = condition;
-            0
+            None
         }
         Open::Options => read_option(known, word),
     }
 }
 
-fn read_option(known: &mut Known, word: &[u8]) -> u8 {
+fn read_option(known: &mut Known, word: &[u8]) -> Option<FaultKind> {
     if is_short(b"setplay", word, 3) {
         known.options[0] = true;
     } else if is_short(b"variation", word, 3) {
@@ -287,36 +292,36 @@ fn read_option(known: &mut Known, word: &[u8]) -> u8 {
     } else if is_short(b"nocastling", word, 3) {
         known.wait = Await::Squares;
     } else {
-        return 2;
+        return Some(FaultKind::WordMisplaced);
     }
-    0
+    None
 }
 
-fn read_men(known: &mut Known, word: &[u8]) -> u8 {
+fn read_men(known: &mut Known, word: &[u8]) -> Option<FaultKind> {
     if is_short(b"white", word, 1) {
         known.colour = b'w';
-        return 0;
+        return None;
     }
     if is_short(b"black", word, 1) {
         known.colour = b'b';
-        return 0;
+        return None;
     }
     let [letter, behind @ ..] = word else {
-        return 2;
+        return Some(FaultKind::WordMisplaced);
     };
     let letter = letter.to_ascii_uppercase();
     if !b"KQRBSPGN".contains(&letter) {
-        return 2;
+        return Some(FaultKind::WordMisplaced);
     }
     let squares = squares_of(behind);
     if squares.is_none() && word.len() >= 3 && !has_digit(word) {
-        return 2;
+        return Some(FaultKind::WordMisplaced);
     }
     if known.colour == 0 {
-        return 4;
+        return Some(FaultKind::ColourMissing);
     }
     let Some(squares) = squares else {
-        return 14;
+        return Some(FaultKind::SquareMissing);
     };
     let man = if known.colour == b'w' {
         letter
@@ -326,17 +331,17 @@ fn read_men(known: &mut Known, word: &[u8]) -> u8 {
     for square in squares.as_slice() {
         let place = (*square & 63) as usize;
         if known.men[place] != 0 {
-            return 5;
+            return Some(FaultKind::SquareTaken);
         }
         if letter == b'P' && (place < 8 || place >= 56) {
-            return 6;
+            return Some(FaultKind::PawnOnOuterRank);
         }
         if letter == b'K' && known.men.contains(&man) {
-            return 7;
+            return Some(FaultKind::SecondKing);
         }
         known.men[place] = man;
     }
-    0
+    None
 }
 
 // The man of a letter.
@@ -403,26 +408,31 @@ fn was_passed(known: &Known) -> bool {
     }
 }
 
+// An item that is a fault.
+fn told(fault: FaultKind, line: u64) -> Told {
+    Told::Faulty(fault.number(), line)
+}
+
 // The item of a block that a word in this line closes.
 fn closed(known: &Known, line: u64) -> Told {
-    if known.fault != 0 {
-        return Told::Faulty(known.fault, known.line);
+    if let Some(fault) = known.fault {
+        return told(fault, known.line);
     }
     if !known.stated {
-        return Told::Faulty(10, line);
+        return told(FaultKind::StipulationMissing, line);
     }
     if known.men == [0; 64] {
-        return Told::Faulty(11, line);
+        return told(FaultKind::NoMen, line);
     }
     if known.crossed < 64 && !was_passed(known) {
-        return Told::Faulty(15, line);
+        return told(FaultKind::EnPassantImpossible, line);
     }
     let king = if known.form == 1 { b'K' } else { b'k' };
     if known.sign == b'#' && !known.men.contains(&king) {
-        return Told::Faulty(17, line);
+        return told(FaultKind::KingMissing, line);
     }
     if checked(known) {
-        return Told::Faulty(18, line);
+        return told(FaultKind::WaitingSideInCheck, line);
     }
     let home = [b'R', b'K', b'R', b'r', b'k', b'r'];
     let mut unmoved = [false; 6];
@@ -468,7 +478,7 @@ pub(crate) fn items(input: &[u8], failed: bool) -> ArrayVec<Told, ITEMS> {
             note(&mut known, token, rest);
             continue;
         }
-        if known.fault == 0 {
+        if known.fault.is_none() {
             known.fault = read(&mut known, token.text);
             known.line = token.line;
         }
@@ -483,14 +493,18 @@ pub(crate) fn items(input: &[u8], failed: bool) -> ArrayVec<Told, ITEMS> {
         }
     }
     let line = last_line(input);
-    if known.fault != 0 {
-        let _ = items.try_push(Told::Faulty(known.fault, known.line));
+    if let Some(fault) = known.fault {
+        let _ = items.try_push(told(fault, known.line));
     }
     if failed {
-        let _ = items.try_push(Told::Faulty(21, line));
-    } else if known.fault == 0 {
-        let number = if first && !known.begun { 1 } else { 19 };
-        let _ = items.try_push(Told::Faulty(number, line));
+        let _ = items.try_push(told(FaultKind::DeviceFailed, line));
+    } else if known.fault.is_none() {
+        let fault = if first && !known.begun {
+            FaultKind::BeginProblemMissing
+        } else {
+            FaultKind::EndProblemMissing
+        };
+        let _ = items.try_push(told(fault, line));
     }
     items
 }

@@ -1,10 +1,12 @@
 -- The item of a block that ends (own).
+use Rattle.pop_input.specs.FaultKinds.{at_line, fault_at}
+use Rattle.pop_input.specs.declared.fault_kind.FaultKind.TheVariants.{InputTooLong, DeviceFailed}
 use Rattle.std.specs.Prelude.{◌≡◌, ℕ, Bool, true, false, Option, None, Some}
 use Rattle.pop_text.specs.Words.{End}
 use Rattle.pop_text.specs.declared.read_fault.ReadFault.{ReadFault}
-use Rattle.pop_text.specs.declared.read_fault.ReadFault.TheVariants.{TooLong, InputTooLong, Device}
+use Rattle.pop_text.specs.declared.read_fault.ReadFault.TheVariants.{TooLong, InputTooLong as PastLimit, Device}
 use Rattle.pop_input.specs.Names.{or_else}
-use Rattle.pop_input.specs.Blocks.{at_line, fault_at, tail_fault}
+use Rattle.pop_input.specs.Blocks.{tail_fault}
 use Rattle.pop_input.specs.Ends.{end_fault_in, posed_of}
 use Rattle.pop_input.specs.State.{State, state_after}
 use Rattle.pop_input.specs.declared.block.Block.{Block}
@@ -64,9 +66,9 @@ ended_item block line = Faulty (ended_by block.fault (fault_at (tail_fault block
 
 -- the fault of an input that is cut
 abbrev pub cut_fault : ReadFault → Fault
-cut_fault (TooLong line) = fault_at 20 line
-cut_fault (InputTooLong line) = fault_at 20 line
-cut_fault (Device line) = fault_at 21 line
+cut_fault (TooLong line) = fault_at InputTooLong line
+cut_fault (PastLimit line) = fault_at InputTooLong line
+cut_fault (Device line) = fault_at DeviceFailed line
 
 -- whether the item of a block that such a word closes is the last
 abbrev pub last_of : Option Command → Option Last

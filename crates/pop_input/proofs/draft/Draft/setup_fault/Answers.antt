@@ -7,13 +7,13 @@ use Rattle.pop_input.specs.Stipulations.{has_king_to_mate, starts}
 use Rattle.pop_input.proofs.Posing.{ill_fault, position_told, shown_men}
 use Rattle.pop_input.proofs.draft.Draft.setup_fault.Goals as goal
 
-pub returns-then-not-is_well_formed-clause-number : goal.returns-then-not-is_well_formed-clause-number
-returns-then-not-is_well_formed-clause-number c =
+pub returns-then-not-is_well_formed-clause-fault : goal.returns-then-not-is_well_formed-clause-fault
+returns-then-not-is_well_formed-clause-fault c =
     let put : ArePut c.args.self.now.men = rw (← c.self.view_is) c.self.invariant.0 in
     ill_fault c.args.self.now c.args.stipulation c.args.diagram.now c.requires put (sym c.has_men.ensures ∙ c.if-not-has_men.false) c.if-not-is_well_formed.ensures
 
-pub returns-clause-number : goal.returns-clause-number
-returns-clause-number c =
+pub returns-clause-fault : goal.returns-clause-fault
+returns-clause-fault c =
     let put : ArePut c.args.self.now.men = rw (← c.self.view_is) c.self.invariant.0 in
     let men = ap (λ p. p.men) c.of-board.ensures ∙ shown_men c.args.diagram.now in
     let condition = ap (λ s. s.condition) c.self.view_is in

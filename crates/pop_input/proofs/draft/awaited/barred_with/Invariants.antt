@@ -1,8 +1,7 @@
 use Rattle.std.proofs.Common.{◌≡◌, take, fold, true}
 use Rattle.std.specs.List.{list_all}
-use Rattle.chess_core.specs.Castling.{with_unmoved}
-use Rattle.pop_input.specs.WordFaults.{is_castling}
-use Rattle.pop_input.proofs.draft.barred_with.Given as goal
+use Rattle.chess_core.specs.Castling.{is_castling, with_unmoved}
+use Rattle.pop_input.proofs.draft.awaited.barred_with.Given as goal
 
 -- the squares so far are castling squares, and in the set
 abbrev pub invariant-squares : goal.invariant-squares

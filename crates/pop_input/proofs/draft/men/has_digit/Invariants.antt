@@ -1,7 +1,7 @@
 use Rattle.std.proofs.Common.{◌≡◌, take, false}
 use Rattle.std.specs.List.{list_any}
 use Rattle.pop_input.specs.Values.{is_digit}
-use Rattle.pop_input.proofs.draft.has_digit.Given as goal
+use Rattle.pop_input.proofs.draft.men.has_digit.Given as goal
 
 abbrev pub invariant-bytes : goal.invariant-bytes
 invariant-bytes l = list_any is_digit (take l.byte-index l.text) ≡ false

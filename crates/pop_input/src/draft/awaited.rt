@@ -1,0 +1,81 @@
+//! Values that options await.
+ghost use Rattle.std.specs.Prelude.{◌≡◌, ◌≤◌, ◌<◌, length, None, Some, fold, if◌then◌else◌};
+ghost use Rattle.std.specs.List.{list_all};
+ghost use Rattle.chess_core.specs.Castling.{is_castling, with_unmoved};
+ghost use Rattle.pop_input.specs.Values.{squares_of};
+ghost use Rattle.pop_input.specs.State.{state_by};
+ghost use Rattle.pop_input.specs.WordFaults.{role_fault};
+ghost use Rattle.pop_input.specs.declared.place.Role.TheVariants.{BarredSquares, CrossedSquare, Limit};
+
+use crate::draft::Draft;
+use crate::fault_kind::FaultKind;
+use crate::names::Awaited;
+use crate::values::{limit_of, square_of, squares_of};
+use chess_core::man::Unmoved;
+use chess_core::square::Square;
+
+impl Draft {
+    /// The number of MaxSolutions.
+    pub(crate) fn take_limit(&mut self, word: &[u8]) -> Option<FaultKind>
+        ensures fault { result ≡ role_fault self.old Limit word.now }
+        ensures state { result ≡ None → self.new ≡ state_by Limit self.old word.now }
+    {
+        match limit_of(word) {
+            Some(limit) => {
+                self.limit = limit;
+                self.place.awaited = None;
+                None
+            }
+            None => Some(FaultKind::BadLimit),
+        }
+    }
+
+    /// The square of EnPassant.
+    pub(crate) fn take_crossed(&mut self, word: &[u8]) -> Option<FaultKind>
+        requires { length word.now ≤ 160 }
+        ensures fault { result ≡ role_fault self.old CrossedSquare word.now }
+        ensures state { result ≡ None → self.new ≡ state_by CrossedSquare self.old word.now }
+    {
+        match square_of(word) {
+            Some(square) => {
+                self.crossed = Some(square);
+                self.place.awaited = None;
+                None
+            }
+            None => Some(FaultKind::SquareMissing),
+        }
+    }
+
+    /// Squares of NoCastling.
+    pub(crate) fn take_barred(&mut self, word: &[u8]) -> Option<FaultKind>
+        requires { length word.now ≤ 160 }
+        ensures fault { result ≡ role_fault self.old BarredSquares word.now }
+        ensures state { result ≡ None → self.new ≡ state_by BarredSquares self.old word.now }
+    {
+        match squares_of(word) {
+            Some(squares) => match barred_with(self.barred, squares.as_slice()) {
+                Some(barred) => {
+                    self.barred = barred;
+                    self.place.awaited = Some(Awaited::MoreSquares);
+                    None
+                }
+                None => Some(FaultKind::NoneCastlesThere),
+            },
+            None => Some(FaultKind::SquareMissing),
+        }
+    }
+}
+
+// The castling squares of the set and of the list, if all of the list are such.
+fn barred_with(barred: Unmoved, squares: &[Square]) -> Option<Unmoved>
+    ensures { result ≡ (if list_all is_castling squares.now then Some (fold with_unmoved barred squares.now) else None) }
+{
+    let mut set = barred;
+    'squares: for &square in squares {
+        if !square.is_castling() {
+            return None;
+        }
+        set = set.with(square);
+    }
+    Some(set)
+}

@@ -1,0 +1,149 @@
+//! The tests at the end of a problem.
+ghost use Rattle.std.specs.Prelude.{◌≡◌, ◌<◌, None, Some, MatchBool};
+ghost use Rattle.chess_core.specs.Castling.{mark_unmoved};
+ghost use Rattle.chess_core.specs.Diagrams.{position_of};
+ghost use Rattle.chess_core.specs.WellFormed.{IsWellFormed};
+ghost use Rattle.chess_rules.specs.Attacks.{in_check};
+ghost use Rattle.pop_input.specs.Posed.{rule_of};
+ghost use Rattle.pop_input.specs.Ends.{counts, position_fault, setup_fault, setup_of, unmoved_of};
+ghost use Rattle.pop_input.specs.ties.Closings.{Poses};
+ghost use Rattle.pop_input.specs.Stipulations.{has_king_to_mate};
+
+use crate::condition::Condition;
+use crate::draft::Draft;
+use crate::fault_kind::FaultKind;
+use crate::item::{Fault, Item, Last};
+use crate::problem::Problem;
+use crate::stipulation::{Form, Stipulation};
+use chess_core::board::Board;
+use chess_core::diagram::Diagram;
+use chess_core::man::{Colour, Unmoved};
+use chess_core::square::Square;
+use chess_rules::rules::{Circe, Madrasi, Orthodox, in_check};
+use pop_text::text::Text;
+
+impl Draft {
+    /// The problem that the words pose, or the fault at their end, in this line. The tests in their order: a stipulation,
+    /// men, the crossed square, the king of the side to be mated, check to the side that isn't to move.
+    #[tactic(auto, unfolding(crate::specs::Ends::end_fault_in))]
+    pub(crate) fn posed(&self, title: &Text, author: &Text, line: u64, last: Last) -> Item
+        ensures { Poses self.now title.now author.now line last result }
+    {
+        let Some(stipulation) = self.stipulation else {
+            return Item::Faulty(Fault::at(FaultKind::StipulationMissing, line), last);
+        };
+        let diagram = self.diagram_for(stipulation.form);
+        match self.setup_fault(&diagram, stipulation) {
+            Some(fault) => Item::Faulty(Fault::at(fault, line), last),
+            None => Item::Sound(
+                Problem::new(
+                    &diagram,
+                    stipulation,
+                    self.condition,
+                    self.switches,
+                    self.limit,
+                    title,
+                    author,
+                ),
+                last,
+            ),
+        }
+    }
+
+    // The diagram, where the problem has this form.
+    fn diagram_for(&self, form: Form) -> Diagram
+        ensures { result ≡ setup_of self.now form }
+    {
+        let mut diagram = self.diagram;
+        diagram.turn = form.starts();
+        diagram.unmoved = self.unmoved();
+        diagram.crossed = self.crossed;
+        diagram
+    }
+
+    // The fault of that diagram.
+    fn setup_fault(&self, diagram: &Diagram, stipulation: Stipulation) -> Option<FaultKind>
+        requires { diagram.now ≡ setup_of self.now stipulation.form }
+        ensures fault { result ≡ setup_fault self.now stipulation diagram.now }
+        ensures well_formed { result ≡ None → IsWellFormed (position_of diagram.now) }
+    {
+        let condition = self.condition;
+        if !diagram.has_men() {
+            return Some(FaultKind::NoMen);
+        }
+        if !self.is_well_formed(diagram, stipulation.form) {
+            return Some(FaultKind::EnPassantImpossible);
+        }
+        let board = Board::of(diagram);
+        let has_king = has_king_to_mate(stipulation, &board);
+        let in_check = is_in_check(&board, condition, stipulation.form.starts().other());
+        position_fault(has_king, in_check)
+    }
+
+    // Whether that diagram is well formed: only the crossed square may be wrong in it.
+    fn is_well_formed(&self, diagram: &Diagram, form: Form) -> bool
+        requires { diagram.now ≡ setup_of self.now form }
+        ensures { MatchBool result (IsWellFormed (position_of diagram.now)) (IsWellFormed (position_of diagram.now) → ⊥) }
+    {
+        match self.crossed {
+            None => true,
+            Some(_) => diagram.is_well_formed(),
+        }
+    }
+
+    // The castling squares that count as unmoved.
+    #[tactic(auto, unfolding(crate::specs::Ends::unmoved_of))]
+    fn unmoved(&self) -> Unmoved
+        ensures { result ≡ unmoved_of self.now.men self.now.barred }
+    {
+        let mut set = Unmoved::none();
+        let castling = Square::castling();
+        'squares: for &square in &castling {
+            set = self.with_counted(set, square);
+        }
+        set
+    }
+
+    // The set with the square if it counts as unmoved, else without it.
+    fn with_counted(&self, set: Unmoved, square: Square) -> Unmoved
+        ensures { result ≡ mark_unmoved set square (counts self.now.men self.now.barred square) }
+    {
+        if self.diagram.is_home(square) && !self.barred.has(square) {
+            set.with(square)
+        } else {
+            set.without(square)
+        }
+    }
+}
+
+// The fault of a position by whether the king that is to be mated stands in it, and whether the side that isn't to move
+// is in check.
+fn position_fault(has_king: bool, in_check: bool) -> Option<FaultKind>
+    ensures { result ≡ position_fault has_king in_check }
+{
+    if !has_king {
+        Some(FaultKind::KingMissing)
+    } else if in_check {
+        Some(FaultKind::WaitingSideInCheck)
+    } else {
+        None
+    }
+}
+
+// Whether the king that is to be mated stands on the board; stalemate asks for none.
+fn has_king_to_mate(stipulation: Stipulation, board: &Board) -> bool
+    ensures { result ≡ has_king_to_mate stipulation board.now.men }
+{
+    stipulation.goal.is_stalemate() || board.king_of(stipulation.form.mated()).is_some()
+}
+
+// Whether the colour is in check under the condition.
+fn is_in_check(board: &Board, condition: Option<Condition>, colour: Colour) -> bool
+    ensures { result ≡ in_check (rule_of condition) board.now.men colour }
+{
+    match condition {
+        None => in_check::<Orthodox>(board, colour),
+        Some(Condition::Circe) => in_check::<Circe>(board, colour),
+        Some(Condition::Madrasi) => in_check::<Madrasi>(board, colour),
+    }
+}

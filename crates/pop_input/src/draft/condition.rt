@@ -1,0 +1,30 @@
+//! Words of the section of the condition.
+ghost use Rattle.std.specs.Prelude.{◌≡◌, ◌≤◌, ◌<◌, length, None, Some};
+ghost use Rattle.pop_input.specs.State.{state_by};
+ghost use Rattle.pop_input.specs.WordFaults.{role_fault};
+ghost use Rattle.pop_input.specs.declared.place.Role.TheVariants.{Within};
+ghost use Rattle.pop_input.specs.declared.names.Section.TheVariants.{Condition as Conditions};
+
+use crate::draft::Draft;
+use crate::fault_kind::FaultKind;
+use crate::names::condition_of;
+
+impl Draft {
+    pub(crate) fn take_condition(&mut self, word: &[u8]) -> Option<FaultKind>
+        requires { length word.now ≤ 160 }
+        ensures fault { result ≡ role_fault self.old (Within (Some Conditions)) word.now }
+        ensures state { result ≡ None → self.new ≡ state_by (Within (Some Conditions)) self.old word.now }
+    {
+        match condition_of(word) {
+            Some(condition) => {
+                if self.condition.is_some() {
+                    return Some(FaultKind::SecondCondition);
+                }
+                self.condition = Some(condition);
+                self.place.awaited = None;
+                None
+            }
+            None => Some(FaultKind::WordMisplaced),
+        }
+    }
+}

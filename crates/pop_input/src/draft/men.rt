@@ -1,0 +1,130 @@
+//! Words of the section of men.
+ghost use Rattle.std.specs.Prelude.{◌≡◌, ◌≤◌, ◌<◌, [], length, None, Some, Ok, Err, unwrap_or};
+ghost use Rattle.std.specs.List.{list_any};
+ghost use Rattle.chess_core.specs.Position.{with_man};
+ghost use Rattle.pop_input.specs.Names.{kind_of};
+ghost use Rattle.pop_input.specs.Values.{is_digit, squares_of};
+ghost use Rattle.pop_input.specs.State.{put_kind, put_men, state_by};
+ghost use Rattle.pop_input.specs.WordFaults.{is_foreign, letter_fault, man_fault, men_fault, role_fault};
+ghost use Rattle.pop_input.specs.declared.place.Role.TheVariants.{Within};
+ghost use Rattle.pop_input.specs.declared.names.Section.TheVariants.{Pieces};
+
+use crate::draft::Draft;
+use crate::fault_kind::FaultKind;
+use crate::names::{colour_of, kind_of};
+use crate::values::{is_digit, squares_of};
+use chess_core::man::{Kind, Man};
+use chess_core::square::Square;
+
+impl Draft {
+    /// A colour, or men on squares.
+    pub(crate) fn take_pieces(&mut self, word: &[u8]) -> Option<FaultKind>
+        requires { length word.now ≤ 160 }
+        ensures fault { result ≡ role_fault self.old (Within (Some Pieces)) word.now }
+        ensures state { result ≡ None → self.new ≡ state_by (Within (Some Pieces)) self.old word.now }
+    {
+        self.place.awaited = None;
+        match (colour_of(word), word) {
+            (Some(colour), _) => {
+                self.colour = Some(colour);
+                None
+            }
+            (None, [letter, text @ ..]) => self.take_men(*letter, text),
+            (None, []) => None,
+        }
+    }
+
+    // A letter and squares.
+    fn take_men(&mut self, letter: u8, text: &[u8]) -> Option<FaultKind>
+        requires { length text.now ≤ 160 }
+        ensures fault { result ≡ letter_fault self.old (kind_of letter) text.now }
+        ensures state { result ≡ None → self.new ≡ record self.old { men = put_kind self.old.colour (kind_of letter) (unwrap_or (squares_of text.now) []) self.old.men } }
+    {
+        match kind_of(letter) {
+            Some(kind) => self.take_kind(kind, text),
+            None => Some(FaultKind::WordMisplaced),
+        }
+    }
+
+    // Squares behind a letter.
+    fn take_kind(&mut self, kind: Kind, text: &[u8]) -> Option<FaultKind>
+        requires { length text.now ≤ 160 }
+        ensures fault { result ≡ letter_fault self.old (Some kind) text.now }
+        ensures state { result ≡ None → self.new ≡ record self.old { men = put_kind self.old.colour (Some kind) (unwrap_or (squares_of text.now) []) self.old.men } }
+    {
+        match squares_of(text) {
+            Some(squares) => match self.colour {
+                Some(colour) => self.put_men(Man { colour, kind }, squares.as_slice()),
+                None => Some(FaultKind::ColourMissing),
+            },
+            None => {
+                if is_foreign(text) {
+                    Some(FaultKind::WordMisplaced)
+                } else if self.colour.is_none() {
+                    Some(FaultKind::ColourMissing)
+                } else {
+                    Some(FaultKind::SquareMissing)
+                }
+            }
+        }
+    }
+
+    // Puts the man on the squares in turn, up to a fault.
+    fn put_men(&mut self, man: Man, squares: &[Square]) -> Option<FaultKind>
+        ensures fault { result ≡ men_fault self.old.men man squares.now }
+        ensures state { result ≡ None → self.new ≡ record self.old { men = put_men self.old.men man squares.now } }
+    {
+        'squares: for &square in squares {
+            if let Some(fault) = self.put_man(man, square) {
+                return Some(fault);
+            }
+        }
+        None
+    }
+
+    fn put_man(&mut self, man: Man, square: Square) -> Option<FaultKind>
+        ensures fault { result ≡ man_fault self.old.men man square }
+        ensures state { result ≡ None → self.new ≡ record self.old { men = with_man self.old.men square man } }
+    {
+        if let Some(fault) = self.man_fault(man, square) {
+            return Some(fault);
+        }
+        match self.diagram.put(square, man) {
+            Ok(()) => None,
+            Err(_) => Some(FaultKind::SquareTaken),
+        }
+    }
+
+    // Why the man may not be put there.
+    fn man_fault(&self, man: Man, square: Square) -> Option<FaultKind>
+        ensures { result ≡ man_fault self.now.men man square }
+    {
+        if self.diagram.man_at(square).is_some() {
+            Some(FaultKind::SquareTaken)
+        } else if man.kind.is(Kind::Pawn) && !(square.rank() >= 2 && square.rank() <= 7) {
+            Some(FaultKind::PawnOnOuterRank)
+        } else if man.kind.is(Kind::King) && self.diagram.has(man.colour, Kind::King) {
+            Some(FaultKind::SecondKing)
+        } else {
+            None
+        }
+    }
+}
+
+// Two bytes or more, and no digit among them.
+fn is_foreign(text: &[u8]) -> bool
+    ensures { result ≡ is_foreign text.now }
+{
+    text.len() >= 2 && !has_digit(text)
+}
+
+fn has_digit(text: &[u8]) -> bool
+    ensures { result ≡ list_any is_digit text.now }
+{
+    'bytes: for &byte in text {
+        if is_digit(byte) {
+            return true;
+        }
+    }
+    false
+}

@@ -1,0 +1,39 @@
+//! Words of the section of options.
+ghost use Rattle.std.specs.Prelude.{◌≡◌, ◌≤◌, ◌<◌, length, None, Some};
+ghost use Rattle.pop_input.specs.State.{awaited_by, state_by, switches_with};
+ghost use Rattle.pop_input.specs.WordFaults.{role_fault};
+ghost use Rattle.pop_input.specs.declared.place.Role.TheVariants.{Within};
+ghost use Rattle.pop_input.specs.declared.names.Section.TheVariants.{Options};
+
+use crate::draft::Draft;
+use crate::fault_kind::FaultKind;
+use crate::names::{OptionWord, option_of};
+
+impl Draft {
+    pub(crate) fn take_option(&mut self, word: &[u8]) -> Option<FaultKind>
+        requires { length word.now ≤ 160 }
+        ensures fault { result ≡ role_fault self.old (Within (Some Options)) word.now }
+        ensures state { result ≡ None → self.new ≡ state_by (Within (Some Options)) self.old word.now }
+    {
+        match option_of(word) {
+            Some(option) => {
+                self.apply(option);
+                None
+            }
+            None => Some(FaultKind::WordMisplaced),
+        }
+    }
+
+    // An option holds from now on, or awaits its value.
+    fn apply(&mut self, option: OptionWord)
+        ensures { self.new ≡ record self.old { place = record { section = self.old.place.section; awaited = awaited_by (Some option) }; switches = switches_with (Some option) self.old.switches } }
+    {
+        self.place.awaited = None;
+        match option {
+            OptionWord::SetPlay => self.switches.set_play = true,
+            OptionWord::Variation => self.switches.variation = true,
+            OptionWord::NoBoard => self.switches.no_board = true,
+            OptionWord::Awaits(awaited) => self.place.awaited = Some(awaited),
+        }
+    }
+}

@@ -1,0 +1,34 @@
+//! Words of the section of the stipulation.
+ghost use Rattle.std.specs.Prelude.{◌≡◌, ◌≤◌, ◌<◌, length, None, Some};
+ghost use Rattle.pop_input.specs.State.{state_by};
+ghost use Rattle.pop_input.specs.WordFaults.{role_fault};
+ghost use Rattle.pop_input.specs.declared.place.Role.TheVariants.{Within};
+ghost use Rattle.pop_input.specs.declared.names.Section.TheVariants.{Stipulation as Stipulations};
+
+use crate::draft::Draft;
+use crate::fault_kind::FaultKind;
+use crate::values::stipulation_of;
+
+impl Draft {
+    pub(crate) fn take_stipulation(&mut self, word: &[u8]) -> Option<FaultKind>
+        requires { length word.now ≤ 160 }
+        ensures fault { result ≡ role_fault self.old (Within (Some Stipulations)) word.now }
+        ensures state { result ≡ None → self.new ≡ state_by (Within (Some Stipulations)) self.old word.now }
+    {
+        if self.stipulation.is_some() {
+            return if word.contains(&b'#') || word.contains(&b'=') {
+                Some(FaultKind::SecondStipulation)
+            } else {
+                Some(FaultKind::WordMisplaced)
+            };
+        }
+        match stipulation_of(word) {
+            Some(stipulation) => {
+                self.stipulation = Some(stipulation);
+                self.place.awaited = None;
+                None
+            }
+            None => Some(FaultKind::BadStipulation),
+        }
+    }
+}
