@@ -1,8 +1,8 @@
 -- A move that goes to no square from which its man may give check gives none.
-use Rattle.std.proofs.Common.{◌≡◌, ℕ, ◌<◌, Bool, true, false, ◌&&◌, ◌||◌, ◌==◌, not, Option, Some, None, is_some, max, refl, sym, ap, ◌∙◌, arith, inl, inr}
+use Rattle.std.proofs.Common.{◌≡◌, ℕ, ◌<◌, Bool, true, false, ◌&&◌, ◌||◌, ◌==◌, not, Option, Some, None, is_some, refl, sym, ap, ◌∙◌, arith, inl, inr}
 use Rattle.std.specs.Int.{bit_at, bit_not, w64}
 use Rattle.std.specs.Int.Bits.{bit_and, bit_or}
-use Rattle.std.proofs.lemmas.Bool.{agree_below_at, and_left, and_parts, and_right, cases_Bool, eq-eqb, eqb-true}
+use Rattle.std.proofs.lemmas.Bool.{agree_below_at, and_left, and_parts, and_right, cases_Bool, eq-eqb, eqb-true, false≢true}
 use Rattle.std.proofs.lemmas.Nat.Bits.{bit_at_or, bit_at-lt}
 use Rattle.chess_core.specs.Position.{Position, man_on, other, same_kind}
 use Rattle.chess_core.specs.Squares.{is_square, rank_of}
@@ -32,42 +32,46 @@ use Rattle.chess_rules.proofs.Targeting.{arrival_needed, castling_steps, every_s
 -- a square off both words is off each
 pub off_left : (a b i : ℕ) → (bit_at (bit_or a b) i == 1) ≡ false → (bit_at a i == 1) ≡ false
 off_left a b i h = false_by (bit_at a i == 1) (λ y.
-    let e : bit_at (bit_or a b) i ≡ max (bit_at a i) (bit_at b i) = bit_at_or a b i in
     let one : bit_at a i ≡ 1 = eqb-true _ _ y in
-    let both : (bit_at (bit_or a b) i == 1) ≡ true = eq-eqb _ _ (omega (arith, e, one, bit_at-lt b i)) in
+    let both : (bit_at (bit_or a b) i == 1) ≡ true = eq-eqb _ _ (omega (arith, bit_at_or a b i, one, bit_at-lt b i)) in
     cc)
 
 pub off_right : (a b i : ℕ) → (bit_at (bit_or a b) i == 1) ≡ false → (bit_at b i == 1) ≡ false
 off_right a b i h = false_by (bit_at b i == 1) (λ y.
-    let e : bit_at (bit_or a b) i ≡ max (bit_at a i) (bit_at b i) = bit_at_or a b i in
     let one : bit_at b i ≡ 1 = eqb-true _ _ y in
-    let both : (bit_at (bit_or a b) i == 1) ≡ true = eq-eqb _ _ (omega (arith, e, one, bit_at-lt a i)) in
+    let both : (bit_at (bit_or a b) i == 1) ≡ true = eq-eqb _ _ (omega (arith, bit_at_or a b i, one, bit_at-lt a i)) in
     cc)
 
 -- a pawn's last rank is in the word of both
+implied : (a b : Bool) → (not a || b) ≡ true → a ≡ true → b ≡ true
+implied true b h e = h
+implied false b h e = cc
+
 last_rank_on : (c : Colour) (t : ℕ) → t < 64 → (rank_of t == last_rank c) ≡ true → (bit_at 18374686479671623935 t == 1) ≡ true
-last_rank_on White t lt h = shown (rank_of t == 8) _ h (agree_below_at (λ n. not (rank_of n == 8) || bit_at 18374686479671623935 n == 1) (λ _. true) 64 t refl
-    lt)
-  where
-    shown : (a b : Bool) → a ≡ true → (not a || b) ≡ true → b ≡ true
-    shown true b e h = h
-    shown false b e h = cc
-last_rank_on Black t lt h = shown (rank_of t == 1) _ h (agree_below_at (λ n. not (rank_of n == 1) || bit_at 18374686479671623935 n == 1) (λ _. true) 64 t refl
-    lt)
-  where
-    shown : (a b : Bool) → a ≡ true → (not a || b) ≡ true → b ≡ true
-    shown true b e h = h
-    shown false b e h = cc
+last_rank_on c t lt = implied (rank_of t == last_rank c) _ (agreed c) where
+  agreed : (c : Colour) → (not (rank_of t == last_rank c) || bit_at 18374686479671623935 t == 1) ≡ true
+  agreed White = agree_below_at (λ n. not (rank_of n == 8) || bit_at 18374686479671623935 n == 1) (λ _. true) 64 t refl lt
+  agreed Black = agree_below_at (λ n. not (rank_of n == 1) || bit_at 18374686479671623935 n == 1) (λ _. true) 64 t refl lt
+
+-- a move that isn't castling, captures nobody en passant and, in Circe, nobody at all, is plain: by the words of the squares where that may be
+pub plain_elsewhere : (rule : RuleSet) (p : Position) (x : Man) (m : Move) (b d : ℕ) → m.to < 64 → is_castling x m ≡ false
+    → b ≡ word (λ t. is_square p.crossed t) → (bit_at b m.to == 1) ≡ false
+    → (is_circe rule ≡ true → d ≡ word (λ t. is_some (man_on p.men t))) → (bit_at d m.to == 1) ≡ false → is_plain rule p x m ≡ true
+unfolding is_plain
+plain_elsewhere rule p x m b d small no_castling crossed off-b reborn off-d =
+    let not_crossed : is_square p.crossed m.to ≡ false = sym (word_has (λ t. is_square p.crossed t) b m.to crossed small) ∙ off-b in
+    let no_rebirth : (is_circe rule && is_some (man_on p.men m.to)) ≡ false = elim (cases_Bool (is_circe rule)) [
+      | inl y ↦ and_right (is_circe rule) _ (sym (word_has (λ t. is_some (man_on p.men t)) d m.to (reborn y) small) ∙ off-d)
+      | inr n ↦ and_left (is_circe rule) _ n
+    ] in
+    rw (no_castling, not_crossed, no_rebirth) refl
 
 -- nobody moves from an empty square
 pub check_targets_nobody : (rule : RuleSet) (p : Position) (f w : ℕ) → man_on p.men f ≡ None → AreCheckTargets rule p f w
 check_targets_nobody rule p f w none = record {
   elsewhere = λ m at small may off.
-      absurd (let no : pseudo rule p m ≡ false = nobody rule m (ap (man_on p.men) at ∙ none) in cc);
+      absurd (let none_moves : pseudo rule p m ≡ false = nobody_moves rule p m (ap (man_on p.men) at ∙ none) in cc);
 }
-  where
-    nobody : (rule : RuleSet) (m : Move) → man_on p.men m.from ≡ None → pseudo rule p m ≡ false
-    nobody rule m h = nobody_moves rule p m h
 
 -- every square is in the word
 pub check_targets_all : (rule : RuleSet) (p : Position) (f : ℕ) → AreCheckTargets rule p f (bit_not w64 0)
@@ -85,17 +89,14 @@ module _ (rule : RuleSet) (p : Position) (x : Man) (s : CheckSquares) (f : ℕ) 
     stands : man_on p.men m.from ≡ Some x
     stands = ap (man_on p.men) at ∙ here
 
-    off-d : (bit_at d m.to == 1) ≡ false
-    off-d = off_right (bit_or (bit_or a b) c) d m.to off
+    off-abc : (bit_at (bit_or (bit_or a b) c) m.to == 1) ≡ false
+    off-abc = off_left (bit_or (bit_or a b) c) d m.to off
 
     off-c : (bit_at c m.to == 1) ≡ false
-    off-c = off_right (bit_or a b) c m.to (off_left (bit_or (bit_or a b) c) d m.to off)
+    off-c = off_right (bit_or a b) c m.to off-abc
 
-    off-b : (bit_at b m.to == 1) ≡ false
-    off-b = off_right a b m.to (off_left (bit_or a b) c m.to (off_left (bit_or (bit_or a b) c) d m.to off))
-
-    off-a : (bit_at a m.to == 1) ≡ false
-    off-a = off_left a b m.to (off_left (bit_or a b) c m.to (off_left (bit_or (bit_or a b) c) d m.to off))
+    off-ab : (bit_at (bit_or a b) m.to == 1) ≡ false
+    off-ab = off_left (bit_or a b) c m.to off-abc
 
     -- nobody promotes
     unturned : arrives x m.to ≡ false
@@ -105,15 +106,12 @@ module _ (rule : RuleSet) (p : Position) (x : Man) (s : CheckSquares) (f : ℕ) 
         let on : (bit_at c m.to == 1) ≡ true = rw (promotes parts.0) (last_rank_on x.colour m.to small parts.1) in
         cc)
 
-    by_kind : (o : Option Kind) → m.promo ≡ o → (bit_at (check_squares_for s (arriving x o).kind) m.to == 1) ≡ false
-    by_kind None e = rw (← checked_from) off-a
-    by_kind (Some k) e = absurd (let yes : arrives x m.to ≡ true = unpromoted p x m m.promo k (made rule p m x may stands).promotion e in let never =
-        unturned in cc)
-
     unnamed : (o : Option Kind) → m.promo ≡ o → o ≡ None
     unnamed None e = refl
-    unnamed (Some k) e = absurd (let yes : arrives x m.to ≡ true = unpromoted p x m m.promo k (made rule p m x may stands).promotion e in let never =
-        unturned in cc)
+    unnamed (Some k) e = absurd (false≢true (sym unturned ∙ unpromoted p x m m.promo k (made rule p m x may stands).promotion e))
+
+    by_kind : (bit_at (check_squares_for s (arriving x m.promo).kind) m.to == 1) ≡ false
+    by_kind = rw (unnamed m.promo refl, ← checked_from) (off_left a b m.to off-ab)
 
     no_castling : is_castling x m ≡ false
     no_castling = false_by (is_castling x m) (λ y.
@@ -124,30 +122,22 @@ module _ (rule : RuleSet) (p : Position) (x : Man) (s : CheckSquares) (f : ℕ) 
         let on : (bit_at c m.to == 1) ≡ true = word_has (steps_to x f) c m.to w small ∙ step in
         cc)
 
-    not_crossed : is_square p.crossed m.to ≡ false
-    not_crossed = sym (word_has (λ t. is_square p.crossed t) b m.to crossed small) ∙ off-b
-
-    no_rebirth : (is_circe rule && is_some (man_on p.men m.to)) ≡ false
-    no_rebirth = elim (cases_Bool (is_circe rule)) [
-      | inl y ↦ and_right (is_circe rule) _ (sym (word_has (λ t. is_some (man_on p.men t)) d m.to (reborn y) small) ∙ off-d)
-      | inr n ↦ and_left (is_circe rule) _ n
-    ]
-
-    plain : is_plain rule p x m ≡ true
-    unfolding is_plain
-    plain = rw (no_castling, not_crossed, no_rebirth) refl
-
     covering : cannot_expose rule p (other p.turn) m ≡ true
     unfolding cannot_expose
     covering =
-        let off : may_expose rule p.men (other p.turn) m.from ≡ false =
+        let covers : may_expose rule p.men (other p.turn) m.from ≡ false =
         rw at (sym (word_has (may_expose rule p.men (other p.turn)) s.shield_squares f checks.shield_squares inside) ∙ covered) in
-        rw (stands, off, plain) refl
+        rw (
+          stands,
+          covers,
+          plain_elsewhere rule p x m b d small no_castling crossed (off_right a b m.to off-ab) reborn
+              (off_right (bit_or (bit_or a b) c) d m.to off),
+        ) refl
 
     no_check_elsewhere : in_check rule (after rule p m).men (other p.turn) ≡ false
     no_check_elsewhere =
         no_check rule p x m s (arriving x m.promo) (check_squares_for s (arriving x m.promo).kind) m.to well may stands checks refl refl refl small
-        (by_kind m.promo refl) (unnamed m.promo refl) covering
+        by_kind (unnamed m.promo refl) covering
 
   pub check_targets_some : AreCheckTargets rule p f (bit_or (bit_or (bit_or a b) c) d)
   check_targets_some = record { elsewhere = λ m at small may off. no_check_elsewhere m at small may off }

@@ -1,8 +1,8 @@
 -- A move that goes to no square at which a check is met is not legal.
-use Rattle.std.proofs.Common.{◌≡◌, ℕ, ◌<◌, true, false, ◌&&◌, ◌==◌, Some, None, is_some, refl, sym, ap, ◌∙◌, inl, inr}
+use Rattle.std.proofs.Common.{◌≡◌, ℕ, ◌<◌, true, false, ◌==◌, Some, None, is_some, refl, ap, ◌∙◌}
 use Rattle.std.specs.Int.{bit_at, bit_not, w64}
 use Rattle.std.specs.Int.Bits.{bit_or}
-use Rattle.std.proofs.lemmas.Bool.{and_left, and_parts, and_right, cases_Bool}
+use Rattle.std.proofs.lemmas.Bool.{and_parts}
 use Rattle.chess_core.specs.Position.{Position, man_on, same_kind}
 use Rattle.chess_core.specs.Squares.{is_square}
 use Rattle.chess_core.specs.WellFormed.{IsWellFormed}
@@ -12,12 +12,10 @@ use Rattle.chess_core.specs.declared.man.Man.{Man}
 use Rattle.chess_core.specs.declared.man.Move.{Move}
 use Rattle.chess_rules.specs.Attacks.{in_check}
 use Rattle.chess_rules.specs.ties.Evasions.{AreEvasionsFrom, AreEvasions}
-use Rattle.chess_rules.specs.ties.Shields.{is_plain}
 use Rattle.chess_rules.specs.Legal.{pseudo}
 use Rattle.chess_rules.specs.Play.{after, is_castling}
 use Rattle.chess_rules.specs.RuleSet.{RuleSet, is_circe}
-use Rattle.chess_rules.proofs.CheckTargets.{off_left, off_right}
-use Rattle.chess_rules.proofs.Bits.{word_has}
+use Rattle.chess_rules.proofs.CheckTargets.{off_left, off_right, plain_elsewhere}
 use Rattle.chess_rules.proofs.StayingInCheck.{check_unmet}
 use Rattle.chess_rules.proofs.Targeting.{every_square_on, false_by, nobody_moves}
 
@@ -32,36 +30,18 @@ evasions_from_all rule p f = record {
   elsewhere = λ m at small may off. absurd (let on = every_square_on m.to small in cc);
 }
 
-module _ (rule : RuleSet) (p : Position) (x : Man) (f : ℕ) (well : IsWellFormed p) (here : man_on p.men f ≡ Some x) (piece : same_kind x.kind King ≡ false) (a b c : ℕ) (evasion_squares : AreEvasions rule p.men p.turn a) (crossed : b ≡ word (λ t. is_square p.crossed t)) (reborn : is_circe rule ≡ true → c ≡ word (λ t. is_some (man_on p.men t))) where
-  module _ (m : Move) (at : m.from ≡ f) (small : m.to < 64) (may : pseudo rule p m ≡ true) (off : (bit_at (bit_or (bit_or a b) c) m.to == 1) ≡ false) where
-    off-c : (bit_at c m.to == 1) ≡ false
-    off-c = off_right (bit_or a b) c m.to off
-
-    off-b : (bit_at b m.to == 1) ≡ false
-    off-b = off_right a b m.to (off_left (bit_or a b) c m.to off)
-
-    off-a : (bit_at a m.to == 1) ≡ false
-    off-a = off_left a b m.to (off_left (bit_or a b) c m.to off)
-
-    no_castling : is_castling x m ≡ false
-    no_castling = false_by (is_castling x m) (λ y. let king : same_kind x.kind King ≡ true = (and_parts _ _ (and_parts _ _ y).0).0 in let never = piece in cc)
-
-    not_crossed : is_square p.crossed m.to ≡ false
-    not_crossed = sym (word_has (λ t. is_square p.crossed t) b m.to crossed small) ∙ off-b
-
-    no_rebirth : (is_circe rule && is_some (man_on p.men m.to)) ≡ false
-    no_rebirth = elim (cases_Bool (is_circe rule)) [
-      | inl y ↦ and_right (is_circe rule) _ (sym (word_has (λ t. is_some (man_on p.men t)) c m.to (reborn y) small) ∙ off-c)
-      | inr n ↦ and_left (is_circe rule) _ n
-    ]
-
-    plain : is_plain rule p x m ≡ true
-    unfolding is_plain
-    plain = rw (no_castling, not_crossed, no_rebirth) refl
-
-    check_elsewhere : in_check rule (after rule p m).men p.turn ≡ true
-    check_elsewhere =
-        check_unmet rule p x m a m.to well may (ap (man_on p.men) at ∙ here) refl small plain piece evasion_squares off-a
+module _ (rule : RuleSet) (p : Position) (x : Man) (f : ℕ) (well : IsWellFormed p) (here : man_on p.men f ≡ Some x) (piece : same_kind x.kind King ≡ false)
+    (a b c : ℕ) (evasion_squares : AreEvasions rule p.men p.turn a) (crossed : b ≡ word (λ t. is_square p.crossed t))
+    (reborn : is_circe rule ≡ true → c ≡ word (λ t. is_some (man_on p.men t))) where
+  check_elsewhere : (m : Move) → m.from ≡ f → m.to < 64 → pseudo rule p m ≡ true → (bit_at (bit_or (bit_or a b) c) m.to == 1) ≡ false
+      → in_check rule (after rule p m).men p.turn ≡ true
+  check_elsewhere m at small may off =
+      let off-ab = off_left (bit_or a b) c m.to off in
+      let no_castling : is_castling x m ≡ false =
+      false_by (is_castling x m) (λ y. let king : same_kind x.kind King ≡ true = (and_parts _ _ (and_parts _ _ y).0).0 in let never = piece in cc) in
+      check_unmet rule p x m a m.to well may (ap (man_on p.men) at ∙ here) refl small
+      (plain_elsewhere rule p x m b c small no_castling crossed (off_right a b m.to off-ab) reborn (off_right (bit_or a b) c m.to off))
+      piece evasion_squares (off_left a b m.to off-ab)
 
   pub evasions_from_some : AreEvasionsFrom rule p f (bit_or (bit_or a b) c)
-  evasions_from_some = record { elsewhere = λ m at small may off. check_elsewhere m at small may off }
+  evasions_from_some = record { elsewhere = check_elsewhere }

@@ -4,7 +4,7 @@ use Rattle.std.specs.Prelude.{◌==◌, ◌&&◌}
 use Rattle.std.specs.Int.{bit_at}
 use Rattle.std.specs.List.{range_with_len}
 use Rattle.chess_rules.specs.ties.Places.{IsBarrenFrom, moves_between, promotion_at, triple_at}
-use Rattle.std.proofs.lemmas.Bool.{agree_below_at, and_from, cases_Bool, cases_lt, true≢false, false≢true}
+use Rattle.std.proofs.lemmas.Bool.{agree_below_at, and_from, cases_lt, true_from_ne_false, true≢false, false≢true}
 use Rattle.chess_core.specs.Castling.{none_unmoved, has_unmoved, mark_unmoved, with_unmoved}
 use Rattle.chess_core.specs.Position.{Position, is_man, is_side, king_square, man_on, may_promote}
 use Rattle.chess_core.specs.Squares.{squares, some_square}
@@ -73,10 +73,7 @@ en_passant_checks = (refl, refl)
 
 -- so the squares to which the pawn must go to give check hold d6, from which a pawn gives none
 pub crossed_square_may_give_check : (w : ℕ) → AreCheckTargets orthodox opening_capture e5 w → (bit_at w d6 == 1) ≡ true
-crossed_square_may_give_check w are = elim (cases_Bool (bit_at w d6 == 1)) [
-  | inl e ↦ e
-  | inr e ↦ absurd (false≢true (sym (are.elsewhere (go e5 d6) refl (omega arith) en_passant_checks.0 e) ∙ en_passant_checks.1))
-]
+crossed_square_may_give_check w are = true_from_ne_false _ (λ e. false≢true (sym (are.elsewhere (go e5 d6) refl (omega arith) en_passant_checks.0 e) ∙ en_passant_checks.1))
 
 -- and no man that leaves e5 opens a line
 pub no_pawn_checks_from_there : (may_check_from opening_capture.men Black (enemy Black Pawn) d6 ≡ false)
@@ -95,10 +92,7 @@ en_passant_meets = (refl, refl, refl)
 
 -- so the squares to which the pawn must go to leave no check hold d6, which meets it in no other way
 pub crossed_square_may_meet_a_check : (w : ℕ) → AreEvasionsFrom orthodox passing_check e5 w → (bit_at w d6 == 1) ≡ true
-crossed_square_may_meet_a_check w are = elim (cases_Bool (bit_at w d6 == 1)) [
-  | inl e ↦ e
-  | inr e ↦ absurd (true≢false (sym (are.elsewhere (go e5 d6) refl (omega arith) en_passant_meets.1 e) ∙ en_passant_meets.2))
-]
+crossed_square_may_meet_a_check w are = true_from_ne_false _ (λ e. true≢false (sym (are.elsewhere (go e5 d6) refl (omega arith) en_passant_meets.1 e) ∙ en_passant_meets.2))
 
 pub no_evasion_there : is_evasion passing_check.men White e4 d5 d6 ≡ false
 unfolding reaches_as rides is_clear along
@@ -114,10 +108,7 @@ unfolding check_after_a_move
 king_goes = (refl, refl, refl)
 
 pub king_may_leave_a_check : (w : ℕ) → AreEvasionsFrom orthodox rook_check a1 w → (bit_at w b1 == 1) ≡ true
-king_may_leave_a_check w are = elim (cases_Bool (bit_at w b1 == 1)) [
-  | inl e ↦ e
-  | inr e ↦ absurd (true≢false (sym (are.elsewhere (go a1 b1) refl (omega arith) king_goes.1 e) ∙ king_goes.2))
-]
+king_may_leave_a_check w are = true_from_ne_false _ (λ e. true≢false (sym (are.elsewhere (go a1 b1) refl (omega arith) king_goes.1 e) ∙ king_goes.2))
 
 pub no_other_man_meets_it_there : is_evasion rook_check.men White a1 a8 b1 ≡ false
 unfolding reaches_as rides is_clear along
@@ -200,13 +191,9 @@ pub grasshopper_is_seen : has_fairy (set_up (on Black Grasshopper a1 ∷ [])) Bl
 unfolding has_fairy squares some_square
 grasshopper_is_seen = refl
 
-must_be : (b : Bool) → (b ≡ false → ⊥) → b ≡ true
-must_be true f = refl
-must_be false f = absurd (f refl)
-
 -- may meet a check from everywhere
 pub any_square_may_meet_a_fairy_check : (w t : ℕ) → t < 64 → AreEvasions orthodox (set_up (on Black Grasshopper a1 ∷ [])) White w → (bit_at w t == 1) ≡ true
-any_square_may_meet_a_fairy_check w t small are = must_be _ (λ e. false≢true (sym (are.elsewhere t small e).no_fairy ∙ grasshopper_is_seen))
+any_square_may_meet_a_fairy_check w t small are = true_from_ne_false _ (λ e. false≢true (sym (are.elsewhere t small e).no_fairy ∙ grasshopper_is_seen))
 
 -- an enemy on s gives check to the king on a1, and a man that goes to t doesn't meet it
 abbrev unmet : ℕ → ℕ → Bool
@@ -215,7 +202,7 @@ unmet t s = (is_side (man_on rook_check.men s) Black && reaches rook_check.men s
 -- the rook's check is met where no such enemy is
 met_there : (w t : ℕ) → t < 64 → ((s : ℕ) → s < 64 → unmet t s ≡ false) → AreEvasions orthodox rook_check.men White w → (bit_at w t == 1) ≡ true
 unfolding king_square squares
-met_there w t small none are = must_be _ (λ e.
+met_there w t small none are = true_from_ne_false _ (λ e.
     let u = are.elsewhere t small e in
     let enemy = side_there (man_on rook_check.men u.checker) Black u.enemy in
     let on : u.checker < 64 = on_board rook_check.men u.checker enemy.0 refl enemy.1.0 in

@@ -4,12 +4,13 @@ use Rattle.std.specs.Int.{bit_at}
 use Rattle.std.specs.Int.Bits.{bit_or}
 use Rattle.std.specs.List.{list_any}
 use Rattle.std.proofs.lemmas.List.Folds.{list_any-append}
-use Rattle.std.proofs.lemmas.Bool.{and_parts, cases_Bool, cond-false, cond-true, false≢true, or_cases}
+use Rattle.std.proofs.lemmas.Bool.{and_parts, cond-false, cond-true, false≢true, or_cases, true_from_ne_false}
 use Rattle.chess_core.specs.Castling.{has_unmoved}
 use Rattle.chess_core.specs.Position.{Position, man_on, same_kind}
 use Rattle.chess_core.specs.Squares.{is_square}
-use Rattle.chess_core.specs.Steps.{along, diagonal_steps, knight_steps, pawn_captures, queen_steps, straight_steps}
+use Rattle.chess_core.specs.Steps.{along, diagonal_steps, knight_steps, pawn_captures, straight_steps}
 use Rattle.chess_core.specs.ties.Words.{word}
+use Rattle.chess_core.specs.declared.man.Kind.{Kind}
 use Rattle.chess_core.specs.declared.man.Kind.TheVariants.{Bishop, King, Knight, Pawn, Queen, Rook}
 use Rattle.chess_core.specs.declared.man.Man.{Man}
 use Rattle.chess_rules.specs.Legal.{forward}
@@ -23,16 +24,10 @@ use Rattle.chess_rules.proofs.Shielding.{goes_on}
 
 -- a square of either word is one of both together
 on_left : (a b i : ℕ) → (bit_at a i == 1) ≡ true → (bit_at (bit_or a b) i == 1) ≡ true
-on_left a b i h = elim (cases_Bool (bit_at (bit_or a b) i == 1)) [
-  | inl e ↦ e
-  | inr e ↦ absurd (let no : (bit_at a i == 1) ≡ false = off_left a b i e in cc)
-]
+on_left a b i h = true_from_ne_false _ (λ e. let off = off_left a b i e in cc)
 
 on_right : (a b i : ℕ) → (bit_at b i == 1) ≡ true → (bit_at (bit_or a b) i == 1) ≡ true
-on_right a b i h = elim (cases_Bool (bit_at (bit_or a b) i == 1)) [
-  | inl e ↦ e
-  | inr e ↦ absurd (let no : (bit_at b i == 1) ≡ false = off_right a b i e in cc)
-]
+on_right a b i h = true_from_ne_false _ (λ e. let off = off_right a b i e in cc)
 
 -- a piece that is no king reaches where it goes
 reached : (p : Position) (x : Man) (s t : ℕ) → same_kind x.kind Pawn ≡ false → same_kind x.kind King ≡ false → may_go p x s t ≡ true
@@ -44,11 +39,6 @@ rides_on : (men : List (Option Man)) (s t : ℕ) (ds : List _) → list_any (rid
 unfolding is_on_some
 rides_on men s t ds h = goes_on men s t ds h
 
--- where a queen rides, a rook or a bishop does
-parted : (men : List (Option Man)) (s t : ℕ) → list_any (rides men s t) queen_steps ≡ true
-    → (list_any (rides men s t) straight_steps || list_any (rides men s t) diagonal_steps) ≡ true
-parted men s t h = sym (list_any-append (rides men s t) straight_steps diagonal_steps) ∙ h
-
 -- a pawn steps one square or two
 advances : (v one two rank free : Bool) → (v && (one || (rank && two && free))) ≡ true → (one || two) ≡ true
 advances true true two rank free h = refl
@@ -57,37 +47,30 @@ advances true false two false free h = absurd (false≢true h)
 advances false one two rank free h = absurd (false≢true h)
 
 module _ (p : Position) (x : Man) (s t : ℕ) (small : t < 64) (h : may_go p x s t ≡ true) where
+  -- a piece of this kind reaches t
+  as_piece : (k : Kind) → x.kind ≡ k → same_kind k Pawn ≡ false → same_kind k King ≡ false → reaches_as p.men x.colour k s t ≡ true
+  as_piece k kind none piece = rw kind at (reached p x s t (rw kind none) (rw kind piece) h)
+
   pub rook_lines : (l : ℕ) → x.kind ≡ Rook → l ≡ word (is_on_some straight_steps s) → (bit_at l t == 1) ≡ true
   unfolding reaches_as
-  rook_lines l kind lines =
-      let r : reaches_as p.men x.colour x.kind s t ≡ true = reached p x s t (rw kind refl) (rw kind refl) h in
-      let r2 : reaches_as p.men x.colour Rook s t ≡ true = rw kind at r in
-      word_has (is_on_some straight_steps s) l t lines small ∙ rides_on p.men s t straight_steps r2
+  rook_lines l kind lines = word_has (is_on_some straight_steps s) l t lines small ∙ rides_on p.men s t straight_steps (as_piece Rook kind refl refl)
 
   pub bishop_lines : (l : ℕ) → x.kind ≡ Bishop → l ≡ word (is_on_some diagonal_steps s) → (bit_at l t == 1) ≡ true
   unfolding reaches_as
-  bishop_lines l kind lines =
-      let r : reaches_as p.men x.colour x.kind s t ≡ true = reached p x s t (rw kind refl) (rw kind refl) h in
-      let r2 : reaches_as p.men x.colour Bishop s t ≡ true = rw kind at r in
-      word_has (is_on_some diagonal_steps s) l t lines small ∙ rides_on p.men s t diagonal_steps r2
+  bishop_lines l kind lines = word_has (is_on_some diagonal_steps s) l t lines small ∙ rides_on p.men s t diagonal_steps (as_piece Bishop kind refl refl)
 
   pub queen_lines : (l d : ℕ) → x.kind ≡ Queen → l ≡ word (is_on_some straight_steps s) → d ≡ word (is_on_some diagonal_steps s)
       → (bit_at (bit_or l d) t == 1) ≡ true
   unfolding reaches_as
   queen_lines l d kind lines slants =
-      let r : reaches_as p.men x.colour x.kind s t ≡ true = reached p x s t (rw kind refl) (rw kind refl) h in
-      let r2 : reaches_as p.men x.colour Queen s t ≡ true = rw kind at r in
-      elim (or_cases _ _ (parted p.men s t r2)) [
+      elim (or_cases _ _ (sym (list_any-append (rides p.men s t) straight_steps diagonal_steps) ∙ as_piece Queen kind refl refl)) [
         | inl y ↦ on_left l d t (word_has (is_on_some straight_steps s) l t lines small ∙ rides_on p.men s t straight_steps y)
         | inr y ↦ on_right l d t (word_has (is_on_some diagonal_steps s) d t slants small ∙ rides_on p.men s t diagonal_steps y)
       ]
 
   pub knight_squares : (l : ℕ) → x.kind ≡ Knight → l ≡ word (λ q. list_any (leaps s q) knight_steps) → (bit_at l t == 1) ≡ true
   unfolding reaches_as
-  knight_squares l kind squares =
-      let r : reaches_as p.men x.colour x.kind s t ≡ true = reached p x s t (rw kind refl) (rw kind refl) h in
-      let r2 : reaches_as p.men x.colour Knight s t ≡ true = rw kind at r in
-      word_has (λ q. list_any (leaps s q) knight_steps) l t squares small ∙ r2
+  knight_squares l kind squares = word_has (λ q. list_any (leaps s q) knight_steps) l t squares small ∙ as_piece Knight kind refl refl
 
   pub pawn_squares : (l a : ℕ) → x.kind ≡ Pawn → l ≡ word (λ q. list_any (leaps s q) (pawn_captures x.colour)) → a ≡ word (is_advance x.colour s)
       → (bit_at (bit_or l a) t == 1) ≡ true
@@ -96,11 +79,10 @@ module _ (p : Position) (x : Man) (s t : ℕ) (small : t < 64) (h : may_go p x s
       let pawn : same_kind x.kind Pawn ≡ true = rw kind refl in
       let reach = reaches_as p.men x.colour x.kind s t in
       let taken = is_some (man_on p.men t) || is_square p.crossed t in
-      let h0 : ((reach && taken) || pawn_goes p x s t) ≡ true = sym (cond-true (same_kind x.kind Pawn) _ _ pawn) ∙ h in
-      elim (or_cases (reach && taken) (pawn_goes p x s t) h0) [
+      elim (or_cases (reach && taken) (pawn_goes p x s t) (sym (cond-true (same_kind x.kind Pawn) _ _ pawn) ∙ h)) [
         | inl y ↦
             let r : reaches_as p.men x.colour x.kind s t ≡ true = (and_parts reach taken y).0 in
-            let r2 : reaches_as p.men x.colour Pawn s t ≡ true = rw kind at r in
-            on_left l a t (word_has (λ q. list_any (leaps s q) (pawn_captures x.colour)) l t squares small ∙ r2)
-        | inr y ↦ on_right l a t (word_has (is_advance x.colour s) a t steps small ∙ advances _ (is_square (along s (forward x.colour) 1) t) (is_square (along s (forward x.colour) 2) t) _ _ y)
+            on_left l a t (word_has (λ q. list_any (leaps s q) (pawn_captures x.colour)) l t squares small ∙ rw kind at r)
+        | inr y ↦ on_right l a t (word_has (is_advance x.colour s) a t steps small
+            ∙ advances _ (is_square (along s (forward x.colour) 1) t) (is_square (along s (forward x.colour) 2) t) _ _ y)
       ]
