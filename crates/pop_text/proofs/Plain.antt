@@ -6,14 +6,14 @@ use Rattle.std.specs.List.{list_all}
 use Rattle.std.proofs.Math.Seq.{take-add}
 use Rattle.std.proofs.lemmas.List.{drop-take, drop-drop, drop_more, take-append-drop}
 use Rattle.std.proofs.lemmas.List.Folds.{list_all-append}
-use Rattle.pop_text.specs.Words.{Input, Words, Token, Word, Tail, is_cut, is_gap, is_in_word, is_line_end, is_short_form, is_text_word, limit, words_by}
+use Rattle.pop_text.specs.Words.{Input, Word, is_cut, is_gap, is_in_word, is_line_end, is_short_form, is_text_word, limit, tokens_from}
 use Rattle.pop_text.specs.ties.Reading.{Reading, Uses}
-use Rattle.pop_text.specs.ties.Left.{Takes, among, put_before}
+use Rattle.pop_text.specs.ties.Left.{Takes, among}
 use Rattle.pop_text.specs.ties.Plain.{IsPlain, RunsOut, Skips, is_named, is_plain}
-use Rattle.pop_text.proofs.WordLaws.{all_parts, RunEnds, with_gap}
-use Rattle.pop_text.proofs.Using.{amount_is, keeps_bytes}
+use Rattle.pop_text.proofs.WordLaws.{all_parts, line_lines, run_tokens, solid_line, RunEnds, with_gap}
+use Rattle.pop_text.proofs.Using.{keeps_bytes}
 use Rattle.pop_text.proofs.Excluded.{gap_or_word}
-use Rattle.pop_text.proofs.Left.{and_false, count_then, follows_is, left_is, run_words, solid_lines, tail_at, view_at, word_view}
+use Rattle.pop_text.proofs.Left.{and_false, count_then, run_said, tail_at, takes, view_at}
 
 -- Names.
 
@@ -56,44 +56,41 @@ plain_no_closing (a ∷ b ∷ c ∷ word) h =
 
 -- Words, one more.
 
-put_both : (xs ys : List Token) (words : Words) → put_before xs (put_before ys words) ≡ put_before (xs ++ ys) words
-put_both xs ys words = rw (append_assoc xs ys words.tokens) refl
-
 pub none_plain : IsPlain []
-none_plain = record { tokens = λ line. []; plain = λ line. refl; words = λ line behind tail ends. let same : line + 0 ≡ line = omega arith in rw same refl }
+none_plain =
+    record { tokens = λ line. []; plain = λ line. refl; words = λ cut line behind ends. let same : line + 0 ≡ line = omega arith in rw same refl }
 
 -- a run behind bytes begins behind a gap, or there are none
-runs_start : (bytes gap : List ℕ) (b : ℕ) (run rest behind : List ℕ) → list_all is_gap gap ≡ true → is_in_word b ≡ true → RunsOut bytes ((gap ++ b ∷ run) ++ rest) → (bytes ≡ []) ⊎ ((c : ℕ) × (more : List ℕ) × ((gap ++ b ∷ run) ++ behind ≡ c ∷ more) × (is_gap c ≡ true))
-runs_start bytes [] b run rest behind g w (inl none) = inl none
-runs_start bytes [] b run rest behind g w (inr is) = absurd (gap_or_word b is w)
-runs_start bytes (c ∷ gap) b run rest behind g w out = inr (c, (gap ++ b ∷ run) ++ behind, refl, (all_parts is_gap c gap g).0)
+runs_start : (bytes gap word rest behind : List ℕ) → list_all is_gap gap ≡ true → list_all is_in_word word ≡ true → 0 < length word → RunsOut bytes ((gap ++ word) ++ rest)
+    → (bytes ≡ []) ⊎ ((c : ℕ) × (more : List ℕ) × ((gap ++ word) ++ behind ≡ c ∷ more) × (is_gap c ≡ true))
+runs_start bytes [] [] rest behind g w some out = absurd (omega arith)
+runs_start bytes [] (b ∷ word) rest behind g w some (inl none) = inl none
+runs_start bytes [] (b ∷ word) rest behind g w some (inr is) = absurd (gap_or_word b is (all_parts is_in_word b word w).0)
+runs_start bytes (c ∷ gap) word rest behind g w some out = inr (c, (gap ++ word) ++ behind, refl, (all_parts is_gap c gap g).0)
 
-module _ (bytes gap : List ℕ) (b : ℕ) (run : List ℕ) (blank : list_all is_gap gap ≡ true) (solid : list_all is_in_word (b ∷ run) ≡ true) (plain : is_named (b ∷ run) ≡ false) where
+module _ (bytes gap word : List ℕ) (some : 0 < length word) (blank : list_all is_gap gap ≡ true) (solid : list_all is_in_word word ≡ true) (plain : is_named word ≡ false) where
   abbrev piece : List ℕ
-  piece = gap ++ b ∷ run
+  piece = gap ++ word
 
-  ends_by : (behind : List ℕ) (tail : Tail) → (bytes ++ piece ≡ []) ⊎ ((c : ℕ) × (more : List ℕ) × (behind ≡ c ∷ more) × (is_gap c ≡ true)) → RunEnds (is_cut tail) behind
-  ends_by behind tail (inl none) = absurd (omega (arith, ap length none, length-append bytes piece, length-append gap (b ∷ run)))
-  ends_by behind tail (inr here) = rw here.2 (with_gap here.3)
-
-  piece_words : (line : ℕ) (behind : List ℕ) (tail : Tail) → RunEnds (is_cut tail) behind → words_by None line (piece ++ behind) tail ≡ put_before (Word (line + count_by is_line_end gap) (b ∷ run) ∷ []) (words_by None (line + count_by is_line_end gap) behind tail)
-  piece_words line behind tail ends =
-      word_view line (line + count_by is_line_end gap) b gap run behind tail blank solid ends refl ∙ ap (λ t. run_words t (line + count_by is_line_end gap) (b ∷ run) behind tail) (plain_no_text (b ∷ run) plain)
+  ends_by : (cut : Bool) (behind : List ℕ) → (bytes ++ piece ≡ []) ⊎ ((c : ℕ) × (more : List ℕ) × (behind ≡ c ∷ more) × (is_gap c ≡ true)) → RunEnds cut behind
+  ends_by cut behind (inl none) = absurd (omega (arith, ap length none, length-append bytes piece, length-append gap word))
+  ends_by cut behind (inr here) = rw here.2 (with_gap here.3)
 
   lines_are : (line : ℕ) → (line + count_by is_line_end bytes) + count_by is_line_end gap ≡ line + count_by is_line_end (bytes ++ piece)
-  lines_are line = omega (arith, count_then line bytes piece, count_then (line + count_by is_line_end bytes) gap (b ∷ run), solid_lines (b ∷ run) solid)
+  lines_are line = omega (arith, count_then line bytes piece, count_then (line + count_by is_line_end bytes) gap word, line_lines word (solid_line word solid))
 
-  pub plain_more : (rest : List ℕ) → IsPlain bytes → RunsOut bytes (piece ++ rest) → IsPlain (bytes ++ piece)
+  plain_more : (rest : List ℕ) → IsPlain bytes → RunsOut bytes (piece ++ rest) → IsPlain (bytes ++ piece)
   plain_more rest p out = record {
-    tokens = λ line. p.tokens line ++ Word ((line + count_by is_line_end bytes) + count_by is_line_end gap) (b ∷ run) ∷ [];
+    tokens = λ line. p.tokens line ++ Word ((line + count_by is_line_end bytes) + count_by is_line_end gap) word ∷ [];
     plain = λ line. list_all-append is_plain (p.tokens line) _ ∙ rw (p.plain line, plain) refl;
-    words = λ line behind tail ends.
+    words = λ cut line behind ends.
         let next : ℕ = line + count_by is_line_end bytes in
-        ap (λ v. words_by None line v tail) (append_assoc bytes piece behind)
-        ∙ p.words line (piece ++ behind) tail (runs_start bytes gap b run rest behind blank (all_parts is_in_word b run solid).0 out)
-        ∙ ap (put_before (p.tokens line)) (piece_words next behind tail (ends_by behind tail ends))
-        ∙ put_both (p.tokens line) (Word (next + count_by is_line_end gap) (b ∷ run) ∷ []) (words_by None (next + count_by is_line_end gap) behind tail)
-        ∙ ap (λ l. put_before (p.tokens line ++ Word (next + count_by is_line_end gap) (b ∷ run) ∷ []) (words_by None l behind tail)) (lines_are line);
+        ap (tokens_from None cut line) (append_assoc bytes piece behind)
+        ∙ p.words cut line (piece ++ behind) (runs_start bytes gap word rest behind blank solid some out)
+        ∙ ap (λ ts. p.tokens line ++ ts) (run_said cut next gap word behind blank solid some (ends_by cut behind ends)
+        ∙ ap (λ t. run_tokens t cut (next + count_by is_line_end gap) word behind) (plain_no_text word plain))
+        ∙ sym (append_assoc (p.tokens line) (Word (next + count_by is_line_end gap) word ∷ []) (tokens_from None cut (next + count_by is_line_end gap) behind))
+        ∙ ap (λ l. (p.tokens line ++ Word (next + count_by is_line_end gap) word ∷ []) ++ tokens_from None cut l behind) (lines_are line);
   }
 
 -- A step over a view: a gap of g bytes behind the first k, and a run of r.
@@ -115,10 +112,6 @@ none_out (b ∷ behind) = inl refl
 drop_first : (behind : List ℕ) (r : ℕ) → r < length behind → get_or (drop r behind) 0 0 ≡ get_or behind r 0
 drop_first behind r less = rw (drop_more behind r 0 less) refl
 
-by_word : (bytes gap word rest : List ℕ) → 0 < length word → list_all is_gap gap ≡ true → list_all is_in_word word ≡ true → is_named word ≡ false → IsPlain bytes → RunsOut bytes ((gap ++ word) ++ rest) → IsPlain (bytes ++ (gap ++ word))
-by_word bytes gap [] rest some blank solid plain p out = absurd (omega arith)
-by_word bytes gap (b ∷ run) rest some blank solid plain p out = plain_more bytes gap b run blank solid plain rest p out
-
 module _ (view left behind : List ℕ) (k g r lines more : ℕ) (at_left : left ≡ drop k view) (at_behind : behind ≡ drop g left) (some : r ≡ 0 → ⊥) (short : r ≡ length behind → ⊥) (few : g ≤ length left) (fits : r ≤ length behind) where
   word : List ℕ
   word = take r behind
@@ -139,9 +132,9 @@ module _ (view left behind : List ℕ) (k g r lines more : ℕ) (at_left : left 
   step_more blank solid over plain are s =
       let size : length (take r behind) ≡ r = omega (arith, length-take r behind, fits) in record {
         within = let at = s.within in omega (arith, at, ap length at_left, length-drop k view, ap length at_behind, length-drop g left, few, fits);
-        plain = rw pieces (by_word (take k view) (take g left) (take r behind) (drop r behind) (omega (arith, some, size)) blank solid plain s.plain (rw parts at s.over));
+        plain = rw pieces (plain_more (take k view) (take g left) (take r behind) (omega (arith, some, size)) blank solid plain (drop r behind) s.plain (rw parts at s.over));
         over = rw rest_is (runs_out (take (k + (g + r)) view) (drop r behind) (omega (arith, less, length-drop r behind)) (ap is_gap (drop_first behind r less) ∙ over less));
-        lines = let n = s.lines in rw pieces (omega (arith, n, are, count_then 0 (take k view) (take g left ++ take r behind), count_then 0 (take g left) (take r behind), solid_lines (take r behind) solid));
+        lines = let n = s.lines in rw pieces (omega (arith, n, are, count_then 0 (take k view) (take g left ++ take r behind), count_then 0 (take g left) (take r behind), line_lines (take r behind) (solid_line (take r behind) solid)));
       }
 
 -- What was skipped.
@@ -158,16 +151,9 @@ ends_at bytes (b ∷ out) new rest (inr gap) is = let front = first_of (limit - 
 
 module _ (old new : Reading) (bytes out : List ℕ) (uses : (had : Option (List ℕ)) → Uses old new had had bytes) (plain : IsPlain bytes) (over : RunsOut bytes out) (is : out ≡ take (limit - new.used) new.window) (within : new.used ≤ limit) where
   skip_takes : (had : Option (List ℕ)) → Takes (among old) (among new) had had (plain.tokens old.line)
-  skip_takes had = let u = uses had in record {
-    bytes = u.taken;
-    taken = u.consumed;
-    follows = λ rest may. follows_is None old new had had bytes u within rest may;
-    amount = amount_is old new had had bytes u;
-    begin = λ rest may.
-        left_is None old new had had bytes u within rest
-        ∙ plain.words old.line (view_at new rest) (tail_at new rest) (ends_at bytes out new rest over is)
-        ∙ ap (λ l. put_before (plain.tokens old.line) (words_by None l (view_at new rest) (tail_at new rest))) (sym u.line);
-  }
+  skip_takes had = takes (uses had) within None None (plain.tokens old.line) (λ rest may.
+      plain.words (is_cut (tail_at new rest)) old.line (view_at new rest) (ends_at bytes out new rest over is)
+      ∙ ap (λ l. plain.tokens old.line ++ tokens_from None (is_cut (tail_at new rest)) l (view_at new rest)) (sym (uses had).line))
 
   pub skips : new.end ≡ old.end → length new.window ≤ length old.window → Skips old new
   skips end waits = record {

@@ -9,6 +9,7 @@ use Rattle.pop_text.specs.ties.Runs.{Peeks}
 use Rattle.pop_text.specs.ties.Texts.{with_byte}
 use Rattle.pop_text.specs.declared.scanner.End.{End}
 use Rattle.pop_text.proofs.Using.{keeps_bytes}
+use Rattle.pop_text.proofs.WordLaws.{line_lines}
 
 window_length : (cells : List ℕ) (start stop : ℕ) → stop ≤ length cells → length (slice_range cells start stop) ≡ stop - start
 window_length cells start stop within = omega (arith, length-take (stop - start) (drop start cells), length-drop start cells, within)
@@ -78,11 +79,14 @@ module _ (now : Reading) (view : List ℕ) (count : ℕ) (within : now.used ≤ 
   pub view_some : (test : ℕ → Bool) → ((b : ℕ) (rest : List ℕ) → view ≡ b ∷ rest → test b ≡ true → 0 < count) → (b : ℕ) (rest : List ℕ) → now.window ≡ b ∷ rest → test b ≡ true → now.used < limit → 0 < count
   view_some test some b rest at passes room = some b (take (limit - now.used - 1) rest) (first_byte b rest at room) passes
 
-  pub front_is : (test : ℕ → Bool) → list_all test (take count view) ≡ true → ((b : ℕ) (rest : List ℕ) → view ≡ b ∷ rest → test b ≡ true → 0 < count) → IsFront test now (take count view)
-  front_is test all some =
+  pub front_is : (test : ℕ → Bool) → ((bytes : List ℕ) → list_all test bytes ≡ true → list_all is_in_line bytes ≡ true) → list_all test (take count view) ≡ true
+      → ((b : ℕ) (rest : List ℕ) → view ≡ b ∷ rest → test b ≡ true → 0 < count) → IsFront test now (take count view)
+  front_is test plain all some =
       let long : length (take count view) ≡ count = length-take-le count view few in
+      let front : take (length (take count view)) now.window ≡ take count view = ap (λ n. take n now.window) long ∙ sym view_front in
       record {
-        front = view_front ∙ ap (λ n. take n now.window) (sym long);
+        front = front;
+        flat = sym (ap (count_by is_line_end) front ∙ line_lines (take count view) (plain (take count view) all));
         within = omega (arith, long, view_few);
         room = omega (arith, long, view_room);
         all = all;

@@ -3,7 +3,7 @@ use Rattle.std.proofs.Common.{◌≡◌, ℕ, ◌+◌, ◌⊎◌, ◌&&◌, ◌|
 use Rattle.std.specs.List.{slice_split, onto_first, list_all}
 use Rattle.std.proofs.lemmas.List.{append-nil}
 use Rattle.std.proofs.lemmas.List.Sums.{sum_by-append}
-use Rattle.pop_text.specs.Words.{Token, Word, TextLine, is_blank, is_line_end, is_gap, is_in_word, is_text_word, runs_of, onto_run, tokens_of, lines_tokens, text_lines, tokens_from, is_line_over}
+use Rattle.pop_text.specs.Words.{Token, Word, TextLine, is_blank, is_line_end, is_gap, is_in_line, is_in_word, is_text_word, runs_of, onto_run, tokens_of, lines_tokens, text_lines, tokens_from, is_line_over}
 
 -- Lines of a view.
 
@@ -85,20 +85,30 @@ data Over : Bool → List (List ℕ) → Type 0 where
   at_line_end : {cut : Bool} {m : List ℕ} {ms : List (List ℕ)} → Over cut ([] ∷ m ∷ ms)
   at_blank : {cut : Bool} {c : ℕ} {l : List ℕ} {ls : List (List ℕ)} → is_blank c ≡ true → Over cut ((c ∷ l) ∷ ls)
 
--- a run before the first of parts
-abbrev onto_part : List ℕ → List (List ℕ) → List (List ℕ)
-onto_part run [] = run ∷ []
-onto_part run (l ∷ ls) = (run ++ l) ∷ ls
+no_line_end : (b : ℕ) → is_in_line b ≡ true → is_line_end b ≡ false
+no_line_end b h = grind arith
 
-onto_both : (b : ℕ) (run : List ℕ) (parts : List (List ℕ)) → onto_first b (onto_part run parts) ≡ onto_part (b ∷ run) parts
-onto_both b run [] = refl
-onto_both b run (l ∷ ls) = refl
+-- bytes of a line stand before the first part
+line_parts : (line view : List ℕ) (l : List ℕ) (ls : List (List ℕ)) → list_all is_in_line line ≡ true → slice_split is_line_end view ≡ l ∷ ls
+    → slice_split is_line_end (line ++ view) ≡ (line ++ l) ∷ ls
+line_parts [] view l ls h e = e
+line_parts (b ∷ line) view l ls h e =
+    let p = all_parts is_in_line b line h in
+    rw (no_line_end b p.0, line_parts line view l ls p.1 e) refl
 
-solid_parts : (run view : List ℕ) (l : List ℕ) (ls : List (List ℕ)) → list_all is_in_word run ≡ true → slice_split is_line_end view ≡ l ∷ ls → slice_split is_line_end (run ++ view) ≡ (run ++ l) ∷ ls
-solid_parts [] view l ls h e = e
-solid_parts (b ∷ run) view l ls h e =
-    let p = all_parts is_in_word b run h in
-    rw ((word_byte b p.0).0, solid_parts run view l ls p.1 e) refl
+-- and none of them ends a line
+pub line_lines : (line : List ℕ) → list_all is_in_line line ≡ true → count_by is_line_end line ≡ 0
+line_lines [] h = refl
+line_lines (b ∷ line) h =
+    let p = all_parts is_in_line b line h in
+    let one : ◌≡◌ {A = ℕ} (cond (is_line_end b) 1 0) 0 = ap (λ t. cond t 1 0) (no_line_end b p.0) in
+    let sum : count_by is_line_end (b ∷ line) ≡ (0 + cond (is_line_end b) 1 0) + count_by is_line_end line = sum_by-append (λ x. cond (is_line_end x) 1 0) (b ∷ []) line in
+    omega (arith, sum, one, line_lines line p.1)
+
+-- a run's bytes are bytes of a line
+pub solid_line : (run : List ℕ) → list_all is_in_word run ≡ true → list_all is_in_line run ≡ true
+solid_line [] h = refl
+solid_line (b ∷ run) h = let p = all_parts is_in_word b run h in rw (ap not (word_byte b p.0).0, solid_line run p.1) refl
 
 -- the tokens from a run on
 abbrev pub run_tokens : Bool → Bool → ℕ → List ℕ → List ℕ → List Token
@@ -177,7 +187,7 @@ run_tokens_are false cut n run view l ls e = rw e refl
 pub take_run : (cut : Bool) (n b : ℕ) (run view : List ℕ) → list_all is_in_word (b ∷ run) ≡ true → RunEnds cut view → tokens_from None cut n ((b ∷ run) ++ view) ≡ run_tokens (is_text_word (b ∷ run)) cut n (b ∷ run) view
 take_run cut n b run view h ends =
     let p = parts_of cut view ends in
-    ap (lines_tokens cut n) (solid_parts (b ∷ run) view p.first p.others h p.are) ∙ run_parts cut n b run p.first p.others h p.over ∙ run_tokens_are (is_text_word (b ∷ run)) cut n (b ∷ run) view p.first p.others p.are
+    ap (lines_tokens cut n) (line_parts (b ∷ run) view p.first p.others (solid_line (b ∷ run) h) p.are) ∙ run_parts cut n b run p.first p.others h p.over ∙ run_tokens_are (is_text_word (b ∷ run)) cut n (b ∷ run) view p.first p.others p.are
 
 cut_by : (text : Bool) (n : ℕ) (run : List ℕ) → first_tokens text true n run [] ≡ []
 cut_by true n run = refl
@@ -187,25 +197,16 @@ cut_by false n run = refl
 pub drop_run : (n : ℕ) (run : List ℕ) → list_all is_in_word run ≡ true → tokens_from None true n run ≡ []
 drop_run n [] h = refl
 drop_run n (b ∷ run) h =
-    ap (tokens_from None true n) (sym (append-nil (b ∷ run))) ∙ ap (lines_tokens true n) (solid_parts (b ∷ run) [] [] [] h refl) ∙ first_of true n b run [] h nothing ∙ cut_by (is_text_word (b ∷ run)) n (b ∷ run)
+    ap (tokens_from None true n) (sym (append-nil (b ∷ run))) ∙ ap (lines_tokens true n) (line_parts (b ∷ run) [] [] [] (solid_line (b ∷ run) h) refl) ∙ first_of true n b run [] h nothing ∙ cut_by (is_text_word (b ∷ run)) n (b ∷ run)
 
 -- Text lines.
 
-no_line_end : (b : ℕ) → not (is_line_end b) ≡ true → is_line_end b ≡ false
-no_line_end b h = grind arith
-
-line_parts : (line view : List ℕ) (l : List ℕ) (ls : List (List ℕ)) → list_all (λ b. not (is_line_end b)) line ≡ true → slice_split is_line_end view ≡ l ∷ ls → slice_split is_line_end (line ++ view) ≡ (line ++ l) ∷ ls
-line_parts [] view l ls h e = e
-line_parts (b ∷ line) view l ls h e =
-    let p = all_parts (λ b. not (is_line_end b)) b line h in
-    rw (no_line_end b p.0, line_parts line view l ls p.1 e) refl
-
 -- behind a text word, a line that its line end ends is the first token
-pub take_line : (keyword : List ℕ) (cut : Bool) (n : ℕ) (line view : List ℕ) → list_all (λ b. not (is_line_end b)) line ≡ true → tokens_from (Some keyword) cut n (line ++ 10 ∷ view) ≡ TextLine n keyword line ∷ tokens_from None cut (n + 1) view
+pub take_line : (keyword : List ℕ) (cut : Bool) (n : ℕ) (line view : List ℕ) → list_all is_in_line line ≡ true → tokens_from (Some keyword) cut n (line ++ 10 ∷ view) ≡ TextLine n keyword line ∷ tokens_from None cut (n + 1) view
 take_line keyword cut n line view h =
     let s = split_some view in
     rw (line_parts line (10 ∷ view) [] (s.0 ∷ s.1) h (rw s.2 refl), s.2, append-nil line) refl
 
 -- one that the end of the view ends is the last, where nothing is cut, and otherwise no token
-pub take_last_line : (keyword : List ℕ) (cut : Bool) (n : ℕ) (line : List ℕ) → list_all (λ b. not (is_line_end b)) line ≡ true → tokens_from (Some keyword) cut n line ≡ (if cut then [] else TextLine n keyword line ∷ [])
+pub take_last_line : (keyword : List ℕ) (cut : Bool) (n : ℕ) (line : List ℕ) → list_all is_in_line line ≡ true → tokens_from (Some keyword) cut n line ≡ (if cut then [] else TextLine n keyword line ∷ [])
 take_last_line keyword cut n line h = ap (tokens_from (Some keyword) cut n) (sym (append-nil line)) ∙ ap (text_lines keyword cut n) (line_parts line [] [] [] h refl) ∙ ap (λ l. if cut then [] else TextLine n keyword l ∷ []) (append-nil line)

@@ -3,10 +3,10 @@ ghost use Rattle.std.specs.Prelude.{◌≡◌, ◌<◌, ◌+◌, ◌-◌, ◌^�
 ghost use Rattle.pop_text.specs.Bytes.{greatest};
 ghost use Rattle.std.specs.List.{list_all};
 ghost use Rattle.pop_text.specs.Words.{limit, is_gap, is_in_line, is_in_word, is_line_end};
-ghost use Rattle.pop_text.specs.ties.Reading.{beginning, IsFront, Uses, UsesAll, IsSeen, failures_after};
+ghost use Rattle.pop_text.specs.ties.Reading.{beginning, Asks, IsFront, Uses, UsesAll, IsSeen, failures_after};
 ghost use Rattle.pop_text.specs.ties.Runs.{Peeks, RunsTo, Sticks, UsesLine, UsesWord};
 ghost use Rattle.pop_text.specs.ties.Plain.{IsPlain, RunsOut, Skips, is_named, is_named_front};
-ghost use Rattle.pop_text.specs.ties.Left.{NextWord, RestOfLine, found_by};
+ghost use Rattle.pop_text.specs.ties.Left.{NextWord, RestOfLine, found_by, found_of};
 ghost use Rattle.pop_text.specs.declared.read_fault.ReadFault.{ReadFault};
 
 use crate::read_fault::ReadFault;
@@ -100,9 +100,7 @@ impl Scanner {
         ensures uses { Uses self.old self.new (S.remaining source.old) (S.remaining source.new) [] }
         ensures known { self.new.window ≡ [] → self.new.end ≢ End.Open }
         ensures waits { length self.new.window ≤ 4096 }
-        ensures seen { IsSeen self.old.end (S.remaining source.old) → IsSeen self.new.end (S.remaining source.new) }
-        ensures ends { self.old.end ≡ End.Open ⊎ self.new.end ≡ self.old.end }
-        ensures counted { S.failures source.new ≡ failures_after self.old.end self.new.end (S.failures source.old) }
+        ensures asks { Asks self.old.end self.new.end (S.remaining source.old) (S.remaining source.new) (S.failures source.old) (S.failures source.new) }
         ensures kept { self.old.end ≢ End.Open ⊎ 0 < length self.old.window → self.new ≡ self.old }
     {
         if self.start < self.stop {
@@ -127,9 +125,7 @@ impl Scanner {
         ensures uses { Uses self.old self.new (S.remaining source.old) (S.remaining source.new) [] }
         ensures at { Peeks self.new result }
         ensures waits { length self.new.window ≤ 4096 }
-        ensures seen { IsSeen self.old.end (S.remaining source.old) → IsSeen self.new.end (S.remaining source.new) }
-        ensures ends { self.old.end ≡ End.Open ⊎ self.new.end ≡ self.old.end }
-        ensures counted { S.failures source.new ≡ failures_after self.old.end self.new.end (S.failures source.old) }
+        ensures asks { Asks self.old.end self.new.end (S.remaining source.old) (S.remaining source.new) (S.failures source.old) (S.failures source.new) }
         ensures stuck { (fault : ReadFault) → Peeks self.old (Err fault) → (result ≡ Err fault) × (self.new ≡ self.old) }
     {
         self.refill(source);
@@ -202,15 +198,14 @@ impl Scanner {
     }
 
     // Uses blanks and line ends, up to another byte, which is answered.
+    #[tactic(auto, using(crate::proofs::Using::all_seen))]
     fn skip_gap<S: Source>(&mut self, source: &mut S) -> Result<Option<u8>, ReadFault>
         requires { self.old.end ≡ End.Open → S.failures source.old < greatest }
         ensures uses { UsesAll is_gap self.old self.new (S.remaining source.old) (S.remaining source.new) }
         ensures at { Peeks self.new result }
         ensures other { IfOk result (λ o. IfSome o (λ b. is_gap b ≡ false)) }
         ensures waits { length self.new.window ≤ 4096 }
-        ensures seen { IsSeen self.old.end (S.remaining source.old) → IsSeen self.new.end (S.remaining source.new) }
-        ensures ends { self.old.end ≡ End.Open ⊎ self.new.end ≡ self.old.end }
-        ensures counted { S.failures source.new ≡ failures_after self.old.end self.new.end (S.failures source.old) }
+        ensures asks { Asks self.old.end self.new.end (S.remaining source.old) (S.remaining source.new) (S.failures source.old) (S.failures source.new) }
         ensures stuck { (fault : ReadFault) → Peeks self.old (Err fault) → (result ≡ Err fault) × (self.new ≡ self.old) }
     {
         'gap: loop {
@@ -231,9 +226,7 @@ impl Scanner {
         requires empty { word.old.items ≡ [] }
         ensures run { RunsTo self.old self.new (S.remaining source.old) (S.remaining source.new) word.new.items result }
         ensures waits { length self.new.window ≤ 4096 }
-        ensures seen { IsSeen self.old.end (S.remaining source.old) → IsSeen self.new.end (S.remaining source.new) }
-        ensures ends { self.old.end ≡ End.Open ⊎ self.new.end ≡ self.old.end }
-        ensures counted { S.failures source.new ≡ failures_after self.old.end self.new.end (S.failures source.old) }
+        ensures asks { Asks self.old.end self.new.end (S.remaining source.old) (S.remaining source.new) (S.failures source.old) (S.failures source.new) }
     {
         let mut fits = true;
         'run: loop {
@@ -301,11 +294,8 @@ impl Scanner {
                 let line = self.line;
                 word.line = line;
                 word.bytes = ArrayVec::new();
-                match self.take_run(source, &mut word.bytes) {
-                    Ok(true) => Ok(Found::Word),
-                    Ok(false) => Err(ReadFault::TooLong(line)),
-                    Err(fault) => Err(fault),
-                }
+                let run = self.take_run(source, &mut word.bytes);
+                run_told(run, line)
             }
         }
     }
@@ -326,7 +316,7 @@ impl Scanner {
         let mut kept = ArrayVec::new();
         'line: loop {
             match self.peek(source) {
-                Ok(Some(b'\n')) => {
+                Ok(Some(byte)) if ends_line(byte) => {
                     self.advance(1, 1);
                     return Ok(Text::trimmed(kept));
                 }
@@ -340,6 +330,17 @@ impl Scanner {
                 Err(fault) => return Err(fault),
             }
         }
+    }
+}
+
+// What is found where a run was taken so, which begins in this line: a word where it fits.
+fn run_told(run: Result<bool, ReadFault>, line: u64) -> Result<Found, ReadFault>
+    ensures { result ≡ found_of run line }
+{
+    match run {
+        Ok(true) => Ok(Found::Word),
+        Ok(false) => Err(ReadFault::TooLong(line)),
+        Err(fault) => Err(fault),
     }
 }
 
@@ -623,6 +624,12 @@ fn extend(word: &mut ArrayVec<u8, 160>, part: &[u8])
         Ok(()) => {}
         Err(_) => unreachable!("there is room"),
     }
+}
+
+fn ends_line(byte: u8) -> bool
+    ensures { result ≡ is_line_end byte }
+{
+    byte == b'\n'
 }
 
 fn in_gap(byte: u8) -> bool

@@ -84,6 +84,12 @@ found_by word (Ok AWord) = Ok (Some word)
 found_by word (Ok Nothing) = Ok None
 found_by word (Err fault) = Err fault
 
+-- what is found where a run was taken so, which begins in the line with this number: a word where it fits
+abbrev pub found_of : Result Bool ReadFault → ℕ → Result Found ReadFault
+found_of (Ok true) line = Ok AWord
+found_of (Ok false) line = Err (TooLong line)
+found_of (Err fault) line = Err fault
+
 -- what next_word does
 abbrev pub NextWord : Reading → Reading → Option (List ℕ) → Option (List ℕ) → Result (Option Read) ReadFault → Type 0
 NextWord old new had left (Ok None) = Takes (among old) (among new) had left [] × IsOver new AtEnd × StaysWithin old new

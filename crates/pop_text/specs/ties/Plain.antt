@@ -2,9 +2,9 @@
 use Rattle.std.specs.Prelude.{◌≡◌, ◌≤◌, ℕ, ◌+◌, ◌==◌, ◌&&◌, ◌||◌, not, List, [], ◌∷◌, ◌++◌, length, count_by, Option, None, Bool, true, false, ◌⊎◌}
 use Rattle.std.specs.List.{list_all}
 use Rattle.std.specs.Char.{to_ascii_lowercase}
-use Rattle.pop_text.specs.Words.{Token, Word, TextLine, Tail, is_gap, is_line_end, limit, words_by}
+use Rattle.pop_text.specs.Words.{Token, Word, TextLine, is_gap, is_line_end, limit, tokens_from}
 use Rattle.pop_text.specs.ties.Reading.{Reading}
-use Rattle.pop_text.specs.ties.Left.{Takes, among, put_before}
+use Rattle.pop_text.specs.ties.Left.{Takes, among}
 
 -- tit, aut, ori, rem, nex, end: the first letters of title, author, origin, remark, nextproblem and endproblem
 abbrev pub is_named_front : ℕ → ℕ → ℕ → Bool
@@ -32,8 +32,8 @@ RunsOut bytes (b ∷ behind) = (bytes ≡ []) ⊎ (is_gap b ≡ true)
 pub record IsPlain (bytes : List ℕ) : Type 0 where
   pub tokens : ℕ → List Token
   pub plain : (line : ℕ) → list_all is_plain (tokens line) ≡ true
-  pub words : (line : ℕ) (behind : List ℕ) (tail : Tail) → (bytes ≡ []) ⊎ ((b : ℕ) × (more : List ℕ) × (behind ≡ b ∷ more) × (is_gap b ≡ true))
-      → words_by None line (bytes ++ behind) tail ≡ put_before (tokens line) (words_by None (line + count_by is_line_end bytes) behind tail)
+  pub words : (cut : Bool) (line : ℕ) (behind : List ℕ) → (bytes ≡ []) ⊎ ((b : ℕ) × (more : List ℕ) × (behind ≡ b ∷ more) × (is_gap b ≡ true))
+      → tokens_from None cut line (bytes ++ behind) ≡ tokens line ++ tokens_from None cut (line + count_by is_line_end bytes) behind
 
 -- plain words of the window were used
 pub record Skips (old new : Reading) : Type 0 where

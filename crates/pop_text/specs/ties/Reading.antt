@@ -32,9 +32,10 @@ pub record UsesAll (test : ℕ → Bool) (old new : Reading) (had left : Option 
   pub all : list_all test bytes ≡ true
   pub uses : Uses old new had left bytes
 
--- The part is the front of the window, belongs to the input and passes the test. It has a byte where the window's first one passes.
+-- The part is the front of the window, belongs to the input, passes the test and ends no line. It has a byte where the window's first one passes.
 pub record IsFront (test : ℕ → Bool) (now : Reading) (part : List ℕ) : Type 0 where
-  pub front : part ≡ take (length part) now.window
+  pub front : take (length part) now.window ≡ part
+  pub flat : 0 ≡ count_by is_line_end (take (length part) now.window)
   pub within : length part ≤ length now.window
   pub room : now.used + length part ≤ limit
   pub all : list_all test part ≡ true
@@ -50,3 +51,9 @@ IsSeen Broken left = Unit {0}
 abbrev pub failures_after : End → End → ℕ → ℕ
 failures_after Open Broken n = n + 1
 failures_after _ _ n = n
+
+-- Between two ends the source was asked as far as the first was open: an end that was seen is still seen, one that is known stays, and a failure is counted.
+pub record Asks (old new : End) (had left : Option (List ℕ)) (before after : ℕ) : Type 0 where
+  pub seen : IsSeen old had → IsSeen new left
+  pub ends : old ≡ Open ⊎ new ≡ old
+  pub counted : after ≡ failures_after old new before

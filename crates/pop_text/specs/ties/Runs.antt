@@ -1,5 +1,5 @@
 -- What stands at a place, and runs of a word (own).
-use Rattle.std.specs.Prelude.{◌≡◌, ◌<◌, ◌≤◌, ℕ, ◌+◌, List, [], ◌∷◌, ◌++◌, length, take, nat_lt, count_by, Option, Some, None, Result, Ok, Err, Bool, true, ◌⊎◌}
+use Rattle.std.specs.Prelude.{◌≡◌, ◌<◌, ◌≤◌, ℕ, ◌+◌, List, [], ◌∷◌, ◌++◌, length, count_by, Option, Some, None, Result, Ok, Err, Bool, true, false, ◌⊎◌}
 use Rattle.std.specs.List.{list_all}
 use Rattle.pop_text.specs.ties.Reading.{Reading, Uses, UsesAll}
 use Rattle.pop_text.specs.Words.{is_line_end, is_gap, is_in_line, is_in_word, limit, text_of_line}
@@ -27,18 +27,16 @@ Sticks new (Device line) = Peeks new (Err (Device line))
 abbrev pub IsRunOver : Reading → Type 0
 IsRunOver new = ((b : ℕ) × (rest : List ℕ) × (new.window ≡ b ∷ rest) × (is_gap b ≡ true) × (new.used < limit)) ⊎ ((new.window ≡ []) × (new.end ≡ Ended) × (new.used ≤ limit))
 
--- Bytes of a run were used. The word has the first of them, at most 160, and fits where it has all.
-pub record Runs (old new : Reading) (had left : Option (List ℕ)) (kept : List ℕ) (fits : Bool) : Type 0 where
-  pub run : List ℕ
-  pub all : list_all is_in_word run ≡ true
+-- these bytes of a run were used
+pub record UsesSolid (old new : Reading) (had left : Option (List ℕ)) (run : List ℕ) : Type 0 where
+  pub solid : list_all is_in_word run ≡ true
   pub uses : Uses old new had left run
-  pub first : kept ≡ take 160 run
-  pub whole : fits ≡ nat_lt (length run) 161
 
--- a whole run was used, or a beginning of one up to a fault
+-- a whole run was used, which the word has or which is too long for it, or a beginning of one up to a fault
 abbrev pub RunsTo : Reading → Reading → Option (List ℕ) → Option (List ℕ) → List ℕ → Result Bool ReadFault → Type 0
-RunsTo old new had left kept (Ok fits) = Runs old new had left kept fits × IsRunOver new
-RunsTo old new had left kept (Err fault) = UsesAll is_in_word old new had left × Peeks new (Err fault)
+RunsTo old new had left kept (Ok true) = UsesSolid old new had left kept × IsRunOver new
+RunsTo old new had left kept (Ok false) = (run : List ℕ) × (160 < length run) × UsesSolid old new had left run × IsRunOver new
+RunsTo old new had left kept (Err fault) = (run : List ℕ) × UsesSolid old new had left run × Peeks new (Err fault)
 
 -- a gap and the run behind it were used, and no byte behind that; the run begins in the line with this number
 pub record UsesRun (old new : Reading) (had left : Option (List ℕ)) (number : ℕ) (run : List ℕ) : Type 0 where
@@ -55,6 +53,12 @@ UsesWord old new had left (Ok (Some word)) = UsesRun old new had left word.line 
 UsesWord old new had left (Err (TooLong line)) = (run : List ℕ) × (160 < length run) × UsesRun old new had left line run × IsRunOver new
 UsesWord old new had left (Err (InputTooLong line)) = (run : List ℕ) × UsesRun old new had left line run
 UsesWord old new had left (Err (Device line)) = (run : List ℕ) × UsesRun old new had left line run
+
+-- what is known of the place behind a search for a word, by its answer
+abbrev pub Stands : Reading → Result (Option Word) ReadFault → Type 0
+Stands new (Ok None) = Peeks new (Ok None)
+Stands new (Ok (Some word)) = 0 < length word.bytes.items
+Stands new (Err fault) = Sticks new fault
 
 -- a line and its line end were used, or a line that the input ends
 abbrev pub UsesWhole : Reading → Reading → Option (List ℕ) → Option (List ℕ) → List ℕ → Type 0
