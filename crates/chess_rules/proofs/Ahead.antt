@@ -1,6 +1,6 @@
 -- Squares one after another on a line.
 use Rattle.std.proofs.Common.{◌≡◌, ℕ, ◌+◌, ◌-◌, ◌*◌, ◌<◌, ◌≤◌, true, false, ◌&&◌, refl, sym, ap, ◌∙◌, arith, inl, inr, Some, rules}
-use Rattle.std.proofs.Math.Nat.{add-mul, mul-add, mul_assoc, mul_comm, mul-le-mul_left}
+use Rattle.std.proofs.Math.Nat.{add-mul, mul-add, mul_assoc, mul_comm}
 use Rattle.std.proofs.lemmas.Bool.{and_from, cases_lt, leb-true}
 use Rattle.chess_core.specs.Squares.{is_on_board, file_of, rank_of}
 use Rattle.chess_core.specs.Steps.{along, step_by}
@@ -11,12 +11,12 @@ use Rattle.chess_rules.specs.declared.lines.Direction.TheVariants.{East, West, N
 use Rattle.chess_rules.proofs.Ends.{Placed, cond-on, on_board, placed_from}
 
 further : (f j i r l : ℕ) → 1 ≤ f + j * r - j * l → f + j * r - j * l + i * r - i * l ≡ f + (j + i) * r - (j + i) * l
-further f j i r l on = search (rules, add-mul)
+further f j i r l on = search rules
 
 -- j steps and then i steps
 pub onward : (s b : ℕ) (d : Step) (j i : ℕ) → along s d j ≡ Some b → along b d i ≡ along s d (j + i)
 unfolding along
-onward s b d j i h = search (rules, further, placed_from)
+onward s b d j i h = search (rules, placed_from)
 
 -- between two files or ranks of the board lie others of it
 within : (f k i r l : ℕ) → 1 ≤ f → f ≤ 8 → i ≤ k → 1 ≤ f + k * r - k * l → f + k * r - k * l ≤ 8 → (1 ≤ f + i * r - i * l) × (f + i * r - i * l ≤ 8)
@@ -62,11 +62,11 @@ spread k l n = mul-add k l (8 * n) ∙ ap (λ x. k * l + x) (sym (mul_assoc k 8 
 -- the number of the square that lies k steps on
 number_at : (s q : ℕ) (d : Step) (k : ℕ) → along s d k ≡ Some q → (q + k * (d.left + 8 * d.down) ≡ s + k * (d.right + 8 * d.up)) × (q < 64)
 unfolding along
-number_at s q d k h = search (rules, placed_from, spread)
+number_at s q d k h = search rules
 
 -- e more for each step
 apart : (j k e : ℕ) → j < k → 0 < e → j * e < k * e
-apart j k e lt some = search (rules, add-mul, mul-le-mul_left)
+apart j k e lt some = search rules
 
 over : (j a b : ℕ) → a < b → j * b ≡ j * a + j * (b - a)
 over j a b lt = let e : b ≡ a + (b - a) = omega arith in ap (λ n. j * n) e ∙ mul-add j a (b - a)

@@ -16,7 +16,7 @@ use Rattle.chess_core.specs.declared.man.Man.{Man}
 use Rattle.chess_core.specs.declared.step.Step.{Step}
 use Rattle.chess_core.proofs.Kept.{same_kind-is}
 use Rattle.chess_core.proofs.Men.{same_colour-true}
-use Rattle.chess_core.proofs.Ranges.{any_range_false, any_range_true, some_square_true, some_square_false}
+use Rattle.chess_core.proofs.Ranges.{some_square_true, some_square_false}
 use Rattle.chess_core.proofs.Words.{squares_both, squares_either, squares_same}
 use Rattle.chess_rules.specs.Attacks.{attacked, faces, faces_its_like, paralysed, strikes}
 use Rattle.chess_rules.specs.ties.Lines.{is_ahead, is_on_some}
@@ -152,7 +152,7 @@ met men c k t m n w ds h i j = search (rules, squares_both, squares_either)
 -- a rider gets to squares ahead alone
 rides_ahead : (men : List (Option Man)) (t s : ℕ) (d : Step) → is_ahead t d s ≡ false → rides men t s d ≡ false
 unfolding rides is_ahead
-rides_ahead men t s d h = search (rules, any_range_cases, any_range_false, any_range_true, fails_first, false≢true)
+rides_ahead men t s d h = search rules
 
 neither : (a b c d : Bool) → (a || b) ≡ false → (a ≡ false → c ≡ false) → (b ≡ false → d ≡ false) → (c || d) ≡ false
 neither true b c d h f g = absurd (false≢true (sym h))
@@ -222,7 +222,7 @@ last_two false b c = refl
 -- attack by the men that reach the square and aren't paralysed
 pub attacked_by : (rule : RuleSet) (men : List (Option Man)) (t w : ℕ) (c : Colour) → w ≡ word (λ s. is_side (man_on men s) c && reaches men s t) → some_square (λ s. bit_at w s == 1 && not (paralysed rule men s)) ≡ attacked rule men t c
 unfolding attacked strikes
-attacked_by rule men t w c h = search (rules, last_two, some_square_same, word_has)
+attacked_by rule men t w c h = search (rules, some_square_same, word_has)
 
 pub faced : (men : List (Option Man)) (x : Man) (t w : ℕ) → w ≡ word (λ s. is_man (man_on men s) (other x.colour) x.kind && reaches men s t) → not (w == 0) ≡ faces_its_like men x t
 unfolding faces_its_like faces

@@ -1,5 +1,5 @@
 -- The legal moves between two places, and those that mate.
-use Rattle.std.proofs.lemmas.Bool.{cond-true, cond-false, cases_lt}
+use Rattle.std.proofs.lemmas.Bool.{cases_lt}
 use Rattle.std.proofs.lemmas.List.Elements.{filter-append}
 use Rattle.std.proofs.lemmas.List.{length-append, take-append-drop}
 use Rattle.std.proofs.Common.{◌≡◌, ℕ, zero, suc, inl, inr, ◌+◌, ◌-◌, ◌<◌, ◌≤◌, true, false, List, [], ◌∷◌, ◌++◌, filter, take, drop, length, refl, sym, ap, ◌∙◌, arith, rules}
@@ -25,11 +25,11 @@ between-past rule p a b ge = rw (drop_triples_past a ge, take-none (b - a)) refl
 
 pub between-here : (rule : RuleSet) (p : Position) (a b : ℕ) → a < 28672 → a < b → legal rule p (triple_at a) ≡ true → moves_between rule p a b ≡ triple_at a ∷ moves_between rule p (a + 1) b
 unfolding moves_between
-between-here rule p a b lt low h = search (rules, cond-true, drop_triples)
+between-here rule p a b lt low h = search (rules, drop_triples)
 
 pub between-skip : (rule : RuleSet) (p : Position) (a b : ℕ) → a < 28672 → legal rule p (triple_at a) ≡ false → moves_between rule p a b ≡ moves_between rule p (a + 1) b
 unfolding moves_between
-between-skip rule p a b lt h = search (rules, between-none, cases_lt, cond-false, drop_triples)
+between-skip rule p a b lt h = search (rules, between-none, drop_triples)
 
 -- over a stretch without moves
 between-skips : (rule : RuleSet) (p : Position) (n a b e : ℕ) → b ≡ a + n → b ≤ 28672 → HaveNone (legal rule p) a b → moves_between rule p a e ≡ moves_between rule p b e
@@ -53,7 +53,7 @@ until-legal rule p a n e low before fits none h =
     between-none-legal rule p a n e (λ lt. low) (omega (arith, fits)) none ∙ between-here rule p n e fits before h
 
 pub until-end : (rule : RuleSet) (p : Position) (a n e : ℕ) → n ≤ 28672 → n ≤ e → (n < 28672 → e ≤ n) → HaveNone (legal rule p) a n → moves_between rule p a e ≡ []
-until-end rule p a n e fits before all none = search (rules, between-none, between-none-legal, between-past, cases_lt)
+until-end rule p a n e fits before all none = search (rules, between-none, between-none-legal, between-past)
 
 drop-nil : (k : ℕ) → drop {A = Move} k [] ≡ []
 drop-nil zero = refl

@@ -63,7 +63,7 @@ zero_or zero = inl refl
 zero_or (suc n) = inr (omega arith)
 
 pub not_zero : (test : ℕ → Bool) → not (word test == 0) ≡ some_square test
-not_zero test = search (rules, differs, squares_none, squares_some, zero_or)
+not_zero test = search (rules, squares_none, squares_some, zero_or)
 
 -- a word of no squares
 pub word_empty : (test : ℕ → Bool) → ((s : ℕ) → s < 64 → test s ≡ false) → 0 ≡ word test

@@ -2,7 +2,6 @@
 use Rattle.std.proofs.Common.{◌≡◌, ℕ, ◌<◌, ◌==◌, ◌||◌, true, false, List, Option, Some, None, refl, sym, ap, ◌∙◌, arith, rules}
 use Rattle.std.specs.Int.{bit_at, bit_not, w64}
 use Rattle.std.specs.Int.Bits.{bit_or}
-use Rattle.std.proofs.lemmas.Bool.{or_left}
 use Rattle.std.proofs.lemmas.List.Folds.{list_any-append}
 use Rattle.chess_core.specs.Position.{Position, king_square, man_on, other}
 use Rattle.chess_core.specs.Steps.{diagonal_steps, straight_steps}
@@ -48,7 +47,7 @@ check_squares_of_none men c j h = word_empty (may_check_from men c (enemy c j)) 
 pub check_squares_of_all : (men : List (Option Man)) (c : Colour) (j : Kind) (k : ℕ) → king_square men c ≡ Some k → is_fairy j ≡ true
     → bit_not w64 0 ≡ word (may_check_from men c (enemy c j))
 unfolding may_check_from
-check_squares_of_all men c j k at fairy = search (rules, every_square, or_left)
+check_squares_of_all men c j k at fairy = search (rules, every_square)
 
 pub check_squares_of_some : (men : List (Option Man)) (c : Colour) (j : Kind) (k w : ℕ) → king_square men c ≡ Some k → k < 64 → is_fairy j ≡ false
     → w ≡ word (λ t. reaches_as men c j k t) → w ≡ word (may_check_from men c (enemy c j))
@@ -84,7 +83,7 @@ squares_by_kind rule men c s Nightrider a = a.nightrider
 -- both fairy kinds strike from everywhere
 pub fairy_alike : (men : List (Option Man)) (c : Colour) → word (may_check_from men c (enemy c Grasshopper)) ≡ word (may_check_from men c (enemy c Nightrider))
 unfolding may_check_from
-fairy_alike men c = search (rules, squares_same)
+fairy_alike men c = search rules
 
 pub other_twice : (c : Colour) → other (other c) ≡ c
 other_twice White = refl

@@ -61,7 +61,7 @@ cond-on false s n h e = absurd (false≢true h)
 
 pub stays : (s : ℕ) (d : Step) → s < 64 → along s d 0 ≡ Some s
 unfolding along
-stays s d p = search (rules, and_from, cond-on, on_board)
+stays s d p = search rules
 
 pub square_is : (o : Option ℕ) (t : ℕ) → is_square o t ≡ true → o ≡ Some t
 square_is None t h = absurd (false≢true h)
@@ -84,7 +84,7 @@ clear_back men s t d k at h =
     ∙ all_at (λ i. is_vacant men (along s d i)) 1 (k - 1) (k - i) h (omega arith) (omega arith))
 
 ride_test : (men : List (Option Man)) (s t : ℕ) (d : Step) (k : ℕ) → s < 64 → (is_square (along s d k) t && is_clear men s d (k - 1)) ≡ true → (is_square (along t (back d) k) s && is_clear men t (back d) (k - 1)) ≡ true
-ride_test men s t d k p h = search (rules, and_from, clear_back, first_of_and, returns_to, second_of_and, square_is)
+ride_test men s t d k p h = search (rules, clear_back, first_of_and, returns_to, second_of_and, square_is)
 
 -- a ride is seen from both ends
 pub rides-back : (men : List (Option Man)) (s t : ℕ) (d : Step) → s < 64 → t < 64 → rides men s t d ≡ rides men t s (back d)

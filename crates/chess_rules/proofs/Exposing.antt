@@ -16,12 +16,11 @@ use Rattle.chess_rules.specs.Play.{after, arriving, capture_square, is_castling}
 use Rattle.chess_rules.specs.Reaches.{reaches}
 use Rattle.chess_rules.specs.RuleSet.{RuleSet, is_circe, is_madrasi}
 use Rattle.chess_rules.specs.ties.Sight.{AreSeen, is_simple, king_after, sight_after}
-use Rattle.chess_rules.proofs.Attacking.{some_square_same}
 use Rattle.chess_rules.proofs.Bits.{not_zero}
 use Rattle.chess_rules.proofs.Fits.{arrived, arriving_king, is_square-some, pawn_is_no_king, taken}
 use Rattle.chess_rules.proofs.Pseudo.{IsMade, made}
 use Rattle.chess_rules.proofs.Seeing.{IsCapture, IsNoKing, king_stands, seen_after}
-use Rattle.chess_rules.proofs.Shielding.{arriving_colour, king_is, moved_plainly, other_differs, simple_after}
+use Rattle.chess_rules.proofs.Shielding.{king_is, moved_plainly, other_differs, simple_after}
 use Rattle.chess_rules.proofs.Returns.{moved_arrival}
 use Rattle.chess_rules.proofs.Stays.{colour_self, moved_sound}
 
@@ -37,7 +36,7 @@ none_there true (Some s) h e = absurd (false≢true (sym h))
 none_there false (Some s) h e = absurd (false≢true e)
 
 pub simple_parts : (rule : RuleSet) (p : Position) (x : Man) (m : Move) → is_simple rule x m (is_some (capture_square p x m)) ≡ true → IsSimple rule p x m
-simple_parts rule p x m h = search (rules, and_parts, none_there, not-true)
+simple_parts rule p x m h = search rules
 
 -- attack where nobody is paralysed
 unparalysed : (a m f r : Bool) → m ≡ false → (a && r) ≡ ((a && not (m && f)) && r)
@@ -48,7 +47,7 @@ unparalysed true true f r h = absurd (false≢true (sym h))
 attacked_free : (rule : RuleSet) (men : List (Option Man)) (k w : ℕ) (c : Colour) → is_madrasi rule ≡ false
     → w ≡ word (λ s. is_side (man_on men s) c && reaches men s k) → not (w == 0) ≡ attacked rule men k c
 unfolding attacked strikes paralysed
-attacked_free rule men k w c free h = search (rules, not_zero, some_square_same, unparalysed)
+attacked_free rule men k w c free h = search (rules, not_zero, unparalysed)
 
 -- who goes and who is captured
 captures_arrival : (p : Position) (x : Man) (m : Move) → is_some (man_on p.men m.to) ≡ true → is_square (capture_square p x m) m.to ≡ true
@@ -57,7 +56,7 @@ captures_arrival p x m h = ap (λ (o : Option ℕ). is_square o m.to) (cond-true
 
 goes_capturing : (rule : RuleSet) (p : Position) (x : Man) (m : Move) → IsWellFormed p → IsMade rule p x m → m.to < 64
     → IsCapture p.men m.from (capture_square p x m) m.to (arriving x m.promo) p.turn
-goes_capturing rule p x m well is small = search (rules, arriving_colour, captures_arrival, other_differs)
+goes_capturing rule p x m well is small = search (rules, captures_arrival, other_differs)
 
 -- the king after the move
 pub free_of_king : (c : Colour) (o : Option Man) → is_arrival_free c o ≡ true → is_man o c King ≡ false
@@ -108,7 +107,7 @@ king_is_after rule p x m well is small castling =
 pub check_is : (rule : RuleSet) (p : Position) (x : Man) (m : Move) (o : Option ℕ) → IsWellFormed p → IsMade rule p x m → m.to < 64 → IsSimple rule p x m
     → king_after p x m ≡ o → in_check rule (after rule p m).men p.turn ≡ check_of rule (arrived p x m) o (other p.turn)
 unfolding in_check
-check_is rule p x m o well is small simple king = search (rules, arrived, king_is_after, simple_after)
+check_is rule p x m o well is small simple king = search (rules, king_is_after, simple_after)
 
 pub no_king_exposed : (rule : RuleSet) (p : Position) (x : Man) (m : Move) → IsWellFormed p → pseudo rule p m ≡ true → m.to < 64 → man_on p.men m.from ≡ Some x
     → is_simple rule x m (is_some (capture_square p x m)) ≡ true → king_after p x m ≡ None → false ≡ in_check rule (after rule p m).men p.turn

@@ -3,7 +3,7 @@ use Rattle.std.proofs.Common.{◌≡◌, ◌≢◌, ℕ, zero, suc, ◌+◌, ◌
 use Rattle.std.specs.Int.{bit_at, bit_not, w64}
 use Rattle.std.specs.Int.Bits.{bit_and, bit_or}
 use Rattle.std.specs.List.{list_any}
-use Rattle.std.proofs.lemmas.Bool.{and_from, and_left, and_parts, and_right, cases_Bool, cases_eq, cond-false, cond-true, eq-eqb, eqb-true, false_from_ne_true, false≢true, not-true, or_left, or_parts}
+use Rattle.std.proofs.lemmas.Bool.{and_from, and_left, and_parts, and_right, cases_Bool, cases_eq, cond-true, eq-eqb, eqb-true, false_from_ne_true, false≢true, not-true, or_parts}
 use Rattle.std.proofs.lemmas.Nat.Bits.{bit_at-lt, bit_at-zero, bit_at_and}
 use Rattle.chess_core.specs.Position.{Position, is_man, is_side, king_square, man_on, other, same_colour, same_kind, without_man}
 use Rattle.chess_core.specs.Squares.{is_square, some_square, squares}
@@ -30,7 +30,7 @@ use Rattle.chess_rules.specs.ties.Sight.{AreSeen, king_after}
 use Rattle.chess_rules.proofs.Bits.{word_has}
 use Rattle.chess_rules.proofs.Checking.{other_twice}
 use Rattle.chess_rules.proofs.Exposing.{IsSimple, check_is, simple_parts}
-use Rattle.chess_rules.proofs.Fits.{arrived, arriving_king, capture_of_piece, is_square-some, kind_is_king, king_no_step, no_capture, taken}
+use Rattle.chess_rules.proofs.Fits.{arrived, arriving_king, capture_of_piece, is_square-some, king_no_step, no_capture, taken}
 use Rattle.chess_rules.proofs.Landing.{StandAlike, no_step_there, reaches_alike}
 use Rattle.chess_rules.proofs.Mating.{turn_after}
 use Rattle.chess_rules.proofs.Places.{moves_behind-here, moves_behind-skip, moves_behind-start}
@@ -80,11 +80,11 @@ flight_there rule p h = elim (any_range_cases (λ t. is_flight_from rule p (king
 
 pub no_mate_with_flight : (rule : RuleSet) (p : Position) (m : Move) → has_flight rule (after rule p m) ≡ true → false ≡ mates rule p m
 unfolding mates is_goal
-no_mate_with_flight rule p m h = search (rules, and_right, flight_there)
+no_mate_with_flight rule p m h = search (rules, flight_there)
 
 -- the men after the move, and the king among them
 after_seen : (rule : RuleSet) (p : Position) (m : Move) (x : Man) (k : ℕ) → IsSeenFrom rule p m x k → (after rule p m).men ≡ arrived p x m
-after_seen rule p m x k i = search (rules, simple_after, simple_parts)
+after_seen rule p m x k i = search (rules, simple_after)
 
 no_king_free : (c d : Colour) (o : Option Man) → is_arrival_free c o ≡ true → is_man o d King ≡ false
 no_king_free c d None h = refl
@@ -126,7 +126,7 @@ on_second : (a b i : ℕ) → (bit_at (bit_and a b) i == 1) ≡ true → (bit_at
 on_second a b i h = search (rules, bit_at-lt, bit_at_and, eq-eqb, eqb-true)
 
 unseen_bit : (test : ℕ → Bool) (n w t : ℕ) → w ≡ word test → t < 64 → (bit_at (bit_and n (bit_not w64 w)) t == 1) ≡ true → (bit_at w t == 1) ≡ false
-unseen_bit test n w t h small on = search (rules, not-true, on_second, squares_not, word_has)
+unseen_bit test n w t h small on = search (rules, on_second, squares_not, word_has)
 
 -- the squares to which a king may step, attacks apart
 free_of : (c : Colour) (o : Option Man) → is_side o (other c) ≡ false → is_man o c King ≡ false → is_arrival_free (other c) o ≡ true
@@ -287,7 +287,7 @@ nobody_strikes men a o b z k u t x c r s i small = elim (cases_eq s b) [
 not_attacked : (rule : RuleSet) (men : List (Option Man)) (a : ℕ) (o : Option ℕ) (b : ℕ) (z : Man) (k : ℕ) (u : Option ℕ) (t : ℕ) (x : Man) (c : Colour)
     (r : ℕ) → IsSafeStep men a o b z k u t x c r → attacked rule (stepped men a o b z k u t x) t c ≡ false
 unfolding attacked strikes
-not_attacked rule men a o b z k u t x c r i = search (rules, no_strike, nobody_strikes, some_square_false, stepped)
+not_attacked rule men a o b z k u t x c r i = search (rules, no_strike, nobody_strikes, some_square_false)
 
 -- the step itself
 other_side : (o : Option Man) (c : Colour) → is_man o (other c) King ≡ true → is_side o c ≡ false
@@ -300,7 +300,7 @@ other_side (Some y) c h = by c (same_colour-true y.colour (other c) (first_of_an
 steps_there : (men : List (Option Man)) (x : Man) (c : Colour) (k t : ℕ) → man_on men k ≡ Some x → same_colour x.colour c ≡ true → same_kind x.kind King ≡ true
     → reaches_as men c King k t ≡ true → reaches men k t ≡ true
 unfolding reaches
-steps_there men x c k t here mine king h = search (rules, kind_is_king, same_colour-true)
+steps_there men x c k t here mine king h = search rules
 
 pub record IsKingStep (rule : RuleSet) (q : Position) (x : Man) (k t : ℕ) : Type 0 where
   pub well_formed : IsWellFormed q
@@ -319,7 +319,7 @@ pub record IsOpenTo (rule : RuleSet) (men : List (Option Man)) (c : Colour) (k t
 
 open_parts : (rule : RuleSet) (men : List (Option Man)) (c : Colour) (k t : ℕ) → is_open rule men c k t ≡ true → IsOpenTo rule men c k t
 unfolding is_open
-open_parts rule men c k t h = search (rules, and_parts, false≢true, none_from_is_some, not-true)
+open_parts rule men c k t h = search rules
 
 -- the king's move
 abbrev step_to : ℕ → ℕ → Move
@@ -327,7 +327,7 @@ step_to k t = record { from = k; to = t; promo = None }
 
 may_step : (rule : RuleSet) (q : Position) (x : Man) (k t : ℕ) → IsKingStep rule q x k t → pseudo rule q (step_to k t) ≡ true
 unfolding pseudo paralysed
-may_step rule q x k t i = search (rules, and_from, and_left, cond-false, king_is_no_pawn, open_parts, or_left, steps_there)
+may_step rule q x k t i = search (rules, king_is_no_pawn, open_parts, steps_there)
 
 simple_step : (rule : RuleSet) (q : Position) (x : Man) (k t : ℕ) → IsKingStep rule q x k t → IsSimple rule q x (step_to k t)
 simple_step rule q x k t i =
@@ -364,7 +364,7 @@ king_on men c k at =
     (y.0, record { small = there.0; here = y.1; mine = parts.0; king = parts.1 })
 
 king_is_other : (x : Man) (c : Colour) → same_colour x.colour (other c) ≡ true → same_colour x.colour c ≡ false
-king_is_other x c h = search (rules, same_colour-true)
+king_is_other x c h = search rules
 
 no_king_square : (men : List (Option Man)) (c d : Colour) (k b : ℕ) → king_square men d ≡ Some k → is_arrival_free c (man_on men b) ≡ true → b ≢ k
 no_king_square men c d k b at free e =

@@ -44,7 +44,7 @@ all_range_same p q a (suc n) h =
 clear_alike : (men others : List (Option Man)) (s t : ℕ) (d : Step) (k n : ℕ) → Ordered d → StandAlike men others t → along s d k ≡ Some t → n < k
     → is_clear men s d n ≡ is_clear others s d n
 unfolding is_clear
-clear_alike men others s t d k n o a at lt = search (rules, all_range_same, not_yet, vacant_alike)
+clear_alike men others s t d k n o a at lt = search (rules, all_range_same, not_yet)
 
 ride_alike : (men others : List (Option Man)) (s t : ℕ) (d : Step) → Ordered d → StandAlike men others t → rides men s t d ≡ rides others s t d
 unfolding rides

@@ -73,4 +73,4 @@ some_blocked men others b k s (d ∷ ds) i h ne =
 
 pub line_open : (men others : List (Option Man)) (b k s : ℕ) (ds : List Step) → Frees men others b → list_any (rides men k s) ds ≡ true
     → (list_any (rides men k b) ds ≡ true → list_any (λ d. rides men s b (back d)) ds ≡ true → ⊥) → list_any (rides others k s) ds ≡ true
-line_open men others b k s ds i h never = search (rules, cases_Bool, some_blocked)
+line_open men others b k s ds i h never = search (rules, some_blocked)

@@ -12,7 +12,7 @@ use Rattle.chess_core.specs.declared.man.Colour.{Colour}
 use Rattle.chess_core.specs.declared.man.Kind.{Kind}
 use Rattle.chess_core.specs.declared.man.Kind.TheVariants.{King}
 use Rattle.chess_core.specs.declared.man.Man.{Man}
-use Rattle.chess_core.proofs.Men.{man_on-with_other, man_on-with_same, man_on-without_other, man_on-without_same}
+use Rattle.chess_core.proofs.Men.{man_on-with_other, man_on-without_other, man_on-without_same}
 use Rattle.chess_core.proofs.Words.{squares_both, squares_either, squares_not, squares_same}
 use Rattle.chess_rules.specs.Play.{without_at}
 use Rattle.chess_rules.specs.ties.Sight.{AreSeen, sight_after}
@@ -53,7 +53,7 @@ length-without_at men None = refl
 length-without_at men (Some s) = length-set men s None
 
 pub there_now : (men : List (Option Man)) (a : ℕ) (o : Option ℕ) (b : ℕ) (z : Man) → b < length men → man_on (gone_to men a o b z) b ≡ Some z
-there_now men a o b z small = search (rules, length-set, length-without_at, man_on-with_same)
+there_now men a o b z small = search rules
 
 gone_at : (men : List (Option Man)) (o : Option ℕ) (q : ℕ) → is_square o q ≡ true → man_on (without_at men o) q ≡ None
 gone_at men None q h = absurd (false≢true h)
@@ -179,4 +179,4 @@ king_now men a o b z c q i = elim (cases_eq q b) [
 pub king_stands : (men : List (Option Man)) (a : ℕ) (o : Option ℕ) (b : ℕ) (z : Man) (c : Colour) → IsNoKing men a o b z c
     → king_square (gone_to men a o b z) c ≡ king_square men c
 unfolding king_square squares
-king_stands men a o b z c i = search (rules, find_same, king_now)
+king_stands men a o b z c i = search (rules, king_now)

@@ -3,7 +3,7 @@ use Rattle.std.proofs.Common.{◌≡◌, ◌≢◌, ℕ, ◌<◌, Bool, true, fa
 use Rattle.std.specs.Int.{bit_at, bit_not, w64}
 use Rattle.std.specs.Int.Bits.{bit_or}
 use Rattle.std.specs.List.{list_any}
-use Rattle.std.proofs.lemmas.Bool.{agree_below_at, and_from, and_left, and_parts, and_right, cases_Bool, cases_eq, cond-false, cond-true, eq-eqb, false_from_ne_true, false≢true, not-true, or_cases, or_left, or_parts, or_right}
+use Rattle.std.proofs.lemmas.Bool.{agree_below_at, and_from, and_left, and_parts, cases_eq, eq-eqb, false_from_ne_true, false≢true, not-true, or_cases, or_left, or_parts, or_right}
 use Rattle.std.proofs.lemmas.List.Folds.{list_any-append}
 use Rattle.chess_core.specs.Position.{AtMostOneKing, Position, is_man, is_side, king_square, kind_number, man_on, other, same_colour, same_kind, without_man}
 use Rattle.chess_core.specs.Squares.{is_square, squares, some_square}
@@ -18,7 +18,7 @@ use Rattle.chess_core.specs.declared.man.Man.{Man}
 use Rattle.chess_core.specs.declared.man.Move.{Move}
 use Rattle.chess_core.specs.declared.step.Step.{Step}
 use Rattle.chess_core.proofs.Men.{man_on-with_other, man_on-without_same}
-use Rattle.chess_core.proofs.Ranges.{any_range_false, any_range_true, find_square_some, some_square_false, some_square_true}
+use Rattle.chess_core.proofs.Ranges.{find_square_some, some_square_false, some_square_true}
 use Rattle.chess_core.proofs.Words.{squares_either, squares_not, squares_same}
 use Rattle.chess_rules.specs.Attacks.{attacked, check_of, in_check, paralysed, strikes}
 use Rattle.chess_rules.specs.ties.CheckSquares.{may_check_from, may_check_from_on}
@@ -38,7 +38,7 @@ use Rattle.chess_rules.proofs.Plays.{none_from_is_some, stays_empty}
 use Rattle.chess_rules.proofs.Pseudo.{IsMade, made, on_board}
 use Rattle.chess_rules.proofs.Returns.{moved_arrival}
 use Rattle.chess_rules.proofs.Stays.{maker}
-use Rattle.chess_rules.proofs.Tests.{any_range_cases, differs, find_first, first_of_and}
+use Rattle.chess_rules.proofs.Tests.{differs, find_first}
 
 -- the man on a is gone, z has come to b, and nothing else has changed
 pub record IsShift (men after : List (Option Man)) (a b : ℕ) (z : Man) : Type 0 where
@@ -50,7 +50,7 @@ pub record IsShift (men after : List (Option Man)) (a b : ℕ) (z : Man) : Type 
 -- where a rider gets, a line goes
 ahead_of : (men : List (Option Man)) (k s : ℕ) (d : Step) → rides men k s d ≡ true → is_ahead k d s ≡ true
 unfolding rides is_ahead
-ahead_of men k s d h = search (rules, any_range_cases, any_range_false, any_range_true, false≢true, first_of_and)
+ahead_of men k s d h = search rules
 
 pub goes_on : (men : List (Option Man)) (k s : ℕ) (ds : List Step) → list_any (rides men k s) ds ≡ true → list_any (λ d. is_ahead k d s) ds ≡ true
 goes_on men k s [] h = h
@@ -148,7 +148,7 @@ on_both P s d Diagonal = d
 
 covered_parts : (rule : RuleSet) (men : List (Option Man)) (c : Colour) (a k : ℕ) → may_expose_on rule men (Some k) c a ≡ false → IsCovered rule men c a k
 unfolding is_unshielded
-covered_parts rule men c a k h = search (rules, or_parts)
+covered_parts rule men c a k h = search rules
 
 -- and the one that has moved is no enemy, or doesn't reach the king
 pub record IsQuiet (men : List (Option Man)) (c : Colour) (a b k : ℕ) (z : Man) : Type 0 where
@@ -299,11 +299,11 @@ nobody_reborn true men before (Some s) h = let bad : Some s ≡ None = h refl in
 -- a plain move captures on its arrival alone
 captures_there : (p : Position) (x : Man) (m : Move) (s : ℕ) → is_square p.crossed m.to ≡ false → capture_square p x m ≡ Some s → s ≡ m.to
 unfolding capture_square
-captures_there p x m s off h = search (rules, and_right, cases_Bool, cond-false, cond-true)
+captures_there p x m s off h = search rules
 
 captures_nobody : (p : Position) (x : Man) (m : Move) → is_square p.crossed m.to ≡ false → is_some (man_on p.men m.to) ≡ false → capture_square p x m ≡ None
 unfolding capture_square
-captures_nobody p x m off e = search (rules, and_right, cond-false)
+captures_nobody p x m off e = search rules
 
 -- the parts of a plain move
 pub record IsPlain (rule : RuleSet) (p : Position) (x : Man) (m : Move) : Type 0 where
@@ -317,7 +317,7 @@ first_off false b h e = cc
 
 pub plain_parts : (rule : RuleSet) (p : Position) (x : Man) (m : Move) → is_plain rule p x m ≡ true → IsPlain rule p x m
 unfolding is_plain
-plain_parts rule p x m h = search (rules, and_parts, captures_nobody, first_off, not-true)
+plain_parts rule p x m h = search (rules, captures_nobody, first_off)
 
 pub moved_plainly : (p : Position) (x : Man) (m : Move) → is_castling x m ≡ false → moved_men p x m ≡ arrived p x m
 unfolding moved_men
@@ -327,7 +327,7 @@ moved_plainly p x m h = rw h refl
 pub simple_after : (rule : RuleSet) (p : Position) (x : Man) (m : Move) → man_on p.men m.from ≡ Some x → is_castling x m ≡ false
     → (is_circe rule ≡ true → capture_square p x m ≡ None) → (after rule p m).men ≡ arrived p x m
 unfolding after after_by reborn_square
-simple_after rule p x m here castling rebirth = search (rules, moved_plainly, nobody_reborn)
+simple_after rule p x m here castling rebirth = search (rules, moved_plainly)
 
 pub men_after : (rule : RuleSet) (p : Position) (x : Man) (m : Move) → man_on p.men m.from ≡ Some x → IsPlain rule p x m → (after rule p m).men ≡ arrived p x m
 men_after rule p x m here plain = simple_after rule p x m here plain.castling plain.rebirth
@@ -383,7 +383,7 @@ other_differs Black = refl
 cannot_expose_parts : (rule : RuleSet) (p : Position) (x : Man) (c : Colour) (m : Move) → man_on p.men m.from ≡ Some x → cannot_expose rule p c m ≡ true
     → (may_expose rule p.men c m.from ≡ false) × IsPlain rule p x m
 unfolding cannot_expose
-cannot_expose_parts rule p x c m here h = search (rules, and_parts, not-true, plain_parts)
+cannot_expose_parts rule p x c m here h = search (rules, plain_parts)
 
 -- such a move doesn't leave its mover in check
 pub cannot_expose_own : (rule : RuleSet) (p : Position) (m : Move) → IsWellFormed p → pseudo rule p m ≡ true → m.to < 64 → cannot_expose rule p p.turn m ≡ true
@@ -418,7 +418,7 @@ gives_no_check rule p x m well may small here unpromoted h off =
 -- a fairy man by the words of the two kinds
 pub some_grasshopper : (men : List (Option Man)) (c : Colour) (w : ℕ) → w ≡ squares_of men c Grasshopper → (w ≡ 0 → ⊥) → not (w == 0) ≡ has_fairy men c
 unfolding has_fairy squares_of
-some_grasshopper men c w h some = search (rules, differs, not_zero, or_left)
+some_grasshopper men c w h some = search (rules, differs, not_zero)
 
 pub some_nightrider : (men : List (Option Man)) (c : Colour) (w n : ℕ) → w ≡ squares_of men c Grasshopper → w ≡ 0 → n ≡ squares_of men c Nightrider
     → not (n == 0) ≡ has_fairy men c
@@ -437,7 +437,7 @@ shield_squares_none rule men c h = word_empty (may_expose rule men c) (λ s b. a
 pub shield_squares_all : (rule : RuleSet) (men : List (Option Man)) (c : Colour) (k : ℕ) → king_square men c ≡ Some k → is_unshielded rule men c k ≡ true
     → bit_not w64 0 ≡ word (may_expose rule men c)
 unfolding may_expose
-shield_squares_all rule men c k at unshielded = search (rules, every_square, or_left)
+shield_squares_all rule men c k at unshielded = search (rules, every_square)
 
 pub shield_squares_some : (rule : RuleSet) (men : List (Option Man)) (c : Colour) (k w : ℕ) → king_square men c ≡ Some k → is_unshielded rule men c k ≡ false
     → w ≡ bit_or (bit_or (word (is_square (Some k))) (word (is_shut men (other c) Rook straight_steps k)))

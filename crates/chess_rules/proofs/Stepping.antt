@@ -42,7 +42,7 @@ taken_nowhere u t q h ne = false_from_ne_true _ (λ y. ne (h q y))
 -- the man on a square
 on_flight : (men : List (Option Man)) (a : ℕ) (o : Option ℕ) (b : ℕ) (z : Man) (k : ℕ) (u : Option ℕ) (t : ℕ) (x : Man) (q : ℕ) → t < length men → q ≡ t
     → man_on (stepped men a o b z k u t x) q ≡ Some x
-on_flight men a o b z k u t x q small e = search (rules, gone_to, length-gone, there_now)
+on_flight men a o b z k u t x q small e = search rules
 
 on_left : (men : List (Option Man)) (a : ℕ) (o : Option ℕ) (b : ℕ) (z : Man) (k : ℕ) (u : Option ℕ) (t : ℕ) (x : Man) (q : ℕ) → q ≢ t → (k == q) ≡ true
     → man_on (stepped men a o b z k u t x) q ≡ None
@@ -56,7 +56,7 @@ on_others men a o b z k u t x q h ne off = kept_now (gone_to men a o b z) k u t 
 pub stands_arrived : (men : List (Option Man)) (a : ℕ) (o : Option ℕ) (b : ℕ) (z : Man) (k : ℕ) (u : Option ℕ) (t : ℕ) (x : Man) (q : ℕ) → b < length men
     → ((s : ℕ) → is_square u s ≡ true → s ≡ t) → q ≡ b → q ≢ t → b ≢ k
     → man_on (stepped men a o b z k u t x) q ≡ Some z
-stands_arrived men a o b z k u t x q arrival h e ne off = search (rules, differs, gone_to, on_others, there_now)
+stands_arrived men a o b z k u t x q arrival h e ne off = search (rules, gone_to, on_others, there_now)
 
 -- the squares on which men stand
 without_taken : (h i j e : Bool) → (j ≡ true → e ≡ true) → ((h && not i) || e) ≡ ((h && not (i || j)) || e)
@@ -68,11 +68,11 @@ without_taken false false true e f = refl
 pub stands : (men : List (Option Man)) (a : ℕ) (o : Option ℕ) (b : ℕ) (z : Man) (k : ℕ) (u : Option ℕ) (t : ℕ) (x : Man) (q : ℕ) → b < length men
     → t < length men → ((s : ℕ) → is_square u s ≡ true → s ≡ t)
     → ((is_occupied_after men a o b q && not (k == q)) || t == q) ≡ is_some (man_on (stepped men a o b z k u t x) q)
-stands men a o b z k u t x q arrival flight h = search (rules, eq-eqb, gone_to, length-gone, occupied_now, without_taken)
+stands men a o b z k u t x q arrival flight h = search (rules, gone_to, length-gone, occupied_now, without_taken)
 
 pub lifted_words : (men : List (Option Man)) (a : ℕ) (o : Option ℕ) (b k : ℕ)
     → (sight_lifted men a o b k).occupied ≡ word (λ s. is_occupied_after men a o b s && not (k == s))
-lifted_words men a o b k = search (rules, is_occupied_after, occupied_words, squares_both, squares_not)
+lifted_words men a o b k = search (rules, occupied_words, squares_both, squares_not)
 
 occupied_stepped : (men : List (Option Man)) (a : ℕ) (o : Option ℕ) (b : ℕ) (z : Man) (k : ℕ) (u : Option ℕ) (t : ℕ) (x : Man) → b < length men
     → t < length men → ((s : ℕ) → is_square u s ≡ true → s ≡ t)
@@ -90,12 +90,12 @@ lifted_one men a o b z k q arrival =
 
 pub occupied_lifted : (men : List (Option Man)) (a : ℕ) (o : Option ℕ) (b : ℕ) (z : Man) (k : ℕ) → b < length men
     → (sight_lifted men a o b k).occupied ≡ occupied_squares (without_man (gone_to men a o b z) k)
-occupied_lifted men a o b z k arrival = search (rules, gone_to, lifted_one, lifted_words, squares_same)
+occupied_lifted men a o b z k arrival = search (rules, lifted_one, lifted_words, squares_same)
 
 pub lifted_alike : (men : List (Option Man)) (a : ℕ) (o : Option ℕ) (b : ℕ) (z : Man) (k : ℕ) (u : Option ℕ) (t : ℕ) (x : Man) → b < length men
     → t < length men → ((s : ℕ) → is_square u s ≡ true → s ≡ t)
     → StandAlike (stepped men a o b z k u t x) (without_man (gone_to men a o b z) k) t
-lifted_alike men a o b z k u t x arrival flight h = search (rules, differs, is_occupied_after, lifted_one, stands)
+lifted_alike men a o b z k u t x arrival flight h = search (rules, is_occupied_after, lifted_one, stands)
 
 -- whichever man has arrived
 pub arrival_alike : (men : List (Option Man)) (a : ℕ) (o : Option ℕ) (b : ℕ) (z y : Man) (k : ℕ) (u : Option ℕ) (t : ℕ) (x : Man) → b < length men
@@ -106,7 +106,7 @@ arrival_alike men a o b z y k u t x arrival flight h = search (rules, stands)
 pub same_elsewhere : (men : List (Option Man)) (a : ℕ) (o : Option ℕ) (b : ℕ) (z y : Man) (k : ℕ) (u : Option ℕ) (t : ℕ) (x : Man) (q : ℕ) → t < length men
     → ((s : ℕ) → is_square u s ≡ true → s ≡ t) → (q ≡ b → q ≡ t)
     → man_on (stepped men a o b z k u t x) q ≡ man_on (stepped men a o b y k u t x) q
-same_elsewhere men a o b z y k u t x q flight h off = search (rules, cases_Bool, cases_eq, man_on-with_other, on_flight, on_left, on_others)
+same_elsewhere men a o b z y k u t x q flight h off = search (rules, man_on-with_other, on_flight, on_left, on_others)
 
 -- the men of the attack: the one that moved apart
 first_out : (i p q r : Bool) → i ≡ false → (i && ((p && q) && r)) ≡ false

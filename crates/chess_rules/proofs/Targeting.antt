@@ -2,7 +2,7 @@
 use Rattle.std.proofs.Common.{◌≡◌, ℕ, ◌+◌, ◌-◌, ◌*◌, ◌/◌, ◌%◌, ◌<◌, ◌≤◌, Bool, true, false, ◌==◌, not, List, Option, Some, None, is_some, find, refl, sym, ap, ◌∙◌, arith, inl, inr, rules}
 use Rattle.std.specs.Int.{bit_at, bit_not, w64}
 use Rattle.std.specs.List.{range_with_len}
-use Rattle.std.proofs.lemmas.Bool.{agree_below_at, and_from, and_parts, cases_Bool, cases_eq, cases_lt, cond-true, cond-false, eqb-true, eq-eqb, or_cases, or_left, or_right}
+use Rattle.std.proofs.lemmas.Bool.{agree_below_at, and_from, and_parts, cases_Bool, cases_eq, cond-true, cond-false, or_left, or_right}
 use Rattle.chess_core.specs.Position.{Position, is_side, man_on, same_colour, same_kind}
 use Rattle.chess_core.specs.Squares.{file_of, is_square, rank_of, square_at}
 use Rattle.chess_core.specs.Steps.{along}
@@ -22,8 +22,7 @@ use Rattle.chess_rules.specs.Reaches.{reaches, reaches_as}
 use Rattle.chess_rules.specs.RuleSet.{RuleSet}
 use Rattle.chess_rules.specs.ties.Targets.{arrives, is_arrival, may_go, steps_to}
 use Rattle.chess_rules.proofs.Bits.{word_empty}
-use Rattle.chess_rules.proofs.Ends.{cond-on, on_board}
-use Rattle.chess_rules.proofs.Pseudo.{king_is_no_pawn, made, ways}
+use Rattle.chess_rules.proofs.Pseudo.{made}
 use Rattle.chess_rules.proofs.Tests.{IsFirst, find_no}
 
 -- the words of a pawn's steps, of a king's in castling, and of the others
@@ -41,11 +40,11 @@ other_word x s none king = word_empty (steps_to x s) (λ t b. cond-false (same_k
 
 -- the square on a square's file and rank
 square_of : (f r t : ℕ) → t < 64 → f ≡ file_of t → r ≡ rank_of t → is_square (square_at f r) t ≡ true
-square_of f r t p e h = search (rules, and_from, cond-on, eq-eqb, on_board)
+square_of f r t p e h = search rules
 
 pub castling_steps : (x : Man) (m : Move) → m.to < 64 → is_castling x m ≡ true → steps_to x m.from m.to ≡ true
 unfolding steps_to along
-castling_steps x m small h = search (rules, and_parts, cond-false, cond-true, eqb-true, king_is_no_pawn, or_cases, or_left, or_right, square_of)
+castling_steps x m small h = search rules
 
 reaches_man : (men : List (Option Man)) (x : Man) (s t : ℕ) → man_on men s ≡ Some x → reaches men s t ≡ true → reaches_as men x.colour x.kind s t ≡ true
 unfolding reaches
@@ -54,7 +53,7 @@ reaches_man men x s t here h = rw here at h
 -- a move goes where its man may go
 may_go_of : (rule : RuleSet) (p : Position) (x : Man) (m : Move) → m.to < 64 → man_on p.men m.from ≡ Some x → goes rule p x m ≡ true → may_go p x m.from m.to ≡ true
 unfolding may_go castles may_castle
-may_go_of rule p x m small here h = search (rules, and_from, and_parts, castling_steps, cond-false, cond-true, or_left, or_right, reaches_man, ways)
+may_go_of rule p x m small here h = search (rules, and_from, and_parts, castling_steps, cond-false, cond-true, or_left, or_right, reaches_man)
 
 arrival_of : (rule : RuleSet) (p : Position) (x : Man) (m : Move) → m.to < 64 → man_on p.men m.from ≡ Some x → pseudo_of rule p (Some x) m ≡ true → is_arrival rule p m.from m.to ≡ true
 unfolding is_arrival
@@ -110,7 +109,7 @@ pub from-nobody : (p : Position) (s z a b : ℕ) → man_on p.men s ≡ None →
 from-nobody p s z a b h = record { fails = λ rule k lo hi on. nobody_moves rule p (record { from = s; to = k / 7; promo = promotion_at (k % 7) }) h }
 
 pub from-join : (p : Position) (s z a b c : ℕ) → IsBarrenFrom p s z a b → IsBarrenFrom p s z b c → IsBarrenFrom p s z a c
-from-join p s z a b c x y = search (rules, cases_lt)
+from-join p s z a b c x y = search rules
 
 -- no square of the word lies between
 pub from-missed : (p : Position) (s a b w : ℕ) → ((t : ℕ) → a / 7 ≤ t → t < (b + 6) / 7 → (bit_at w t == 1) ≡ false) → IsBarrenFrom p s w a b
@@ -154,7 +153,7 @@ from-promoted p x s z t here h = record {
 
 -- up to the first target
 pub from-target : (p : Position) (s start at t w : ℕ) → IsBarrenFrom p s w start at → IsFirst (λ q. bit_at w q == 1) (at / 7) (64 - at / 7) t → IsBarrenFrom p s w start (7 * t)
-from-target p s start at t w past f = search (rules, from-join, from-missed)
+from-target p s start at t w past f = search rules
 
 -- up to the end, where there is none
 pub from-none : (p : Position) (s start at w : ℕ) → IsBarrenFrom p s w start at → find (λ q. bit_at w q == 1) (range_with_len (at / 7) (64 - at / 7)) ≡ None → IsBarrenFrom p s w start 448

@@ -1,7 +1,7 @@
 -- The triples: which moves they are, in which order they stand, and that each legal move is one of them.
-use Rattle.std.proofs.Common.{◌≡◌, ℕ, zero, suc, ◌+◌, ◌-◌, ◌*◌, ◌<◌, Bool, true, nat_lt, List, [], ◌∷◌, length, map, Option, Some, None, ◌⊎◌, ◌↔◌, inl, inr, refl, ap, arith, rules}
+use Rattle.std.proofs.Common.{◌≡◌, ℕ, zero, suc, ◌+◌, ◌-◌, ◌*◌, ◌<◌, Bool, true, List, [], ◌∷◌, length, map, Option, Some, None, ◌⊎◌, ◌↔◌, inl, inr, refl, ap, arith, rules}
 use Rattle.std.specs.List.{AllPairs, Contains, flat_map, list_any, range_with_len}
-use Rattle.std.proofs.lemmas.Bool.{agree_below_at, and_parts, cases_lt, cases_order, eqb-true, false≢true, ltb-true, or_cases}
+use Rattle.std.proofs.lemmas.Bool.{and_parts, cases_lt, false≢true, or_cases}
 use Rattle.std.proofs.lemmas.List.{get_or_past}
 use Rattle.chess_core.specs.MoveOrder.{promotion_place, triple_number}
 use Rattle.chess_core.specs.Position.{Position, man_on, may_promote}
@@ -48,7 +48,7 @@ from_triples m c =
 -- the numbers of the triples rise
 next_rises : (n : ℕ) → n < 28671 → triple_number (triple_at n) < triple_number (triple_at (n + 1))
 unfolding triple_at
-next_rises n less = search (rules, agree_below_at, ltb-true, nat_lt)
+next_rises n less = search rules
 
 later_rises : (d n : ℕ) → n + suc d < 28672 → triple_number (triple_at n) < triple_number (triple_at (n + suc d))
 later_rises zero n less = let e : n + 1 ≡ n + suc zero = omega arith in rw (← e) (next_rises n (omega (arith, less)))
@@ -91,11 +91,11 @@ leap_on_board s t d h = on_board s d 1 t h
 
 ride_on_board : (men : List (Option Man)) (s t : ℕ) (d : Step) → rides men s t d ≡ true → t < 64
 unfolding rides
-ride_on_board men s t d h = search (rules, and_parts, on_board, some_passes)
+ride_on_board men s t d h = search (rules, on_board, some_passes)
 
 hop_on_board : (men : List (Option Man)) (s t : ℕ) (d : Step) → hops men s t d ≡ true → t < 64
 unfolding hops
-hop_on_board men s t d h = search (rules, and_parts, on_board, some_passes)
+hop_on_board men s t d h = search (rules, on_board, some_passes)
 
 reach_as_on_board : (men : List (Option Man)) (c : Colour) (k : Kind) (s t : ℕ) → reaches_as men c k s t ≡ true → t < 64
 unfolding reaches_as
@@ -122,10 +122,10 @@ stands_on_board p x s size here = search (rules, cases_lt, get_or_past)
 
 castling_on_board : (rule : RuleSet) (p : Position) (x : Man) (m : Move) → m.from < 64 → castles rule p x m ≡ true → m.to < 64
 unfolding castles may_castle
-castling_on_board rule p x m from h = search (rules, and_parts, eqb-true)
+castling_on_board rule p x m from h = search rules
 
 arrival_on_board : (rule : RuleSet) (p : Position) (x : Man) (m : Move) → m.from < 64 → IsMade rule p x m → m.to < 64
-arrival_on_board rule p x m from made = search (rules, and_parts, castling_on_board, pawn_goes, reach_on_board, ways)
+arrival_on_board rule p x m from made = search (rules, castling_on_board, pawn_goes, reach_on_board, ways)
 
 may_be_promoted : (p : Position) (k : Kind) → may_promote p k ≡ true → Contains promotions (Some k)
 may_be_promoted p King h = absurd (false≢true h)
@@ -158,7 +158,7 @@ place_small (Some k) = omega arith
 
 parts_of : (a b c d e f : ℕ) → b < 64 → e < 64 → c < 9 → f < 9 → (a * 64 + b) * 9 + c < (d * 64 + e) * 9 + f
     → (a < d) ⊎ ((a ≡ d) × ((b < e) ⊎ ((b ≡ e) × (c < f))))
-parts_of a b c d e f b64 e64 c9 f9 less = search (rules, cases_order)
+parts_of a b c d e f b64 e64 c9 f9 less = search rules
 
 of_parts : (a b c d e f : ℕ) → b < 64 → e < 64 → c < 9 → f < 9 → (a < d) ⊎ ((a ≡ d) × ((b < e) ⊎ ((b ≡ e) × (c < f))))
     → (a * 64 + b) * 9 + c < (d * 64 + e) * 9 + f
@@ -169,7 +169,7 @@ of_parts a b c d e f b64 e64 c9 f9 (inr (same, inr (alike, low))) = omega (arith
 pub by_parts : (m n : Move) → m.to < 64 → n.to < 64
     → (triple_number m < triple_number n) ↔ ((m.from < n.from)
     ⊎ ((m.from ≡ n.from) × ((m.to < n.to) ⊎ ((m.to ≡ n.to) × (promotion_place m.promo < promotion_place n.promo)))))
-by_parts m n a b = search (rules, of_parts, parts_of, place_small)
+by_parts m n a b = search rules
 
 -- a list without elements
 pub nothing_in : (ms : List Move) → is_nil ms ≡ true → (m : Move) → Contains ms m → ⊥
