@@ -1,8 +1,8 @@
 -- Squares one after another on a line.
-use Rattle.std.proofs.Common.{◌≡◌, ℕ, ◌+◌, ◌-◌, ◌*◌, ◌<◌, ◌≤◌, true, false, ◌&&◌, refl, sym, ap, ◌∙◌, arith, inl, inr, Some}
-use Rattle.std.proofs.Math.Nat.{add-mul, mul-add, mul_assoc, mul_comm, mul-le-mul_left}
+use Rattle.std.proofs.Common.{◌≡◌, ℕ, ◌+◌, ◌-◌, ◌*◌, ◌<◌, ◌≤◌, true, false, ◌&&◌, refl, sym, ap, ◌∙◌, arith, inl, inr, Some, rules}
+use Rattle.std.proofs.Math.Nat.{add-mul, mul-add, mul_assoc, mul_comm}
 use Rattle.std.proofs.lemmas.Bool.{and_from, cases_lt, leb-true}
-use Rattle.chess_core.specs.Squares.{is_on_board, square_at, file_of, rank_of}
+use Rattle.chess_core.specs.Squares.{is_on_board, file_of, rank_of}
 use Rattle.chess_core.specs.Steps.{along, step_by}
 use Rattle.chess_core.specs.declared.step.Step.{Step}
 use Rattle.chess_rules.specs.ties.Lines.{place, rises, step_of}
@@ -11,19 +11,12 @@ use Rattle.chess_rules.specs.declared.lines.Direction.TheVariants.{East, West, N
 use Rattle.chess_rules.proofs.Ends.{Placed, cond-on, on_board, placed_from}
 
 further : (f j i r l : ℕ) → 1 ≤ f + j * r - j * l → f + j * r - j * l + i * r - i * l ≡ f + (j + i) * r - (j + i) * l
-further f j i r l on =
-    let a : (j + i) * r ≡ j * r + i * r = add-mul j i r in
-    let b : (j + i) * l ≡ j * l + i * l = add-mul j i l in
-    omega arith
+further f j i r l on = search rules
 
 -- j steps and then i steps
 pub onward : (s b : ℕ) (d : Step) (j i : ℕ) → along s d j ≡ Some b → along b d i ≡ along s d (j + i)
 unfolding along
-onward s b d j i h =
-    let p : Placed (file_of s + j * d.right - j * d.left) (rank_of s + j * d.up - j * d.down) b = placed_from _ _ b h in
-    let f : file_of b + i * d.right - i * d.left ≡ file_of s + (j + i) * d.right - (j + i) * d.left = rw p.file (further (file_of s) j i d.right d.left p.f_low) in
-    let r : rank_of b + i * d.up - i * d.down ≡ rank_of s + (j + i) * d.up - (j + i) * d.down = rw p.rank (further (rank_of s) j i d.up d.down p.r_low) in
-    (λ x. square_at (f x) (r x))
+onward s b d j i h = search (rules, placed_from)
 
 -- between two files or ranks of the board lie others of it
 within : (f k i r l : ℕ) → 1 ≤ f → f ≤ 8 → i ≤ k → 1 ≤ f + k * r - k * l → f + k * r - k * l ≤ 8 → (1 ≤ f + i * r - i * l) × (f + i * r - i * l ≤ 8)
@@ -69,19 +62,11 @@ spread k l n = mul-add k l (8 * n) ∙ ap (λ x. k * l + x) (sym (mul_assoc k 8 
 -- the number of the square that lies k steps on
 number_at : (s q : ℕ) (d : Step) (k : ℕ) → along s d k ≡ Some q → (q + k * (d.left + 8 * d.down) ≡ s + k * (d.right + 8 * d.up)) × (q < 64)
 unfolding along
-number_at s q d k h =
-    let p : Placed (file_of s + k * d.right - k * d.left) (rank_of s + k * d.up - k * d.down) q = placed_from _ _ q h in
-    let a : k * (d.left + 8 * d.down) ≡ k * d.left + 8 * (k * d.down) = spread k d.left d.down in
-    let b : k * (d.right + 8 * d.up) ≡ k * d.right + 8 * (k * d.up) = spread k d.right d.up in
-    (omega (arith, p.f_low, p.f_high, p.r_low, p.r_high, p.file, p.rank), omega (arith, p.f_low, p.f_high, p.r_low, p.r_high, p.file, p.rank))
+number_at s q d k h = search rules
 
 -- e more for each step
 apart : (j k e : ℕ) → j < k → 0 < e → j * e < k * e
-apart j k e lt some =
-    let t : k ≡ j + (k - j) = omega arith in
-    let a : k * e ≡ j * e + (k - j) * e = ap (λ n. n * e) t ∙ add-mul j (k - j) e in
-    let b : (k - j) * 1 ≤ (k - j) * e = mul-le-mul_left (k - j) (omega arith) in
-    omega arith
+apart j k e lt some = search rules
 
 over : (j a b : ℕ) → a < b → j * b ≡ j * a + j * (b - a)
 over j a b lt = let e : b ≡ a + (b - a) = omega arith in ap (λ n. j * n) e ∙ mul-add j a (b - a)

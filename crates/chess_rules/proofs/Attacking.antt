@@ -1,13 +1,13 @@
 -- Attack looked for outward from the square.
-use Rattle.std.proofs.Common.{◌∷◌, ◌≡◌, ℕ, ◌-◌, ◌<◌, Bool, true, false, ◌&&◌, ◌||◌, ◌==◌, not, List, [], refl, sym, ap, ◌∙◌, arith, inl, inr, Option, Some, None}
+use Rattle.std.proofs.Common.{◌∷◌, ◌≡◌, ℕ, ◌<◌, Bool, true, false, ◌&&◌, ◌||◌, ◌==◌, not, List, [], refl, sym, ap, ◌∙◌, arith, inl, inr, Option, Some, None, rules}
 use Rattle.std.specs.Int.{bit_at}
 use Rattle.std.specs.Int.Bits.{bit_or, bit_and}
 use Rattle.std.specs.List.{list_any}
 use Rattle.std.proofs.lemmas.Bool.{false≢true}
 use Rattle.std.proofs.lemmas.List.Folds.{list_any-append}
 use Rattle.chess_core.specs.Position.{is_man, is_side, man_on, other, same_colour, same_kind}
-use Rattle.chess_core.specs.Squares.{is_square, some_square}
-use Rattle.chess_core.specs.Steps.{along, diagonal_steps, knight_steps, pawn_captures, queen_steps, straight_steps}
+use Rattle.chess_core.specs.Squares.{some_square}
+use Rattle.chess_core.specs.Steps.{diagonal_steps, knight_steps, pawn_captures, queen_steps, straight_steps}
 use Rattle.chess_core.specs.ties.Words.{squares_of, word}
 use Rattle.chess_core.specs.declared.man.Colour.{Colour}
 use Rattle.chess_core.specs.declared.man.Kind.{Kind}
@@ -16,7 +16,7 @@ use Rattle.chess_core.specs.declared.man.Man.{Man}
 use Rattle.chess_core.specs.declared.step.Step.{Step}
 use Rattle.chess_core.proofs.Kept.{same_kind-is}
 use Rattle.chess_core.proofs.Men.{same_colour-true}
-use Rattle.chess_core.proofs.Ranges.{any_range_false, any_range_true, some_square_true, some_square_false}
+use Rattle.chess_core.proofs.Ranges.{some_square_true, some_square_false}
 use Rattle.chess_core.proofs.Words.{squares_both, squares_either, squares_same}
 use Rattle.chess_rules.specs.Attacks.{attacked, faces, faces_its_like, paralysed, strikes}
 use Rattle.chess_rules.specs.ties.Lines.{is_ahead, is_on_some}
@@ -148,18 +148,12 @@ at_square men c (Some x) s t p q =
 pub met : (men : List (Option Man)) (c : Colour) (k : Kind) (t m n w : ℕ) (ds : List Step) → m ≡ squares_of men c k → n ≡ squares_of men c Queen → w ≡ word (λ s. list_any (rides men t s) ds)
     → bit_and (bit_or m n) w ≡ word (is_met men c k ds t)
 unfolding squares_of is_met
-met men c k t m n w ds h i j =
-    (λ a. bit_and (bit_or (h a) (i a)) (j a))
-    ∙ (λ a. bit_and (squares_either (λ s. is_man (man_on men s) c k) (λ s. is_man (man_on men s) c Queen) a) (word (λ s. list_any (rides men t s) ds)))
-    ∙ squares_both (λ s. is_man (man_on men s) c k || is_man (man_on men s) c Queen) (λ s. list_any (rides men t s) ds)
+met men c k t m n w ds h i j = search (rules, squares_both, squares_either)
 
 -- a rider gets to squares ahead alone
 rides_ahead : (men : List (Option Man)) (t s : ℕ) (d : Step) → is_ahead t d s ≡ false → rides men t s d ≡ false
 unfolding rides is_ahead
-rides_ahead men t s d h = elim (any_range_cases (λ k. is_square (along t d k) s) 1 7) [
-  | inl w ↦ absurd (false≢true (sym h ∙ any_range_true (λ k. is_square (along t d k) s) 1 7 w.0 w.1 w.2 w.3))
-  | inr none ↦ any_range_false (λ k. is_square (along t d k) s && is_clear men t d (k - 1)) 1 7 (λ k lo hi. fails_first (is_square (along t d k) s) _ (none k lo hi))
-]
+rides_ahead men t s d h = search rules
 
 neither : (a b c d : Bool) → (a || b) ≡ false → (a ≡ false → c ≡ false) → (b ≡ false → d ≡ false) → (c || d) ≡ false
 neither true b c d h f g = absurd (false≢true (sym h))
@@ -229,10 +223,7 @@ last_two false b c = refl
 -- attack by the men that reach the square and aren't paralysed
 pub attacked_by : (rule : RuleSet) (men : List (Option Man)) (t w : ℕ) (c : Colour) → w ≡ word (λ s. is_side (man_on men s) c && reaches men s t) → some_square (λ s. bit_at w s == 1 && not (paralysed rule men s)) ≡ attacked rule men t c
 unfolding attacked strikes
-attacked_by rule men t w c h =
-    some_square_same _ _ (λ s b.
-    ap (λ x. x && not (paralysed rule men s)) (word_has _ w s h b)
-    ∙ last_two (is_side (man_on men s) c) (reaches men s t) (not (paralysed rule men s)))
+attacked_by rule men t w c h = search (rules, some_square_same, word_has)
 
 pub is_reached_by : (men : List (Option Man)) (t w : ℕ) (c : Colour) → w ≡ word (λ s. is_side (man_on men s) c && reaches men s t)
     → not (w == 0) ≡ is_reached men t c

@@ -1,8 +1,8 @@
 -- The legal moves between two places, and those that mate.
-use Rattle.std.proofs.lemmas.Bool.{cond-true, cond-false, cases_lt}
+use Rattle.std.proofs.lemmas.Bool.{cases_lt}
 use Rattle.std.proofs.lemmas.List.Elements.{filter-append}
 use Rattle.std.proofs.lemmas.List.{length-append, take-append-drop}
-use Rattle.std.proofs.Common.{◌≡◌, ℕ, zero, suc, inl, inr, ◌+◌, ◌-◌, ◌<◌, ◌≤◌, true, false, List, [], ◌∷◌, ◌++◌, filter, take, drop, length, refl, sym, ap, ◌∙◌, arith}
+use Rattle.std.proofs.Common.{◌≡◌, ℕ, zero, suc, inl, inr, ◌+◌, ◌-◌, ◌<◌, ◌≤◌, true, false, List, [], ◌∷◌, ◌++◌, filter, take, drop, length, refl, sym, ap, ◌∙◌, arith, rules}
 use Rattle.chess_core.specs.Position.{Position}
 use Rattle.chess_core.specs.declared.man.Move.{Move}
 use Rattle.chess_rules.specs.RuleSet.{RuleSet}
@@ -25,18 +25,11 @@ between-past rule p a b ge = rw (drop_triples_past a ge, take-none (b - a)) refl
 
 pub between-here : (rule : RuleSet) (p : Position) (a b : ℕ) → a < 28672 → a < b → legal rule p (triple_at a) ≡ true → moves_between rule p a b ≡ triple_at a ∷ moves_between rule p (a + 1) b
 unfolding moves_between
-between-here rule p a b lt low h =
-    let s : b - a ≡ suc (b - (a + 1)) = omega (arith, low) in
-    rw (s, drop_triples a lt) (cond-true (legal rule p (triple_at a)) _ _ h)
+between-here rule p a b lt low h = search (rules, drop_triples)
 
 pub between-skip : (rule : RuleSet) (p : Position) (a b : ℕ) → a < 28672 → legal rule p (triple_at a) ≡ false → moves_between rule p a b ≡ moves_between rule p (a + 1) b
 unfolding moves_between
-between-skip rule p a b lt h = elim (cases_lt a b) [
-  | inl low ↦
-      let s : b - a ≡ suc (b - (a + 1)) = omega (arith, low) in
-      rw (s, drop_triples a lt) (cond-false (legal rule p (triple_at a)) _ _ h)
-  | inr ge ↦ between-none rule p a b ge ∙ sym (between-none rule p (a + 1) b (omega (arith, ge)))
-]
+between-skip rule p a b lt h = search (rules, between-none, drop_triples)
 
 -- over a stretch without moves
 between-skips : (rule : RuleSet) (p : Position) (n a b e : ℕ) → b ≡ a + n → b ≤ 28672 → HaveNone (legal rule p) a b → moves_between rule p a e ≡ moves_between rule p b e
@@ -60,15 +53,7 @@ until-legal rule p a n e low before fits none h =
     between-none-legal rule p a n e (λ lt. low) (omega (arith, fits)) none ∙ between-here rule p n e fits before h
 
 pub until-end : (rule : RuleSet) (p : Position) (a n e : ℕ) → n ≤ 28672 → n ≤ e → (n < 28672 → e ≤ n) → HaveNone (legal rule p) a n → moves_between rule p a e ≡ []
-until-end rule p a n e fits before all none = elim (cases_lt a e) [
-  | inr ge ↦ between-none rule p a e ge
-  | inl lt ↦
-      between-none-legal rule p a n e (λ q. let le : e ≤ n = all q in omega (arith, lt, le)) fits none
-      ∙ elim (cases_lt n 28672) [
-        | inl q ↦ between-none rule p n e (all q)
-        | inr past ↦ between-past rule p n e past
-      ]
-]
+until-end rule p a n e fits before all none = search (rules, between-none, between-none-legal, between-past)
 
 drop-nil : (k : ℕ) → drop {A = Move} k [] ≡ []
 drop-nil zero = refl

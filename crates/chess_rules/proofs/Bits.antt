@@ -1,5 +1,5 @@
 -- Bits of words: the first from a place on, one alone, and words that are not 0.
-use Rattle.std.proofs.Common.{◌≡◌, ℕ, zero, suc, ◌-◌, ◌*◌, ◌%◌, ◌^◌, ◌<◌, ◌≤◌, Bool, true, false, ◌==◌, not, refl, sym, ap, ◌∙◌, arith, ◌⊎◌, inl, inr, Some, None, find}
+use Rattle.std.proofs.Common.{◌≡◌, ℕ, zero, suc, ◌-◌, ◌*◌, ◌%◌, ◌^◌, ◌<◌, ◌≤◌, Bool, true, false, ◌==◌, not, refl, sym, ap, ◌∙◌, arith, ◌⊎◌, inl, inr, Some, None, find, rules}
 use Rattle.std.specs.Int.{bit_at, w64, trailing_zeros}
 use Rattle.std.specs.Int.Bits.{bit_and}
 use Rattle.std.specs.List.{range_with_len}
@@ -63,10 +63,7 @@ zero_or zero = inl refl
 zero_or (suc n) = inr (omega arith)
 
 pub not_zero : (test : ℕ → Bool) → not (word test == 0) ≡ some_square test
-not_zero test = elim (zero_or (word test)) [
-  | inl z ↦ ap (λ n. not (n == 0)) z ∙ sym (squares_none test z)
-  | inr p ↦ ap not (differs (word test) 0 (λ e. absurd (omega arith))) ∙ sym (squares_some test p)
-]
+not_zero test = search (rules, squares_none, squares_some, zero_or)
 
 -- a word of no squares
 pub word_empty : (test : ℕ → Bool) → ((s : ℕ) → s < 64 → test s ≡ false) → 0 ≡ word test

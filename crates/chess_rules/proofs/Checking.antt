@@ -1,8 +1,7 @@
 -- The squares from which a move may give check, by kinds.
-use Rattle.std.proofs.Common.{◌≡◌, ℕ, ◌<◌, ◌==◌, ◌||◌, Bool, true, false, List, Option, Some, None, refl, sym, ap, ◌∙◌, arith}
+use Rattle.std.proofs.Common.{◌≡◌, ℕ, ◌<◌, ◌==◌, ◌||◌, true, false, List, Option, Some, None, refl, sym, ap, ◌∙◌, arith, rules}
 use Rattle.std.specs.Int.{bit_at, bit_not, w64}
 use Rattle.std.specs.Int.Bits.{bit_or}
-use Rattle.std.proofs.lemmas.Bool.{or_left}
 use Rattle.std.proofs.lemmas.List.Folds.{list_any-append}
 use Rattle.chess_core.specs.Position.{Position, king_square, man_on, other}
 use Rattle.chess_core.specs.Steps.{diagonal_steps, straight_steps}
@@ -48,16 +47,12 @@ check_squares_of_none men c j h = word_empty (may_check_from men c (enemy c j)) 
 pub check_squares_of_all : (men : List (Option Man)) (c : Colour) (j : Kind) (k : ℕ) → king_square men c ≡ Some k → is_fairy j ≡ true
     → bit_not w64 0 ≡ word (may_check_from men c (enemy c j))
 unfolding may_check_from
-check_squares_of_all men c j k at fairy =
-    every_square (may_check_from men c (enemy c j)) (λ s b. ap (λ (o : Option ℕ). may_check_from_on men o (enemy c j) s) at ∙ or_left _ _ fairy)
+check_squares_of_all men c j k at fairy = search (rules, every_square)
 
 pub check_squares_of_some : (men : List (Option Man)) (c : Colour) (j : Kind) (k w : ℕ) → king_square men c ≡ Some k → k < 64 → is_fairy j ≡ false
     → w ≡ word (λ t. reaches_as men c j k t) → w ≡ word (may_check_from men c (enemy c j))
 unfolding may_check_from
-check_squares_of_some men c j k w at small plain h =
-    h ∙ squares_same (λ t. reaches_as men c j k t) (may_check_from men c (enemy c j))
-    (λ s b. comes_back men c j k s plain small b
-    ∙ sym (ap (λ (o : Option ℕ). may_check_from_on men o (enemy c j) s) at ∙ ap (λ (x : Bool). x || reaches_as men (other c) j s k) plain))
+check_squares_of_some men c j k w at small plain h = search (rules, comes_back, squares_same)
 
 -- a queen's squares are a rook's and a bishop's
 queen_on : (men : List (Option Man)) (c : Colour) (o : Option ℕ) (s : ℕ)
@@ -88,11 +83,7 @@ squares_by_kind rule men c s Nightrider a = a.nightrider
 -- both fairy kinds strike from everywhere
 pub fairy_alike : (men : List (Option Man)) (c : Colour) → word (may_check_from men c (enemy c Grasshopper)) ≡ word (may_check_from men c (enemy c Nightrider))
 unfolding may_check_from
-fairy_alike men c = squares_same (may_check_from men c (enemy c Grasshopper)) (may_check_from men c (enemy c Nightrider)) (λ s b. by (king_square men c) s)
-  where
-    by : (o : Option ℕ) (s : ℕ) → may_check_from_on men o (enemy c Grasshopper) s ≡ may_check_from_on men o (enemy c Nightrider) s
-    by None s = refl
-    by (Some k) s = refl
+fairy_alike men c = search rules
 
 pub other_twice : (c : Colour) → other (other c) ≡ c
 other_twice White = refl

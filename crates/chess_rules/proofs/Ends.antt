@@ -1,5 +1,5 @@
 -- Lines looked at from their other end.
-use Rattle.std.proofs.Common.{◌≡◌, ℕ, ◌+◌, ◌-◌, ◌*◌, ◌<◌, ◌≤◌, Bool, true, false, ◌&&◌, nat_le, cond, List, refl, sym, ap, ◌∙◌, arith, Option, Some, None}
+use Rattle.std.proofs.Common.{◌≡◌, ℕ, ◌+◌, ◌-◌, ◌*◌, ◌<◌, ◌≤◌, Bool, true, false, ◌&&◌, nat_le, cond, List, refl, sym, ap, ◌∙◌, arith, Option, Some, None, rules}
 use Rattle.std.specs.List.{range_with_len, list_any}
 use Rattle.std.proofs.Math.Nat.{add-mul}
 use Rattle.std.proofs.lemmas.Bool.{and_from, eq-eqb, eqb-true, false≢true, leb-true, le-leb}
@@ -42,11 +42,7 @@ placed_from f r t h = placed_by f r t (is_on_board f && is_on_board r) refl h
 
 -- i steps on from one end and k - i steps back from the other
 part : (f k i r l : ℕ) → i ≤ k → 1 ≤ f + k * r - k * l → f + k * r - k * l + (k - i) * l - (k - i) * r ≡ f + i * r - i * l
-part f k i r l le on =
-    let e : k ≡ i + (k - i) = omega arith in
-    let a : k * r ≡ i * r + (k - i) * r = ap (λ n. n * r) e ∙ add-mul i (k - i) r in
-    let b : k * l ≡ i * l + (k - i) * l = ap (λ n. n * l) e ∙ add-mul i (k - i) l in
-    omega arith
+part f k i r l le on = search (rules, add-mul)
 
 pub between : (s t : ℕ) (d : Step) (k i : ℕ) → i ≤ k → along s d k ≡ Some t → along t (back d) (k - i) ≡ along s d i
 unfolding along
@@ -65,11 +61,7 @@ cond-on false s n h e = absurd (false≢true h)
 
 pub stays : (s : ℕ) (d : Step) → s < 64 → along s d 0 ≡ Some s
 unfolding along
-stays s d p =
-    let f : file_of s + 0 * d.right - 0 * d.left ≡ file_of s = omega arith in
-    let r : rank_of s + 0 * d.up - 0 * d.down ≡ rank_of s = omega arith in
-    (λ j. square_at (f j) (r j)) ∙ cond-on (is_on_board (file_of s) && is_on_board (rank_of s)) s (8 * (rank_of s - 1) + (file_of s - 1))
-    (and_from _ _ (on_board (file_of s) (omega arith) (omega arith)) (on_board (rank_of s) (omega arith) (omega arith))) (omega arith)
+stays s d p = search rules
 
 pub square_is : (o : Option ℕ) (t : ℕ) → is_square o t ≡ true → o ≡ Some t
 square_is None t h = absurd (false≢true h)
@@ -92,9 +84,7 @@ clear_back men s t d k at h =
     ∙ all_at (λ i. is_vacant men (along s d i)) 1 (k - 1) (k - i) h (omega arith) (omega arith))
 
 ride_test : (men : List (Option Man)) (s t : ℕ) (d : Step) (k : ℕ) → s < 64 → (is_square (along s d k) t && is_clear men s d (k - 1)) ≡ true → (is_square (along t (back d) k) s && is_clear men t (back d) (k - 1)) ≡ true
-ride_test men s t d k p h =
-    let here : is_square (along s d k) t ≡ true = first_of_and _ _ h in
-    and_from _ _ (returns_to s t d k p here) (clear_back men s t d k (square_is _ t here) (second_of_and (is_square (along s d k) t) _ h))
+ride_test men s t d k p h = search (rules, clear_back, first_of_and, returns_to, second_of_and, square_is)
 
 -- a ride is seen from both ends
 pub rides-back : (men : List (Option Man)) (s t : ℕ) (d : Step) → s < 64 → t < 64 → rides men s t d ≡ rides men t s (back d)

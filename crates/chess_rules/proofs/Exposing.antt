@@ -1,5 +1,5 @@
 -- Whether a move leaves its mover in check, told by the men that an attack sees after it.
-use Rattle.std.proofs.Common.{◌≡◌, ℕ, ◌<◌, Bool, true, false, ◌&&◌, ◌||◌, ◌==◌, not, List, Option, Some, None, is_some, refl, sym, ap, ◌∙◌, arith, inl, inr}
+use Rattle.std.proofs.Common.{◌≡◌, ℕ, ◌<◌, Bool, true, false, ◌&&◌, ◌||◌, ◌==◌, not, List, Option, Some, None, is_some, refl, sym, ap, ◌∙◌, arith, inl, inr, rules}
 use Rattle.std.proofs.lemmas.Bool.{and_from, and_left, and_parts, and_right, cases_Bool, cases_eq, cond-false, cond-true, eq-eqb, false_from_ne_true, false≢true, not-true, or_parts}
 use Rattle.chess_core.specs.Position.{AtMostOneKing, Position, is_man, is_side, king_square, man_on, other, same_colour, same_kind}
 use Rattle.chess_core.specs.Squares.{is_square, some_square}
@@ -101,12 +101,7 @@ captures_arrival p x m h = ap (λ (o : Option ℕ). is_square o m.to) (cond-true
 
 goes_capturing : (rule : RuleSet) (p : Position) (x : Man) (m : Move) → IsWellFormed p → IsMade rule p x m → m.to < 64
     → IsCapture p.men m.from (capture_square p x m) m.to (arriving x m.promo) p.turn
-goes_capturing rule p x m well is small = record {
-  small = omega (arith, small, well.size);
-  own = ap (λ (o : Option Man). is_side o (other p.turn)) is.here ∙ ap (λ (c : Colour). same_colour c (other p.turn)) is.mine ∙ other_differs p.turn;
-  arriving = ap (λ (c : Colour). same_colour c (other p.turn)) (arriving_colour x m.promo ∙ is.mine) ∙ other_differs p.turn;
-  captured = captures_arrival p x m;
-}
+goes_capturing rule p x m well is small = search (rules, captures_arrival, other_differs)
 
 -- the king after the move
 pub free_of_king : (c : Colour) (o : Option Man) → is_arrival_free c o ≡ true → is_man o c King ≡ false
@@ -136,27 +131,28 @@ goes_without_king rule p x m well is small other_man = record {
 
 pub king_is_after : (rule : RuleSet) (p : Position) (x : Man) (m : Move) → IsWellFormed p → IsMade rule p x m → m.to < 64 → is_castling x m ≡ false
     → king_square (arrived p x m) p.turn ≡ king_after p x m
-king_is_after rule p x m well is small castling = elim (cases_Bool (same_kind x.kind King)) [
-  | inl king ↦
-      let same : arriving x m.promo ≡ x = king_stays_king p x m m.promo is.promotion king in
-      let kings : AtMostOneKing (arrived p x m) = rw (moved_plainly p x m castling) at (moved_sound rule p x m well is).kings in
-      let there : man_on (arrived p x m) m.to ≡ Some (arriving x m.promo) = ap (λ (l : List (Option Man)). man_on l m.to) (sym (moved_plainly p x m castling))
-      ∙ moved_arrival rule p x m well is small in
-      let mine : same_colour x.colour p.turn ≡ true = ap (λ (c : Colour). same_colour c p.turn) is.mine ∙ colour_self p.turn in
-      let at : is_man (man_on (arrived p x m) m.to) p.turn King ≡ true = ap (λ (o : Option Man). is_man o p.turn King) there
-      ∙ ap (λ (y : Man). is_man (Some y) p.turn King) same ∙ and_from _ _ mine king in
-      king_is (arrived p x m) p.turn m.to kings small at ∙ sym (cond-true (same_kind x.kind King) _ _ king)
-  | inr other_man ↦
-      king_stands p.men m.from (capture_square p x m) m.to (arriving x m.promo) p.turn (goes_without_king rule p x m well is small other_man)
-      ∙ sym (cond-false (same_kind x.kind King) _ _ other_man)
-]
+king_is_after rule p x m well is small castling =
+    search (
+      rules,
+      and_from,
+      arrived,
+      cases_Bool,
+      colour_self,
+      cond-false,
+      cond-true,
+      goes_without_king,
+      king_is,
+      king_stands,
+      king_stays_king,
+      moved_arrival,
+      moved_plainly,
+      moved_sound,
+    )
 
 pub check_is : (rule : RuleSet) (p : Position) (x : Man) (m : Move) (o : Option ℕ) → IsWellFormed p → IsMade rule p x m → m.to < 64 → IsSimple rule p x m
     → king_after p x m ≡ o → in_check rule (after rule p m).men p.turn ≡ check_of rule (arrived p x m) o (other p.turn)
 unfolding in_check
-check_is rule p x m o well is small simple king =
-    ap (λ (l : List (Option Man)). check_of rule l (king_square l p.turn) (other p.turn)) (simple_after rule p x m is.here simple.castling simple.rebirth)
-    ∙ ap (λ (k : Option ℕ). check_of rule (arrived p x m) k (other p.turn)) (king_is_after rule p x m well is small simple.castling ∙ king)
+check_is rule p x m o well is small simple king = search (rules, king_is_after, simple_after)
 
 pub no_king_exposed : (rule : RuleSet) (p : Position) (x : Man) (m : Move) → IsWellFormed p → pseudo rule p m ≡ true → m.to < 64 → man_on p.men m.from ≡ Some x
     → is_simple rule x m (is_some (capture_square p x m)) ≡ true → king_after p x m ≡ None → false ≡ in_check rule (after rule p m).men p.turn

@@ -1,20 +1,17 @@
 -- The square of a word that a line passes first: its lowest bit or its highest.
-use Rattle.std.proofs.Common.{◌≡◌, ℕ, suc, ◌-◌, ◌*◌, ◌/◌, ◌%◌, ◌^◌, ◌<◌, ◌≤◌, true, false, sym, ap, ◌∙◌, arith, inl, inr}
+use Rattle.std.proofs.Common.{◌≡◌, ℕ, suc, ◌-◌, ◌*◌, ◌%◌, ◌^◌, ◌<◌, ◌≤◌, true, false, sym, ◌∙◌, arith, inl, inr, rules}
 use Rattle.std.specs.Int.{bit_at, trailing_zeros, w64}
 use Rattle.std.specs.Int.Bits.{bit_or}
-use Rattle.std.proofs.Math.Nat.{div-eq_of_lt-le, pow-suc}
-use Rattle.std.proofs.lemmas.Bool.{cases_eq, cases_lt}
+use Rattle.std.proofs.Math.Nat.{pow-suc}
+use Rattle.std.proofs.lemmas.Bool.{cases_lt}
 use Rattle.std.proofs.lemmas.Nat.{or_lt}
-use Rattle.std.proofs.lemmas.Nat.Bits.{bit_at_above, bit_at_or, bit_at-lt, bit_at-trailing_zeros, bit_at-zero, bit_at_set_other, bit_at_set_same}
+use Rattle.std.proofs.lemmas.Nat.Bits.{bit_at_above, bit_at_or, bit_at-lt, bit_at-trailing_zeros, bit_at_set_other, bit_at_set_same}
 use Rattle.chess_core.specs.declared.step.Step.{Step}
 use Rattle.chess_rules.specs.ties.Lines.{IsStop, rises}
 
 -- a number with a bit isn't 0
 pub has_bit : (n i : ℕ) → bit_at n i ≡ 1 → 0 < n
-has_bit n i h = elim (cases_eq n 0) [
-  | inl e ↦ absurd (let z : bit_at n i ≡ 0 = ap (λ m. bit_at m i) e ∙ bit_at-zero i in omega arith)
-  | inr ne ↦ omega arith
-]
+has_bit n i h = search rules
 
 -- a bit stays when another is set
 kept : (n m i : ℕ) → bit_at n i ≡ 1 → bit_at (bit_or n m) i ≡ 1
@@ -35,9 +32,7 @@ lowest_stop d w fits up =
     }
 
 top_bit : (n r : ℕ) → 2 ^ r ≤ n → n < 2 * 2 ^ r → bit_at n r ≡ 1
-top_bit n r a b =
-    let e : n / 2 ^ r ≡ 1 = div-eq_of_lt-le {k = 1} (2 ^ r) {m = n} (omega arith) (omega arith) in
-    ap (λ x. x % 2) e
+top_bit n r a b = search rules
 
 none_above : (n r q : ℕ) → n < 2 * 2 ^ r → r < q → bit_at n q ≡ 0
 none_above n r q b lt = bit_at_above n (suc r) q (omega (arith, pow-suc 2 r)) (omega arith)

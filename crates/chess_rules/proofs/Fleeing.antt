@@ -1,9 +1,9 @@
 -- A flight after a move, told by the men that an attack on it sees.
-use Rattle.std.proofs.Common.{◌≡◌, ◌≢◌, ℕ, zero, suc, ◌+◌, ◌*◌, ◌/◌, ◌%◌, ◌<◌, Bool, true, false, ◌&&◌, ◌||◌, ◌==◌, not, min, List, length, Option, Some, None, is_some, IfSome, refl, sym, ap, ◌∙◌, arith, inl, inr}
+use Rattle.std.proofs.Common.{◌≡◌, ◌≢◌, ℕ, zero, suc, ◌+◌, ◌*◌, ◌<◌, Bool, true, false, ◌&&◌, ◌||◌, ◌==◌, not, List, length, Option, Some, None, is_some, IfSome, refl, sym, ap, ◌∙◌, arith, inl, inr, rules}
 use Rattle.std.specs.Int.{bit_at, bit_not, w64}
 use Rattle.std.specs.Int.Bits.{bit_and, bit_or}
 use Rattle.std.specs.List.{list_any}
-use Rattle.std.proofs.lemmas.Bool.{and_from, and_left, and_parts, and_right, cases_Bool, cases_eq, cond-false, cond-true, eq-eqb, eqb-true, false_from_ne_true, false≢true, not-true, or_left, or_parts}
+use Rattle.std.proofs.lemmas.Bool.{and_from, and_left, and_parts, and_right, cases_Bool, cases_eq, cond-true, eq-eqb, eqb-true, false_from_ne_true, false≢true, not-true, or_parts}
 use Rattle.std.proofs.lemmas.Nat.Bits.{bit_at-lt, bit_at-zero, bit_at_and}
 use Rattle.chess_core.specs.Position.{Position, is_man, is_side, king_square, man_on, other, same_colour, same_kind, without_man}
 use Rattle.chess_core.specs.Squares.{is_square, some_square, squares}
@@ -20,9 +20,9 @@ use Rattle.chess_core.proofs.Ranges.{any_range_false, some_square_false, some_sq
 use Rattle.chess_core.proofs.Words.{squares_both, squares_either, squares_not}
 use Rattle.chess_rules.specs.Attacks.{attacked, in_check, is_faced, paralysed, strikes}
 use Rattle.chess_rules.specs.ties.Flights.{AreOpen, IsSeenFrom, has_flight, is_flight, is_flight_from, is_open, sight_lifted, sight_with}
-use Rattle.chess_rules.specs.Legal.{goes, is_arrival_free, is_goal, is_nil, is_promotion_right, legal, moves, pseudo, pseudo_of}
+use Rattle.chess_rules.specs.Legal.{is_arrival_free, is_goal, is_nil, legal, moves, pseudo}
 use Rattle.chess_rules.specs.ties.Lines.{occupied_squares}
-use Rattle.chess_rules.specs.ties.Places.{mates, moves_behind, promotion_at, triple_at}
+use Rattle.chess_rules.specs.ties.Places.{mates, moves_behind, triple_at}
 use Rattle.chess_rules.specs.Play.{after, arriving, capture_square}
 use Rattle.chess_rules.specs.Reaches.{leaps, reaches, reaches_as, reaches_of}
 use Rattle.chess_rules.specs.RuleSet.{RuleSet, is_circe, is_madrasi}
@@ -30,7 +30,7 @@ use Rattle.chess_rules.specs.ties.Sight.{AreSeen, king_after}
 use Rattle.chess_rules.proofs.Bits.{word_has}
 use Rattle.chess_rules.proofs.Checking.{other_twice}
 use Rattle.chess_rules.proofs.Exposing.{IsSimple, check_is, simple_parts}
-use Rattle.chess_rules.proofs.Fits.{arrived, arriving_king, capture_of_piece, is_square-some, kind_is_king, king_no_step, no_capture, taken}
+use Rattle.chess_rules.proofs.Fits.{arrived, arriving_king, capture_of_piece, is_square-some, king_no_step, no_capture, taken}
 use Rattle.chess_rules.proofs.Landing.{StandAlike, no_step_there, reaches_alike}
 use Rattle.chess_rules.proofs.Mating.{turn_after}
 use Rattle.chess_rules.proofs.Places.{moves_behind-here, moves_behind-skip, moves_behind-start}
@@ -57,11 +57,7 @@ some_left rule p n lt h (suc j) a e = elim (cases_Bool (legal rule p (triple_at 
 
 triple_there : (k t : ℕ) → t < 64 → triple_at (k * 448 + t * 7) ≡ record { from = k; to = t; promo = None }
 unfolding triple_at
-triple_there k t there =
-    let from : (k * 448 + t * 7) / 448 ≡ k = omega (arith, there) in
-    let to : (k * 448 + t * 7) / 7 % 64 ≡ t = omega (arith, there) in
-    let none : (k * 448 + t * 7) % 7 ≡ 0 = omega (arith, there) in
-    (λ j. record { from = from j; to = to j; promo = promotion_at (none j) })
+triple_there k t there = search rules
 
 some_legal : (rule : RuleSet) (p : Position) (k t : ℕ) → k < 64 → t < 64 → legal rule p (record { from = k; to = t; promo = None }) ≡ true
     → is_nil (moves rule p) ≡ false
@@ -84,14 +80,11 @@ flight_there rule p h = elim (any_range_cases (λ t. is_flight_from rule p (king
 
 pub no_mate_with_flight : (rule : RuleSet) (p : Position) (m : Move) → has_flight rule (after rule p m) ≡ true → false ≡ mates rule p m
 unfolding mates is_goal
-no_mate_with_flight rule p m h =
-    sym (and_right (legal rule p m) _ (and_right (in_check rule (after rule p m).men (after rule p m).turn) _ (flight_there rule (after rule p m) h)))
+no_mate_with_flight rule p m h = search (rules, flight_there)
 
 -- the men after the move, and the king among them
 after_seen : (rule : RuleSet) (p : Position) (m : Move) (x : Man) (k : ℕ) → IsSeenFrom rule p m x k → (after rule p m).men ≡ arrived p x m
-after_seen rule p m x k i =
-    let parts = simple_parts rule p x m i.simple in
-    simple_after rule p x m i.here parts.castling parts.rebirth
+after_seen rule p m x k i = search (rules, simple_after)
 
 no_king_free : (c d : Colour) (o : Option Man) → is_arrival_free c o ≡ true → is_man o d King ≡ false
 no_king_free c d None h = refl
@@ -130,16 +123,10 @@ king_seen rule p m x k i small =
 
 -- squares of one word that aren't in another
 on_second : (a b i : ℕ) → (bit_at (bit_and a b) i == 1) ≡ true → (bit_at b i == 1) ≡ true
-on_second a b i h =
-    let both : bit_at (bit_and a b) i ≡ 1 = eqb-true _ _ h in
-    let e : bit_at (bit_and a b) i ≡ min (bit_at a i) (bit_at b i) = bit_at_and a b i in
-    eq-eqb _ _ (omega (arith, both, e, bit_at-lt a i, bit_at-lt b i))
+on_second a b i h = search (rules, bit_at-lt, bit_at_and, eq-eqb, eqb-true)
 
 unseen_bit : (test : ℕ → Bool) (n w t : ℕ) → w ≡ word test → t < 64 → (bit_at (bit_and n (bit_not w64 w)) t == 1) ≡ true → (bit_at w t == 1) ≡ false
-unseen_bit test n w t h small on =
-    let off : not (test t) ≡ true = sym (word_has (λ s. not (test s)) (bit_not w64 w) t (ap (bit_not w64) h ∙ squares_not test) small)
-    ∙ on_second n (bit_not w64 w) t on in
-    word_has test w t h small ∙ not-true (test t) off
+unseen_bit test n w t h small on = search (rules, on_second, squares_not, word_has)
 
 -- the squares to which a king may step, attacks apart
 free_of : (c : Colour) (o : Option Man) → is_side o (other c) ≡ false → is_man o c King ≡ false → is_arrival_free (other c) o ≡ true
@@ -165,15 +152,7 @@ closed_words : (p : Position) (a : ℕ) (o : Option ℕ) (c : Colour) (w n : ℕ
     → l ≡ bit_and (bit_not w64 (word (is_square o))) (bit_not w64 (word (is_square (Some a))))
     → bit_or (bit_and w l) n ≡ word (λ s. (is_side (man_on p.men s) (other c) && (not (is_square o s) && not (a == s))) || is_man (man_on p.men s) c King)
 unfolding side_of squares_of
-closed_words p a o c w n side kings l standing =
-    (λ j. bit_or (bit_and (side j) (standing j)) (kings j))
-    ∙ (λ j. bit_or (bit_and (word (λ s. is_side (man_on p.men s) (other c))) (bit_and (squares_not (is_square o) j) (squares_not (is_square (Some a)) j)))
-    (word (λ s. is_man (man_on p.men s) c King)))
-    ∙ (λ j. bit_or (bit_and (word (λ s. is_side (man_on p.men s) (other c))) (squares_both (λ s. not (is_square o s)) (λ s. not (a == s)) j))
-    (word (λ s. is_man (man_on p.men s) c King)))
-    ∙ (λ j. bit_or (squares_both (λ s. is_side (man_on p.men s) (other c)) (λ s. not (is_square o s) && not (a == s)) j)
-    (word (λ s. is_man (man_on p.men s) c King)))
-    ∙ squares_either (λ s. is_side (man_on p.men s) (other c) && (not (is_square o s) && not (a == s))) (λ s. is_man (man_on p.men s) c King)
+closed_words p a o c w n side kings l standing = search (rules, squares_both, squares_either, squares_not)
 
 no_own_arrives : (rule : RuleSet) (p : Position) (m : Move) (x : Man) (k : ℕ) → IsSeenFrom rule p m x k
     → same_colour (arriving x m.promo).colour (other p.turn) ≡ false
@@ -308,11 +287,7 @@ nobody_strikes men a o b z k u t x c r s i small = elim (cases_eq s b) [
 not_attacked : (rule : RuleSet) (men : List (Option Man)) (a : ℕ) (o : Option ℕ) (b : ℕ) (z : Man) (k : ℕ) (u : Option ℕ) (t : ℕ) (x : Man) (c : Colour)
     (r : ℕ) → IsSafeStep men a o b z k u t x c r → attacked rule (stepped men a o b z k u t x) t c ≡ false
 unfolding attacked strikes
-not_attacked rule men a o b z k u t x c r i =
-    some_square_false (strikes rule (stepped men a o b z k u t x) t c) 64 (omega arith) (record {
-      fails = λ s small. no_strike (is_side (man_on (stepped men a o b z k u t x) s) c) (not (paralysed rule (stepped men a o b z k u t x) s)) _
-          (nobody_strikes men a o b z k u t x c r s i small);
-    })
+not_attacked rule men a o b z k u t x c r i = search (rules, no_strike, nobody_strikes, some_square_false)
 
 -- the step itself
 other_side : (o : Option Man) (c : Colour) → is_man o (other c) King ≡ true → is_side o c ≡ false
@@ -325,9 +300,7 @@ other_side (Some y) c h = by c (same_colour-true y.colour (other c) (first_of_an
 steps_there : (men : List (Option Man)) (x : Man) (c : Colour) (k t : ℕ) → man_on men k ≡ Some x → same_colour x.colour c ≡ true → same_kind x.kind King ≡ true
     → reaches_as men c King k t ≡ true → reaches men k t ≡ true
 unfolding reaches
-steps_there men x c k t here mine king h =
-    ap (λ (o : Option Man). reaches_of men o k t) here
-    ∙ (λ j. reaches_as men (same_colour-true x.colour c mine j) (kind_is_king x.kind king j) k t) ∙ h
+steps_there men x c k t here mine king h = search rules
 
 pub record IsKingStep (rule : RuleSet) (q : Position) (x : Man) (k t : ℕ) : Type 0 where
   pub well_formed : IsWellFormed q
@@ -345,17 +318,7 @@ pub record IsOpenTo (rule : RuleSet) (men : List (Option Man)) (c : Colour) (k t
 
 open_parts : (rule : RuleSet) (men : List (Option Man)) (c : Colour) (k t : ℕ) → is_open rule men c k t ≡ true → IsOpenTo rule men c k t
 unfolding is_open
-open_parts rule men c k t h =
-    let h1 = and_parts (reaches_as men c King k t && is_arrival_free c (man_on men t)) _ h in
-    let h2 = and_parts (reaches_as men c King k t) _ h1.0 in
-    record {
-      reached = h2.0;
-      free = h2.1;
-      nobody = λ circe. none_from_is_some (man_on men t) (and_then (is_circe rule) _ (not-true _ h1.1) circe);
-    } where
-      and_then : (a b : Bool) → (a && b) ≡ false → a ≡ true → b ≡ false
-      and_then true b p q = p
-      and_then false b p q = absurd (false≢true q)
+open_parts rule men c k t h = search rules
 
 -- the king's move
 abbrev step_to : ℕ → ℕ → Move
@@ -414,10 +377,7 @@ king_on men c k at =
     (y.0, record { small = there.0; here = y.1; mine = parts.0; king = parts.1 })
 
 king_is_other : (x : Man) (c : Colour) → same_colour x.colour (other c) ≡ true → same_colour x.colour c ≡ false
-king_is_other x c h = by c (same_colour-true x.colour (other c) h) where
-  by : (e : Colour) → x.colour ≡ other e → same_colour x.colour e ≡ false
-  by White q = rw q refl
-  by Black q = rw q refl
+king_is_other x c h = search rules
 
 no_king_square : (men : List (Option Man)) (c d : Colour) (k b : ℕ) → king_square men d ≡ Some k → is_arrival_free c (man_on men b) ≡ true → b ≢ k
 no_king_square men c d k b at free e =

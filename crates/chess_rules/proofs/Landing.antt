@@ -1,5 +1,5 @@
 -- What a man reaches doesn't depend on who stands on the square that it reaches.
-use Rattle.std.proofs.Common.{◌≡◌, ◌≢◌, ℕ, zero, suc, ◌+◌, ◌-◌, ◌<◌, ◌≤◌, Bool, false, ◌&&◌, ◌||◌, not, List, Option, Some, None, is_some, refl, sym, ap, ◌∙◌, arith, inl, inr}
+use Rattle.std.proofs.Common.{◌≡◌, ◌≢◌, ℕ, zero, suc, ◌+◌, ◌-◌, ◌<◌, ◌≤◌, Bool, false, ◌&&◌, ◌||◌, not, List, Option, Some, None, is_some, refl, sym, ap, ◌∙◌, arith, inl, inr, rules}
 use Rattle.std.specs.List.{list_all, list_any, range_with_len}
 use Rattle.std.proofs.lemmas.Bool.{and_left, cases_Bool, false_from_ne_true}
 use Rattle.chess_core.specs.Position.{man_on}
@@ -44,9 +44,7 @@ all_range_same p q a (suc n) h =
 clear_alike : (men others : List (Option Man)) (s t : ℕ) (d : Step) (k n : ℕ) → Ordered d → StandAlike men others t → along s d k ≡ Some t → n < k
     → is_clear men s d n ≡ is_clear others s d n
 unfolding is_clear
-clear_alike men others s t d k n o a at lt =
-    all_range_same (λ i. is_vacant men (along s d i)) (λ i. is_vacant others (along s d i)) 1 n
-    (λ i lo hi. vacant_alike men others t (along s d i) a (not_yet s t d k i o at (omega arith)))
+clear_alike men others s t d k n o a at lt = search (rules, all_range_same, not_yet)
 
 ride_alike : (men others : List (Option Man)) (s t : ℕ) (d : Step) → Ordered d → StandAlike men others t → rides men s t d ≡ rides others s t d
 unfolding rides

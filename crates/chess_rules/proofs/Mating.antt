@@ -1,6 +1,6 @@
 -- The moves that mate, by their numbers.
-use Rattle.std.proofs.Common.{◌≡◌, ℕ, zero, suc, ◌+◌, ◌-◌, ◌<◌, ◌≤◌, Bool, true, false, ◌&&◌, not, List, [], ◌∷◌, filter, refl, sym, ap, ◌∙◌, arith, inl, inr}
-use Rattle.std.proofs.lemmas.Bool.{and_left, and_right, cases_Bool, cases_lt, cond-false, cond-true}
+use Rattle.std.proofs.Common.{◌≡◌, ℕ, zero, suc, ◌+◌, ◌-◌, ◌<◌, ◌≤◌, Bool, true, false, ◌&&◌, not, List, [], ◌∷◌, filter, refl, sym, ap, ◌∙◌, arith, inl, inr, rules}
+use Rattle.std.proofs.lemmas.Bool.{and_left, cases_lt}
 use Rattle.chess_core.specs.Position.{Position, other}
 use Rattle.chess_core.specs.declared.man.Move.{Move}
 use Rattle.chess_rules.specs.Attacks.{in_check}
@@ -15,9 +15,7 @@ use Rattle.chess_rules.proofs.Tests.{first_of_and, second_of_and}
 pub mates_behind-here : (rule : RuleSet) (p : Position) (n : ℕ) → n < 28672 → mates rule p (triple_at n) ≡ true
     → mates_behind rule p n ≡ (triple_at n ∷ mates_behind rule p (n + 1))
 unfolding mates_behind mates
-mates_behind-here rule p n lt h =
-    ap (λ (l : List Move). filter (λ m. is_goal rule (after rule p m)) l) (moves_behind-here rule p n lt (first_of_and _ _ h))
-    ∙ cond-true (is_goal rule (after rule p (triple_at n))) _ _ (second_of_and (legal rule p (triple_at n)) _ h)
+mates_behind-here rule p n lt h = search (rules, first_of_and, moves_behind-here, second_of_and)
 
 false_second : (a b : Bool) → a ≡ true → (a && b) ≡ false → b ≡ false
 false_second true b e h = h
@@ -26,12 +24,7 @@ false_second false b e h = cc
 pub mates_behind-skip : (rule : RuleSet) (p : Position) (n : ℕ) → n < 28672 → mates rule p (triple_at n) ≡ false
     → mates_behind rule p n ≡ mates_behind rule p (n + 1)
 unfolding mates_behind mates
-mates_behind-skip rule p n lt h = elim (cases_Bool (legal rule p (triple_at n))) [
-  | inl may ↦
-      ap (λ (l : List Move). filter (λ m. is_goal rule (after rule p m)) l) (moves_behind-here rule p n lt may)
-      ∙ cond-false (is_goal rule (after rule p (triple_at n))) _ _ (false_second (legal rule p (triple_at n)) _ may h)
-  | inr mayn ↦ ap (λ (l : List Move). filter (λ m. is_goal rule (after rule p m)) l) (moves_behind-skip rule p n lt mayn)
-]
+mates_behind-skip rule p n lt h = search (rules, false_second, moves_behind-here, moves_behind-skip)
 
 pub not_mating : (rule : RuleSet) (p : Position) (m : Move) → pseudo rule p m ≡ false → mates rule p m ≡ false
 unfolding mates
@@ -69,9 +62,7 @@ turn_after rule p m h = let x = maker rule p m h in rw x.1 refl
 pub no_mate_quietly : (rule : RuleSet) (p : Position) (m : Move) → pseudo rule p m ≡ true → in_check rule (after rule p m).men (other p.turn) ≡ false
     → false ≡ mates rule p m
 unfolding mates is_goal
-no_mate_quietly rule p m may quiet =
-    let calm : in_check rule (after rule p m).men (after rule p m).turn ≡ false = rw (turn_after rule p m may) quiet in
-    sym (and_right (legal rule p m) _ (and_left (in_check rule (after rule p m).men (after rule p m).turn) _ calm))
+no_mate_quietly rule p m may quiet = search (rules, turn_after)
 
 -- a move that may be made, tested in the position after it
 pub mates_after : (rule : RuleSet) (p : Position) (m : Move) → pseudo rule p m ≡ true

@@ -1,5 +1,5 @@
 -- A line on which one square alone may have been shut.
-use Rattle.std.proofs.Common.{◌≡◌, ℕ, ◌-◌, ◌<◌, ◌≤◌, true, false, ◌&&◌, List, [], ◌∷◌, Option, Some, ap, ◌∙◌, arith, inl, inr}
+use Rattle.std.proofs.Common.{◌≡◌, ℕ, ◌-◌, ◌<◌, ◌≤◌, true, false, ◌&&◌, List, [], ◌∷◌, Option, Some, ap, ◌∙◌, arith, inl, inr, rules}
 use Rattle.std.specs.List.{list_any, range_with_len}
 use Rattle.std.proofs.lemmas.Bool.{and_from, and_parts, cases_Bool, false_from_ne_true, or_cases, or_left, or_parts, or_right}
 use Rattle.chess_core.specs.Squares.{is_square}
@@ -73,7 +73,4 @@ some_blocked men others b k s (d ∷ ds) i h ne =
 
 pub line_open : (men others : List (Option Man)) (b k s : ℕ) (ds : List Step) → Frees men others b → list_any (rides men k s) ds ≡ true
     → (list_any (rides men k b) ds ≡ true → list_any (λ d. rides men s b (back d)) ds ≡ true → ⊥) → list_any (rides others k s) ds ≡ true
-line_open men others b k s ds i h never = elim (cases_Bool (list_any (rides others k s) ds)) [
-  | inl y ↦ y
-  | inr n ↦ absurd (let both = some_blocked men others b k s ds i h n in never both.0 both.1)
-]
+line_open men others b k s ds i h never = search (rules, some_blocked)

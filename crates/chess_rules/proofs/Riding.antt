@@ -1,5 +1,5 @@
 -- The words of the squares that shut lines.
-use Rattle.std.proofs.Common.{◌≡◌, ℕ, ◌+◌, ◌-◌, ◌<◌, ◌≤◌, Bool, false, ◌&&◌, ◌||◌, ◌==◌, List, Option, refl, sym, ap, ◌∙◌, arith, inl, inr}
+use Rattle.std.proofs.Common.{◌≡◌, ℕ, ◌+◌, ◌-◌, ◌<◌, ◌≤◌, Bool, false, ◌&&◌, ◌||◌, ◌==◌, List, Option, refl, sym, ap, ◌∙◌, arith, inl, inr, rules}
 use Rattle.std.specs.Int.{bit_at}
 use Rattle.std.specs.Int.Bits.{bit_and, bit_or}
 use Rattle.std.specs.List.{list_any, range_with_len}
@@ -78,10 +78,7 @@ is_rider men e j ds k q = (is_man (man_on men q) e j || is_man (man_on men q) e 
 pub riders_are : (men : List (Option Man)) (e : Colour) (j : Kind) (ds : List Step) (k r l : ℕ) → r ≡ bit_or (squares_of men e j) (squares_of men e Queen)
     → l ≡ word (is_on_some ds k) → bit_and r l ≡ word (is_rider men e j ds k)
 unfolding squares_of
-riders_are men e j ds k r l h g =
-    (λ y. bit_and (h y) (g y))
-    ∙ ap (λ (w : ℕ). bit_and w (word (is_on_some ds k))) (squares_either (λ s. is_man (man_on men s) e j) (λ s. is_man (man_on men s) e Queen))
-    ∙ squares_both (λ s. is_man (man_on men s) e j || is_man (man_on men s) e Queen) (is_on_some ds k)
+riders_are men e j ds k r l h g = search (rules, squares_both, squares_either)
 
 pub none_shut : (men : List (Option Man)) (e : Colour) (j : Kind) (ds : List Step) (k w : ℕ) → w ≡ word (is_rider men e j ds k) → w ≡ 0
     → 0 ≡ word (is_shut men e j ds k)

@@ -1,7 +1,7 @@
 -- The men that an attack sees once a move is made.
-use Rattle.std.proofs.Common.{◌≡◌, ◌≢◌, ℕ, zero, suc, ◌+◌, ◌<◌, find, if◌then◌else◌, Bool, true, false, ◌&&◌, ◌||◌, not, List, length, Option, Some, None, is_some, refl, sym, ap, ◌∙◌, arith, inl, inr}
+use Rattle.std.proofs.Common.{◌≡◌, ◌≢◌, ℕ, zero, suc, ◌+◌, ◌<◌, find, if◌then◌else◌, Bool, true, false, ◌&&◌, ◌||◌, not, List, length, Option, Some, None, is_some, refl, sym, ap, ◌∙◌, inl, inr, rules}
 use Rattle.std.specs.Int.{bit_not, w64}
-use Rattle.std.specs.Int.Bits.{bit_and, bit_or}
+use Rattle.std.specs.Int.Bits.{bit_and}
 use Rattle.std.specs.List.{range_with_len}
 use Rattle.std.proofs.lemmas.Bool.{and_left, and_right, cases_Bool, cases_eq, eq-eqb, eqb-true, false≢true, or_cases, or_left, or_parts, or_right}
 use Rattle.std.proofs.lemmas.List.{length-set}
@@ -12,7 +12,7 @@ use Rattle.chess_core.specs.declared.man.Colour.{Colour}
 use Rattle.chess_core.specs.declared.man.Kind.{Kind}
 use Rattle.chess_core.specs.declared.man.Kind.TheVariants.{King}
 use Rattle.chess_core.specs.declared.man.Man.{Man}
-use Rattle.chess_core.proofs.Men.{man_on-with_other, man_on-with_same, man_on-without_other, man_on-without_same}
+use Rattle.chess_core.proofs.Men.{man_on-with_other, man_on-without_other, man_on-without_same}
 use Rattle.chess_core.proofs.Words.{squares_both, squares_either, squares_not, squares_same}
 use Rattle.chess_rules.specs.Play.{without_at}
 use Rattle.chess_rules.specs.ties.Sight.{AreSeen, sight_after}
@@ -42,13 +42,7 @@ seen_now men c k =
 
 -- the words after a move, by tests
 pub occupied_words : (men : List (Option Man)) (a : ℕ) (o : Option ℕ) (b : ℕ) → (sight_after men a o b).occupied ≡ word (is_occupied_after men a o b)
-occupied_words men a o b =
-    let held : ℕ → Bool = λ s. is_some (man_on men s) in
-    let left : ℕ → Bool = λ s. is_square (Some a) s || is_square o s in
-    (λ z. bit_or (bit_and (word held) (bit_not w64 (squares_either (λ s. is_square (Some a) s) (λ s. is_square o s) z))) (word (λ s. is_square (Some b) s)))
-    ∙ (λ z. bit_or (bit_and (word held) (squares_not left z)) (word (λ s. is_square (Some b) s)))
-    ∙ (λ z. bit_or (squares_both held (λ s. not (left s)) z) (word (λ s. is_square (Some b) s)))
-    ∙ squares_either (λ s. held s && not (left s)) (λ s. is_square (Some b) s)
+occupied_words men a o b = search (rules, squares_both, squares_either, squares_not)
 
 -- the men once z has come from a to b and the man on o is gone
 abbrev pub gone_to : List (Option Man) → ℕ → Option ℕ → ℕ → Man → List (Option Man)
@@ -59,8 +53,7 @@ length-without_at men None = refl
 length-without_at men (Some s) = length-set men s None
 
 pub there_now : (men : List (Option Man)) (a : ℕ) (o : Option ℕ) (b : ℕ) (z : Man) → b < length men → man_on (gone_to men a o b z) b ≡ Some z
-there_now men a o b z small =
-    man_on-with_same (without_at (without_man men a) o) b z (omega (arith, small, length-without_at (without_man men a) o, length-set men a None))
+there_now men a o b z small = search rules
 
 gone_at : (men : List (Option Man)) (o : Option ℕ) (q : ℕ) → is_square o q ≡ true → man_on (without_at men o) q ≡ None
 gone_at men None q h = absurd (false≢true h)
@@ -81,9 +74,7 @@ left_now men a o b z q ne h =
 
 pub kept_now : (men : List (Option Man)) (a : ℕ) (o : Option ℕ) (b : ℕ) (z : Man) (q : ℕ) → q ≢ b → (is_square (Some a) q || is_square o q) ≡ false
     → man_on (gone_to men a o b z) q ≡ man_on men q
-kept_now men a o b z q ne h =
-    let n = or_parts (is_square (Some a) q) (is_square o q) h in
-    man_on-with_other (without_at (without_man men a) o) b q z ne ∙ kept_at (without_man men a) o q n.1 ∙ kept_at men (Some a) q n.0
+kept_now men a o b z q ne h = search (rules, kept_at, man_on-with_other, or_parts)
 
 is_gone : (h l t : Bool) → l ≡ true → t ≡ false → ((h && not l) || t) ≡ false
 is_gone true true false p q = refl
@@ -101,19 +92,7 @@ is_kept false false true p q = absurd (false≢true (sym q))
 
 pub occupied_now : (men : List (Option Man)) (a : ℕ) (o : Option ℕ) (b : ℕ) (z : Man) (q : ℕ) → b < length men
     → is_occupied_after men a o b q ≡ is_some (man_on (gone_to men a o b z) q)
-occupied_now men a o b z q small = elim (cases_eq q b) [
-  | inl e ↦
-      let there : man_on (gone_to men a o b z) q ≡ Some z = ap (man_on (gone_to men a o b z)) e ∙ there_now men a o b z small in
-      or_right (is_some (man_on men q) && not (is_square (Some a) q || is_square o q)) (is_square (Some b) q) (eq-eqb b q (sym e)) ∙ sym (ap is_some there)
-  | inr ne ↦
-      let off : is_square (Some b) q ≡ false = differs b q (λ e. ne (sym e)) in
-      elim (cases_Bool (is_square (Some a) q || is_square o q)) [
-        | inl y ↦ is_gone (is_some (man_on men q)) (is_square (Some a) q || is_square o q) (is_square (Some b) q) y off
-            ∙ sym (ap is_some (left_now men a o b z q ne y))
-        | inr n ↦ is_kept (is_some (man_on men q)) (is_square (Some a) q || is_square o q) (is_square (Some b) q) n off
-            ∙ sym (ap is_some (kept_now men a o b z q ne n))
-      ]
-]
+occupied_now men a o b z q small = search (rules, cases_Bool, cases_eq, differs, eq-eqb, is_gone, is_kept, kept_now, left_now, or_right, there_now)
 
 -- what is asked of the man on the origin, of the one that arrives, and of the arrival
 pub record IsCapture (men : List (Option Man)) (a : ℕ) (o : Option ℕ) (b : ℕ) (z : Man) (c : Colour) : Type 0 where
@@ -164,14 +143,7 @@ enemy_now men a o b z c k q i = elim (cases_eq q b) [
 pub seen_after : (men : List (Option Man)) (a : ℕ) (o : Option ℕ) (b : ℕ) (z : Man) (c : Colour) → IsCapture men a o b z c
     → AreSeen men (gone_to men a o b z) (other c) (sight_after men a o b)
 unfolding squares_of
-seen_after men a o b z c i = record {
-  occupied = occupied_words men a o b ∙ squares_same (is_occupied_after men a o b) (λ s. is_some (man_on (gone_to men a o b z) s))
-      (λ s q. occupied_now men a o b z s i.small);
-  standing = λ k.
-      ap (bit_and (word (λ s. is_man (man_on men s) (other c) k))) (squares_not (λ s. is_square o s))
-      ∙ squares_both (λ s. is_man (man_on men s) (other c) k) (λ s. not (is_square o s))
-      ∙ squares_same _ _ (λ s q. enemy_now men a o b z c k s i);
-}
+seen_after men a o b z c i = search (rules, enemy_now, occupied_now, occupied_words, squares_both, squares_not, squares_same)
 
 -- the first of the squares that pass is the same for tests that agree
 find_same : (p q : ℕ → Bool) (a n : ℕ) → ((k : ℕ) → p k ≡ q k) → find p (range_with_len a n) ≡ find q (range_with_len a n)
@@ -207,5 +179,4 @@ king_now men a o b z c q i = elim (cases_eq q b) [
 pub king_stands : (men : List (Option Man)) (a : ℕ) (o : Option ℕ) (b : ℕ) (z : Man) (c : Colour) → IsNoKing men a o b z c
     → king_square (gone_to men a o b z) c ≡ king_square men c
 unfolding king_square squares
-king_stands men a o b z c i =
-    find_same (λ s. is_man (man_on (gone_to men a o b z) s) c King) (λ s. is_man (man_on men s) c King) 0 64 (λ q. king_now men a o b z c q i)
+king_stands men a o b z c i = search (rules, king_now)

@@ -1,9 +1,9 @@
 -- A plain move from a square that a queen on the king's doesn't see opens no line to the king.
-use Rattle.std.proofs.Common.{◌≡◌, ◌≢◌, ℕ, ◌-◌, ◌<◌, Bool, true, false, ◌&&◌, ◌||◌, ◌==◌, not, List, [], ◌∷◌, Option, Some, None, is_some, refl, sym, ap, ◌∙◌, arith, inl, inr}
+use Rattle.std.proofs.Common.{◌≡◌, ◌≢◌, ℕ, ◌<◌, Bool, true, false, ◌&&◌, ◌||◌, ◌==◌, not, List, [], ◌∷◌, Option, Some, None, is_some, refl, sym, ap, ◌∙◌, arith, inl, inr, rules}
 use Rattle.std.specs.Int.{bit_at, bit_not, w64}
 use Rattle.std.specs.Int.Bits.{bit_or}
 use Rattle.std.specs.List.{list_any}
-use Rattle.std.proofs.lemmas.Bool.{agree_below_at, and_from, and_left, and_parts, and_right, cases_Bool, cases_eq, cond-false, cond-true, eq-eqb, false_from_ne_true, false≢true, not-true, or_cases, or_left, or_parts, or_right}
+use Rattle.std.proofs.lemmas.Bool.{agree_below_at, and_from, and_left, and_parts, cases_eq, eq-eqb, false_from_ne_true, false≢true, not-true, or_cases, or_left, or_parts, or_right}
 use Rattle.std.proofs.lemmas.List.Folds.{list_any-append}
 use Rattle.chess_core.specs.Position.{AtMostOneKing, Position, is_man, is_side, king_square, kind_number, man_on, other, same_colour, same_kind, without_man}
 use Rattle.chess_core.specs.Squares.{is_square, squares, some_square}
@@ -13,21 +13,21 @@ use Rattle.chess_core.specs.ties.Words.{squares_of, word}
 use Rattle.chess_core.specs.declared.man.Colour.{Colour}
 use Rattle.chess_core.specs.declared.man.Colour.TheVariants.{White, Black}
 use Rattle.chess_core.specs.declared.man.Kind.{Kind}
-use Rattle.chess_core.specs.declared.man.Kind.TheVariants.{King, Queen, Rook, Bishop, Pawn, Grasshopper, Nightrider}
+use Rattle.chess_core.specs.declared.man.Kind.TheVariants.{King, Queen, Rook, Bishop, Grasshopper, Nightrider}
 use Rattle.chess_core.specs.declared.man.Man.{Man}
 use Rattle.chess_core.specs.declared.man.Move.{Move}
 use Rattle.chess_core.specs.declared.step.Step.{Step}
 use Rattle.chess_core.proofs.Men.{man_on-with_other, man_on-without_same}
-use Rattle.chess_core.proofs.Ranges.{any_range_false, any_range_true, find_square_some, some_square_false, some_square_true}
+use Rattle.chess_core.proofs.Ranges.{find_square_some, some_square_false, some_square_true}
 use Rattle.chess_core.proofs.Words.{squares_either, squares_not, squares_same}
 use Rattle.chess_rules.specs.Attacks.{attacked, check_of, in_check, paralysed, strikes}
 use Rattle.chess_rules.specs.ties.CheckSquares.{may_check_from, may_check_from_on}
 use Rattle.chess_rules.specs.ties.Shields.{cannot_expose, has_fairy, is_behind, is_reached, is_shut, is_unshielded, is_fairy, is_plain, may_expose, may_expose_on, rider_along, steps_along}
 use Rattle.chess_rules.specs.Legal.{is_promotion_right, pseudo}
-use Rattle.chess_rules.specs.Play.{after, after_by, arriving, capture_square, is_castling, is_diagonal, man_on_at, moved_men, put_at, reborn_at, reborn_square, without_at}
+use Rattle.chess_rules.specs.Play.{after, after_by, arriving, capture_square, is_castling, man_on_at, moved_men, reborn_at, reborn_square, without_at}
 use Rattle.chess_rules.specs.ties.Lines.{is_ahead, is_on_some}
 use Rattle.chess_rules.specs.Reaches.{is_clear, is_vacant, reaches, reaches_as, rides}
-use Rattle.chess_rules.specs.RuleSet.{RuleSet, is_circe}
+use Rattle.chess_rules.specs.RuleSet.{RuleSet, is_circe, is_madrasi}
 use Rattle.chess_rules.proofs.Bits.{not_zero, word_empty, word_has}
 use Rattle.chess_rules.proofs.Fits.{arrived, arrived_other, arriving_king}
 use Rattle.chess_rules.specs.declared.shields.RiderLines.{RiderLines}
@@ -38,7 +38,7 @@ use Rattle.chess_rules.proofs.Plays.{none_from_is_some, stays_empty}
 use Rattle.chess_rules.proofs.Pseudo.{IsMade, made, on_board}
 use Rattle.chess_rules.proofs.Returns.{moved_arrival}
 use Rattle.chess_rules.proofs.Stays.{maker}
-use Rattle.chess_rules.proofs.Tests.{any_range_cases, differs, find_first, first_of_and}
+use Rattle.chess_rules.proofs.Tests.{differs, find_first}
 
 -- the man on a is gone, z has come to b, and nothing else has changed
 pub record IsShift (men after : List (Option Man)) (a b : ℕ) (z : Man) : Type 0 where
@@ -50,10 +50,7 @@ pub record IsShift (men after : List (Option Man)) (a b : ℕ) (z : Man) : Type 
 -- where a rider gets, a line goes
 ahead_of : (men : List (Option Man)) (k s : ℕ) (d : Step) → rides men k s d ≡ true → is_ahead k d s ≡ true
 unfolding rides is_ahead
-ahead_of men k s d h = elim (any_range_cases (λ n. is_square (along k d n) s && is_clear men k d (n - 1)) 1 7) [
-  | inl w ↦ any_range_true (λ n. is_square (along k d n) s) 1 7 w.0 w.1 w.2 (first_of_and _ _ w.3)
-  | inr none ↦ absurd (false≢true (sym (any_range_false (λ n. is_square (along k d n) s && is_clear men k d (n - 1)) 1 7 none) ∙ h))
-]
+ahead_of men k s d h = search rules
 
 pub goes_on : (men : List (Option Man)) (k s : ℕ) (ds : List Step) → list_any (rides men k s) ds ≡ true → list_any (λ d. is_ahead k d s) ds ≡ true
 goes_on men k s [] h = h
@@ -303,20 +300,11 @@ nobody_reborn true men before (Some s) h = let bad : Some s ≡ None = h refl in
 -- a plain move captures on its arrival alone
 captures_there : (p : Position) (x : Man) (m : Move) (s : ℕ) → is_square p.crossed m.to ≡ false → capture_square p x m ≡ Some s → s ≡ m.to
 unfolding capture_square
-captures_there p x m s off h = elim (cases_Bool (is_some (man_on p.men m.to))) [
-  | inl e ↦ let c : Some m.to ≡ Some s = sym (cond-true (is_some (man_on p.men m.to)) _ _ e) ∙ h in cc
-  | inr e ↦
-      let h1 = sym (cond-false (is_some (man_on p.men m.to)) _ _ e) ∙ h in
-      let h2 : None ≡ Some s = sym (cond-false (same_kind x.kind Pawn && is_diagonal m && is_square p.crossed m.to) _ _
-      (and_right (same_kind x.kind Pawn && is_diagonal m) _ off)) ∙ h1 in
-      cc
-]
+captures_there p x m s off h = search rules
 
 captures_nobody : (p : Position) (x : Man) (m : Move) → is_square p.crossed m.to ≡ false → is_some (man_on p.men m.to) ≡ false → capture_square p x m ≡ None
 unfolding capture_square
-captures_nobody p x m off e =
-    cond-false (is_some (man_on p.men m.to)) _ _ e
-    ∙ cond-false (same_kind x.kind Pawn && is_diagonal m && is_square p.crossed m.to) _ _ (and_right (same_kind x.kind Pawn && is_diagonal m) _ off)
+captures_nobody p x m off e = search rules
 
 -- the parts of a plain move
 pub record IsPlain (rule : RuleSet) (p : Position) (x : Man) (m : Move) : Type 0 where
@@ -330,15 +318,7 @@ first_off false b h e = cc
 
 pub plain_parts : (rule : RuleSet) (p : Position) (x : Man) (m : Move) → is_plain rule p x m ≡ true → IsPlain rule p x m
 unfolding is_plain
-plain_parts rule p x m h =
-    let h1 = and_parts (not (is_castling x m) && not (is_square p.crossed m.to)) (not (is_circe rule && is_some (man_on p.men m.to))) h in
-    let h2 = and_parts (not (is_castling x m)) (not (is_square p.crossed m.to)) h1.0 in
-    let off : is_square p.crossed m.to ≡ false = not-true _ h2.1 in
-    record {
-      castling = not-true _ h2.0;
-      crossed = off;
-      rebirth = λ circe. captures_nobody p x m off (first_off (is_circe rule) (is_some (man_on p.men m.to)) (not-true _ h1.1) circe);
-    }
+plain_parts rule p x m h = search (rules, captures_nobody, first_off)
 
 pub moved_plainly : (p : Position) (x : Man) (m : Move) → is_castling x m ≡ false → moved_men p x m ≡ arrived p x m
 unfolding moved_men
@@ -348,10 +328,7 @@ moved_plainly p x m h = rw h refl
 pub simple_after : (rule : RuleSet) (p : Position) (x : Man) (m : Move) → man_on p.men m.from ≡ Some x → is_castling x m ≡ false
     → (is_circe rule ≡ true → capture_square p x m ≡ None) → (after rule p m).men ≡ arrived p x m
 unfolding after after_by reborn_square
-simple_after rule p x m here castling rebirth =
-    let nobody : reborn_at (is_circe rule) (moved_men p x m) (man_on_at p.men (capture_square p x m)) (capture_square p x m) ≡ None =
-    nobody_reborn (is_circe rule) (moved_men p x m) p.men (capture_square p x m) rebirth in
-    rw here (ap (λ (o : Option ℕ). put_at (moved_men p x m) o (man_on_at p.men (capture_square p x m))) nobody ∙ moved_plainly p x m castling)
+simple_after rule p x m here castling rebirth = search (rules, moved_plainly)
 
 pub men_after : (rule : RuleSet) (p : Position) (x : Man) (m : Move) → man_on p.men m.from ≡ Some x → IsPlain rule p x m → (after rule p m).men ≡ arrived p x m
 men_after rule p x m here plain = simple_after rule p x m here plain.castling plain.rebirth
@@ -407,10 +384,7 @@ other_differs Black = refl
 cannot_expose_parts : (rule : RuleSet) (p : Position) (x : Man) (c : Colour) (m : Move) → man_on p.men m.from ≡ Some x → cannot_expose rule p c m ≡ true
     → (may_expose rule p.men c m.from ≡ false) × IsPlain rule p x m
 unfolding cannot_expose
-cannot_expose_parts rule p x c m here h =
-    let h0 : (not (may_expose rule p.men c m.from) && is_plain rule p x m) ≡ true = rw here at h in
-    let h1 = and_parts (not (may_expose rule p.men c m.from)) (is_plain rule p x m) h0 in
-    (not-true _ h1.0, plain_parts rule p x m h1.1)
+cannot_expose_parts rule p x c m here h = search (rules, plain_parts)
 
 -- such a move doesn't leave its mover in check
 pub cannot_expose_own : (rule : RuleSet) (p : Position) (m : Move) → IsWellFormed p → pseudo rule p m ≡ true → m.to < 64 → cannot_expose rule p p.turn m ≡ true
@@ -445,18 +419,12 @@ gives_no_check rule p x m well may small here unpromoted h off =
 -- a fairy man by the words of the two kinds
 pub some_grasshopper : (men : List (Option Man)) (c : Colour) (w : ℕ) → w ≡ squares_of men c Grasshopper → (w ≡ 0 → ⊥) → not (w == 0) ≡ has_fairy men c
 unfolding has_fairy squares_of
-some_grasshopper men c w h some =
-    let yes : not (w == 0) ≡ true = ap not (differs w 0 some) in
-    yes ∙ sym (or_left _ _ (sym (not_zero (λ s. is_man (man_on men s) c Grasshopper)) ∙ ap (λ n. not (n == 0)) (sym h) ∙ yes))
+some_grasshopper men c w h some = search (rules, differs, not_zero)
 
 pub some_nightrider : (men : List (Option Man)) (c : Colour) (w n : ℕ) → w ≡ squares_of men c Grasshopper → w ≡ 0 → n ≡ squares_of men c Nightrider
     → not (n == 0) ≡ has_fairy men c
 unfolding has_fairy squares_of
-some_nightrider men c w n h none i =
-    let no : some_square (λ s. is_man (man_on men s) c Grasshopper) ≡ false = sym (not_zero (λ s. is_man (man_on men s) c Grasshopper))
-    ∙ ap (λ k. not (k == 0)) (sym h ∙ none) in
-    ap (λ k. not (k == 0)) i ∙ not_zero (λ s. is_man (man_on men s) c Nightrider)
-    ∙ sym (ap (λ (b : Bool). b || some_square (λ s. is_man (man_on men s) c Nightrider)) no)
+some_nightrider men c w n h none i = search (rules, not_zero)
 
 -- all squares
 pub every_square : (test : ℕ → Bool) → ((s : ℕ) → s < 64 → test s ≡ true) → bit_not w64 0 ≡ word test
@@ -470,8 +438,7 @@ shield_squares_none rule men c h = word_empty (may_expose rule men c) (λ s b. a
 pub shield_squares_all : (rule : RuleSet) (men : List (Option Man)) (c : Colour) (k : ℕ) → king_square men c ≡ Some k → is_unshielded men c k ≡ true
     → bit_not w64 0 ≡ word (may_expose rule men c)
 unfolding may_expose
-shield_squares_all rule men c k at unshielded =
-    every_square (may_expose rule men c) (λ s b. ap (λ (o : Option ℕ). may_expose_on rule men o c s) at ∙ or_left _ _ (or_left _ _ (or_left _ _ unshielded)))
+shield_squares_all rule men c k at unshielded = search (rules, every_square)
 
 pub shield_squares_some : (rule : RuleSet) (men : List (Option Man)) (c : Colour) (k w : ℕ) → king_square men c ≡ Some k → is_unshielded men c k ≡ false
     → w ≡ bit_or (bit_or (word (is_square (Some k))) (word (is_shut men (other c) Rook straight_steps k)))
@@ -491,8 +458,7 @@ shield_squares_some rule men c k w at unshielded h =
 pub cannot_expose_is : (rule : RuleSet) (p : Position) (x : Man) (c : Colour) (m : Move) (w s : ℕ) (b : Bool) → man_on p.men m.from ≡ Some x
     → w ≡ word (may_expose rule p.men c) → s ≡ m.from → s < 64 → b ≡ (bit_at w s == 1) → (not b && is_plain rule p x m) ≡ cannot_expose rule p c m
 unfolding cannot_expose
-cannot_expose_is rule p x c m w s b here h same small e =
-    rw here (ap (λ (u : Bool). not u && is_plain rule p x m) (e ∙ word_has (may_expose rule p.men c) w s h small ∙ ap (may_expose rule p.men c) same))
+cannot_expose_is rule p x c m w s b here h same small e = search (rules, word_has)
 
 pub cannot_expose_nobody : (rule : RuleSet) (p : Position) (c : Colour) (m : Move) → man_on p.men m.from ≡ None → false ≡ cannot_expose rule p c m
 unfolding cannot_expose

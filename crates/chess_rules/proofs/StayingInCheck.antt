@@ -1,5 +1,5 @@
 -- A check that isn't met stays.
-use Rattle.std.proofs.Common.{◌≡◌, ◌≢◌, ℕ, ◌<◌, Bool, true, false, ◌&&◌, ◌||◌, ◌==◌, not, List, Option, Some, None, refl, subst, sym, ap, ◌∙◌, arith}
+use Rattle.std.proofs.Common.{◌≡◌, ◌≢◌, ℕ, ◌<◌, Bool, true, false, ◌&&◌, ◌==◌, not, List, Option, Some, None, refl, subst, sym, ap, ◌∙◌, arith, rules}
 use Rattle.std.specs.Int.{bit_at, bit_not, w64}
 use Rattle.std.specs.Int.Bits.{bit_and, bit_or}
 use Rattle.std.specs.List.{list_any}
@@ -37,10 +37,7 @@ use Rattle.chess_rules.proofs.Tests.{find_first, first_of_and, second_of_and}
 -- what stood elsewhere stands there
 keeps : (men after : List (Option Man)) (a b : ℕ) (z : Man) (q : ℕ) (y : Man) → IsShift men after a b z → man_on men q ≡ Some y → q ≢ a → q ≢ b
     → man_on after q ≡ Some y
-keeps men after a b z q y i here na nb = by (man_on after q) refl where
-  by : (o : Option Man) → man_on after q ≡ o → o ≡ Some y
-  by None e = absurd (let bad : None ≡ Some y = sym (i.vacated q e na) ∙ here in cc)
-  by (Some u) e = sym (i.others q u e nb) ∙ here
+keeps men after a b z q y i here na nb = search rules
 
 stays_free : (men after : List (Option Man)) (a b : ℕ) (z : Man) (o : Option ℕ) → IsShift men after a b z → is_vacant men o ≡ true → is_square o b ≡ false
     → is_vacant after o ≡ true
@@ -169,32 +166,10 @@ pub evasion_squares_one : (rule : RuleSet) (men : List (Option Man)) (c : Colour
     → w ≡ word (λ q. is_square (Some s) q) → n ≡ word (λ q. reaches_as men c Queen k q) → r ≡ word (λ q. reaches_as men c Queen s q)
     → AreEvasions rule men c (bit_or w (bit_and n r))
 evasion_squares_one rule men c k s w n r t at orthodox no_fairy all small set h i j =
-    let test : ℕ → Bool = λ q. is_square (Some s) q || (reaches_as men c Queen k q && reaches_as men c Queen s q) in
-    let joined : bit_or w (bit_and n r) ≡ word (λ q. is_square (Some s) q || (reaches_as men c Queen k q && reaches_as men c Queen s q)) =
-    (λ a. bit_or (h a) (bit_and (i a) (j a))) ∙ (λ a. bit_or (word (λ q. is_square (Some s) q))
-    (squares_both (λ q. reaches_as men c Queen k q) (λ q. reaches_as men c Queen s q) a))
-    ∙ squares_either (λ q. is_square (Some s) q) (λ q. reaches_as men c Queen k q && reaches_as men c Queen s q) in
-    let strikes : (is_side (man_on men s) (other c) && reaches men s k) ≡ true =
-    sym (word_has (λ q. is_side (man_on men q) (other c) && reaches men q k) t s all small) ∙ set in
-    record {
-      elsewhere = λ q b off. record {
-        king = k;
-        checker = s;
-        here = at;
-        orthodox = orthodox;
-        no_fairy = no_fairy;
-        enemy = first_of_and _ _ strikes;
-        check = second_of_and (is_side (man_on men s) (other c)) _ strikes;
-        no_evasion = sym (word_has (λ q. is_square (Some s) q || (reaches_as men c Queen k q && reaches_as men c Queen s q)) (bit_or w (bit_and n r)) q joined
-            b) ∙ off;
-      };
-    }
+    search (rules, first_of_and, second_of_and, squares_both, squares_either, word_has)
 
 -- the same, for a word
 pub check_unmet : (rule : RuleSet) (p : Position) (x : Man) (m : Move) (w t : ℕ) → IsWellFormed p → pseudo rule p m ≡ true → man_on p.men m.from ≡ Some x
     → t ≡ m.to → t < 64 → is_plain rule p x m ≡ true → same_kind x.kind King ≡ false → AreEvasions rule p.men p.turn w → (bit_at w t == 1) ≡ false
     → in_check rule (after rule p m).men p.turn ≡ true
-check_unmet rule p x m w t well may here same small plain piece evasion_squares off =
-    let to : m.to < 64 = omega arith in
-    let off2 : (bit_at w m.to == 1) ≡ false = ap (λ (n : ℕ). bit_at w n == 1) (sym same) ∙ off in
-    check_stays rule p x m well may here to (plain_parts rule p x m plain) piece (evasion_squares.elsewhere m.to to off2)
+check_unmet rule p x m w t well may here same small plain piece evasion_squares off = search (rules, check_stays, plain_parts)

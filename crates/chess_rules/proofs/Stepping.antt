@@ -1,6 +1,6 @@
 -- The men once a man has made a move and the enemy king a step, and what an attack then sees.
-use Rattle.std.proofs.Common.{◌≡◌, ◌≢◌, ℕ, ◌<◌, Bool, true, false, ◌&&◌, ◌||◌, ◌==◌, not, List, length, Option, Some, None, is_some, refl, sym, ap, ◌∙◌, arith, inl, inr}
-use Rattle.std.specs.Int.Bits.{bit_and, bit_or}
+use Rattle.std.proofs.Common.{◌≡◌, ◌≢◌, ℕ, ◌<◌, Bool, true, false, ◌&&◌, ◌||◌, ◌==◌, not, List, length, Option, Some, None, is_some, refl, sym, ap, ◌∙◌, inl, inr, rules}
+use Rattle.std.specs.Int.Bits.{bit_or}
 use Rattle.std.proofs.lemmas.Bool.{and_left, and_right, cases_Bool, cases_eq, eq-eqb, eqb-true, false_from_ne_true, false≢true, or_left}
 use Rattle.std.proofs.lemmas.List.{length-set}
 use Rattle.chess_core.specs.Position.{is_man, is_side, man_on, same_colour, same_kind, without_man}
@@ -42,8 +42,7 @@ taken_nowhere u t q h ne = false_from_ne_true _ (λ y. ne (h q y))
 -- the man on a square
 on_flight : (men : List (Option Man)) (a : ℕ) (o : Option ℕ) (b : ℕ) (z : Man) (k : ℕ) (u : Option ℕ) (t : ℕ) (x : Man) (q : ℕ) → t < length men → q ≡ t
     → man_on (stepped men a o b z k u t x) q ≡ Some x
-on_flight men a o b z k u t x q small e =
-    ap (man_on (stepped men a o b z k u t x)) e ∙ there_now (gone_to men a o b z) k u t x (omega (arith, small, length-gone men a o b z))
+on_flight men a o b z k u t x q small e = search rules
 
 on_left : (men : List (Option Man)) (a : ℕ) (o : Option ℕ) (b : ℕ) (z : Man) (k : ℕ) (u : Option ℕ) (t : ℕ) (x : Man) (q : ℕ) → q ≢ t → (k == q) ≡ true
     → man_on (stepped men a o b z k u t x) q ≡ None
@@ -57,8 +56,7 @@ on_others men a o b z k u t x q h ne off = kept_now (gone_to men a o b z) k u t 
 pub stands_arrived : (men : List (Option Man)) (a : ℕ) (o : Option ℕ) (b : ℕ) (z : Man) (k : ℕ) (u : Option ℕ) (t : ℕ) (x : Man) (q : ℕ) → b < length men
     → ((s : ℕ) → is_square u s ≡ true → s ≡ t) → q ≡ b → q ≢ t → b ≢ k
     → man_on (stepped men a o b z k u t x) q ≡ Some z
-stands_arrived men a o b z k u t x q arrival h e ne off =
-    on_others men a o b z k u t x q h ne (differs k q (λ y. off (sym e ∙ sym y))) ∙ ap (man_on (gone_to men a o b z)) e ∙ there_now men a o b z arrival
+stands_arrived men a o b z k u t x q arrival h e ne off = search (rules, gone_to, on_others, there_now)
 
 -- the squares on which men stand
 without_taken : (h i j e : Bool) → (j ≡ true → e ≡ true) → ((h && not i) || e) ≡ ((h && not (i || j)) || e)
@@ -70,15 +68,11 @@ without_taken false false true e f = refl
 pub stands : (men : List (Option Man)) (a : ℕ) (o : Option ℕ) (b : ℕ) (z : Man) (k : ℕ) (u : Option ℕ) (t : ℕ) (x : Man) (q : ℕ) → b < length men
     → t < length men → ((s : ℕ) → is_square u s ≡ true → s ≡ t)
     → ((is_occupied_after men a o b q && not (k == q)) || t == q) ≡ is_some (man_on (stepped men a o b z k u t x) q)
-stands men a o b z k u t x q arrival flight h =
-    ap (λ (held : Bool). (held && not (k == q)) || t == q) (occupied_now men a o b z q arrival)
-    ∙ without_taken (is_some (man_on (gone_to men a o b z) q)) (k == q) (is_square u q) (t == q) (λ y. eq-eqb t q (sym (h q y)))
-    ∙ occupied_now (gone_to men a o b z) k u t x q (omega (arith, flight, length-gone men a o b z))
+stands men a o b z k u t x q arrival flight h = search (rules, gone_to, length-gone, occupied_now, without_taken)
 
 pub lifted_words : (men : List (Option Man)) (a : ℕ) (o : Option ℕ) (b k : ℕ)
     → (sight_lifted men a o b k).occupied ≡ word (λ s. is_occupied_after men a o b s && not (k == s))
-lifted_words men a o b k =
-    (λ j. bit_and (occupied_words men a o b j) (squares_not (is_square (Some k)) j)) ∙ squares_both (is_occupied_after men a o b) (λ s. not (k == s))
+lifted_words men a o b k = search (rules, occupied_words, squares_both, squares_not)
 
 occupied_stepped : (men : List (Option Man)) (a : ℕ) (o : Option ℕ) (b : ℕ) (z : Man) (k : ℕ) (u : Option ℕ) (t : ℕ) (x : Man) → b < length men
     → t < length men → ((s : ℕ) → is_square u s ≡ true → s ≡ t)
@@ -91,61 +85,28 @@ occupied_stepped men a o b z k u t x arrival flight h =
 -- the king lifted, nobody on the flight yet but who stood there
 lifted_one : (men : List (Option Man)) (a : ℕ) (o : Option ℕ) (b : ℕ) (z : Man) (k q : ℕ) → b < length men
     → (is_occupied_after men a o b q && not (k == q)) ≡ is_some (man_on (without_man (gone_to men a o b z) k) q)
-lifted_one men a o b z k q arrival = elim (cases_eq q k) [
-  | inl e ↦
-      and_right (is_occupied_after men a o b q) (not (k == q)) (ap not (eq-eqb k q (sym e)))
-      ∙ sym (ap is_some (ap (man_on (without_man (gone_to men a o b z) k)) e ∙ man_on-without_same (gone_to men a o b z) k))
-  | inr ne ↦
-      ap (λ (y : Bool). is_occupied_after men a o b q && not y) (differs k q (λ e. ne (sym e)))
-      ∙ and_true (is_occupied_after men a o b q)
-      ∙ occupied_now men a o b z q arrival
-      ∙ sym (ap is_some (man_on-without_other (gone_to men a o b z) k q ne))
-] where
-  and_true : (y : Bool) → (y && true) ≡ y
-  and_true true = refl
-  and_true false = refl
+lifted_one men a o b z k q arrival =
+    search (rules, and_right, cases_eq, differs, eq-eqb, gone_to, is_occupied_after, man_on-without_other, man_on-without_same, occupied_now)
 
 pub occupied_lifted : (men : List (Option Man)) (a : ℕ) (o : Option ℕ) (b : ℕ) (z : Man) (k : ℕ) → b < length men
     → (sight_lifted men a o b k).occupied ≡ occupied_squares (without_man (gone_to men a o b z) k)
-occupied_lifted men a o b z k arrival =
-    lifted_words men a o b k ∙ squares_same _ (λ s. is_some (man_on (without_man (gone_to men a o b z) k) s)) (λ s lt. lifted_one men a o b z k s arrival)
+occupied_lifted men a o b z k arrival = search (rules, lifted_one, lifted_words, squares_same)
 
 pub lifted_alike : (men : List (Option Man)) (a : ℕ) (o : Option ℕ) (b : ℕ) (z : Man) (k : ℕ) (u : Option ℕ) (t : ℕ) (x : Man) → b < length men
     → t < length men → ((s : ℕ) → is_square u s ≡ true → s ≡ t)
     → StandAlike (stepped men a o b z k u t x) (without_man (gone_to men a o b z) k) t
-lifted_alike men a o b z k u t x arrival flight h = record {
-  alike = λ q ne.
-      sym (stands men a o b z k u t x q arrival flight h)
-      ∙ ap (λ (y : Bool). (is_occupied_after men a o b q && not (k == q)) || y) (differs t q (λ e. ne (sym e)))
-      ∙ or_false (is_occupied_after men a o b q && not (k == q))
-      ∙ lifted_one men a o b z k q arrival;
-} where
-  or_false : (y : Bool) → (y || false) ≡ y
-  or_false true = refl
-  or_false false = refl
+lifted_alike men a o b z k u t x arrival flight h = search (rules, is_occupied_after, lifted_one, stands)
 
 -- whichever man has arrived
 pub arrival_alike : (men : List (Option Man)) (a : ℕ) (o : Option ℕ) (b : ℕ) (z y : Man) (k : ℕ) (u : Option ℕ) (t : ℕ) (x : Man) → b < length men
     → t < length men → ((s : ℕ) → is_square u s ≡ true → s ≡ t)
     → StandAlike (stepped men a o b z k u t x) (stepped men a o b y k u t x) t
-arrival_alike men a o b z y k u t x arrival flight h = record {
-  alike = λ q ne. sym (stands men a o b z k u t x q arrival flight h) ∙ stands men a o b y k u t x q arrival flight h;
-}
+arrival_alike men a o b z y k u t x arrival flight h = search (rules, stands)
 
 pub same_elsewhere : (men : List (Option Man)) (a : ℕ) (o : Option ℕ) (b : ℕ) (z y : Man) (k : ℕ) (u : Option ℕ) (t : ℕ) (x : Man) (q : ℕ) → t < length men
     → ((s : ℕ) → is_square u s ≡ true → s ≡ t) → (q ≡ b → q ≡ t)
     → man_on (stepped men a o b z k u t x) q ≡ man_on (stepped men a o b y k u t x) q
-same_elsewhere men a o b z y k u t x q flight h off = elim (cases_eq q t) [
-  | inl e ↦ on_flight men a o b z k u t x q flight e ∙ sym (on_flight men a o b y k u t x q flight e)
-  | inr ne ↦ elim (cases_Bool (k == q)) [
-    | inl e ↦ on_left men a o b z k u t x q ne e ∙ sym (on_left men a o b y k u t x q ne e)
-    | inr n ↦
-        on_others men a o b z k u t x q h ne n
-        ∙ man_on-with_other (without_at (without_man men a) o) b q z (λ e. ne (off e))
-        ∙ sym (man_on-with_other (without_at (without_man men a) o) b q y (λ e. ne (off e)))
-        ∙ sym (on_others men a o b y k u t x q h ne n)
-  ]
-]
+same_elsewhere men a o b z y k u t x q flight h off = search (rules, man_on-with_other, on_flight, on_left, on_others)
 
 -- the men of the attack: the one that moved apart
 first_out : (i p q r : Bool) → i ≡ false → (i && ((p && q) && r)) ≡ false
@@ -205,13 +166,4 @@ attacker_stands men a o b k u t x c j q i = elim (cases_eq q t) [
 pub seen_stepped : (men : List (Option Man)) (a : ℕ) (o : Option ℕ) (b k : ℕ) (u : Option ℕ) (t : ℕ) (x : Man) (c : Colour) → IsStep men a o b k u t x c
     → AreSeen men (stepped men a o b x k u t x) c (sight_with (sight_lifted men a o b k) t)
 unfolding squares_of
-seen_stepped men a o b k u t x c i = record {
-  occupied = occupied_stepped men a o b x k u t x i.arrival i.flight i.taken;
-  standing = λ j.
-      let mine : ℕ → Bool = λ s. is_man (man_on men s) c j in
-      (λ y. bit_and (word mine) (bit_and (bit_and (squares_not (is_square o) y) (squares_not (is_square (Some a)) y)) (squares_not (is_square (Some t)) y)))
-      ∙ (λ y. bit_and (word mine) (bit_and (squares_both (λ s. not (is_square o s)) (λ s. not (a == s)) y) (word (λ s. not (t == s)))))
-      ∙ (λ y. bit_and (word mine) (squares_both (λ s. not (is_square o s) && not (a == s)) (λ s. not (t == s)) y))
-      ∙ squares_both mine (λ s. (not (is_square o s) && not (a == s)) && not (t == s))
-      ∙ squares_same _ _ (λ s lt. attacker_stands men a o b k u t x c j s i);
-}
+seen_stepped men a o b k u t x c i = search (rules, attacker_stands, occupied_stepped, squares_both, squares_not, squares_same)

@@ -1,10 +1,10 @@
 -- Where a man may go, and no move is missed by going from one such square to the next.
-use Rattle.std.proofs.Common.{◌≡◌, ℕ, ◌+◌, ◌-◌, ◌*◌, ◌/◌, ◌%◌, ◌<◌, ◌≤◌, Bool, true, false, ◌&&◌, ◌==◌, not, List, Option, Some, None, is_some, find, refl, sym, ap, ◌∙◌, arith, inl, inr}
+use Rattle.std.proofs.Common.{◌≡◌, ℕ, ◌+◌, ◌-◌, ◌*◌, ◌/◌, ◌%◌, ◌<◌, ◌≤◌, Bool, true, false, ◌==◌, not, List, Option, Some, None, is_some, find, refl, sym, ap, ◌∙◌, arith, inl, inr, rules}
 use Rattle.std.specs.Int.{bit_at, bit_not, w64}
 use Rattle.std.specs.List.{range_with_len}
-use Rattle.std.proofs.lemmas.Bool.{agree_below_at, and_from, and_parts, cases_Bool, cases_eq, cases_lt, cond-true, cond-false, eqb-true, eq-eqb, or_cases, or_left, or_right}
+use Rattle.std.proofs.lemmas.Bool.{agree_below_at, and_from, and_parts, cases_Bool, cases_eq, cond-true, cond-false, or_left, or_right}
 use Rattle.chess_core.specs.Position.{Position, is_side, man_on, same_colour, same_kind}
-use Rattle.chess_core.specs.Squares.{file_of, is_on_board, is_square, rank_of, square_at}
+use Rattle.chess_core.specs.Squares.{file_of, is_square, rank_of, square_at}
 use Rattle.chess_core.specs.Steps.{along}
 use Rattle.chess_core.specs.ties.Words.{word}
 use Rattle.chess_core.specs.declared.man.Colour.{Colour}
@@ -22,8 +22,7 @@ use Rattle.chess_rules.specs.Reaches.{reaches, reaches_as}
 use Rattle.chess_rules.specs.RuleSet.{RuleSet}
 use Rattle.chess_rules.specs.ties.Targets.{arrives, is_arrival, may_go, steps_to}
 use Rattle.chess_rules.proofs.Bits.{word_empty}
-use Rattle.chess_rules.proofs.Ends.{cond-on, on_board}
-use Rattle.chess_rules.proofs.Pseudo.{king_is_no_pawn, made, ways}
+use Rattle.chess_rules.proofs.Pseudo.{made}
 use Rattle.chess_rules.proofs.Tests.{IsFirst, find_no}
 
 -- the words of a pawn's steps, of a king's in castling, and of the others
@@ -41,23 +40,11 @@ other_word x s none king = word_empty (steps_to x s) (λ t b. cond-false (same_k
 
 -- the square on a square's file and rank
 square_of : (f r t : ℕ) → t < 64 → f ≡ file_of t → r ≡ rank_of t → is_square (square_at f r) t ≡ true
-square_of f r t p e h =
-    let at : square_at f r ≡ Some t =
-    cond-on (is_on_board f && is_on_board r) t (8 * (r - 1) + (f - 1)) (and_from _ _ (on_board f (omega arith) (omega arith)) (on_board r (omega arith) (omega arith))) (omega arith) in
-    ap (λ o. is_square o t) at ∙ eq-eqb t t refl
+square_of f r t p e h = search rules
 
 pub castling_steps : (x : Man) (m : Move) → m.to < 64 → is_castling x m ≡ true → steps_to x m.from m.to ≡ true
 unfolding steps_to along
-castling_steps x m small h =
-    let c1 = and_parts _ _ h in
-    let c2 = and_parts _ _ c1.0 in
-    let rank : rank_of m.from ≡ rank_of m.to = eqb-true _ _ c2.1 in
-    let none : same_kind x.kind Pawn ≡ false = king_is_no_pawn x.kind c2.0 in
-    cond-false (same_kind x.kind Pawn) _ _ none ∙ cond-true (same_kind x.kind King) _ _ c2.0
-    ∙ elim (or_cases _ _ c1.1) [
-      | inl e ↦ let f : file_of m.from + 2 ≡ file_of m.to = eqb-true _ _ e in or_left _ _ (square_of (file_of m.from + 1 * 2 - 1 * 0) (rank_of m.from + 1 * 0 - 1 * 0) m.to small (omega arith) (omega arith))
-      | inr e ↦ let f : file_of m.to + 2 ≡ file_of m.from = eqb-true _ _ e in or_right _ _ (square_of (file_of m.from + 1 * 0 - 1 * 2) (rank_of m.from + 1 * 0 - 1 * 0) m.to small (omega arith) (omega arith))
-    ]
+castling_steps x m small h = search rules
 
 reaches_man : (men : List (Option Man)) (x : Man) (s t : ℕ) → man_on men s ≡ Some x → reaches men s t ≡ true → reaches_as men x.colour x.kind s t ≡ true
 unfolding reaches
@@ -66,29 +53,11 @@ reaches_man men x s t here h = rw here at h
 -- a move goes where its man may go
 may_go_of : (rule : RuleSet) (p : Position) (x : Man) (m : Move) → m.to < 64 → man_on p.men m.from ≡ Some x → goes rule p x m ≡ true → may_go p x m.from m.to ≡ true
 unfolding may_go castles may_castle
-may_go_of rule p x m small here h = elim (ways rule p x m h) [
-  | inl a ↦ cond-true (same_kind x.kind Pawn) _ _ a.0 ∙ elim a.1 [
-    | inl e ↦ let t = and_parts _ _ e in or_left _ _ (and_from _ _ (reaches_man p.men x m.from m.to here t.0) t.1)
-    | inr e ↦ or_right _ _ e
-  ]
-  | inr a ↦ cond-false (same_kind x.kind Pawn) _ _ a.0 ∙ elim a.1 [
-    | inl e ↦ or_left _ _ (reaches_man p.men x m.from m.to here e)
-    | inr e ↦
-        let m1 = and_parts _ _ (and_parts _ _ e).0 in
-        let m2 = and_parts _ _ m1.0 in
-        let m3 = and_parts _ _ m2.0 in
-        let m4 = and_parts _ _ m3.0 in
-        let m5 = and_parts _ _ m4.0 in
-        or_right _ _ (and_from _ _ m5.1 (castling_steps x m small m5.0))
-  ]
-]
+may_go_of rule p x m small here h = search (rules, and_from, and_parts, castling_steps, cond-false, cond-true, or_left, or_right, reaches_man)
 
 arrival_of : (rule : RuleSet) (p : Position) (x : Man) (m : Move) → m.to < 64 → man_on p.men m.from ≡ Some x → pseudo_of rule p (Some x) m ≡ true → is_arrival rule p m.from m.to ≡ true
 unfolding is_arrival
-arrival_of rule p x m small here h =
-    let h1 = and_parts _ _ h in
-    let h2 = and_parts _ _ h1.0 in
-    rw here (and_from _ _ h2.0 (may_go_of rule p x m small here h1.1))
+arrival_of rule p x m small here h = search (rules, and_from, and_parts, may_go_of)
 
 arrival_by : (rule : RuleSet) (p : Position) (m : Move) (o : Option Man) → m.to < 64 → man_on p.men m.from ≡ o → pseudo_of rule p o m ≡ true → is_arrival rule p m.from m.to ≡ true
 arrival_by rule p m None small here h = cc
@@ -140,15 +109,11 @@ pub from-nobody : (p : Position) (s z a b : ℕ) → man_on p.men s ≡ None →
 from-nobody p s z a b h = record { fails = λ rule k lo hi on. nobody_moves rule p (record { from = s; to = k / 7; promo = promotion_at (k % 7) }) h }
 
 pub from-join : (p : Position) (s z a b c : ℕ) → IsBarrenFrom p s z a b → IsBarrenFrom p s z b c → IsBarrenFrom p s z a c
-from-join p s z a b c x y = record {
-  fails = λ rule k lo hi on. elim (cases_lt k b) [ inl lt ↦ x.fails rule k lo lt on | inr ge ↦ y.fails rule k ge hi on ];
-}
+from-join p s z a b c x y = search rules
 
 -- no square of the word lies between
 pub from-missed : (p : Position) (s a b w : ℕ) → ((t : ℕ) → a / 7 ≤ t → t < (b + 6) / 7 → (bit_at w t == 1) ≡ false) → IsBarrenFrom p s w a b
-from-missed p s a b w none = record {
-  fails = λ rule k lo hi on. absurd (let never : (bit_at w (k / 7) == 1) ≡ false = none (k / 7) (omega (arith, lo)) (omega (arith, hi)) in cc);
-}
+from-missed p s a b w none = search rules
 
 some_promotion : (n : ℕ) → 1 ≤ n → n < 7 → (k : Kind) × (promotion_at n ≡ Some k)
 some_promotion n lo hi = elim (cases_eq n 1) [
@@ -188,8 +153,7 @@ from-promoted p x s z t here h = record {
 
 -- up to the first target
 pub from-target : (p : Position) (s start at t w : ℕ) → IsBarrenFrom p s w start at → IsFirst (λ q. bit_at w q == 1) (at / 7) (64 - at / 7) t → IsBarrenFrom p s w start (7 * t)
-from-target p s start at t w past f =
-    from-join p s w start at (7 * t) past (from-missed p s at (7 * t) w (λ q lo hi. f.before q lo (omega arith)))
+from-target p s start at t w past f = search rules
 
 -- up to the end, where there is none
 pub from-none : (p : Position) (s start at w : ℕ) → IsBarrenFrom p s w start at → find (λ q. bit_at w q == 1) (range_with_len (at / 7) (64 - at / 7)) ≡ None → IsBarrenFrom p s w start 448

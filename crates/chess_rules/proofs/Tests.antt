@@ -1,7 +1,7 @@
 -- Tests joined, and tests over ranges of numbers.
-use Rattle.std.proofs.Common.{◌≡◌, ℕ, zero, suc, ◌+◌, ◌<◌, ◌≤◌, Bool, true, false, ◌&&◌, ◌||◌, ◌==◌, refl, sym, arith, ◌⊎◌, inl, inr, ◌∙◌, ◌-◌, Some, None, find}
+use Rattle.std.proofs.Common.{◌≡◌, ℕ, zero, suc, ◌+◌, ◌<◌, ◌≤◌, Bool, true, false, ◌&&◌, ◌||◌, ◌==◌, refl, sym, arith, ◌⊎◌, inl, inr, ◌∙◌, ◌-◌, Some, None, find, rules}
 use Rattle.std.specs.List.{range_with_len, list_all, list_any}
-use Rattle.std.proofs.lemmas.Bool.{and_left, cases_eq, cases_lt, cases_Bool, cond-true, cond-false, eqb-true, false≢true}
+use Rattle.std.proofs.lemmas.Bool.{and_left, cases_eq, cases_lt, cases_Bool, cond-true, cond-false, false≢true}
 use Rattle.chess_core.proofs.Ranges.{NoneBelow}
 
 pub first_of_and : (a b : Bool) → (a && b) ≡ true → a ≡ true
@@ -25,10 +25,7 @@ same_Bool false true f g = g refl
 same_Bool false false f g = refl
 
 pub differs : (a b : ℕ) → (a ≡ b → ⊥) → (a == b) ≡ false
-differs a b ne = elim (cases_Bool (a == b)) [
-  | inl y ↦ absurd (ne (eqb-true a b y))
-  | inr n ↦ n
-]
+differs a b ne = search rules
 
 -- either some number of the range passes or none does
 pub any_range_cases : (p : ℕ → Bool) (a n : ℕ) → ((k : ℕ) × (a ≤ k) × (k < a + n) × (p k ≡ true)) ⊎ ((k : ℕ) → a ≤ k → k < a + n → p k ≡ false)
@@ -86,9 +83,7 @@ find_no p a (suc n) k h lo hi = elim (cases_Bool (p a)) [
 
 -- what fails the first test fails both
 pub skipped : (p r : ℕ → Bool) (a n k : ℕ) → NoneBelow (λ s. p s && r s) a → IsFirst p a n k → NoneBelow (λ s. p s && r s) k
-skipped p r a n k past f = record {
-  fails = λ j b. elim (cases_lt j a) [ inl lt ↦ past.fails j lt | inr ge ↦ and_left (p j) (r j) (f.before j ge b) ];
-}
+skipped p r a n k past f = search rules
 
 pub skipped_all : (p r : ℕ → Bool) (a : ℕ) → NoneBelow (λ s. p s && r s) a → find p (range_with_len a (64 - a)) ≡ None → NoneBelow (λ s. p s && r s) 64
 skipped_all p r a past h = record {

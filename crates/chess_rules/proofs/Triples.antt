@@ -1,11 +1,11 @@
 -- The triples: which moves they are, in which order they stand, and that each legal move is one of them.
-use Rattle.std.proofs.Common.{◌≡◌, ℕ, zero, suc, ◌+◌, ◌-◌, ◌*◌, ◌<◌, Bool, true, ◌&&◌, nat_lt, List, [], ◌∷◌, length, map, Option, Some, None, ◌⊎◌, ◌↔◌, inl, inr, refl, sym, ◌∙◌, ap, arith}
+use Rattle.std.proofs.Common.{◌≡◌, ℕ, zero, suc, ◌+◌, ◌-◌, ◌*◌, ◌<◌, Bool, true, List, [], ◌∷◌, length, map, Option, Some, None, ◌⊎◌, ◌↔◌, inl, inr, refl, ap, arith, rules}
 use Rattle.std.specs.List.{AllPairs, Contains, flat_map, list_any, range_with_len}
-use Rattle.std.proofs.lemmas.Bool.{agree_below_at, and_parts, cases_lt, cases_order, eqb-true, false≢true, ltb-true, or_cases}
+use Rattle.std.proofs.lemmas.Bool.{and_parts, cases_lt, false≢true, or_cases}
 use Rattle.std.proofs.lemmas.List.{get_or_past}
 use Rattle.chess_core.specs.MoveOrder.{promotion_place, triple_number}
 use Rattle.chess_core.specs.Position.{Position, man_on, may_promote}
-use Rattle.chess_core.specs.Squares.{is_square, rank_of, squares}
+use Rattle.chess_core.specs.Squares.{is_square, squares}
 use Rattle.chess_core.specs.Steps.{along, diagonal_steps, knight_steps, pawn_captures, queen_steps, straight_steps}
 use Rattle.chess_core.specs.declared.man.Colour.{Colour}
 use Rattle.chess_core.specs.declared.man.Kind.{Kind}
@@ -16,8 +16,7 @@ use Rattle.chess_core.specs.declared.step.Step.{Step}
 use Rattle.chess_core.proofs.Boards.{along-is}
 use Rattle.chess_rules.specs.Legal.{castles, is_nil, is_promotion_right, may_castle, promotions, pseudo, triples}
 use Rattle.chess_rules.specs.ties.Places.{triple_at}
-use Rattle.chess_rules.specs.Play.{is_castling}
-use Rattle.chess_rules.specs.Reaches.{hops, is_clear, is_occupied, leaps, reaches, reaches_as, reaches_of, rides}
+use Rattle.chess_rules.specs.Reaches.{hops, leaps, reaches, reaches_as, reaches_of, rides}
 use Rattle.chess_rules.specs.RuleSet.{RuleSet}
 use Rattle.chess_rules.proofs.Members.{first_in, none_in_nil, from_flat_map, from_map, from_range, in_flat_map, in_map, in_range, pairs_map, pairs_nil, pairs_of}
 use Rattle.chess_rules.proofs.Places.{triples_numbered}
@@ -49,8 +48,7 @@ from_triples m c =
 -- the numbers of the triples rise
 next_rises : (n : ℕ) → n < 28671 → triple_number (triple_at n) < triple_number (triple_at (n + 1))
 unfolding triple_at
-next_rises n less =
-    ltb-true _ _ (agree_below_at (λ n. nat_lt (triple_number (triple_at n)) (triple_number (triple_at (n + 1)))) (λ _. true) 28671 n refl less)
+next_rises n less = search rules
 
 later_rises : (d n : ℕ) → n + suc d < 28672 → triple_number (triple_at n) < triple_number (triple_at (n + suc d))
 later_rises zero n less = let e : n + 1 ≡ n + suc zero = omega arith in rw (← e) (next_rises n (omega (arith, less)))
@@ -93,16 +91,11 @@ leap_on_board s t d h = on_board s d 1 t h
 
 ride_on_board : (men : List (Option Man)) (s t : ℕ) (d : Step) → rides men s t d ≡ true → t < 64
 unfolding rides
-ride_on_board men s t d h =
-    some_passes (λ k. is_square (along s d k) t && is_clear men s d (k - 1)) (range_with_len 1 7)
-    (λ k w. on_board s d k t (and_parts (is_square (along s d k) t) (is_clear men s d (k - 1)) w).0) h
+ride_on_board men s t d h = search (rules, on_board, some_passes)
 
 hop_on_board : (men : List (Option Man)) (s t : ℕ) (d : Step) → hops men s t d ≡ true → t < 64
 unfolding hops
-hop_on_board men s t d h =
-    some_passes (λ k. is_square (along s d k) t && is_occupied men (along s d (k - 1)) && is_clear men s d (k - 2)) (range_with_len 2 6)
-    (λ k w. on_board s d k t (and_parts (is_square (along s d k) t) (is_occupied men (along s d (k - 1)))
-    (and_parts (is_square (along s d k) t && is_occupied men (along s d (k - 1))) (is_clear men s d (k - 2)) w).0).0) h
+hop_on_board men s t d h = search (rules, on_board, some_passes)
 
 reach_as_on_board : (men : List (Option Man)) (c : Colour) (k : Kind) (s t : ℕ) → reaches_as men c k s t ≡ true → t < 64
 unfolding reaches_as
@@ -125,39 +118,14 @@ reach_on_board men s t h = reach_of_on_board men (man_on men s) s t h
 
 -- a man stands on the board
 stands_on_board : (p : Position) (x : Man) (s : ℕ) → length p.men ≡ 64 → man_on p.men s ≡ Some x → s < 64
-stands_on_board p x s size here = elim (cases_lt s 64) [
-  | inl less ↦ less
-  | inr past ↦
-      let none : man_on p.men s ≡ None = get_or_past p.men s None (rw size past) in
-      let bad : Option.None ≡ Some x = sym none ∙ here in
-      absurd cc
-]
+stands_on_board p x s size here = search (rules, cases_lt, get_or_past)
 
 castling_on_board : (rule : RuleSet) (p : Position) (x : Man) (m : Move) → m.from < 64 → castles rule p x m ≡ true → m.to < 64
 unfolding castles may_castle
-castling_on_board rule p x m from h =
-    let m1 = and_parts _ _ (and_parts _ _ h).0 in
-    let m2 = and_parts _ _ m1.0 in
-    let m3 = and_parts _ _ m2.0 in
-    let m4 = and_parts _ _ m3.0 in
-    let m5 = and_parts _ _ m4.0 in
-    let is : is_castling x m ≡ true = m5.0 in
-    let c1 = and_parts _ _ is in
-    let c2 = and_parts _ _ c1.0 in
-    let rank : rank_of m.from ≡ rank_of m.to = eqb-true _ _ c2.1 in
-    omega (arith, rank, from)
+castling_on_board rule p x m from h = search rules
 
 arrival_on_board : (rule : RuleSet) (p : Position) (x : Man) (m : Move) → m.from < 64 → IsMade rule p x m → m.to < 64
-arrival_on_board rule p x m from made = elim (ways rule p x m made.goes) [
-  | inl pawn ↦ elim pawn.1 [
-    | inl takes ↦ reach_on_board p.men m.from m.to (and_parts _ _ takes).0
-    | inr steps ↦ (pawn_goes p x m steps).small
-  ]
-  | inr piece ↦ elim piece.1 [
-    | inl reached ↦ reach_on_board p.men m.from m.to reached
-    | inr castled ↦ castling_on_board rule p x m from castled
-  ]
-]
+arrival_on_board rule p x m from made = search (rules, castling_on_board, pawn_goes, reach_on_board, ways)
 
 may_be_promoted : (p : Position) (k : Kind) → may_promote p k ≡ true → Contains promotions (Some k)
 may_be_promoted p King h = absurd (false≢true h)
@@ -190,15 +158,7 @@ place_small (Some k) = omega arith
 
 parts_of : (a b c d e f : ℕ) → b < 64 → e < 64 → c < 9 → f < 9 → (a * 64 + b) * 9 + c < (d * 64 + e) * 9 + f
     → (a < d) ⊎ ((a ≡ d) × ((b < e) ⊎ ((b ≡ e) × (c < f))))
-parts_of a b c d e f b64 e64 c9 f9 less = elim (cases_order a d) [
-  | inr (inl low) ↦ inl low
-  | inr (inr high) ↦ absurd (omega (arith, b64, e64, c9, f9, less, high))
-  | inl same ↦ elim (cases_order b e) [
-    | inr (inl low) ↦ inr (same, inl low)
-    | inr (inr high) ↦ absurd (omega (arith, b64, e64, c9, f9, less, same, high))
-    | inl alike ↦ inr (same, inr (alike, omega (arith, less, same, alike)))
-  ]
-]
+parts_of a b c d e f b64 e64 c9 f9 less = search rules
 
 of_parts : (a b c d e f : ℕ) → b < 64 → e < 64 → c < 9 → f < 9 → (a < d) ⊎ ((a ≡ d) × ((b < e) ⊎ ((b ≡ e) × (c < f))))
     → (a * 64 + b) * 9 + c < (d * 64 + e) * 9 + f
@@ -209,10 +169,7 @@ of_parts a b c d e f b64 e64 c9 f9 (inr (same, inr (alike, low))) = omega (arith
 pub by_parts : (m n : Move) → m.to < 64 → n.to < 64
     → (triple_number m < triple_number n) ↔ ((m.from < n.from)
     ⊎ ((m.from ≡ n.from) × ((m.to < n.to) ⊎ ((m.to ≡ n.to) × (promotion_place m.promo < promotion_place n.promo)))))
-by_parts m n a b = (
-  parts_of m.from m.to (promotion_place m.promo) n.from n.to (promotion_place n.promo) a b (place_small m.promo) (place_small n.promo),
-  of_parts m.from m.to (promotion_place m.promo) n.from n.to (promotion_place n.promo) a b (place_small m.promo) (place_small n.promo),
-)
+by_parts m n a b = search rules
 
 -- a list without elements
 pub nothing_in : (ms : List Move) → is_nil ms ≡ true → (m : Move) → Contains ms m → ⊥
