@@ -1,4 +1,5 @@
--- What the clauses of the scanner exclude where the bytes of the source are known: a call that uses more than its word or its line, and a word with another number.
+-- What the clauses of the scanner exclude: a call that uses more than its word or its line, and a word with another number, where the bytes of the
+-- source are known; and a part of a line that holds a line end.
 use Rattle.std.proofs.Common.{◌≡◌, ℕ, ◌+◌, List, [], ◌∷◌, ◌++◌, length, length-append, Some, true, refl, sym, ◌∙◌, ap, arith, inl, inr, count_by, Ok}
 use Rattle.std.specs.List.{list_all}
 use Rattle.std.proofs.lemmas.List.{append_cancel_right}
@@ -61,3 +62,8 @@ nothing_behind_line old new had left text line behind plain used (other, p, is, 
   | inl u ↦ same_line line other behind plain p (same_bytes old new had left (other ++ 10 ∷ []) ((line ++ 10 ∷ []) ++ behind) u used)
   | inr u ↦ absurd (no_end line other behind p (same_bytes old new had left other ((line ++ 10 ∷ []) ++ behind) u.0 used))
 ]
+
+-- bytes that reach behind the first line end of a view are no part of the line
+pub nothing_behind_line_end : (line behind : List ℕ) → list_all is_in_line (line ++ 10 ∷ behind) ≡ true → ⊥
+nothing_behind_line_end [] behind e = cc
+nothing_behind_line_end (b ∷ line) behind e = nothing_behind_line_end line behind (all_parts is_in_line b (line ++ 10 ∷ behind) e).1

@@ -56,19 +56,21 @@ module _ (cells : List ℕ) (start stop : ℕ) (within : stop ≤ length cells) 
 
 -- The bytes that belong to the input.
 
+-- so many of them are a front of the window within the limit
+pub record IsWithin (now : Reading) (view : List ℕ) (count : ℕ) : Type 0 where
+  pub front : take count view ≡ take count now.window
+  pub few : count ≤ length now.window
+  pub room : now.used + count ≤ limit
+
 module _ (now : Reading) (view : List ℕ) (count : ℕ) (within : now.used ≤ limit) (is : view ≡ take (limit - now.used) now.window) (few : count ≤ length view) where
-  size : length view ≤ limit - now.used
-  size = omega (arith, ap length is, length-take (limit - now.used) now.window)
-
-  -- their front is one of the window
-  pub view_front : take count view ≡ take count now.window
-  view_front = ap (take count) is ∙ take-take count (limit - now.used) now.window (omega (arith, size))
-
-  pub view_few : count ≤ length now.window
-  view_few = omega (arith, ap length is, length-take (limit - now.used) now.window)
-
-  pub view_room : now.used + count ≤ limit
-  view_room = omega (arith, size)
+  pub view_within : IsWithin now view count
+  view_within =
+      let size : length view ≤ limit - now.used = omega (arith, ap length is, length-take (limit - now.used) now.window) in
+      record {
+        front = ap (take count) is ∙ take-take count (limit - now.used) now.window (omega (arith, size));
+        few = omega (arith, ap length is, length-take (limit - now.used) now.window);
+        room = omega (arith, size);
+      }
 
   first_byte : (b : ℕ) (rest : List ℕ) → now.window ≡ b ∷ rest → now.used < limit → view ≡ b ∷ take (limit - now.used - 1) rest
   first_byte b rest at room =
@@ -83,12 +85,13 @@ module _ (now : Reading) (view : List ℕ) (count : ℕ) (within : now.used ≤ 
       → ((b : ℕ) (rest : List ℕ) → view ≡ b ∷ rest → test b ≡ true → 0 < count) → IsFront test now (take count view)
   front_is test plain all some =
       let long : length (take count view) ≡ count = length-take-le count view few in
-      let front : take (length (take count view)) now.window ≡ take count view = ap (λ n. take n now.window) long ∙ sym view_front in
+      let v = view_within in
+      let front : take (length (take count view)) now.window ≡ take count view = ap (λ n. take n now.window) long ∙ sym v.front in
       record {
         front = front;
         flat = sym (ap (count_by is_line_end) front ∙ line_lines (take count view) (plain (take count view) all));
-        within = omega (arith, long, view_few);
-        room = omega (arith, long, view_room);
+        within = omega (arith, long, v.few);
+        room = omega (arith, long, v.room);
         all = all;
         some = λ b rest at passes room. let h = view_some test some b rest at passes room in omega (arith, long, h);
       }

@@ -130,7 +130,7 @@ impl Scanner {
     {
         self.refill(source);
         if self.start < self.stop {
-            if self.used < LIMIT {
+            if self.room() > 0 {
                 return Ok(Some(self.cells[self.start]));
             }
             return Err(ReadFault::InputTooLong(self.line));
@@ -157,6 +157,15 @@ impl Scanner {
         self.line = line_behind(self.line, line_ends);
     }
 
+    // How many bytes may still be used.
+    #[tactic(auto, unfolding(crate::specs::Words::limit))]
+    fn room(&self) -> usize
+        ensures room { result ≡ limit - self.now.used }
+        ensures within { self.now.used ≤ limit }
+    {
+        (LIMIT - self.used) as usize
+    }
+
     // The bytes of the window that belong to the input.
     #[tactic(auto, unfolding(crate::specs::Words::limit))]
     fn view(&self) -> &[u8]
@@ -164,8 +173,7 @@ impl Scanner {
         ensures within { self.now.used ≤ limit }
     {
         let window = &self.cells[self.start..self.stop];
-        let room = (LIMIT - self.used) as usize;
-        let reach = window.len().min(room);
+        let reach = window.len().min(self.room());
         &window[..reach]
     }
 
@@ -233,9 +241,9 @@ impl Scanner {
             match self.peek(source)? {
                 Some(byte) if !in_gap(byte) => {
                     let part = self.run_part(!fits);
-                    let count = part.len();
+                    let more = part.len();
                     fits = keep_run(word, part);
-                    self.advance(count, 0);
+                    self.advance(more, 0);
                 }
                 _ => return Ok(fits),
             }

@@ -82,6 +82,16 @@ impl<'a> TrialSource<'a> {
         }
     }
 
+    // Goes on behind so many bytes, where this is the rest of the round.
+    fn pass(&mut self, rest: &'a [u8], count: usize)
+        requires { count ≤ self.old.left }
+        ensures { self.new ≡ record self.old { rest = rest.now; left = self.old.left - count; until_failure = option_map (λ bytes. bytes - count) self.old.until_failure } }
+    {
+        self.rest = rest;
+        self.left -= count;
+        self.until_failure = less(self.until_failure, count);
+    }
+
     // How many bytes a call hands out, where the round has so many and there is so much room.
     fn reach(&self, rest: usize, room: usize) -> usize
         requires round { rest ≡ length (round_of self.now) }
@@ -124,9 +134,7 @@ impl<'a> Source for TrialSource<'a> {
         let count = self.reach(rest.len(), buffer.len());
         let (given, rest) = rest.split_at(count);
         buffer[..count].copy_from_slice(given);
-        self.rest = rest;
-        self.left -= count;
-        self.until_failure = less(self.until_failure, count);
+        self.pass(rest, count);
         Ok(count)
     }
 }

@@ -12,7 +12,7 @@ returns-clause-bytes c =
     let none = rw (← c.self.view_is) at c.round-rest.ensures.some in
     let left = rw (← c.self.view_is) at c.reach-count.ensures.left in
     let some = rw (← c.self.view_is) at c.reach-count.ensures.some in
-    rw (← c.self.view_is) (
+    rw (c.pass.ensures, ← c.self.view_is) (
       sym (same s.left)
           ∙ gives s.text.now rest back s.left count c.split_at.ensures.back c.copy_from_slice.new.self _ left c.reach-count.ensures.rest (c.copy_from_slice.ensures.after ∙ c.split_at.ensures.front),
       λ nothing wide. gives_none s.text.now rest back s.left count c.split_at.ensures.back (length c.args.buffer.now) some none nothing
