@@ -16,7 +16,7 @@ use Rattle.pop_input.specs.Stipulations.{is_help, half_moves}
 use Rattle.pop_solve.proofs.Sound.{in_range}
 use Rattle.pop_solve.specs.ties.Frames.{AreKnown, Frame, position, IsLinked}
 use Rattle.pop_solve.specs.Game.{reach}
-use Rattle.pop_solve.specs.ties.Walk.{way_of, path, IsWalking, IsRoomy}
+use Rattle.pop_solve.specs.ties.Walk.{path, IsWalking, IsRoomy}
 use Rattle.pop_solve.specs.Events.{Step, start, is_set, opening, line, tree_node, total, step_of, event_of, phase_start, phase_half_moves, phase_half, shown_along, shown_last, steps_from, phase_steps, is_barred, counted, solutions, events}
 use Rattle.pop_solve.specs.ties.Seen.{StandsOn}
 use Rattle.pop_solve.specs.ties.Phases.{begins, keep, started, left_of, IsStanding, IsGiven, Walks, Gives, phase_paths}
@@ -26,6 +26,7 @@ use Rattle.pop_solve.specs.declared.event.Event.TheVariants.{Line, Node, Total}
 use Rattle.pop_solve.specs.declared.phases.Stage.{Stage}
 use Rattle.pop_solve.specs.declared.phases.Stage.TheVariants.{Before, Barred, Within, Behind}
 use Rattle.pop_solve.proofs.Paths.{path-length, reach-path}
+use Rattle.pop_solve.specs.ties.Plans.{plan_of}
 
 step-help : (problem : Posed) (phase : Phase) (path : List Triple) → is_help problem.stipulation.form ≡ true → step_of problem phase path ≡ line phase path
 step-help problem phase path e = rw e refl
@@ -70,7 +71,7 @@ module _ (rule : RuleSet) (problem : Posed) (phase : Phase) (h : ℕ) (frames : 
   shallow least = omega (arith, room-length h (reverse frames) r.roomy, length-reverse frames)
 
 -- a path is given: the steps to come lose their first
-module _ (rule : RuleSet) (problem : Posed) (phase : Phase) (count : ℕ) (old new : List Frame) (board : Position) (most : count ≤ problem.max_solutions) (w : Walks rule (way_of problem) (phase_half_moves problem phase) (phase_start problem phase) (problem.max_solutions - count) old new board true) where
+module _ (rule : RuleSet) (problem : Posed) (phase : Phase) (count : ℕ) (old new : List Frame) (board : Position) (most : count ≤ problem.max_solutions) (w : Walks rule (plan_of problem) (phase_half_moves problem phase) (phase_start problem phase) (problem.max_solutions - count) old new board true) where
   abbrev more : ℕ
   more = cond (begins (is_help problem.stipulation.form) (path new)) 1 0
 
@@ -82,7 +83,7 @@ module _ (rule : RuleSet) (problem : Posed) (phase : Phase) (count : ℕ) (old n
       rw (w.come refl, s, n) refl
 
 -- none is given: the total is left
-pub left-ended : (rule : RuleSet) (problem : Posed) (phase : Phase) (count : ℕ) (old new : List Frame) (board : Position) → Walks rule (way_of problem) (phase_half_moves problem phase) (phase_start problem phase) (problem.max_solutions - count) old new board false → left_of rule problem (Within phase count) old ≡ total count (eqb count problem.max_solutions) ∷ cond (is_set phase) (steps_from rule problem Play) []
+pub left-ended : (rule : RuleSet) (problem : Posed) (phase : Phase) (count : ℕ) (old new : List Frame) (board : Position) → Walks rule (plan_of problem) (phase_half_moves problem phase) (phase_start problem phase) (problem.max_solutions - count) old new board false → left_of rule problem (Within phase count) old ≡ total count (eqb count problem.max_solutions) ∷ cond (is_set phase) (steps_from rule problem Play) []
 unfolding left_of
 left-ended rule problem phase count old new board w =
     let n : count + 0 ≡ count = omega arith in rw (w.ended refl, w.none refl, n) refl
@@ -90,7 +91,7 @@ left-ended rule problem phase count old new board w =
 two_one : (n : ℕ) → 2 ≤ n → eqb n 2 ≡ eqb (n - 1) 1
 two_one n h = let m : n ≡ suc (n - 1) = omega (arith, h) in rw m (grind (arith, nat_tests))
 
-module _ (rule : RuleSet) (problem : Posed) (phase : Phase) (count : ℕ) (old : List Frame) (frames : List Frame) (board : Position) (most : count ≤ problem.max_solutions) (w : Walks rule (way_of problem) (phase_half_moves problem phase) (phase_start problem phase) (problem.max_solutions - count) old (reverse frames) board true) where
+module _ (rule : RuleSet) (problem : Posed) (phase : Phase) (count : ℕ) (old : List Frame) (frames : List Frame) (board : Position) (most : count ≤ problem.max_solutions) (w : Walks rule (plan_of problem) (phase_half_moves problem phase) (phase_start problem phase) (problem.max_solutions - count) old (reverse frames) board true) where
   pub deep-given : 2 ≤ length frames
   deep-given = omega (arith, w.deep refl, length-reverse frames)
 
@@ -142,7 +143,7 @@ behind-standing rule problem Set board e = (refl, e)
 behind-standing rule problem Play board e = (refl, e)
 
 module _ (rule : RuleSet) (problem : Posed) (phase : Phase) (stage : Stage) (new : List Frame) (board : Position) (at : stage ≡ cond (is_set phase) (Before Play) Behind) (none : new ≡ []) where
-  pub gives-ended : (count depth : ℕ) (old mid : List Frame) (now : Position) → Walks rule (way_of problem) (phase_half_moves problem phase) (phase_start problem phase) (problem.max_solutions - count) old mid now false → Gives rule problem (left_of rule problem (Within phase count) old) (left_of rule problem stage (reverse new)) (Total count (eqb count problem.max_solutions)) board depth
+  pub gives-ended : (count depth : ℕ) (old mid : List Frame) (now : Position) → Walks rule (plan_of problem) (phase_half_moves problem phase) (phase_start problem phase) (problem.max_solutions - count) old mid now false → Gives rule problem (left_of rule problem (Within phase count) old) (left_of rule problem stage (reverse new)) (Total count (eqb count problem.max_solutions)) board depth
   gives-ended count depth old mid now w = record {
     step = total count (eqb count problem.max_solutions);
     left = left-ended rule problem phase count old mid now w ∙ ap (λ s. total count (eqb count problem.max_solutions) ∷ s) (sym (ap (λ s. left_of rule problem s (reverse new)) at ∙ behind-left rule problem phase (reverse new)));

@@ -16,20 +16,21 @@ use Rattle.pop_solve.specs.ties.Seen.{fewest_from, is_stop, is_unstopped, phase_
 use Rattle.pop_solve.specs.ties.Frames.{Frame, position, to_open}
 use Rattle.pop_solve.specs.ties.Phases.{left_of, rest_fewest, rest_open, IsKeys, IsNarrow, IsGiven, IsOpened, OpensOn}
 use Rattle.pop_solve.specs.ties.Values.{seeks}
-use Rattle.pop_solve.specs.ties.Walk.{fewest_left, way_of, IsCounted, IsWhites, Opens, Tries}
+use Rattle.pop_solve.specs.ties.Walk.{fewest_left, IsCounted, IsWhites, Opens, Tries}
 use Rattle.pop_solve.specs.declared.phases.Stage.{Stage}
 use Rattle.pop_solve.specs.declared.phases.Stage.TheVariants.{Before, Barred, Within, Behind}
-use Rattle.pop_solve.specs.declared.walk.Way.{Way}
+use Rattle.pop_solve.specs.declared.plan.Plan.{Plan}
 use Rattle.pop_solve.proofs.Boards.{behind_start}
 use Rattle.pop_solve.proofs.Sound.{some_way}
 use Rattle.pop_solve.proofs.Walking.{counted_by, no_zero, one, opened-most, walk_count-start}
+use Rattle.pop_solve.specs.ties.Plans.{plan_of, varies}
 
 -- one part of a walk after another
-module _ (rule : RuleSet) (way : Way) (p : Position) where
-  pub opens-none : (frames : List Frame) (count : ℕ) → Opens rule way p frames frames count count
+module _ (rule : RuleSet) (plan : Plan) (p : Position) where
+  pub opens-none : (frames : List Frame) (count : ℕ) → Opens rule plan p frames frames count count
   opens-none frames count = record { whites = λ a b w. w; most = λ a b w. omega arith; helped = λ a. omega arith; counted = λ a walk c. c }
 
-  pub opens-then : (old mid new : List Frame) (a b c : ℕ) → Opens rule way p old mid a b → Opens rule way p mid new b c → Opens rule way p old new a c
+  pub opens-then : (old mid new : List Frame) (a b c : ℕ) → Opens rule plan p old mid a b → Opens rule plan p mid new b c → Opens rule plan p old new a c
   opens-then old mid new a b c x y = record {
     whites = λ h v w. y.whites h v (x.whites h v w);
     most = λ h v w. omega (arith, x.most h v w, y.most h v (x.whites h v w));
@@ -37,10 +38,10 @@ module _ (rule : RuleSet) (way : Way) (p : Position) where
     counted = λ h walk k. y.counted h walk (x.counted h walk k);
   }
 
-  pub tries-none : (h : ℕ) (frames : List Frame) (count : ℕ) → Tries rule way h p frames frames count count
+  pub tries-none : (h : ℕ) (frames : List Frame) (count : ℕ) → Tries rule plan h p frames frames count count
   tries-none h frames count = record { grows = omega arith; fewest = λ a. omega arith }
 
-  pub tries-then : (h : ℕ) (old mid new : List Frame) (a b c : ℕ) → Tries rule way h p old mid a b → Tries rule way h p mid new b c → Tries rule way h p old new a c
+  pub tries-then : (h : ℕ) (old mid new : List Frame) (a b c : ℕ) → Tries rule plan h p old mid a b → Tries rule plan h p mid new b c → Tries rule plan h p old new a c
   tries-then h old mid new a b c x y = record {
     grows = omega (arith, x.grows, y.grows);
     fewest = λ e. omega (arith, x.fewest e, y.fewest e);
@@ -86,6 +87,9 @@ module _ (rule : RuleSet) (problem : Posed) where
   abbrev later_fewest : Phase → ℕ
   later_fewest phase = cond (is_set phase) (phase_fewest rule problem Play) 0
 
+  keys-alone : problem.variation ≡ false → varies (plan_of problem) ≡ false
+  keys-alone e = rw e refl
+
   -- a phase that isn't possible
   pub opens-barred : (phase : Phase) (old new : List Frame) (count : ℕ) (left : List Step) → is_barred rule problem phase ≡ true → OpensOn rule problem (Before phase) Barred old new count count left
   unfolding rest_open rest_fewest IsNarrow
@@ -104,28 +108,28 @@ module _ (rule : RuleSet) (problem : Posed) where
 
   -- a phase begins: its root is opened
   module _ (sound : IsSound problem) (phase : Phase) (f : Frame) (left_is : f.left ≡ phase_half_moves problem phase) (place_is : f.place ≡ 0) (possible : is_barred rule problem phase ≡ false) where
-    abbrev way : Way
-    way = way_of problem
+    abbrev plan : Plan
+    plan = plan_of problem
 
-    root-open : phase_walk rule problem phase ≡ one rule way f.left + to_open rule (phase_start problem phase) (f ∷ [])
+    root-open : phase_walk rule problem phase ≡ one rule plan f.left + to_open rule (phase_start problem phase) (f ∷ [])
     unfolding to_open position
-    root-open = rw (possible, place_is, ← left_is) (omega (arith, walk_count-start rule way f.left (phase_start problem phase)))
+    root-open = rw (possible, place_is, ← left_is) (omega (arith, walk_count-start rule plan f.left (phase_start problem phase)))
 
-    from-open : walk_from rule problem phase ≡ one rule way f.left + (to_open rule (phase_start problem phase) (f ∷ []) + later phase)
+    from-open : walk_from rule problem phase ≡ one rule plan f.left + (to_open rule (phase_start problem phase) (f ∷ []) + later phase)
     from-open = go phase root-open
       where
-        go : (b : Phase) → phase_walk rule problem b ≡ one rule way f.left + to_open rule (phase_start problem phase) (f ∷ []) → walk_from rule problem b ≡ one rule way f.left + (to_open rule (phase_start problem phase) (f ∷ []) + later b)
+        go : (b : Phase) → phase_walk rule problem b ≡ one rule plan f.left + to_open rule (phase_start problem phase) (f ∷ []) → walk_from rule problem b ≡ one rule plan f.left + (to_open rule (phase_start problem phase) (f ∷ []) + later b)
         go Set e = rw e (omega arith)
         go Play e = omega (arith, e)
 
-    root-fewest : phase_fewest rule problem phase ≡ cond (eqb f.left 0) 0 1 + fewest_left rule way (phase_half_moves problem phase) (phase_start problem phase) (f ∷ [])
+    root-fewest : phase_fewest rule problem phase ≡ cond (eqb f.left 0) 0 1 + fewest_left rule plan (phase_half_moves problem phase) (phase_start problem phase) (f ∷ [])
     unfolding fewest_left position
     root-fewest = rw (possible, place_is, behind_start rule (phase_start problem phase), ← left_is, less_none f.left) (omega arith)
 
-    from-fewest : fewest_from rule problem phase ≡ cond (eqb f.left 0) 0 1 + (fewest_left rule way (phase_half_moves problem phase) (phase_start problem phase) (f ∷ []) + later_fewest phase)
+    from-fewest : fewest_from rule problem phase ≡ cond (eqb f.left 0) 0 1 + (fewest_left rule plan (phase_half_moves problem phase) (phase_start problem phase) (f ∷ []) + later_fewest phase)
     from-fewest = go phase root-fewest
       where
-        go : (b : Phase) → phase_fewest rule problem b ≡ cond (eqb f.left 0) 0 1 + fewest_left rule way (phase_half_moves problem phase) (phase_start problem phase) (f ∷ []) → fewest_from rule problem b ≡ cond (eqb f.left 0) 0 1 + (fewest_left rule way (phase_half_moves problem phase) (phase_start problem phase) (f ∷ []) + later_fewest b)
+        go : (b : Phase) → phase_fewest rule problem b ≡ cond (eqb f.left 0) 0 1 + fewest_left rule plan (phase_half_moves problem phase) (phase_start problem phase) (f ∷ []) → fewest_from rule problem b ≡ cond (eqb f.left 0) 0 1 + (fewest_left rule plan (phase_half_moves problem phase) (phase_start problem phase) (f ∷ []) + later_fewest b)
         go Set e = rw e (omega arith)
         go Play e = omega (arith, e)
 
@@ -133,8 +137,8 @@ module _ (rule : RuleSet) (problem : Posed) where
     unfolding rest_open rest_fewest IsNarrow
     opens-begun old count count2 left more same = record {
       narrow = λ n. narrowed n;
-      most = λ n. omega (arith, from-open, opened-most rule way f.left count count2 more same);
-      counted = λ h u walk c. counted_by rule way f.left walk count count2 _ _ from-open more same c;
+      most = λ n. omega (arith, from-open, opened-most rule plan f.left count count2 more same);
+      counted = λ h u walk c. counted_by rule plan f.left walk count count2 _ _ from-open more same c;
       grows = omega (arith, root-counted f.left count count2 more same);
       fewest = λ h u. omega (arith, root-counted f.left count count2 more same, from-fewest);
     }
@@ -146,10 +150,10 @@ module _ (rule : RuleSet) (problem : Posed) where
             inr (k, whites-root (battle_of problem.stipulation.form) f (rw l (white-starts problem.stipulation.form problem.stipulation.n k.battle (some_way problem sound))))
 
   -- within a phase
-  module _ (phase : Phase) (count : ℕ) (old new : List Frame) (before after : ℕ) (x : Opens rule (way_of problem) (phase_start problem phase) old new before after) (y : Tries rule (way_of problem) (phase_half_moves problem phase) (phase_start problem phase) old new before after) where
+  module _ (phase : Phase) (count : ℕ) (old new : List Frame) (before after : ℕ) (x : Opens rule (plan_of problem) (phase_start problem phase) old new before after) (y : Tries rule (plan_of problem) (phase_half_moves problem phase) (phase_start problem phase) old new before after) where
     walked-most : (is_help problem.stipulation.form ≡ true) ⊎ (IsKeys problem phase × (IsWhites (battle_of problem.stipulation.form) old ≡ true)) → after + to_open rule (phase_start problem phase) new ≤ before + to_open rule (phase_start problem phase) old
     walked-most (inl h) = x.helped h
-    walked-most (inr k) = x.most k.0.battle k.0.keys k.1
+    walked-most (inr k) = x.most k.0.battle (keys-alone k.0.keys) k.1
 
     walked-counted : is_help problem.stipulation.form ≡ true → (walk : ℕ) → IsCounted walk before (to_open rule (phase_start problem phase) old + later phase) → IsCounted walk after (to_open rule (phase_start problem phase) new + later phase)
     walked-counted h walk c =
@@ -167,7 +171,7 @@ module _ (rule : RuleSet) (problem : Posed) where
       where
         narrowed : (is_help problem.stipulation.form ≡ true) ⊎ (IsKeys problem phase × (IsWhites (battle_of problem.stipulation.form) old ≡ true)) → (is_help problem.stipulation.form ≡ true) ⊎ (IsKeys problem phase × (IsWhites (battle_of problem.stipulation.form) new ≡ true))
         narrowed (inl h) = inl h
-        narrowed (inr k) = inr (k.0, x.whites k.0.battle k.0.keys k.1)
+        narrowed (inr k) = inr (k.0, x.whites k.0.battle (keys-alone k.0.keys) k.1)
 
     -- its end: where no phase is stopped, nothing is left to open
     nothing_open : (left : List Step) → is_unstopped (total count (eqb count problem.max_solutions) ∷ left) ≡ true → count ≤ problem.max_solutions → (new ≡ []) ⊎ (problem.max_solutions - count ≡ 0) → to_open rule (phase_start problem phase) new ≡ 0
@@ -178,7 +182,7 @@ module _ (rule : RuleSet) (problem : Posed) where
         let t : eqb count problem.max_solutions ≡ true = grind (arith, nat_tests, e) in
         let f : false ≡ true = rw t at u in absurd cc
 
-    nothing_fewest : (left : List Step) → is_unstopped (total count (eqb count problem.max_solutions) ∷ left) ≡ true → count ≤ problem.max_solutions → (new ≡ []) ⊎ (problem.max_solutions - count ≡ 0) → fewest_left rule (way_of problem) (phase_half_moves problem phase) (phase_start problem phase) new ≡ 0
+    nothing_fewest : (left : List Step) → is_unstopped (total count (eqb count problem.max_solutions) ∷ left) ≡ true → count ≤ problem.max_solutions → (new ≡ []) ⊎ (problem.max_solutions - count ≡ 0) → fewest_left rule (plan_of problem) (phase_half_moves problem phase) (phase_start problem phase) new ≡ 0
     unfolding fewest_left
     nothing_fewest left u most (inl none) = rw none refl
     nothing_fewest left u most (inr full) =
