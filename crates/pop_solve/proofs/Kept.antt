@@ -26,14 +26,16 @@ module _ {M : Type 0} where
   keep-nil help zero = refl
   keep-nil help (suc n) = refl
 
-  pub keep-next : (help : Bool) (n : ℕ) (x : List M) (xs : List (List M)) (b : Bool) → begins help x ≡ b → (b ≡ true → 0 < n) → keep help n (x ∷ xs) ≡ x ∷ keep help (n - cond b 1 0) xs
+  pub keep-next : (help : Bool) (n : ℕ) (x : List M) (xs : List (List M)) (b : Bool) → begins help x ≡ b → (b ≡ true → 0 < n)
+      → keep help n (x ∷ xs) ≡ x ∷ keep help (n - cond b 1 0) xs
   unfolding keep
   keep-next help zero x xs true e some = absurd (omega (arith, some refl))
   keep-next help zero x xs false e some = rw e refl
   keep-next help (suc n) x xs true e some = let z : suc n - 1 ≡ n = omega arith in rw (e, z) refl
   keep-next help (suc n) x xs false e some = let z : suc n - 0 ≡ suc n = omega arith in rw (e, z) refl
 
-  pub started-next : (help : Bool) (n : ℕ) (x : List M) (xs : List (List M)) (b : Bool) → begins help x ≡ b → (b ≡ true → 0 < n) → started help n (x ∷ xs) ≡ cond b 1 0 + started help (n - cond b 1 0) xs
+  pub started-next : (help : Bool) (n : ℕ) (x : List M) (xs : List (List M)) (b : Bool) → begins help x ≡ b → (b ≡ true → 0 < n)
+      → started help n (x ∷ xs) ≡ cond b 1 0 + started help (n - cond b 1 0) xs
   unfolding started
   started-next help zero x xs true e some = absurd (omega (arith, some refl))
   started-next help zero x xs false e some = rw e (omega arith)
@@ -72,7 +74,8 @@ module _ {P M : Type 0} (plan : Plan) (game : Game P M) (battle : is_help plan.f
   keep-shown root (suc k) (suc t) p (m ∷ ms) =
       rw (gives-battle t (game.after p m)) (split (follows plan game root t (game.after p m)) _ (keep-shown root (suc k) (suc t) p ms))
     where
-      split : (b : Bool) (xs : List (List M)) → keep false 0 (shown plan game root (suc k) (suc t) p ms) ≡ [] → keep false 0 (cond b ((m ∷ []) ∷ xs) [] ++ shown plan game root (suc k) (suc t) p ms) ≡ []
+      split : (b : Bool) (xs : List (List M)) → keep false 0 (shown plan game root (suc k) (suc t) p ms) ≡ []
+          → keep false 0 (cond b ((m ∷ []) ∷ xs) [] ++ shown plan game root (suc k) (suc t) p ms) ≡ []
       split true xs e = refl
       split false xs e = e
 
@@ -84,7 +87,8 @@ module _ {P M : Type 0} (plan : Plan) (game : Game P M) (battle : is_help plan.f
   started-shown root (suc k) (suc t) p (m ∷ ms) =
       rw (gives-battle t (game.after p m)) (split (follows plan game root t (game.after p m)) _ (started-shown root (suc k) (suc t) p ms))
     where
-      split : (b : Bool) (xs : List (List M)) → started false 0 (shown plan game root (suc k) (suc t) p ms) ≡ 0 → started false 0 (cond b ((m ∷ []) ∷ xs) [] ++ shown plan game root (suc k) (suc t) p ms) ≡ 0
+      split : (b : Bool) (xs : List (List M)) → started false 0 (shown plan game root (suc k) (suc t) p ms) ≡ 0
+          → started false 0 (cond b ((m ∷ []) ∷ xs) [] ++ shown plan game root (suc k) (suc t) p ms) ≡ 0
       split true xs e = refl
       split false xs e = e
 
@@ -103,14 +107,17 @@ module _ (rule : RuleSet) (plan : Plan) (h : ℕ) (p : Position) where
   to_come-root f = root-same _
 
   -- with none to begin, and none on the way
-  full : (frames : List Frame) → (is_help plan.form || eqb (length frames) 1) ≡ true → (keep (is_help plan.form) 0 (to_come rule plan h p frames) ≡ []) × (started (is_help plan.form) 0 (to_come rule plan h p frames) ≡ 0)
+  full : (frames : List Frame) → (is_help plan.form || eqb (length frames) 1) ≡ true
+      → (keep (is_help plan.form) 0 (to_come rule plan h p frames) ≡ []) × (started (is_help plan.form) 0 (to_come rule plan h p frames) ≡ 0)
   full frames e = go (is_help plan.form) refl e
     where
-      go : (help : Bool) → is_help plan.form ≡ help → (help || eqb (length frames) 1) ≡ true → (keep help 0 (to_come rule plan h p frames) ≡ []) × (started help 0 (to_come rule plan h p frames) ≡ 0)
+      go : (help : Bool) → is_help plan.form ≡ help → (help || eqb (length frames) 1) ≡ true
+          → (keep help 0 (to_come rule plan h p frames) ≡ []) × (started help 0 (to_come rule plan h p frames) ≡ 0)
       go true b e = (keep-help _, started-help _)
       go false b e =
           let one = one_frame frames e in
-          rw (one.1, to_come-root one.0) (keep-shown plan (chess plan.goal rule) b true (h - 0) one.0.left p _, started-shown plan (chess plan.goal rule) b true (h - 0) one.0.left p _)
+          rw (one.1, to_come-root one.0)
+          (keep-shown plan (chess plan.goal rule) b true (h - 0) one.0.left p _, started-shown plan (chess plan.goal rule) b true (h - 0) one.0.left p _)
 
   none : (frames : List Frame) → length frames ≡ 0 → to_come rule plan h p frames ≡ []
   unfolding to_come
@@ -134,7 +141,8 @@ module _ (rule : RuleSet) (plan : Plan) (h : ℕ) (p : Position) where
     both_true true b e = (refl, e)
     both_true false b e = absurd cc
 
-    pub walks_full : (limit : ℕ) (board : Position) → IsWalking rule h p mid board → (eqb limit 0 && (is_help plan.form || eqb (length mid) 1)) ≡ true → Walks rule plan h p limit old mid board false
+    pub walks_full : (limit : ℕ) (board : Position) → IsWalking rule h p mid board → (eqb limit 0 && (is_help plan.form || eqb (length mid) 1)) ≡ true
+        → Walks rule plan h p limit old mid board false
     walks_full limit board r e =
         let x = both_true (eqb limit 0) (is_help plan.form || eqb (length mid) 1) e in
         let z : limit ≡ 0 = grind (arith, nat_tests, x.0) in
@@ -157,9 +165,12 @@ module _ (rule : RuleSet) (plan : Plan) (h : ℕ) (p : Position) where
     most_one true n e = omega (arith, e refl)
     most_one false n e = omega arith
 
-    pub walks_given : (limit : ℕ) (new : List Frame) (board : Position) (before after : ℕ) (given : Bool) → Steps rule plan h p mid new board before after given → given ≡ true → 0 < length mid → (eqb limit 0 && (is_help plan.form || eqb (length mid) 1)) ≡ false → Walks rule plan h p limit old new board true
+    pub walks_given : (limit : ℕ) (new : List Frame) (board : Position) (before after : ℕ) (given : Bool)
+        → Steps rule plan h p mid new board before after given → given ≡ true → 0 < length mid
+        → (eqb limit 0 && (is_help plan.form || eqb (length mid) 1)) ≡ false → Walks rule plan h p limit old new board true
     walks_given limit new board before after given made is some e =
-        let s : Steps rule plan h p mid new board before after true = (let T : Bool → Type 0 = λ x. Steps rule plan h p mid new board before after x in subst T is made) in
+        let s : Steps rule plan h p mid new board before after true = (let T : Bool
+        → Type 0 = λ x. Steps rule plan h p mid new board before after x in subst T is made) in
         let l : length (path new) ≡ length mid = omega (arith, path-length new, s.deep refl) in
         let b : (is_help plan.form || eqb (length mid) 1) ≡ begins (is_help plan.form) (path new) = ap (λ n. is_help plan.form || eqb n 1) (sym l) in
         let r : begins (is_help plan.form) (path new) ≡ true → 0 < limit = room limit _ (rw b at e) in record {

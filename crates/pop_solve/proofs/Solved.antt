@@ -59,12 +59,15 @@ both true b e = (refl, e)
 both false b e = absurd cc
 
 module _ {M : Type 0} where
-  over-kept : (n : ℕ) (m : M) (ys rest : List (List M)) → list_all some ys ≡ true → keep false n (map (λ path. m ∷ path) ys ++ rest) ≡ map (λ path. m ∷ path) ys ++ keep false n rest
+  over-kept : (n : ℕ) (m : M) (ys rest : List (List M)) → list_all some ys ≡ true
+      → keep false n (map (λ path. m ∷ path) ys ++ rest) ≡ map (λ path. m ∷ path) ys ++ keep false n rest
   unfolding keep
   over-kept n m [] rest a = refl
   over-kept n m ([] ∷ ys) rest a = absurd cc
-  over-kept zero m ((y ∷ z) ∷ ys) rest a = let e : eqb (length (m ∷ (y ∷ z))) 1 ≡ false = grind (arith, nat_tests) in rw e (ap (λ xs. (m ∷ (y ∷ z)) ∷ xs) (over-kept zero m ys rest a))
-  over-kept (suc n) m ((y ∷ z) ∷ ys) rest a = let e : eqb (length (m ∷ (y ∷ z))) 1 ≡ false = grind (arith, nat_tests) in rw e (ap (λ xs. (m ∷ (y ∷ z)) ∷ xs) (over-kept (suc n) m ys rest a))
+  over-kept zero m ((y ∷ z) ∷ ys) rest a = let e : eqb (length (m ∷ (y ∷ z))) 1 ≡ false = grind (arith, nat_tests) in rw e
+      (ap (λ xs. (m ∷ (y ∷ z)) ∷ xs) (over-kept zero m ys rest a))
+  over-kept (suc n) m ((y ∷ z) ∷ ys) rest a = let e : eqb (length (m ∷ (y ∷ z))) 1 ≡ false = grind (arith, nat_tests) in rw e
+      (ap (λ xs. (m ∷ (y ∷ z)) ∷ xs) (over-kept (suc n) m ys rest a))
 
   over-begun : (n : ℕ) (m : M) (ys rest : List (List M)) → list_all some ys ≡ true → started false n (map (λ path. m ∷ path) ys ++ rest) ≡ started false n rest
   unfolding started
@@ -73,15 +76,18 @@ module _ {M : Type 0} where
   over-begun zero m ((y ∷ z) ∷ ys) rest a = let e : eqb (length (m ∷ (y ∷ z))) 1 ≡ false = grind (arith, nat_tests) in rw e (over-begun zero m ys rest a)
   over-begun (suc n) m ((y ∷ z) ∷ ys) rest a = let e : eqb (length (m ∷ (y ∷ z))) 1 ≡ false = grind (arith, nat_tests) in rw e (over-begun (suc n) m ys rest a)
 
-  nodes-kept : (X : M → List (List M)) → ((m : M) → list_all some (X m) ≡ true) → (n : ℕ) (ms : List M) → keep false n (flat_map (λ m. node m (X m)) ms) ≡ flat_map (λ solution. solution) (take n (map (λ m. node m (X m)) ms))
+  nodes-kept : (X : M → List (List M)) → ((m : M) → list_all some (X m) ≡ true) → (n : ℕ) (ms : List M)
+      → keep false n (flat_map (λ m. node m (X m)) ms) ≡ flat_map (λ solution. solution) (take n (map (λ m. node m (X m)) ms))
   unfolding keep
   nodes-kept X full zero [] = refl
   nodes-kept X full zero (m ∷ ms) = refl
   nodes-kept X full (suc n) [] = refl
   nodes-kept X full (suc n) (m ∷ ms) =
-      ap (λ ys. (m ∷ []) ∷ ys) (over-kept n m (X m) (flat_map (λ x. node x (X x)) ms) (full m) ∙ ap (λ ys. map (λ path. m ∷ path) (X m) ++ ys) (nodes-kept X full n ms))
+      ap (λ ys. (m ∷ []) ∷ ys) (over-kept n m (X m) (flat_map (λ x. node x (X x)) ms) (full m) ∙ ap (λ ys. map (λ path. m ∷ path) (X m) ++ ys)
+      (nodes-kept X full n ms))
 
-  nodes-begun : (X : M → List (List M)) → ((m : M) → list_all some (X m) ≡ true) → (n : ℕ) (ms : List M) → started false n (flat_map (λ m. node m (X m)) ms) ≡ length (take n (map (λ m. node m (X m)) ms))
+  nodes-begun : (X : M → List (List M)) → ((m : M) → list_all some (X m) ≡ true) → (n : ℕ) (ms : List M)
+      → started false n (flat_map (λ m. node m (X m)) ms) ≡ length (take n (map (λ m. node m (X m)) ms))
   unfolding started
   nodes-begun X full zero [] = refl
   nodes-begun X full zero (m ∷ ms) = refl
@@ -96,11 +102,13 @@ module _ {M : Type 0} where
   all-over m [] = refl
   all-over m (x ∷ xs) = all-over m xs
 
-  map-filter : {B : Type 0} (test other : M → Bool) (F G : M → B) (xs : List M) → ((x : M) → test x ≡ other x) → ((x : M) → test x ≡ true → F x ≡ G x) → map F (filter test xs) ≡ map G (filter other xs)
+  map-filter : {B : Type 0} (test other : M → Bool) (F G : M → B) (xs : List M) → ((x : M) → test x ≡ other x) → ((x : M) → test x ≡ true → F x ≡ G x)
+      → map F (filter test xs) ≡ map G (filter other xs)
   map-filter test other F G [] s e = refl
   map-filter test other F G (x ∷ xs) s e = rw (← s x) (split (test x) refl (map-filter test other F G xs s e))
     where
-      split : (b : Bool) → test x ≡ b → map F (filter test xs) ≡ map G (filter other xs) → map F (cond b (x ∷ filter test xs) (filter test xs)) ≡ map G (cond b (x ∷ filter other xs) (filter other xs))
+      split : (b : Bool) → test x ≡ b → map F (filter test xs) ≡ map G (filter other xs)
+          → map F (cond b (x ∷ filter test xs) (filter test xs)) ≡ map G (cond b (x ∷ filter other xs) (filter other xs))
       split true t h = rw (e x t, h) refl
       split false t h = h
 
@@ -114,13 +122,25 @@ module _ {P M : Type 0} (game : Game P M) (plan : Plan) where
   shown-full root (suc k) (suc t) p (m ∷ ms) =
       split (follows plan game root t (game.after p m)) (gives plan game t (game.after p m)) (shown-full root (suc k) (suc t) p ms)
     where
-      split : (f g : Bool) → list_all some (shown plan game root (suc k) (suc t) p ms) ≡ true → list_all some (cond f (cond g ((m ∷ []) ∷ []) [] ++ map (λ path. m ∷ path) (shown plan game false k (goes_on plan game t (game.after p m)) (game.after p m) (game.moves (game.after p m)))) [] ++ shown plan game root (suc k) (suc t) p ms) ≡ true
-      split true true h = all-append (map (λ path. m ∷ path) (shown plan game false k (goes_on plan game t (game.after p m)) (game.after p m) (game.moves (game.after p m)))) (shown plan game root (suc k) (suc t) p ms) (all-over m (shown plan game false k (goes_on plan game t (game.after p m)) (game.after p m) (game.moves (game.after p m)))) h
-      split true false h = all-append (map (λ path. m ∷ path) (shown plan game false k (goes_on plan game t (game.after p m)) (game.after p m) (game.moves (game.after p m)))) (shown plan game root (suc k) (suc t) p ms) (all-over m (shown plan game false k (goes_on plan game t (game.after p m)) (game.after p m) (game.moves (game.after p m)))) h
+      split : (f g : Bool) → list_all some (shown plan game root (suc k) (suc t) p ms) ≡ true
+          → list_all some (cond f
+          (cond g ((m ∷ []) ∷ []) [] ++ map (λ path. m ∷ path)
+          (shown plan game false k (goes_on plan game t (game.after p m)) (game.after p m) (game.moves (game.after p m)))) [] ++ shown plan game root
+          (suc k) (suc t) p ms) ≡ true
+      split true true h = all-append
+          (map (λ path. m ∷ path) (shown plan game false k (goes_on plan game t (game.after p m)) (game.after p m) (game.moves (game.after p m))))
+          (shown plan game root (suc k) (suc t) p ms)
+          (all-over m (shown plan game false k (goes_on plan game t (game.after p m)) (game.after p m) (game.moves (game.after p m)))) h
+      split true false h = all-append
+          (map (λ path. m ∷ path) (shown plan game false k (goes_on plan game t (game.after p m)) (game.after p m) (game.moves (game.after p m))))
+          (shown plan game root (suc k) (suc t) p ms)
+          (all-over m (shown plan game false k (goes_on plan game t (game.after p m)) (game.after p m) (game.moves (game.after p m)))) h
       split false g h = h
 
   -- the root in battle play: its moves that pass the test, each with what stands below it
-  root-cut : (battle : is_help plan.form ≡ false) (h n : ℕ) (p : P) (other : M → Bool) (G : M → List (List M)) → ((m : M) → value (battle_of plan.form) game h (game.after p m) ≡ other m) → ((m : M) → value (battle_of plan.form) game h (game.after p m) ≡ true → beneath game plan battle h h (game.after p m) ≡ G m)
+  root-cut : (battle : is_help plan.form ≡ false) (h n : ℕ) (p : P) (other : M → Bool) (G : M → List (List M))
+      → ((m : M) → value (battle_of plan.form) game h (game.after p m) ≡ other m)
+      → ((m : M) → value (battle_of plan.form) game h (game.after p m) ≡ true → beneath game plan battle h h (game.after p m) ≡ G m)
       → IsCutInto false n (shown plan game true (suc h) (suc h) p (game.moves p)) (map (λ m. node m (G m)) (filter other (game.moves p)))
   root-cut battle h n p other G same each =
       let T : M → Bool = λ m. value (battle_of plan.form) game h (game.after p m) in
@@ -130,7 +150,8 @@ module _ {P M : Type 0} (game : Game P M) (plan : Plan) where
       ∙ flat-filter _ T (λ m. node m (X m)) (λ m. node m (X m)) (game.moves p) (λ m. by_test game plan battle true h (game.after p m) refl) (λ m t. refl) in
       let b : map (λ m. node m (X m)) (filter T (game.moves p)) ≡ map (λ m. node m (G m)) (filter other (game.moves p)) =
       map-filter T other _ _ (game.moves p) same (λ m t. ap (node m) (each m t)) in
-      let full : (m : M) → list_all some (X m) ≡ true = λ m. shown-full false h (goes_on plan game h (game.after p m)) (game.after p m) (game.moves (game.after p m)) in
+      let full : (m : M) → list_all some (X m) ≡ true = λ m. shown-full false h (goes_on plan game h (game.after p m)) (game.after p m)
+      (game.moves (game.after p m)) in
       record {
         kept = rw (a, ← b) (nodes-kept X full n (filter T (game.moves p)));
         begun = rw (a, ← b) (nodes-begun X full n (filter T (game.moves p)));
@@ -171,7 +192,8 @@ module _ {P M : Type 0} (game : Game P M) (plan : Plan) (battle : is_help plan.f
   key-some battle (suc k) h e = (k, refl)
 
   -- the play: the tree
-  pub tree-cut : (n h max : ℕ) (p : P) → suc h ≡ halves (battle_of plan.form) n → IsCutInto false max (shown plan game true (suc h) (suc h) p (game.moves p)) (tree (battle_of plan.form) game (varies plan) n (suc h) p)
+  pub tree-cut : (n h max : ℕ) (p : P) → suc h ≡ halves (battle_of plan.form) n
+      → IsCutInto false max (shown plan game true (suc h) (suc h) p (game.moves p)) (tree (battle_of plan.form) game (varies plan) n (suc h) p)
   tree-cut n h max p e =
       let k = key-some (battle_of plan.form) n h e in
       let e2 : suc h ≡ halves (battle_of plan.form) (suc k.0) = e ∙ ap (halves (battle_of plan.form)) k.1 in
@@ -179,11 +201,13 @@ module _ {P M : Type 0} (game : Game P M) (plan : Plan) (battle : is_help plan.f
       let one : suc h - 1 ≡ h = omega arith in
       let s : seeks (battle_of plan.form) (suc h) ≡ true = rw e2 (halves-seek game (battle_of plan.form) k.0) in
       let same : (m : M) → value (battle_of plan.form) game h (game.after p m) ≡ keeps (battle_of plan.form) game n (game.after p m) =
-      λ m. sym (ap (λ x. keeps (battle_of plan.form) game x (game.after p m)) k.1 ∙ keeps-value game (battle_of plan.form) k.0 (game.after p m) ∙ ap (λ x. value (battle_of plan.form) game x (game.after p m)) l) in
+      λ m. sym (ap (λ x. keeps (battle_of plan.form) game x (game.after p m)) k.1 ∙ keeps-value game (battle_of plan.form) k.0 (game.after p m)
+      ∙ ap (λ x. value (battle_of plan.form) game x (game.after p m)) l) in
       rw one (root-cut game plan battle h max p _ _ same (λ m v. below-key game plan battle n h (game.after p m) s (halves-most (battle_of plan.form) n h e) v))
 
   -- set play
-  pub set-cut : (n h max : ℕ) (p : P) → suc h ≡ halves (battle_of plan.form) n - 1 → IsCutInto false max (shown plan game true (suc h) (suc h) p (game.moves p)) (set_tree (battle_of plan.form) game (varies plan) n (suc h) p)
+  pub set-cut : (n h max : ℕ) (p : P) → suc h ≡ halves (battle_of plan.form) n - 1
+      → IsCutInto false max (shown plan game true (suc h) (suc h) p (game.moves p)) (set_tree (battle_of plan.form) game (varies plan) n (suc h) p)
   unfolding set_tree
   set-cut n h max p e =
       let k = set-some (battle_of plan.form) n h e in
@@ -216,18 +240,36 @@ module _ (rule : RuleSet) (problem : Posed) (stated : IsSound problem) where
   abbrev plan : Plan
   plan = plan_of problem
 
-  cut : (phase : Phase) (help : Bool) → is_help problem.stipulation.form ≡ help → (h : ℕ) → phase_half_moves problem phase ≡ h → IsCutInto help problem.max_solutions (shown plan (chess problem.stipulation.goal rule) true h h (phase_start problem phase) (legal_moves rule (phase_start problem phase))) (cond help (map (λ path. path ∷ []) (help_lines (chess problem.stipulation.goal rule) h (phase_start problem phase))) (cond (is_set phase) (set_tree (battle_of problem.stipulation.form) (chess problem.stipulation.goal rule) problem.variation problem.stipulation.n h (phase_start problem phase)) (tree (battle_of problem.stipulation.form) (chess problem.stipulation.goal rule) problem.variation problem.stipulation.n h (phase_start problem phase))))
+  cut : (phase : Phase) (help : Bool) → is_help problem.stipulation.form ≡ help → (h : ℕ) → phase_half_moves problem phase ≡ h
+      → IsCutInto help problem.max_solutions
+      (shown plan (chess problem.stipulation.goal rule) true h h (phase_start problem phase) (legal_moves rule (phase_start problem phase)))
+      (cond help (map (λ path. path ∷ []) (help_lines (chess problem.stipulation.goal rule) h (phase_start problem phase)))
+      (cond (is_set phase) (set_tree (battle_of problem.stipulation.form) (chess problem.stipulation.goal rule) problem.variation problem.stipulation.n h
+      (phase_start problem phase))
+      (tree (battle_of problem.stipulation.form) (chess problem.stipulation.goal rule) problem.variation problem.stipulation.n h
+      (phase_start problem phase))))
   unfolding help_lines set_tree
-  cut phase true e zero z = rw (shown-zero (chess problem.stipulation.goal rule) plan true 0 (phase_start problem phase) (legal_moves rule (phase_start problem phase))) (none-cut true problem.max_solutions)
+  cut phase true e zero z =
+      rw (shown-zero (chess problem.stipulation.goal rule) plan true 0 (phase_start problem phase) (legal_moves rule (phase_start problem phase)))
+      (none-cut true problem.max_solutions)
   cut phase true e (suc h) z =
-      rw (shown-help (chess problem.stipulation.goal rule) plan e true h (phase_start problem phase)) (record { kept = lines-kept problem.max_solutions _; begun = lines-begun problem.max_solutions _ })
-  cut Set false e zero z = rw (shown-zero (chess problem.stipulation.goal rule) plan true 0 (phase_start problem Set) (legal_moves rule (phase_start problem Set))) (none-cut false problem.max_solutions)
-  cut Set false e (suc h) z = rw (shown-varied problem.variation) at (set-cut (chess problem.stipulation.goal rule) plan e problem.stipulation.n h problem.max_solutions (phase_start problem Set) (sym z ∙ ap (λ x. x - 1) (halves-form problem.stipulation.form problem.stipulation.n e)))
+      rw (shown-help (chess problem.stipulation.goal rule) plan e true h (phase_start problem phase))
+      (record { kept = lines-kept problem.max_solutions _; begun = lines-begun problem.max_solutions _ })
+  cut Set false e zero z =
+      rw (shown-zero (chess problem.stipulation.goal rule) plan true 0 (phase_start problem Set) (legal_moves rule (phase_start problem Set)))
+      (none-cut false problem.max_solutions)
+  cut Set false e (suc h) z =
+      rw (shown-varied problem.variation) at (set-cut (chess problem.stipulation.goal rule) plan e problem.stipulation.n h problem.max_solutions
+      (phase_start problem Set) (sym z ∙ ap (λ x. x - 1) (halves-form problem.stipulation.form problem.stipulation.n e)))
   cut Play false e zero z = absurd (omega (arith, z, some_way problem stated))
-  cut Play false e (suc h) z = rw (shown-varied problem.variation) at (tree-cut (chess problem.stipulation.goal rule) plan e problem.stipulation.n h problem.max_solutions (phase_start problem Play) (sym z ∙ halves-form problem.stipulation.form problem.stipulation.n e))
+  cut Play false e (suc h) z =
+      rw (shown-varied problem.variation) at (tree-cut (chess problem.stipulation.goal rule) plan e problem.stipulation.n h problem.max_solutions
+      (phase_start problem Play) (sym z ∙ halves-form problem.stipulation.form problem.stipulation.n e))
 
   -- what is to come from the root frame of a phase
-  pub root-solutions : (phase : Phase) (f : Frame) → f.left ≡ phase_half_moves problem phase → moves_behind rule (phase_start problem phase) f.place ≡ legal_moves rule (phase_start problem phase) → IsCutInto (is_help problem.stipulation.form) problem.max_solutions (phase_paths rule problem phase (f ∷ [])) (solutions rule problem phase)
+  pub root-solutions : (phase : Phase) (f : Frame) → f.left ≡ phase_half_moves problem phase
+      → moves_behind rule (phase_start problem phase) f.place ≡ legal_moves rule (phase_start problem phase)
+      → IsCutInto (is_help problem.stipulation.form) problem.max_solutions (phase_paths rule problem phase (f ∷ [])) (solutions rule problem phase)
   unfolding solutions
   root-solutions phase f l b =
       let h : phase_half_moves problem phase - 0 ≡ phase_half_moves problem phase = omega arith in

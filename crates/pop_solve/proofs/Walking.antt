@@ -47,23 +47,33 @@ no_zero k = grind (arith, nat_tests)
 abbrev pub given_path : Bool → List Triple → List (List Triple)
 given_path b L = cond b (L ∷ []) []
 
-map-path : (L : List Triple) (m : Triple) (xs : List (List Triple)) → map (λ line. L ++ line) (map (λ line. m ∷ line) xs) ≡ map (λ line. (L ++ m ∷ []) ++ line) xs
+map-path : (L : List Triple) (m : Triple) (xs : List (List Triple))
+    → map (λ line. L ++ line) (map (λ line. m ∷ line) xs) ≡ map (λ line. (L ++ m ∷ []) ++ line) xs
 map-path L m [] = refl
 map-path L m (x ∷ xs) = rw (append_assoc L (m ∷ []) x, map-path L m xs)
 
 -- the paths by a move and by the others, seen from the path before them
-turn : (b : Bool) (L : List Triple) (m : Triple) (xs ys rest : List (List Triple)) → map (λ line. L ++ line) ((given_path b (m ∷ []) ++ map (λ line. m ∷ line) xs) ++ ys) ++ rest ≡ given_path b (L ++ m ∷ []) ++ (map (λ line. (L ++ m ∷ []) ++ line) xs ++ (map (λ line. L ++ line) ys ++ rest))
+turn : (b : Bool) (L : List Triple) (m : Triple) (xs ys rest : List (List Triple))
+    → map (λ line. L ++ line) ((given_path b (m ∷ []) ++ map (λ line. m ∷ line) xs) ++ ys) ++ rest ≡ given_path b (L ++ m ∷ [])
+    ++ (map (λ line. (L ++ m ∷ []) ++ line) xs ++ (map (λ line. L ++ line) ys ++ rest))
 turn true L m xs ys rest =
-    rw (map-append (λ line. L ++ line) (map (λ line. m ∷ line) xs) ys, map-path L m xs) (ap (λ zs. (L ++ m ∷ []) ∷ zs) (append_assoc (map (λ line. (L ++ m ∷ []) ++ line) xs) (map (λ line. L ++ line) ys) rest))
+    rw (map-append (λ line. L ++ line) (map (λ line. m ∷ line) xs) ys, map-path L m xs)
+    (ap (λ zs. (L ++ m ∷ []) ∷ zs) (append_assoc (map (λ line. (L ++ m ∷ []) ++ line) xs) (map (λ line. L ++ line) ys) rest))
 turn false L m xs ys rest =
-    rw (map-append (λ line. L ++ line) (map (λ line. m ∷ line) xs) ys, map-path L m xs) (append_assoc (map (λ line. (L ++ m ∷ []) ++ line) xs) (map (λ line. L ++ line) ys) rest)
+    rw (map-append (λ line. L ++ line) (map (λ line. m ∷ line) xs) ys, map-path L m xs)
+    (append_assoc (map (λ line. (L ++ m ∷ []) ++ line) xs) (map (λ line. L ++ line) ys) rest)
 
 module _ {P M : Type 0} (game : Game P M) where
   -- the number of half-moves with which the next frame is opened is at most what is left
   first_from-most : (battle : Battle) (q : P) (n a t : ℕ) → a + 2 * n ≤ t → first_from battle game q n a ≤ t
   unfolding first_from
   first_from-most battle q zero a t h = omega (arith, h)
-  first_from-most battle q (suc n) a t h = elim (value battle game a q) as (λ b. cond b a (first_from battle game q n (a + 2)) ≤ t) [ true ↦ omega (arith, h) | false ↦ first_from-most battle q n (a + 2) t (omega (arith, h)) ]
+  first_from-most battle q (suc n) a t h = elim
+      (value battle game a q) as (λ b. cond b a (first_from battle game q n (a + 2)) ≤ t) [
+        | true ↦ omega (arith, h)
+        | false ↦ first_from-most battle q n
+            (a + 2) t (omega (arith, h))
+      ]
 
   even_two : (t : ℕ) → eqb (t % 2) 0 ≡ true → eqb t 0 ≡ false → 2 ≤ t
   even_two t e n = grind (arith, nat_tests)
@@ -71,7 +81,8 @@ module _ {P M : Type 0} (game : Game P M) where
   some_one : (t : ℕ) → eqb t 0 ≡ false → 1 ≤ t
   some_one t n = grind (arith, nat_tests)
 
-  pub length_most : (battle : Battle) (t : ℕ) (q : P) (z s goal : Bool) → eqb t 0 ≡ z → seeks battle t ≡ s → cond (z || goal) 0 (cond s (first_from battle game q ((t - fewest battle) / 2) (fewest battle)) t) ≤ t
+  pub length_most : (battle : Battle) (t : ℕ) (q : P) (z s goal : Bool) → eqb t 0 ≡ z → seeks battle t ≡ s
+      → cond (z || goal) 0 (cond s (first_from battle game q ((t - fewest battle) / 2) (fewest battle)) t) ≤ t
   length_most battle t q true s goal e u = omega arith
   length_most battle t q false s true e u = omega arith
   length_most battle t q false false false e u = omega arith
@@ -112,7 +123,11 @@ module _ (rule : RuleSet) (plan : Plan) where
   position-moved p f place (g ∷ below) = refl
 
   -- the paths by the next move, and by the others
-  shown-next : (root : Bool) (k t : ℕ) (P : Position) (m : Triple) (ms : List Triple) → shown plan (chess plan.goal rule) root (suc k) (suc t) P (m ∷ ms) ≡ cond (follows plan (chess plan.goal rule) root t (played rule P m)) (given_path (gives plan (chess plan.goal rule) t (played rule P m)) (m ∷ []) ++ map (λ line. m ∷ line) (shown plan (chess plan.goal rule) false k (goes_on plan (chess plan.goal rule) t (played rule P m)) (played rule P m) (legal_moves rule (played rule P m)))) [] ++ shown plan (chess plan.goal rule) root (suc k) (suc t) P ms
+  shown-next : (root : Bool) (k t : ℕ) (P : Position) (m : Triple) (ms : List Triple)
+      → shown plan (chess plan.goal rule) root (suc k) (suc t) P (m ∷ ms) ≡ cond (follows plan (chess plan.goal rule) root t (played rule P m))
+      (given_path (gives plan (chess plan.goal rule) t (played rule P m)) (m ∷ []) ++ map (λ line. m ∷ line)
+      (shown plan (chess plan.goal rule) false k (goes_on plan (chess plan.goal rule) t (played rule P m)) (played rule P m)
+      (legal_moves rule (played rule P m)))) [] ++ shown plan (chess plan.goal rule) root (suc k) (suc t) P ms
   unfolding shown
   shown-next root k t P m ms = refl
 
@@ -124,16 +139,21 @@ module _ (rule : RuleSet) (plan : Plan) where
   shown-none root (suc k) (suc t) P ms (inr e) = rw e refl
 
   -- the positions to be tried for the next move, and for the others
-  fewest-next : (root : Bool) (k t : ℕ) (P : Position) (m : Triple) (ms : List Triple) → fewest_walked plan (chess plan.goal rule) root (suc k) (suc t) P (m ∷ ms)
-      ≡ (fewest_for plan (chess plan.goal rule) root t (played rule P m) + cond (follows plan (chess plan.goal rule) root t (played rule P m)) (fewest_walked plan (chess plan.goal rule) false k (goes_on plan (chess plan.goal rule) t (played rule P m)) (played rule P m) (legal_moves rule (played rule P m))) 0)
+  fewest-next : (root : Bool) (k t : ℕ) (P : Position) (m : Triple) (ms : List Triple)
+      → fewest_walked plan (chess plan.goal rule) root (suc k) (suc t) P (m ∷ ms)
+      ≡ (fewest_for plan (chess plan.goal rule) root t (played rule P m) + cond (follows plan (chess plan.goal rule) root t (played rule P m))
+      (fewest_walked plan (chess plan.goal rule) false k (goes_on plan (chess plan.goal rule) t (played rule P m)) (played rule P m)
+      (legal_moves rule (played rule P m))) 0)
       + fewest_walked plan (chess plan.goal rule) root (suc k) (suc t) P ms
   unfolding fewest_walked
   fewest-next root k t P m ms =
       sum_by-cons (λ m. let q = played rule P m in
       fewest_for plan (chess plan.goal rule) root t q
-      + cond (follows plan (chess plan.goal rule) root t q) (fewest_walked plan (chess plan.goal rule) false k (goes_on plan (chess plan.goal rule) t q) q (legal_moves rule q)) 0) m ms
+      + cond (follows plan (chess plan.goal rule) root t q)
+      (fewest_walked plan (chess plan.goal rule) false k (goes_on plan (chess plan.goal rule) t q) q (legal_moves rule q)) 0) m ms
 
-  fewest-none : (root : Bool) (k left : ℕ) (P : Position) (ms : List Triple) → (left ≡ 0) ⊎ (ms ≡ []) → fewest_walked plan (chess plan.goal rule) root k left P ms ≡ 0
+  fewest-none : (root : Bool) (k left : ℕ) (P : Position) (ms : List Triple) → (left ≡ 0) ⊎ (ms ≡ [])
+      → fewest_walked plan (chess plan.goal rule) root k left P ms ≡ 0
   unfolding fewest_walked
   fewest-none root zero left P ms e = refl
   fewest-none root (suc k) zero P ms e = refl
@@ -145,11 +165,13 @@ module _ (rule : RuleSet) (plan : Plan) where
   steps-start zero q = refl
   steps-start (suc k) q = rw (behind_start rule q) refl
 
-  steps_behind-next : (k : ℕ) (P : Position) (place next : ℕ) (m : Triple) → moves_behind rule P place ≡ m ∷ moves_behind rule P next → steps_behind rule (suc k) P place ≡ (1 + steps rule k (played rule P m)) + steps_behind rule (suc k) P next
+  steps_behind-next : (k : ℕ) (P : Position) (place next : ℕ) (m : Triple) → moves_behind rule P place ≡ m ∷ moves_behind rule P next
+      → steps_behind rule (suc k) P place ≡ (1 + steps rule k (played rule P m)) + steps_behind rule (suc k) P next
   unfolding steps_behind
   steps_behind-next k P place next m e = rw e (sum_by-cons (λ x. 1 + steps rule k (played rule P x)) m (moves_behind rule P next))
 
-  walk_behind-next : (k : ℕ) (P : Position) (place next : ℕ) (m : Triple) → moves_behind rule P place ≡ m ∷ moves_behind rule P next → walk_behind rule (suc k) P place ≡ walk_count (legal_moves rule) (played rule) k (played rule P m) + walk_behind rule (suc k) P next
+  walk_behind-next : (k : ℕ) (P : Position) (place next : ℕ) (m : Triple) → moves_behind rule P place ≡ m ∷ moves_behind rule P next
+      → walk_behind rule (suc k) P place ≡ walk_count (legal_moves rule) (played rule) k (played rule P m) + walk_behind rule (suc k) P next
   unfolding walk_behind
   walk_behind-next k P place next m e = rw e (sum_by-cons (λ x. walk_count (legal_moves rule) (played rule) k (played rule P x)) m (moves_behind rule P next))
 
@@ -169,7 +191,8 @@ module _ (rule : RuleSet) (plan : Plan) where
   walk_count-start zero q = refl
   walk_count-start (suc k) q = rw (behind_start rule q) refl
 
-  module _ (h : ℕ) (p : Position) (f : Frame) (next : ℕ) (m : Triple) (below : List Frame) (k t : ℕ) (fuel : h - length below ≡ suc k) (left : f.left ≡ suc t) (e : moves_behind rule (position rule p (f ∷ below)) f.place ≡ m ∷ moves_behind rule (position rule p (f ∷ below)) next) where
+  module _ (h : ℕ) (p : Position) (f : Frame) (next : ℕ) (m : Triple) (below : List Frame) (k t : ℕ) (fuel : h - length below ≡ suc k)
+      (left : f.left ≡ suc t) (e : moves_behind rule (position rule p (f ∷ below)) f.place ≡ m ∷ moves_behind rule (position rule p (f ∷ below)) next) where
     -- the position after the move
     abbrev q : Position
     q = played rule (position rule p (f ∷ below)) m
@@ -183,7 +206,10 @@ module _ (rule : RuleSet) (plan : Plan) where
     come-pass b = rw (fuel, left, e, shown-next root k t (position rule p (f ∷ below)) m (moves_behind rule (position rule p (f ∷ below)) next), b) refl
 
     -- a move that is followed: its path, where that is given, and what stands below it
-    come-enter : (undo : Loss) → follows plan (chess plan.goal rule) root t q ≡ true → to_come rule plan h p (f ∷ below) ≡ given_path (gives plan (chess plan.goal rule) t q) (path (opened m undo (goes_on plan (chess plan.goal rule) t q) ∷ (moved f next ∷ below))) ++ to_come rule plan h p (opened m undo (goes_on plan (chess plan.goal rule) t q) ∷ (moved f next ∷ below))
+    come-enter : (undo : Loss) → follows plan (chess plan.goal rule) root t q ≡ true
+        → to_come rule plan h p (f ∷ below) ≡ given_path (gives plan (chess plan.goal rule) t q)
+        (path (opened m undo (goes_on plan (chess plan.goal rule) t q) ∷ (moved f next ∷ below))) ++ to_come rule plan h p
+        (opened m undo (goes_on plan (chess plan.goal rule) t q) ∷ (moved f next ∷ below))
     unfolding to_come position path
     come-enter undo b =
         let less : h - suc (length below) ≡ k = omega arith in
@@ -193,7 +219,8 @@ module _ (rule : RuleSet) (plan : Plan) where
         (shown plan (chess plan.goal rule) false k (goes_on plan (chess plan.goal rule) t q) q (legal_moves rule q))
         (shown plan (chess plan.goal rule) root (suc k) (suc t) P (moves_behind rule P next)) (to_come rule plan h p below))
 
-    tries-pass : follows plan (chess plan.goal rule) root t q ≡ false → fewest_left rule plan h p (f ∷ below) ≡ fewest_for plan (chess plan.goal rule) root t q + fewest_left rule plan h p (moved f next ∷ below)
+    tries-pass : follows plan (chess plan.goal rule) root t q ≡ false
+        → fewest_left rule plan h p (f ∷ below) ≡ fewest_for plan (chess plan.goal rule) root t q + fewest_left rule plan h p (moved f next ∷ below)
     unfolding fewest_left position
     tries-pass b =
         let P = position rule p (f ∷ below) in
@@ -201,7 +228,8 @@ module _ (rule : RuleSet) (plan : Plan) where
         rw (fuel, left, e) (omega (arith, rw b at n))
 
     tries-enter : (undo : Loss) → follows plan (chess plan.goal rule) root t q ≡ true → fewest_left rule plan h p (f ∷ below)
-        ≡ fewest_for plan (chess plan.goal rule) root t q + fewest_left rule plan h p (opened m undo (goes_on plan (chess plan.goal rule) t q) ∷ (moved f next ∷ below))
+        ≡ fewest_for plan (chess plan.goal rule) root t q + fewest_left rule plan h p
+        (opened m undo (goes_on plan (chess plan.goal rule) t q) ∷ (moved f next ∷ below))
     unfolding fewest_left position
     tries-enter undo b =
         let less : h - suc (length below) ≡ k = omega arith in
@@ -223,15 +251,18 @@ module _ (rule : RuleSet) (plan : Plan) where
     unfolding to_open position
     open-next = rw (left, walk_behind-next t (position rule p (f ∷ below)) f.place next m e) (omega arith)
 
-    open-enter : (undo : Loss) (tried : ℕ) → to_open rule p (opened m undo tried ∷ (moved f next ∷ below)) ≡ walk_behind rule tried q 0 + to_open rule p (moved f next ∷ below)
+    open-enter : (undo : Loss) (tried : ℕ)
+        → to_open rule p (opened m undo tried ∷ (moved f next ∷ below)) ≡ walk_behind rule tried q 0 + to_open rule p (moved f next ∷ below)
     unfolding to_open position
     open-enter undo tried = refl
 
-  come-close : (h : ℕ) (p : Position) (f : Frame) (below : List Frame) → (f.left ≡ 0) ⊎ (moves_behind rule (position rule p (f ∷ below)) f.place ≡ []) → to_come rule plan h p (f ∷ below) ≡ to_come rule plan h p below
+  come-close : (h : ℕ) (p : Position) (f : Frame) (below : List Frame) → (f.left ≡ 0) ⊎ (moves_behind rule (position rule p (f ∷ below)) f.place ≡ [])
+      → to_come rule plan h p (f ∷ below) ≡ to_come rule plan h p below
   unfolding to_come
   come-close h p f below e = rw (shown-none (eqb (length below) 0) (h - length below) f.left (position rule p (f ∷ below)) _ e) refl
 
-  tries-close : (h : ℕ) (p : Position) (f : Frame) (below : List Frame) → (f.left ≡ 0) ⊎ (moves_behind rule (position rule p (f ∷ below)) f.place ≡ []) → fewest_left rule plan h p (f ∷ below) ≡ fewest_left rule plan h p below
+  tries-close : (h : ℕ) (p : Position) (f : Frame) (below : List Frame) → (f.left ≡ 0) ⊎ (moves_behind rule (position rule p (f ∷ below)) f.place ≡ [])
+      → fewest_left rule plan h p (f ∷ below) ≡ fewest_left rule plan h p below
   unfolding fewest_left
   tries-close h p f below e = omega (arith, fewest-none (eqb (length below) 0) (h - length below) f.left (position rule p (f ∷ below)) _ e)
 
@@ -239,19 +270,23 @@ module _ (rule : RuleSet) (plan : Plan) where
   unfolding turns
   turns-close h p f below = omega arith
 
-  open-close : (p : Position) (f : Frame) (below : List Frame) → (f.left ≡ 0) ⊎ (moves_behind rule (position rule p (f ∷ below)) f.place ≡ []) → to_open rule p (f ∷ below) ≡ to_open rule p below
+  open-close : (p : Position) (f : Frame) (below : List Frame) → (f.left ≡ 0) ⊎ (moves_behind rule (position rule p (f ∷ below)) f.place ≡ [])
+      → to_open rule p (f ∷ below) ≡ to_open rule p below
   unfolding to_open
   open-close p f below e = omega (arith, walk_behind-none f.left (position rule p (f ∷ below)) f.place e)
 
   -- moves passed over that don't mate at the last half-move of help play
-  module _ (h : ℕ) (p : Position) (f : Frame) (below : List Frame) (rest : List Triple) (g : GoesTo rule plan f.left (position rule p (f ∷ below)) f.place rest) where
+  module _ (h : ℕ) (p : Position) (f : Frame) (below : List Frame) (rest : List Triple)
+      (g : GoesTo rule plan f.left (position rule p (f ∷ below)) f.place rest) where
     abbrev P : Position
     P = position rule p (f ∷ below)
 
     abbrev later : List Frame
     later = moved f g.mid ∷ below
 
-    ends : (low : Bool) (fuel k : ℕ) (m : Triple) (q : Position) (qs ms : List Triple) → map (λ line. m ∷ line) (shown plan (chess plan.goal rule) false k 0 q qs) ++ shown plan (chess plan.goal rule) low (suc fuel) 1 P ms ≡ shown plan (chess plan.goal rule) low (suc fuel) 1 P ms
+    ends : (low : Bool) (fuel k : ℕ) (m : Triple) (q : Position) (qs ms : List Triple)
+        → map (λ line. m ∷ line) (shown plan (chess plan.goal rule) false k 0 q qs) ++ shown plan (chess plan.goal rule) low (suc fuel) 1 P ms ≡ shown plan
+        (chess plan.goal rule) low (suc fuel) 1 P ms
     unfolding shown
     ends low fuel zero m q qs ms = refl
     ends low fuel (suc k) m q qs ms = refl
@@ -260,13 +295,16 @@ module _ (rule : RuleSet) (plan : Plan) where
     unfolding gives
     gives-last q a for misses = rw (a, for, misses) refl
 
-    skipped : (low : Bool) (fuel : ℕ) (m : Triple) (ms : List Triple) → is_help plan.form ≡ true → plan.goal ≡ Mate → is_mating rule P m ≡ false → shown plan (chess plan.goal rule) low (suc fuel) 1 P (m ∷ ms) ≡ shown plan (chess plan.goal rule) low (suc fuel) 1 P ms
+    skipped : (low : Bool) (fuel : ℕ) (m : Triple) (ms : List Triple) → is_help plan.form ≡ true → plan.goal ≡ Mate → is_mating rule P m ≡ false
+        → shown plan (chess plan.goal rule) low (suc fuel) 1 P (m ∷ ms) ≡ shown plan (chess plan.goal rule) low (suc fuel) 1 P ms
     skipped low fuel m ms a for misses =
         let q = played rule P m in
         shown-next low fuel 0 P m ms
-        ∙ (rw (follows-help plan (chess plan.goal rule) low 0 q a, gives-last q a for misses, goes_on-help plan (chess plan.goal rule) 0 q a) (ends low fuel fuel m q (legal_moves rule q) ms))
+        ∙ (rw (follows-help plan (chess plan.goal rule) low 0 q a, gives-last q a for misses, goes_on-help plan (chess plan.goal rule) 0 q a)
+        (ends low fuel fuel m q (legal_moves rule q) ms))
 
-    shown-over : (low : Bool) (fuel : ℕ) (over ms : List Triple) → is_help plan.form ≡ true → plan.goal ≡ Mate → filter (is_mating rule P) over ≡ [] → shown plan (chess plan.goal rule) low fuel 1 P (over ++ ms) ≡ shown plan (chess plan.goal rule) low fuel 1 P ms
+    shown-over : (low : Bool) (fuel : ℕ) (over ms : List Triple) → is_help plan.form ≡ true → plan.goal ≡ Mate → filter (is_mating rule P) over ≡ []
+        → shown plan (chess plan.goal rule) low fuel 1 P (over ++ ms) ≡ shown plan (chess plan.goal rule) low fuel 1 P ms
     unfolding shown
     shown-over low zero over ms a for none = refl
     shown-over low (suc fuel) [] ms a for none = refl
@@ -314,7 +352,8 @@ module _ (rule : RuleSet) (plan : Plan) where
     open-skip : to_open rule p (f ∷ below) ≡ to_open rule p later
     unfolding to_open position
     open-skip = elim g.none [
-      | inl e ↦ let s : walk_behind rule f.left P f.place ≡ walk_behind rule f.left P g.mid = same f.left (g.passed ∙ ap (λ l. l ++ moves_behind rule P g.mid) e) in omega (arith, s)
+      | inl e ↦ let s : walk_behind rule f.left P f.place ≡ walk_behind rule f.left P g.mid = same f.left
+          (g.passed ∙ ap (λ l. l ++ moves_behind rule P g.mid) e) in omega (arith, s)
       | inr e ↦ omega (arith, nothing f.left f.place e.2, nothing f.left g.mid e.2)
     ]
 
@@ -325,7 +364,8 @@ module _ (rule : RuleSet) (plan : Plan) where
       | inr e ↦ absurd (both _ e.0 a)
     ]
 
-    pub steps-skip : (new : List Frame) (board : Position) (before after : ℕ) (given : Bool) → Steps rule plan h p later new board before after given → Steps rule plan h p (f ∷ below) new board before after given
+    pub steps-skip : (new : List Frame) (board : Position) (before after : ℕ) (given : Bool) → Steps rule plan h p later new board before after given
+        → Steps rule plan h p (f ∷ below) new board before after given
     unfolding IsWhites
     steps-skip new board before after given s = record {
       walking = s.walking;
@@ -343,7 +383,8 @@ module _ (rule : RuleSet) (plan : Plan) where
 
 -- what undoes the top frame
 module _ (rule : RuleSet) (h : ℕ) (p : Position) where
-  CameFrom-top : (f g : Frame) (below : List Frame) (board : Position) → IsWalking rule h p (f ∷ (g ∷ below)) board → CameFromAt rule f board (position rule p (g ∷ below))
+  CameFrom-top : (f g : Frame) (below : List Frame) (board : Position) → IsWalking rule h p (f ∷ (g ∷ below)) board
+      → CameFromAt rule f board (position rule p (g ∷ below))
   unfolding IsLinked position
   CameFrom-top f g below board r = record { sound = r.linked.0; legal = r.linked.1; led = r.board_at; undone = r.linked.2 }
 
@@ -351,7 +392,8 @@ module _ (rule : RuleSet) (h : ℕ) (p : Position) where
   CameFrom-deep f [] board r deep = absurd (omega (arith, deep))
   CameFrom-deep f (g ∷ below) board r deep = (position rule p (g ∷ below), CameFrom-top f g below board r)
 
-  pub walking-close : (f : Frame) (below : List Frame) (board after : Position) → IsWalking rule h p (f ∷ below) board → (length below ≡ 0 → after ≡ board) → ((q : Position) → 0 < length below → CameFromAt rule f board q → after ≡ q) → IsWalking rule h p below after
+  pub walking-close : (f : Frame) (below : List Frame) (board after : Position) → IsWalking rule h p (f ∷ below) board → (length below ≡ 0 → after ≡ board)
+      → ((q : Position) → 0 < length below → CameFromAt rule f board q → after ≡ q) → IsWalking rule h p below after
   unfolding IsLinked IsRoomy AreKnown position
   walking-close f [] board after r lowest before =
       record { linked = tt; roomy = tt; known = tt; sound = rw (lowest refl) r.sound; board_at = lowest refl ∙ r.board_at }
@@ -369,13 +411,15 @@ module _ (rule : RuleSet) (h : ℕ) (p : Position) where
   known-moved f place (g ∷ below) k = k
 
   -- the top frame learns something of its position
-  pub walking-learned : (f : Frame) (known : Option LegalPlace) (below : List Frame) (board : Position) → IsWalking rule h p (f ∷ below) board → IfSome known (IsPlaceIn rule board) → IsWalking rule h p (learned f known ∷ below) board
+  pub walking-learned : (f : Frame) (known : Option LegalPlace) (below : List Frame) (board : Position) → IsWalking rule h p (f ∷ below) board
+      → IfSome known (IsPlaceIn rule board) → IsWalking rule h p (learned f known ∷ below) board
   unfolding IsLinked IsRoomy AreKnown position
   walking-learned f known [] board r w = record { linked = tt; roomy = r.roomy; known = (rw (← r.board_at) w, tt); sound = r.sound; board_at = r.board_at }
   walking-learned f known (g ∷ below) board r w =
       record { linked = r.linked; roomy = r.roomy; known = (rw (← r.board_at) w, r.known.1); sound = r.sound; board_at = r.board_at }
 
-  walking-moved : (plan : Plan) (f : Frame) (next : ℕ) (below : List Frame) (board after : Position) → IsWalking rule h p (f ∷ below) board → after ≡ board → IsWalking rule h p (moved f next ∷ below) after
+  walking-moved : (plan : Plan) (f : Frame) (next : ℕ) (below : List Frame) (board after : Position) → IsWalking rule h p (f ∷ below) board → after ≡ board
+      → IsWalking rule h p (moved f next ∷ below) after
   unfolding IsRoomy
   walking-moved plan f next below board after r e =
       record {
@@ -386,7 +430,9 @@ module _ (rule : RuleSet) (h : ℕ) (p : Position) where
         board_at = e ∙ r.board_at ∙ sym (position-moved rule plan p f next below);
       }
 
-  walking-enter : (plan : Plan) (f : Frame) (next : ℕ) (m : Triple) (tried : ℕ) (below : List Frame) (board after : Position) → IsWalking rule h p (f ∷ below) board → tried < f.left → legal rule board m ≡ true → after ≡ played rule board m → IsWalking rule h p (opened m (undo_of rule board m) tried ∷ (moved f next ∷ below)) after
+  walking-enter : (plan : Plan) (f : Frame) (next : ℕ) (m : Triple) (tried : ℕ) (below : List Frame) (board after : Position)
+      → IsWalking rule h p (f ∷ below) board → tried < f.left → legal rule board m ≡ true → after ≡ played rule board m
+      → IsWalking rule h p (opened m (undo_of rule board m) tried ∷ (moved f next ∷ below)) after
   unfolding IsLinked IsRoomy AreKnown position
   walking-enter plan f next m tried below board after r less lawful e =
       let s = walking-moved plan f next below board board r refl in
@@ -419,19 +465,23 @@ whites-top battle f below t left e =
     first false true b n e = refl
     first false false b n e = absurd cc
 
-whites-moved : (battle : Battle) (f : Frame) (place : ℕ) (below : List Frame) → IsWhites battle (f ∷ below) ≡ true → IsWhites battle (moved f place ∷ below) ≡ true
+whites-moved : (battle : Battle) (f : Frame) (place : ℕ) (below : List Frame) → IsWhites battle (f ∷ below) ≡ true
+    → IsWhites battle (moved f place ∷ below) ≡ true
 unfolding IsWhites
 whites-moved battle f place below e = e
 
-whites-none : (battle : Battle) (m : Triple) (undo : Loss) (tried : ℕ) (below : List Frame) → tried ≡ 0 → IsWhites battle below ≡ true → IsWhites battle (opened m undo tried ∷ below) ≡ true
+whites-none : (battle : Battle) (m : Triple) (undo : Loss) (tried : ℕ) (below : List Frame) → tried ≡ 0 → IsWhites battle below ≡ true
+    → IsWhites battle (opened m undo tried ∷ below) ≡ true
 unfolding IsWhites
 whites-none battle m undo tried below z e = rw z e
 
-pub goes_on-keys : {P M : Type 0} (plan : Plan) (game : Game P M) (t : ℕ) (q : P) → is_help plan.form ≡ false → varies plan ≡ false → seeks (battle_of plan.form) (t + 1) ≡ true → goes_on plan game t q ≡ 0
+pub goes_on-keys : {P M : Type 0} (plan : Plan) (game : Game P M) (t : ℕ) (q : P) → is_help plan.form ≡ false → varies plan ≡ false
+    → seeks (battle_of plan.form) (t + 1) ≡ true → goes_on plan game t q ≡ 0
 unfolding goes_on
 goes_on-keys plan game t q a b c = rw (a, b, c) refl
 
-pub counted_by : (rule : RuleSet) (plan : Plan) (t walk opened opened2 before after : ℕ) → before ≡ one rule plan t + after → (0 < t → opened2 ≡ min (opened + 1) (2 ^ 64 - 1)) → (t ≡ 0 → opened2 ≡ opened) → IsCounted walk opened before → IsCounted walk opened2 after
+pub counted_by : (rule : RuleSet) (plan : Plan) (t walk opened opened2 before after : ℕ) → before ≡ one rule plan t + after
+    → (0 < t → opened2 ≡ min (opened + 1) (2 ^ 64 - 1)) → (t ≡ 0 → opened2 ≡ opened) → IsCounted walk opened before → IsCounted walk opened2 after
 counted_by rule plan zero walk opened opened2 before after e more same c =
     let s : opened2 ≡ opened = same refl in
     record { within = omega (arith, c.within); counts = omega (arith, c.within, c.counts) }
@@ -439,13 +489,16 @@ counted_by rule plan (suc k) walk opened opened2 before after e more same c =
     let s : opened2 ≡ min (opened + 1) (2 ^ 64 - 1) = more (omega arith) in
     record { within = omega (arith, c.within); counts = omega (arith, c.within, c.counts) }
 
-pub opened-most : (rule : RuleSet) (plan : Plan) (t opened opened2 : ℕ) → (0 < t → opened2 ≡ min (opened + 1) (2 ^ 64 - 1)) → (t ≡ 0 → opened2 ≡ opened) → opened2 ≤ opened + one rule plan t
+pub opened-most : (rule : RuleSet) (plan : Plan) (t opened opened2 : ℕ) → (0 < t → opened2 ≡ min (opened + 1) (2 ^ 64 - 1)) → (t ≡ 0 → opened2 ≡ opened)
+    → opened2 ≤ opened + one rule plan t
 opened-most rule plan zero opened opened2 more same = let s : opened2 ≡ opened = same refl in omega (arith, s)
 opened-most rule plan (suc t) opened opened2 more same = let s : opened2 ≡ min (opened + 1) (2 ^ 64 - 1) = more (omega arith) in omega (arith, s)
 
 -- the outcomes of a step, for frames listed from the top down
-module _ (rule : RuleSet) (plan : Plan) (h : ℕ) (p : Position) (f : Frame) (below : List Frame) (board : Position) (r : IsWalking rule h p (f ∷ below) board) where
-  pub steps-close : (after : Position) (count : ℕ) → (f.left ≡ 0) ⊎ (moves_behind rule board f.place ≡ []) → (length below ≡ 0 → after ≡ board) → ((q : Position) → 0 < length below → CameFromAt rule f board q → after ≡ q) → Steps rule plan h p (f ∷ below) below after count count false
+module _ (rule : RuleSet) (plan : Plan) (h : ℕ) (p : Position) (f : Frame) (below : List Frame) (board : Position)
+    (r : IsWalking rule h p (f ∷ below) board) where
+  pub steps-close : (after : Position) (count : ℕ) → (f.left ≡ 0) ⊎ (moves_behind rule board f.place ≡ []) → (length below ≡ 0 → after ≡ board)
+      → ((q : Position) → 0 < length below → CameFromAt rule f board q → after ≡ q) → Steps rule plan h p (f ∷ below) below after count count false
   steps-close after count e lowest before =
       let here : (f.left ≡ 0) ⊎ (moves_behind rule (position rule p (f ∷ below)) f.place ≡ []) = rw (← r.board_at) e in
       let o = open-close rule plan p f below here in
@@ -473,7 +526,12 @@ module _ (rule : RuleSet) (plan : Plan) (h : ℕ) (p : Position) (f : Frame) (be
     fuel : h - length below ≡ suc (h - length below - 1)
     fuel = omega (arith, top_room rule h p f below board r, left)
 
-    pub steps-pass : (after : Position) (opened opened2 : ℕ) → follows plan (chess plan.goal rule) (eqb (length below) 0) t (played rule board m) ≡ false → after ≡ board → (is_help plan.form ≡ false → varies plan ≡ false → seeks (battle_of plan.form) (t + 1) ≡ true → opened2 ≤ opened + walk_count (legal_moves rule) (played rule) t (played rule board m)) → HasCounted opened opened2 (fewest_for plan (chess plan.goal rule) (eqb (length below) 0) t (played rule board m)) → Steps rule plan h p (f ∷ below) (moved f next ∷ below) after opened opened2 false
+    pub steps-pass : (after : Position) (opened opened2 : ℕ) → follows plan (chess plan.goal rule) (eqb (length below) 0) t (played rule board m) ≡ false
+        → after ≡ board
+        → (is_help plan.form ≡ false → varies plan ≡ false → seeks (battle_of plan.form) (t + 1) ≡ true → opened2 ≤ opened + walk_count (legal_moves rule)
+        (played rule) t (played rule board m)) → HasCounted opened opened2
+        (fewest_for plan (chess plan.goal rule) (eqb (length below) 0) t (played rule board m)) → Steps rule plan h p (f ∷ below)
+        (moved f next ∷ below) after opened opened2 false
     steps-pass after opened opened2 b at keys tried =
         let o = open-next rule plan h p f next m below _ t fuel left here in
         record {
@@ -483,17 +541,38 @@ module _ (rule : RuleSet) (plan : Plan) (h : ℕ) (p : Position) (f : Frame) (be
           falls = turns-pass rule plan h p f next m below _ t fuel left here;
           opens = record {
             whites = λ a c w. whites-moved (battle_of plan.form) f next below w;
-            most = λ a c w. omega (arith, o, ap (walk_count (legal_moves rule) (played rule) t) after_here, keys a c (whites-top (battle_of plan.form) f below t left w));
+            most = λ a c w. omega (
+              arith,
+              o,
+              ap (walk_count (legal_moves rule) (played rule) t) after_here,
+              keys a c
+                  (whites-top (battle_of plan.form) f below t left w),
+            );
             helped = λ a. absurd (both _ (follows-help plan (chess plan.goal rule) (eqb (length below) 0) t (played rule board m) a) b);
             counted = λ a walk c. absurd (both _ (follows-help plan (chess plan.goal rule) (eqb (length below) 0) t (played rule board m) a) b);
           };
           tries = record {
             grows = omega (arith, tried);
-            fewest = λ a. omega (arith, tried, ap (fewest_for plan (chess plan.goal rule) (eqb (length below) 0) t) after_here, tries-pass rule plan h p f next m below _ t fuel left here (rw (← after_here) b));
+            fewest = λ a. omega (
+              arith,
+              tried,
+              ap
+                  (fewest_for plan (chess plan.goal rule) (eqb (length below) 0) t) after_here,
+              tries-pass rule plan h p f next m below _ t fuel left here
+                  (rw (← after_here) b),
+            );
           };
         }
 
-    pub steps-enter : (after : Position) (opened opened2 : ℕ) → legal rule board m ≡ true → follows plan (chess plan.goal rule) (eqb (length below) 0) t (played rule board m) ≡ true → after ≡ played rule board m → (is_help plan.form ≡ true → 0 < t → opened2 ≡ min (opened + 1) (2 ^ 64 - 1)) → (is_help plan.form ≡ true → t ≡ 0 → opened2 ≡ opened) → (is_help plan.form ≡ false → varies plan ≡ false → seeks (battle_of plan.form) (t + 1) ≡ true → opened2 ≤ opened + walk_count (legal_moves rule) (played rule) t (played rule board m)) → HasCounted opened opened2 (fewest_for plan (chess plan.goal rule) (eqb (length below) 0) t (played rule board m)) → Steps rule plan h p (f ∷ below) (opened_frame m (undo_of rule board m) (goes_on plan (chess plan.goal rule) t (played rule board m)) ∷ (moved f next ∷ below)) after opened opened2 (gives plan (chess plan.goal rule) t (played rule board m))
+    pub steps-enter : (after : Position) (opened opened2 : ℕ) → legal rule board m ≡ true
+        → follows plan (chess plan.goal rule) (eqb (length below) 0) t (played rule board m) ≡ true → after ≡ played rule board m
+        → (is_help plan.form ≡ true → 0 < t → opened2 ≡ min (opened + 1) (2 ^ 64 - 1)) → (is_help plan.form ≡ true → t ≡ 0 → opened2 ≡ opened)
+        → (is_help plan.form ≡ false → varies plan ≡ false → seeks (battle_of plan.form) (t + 1) ≡ true → opened2 ≤ opened + walk_count (legal_moves rule)
+        (played rule) t (played rule board m)) → HasCounted opened opened2
+        (fewest_for plan (chess plan.goal rule) (eqb (length below) 0) t (played rule board m)) → Steps rule plan h p (f ∷ below)
+        (opened_frame m (undo_of rule board m)
+        (goes_on plan (chess plan.goal rule) t (played rule board m)) ∷ (moved f next ∷ below)) after opened opened2
+        (gives plan (chess plan.goal rule) t (played rule board m))
     steps-enter after opened opened2 lawful b at more same keys tried_for =
         let o = open-next rule plan h p f next m below _ t fuel left here in
         let u = undo_of rule board m in
@@ -501,16 +580,27 @@ module _ (rule : RuleSet) (plan : Plan) (h : ℕ) (p : Position) (f : Frame) (be
         let tried = goes_on plan (chess plan.goal rule) t (played rule board m) in
         let n = open-enter rule plan h p f next m below _ t fuel left here u tried in
         record {
-          walking = walking-enter rule h p plan f next m tried below board after r (omega (arith, left, goes_on-most (chess plan.goal rule) plan t (played rule board m))) lawful at;
+          walking = walking-enter rule h p plan f next m tried below board after r
+              (omega (arith, left, goes_on-most (chess plan.goal rule) plan t (played rule board m))) lawful at;
           come = rw after_here (come-enter rule plan h p f next m below _ t fuel left here u (rw (← after_here) b));
           deep = λ g. omega arith;
           falls = turns-enter rule plan h p f next m below _ t fuel left here u tried;
           opens = record {
-            whites = λ a c w. whites-none (battle_of plan.form) m u tried _ (goes_on-keys plan (chess plan.goal rule) t _ a c (whites-top (battle_of plan.form) f below t left w)) (whites-moved (battle_of plan.form) f next below w);
+            whites = λ a c w. whites-none (battle_of plan.form) m u tried _
+                (goes_on-keys plan (chess plan.goal rule) t _ a c (whites-top (battle_of plan.form) f below t left w))
+                (whites-moved (battle_of plan.form) f next below w);
             most = λ a c w.
                 let z : tried ≡ 0 = goes_on-keys plan (chess plan.goal rule) t _ a c (whites-top (battle_of plan.form) f below t left w) in
                 let none : walk_behind rule tried q 0 ≡ 0 = walk_behind-none rule plan tried q 0 (inl z) in
-                omega (arith, o, n, none, ap (walk_count (legal_moves rule) (played rule) t) after_here, keys a c (whites-top (battle_of plan.form) f below t left w));
+                omega (
+                  arith,
+                  o,
+                  n,
+                  none,
+                  ap (walk_count (legal_moves rule) (played rule) t) after_here,
+                  keys a c
+                      (whites-top (battle_of plan.form) f below t left w),
+                );
             helped = λ a.
                 let z : tried ≡ t = goes_on-help plan (chess plan.goal rule) t _ a in
                 let w : walk_behind rule tried q 0 ≡ walk_behind rule t q 0 = ap (λ x. walk_behind rule x q 0) z in
@@ -522,40 +612,78 @@ module _ (rule : RuleSet) (plan : Plan) (h : ℕ) (p : Position) (f : Frame) (be
           };
           tries = record {
             grows = omega (arith, tried_for);
-            fewest = λ a. rw after_here (omega (arith, rw after_here at tried_for, tries-enter rule plan h p f next m below _ t fuel left here u (rw (← after_here) b)));
+            fewest = λ a. rw after_here
+                (omega (arith, rw after_here at tried_for, tries-enter rule plan h p f next m below _ t fuel left here u (rw (← after_here) b)));
           };
         }
 
 -- the same once moves that don't count have been passed over
-module _ (rule : RuleSet) (plan : Plan) (h : ℕ) (p : Position) (f : Frame) (below : List Frame) (board : Position) (r : IsWalking rule h p (f ∷ below) board) where
+module _ (rule : RuleSet) (plan : Plan) (h : ℕ) (p : Position) (f : Frame) (below : List Frame) (board : Position)
+    (r : IsWalking rule h p (f ∷ below) board) where
   passed_to : (mid : ℕ) → IsWalking rule h p (moved f mid ∷ below) board
   passed_to mid = walking-moved rule h p plan f mid below board board r refl
 
-  pub skips-close : (after : Position) (count : ℕ) → (f.left ≡ 0) ⊎ GoesTo rule plan f.left (position rule p (f ∷ below)) f.place [] → (length below ≡ 0 → after ≡ board) → ((q : Position) → 0 < length below → CameFromAt rule f board q → after ≡ q) → Steps rule plan h p (f ∷ below) below after count count false
+  pub skips-close : (after : Position) (count : ℕ) → (f.left ≡ 0) ⊎ GoesTo rule plan f.left (position rule p (f ∷ below)) f.place []
+      → (length below ≡ 0 → after ≡ board) → ((q : Position) → 0 < length below → CameFromAt rule f board q → after ≡ q)
+      → Steps rule plan h p (f ∷ below) below after count count false
   skips-close after count (inl e) lowest before = steps-close rule plan h p f below board r after count (inl e) lowest before
   skips-close after count (inr g) lowest before =
       steps-skip rule plan h p f below [] g below after count count false
       (steps-close rule plan h p (moved f g.mid) below board (passed_to g.mid) after count (inr (rw r.board_at g.here)) lowest before)
 
-  module _ (next : ℕ) (m : Triple) (t : ℕ) (left : f.left ≡ suc t) (g : GoesTo rule plan f.left (position rule p (f ∷ below)) f.place (m ∷ moves_behind rule (position rule p (f ∷ below)) next)) where
-    skips : (new : List Frame) (after : Position) (opened opened2 : ℕ) (given : Bool) → Steps rule plan h p (moved f g.mid ∷ below) new after opened opened2 given → Steps rule plan h p (f ∷ below) new after opened opened2 given
+  module _ (next : ℕ) (m : Triple) (t : ℕ) (left : f.left ≡ suc t)
+      (g : GoesTo rule plan f.left (position rule p (f ∷ below)) f.place (m ∷ moves_behind rule (position rule p (f ∷ below)) next)) where
+    skips : (new : List Frame) (after : Position) (opened opened2 : ℕ) (given : Bool)
+        → Steps rule plan h p (moved f g.mid ∷ below) new after opened opened2 given → Steps rule plan h p (f ∷ below) new after opened opened2 given
     skips new after opened opened2 given s = steps-skip rule plan h p f below _ g new after opened opened2 given s
 
-    pub skips-pass : (after : Position) (opened opened2 : ℕ) → follows plan (chess plan.goal rule) (eqb (length below) 0) t (played rule board m) ≡ false → after ≡ board → (is_help plan.form ≡ false → varies plan ≡ false → seeks (battle_of plan.form) (t + 1) ≡ true → opened2 ≤ opened + walk_count (legal_moves rule) (played rule) t (played rule board m)) → HasCounted opened opened2 (fewest_for plan (chess plan.goal rule) (eqb (length below) 0) t (played rule board m)) → Steps rule plan h p (f ∷ below) (moved f next ∷ below) after opened opened2 false
+    pub skips-pass : (after : Position) (opened opened2 : ℕ) → follows plan (chess plan.goal rule) (eqb (length below) 0) t (played rule board m) ≡ false
+        → after ≡ board
+        → (is_help plan.form ≡ false → varies plan ≡ false → seeks (battle_of plan.form) (t + 1) ≡ true → opened2 ≤ opened + walk_count (legal_moves rule)
+        (played rule) t (played rule board m)) → HasCounted opened opened2
+        (fewest_for plan (chess plan.goal rule) (eqb (length below) 0) t (played rule board m)) → Steps rule plan h p (f ∷ below)
+        (moved f next ∷ below) after opened opened2 false
     skips-pass after opened opened2 b at keys tried =
-        skips _ after opened opened2 false (steps-pass rule plan h p (moved f g.mid) below board (passed_to g.mid) next m t left (rw r.board_at g.here) after opened opened2 b at keys tried)
+        skips _ after opened opened2 false
+        (steps-pass rule plan h p (moved f g.mid) below board (passed_to g.mid) next m t left (rw r.board_at g.here) after opened opened2 b at keys tried)
 
-    pub skips-enter : (after : Position) (opened opened2 : ℕ) → legal rule board m ≡ true → follows plan (chess plan.goal rule) (eqb (length below) 0) t (played rule board m) ≡ true → after ≡ played rule board m → (is_help plan.form ≡ true → 0 < t → opened2 ≡ min (opened + 1) (2 ^ 64 - 1)) → (is_help plan.form ≡ true → t ≡ 0 → opened2 ≡ opened) → (is_help plan.form ≡ false → varies plan ≡ false → seeks (battle_of plan.form) (t + 1) ≡ true → opened2 ≤ opened + walk_count (legal_moves rule) (played rule) t (played rule board m)) → HasCounted opened opened2 (fewest_for plan (chess plan.goal rule) (eqb (length below) 0) t (played rule board m)) → Steps rule plan h p (f ∷ below) (opened_frame m (undo_of rule board m) (goes_on plan (chess plan.goal rule) t (played rule board m)) ∷ (moved f next ∷ below)) after opened opened2 (gives plan (chess plan.goal rule) t (played rule board m))
+    pub skips-enter : (after : Position) (opened opened2 : ℕ) → legal rule board m ≡ true
+        → follows plan (chess plan.goal rule) (eqb (length below) 0) t (played rule board m) ≡ true → after ≡ played rule board m
+        → (is_help plan.form ≡ true → 0 < t → opened2 ≡ min (opened + 1) (2 ^ 64 - 1)) → (is_help plan.form ≡ true → t ≡ 0 → opened2 ≡ opened)
+        → (is_help plan.form ≡ false → varies plan ≡ false → seeks (battle_of plan.form) (t + 1) ≡ true → opened2 ≤ opened + walk_count (legal_moves rule)
+        (played rule) t (played rule board m)) → HasCounted opened opened2
+        (fewest_for plan (chess plan.goal rule) (eqb (length below) 0) t (played rule board m)) → Steps rule plan h p (f ∷ below)
+        (opened_frame m (undo_of rule board m)
+        (goes_on plan (chess plan.goal rule) t (played rule board m)) ∷ (moved f next ∷ below)) after opened opened2
+        (gives plan (chess plan.goal rule) t (played rule board m))
     skips-enter after opened opened2 lawful b at more same keys tried =
-        skips _ after opened opened2 _ (steps-enter rule plan h p (moved f g.mid) below board (passed_to g.mid) next m t left (rw r.board_at g.here) after opened opened2 lawful b at more same keys tried)
+        skips _ after opened opened2 _
+        (steps-enter rule plan h p (moved f g.mid) below board (passed_to g.mid) next m t left
+        (rw r.board_at g.here) after opened opened2 lawful b at more same keys tried)
 
 -- what the top frame knows changes nothing of what is to come
-pub steps-learned : (rule : RuleSet) (plan : Plan) (h : ℕ) (p : Position) (f : Frame) (known : Option LegalPlace) (below new : List Frame) (after : Position) (opened opened2 : ℕ) (given : Bool) → Steps rule plan h p (learned f known ∷ below) new after opened opened2 given → Steps rule plan h p (f ∷ below) new after opened opened2 given
+pub steps-learned : (rule : RuleSet) (plan : Plan) (h : ℕ) (p : Position) (f : Frame) (known : Option LegalPlace) (below new : List Frame)
+    (after : Position) (opened opened2 : ℕ) (given : Bool) → Steps rule plan h p (learned f known ∷ below) new after opened opened2 given
+    → Steps rule plan h p (f ∷ below) new after opened opened2 given
 unfolding to_come path position turns to_open fewest_left IsWhites
 steps-learned rule plan h p f known [] new after opened opened2 given s =
-    record { walking = s.walking; come = s.come; deep = s.deep; falls = s.falls; opens = record { whites = s.opens.whites; most = s.opens.most; helped = s.opens.helped; counted = s.opens.counted }; tries = record { grows = s.tries.grows; fewest = s.tries.fewest } }
+    record {
+      walking = s.walking;
+      come = s.come;
+      deep = s.deep;
+      falls = s.falls;
+      opens = record { whites = s.opens.whites; most = s.opens.most; helped = s.opens.helped; counted = s.opens.counted };
+      tries = record { grows = s.tries.grows; fewest = s.tries.fewest };
+    }
 steps-learned rule plan h p f known (g ∷ below) new after opened opened2 given s =
-    record { walking = s.walking; come = s.come; deep = s.deep; falls = s.falls; opens = record { whites = s.opens.whites; most = s.opens.most; helped = s.opens.helped; counted = s.opens.counted }; tries = record { grows = s.tries.grows; fewest = s.tries.fewest } }
+    record {
+      walking = s.walking;
+      come = s.come;
+      deep = s.deep;
+      falls = s.falls;
+      opens = record { whites = s.opens.whites; most = s.opens.most; helped = s.opens.helped; counted = s.opens.counted };
+      tries = record { grows = s.tries.grows; fewest = s.tries.fewest };
+    }
 
 -- a push, and the frames before a frame was taken off, seen from the top
 pub reverse-push : (xs : List Frame) (x : Frame) → reverse (xs ++ x ∷ []) ≡ x ∷ reverse xs
@@ -578,10 +706,13 @@ module _ (rule : RuleSet) (plan : Plan) (h : ℕ) (top : Frame) (old new : List 
       let s = subst T (popped old new top taken) r in
       record { linked = s.linked; roomy = s.roomy; known = s.known; sound = rw e s.sound; board_at = e ∙ s.board_at }
 
-  pub close_asks : (p board now : Position) (depth : ℕ) → IsWalking rule h p (reverse old) board → now ≡ board → depth ≡ length new → 0 < depth → CameFrom rule top now
+  pub close_asks : (p board now : Position) (depth : ℕ) → IsWalking rule h p (reverse old) board → now ≡ board → depth ≡ length new → 0 < depth
+      → CameFrom rule top now
   close_asks p board now depth r e d deep = CameFrom-deep rule h p top (reverse new) now (walking_top p board now r e) (omega (arith, depth_is, d, deep))
 
-  pub close_steps : (p board now after : Position) (depth count : ℕ) → IsWalking rule h p (reverse old) board → now ≡ board → depth ≡ length new → (top.left ≡ 0) ⊎ GoesTo rule plan top.left board top.place [] → (depth ≡ 0 → after ≡ now) → ((q : Position) → 0 < depth → CameFromAt rule top now q → after ≡ q) → Steps rule plan h p (reverse old) (reverse new) after count count false
+  pub close_steps : (p board now after : Position) (depth count : ℕ) → IsWalking rule h p (reverse old) board → now ≡ board → depth ≡ length new
+      → (top.left ≡ 0) ⊎ GoesTo rule plan top.left board top.place [] → (depth ≡ 0 → after ≡ now)
+      → ((q : Position) → 0 < depth → CameFromAt rule top now q → after ≡ q) → Steps rule plan h p (reverse old) (reverse new) after count count false
   close_steps p board now after depth count r e d none lowest before =
       let r2 = walking_top p board now r e in
       let T : Position → Type 0 = λ b. (top.left ≡ 0) ⊎ GoesTo rule plan top.left b top.place [] in
@@ -595,7 +726,10 @@ module _ (rule : RuleSet) (plan : Plan) (h : ℕ) (top : Frame) (old new : List 
   unfolding AreKnown
   top_known p board r = let s = walking_top p board board r refl in rw s.board_at s.known.0
 
-  module _ (place : ℕ) (known : Option LegalPlace) (m : Triple) (board now : Position) (depth : ℕ) (mid last : List Frame) (at : now ≡ board) (d : depth ≡ length new) (some : (0 < top.left) × GoesTo rule plan top.left board top.place (m ∷ moves_behind rule board place) × (legal rule board m ≡ true)) (within : IfSome known (IsPlaceIn rule board)) (put : mid ≡ new ++ moved (learned top known) place ∷ []) where
+  module _ (place : ℕ) (known : Option LegalPlace) (m : Triple) (board now : Position) (depth : ℕ) (mid last : List Frame) (at : now ≡ board)
+      (d : depth ≡ length new)
+      (some : (0 < top.left) × GoesTo rule plan top.left board top.place (m ∷ moves_behind rule board place) × (legal rule board m ≡ true))
+      (within : IfSome known (IsPlaceIn rule board)) (put : mid ≡ new ++ moved (learned top known) place ∷ []) where
     abbrev behind : ℕ
     behind = top.left - 1
 
@@ -607,9 +741,11 @@ module _ (rule : RuleSet) (plan : Plan) (h : ℕ) (top : Frame) (old new : List 
 
     pub enter_steps : (root given : Bool) (after : Position) (opened opened2 : ℕ) → root ≡ eqb depth 0
         → (follows plan (chess plan.goal rule) root behind arrived ≡ false → (given ≡ false) × (after ≡ now) × (last ≡ mid))
-        → (follows plan (chess plan.goal rule) root behind arrived ≡ true → (given ≡ gives plan (chess plan.goal rule) behind arrived) × (after ≡ arrived) × (last ≡ mid ++ opened_frame m (undo_of rule now m) (goes_on plan (chess plan.goal rule) behind arrived) ∷ []))
+        → (follows plan (chess plan.goal rule) root behind arrived ≡ true → (given ≡ gives plan (chess plan.goal rule) behind arrived) × (after ≡ arrived)
+        × (last ≡ mid ++ opened_frame m (undo_of rule now m) (goes_on plan (chess plan.goal rule) behind arrived) ∷ []))
         → (is_help plan.form ≡ true → 0 < behind → opened2 ≡ min (opened + 1) (2 ^ 64 - 1)) → (is_help plan.form ≡ true → behind ≡ 0 → opened2 ≡ opened)
-        → (is_help plan.form ≡ false → varies plan ≡ false → seeks (battle_of plan.form) (behind + 1) ≡ true → opened2 ≤ opened + walk_count (legal_moves rule) (played rule) behind arrived)
+        → (is_help plan.form ≡ false → varies plan ≡ false → seeks (battle_of plan.form) (behind + 1) ≡ true → opened2 ≤ opened + walk_count
+        (legal_moves rule) (played rule) behind arrived)
         → HasCounted opened opened2 (fewest_for plan (chess plan.goal rule) root behind arrived)
         → (p : Position) → IsWalking rule h p (reverse old) board → Steps rule plan h p (reverse old) (reverse last) after opened opened2 given
     enter_steps root given after opened opened2 flag passes enters more none keys tried p r =
@@ -622,10 +758,16 @@ module _ (rule : RuleSet) (plan : Plan) (h : ℕ) (top : Frame) (old new : List 
         elim (cases (follows plan (chess plan.goal rule) root behind arrived)) [
           | inl passed ↦
               let x = passes passed in
-              rw (popped old new top taken, x.2, mid_is, x.0) (steps-learned rule plan h p top known (reverse new) _ after opened opened2 false (skips-pass rule plan h p (learned top known) (reverse new) now r2 place m behind left next after opened opened2 (rw flag2 passed) x.1 keys (rw flag2 tried)))
+              rw (popped old new top taken, x.2, mid_is, x.0)
+              (steps-learned rule plan h p top known (reverse new) _ after opened opened2 false
+              (skips-pass rule plan h p (learned top known) (reverse new) now r2 place m behind left next after opened opened2
+              (rw flag2 passed) x.1 keys (rw flag2 tried)))
           | inr entered ↦
               let x = enters entered in
-              rw (popped old new top taken, x.2, reverse-push mid, mid_is, x.0) (steps-learned rule plan h p top known (reverse new) _ after opened opened2 _ (skips-enter rule plan h p (learned top known) (reverse new) now r2 place m behind left next after opened opened2 lawful (rw flag2 entered) x.1 more none keys (rw flag2 tried)))
+              rw (popped old new top taken, x.2, reverse-push mid, mid_is, x.0)
+              (steps-learned rule plan h p top known (reverse new) _ after opened opened2 _
+              (skips-enter rule plan h p (learned top known) (reverse new) now r2 place m behind left next after opened opened2 lawful
+              (rw flag2 entered) x.1 more none keys (rw flag2 tried)))
         ]
 
 -- a frame is closed, whatever is walked
@@ -636,12 +778,15 @@ module _ (rule : RuleSet) (h : ℕ) (top : Frame) (old new : List Frame) (taken 
   pub back_asks : (p board : Position) (depth : ℕ) → IsWalking rule h p (reverse old) board → depth ≡ length new → 0 < depth → CameFrom rule top board
   back_asks p board depth r d deep = CameFrom-deep rule h p top (reverse new) board (walking_popped p board r) (omega (arith, length-reverse new, d, deep))
 
-  pub back_walking : (p board after : Position) (depth : ℕ) → IsWalking rule h p (reverse old) board → depth ≡ length new → (depth ≡ 0 → after ≡ board) → ((q : Position) → 0 < depth → CameFromAt rule top board q → after ≡ q) → IsWalking rule h p (reverse new) after
+  pub back_walking : (p board after : Position) (depth : ℕ) → IsWalking rule h p (reverse old) board → depth ≡ length new → (depth ≡ 0 → after ≡ board)
+      → ((q : Position) → 0 < depth → CameFromAt rule top board q → after ≡ q) → IsWalking rule h p (reverse new) after
   back_walking p board after depth r d lowest before =
-      walking-close rule h p top (reverse new) board after (walking_popped p board r) (λ z. lowest (omega (arith, length-reverse new, d, z))) (λ q z cf. before q (omega (arith, length-reverse new, d, z)) cf)
+      walking-close rule h p top (reverse new) board after
+      (walking_popped p board r) (λ z. lowest (omega (arith, length-reverse new, d, z))) (λ q z cf. before q (omega (arith, length-reverse new, d, z)) cf)
 
 -- with no frame left the board stands on the first position
-pub walking_back : (rule : RuleSet) (h : ℕ) (p board : Position) (frames : List Frame) → IsWalking rule h p (reverse frames) board → length frames ≡ 0 → board ≡ p
+pub walking_back : (rule : RuleSet) (h : ℕ) (p board : Position) (frames : List Frame) → IsWalking rule h p (reverse frames) board → length frames ≡ 0
+    → board ≡ p
 unfolding position
 walking_back rule h p board [] r none = r.board_at
 walking_back rule h p board (f ∷ frames) r none = absurd (omega (arith, none))
@@ -653,7 +798,8 @@ module _ (rule : RuleSet) (plan : Plan) (left : ℕ) (p : Position) (place next 
       MatchOption o ((left ≡ 0) ⊎ GoesTo rule plan left p place [])
       (λ m. (0 < left) × GoesTo rule plan left p place (m ∷ moves_behind rule p next) × (legal rule p m ≡ true))
 
-  pub next_any : (o : Option Triple) → 0 < left → MatchOption o (moves_behind rule p place ≡ []) (λ m. (moves_behind rule p place ≡ m ∷ moves_behind rule p next) × (legal rule p m ≡ true)) → Next o
+  pub next_any : (o : Option Triple) → 0 < left
+      → MatchOption o (moves_behind rule p place ≡ []) (λ m. (moves_behind rule p place ≡ m ∷ moves_behind rule p next) × (legal rule p m ≡ true)) → Next o
   next_any None some e = inr (record { mid = place; over = []; passed = refl; none = inl refl; here = e })
   next_any (Some m) some e = (some, record { mid = place; over = []; passed = refl; none = inl refl; here = e.0 }, e.1)
 
@@ -661,10 +807,18 @@ module _ (rule : RuleSet) (plan : Plan) (left : ℕ) (p : Position) (place next 
   append_none [] = refl
   append_none (x ∷ xs) = ap (λ l. x ∷ l) (append_none xs)
 
-  pub next_mating : (o : Option Triple) → plan.goal ≡ Mate → is_help plan.form ≡ true → left ≡ 1 → MatchOption o (mates_behind rule p place ≡ []) (λ m. IsNextMate rule p place next m × (legal rule p m ≡ true)) → Next o
+  pub next_mating : (o : Option Triple) → plan.goal ≡ Mate → is_help plan.form ≡ true → left ≡ 1
+      → MatchOption o (mates_behind rule p place ≡ []) (λ m. IsNextMate rule p place next m × (legal rule p m ≡ true)) → Next o
   unfolding mates_behind
   next_mating None for help single e =
       let last : moves_behind rule p 28672 ≡ [] = moves_behind-end rule p 28672 (omega arith) in
-      inr (record { mid = 28672; over = moves_behind rule p place; passed = append_none (moves_behind rule p place) ∙ ap (λ l. moves_behind rule p place ++ l) (sym last); none = inr (help, for, single, e); here = last })
+      inr (record {
+        mid = 28672;
+        over = moves_behind rule p place;
+        passed = append_none (moves_behind rule p place)
+            ∙ ap (λ l. moves_behind rule p place ++ l) (sym last);
+        none = inr (help, for, single, e);
+        here = last;
+      })
   next_mating (Some m) for help single e =
       (omega (arith, single), record { mid = next - 1; over = e.0.over; passed = e.0.passed; none = inr (help, for, single, e.0.none); here = e.0.here }, e.1)

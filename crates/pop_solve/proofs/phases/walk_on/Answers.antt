@@ -47,7 +47,8 @@ returns-after-loop-frames g c =
     let none : length c.loop-frames.frames.items ≡ 0 = grind (arith, nat_tests) in
     record {
       walks = rw (← c.of-plan.ensures, ← c.phase_half_moves-half_moves.ensures)
-          (kept.walks_none g.R.Rules.rule _ _ _ _ _ c.loop-frames.invariant.1 _ _ c.loop-frames.invariant.0 (omega (arith, none, length-reverse c.loop-frames.frames.items)));
+          (kept.walks_none g.R.Rules.rule _ _ _ _ _ c.loop-frames.invariant.1 _ _ c.loop-frames.invariant.0
+          (omega (arith, none, length-reverse c.loop-frames.frames.items)));
       opens = rw (← c.of-plan.ensures) c.loop-frames.invariant.2;
       tries = rw (← c.of-plan.ensures, ← c.phase_half_moves-half_moves.ensures) c.loop-frames.invariant.3;
     }
