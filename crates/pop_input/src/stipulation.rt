@@ -1,6 +1,6 @@
 //! What a problem asks for.
 ghost use Rattle.std.specs.Prelude.{◌≡◌};
-ghost use Rattle.pop_input.specs.Stipulations.{is_for_stalemate, mated, starts};
+ghost use Rattle.pop_input.specs.Stipulations.{first_half, half_moves, is_for_stalemate, is_help, mated, starts};
 
 use chess_core::man::Colour;
 
@@ -50,6 +50,26 @@ impl Goal {
 }
 
 impl Form {
+    /// Whether both sides help.
+    pub fn is_help(self) -> bool
+        ensures { result ≡ is_help self }
+    {
+        match self {
+            Form::Direct | Form::SelfMate => false,
+            Form::Help | Form::HelpHalf => true,
+        }
+    }
+
+    /// The number of the play's first half-move: 2 where Black's half of the first move is left out.
+    pub fn first_half(self) -> u32
+        ensures { result ≡ first_half self }
+    {
+        match self {
+            Form::Direct | Form::SelfMate | Form::Help => 1,
+            Form::HelpHalf => 2,
+        }
+    }
+
     /// The side that makes the first half-move of the play.
     pub fn starts(self) -> Colour
         ensures { result ≡ starts self }
@@ -67,6 +87,20 @@ impl Form {
         match self {
             Form::SelfMate => Colour::White,
             Form::Direct | Form::Help | Form::HelpHalf => Colour::Black,
+        }
+    }
+}
+
+impl Stipulation {
+    /// The half-moves of the play.
+    pub fn half_moves(self) -> usize
+        ensures { result ≡ half_moves self }
+    {
+        let n = self.n as usize;
+        match self.form {
+            Form::Direct => (2 * n).saturating_sub(1),
+            Form::SelfMate | Form::Help => 2 * n,
+            Form::HelpHalf => 2 * n + 1,
         }
     }
 }

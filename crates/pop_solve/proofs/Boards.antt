@@ -37,29 +37,38 @@ for_mate Mate e = refl
 for_mate Stalemate e = absurd cc
 
 -- what is said of mates, with one half-move left, holds where mate is the goal
-pub mate-value : (rule : RuleSet) (battle : Battle) (goal : Goal) (left : ℕ) (p : Position) (v : Bool) → goal ≡ Mate → left ≡ 1 → v ≡ value battle (chess Mate rule) 1 p → v ≡ value battle (chess goal rule) left p
+pub mate-value : (rule : RuleSet) (battle : Battle) (goal : Goal) (left : ℕ) (p : Position) (v : Bool) → goal ≡ Mate → left ≡ 1
+    → v ≡ value battle (chess Mate rule) 1 p → v ≡ value battle (chess goal rule) left p
 mate-value rule battle goal left p v for one e = rw (for, one) e
 
 -- the first mate says whether there is one
-pub mate-any : (rule : RuleSet) (p : Position) (next : ℕ) (o : Option Triple) → MatchOption o (mates_behind rule p 0 ≡ []) (λ m. mates_behind rule p 0 ≡ m ∷ mates_behind rule p next) → is_some o ≡ some_good (chess Mate rule) (is_goal rule) p
+pub mate-any : (rule : RuleSet) (p : Position) (next : ℕ) (o : Option Triple)
+    → MatchOption o (mates_behind rule p 0 ≡ []) (λ m. mates_behind rule p 0 ≡ m ∷ mates_behind rule p next)
+    → is_some o ≡ some_good (chess Mate rule) (is_goal rule) p
 unfolding mates_behind
 mate-any rule p next o e = found o (moves_behind rule p 0) e ∙ ap (λ ms. list_any (is_mating rule p) ms) (behind_start rule p)
   where
     any_none : (ms : List Triple) → filter (is_mating rule p) ms ≡ [] → list_any (is_mating rule p) ms ≡ false
     any_none [] e = refl
-    any_none (m ∷ ms) e = elim (is_mating rule p m) as (λ b. cond b (m ∷ filter (is_mating rule p) ms) (filter (is_mating rule p) ms) ≡ [] → (b || list_any (is_mating rule p) ms) ≡ false) [
-      | true ↦ λ e. cc
-      | false ↦ λ e. any_none ms e
-    ] e
+    any_none (m ∷ ms) e = elim
+        (is_mating rule p m) as (λ b. cond b (m ∷ filter (is_mating rule p) ms) (filter (is_mating rule p) ms) ≡ [] → (b || list_any (is_mating rule p) ms)
+        ≡ false) [
+          | true ↦ λ e. cc
+          | false ↦ λ e. any_none ms e
+        ] e
 
     any_some : (ms more : List Triple) (x : Triple) → filter (is_mating rule p) ms ≡ x ∷ more → list_any (is_mating rule p) ms ≡ true
     any_some [] more x e = cc
-    any_some (m ∷ ms) more x e = elim (is_mating rule p m) as (λ b. cond b (m ∷ filter (is_mating rule p) ms) (filter (is_mating rule p) ms) ≡ x ∷ more → (b || list_any (is_mating rule p) ms) ≡ true) [
-      | true ↦ λ e. refl
-      | false ↦ λ e. any_some ms more x e
-    ] e
+    any_some (m ∷ ms) more x e = elim
+        (is_mating rule p m) as (λ b. cond b (m ∷ filter (is_mating rule p) ms) (filter (is_mating rule p) ms) ≡ x ∷ more
+        → (b || list_any (is_mating rule p) ms) ≡ true) [
+          | true ↦ λ e. refl
+          | false ↦ λ e. any_some ms more x e
+        ] e
 
-    found : (o : Option Triple) (ms : List Triple) → MatchOption o (filter (is_mating rule p) ms ≡ []) (λ m. filter (is_mating rule p) ms ≡ m ∷ mates_behind rule p next) → is_some o ≡ list_any (is_mating rule p) ms
+    found : (o : Option Triple) (ms : List Triple)
+        → MatchOption o (filter (is_mating rule p) ms ≡ []) (λ m. filter (is_mating rule p) ms ≡ m ∷ mates_behind rule p next)
+        → is_some o ≡ list_any (is_mating rule p) ms
     found None ms e = sym (any_none ms e)
     found (Some m) ms e = sym (any_some ms _ m e)
 
@@ -74,16 +83,22 @@ module _ (goal : Goal) (rule : RuleSet) (p : Position) where
   some-then : (ms : List Triple) (m : Triple) (more : List Triple) → ms ≡ m ∷ more → not (eqb (length ms) 0) ≡ true
   some-then ms m more e = rw e (grind (arith, nat_tests))
 
-  some-within : (before here behind : List Triple) (m : Triple) (more : List Triple) → here ≡ m ∷ more → not (eqb (length (before ++ (here ++ behind))) 0) ≡ true
+  some-within : (before here behind : List Triple) (m : Triple) (more : List Triple) → here ≡ m ∷ more
+      → not (eqb (length (before ++ (here ++ behind))) 0) ≡ true
   some-within [] here behind m more e = rw e (grind (arith, nat_tests))
   some-within (x ∷ before) here behind m more e = grind (arith, nat_tests)
 
-  pub has_killer : (killer place next : ℕ) (o : Option Triple) → place ≡ killer - 1 → is_some o ≡ true → MatchOption o (moves_between rule p place killer ≡ []) (λ m. (moves_between rule p place killer ≡ m ∷ moves_between rule p next killer) × (legal rule p m ≡ true)) → true ≡ can_move (chess goal rule) p
+  pub has_killer : (killer place next : ℕ) (o : Option Triple) → place ≡ killer - 1 → is_some o ≡ true
+      → MatchOption o (moves_between rule p place killer ≡ []) (λ m. (moves_between rule p place killer ≡ m ∷ moves_between rule p next killer)
+      × (legal rule p m ≡ true)) → true ≡ can_move (chess goal rule) p
   has_killer killer place next None at e found = absurd cc
   has_killer killer place next (Some m) at e found =
-      rw (cut_moves rule p place killer (omega (arith, at))) (sym (some-within (moves_between rule p 0 place) (moves_between rule p place killer) (moves_behind rule p killer) m _ found.0))
+      rw (cut_moves rule p place killer (omega (arith, at)))
+      (sym (some-within (moves_between rule p 0 place) (moves_between rule p place killer) (moves_behind rule p killer) m _ found.0))
 
-  pub has_first : (place next : ℕ) (o : Option Triple) → place ≡ 0 → MatchOption o (moves_behind rule p place ≡ []) (λ m. (moves_behind rule p place ≡ m ∷ moves_behind rule p next) × (legal rule p m ≡ true)) → is_some o ≡ can_move (chess goal rule) p
+  pub has_first : (place next : ℕ) (o : Option Triple) → place ≡ 0
+      → MatchOption o (moves_behind rule p place ≡ []) (λ m. (moves_behind rule p place ≡ m ∷ moves_behind rule p next) × (legal rule p m ≡ true))
+      → is_some o ≡ can_move (chess goal rule) p
   has_first place next None at found = rw (sym (behind_start rule p) ∙ (rw at at found)) refl
   has_first place next (Some m) at found = sym (some-then (moves rule p) m _ (sym (behind_start rule p) ∙ (rw at at found.0)))
 

@@ -16,7 +16,7 @@ use Rattle.pop_input.specs.Stipulations.{is_help, half_moves}
 use Rattle.pop_solve.proofs.Sound.{in_range}
 use Rattle.pop_solve.specs.ties.Frames.{AreKnown, Frame, position, IsLinked}
 use Rattle.pop_solve.specs.Game.{reach}
-use Rattle.pop_solve.specs.ties.Walk.{way_of, path, IsWalking, IsRoomy}
+use Rattle.pop_solve.specs.ties.Walk.{path, IsWalking, IsRoomy}
 use Rattle.pop_solve.specs.Events.{Step, start, is_set, opening, line, tree_node, total, step_of, event_of, phase_start, phase_half_moves, phase_half, shown_along, shown_last, steps_from, phase_steps, is_barred, counted, solutions, events}
 use Rattle.pop_solve.specs.ties.Seen.{StandsOn}
 use Rattle.pop_solve.specs.ties.Phases.{begins, keep, started, left_of, IsStanding, IsGiven, Walks, Gives, phase_paths}
@@ -26,11 +26,13 @@ use Rattle.pop_solve.specs.declared.event.Event.TheVariants.{Line, Node, Total}
 use Rattle.pop_solve.specs.declared.phases.Stage.{Stage}
 use Rattle.pop_solve.specs.declared.phases.Stage.TheVariants.{Before, Barred, Within, Behind}
 use Rattle.pop_solve.proofs.Paths.{path-length, reach-path}
+use Rattle.pop_solve.specs.ties.Plans.{plan_of}
 
 step-help : (problem : Posed) (phase : Phase) (path : List Triple) → is_help problem.stipulation.form ≡ true → step_of problem phase path ≡ line phase path
 step-help problem phase path e = rw e refl
 
-step-battle : (problem : Posed) (phase : Phase) (path : List Triple) → is_help problem.stipulation.form ≡ false → step_of problem phase path ≡ tree_node phase path
+step-battle : (problem : Posed) (phase : Phase) (path : List Triple) → is_help problem.stipulation.form ≡ false
+    → step_of problem phase path ≡ tree_node phase path
 step-battle problem phase path e = rw e refl
 
 -- the event of a line
@@ -55,14 +57,20 @@ room-length h [] s = omega arith
 room-length h (f ∷ below) s = omega (arith, s.0)
 
 -- the board after a path is given
-module _ (rule : RuleSet) (problem : Posed) (phase : Phase) (h : ℕ) (frames : List Frame) (board : Position) (r : IsWalking rule h (phase_start problem phase) (reverse frames) board) (deep : 2 ≤ length frames) where
+module _ (rule : RuleSet) (problem : Posed) (phase : Phase) (h : ℕ) (frames : List Frame) (board : Position)
+    (r : IsWalking rule h (phase_start problem phase) (reverse frames) board) (deep : 2 ≤ length frames) where
   pub stands_at : StandsOn rule problem (step_of problem phase (path (reverse frames))) board (length frames)
   stands_at = go (is_help problem.stipulation.form)
     where
       here : (board ≡ reach (played rule) (phase_start problem phase) (path (reverse frames))) × (length frames ≡ length (path (reverse frames)) + 1)
-      here = (r.board_at ∙ reach-path problem.stipulation.goal rule (phase_start problem phase) (reverse frames), omega (arith, path-length (reverse frames), length-reverse frames, deep))
+      here = (
+        r.board_at ∙ reach-path problem.stipulation.goal rule (phase_start problem phase) (reverse frames),
+        omega
+            (arith, path-length (reverse frames), length-reverse frames, deep),
+      )
 
-      go : (help : Bool) → StandsOn rule problem (cond help (line phase (path (reverse frames))) (tree_node phase (path (reverse frames)))) board (length frames)
+      go : (help : Bool)
+          → StandsOn rule problem (cond help (line phase (path (reverse frames))) (tree_node phase (path (reverse frames)))) board (length frames)
       go true = here
       go false = here
 
@@ -70,19 +78,24 @@ module _ (rule : RuleSet) (problem : Posed) (phase : Phase) (h : ℕ) (frames : 
   shallow least = omega (arith, room-length h (reverse frames) r.roomy, length-reverse frames)
 
 -- a path is given: the steps to come lose their first
-module _ (rule : RuleSet) (problem : Posed) (phase : Phase) (count : ℕ) (old new : List Frame) (board : Position) (most : count ≤ problem.max_solutions) (w : Walks rule (way_of problem) (phase_half_moves problem phase) (phase_start problem phase) (problem.max_solutions - count) old new board true) where
+module _ (rule : RuleSet) (problem : Posed) (phase : Phase) (count : ℕ) (old new : List Frame) (board : Position) (most : count ≤ problem.max_solutions)
+    (w : Walks rule (plan_of problem) (phase_half_moves problem phase) (phase_start problem phase) (problem.max_solutions - count) old new board true) where
   abbrev more : ℕ
   more = cond (begins (is_help problem.stipulation.form) (path new)) 1 0
 
-  pub left-given : (next : ℕ) → next ≡ count + more → left_of rule problem (Within phase count) old ≡ step_of problem phase (path new) ∷ left_of rule problem (Within phase next) new
+  pub left-given : (next : ℕ) → next ≡ count + more
+      → left_of rule problem (Within phase count) old ≡ step_of problem phase (path new) ∷ left_of rule problem (Within phase next) new
   unfolding left_of
   left-given next e =
       let n : problem.max_solutions - count - more ≡ problem.max_solutions - next = omega (arith, e, most) in
-      let s : count + started (is_help problem.stipulation.form) (problem.max_solutions - count) (phase_paths rule problem phase old) ≡ next + started (is_help problem.stipulation.form) (problem.max_solutions - next) (phase_paths rule problem phase new) = rw (w.starts refl, n) (omega (arith, e)) in
+      let s : count + started (is_help problem.stipulation.form) (problem.max_solutions - count) (phase_paths rule problem phase old) ≡ next + started
+      (is_help problem.stipulation.form) (problem.max_solutions - next) (phase_paths rule problem phase new) = rw (w.starts refl, n) (omega (arith, e)) in
       rw (w.come refl, s, n) refl
 
 -- none is given: the total is left
-pub left-ended : (rule : RuleSet) (problem : Posed) (phase : Phase) (count : ℕ) (old new : List Frame) (board : Position) → Walks rule (way_of problem) (phase_half_moves problem phase) (phase_start problem phase) (problem.max_solutions - count) old new board false → left_of rule problem (Within phase count) old ≡ total count (eqb count problem.max_solutions) ∷ cond (is_set phase) (steps_from rule problem Play) []
+pub left-ended : (rule : RuleSet) (problem : Posed) (phase : Phase) (count : ℕ) (old new : List Frame) (board : Position)
+    → Walks rule (plan_of problem) (phase_half_moves problem phase) (phase_start problem phase) (problem.max_solutions - count) old new board false
+    → left_of rule problem (Within phase count) old ≡ total count (eqb count problem.max_solutions) ∷ cond (is_set phase) (steps_from rule problem Play) []
 unfolding left_of
 left-ended rule problem phase count old new board w =
     let n : count + 0 ≡ count = omega arith in rw (w.ended refl, w.none refl, n) refl
@@ -90,7 +103,10 @@ left-ended rule problem phase count old new board w =
 two_one : (n : ℕ) → 2 ≤ n → eqb n 2 ≡ eqb (n - 1) 1
 two_one n h = let m : n ≡ suc (n - 1) = omega (arith, h) in rw m (grind (arith, nat_tests))
 
-module _ (rule : RuleSet) (problem : Posed) (phase : Phase) (count : ℕ) (old : List Frame) (frames : List Frame) (board : Position) (most : count ≤ problem.max_solutions) (w : Walks rule (way_of problem) (phase_half_moves problem phase) (phase_start problem phase) (problem.max_solutions - count) old (reverse frames) board true) where
+module _ (rule : RuleSet) (problem : Posed) (phase : Phase) (count : ℕ) (old : List Frame) (frames : List Frame) (board : Position)
+    (most : count ≤ problem.max_solutions)
+    (w : Walks rule (plan_of problem) (phase_half_moves problem phase) (phase_start problem phase) (problem.max_solutions - count) old
+    (reverse frames) board true) where
   pub deep-given : 2 ≤ length frames
   deep-given = omega (arith, w.deep refl, length-reverse frames)
 
@@ -104,7 +120,8 @@ module _ (rule : RuleSet) (problem : Posed) (phase : Phase) (count : ℕ) (old :
 
   gives-here : (next : ℕ) (event : Event) → next ≡ count + cond (is_help problem.stipulation.form || eqb (length frames) 2) 1 0
       → event ≡ event_of rule problem (step_of problem phase (path (reverse frames)))
-      → Gives rule problem (left_of rule problem (Within phase count) old) (left_of rule problem (Within phase next) (reverse frames)) event board (length frames)
+      → Gives rule problem (left_of rule problem (Within phase count) old) (left_of rule problem (Within phase next) (reverse frames)) event board
+      (length frames)
   gives-here next event n e = record {
     step = step_of problem phase (path (reverse frames));
     left = left-given rule problem phase count old (reverse frames) board most w next (n ∙ ap (λ b. count + cond b 1 0) begins-given);
@@ -112,7 +129,8 @@ module _ (rule : RuleSet) (problem : Posed) (phase : Phase) (count : ℕ) (old :
     stands = stands_at rule problem phase (phase_half_moves problem phase) frames board w.walking deep-given;
   }
 
-  pub standing-given : (next : ℕ) → next ≡ count + cond (is_help problem.stipulation.form || eqb (length frames) 2) 1 0 → IsStanding rule problem (Within phase next) (reverse frames) board
+  pub standing-given : (next : ℕ) → next ≡ count + cond (is_help problem.stipulation.form || eqb (length frames) 2) 1 0
+      → IsStanding rule problem (Within phase next) (reverse frames) board
   unfolding IsStanding
   standing-given next n = (w.walking, omega (arith, n, most, room-given))
 
@@ -131,21 +149,28 @@ module _ (rule : RuleSet) (problem : Posed) (phase : Phase) (count : ℕ) (old :
       at_most Play = in_range problem s
 
 -- what stands behind a phase
-behind-left : (rule : RuleSet) (problem : Posed) (phase : Phase) (frames : List Frame) → left_of rule problem (cond (is_set phase) (Before Play) Behind) frames ≡ cond (is_set phase) (steps_from rule problem Play) []
+behind-left : (rule : RuleSet) (problem : Posed) (phase : Phase) (frames : List Frame)
+    → left_of rule problem (cond (is_set phase) (Before Play) Behind) frames ≡ cond (is_set phase) (steps_from rule problem Play) []
 unfolding left_of
 behind-left rule problem Set frames = refl
 behind-left rule problem Play frames = refl
 
-behind-standing : (rule : RuleSet) (problem : Posed) (phase : Phase) (board : Position) → board ≡ start problem → IsStanding rule problem (cond (is_set phase) (Before Play) Behind) [] board
+behind-standing : (rule : RuleSet) (problem : Posed) (phase : Phase) (board : Position) → board ≡ start problem
+    → IsStanding rule problem (cond (is_set phase) (Before Play) Behind) [] board
 unfolding IsStanding
 behind-standing rule problem Set board e = (refl, e)
 behind-standing rule problem Play board e = (refl, e)
 
-module _ (rule : RuleSet) (problem : Posed) (phase : Phase) (stage : Stage) (new : List Frame) (board : Position) (at : stage ≡ cond (is_set phase) (Before Play) Behind) (none : new ≡ []) where
-  pub gives-ended : (count depth : ℕ) (old mid : List Frame) (now : Position) → Walks rule (way_of problem) (phase_half_moves problem phase) (phase_start problem phase) (problem.max_solutions - count) old mid now false → Gives rule problem (left_of rule problem (Within phase count) old) (left_of rule problem stage (reverse new)) (Total count (eqb count problem.max_solutions)) board depth
+module _ (rule : RuleSet) (problem : Posed) (phase : Phase) (stage : Stage) (new : List Frame) (board : Position)
+    (at : stage ≡ cond (is_set phase) (Before Play) Behind) (none : new ≡ []) where
+  pub gives-ended : (count depth : ℕ) (old mid : List Frame) (now : Position)
+      → Walks rule (plan_of problem) (phase_half_moves problem phase) (phase_start problem phase) (problem.max_solutions - count) old mid now false
+      → Gives rule problem (left_of rule problem (Within phase count) old) (left_of rule problem stage (reverse new))
+      (Total count (eqb count problem.max_solutions)) board depth
   gives-ended count depth old mid now w = record {
     step = total count (eqb count problem.max_solutions);
-    left = left-ended rule problem phase count old mid now w ∙ ap (λ s. total count (eqb count problem.max_solutions) ∷ s) (sym (ap (λ s. left_of rule problem s (reverse new)) at ∙ behind-left rule problem phase (reverse new)));
+    left = left-ended rule problem phase count old mid now w ∙ ap (λ s. total count (eqb count problem.max_solutions) ∷ s)
+        (sym (ap (λ s. left_of rule problem s (reverse new)) at ∙ behind-left rule problem phase (reverse new)));
     event_is = refl;
     stands = tt;
   }
@@ -154,29 +179,51 @@ module _ (rule : RuleSet) (problem : Posed) (phase : Phase) (stage : Stage) (new
   standing-ended e = rw (at, none) (behind-standing rule problem phase board e)
 
 -- a phase that isn't possible
-pub left-barred : (rule : RuleSet) (problem : Posed) (phase : Phase) (frames : List Frame) → is_barred rule problem phase ≡ true → left_of rule problem (Before phase) frames ≡ opening phase ∷ left_of rule problem Barred frames
+pub left-barred : (rule : RuleSet) (problem : Posed) (phase : Phase) (frames : List Frame) → is_barred rule problem phase ≡ true
+    → left_of rule problem (Before phase) frames ≡ opening phase ∷ left_of rule problem Barred frames
 unfolding left_of phase_steps
 left-barred rule problem Set frames e = rw e refl
 left-barred rule problem Play frames e = absurd cc
 
 -- a phase begins
-pub left-begun : (rule : RuleSet) (problem : Posed) (phase : Phase) (old new : List Frame) → is_barred rule problem phase ≡ false → keep (is_help problem.stipulation.form) problem.max_solutions (phase_paths rule problem phase new) ≡ flat_map (λ solution. solution) (take problem.max_solutions (solutions rule problem phase)) → started (is_help problem.stipulation.form) problem.max_solutions (phase_paths rule problem phase new) ≡ counted rule problem phase → left_of rule problem (Before phase) old ≡ opening phase ∷ left_of rule problem (Within phase 0) new
+pub left-begun : (rule : RuleSet) (problem : Posed) (phase : Phase) (old new : List Frame) → is_barred rule problem phase ≡ false
+    → keep (is_help problem.stipulation.form) problem.max_solutions (phase_paths rule problem phase new) ≡ flat_map (λ solution. solution)
+    (take problem.max_solutions (solutions rule problem phase)) → started (is_help problem.stipulation.form) problem.max_solutions
+    (phase_paths rule problem phase new) ≡ counted rule problem phase → left_of rule problem (Before phase) old ≡ opening phase ∷ left_of rule problem
+    (Within phase 0) new
 unfolding left_of phase_steps
 left-begun rule problem Set old new e kept begun =
     let n : problem.max_solutions - 0 ≡ problem.max_solutions = omega arith in
     let z : 0 + counted rule problem Set ≡ counted rule problem Set = omega arith in
-    rw (e, n, kept, begun, z) (ap (λ xs. opening Set ∷ xs) (append_assoc (map (step_of problem Set) (flat_map (λ solution. solution) (take problem.max_solutions (solutions rule problem Set)))) _ _))
+    rw (e, n, kept, begun, z)
+    (ap (λ xs. opening Set ∷ xs)
+    (append_assoc (map (step_of problem Set) (flat_map (λ solution. solution) (take problem.max_solutions (solutions rule problem Set)))) _ _))
 left-begun rule problem Play old new e kept begun =
     let n : problem.max_solutions - 0 ≡ problem.max_solutions = omega arith in
     let z : 0 + counted rule problem Play ≡ counted rule problem Play = omega arith in
     rw (n, kept, begun, z) refl
 
-pub standing-begun : (rule : RuleSet) (problem : Posed) (phase : Phase) (f : Frame) (board : Position) → f.left ≡ phase_half_moves problem phase → f.known ≡ None → board ≡ phase_start problem phase → IsWellFormed board → IsStanding rule problem (Within phase 0) (f ∷ []) board
+pub standing-begun : (rule : RuleSet) (problem : Posed) (phase : Phase) (f : Frame) (board : Position) → f.left ≡ phase_half_moves problem phase
+    → f.known ≡ None → board ≡ phase_start problem phase → IsWellFormed board → IsStanding rule problem (Within phase 0) (f ∷ []) board
 unfolding IsStanding IsLinked IsRoomy AreKnown position
-standing-begun rule problem phase f board l none e sound = (record { linked = tt; roomy = (omega (arith, l), tt); known = (rw none tt, tt); sound = sound; board_at = e }, omega arith)
+standing-begun rule problem phase f board l none e sound = (
+  record {
+    linked = tt;
+    roomy = (
+      omega
+          (arith, l),
+      tt,
+    );
+    known = (rw none tt, tt);
+    sound = sound;
+    board_at = e;
+  },
+  omega arith,
+)
 
 -- the frames in use
-pub depth-most : (rule : RuleSet) (problem : Posed) (stage : Stage) (frames : List Frame) (board : Position) → IsStanding rule problem stage (reverse frames) board → length frames ≤ half_moves problem.stipulation + 1
+pub depth-most : (rule : RuleSet) (problem : Posed) (stage : Stage) (frames : List Frame) (board : Position)
+    → IsStanding rule problem stage (reverse frames) board → length frames ≤ half_moves problem.stipulation + 1
 unfolding IsStanding
 depth-most rule problem (Before phase) frames board s = omega (arith, ap length s.0, length-reverse frames)
 depth-most rule problem Barred frames board s = omega (arith, ap length s.0, length-reverse frames)
@@ -198,7 +245,8 @@ drop-next zero (x ∷ xs) y ys e = cc
 drop-next (suc k) [] y ys e = absurd cc
 drop-next (suc k) (x ∷ xs) y ys e = drop-next k xs y ys e
 
-pub given-next : (rule : RuleSet) (problem : Posed) (old new : List Step) (step : Step) (given given2 : ℕ) → old ≡ step ∷ new → given2 ≡ min (given + 1) (2 ^ 64 - 1) → IsGiven rule problem old given → IsGiven rule problem new given2
+pub given-next : (rule : RuleSet) (problem : Posed) (old new : List Step) (step : Step) (given given2 : ℕ) → old ≡ step ∷ new
+    → given2 ≡ min (given + 1) (2 ^ 64 - 1) → IsGiven rule problem old given → IsGiven rule problem new given2
 given-next rule problem old new step given given2 e more g =
     let n = length (events rule problem) in
     let l : length old ≡ length new + 1 = omega (arith, ap length e) in
@@ -214,11 +262,15 @@ given-all rule problem =
     let z : length (events rule problem) - length (events rule problem) ≡ 0 = omega arith in
     record { within = omega arith; ending = rw z refl; counts = omega arith }
 
-pub given-event : (rule : RuleSet) (problem : Posed) (event : Option Event) (old new : List Step) (board : Position) (depth given given2 : ℕ) → is_some event ≡ true → MatchOption event ((old ≡ []) × (board ≡ start problem) × (new ≡ [])) (λ e. Gives rule problem old new e board depth) → given2 ≡ min (given + 1) (2 ^ 64 - 1) → IsGiven rule problem old given → IsGiven rule problem new given2
+pub given-event : (rule : RuleSet) (problem : Posed) (event : Option Event) (old new : List Step) (board : Position) (depth given given2 : ℕ)
+    → is_some event ≡ true → MatchOption event ((old ≡ []) × (board ≡ start problem) × (new ≡ [])) (λ e. Gives rule problem old new e board depth)
+    → given2 ≡ min (given + 1) (2 ^ 64 - 1) → IsGiven rule problem old given → IsGiven rule problem new given2
 given-event rule problem None old new board depth given given2 some x more g = absurd cc
 given-event rule problem (Some e) old new board depth given given2 some x more g = given-next rule problem old new x.step given given2 x.left more g
 
-pub given-none : (rule : RuleSet) (problem : Posed) (event : Option Event) (old new : List Step) (board : Position) (depth given : ℕ) → is_some event ≡ false → MatchOption event ((old ≡ []) × (board ≡ start problem) × (new ≡ [])) (λ e. Gives rule problem old new e board depth) → IsGiven rule problem old given → IsGiven rule problem new given
+pub given-none : (rule : RuleSet) (problem : Posed) (event : Option Event) (old new : List Step) (board : Position) (depth given : ℕ)
+    → is_some event ≡ false → MatchOption event ((old ≡ []) × (board ≡ start problem) × (new ≡ [])) (λ e. Gives rule problem old new e board depth)
+    → IsGiven rule problem old given → IsGiven rule problem new given
 given-none rule problem None old new board depth given none x g = let e : old ≡ new = x.0 ∙ sym x.2 in rw (← e) g
 given-none rule problem (Some e) old new board depth given none x g = absurd cc
 
@@ -227,7 +279,8 @@ module _ (rule : RuleSet) (problem : Posed) where
   abbrev Given : Option Event → List Step → List Step → Position → ℕ → Type 0
   Given event old new board depth = MatchOption event ((old ≡ []) × (board ≡ start problem) × (new ≡ [])) (λ e. Gives rule problem old new e board depth)
 
-  pub next-event : (event : Option Event) (old new : List Step) (board : Position) (depth : ℕ) → Given event old new board depth → event ≡ option_map (event_of rule problem) (slice_get old 0)
+  pub next-event : (event : Option Event) (old new : List Step) (board : Position) (depth : ℕ) → Given event old new board depth
+      → event ≡ option_map (event_of rule problem) (slice_get old 0)
   next-event None old new board depth x = rw x.0 refl
   next-event (Some e) old new board depth x = rw (x.left, x.event_is) refl
 
@@ -235,6 +288,7 @@ module _ (rule : RuleSet) (problem : Posed) where
   next-left None old new board depth x = rw (x.0, x.2) refl
   next-left (Some e) old new board depth x = rw x.left refl
 
-  pub next-board : (event : Option Event) (old new : List Step) (board : Position) (depth : ℕ) → Given event old new board depth → MatchOption (slice_get old 0) (board ≡ start problem) (λ step. StandsOn rule problem step board depth)
+  pub next-board : (event : Option Event) (old new : List Step) (board : Position) (depth : ℕ) → Given event old new board depth
+      → MatchOption (slice_get old 0) (board ≡ start problem) (λ step. StandsOn rule problem step board depth)
   next-board None old new board depth x = rw x.0 x.1
   next-board (Some e) old new board depth x = rw x.left x.stands

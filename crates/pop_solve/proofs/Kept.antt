@@ -11,8 +11,9 @@ use Rattle.pop_solve.specs.Game.{Game}
 use Rattle.pop_solve.specs.ties.Frames.{Frame, position}
 use Rattle.pop_solve.specs.ties.Walk.{follows, gives, shown, path, to_come, IsWalking, Steps}
 use Rattle.pop_solve.specs.ties.Phases.{begins, keep, started, Walks}
-use Rattle.pop_solve.specs.declared.walk.Way.{Way}
+use Rattle.pop_solve.specs.declared.plan.Plan.{Plan}
 use Rattle.pop_solve.proofs.Paths.{path-length}
+use Rattle.pop_input.specs.Stipulations.{is_help}
 
 pub started-nil : (M : Type 0) (help : Bool) (n : ℕ) → started {M = M} help n [] ≡ 0
 unfolding started
@@ -25,14 +26,16 @@ module _ {M : Type 0} where
   keep-nil help zero = refl
   keep-nil help (suc n) = refl
 
-  pub keep-next : (help : Bool) (n : ℕ) (x : List M) (xs : List (List M)) (b : Bool) → begins help x ≡ b → (b ≡ true → 0 < n) → keep help n (x ∷ xs) ≡ x ∷ keep help (n - cond b 1 0) xs
+  pub keep-next : (help : Bool) (n : ℕ) (x : List M) (xs : List (List M)) (b : Bool) → begins help x ≡ b → (b ≡ true → 0 < n)
+      → keep help n (x ∷ xs) ≡ x ∷ keep help (n - cond b 1 0) xs
   unfolding keep
   keep-next help zero x xs true e some = absurd (omega (arith, some refl))
   keep-next help zero x xs false e some = rw e refl
   keep-next help (suc n) x xs true e some = let z : suc n - 1 ≡ n = omega arith in rw (e, z) refl
   keep-next help (suc n) x xs false e some = let z : suc n - 0 ≡ suc n = omega arith in rw (e, z) refl
 
-  pub started-next : (help : Bool) (n : ℕ) (x : List M) (xs : List (List M)) (b : Bool) → begins help x ≡ b → (b ≡ true → 0 < n) → started help n (x ∷ xs) ≡ cond b 1 0 + started help (n - cond b 1 0) xs
+  pub started-next : (help : Bool) (n : ℕ) (x : List M) (xs : List (List M)) (b : Bool) → begins help x ≡ b → (b ≡ true → 0 < n)
+      → started help n (x ∷ xs) ≡ cond b 1 0 + started help (n - cond b 1 0) xs
   unfolding started
   started-next help zero x xs true e some = absurd (omega (arith, some refl))
   started-next help zero x xs false e some = rw e (omega arith)
@@ -58,32 +61,34 @@ module _ {M : Type 0} where
   root-same xs = append-nil (map (λ line. [] ++ line) xs) ∙ map-same xs
 
 -- the first path by the moves of a root in battle play begins a solution
-module _ {P M : Type 0} (way : Way) (game : Game P M) (battle : way.help ≡ false) where
-  pub gives-battle : (t : ℕ) (q : P) → gives way game t q ≡ true
+module _ {P M : Type 0} (plan : Plan) (game : Game P M) (battle : is_help plan.form ≡ false) where
+  pub gives-battle : (t : ℕ) (q : P) → gives plan game t q ≡ true
   unfolding gives
   gives-battle t q = rw battle refl
 
-  keep-shown : (root : Bool) (k left : ℕ) (p : P) (ms : List M) → keep false 0 (shown way game root k left p ms) ≡ []
+  keep-shown : (root : Bool) (k left : ℕ) (p : P) (ms : List M) → keep false 0 (shown plan game root k left p ms) ≡ []
   unfolding shown keep
   keep-shown root zero left p ms = keep-nil false 0
   keep-shown root (suc k) zero p ms = keep-nil false 0
   keep-shown root (suc k) (suc t) p [] = keep-nil false 0
   keep-shown root (suc k) (suc t) p (m ∷ ms) =
-      rw (gives-battle t (game.after p m)) (split (follows way game root t (game.after p m)) _ (keep-shown root (suc k) (suc t) p ms))
+      rw (gives-battle t (game.after p m)) (split (follows plan game root t (game.after p m)) _ (keep-shown root (suc k) (suc t) p ms))
     where
-      split : (b : Bool) (xs : List (List M)) → keep false 0 (shown way game root (suc k) (suc t) p ms) ≡ [] → keep false 0 (cond b ((m ∷ []) ∷ xs) [] ++ shown way game root (suc k) (suc t) p ms) ≡ []
+      split : (b : Bool) (xs : List (List M)) → keep false 0 (shown plan game root (suc k) (suc t) p ms) ≡ []
+          → keep false 0 (cond b ((m ∷ []) ∷ xs) [] ++ shown plan game root (suc k) (suc t) p ms) ≡ []
       split true xs e = refl
       split false xs e = e
 
-  started-shown : (root : Bool) (k left : ℕ) (p : P) (ms : List M) → started false 0 (shown way game root k left p ms) ≡ 0
+  started-shown : (root : Bool) (k left : ℕ) (p : P) (ms : List M) → started false 0 (shown plan game root k left p ms) ≡ 0
   unfolding shown started
   started-shown root zero left p ms = started-nil M false 0
   started-shown root (suc k) zero p ms = started-nil M false 0
   started-shown root (suc k) (suc t) p [] = started-nil M false 0
   started-shown root (suc k) (suc t) p (m ∷ ms) =
-      rw (gives-battle t (game.after p m)) (split (follows way game root t (game.after p m)) _ (started-shown root (suc k) (suc t) p ms))
+      rw (gives-battle t (game.after p m)) (split (follows plan game root t (game.after p m)) _ (started-shown root (suc k) (suc t) p ms))
     where
-      split : (b : Bool) (xs : List (List M)) → started false 0 (shown way game root (suc k) (suc t) p ms) ≡ 0 → started false 0 (cond b ((m ∷ []) ∷ xs) [] ++ shown way game root (suc k) (suc t) p ms) ≡ 0
+      split : (b : Bool) (xs : List (List M)) → started false 0 (shown plan game root (suc k) (suc t) p ms) ≡ 0
+          → started false 0 (cond b ((m ∷ []) ∷ xs) [] ++ shown plan game root (suc k) (suc t) p ms) ≡ 0
       split true xs e = refl
       split false xs e = e
 
@@ -96,46 +101,50 @@ no_frame : (frames : List Frame) → length frames ≡ 0 → frames ≡ []
 no_frame [] e = refl
 no_frame (f ∷ below) e = absurd (omega (arith, e))
 
-module _ (rule : RuleSet) (way : Way) (h : ℕ) (p : Position) where
-  pub to_come-root : (f : Frame) → to_come rule way h p (f ∷ []) ≡ shown way (chess way.aim.goal rule) true (h - 0) f.left p (moves_behind rule p f.place)
+module _ (rule : RuleSet) (plan : Plan) (h : ℕ) (p : Position) where
+  pub to_come-root : (f : Frame) → to_come rule plan h p (f ∷ []) ≡ shown plan (chess plan.goal rule) true (h - 0) f.left p (moves_behind rule p f.place)
   unfolding to_come path position
   to_come-root f = root-same _
 
   -- with none to begin, and none on the way
-  full : (frames : List Frame) → (way.help || eqb (length frames) 1) ≡ true → (keep way.help 0 (to_come rule way h p frames) ≡ []) × (started way.help 0 (to_come rule way h p frames) ≡ 0)
-  full frames e = go way.help refl e
+  full : (frames : List Frame) → (is_help plan.form || eqb (length frames) 1) ≡ true
+      → (keep (is_help plan.form) 0 (to_come rule plan h p frames) ≡ []) × (started (is_help plan.form) 0 (to_come rule plan h p frames) ≡ 0)
+  full frames e = go (is_help plan.form) refl e
     where
-      go : (help : Bool) → way.help ≡ help → (help || eqb (length frames) 1) ≡ true → (keep help 0 (to_come rule way h p frames) ≡ []) × (started help 0 (to_come rule way h p frames) ≡ 0)
+      go : (help : Bool) → is_help plan.form ≡ help → (help || eqb (length frames) 1) ≡ true
+          → (keep help 0 (to_come rule plan h p frames) ≡ []) × (started help 0 (to_come rule plan h p frames) ≡ 0)
       go true b e = (keep-help _, started-help _)
       go false b e =
           let one = one_frame frames e in
-          rw (one.1, to_come-root one.0) (keep-shown way (chess way.aim.goal rule) b true (h - 0) one.0.left p _, started-shown way (chess way.aim.goal rule) b true (h - 0) one.0.left p _)
+          rw (one.1, to_come-root one.0)
+          (keep-shown plan (chess plan.goal rule) b true (h - 0) one.0.left p _, started-shown plan (chess plan.goal rule) b true (h - 0) one.0.left p _)
 
-  none : (frames : List Frame) → length frames ≡ 0 → to_come rule way h p frames ≡ []
+  none : (frames : List Frame) → length frames ≡ 0 → to_come rule plan h p frames ≡ []
   unfolding to_come
   none [] e = refl
   none (f ∷ below) e = absurd (omega (arith, e))
 
-  module _ (old mid : List Frame) (same : to_come rule way h p old ≡ to_come rule way h p mid) where
-    pub walks_none : (limit : ℕ) (board : Position) → IsWalking rule h p mid board → length mid ≡ 0 → Walks rule way h p limit old mid board false
+  module _ (old mid : List Frame) (same : to_come rule plan h p old ≡ to_come rule plan h p mid) where
+    pub walks_none : (limit : ℕ) (board : Position) → IsWalking rule h p mid board → length mid ≡ 0 → Walks rule plan h p limit old mid board false
     walks_none limit board r e = record {
       walking = r;
       come = λ g. absurd cc;
       starts = λ g. absurd cc;
       within = λ g. absurd cc;
       deep = λ g. absurd cc;
-      ended = λ g. rw (same, none mid e) (keep-nil way.help limit);
+      ended = λ g. rw (same, none mid e) (keep-nil (is_help plan.form) limit);
       over = λ g. inl (no_frame mid e);
-      none = λ g. rw (same, none mid e) (started-nil Triple way.help limit);
+      none = λ g. rw (same, none mid e) (started-nil Triple (is_help plan.form) limit);
     }
 
     both_true : (a b : Bool) → (a && b) ≡ true → (a ≡ true) × (b ≡ true)
     both_true true b e = (refl, e)
     both_true false b e = absurd cc
 
-    pub walks_full : (limit : ℕ) (board : Position) → IsWalking rule h p mid board → (eqb limit 0 && (way.help || eqb (length mid) 1)) ≡ true → Walks rule way h p limit old mid board false
+    pub walks_full : (limit : ℕ) (board : Position) → IsWalking rule h p mid board → (eqb limit 0 && (is_help plan.form || eqb (length mid) 1)) ≡ true
+        → Walks rule plan h p limit old mid board false
     walks_full limit board r e =
-        let x = both_true (eqb limit 0) (way.help || eqb (length mid) 1) e in
+        let x = both_true (eqb limit 0) (is_help plan.form || eqb (length mid) 1) e in
         let z : limit ≡ 0 = grind (arith, nat_tests, x.0) in
         let f = full mid x.1 in record {
           walking = r;
@@ -156,15 +165,18 @@ module _ (rule : RuleSet) (way : Way) (h : ℕ) (p : Position) where
     most_one true n e = omega (arith, e refl)
     most_one false n e = omega arith
 
-    pub walks_given : (limit : ℕ) (new : List Frame) (board : Position) (before after : ℕ) (given : Bool) → Steps rule way h p mid new board before after given → given ≡ true → 0 < length mid → (eqb limit 0 && (way.help || eqb (length mid) 1)) ≡ false → Walks rule way h p limit old new board true
+    pub walks_given : (limit : ℕ) (new : List Frame) (board : Position) (before after : ℕ) (given : Bool)
+        → Steps rule plan h p mid new board before after given → given ≡ true → 0 < length mid
+        → (eqb limit 0 && (is_help plan.form || eqb (length mid) 1)) ≡ false → Walks rule plan h p limit old new board true
     walks_given limit new board before after given made is some e =
-        let s : Steps rule way h p mid new board before after true = (let T : Bool → Type 0 = λ x. Steps rule way h p mid new board before after x in subst T is made) in
+        let s : Steps rule plan h p mid new board before after true = (let T : Bool
+        → Type 0 = λ x. Steps rule plan h p mid new board before after x in subst T is made) in
         let l : length (path new) ≡ length mid = omega (arith, path-length new, s.deep refl) in
-        let b : (way.help || eqb (length mid) 1) ≡ begins way.help (path new) = ap (λ n. way.help || eqb n 1) (sym l) in
-        let r : begins way.help (path new) ≡ true → 0 < limit = room limit _ (rw b at e) in record {
+        let b : (is_help plan.form || eqb (length mid) 1) ≡ begins (is_help plan.form) (path new) = ap (λ n. is_help plan.form || eqb n 1) (sym l) in
+        let r : begins (is_help plan.form) (path new) ≡ true → 0 < limit = room limit _ (rw b at e) in record {
           walking = s.walking;
-          come = λ g. rw (same, s.come) (keep-next way.help limit (path new) _ _ refl r);
-          starts = λ g. rw (same, s.come) (started-next way.help limit (path new) _ _ refl r);
+          come = λ g. rw (same, s.come) (keep-next (is_help plan.form) limit (path new) _ _ refl r);
+          starts = λ g. rw (same, s.come) (started-next (is_help plan.form) limit (path new) _ _ refl r);
           within = λ g. most_one _ limit r;
           deep = λ g. omega (arith, s.deep refl, some);
           ended = λ g. absurd cc;

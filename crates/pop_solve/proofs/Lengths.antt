@@ -22,7 +22,8 @@ module _ {P M : Type 0} (battle : Battle) (game : Game P M) (q : P) where
   pub length-found : (left a : ℕ) → value battle game a q ≡ true → first_from battle game q ((left - a) / 2) a ≡ a
   length-found left a e = found ((left - a) / 2) a e
 
-  pub length-next : (left a : ℕ) → a + 2 ≤ left → value battle game a q ≡ false → first_from battle game q ((left - (a + 2)) / 2) (a + 2) ≡ first_from battle game q ((left - a) / 2) a
+  pub length-next : (left a : ℕ) → a + 2 ≤ left → value battle game a q ≡ false
+      → first_from battle game q ((left - (a + 2)) / 2) (a + 2) ≡ first_from battle game q ((left - a) / 2) a
   length-next left a h e =
       let n : (left - a) / 2 ≡ suc ((left - (a + 2)) / 2) = omega (arith, h) in
       rw n (sym (next ((left - (a + 2)) / 2) a e))

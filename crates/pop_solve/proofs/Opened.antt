@@ -16,20 +16,21 @@ use Rattle.pop_solve.specs.ties.Seen.{fewest_from, is_stop, is_unstopped, phase_
 use Rattle.pop_solve.specs.ties.Frames.{Frame, position, to_open}
 use Rattle.pop_solve.specs.ties.Phases.{left_of, rest_fewest, rest_open, IsKeys, IsNarrow, IsGiven, IsOpened, OpensOn}
 use Rattle.pop_solve.specs.ties.Values.{seeks}
-use Rattle.pop_solve.specs.ties.Walk.{fewest_left, way_of, IsCounted, IsWhites, Opens, Tries}
+use Rattle.pop_solve.specs.ties.Walk.{fewest_left, IsCounted, IsWhites, Opens, Tries}
 use Rattle.pop_solve.specs.declared.phases.Stage.{Stage}
 use Rattle.pop_solve.specs.declared.phases.Stage.TheVariants.{Before, Barred, Within, Behind}
-use Rattle.pop_solve.specs.declared.walk.Way.{Way}
+use Rattle.pop_solve.specs.declared.plan.Plan.{Plan}
 use Rattle.pop_solve.proofs.Boards.{behind_start}
 use Rattle.pop_solve.proofs.Sound.{some_way}
 use Rattle.pop_solve.proofs.Walking.{counted_by, no_zero, one, opened-most, walk_count-start}
+use Rattle.pop_solve.specs.ties.Plans.{plan_of, varies}
 
 -- one part of a walk after another
-module _ (rule : RuleSet) (way : Way) (p : Position) where
-  pub opens-none : (frames : List Frame) (count : ℕ) → Opens rule way p frames frames count count
+module _ (rule : RuleSet) (plan : Plan) (p : Position) where
+  pub opens-none : (frames : List Frame) (count : ℕ) → Opens rule plan p frames frames count count
   opens-none frames count = record { whites = λ a b w. w; most = λ a b w. omega arith; helped = λ a. omega arith; counted = λ a walk c. c }
 
-  pub opens-then : (old mid new : List Frame) (a b c : ℕ) → Opens rule way p old mid a b → Opens rule way p mid new b c → Opens rule way p old new a c
+  pub opens-then : (old mid new : List Frame) (a b c : ℕ) → Opens rule plan p old mid a b → Opens rule plan p mid new b c → Opens rule plan p old new a c
   opens-then old mid new a b c x y = record {
     whites = λ h v w. y.whites h v (x.whites h v w);
     most = λ h v w. omega (arith, x.most h v w, y.most h v (x.whites h v w));
@@ -37,17 +38,19 @@ module _ (rule : RuleSet) (way : Way) (p : Position) where
     counted = λ h walk k. y.counted h walk (x.counted h walk k);
   }
 
-  pub tries-none : (h : ℕ) (frames : List Frame) (count : ℕ) → Tries rule way h p frames frames count count
+  pub tries-none : (h : ℕ) (frames : List Frame) (count : ℕ) → Tries rule plan h p frames frames count count
   tries-none h frames count = record { grows = omega arith; fewest = λ a. omega arith }
 
-  pub tries-then : (h : ℕ) (old mid new : List Frame) (a b c : ℕ) → Tries rule way h p old mid a b → Tries rule way h p mid new b c → Tries rule way h p old new a c
+  pub tries-then : (h : ℕ) (old mid new : List Frame) (a b c : ℕ) → Tries rule plan h p old mid a b → Tries rule plan h p mid new b c
+      → Tries rule plan h p old new a c
   tries-then h old mid new a b c x y = record {
     grows = omega (arith, x.grows, y.grows);
     fewest = λ e. omega (arith, x.fewest e, y.fewest e);
   }
 
 -- the root of a phase counts where half-moves are tried from it
-root-counted : (n count count2 : ℕ) → (0 < n → count2 ≡ min (count + 1) (2 ^ 64 - 1)) → (n ≡ 0 → count2 ≡ count) → min (count + cond (eqb n 0) 0 1) (2 ^ 64 - 1) ≤ count2
+root-counted : (n count count2 : ℕ) → (0 < n → count2 ≡ min (count + 1) (2 ^ 64 - 1)) → (n ≡ 0 → count2 ≡ count)
+    → min (count + cond (eqb n 0) 0 1) (2 ^ 64 - 1) ≤ count2
 root-counted zero count count2 more same = omega (arith, same refl)
 root-counted (suc k) count count2 more same = rw (no_zero k) (omega (arith, more (omega arith)))
 
@@ -86,8 +89,12 @@ module _ (rule : RuleSet) (problem : Posed) where
   abbrev later_fewest : Phase → ℕ
   later_fewest phase = cond (is_set phase) (phase_fewest rule problem Play) 0
 
+  keys-alone : problem.variation ≡ false → varies (plan_of problem) ≡ false
+  keys-alone e = rw e refl
+
   -- a phase that isn't possible
-  pub opens-barred : (phase : Phase) (old new : List Frame) (count : ℕ) (left : List Step) → is_barred rule problem phase ≡ true → OpensOn rule problem (Before phase) Barred old new count count left
+  pub opens-barred : (phase : Phase) (old new : List Frame) (count : ℕ) (left : List Step) → is_barred rule problem phase ≡ true
+      → OpensOn rule problem (Before phase) Barred old new count count left
   unfolding rest_open rest_fewest IsNarrow
   opens-barred Set old new count left e = record {
     narrow = λ n. narrowed n;
@@ -103,55 +110,74 @@ module _ (rule : RuleSet) (problem : Posed) where
   opens-barred Play old new count left e = absurd cc
 
   -- a phase begins: its root is opened
-  module _ (sound : IsSound problem) (phase : Phase) (f : Frame) (left_is : f.left ≡ phase_half_moves problem phase) (place_is : f.place ≡ 0) (possible : is_barred rule problem phase ≡ false) where
-    abbrev way : Way
-    way = way_of problem
+  module _ (sound : IsSound problem) (phase : Phase) (f : Frame) (left_is : f.left ≡ phase_half_moves problem phase) (place_is : f.place ≡ 0)
+      (possible : is_barred rule problem phase ≡ false) where
+    abbrev plan : Plan
+    plan = plan_of problem
 
-    root-open : phase_walk rule problem phase ≡ one rule way f.left + to_open rule (phase_start problem phase) (f ∷ [])
+    root-open : phase_walk rule problem phase ≡ one rule plan f.left + to_open rule (phase_start problem phase) (f ∷ [])
     unfolding to_open position
-    root-open = rw (possible, place_is, ← left_is) (omega (arith, walk_count-start rule way f.left (phase_start problem phase)))
+    root-open = rw (possible, place_is, ← left_is) (omega (arith, walk_count-start rule plan f.left (phase_start problem phase)))
 
-    from-open : walk_from rule problem phase ≡ one rule way f.left + (to_open rule (phase_start problem phase) (f ∷ []) + later phase)
+    from-open : walk_from rule problem phase ≡ one rule plan f.left + (to_open rule (phase_start problem phase) (f ∷ []) + later phase)
     from-open = go phase root-open
       where
-        go : (b : Phase) → phase_walk rule problem b ≡ one rule way f.left + to_open rule (phase_start problem phase) (f ∷ []) → walk_from rule problem b ≡ one rule way f.left + (to_open rule (phase_start problem phase) (f ∷ []) + later b)
+        go : (b : Phase) → phase_walk rule problem b ≡ one rule plan f.left + to_open rule (phase_start problem phase) (f ∷ [])
+            → walk_from rule problem b ≡ one rule plan f.left + (to_open rule (phase_start problem phase) (f ∷ []) + later b)
         go Set e = rw e (omega arith)
         go Play e = omega (arith, e)
 
-    root-fewest : phase_fewest rule problem phase ≡ cond (eqb f.left 0) 0 1 + fewest_left rule way (phase_half_moves problem phase) (phase_start problem phase) (f ∷ [])
+    root-fewest : phase_fewest rule problem phase ≡ cond (eqb f.left 0) 0 1 + fewest_left rule plan (phase_half_moves problem phase)
+        (phase_start problem phase) (f ∷ [])
     unfolding fewest_left position
     root-fewest = rw (possible, place_is, behind_start rule (phase_start problem phase), ← left_is, less_none f.left) (omega arith)
 
-    from-fewest : fewest_from rule problem phase ≡ cond (eqb f.left 0) 0 1 + (fewest_left rule way (phase_half_moves problem phase) (phase_start problem phase) (f ∷ []) + later_fewest phase)
+    from-fewest : fewest_from rule problem phase ≡ cond
+        (eqb f.left 0) 0 1 + (fewest_left rule plan (phase_half_moves problem phase) (phase_start problem phase) (f ∷ []) + later_fewest phase)
     from-fewest = go phase root-fewest
       where
-        go : (b : Phase) → phase_fewest rule problem b ≡ cond (eqb f.left 0) 0 1 + fewest_left rule way (phase_half_moves problem phase) (phase_start problem phase) (f ∷ []) → fewest_from rule problem b ≡ cond (eqb f.left 0) 0 1 + (fewest_left rule way (phase_half_moves problem phase) (phase_start problem phase) (f ∷ []) + later_fewest b)
+        go : (b : Phase)
+            → phase_fewest rule problem b ≡ cond (eqb f.left 0) 0 1 + fewest_left rule plan (phase_half_moves problem phase) (phase_start problem phase)
+            (f ∷ []) → fewest_from rule problem b ≡ cond
+            (eqb f.left 0) 0 1 + (fewest_left rule plan (phase_half_moves problem phase) (phase_start problem phase) (f ∷ []) + later_fewest b)
         go Set e = rw e (omega arith)
         go Play e = omega (arith, e)
 
-    pub opens-begun : (old : List Frame) (count count2 : ℕ) (left : List Step) → (0 < f.left → count2 ≡ min (count + 1) (2 ^ 64 - 1)) → (f.left ≡ 0 → count2 ≡ count) → OpensOn rule problem (Before phase) (Within phase 0) old (f ∷ []) count count2 left
+    pub opens-begun : (old : List Frame) (count count2 : ℕ) (left : List Step) → (0 < f.left → count2 ≡ min (count + 1) (2 ^ 64 - 1))
+        → (f.left ≡ 0 → count2 ≡ count) → OpensOn rule problem (Before phase) (Within phase 0) old (f ∷ []) count count2 left
     unfolding rest_open rest_fewest IsNarrow
     opens-begun old count count2 left more same = record {
       narrow = λ n. narrowed n;
-      most = λ n. omega (arith, from-open, opened-most rule way f.left count count2 more same);
-      counted = λ h u walk c. counted_by rule way f.left walk count count2 _ _ from-open more same c;
+      most = λ n. omega (arith, from-open, opened-most rule plan f.left count count2 more same);
+      counted = λ h u walk c. counted_by rule plan f.left walk count count2 _ _ from-open more same c;
       grows = omega (arith, root-counted f.left count count2 more same);
       fewest = λ h u. omega (arith, root-counted f.left count count2 more same, from-fewest);
     }
       where
-        narrowed : (is_help problem.stipulation.form ≡ true) ⊎ IsKeys problem phase → (is_help problem.stipulation.form ≡ true) ⊎ (IsKeys problem phase × (IsWhites (battle_of problem.stipulation.form) (f ∷ []) ≡ true))
+        narrowed : (is_help problem.stipulation.form ≡ true) ⊎ IsKeys problem phase
+            → (is_help problem.stipulation.form ≡ true) ⊎ (IsKeys problem phase × (IsWhites (battle_of problem.stipulation.form) (f ∷ []) ≡ true))
         narrowed (inl h) = inl h
         narrowed (inr k) =
-            let l : f.left ≡ half_moves problem.stipulation = left_is ∙ ap (λ b. cond b (half_moves problem.stipulation - 1) (half_moves problem.stipulation)) k.play in
-            inr (k, whites-root (battle_of problem.stipulation.form) f (rw l (white-starts problem.stipulation.form problem.stipulation.n k.battle (some_way problem sound))))
+            let l : f.left ≡ half_moves problem.stipulation = left_is
+            ∙ ap (λ b. cond b (half_moves problem.stipulation - 1) (half_moves problem.stipulation)) k.play in
+            inr (
+              k,
+              whites-root (battle_of problem.stipulation.form) f
+                  (rw l (white-starts problem.stipulation.form problem.stipulation.n k.battle (some_way problem sound))),
+            )
 
   -- within a phase
-  module _ (phase : Phase) (count : ℕ) (old new : List Frame) (before after : ℕ) (x : Opens rule (way_of problem) (phase_start problem phase) old new before after) (y : Tries rule (way_of problem) (phase_half_moves problem phase) (phase_start problem phase) old new before after) where
-    walked-most : (is_help problem.stipulation.form ≡ true) ⊎ (IsKeys problem phase × (IsWhites (battle_of problem.stipulation.form) old ≡ true)) → after + to_open rule (phase_start problem phase) new ≤ before + to_open rule (phase_start problem phase) old
+  module _ (phase : Phase) (count : ℕ) (old new : List Frame) (before after : ℕ)
+      (x : Opens rule (plan_of problem) (phase_start problem phase) old new before after)
+      (y : Tries rule (plan_of problem) (phase_half_moves problem phase) (phase_start problem phase) old new before after) where
+    walked-most : (is_help problem.stipulation.form ≡ true) ⊎ (IsKeys problem phase × (IsWhites (battle_of problem.stipulation.form) old ≡ true))
+        → after + to_open rule (phase_start problem phase) new ≤ before + to_open rule (phase_start problem phase) old
     walked-most (inl h) = x.helped h
-    walked-most (inr k) = x.most k.0.battle k.0.keys k.1
+    walked-most (inr k) = x.most k.0.battle (keys-alone k.0.keys) k.1
 
-    walked-counted : is_help problem.stipulation.form ≡ true → (walk : ℕ) → IsCounted walk before (to_open rule (phase_start problem phase) old + later phase) → IsCounted walk after (to_open rule (phase_start problem phase) new + later phase)
+    walked-counted : is_help problem.stipulation.form ≡ true → (walk : ℕ)
+        → IsCounted walk before (to_open rule (phase_start problem phase) old + later phase)
+        → IsCounted walk after (to_open rule (phase_start problem phase) new + later phase)
     walked-counted h walk c =
         counted-along walk (later phase) after _ (omega (arith, c.within)) (x.counted h (walk - later phase) (counted-apart walk (later phase) before _ c))
 
@@ -165,12 +191,14 @@ module _ (rule : RuleSet) (problem : Posed) where
       fewest = λ h u. omega (arith, y.fewest h);
     }
       where
-        narrowed : (is_help problem.stipulation.form ≡ true) ⊎ (IsKeys problem phase × (IsWhites (battle_of problem.stipulation.form) old ≡ true)) → (is_help problem.stipulation.form ≡ true) ⊎ (IsKeys problem phase × (IsWhites (battle_of problem.stipulation.form) new ≡ true))
+        narrowed : (is_help problem.stipulation.form ≡ true) ⊎ (IsKeys problem phase × (IsWhites (battle_of problem.stipulation.form) old ≡ true))
+            → (is_help problem.stipulation.form ≡ true) ⊎ (IsKeys problem phase × (IsWhites (battle_of problem.stipulation.form) new ≡ true))
         narrowed (inl h) = inl h
-        narrowed (inr k) = inr (k.0, x.whites k.0.battle k.0.keys k.1)
+        narrowed (inr k) = inr (k.0, x.whites k.0.battle (keys-alone k.0.keys) k.1)
 
     -- its end: where no phase is stopped, nothing is left to open
-    nothing_open : (left : List Step) → is_unstopped (total count (eqb count problem.max_solutions) ∷ left) ≡ true → count ≤ problem.max_solutions → (new ≡ []) ⊎ (problem.max_solutions - count ≡ 0) → to_open rule (phase_start problem phase) new ≡ 0
+    nothing_open : (left : List Step) → is_unstopped (total count (eqb count problem.max_solutions) ∷ left) ≡ true → count ≤ problem.max_solutions
+        → (new ≡ []) ⊎ (problem.max_solutions - count ≡ 0) → to_open rule (phase_start problem phase) new ≡ 0
     unfolding to_open
     nothing_open left u most (inl none) = rw none refl
     nothing_open left u most (inr full) =
@@ -178,7 +206,9 @@ module _ (rule : RuleSet) (problem : Posed) where
         let t : eqb count problem.max_solutions ≡ true = grind (arith, nat_tests, e) in
         let f : false ≡ true = rw t at u in absurd cc
 
-    nothing_fewest : (left : List Step) → is_unstopped (total count (eqb count problem.max_solutions) ∷ left) ≡ true → count ≤ problem.max_solutions → (new ≡ []) ⊎ (problem.max_solutions - count ≡ 0) → fewest_left rule (way_of problem) (phase_half_moves problem phase) (phase_start problem phase) new ≡ 0
+    nothing_fewest : (left : List Step) → is_unstopped (total count (eqb count problem.max_solutions) ∷ left) ≡ true → count ≤ problem.max_solutions
+        → (new ≡ []) ⊎ (problem.max_solutions - count ≡ 0)
+        → fewest_left rule (plan_of problem) (phase_half_moves problem phase) (phase_start problem phase) new ≡ 0
     unfolding fewest_left
     nothing_fewest left u most (inl none) = rw none refl
     nothing_fewest left u most (inr full) =
@@ -186,12 +216,19 @@ module _ (rule : RuleSet) (problem : Posed) where
         let t : eqb count problem.max_solutions ≡ true = grind (arith, nat_tests, e) in
         let f : false ≡ true = rw t at u in absurd cc
 
-    pub opens-ended : (stage : Stage) (last : List Frame) (left : List Step) → stage ≡ cond (is_set phase) (Before Play) Behind → count ≤ problem.max_solutions → (new ≡ []) ⊎ (problem.max_solutions - count ≡ 0) → OpensOn rule problem (Within phase count) stage old last before after (total count (eqb count problem.max_solutions) ∷ left)
+    pub opens-ended : (stage : Stage) (last : List Frame) (left : List Step) → stage ≡ cond (is_set phase) (Before Play) Behind
+        → count ≤ problem.max_solutions → (new ≡ []) ⊎ (problem.max_solutions - count ≡ 0)
+        → OpensOn rule problem (Within phase count) stage old last before after (total count (eqb count problem.max_solutions) ∷ left)
     unfolding rest_open rest_fewest IsNarrow
     opens-ended stage last left at most over = record {
       narrow = λ n. rw at (narrowed phase n);
       most = λ n. rw (at, rest-is phase) (omega (arith, walked-most n));
-      counted = λ h u walk c. rw (at, rest-is phase) (let w = walked-counted h walk c in let z = nothing_open left u most over in record { within = omega (arith, w.within); counts = omega (arith, z, w.counts) });
+      counted = λ h u walk c. rw (at, rest-is phase)
+          (let w = walked-counted h walk c in let z = nothing_open left u most over in record {
+            within = omega (arith, w.within);
+            counts = omega
+                (arith, z, w.counts);
+          });
       grows = y.grows;
       fewest = λ h u. rw (at, fewest-is phase) (omega (arith, y.fewest h, nothing_fewest left u most over));
     }
@@ -204,7 +241,8 @@ module _ (rule : RuleSet) (problem : Posed) where
         fewest-is Set = refl
         fewest-is Play = refl
 
-        narrowed : (b : Phase) → (is_help problem.stipulation.form ≡ true) ⊎ (IsKeys problem b × (IsWhites (battle_of problem.stipulation.form) old ≡ true)) → IsNarrow problem (cond (is_set b) (Before Play) Behind) last
+        narrowed : (b : Phase) → (is_help problem.stipulation.form ≡ true) ⊎ (IsKeys problem b × (IsWhites (battle_of problem.stipulation.form) old ≡ true))
+            → IsNarrow problem (cond (is_set b) (Before Play) Behind) last
         narrowed Set (inl h) = inl h
         narrowed Set (inr k) = let f : true ≡ false = k.0.play in absurd cc
         narrowed Play n = tt
@@ -220,10 +258,24 @@ module _ (rule : RuleSet) (problem : Posed) where
   -- before the play where set play isn't possible, and behind all
   pub opens-play : (frames : List Frame) (count : ℕ) (left : List Step) → OpensOn rule problem Barred (Before Play) frames frames count count left
   unfolding rest_open rest_fewest IsNarrow
-  opens-play frames count left = record { narrow = λ h. inl h; most = λ n. omega arith; counted = λ h u walk c. c; grows = omega arith; fewest = λ h u. omega arith }
+  opens-play frames count left = record {
+    narrow = λ h. inl h;
+    most = λ n. omega arith;
+    counted = λ h u walk
+        c. c;
+    grows = omega arith;
+    fewest = λ h u. omega arith;
+  }
 
   pub opens-behind : (stage : Stage) (frames : List Frame) (count : ℕ) (left : List Step) → OpensOn rule problem stage stage frames frames count count left
-  opens-behind stage frames count left = record { narrow = λ n. n; most = λ n. omega arith; counted = λ h u walk c. c; grows = omega arith; fewest = λ h u. omega arith }
+  opens-behind stage frames count left = record {
+    narrow = λ n. n;
+    most = λ n. omega arith;
+    counted = λ h u walk
+        c. c;
+    grows = omega arith;
+    fewest = λ h u. omega arith;
+  }
 
   -- a search that has opened nothing
   pub opened-start : (frames : List Frame) → IsOpened rule problem (Before (first_phase problem)) frames 0
@@ -235,7 +287,8 @@ module _ (rule : RuleSet) (problem : Posed) where
     fewest = λ h u. omega arith;
   }
     where
-      narrowed : (h v s : Bool) → is_help problem.stipulation.form ≡ h → problem.variation ≡ v → problem.set_play ≡ s → (h || (not v && not s)) ≡ true → (is_help problem.stipulation.form ≡ true) ⊎ IsKeys problem (first_phase problem)
+      narrowed : (h v s : Bool) → is_help problem.stipulation.form ≡ h → problem.variation ≡ v → problem.set_play ≡ s → (h || (not v && not s)) ≡ true
+          → (is_help problem.stipulation.form ≡ true) ⊎ IsKeys problem (first_phase problem)
       narrowed true v s a b c w = inl a
       narrowed false true s a b c w = absurd cc
       narrowed false false true a b c w = absurd cc
@@ -250,7 +303,8 @@ module _ (rule : RuleSet) (problem : Posed) where
       second true b e = e
       second false b e = absurd cc
 
-  pub opened-on : (old new : Stage) (frames last : List Frame) (before after given : ℕ) (left : List Step) → IsGiven rule problem left given → OpensOn rule problem old new frames last before after left → IsOpened rule problem old frames before → IsOpened rule problem new last after
+  pub opened-on : (old new : Stage) (frames last : List Frame) (before after given : ℕ) (left : List Step) → IsGiven rule problem left given
+      → OpensOn rule problem old new frames last before after left → IsOpened rule problem old frames before → IsOpened rule problem new last after
   opened-on old new frames last before after given left g x o = record {
     narrow = λ w. x.narrow (o.narrow w);
     most = λ w. omega (arith, x.most (o.narrow w), o.most w);

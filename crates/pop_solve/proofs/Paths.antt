@@ -29,7 +29,8 @@ module _ (goal : Goal) (rule : RuleSet) where
   reach-append p [] m = refl
   reach-append p (x ∷ xs) m = reach-append (played rule p x) xs m
 
-  along-append : (p : Position) (xs : List Triple) (m : Triple) → shown_along goal rule p (xs ++ m ∷ []) ≡ shown_along goal rule p xs ++ show goal rule (reach (played rule) p xs) m ∷ []
+  along-append : (p : Position) (xs : List Triple) (m : Triple)
+      → shown_along goal rule p (xs ++ m ∷ []) ≡ shown_along goal rule p xs ++ show goal rule (reach (played rule) p xs) m ∷ []
   along-append p [] m = refl
   along-append p (x ∷ xs) m = ap (λ ys. show goal rule p x ∷ ys) (along-append (played rule p x) xs m)
 
@@ -113,7 +114,8 @@ module _ (rule : RuleSet) where
     forth-position p = ap (position rule p) stacked ∙ position-more p f (reverse lower) some-below
 
     pub forth-along : (goal : Goal) (p : Position)
-        → shown_along goal rule p (path (reverse upper)) ≡ shown_along goal rule p (path (reverse lower)) ++ show goal rule (position rule p (reverse lower)) f.by ∷ []
+        → shown_along goal rule p (path (reverse upper)) ≡ shown_along goal rule p (path (reverse lower)) ++ show goal rule
+        (position rule p (reverse lower)) f.by ∷ []
     forth-along goal p = ap (λ fs. shown_along goal rule p (path fs)) stacked ∙ along-more goal rule p f (reverse lower) some-below
 
     pub forth-last : (goal : Goal) (p : Position) → shown_last goal rule p (path (reverse upper)) ≡ show goal rule (position rule p (reverse lower)) f.by

@@ -19,7 +19,8 @@ module _ {M : Type 0} (test : M → Bool) (f : M → ℕ) where
   least-plus k a n [] e = omega (arith, e)
   least-plus k a n (m ∷ ms) e =
       let l = least-plus k a n ms e in
-      elim (test m) as (λ b. cond b (min (f m) (least_of test f n ms)) (least_of test f n ms) ≤ k + cond b (min (f m) (least_of test f a ms)) (least_of test f a ms))
+      elim (test m) as (λ b. cond b (min (f m) (least_of test f n ms)) (least_of test f n ms) ≤ k + cond b (min (f m) (least_of test f a ms))
+      (least_of test f a ms))
       [ true ↦ omega (arith, l) | false ↦ l ]
 
   least-append : (n : ℕ) (xs ys : List M) → least_of test f n (xs ++ ys) ≡ min (least_of test f n xs) (least_of test f n ys)
@@ -27,7 +28,8 @@ module _ {M : Type 0} (test : M → Bool) (f : M → ℕ) where
   least-append n [] ys = omega (arith, least-most n ys)
   least-append n (m ∷ xs) ys =
       let l = least-append n xs ys in
-      elim (test m) as (λ b. cond b (min (f m) (least_of test f n (xs ++ ys))) (least_of test f n (xs ++ ys)) ≡ min (cond b (min (f m) (least_of test f n xs)) (least_of test f n xs)) (least_of test f n ys))
+      elim (test m) as (λ b. cond b (min (f m) (least_of test f n (xs ++ ys))) (least_of test f n (xs ++ ys)) ≡ min
+      (cond b (min (f m) (least_of test f n xs)) (least_of test f n xs)) (least_of test f n ys))
       [ true ↦ omega (arith, l) | false ↦ l ]
 
   -- that of all moves, or of one that passes the test
@@ -38,7 +40,8 @@ module _ {M : Type 0} (test : M → Bool) (f : M → ℕ) where
   unfolding least_of
   least-next m a n ms e =
       let l = least-plus (f m) a n ms e in
-      elim (test m) as (λ b. cond b (min (f m) (least_of test f n ms)) (least_of test f n ms) ≤ f m + cond b 0 (least_of test f a ms)) [ true ↦ omega arith | false ↦ l ]
+      elim (test m) as (λ b. cond b (min (f m) (least_of test f n ms)) (least_of test f n ms) ≤ f m + cond b 0
+      (least_of test f a ms)) [ true ↦ omega arith | false ↦ l ]
 
   below-next : (m : M) (ms : List M) → below (m ∷ ms) ≤ f m + cond (test m) 0 (below ms)
   below-next m ms = least-next m (sum_by f ms) (sum_by f (m ∷ ms)) ms (sum_by-cons f m ms)
@@ -53,7 +56,8 @@ module _ {M : Type 0} (test : M → Bool) (f : M → ℕ) where
 
 module _ {P M : Type 0} (battle : Battle) (game : Game P M) where
   pub trees-next : (t : ℕ) (p : P) (m : M) (ms : List M)
-      → smallest_below battle game (suc t) p (m ∷ ms) ≤ smallest_tree battle game t (game.after p m) + cond (decided_by battle game t p m) 0 (smallest_below battle game (suc t) p ms)
+      → smallest_below battle game (suc t) p (m ∷ ms) ≤ smallest_tree battle game t (game.after p m) + cond (decided_by battle game t p m) 0
+      (smallest_below battle game (suc t) p ms)
   unfolding smallest_below
   trees-next t p m ms = below-next (decided_by battle game t p) (λ m. smallest_tree battle game t (game.after p m)) m ms
 
@@ -97,6 +101,7 @@ module _ {P M : Type 0} (battle : Battle) (game : Game P M) where
   tree-one zero p e = cc
   tree-one (suc zero) p e =
       let s = trees-start 1 p in
-      let l = least-most (decided_by battle game 0 p) (λ m. smallest_tree battle game 0 (game.after p m)) (sum_by (λ m. smallest_tree battle game 0 (game.after p m)) (game.moves p)) (game.moves p) in
+      let l = least-most (decided_by battle game 0 p) (λ m. smallest_tree battle game 0 (game.after p m))
+      (sum_by (λ m. smallest_tree battle game 0 (game.after p m)) (game.moves p)) (game.moves p) in
       omega (arith, s, l, nothing p (game.moves p))
   tree-one (suc (suc t)) p e = absurd (omega (arith, e))

@@ -18,15 +18,16 @@ use Rattle.pop_input.specs.Stipulations.{is_help, half_moves_of}
 use Rattle.pop_solve.proofs.Sound.{some_way}
 use Rattle.pop_solve.specs.ties.Frames.{Frame}
 use Rattle.pop_solve.specs.Tree.{node, keeps, tree, set_shows, set_tree}
-use Rattle.pop_solve.specs.ties.Walk.{way_of, follows, gives, goes_on, shown}
+use Rattle.pop_solve.specs.ties.Walk.{follows, gives, goes_on, shown}
 use Rattle.pop_solve.specs.Events.{is_set, solutions, phase_start, phase_half_moves}
 use Rattle.pop_solve.specs.ties.Phases.{keep, started, phase_paths}
 use Rattle.pop_input.specs.declared.stipulation.Form.{Form}
 use Rattle.pop_input.specs.declared.stipulation.Form.TheVariants.{Direct, SelfMate, Help, HelpHalf}
-use Rattle.pop_solve.specs.declared.walk.Way.{Way}
+use Rattle.pop_solve.specs.declared.plan.Plan.{Plan}
 use Rattle.pop_solve.proofs.Battles.{value-wins, value-self_wins}
 use Rattle.pop_solve.proofs.Trees.{flat-filter, shown-zero, shown-help, halves, keeps-value, halves-seek, seeks-step, flip, unflip, beneath, as_nodes, by_test, below-key, below-set}
 use Rattle.pop_solve.proofs.Kept.{keep-nil, started-nil, to_come-root}
+use Rattle.pop_solve.specs.ties.Plans.{shows_variations, tree_shown, plan_of, varies}
 
 -- what is kept of a list of paths, and the solutions begun: `sols` are its solutions
 pub record IsCutInto {M : Type 0} (help : Bool) (n : ℕ) (paths : List (List M)) (sols : List (List (List M))) : Type 0 where
@@ -58,12 +59,15 @@ both true b e = (refl, e)
 both false b e = absurd cc
 
 module _ {M : Type 0} where
-  over-kept : (n : ℕ) (m : M) (ys rest : List (List M)) → list_all some ys ≡ true → keep false n (map (λ path. m ∷ path) ys ++ rest) ≡ map (λ path. m ∷ path) ys ++ keep false n rest
+  over-kept : (n : ℕ) (m : M) (ys rest : List (List M)) → list_all some ys ≡ true
+      → keep false n (map (λ path. m ∷ path) ys ++ rest) ≡ map (λ path. m ∷ path) ys ++ keep false n rest
   unfolding keep
   over-kept n m [] rest a = refl
   over-kept n m ([] ∷ ys) rest a = absurd cc
-  over-kept zero m ((y ∷ z) ∷ ys) rest a = let e : eqb (length (m ∷ (y ∷ z))) 1 ≡ false = grind (arith, nat_tests) in rw e (ap (λ xs. (m ∷ (y ∷ z)) ∷ xs) (over-kept zero m ys rest a))
-  over-kept (suc n) m ((y ∷ z) ∷ ys) rest a = let e : eqb (length (m ∷ (y ∷ z))) 1 ≡ false = grind (arith, nat_tests) in rw e (ap (λ xs. (m ∷ (y ∷ z)) ∷ xs) (over-kept (suc n) m ys rest a))
+  over-kept zero m ((y ∷ z) ∷ ys) rest a = let e : eqb (length (m ∷ (y ∷ z))) 1 ≡ false = grind (arith, nat_tests) in rw e
+      (ap (λ xs. (m ∷ (y ∷ z)) ∷ xs) (over-kept zero m ys rest a))
+  over-kept (suc n) m ((y ∷ z) ∷ ys) rest a = let e : eqb (length (m ∷ (y ∷ z))) 1 ≡ false = grind (arith, nat_tests) in rw e
+      (ap (λ xs. (m ∷ (y ∷ z)) ∷ xs) (over-kept (suc n) m ys rest a))
 
   over-begun : (n : ℕ) (m : M) (ys rest : List (List M)) → list_all some ys ≡ true → started false n (map (λ path. m ∷ path) ys ++ rest) ≡ started false n rest
   unfolding started
@@ -72,15 +76,18 @@ module _ {M : Type 0} where
   over-begun zero m ((y ∷ z) ∷ ys) rest a = let e : eqb (length (m ∷ (y ∷ z))) 1 ≡ false = grind (arith, nat_tests) in rw e (over-begun zero m ys rest a)
   over-begun (suc n) m ((y ∷ z) ∷ ys) rest a = let e : eqb (length (m ∷ (y ∷ z))) 1 ≡ false = grind (arith, nat_tests) in rw e (over-begun (suc n) m ys rest a)
 
-  nodes-kept : (X : M → List (List M)) → ((m : M) → list_all some (X m) ≡ true) → (n : ℕ) (ms : List M) → keep false n (flat_map (λ m. node m (X m)) ms) ≡ flat_map (λ solution. solution) (take n (map (λ m. node m (X m)) ms))
+  nodes-kept : (X : M → List (List M)) → ((m : M) → list_all some (X m) ≡ true) → (n : ℕ) (ms : List M)
+      → keep false n (flat_map (λ m. node m (X m)) ms) ≡ flat_map (λ solution. solution) (take n (map (λ m. node m (X m)) ms))
   unfolding keep
   nodes-kept X full zero [] = refl
   nodes-kept X full zero (m ∷ ms) = refl
   nodes-kept X full (suc n) [] = refl
   nodes-kept X full (suc n) (m ∷ ms) =
-      ap (λ ys. (m ∷ []) ∷ ys) (over-kept n m (X m) (flat_map (λ x. node x (X x)) ms) (full m) ∙ ap (λ ys. map (λ path. m ∷ path) (X m) ++ ys) (nodes-kept X full n ms))
+      ap (λ ys. (m ∷ []) ∷ ys) (over-kept n m (X m) (flat_map (λ x. node x (X x)) ms) (full m) ∙ ap (λ ys. map (λ path. m ∷ path) (X m) ++ ys)
+      (nodes-kept X full n ms))
 
-  nodes-begun : (X : M → List (List M)) → ((m : M) → list_all some (X m) ≡ true) → (n : ℕ) (ms : List M) → started false n (flat_map (λ m. node m (X m)) ms) ≡ length (take n (map (λ m. node m (X m)) ms))
+  nodes-begun : (X : M → List (List M)) → ((m : M) → list_all some (X m) ≡ true) → (n : ℕ) (ms : List M)
+      → started false n (flat_map (λ m. node m (X m)) ms) ≡ length (take n (map (λ m. node m (X m)) ms))
   unfolding started
   nodes-begun X full zero [] = refl
   nodes-begun X full zero (m ∷ ms) = refl
@@ -95,41 +102,56 @@ module _ {M : Type 0} where
   all-over m [] = refl
   all-over m (x ∷ xs) = all-over m xs
 
-  map-filter : {B : Type 0} (test other : M → Bool) (F G : M → B) (xs : List M) → ((x : M) → test x ≡ other x) → ((x : M) → test x ≡ true → F x ≡ G x) → map F (filter test xs) ≡ map G (filter other xs)
+  map-filter : {B : Type 0} (test other : M → Bool) (F G : M → B) (xs : List M) → ((x : M) → test x ≡ other x) → ((x : M) → test x ≡ true → F x ≡ G x)
+      → map F (filter test xs) ≡ map G (filter other xs)
   map-filter test other F G [] s e = refl
   map-filter test other F G (x ∷ xs) s e = rw (← s x) (split (test x) refl (map-filter test other F G xs s e))
     where
-      split : (b : Bool) → test x ≡ b → map F (filter test xs) ≡ map G (filter other xs) → map F (cond b (x ∷ filter test xs) (filter test xs)) ≡ map G (cond b (x ∷ filter other xs) (filter other xs))
+      split : (b : Bool) → test x ≡ b → map F (filter test xs) ≡ map G (filter other xs)
+          → map F (cond b (x ∷ filter test xs) (filter test xs)) ≡ map G (cond b (x ∷ filter other xs) (filter other xs))
       split true t h = rw (e x t, h) refl
       split false t h = h
 
-module _ {P M : Type 0} (game : Game P M) (way : Way) where
+module _ {P M : Type 0} (game : Game P M) (plan : Plan) where
   -- no path that the walk gives is empty
-  shown-full : (root : Bool) (k left : ℕ) (p : P) (ms : List M) → list_all some (shown way game root k left p ms) ≡ true
+  shown-full : (root : Bool) (k left : ℕ) (p : P) (ms : List M) → list_all some (shown plan game root k left p ms) ≡ true
   unfolding shown
   shown-full root zero left p ms = refl
   shown-full root (suc k) zero p ms = refl
   shown-full root (suc k) (suc t) p [] = refl
   shown-full root (suc k) (suc t) p (m ∷ ms) =
-      split (follows way game root t (game.after p m)) (gives way game t (game.after p m)) (shown-full root (suc k) (suc t) p ms)
+      split (follows plan game root t (game.after p m)) (gives plan game t (game.after p m)) (shown-full root (suc k) (suc t) p ms)
     where
-      split : (f g : Bool) → list_all some (shown way game root (suc k) (suc t) p ms) ≡ true → list_all some (cond f (cond g ((m ∷ []) ∷ []) [] ++ map (λ path. m ∷ path) (shown way game false k (goes_on way game t (game.after p m)) (game.after p m) (game.moves (game.after p m)))) [] ++ shown way game root (suc k) (suc t) p ms) ≡ true
-      split true true h = all-append (map (λ path. m ∷ path) (shown way game false k (goes_on way game t (game.after p m)) (game.after p m) (game.moves (game.after p m)))) (shown way game root (suc k) (suc t) p ms) (all-over m (shown way game false k (goes_on way game t (game.after p m)) (game.after p m) (game.moves (game.after p m)))) h
-      split true false h = all-append (map (λ path. m ∷ path) (shown way game false k (goes_on way game t (game.after p m)) (game.after p m) (game.moves (game.after p m)))) (shown way game root (suc k) (suc t) p ms) (all-over m (shown way game false k (goes_on way game t (game.after p m)) (game.after p m) (game.moves (game.after p m)))) h
+      split : (f g : Bool) → list_all some (shown plan game root (suc k) (suc t) p ms) ≡ true
+          → list_all some (cond f
+          (cond g ((m ∷ []) ∷ []) [] ++ map (λ path. m ∷ path)
+          (shown plan game false k (goes_on plan game t (game.after p m)) (game.after p m) (game.moves (game.after p m)))) [] ++ shown plan game root
+          (suc k) (suc t) p ms) ≡ true
+      split true true h = all-append
+          (map (λ path. m ∷ path) (shown plan game false k (goes_on plan game t (game.after p m)) (game.after p m) (game.moves (game.after p m))))
+          (shown plan game root (suc k) (suc t) p ms)
+          (all-over m (shown plan game false k (goes_on plan game t (game.after p m)) (game.after p m) (game.moves (game.after p m)))) h
+      split true false h = all-append
+          (map (λ path. m ∷ path) (shown plan game false k (goes_on plan game t (game.after p m)) (game.after p m) (game.moves (game.after p m))))
+          (shown plan game root (suc k) (suc t) p ms)
+          (all-over m (shown plan game false k (goes_on plan game t (game.after p m)) (game.after p m) (game.moves (game.after p m)))) h
       split false g h = h
 
   -- the root in battle play: its moves that pass the test, each with what stands below it
-  root-cut : (battle : way.help ≡ false) (h n : ℕ) (p : P) (other : M → Bool) (G : M → List (List M)) → ((m : M) → value way.aim.battle game h (game.after p m) ≡ other m) → ((m : M) → value way.aim.battle game h (game.after p m) ≡ true → beneath game way battle h h (game.after p m) ≡ G m)
-      → IsCutInto false n (shown way game true (suc h) (suc h) p (game.moves p)) (map (λ m. node m (G m)) (filter other (game.moves p)))
+  root-cut : (battle : is_help plan.form ≡ false) (h n : ℕ) (p : P) (other : M → Bool) (G : M → List (List M))
+      → ((m : M) → value (battle_of plan.form) game h (game.after p m) ≡ other m)
+      → ((m : M) → value (battle_of plan.form) game h (game.after p m) ≡ true → beneath game plan battle h h (game.after p m) ≡ G m)
+      → IsCutInto false n (shown plan game true (suc h) (suc h) p (game.moves p)) (map (λ m. node m (G m)) (filter other (game.moves p)))
   root-cut battle h n p other G same each =
-      let T : M → Bool = λ m. value way.aim.battle game h (game.after p m) in
-      let X : M → List (List M) = λ m. beneath game way battle h h (game.after p m) in
-      let a : shown way game true (suc h) (suc h) p (game.moves p) ≡ flat_map (λ m. node m (X m)) (filter T (game.moves p)) =
-      as_nodes game way battle true h h p (game.moves p)
-      ∙ flat-filter _ T (λ m. node m (X m)) (λ m. node m (X m)) (game.moves p) (λ m. by_test game way battle true h (game.after p m) refl) (λ m t. refl) in
+      let T : M → Bool = λ m. value (battle_of plan.form) game h (game.after p m) in
+      let X : M → List (List M) = λ m. beneath game plan battle h h (game.after p m) in
+      let a : shown plan game true (suc h) (suc h) p (game.moves p) ≡ flat_map (λ m. node m (X m)) (filter T (game.moves p)) =
+      as_nodes game plan battle true h h p (game.moves p)
+      ∙ flat-filter _ T (λ m. node m (X m)) (λ m. node m (X m)) (game.moves p) (λ m. by_test game plan battle true h (game.after p m) refl) (λ m t. refl) in
       let b : map (λ m. node m (X m)) (filter T (game.moves p)) ≡ map (λ m. node m (G m)) (filter other (game.moves p)) =
       map-filter T other _ _ (game.moves p) same (λ m t. ap (node m) (each m t)) in
-      let full : (m : M) → list_all some (X m) ≡ true = λ m. shown-full false h (goes_on way game h (game.after p m)) (game.after p m) (game.moves (game.after p m)) in
+      let full : (m : M) → list_all some (X m) ≡ true = λ m. shown-full false h (goes_on plan game h (game.after p m)) (game.after p m)
+      (game.moves (game.after p m)) in
       record {
         kept = rw (a, ← b) (nodes-kept X full n (filter T (game.moves p)));
         begun = rw (a, ← b) (nodes-begun X full n (filter T (game.moves p)));
@@ -142,7 +164,7 @@ halves-form SelfMate n e = refl
 halves-form Help n e = absurd cc
 halves-form HelpHalf n e = absurd cc
 
-module _ {P M : Type 0} (game : Game P M) (way : Way) (battle : way.help ≡ false) where
+module _ {P M : Type 0} (game : Game P M) (plan : Plan) (battle : is_help plan.form ≡ false) where
   set_value : (battle : Battle) (n h : ℕ) (r : P) → suc h ≡ halves battle n - 1 → value battle game h r ≡ set_shows battle game n r
   set_value Direct n h r e =
       let k : h ≡ suc (2 * (n - 2)) = omega (arith, e) in
@@ -170,30 +192,33 @@ module _ {P M : Type 0} (game : Game P M) (way : Way) (battle : way.help ≡ fal
   key-some battle (suc k) h e = (k, refl)
 
   -- the play: the tree
-  pub tree-cut : (n h max : ℕ) (p : P) → suc h ≡ halves way.aim.battle n → IsCutInto false max (shown way game true (suc h) (suc h) p (game.moves p)) (tree way.aim.battle game way.variation n (suc h) p)
+  pub tree-cut : (n h max : ℕ) (p : P) → suc h ≡ halves (battle_of plan.form) n
+      → IsCutInto false max (shown plan game true (suc h) (suc h) p (game.moves p)) (tree (battle_of plan.form) game (varies plan) n (suc h) p)
   tree-cut n h max p e =
-      let k = key-some way.aim.battle n h e in
-      let e2 : suc h ≡ halves way.aim.battle (suc k.0) = e ∙ ap (halves way.aim.battle) k.1 in
-      let l : halves way.aim.battle (suc k.0) - 1 ≡ h = omega (arith, e2) in
+      let k = key-some (battle_of plan.form) n h e in
+      let e2 : suc h ≡ halves (battle_of plan.form) (suc k.0) = e ∙ ap (halves (battle_of plan.form)) k.1 in
+      let l : halves (battle_of plan.form) (suc k.0) - 1 ≡ h = omega (arith, e2) in
       let one : suc h - 1 ≡ h = omega arith in
-      let s : seeks way.aim.battle (suc h) ≡ true = rw e2 (halves-seek game way.aim.battle k.0) in
-      let same : (m : M) → value way.aim.battle game h (game.after p m) ≡ keeps way.aim.battle game n (game.after p m) =
-      λ m. sym (ap (λ x. keeps way.aim.battle game x (game.after p m)) k.1 ∙ keeps-value game way.aim.battle k.0 (game.after p m) ∙ ap (λ x. value way.aim.battle game x (game.after p m)) l) in
-      rw one (root-cut game way battle h max p _ _ same (λ m v. below-key game way battle n h (game.after p m) s (halves-most way.aim.battle n h e) v))
+      let s : seeks (battle_of plan.form) (suc h) ≡ true = rw e2 (halves-seek game (battle_of plan.form) k.0) in
+      let same : (m : M) → value (battle_of plan.form) game h (game.after p m) ≡ keeps (battle_of plan.form) game n (game.after p m) =
+      λ m. sym (ap (λ x. keeps (battle_of plan.form) game x (game.after p m)) k.1 ∙ keeps-value game (battle_of plan.form) k.0 (game.after p m)
+      ∙ ap (λ x. value (battle_of plan.form) game x (game.after p m)) l) in
+      rw one (root-cut game plan battle h max p _ _ same (λ m v. below-key game plan battle n h (game.after p m) s (halves-most (battle_of plan.form) n h e) v))
 
   -- set play
-  pub set-cut : (n h max : ℕ) (p : P) → suc h ≡ halves way.aim.battle n - 1 → IsCutInto false max (shown way game true (suc h) (suc h) p (game.moves p)) (set_tree way.aim.battle game way.variation n (suc h) p)
+  pub set-cut : (n h max : ℕ) (p : P) → suc h ≡ halves (battle_of plan.form) n - 1
+      → IsCutInto false max (shown plan game true (suc h) (suc h) p (game.moves p)) (set_tree (battle_of plan.form) game (varies plan) n (suc h) p)
   unfolding set_tree
   set-cut n h max p e =
-      let k = set-some way.aim.battle n h e in
-      let e2 : suc h + 1 ≡ halves way.aim.battle (suc k.0) = omega (arith, e, ap (halves way.aim.battle) k.1) in
-      let s : seeks way.aim.battle (suc h + 1) ≡ true = rw e2 (halves-seek game way.aim.battle k.0) in
-      let s1 : seeks way.aim.battle (suc h) ≡ false = flip game _ (sym (seeks-step game way.aim.battle (suc h)) ∙ s) in
+      let k = set-some (battle_of plan.form) n h e in
+      let e2 : suc h + 1 ≡ halves (battle_of plan.form) (suc k.0) = omega (arith, e, ap (halves (battle_of plan.form)) k.1) in
+      let s : seeks (battle_of plan.form) (suc h + 1) ≡ true = rw e2 (halves-seek game (battle_of plan.form) k.0) in
+      let s1 : seeks (battle_of plan.form) (suc h) ≡ false = flip game _ (sym (seeks-step game (battle_of plan.form) (suc h)) ∙ s) in
       let one : suc h ≡ h + 1 = omega arith in
-      let s2 : seeks way.aim.battle (h + 1) ≡ false = rw (← one) s1 in
-      let s3 : seeks way.aim.battle h ≡ true = unflip game _ (sym (seeks-step game way.aim.battle h) ∙ s2) in
-      root-cut game way battle h max p _ _ (λ m. set_value way.aim.battle n h (game.after p m) e)
-      (λ m v. below-set game way battle n h (game.after p m) s3 (set-most way.aim.battle n h e) v)
+      let s2 : seeks (battle_of plan.form) (h + 1) ≡ false = rw (← one) s1 in
+      let s3 : seeks (battle_of plan.form) h ≡ true = unflip game _ (sym (seeks-step game (battle_of plan.form) h) ∙ s2) in
+      root-cut game plan battle h max p _ _ (λ m. set_value (battle_of plan.form) n h (game.after p m) e)
+      (λ m v. below-set game plan battle n h (game.after p m) s3 (set-most (battle_of plan.form) n h e) v)
 
 -- a phase of no half-moves
 none-cut : {M : Type 0} (help : Bool) (n : ℕ) → IsCutInto {M = M} help n [] []
@@ -207,24 +232,46 @@ none-cut {M = M} help n = record { kept = keep-nil help n ∙ none n; begun = st
     zero_of zero = refl
     zero_of (suc n) = refl
 
-module _ (rule : RuleSet) (problem : Posed) (stated : IsSound problem) where
-  abbrev way : Way
-  way = way_of problem
+shown-varied : (variation : Bool) → shows_variations (tree_shown variation) ≡ variation
+shown-varied true = refl
+shown-varied false = refl
 
-  cut : (phase : Phase) (help : Bool) → is_help problem.stipulation.form ≡ help → (h : ℕ) → phase_half_moves problem phase ≡ h → IsCutInto help problem.max_solutions (shown way (chess problem.stipulation.goal rule) true h h (phase_start problem phase) (legal_moves rule (phase_start problem phase))) (cond help (map (λ path. path ∷ []) (help_lines (chess problem.stipulation.goal rule) h (phase_start problem phase))) (cond (is_set phase) (set_tree (battle_of problem.stipulation.form) (chess problem.stipulation.goal rule) problem.variation problem.stipulation.n h (phase_start problem phase)) (tree (battle_of problem.stipulation.form) (chess problem.stipulation.goal rule) problem.variation problem.stipulation.n h (phase_start problem phase))))
+module _ (rule : RuleSet) (problem : Posed) (stated : IsSound problem) where
+  abbrev plan : Plan
+  plan = plan_of problem
+
+  cut : (phase : Phase) (help : Bool) → is_help problem.stipulation.form ≡ help → (h : ℕ) → phase_half_moves problem phase ≡ h
+      → IsCutInto help problem.max_solutions
+      (shown plan (chess problem.stipulation.goal rule) true h h (phase_start problem phase) (legal_moves rule (phase_start problem phase)))
+      (cond help (map (λ path. path ∷ []) (help_lines (chess problem.stipulation.goal rule) h (phase_start problem phase)))
+      (cond (is_set phase) (set_tree (battle_of problem.stipulation.form) (chess problem.stipulation.goal rule) problem.variation problem.stipulation.n h
+      (phase_start problem phase))
+      (tree (battle_of problem.stipulation.form) (chess problem.stipulation.goal rule) problem.variation problem.stipulation.n h
+      (phase_start problem phase))))
   unfolding help_lines set_tree
-  cut phase true e zero z = rw (shown-zero (chess problem.stipulation.goal rule) way true 0 (phase_start problem phase) (legal_moves rule (phase_start problem phase))) (none-cut true problem.max_solutions)
+  cut phase true e zero z =
+      rw (shown-zero (chess problem.stipulation.goal rule) plan true 0 (phase_start problem phase) (legal_moves rule (phase_start problem phase)))
+      (none-cut true problem.max_solutions)
   cut phase true e (suc h) z =
-      rw (shown-help (chess problem.stipulation.goal rule) way e true h (phase_start problem phase)) (record { kept = lines-kept problem.max_solutions _; begun = lines-begun problem.max_solutions _ })
-  cut Set false e zero z = rw (shown-zero (chess problem.stipulation.goal rule) way true 0 (phase_start problem Set) (legal_moves rule (phase_start problem Set))) (none-cut false problem.max_solutions)
-  cut Set false e (suc h) z = set-cut (chess problem.stipulation.goal rule) way e problem.stipulation.n h problem.max_solutions (phase_start problem Set) (sym z ∙ ap (λ x. x - 1) (halves-form problem.stipulation.form problem.stipulation.n e))
+      rw (shown-help (chess problem.stipulation.goal rule) plan e true h (phase_start problem phase))
+      (record { kept = lines-kept problem.max_solutions _; begun = lines-begun problem.max_solutions _ })
+  cut Set false e zero z =
+      rw (shown-zero (chess problem.stipulation.goal rule) plan true 0 (phase_start problem Set) (legal_moves rule (phase_start problem Set)))
+      (none-cut false problem.max_solutions)
+  cut Set false e (suc h) z =
+      rw (shown-varied problem.variation) at (set-cut (chess problem.stipulation.goal rule) plan e problem.stipulation.n h problem.max_solutions
+      (phase_start problem Set) (sym z ∙ ap (λ x. x - 1) (halves-form problem.stipulation.form problem.stipulation.n e)))
   cut Play false e zero z = absurd (omega (arith, z, some_way problem stated))
-  cut Play false e (suc h) z = tree-cut (chess problem.stipulation.goal rule) way e problem.stipulation.n h problem.max_solutions (phase_start problem Play) (sym z ∙ halves-form problem.stipulation.form problem.stipulation.n e)
+  cut Play false e (suc h) z =
+      rw (shown-varied problem.variation) at (tree-cut (chess problem.stipulation.goal rule) plan e problem.stipulation.n h problem.max_solutions
+      (phase_start problem Play) (sym z ∙ halves-form problem.stipulation.form problem.stipulation.n e))
 
   -- what is to come from the root frame of a phase
-  pub root-solutions : (phase : Phase) (f : Frame) → f.left ≡ phase_half_moves problem phase → moves_behind rule (phase_start problem phase) f.place ≡ legal_moves rule (phase_start problem phase) → IsCutInto (is_help problem.stipulation.form) problem.max_solutions (phase_paths rule problem phase (f ∷ [])) (solutions rule problem phase)
+  pub root-solutions : (phase : Phase) (f : Frame) → f.left ≡ phase_half_moves problem phase
+      → moves_behind rule (phase_start problem phase) f.place ≡ legal_moves rule (phase_start problem phase)
+      → IsCutInto (is_help problem.stipulation.form) problem.max_solutions (phase_paths rule problem phase (f ∷ [])) (solutions rule problem phase)
   unfolding solutions
   root-solutions phase f l b =
       let h : phase_half_moves problem phase - 0 ≡ phase_half_moves problem phase = omega arith in
-      let r = to_come-root rule way (phase_half_moves problem phase) (phase_start problem phase) f in
+      let r = to_come-root rule plan (phase_half_moves problem phase) (phase_start problem phase) f in
       rw (r, h, l, b) (cut phase (is_help problem.stipulation.form) refl (phase_half_moves problem phase) refl)

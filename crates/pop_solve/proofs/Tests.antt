@@ -75,7 +75,15 @@ module _ (rule : RuleSet) (q : Position) (k : ℕ) where
 
   pub any-start : (test : Triple → Bool) → list_any test (ahead rule q First (k - 1) k) ≡ list_any test (legal_moves rule q)
   any-start test =
-      rw (killer-first, in-order, list_any-append test here (before ++ behind), list_any-append test before behind, list_any-append test before (here ++ behind), list_any-append test here behind) (swap (list_any test here) (list_any test before) (list_any test behind))
+      rw (
+        killer-first,
+        in-order,
+        list_any-append test here (before ++ behind),
+        list_any-append test before behind,
+        list_any-append test before
+            (here ++ behind),
+        list_any-append test here behind,
+      ) (swap (list_any test here) (list_any test before) (list_any test behind))
     where
       swap : (a b c : Bool) → (a || (b || c)) ≡ (b || (a || c))
       swap true true c = refl
@@ -84,7 +92,15 @@ module _ (rule : RuleSet) (q : Position) (k : ℕ) where
 
   pub all-start : (test : Triple → Bool) → list_all test (ahead rule q First (k - 1) k) ≡ list_all test (legal_moves rule q)
   all-start test =
-      rw (killer-first, in-order, list_all-append test here (before ++ behind), list_all-append test before behind, list_all-append test before (here ++ behind), list_all-append test here behind) (swap (list_all test here) (list_all test before) (list_all test behind))
+      rw (
+        killer-first,
+        in-order,
+        list_all-append test here (before ++ behind),
+        list_all-append test before behind,
+        list_all-append test before
+            (here ++ behind),
+        list_all-append test here behind,
+      ) (swap (list_all test here) (list_all test before) (list_all test behind))
     where
       swap : (a b c : Bool) → (a && (b && c)) ≡ (b && (a && c))
       swap true b c = refl
@@ -93,7 +109,15 @@ module _ (rule : RuleSet) (q : Position) (k : ℕ) where
 
   pub sum-start : (f : Triple → ℕ) → sum_by f (ahead rule q First (k - 1) k) ≡ sum_by f (legal_moves rule q)
   sum-start f =
-      rw (killer-first, in-order, sum_by-append f here (before ++ behind), sum_by-append f before behind, sum_by-append f before (here ++ behind), sum_by-append f here behind) (omega arith)
+      rw (
+        killer-first,
+        in-order,
+        sum_by-append f here (before ++ behind),
+        sum_by-append f before behind,
+        sum_by-append f before
+            (here ++ behind),
+        sum_by-append f here behind,
+      ) (omega arith)
 
 module _ (rule : RuleSet) (aim : Aim) where
   -- the value of some moves of a position
@@ -109,7 +133,8 @@ module _ (rule : RuleSet) (aim : Aim) where
       none true = refl
       none false = refl
 
-  rest-next : (t : ℕ) (P : Position) (ms more : List Triple) (m : Triple) → ms ≡ m ∷ more → rest (suc t) P ms ≡ join (seeks aim.battle (suc t)) (value aim.battle (chess aim.goal rule) t (played rule P m)) (rest (suc t) P more)
+  rest-next : (t : ℕ) (P : Position) (ms more : List Triple) (m : Triple) → ms ≡ m ∷ more
+      → rest (suc t) P ms ≡ join (seeks aim.battle (suc t)) (value aim.battle (chess aim.goal rule) t (played rule P m)) (rest (suc t) P more)
   unfolding joined
   rest-next t P ms more m e = rw e (split (seeks aim.battle (suc t)) _ _ _)
     where
@@ -120,14 +145,22 @@ module _ (rule : RuleSet) (aim : Aim) where
   rest-start : (t : ℕ) (q : Position) (k : ℕ) → rest t q (ahead rule q First (k - 1) k) ≡ rest t q (legal_moves rule q)
   unfolding joined
   rest-start zero q k = refl
-  rest-start (suc t) q k = rw (any-start rule q k (λ m. value aim.battle (chess aim.goal rule) t (played rule q m)), all-start rule q k (λ m. value aim.battle (chess aim.goal rule) t (played rule q m))) refl
+  rest-start (suc t) q k = rw (
+    any-start rule q k (λ m. value aim.battle (chess aim.goal rule) t (played rule q m)),
+    all-start rule q k (λ m. value aim.battle
+        (chess aim.goal rule) t (played rule q m)),
+  ) refl
 
   -- a frame that its last answer decides, and one that it doesn't
-  pub pending-decided : (p : Position) (f : Frame) (below : List Frame) (answer : Option Bool) → answer ≡ Some (seeks aim.battle f.left) → pending rule aim p (f ∷ below) answer ≡ deliver rule aim p below (seeks aim.battle f.left)
+  pub pending-decided : (p : Position) (f : Frame) (below : List Frame) (answer : Option Bool) → answer ≡ Some (seeks aim.battle f.left)
+      → pending rule aim p (f ∷ below) answer ≡ deliver rule aim p below (seeks aim.battle f.left)
   unfolding pending deliver
   pending-decided p f below answer e = rw (e, join-decided) refl
 
-  pub pending-undecided : (p : Position) (f : Frame) (below : List Frame) (answer : Option Bool) → (answer ≡ None) ⊎ (answer ≡ Some (not (seeks aim.battle f.left))) → pending rule aim p (f ∷ below) answer ≡ deliver rule aim p below (rest f.left (position rule p (f ∷ below)) (untried rule (position rule p (f ∷ below)) f))
+  pub pending-undecided : (p : Position) (f : Frame) (below : List Frame) (answer : Option Bool)
+      → (answer ≡ None) ⊎ (answer ≡ Some (not (seeks aim.battle f.left)))
+      → pending rule aim p (f ∷ below) answer ≡ deliver rule aim p below
+      (rest f.left (position rule p (f ∷ below)) (untried rule (position rule p (f ∷ below)) f))
   unfolding pending deliver
   pending-undecided p f below answer (inl e) = rw e refl
   pending-undecided p f below answer (inr e) = rw (e, join-undecided) refl
@@ -152,12 +185,15 @@ module _ (rule : RuleSet) (aim : Aim) where
       let w = trees-swap aim.battle (chess aim.goal rule) t q (here rule q k) (before rule q k) (behind rule q k) in
       rw (killer-first rule q k) (omega (arith, s, w, ap (fewest t q) (in-order rule q k)))
 
-  pub try-decided : (p : Position) (f : Frame) (below : List Frame) (answer : Option Bool) → answer ≡ Some (seeks aim.battle f.left) → to_try rule aim p (f ∷ below) answer ≡ to_try_with rule aim p below (seeks aim.battle f.left)
+  pub try-decided : (p : Position) (f : Frame) (below : List Frame) (answer : Option Bool) → answer ≡ Some (seeks aim.battle f.left)
+      → to_try rule aim p (f ∷ below) answer ≡ to_try_with rule aim p below (seeks aim.battle f.left)
   unfolding to_try to_try_with
   try-decided p f below answer e = rw (e, decides-self (seeks aim.battle f.left), join-decided) (omega arith)
 
   pub try-undecided : (p : Position) (f : Frame) (below : List Frame) (answer : Option Bool) → (answer ≡ None) ⊎ (answer ≡ Some (not (seeks aim.battle f.left)))
-      → to_try rule aim p (f ∷ below) answer ≡ fewest f.left (position rule p (f ∷ below)) (untried rule (position rule p (f ∷ below)) f) + to_try_with rule aim p below (rest f.left (position rule p (f ∷ below)) (untried rule (position rule p (f ∷ below)) f))
+      → to_try rule aim p (f ∷ below) answer ≡ fewest f.left (position rule p (f ∷ below))
+      (untried rule (position rule p (f ∷ below)) f) + to_try_with rule aim p below
+      (rest f.left (position rule p (f ∷ below)) (untried rule (position rule p (f ∷ below)) f))
   unfolding to_try to_try_with
   try-undecided p f below answer (inl e) = rw e refl
   try-undecided p f below answer (inr e) = rw (e, decides-not (seeks aim.battle f.left), join-undecided) refl
@@ -177,41 +213,49 @@ module _ (rule : RuleSet) (aim : Aim) where
   steps-start zero q k = refl
   steps-start (suc t) q k = rw (sum-start rule q k (λ m. 1 + steps rule t (played rule q m))) refl
 
-  steps-next : (t : ℕ) (P : Position) (ms more : List Triple) (m : Triple) → ms ≡ m ∷ more → steps_among rule (suc t) P ms ≡ (1 + steps rule t (played rule P m)) + steps_among rule (suc t) P more
+  steps-next : (t : ℕ) (P : Position) (ms more : List Triple) (m : Triple) → ms ≡ m ∷ more
+      → steps_among rule (suc t) P ms ≡ (1 + steps rule t (played rule P m)) + steps_among rule (suc t) P more
   unfolding steps_among
   steps-next t P ms more m e = rw e (sum_by-cons (λ x. 1 + steps rule t (played rule P x)) m more)
 
-  walk_count-start : (t : ℕ) (q : Position) (k : ℕ) → 0 < t → walk_count (legal_moves rule) (played rule) t q ≡ 1 + walk_among rule t q (ahead rule q First (k - 1) k)
+  walk_count-start : (t : ℕ) (q : Position) (k : ℕ) → 0 < t
+      → walk_count (legal_moves rule) (played rule) t q ≡ 1 + walk_among rule t q (ahead rule q First (k - 1) k)
   unfolding walk_count walk_among
   walk_count-start zero q k some = absurd (omega (arith, some))
   walk_count-start (suc t) q k some = rw (sum-start rule q k (λ m. walk_count (legal_moves rule) (played rule) t (played rule q m))) refl
 
-  walk-next : (t : ℕ) (P : Position) (ms more : List Triple) (m : Triple) → ms ≡ m ∷ more → walk_among rule (suc t) P ms ≡ walk_count (legal_moves rule) (played rule) t (played rule P m) + walk_among rule (suc t) P more
+  walk-next : (t : ℕ) (P : Position) (ms more : List Triple) (m : Triple) → ms ≡ m ∷ more
+      → walk_among rule (suc t) P ms ≡ walk_count (legal_moves rule) (played rule) t (played rule P m) + walk_among rule (suc t) P more
   unfolding walk_among
   walk-next t P ms more m e = rw e (sum_by-cons (λ x. walk_count (legal_moves rule) (played rule) t (played rule P x)) m more)
 
-  module _ (p : Position) (f : Frame) (below : List Frame) (next : ℕ) (s : Stretch) (m : Triple) (undo : Loss) (k t : ℕ) (kn kq : Option LegalPlace) (left : f.left ≡ suc t) (e : untried rule (position rule p (f ∷ below)) f ≡ m ∷ ahead rule (position rule p (f ∷ below)) s next f.killer) where
+  module _ (p : Position) (f : Frame) (below : List Frame) (next : ℕ) (s : Stretch) (m : Triple) (undo : Loss) (k t : ℕ) (kn kq : Option LegalPlace)
+      (left : f.left ≡ suc t) (e : untried rule (position rule p (f ∷ below)) f ≡ m ∷ ahead rule (position rule p (f ∷ below)) s next f.killer) where
     abbrev P : Position
     P = position rule p (f ∷ below)
 
     -- the value of the position after the move decides with the moves still untried
-    pub deliver-next : deliver rule aim p below (rest f.left P (untried rule P f)) ≡ deliver rule aim p (passed f next s kn ∷ below) (value aim.battle (chess aim.goal rule) t (played rule P m))
+    pub deliver-next : deliver rule aim p below (rest f.left P (untried rule P f)) ≡ deliver rule aim p (passed f next s kn ∷ below)
+        (value aim.battle (chess aim.goal rule) t (played rule P m))
     unfolding deliver position
     deliver-next = rw (left, rest-next t P (untried rule P f) (ahead rule P s next f.killer) m e) refl
 
-    pub deliver-open : (v : Bool) → v ≡ joined aim.battle (chess aim.goal rule) t (played rule P m) (legal_moves rule (played rule P m)) → deliver rule aim p (passed f next s kn ∷ below) v ≡ pending rule aim p (tested k m undo t kq ∷ (passed f next s kn ∷ below)) None
+    pub deliver-open : (v : Bool) → v ≡ joined aim.battle (chess aim.goal rule) t (played rule P m) (legal_moves rule (played rule P m))
+        → deliver rule aim p (passed f next s kn ∷ below) v ≡ pending rule aim p (tested k m undo t kq ∷ (passed f next s kn ∷ below)) None
     unfolding pending position
     deliver-open v d = rw (d, sym (rest-start t (played rule P m) k)) refl
 
     pub try-next : fewest f.left P (untried rule P f) + to_try_with rule aim p below (rest f.left P (untried rule P f))
-        ≤ smallest_tree aim.battle (chess aim.goal rule) t (played rule P m) + to_try_with rule aim p (passed f next s kn ∷ below) (value aim.battle (chess aim.goal rule) t (played rule P m))
+        ≤ smallest_tree aim.battle (chess aim.goal rule) t (played rule P m) + to_try_with rule aim p (passed f next s kn ∷ below)
+        (value aim.battle (chess aim.goal rule) t (played rule P m))
     unfolding to_try_with position
     try-next =
         let n = trees-next aim.battle (chess aim.goal rule) t P m (ahead rule P s next f.killer) in
         rw (left, rest-next t P (untried rule P f) (ahead rule P s next f.killer) m e, e) (omega (arith, n))
 
     pub try-open : (v : Bool) → v ≡ joined aim.battle (chess aim.goal rule) t (played rule P m) (legal_moves rule (played rule P m))
-        → smallest_tree aim.battle (chess aim.goal rule) t (played rule P m) + to_try_with rule aim p (passed f next s kn ∷ below) v ≤ 1 + to_try rule aim p (tested k m undo t kq ∷ (passed f next s kn ∷ below)) None
+        → smallest_tree aim.battle (chess aim.goal rule) t (played rule P m) + to_try_with rule aim p (passed f next s kn ∷ below) v ≤ 1 + to_try rule aim p
+        (tested k m undo t kq ∷ (passed f next s kn ∷ below)) None
     unfolding to_try position
     try-open v d = let n = fewest-start t (played rule P m) k in rw (d, sym (rest-start t (played rule P m) k)) (omega (arith, n))
 
@@ -223,7 +267,8 @@ module _ (rule : RuleSet) (aim : Aim) where
     unfolding work position
     work-open = rw (left, steps-next t P (untried rule P f) (ahead rule P s next f.killer) m e, steps-start t (played rule P m) k) (omega arith)
 
-    pub open-settled : walk_count (legal_moves rule) (played rule) t (played rule P m) + to_test rule p (passed f next s kn ∷ below) ≤ to_test rule p (f ∷ below)
+    pub open-settled : walk_count (legal_moves rule) (played rule) t (played rule P m) + to_test rule p (passed f next s kn ∷ below) ≤ to_test rule p
+        (f ∷ below)
     unfolding to_test position
     open-settled = rw (left, walk-next t P (untried rule P f) (ahead rule P s next f.killer) m e) (omega arith)
 
@@ -249,7 +294,8 @@ module _ (rule : RuleSet) (p : Position) where
   top_cut f below board r = cut-top f below r.cut
 
   -- what undoes the top frame
-  pub CameFrom-top : (f g : Frame) (below : List Frame) (board : Position) → IsTesting rule p (f ∷ (g ∷ below)) board → CameFromAt rule f board (position rule p (g ∷ below))
+  pub CameFrom-top : (f g : Frame) (below : List Frame) (board : Position) → IsTesting rule p (f ∷ (g ∷ below)) board
+      → CameFromAt rule f board (position rule p (g ∷ below))
   unfolding IsLinked position
   CameFrom-top f g below board r = record { sound = r.linked.0; legal = r.linked.1; led = r.board_at; undone = r.linked.2 }
 
@@ -257,7 +303,8 @@ module _ (rule : RuleSet) (p : Position) where
   CameFrom-deep f [] board r deep = absurd (omega (arith, deep))
   CameFrom-deep f (g ∷ below) board r deep = (position rule p (g ∷ below), CameFrom-top f g below board r)
 
-  pub testing-close : (f : Frame) (below : List Frame) (board after : Position) → IsTesting rule p (f ∷ below) board → 0 < length below → ((q : Position) → CameFromAt rule f board q → after ≡ q) → IsTesting rule p below after
+  pub testing-close : (f : Frame) (below : List Frame) (board after : Position) → IsTesting rule p (f ∷ below) board → 0 < length below
+      → ((q : Position) → CameFromAt rule f board q → after ≡ q) → IsTesting rule p below after
   unfolding IsLinked IsCut AreKnown position
   testing-close f [] board after r deep before = absurd (omega (arith, deep))
   testing-close f (g ∷ below) board after r deep before =
@@ -274,13 +321,17 @@ module _ (rule : RuleSet) (p : Position) where
   lowest-back f [] board r none = r.board_at
   lowest-back f (g ∷ below) board r none = absurd (omega (arith, none))
 
-  pub testing-settled : (f : Frame) (next : ℕ) (s : Stretch) (kn : Option LegalPlace) (below : List Frame) (board : Position) → IsTesting rule p (f ∷ below) board → IfSome kn (IsPlaceIn rule board) → IsTesting rule p (passed f next s kn ∷ below) board
+  pub testing-settled : (f : Frame) (next : ℕ) (s : Stretch) (kn : Option LegalPlace) (below : List Frame) (board : Position)
+      → IsTesting rule p (f ∷ below) board → IfSome kn (IsPlaceIn rule board) → IsTesting rule p (passed f next s kn ∷ below) board
   unfolding IsLinked IsCut AreKnown position
   testing-settled f next s kn [] board r w = record { linked = tt; cut = r.cut; known = (rw (← r.board_at) w, tt); sound = r.sound; board_at = r.board_at }
   testing-settled f next s kn (g ∷ below) board r w =
       record { linked = r.linked; cut = r.cut; known = (rw (← r.board_at) w, r.known.1); sound = r.sound; board_at = r.board_at }
 
-  pub testing-open : (f : Frame) (next : ℕ) (s : Stretch) (m : Triple) (k t : ℕ) (kn kq : Option LegalPlace) (below : List Frame) (board : Position) → IsTesting rule p (f ∷ below) board → legal rule board m ≡ true → 0 < t → f.left ≡ suc t → IfSome kn (IsPlaceIn rule board) → IfSome kq (IsPlaceIn rule (played rule board m)) → IsTesting rule p (tested k m (undo_of rule board m) t kq ∷ (passed f next s kn ∷ below)) (played rule board m)
+  pub testing-open : (f : Frame) (next : ℕ) (s : Stretch) (m : Triple) (k t : ℕ) (kn kq : Option LegalPlace) (below : List Frame) (board : Position)
+      → IsTesting rule p (f ∷ below) board → legal rule board m ≡ true → 0 < t → f.left ≡ suc t → IfSome kn (IsPlaceIn rule board)
+      → IfSome kq (IsPlaceIn rule (played rule board m))
+      → IsTesting rule p (tested k m (undo_of rule board m) t kq ∷ (passed f next s kn ∷ below)) (played rule board m)
   unfolding IsLinked IsCut AreKnown position
   testing-open f next s m k t kn kq below board r lawful some left w wq =
       let settled = testing-settled f next s kn below board r w in
@@ -321,14 +372,20 @@ module _ (rule : RuleSet) (aim : Aim) (floor : ℕ) (top : Frame) (old new : Lis
   pub close_asks : (p board : Position) (depth : ℕ) → depth ≡ length new → IsTesting rule p (tests floor old) board → floor < depth → CameFrom rule top board
   close_asks p board depth d r deep = CameFrom-deep rule p top (tests floor new) board (testing_top p board r) (omega (arith, length-tests floor new, d))
 
-  module _ (board after : Position) (depth : ℕ) (v : Bool) (was is result : Option Bool) (d : depth ≡ length new) (lowest : depth ≤ floor → (result ≡ Some v) × (after ≡ board)) (above : floor < depth → (result ≡ None) × (is ≡ Some v)) (before : (q : Position) → floor < depth → CameFromAt rule top board q → after ≡ q) where
-    pub close_turns : (count : ℕ) (p : Position) → IsTesting rule p (tests floor old) board → pending rule aim p (top ∷ tests floor new) was ≡ deliver rule aim p (tests floor new) v
-        → to_try rule aim p (top ∷ tests floor new) was ≡ to_try_with rule aim p (tests floor new) v → MatchOption result (Turns rule aim floor p old new was is after count count) (λ w. Ends rule aim floor p old new was after count count w)
+  module _ (board after : Position) (depth : ℕ) (v : Bool) (was is result : Option Bool) (d : depth ≡ length new)
+      (lowest : depth ≤ floor → (result ≡ Some v) × (after ≡ board)) (above : floor < depth → (result ≡ None) × (is ≡ Some v))
+      (before : (q : Position) → floor < depth → CameFromAt rule top board q → after ≡ q) where
+    pub close_turns : (count : ℕ) (p : Position) → IsTesting rule p (tests floor old) board
+        → pending rule aim p (top ∷ tests floor new) was ≡ deliver rule aim p (tests floor new) v
+        → to_try rule aim p (top ∷ tests floor new) was ≡ to_try_with rule aim p (tests floor new) v → MatchOption result
+        (Turns rule aim floor p old new was is after count count) (λ w. Ends rule aim floor p old new was after count count w)
     close_turns count p r e left = elim (cases_lt floor depth) [
       | inl deep ↦
           rw (above deep).0 (record {
-            testing = testing-close rule p top (tests floor new) board after (testing_top p board r) (omega (arith, length-tests floor new, d)) (λ q cf. before q deep cf);
-            same = ap (λ fs. pending rule aim p fs was) popped ∙ e ∙ deliver-some rule aim p (tests floor new) v (omega (arith, length-tests floor new, d)) ∙ ap (pending rule aim p (tests floor new)) (sym (above deep).1);
+            testing = testing-close rule p top (tests floor new) board after (testing_top p board r)
+                (omega (arith, length-tests floor new, d)) (λ q cf. before q deep cf);
+            same = ap (λ fs. pending rule aim p fs was) popped ∙ e ∙ deliver-some rule aim p (tests floor new) v (omega (arith, length-tests floor new, d))
+                ∙ ap (pending rule aim p (tests floor new)) (sym (above deep).1);
             falls = rw popped (work-close rule aim p top (tests floor new));
             above = omega (arith, d);
             base = base_new;
@@ -345,7 +402,8 @@ module _ (rule : RuleSet) (aim : Aim) (floor : ℕ) (top : Frame) (old new : Lis
           })
     ]
 
-    pub close_room : (p : Position) (N : ℕ) → IsTesting rule p (tests floor old) board → top_left (tests floor old) + length old ≤ N + 1 → IfNone result (top_left (tests floor new) + length new ≤ N + 1)
+    pub close_room : (p : Position) (N : ℕ) → IsTesting rule p (tests floor old) board → top_left (tests floor old) + length old ≤ N + 1
+        → IfNone result (top_left (tests floor new) + length new ≤ N + 1)
     close_room p N r room = elim (cases_lt floor depth) [
       | inl deep ↦
           rw (above deep).0 (let c = room-close rule p top (tests floor new) board (testing_top p board r) (omega (arith, length-tests floor new, d)) in
@@ -354,13 +412,17 @@ module _ (rule : RuleSet) (aim : Aim) (floor : ℕ) (top : Frame) (old new : Lis
       | inr low ↦ rw (lowest low).0 tt
     ]
 
-  module _ (place : ℕ) (s : Stretch) (kn : Option LegalPlace) (m : Triple) (k : ℕ) (board after : Position) (N : ℕ) (was : Option Bool) (last : List Frame) (some : 0 < top.left) (open_yet : (was ≡ None) ⊎ (was ≡ Some (not (seeks aim.battle top.left)))) (next : untried rule board top ≡ m ∷ ahead rule board s place top.killer) (lawful : legal rule board m ≡ true) (within : IfSome kn (IsPlaceIn rule board)) where
+  module _ (place : ℕ) (s : Stretch) (kn : Option LegalPlace) (m : Triple) (k : ℕ) (board after : Position) (N : ℕ) (was : Option Bool) (last : List Frame)
+      (some : 0 < top.left) (open_yet : (was ≡ None) ⊎ (was ≡ Some (not (seeks aim.battle top.left))))
+      (next : untried rule board top ≡ m ∷ ahead rule board s place top.killer) (lawful : legal rule board m ≡ true)
+      (within : IfSome kn (IsPlaceIn rule board)) where
     -- what `descend` leaves
     abbrev pub Descends : Option Bool → Type 0
     Descends is =
         MatchOption is
         ((0 < top.left - 1)
-        × (value aim.battle (chess aim.goal rule) (top.left - 1) (played rule board m) ≡ joined aim.battle (chess aim.goal rule) (top.left - 1) (played rule board m) (legal_moves rule (played rule board m)))
+        × (value aim.battle (chess aim.goal rule) (top.left - 1) (played rule board m) ≡ joined aim.battle (chess aim.goal rule) (top.left - 1)
+        (played rule board m) (legal_moves rule (played rule board m)))
         × (after ≡ played rule board m)
         × IsOpenedOn rule (played rule board m) (new ++ passed top place s kn ∷ []) last k m (undo_of rule board m) (top.left - 1))
         (λ v. (v ≡ value aim.battle (chess aim.goal rule) (top.left - 1) (played rule board m)) × (after ≡ board) × (last ≡ new ++ passed top place s kn ∷ []))
@@ -377,24 +439,38 @@ module _ (rule : RuleSet) (aim : Aim) (floor : ℕ) (top : Frame) (old new : Lis
     base_mid : take floor (new ++ passed top place s kn ∷ []) ≡ take floor old
     base_mid = take-append-le floor new (passed top place s kn ∷ []) low_new ∙ base_new
 
-    pub descend_turns : (is : Option Bool) → Descends is → (before count : ℕ) → MatchOption is (count ≤ before + 1) (λ _. count ≤ before + walk_count (legal_moves rule) (played rule) (top.left - 1) (played rule board m))
-        → MatchOption is (HasCounted before count 1) (λ _. HasCounted before count (smallest_tree aim.battle (chess aim.goal rule) (top.left - 1) (played rule board m)))
+    pub descend_turns : (is : Option Bool) → Descends is → (before count : ℕ)
+        → MatchOption is (count ≤ before + 1) (λ _. count ≤ before + walk_count (legal_moves rule) (played rule) (top.left - 1) (played rule board m))
+        → MatchOption is (HasCounted before count 1) (λ _. HasCounted before count
+        (smallest_tree aim.battle (chess aim.goal rule) (top.left - 1) (played rule board m)))
         → (p : Position) → IsTesting rule p (tests floor old) board → Turns rule aim floor p old last was is after before count
     descend_turns None d before count o tries p r =
         let at : board ≡ position rule p (top ∷ tests floor new) = (testing_top p board r).board_at in
-        let here : untried rule (position rule p (top ∷ tests floor new)) top ≡ m ∷ ahead rule (position rule p (top ∷ tests floor new)) s place top.killer = rw (← at) next in
-        let last_is : tests floor last ≡ tested k m (undo_of rule board m) (top.left - 1) d.3.known ∷ (passed top place s kn ∷ tests floor new) = ap (tests floor) d.3.added ∙ tests-push floor (new ++ passed top place s kn ∷ []) _ low_mid ∙ ap (λ fs. tested k m (undo_of rule board m) (top.left - 1) d.3.known ∷ fs) mid_is in
+        let here : untried rule (position rule p (top ∷ tests floor new)) top ≡ m ∷ ahead rule
+        (position rule p (top ∷ tests floor new)) s place top.killer = rw (← at) next in
+        let last_is : tests floor last ≡ tested k m (undo_of rule board m) (top.left - 1) d.3.known ∷ (passed top place s kn ∷ tests floor new) = ap
+        (tests floor) d.3.added ∙ tests-push floor (new ++ passed top place s kn ∷ []) _ low_mid
+        ∙ ap (λ fs. tested k m (undo_of rule board m) (top.left - 1) d.3.known ∷ fs) mid_is in
         record {
-          testing = rw (last_is, d.2) (testing-open rule p top place s m k (top.left - 1) kn d.3.known (tests floor new) board (testing_top p board r) lawful d.0 left_is within d.3.within);
+          testing = rw (last_is, d.2)
+              (testing-open rule p top place s m k (top.left - 1) kn d.3.known (tests floor new) board
+              (testing_top p board r) lawful d.0 left_is within d.3.within);
           same = ap (λ fs. pending rule aim p fs was) popped
               ∙ pending-undecided rule aim p top (tests floor new) was open_yet
               ∙ deliver-next rule aim p top (tests floor new) place s m (undo_of rule board m) k (top.left - 1) kn d.3.known left_is here
               ∙ deliver-open rule aim p top (tests floor new) place s m (undo_of rule board m) k (top.left - 1) kn d.3.known left_is here _ (rw (← at) d.1)
               ∙ ap (λ fs. pending rule aim p fs None) (sym last_is);
           falls = rw (last_is, popped) (work-open rule aim p top (tests floor new) place s m (undo_of rule board m) k (top.left - 1) kn d.3.known left_is here);
-          above = omega (arith, ap length d.3.added, length-append (new ++ passed top place s kn ∷ []) (tested k m (undo_of rule board m) (top.left - 1) d.3.known ∷ []), low_mid);
+          above = omega (
+            arith,
+            ap length d.3.added,
+            length-append (new ++ passed top place s kn ∷ [])
+                (tested k m (undo_of rule board m) (top.left - 1) d.3.known ∷ []),
+            low_mid,
+          );
           base = ap (take floor) d.3.added ∙ take-append-le floor (new ++ passed top place s kn ∷ []) _ low_mid ∙ base_mid;
-          counted = rw (last_is, popped) (omega (arith, o, open-open rule aim p top (tests floor new) place s m (undo_of rule board m) k (top.left - 1) kn d.3.known left_is here d.0));
+          counted = rw (last_is, popped)
+              (omega (arith, o, open-open rule aim p top (tests floor new) place s m (undo_of rule board m) k (top.left - 1) kn d.3.known left_is here d.0));
           tried =
               let n = try-next rule aim p top (tests floor new) place s m (undo_of rule board m) k (top.left - 1) kn d.3.known left_is here in
               let v = value aim.battle (chess aim.goal rule) (top.left - 1) (played rule (position rule p (top ∷ tests floor new)) m) in
@@ -403,7 +479,8 @@ module _ (rule : RuleSet) (aim : Aim) (floor : ℕ) (top : Frame) (old new : Lis
         }
     descend_turns (Some v) d before count o tries p r =
         let at : board ≡ position rule p (top ∷ tests floor new) = (testing_top p board r).board_at in
-        let here : untried rule (position rule p (top ∷ tests floor new)) top ≡ m ∷ ahead rule (position rule p (top ∷ tests floor new)) s place top.killer = rw (← at) next in
+        let here : untried rule (position rule p (top ∷ tests floor new)) top ≡ m ∷ ahead rule
+        (position rule p (top ∷ tests floor new)) s place top.killer = rw (← at) next in
         let last_is : tests floor last ≡ passed top place s kn ∷ tests floor new = ap (tests floor) d.2 ∙ mid_is in
         record {
           testing = rw (last_is, d.1) (testing-settled rule p top place s kn (tests floor new) board (testing_top p board r) within);
@@ -416,20 +493,49 @@ module _ (rule : RuleSet) (aim : Aim) (floor : ℕ) (top : Frame) (old new : Lis
           falls = rw (last_is, popped) (work-settled rule aim p top (tests floor new) place s m (undo_of rule board m) k (top.left - 1) kn None left_is here);
           above = omega (arith, ap length d.2, length-append new (passed top place s kn ∷ []), low_new);
           base = ap (take floor) d.2 ∙ base_mid;
-          counted = rw (last_is, popped) (omega (arith, o, ap (λ b. walk_count (legal_moves rule) (played rule) (top.left - 1) (played rule b m)) at, open-settled rule aim p top (tests floor new) place s m (undo_of rule board m) k (top.left - 1) kn None left_is here));
+          counted = rw (last_is, popped)
+              (omega (
+                arith,
+                o,
+                ap (λ b. walk_count (legal_moves rule) (played rule) (top.left - 1) (played rule b m)) at,
+                open-settled rule aim p top
+                    (tests floor new) place s m (undo_of rule board m) k (top.left - 1) kn None left_is here,
+              ));
           tried =
               let n = try-next rule aim p top (tests floor new) place s m (undo_of rule board m) k (top.left - 1) kn None left_is here in
               let e : v ≡ value aim.battle (chess aim.goal rule) (top.left - 1) (played rule (position rule p (top ∷ tests floor new)) m) = rw (← at) d.0 in
               let t = try-some rule aim p (passed top place s kn ∷ tests floor new) v (omega arith) in
-              rw (last_is, popped) (omega (arith, tries, ap (λ b. smallest_tree aim.battle (chess aim.goal rule) (top.left - 1) (played rule b m)) at, try-undecided rule aim p top (tests floor new) was open_yet, n, ap (to_try_with rule aim p (passed top place s kn ∷ tests floor new)) e, t));
+              rw (last_is, popped) (omega (
+                arith,
+                tries,
+                ap (λ b. smallest_tree aim.battle (chess aim.goal rule) (top.left - 1) (played rule b m)) at,
+                try-undecided rule aim p top
+                    (tests floor new) was open_yet,
+                n,
+                ap (to_try_with rule aim p (passed top place s kn ∷ tests floor new)) e,
+                t,
+              ));
         }
 
     pub descend_room : (is : Option Bool) → Descends is → top_left (tests floor old) + length old ≤ N + 1 → top_left (tests floor last) + length last ≤ N + 1
     descend_room None d room =
-        let last_is : tests floor last ≡ tested k m (undo_of rule board m) (top.left - 1) d.3.known ∷ (passed top place s kn ∷ tests floor new) = ap (tests floor) d.3.added ∙ tests-push floor (new ++ passed top place s kn ∷ []) _ low_mid ∙ ap (λ fs. tested k m (undo_of rule board m) (top.left - 1) d.3.known ∷ fs) mid_is in
+        let last_is : tests floor last ≡ tested k m (undo_of rule board m) (top.left - 1) d.3.known ∷ (passed top place s kn ∷ tests floor new) = ap
+        (tests floor) d.3.added ∙ tests-push floor (new ++ passed top place s kn ∷ []) _ low_mid
+        ∙ ap (λ fs. tested k m (undo_of rule board m) (top.left - 1) d.3.known ∷ fs) mid_is in
         let t : top_left (tests floor old) ≡ top.left = ap top_left popped in
         let u : top_left (tests floor last) ≡ top.left - 1 = ap top_left last_is in
-        omega (arith, t, u, room, len, some, ap length d.3.added, length-append (new ++ passed top place s kn ∷ []) (tested k m (undo_of rule board m) (top.left - 1) d.3.known ∷ []), length-append new (passed top place s kn ∷ []))
+        omega (
+          arith,
+          t,
+          u,
+          room,
+          len,
+          some,
+          ap length d.3.added,
+          length-append (new ++ passed top place s kn ∷ [])
+              (tested k m (undo_of rule board m) (top.left - 1) d.3.known ∷ []),
+          length-append new (passed top place s kn ∷ []),
+        )
     descend_room (Some v) d room =
         let last_is : tests floor last ≡ passed top place s kn ∷ tests floor new = ap (tests floor) d.2 ∙ mid_is in
         let t : top_left (tests floor old) ≡ top.left = ap top_left popped in
@@ -448,20 +554,28 @@ module _ (rule : RuleSet) (aim : Aim) (floor : ℕ) (top : Frame) (old new : Lis
   top_room N room = let t : top_left (tests floor old) ≡ top.left = ap top_left popped in omega (arith, t, room, len)
 
   -- the value of a frame that its answer decides, and of one with no move left
-  pub decided_value : (p : Position) (was : Option Bool) → was ≡ Some (seeks aim.battle top.left) → pending rule aim p (top ∷ tests floor new) was ≡ deliver rule aim p (tests floor new) (seeks aim.battle top.left)
+  pub decided_value : (p : Position) (was : Option Bool) → was ≡ Some (seeks aim.battle top.left)
+      → pending rule aim p (top ∷ tests floor new) was ≡ deliver rule aim p (tests floor new) (seeks aim.battle top.left)
   decided_value p was e = pending-decided rule aim p top (tests floor new) was e
 
-  pub exhausted_value : (p board : Position) (was : Option Bool) → IsTesting rule p (tests floor old) board → (was ≡ None) ⊎ (was ≡ Some (not (seeks aim.battle top.left))) → untried rule board top ≡ [] → pending rule aim p (top ∷ tests floor new) was ≡ deliver rule aim p (tests floor new) (not (seeks aim.battle top.left))
+  pub exhausted_value : (p board : Position) (was : Option Bool) → IsTesting rule p (tests floor old) board
+      → (was ≡ None) ⊎ (was ≡ Some (not (seeks aim.battle top.left))) → untried rule board top ≡ []
+      → pending rule aim p (top ∷ tests floor new) was ≡ deliver rule aim p (tests floor new) (not (seeks aim.battle top.left))
   exhausted_value p board was r u e =
       let at : board ≡ position rule p (top ∷ tests floor new) = (testing_top p board r).board_at in
       pending-undecided rule aim p top (tests floor new) was u
-      ∙ ap (deliver rule aim p (tests floor new)) (rest-none rule aim top.left (position rule p (top ∷ tests floor new)) (untried rule (position rule p (top ∷ tests floor new)) top) (top_some p board r) (rw (← at) e))
+      ∙ ap (deliver rule aim p (tests floor new))
+      (rest-none rule aim top.left (position rule p (top ∷ tests floor new)) (untried rule (position rule p (top ∷ tests floor new)) top)
+      (top_some p board r) (rw (← at) e))
 
   -- and the positions that are to be tried then
-  pub decided_left : (p : Position) (was : Option Bool) → was ≡ Some (seeks aim.battle top.left) → to_try rule aim p (top ∷ tests floor new) was ≡ to_try_with rule aim p (tests floor new) (seeks aim.battle top.left)
+  pub decided_left : (p : Position) (was : Option Bool) → was ≡ Some (seeks aim.battle top.left)
+      → to_try rule aim p (top ∷ tests floor new) was ≡ to_try_with rule aim p (tests floor new) (seeks aim.battle top.left)
   decided_left p was e = try-decided rule aim p top (tests floor new) was e
 
-  pub exhausted_left : (p board : Position) (was : Option Bool) → IsTesting rule p (tests floor old) board → (was ≡ None) ⊎ (was ≡ Some (not (seeks aim.battle top.left))) → untried rule board top ≡ [] → to_try rule aim p (top ∷ tests floor new) was ≡ to_try_with rule aim p (tests floor new) (not (seeks aim.battle top.left))
+  pub exhausted_left : (p board : Position) (was : Option Bool) → IsTesting rule p (tests floor old) board
+      → (was ≡ None) ⊎ (was ≡ Some (not (seeks aim.battle top.left))) → untried rule board top ≡ []
+      → to_try rule aim p (top ∷ tests floor new) was ≡ to_try_with rule aim p (tests floor new) (not (seeks aim.battle top.left))
   exhausted_left p board was r u e =
       let at : board ≡ position rule p (top ∷ tests floor new) = (testing_top p board r).board_at in
       let none : untried rule (position rule p (top ∷ tests floor new)) top ≡ [] = rw (← at) e in
@@ -470,7 +584,8 @@ module _ (rule : RuleSet) (aim : Aim) (floor : ℕ) (top : Frame) (old new : Lis
       ∙ (rw (v, none, trees-end aim.battle (chess aim.goal rule) top.left (position rule p (top ∷ tests floor new))) (omega arith))
 
 -- a call that leaves the board as it was
-pub testing_same : (rule : RuleSet) (p : Position) (frames : List Frame) (board now : Position) → IsTesting rule p frames board → now ≡ board → IsTesting rule p frames now
+pub testing_same : (rule : RuleSet) (p : Position) (frames : List Frame) (board now : Position) → IsTesting rule p frames board → now ≡ board
+    → IsTesting rule p frames now
 testing_same rule p frames board now r e = rw e r
 
 nil_of : (xs : List Frame) → length xs ≡ 0 → xs ≡ []
@@ -478,7 +593,8 @@ nil_of [] e = refl
 nil_of (x ∷ xs) e = absurd (omega (arith, e))
 
 -- a test of the position p, of the value v, over the frames `under`
-pub record IsUnderway (rule : RuleSet) (aim : Aim) (floor : ℕ) (p : Position) (N : ℕ) (v : Bool) (under frames : List Frame) (answer : Option Bool) (board : Position) (opened most fewest : ℕ) : Type 0 where
+pub record IsUnderway (rule : RuleSet) (aim : Aim) (floor : ℕ) (p : Position) (N : ℕ) (v : Bool) (under frames : List Frame) (answer : Option Bool)
+    (board : Position) (opened most fewest : ℕ) : Type 0 where
   pub counted : opened + to_test rule p (tests floor frames) ≤ most
   pub tried : min fewest (2 ^ 64 - 1) ≤ opened + to_try rule aim p (tests floor frames) answer
   pub testing : IsTesting rule p (tests floor frames) board
@@ -488,11 +604,17 @@ pub record IsUnderway (rule : RuleSet) (aim : Aim) (floor : ℕ) (p : Position) 
   pub base : take floor frames ≡ under
 
 module _ (rule : RuleSet) (aim : Aim) where
-  pub begins : (floor : ℕ) (p : Position) (N left k : ℕ) (board : Position) (before count : ℕ) (by : Triple) (undo : Loss) (under frames : List Frame) (kn : Option LegalPlace) → floor ≡ length under → frames ≡ under ++ tested k by undo left kn ∷ [] → IfSome kn (IsPlaceIn rule p) → floor + left ≤ N → count ≤ before + 1 → HasCounted before count 1 → board ≡ p → IsWellFormed board → (0 < left) × (value aim.battle (chess aim.goal rule) left p ≡ joined aim.battle (chess aim.goal rule) left p (legal_moves rule p)) → IsUnderway rule aim floor p N (value aim.battle (chess aim.goal rule) left p) under frames None board count (before + walk_count (legal_moves rule) (played rule) left p) (before + smallest_tree aim.battle (chess aim.goal rule) left p)
+  pub begins : (floor : ℕ) (p : Position) (N left k : ℕ) (board : Position) (before count : ℕ) (by : Triple) (undo : Loss) (under frames : List Frame)
+      (kn : Option LegalPlace) → floor ≡ length under → frames ≡ under ++ tested k by undo left kn ∷ [] → IfSome kn (IsPlaceIn rule p) → floor + left ≤ N
+      → count ≤ before + 1 → HasCounted before count 1 → board ≡ p → IsWellFormed board → (0 < left)
+      × (value aim.battle (chess aim.goal rule) left p ≡ joined aim.battle (chess aim.goal rule) left p (legal_moves rule p))
+      → IsUnderway rule aim floor p N (value aim.battle (chess aim.goal rule) left p) under frames None board count
+      (before + walk_count (legal_moves rule) (played rule) left p) (before + smallest_tree aim.battle (chess aim.goal rule) left p)
   unfolding pending deliver IsLinked IsCut AreKnown position to_test to_try to_try_with
   begins floor p N left k board before count by undo under frames kn low put within room more one_more at sound d =
       let none : tests floor under ≡ [] = nil_of (tests floor under) (omega (arith, length-tests floor under, low)) in
-      let one : tests floor frames ≡ tested k by undo left kn ∷ [] = ap (tests floor) put ∙ tests-push floor under _ (omega (arith, low)) ∙ ap (λ fs. tested k by undo left kn ∷ fs) none in
+      let one : tests floor frames ≡ tested k by undo left kn ∷ [] = ap (tests floor) put ∙ tests-push floor under _ (omega (arith, low))
+      ∙ ap (λ fs. tested k by undo left kn ∷ fs) none in
       let n = length-append under (tested k by undo left kn ∷ []) in
       record {
         counted = rw one (omega (arith, more, walk_count-start rule aim left p k d.0));
@@ -504,6 +626,18 @@ module _ (rule : RuleSet) (aim : Aim) where
         base = ap (take floor) put ∙ take-append-le floor under _ (omega (arith, low)) ∙ take_all floor under (omega (arith, low));
       }
 
-  pub goes_on : (floor : ℕ) (p : Position) (N : ℕ) (v : Bool) (under old new : List Frame) (was is : Option Bool) (board after : Position) (before count most fewest : ℕ) → IsUnderway rule aim floor p N v under old was board before most fewest → Turns rule aim floor p old new was is after before count → top_left (tests floor new) + length new ≤ N + 1 → IsUnderway rule aim floor p N v under new is after count most fewest
+  pub goes_on : (floor : ℕ) (p : Position) (N : ℕ) (v : Bool) (under old new : List Frame) (was is : Option Bool) (board after : Position)
+      (before count most fewest : ℕ) → IsUnderway rule aim floor p N v under old was board before most fewest
+      → Turns rule aim floor p old new was is after before count → top_left (tests floor new) + length new ≤ N + 1
+      → IsUnderway rule aim floor p N v under new is after count most fewest
   goes_on floor p N v under old new was is board after before count most fewest u t room =
-      record { counted = omega (arith, t.counted, u.counted); tried = omega (arith, t.tried, u.tried); testing = t.testing; same = sym t.same ∙ u.same; above = t.above; room = room; base = t.base ∙ u.base }
+      record {
+        counted = omega (arith, t.counted, u.counted);
+        tried = omega (arith, t.tried, u.tried);
+        testing = t.testing;
+        same = sym t.same
+            ∙ u.same;
+        above = t.above;
+        room = room;
+        base = t.base ∙ u.base;
+      }

@@ -10,11 +10,14 @@ use Rattle.pop_solve.specs.Game.{Game, can_move, every_move, lines_to_goal}
 use Rattle.pop_solve.specs.ties.Values.{seeks, value}
 use Rattle.pop_solve.specs.Tree.{node, keeps, least, best, below, answers}
 use Rattle.pop_solve.specs.ties.Walk.{fewest, first_from, open_length, follows, gives, goes_on, shown}
-use Rattle.pop_solve.specs.declared.walk.Way.{Way}
+use Rattle.pop_solve.specs.declared.plan.Plan.{Plan}
 use Rattle.pop_solve.proofs.Battles.{value-lost, value-self_lost}
 use Rattle.pop_solve.proofs.Lengths.{length-more}
 use Rattle.pop_solve.proofs.Walking.{length_most, goes_on-keys}
 use Rattle.pop_solve.proofs.Least.{least-direct, least-selfmate}
+use Rattle.pop_solve.specs.ties.Plans.{varies}
+use Rattle.pop_input.specs.Stipulations.{is_help}
+use Rattle.pop_solve.specs.Aims.{battle_of}
 
 -- the half-moves of a battle of so many moves
 abbrev pub halves : Battle → ℕ → ℕ
@@ -28,7 +31,8 @@ module _ {A B : Type 0} where
   flat-same F G (x ∷ xs) e = rw (e x, flat-same F G xs e) refl
 
   -- where all pass the test
-  pub flat-all : (test : A → Bool) (F G : A → List B) (xs : List A) → list_all test xs ≡ true → ((x : A) → test x ≡ true → F x ≡ G x) → flat_map F xs ≡ flat_map G xs
+  pub flat-all : (test : A → Bool) (F G : A → List B) (xs : List A) → list_all test xs ≡ true → ((x : A) → test x ≡ true → F x ≡ G x)
+      → flat_map F xs ≡ flat_map G xs
   flat-all test F G [] t e = refl
   flat-all test F G (x ∷ xs) t e =
       let b = both (test x) (list_all test xs) t in rw (e x b.0, flat-all test F G xs b.1 e) refl
@@ -38,7 +42,8 @@ module _ {A B : Type 0} where
       both false b e = absurd cc
 
   -- by those that pass it
-  pub flat-filter : (test other : A → Bool) (F G : A → List B) (xs : List A) → ((x : A) → test x ≡ other x) → ((x : A) → test x ≡ true → F x ≡ G x) → flat_map (λ x. cond (test x) (F x) []) xs ≡ flat_map G (filter other xs)
+  pub flat-filter : (test other : A → Bool) (F G : A → List B) (xs : List A) → ((x : A) → test x ≡ other x) → ((x : A) → test x ≡ true → F x ≡ G x)
+      → flat_map (λ x. cond (test x) (F x) []) xs ≡ flat_map G (filter other xs)
   flat-filter test other F G [] s e = refl
   flat-filter test other F G (x ∷ xs) s e =
       rw (flat-filter test other F G xs s e, ← s x) (split (test x) refl)
@@ -48,32 +53,36 @@ module _ {A B : Type 0} where
       split false t = refl
 
 module _ {P M : Type 0} (game : Game P M) where
-  pub shown-zero : (way : Way) (root : Bool) (k : ℕ) (p : P) (ms : List M) → shown way game root k 0 p ms ≡ []
+  pub shown-zero : (plan : Plan) (root : Bool) (k : ℕ) (p : P) (ms : List M) → shown plan game root k 0 p ms ≡ []
   unfolding shown
-  shown-zero way root zero p ms = refl
-  shown-zero way root (suc k) p ms = refl
+  shown-zero plan root zero p ms = refl
+  shown-zero plan root (suc k) p ms = refl
 
   -- help play
-  module _ (way : Way) (help : way.help ≡ true) where
+  module _ (plan : Plan) (help : is_help plan.form ≡ true) where
     -- the lines by a move
-    by_move : (tested b : Bool) (m : M) (xs ys : List (List M)) → cond b ([] ∷ []) [] ++ xs ≡ ys → cond (way.help || tested) (cond (not way.help || b) ((m ∷ []) ∷ []) [] ++ map (λ line. m ∷ line) xs) [] ≡ map (λ line. m ∷ line) ys
+    by_move : (tested b : Bool) (m : M) (xs ys : List (List M)) → cond b ([] ∷ []) [] ++ xs ≡ ys
+        → cond (is_help plan.form || tested) (cond (not (is_help plan.form) || b) ((m ∷ []) ∷ []) [] ++ map (λ line. m ∷ line) xs) []
+        ≡ map (λ line. m ∷ line) ys
     by_move tested true m xs ys e = rw help (ap (map (λ line. m ∷ line)) e)
     by_move tested false m xs ys e = rw help (ap (map (λ line. m ∷ line)) e)
 
-    goes_on-whole : (t : ℕ) (q : P) → goes_on way game t q ≡ t
+    goes_on-whole : (t : ℕ) (q : P) → goes_on plan game t q ≡ t
     unfolding goes_on
     goes_on-whole t q = rw help refl
 
     not_yet : (k : ℕ) (g : Bool) (xs ys : List (List M)) → xs ≡ ys → cond (eqb (suc k) 0 && g) ([] ∷ []) [] ++ xs ≡ ys
     not_yet k g xs ys e = let z : eqb (suc k) 0 ≡ false = grind (arith, nat_tests) in rw z e
 
-    pub shown-help : (root : Bool) (k : ℕ) (p : P) → shown way game root (suc k) (suc k) p (game.moves p) ≡ lines_to_goal game (suc k) p
+    pub shown-help : (root : Bool) (k : ℕ) (p : P) → shown plan game root (suc k) (suc k) p (game.moves p) ≡ lines_to_goal game (suc k) p
     unfolding shown follows gives lines_to_goal
     shown-help root zero p =
         flat-same _ _ (game.moves p) (λ m. by_move _ (game.goal (game.after p m)) m [] _ (append-nil _))
     shown-help root (suc k) p =
         flat-same _ _ (game.moves p) (λ m. by_move _ (eqb (suc k) 0 && game.goal (game.after p m)) m _ _
-        (not_yet k (game.goal (game.after p m)) _ _ (ap (λ t. shown way game false (suc k) t (game.after p m) (game.moves (game.after p m))) (goes_on-whole (suc k) (game.after p m)) ∙ shown-help false k (game.after p m))))
+        (not_yet k (game.goal (game.after p m)) _ _
+        (ap (λ t. shown plan game false (suc k) t (game.after p m) (game.moves (game.after p m))) (goes_on-whole (suc k) (game.after p m))
+        ∙ shown-help false k (game.after p m))))
 
   -- battle play: parities
   pub seeks-step : (battle : Battle) (t : ℕ) → seeks battle (t + 1) ≡ not (seeks battle t)
@@ -96,7 +105,8 @@ module _ {P M : Type 0} (game : Game P M) where
   keeps-value Selfmate k q = let h : 2 * suc k - 1 ≡ suc (2 * k) = omega arith in rw h (sym (value-self_lost game k q))
 
   -- the least length by half-moves is that of the least number of moves
-  least-halves : (battle : Battle) (n t : ℕ) (q : P) → seeks battle t ≡ true → 0 < t → t ≤ 2 * n → game.goal q ≡ false → value battle game t q ≡ true → first_from battle game q ((t - fewest battle) / 2) (fewest battle) ≡ halves battle (least battle game n q)
+  least-halves : (battle : Battle) (n t : ℕ) (q : P) → seeks battle t ≡ true → 0 < t → t ≤ 2 * n → game.goal q ≡ false → value battle game t q ≡ true
+      → first_from battle game q ((t - fewest battle) / 2) (fewest battle) ≡ halves battle (least battle game n q)
   least-halves Selfmate zero t q s some most open_yet v = absurd (omega (arith, some, most))
   least-halves Selfmate (suc n) t q s some most open_yet v =
       let k = seeks-halves Selfmate t s some in
@@ -118,7 +128,8 @@ module _ {P M : Type 0} (game : Game P M) where
   half-some battle (suc j) l e = (j, refl)
 
   -- the value of Black's position holds after each of his moves
-  value-black : (battle : Battle) (t : ℕ) (q : P) → game.goal q ≡ false → seeks battle (suc t) ≡ false → value battle game (suc t) q ≡ true → every_move game (value battle game t) q ≡ true
+  value-black : (battle : Battle) (t : ℕ) (q : P) → game.goal q ≡ false → seeks battle (suc t) ≡ false → value battle game (suc t) q ≡ true
+      → every_move game (value battle game t) q ≡ true
   unfolding value
   value-black battle t q g s v = last (eqb (suc t % 2) 0) (game.goal q) (seeks battle (suc t)) _ (can_move game q) _ g s v
     where
@@ -141,7 +152,12 @@ module _ {P M : Type 0} (game : Game P M) where
   first_from-least : (battle : Battle) (q : P) (n a : ℕ) → a ≤ first_from battle game q n a
   unfolding first_from
   first_from-least battle q zero a = omega arith
-  first_from-least battle q (suc n) a = elim (value battle game a q) as (λ b. a ≤ cond b a (first_from battle game q n (a + 2))) [ true ↦ omega arith | false ↦ omega (arith, first_from-least battle q n (a + 2)) ]
+  first_from-least battle q (suc n) a = elim
+      (value battle game a q) as (λ b. a ≤ cond b a (first_from battle game q n (a + 2))) [
+        | true ↦ omega arith
+        | false ↦ omega
+            (arith, first_from-least battle q n (a + 2))
+      ]
 
   fewest-some : (battle : Battle) → 1 ≤ fewest battle
   fewest-some Selfmate = omega arith
@@ -164,66 +180,82 @@ module _ {P M : Type 0} (game : Game P M) where
   value-end-zero battle q = refl
 
   -- in battle play
-  module _ (way : Way) (battle : way.help ≡ false) where
+  module _ (plan : Plan) (battle : is_help plan.form ≡ false) where
     -- a move that is tested, and one that isn't
-    pub by_test : (root : Bool) (t : ℕ) (q : P) → (root || seeks way.aim.battle (t + 1)) ≡ true → follows way game root t q ≡ value way.aim.battle game t q
+    pub by_test : (root : Bool) (t : ℕ) (q : P) → (root || seeks (battle_of plan.form) (t + 1)) ≡ true
+        → follows plan game root t q ≡ value (battle_of plan.form) game t q
     unfolding follows
     by_test root t q s = rw (battle, s) refl
 
-    by_none : (t : ℕ) (q : P) → seeks way.aim.battle (t + 1) ≡ false → follows way game false t q ≡ true
+    by_none : (t : ℕ) (q : P) → seeks (battle_of plan.form) (t + 1) ≡ false → follows plan game false t q ≡ true
     unfolding follows
     by_none t q s = rw (battle, s) refl
 
-    given_always : (t : ℕ) (q : P) → gives way game t q ≡ true
+    given_always : (t : ℕ) (q : P) → gives plan game t q ≡ true
     unfolding gives
     given_always t q = rw battle refl
 
     -- what the walk shows by some moves, as nodes
     abbrev pub beneath : ℕ → ℕ → P → List (List M)
-    beneath k t q = shown way game false k (goes_on way game t q) q (game.moves q)
+    beneath k t q = shown plan game false k (goes_on plan game t q) q (game.moves q)
 
-    pub as_nodes : (root : Bool) (k t : ℕ) (p : P) (ms : List M) → shown way game root (suc k) (suc t) p ms ≡ flat_map (λ m. cond (follows way game root t (game.after p m)) (node m (beneath k t (game.after p m))) []) ms
+    pub as_nodes : (root : Bool) (k t : ℕ) (p : P) (ms : List M)
+        → shown plan game root (suc k) (suc t) p ms
+        ≡ flat_map (λ m. cond (follows plan game root t (game.after p m)) (node m (beneath k t (game.after p m))) []) ms
     unfolding shown
     as_nodes root k t p ms =
-        flat-same _ _ ms (λ m. ap (λ b. cond (follows way game root t (game.after p m)) (cond b ((m ∷ []) ∷ []) [] ++ map (λ line. m ∷ line) (beneath k t (game.after p m))) []) (given_always t (game.after p m)))
+        flat-same _ _ ms (λ m. ap (λ b. cond (follows plan game root t (game.after p m))
+        (cond b ((m ∷ []) ∷ []) [] ++ map (λ line. m ∷ line) (beneath k t (game.after p m))) []) (given_always t (game.after p m)))
 
     -- the moves of White in his least length, over anything
-    white : (n k t : ℕ) (q : P) (G : M → List (List M)) → seeks way.aim.battle t ≡ true → 0 < t → t ≤ 2 * n → t ≤ suc k → game.goal q ≡ false → value way.aim.battle game t q ≡ true
-        → ((l : ℕ) (m : M) → seeks way.aim.battle (l + 1) ≡ true → l + 1 ≤ t → value way.aim.battle game l (game.after q m) ≡ true → node m (beneath k l (game.after q m)) ≡ G m)
-        → shown way game false (suc k) (open_length way.aim.battle game t q) q (game.moves q) ≡ flat_map G (best way.aim.battle game n q)
+    white : (n k t : ℕ) (q : P) (G : M → List (List M)) → seeks (battle_of plan.form) t ≡ true → 0 < t → t ≤ 2 * n → t ≤ suc k → game.goal q ≡ false
+        → value (battle_of plan.form) game t q ≡ true
+        → ((l : ℕ) (m : M) → seeks (battle_of plan.form) (l + 1) ≡ true → l + 1 ≤ t → value (battle_of plan.form) game l (game.after q m) ≡ true → node m
+        (beneath k l (game.after q m)) ≡ G m)
+        → shown plan game false (suc k) (open_length (battle_of plan.form) game t q) q (game.moves q) ≡ flat_map G (best (battle_of plan.form) game n q)
     unfolding open_length
     white n k zero q G s some most room open_yet v each = absurd (omega (arith, some))
     white n k (suc t) q G s some most room open_yet v each =
         let z : eqb (suc t) 0 ≡ false = grind (arith, nat_tests) in
-        let L = first_from way.aim.battle game q ((suc t - fewest way.aim.battle) / 2) (fewest way.aim.battle) in
-        let h : L ≡ halves way.aim.battle (least way.aim.battle game n q) = least-halves way.aim.battle n (suc t) q s some most open_yet v in
+        let L = first_from (battle_of plan.form) game q ((suc t - fewest (battle_of plan.form)) / 2) (fewest (battle_of plan.form)) in
+        let h : L ≡ halves (battle_of plan.form) (least (battle_of plan.form) game n q) = least-halves (battle_of plan.form) n
+        (suc t) q s some most open_yet v in
         rw (z, open_yet, s) (go L refl h)
       where
         z0 : eqb (suc t) 0 ≡ false
         z0 = grind (arith, nat_tests)
 
         L0 : ℕ
-        L0 = first_from way.aim.battle game q ((suc t - fewest way.aim.battle) / 2) (fewest way.aim.battle)
+        L0 = first_from (battle_of plan.form) game q ((suc t - fewest (battle_of plan.form)) / 2) (fewest (battle_of plan.form))
 
-        go : (x : ℕ) → L0 ≡ x → x ≡ halves way.aim.battle (least way.aim.battle game n q) → shown way game false (suc k) x q (game.moves q) ≡ flat_map G (best way.aim.battle game n q)
-        go zero e h = absurd (omega (arith, e, first_from-least way.aim.battle q ((suc t - fewest way.aim.battle) / 2) (fewest way.aim.battle), fewest-some way.aim.battle))
+        go : (x : ℕ) → L0 ≡ x → x ≡ halves (battle_of plan.form) (least (battle_of plan.form) game n q)
+            → shown plan game false (suc k) x q (game.moves q) ≡ flat_map G (best (battle_of plan.form) game n q)
+        go zero e h = absurd (omega (
+          arith,
+          e,
+          first_from-least (battle_of plan.form) q ((suc t - fewest (battle_of plan.form)) / 2) (fewest (battle_of plan.form)),
+          fewest-some
+              (battle_of plan.form),
+        ))
         go (suc l) e h =
-            let j = half-some way.aim.battle _ l h in
-            let h2 : suc l ≡ halves way.aim.battle (suc j.0) = h ∙ ap (halves way.aim.battle) j.1 in
-            let n2 : l + 1 ≡ halves way.aim.battle (suc j.0) = omega (arith, h2) in
-            let l2 : halves way.aim.battle (suc j.0) - 1 ≡ l = omega (arith, h2) in
-            let s2 : seeks way.aim.battle (l + 1) ≡ true = rw n2 (halves-seek way.aim.battle j.0) in
-            let most2 : L0 ≤ suc t = length_most game way.aim.battle (suc t) q false true false z0 s in
+            let j = half-some (battle_of plan.form) _ l h in
+            let h2 : suc l ≡ halves (battle_of plan.form) (suc j.0) = h ∙ ap (halves (battle_of plan.form)) j.1 in
+            let n2 : l + 1 ≡ halves (battle_of plan.form) (suc j.0) = omega (arith, h2) in
+            let l2 : halves (battle_of plan.form) (suc j.0) - 1 ≡ l = omega (arith, h2) in
+            let s2 : seeks (battle_of plan.form) (l + 1) ≡ true = rw n2 (halves-seek (battle_of plan.form) j.0) in
+            let most2 : L0 ≤ suc t = length_most game (battle_of plan.form) (suc t) q false true false z0 s in
             as_nodes false k l q (game.moves q)
-            ∙ flat-filter _ (λ m. keeps way.aim.battle game (least way.aim.battle game n q) (game.after q m)) _ G (game.moves q)
-            (λ m. by_test false l (game.after q m) s2 ∙ sym (ap (λ x. keeps way.aim.battle game x (game.after q m)) j.1 ∙ keeps-value way.aim.battle j.0 (game.after q m) ∙ ap (λ x. value way.aim.battle game x (game.after q m)) l2))
+            ∙ flat-filter _ (λ m. keeps (battle_of plan.form) game (least (battle_of plan.form) game n q) (game.after q m)) _ G (game.moves q)
+            (λ m. by_test false l (game.after q m) s2 ∙ sym
+            (ap (λ x. keeps (battle_of plan.form) game x (game.after q m)) j.1 ∙ keeps-value (battle_of plan.form) j.0 (game.after q m)
+            ∙ ap (λ x. value (battle_of plan.form) game x (game.after q m)) l2))
             (λ m v2. each l m s2 (omega (arith, e, most2)) (sym (by_test false l (game.after q m) s2) ∙ v2))
 
-    open-goal : (k : ℕ) (q : P) → game.goal q ≡ true → shown way game false k (open_length way.aim.battle game k q) q (game.moves q) ≡ []
+    open-goal : (k : ℕ) (q : P) → game.goal q ≡ true → shown plan game false k (open_length (battle_of plan.form) game k q) q (game.moves q) ≡ []
     unfolding open_length
     open-goal k q g =
         let none : (eqb k 0 || game.goal q) ≡ true = rw g (or_true (eqb k 0)) in
-        rw none (shown-zero way false k q (game.moves q))
+        rw none (shown-zero plan false k q (game.moves q))
       where
         or_true : (b : Bool) → (b || true) ≡ true
         or_true true = refl
@@ -232,101 +264,121 @@ module _ {P M : Type 0} (game : Game P M) where
     clash : {b : Bool} → b ≡ false → b ≡ true → ⊥
     clash f t = cc
 
-    module _ (variation : way.variation ≡ true) where
-      beneath-is : (k t : ℕ) (q : P) → beneath k t q ≡ shown way game false k (open_length way.aim.battle game t q) q (game.moves q)
+    module _ (variation : varies plan ≡ true) where
+      beneath-is : (k t : ℕ) (q : P) → beneath k t q ≡ shown plan game false k (open_length (battle_of plan.form) game t q) q (game.moves q)
       unfolding goes_on
       beneath-is k t q = rw (battle, variation) refl
 
       abbrev pub Tie : ℕ → ℕ → ℕ → P → Type 0
-      Tie n k t q = shown way game false k (open_length way.aim.battle game t q) q (game.moves q) ≡ cond (seeks way.aim.battle t) (answers way.aim.battle game n k q) (below way.aim.battle game n k q)
+      Tie n k t q = shown plan game false k (open_length (battle_of plan.form) game t q) q (game.moves q) ≡ cond (seeks (battle_of plan.form) t)
+          (answers (battle_of plan.form) game n k q) (below (battle_of plan.form) game n k q)
 
       tie-goal : (n k t : ℕ) (q : P) → game.goal q ≡ true → Tie n k t q
       unfolding open_length
       tie-goal n k t q g =
           let none : (eqb t 0 || game.goal q) ≡ true = rw g (or_true (eqb t 0)) in
-          rw none (shown-zero way false k q (game.moves q) ∙ sym (nothing n k q g way.aim.battle (seeks way.aim.battle t)))
+          rw none (shown-zero plan false k q (game.moves q) ∙ sym (nothing n k q g (battle_of plan.form) (seeks (battle_of plan.form) t)))
         where
           or_true : (b : Bool) → (b || true) ≡ true
           or_true true = refl
           or_true false = refl
 
-      tie-white : (n k t : ℕ) (q : P) → ((l : ℕ) (r : P) → value way.aim.battle game l r ≡ true → l ≤ k → l ≤ 2 * n → Tie n k l r) → value way.aim.battle game (suc t) q ≡ true → suc t ≤ suc k → suc t ≤ 2 * n → game.goal q ≡ false → seeks way.aim.battle (suc t) ≡ true → Tie n (suc k) (suc t) q
+      tie-white : (n k t : ℕ) (q : P) → ((l : ℕ) (r : P) → value (battle_of plan.form) game l r ≡ true → l ≤ k → l ≤ 2 * n → Tie n k l r)
+          → value (battle_of plan.form) game (suc t) q ≡ true → suc t ≤ suc k → suc t ≤ 2 * n → game.goal q ≡ false
+          → seeks (battle_of plan.form) (suc t) ≡ true → Tie n (suc k) (suc t) q
       unfolding answers
       tie-white n k t q ih v room most g s =
           rw (s, g) (white n k (suc t) q _ s (omega arith) most room g v
           (λ l m s2 less v2.
-          let b : seeks way.aim.battle l ≡ false = flip _ (sym (seeks-step way.aim.battle l) ∙ s2) in
-          ap (node m) (beneath-is k l (game.after q m) ∙ ih l (game.after q m) v2 (omega (arith, less, room)) (omega (arith, less, most)) ∙ ap (λ x. cond x (answers way.aim.battle game n k (game.after q m)) (below way.aim.battle game n k (game.after q m))) b)))
+          let b : seeks (battle_of plan.form) l ≡ false = flip _ (sym (seeks-step (battle_of plan.form) l) ∙ s2) in
+          ap (node m) (beneath-is k l (game.after q m) ∙ ih l (game.after q m) v2 (omega (arith, less, room)) (omega (arith, less, most))
+          ∙ ap (λ x. cond x (answers (battle_of plan.form) game n k (game.after q m)) (below (battle_of plan.form) game n k (game.after q m))) b)))
 
-      tie-black : (n k t : ℕ) (q : P) → ((l : ℕ) (r : P) → value way.aim.battle game l r ≡ true → l ≤ k → l ≤ 2 * n → Tie n k l r) → value way.aim.battle game (suc t) q ≡ true → suc t ≤ suc k → suc t ≤ 2 * n → game.goal q ≡ false → seeks way.aim.battle (suc t) ≡ false → Tie n (suc k) (suc t) q
+      tie-black : (n k t : ℕ) (q : P) → ((l : ℕ) (r : P) → value (battle_of plan.form) game l r ≡ true → l ≤ k → l ≤ 2 * n → Tie n k l r)
+          → value (battle_of plan.form) game (suc t) q ≡ true → suc t ≤ suc k → suc t ≤ 2 * n → game.goal q ≡ false
+          → seeks (battle_of plan.form) (suc t) ≡ false → Tie n (suc k) (suc t) q
       unfolding below open_length
       tie-black n k t q ih v room most g s =
           let z : eqb (suc t) 0 ≡ false = grind (arith, nat_tests) in
           let one : suc t ≡ t + 1 = omega arith in
-          let s1 : seeks way.aim.battle (t + 1) ≡ false = (rw (← one) s) in
-          let w : seeks way.aim.battle t ≡ true = unflip _ (sym (seeks-step way.aim.battle t) ∙ s1) in
+          let s1 : seeks (battle_of plan.form) (t + 1) ≡ false = (rw (← one) s) in
+          let w : seeks (battle_of plan.form) t ≡ true = unflip _ (sym (seeks-step (battle_of plan.form) t) ∙ s1) in
           rw (z, g, s) (as_nodes false k t q (game.moves q)
-          ∙ flat-all (λ d. value way.aim.battle game t (game.after q d)) _ _ (game.moves q) (value-black way.aim.battle t q g s v)
+          ∙ flat-all (λ d. value (battle_of plan.form) game t (game.after q d)) _ _ (game.moves q) (value-black (battle_of plan.form) t q g s v)
           (λ d v2. ap (λ b. cond b (node d (beneath k t (game.after q d))) []) (by_none t (game.after q d) s1)
-          ∙ ap (node d) (beneath-is k t (game.after q d) ∙ ih t (game.after q d) v2 (omega (arith, room)) (omega (arith, most)) ∙ ap (λ x. cond x (answers way.aim.battle game n k (game.after q d)) (below way.aim.battle game n k (game.after q d))) w)))
+          ∙ ap (node d) (beneath-is k t (game.after q d) ∙ ih t (game.after q d) v2 (omega (arith, room)) (omega (arith, most))
+          ∙ ap (λ x. cond x (answers (battle_of plan.form) game n k (game.after q d)) (below (battle_of plan.form) game n k (game.after q d))) w)))
 
       -- what the walk shows below a move that is shown
-      pub tie : (n k t : ℕ) (q : P) → value way.aim.battle game t q ≡ true → t ≤ k → t ≤ 2 * n → Tie n k t q
-      tie n k zero q v room most = tie-goal n k 0 q (sym (value-end-zero way.aim.battle q) ∙ v)
+      pub tie : (n k t : ℕ) (q : P) → value (battle_of plan.form) game t q ≡ true → t ≤ k → t ≤ 2 * n → Tie n k t q
+      tie n k zero q v room most = tie-goal n k 0 q (sym (value-end-zero (battle_of plan.form) q) ∙ v)
       tie n zero (suc t) q v room most = absurd (omega (arith, room))
       tie n (suc k) (suc t) q v room most =
-          split (game.goal q) refl (tie-goal n (suc k) (suc t) q) (tie-white n k t q (λ l r a b c. tie n k l r a b c) v room most) (tie-black n k t q (λ l r a b c. tie n k l r a b c) v room most)
+          split (game.goal q) refl (tie-goal n (suc k) (suc t) q) (tie-white n k t q (λ l r a b c. tie n k l r a b c) v room most)
+          (tie-black n k t q (λ l r a b c. tie n k l r a b c) v room most)
         where
-          split : (g : Bool) → game.goal q ≡ g → (game.goal q ≡ true → Tie n (suc k) (suc t) q) → (game.goal q ≡ false → seeks way.aim.battle (suc t) ≡ true → Tie n (suc k) (suc t) q) → (game.goal q ≡ false → seeks way.aim.battle (suc t) ≡ false → Tie n (suc k) (suc t) q) → Tie n (suc k) (suc t) q
+          split : (g : Bool) → game.goal q ≡ g → (game.goal q ≡ true → Tie n (suc k) (suc t) q)
+              → (game.goal q ≡ false → seeks (battle_of plan.form) (suc t) ≡ true → Tie n (suc k) (suc t) q)
+              → (game.goal q ≡ false → seeks (battle_of plan.form) (suc t) ≡ false → Tie n (suc k) (suc t) q) → Tie n (suc k) (suc t) q
           split true e a b c = a e
-          split false e a b c = side (seeks way.aim.battle (suc t)) refl
+          split false e a b c = side (seeks (battle_of plan.form) (suc t)) refl
             where
-              side : (s : Bool) → seeks way.aim.battle (suc t) ≡ s → Tie n (suc k) (suc t) q
+              side : (s : Bool) → seeks (battle_of plan.form) (suc t) ≡ s → Tie n (suc k) (suc t) q
               side true f = b e f
               side false f = c e f
 
     -- where no variations are shown, nothing stands below a move of White
-    beneath-none : (k t : ℕ) (q : P) → way.variation ≡ false → seeks way.aim.battle (t + 1) ≡ true → beneath k t q ≡ []
-    beneath-none k t q v s = ap (λ x. shown way game false k x q (game.moves q)) (goes_on-keys way game t q battle v s) ∙ shown-zero way false k q (game.moves q)
+    beneath-none : (k t : ℕ) (q : P) → varies plan ≡ false → seeks (battle_of plan.form) (t + 1) ≡ true → beneath k t q ≡ []
+    beneath-none k t q v s = ap (λ x. shown plan game false k x q (game.moves q)) (goes_on-keys plan game t q battle v s) ∙ shown-zero plan false k q
+        (game.moves q)
 
-    beneath-set : (k t : ℕ) (q : P) → seeks way.aim.battle (t + 1) ≡ false → beneath k t q ≡ shown way game false k (open_length way.aim.battle game t q) q (game.moves q)
+    beneath-set : (k t : ℕ) (q : P) → seeks (battle_of plan.form) (t + 1) ≡ false
+        → beneath k t q ≡ shown plan game false k (open_length (battle_of plan.form) game t q) q (game.moves q)
     unfolding goes_on
-    beneath-set k t q s = rw (battle, s, off way.variation) refl
+    beneath-set k t q s = rw (battle, s, off (varies plan)) refl
       where
         off : (v : Bool) → (not v && false) ≡ false
         off true = refl
         off false = refl
 
     -- below a key
-    pub below-key : (n h : ℕ) (q : P) → seeks way.aim.battle (suc h) ≡ true → suc h ≤ 2 * n → value way.aim.battle game h q ≡ true → beneath h h q ≡ cond way.variation (below way.aim.battle game n h q) []
-    below-key n h q s most v = go way.variation refl
+    pub below-key : (n h : ℕ) (q : P) → seeks (battle_of plan.form) (suc h) ≡ true → suc h ≤ 2 * n → value (battle_of plan.form) game h q ≡ true
+        → beneath h h q ≡ cond (varies plan) (below (battle_of plan.form) game n h q) []
+    below-key n h q s most v = go (varies plan) refl
       where
-        s1 : seeks way.aim.battle (h + 1) ≡ true
+        s1 : seeks (battle_of plan.form) (h + 1) ≡ true
         s1 = let one : suc h ≡ h + 1 = omega arith in rw (← one) s
 
-        go : (b : Bool) → way.variation ≡ b → beneath h h q ≡ cond b (below way.aim.battle game n h q) []
+        go : (b : Bool) → varies plan ≡ b → beneath h h q ≡ cond b (below (battle_of plan.form) game n h q) []
         go true e =
             beneath-is e h h q ∙ tie e n h h q v (omega arith) (omega (arith, most))
-            ∙ ap (λ x. cond x (answers way.aim.battle game n h q) (below way.aim.battle game n h q)) (flip _ (sym (seeks-step way.aim.battle h) ∙ s1))
+            ∙ ap (λ x. cond x (answers (battle_of plan.form) game n h q) (below (battle_of plan.form) game n h q))
+            (flip _ (sym (seeks-step (battle_of plan.form) h) ∙ s1))
         go false e = beneath-none h h q e s1
 
     -- below a first move of Black in set play
-    pub below-set : (n h : ℕ) (r : P) → seeks way.aim.battle h ≡ true → h ≤ 2 * n → value way.aim.battle game h r ≡ true → beneath h h r ≡ cond way.variation (answers way.aim.battle game n h r) (cond (game.goal r) [] (map (λ m. m ∷ []) (best way.aim.battle game n r)))
-    below-set n h r s most v = go way.variation refl
+    pub below-set : (n h : ℕ) (r : P) → seeks (battle_of plan.form) h ≡ true → h ≤ 2 * n → value (battle_of plan.form) game h r ≡ true
+        → beneath h h r ≡ cond (varies plan) (answers (battle_of plan.form) game n h r)
+        (cond (game.goal r) [] (map (λ m. m ∷ []) (best (battle_of plan.form) game n r)))
+    below-set n h r s most v = go (varies plan) refl
       where
-        s1 : seeks way.aim.battle (h + 1) ≡ false
-        s1 = seeks-step way.aim.battle h ∙ ap not s
+        s1 : seeks (battle_of plan.form) (h + 1) ≡ false
+        s1 = seeks-step (battle_of plan.form) h ∙ ap not s
 
-        no_variation : way.variation ≡ false → (h2 : ℕ) → h ≡ h2 → (g : Bool) → game.goal r ≡ g → shown way game false h2 (open_length way.aim.battle game h2 r) r (game.moves r) ≡ cond g [] (map (λ m. m ∷ []) (best way.aim.battle game n r))
+        no_variation : varies plan ≡ false → (h2 : ℕ) → h ≡ h2 → (g : Bool) → game.goal r ≡ g
+            → shown plan game false h2 (open_length (battle_of plan.form) game h2 r) r (game.moves r) ≡ cond g []
+            (map (λ m. m ∷ []) (best (battle_of plan.form) game n r))
         no_variation e h2 i true g = open-goal h2 r g
-        no_variation e zero i false g = absurd (clash g (sym (value-end-zero way.aim.battle r) ∙ (rw i at v)))
+        no_variation e zero i false g = absurd (clash g (sym (value-end-zero (battle_of plan.form) r) ∙ (rw i at v)))
         no_variation e (suc k) i false g =
             white n k (suc k) r (λ m. (m ∷ []) ∷ []) (rw i at s) (omega arith) (rw i at most) (omega arith) g (rw i at v)
             (λ l m s2 less v2. ap (node m) (beneath-none k l (game.after r m) e s2))
-            ∙ flat_map_single (λ m. m ∷ []) (best way.aim.battle game n r)
+            ∙ flat_map_single (λ m. m ∷ []) (best (battle_of plan.form) game n r)
 
-        go : (b : Bool) → way.variation ≡ b → beneath h h r ≡ cond b (answers way.aim.battle game n h r) (cond (game.goal r) [] (map (λ m. m ∷ []) (best way.aim.battle game n r)))
+        go : (b : Bool) → varies plan ≡ b
+            → beneath h h r ≡ cond b (answers (battle_of plan.form) game n h r)
+            (cond (game.goal r) [] (map (λ m. m ∷ []) (best (battle_of plan.form) game n r)))
         go true e =
             beneath-is e h h r ∙ tie e n h h r v (omega arith) most
-            ∙ ap (λ x. cond x (answers way.aim.battle game n h r) (below way.aim.battle game n h r)) s
+            ∙ ap (λ x. cond x (answers (battle_of plan.form) game n h r) (below (battle_of plan.form) game n h r)) s
         go false e = beneath-set h h r s1 ∙ no_variation e h refl (game.goal r) refl

@@ -38,7 +38,8 @@ module _ {P M : Type 0} (battle : Battle) (game : Game P M) where
   unfolding value
   value-forced p is = rw is refl
 
-  value-joined : (t : ℕ) (p : P) → 0 < t → (t % 2 == 0 && game.goal p) ≡ false → (seeks battle t || can_move game p) ≡ true → value battle game t p ≡ joined battle game t p (game.moves p)
+  value-joined : (t : ℕ) (p : P) → 0 < t → (t % 2 == 0 && game.goal p) ≡ false → (seeks battle t || can_move game p) ≡ true
+      → value battle game t p ≡ joined battle game t p (game.moves p)
   unfolding value joined
   value-joined zero p some e k = absurd (omega (arith, some))
   value-joined (suc t) p some e k = cases _ (seeks battle (suc t)) _ _ _ e k

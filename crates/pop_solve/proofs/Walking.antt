@@ -27,8 +27,11 @@ use Rattle.pop_solve.specs.ties.Counts.{HasCounted, walk_count}
 use Rattle.pop_solve.specs.ties.Values.{seeks, value}
 use Rattle.pop_solve.specs.ties.Frames.{AreKnown, Frame, position, IsLinked, CameFromAt, CameFrom, opened, opened as opened_frame, steps, steps_behind, walk_behind, to_open}
 use Rattle.pop_solve.specs.ties.Walk.{fewest, first_from, open_length, follows, gives, goes_on, shown, path, GoesTo, to_come, IsRoomy, IsWalking, turns, IsCounted, IsWhites, Steps, fewest_for, fewest_left, fewest_walked}
-use Rattle.pop_solve.specs.declared.walk.Way.{Way}
+use Rattle.pop_solve.specs.declared.plan.Plan.{Plan}
 use Rattle.pop_solve.proofs.Tests.{learned, moved}
+use Rattle.pop_solve.specs.ties.Plans.{varies}
+use Rattle.pop_input.specs.Stipulations.{is_help}
+use Rattle.pop_solve.specs.Aims.{battle_of}
 
 pub cases : (b : Bool) → (b ≡ false) ⊎ (b ≡ true)
 cases false = inl refl
@@ -44,23 +47,33 @@ no_zero k = grind (arith, nat_tests)
 abbrev pub given_path : Bool → List Triple → List (List Triple)
 given_path b L = cond b (L ∷ []) []
 
-map-path : (L : List Triple) (m : Triple) (xs : List (List Triple)) → map (λ line. L ++ line) (map (λ line. m ∷ line) xs) ≡ map (λ line. (L ++ m ∷ []) ++ line) xs
+map-path : (L : List Triple) (m : Triple) (xs : List (List Triple))
+    → map (λ line. L ++ line) (map (λ line. m ∷ line) xs) ≡ map (λ line. (L ++ m ∷ []) ++ line) xs
 map-path L m [] = refl
 map-path L m (x ∷ xs) = rw (append_assoc L (m ∷ []) x, map-path L m xs)
 
 -- the paths by a move and by the others, seen from the path before them
-turn : (b : Bool) (L : List Triple) (m : Triple) (xs ys rest : List (List Triple)) → map (λ line. L ++ line) ((given_path b (m ∷ []) ++ map (λ line. m ∷ line) xs) ++ ys) ++ rest ≡ given_path b (L ++ m ∷ []) ++ (map (λ line. (L ++ m ∷ []) ++ line) xs ++ (map (λ line. L ++ line) ys ++ rest))
+turn : (b : Bool) (L : List Triple) (m : Triple) (xs ys rest : List (List Triple))
+    → map (λ line. L ++ line) ((given_path b (m ∷ []) ++ map (λ line. m ∷ line) xs) ++ ys) ++ rest ≡ given_path b (L ++ m ∷ [])
+    ++ (map (λ line. (L ++ m ∷ []) ++ line) xs ++ (map (λ line. L ++ line) ys ++ rest))
 turn true L m xs ys rest =
-    rw (map-append (λ line. L ++ line) (map (λ line. m ∷ line) xs) ys, map-path L m xs) (ap (λ zs. (L ++ m ∷ []) ∷ zs) (append_assoc (map (λ line. (L ++ m ∷ []) ++ line) xs) (map (λ line. L ++ line) ys) rest))
+    rw (map-append (λ line. L ++ line) (map (λ line. m ∷ line) xs) ys, map-path L m xs)
+    (ap (λ zs. (L ++ m ∷ []) ∷ zs) (append_assoc (map (λ line. (L ++ m ∷ []) ++ line) xs) (map (λ line. L ++ line) ys) rest))
 turn false L m xs ys rest =
-    rw (map-append (λ line. L ++ line) (map (λ line. m ∷ line) xs) ys, map-path L m xs) (append_assoc (map (λ line. (L ++ m ∷ []) ++ line) xs) (map (λ line. L ++ line) ys) rest)
+    rw (map-append (λ line. L ++ line) (map (λ line. m ∷ line) xs) ys, map-path L m xs)
+    (append_assoc (map (λ line. (L ++ m ∷ []) ++ line) xs) (map (λ line. L ++ line) ys) rest)
 
 module _ {P M : Type 0} (game : Game P M) where
   -- the number of half-moves with which the next frame is opened is at most what is left
   first_from-most : (battle : Battle) (q : P) (n a t : ℕ) → a + 2 * n ≤ t → first_from battle game q n a ≤ t
   unfolding first_from
   first_from-most battle q zero a t h = omega (arith, h)
-  first_from-most battle q (suc n) a t h = elim (value battle game a q) as (λ b. cond b a (first_from battle game q n (a + 2)) ≤ t) [ true ↦ omega (arith, h) | false ↦ first_from-most battle q n (a + 2) t (omega (arith, h)) ]
+  first_from-most battle q (suc n) a t h = elim
+      (value battle game a q) as (λ b. cond b a (first_from battle game q n (a + 2)) ≤ t) [
+        | true ↦ omega (arith, h)
+        | false ↦ first_from-most battle q n
+            (a + 2) t (omega (arith, h))
+      ]
 
   even_two : (t : ℕ) → eqb (t % 2) 0 ≡ true → eqb t 0 ≡ false → 2 ≤ t
   even_two t e n = grind (arith, nat_tests)
@@ -68,7 +81,8 @@ module _ {P M : Type 0} (game : Game P M) where
   some_one : (t : ℕ) → eqb t 0 ≡ false → 1 ≤ t
   some_one t n = grind (arith, nat_tests)
 
-  pub length_most : (battle : Battle) (t : ℕ) (q : P) (z s goal : Bool) → eqb t 0 ≡ z → seeks battle t ≡ s → cond (z || goal) 0 (cond s (first_from battle game q ((t - fewest battle) / 2) (fewest battle)) t) ≤ t
+  pub length_most : (battle : Battle) (t : ℕ) (q : P) (z s goal : Bool) → eqb t 0 ≡ z → seeks battle t ≡ s
+      → cond (z || goal) 0 (cond s (first_from battle game q ((t - fewest battle) / 2) (fewest battle)) t) ≤ t
   length_most battle t q true s goal e u = omega arith
   length_most battle t q false s true e u = omega arith
   length_most battle t q false false false e u = omega arith
@@ -79,24 +93,24 @@ module _ {P M : Type 0} (game : Game P M) where
   unfolding open_length
   open_length-most battle t q = length_most battle t q (eqb t 0) (seeks battle t) (game.goal q) refl refl
 
-  pub goes_on-most : (way : Way) (t : ℕ) (q : P) → goes_on way game t q ≤ t
+  pub goes_on-most : (plan : Plan) (t : ℕ) (q : P) → goes_on plan game t q ≤ t
   unfolding goes_on
-  goes_on-most way t q = most way.help (not way.variation && seeks way.aim.battle (t + 1)) _ (open_length-most way.aim.battle t q)
+  goes_on-most plan t q = most (is_help plan.form) (not (varies plan) && seeks (battle_of plan.form) (t + 1)) _ (open_length-most (battle_of plan.form) t q)
     where
       most : (help keys : Bool) (n : ℕ) → n ≤ t → cond help t (cond keys 0 n) ≤ t
       most true keys n e = omega arith
       most false true n e = omega arith
       most false false n e = e
 
-goes_on-help : {P M : Type 0} (way : Way) (game : Game P M) (t : ℕ) (q : P) → way.help ≡ true → goes_on way game t q ≡ t
+goes_on-help : {P M : Type 0} (plan : Plan) (game : Game P M) (t : ℕ) (q : P) → is_help plan.form ≡ true → goes_on plan game t q ≡ t
 unfolding goes_on
-goes_on-help way game t q a = rw a refl
+goes_on-help plan game t q a = rw a refl
 
-follows-help : {P M : Type 0} (way : Way) (game : Game P M) (root : Bool) (t : ℕ) (q : P) → way.help ≡ true → follows way game root t q ≡ true
+follows-help : {P M : Type 0} (plan : Plan) (game : Game P M) (root : Bool) (t : ℕ) (q : P) → is_help plan.form ≡ true → follows plan game root t q ≡ true
 unfolding follows
-follows-help way game root t q a = rw a refl
+follows-help plan game root t q a = rw a refl
 
-module _ (rule : RuleSet) (way : Way) where
+module _ (rule : RuleSet) (plan : Plan) where
   -- what the place of the top frame leaves as it is
   IsLinked-moved : (p : Position) (f : Frame) (place : ℕ) (below : List Frame) → IsLinked rule p (f ∷ below) → IsLinked rule p (moved f place ∷ below)
   unfolding IsLinked
@@ -109,11 +123,15 @@ module _ (rule : RuleSet) (way : Way) where
   position-moved p f place (g ∷ below) = refl
 
   -- the paths by the next move, and by the others
-  shown-next : (root : Bool) (k t : ℕ) (P : Position) (m : Triple) (ms : List Triple) → shown way (chess way.aim.goal rule) root (suc k) (suc t) P (m ∷ ms) ≡ cond (follows way (chess way.aim.goal rule) root t (played rule P m)) (given_path (gives way (chess way.aim.goal rule) t (played rule P m)) (m ∷ []) ++ map (λ line. m ∷ line) (shown way (chess way.aim.goal rule) false k (goes_on way (chess way.aim.goal rule) t (played rule P m)) (played rule P m) (legal_moves rule (played rule P m)))) [] ++ shown way (chess way.aim.goal rule) root (suc k) (suc t) P ms
+  shown-next : (root : Bool) (k t : ℕ) (P : Position) (m : Triple) (ms : List Triple)
+      → shown plan (chess plan.goal rule) root (suc k) (suc t) P (m ∷ ms) ≡ cond (follows plan (chess plan.goal rule) root t (played rule P m))
+      (given_path (gives plan (chess plan.goal rule) t (played rule P m)) (m ∷ []) ++ map (λ line. m ∷ line)
+      (shown plan (chess plan.goal rule) false k (goes_on plan (chess plan.goal rule) t (played rule P m)) (played rule P m)
+      (legal_moves rule (played rule P m)))) [] ++ shown plan (chess plan.goal rule) root (suc k) (suc t) P ms
   unfolding shown
   shown-next root k t P m ms = refl
 
-  shown-none : (root : Bool) (k left : ℕ) (P : Position) (ms : List Triple) → (left ≡ 0) ⊎ (ms ≡ []) → shown way (chess way.aim.goal rule) root k left P ms ≡ []
+  shown-none : (root : Bool) (k left : ℕ) (P : Position) (ms : List Triple) → (left ≡ 0) ⊎ (ms ≡ []) → shown plan (chess plan.goal rule) root k left P ms ≡ []
   unfolding shown
   shown-none root zero left P ms e = refl
   shown-none root (suc k) zero P ms e = refl
@@ -121,16 +139,21 @@ module _ (rule : RuleSet) (way : Way) where
   shown-none root (suc k) (suc t) P ms (inr e) = rw e refl
 
   -- the positions to be tried for the next move, and for the others
-  fewest-next : (root : Bool) (k t : ℕ) (P : Position) (m : Triple) (ms : List Triple) → fewest_walked way (chess way.aim.goal rule) root (suc k) (suc t) P (m ∷ ms)
-      ≡ (fewest_for way (chess way.aim.goal rule) root t (played rule P m) + cond (follows way (chess way.aim.goal rule) root t (played rule P m)) (fewest_walked way (chess way.aim.goal rule) false k (goes_on way (chess way.aim.goal rule) t (played rule P m)) (played rule P m) (legal_moves rule (played rule P m))) 0)
-      + fewest_walked way (chess way.aim.goal rule) root (suc k) (suc t) P ms
+  fewest-next : (root : Bool) (k t : ℕ) (P : Position) (m : Triple) (ms : List Triple)
+      → fewest_walked plan (chess plan.goal rule) root (suc k) (suc t) P (m ∷ ms)
+      ≡ (fewest_for plan (chess plan.goal rule) root t (played rule P m) + cond (follows plan (chess plan.goal rule) root t (played rule P m))
+      (fewest_walked plan (chess plan.goal rule) false k (goes_on plan (chess plan.goal rule) t (played rule P m)) (played rule P m)
+      (legal_moves rule (played rule P m))) 0)
+      + fewest_walked plan (chess plan.goal rule) root (suc k) (suc t) P ms
   unfolding fewest_walked
   fewest-next root k t P m ms =
       sum_by-cons (λ m. let q = played rule P m in
-      fewest_for way (chess way.aim.goal rule) root t q
-      + cond (follows way (chess way.aim.goal rule) root t q) (fewest_walked way (chess way.aim.goal rule) false k (goes_on way (chess way.aim.goal rule) t q) q (legal_moves rule q)) 0) m ms
+      fewest_for plan (chess plan.goal rule) root t q
+      + cond (follows plan (chess plan.goal rule) root t q)
+      (fewest_walked plan (chess plan.goal rule) false k (goes_on plan (chess plan.goal rule) t q) q (legal_moves rule q)) 0) m ms
 
-  fewest-none : (root : Bool) (k left : ℕ) (P : Position) (ms : List Triple) → (left ≡ 0) ⊎ (ms ≡ []) → fewest_walked way (chess way.aim.goal rule) root k left P ms ≡ 0
+  fewest-none : (root : Bool) (k left : ℕ) (P : Position) (ms : List Triple) → (left ≡ 0) ⊎ (ms ≡ [])
+      → fewest_walked plan (chess plan.goal rule) root k left P ms ≡ 0
   unfolding fewest_walked
   fewest-none root zero left P ms e = refl
   fewest-none root (suc k) zero P ms e = refl
@@ -142,11 +165,13 @@ module _ (rule : RuleSet) (way : Way) where
   steps-start zero q = refl
   steps-start (suc k) q = rw (behind_start rule q) refl
 
-  steps_behind-next : (k : ℕ) (P : Position) (place next : ℕ) (m : Triple) → moves_behind rule P place ≡ m ∷ moves_behind rule P next → steps_behind rule (suc k) P place ≡ (1 + steps rule k (played rule P m)) + steps_behind rule (suc k) P next
+  steps_behind-next : (k : ℕ) (P : Position) (place next : ℕ) (m : Triple) → moves_behind rule P place ≡ m ∷ moves_behind rule P next
+      → steps_behind rule (suc k) P place ≡ (1 + steps rule k (played rule P m)) + steps_behind rule (suc k) P next
   unfolding steps_behind
   steps_behind-next k P place next m e = rw e (sum_by-cons (λ x. 1 + steps rule k (played rule P x)) m (moves_behind rule P next))
 
-  walk_behind-next : (k : ℕ) (P : Position) (place next : ℕ) (m : Triple) → moves_behind rule P place ≡ m ∷ moves_behind rule P next → walk_behind rule (suc k) P place ≡ walk_count (legal_moves rule) (played rule) k (played rule P m) + walk_behind rule (suc k) P next
+  walk_behind-next : (k : ℕ) (P : Position) (place next : ℕ) (m : Triple) → moves_behind rule P place ≡ m ∷ moves_behind rule P next
+      → walk_behind rule (suc k) P place ≡ walk_count (legal_moves rule) (played rule) k (played rule P m) + walk_behind rule (suc k) P next
   unfolding walk_behind
   walk_behind-next k P place next m e = rw e (sum_by-cons (λ x. walk_count (legal_moves rule) (played rule) k (played rule P x)) m (moves_behind rule P next))
 
@@ -166,7 +191,8 @@ module _ (rule : RuleSet) (way : Way) where
   walk_count-start zero q = refl
   walk_count-start (suc k) q = rw (behind_start rule q) refl
 
-  module _ (h : ℕ) (p : Position) (f : Frame) (next : ℕ) (m : Triple) (below : List Frame) (k t : ℕ) (fuel : h - length below ≡ suc k) (left : f.left ≡ suc t) (e : moves_behind rule (position rule p (f ∷ below)) f.place ≡ m ∷ moves_behind rule (position rule p (f ∷ below)) next) where
+  module _ (h : ℕ) (p : Position) (f : Frame) (next : ℕ) (m : Triple) (below : List Frame) (k t : ℕ) (fuel : h - length below ≡ suc k)
+      (left : f.left ≡ suc t) (e : moves_behind rule (position rule p (f ∷ below)) f.place ≡ m ∷ moves_behind rule (position rule p (f ∷ below)) next) where
     -- the position after the move
     abbrev q : Position
     q = played rule (position rule p (f ∷ below)) m
@@ -175,30 +201,35 @@ module _ (rule : RuleSet) (way : Way) where
     root = eqb (length below) 0
 
     -- a move that is not followed is passed over
-    come-pass : follows way (chess way.aim.goal rule) root t q ≡ false → to_come rule way h p (f ∷ below) ≡ to_come rule way h p (moved f next ∷ below)
+    come-pass : follows plan (chess plan.goal rule) root t q ≡ false → to_come rule plan h p (f ∷ below) ≡ to_come rule plan h p (moved f next ∷ below)
     unfolding to_come position path
     come-pass b = rw (fuel, left, e, shown-next root k t (position rule p (f ∷ below)) m (moves_behind rule (position rule p (f ∷ below)) next), b) refl
 
     -- a move that is followed: its path, where that is given, and what stands below it
-    come-enter : (undo : Loss) → follows way (chess way.aim.goal rule) root t q ≡ true → to_come rule way h p (f ∷ below) ≡ given_path (gives way (chess way.aim.goal rule) t q) (path (opened m undo (goes_on way (chess way.aim.goal rule) t q) ∷ (moved f next ∷ below))) ++ to_come rule way h p (opened m undo (goes_on way (chess way.aim.goal rule) t q) ∷ (moved f next ∷ below))
+    come-enter : (undo : Loss) → follows plan (chess plan.goal rule) root t q ≡ true
+        → to_come rule plan h p (f ∷ below) ≡ given_path (gives plan (chess plan.goal rule) t q)
+        (path (opened m undo (goes_on plan (chess plan.goal rule) t q) ∷ (moved f next ∷ below))) ++ to_come rule plan h p
+        (opened m undo (goes_on plan (chess plan.goal rule) t q) ∷ (moved f next ∷ below))
     unfolding to_come position path
     come-enter undo b =
         let less : h - suc (length below) ≡ k = omega arith in
         let P = position rule p (f ∷ below) in
         rw (fuel, less, left, e, shown-next root k t P m (moves_behind rule P next), b, behind_start rule q, no_zero (length below))
-        (turn (gives way (chess way.aim.goal rule) t q) (path (f ∷ below)) m
-        (shown way (chess way.aim.goal rule) false k (goes_on way (chess way.aim.goal rule) t q) q (legal_moves rule q))
-        (shown way (chess way.aim.goal rule) root (suc k) (suc t) P (moves_behind rule P next)) (to_come rule way h p below))
+        (turn (gives plan (chess plan.goal rule) t q) (path (f ∷ below)) m
+        (shown plan (chess plan.goal rule) false k (goes_on plan (chess plan.goal rule) t q) q (legal_moves rule q))
+        (shown plan (chess plan.goal rule) root (suc k) (suc t) P (moves_behind rule P next)) (to_come rule plan h p below))
 
-    tries-pass : follows way (chess way.aim.goal rule) root t q ≡ false → fewest_left rule way h p (f ∷ below) ≡ fewest_for way (chess way.aim.goal rule) root t q + fewest_left rule way h p (moved f next ∷ below)
+    tries-pass : follows plan (chess plan.goal rule) root t q ≡ false
+        → fewest_left rule plan h p (f ∷ below) ≡ fewest_for plan (chess plan.goal rule) root t q + fewest_left rule plan h p (moved f next ∷ below)
     unfolding fewest_left position
     tries-pass b =
         let P = position rule p (f ∷ below) in
         let n = fewest-next root k t P m (moves_behind rule P next) in
         rw (fuel, left, e) (omega (arith, rw b at n))
 
-    tries-enter : (undo : Loss) → follows way (chess way.aim.goal rule) root t q ≡ true → fewest_left rule way h p (f ∷ below)
-        ≡ fewest_for way (chess way.aim.goal rule) root t q + fewest_left rule way h p (opened m undo (goes_on way (chess way.aim.goal rule) t q) ∷ (moved f next ∷ below))
+    tries-enter : (undo : Loss) → follows plan (chess plan.goal rule) root t q ≡ true → fewest_left rule plan h p (f ∷ below)
+        ≡ fewest_for plan (chess plan.goal rule) root t q + fewest_left rule plan h p
+        (opened m undo (goes_on plan (chess plan.goal rule) t q) ∷ (moved f next ∷ below))
     unfolding fewest_left position
     tries-enter undo b =
         let less : h - suc (length below) ≡ k = omega arith in
@@ -220,15 +251,18 @@ module _ (rule : RuleSet) (way : Way) where
     unfolding to_open position
     open-next = rw (left, walk_behind-next t (position rule p (f ∷ below)) f.place next m e) (omega arith)
 
-    open-enter : (undo : Loss) (tried : ℕ) → to_open rule p (opened m undo tried ∷ (moved f next ∷ below)) ≡ walk_behind rule tried q 0 + to_open rule p (moved f next ∷ below)
+    open-enter : (undo : Loss) (tried : ℕ)
+        → to_open rule p (opened m undo tried ∷ (moved f next ∷ below)) ≡ walk_behind rule tried q 0 + to_open rule p (moved f next ∷ below)
     unfolding to_open position
     open-enter undo tried = refl
 
-  come-close : (h : ℕ) (p : Position) (f : Frame) (below : List Frame) → (f.left ≡ 0) ⊎ (moves_behind rule (position rule p (f ∷ below)) f.place ≡ []) → to_come rule way h p (f ∷ below) ≡ to_come rule way h p below
+  come-close : (h : ℕ) (p : Position) (f : Frame) (below : List Frame) → (f.left ≡ 0) ⊎ (moves_behind rule (position rule p (f ∷ below)) f.place ≡ [])
+      → to_come rule plan h p (f ∷ below) ≡ to_come rule plan h p below
   unfolding to_come
   come-close h p f below e = rw (shown-none (eqb (length below) 0) (h - length below) f.left (position rule p (f ∷ below)) _ e) refl
 
-  tries-close : (h : ℕ) (p : Position) (f : Frame) (below : List Frame) → (f.left ≡ 0) ⊎ (moves_behind rule (position rule p (f ∷ below)) f.place ≡ []) → fewest_left rule way h p (f ∷ below) ≡ fewest_left rule way h p below
+  tries-close : (h : ℕ) (p : Position) (f : Frame) (below : List Frame) → (f.left ≡ 0) ⊎ (moves_behind rule (position rule p (f ∷ below)) f.place ≡ [])
+      → fewest_left rule plan h p (f ∷ below) ≡ fewest_left rule plan h p below
   unfolding fewest_left
   tries-close h p f below e = omega (arith, fewest-none (eqb (length below) 0) (h - length below) f.left (position rule p (f ∷ below)) _ e)
 
@@ -236,34 +270,41 @@ module _ (rule : RuleSet) (way : Way) where
   unfolding turns
   turns-close h p f below = omega arith
 
-  open-close : (p : Position) (f : Frame) (below : List Frame) → (f.left ≡ 0) ⊎ (moves_behind rule (position rule p (f ∷ below)) f.place ≡ []) → to_open rule p (f ∷ below) ≡ to_open rule p below
+  open-close : (p : Position) (f : Frame) (below : List Frame) → (f.left ≡ 0) ⊎ (moves_behind rule (position rule p (f ∷ below)) f.place ≡ [])
+      → to_open rule p (f ∷ below) ≡ to_open rule p below
   unfolding to_open
   open-close p f below e = omega (arith, walk_behind-none f.left (position rule p (f ∷ below)) f.place e)
 
   -- moves passed over that don't mate at the last half-move of help play
-  module _ (h : ℕ) (p : Position) (f : Frame) (below : List Frame) (rest : List Triple) (g : GoesTo rule way f.left (position rule p (f ∷ below)) f.place rest) where
+  module _ (h : ℕ) (p : Position) (f : Frame) (below : List Frame) (rest : List Triple)
+      (g : GoesTo rule plan f.left (position rule p (f ∷ below)) f.place rest) where
     abbrev P : Position
     P = position rule p (f ∷ below)
 
     abbrev later : List Frame
     later = moved f g.mid ∷ below
 
-    ends : (low : Bool) (fuel k : ℕ) (m : Triple) (q : Position) (qs ms : List Triple) → map (λ line. m ∷ line) (shown way (chess way.aim.goal rule) false k 0 q qs) ++ shown way (chess way.aim.goal rule) low (suc fuel) 1 P ms ≡ shown way (chess way.aim.goal rule) low (suc fuel) 1 P ms
+    ends : (low : Bool) (fuel k : ℕ) (m : Triple) (q : Position) (qs ms : List Triple)
+        → map (λ line. m ∷ line) (shown plan (chess plan.goal rule) false k 0 q qs) ++ shown plan (chess plan.goal rule) low (suc fuel) 1 P ms ≡ shown plan
+        (chess plan.goal rule) low (suc fuel) 1 P ms
     unfolding shown
     ends low fuel zero m q qs ms = refl
     ends low fuel (suc k) m q qs ms = refl
 
-    gives-last : (q : Position) → way.help ≡ true → way.aim.goal ≡ Mate → is_goal rule q ≡ false → gives way (chess way.aim.goal rule) 0 q ≡ false
+    gives-last : (q : Position) → is_help plan.form ≡ true → plan.goal ≡ Mate → is_goal rule q ≡ false → gives plan (chess plan.goal rule) 0 q ≡ false
     unfolding gives
     gives-last q a for misses = rw (a, for, misses) refl
 
-    skipped : (low : Bool) (fuel : ℕ) (m : Triple) (ms : List Triple) → way.help ≡ true → way.aim.goal ≡ Mate → is_mating rule P m ≡ false → shown way (chess way.aim.goal rule) low (suc fuel) 1 P (m ∷ ms) ≡ shown way (chess way.aim.goal rule) low (suc fuel) 1 P ms
+    skipped : (low : Bool) (fuel : ℕ) (m : Triple) (ms : List Triple) → is_help plan.form ≡ true → plan.goal ≡ Mate → is_mating rule P m ≡ false
+        → shown plan (chess plan.goal rule) low (suc fuel) 1 P (m ∷ ms) ≡ shown plan (chess plan.goal rule) low (suc fuel) 1 P ms
     skipped low fuel m ms a for misses =
         let q = played rule P m in
         shown-next low fuel 0 P m ms
-        ∙ (rw (follows-help way (chess way.aim.goal rule) low 0 q a, gives-last q a for misses, goes_on-help way (chess way.aim.goal rule) 0 q a) (ends low fuel fuel m q (legal_moves rule q) ms))
+        ∙ (rw (follows-help plan (chess plan.goal rule) low 0 q a, gives-last q a for misses, goes_on-help plan (chess plan.goal rule) 0 q a)
+        (ends low fuel fuel m q (legal_moves rule q) ms))
 
-    shown-over : (low : Bool) (fuel : ℕ) (over ms : List Triple) → way.help ≡ true → way.aim.goal ≡ Mate → filter (is_mating rule P) over ≡ [] → shown way (chess way.aim.goal rule) low fuel 1 P (over ++ ms) ≡ shown way (chess way.aim.goal rule) low fuel 1 P ms
+    shown-over : (low : Bool) (fuel : ℕ) (over ms : List Triple) → is_help plan.form ≡ true → plan.goal ≡ Mate → filter (is_mating rule P) over ≡ []
+        → shown plan (chess plan.goal rule) low fuel 1 P (over ++ ms) ≡ shown plan (chess plan.goal rule) low fuel 1 P ms
     unfolding shown
     shown-over low zero over ms a for none = refl
     shown-over low (suc fuel) [] ms a for none = refl
@@ -274,7 +315,7 @@ module _ (rule : RuleSet) (way : Way) where
       | inr mates ↦ absurd (let bad : m ∷ filter (is_mating rule P) over ≡ [] = sym (cond-true (is_mating rule P m) _ _ mates) ∙ none in cc)
     ]
 
-    come-skip : to_come rule way h p (f ∷ below) ≡ to_come rule way h p later
+    come-skip : to_come rule plan h p (f ∷ below) ≡ to_come rule plan h p later
     unfolding to_come position path
     come-skip = elim g.none [
       | inl e ↦ rw (g.passed, e) refl
@@ -311,18 +352,20 @@ module _ (rule : RuleSet) (way : Way) where
     open-skip : to_open rule p (f ∷ below) ≡ to_open rule p later
     unfolding to_open position
     open-skip = elim g.none [
-      | inl e ↦ let s : walk_behind rule f.left P f.place ≡ walk_behind rule f.left P g.mid = same f.left (g.passed ∙ ap (λ l. l ++ moves_behind rule P g.mid) e) in omega (arith, s)
+      | inl e ↦ let s : walk_behind rule f.left P f.place ≡ walk_behind rule f.left P g.mid = same f.left
+          (g.passed ∙ ap (λ l. l ++ moves_behind rule P g.mid) e) in omega (arith, s)
       | inr e ↦ omega (arith, nothing f.left f.place e.2, nothing f.left g.mid e.2)
     ]
 
-    tries-skip : way.help ≡ false → fewest_left rule way h p (f ∷ below) ≡ fewest_left rule way h p later
+    tries-skip : is_help plan.form ≡ false → fewest_left rule plan h p (f ∷ below) ≡ fewest_left rule plan h p later
     unfolding fewest_left position
     tries-skip a = elim g.none [
       | inl e ↦ rw (g.passed, e) refl
       | inr e ↦ absurd (both _ e.0 a)
     ]
 
-    pub steps-skip : (new : List Frame) (board : Position) (before after : ℕ) (given : Bool) → Steps rule way h p later new board before after given → Steps rule way h p (f ∷ below) new board before after given
+    pub steps-skip : (new : List Frame) (board : Position) (before after : ℕ) (given : Bool) → Steps rule plan h p later new board before after given
+        → Steps rule plan h p (f ∷ below) new board before after given
     unfolding IsWhites
     steps-skip new board before after given s = record {
       walking = s.walking;
@@ -340,7 +383,8 @@ module _ (rule : RuleSet) (way : Way) where
 
 -- what undoes the top frame
 module _ (rule : RuleSet) (h : ℕ) (p : Position) where
-  CameFrom-top : (f g : Frame) (below : List Frame) (board : Position) → IsWalking rule h p (f ∷ (g ∷ below)) board → CameFromAt rule f board (position rule p (g ∷ below))
+  CameFrom-top : (f g : Frame) (below : List Frame) (board : Position) → IsWalking rule h p (f ∷ (g ∷ below)) board
+      → CameFromAt rule f board (position rule p (g ∷ below))
   unfolding IsLinked position
   CameFrom-top f g below board r = record { sound = r.linked.0; legal = r.linked.1; led = r.board_at; undone = r.linked.2 }
 
@@ -348,7 +392,8 @@ module _ (rule : RuleSet) (h : ℕ) (p : Position) where
   CameFrom-deep f [] board r deep = absurd (omega (arith, deep))
   CameFrom-deep f (g ∷ below) board r deep = (position rule p (g ∷ below), CameFrom-top f g below board r)
 
-  pub walking-close : (f : Frame) (below : List Frame) (board after : Position) → IsWalking rule h p (f ∷ below) board → (length below ≡ 0 → after ≡ board) → ((q : Position) → 0 < length below → CameFromAt rule f board q → after ≡ q) → IsWalking rule h p below after
+  pub walking-close : (f : Frame) (below : List Frame) (board after : Position) → IsWalking rule h p (f ∷ below) board → (length below ≡ 0 → after ≡ board)
+      → ((q : Position) → 0 < length below → CameFromAt rule f board q → after ≡ q) → IsWalking rule h p below after
   unfolding IsLinked IsRoomy AreKnown position
   walking-close f [] board after r lowest before =
       record { linked = tt; roomy = tt; known = tt; sound = rw (lowest refl) r.sound; board_at = lowest refl ∙ r.board_at }
@@ -366,27 +411,31 @@ module _ (rule : RuleSet) (h : ℕ) (p : Position) where
   known-moved f place (g ∷ below) k = k
 
   -- the top frame learns something of its position
-  pub walking-learned : (f : Frame) (known : Option LegalPlace) (below : List Frame) (board : Position) → IsWalking rule h p (f ∷ below) board → IfSome known (IsPlaceIn rule board) → IsWalking rule h p (learned f known ∷ below) board
+  pub walking-learned : (f : Frame) (known : Option LegalPlace) (below : List Frame) (board : Position) → IsWalking rule h p (f ∷ below) board
+      → IfSome known (IsPlaceIn rule board) → IsWalking rule h p (learned f known ∷ below) board
   unfolding IsLinked IsRoomy AreKnown position
   walking-learned f known [] board r w = record { linked = tt; roomy = r.roomy; known = (rw (← r.board_at) w, tt); sound = r.sound; board_at = r.board_at }
   walking-learned f known (g ∷ below) board r w =
       record { linked = r.linked; roomy = r.roomy; known = (rw (← r.board_at) w, r.known.1); sound = r.sound; board_at = r.board_at }
 
-  walking-moved : (way : Way) (f : Frame) (next : ℕ) (below : List Frame) (board after : Position) → IsWalking rule h p (f ∷ below) board → after ≡ board → IsWalking rule h p (moved f next ∷ below) after
+  walking-moved : (plan : Plan) (f : Frame) (next : ℕ) (below : List Frame) (board after : Position) → IsWalking rule h p (f ∷ below) board → after ≡ board
+      → IsWalking rule h p (moved f next ∷ below) after
   unfolding IsRoomy
-  walking-moved way f next below board after r e =
+  walking-moved plan f next below board after r e =
       record {
-        linked = IsLinked-moved rule way p f next below r.linked;
+        linked = IsLinked-moved rule plan p f next below r.linked;
         roomy = r.roomy;
         known = known-moved f next below r.known;
         sound = rw e r.sound;
-        board_at = e ∙ r.board_at ∙ sym (position-moved rule way p f next below);
+        board_at = e ∙ r.board_at ∙ sym (position-moved rule plan p f next below);
       }
 
-  walking-enter : (way : Way) (f : Frame) (next : ℕ) (m : Triple) (tried : ℕ) (below : List Frame) (board after : Position) → IsWalking rule h p (f ∷ below) board → tried < f.left → legal rule board m ≡ true → after ≡ played rule board m → IsWalking rule h p (opened m (undo_of rule board m) tried ∷ (moved f next ∷ below)) after
+  walking-enter : (plan : Plan) (f : Frame) (next : ℕ) (m : Triple) (tried : ℕ) (below : List Frame) (board after : Position)
+      → IsWalking rule h p (f ∷ below) board → tried < f.left → legal rule board m ≡ true → after ≡ played rule board m
+      → IsWalking rule h p (opened m (undo_of rule board m) tried ∷ (moved f next ∷ below)) after
   unfolding IsLinked IsRoomy AreKnown position
-  walking-enter way f next m tried below board after r less lawful e =
-      let s = walking-moved way f next below board board r refl in
+  walking-enter plan f next m tried below board after r less lawful e =
+      let s = walking-moved plan f next below board board r refl in
       let at : board ≡ position rule p (moved f next ∷ below) = s.board_at in
       record {
         linked = (rw (← at) s.sound, rw (← at) lawful, ap (λ b. undo_of rule b m) at, s.linked);
@@ -416,48 +465,55 @@ whites-top battle f below t left e =
     first false true b n e = refl
     first false false b n e = absurd cc
 
-whites-moved : (battle : Battle) (f : Frame) (place : ℕ) (below : List Frame) → IsWhites battle (f ∷ below) ≡ true → IsWhites battle (moved f place ∷ below) ≡ true
+whites-moved : (battle : Battle) (f : Frame) (place : ℕ) (below : List Frame) → IsWhites battle (f ∷ below) ≡ true
+    → IsWhites battle (moved f place ∷ below) ≡ true
 unfolding IsWhites
 whites-moved battle f place below e = e
 
-whites-none : (battle : Battle) (m : Triple) (undo : Loss) (tried : ℕ) (below : List Frame) → tried ≡ 0 → IsWhites battle below ≡ true → IsWhites battle (opened m undo tried ∷ below) ≡ true
+whites-none : (battle : Battle) (m : Triple) (undo : Loss) (tried : ℕ) (below : List Frame) → tried ≡ 0 → IsWhites battle below ≡ true
+    → IsWhites battle (opened m undo tried ∷ below) ≡ true
 unfolding IsWhites
 whites-none battle m undo tried below z e = rw z e
 
-pub goes_on-keys : {P M : Type 0} (way : Way) (game : Game P M) (t : ℕ) (q : P) → way.help ≡ false → way.variation ≡ false → seeks way.aim.battle (t + 1) ≡ true → goes_on way game t q ≡ 0
+pub goes_on-keys : {P M : Type 0} (plan : Plan) (game : Game P M) (t : ℕ) (q : P) → is_help plan.form ≡ false → varies plan ≡ false
+    → seeks (battle_of plan.form) (t + 1) ≡ true → goes_on plan game t q ≡ 0
 unfolding goes_on
-goes_on-keys way game t q a b c = rw (a, b, c) refl
+goes_on-keys plan game t q a b c = rw (a, b, c) refl
 
-pub counted_by : (rule : RuleSet) (way : Way) (t walk opened opened2 before after : ℕ) → before ≡ one rule way t + after → (0 < t → opened2 ≡ min (opened + 1) (2 ^ 64 - 1)) → (t ≡ 0 → opened2 ≡ opened) → IsCounted walk opened before → IsCounted walk opened2 after
-counted_by rule way zero walk opened opened2 before after e more same c =
+pub counted_by : (rule : RuleSet) (plan : Plan) (t walk opened opened2 before after : ℕ) → before ≡ one rule plan t + after
+    → (0 < t → opened2 ≡ min (opened + 1) (2 ^ 64 - 1)) → (t ≡ 0 → opened2 ≡ opened) → IsCounted walk opened before → IsCounted walk opened2 after
+counted_by rule plan zero walk opened opened2 before after e more same c =
     let s : opened2 ≡ opened = same refl in
     record { within = omega (arith, c.within); counts = omega (arith, c.within, c.counts) }
-counted_by rule way (suc k) walk opened opened2 before after e more same c =
+counted_by rule plan (suc k) walk opened opened2 before after e more same c =
     let s : opened2 ≡ min (opened + 1) (2 ^ 64 - 1) = more (omega arith) in
     record { within = omega (arith, c.within); counts = omega (arith, c.within, c.counts) }
 
-pub opened-most : (rule : RuleSet) (way : Way) (t opened opened2 : ℕ) → (0 < t → opened2 ≡ min (opened + 1) (2 ^ 64 - 1)) → (t ≡ 0 → opened2 ≡ opened) → opened2 ≤ opened + one rule way t
-opened-most rule way zero opened opened2 more same = let s : opened2 ≡ opened = same refl in omega (arith, s)
-opened-most rule way (suc t) opened opened2 more same = let s : opened2 ≡ min (opened + 1) (2 ^ 64 - 1) = more (omega arith) in omega (arith, s)
+pub opened-most : (rule : RuleSet) (plan : Plan) (t opened opened2 : ℕ) → (0 < t → opened2 ≡ min (opened + 1) (2 ^ 64 - 1)) → (t ≡ 0 → opened2 ≡ opened)
+    → opened2 ≤ opened + one rule plan t
+opened-most rule plan zero opened opened2 more same = let s : opened2 ≡ opened = same refl in omega (arith, s)
+opened-most rule plan (suc t) opened opened2 more same = let s : opened2 ≡ min (opened + 1) (2 ^ 64 - 1) = more (omega arith) in omega (arith, s)
 
 -- the outcomes of a step, for frames listed from the top down
-module _ (rule : RuleSet) (way : Way) (h : ℕ) (p : Position) (f : Frame) (below : List Frame) (board : Position) (r : IsWalking rule h p (f ∷ below) board) where
-  pub steps-close : (after : Position) (count : ℕ) → (f.left ≡ 0) ⊎ (moves_behind rule board f.place ≡ []) → (length below ≡ 0 → after ≡ board) → ((q : Position) → 0 < length below → CameFromAt rule f board q → after ≡ q) → Steps rule way h p (f ∷ below) below after count count false
+module _ (rule : RuleSet) (plan : Plan) (h : ℕ) (p : Position) (f : Frame) (below : List Frame) (board : Position)
+    (r : IsWalking rule h p (f ∷ below) board) where
+  pub steps-close : (after : Position) (count : ℕ) → (f.left ≡ 0) ⊎ (moves_behind rule board f.place ≡ []) → (length below ≡ 0 → after ≡ board)
+      → ((q : Position) → 0 < length below → CameFromAt rule f board q → after ≡ q) → Steps rule plan h p (f ∷ below) below after count count false
   steps-close after count e lowest before =
       let here : (f.left ≡ 0) ⊎ (moves_behind rule (position rule p (f ∷ below)) f.place ≡ []) = rw (← r.board_at) e in
-      let o = open-close rule way p f below here in
+      let o = open-close rule plan p f below here in
       record {
         walking = walking-close rule h p f below board after r lowest before;
-        come = come-close rule way h p f below here;
+        come = come-close rule plan h p f below here;
         deep = λ g. absurd cc;
-        falls = turns-close rule way h p f below;
+        falls = turns-close rule plan h p f below;
         opens = record {
-          whites = λ a b w. whites-cut way.aim.battle f below w;
+          whites = λ a b w. whites-cut (battle_of plan.form) f below w;
           most = λ a b w. omega (arith, o);
           helped = λ a. omega (arith, o);
           counted = λ a walk c. (let T : ℕ → Type 0 = λ n. IsCounted walk count n in subst T o c);
         };
-        tries = record { grows = omega arith; fewest = λ a. omega (arith, tries-close rule way h p f below here) };
+        tries = record { grows = omega arith; fewest = λ a. omega (arith, tries-close rule plan h p f below here) };
       }
 
   module _ (next : ℕ) (m : Triple) (t : ℕ) (left : f.left ≡ suc t) (e : moves_behind rule board f.place ≡ m ∷ moves_behind rule board next) where
@@ -470,89 +526,164 @@ module _ (rule : RuleSet) (way : Way) (h : ℕ) (p : Position) (f : Frame) (belo
     fuel : h - length below ≡ suc (h - length below - 1)
     fuel = omega (arith, top_room rule h p f below board r, left)
 
-    pub steps-pass : (after : Position) (opened opened2 : ℕ) → follows way (chess way.aim.goal rule) (eqb (length below) 0) t (played rule board m) ≡ false → after ≡ board → (way.help ≡ false → way.variation ≡ false → seeks way.aim.battle (t + 1) ≡ true → opened2 ≤ opened + walk_count (legal_moves rule) (played rule) t (played rule board m)) → HasCounted opened opened2 (fewest_for way (chess way.aim.goal rule) (eqb (length below) 0) t (played rule board m)) → Steps rule way h p (f ∷ below) (moved f next ∷ below) after opened opened2 false
+    pub steps-pass : (after : Position) (opened opened2 : ℕ) → follows plan (chess plan.goal rule) (eqb (length below) 0) t (played rule board m) ≡ false
+        → after ≡ board
+        → (is_help plan.form ≡ false → varies plan ≡ false → seeks (battle_of plan.form) (t + 1) ≡ true → opened2 ≤ opened + walk_count (legal_moves rule)
+        (played rule) t (played rule board m)) → HasCounted opened opened2
+        (fewest_for plan (chess plan.goal rule) (eqb (length below) 0) t (played rule board m)) → Steps rule plan h p (f ∷ below)
+        (moved f next ∷ below) after opened opened2 false
     steps-pass after opened opened2 b at keys tried =
-        let o = open-next rule way h p f next m below _ t fuel left here in
+        let o = open-next rule plan h p f next m below _ t fuel left here in
         record {
-          walking = walking-moved rule h p way f next below board after r at;
-          come = come-pass rule way h p f next m below _ t fuel left here (rw (← after_here) b);
+          walking = walking-moved rule h p plan f next below board after r at;
+          come = come-pass rule plan h p f next m below _ t fuel left here (rw (← after_here) b);
           deep = λ g. absurd cc;
-          falls = turns-pass rule way h p f next m below _ t fuel left here;
+          falls = turns-pass rule plan h p f next m below _ t fuel left here;
           opens = record {
-            whites = λ a c w. whites-moved way.aim.battle f next below w;
-            most = λ a c w. omega (arith, o, ap (walk_count (legal_moves rule) (played rule) t) after_here, keys a c (whites-top way.aim.battle f below t left w));
-            helped = λ a. absurd (both _ (follows-help way (chess way.aim.goal rule) (eqb (length below) 0) t (played rule board m) a) b);
-            counted = λ a walk c. absurd (both _ (follows-help way (chess way.aim.goal rule) (eqb (length below) 0) t (played rule board m) a) b);
+            whites = λ a c w. whites-moved (battle_of plan.form) f next below w;
+            most = λ a c w. omega (
+              arith,
+              o,
+              ap (walk_count (legal_moves rule) (played rule) t) after_here,
+              keys a c
+                  (whites-top (battle_of plan.form) f below t left w),
+            );
+            helped = λ a. absurd (both _ (follows-help plan (chess plan.goal rule) (eqb (length below) 0) t (played rule board m) a) b);
+            counted = λ a walk c. absurd (both _ (follows-help plan (chess plan.goal rule) (eqb (length below) 0) t (played rule board m) a) b);
           };
           tries = record {
             grows = omega (arith, tried);
-            fewest = λ a. omega (arith, tried, ap (fewest_for way (chess way.aim.goal rule) (eqb (length below) 0) t) after_here, tries-pass rule way h p f next m below _ t fuel left here (rw (← after_here) b));
+            fewest = λ a. omega (
+              arith,
+              tried,
+              ap
+                  (fewest_for plan (chess plan.goal rule) (eqb (length below) 0) t) after_here,
+              tries-pass rule plan h p f next m below _ t fuel left here
+                  (rw (← after_here) b),
+            );
           };
         }
 
-    pub steps-enter : (after : Position) (opened opened2 : ℕ) → legal rule board m ≡ true → follows way (chess way.aim.goal rule) (eqb (length below) 0) t (played rule board m) ≡ true → after ≡ played rule board m → (way.help ≡ true → 0 < t → opened2 ≡ min (opened + 1) (2 ^ 64 - 1)) → (way.help ≡ true → t ≡ 0 → opened2 ≡ opened) → (way.help ≡ false → way.variation ≡ false → seeks way.aim.battle (t + 1) ≡ true → opened2 ≤ opened + walk_count (legal_moves rule) (played rule) t (played rule board m)) → HasCounted opened opened2 (fewest_for way (chess way.aim.goal rule) (eqb (length below) 0) t (played rule board m)) → Steps rule way h p (f ∷ below) (opened_frame m (undo_of rule board m) (goes_on way (chess way.aim.goal rule) t (played rule board m)) ∷ (moved f next ∷ below)) after opened opened2 (gives way (chess way.aim.goal rule) t (played rule board m))
+    pub steps-enter : (after : Position) (opened opened2 : ℕ) → legal rule board m ≡ true
+        → follows plan (chess plan.goal rule) (eqb (length below) 0) t (played rule board m) ≡ true → after ≡ played rule board m
+        → (is_help plan.form ≡ true → 0 < t → opened2 ≡ min (opened + 1) (2 ^ 64 - 1)) → (is_help plan.form ≡ true → t ≡ 0 → opened2 ≡ opened)
+        → (is_help plan.form ≡ false → varies plan ≡ false → seeks (battle_of plan.form) (t + 1) ≡ true → opened2 ≤ opened + walk_count (legal_moves rule)
+        (played rule) t (played rule board m)) → HasCounted opened opened2
+        (fewest_for plan (chess plan.goal rule) (eqb (length below) 0) t (played rule board m)) → Steps rule plan h p (f ∷ below)
+        (opened_frame m (undo_of rule board m)
+        (goes_on plan (chess plan.goal rule) t (played rule board m)) ∷ (moved f next ∷ below)) after opened opened2
+        (gives plan (chess plan.goal rule) t (played rule board m))
     steps-enter after opened opened2 lawful b at more same keys tried_for =
-        let o = open-next rule way h p f next m below _ t fuel left here in
+        let o = open-next rule plan h p f next m below _ t fuel left here in
         let u = undo_of rule board m in
         let q = played rule (position rule p (f ∷ below)) m in
-        let tried = goes_on way (chess way.aim.goal rule) t (played rule board m) in
-        let n = open-enter rule way h p f next m below _ t fuel left here u tried in
+        let tried = goes_on plan (chess plan.goal rule) t (played rule board m) in
+        let n = open-enter rule plan h p f next m below _ t fuel left here u tried in
         record {
-          walking = walking-enter rule h p way f next m tried below board after r (omega (arith, left, goes_on-most (chess way.aim.goal rule) way t (played rule board m))) lawful at;
-          come = rw after_here (come-enter rule way h p f next m below _ t fuel left here u (rw (← after_here) b));
+          walking = walking-enter rule h p plan f next m tried below board after r
+              (omega (arith, left, goes_on-most (chess plan.goal rule) plan t (played rule board m))) lawful at;
+          come = rw after_here (come-enter rule plan h p f next m below _ t fuel left here u (rw (← after_here) b));
           deep = λ g. omega arith;
-          falls = turns-enter rule way h p f next m below _ t fuel left here u tried;
+          falls = turns-enter rule plan h p f next m below _ t fuel left here u tried;
           opens = record {
-            whites = λ a c w. whites-none way.aim.battle m u tried _ (goes_on-keys way (chess way.aim.goal rule) t _ a c (whites-top way.aim.battle f below t left w)) (whites-moved way.aim.battle f next below w);
+            whites = λ a c w. whites-none (battle_of plan.form) m u tried _
+                (goes_on-keys plan (chess plan.goal rule) t _ a c (whites-top (battle_of plan.form) f below t left w))
+                (whites-moved (battle_of plan.form) f next below w);
             most = λ a c w.
-                let z : tried ≡ 0 = goes_on-keys way (chess way.aim.goal rule) t _ a c (whites-top way.aim.battle f below t left w) in
-                let none : walk_behind rule tried q 0 ≡ 0 = walk_behind-none rule way tried q 0 (inl z) in
-                omega (arith, o, n, none, ap (walk_count (legal_moves rule) (played rule) t) after_here, keys a c (whites-top way.aim.battle f below t left w));
+                let z : tried ≡ 0 = goes_on-keys plan (chess plan.goal rule) t _ a c (whites-top (battle_of plan.form) f below t left w) in
+                let none : walk_behind rule tried q 0 ≡ 0 = walk_behind-none rule plan tried q 0 (inl z) in
+                omega (
+                  arith,
+                  o,
+                  n,
+                  none,
+                  ap (walk_count (legal_moves rule) (played rule) t) after_here,
+                  keys a c
+                      (whites-top (battle_of plan.form) f below t left w),
+                );
             helped = λ a.
-                let z : tried ≡ t = goes_on-help way (chess way.aim.goal rule) t _ a in
+                let z : tried ≡ t = goes_on-help plan (chess plan.goal rule) t _ a in
                 let w : walk_behind rule tried q 0 ≡ walk_behind rule t q 0 = ap (λ x. walk_behind rule x q 0) z in
-                omega (arith, o, n, w, walk_count-start rule way t q, opened-most rule way t opened opened2 (more a) (same a));
+                omega (arith, o, n, w, walk_count-start rule plan t q, opened-most rule plan t opened opened2 (more a) (same a));
             counted = λ a walk c.
-                let z : tried ≡ t = goes_on-help way (chess way.aim.goal rule) t _ a in
+                let z : tried ≡ t = goes_on-help plan (chess plan.goal rule) t _ a in
                 let w : walk_behind rule tried q 0 ≡ walk_behind rule t q 0 = ap (λ x. walk_behind rule x q 0) z in
-                counted_by rule way t walk opened opened2 _ _ (omega (arith, o, n, w, walk_count-start rule way t q)) (more a) (same a) c;
+                counted_by rule plan t walk opened opened2 _ _ (omega (arith, o, n, w, walk_count-start rule plan t q)) (more a) (same a) c;
           };
           tries = record {
             grows = omega (arith, tried_for);
-            fewest = λ a. rw after_here (omega (arith, rw after_here at tried_for, tries-enter rule way h p f next m below _ t fuel left here u (rw (← after_here) b)));
+            fewest = λ a. rw after_here
+                (omega (arith, rw after_here at tried_for, tries-enter rule plan h p f next m below _ t fuel left here u (rw (← after_here) b)));
           };
         }
 
 -- the same once moves that don't count have been passed over
-module _ (rule : RuleSet) (way : Way) (h : ℕ) (p : Position) (f : Frame) (below : List Frame) (board : Position) (r : IsWalking rule h p (f ∷ below) board) where
+module _ (rule : RuleSet) (plan : Plan) (h : ℕ) (p : Position) (f : Frame) (below : List Frame) (board : Position)
+    (r : IsWalking rule h p (f ∷ below) board) where
   passed_to : (mid : ℕ) → IsWalking rule h p (moved f mid ∷ below) board
-  passed_to mid = walking-moved rule h p way f mid below board board r refl
+  passed_to mid = walking-moved rule h p plan f mid below board board r refl
 
-  pub skips-close : (after : Position) (count : ℕ) → (f.left ≡ 0) ⊎ GoesTo rule way f.left (position rule p (f ∷ below)) f.place [] → (length below ≡ 0 → after ≡ board) → ((q : Position) → 0 < length below → CameFromAt rule f board q → after ≡ q) → Steps rule way h p (f ∷ below) below after count count false
-  skips-close after count (inl e) lowest before = steps-close rule way h p f below board r after count (inl e) lowest before
+  pub skips-close : (after : Position) (count : ℕ) → (f.left ≡ 0) ⊎ GoesTo rule plan f.left (position rule p (f ∷ below)) f.place []
+      → (length below ≡ 0 → after ≡ board) → ((q : Position) → 0 < length below → CameFromAt rule f board q → after ≡ q)
+      → Steps rule plan h p (f ∷ below) below after count count false
+  skips-close after count (inl e) lowest before = steps-close rule plan h p f below board r after count (inl e) lowest before
   skips-close after count (inr g) lowest before =
-      steps-skip rule way h p f below [] g below after count count false
-      (steps-close rule way h p (moved f g.mid) below board (passed_to g.mid) after count (inr (rw r.board_at g.here)) lowest before)
+      steps-skip rule plan h p f below [] g below after count count false
+      (steps-close rule plan h p (moved f g.mid) below board (passed_to g.mid) after count (inr (rw r.board_at g.here)) lowest before)
 
-  module _ (next : ℕ) (m : Triple) (t : ℕ) (left : f.left ≡ suc t) (g : GoesTo rule way f.left (position rule p (f ∷ below)) f.place (m ∷ moves_behind rule (position rule p (f ∷ below)) next)) where
-    skips : (new : List Frame) (after : Position) (opened opened2 : ℕ) (given : Bool) → Steps rule way h p (moved f g.mid ∷ below) new after opened opened2 given → Steps rule way h p (f ∷ below) new after opened opened2 given
-    skips new after opened opened2 given s = steps-skip rule way h p f below _ g new after opened opened2 given s
+  module _ (next : ℕ) (m : Triple) (t : ℕ) (left : f.left ≡ suc t)
+      (g : GoesTo rule plan f.left (position rule p (f ∷ below)) f.place (m ∷ moves_behind rule (position rule p (f ∷ below)) next)) where
+    skips : (new : List Frame) (after : Position) (opened opened2 : ℕ) (given : Bool)
+        → Steps rule plan h p (moved f g.mid ∷ below) new after opened opened2 given → Steps rule plan h p (f ∷ below) new after opened opened2 given
+    skips new after opened opened2 given s = steps-skip rule plan h p f below _ g new after opened opened2 given s
 
-    pub skips-pass : (after : Position) (opened opened2 : ℕ) → follows way (chess way.aim.goal rule) (eqb (length below) 0) t (played rule board m) ≡ false → after ≡ board → (way.help ≡ false → way.variation ≡ false → seeks way.aim.battle (t + 1) ≡ true → opened2 ≤ opened + walk_count (legal_moves rule) (played rule) t (played rule board m)) → HasCounted opened opened2 (fewest_for way (chess way.aim.goal rule) (eqb (length below) 0) t (played rule board m)) → Steps rule way h p (f ∷ below) (moved f next ∷ below) after opened opened2 false
+    pub skips-pass : (after : Position) (opened opened2 : ℕ) → follows plan (chess plan.goal rule) (eqb (length below) 0) t (played rule board m) ≡ false
+        → after ≡ board
+        → (is_help plan.form ≡ false → varies plan ≡ false → seeks (battle_of plan.form) (t + 1) ≡ true → opened2 ≤ opened + walk_count (legal_moves rule)
+        (played rule) t (played rule board m)) → HasCounted opened opened2
+        (fewest_for plan (chess plan.goal rule) (eqb (length below) 0) t (played rule board m)) → Steps rule plan h p (f ∷ below)
+        (moved f next ∷ below) after opened opened2 false
     skips-pass after opened opened2 b at keys tried =
-        skips _ after opened opened2 false (steps-pass rule way h p (moved f g.mid) below board (passed_to g.mid) next m t left (rw r.board_at g.here) after opened opened2 b at keys tried)
+        skips _ after opened opened2 false
+        (steps-pass rule plan h p (moved f g.mid) below board (passed_to g.mid) next m t left (rw r.board_at g.here) after opened opened2 b at keys tried)
 
-    pub skips-enter : (after : Position) (opened opened2 : ℕ) → legal rule board m ≡ true → follows way (chess way.aim.goal rule) (eqb (length below) 0) t (played rule board m) ≡ true → after ≡ played rule board m → (way.help ≡ true → 0 < t → opened2 ≡ min (opened + 1) (2 ^ 64 - 1)) → (way.help ≡ true → t ≡ 0 → opened2 ≡ opened) → (way.help ≡ false → way.variation ≡ false → seeks way.aim.battle (t + 1) ≡ true → opened2 ≤ opened + walk_count (legal_moves rule) (played rule) t (played rule board m)) → HasCounted opened opened2 (fewest_for way (chess way.aim.goal rule) (eqb (length below) 0) t (played rule board m)) → Steps rule way h p (f ∷ below) (opened_frame m (undo_of rule board m) (goes_on way (chess way.aim.goal rule) t (played rule board m)) ∷ (moved f next ∷ below)) after opened opened2 (gives way (chess way.aim.goal rule) t (played rule board m))
+    pub skips-enter : (after : Position) (opened opened2 : ℕ) → legal rule board m ≡ true
+        → follows plan (chess plan.goal rule) (eqb (length below) 0) t (played rule board m) ≡ true → after ≡ played rule board m
+        → (is_help plan.form ≡ true → 0 < t → opened2 ≡ min (opened + 1) (2 ^ 64 - 1)) → (is_help plan.form ≡ true → t ≡ 0 → opened2 ≡ opened)
+        → (is_help plan.form ≡ false → varies plan ≡ false → seeks (battle_of plan.form) (t + 1) ≡ true → opened2 ≤ opened + walk_count (legal_moves rule)
+        (played rule) t (played rule board m)) → HasCounted opened opened2
+        (fewest_for plan (chess plan.goal rule) (eqb (length below) 0) t (played rule board m)) → Steps rule plan h p (f ∷ below)
+        (opened_frame m (undo_of rule board m)
+        (goes_on plan (chess plan.goal rule) t (played rule board m)) ∷ (moved f next ∷ below)) after opened opened2
+        (gives plan (chess plan.goal rule) t (played rule board m))
     skips-enter after opened opened2 lawful b at more same keys tried =
-        skips _ after opened opened2 _ (steps-enter rule way h p (moved f g.mid) below board (passed_to g.mid) next m t left (rw r.board_at g.here) after opened opened2 lawful b at more same keys tried)
+        skips _ after opened opened2 _
+        (steps-enter rule plan h p (moved f g.mid) below board (passed_to g.mid) next m t left
+        (rw r.board_at g.here) after opened opened2 lawful b at more same keys tried)
 
 -- what the top frame knows changes nothing of what is to come
-pub steps-learned : (rule : RuleSet) (way : Way) (h : ℕ) (p : Position) (f : Frame) (known : Option LegalPlace) (below new : List Frame) (after : Position) (opened opened2 : ℕ) (given : Bool) → Steps rule way h p (learned f known ∷ below) new after opened opened2 given → Steps rule way h p (f ∷ below) new after opened opened2 given
+pub steps-learned : (rule : RuleSet) (plan : Plan) (h : ℕ) (p : Position) (f : Frame) (known : Option LegalPlace) (below new : List Frame)
+    (after : Position) (opened opened2 : ℕ) (given : Bool) → Steps rule plan h p (learned f known ∷ below) new after opened opened2 given
+    → Steps rule plan h p (f ∷ below) new after opened opened2 given
 unfolding to_come path position turns to_open fewest_left IsWhites
-steps-learned rule way h p f known [] new after opened opened2 given s =
-    record { walking = s.walking; come = s.come; deep = s.deep; falls = s.falls; opens = record { whites = s.opens.whites; most = s.opens.most; helped = s.opens.helped; counted = s.opens.counted }; tries = record { grows = s.tries.grows; fewest = s.tries.fewest } }
-steps-learned rule way h p f known (g ∷ below) new after opened opened2 given s =
-    record { walking = s.walking; come = s.come; deep = s.deep; falls = s.falls; opens = record { whites = s.opens.whites; most = s.opens.most; helped = s.opens.helped; counted = s.opens.counted }; tries = record { grows = s.tries.grows; fewest = s.tries.fewest } }
+steps-learned rule plan h p f known [] new after opened opened2 given s =
+    record {
+      walking = s.walking;
+      come = s.come;
+      deep = s.deep;
+      falls = s.falls;
+      opens = record { whites = s.opens.whites; most = s.opens.most; helped = s.opens.helped; counted = s.opens.counted };
+      tries = record { grows = s.tries.grows; fewest = s.tries.fewest };
+    }
+steps-learned rule plan h p f known (g ∷ below) new after opened opened2 given s =
+    record {
+      walking = s.walking;
+      come = s.come;
+      deep = s.deep;
+      falls = s.falls;
+      opens = record { whites = s.opens.whites; most = s.opens.most; helped = s.opens.helped; counted = s.opens.counted };
+      tries = record { grows = s.tries.grows; fewest = s.tries.fewest };
+    }
 
 -- a push, and the frames before a frame was taken off, seen from the top
 pub reverse-push : (xs : List Frame) (x : Frame) → reverse (xs ++ x ∷ []) ≡ x ∷ reverse xs
@@ -565,7 +696,7 @@ zero_test : (d n : ℕ) → d ≡ n → eqb d 0 ≡ eqb n 0
 zero_test d n e = ap (λ x. eqb x 0) e
 
 -- the same outcomes, for frames listed from the bottom up, as the code holds them
-module _ (rule : RuleSet) (way : Way) (h : ℕ) (top : Frame) (old new : List Frame) (taken : old ≡ new ++ top ∷ []) where
+module _ (rule : RuleSet) (plan : Plan) (h : ℕ) (top : Frame) (old new : List Frame) (taken : old ≡ new ++ top ∷ []) where
   depth_is : length (reverse new) ≡ length new
   depth_is = length-reverse new
 
@@ -575,14 +706,17 @@ module _ (rule : RuleSet) (way : Way) (h : ℕ) (top : Frame) (old new : List Fr
       let s = subst T (popped old new top taken) r in
       record { linked = s.linked; roomy = s.roomy; known = s.known; sound = rw e s.sound; board_at = e ∙ s.board_at }
 
-  pub close_asks : (p board now : Position) (depth : ℕ) → IsWalking rule h p (reverse old) board → now ≡ board → depth ≡ length new → 0 < depth → CameFrom rule top now
+  pub close_asks : (p board now : Position) (depth : ℕ) → IsWalking rule h p (reverse old) board → now ≡ board → depth ≡ length new → 0 < depth
+      → CameFrom rule top now
   close_asks p board now depth r e d deep = CameFrom-deep rule h p top (reverse new) now (walking_top p board now r e) (omega (arith, depth_is, d, deep))
 
-  pub close_steps : (p board now after : Position) (depth count : ℕ) → IsWalking rule h p (reverse old) board → now ≡ board → depth ≡ length new → (top.left ≡ 0) ⊎ GoesTo rule way top.left board top.place [] → (depth ≡ 0 → after ≡ now) → ((q : Position) → 0 < depth → CameFromAt rule top now q → after ≡ q) → Steps rule way h p (reverse old) (reverse new) after count count false
+  pub close_steps : (p board now after : Position) (depth count : ℕ) → IsWalking rule h p (reverse old) board → now ≡ board → depth ≡ length new
+      → (top.left ≡ 0) ⊎ GoesTo rule plan top.left board top.place [] → (depth ≡ 0 → after ≡ now)
+      → ((q : Position) → 0 < depth → CameFromAt rule top now q → after ≡ q) → Steps rule plan h p (reverse old) (reverse new) after count count false
   close_steps p board now after depth count r e d none lowest before =
       let r2 = walking_top p board now r e in
-      let T : Position → Type 0 = λ b. (top.left ≡ 0) ⊎ GoesTo rule way top.left b top.place [] in
-      rw (popped old new top taken) (skips-close rule way h p top (reverse new) now r2 after count (subst T (sym e ∙ r2.board_at) none)
+      let T : Position → Type 0 = λ b. (top.left ≡ 0) ⊎ GoesTo rule plan top.left b top.place [] in
+      rw (popped old new top taken) (skips-close rule plan h p top (reverse new) now r2 after count (subst T (sym e ∙ r2.board_at) none)
       (λ z. lowest (omega (arith, depth_is, d, z))) (λ q z cf. before q (omega (arith, depth_is, d, z)) cf))
 
   pub room_left : (p board : Position) → IsWalking rule h p (reverse old) board → top.left + length new ≤ h
@@ -592,7 +726,10 @@ module _ (rule : RuleSet) (way : Way) (h : ℕ) (top : Frame) (old new : List Fr
   unfolding AreKnown
   top_known p board r = let s = walking_top p board board r refl in rw s.board_at s.known.0
 
-  module _ (place : ℕ) (known : Option LegalPlace) (m : Triple) (board now : Position) (depth : ℕ) (mid last : List Frame) (at : now ≡ board) (d : depth ≡ length new) (some : (0 < top.left) × GoesTo rule way top.left board top.place (m ∷ moves_behind rule board place) × (legal rule board m ≡ true)) (within : IfSome known (IsPlaceIn rule board)) (put : mid ≡ new ++ moved (learned top known) place ∷ []) where
+  module _ (place : ℕ) (known : Option LegalPlace) (m : Triple) (board now : Position) (depth : ℕ) (mid last : List Frame) (at : now ≡ board)
+      (d : depth ≡ length new)
+      (some : (0 < top.left) × GoesTo rule plan top.left board top.place (m ∷ moves_behind rule board place) × (legal rule board m ≡ true))
+      (within : IfSome known (IsPlaceIn rule board)) (put : mid ≡ new ++ moved (learned top known) place ∷ []) where
     abbrev behind : ℕ
     behind = top.left - 1
 
@@ -603,26 +740,34 @@ module _ (rule : RuleSet) (way : Way) (h : ℕ) (top : Frame) (old new : List Fr
     mid_is = popped mid new _ put
 
     pub enter_steps : (root given : Bool) (after : Position) (opened opened2 : ℕ) → root ≡ eqb depth 0
-        → (follows way (chess way.aim.goal rule) root behind arrived ≡ false → (given ≡ false) × (after ≡ now) × (last ≡ mid))
-        → (follows way (chess way.aim.goal rule) root behind arrived ≡ true → (given ≡ gives way (chess way.aim.goal rule) behind arrived) × (after ≡ arrived) × (last ≡ mid ++ opened_frame m (undo_of rule now m) (goes_on way (chess way.aim.goal rule) behind arrived) ∷ []))
-        → (way.help ≡ true → 0 < behind → opened2 ≡ min (opened + 1) (2 ^ 64 - 1)) → (way.help ≡ true → behind ≡ 0 → opened2 ≡ opened)
-        → (way.help ≡ false → way.variation ≡ false → seeks way.aim.battle (behind + 1) ≡ true → opened2 ≤ opened + walk_count (legal_moves rule) (played rule) behind arrived)
-        → HasCounted opened opened2 (fewest_for way (chess way.aim.goal rule) root behind arrived)
-        → (p : Position) → IsWalking rule h p (reverse old) board → Steps rule way h p (reverse old) (reverse last) after opened opened2 given
+        → (follows plan (chess plan.goal rule) root behind arrived ≡ false → (given ≡ false) × (after ≡ now) × (last ≡ mid))
+        → (follows plan (chess plan.goal rule) root behind arrived ≡ true → (given ≡ gives plan (chess plan.goal rule) behind arrived) × (after ≡ arrived)
+        × (last ≡ mid ++ opened_frame m (undo_of rule now m) (goes_on plan (chess plan.goal rule) behind arrived) ∷ []))
+        → (is_help plan.form ≡ true → 0 < behind → opened2 ≡ min (opened + 1) (2 ^ 64 - 1)) → (is_help plan.form ≡ true → behind ≡ 0 → opened2 ≡ opened)
+        → (is_help plan.form ≡ false → varies plan ≡ false → seeks (battle_of plan.form) (behind + 1) ≡ true → opened2 ≤ opened + walk_count
+        (legal_moves rule) (played rule) behind arrived)
+        → HasCounted opened opened2 (fewest_for plan (chess plan.goal rule) root behind arrived)
+        → (p : Position) → IsWalking rule h p (reverse old) board → Steps rule plan h p (reverse old) (reverse last) after opened opened2 given
     enter_steps root given after opened opened2 flag passes enters more none keys tried p r =
         let left : top.left ≡ suc behind = omega (arith, some.0) in
         let r2 = walking-learned rule h p top known (reverse new) now (walking_top p board now r at) (rw at within) in
         let flag2 : eqb (length (reverse new)) 0 ≡ root = zero_test _ _ (depth_is ∙ sym d) ∙ sym flag in
         let lawful : legal rule now m ≡ true = rw at some.2 in
-        let T : Position → Type 0 = λ b. GoesTo rule way top.left b top.place (m ∷ moves_behind rule b place) in
+        let T : Position → Type 0 = λ b. GoesTo rule plan top.left b top.place (m ∷ moves_behind rule b place) in
         let next = subst T (sym at ∙ r2.board_at) some.1 in
-        elim (cases (follows way (chess way.aim.goal rule) root behind arrived)) [
+        elim (cases (follows plan (chess plan.goal rule) root behind arrived)) [
           | inl passed ↦
               let x = passes passed in
-              rw (popped old new top taken, x.2, mid_is, x.0) (steps-learned rule way h p top known (reverse new) _ after opened opened2 false (skips-pass rule way h p (learned top known) (reverse new) now r2 place m behind left next after opened opened2 (rw flag2 passed) x.1 keys (rw flag2 tried)))
+              rw (popped old new top taken, x.2, mid_is, x.0)
+              (steps-learned rule plan h p top known (reverse new) _ after opened opened2 false
+              (skips-pass rule plan h p (learned top known) (reverse new) now r2 place m behind left next after opened opened2
+              (rw flag2 passed) x.1 keys (rw flag2 tried)))
           | inr entered ↦
               let x = enters entered in
-              rw (popped old new top taken, x.2, reverse-push mid, mid_is, x.0) (steps-learned rule way h p top known (reverse new) _ after opened opened2 _ (skips-enter rule way h p (learned top known) (reverse new) now r2 place m behind left next after opened opened2 lawful (rw flag2 entered) x.1 more none keys (rw flag2 tried)))
+              rw (popped old new top taken, x.2, reverse-push mid, mid_is, x.0)
+              (steps-learned rule plan h p top known (reverse new) _ after opened opened2 _
+              (skips-enter rule plan h p (learned top known) (reverse new) now r2 place m behind left next after opened opened2 lawful
+              (rw flag2 entered) x.1 more none keys (rw flag2 tried)))
         ]
 
 -- a frame is closed, whatever is walked
@@ -633,24 +778,28 @@ module _ (rule : RuleSet) (h : ℕ) (top : Frame) (old new : List Frame) (taken 
   pub back_asks : (p board : Position) (depth : ℕ) → IsWalking rule h p (reverse old) board → depth ≡ length new → 0 < depth → CameFrom rule top board
   back_asks p board depth r d deep = CameFrom-deep rule h p top (reverse new) board (walking_popped p board r) (omega (arith, length-reverse new, d, deep))
 
-  pub back_walking : (p board after : Position) (depth : ℕ) → IsWalking rule h p (reverse old) board → depth ≡ length new → (depth ≡ 0 → after ≡ board) → ((q : Position) → 0 < depth → CameFromAt rule top board q → after ≡ q) → IsWalking rule h p (reverse new) after
+  pub back_walking : (p board after : Position) (depth : ℕ) → IsWalking rule h p (reverse old) board → depth ≡ length new → (depth ≡ 0 → after ≡ board)
+      → ((q : Position) → 0 < depth → CameFromAt rule top board q → after ≡ q) → IsWalking rule h p (reverse new) after
   back_walking p board after depth r d lowest before =
-      walking-close rule h p top (reverse new) board after (walking_popped p board r) (λ z. lowest (omega (arith, length-reverse new, d, z))) (λ q z cf. before q (omega (arith, length-reverse new, d, z)) cf)
+      walking-close rule h p top (reverse new) board after
+      (walking_popped p board r) (λ z. lowest (omega (arith, length-reverse new, d, z))) (λ q z cf. before q (omega (arith, length-reverse new, d, z)) cf)
 
 -- with no frame left the board stands on the first position
-pub walking_back : (rule : RuleSet) (h : ℕ) (p board : Position) (frames : List Frame) → IsWalking rule h p (reverse frames) board → length frames ≡ 0 → board ≡ p
+pub walking_back : (rule : RuleSet) (h : ℕ) (p board : Position) (frames : List Frame) → IsWalking rule h p (reverse frames) board → length frames ≡ 0
+    → board ≡ p
 unfolding position
 walking_back rule h p board [] r none = r.board_at
 walking_back rule h p board (f ∷ frames) r none = absurd (omega (arith, none))
 
 -- what the next move or the next mate says of the moves passed over
-module _ (rule : RuleSet) (way : Way) (left : ℕ) (p : Position) (place next : ℕ) where
+module _ (rule : RuleSet) (plan : Plan) (left : ℕ) (p : Position) (place next : ℕ) where
   abbrev pub Next : Option Triple → Type 0
   Next o =
-      MatchOption o ((left ≡ 0) ⊎ GoesTo rule way left p place [])
-      (λ m. (0 < left) × GoesTo rule way left p place (m ∷ moves_behind rule p next) × (legal rule p m ≡ true))
+      MatchOption o ((left ≡ 0) ⊎ GoesTo rule plan left p place [])
+      (λ m. (0 < left) × GoesTo rule plan left p place (m ∷ moves_behind rule p next) × (legal rule p m ≡ true))
 
-  pub next_any : (o : Option Triple) → 0 < left → MatchOption o (moves_behind rule p place ≡ []) (λ m. (moves_behind rule p place ≡ m ∷ moves_behind rule p next) × (legal rule p m ≡ true)) → Next o
+  pub next_any : (o : Option Triple) → 0 < left
+      → MatchOption o (moves_behind rule p place ≡ []) (λ m. (moves_behind rule p place ≡ m ∷ moves_behind rule p next) × (legal rule p m ≡ true)) → Next o
   next_any None some e = inr (record { mid = place; over = []; passed = refl; none = inl refl; here = e })
   next_any (Some m) some e = (some, record { mid = place; over = []; passed = refl; none = inl refl; here = e.0 }, e.1)
 
@@ -658,10 +807,18 @@ module _ (rule : RuleSet) (way : Way) (left : ℕ) (p : Position) (place next : 
   append_none [] = refl
   append_none (x ∷ xs) = ap (λ l. x ∷ l) (append_none xs)
 
-  pub next_mating : (o : Option Triple) → way.aim.goal ≡ Mate → way.help ≡ true → left ≡ 1 → MatchOption o (mates_behind rule p place ≡ []) (λ m. IsNextMate rule p place next m × (legal rule p m ≡ true)) → Next o
+  pub next_mating : (o : Option Triple) → plan.goal ≡ Mate → is_help plan.form ≡ true → left ≡ 1
+      → MatchOption o (mates_behind rule p place ≡ []) (λ m. IsNextMate rule p place next m × (legal rule p m ≡ true)) → Next o
   unfolding mates_behind
   next_mating None for help single e =
       let last : moves_behind rule p 28672 ≡ [] = moves_behind-end rule p 28672 (omega arith) in
-      inr (record { mid = 28672; over = moves_behind rule p place; passed = append_none (moves_behind rule p place) ∙ ap (λ l. moves_behind rule p place ++ l) (sym last); none = inr (help, for, single, e); here = last })
+      inr (record {
+        mid = 28672;
+        over = moves_behind rule p place;
+        passed = append_none (moves_behind rule p place)
+            ∙ ap (λ l. moves_behind rule p place ++ l) (sym last);
+        none = inr (help, for, single, e);
+        here = last;
+      })
   next_mating (Some m) for help single e =
       (omega (arith, single), record { mid = next - 1; over = e.0.over; passed = e.0.passed; none = inr (help, for, single, e.0.none); here = e.0.here }, e.1)

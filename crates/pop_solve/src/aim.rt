@@ -1,5 +1,8 @@
 //! What a search is after.
-use pop_input::stipulation::Goal;
+ghost use Rattle.std.specs.Prelude.{◌≡◌};
+ghost use Rattle.pop_solve.specs.Aims.{battle_of};
+
+use pop_input::stipulation::{Form, Goal};
 
 /// Who is to reach the goal against the other's will (Codex).
 #[derive(Clone, Copy, PartialEq, Eq)]
@@ -8,6 +11,18 @@ pub enum Battle {
     Direct,
     /// Black, whom White forces to.
     Selfmate,
+}
+
+impl Battle {
+    /// The battle of a form; help play, which is none, counts with the direct ones.
+    pub fn of(form: Form) -> Battle
+        ensures { result ≡ battle_of form }
+    {
+        match form {
+            Form::SelfMate => Battle::Selfmate,
+            Form::Direct | Form::Help | Form::HelpHalf => Battle::Direct,
+        }
+    }
 }
 
 /// The goal, and the battle for it, where it is one.

@@ -7,6 +7,7 @@ pub mod event;
 pub mod frame;
 mod killers;
 mod phases;
+pub mod plan;
 pub mod search;
 mod showing;
 pub mod shown;

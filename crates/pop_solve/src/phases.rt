@@ -4,34 +4,33 @@ ghost use Rattle.arrayvec.specs.ArrayVec.{array_vec_len};
 ghost use Rattle.chess_core.specs.Position.{Position};
 ghost use Rattle.pop_input.specs.Posed.{IsSound};
 ghost use Rattle.pop_input.specs.Stipulations.{half_moves, is_help};
-ghost use Rattle.pop_solve.specs.Aims.{battle_of};
 ghost use Rattle.pop_solve.specs.Events.{first_phase, start, phase_half_moves as half_moves_of_phase, phase_start, phase_half as half_of_phase, event_of, is_barred, step_of, is_set, opening};
-ghost use Rattle.pop_solve.specs.ties.Walk.{IsWalking, Opens, Tries, path, way_of as way_of_problem};
+ghost use Rattle.pop_solve.specs.ties.Walk.{IsWalking, Opens, Tries, path};
+ghost use Rattle.pop_solve.specs.ties.Plans.{plan_of};
 ghost use Rattle.pop_solve.specs.ties.Phases.{left_of, IsStanding, Walks, Gives, OpensOn};
 ghost use Rattle.pop_solve.specs.declared.event.Event.TheVariants.{Total};
 ghost use Rattle.pop_solve.specs.declared.event.Phase.TheVariants.{Play};
 ghost use Rattle.pop_solve.specs.declared.phases.Stage.TheVariants.{Before, Within, Behind};
 
-use crate::aim::{Aim, Battle};
 use crate::chess::{is_impossible, turn_back, turn_over};
 use crate::event::{Event, Phase};
 use crate::frame::Frame;
 use crate::killers::Killers;
+use crate::plan::Plan;
 use crate::showing::{last_shown, line};
-use crate::walk::{Way, opened_by, step, step_back};
+use crate::walk::{opened_by, step, step_back};
 use arrayvec::ArrayVec;
 use chess_core::board::Board;
 use chess_rules::moves::Moves;
 use chess_rules::rules::Rules;
 use pop_input::problem::Problem;
-use pop_input::stipulation::Form;
 
 /// Where a search stands among its phases; a phase is set play or the play.
 #[derive(Clone, Copy)]
 pub enum Stage {
     /// Before a phase.
     Before { phase: Phase },
-    /// In set play, which isn't possible.
+    /// In set plan, which isn't possible.
     Barred,
     /// Within a phase, of which `count` solutions have begun.
     Within { phase: Phase, count: u32 },
@@ -50,61 +49,14 @@ pub(crate) fn first_phase(problem: &Problem) -> Phase
     }
 }
 
-/// Whether both sides help.
-fn is_help(problem: &Problem) -> bool
-    ensures { result ≡ is_help problem.now.stipulation.form }
-{
-    match problem.stipulation().form {
-        Form::Direct | Form::SelfMate => false,
-        Form::Help | Form::HelpHalf => true,
-    }
-}
-
-/// The battle of a form.
-fn battle_of(form: Form) -> Battle
-    ensures { result ≡ battle_of form }
-{
-    match form {
-        Form::SelfMate => Battle::Selfmate,
-        Form::Direct | Form::Help | Form::HelpHalf => Battle::Direct,
-    }
-}
-
-/// How a problem is walked.
-fn way_of(problem: &Problem) -> Way
-    ensures { result ≡ way_of_problem problem.now }
-{
-    Way {
-        help: is_help(problem),
-        aim: Aim {
-            battle: battle_of(problem.stipulation().form),
-            goal: problem.stipulation().goal,
-        },
-        variation: problem.variation(),
-    }
-}
-
-/// The half-moves of the play.
-fn half_moves(problem: &Problem) -> usize
-    ensures value { result ≡ half_moves problem.now.stipulation }
-    ensures some { 1 ≤ result }
-{
-    let stipulation = problem.stipulation();
-    let n = stipulation.n as usize;
-    match stipulation.form {
-        Form::Direct => 2 * n - 1,
-        Form::SelfMate | Form::Help => 2 * n,
-        Form::HelpHalf => 2 * n + 1,
-    }
-}
-
 /// The half-moves of a phase: set play drops the first.
 fn phase_half_moves(problem: &Problem, phase: Phase) -> usize
     ensures { result ≡ half_moves_of_phase problem.now phase }
 {
+    let half_moves = problem.stipulation().half_moves();
     match phase {
-        Phase::Set => half_moves(problem) - 1,
-        Phase::Play => half_moves(problem),
+        Phase::Set => half_moves.saturating_sub(1),
+        Phase::Play => half_moves,
     }
 }
 
@@ -112,10 +64,7 @@ fn phase_half_moves(problem: &Problem, phase: Phase) -> usize
 fn phase_half(problem: &Problem, phase: Phase) -> u32
     ensures { result ≡ half_of_phase problem.now phase }
 {
-    let first = match problem.stipulation().form {
-        Form::Direct | Form::SelfMate | Form::Help => 1,
-        Form::HelpHalf => 2,
-    };
+    let first = problem.stipulation().form.first_half();
     match phase {
         Phase::Set => first + 1,
         Phase::Play => first,
@@ -123,10 +72,10 @@ fn phase_half(problem: &Problem, phase: Phase) -> u32
 }
 
 /// Whether a phase ends before another solution begins: so many have begun, and none is on the way.
-fn is_full(way: Way, depth: usize, limit: u32) -> bool
-    ensures { result ≡ ((limit == 0) && (way.help || (depth == 1))) }
+fn is_full(plan: Plan, depth: usize, limit: u32) -> bool
+    ensures { result ≡ ((limit == 0) && (is_help plan.form || (depth == 1))) }
 {
-    limit == 0 && (way.help || depth == 1)
+    limit == 0 && (plan.form.is_help() || depth == 1)
 }
 
 /// Walks on to the next path that is given, in a phase in which `limit` solutions are still to begin. Answers whether
@@ -144,17 +93,17 @@ fn walk_on<R: Rules, const N: usize>(
     requires room { half_moves problem.now.stipulation < N }
     requires walking { IsWalking R.rule (half_moves_of_phase problem.now phase) (phase_start problem.now phase)
         (reverse frames.old.items) board.old }
-    ensures walks { Walks R.rule (way_of_problem problem.now) (half_moves_of_phase problem.now phase)
+    ensures walks { Walks R.rule (plan_of problem.now) (half_moves_of_phase problem.now phase)
         (phase_start problem.now phase) limit (reverse frames.old.items) (reverse frames.new.items) board.new result }
-    ensures opens { Opens R.rule (way_of_problem problem.now) (phase_start problem.now phase) (reverse frames.old.items)
+    ensures opens { Opens R.rule (plan_of problem.now) (phase_start problem.now phase) (reverse frames.old.items)
         (reverse frames.new.items) opened.old opened.new }
-    ensures tries { Tries R.rule (way_of_problem problem.now) (half_moves_of_phase problem.now phase)
+    ensures tries { Tries R.rule (plan_of problem.now) (half_moves_of_phase problem.now phase)
         (phase_start problem.now phase) (reverse frames.old.items) (reverse frames.new.items) opened.old opened.new }
 {
-    let way = way_of(problem);
+    let plan = Plan::of(problem);
     let half_moves = phase_half_moves(problem, phase);
-    while !frames.is_empty() && !is_full(way, frames.len(), limit) {
-        if step::<R, N>(way, half_moves, board, frames, killers, opened) {
+    while !frames.is_empty() && !is_full(plan, frames.len(), limit) {
+        if step::<R, N>(plan, half_moves, board, frames, killers, opened) {
             return true;
         }
     }
@@ -191,7 +140,7 @@ fn event_at<R: Rules>(
 {
     let half = phase_half(problem, phase);
     let goal = problem.stipulation().goal;
-    if is_help(problem) {
+    if problem.stipulation().form.is_help() {
         return Event::Line {
             half,
             moves: line::<R>(goal, frames, board),
@@ -337,7 +286,7 @@ fn count_with(problem: &Problem, depth: usize, count: u32) -> u32
     requires most { count ≤ problem.now.max_solutions }
     ensures { result ≡ count + (if is_help problem.now.stipulation.form || (depth == 2) then 1 else 0) }
 {
-    if is_help(problem) || depth == 2 {
+    if problem.stipulation().form.is_help() || depth == 2 {
         count + 1
     } else {
         count

@@ -8,6 +8,9 @@ ghost use Rattle.chess_rules.specs.Legal.{legal};
 ghost use Rattle.chess_rules.specs.ties.Places.{IsPlaceIn, moves_behind};
 ghost use Rattle.chess_rules.specs.Play.{undo_of};
 ghost use Rattle.arrayvec.specs.ArrayVec.{array_vec_len};
+ghost use Rattle.pop_input.specs.Stipulations.{is_help};
+ghost use Rattle.pop_solve.specs.Aims.{battle_of};
+ghost use Rattle.pop_solve.specs.ties.Plans.{varies};
 ghost use Rattle.pop_solve.specs.ties.Frames.{CameFrom, CameFromAt, opened as opened_frame};
 ghost use Rattle.pop_solve.specs.Chess.{chess};
 ghost use Rattle.pop_solve.specs.ties.Marks.{is_for_mate};
@@ -19,6 +22,7 @@ use crate::aim::{Aim, Battle};
 use crate::chess::{is_for_mate, next_mate, next_move, reaches_goal, retract};
 use crate::frame::{Frame, Stretch};
 use crate::killers::Killers;
+use crate::plan::Plan;
 use crate::value::{seeking, value_of};
 use arrayvec::ArrayVec;
 use chess_core::board::Board;
@@ -26,14 +30,6 @@ use chess_core::man::Move;
 use chess_rules::legal_moves::LegalMoves;
 use chess_rules::moves::Moves;
 use chess_rules::rules::Rules;
-
-/// What is walked: help play, or one of the battles with or without variations.
-#[derive(Clone, Copy)]
-pub struct Way {
-    pub help: bool,
-    pub aim: Aim,
-    pub variation: bool,
-}
 
 /// The fewest half-moves with which a move of White is tried.
 fn fewest(battle: Battle) -> usize
@@ -71,7 +67,7 @@ fn least_length<R: Rules, const N: usize>(
     tried
 }
 
-/// With how many half-moves the moves of the board's position are shown in battle play, where `left` are left.
+/// With how many half-moves the moves of the board's position are shown in battle plan, where `left` are left.
 #[tactic(auto, unfolding(crate::specs::ties::Walk::open_length))]
 fn length_shown<R: Rules, const N: usize>(
     aim: Aim,
@@ -100,7 +96,7 @@ fn length_shown<R: Rules, const N: usize>(
 /// With how many half-moves the walk goes on from the board's position, where `left` are left.
 #[tactic(auto, unfolding(crate::specs::ties::Walk::goes_on))]
 fn length_below<R: Rules, const N: usize>(
-    way: Way,
+    plan: Plan,
     left: usize,
     board: &mut Board,
     frames: &mut ArrayVec<Frame<R>, N>,
@@ -109,38 +105,38 @@ fn length_below<R: Rules, const N: usize>(
 ) -> usize
     requires well_formed { IsWellFormed board.old }
     requires room { array_vec_len frames.old + left ≤ N }
-    ensures length { result ≡ goes_on way (chess way.aim.goal R.rule) left board.old }
+    ensures length { result ≡ goes_on plan (chess plan.goal R.rule) left board.old }
     ensures board { board.new ≡ board.old }
     ensures frames { frames.new.items ≡ frames.old.items }
-    ensures opened { way.help ≡ true → opened.new ≡ opened.old }
-    ensures keys_alone { IsTrue (not way.variation && seeks way.aim.battle (left + 1)) → opened.new ≡ opened.old }
+    ensures opened { is_help plan.form ≡ true → opened.new ≡ opened.old }
+    ensures keys_alone { IsTrue (not (varies plan) && seeks (battle_of plan.form) (left + 1)) → opened.new ≡ opened.old }
     ensures grows { HasCounted opened.old opened.new 0 }
 {
-    if way.help {
+    if plan.form.is_help() {
         return left;
     }
-    if !way.variation && seeking(way.aim.battle, left + 1) {
+    if !plan.tree.has_variations() && seeking(Battle::of(plan.form), left + 1) {
         return 0;
     }
-    length_shown::<R, N>(way.aim, left, board, frames, killers, opened)
+    length_shown::<R, N>(plan.aim(), left, board, frames, killers, opened)
 }
 
 /// Whether a move is tested before it is followed, where `left` half-moves are left with it: in battle play the
 /// moves of White and those of the phase's first position.
-fn is_tested(way: Way, root: bool, left: usize) -> bool
-    ensures { result ≡ (not way.help && (root || seeks way.aim.battle left)) }
+fn is_tested(plan: Plan, root: bool, left: usize) -> bool
+    ensures { result ≡ (not (is_help plan.form) && (root || seeks (battle_of plan.form) left)) }
 {
-    !way.help && (root || seeking(way.aim.battle, left))
+    !plan.form.is_help() && (root || seeking(Battle::of(plan.form), left))
 }
 
 /// Whether the path to the board's position is given, with `left` half-moves left there.
 #[tactic(auto, unfolding(crate::specs::ties::Walk::gives))]
-fn gives<R: Rules>(way: Way, left: usize, board: &mut Board) -> bool
+fn gives<R: Rules>(plan: Plan, left: usize, board: &mut Board) -> bool
     requires well_formed { IsWellFormed board.old }
     ensures unchanged { board.new ≡ board.old }
-    ensures given { result ≡ is_given way (chess way.aim.goal R.rule) left board.old }
+    ensures given { result ≡ is_given plan (chess plan.goal R.rule) left board.old }
 {
-    !way.help || left == 0 && reaches_goal::<R>(way.aim.goal, board)
+    !plan.form.is_help() || left == 0 && reaches_goal::<R>(plan.goal, board)
 }
 
 /// The count of opened frames once a frame has been opened that has `tried` half-moves below it. One with none isn't
@@ -161,7 +157,7 @@ pub(crate) fn opened_by(opened: u64, tried: usize, tested: bool) -> u64
 /// walk follows the move. Answers whether its path is given.
 #[tactic(auto, using(chess_rules::proofs::Calls::playing), unfolding(crate::specs::ties::Walk::follows, crate::specs::ties::Walk::goes_on))]
 fn enter<R: Rules, const N: usize>(
-    way: Way,
+    plan: Plan,
     root: bool,
     left: usize,
     by: Move,
@@ -173,27 +169,27 @@ fn enter<R: Rules, const N: usize>(
     requires well_formed { IsWellFormed board.old }
     requires room { array_vec_len frames.old + left < N }
     requires legal { legal R.rule board.old by ≡ true }
-    ensures passes { is_followed way (chess way.aim.goal R.rule) root left (played R.rule board.old by) ≡ false
+    ensures passes { is_followed plan (chess plan.goal R.rule) root left (played R.rule board.old by) ≡ false
         → (result ≡ false) × (board.new ≡ board.old) × (frames.new.items ≡ frames.old.items) }
-    ensures enters { is_followed way (chess way.aim.goal R.rule) root left (played R.rule board.old by) ≡ true
-        → (result ≡ is_given way (chess way.aim.goal R.rule) left (played R.rule board.old by))
+    ensures enters { is_followed plan (chess plan.goal R.rule) root left (played R.rule board.old by) ≡ true
+        → (result ≡ is_given plan (chess plan.goal R.rule) left (played R.rule board.old by))
         × (board.new ≡ played R.rule board.old by)
         × (frames.new.items ≡ frames.old.items ++ opened_frame by (undo_of R.rule board.old by)
-        (goes_on way (chess way.aim.goal R.rule) left (played R.rule board.old by)) ∷ []) }
-    ensures more { way.help ≡ true → 0 < left → opened.new ≡ min (opened.old + 1) (2 ^ 64 - 1) }
-    ensures none { way.help ≡ true → left ≡ 0 → opened.new ≡ opened.old }
-    ensures keys { way.help ≡ false → way.variation ≡ false → seeks way.aim.battle (left + 1) ≡ true
+        (goes_on plan (chess plan.goal R.rule) left (played R.rule board.old by)) ∷ []) }
+    ensures more { is_help plan.form ≡ true → 0 < left → opened.new ≡ min (opened.old + 1) (2 ^ 64 - 1) }
+    ensures none { is_help plan.form ≡ true → left ≡ 0 → opened.new ≡ opened.old }
+    ensures keys { is_help plan.form ≡ false → varies plan ≡ false → seeks (battle_of plan.form) (left + 1) ≡ true
         → opened.new ≤ opened.old + walk_count (legal_moves R.rule) (played R.rule) left (played R.rule board.old by) }
     ensures tries { HasCounted opened.old opened.new
-        (fewest_for way (chess way.aim.goal R.rule) root left (played R.rule board.old by)) }
+        (fewest_for plan (chess plan.goal R.rule) root left (played R.rule board.old by)) }
 {
     let undo = R::play(board, by);
-    let tested = is_tested(way, root, left + 1);
-    if tested && !value_of::<R, N>(way.aim, left, board, frames, killers, opened) {
+    let tested = is_tested(plan, root, left + 1);
+    if tested && !value_of::<R, N>(plan.aim(), left, board, frames, killers, opened) {
         retract::<R>(board, by, undo);
         return false;
     }
-    let tried = length_below::<R, N>(way, left, board, frames, killers, opened);
+    let tried = length_below::<R, N>(plan, left, board, frames, killers, opened);
     frames.push(Frame {
         place: Moves::start(),
         by,
@@ -204,20 +200,20 @@ fn enter<R: Rules, const N: usize>(
         known: None,
     });
     *opened = opened_by(*opened, tried, tested);
-    gives::<R>(way, left, board)
+    gives::<R>(plan, left, board)
 }
 
 /// Whether each path that is given ends with the next half-move, which mates: the last of help play for mate.
-fn ends_with_mate(way: Way, left: usize) -> bool
-    ensures { IsTrue result ↔ ((is_for_mate way.aim.goal ≡ true) × (way.help ≡ true) × (left ≡ 1)) }
+fn ends_with_mate(plan: Plan, left: usize) -> bool
+    ensures { IsTrue result ↔ ((is_for_mate plan.goal ≡ true) × (is_help plan.form ≡ true) × (left ≡ 1)) }
 {
-    is_for_mate(way.aim.goal) && way.help && left == 1
+    is_for_mate(plan.goal) && plan.form.is_help() && left == 1
 }
 
 /// The next move behind a place, in a position from which `left` half-moves are tried: the next mate, where help play
 /// ends with it.
 fn next_of<R: Rules>(
-    way: Way,
+    plan: Plan,
     left: usize,
     known: &mut Option<LegalMoves<R>>,
     place: &mut Moves<R>,
@@ -227,14 +223,14 @@ fn next_of<R: Rules>(
     requires known { IfSome known.old (λ k. IsPlaceIn R.rule board.old k) }
     ensures unchanged { board.new ≡ board.old }
     ensures within { IfSome known.new (λ k. IsPlaceIn R.rule board.old k) }
-    ensures next { MatchOption result ((left ≡ 0) ⊎ GoesTo R.rule way left board.old place.old [])
-        (λ m. (0 < left) × GoesTo R.rule way left board.old place.old (m ∷ moves_behind R.rule board.old place.new)
+    ensures next { MatchOption result ((left ≡ 0) ⊎ GoesTo R.rule plan left board.old place.old [])
+        (λ m. (0 < left) × GoesTo R.rule plan left board.old place.old (m ∷ moves_behind R.rule board.old place.new)
         × (legal R.rule board.old m ≡ true)) }
 {
     if left == 0 {
         return None;
     }
-    if ends_with_mate(way, left) {
+    if ends_with_mate(plan, left) {
         return next_mate::<R>(place, board);
     }
     next_move::<R>(known, place, board)
@@ -254,7 +250,7 @@ pub(crate) fn step_back<R: Rules>(depth: usize, top: Frame<R>, board: &mut Board
 /// One step of the walk: the next move of the top frame is played, or the frame is closed. Answers whether the path
 /// to the new top frame is given.
 pub(crate) fn step<R: Rules, const N: usize>(
-    way: Way,
+    plan: Plan,
     half_moves: usize,
     board: &mut Board,
     frames: &mut ArrayVec<Frame<R>, N>,
@@ -266,7 +262,7 @@ pub(crate) fn step<R: Rules, const N: usize>(
     requires open { 0 < array_vec_len frames.old }
     requires walking { (p : Position) × IsWalking R.rule half_moves p (reverse frames.old.items) board.old }
     ensures steps { (p : Position) → IsWalking R.rule half_moves p (reverse frames.old.items) board.old
-        → Steps R.rule way half_moves p (reverse frames.old.items) (reverse frames.new.items) board.new opened.old opened.new result }
+        → Steps R.rule plan half_moves p (reverse frames.old.items) (reverse frames.new.items) board.new opened.old opened.new result }
 {
     let Some(top) = frames.pop() else {
         return false;
@@ -274,7 +270,7 @@ pub(crate) fn step<R: Rules, const N: usize>(
     let depth = frames.len();
     let mut place = top.place;
     let mut known = top.known;
-    let Some(by) = next_of::<R>(way, top.left, &mut known, &mut place, board) else {
+    let Some(by) = next_of::<R>(plan, top.left, &mut known, &mut place, board) else {
         step_back::<R>(depth, top, board);
         return false;
     };
@@ -284,7 +280,7 @@ pub(crate) fn step<R: Rules, const N: usize>(
         ..top
     });
     enter::<R, N>(
-        way,
+        plan,
         depth == 0,
         top.left - 1,
         by,

@@ -10,7 +10,6 @@ use pop_input::condition::Condition;
 use pop_input::item::Item;
 use pop_input::problem::Problem;
 use pop_input::reader::Reader;
-use pop_input::stipulation::Form;
 use pop_print::print_event;
 use pop_solve::event::Event;
 use pop_solve::search::Search;
@@ -46,13 +45,7 @@ pub(crate) fn half_moves(problem: &Problem) -> usize
     ensures value { result ≡ half_moves problem.now.stipulation }
     ensures most { result ≤ 32 }
 {
-    let stipulation = problem.stipulation();
-    let n = stipulation.n as usize;
-    match stipulation.form {
-        Form::Direct => 2 * n - 1,
-        Form::SelfMate | Form::Help => 2 * n,
-        Form::HelpHalf => 2 * n + 1,
-    }
+    problem.stipulation().half_moves()
 }
 
 /// A search that is dropped after so many events.

@@ -7,7 +7,7 @@ use Rattle.chess_rules.specs.RuleSet.{RuleSet}
 use Rattle.pop_input.specs.Posed.{Posed}
 use Rattle.pop_input.specs.Stipulations.{is_help}
 use Rattle.pop_solve.specs.ties.Frames.{Frame, to_open}
-use Rattle.pop_solve.specs.ties.Walk.{fewest_left, path, to_come, way_of, IsWalking, IsCounted, IsWhites}
+use Rattle.pop_solve.specs.ties.Walk.{fewest_left, path, to_come, IsWalking, IsCounted, IsWhites}
 use Rattle.pop_solve.specs.Events.{Step, impossible, is_set, total, start, steps_from, step_of, phase_start, phase_half_moves, event_of, events}
 use Rattle.pop_solve.specs.ties.Seen.{fewest_from, fewest_tried, is_never_stopped, is_unstopped, is_walked_once, walk_from, whole_walk, StandsOn}
 use Rattle.pop_solve.specs.declared.event.Event.{Event}
@@ -15,7 +15,8 @@ use Rattle.pop_solve.specs.declared.event.Phase.{Phase}
 use Rattle.pop_solve.specs.declared.event.Phase.TheVariants.{Play}
 use Rattle.pop_solve.specs.declared.phases.Stage.{Stage}
 use Rattle.pop_solve.specs.declared.phases.Stage.TheVariants.{Before, Barred, Within, Behind}
-use Rattle.pop_solve.specs.declared.walk.Way.{Way}
+use Rattle.pop_solve.specs.declared.plan.Plan.{Plan}
+use Rattle.pop_solve.specs.ties.Plans.{plan_of}
 
 module _ {M : Type 0} where
   -- whether a path begins a solution: each line does, and each node above which none stands
@@ -37,7 +38,7 @@ module _ {M : Type 0} where
 -- the paths to come from the frames of a phase
 abbrev pub phase_paths : RuleSet → Posed → Phase → List Frame → List (List Triple)
 phase_paths rule problem phase frames =
-    to_come rule (way_of problem) (phase_half_moves problem phase) (phase_start problem phase) frames
+    to_come rule (plan_of problem) (phase_half_moves problem phase) (phase_start problem phase) frames
 
 -- the steps still to come
 unfoldable pub left_of : RuleSet → Posed → Stage → List Frame → List Step
@@ -61,15 +62,15 @@ IsStanding rule problem (Within phase count) frames board =
 IsStanding rule problem Behind frames board = (frames ≡ []) × (board ≡ start problem)
 
 -- what walking on in a phase leaves, at most `limit` solutions being still to begin
-pub record Walks (rule : RuleSet) (way : Way) (h : ℕ) (p : Position) (limit : ℕ) (old new : List Frame) (board : Position) (given : Bool) : Type 0 where
+pub record Walks (rule : RuleSet) (plan : Plan) (h : ℕ) (p : Position) (limit : ℕ) (old new : List Frame) (board : Position) (given : Bool) : Type 0 where
   pub walking : IsWalking rule h p new board
-  pub come : given ≡ true → keep way.help limit (to_come rule way h p old) ≡ path new ∷ keep way.help (limit - (if begins way.help (path new) then 1 else 0)) (to_come rule way h p new)
-  pub starts : given ≡ true → started way.help limit (to_come rule way h p old) ≡ (if begins way.help (path new) then 1 else 0) + started way.help (limit - (if begins way.help (path new) then 1 else 0)) (to_come rule way h p new)
-  pub within : given ≡ true → (if begins way.help (path new) then 1 else 0) ≤ limit
+  pub come : given ≡ true → keep (is_help plan.form) limit (to_come rule plan h p old) ≡ path new ∷ keep (is_help plan.form) (limit - (if begins (is_help plan.form) (path new) then 1 else 0)) (to_come rule plan h p new)
+  pub starts : given ≡ true → started (is_help plan.form) limit (to_come rule plan h p old) ≡ (if begins (is_help plan.form) (path new) then 1 else 0) + started (is_help plan.form) (limit - (if begins (is_help plan.form) (path new) then 1 else 0)) (to_come rule plan h p new)
+  pub within : given ≡ true → (if begins (is_help plan.form) (path new) then 1 else 0) ≤ limit
   pub deep : given ≡ true → 2 ≤ length new
-  pub ended : given ≡ false → keep way.help limit (to_come rule way h p old) ≡ []
+  pub ended : given ≡ false → keep (is_help plan.form) limit (to_come rule plan h p old) ≡ []
   pub over : given ≡ false → (new ≡ []) ⊎ (limit ≡ 0)
-  pub none : given ≡ false → started way.help limit (to_come rule way h p old) ≡ 0
+  pub none : given ≡ false → started (is_help plan.form) limit (to_come rule plan h p old) ≡ 0
 
 -- what a call gives: the first step still to come, as an event, with board and frames where that step stands
 pub record Gives (rule : RuleSet) (problem : Posed) (old new : List Step) (event : Event) (board : Position) (depth : ℕ) : Type 0 where
@@ -91,7 +92,7 @@ unfoldable pub rest_fewest : RuleSet → Posed → Stage → List Frame → ℕ
 rest_fewest rule problem (Before phase) frames = fewest_from rule problem phase
 rest_fewest rule problem Barred frames = fewest_from rule problem Play
 rest_fewest rule problem (Within phase count) frames =
-    fewest_left rule (way_of problem) (phase_half_moves problem phase) (phase_start problem phase) frames
+    fewest_left rule (plan_of problem) (phase_half_moves problem phase) (phase_start problem phase) frames
     + (if is_set phase then fewest_from rule problem Play else 0)
 rest_fewest rule problem Behind frames = 0
 

@@ -8,12 +8,13 @@ use Rattle.chess_rules.specs.RuleSet.{RuleSet}
 use Rattle.pop_solve.specs.Game.{reach}
 use Rattle.pop_solve.specs.Chess.{chess}
 use Rattle.pop_solve.specs.ties.Counts.{walk_count}
-use Rattle.pop_solve.specs.ties.Walk.{fewest_walked, way_of}
+use Rattle.pop_solve.specs.ties.Walk.{fewest_walked}
 use Rattle.pop_input.specs.Posed.{Posed}
 use Rattle.pop_input.specs.Stipulations.{is_help}
 use Rattle.pop_solve.specs.declared.event.Phase.{Phase}
 use Rattle.pop_solve.specs.declared.event.Phase.TheVariants.{Set, Play}
 use Rattle.pop_solve.specs.Events.{Step, events, first_phase, impossible, is_barred, is_set, line, opening, phase_half_moves, phase_start, total, tree_node}
+use Rattle.pop_solve.specs.ties.Plans.{plan_of}
 
 -- after a step: the board where its path leads, and one frame more than the path has moves
 abbrev pub StandsOn : RuleSet → Posed → Step → Position → ℕ → Type 0
@@ -44,7 +45,7 @@ abbrev pub phase_fewest : RuleSet → Posed → Phase → ℕ
 phase_fewest rule problem phase =
     if is_barred rule problem phase then 0
     else (if phase_half_moves problem phase == 0 then 0 else 1)
-    + fewest_walked (way_of problem) (chess problem.stipulation.goal rule) true (phase_half_moves problem phase) (phase_half_moves problem phase)
+    + fewest_walked (plan_of problem) (chess problem.stipulation.goal rule) true (phase_half_moves problem phase) (phase_half_moves problem phase)
     (phase_start problem phase) (legal_moves rule (phase_start problem phase))
 
 -- the same of all phases from one on

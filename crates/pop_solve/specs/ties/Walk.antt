@@ -9,7 +9,6 @@ use Rattle.chess_core.specs.Triple.{Triple}
 use Rattle.chess_core.specs.WellFormed.{IsWellFormed}
 use Rattle.chess_rules.specs.ties.Places.{is_mating, moves_behind}
 use Rattle.chess_rules.specs.RuleSet.{RuleSet}
-use Rattle.pop_input.specs.Posed.{Posed}
 use Rattle.pop_input.specs.Stipulations.{is_help}
 use Rattle.pop_solve.specs.Aims.{battle_of}
 use Rattle.pop_solve.specs.Game.{Game}
@@ -17,11 +16,8 @@ use Rattle.pop_solve.specs.ties.Counts.{smallest_tree}
 use Rattle.pop_solve.specs.ties.Values.{seeks, value}
 use Rattle.pop_solve.specs.Chess.{chess}
 use Rattle.pop_solve.specs.ties.Frames.{AreKnown, Frame, position, IsLinked, steps_behind, to_open}
-use Rattle.pop_solve.specs.declared.walk.Way.{Way}
-
--- how a problem is walked
-abbrev pub way_of : Posed → Way
-way_of problem = record { help = is_help problem.stipulation.form; aim = record { battle = battle_of problem.stipulation.form; goal = problem.stipulation.goal }; variation = problem.variation }
+use Rattle.pop_solve.specs.declared.plan.Plan.{Plan}
+use Rattle.pop_solve.specs.ties.Plans.{varies}
 
 -- the fewest half-moves with which a move of White is tried
 abbrev pub fewest : Battle → ℕ
@@ -41,46 +37,46 @@ module _ {P M : Type 0} where
       else (if seeks battle t then first_from battle game q ((t - fewest battle) / 2) (fewest battle) else t)
 
   -- whether the walk follows a move to q, with t half-moves left there: moves of White and those of a root are tested
-  unfoldable pub follows : Way → Game P M → Bool → ℕ → P → Bool
-  follows way game root t q =
-      way.help || (not (root || seeks way.aim.battle (t + 1)) || value way.aim.battle game t q)
+  unfoldable pub follows : Plan → Game P M → Bool → ℕ → P → Bool
+  follows plan game root t q =
+      is_help plan.form || (not (root || seeks (battle_of plan.form) (t + 1)) || value (battle_of plan.form) game t q)
 
   -- whether it gives the path to q: in help play where the last half-move reaches the goal
-  unfoldable pub gives : Way → Game P M → ℕ → P → Bool
-  gives way game t q = not way.help || (t == 0 && game.goal q)
+  unfoldable pub gives : Plan → Game P M → ℕ → P → Bool
+  gives plan game t q = not (is_help plan.form) || (t == 0 && game.goal q)
 
   -- with how many half-moves the walk goes on from q
-  unfoldable pub goes_on : Way → Game P M → ℕ → P → ℕ
-  goes_on way game t q =
-      if way.help then t
-      else (if not way.variation && seeks way.aim.battle (t + 1) then 0 else open_length way.aim.battle game t q)
+  unfoldable pub goes_on : Plan → Game P M → ℕ → P → ℕ
+  goes_on plan game t q =
+      if is_help plan.form then t
+      else (if not (varies plan) && seeks (battle_of plan.form) (t + 1) then 0 else open_length (battle_of plan.form) game t q)
 
   -- the paths that the walk gives from P by these moves, with `left` half-moves; `fuel` is at least `left`
-  unfoldable pub shown : Way → Game P M → Bool → ℕ → ℕ → P → List M → List (List M)
-  shown way game root zero left p ms = []
-  shown way game root (suc fuel) zero p ms = []
-  shown way game root (suc fuel) (suc t) p ms =
+  unfoldable pub shown : Plan → Game P M → Bool → ℕ → ℕ → P → List M → List (List M)
+  shown plan game root zero left p ms = []
+  shown plan game root (suc fuel) zero p ms = []
+  shown plan game root (suc fuel) (suc t) p ms =
       flat_map (λ m. let q = game.after p m in
-      if follows way game root t q
-      then (if gives way game t q then (m ∷ []) ∷ [] else [])
-      ++ map (λ path. m ∷ path) (shown way game false fuel (goes_on way game t q) q (game.moves q))
+      if follows plan game root t q
+      then (if gives plan game t q then (m ∷ []) ∷ [] else [])
+      ++ map (λ path. m ∷ path) (shown plan game false fuel (goes_on plan game t q) q (game.moves q))
       else []) ms
 
   -- the fewest positions that are tried for a move to q, with t half-moves left there: where the move is tested those of a
   -- smallest tree, else q itself if the walk goes on from it
-  abbrev pub fewest_for : Way → Game P M → Bool → ℕ → P → ℕ
-  fewest_for way game root t q =
-      if not way.help && (root || seeks way.aim.battle (t + 1)) then smallest_tree way.aim.battle game t q
-      else (if goes_on way game t q == 0 then 0 else 1)
+  abbrev pub fewest_for : Plan → Game P M → Bool → ℕ → P → ℕ
+  fewest_for plan game root t q =
+      if not (is_help plan.form) && (root || seeks (battle_of plan.form) (t + 1)) then smallest_tree (battle_of plan.form) game t q
+      else (if goes_on plan game t q == 0 then 0 else 1)
 
   -- the same for these moves of p, with `left` half-moves, and for all that the walk gives below them
-  unfoldable pub fewest_walked : Way → Game P M → Bool → ℕ → ℕ → P → List M → ℕ
-  fewest_walked way game root zero left p ms = 0
-  fewest_walked way game root (suc fuel) zero p ms = 0
-  fewest_walked way game root (suc fuel) (suc t) p ms =
+  unfoldable pub fewest_walked : Plan → Game P M → Bool → ℕ → ℕ → P → List M → ℕ
+  fewest_walked plan game root zero left p ms = 0
+  fewest_walked plan game root (suc fuel) zero p ms = 0
+  fewest_walked plan game root (suc fuel) (suc t) p ms =
       sum_by (λ m. let q = game.after p m in
-      fewest_for way game root t q
-      + (if follows way game root t q then fewest_walked way game false fuel (goes_on way game t q) q (game.moves q) else 0)) ms
+      fewest_for plan game root t q
+      + (if follows plan game root t q then fewest_walked plan game false fuel (goes_on plan game t q) q (game.moves q) else 0)) ms
 
 -- the moves that lead to the top frame
 unfoldable pub path : List Frame → List Triple
@@ -89,19 +85,19 @@ path (f ∷ []) = []
 path (f ∷ (g ∷ below)) = path (g ∷ below) ++ f.by ∷ []
 
 -- the paths still to come from all frames, in order
-unfoldable pub to_come : RuleSet → Way → ℕ → Position → List Frame → List (List Triple)
-to_come rule way h p [] = []
-to_come rule way h p (f ∷ below) =
+unfoldable pub to_come : RuleSet → Plan → ℕ → Position → List Frame → List (List Triple)
+to_come rule plan h p [] = []
+to_come rule plan h p (f ∷ below) =
     map (λ line. path (f ∷ below) ++ line)
-    (shown way (chess way.aim.goal rule) (length below == 0) (h - length below) f.left (position rule p (f ∷ below)) (moves_behind rule (position rule p (f ∷ below)) f.place))
-    ++ to_come rule way h p below
+    (shown plan (chess plan.goal rule) (length below == 0) (h - length below) f.left (position rule p (f ∷ below)) (moves_behind rule (position rule p (f ∷ below)) f.place))
+    ++ to_come rule plan h p below
 
 -- the fewest positions that are still to be tried for all frames
-unfoldable pub fewest_left : RuleSet → Way → ℕ → Position → List Frame → ℕ
-fewest_left rule way h p [] = 0
-fewest_left rule way h p (f ∷ below) =
-    fewest_walked way (chess way.aim.goal rule) (length below == 0) (h - length below) f.left (position rule p (f ∷ below)) (moves_behind rule (position rule p (f ∷ below)) f.place)
-    + fewest_left rule way h p below
+unfoldable pub fewest_left : RuleSet → Plan → ℕ → Position → List Frame → ℕ
+fewest_left rule plan h p [] = 0
+fewest_left rule plan h p (f ∷ below) =
+    fewest_walked plan (chess plan.goal rule) (length below == 0) (h - length below) f.left (position rule p (f ∷ below)) (moves_behind rule (position rule p (f ∷ below)) f.place)
+    + fewest_left rule plan h p below
 
 -- each frame has room for its half-moves
 unfoldable pub IsRoomy : ℕ → List Frame → Type 0
@@ -133,31 +129,31 @@ IsWhites battle frames = list_all (λ f. f.left == 0 || seeks battle f.left) fra
 
 -- the frames opened and still to be opened, before a part of a walk and after it: in help play and where keys alone are
 -- shown they grow by nothing
-pub record Opens (rule : RuleSet) (way : Way) (p : Position) (old new : List Frame) (before after : ℕ) : Type 0 where
-  pub whites : way.help ≡ false → way.variation ≡ false → IsWhites way.aim.battle old ≡ true → IsWhites way.aim.battle new ≡ true
-  pub most : way.help ≡ false → way.variation ≡ false → IsWhites way.aim.battle old ≡ true → after + to_open rule p new ≤ before + to_open rule p old
-  pub helped : way.help ≡ true → after + to_open rule p new ≤ before + to_open rule p old
-  pub counted : way.help ≡ true → (walk : ℕ) → IsCounted walk before (to_open rule p old) → IsCounted walk after (to_open rule p new)
+pub record Opens (rule : RuleSet) (plan : Plan) (p : Position) (old new : List Frame) (before after : ℕ) : Type 0 where
+  pub whites : is_help plan.form ≡ false → varies plan ≡ false → IsWhites (battle_of plan.form) old ≡ true → IsWhites (battle_of plan.form) new ≡ true
+  pub most : is_help plan.form ≡ false → varies plan ≡ false → IsWhites (battle_of plan.form) old ≡ true → after + to_open rule p new ≤ before + to_open rule p old
+  pub helped : is_help plan.form ≡ true → after + to_open rule p new ≤ before + to_open rule p old
+  pub counted : is_help plan.form ≡ true → (walk : ℕ) → IsCounted walk before (to_open rule p old) → IsCounted walk after (to_open rule p new)
 
 -- a part of a walk counts on, and in a battle it tries no fewer positions than have to be
-pub record Tries (rule : RuleSet) (way : Way) (h : ℕ) (p : Position) (old new : List Frame) (before after : ℕ) : Type 0 where
+pub record Tries (rule : RuleSet) (plan : Plan) (h : ℕ) (p : Position) (old new : List Frame) (before after : ℕ) : Type 0 where
   pub grows : min before (2 ^ 64 - 1) ≤ after
-  pub fewest : way.help ≡ false → min (before + fewest_left rule way h p old) (2 ^ 64 - 1) ≤ after + fewest_left rule way h p new
+  pub fewest : is_help plan.form ≡ false → min (before + fewest_left rule plan h p old) (2 ^ 64 - 1) ≤ after + fewest_left rule plan h p new
 
 -- from a place to the moves `rest` behind a later one only moves are passed over whose paths aren't given: in help play
 -- for mate, with one half-move left, those that don't mate
-pub record GoesTo (rule : RuleSet) (way : Way) (left : ℕ) (p : Position) (place : ℕ) (rest : List Triple) : Type 0 where
+pub record GoesTo (rule : RuleSet) (plan : Plan) (left : ℕ) (p : Position) (place : ℕ) (rest : List Triple) : Type 0 where
   pub mid : ℕ
   pub over : List Triple
   pub passed : moves_behind rule p place ≡ over ++ moves_behind rule p mid
-  pub none : (over ≡ []) ⊎ ((way.help ≡ true) × (way.aim.goal ≡ Mate) × (left ≡ 1) × (filter (is_mating rule p) over ≡ []))
+  pub none : (over ≡ []) ⊎ ((is_help plan.form ≡ true) × (plan.goal ≡ Mate) × (left ≡ 1) × (filter (is_mating rule p) over ≡ []))
   pub here : moves_behind rule p mid ≡ rest
 
 -- what one step of a walk leaves, for frames listed from the top down; `given` says whether the path to the new top is given
-pub record Steps (rule : RuleSet) (way : Way) (h : ℕ) (p : Position) (old new : List Frame) (board : Position) (before after : ℕ) (given : Bool) : Type 0 where
+pub record Steps (rule : RuleSet) (plan : Plan) (h : ℕ) (p : Position) (old new : List Frame) (board : Position) (before after : ℕ) (given : Bool) : Type 0 where
   pub walking : IsWalking rule h p new board
-  pub come : to_come rule way h p old ≡ (if given then path new ∷ [] else []) ++ to_come rule way h p new
+  pub come : to_come rule plan h p old ≡ (if given then path new ∷ [] else []) ++ to_come rule plan h p new
   pub deep : given ≡ true → length new ≡ length old + 1
   pub falls : turns rule h p new < turns rule h p old
-  pub opens : Opens rule way p old new before after
-  pub tries : Tries rule way h p old new before after
+  pub opens : Opens rule plan p old new before after
+  pub tries : Tries rule plan h p old new before after

@@ -25,12 +25,14 @@ unfolding IsStanding
 returns-clause-standing g c =
     let set = rw c.if-not-set_up.false at c.set_up.ensures.board in
     rw (c.push-2.ensures.items, walking.reverse-push, c.requires.standing.0)
-    (events.standing-begun g.R.Rules.rule c.args.problem.now c.args.phase _ _ c.phase_half_moves-left.ensures refl set (rw set (start_sound c.args.problem.now c.requires.sound c.args.phase)))
+    (events.standing-begun g.R.Rules.rule c.args.problem.now c.args.phase _ _ c.phase_half_moves-left.ensures refl set
+    (rw set (start_sound c.args.problem.now c.requires.sound c.args.phase)))
 
 pub returns-clause-left : goal.returns-clause-left
 unfolding IsStanding
 returns-clause-left g c =
-    let cut = solved.root-solutions g.R.Rules.rule c.args.problem.now c.requires.sound c.args.phase _ c.phase_half_moves-left.ensures (rw c.start.ensures (behind_start g.R.Rules.rule _)) in
+    let cut = solved.root-solutions g.R.Rules.rule c.args.problem.now c.requires.sound c.args.phase _ c.phase_half_moves-left.ensures
+    (rw c.start.ensures (behind_start g.R.Rules.rule _)) in
     rw (c.push-2.ensures.items, walking.reverse-push, c.requires.standing.0)
     (events.left-begun g.R.Rules.rule c.args.problem.now c.args.phase _ _ (open_yet _ _ c.set_up.ensures.possible c.if-not-set_up.false) cut.kept cut.begun)
 
@@ -42,4 +44,5 @@ pub returns-clause-opens : goal.returns-clause-opens
 unfolding IsStanding
 returns-clause-opens g c =
     rw (c.push-2.ensures.items, walking.reverse-push, c.requires.standing.0)
-    (opened.opens-begun g.R.Rules.rule c.args.problem.now c.requires.sound c.args.phase _ c.phase_half_moves-left.ensures c.start.ensures (open_yet _ _ c.set_up.ensures.possible c.if-not-set_up.false) _ _ _ _ (λ some. c.opened_by.ensures.more some refl) c.opened_by.ensures.none)
+    (opened.opens-begun g.R.Rules.rule c.args.problem.now c.requires.sound c.args.phase _ c.phase_half_moves-left.ensures c.start.ensures
+    (open_yet _ _ c.set_up.ensures.possible c.if-not-set_up.false) _ _ _ _ (λ some. c.opened_by.ensures.more some refl) c.opened_by.ensures.none)

@@ -12,14 +12,16 @@ walk_on-requires g c = (search rules, (search rules, (c.requires.sound, (c.requi
 pub count_with-count-requires-clause-begins : goal.count_with-count-requires-clause-begins
 unfolding IsStanding
 count_with-count-requires-clause-begins g c =
-    rw c.len.ensures.value (events.room-given g.R.Rules.rule c.args.problem.now c.args.phase _ _ _ _ c.requires.standing.1 (rw c.still_to_begin-limit.ensures at c.if-walk_on.ensures.walks))
+    rw c.len.ensures.value (events.room-given g.R.Rules.rule c.args.problem.now c.args.phase _ _ _ _ c.requires.standing.1
+    (rw c.still_to_begin-limit.ensures at c.if-walk_on.ensures.walks))
 
 pub event_at-event-requires : goal.event_at-event-requires
 unfolding IsStanding
 event_at-event-requires g c =
     let w = rw c.still_to_begin-limit.ensures at c.if-walk_on.ensures.walks in record {
       deep = rw c.as_slice.ensures.value (events.deep-given g.R.Rules.rule c.args.problem.now c.args.phase _ _ _ _ c.requires.standing.1 w);
-      shallow = rw c.as_slice.ensures.value (events.shallow-given g.R.Rules.rule c.args.problem.now c.args.phase _ _ _ _ c.requires.standing.1 w c.requires.sound);
+      shallow = rw c.as_slice.ensures.value
+          (events.shallow-given g.R.Rules.rule c.args.problem.now c.args.phase _ _ _ _ c.requires.standing.1 w c.requires.sound);
       walking = (phase_half_moves c.args.problem.now c.args.phase, rw c.as_slice.ensures.value w.walking);
     }
 
@@ -27,13 +29,15 @@ pub returns-then-walk_on-clause-standing : goal.returns-then-walk_on-clause-stan
 unfolding IsStanding
 returns-then-walk_on-clause-standing g c =
     rw c.event_at-event.ensures.unchanged
-    (events.standing-given g.R.Rules.rule c.args.problem.now c.args.phase _ _ _ _ c.requires.standing.1 (rw c.still_to_begin-limit.ensures at c.if-walk_on.ensures.walks) _ (rw c.len.ensures.value at c.count_with-count.ensures))
+    (events.standing-given g.R.Rules.rule c.args.problem.now c.args.phase _ _ _ _ c.requires.standing.1
+    (rw c.still_to_begin-limit.ensures at c.if-walk_on.ensures.walks) _ (rw c.len.ensures.value at c.count_with-count.ensures))
 
 pub returns-then-walk_on-clause-gives : goal.returns-then-walk_on-clause-gives
 unfolding IsStanding
 returns-then-walk_on-clause-gives g c =
     events.gives-given g.R.Rules.rule c.args.problem.now c.args.phase _ _ _ _ c.requires.standing.1
-    (rw c.still_to_begin-limit.ensures at c.if-walk_on.ensures.walks) _ _ (search rules) (search rules) _ _ (rw c.len.ensures.value at c.count_with-count.ensures)
+    (rw c.still_to_begin-limit.ensures at c.if-walk_on.ensures.walks) _ _ (search rules) (search rules) _ _
+    (rw c.len.ensures.value at c.count_with-count.ensures)
     (rw c.as_slice.ensures.value at c.event_at-event.ensures.event)
 
 pub returns-clause-standing : goal.returns-clause-standing
@@ -42,7 +46,8 @@ returns-clause-standing g c =
 
 pub returns-clause-gives : goal.returns-clause-gives
 returns-clause-gives g c =
-    rw c.total.ensures (events.gives-ended g.R.Rules.rule c.args.problem.now c.args.phase _ _ _ c.end.ensures.stage c.end.ensures.none _ _ _ _ _ (rw c.still_to_begin-limit.ensures at c.if-walk_on.ensures.walks))
+    rw c.total.ensures (events.gives-ended g.R.Rules.rule c.args.problem.now c.args.phase _ _ _ c.end.ensures.stage c.end.ensures.none _ _ _ _ _
+    (rw c.still_to_begin-limit.ensures at c.if-walk_on.ensures.walks))
 
 pub returns-then-walk_on-clause-opens : goal.returns-then-walk_on-clause-opens
 returns-then-walk_on-clause-opens g c =
@@ -53,4 +58,5 @@ unfolding IsStanding
 returns-clause-opens g c =
     let w = rw c.still_to_begin-limit.ensures at c.if-walk_on.ensures.walks in
     rw (events.left-ended g.R.Rules.rule c.args.problem.now c.args.phase _ _ _ _ w)
-    (opened.opens-ended g.R.Rules.rule c.args.problem.now c.args.phase _ _ _ _ _ c.walk_on.ensures.opens c.walk_on.ensures.tries _ _ _ c.end.ensures.stage c.requires.standing.1 (w.over refl))
+    (opened.opens-ended g.R.Rules.rule c.args.problem.now c.args.phase _ _ _ _ _ c.walk_on.ensures.opens c.walk_on.ensures.tries _ _ _ c.end.ensures.stage
+    c.requires.standing.1 (w.over refl))

@@ -23,7 +23,8 @@ pub loop-k-preserved : goal.loop-k-preserved
 loop-k-preserved g c = (
   λ h p w.
       let cut = paths.cut-at c.args.frames.now c.loop-k.k (c.loop-k.k - 1) c.index-frames-k.result (omega arith) c.index-frames-k.is (omega arith) in
-      paths.back-walking g.R.Rules.rule _ _ _ cut (paths.some-taken _ _ (omega arith) (omega arith)) h p _ _ (c.loop-k.invariant.0 h p w) c.take_back.ensures.before,
+      paths.back-walking g.R.Rules.rule _ _ _ cut (paths.some-taken _ _ (omega arith) (omega arith)) h p _ _
+      (c.loop-k.invariant.0 h p w) c.take_back.ensures.before,
   omega arith,
 )
 

@@ -12,7 +12,8 @@ returns-then-left-eq0-clause-value g c = c.reaches_goal.ensures.reached ∙ sym 
 
 pub returns-then-left-eq1-clause-value : goal.returns-then-left-eq1-clause-value
 returns-then-left-eq1-clause-value g c =
-    mate-value g.R.Rules.rule c.args.aim.battle c.args.aim.goal c.args.left c.args.board.now _ (for_mate c.args.aim.goal (sym c.if-is_for_mate.ensures)) c.if-left-eq1.true c.last_value.ensures.value
+    mate-value g.R.Rules.rule c.args.aim.battle c.args.aim.goal c.args.left c.args.board.now _
+    (for_mate c.args.aim.goal (sym c.if-is_for_mate.ensures)) c.if-left-eq1.true c.last_value.ensures.value
 
 pub returns-then-left-eq1-clause-opened : goal.returns-then-left-eq1-clause-opened
 returns-then-left-eq1-clause-opened g c =
@@ -53,4 +54,5 @@ returns-then-is_some-clause-value g c =
 pub returns-else-is_some-clause-value : goal.returns-else-is_some-clause-value
 returns-else-is_some-clause-value g c =
     let some : 0 < c.args.left = omega (arith, c.if-left-eq0.false) in
-    rw c.first_look.ensures.unchanged at c.value_without_move.ensures ∙ sym (values.value-stuck _ _ _ _ some (sym (c.first_look.ensures.moves c.args.aim.goal) ∙ sym c.if-is_some.ensures))
+    rw c.first_look.ensures.unchanged at c.value_without_move.ensures ∙ sym
+    (values.value-stuck _ _ _ _ some (sym (c.first_look.ensures.moves c.args.aim.goal) ∙ sym c.if-is_some.ensures))

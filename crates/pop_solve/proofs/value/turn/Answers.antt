@@ -10,13 +10,16 @@ close-requires g c = λ deep.
 
 pub returns-then-decided-clause-room : goal.returns-then-decided-clause-room
 returns-then-decided-clause-room g c =
-    test.close_room g.R.Rules.rule c.args.aim _ _ _ _ c.in-Some.ensures.items c.requires.above _ _ _ _ c.args.answer.now _ _ c.len-depth.ensures.value c.close.ensures.lowest c.close.ensures.above c.close.ensures.before _ _ c.requires.testing.1 c.requires.room
+    test.close_room g.R.Rules.rule c.args.aim _ _ _ _ c.in-Some.ensures.items c.requires.above _ _ _ _ c.args.answer.now _ _ c.len-depth.ensures.value
+    c.close.ensures.lowest c.close.ensures.above c.close.ensures.before _ _ c.requires.testing.1 c.requires.room
 
 pub returns-then-decided-clause-next : goal.returns-then-decided-clause-next
 returns-then-decided-clause-next g c = λ p r.
-    let seek : c.seeking-seek.result ≡ seeks c.args.aim.battle c.in-Some.top.left = c.seeking-seek.ensures ∙ ap (λ (f : Frame). seeks c.args.aim.battle f.left) c.top.view_is in
+    let seek : c.seeking-seek.result ≡ seeks c.args.aim.battle c.in-Some.top.left = c.seeking-seek.ensures
+    ∙ ap (λ (f : Frame). seeks c.args.aim.battle f.left) c.top.view_is in
     let s : c.args.answer.now ≡ Some (seeks c.args.aim.battle c.in-Some.top.left) = rw (← seek) c.if-decided.ensures in
-    test.close_turns g.R.Rules.rule c.args.aim _ _ _ _ c.in-Some.ensures.items c.requires.above _ _ _ _ _ _ _ c.len-depth.ensures.value c.close.ensures.lowest c.close.ensures.above c.close.ensures.before _ p r
+    test.close_turns g.R.Rules.rule c.args.aim _ _ _ _ c.in-Some.ensures.items c.requires.above _ _ _ _ _ _ _ c.len-depth.ensures.value
+    c.close.ensures.lowest c.close.ensures.above c.close.ensures.before _ p r
     (rw seek (test.decided_value g.R.Rules.rule c.args.aim _ _ _ _ c.in-Some.ensures.items c.requires.above p _ s))
     (rw seek (test.decided_left g.R.Rules.rule c.args.aim _ _ _ _ c.in-Some.ensures.items c.requires.above p _ s))
 
@@ -27,20 +30,28 @@ moves_at-moves-requires g c =
 
 pub close-requires-in_default-next_tried : goal.close-requires-in_default-next_tried
 close-requires-in_default-next_tried g c = λ deep.
-    test.close_asks g.R.Rules.rule c.args.aim _ _ _ _ c.in-Some.ensures.items c.requires.above _ _ _ c.len-depth.ensures.value (test.testing_same _ _ _ _ _ c.requires.testing.1 c.next_tried.ensures.unchanged) deep
+    test.close_asks g.R.Rules.rule c.args.aim _ _ _ _ c.in-Some.ensures.items c.requires.above _ _ _ c.len-depth.ensures.value
+    (test.testing_same _ _ _ _ _ c.requires.testing.1 c.next_tried.ensures.unchanged) deep
 
 pub returns-in_default-next_tried-clause-room : goal.returns-in_default-next_tried-clause-room
 returns-in_default-next_tried-clause-room g c =
-    test.close_room g.R.Rules.rule c.args.aim _ _ _ _ c.in-Some.ensures.items c.requires.above _ _ _ _ c.args.answer.now _ _ c.len-depth.ensures.value c.close-in_default-next_tried.ensures.lowest c.close-in_default-next_tried.ensures.above c.close-in_default-next_tried.ensures.before _ _ (test.testing_same _ _ _ _ _ c.requires.testing.1 c.next_tried.ensures.unchanged) c.requires.room
+    test.close_room g.R.Rules.rule c.args.aim _ _ _ _ c.in-Some.ensures.items c.requires.above _ _ _ _ c.args.answer.now _ _ c.len-depth.ensures.value
+    c.close-in_default-next_tried.ensures.lowest c.close-in_default-next_tried.ensures.above c.close-in_default-next_tried.ensures.before _ _
+    (test.testing_same _ _ _ _ _ c.requires.testing.1 c.next_tried.ensures.unchanged) c.requires.room
 
 pub returns-in_default-next_tried-clause-next : goal.returns-in_default-next_tried-clause-next
 returns-in_default-next_tried-clause-next g c = λ p r.
-    let seek : c.seeking-seek.result ≡ seeks c.args.aim.battle c.in-Some.top.left = c.seeking-seek.ensures ∙ ap (λ (f : Frame). seeks c.args.aim.battle f.left) c.top.view_is in
+    let seek : c.seeking-seek.result ≡ seeks c.args.aim.battle c.in-Some.top.left = c.seeking-seek.ensures
+    ∙ ap (λ (f : Frame). seeks c.args.aim.battle f.left) c.top.view_is in
     let same = ap (λ (f : Frame). untried g.R.Rules.rule c.args.board.now f) c.top.view_is in
     let u : (c.args.answer.now ≡ None) ⊎ (c.args.answer.now ≡ Some (not (seeks c.args.aim.battle c.in-Some.top.left))) = rw (← seek) c.if-decided.ensures in
-    test.close_turns g.R.Rules.rule c.args.aim _ _ _ _ c.in-Some.ensures.items c.requires.above _ _ _ _ _ _ _ c.len-depth.ensures.value c.close-in_default-next_tried.ensures.lowest c.close-in_default-next_tried.ensures.above c.close-in_default-next_tried.ensures.before _ p (test.testing_same _ _ _ _ _ r c.next_tried.ensures.unchanged)
-    (rw seek (test.exhausted_value g.R.Rules.rule c.args.aim _ _ _ _ c.in-Some.ensures.items c.requires.above p _ _ r u (sym same ∙ (rw c.moves_at-moves.ensures.place at c.in_default-next_tried.ensures.next))))
-    (rw seek (test.exhausted_left g.R.Rules.rule c.args.aim _ _ _ _ c.in-Some.ensures.items c.requires.above p _ _ r u (sym same ∙ (rw c.moves_at-moves.ensures.place at c.in_default-next_tried.ensures.next))))
+    test.close_turns g.R.Rules.rule c.args.aim _ _ _ _ c.in-Some.ensures.items c.requires.above _ _ _ _ _ _ _ c.len-depth.ensures.value
+    c.close-in_default-next_tried.ensures.lowest c.close-in_default-next_tried.ensures.above c.close-in_default-next_tried.ensures.before _ p
+    (test.testing_same _ _ _ _ _ r c.next_tried.ensures.unchanged)
+    (rw seek (test.exhausted_value g.R.Rules.rule c.args.aim _ _ _ _ c.in-Some.ensures.items c.requires.above p _ _ r u
+    (sym same ∙ (rw c.moves_at-moves.ensures.place at c.in_default-next_tried.ensures.next))))
+    (rw seek (test.exhausted_left g.R.Rules.rule c.args.aim _ _ _ _ c.in-Some.ensures.items c.requires.above p _ _ r u
+    (sym same ∙ (rw c.moves_at-moves.ensures.place at c.in_default-next_tried.ensures.next))))
 
 pub overflow_sub-top-inside : goal.overflow_sub-top-inside
 overflow_sub-top-inside g c =
@@ -66,13 +77,20 @@ descend-requires g c =
 pub returns-clause-room : goal.returns-clause-room
 returns-clause-room g c =
     let taken = rw (← c.top.view_is) at c.in-Some.ensures.items in
-    let u : (c.args.answer.now ≡ None) ⊎ (c.args.answer.now ≡ Some (not (seeks c.args.aim.battle c.top.inside.left))) = rw (← c.seeking-seek.ensures) c.if-decided.ensures in
+    let u : (c.args.answer.now ≡ None) ⊎ (c.args.answer.now ≡ Some (not (seeks c.args.aim.battle c.top.inside.left))) =
+    rw (← c.seeking-seek.ensures) c.if-decided.ensures in
     let some = test.top_some g.R.Rules.rule c.args.aim _ _ _ _ taken c.requires.above _ _ c.requires.testing.1 in
-    test.descend_room g.R.Rules.rule c.args.aim _ _ _ _ taken c.requires.above _ _ _ _ _ _ _ _ _ _ some u (rw (c.moves_at-moves.ensures.place, ← c.place.ensures) at c.in-Some-next_tried.ensures.next.0) c.in-Some-next_tried.ensures.next.1 c.next_tried.ensures.within c.descend.new.answer (rw c.next_tried.ensures.unchanged at c.descend.ensures.answer) c.requires.room
+    test.descend_room g.R.Rules.rule c.args.aim _ _ _ _ taken c.requires.above _ _ _ _ _ _ _ _ _ _ some u
+    (rw (c.moves_at-moves.ensures.place, ← c.place.ensures) at c.in-Some-next_tried.ensures.next.0) c.in-Some-next_tried.ensures.next.1
+    c.next_tried.ensures.within c.descend.new.answer (rw c.next_tried.ensures.unchanged at c.descend.ensures.answer) c.requires.room
 
 pub returns-clause-next : goal.returns-clause-next
 returns-clause-next g c = λ p r.
     let taken = rw (← c.top.view_is) at c.in-Some.ensures.items in
-    let u : (c.args.answer.now ≡ None) ⊎ (c.args.answer.now ≡ Some (not (seeks c.args.aim.battle c.top.inside.left))) = rw (← c.seeking-seek.ensures) c.if-decided.ensures in
+    let u : (c.args.answer.now ≡ None) ⊎ (c.args.answer.now ≡ Some (not (seeks c.args.aim.battle c.top.inside.left))) =
+    rw (← c.seeking-seek.ensures) c.if-decided.ensures in
     let some = test.top_some g.R.Rules.rule c.args.aim _ _ _ _ taken c.requires.above _ _ r in
-    test.descend_turns g.R.Rules.rule c.args.aim _ _ _ _ taken c.requires.above _ _ _ _ _ _ _ 0 _ _ some u (rw (c.moves_at-moves.ensures.place, ← c.place.ensures) at c.in-Some-next_tried.ensures.next.0) c.in-Some-next_tried.ensures.next.1 c.next_tried.ensures.within c.descend.new.answer (rw c.next_tried.ensures.unchanged at c.descend.ensures.answer) _ _ (rw c.next_tried.ensures.unchanged at c.descend.ensures.opened) (rw c.next_tried.ensures.unchanged at c.descend.ensures.tried) p r
+    test.descend_turns g.R.Rules.rule c.args.aim _ _ _ _ taken c.requires.above _ _ _ _ _ _ _ 0 _ _ some u
+    (rw (c.moves_at-moves.ensures.place, ← c.place.ensures) at c.in-Some-next_tried.ensures.next.0) c.in-Some-next_tried.ensures.next.1
+    c.next_tried.ensures.within c.descend.new.answer (rw c.next_tried.ensures.unchanged at c.descend.ensures.answer) _ _
+    (rw c.next_tried.ensures.unchanged at c.descend.ensures.opened) (rw c.next_tried.ensures.unchanged at c.descend.ensures.tried) p r

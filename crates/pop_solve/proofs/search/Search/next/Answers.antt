@@ -8,7 +8,8 @@ invariant_of-self g c = (
   c.self.invariant.0,
   c.self.invariant.1,
   c.advance-event.ensures.standing,
-  events.given-event g.R.Rules.rule _ _ _ _ _ _ _ _ (sym c.is_some.ensures ∙ c.if-is_some.true) c.advance-event.ensures.gives c.saturating_add-self-inside.ensures c.self.invariant.3,
+  events.given-event g.R.Rules.rule _ _ _ _ _ _ _ _
+      (sym c.is_some.ensures ∙ c.if-is_some.true) c.advance-event.ensures.gives c.saturating_add-self-inside.ensures c.self.invariant.3,
   opened.opened-on g.R.Rules.rule _ _ _ _ _ _ _ _ _ c.self.invariant.3 c.advance-event.ensures.opens c.self.invariant.4,
 )
 

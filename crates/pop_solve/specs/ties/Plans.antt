@@ -1,0 +1,29 @@
+-- What is walked: help play, or a battle with its keys alone or with variations.
+use Rattle.std.specs.Prelude.{Bool, true, false}
+use Rattle.pop_input.specs.Posed.{Posed}
+use Rattle.pop_solve.specs.Aims.{battle_of}
+use Rattle.pop_solve.specs.declared.aim.Aim.{Aim}
+use Rattle.pop_solve.specs.declared.plan.Plan.{Plan}
+use Rattle.pop_solve.specs.declared.plan.Tree.{Tree}
+use Rattle.pop_solve.specs.declared.plan.Tree.TheVariants.{Keys, Variations}
+
+-- what is shown with variations or without
+abbrev pub tree_shown : Bool → Tree
+tree_shown true = Variations
+tree_shown false = Keys
+
+-- variations are shown
+abbrev pub shows_variations : Tree → Bool
+shows_variations Keys = false
+shows_variations Variations = true
+
+abbrev pub varies : Plan → Bool
+varies plan = shows_variations plan.tree
+
+-- what is walked of a problem
+abbrev pub plan_of : Posed → Plan
+plan_of problem = record { form = problem.stipulation.form; goal = problem.stipulation.goal; tree = tree_shown problem.variation }
+
+-- the battle and its goal
+abbrev pub aim_of : Plan → Aim
+aim_of plan = record { battle = battle_of plan.form; goal = plan.goal }

@@ -1,0 +1,72 @@
+//! What is walked.
+ghost use Rattle.std.specs.Prelude.{◌≡◌};
+ghost use Rattle.pop_solve.specs.Aims.{battle_of};
+ghost use Rattle.pop_solve.specs.ties.Plans.{aim_of, plan_of, shows_variations, tree_shown};
+
+use crate::aim::{Aim, Battle};
+use pop_input::problem::Problem;
+use pop_input::stipulation::{Form, Goal};
+
+/// What is shown of a battle.
+#[derive(Clone, Copy)]
+pub enum Tree {
+    /// Its keys alone.
+    Keys,
+    /// Its keys with their variations.
+    Variations,
+}
+
+/// What is walked: help play or a battle, its goal, and what is shown of a battle.
+#[derive(Clone, Copy)]
+pub struct Plan {
+    pub form: Form,
+    pub goal: Goal,
+    pub tree: Tree,
+}
+
+impl Tree {
+    /// What is shown with variations or without.
+    fn with(variation: bool) -> Tree
+        ensures { result ≡ tree_shown variation }
+    {
+        if variation {
+            Tree::Variations
+        } else {
+            Tree::Keys
+        }
+    }
+
+    /// Whether variations are shown.
+    pub(crate) fn has_variations(self) -> bool
+        ensures { result ≡ shows_variations self }
+    {
+        match self {
+            Tree::Keys => false,
+            Tree::Variations => true,
+        }
+    }
+}
+
+impl Plan {
+    /// What is walked of a problem.
+    pub(crate) fn of(problem: &Problem) -> Plan
+        ensures { result ≡ plan_of problem.now }
+    {
+        let stipulation = problem.stipulation();
+        Plan {
+            form: stipulation.form,
+            goal: stipulation.goal,
+            tree: Tree::with(problem.variation()),
+        }
+    }
+
+    /// The battle and its goal.
+    pub(crate) fn aim(self) -> Aim
+        ensures { result ≡ aim_of self }
+    {
+        Aim {
+            battle: Battle::of(self.form),
+            goal: self.goal,
+        }
+    }
+}
