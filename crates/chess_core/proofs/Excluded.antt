@@ -2,18 +2,21 @@
 use Rattle.std.proofs.Common.{◌≡◌, true, false, [], ◌∷◌, List, Option, Some, None, refl}
 use Rattle.std.specs.List.{repeat}
 use Rattle.chess_core.specs.Castling.{has_unmoved, mark_unmoved, none_unmoved, with_unmoved, without_unmoved}
-use Rattle.chess_core.specs.Diagrams.{has_kind, is_other_king, is_second_king, is_stray_pawn, shows}
+use Rattle.chess_core.specs.Diagrams.{has_kind, has_men, is_other_king, is_second_king, is_stray_pawn, is_taken, is_there, shows, stands}
 use Rattle.chess_core.specs.Position.{king_square, man_on, with_man, without_man}
 use Rattle.chess_core.specs.SquareNames.{a1, b1, e1, a2, e8, h8}
 use Rattle.chess_core.specs.Squares.{some_square, squares}
 use Rattle.chess_core.specs.WellFormed.{is_home}
 use Rattle.chess_core.specs.ties.Words.{side_of, squares_of, word, word_of}
-use Rattle.chess_core.specs.declared.man.Colour.TheVariants.{White}
+use Rattle.chess_core.specs.declared.man.Colour.TheVariants.{White, Black}
 use Rattle.chess_core.specs.declared.man.Kind.TheVariants.{King, Pawn}
 use Rattle.chess_core.specs.declared.man.Man.{Man}
 
 abbrev white_king : Man
 white_king = record { colour = White; kind = King }
+
+abbrev black_king : Man
+black_king = record { colour = Black; kind = King }
 
 abbrev white_pawn : Man
 white_pawn = record { colour = White; kind = Pawn }
@@ -41,6 +44,16 @@ square_is_out = refl
 pub none_has_no_e8 : has_unmoved none_unmoved e8 ≡ false
 unfolding has_unmoved none_unmoved
 none_has_no_e8 = refl
+
+-- a diagram of one black man has a man, and none of White
+pub black_man_alone : (has_men (with_man empty a1 black_king) ≡ true) × (side_of (with_man empty a1 black_king) White ≡ 0)
+unfolding is_taken side_of some_square squares word word_of
+black_man_alone = (refl, refl)
+
+-- a white king stands there, and no black one
+pub king_of_white_stands : (stands two_kings White King ≡ true) × (stands two_kings Black King ≡ false)
+unfolding is_there some_square squares stands
+king_of_white_stands = (refl, refl)
 
 -- a king is at home on e1 and not on a1
 pub king_at_home : (is_home (Some white_king) e1 ≡ true) × (is_home (Some white_king) a1 ≡ false)

@@ -8,6 +8,7 @@ pub mod Ends
 pub mod Numbers
 pub mod Numbered
 mod Rows
+pub mod Excluded
 pub mod Naming
 pub mod Skipping
 pub mod Pieces

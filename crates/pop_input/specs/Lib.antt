@@ -1,5 +1,6 @@
 pub mod Stipulations
 pub mod Posed
+pub mod Letters
 pub mod Names
 pub mod Values
 pub mod State

@@ -7,6 +7,7 @@ use Rattle.chess_core.specs.declared.man.Colour.TheVariants.{White, Black}
 use Rattle.chess_core.specs.declared.man.Kind.{Kind}
 use Rattle.chess_core.specs.declared.man.Kind.TheVariants.{King, Queen, Rook, Bishop, Knight, Pawn, Grasshopper, Nightrider}
 use Rattle.pop_text.specs.Words.{is_short_form}
+use Rattle.pop_input.specs.Letters.{king_letter, queen_letter, rook_letter, bishop_letter, knight_letter, pawn_letter, grasshopper_letter, nightrider_letter}
 use Rattle.pop_input.specs.declared.condition.Condition.{Condition}
 use Rattle.pop_input.specs.declared.condition.Condition.TheVariants.{Circe, Madrasi}
 use Rattle.pop_input.specs.declared.names.Section.{Section}
@@ -65,7 +66,10 @@ colour_of text = if is_colour (codes "white") text then Some White else (if is_c
 unfoldable pub kind_of : ℕ → Option Kind
 kind_of letter =
     let small = to_ascii_lowercase letter in
-    if small == 107 then Some King else (if small == 113 then Some Queen else (if small == 114 then Some Rook else (if small == 98 then Some Bishop else (if small == 115 then Some Knight else (if small == 112 then Some Pawn else (if small == 103 then Some Grasshopper else (if small == 110 then Some Nightrider else None)))))))
+    if small == king_letter then Some King else (if small == queen_letter then Some Queen
+    else (if small == rook_letter then Some Rook else (if small == bishop_letter then Some Bishop
+    else (if small == knight_letter then Some Knight else (if small == pawn_letter then Some Pawn
+    else (if small == grasshopper_letter then Some Grasshopper else (if small == nightrider_letter then Some Nightrider else None)))))))
 
 -- whether a command closes a block
 abbrev pub closes : Option Command → Bool

@@ -3,6 +3,7 @@ use Rattle.std.specs.Prelude.{ℕ, ◌+◌, ◌-◌, ◌*◌, ◌==◌, ◌&&◌
 use Rattle.std.specs.Char.{to_ascii_lowercase}
 use Rattle.std.specs.List.{list_all}
 use Rattle.chess_core.specs.Squares.{square_at}
+use Rattle.pop_input.specs.Letters.{digit_0, digit_5, digit_9, help_letter, letter_a, mate_sign, point, selfmate_letter, stalemate_sign}
 use Rattle.pop_input.specs.Stipulations.{may_have}
 use Rattle.pop_input.specs.declared.stipulation.Form.{Form}
 use Rattle.pop_input.specs.declared.stipulation.Form.TheVariants.{Direct, SelfMate, Help, HelpHalf}
@@ -10,9 +11,9 @@ use Rattle.pop_input.specs.declared.stipulation.Goal.{Goal}
 use Rattle.pop_input.specs.declared.stipulation.Goal.TheVariants.{Mate, Stalemate}
 use Rattle.pop_input.specs.declared.stipulation.Stipulation.{Stipulation}
 
--- the square that a letter, in capitals or not, and a digit name
+-- the square that a letter, in capitals or not, and a digit name: the first file is that of `a`
 abbrev pub square_by : ℕ → ℕ → Option ℕ
-square_by letter digit = square_at (to_ascii_lowercase letter - 96) (digit - 48)
+square_by letter digit = square_at (to_ascii_lowercase letter - (letter_a - 1)) (digit - digit_0)
 
 -- a square before others, where it is one
 abbrev pub before_squares : Option ℕ → Option (List ℕ) → Option (List ℕ)
@@ -40,11 +41,11 @@ only None = None
 
 -- a digit in ASCII
 abbrev pub is_digit : ℕ → Bool
-is_digit b = nat_le 48 b && nat_le b 57
+is_digit b = nat_le digit_0 b && nat_le b digit_9
 
 -- the number that digits write
 abbrev pub value_of : List ℕ → ℕ
-value_of text = fold (λ value digit. 10 * value + (digit - 48)) 0 text
+value_of text = fold (λ value digit. 10 * value + (digit - digit_0)) 0 text
 
 -- the most solutions that can be asked for (own)
 abbrev pub most_solutions : ℕ
@@ -56,15 +57,15 @@ limit_of text = if list_all is_digit text && (nat_le 1 (value_of text) && nat_le
 
 -- the goal that a sign names: `#` or `=`
 abbrev pub goal_of : ℕ → Option Goal
-goal_of sign = if sign == 35 then Some Mate else (if sign == 61 then Some Stalemate else None)
+goal_of sign = if sign == mate_sign then Some Mate else (if sign == stalemate_sign then Some Stalemate else None)
 
 -- the number that one digit writes, or two of which the first isn't 0
 abbrev pub one_digit : ℕ → Option ℕ
-one_digit a = if is_digit a then Some (a - 48) else None
+one_digit a = if is_digit a then Some (a - digit_0) else None
 
 -- the number that two digits write, of which the first isn't 0
 abbrev pub two_digits : ℕ → ℕ → Option ℕ
-two_digits a b = if (is_digit a && not (a == 48)) && is_digit b then Some (10 * (a - 48) + (b - 48)) else None
+two_digits a b = if (is_digit a && not (a == digit_0)) && is_digit b then Some (10 * (a - digit_0) + (b - digit_0)) else None
 
 -- a form with its goal and its number of moves, if it has both and may have the number
 abbrev pub stated : Form → Option Goal → Option ℕ → Option Stipulation
@@ -78,15 +79,15 @@ stipulation_in_small_letters [] = None
 stipulation_in_small_letters (a ∷ []) = None
 stipulation_in_small_letters (a ∷ n ∷ []) = stated Direct (goal_of a) (one_digit n)
 stipulation_in_small_letters (a ∷ b ∷ n ∷ []) =
-    if a == 115 then stated SelfMate (goal_of b) (one_digit n)
-    else (if a == 104 then stated Help (goal_of b) (one_digit n) else stated Direct (goal_of a) (two_digits b n))
+    if a == selfmate_letter then stated SelfMate (goal_of b) (one_digit n)
+    else (if a == help_letter then stated Help (goal_of b) (one_digit n) else stated Direct (goal_of a) (two_digits b n))
 stipulation_in_small_letters (a ∷ b ∷ m ∷ n ∷ []) =
-    if a == 115 then stated SelfMate (goal_of b) (two_digits m n)
-    else (if a == 104 then stated Help (goal_of b) (two_digits m n) else None)
+    if a == selfmate_letter then stated SelfMate (goal_of b) (two_digits m n)
+    else (if a == help_letter then stated Help (goal_of b) (two_digits m n) else None)
 stipulation_in_small_letters (a ∷ b ∷ n ∷ c ∷ d ∷ []) =
-    if (a == 104) && ((c == 46) && (d == 53)) then stated HelpHalf (goal_of b) (one_digit n) else None
+    if (a == help_letter) && ((c == point) && (d == digit_5)) then stated HelpHalf (goal_of b) (one_digit n) else None
 stipulation_in_small_letters (a ∷ b ∷ m ∷ n ∷ c ∷ d ∷ []) =
-    if (a == 104) && ((c == 46) && (d == 53)) then stated HelpHalf (goal_of b) (two_digits m n) else None
+    if (a == help_letter) && ((c == point) && (d == digit_5)) then stated HelpHalf (goal_of b) (two_digits m n) else None
 stipulation_in_small_letters (a ∷ b ∷ m ∷ n ∷ c ∷ d ∷ e ∷ text) = None
 
 -- the stipulation that a word states

@@ -12,6 +12,7 @@ use Rattle.chess_core.specs.declared.man.Colour.{Colour}
 use Rattle.chess_core.specs.declared.man.Kind.{Kind}
 use Rattle.chess_core.specs.declared.man.Kind.TheVariants.{King}
 use Rattle.chess_core.specs.declared.man.Man.{Man}
+use Rattle.pop_input.specs.Letters.{mate_sign, stalemate_sign}
 use Rattle.pop_input.specs.Names.{command_of, colour_of, kind_of, condition_of, option_of, or_else}
 use Rattle.pop_input.specs.Values.{squares_of, only, is_digit, limit_of, stipulation_of}
 use Rattle.pop_input.specs.State.{State, role_of}
@@ -73,10 +74,11 @@ abbrev pub pieces_fault : State → List ℕ → Option FaultKind
 pieces_fault state [] = None
 pieces_fault state (letter ∷ text) = if is_some (colour_of (letter ∷ text)) then None else letter_fault state (kind_of letter) text
 
--- where one was given: a second one holds the sign #
+-- where one was given: a second one holds a goal's sign
 abbrev pub stipulation_fault : Option Stipulation → List ℕ → Option FaultKind
 stipulation_fault None text = fault_if (not (is_some (stipulation_of text))) BadStipulation
-stipulation_fault (Some given) text = if list_any (λ b. b == 35) text || list_any (λ b. b == 61) text then Some SecondStipulation else Some WordMisplaced
+stipulation_fault (Some given) text =
+    if list_any (λ b. b == mate_sign) text || list_any (λ b. b == stalemate_sign) text then Some SecondStipulation else Some WordMisplaced
 
 -- of a word in Condition: no condition, or a second one
 abbrev pub condition_fault : Option Condition → List ℕ → Option FaultKind

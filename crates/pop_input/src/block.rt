@@ -1,6 +1,6 @@
 //! A block as far as it is read: the words up to NextProblem or EndProblem.
-ghost use Rattle.std.specs.Prelude.{◌≡◌, ◌≤◌, ℕ, List, [], length, None, Some, not, true};
-ghost use Rattle.pop_input.specs.Names.{command_of, or_else};
+ghost use Rattle.std.specs.Prelude.{◌≡◌, ℕ, List, [], None, Some, not, true};
+ghost use Rattle.pop_input.specs.Names.{or_else};
 ghost use Rattle.pop_input.specs.FaultKinds.{at_line, fault_at};
 ghost use Rattle.pop_input.specs.ties.Closings.{Closes, ended_item, noted, said_after};
 ghost use Rattle.pop_input.specs.State.{state_of};
@@ -12,16 +12,21 @@ use crate::draft::Draft;
 use crate::fault_kind::FaultKind;
 use crate::item::{Fault, Item, Last};
 use crate::names::{Command, TextWord};
+use crate::short_word::ShortWord;
 use pop_text::text::Text;
-use pop_text::word::Word;
 
 /// What is known of a block: its first fault, whether its problem has begun, what its words say, and its texts.
 #[derive(Drop)]
 pub struct Block {
+    /// Its first fault so far.
     pub fault: Option<Fault>,
+    /// Whether the problem has begun.
     pub begun: bool,
+    /// What its words say.
     pub draft: Draft,
+    /// The last title, empty where there is none.
     pub title: Text,
+    /// The last author, empty where there is none.
     pub author: Text,
 }
 
@@ -43,27 +48,23 @@ impl Block {
         }
     }
 
-    /// Reads a word, which names this command or none, unless a fault has been met.
-    pub(crate) fn read(&mut self, word: &Word, command: Option<Command>)
-        requires short { length word.now.bytes.items ≤ 160 }
-        requires command { command ≡ command_of word.now.bytes.items }
-        ensures fault { self.new.fault ≡ or_else self.old.fault (at_line word.now.line (fault_of self.old.begun self.old.draft word.now.bytes.items)) }
+    /// Reads a word that stands in this line, unless a fault has been met.
+    pub(crate) fn read(&mut self, word: &ShortWord<'_>, line: u64)
+        ensures fault { self.new.fault ≡ or_else self.old.fault (at_line line (fault_of self.old.begun self.old.draft word.now)) }
         ensures begun { self.new.fault ≡ None → self.new.begun ≡ true }
-        ensures draft { self.new.fault ≡ None → self.new.draft ≡ said_after self.old.begun self.old.draft word.now.bytes.items }
+        ensures draft { self.new.fault ≡ None → self.new.draft ≡ said_after self.old.begun self.old.draft word.now }
         ensures title { self.new.title ≡ self.old.title }
         ensures author { self.new.author ≡ self.old.author }
     {
         if self.fault.is_none() {
-            if let Some(kind) = self.take(word.bytes.as_slice(), command) {
-                self.fault = Some(Fault::at(kind, word.line));
+            if let Some(kind) = self.take(word) {
+                self.fault = Some(Fault::at(kind, line));
             }
         }
     }
 
     // Takes a word, or answers its fault.
-    fn take(&mut self, word: &[u8], command: Option<Command>) -> Option<FaultKind>
-        requires short { length word.now ≤ 160 }
-        requires command { command ≡ command_of word.now }
+    fn take(&mut self, word: &ShortWord<'_>) -> Option<FaultKind>
         ensures kind { result ≡ fault_of self.old.begun self.old.draft word.now }
         ensures begun { result ≡ None → self.new.begun ≡ true }
         ensures draft { result ≡ None → self.new.draft ≡ said_after self.old.begun self.old.draft word.now }
@@ -71,8 +72,9 @@ impl Block {
         ensures title { self.new.title ≡ self.old.title }
         ensures author { self.new.author ≡ self.old.author }
     {
+        let command = word.command();
         if self.begun {
-            return self.draft.take(word, command);
+            return self.draft.take(word);
         }
         match command {
             Some(Command::Begin) => {

@@ -1,6 +1,5 @@
 //! A problem as far as its words are read. Its modules say what words of each section do, and what its end tests.
-ghost use Rattle.std.specs.Prelude.{◌≡◌, ◌≤◌, ◌<◌, [], length, None, Some};
-ghost use Rattle.pop_input.specs.Names.{command_of};
+ghost use Rattle.std.specs.Prelude.{◌≡◌, [], None, Some};
 ghost use Rattle.pop_input.specs.State.{state_after, state_by, state_of};
 ghost use Rattle.pop_input.specs.WordFaults.{control_fault, fault_in, role_fault};
 ghost use Rattle.pop_input.specs.declared.place.Role.TheVariants.{Control, Within};
@@ -16,6 +15,7 @@ use crate::condition::Condition;
 use crate::fault_kind::FaultKind;
 use crate::names::{Awaited, Command, Section};
 use crate::place::{Place, Role};
+use crate::short_word::ShortWord;
 use crate::stipulation::Stipulation;
 use crate::switches::Switches;
 use crate::values::MOST_SOLUTIONS;
@@ -76,14 +76,12 @@ impl Draft {
         }
     }
 
-    /// Takes a word, which names this command or none, or answers its fault.
-    pub(crate) fn take(&mut self, word: &[u8], command: Option<Command>) -> Option<FaultKind>
-        requires short { length word.now ≤ 160 }
-        requires command { command ≡ command_of word.now }
+    /// Takes a word, or answers its fault.
+    pub(crate) fn take(&mut self, word: &ShortWord<'_>) -> Option<FaultKind>
         ensures fault { result ≡ fault_in self.old word.now }
         ensures state { result ≡ None → self.new ≡ state_after self.old word.now }
     {
-        match self.place.role_of(word, command) {
+        match self.place.role_of(word) {
             Role::Limit => self.take_limit(word),
             Role::CrossedSquare => self.take_crossed(word),
             Role::BarredSquares => self.take_barred(word),
@@ -110,8 +108,7 @@ impl Draft {
     }
 
     // A word that is no command and no awaited value.
-    fn take_in(&mut self, section: Option<Section>, word: &[u8]) -> Option<FaultKind>
-        requires { length word.now ≤ 160 }
+    fn take_in(&mut self, section: Option<Section>, word: &ShortWord<'_>) -> Option<FaultKind>
         ensures fault { result ≡ role_fault self.old (Within section) word.now }
         ensures state { result ≡ None → self.new ≡ state_by (Within section) self.old word.now }
     {

@@ -36,14 +36,19 @@ impl Fault {
 /// Whether an item is the last of its input.
 #[derive(Clone, Copy, Debug, PartialEq, Eq)]
 pub enum Last {
+    /// EndProblem closes it, or the input ends in it.
     Yes,
+    /// NextProblem closes it, or the input is cut behind its fault.
     No,
 }
 
 /// The next item of an input: a problem, or the fault in place of one, or nothing behind the last.
 #[derive(Clone, Copy)]
 pub enum Item {
+    /// A problem without a fault.
     Sound(Problem, Last),
+    /// The first fault of a problem, or of an input that is cut behind one.
     Faulty(Fault, Last),
+    /// Behind the last item.
     End,
 }

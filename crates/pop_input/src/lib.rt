@@ -13,6 +13,7 @@ mod names;
 mod place;
 pub mod problem;
 pub mod reader;
+mod short_word;
 pub mod stipulation;
 mod switches;
 mod token;

@@ -11,46 +11,65 @@ use chess_core::man::{Colour, Kind};
 /// A part of a problem, which a command opens.
 #[derive(Clone, Copy, Debug, PartialEq, Eq)]
 pub enum Section {
+    /// Colours, and men on squares.
     Pieces,
+    /// One stipulation.
     Stipulation,
+    /// One condition.
     Condition,
+    /// Options, and the values that they await.
     Options,
 }
 
 /// A word that stands between sections.
 #[derive(Clone, Copy, Debug, PartialEq, Eq)]
 pub enum Command {
+    /// BeginProblem, the first word of an input.
     Begin,
+    /// Pieces, Stipulation, Condition or Option.
     Enter(Section),
+    /// NextProblem: the problem ends, and another one begins.
     Next,
+    /// EndProblem: the problem and the input end.
     Last,
 }
 
-/// What an option awaits: the limit of MaxSolutions, the square of EnPassant, the squares of NoCastling,
-/// and behind one word of those further ones or something else.
+/// What an option awaits.
 #[derive(Clone, Copy, Debug, PartialEq, Eq)]
 pub enum Awaited {
+    /// The limit of MaxSolutions.
     Number,
+    /// The square of EnPassant.
     OneSquare,
+    /// The squares of NoCastling.
     Squares,
+    /// Behind a word of such squares: further ones, or another word.
     MoreSquares,
 }
 
 /// A word of the section of options.
 #[derive(Clone, Copy, Debug, PartialEq, Eq)]
 pub enum OptionWord {
+    /// Set play comes before the play.
     SetPlay,
+    /// Defences are shown, and what follows on them.
     Variation,
+    /// The board is left out.
     NoBoard,
+    /// MaxSolutions, EnPassant or NoCastling: a value comes behind it.
     Awaits(Awaited),
 }
 
 /// The words that take the rest of their line.
 #[derive(Clone, Copy, Debug, PartialEq, Eq)]
 pub enum TextWord {
+    /// The title: the last one stands in the head.
     Title,
+    /// The author: the last one stands in the head.
     Author,
+    /// The source, which is passed over.
     Origin,
+    /// A remark, which is passed over.
     Remark,
 }
 

@@ -1,33 +1,38 @@
 //! What a word at a place is.
-ghost use Rattle.std.specs.Prelude.{◌≡◌, ◌≤◌, length};
-ghost use Rattle.pop_input.specs.Names.{command_of};
+ghost use Rattle.std.specs.Prelude.{◌≡◌};
 ghost use Rattle.pop_input.specs.State.{role_of, plain_role};
 
 use crate::names::{Awaited, Command, Section};
+use crate::short_word::ShortWord;
 use crate::values::squares_of;
 
 /// The section, and what an option awaits.
 #[derive(Clone, Copy, Debug, PartialEq, Eq)]
 pub struct Place {
+    /// The section that is open, none before the first.
     pub section: Option<Section>,
+    /// What the last option awaits, if it awaits something still.
     pub awaited: Option<Awaited>,
 }
 
 /// A value that an option awaits, a command, or another word in its section.
 #[derive(Clone, Copy, Debug, PartialEq, Eq)]
 pub enum Role {
+    /// The number of MaxSolutions.
     Limit,
+    /// The square of EnPassant.
     CrossedSquare,
+    /// Squares of NoCastling.
     BarredSquares,
+    /// A command.
     Control(Command),
+    /// Another word in this section, or before the first one.
     Within(Option<Section>),
 }
 
 impl Place {
-    /// What the word, which names this command or none, is at this place.
-    pub(crate) fn role_of(&self, word: &[u8], command: Option<Command>) -> Role
-        requires short { length word.now ≤ 160 }
-        requires command { command ≡ command_of word.now }
+    /// What the word is at this place.
+    pub(crate) fn role_of(&self, word: &ShortWord<'_>) -> Role
         ensures { result ≡ role_of self.now word.now }
     {
         match self.awaited {
@@ -35,13 +40,13 @@ impl Place {
             Some(Awaited::OneSquare) => Role::CrossedSquare,
             Some(Awaited::Squares) => Role::BarredSquares,
             Some(Awaited::MoreSquares) => {
-                if squares_of(word).is_some() {
+                if squares_of(word.bytes()).is_some() {
                     Role::BarredSquares
                 } else {
-                    self.plain_role_of(command)
+                    self.plain_role_of(word.command())
                 }
             }
-            None => self.plain_role_of(command),
+            None => self.plain_role_of(word.command()),
         }
     }
 

@@ -8,12 +8,12 @@ ghost use Rattle.pop_text.specs.declared.scanner.End.{End};
 ghost use Rattle.pop_input.specs.declared.reader.Next.{Next};
 ghost use Rattle.pop_input.specs.ties.Standing.{IsNumbered, NextItem, is_item, next_behind as behind, start, work_left};
 ghost use Rattle.pop_input.specs.ties.Closings.{cut_fault, last_of};
-ghost use Rattle.pop_input.specs.Names.{command_of};
 
 use crate::block::Block;
 use crate::fault_kind::FaultKind;
 use crate::item::{Fault, Item, Last};
-use crate::names::{Command, command_of};
+use crate::names::Command;
+use crate::short_word::ShortWord;
 use crate::token::{Token, next_token};
 use pop_text::read_fault::ReadFault;
 use pop_text::scanner::Scanner;
@@ -25,8 +25,11 @@ use std::marker::Model;
 /// Which block of the input is next: a block ends with NextProblem or EndProblem.
 #[derive(Clone, Copy, Debug, PartialEq, Eq)]
 pub enum Next {
+    /// The first, which has to begin with BeginProblem.
     First,
+    /// A later one.
     Later,
+    /// None: the last item was read.
     Nothing,
 }
 
@@ -64,13 +67,9 @@ impl Reader {
 
     /// The next item: a problem that can be set up and solved, the first fault in place of one, or `End` behind the last item.
     ///
-    /// Fault 1: another word, or the end of the input, where the first BeginProblem is awaited. 2: a word that is unknown
-    /// or misplaced. 3: a word of more than 160 bytes. 4: men before a colour. 5: a square given twice. 6: a pawn on rank 1
-    /// or 8. 7: a second king of a colour. 8: no stipulation. 9: a second stipulation. 12: a second condition. 13: no limit
-    /// from 1 to 4,000,000,000. 14: no square, or squares, where they are awaited. 16: a square of NoCastling from which
-    /// none castles. At the word that ends the problem: 10 no stipulation, 11 no men, 15 en passant not possible, 17 no king
-    /// of the side to be mated, 18 check to the side that isn't to move. 19: the input ends in a problem. 20: a byte behind
-    /// the first 2^30 is needed. 21: the source has failed.
+    /// `FaultKind` says when each fault comes. Of a problem's words the first fault is told, in the line of its word; where
+    /// none has one, that of its end, in the line of the word that closes it; where the input ends or is cut in a problem
+    /// without a fault, that, in the line where it does. Lines are counted from 1.
     ///
     /// Behind faults 1 to 18 words are skipped up to the end of the problem; 20 and 21 come there as items of their own.
     /// Behind the last item the source isn't asked, and its count of failures may be any.
@@ -98,9 +97,9 @@ impl Reader {
                 Token::Line(keyword) => block.note(keyword, &text),
                 Token::TooLong(line) => block.read_long(line),
                 Token::Word => {
-                    let command = command_of(word.bytes.as_slice());
-                    block.read(&word, command);
-                    match closing_of(command) {
+                    let said = ShortWord::of(&word);
+                    block.read(&said, word.line);
+                    match closing_of(said.command()) {
                         Some(last) => {
                             self.next_block = next_behind(last);
                             return block.closed(word.line, last);

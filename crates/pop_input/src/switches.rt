@@ -3,7 +3,10 @@
 /// The options without a value (Popeye manual).
 #[derive(Clone, Copy, Debug, PartialEq, Eq)]
 pub struct Switches {
+    /// Set play comes before the play.
     pub set_play: bool,
+    /// Defences are shown, and what follows on them.
     pub variation: bool,
+    /// The board is left out.
     pub no_board: bool,
 }

@@ -8,7 +8,7 @@ use crate::stipulation::{Form, Goal, MOST_MOVES, Stipulation};
 use arrayvec::ArrayVec;
 use chess_core::square::Square;
 
-/// The most solutions that can be asked for.
+/// The most solutions that can be asked for (own).
 pub const MOST_SOLUTIONS: u32 = 4_000_000_000;
 
 // The square that a letter and a digit name.
@@ -16,8 +16,8 @@ fn square_by(letter: u8, digit: u8) -> Option<Square>
     ensures { result ≡ square_by letter digit }
 {
     Square::new(
-        letter.to_ascii_lowercase().saturating_sub(96),
-        digit.saturating_sub(48),
+        letter.to_ascii_lowercase().saturating_sub(b'a' - 1),
+        digit.saturating_sub(b'0'),
     )
 }
 

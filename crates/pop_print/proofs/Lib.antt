@@ -1,2 +1,3 @@
 pub mod Blanks
 pub mod theorems
+pub mod Excluded

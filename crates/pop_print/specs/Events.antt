@@ -6,6 +6,7 @@ use Rattle.pop_solve.specs.declared.event.Phase.TheVariants.{Set, Play}
 use Rattle.pop_solve.specs.declared.event.Event.{Event}
 use Rattle.pop_solve.specs.declared.event.Event.TheVariants.{Phase, Line, Node, Impossible, Total}
 use Rattle.pop_print.specs.Moves.{move_text}
+use Rattle.pop_print.specs.Notation.{blank}
 
 -- the number of a half-move: one point at White's, which are odd, and three at Black's
 abbrev pub prefix_text : ℕ → List ℕ
@@ -27,7 +28,7 @@ line_text half moves = moves_text true half moves ++ codes "\n"
 
 -- a node of battle play: two blanks for each node above it
 abbrev pub node_text : ℕ → ℕ → Shown → List ℕ
-node_text depth half shown = replicate (2 * depth) 32 ++ prefix_text half ++ move_text shown ++ codes "\n"
+node_text depth half shown = replicate (2 * depth) blank ++ prefix_text half ++ move_text shown ++ codes "\n"
 
 -- the line that opens a phase
 abbrev pub phase_text : PhaseOf → List ℕ

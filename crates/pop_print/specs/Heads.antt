@@ -13,21 +13,23 @@ use Rattle.pop_input.specs.declared.stipulation.Goal.TheVariants.{Mate, Stalemat
 use Rattle.pop_input.specs.declared.stipulation.Stipulation.{Stipulation}
 use Rattle.pop_input.specs.declared.condition.Condition.{Condition}
 use Rattle.pop_input.specs.declared.condition.Condition.TheVariants.{Circe, Madrasi}
-use Rattle.pop_print.specs.Notation.{letter_of}
+use Rattle.pop_input.specs.Letters.{digit_0, point}
+use Rattle.pop_print.specs.Notation.{blank, letter_of, small}
 
 -- a man's letter on the board: a capital one for White, the small one for Black
 abbrev pub cell_by : Colour → ℕ → ℕ
 cell_by White letter = letter
-cell_by Black letter = letter + 32
+cell_by Black letter = small letter
 
 -- a square of the board: its man, or a point where it is empty
 abbrev pub cell_of : Option Man → ℕ
-cell_of None = 46
+cell_of None = point
 cell_of (Some man) = cell_by man.colour (letter_of man.kind)
 
 -- a rank, counted from 0: its digit, a blank, its eight squares
 unfoldable pub rank_text : List (Option Man) → ℕ → List ℕ
-rank_text men rank = (49 + rank) ∷ 32 ∷ map (λ file. cell_of (man_on men (8 * rank + file))) (0 ∷ 1 ∷ 2 ∷ 3 ∷ 4 ∷ 5 ∷ 6 ∷ 7 ∷ []) ++ 10 ∷ []
+rank_text men rank =
+    (digit_0 + 1 + rank) ∷ blank ∷ map (λ file. cell_of (man_on men (8 * rank + file))) (0 ∷ 1 ∷ 2 ∷ 3 ∷ 4 ∷ 5 ∷ 6 ∷ 7 ∷ []) ++ codes "\n"
 
 -- the board: rank 8 first, and the line of the files
 abbrev pub board_text : List (Option Man) → List ℕ

@@ -27,7 +27,7 @@ en_passant_text false = []
 -- the man that a pawn becomes
 abbrev pub promotion_text : Option Kind → List ℕ
 promotion_text None = []
-promotion_text (Some kind) = 61 ∷ letter_of kind ∷ []
+promotion_text (Some kind) = codes "=" ++ letter_of kind ∷ []
 
 -- the reborn man and its square
 abbrev pub rebirth_text : Option (Man × ℕ) → List ℕ

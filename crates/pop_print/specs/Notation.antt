@@ -1,25 +1,38 @@
 -- How squares and men are written (Popeye manual: English letters; S is the knight).
-use Rattle.std.specs.Prelude.{ℕ, ◌+◌, List, [], ◌∷◌}
+use Rattle.std.specs.Prelude.{ℕ, ◌+◌, ◌-◌, List, [], ◌∷◌}
 use Rattle.chess_core.specs.Squares.{file_of, rank_of}
+use Rattle.pop_input.specs.Letters.{letter_a, letter_b, letter_w, digit_0, king_letter, queen_letter, rook_letter, bishop_letter, knight_letter, pawn_letter, grasshopper_letter, nightrider_letter}
 use Rattle.chess_core.specs.declared.man.Colour.{Colour}
 use Rattle.chess_core.specs.declared.man.Colour.TheVariants.{White, Black}
 use Rattle.chess_core.specs.declared.man.Kind.{Kind}
 use Rattle.chess_core.specs.declared.man.Kind.TheVariants.{King, Queen, Rook, Bishop, Knight, Pawn, Grasshopper, Nightrider}
 
+-- a blank
+abbrev pub blank : ℕ
+blank = 32
+
 -- a square: the letter of its file, the digit of its rank
 abbrev pub square_text : ℕ → List ℕ
-square_text s = (96 + file_of s) ∷ (48 + rank_of s) ∷ []
+square_text s = (letter_a - 1 + file_of s) ∷ (digit_0 + rank_of s) ∷ []
+
+-- the capital letter of a small one
+abbrev pub capital : ℕ → ℕ
+capital letter = letter - 32
+
+-- the small letter of a capital one
+abbrev pub small : ℕ → ℕ
+small letter = letter + 32
 
 -- the capital letter of a kind of man
 abbrev pub letter_of : Kind → ℕ
-letter_of King = 75
-letter_of Queen = 81
-letter_of Rook = 82
-letter_of Bishop = 66
-letter_of Knight = 83
-letter_of Pawn = 80
-letter_of Grasshopper = 71
-letter_of Nightrider = 78
+letter_of King = capital king_letter
+letter_of Queen = capital queen_letter
+letter_of Rook = capital rook_letter
+letter_of Bishop = capital bishop_letter
+letter_of Knight = capital knight_letter
+letter_of Pawn = capital pawn_letter
+letter_of Grasshopper = capital grasshopper_letter
+letter_of Nightrider = capital nightrider_letter
 
 -- a man's letter before its origin: none for a pawn
 abbrev pub man_text : Kind → List ℕ
@@ -28,5 +41,5 @@ man_text kind = letter_of kind ∷ []
 
 -- the letter of a colour
 abbrev pub colour_letter : Colour → ℕ
-colour_letter White = 119
-colour_letter Black = 98
+colour_letter White = letter_w
+colour_letter Black = letter_b

@@ -3,6 +3,7 @@ ghost use Rattle.std.specs.Prelude.{◌≡◌, ◌<◌, ◌≤◌, ◌+◌, ◌+
 ghost use Rattle.pop_text.specs.Bytes.{Writes, count_after, greatest};
 ghost use Rattle.pop_print.specs.ties.Room.{room};
 ghost use Rattle.pop_print.specs.Moves.{move_text};
+ghost use Rattle.pop_print.specs.Notation.{blank};
 ghost use Rattle.pop_print.specs.Events.{event_text, lead_text, line_text, moves_text, node_text, prefix_text, stopped_text as text_of_stopped, total_text};
 
 use crate::line::LineBuffer;
@@ -55,7 +56,7 @@ fn print_node<W: Sink>(sink: &mut W, depth: u32, half: u32, shown: &Shown) -> Re
 
 fn put_blanks<W: Sink>(sink: &mut W, count: u64) -> Result<(), SinkFault>
     requires { W.failures sink.old < greatest }
-    ensures bytes { Writes (W.taken sink.old) (W.taken sink.new) (replicate count 32) result }
+    ensures bytes { Writes (W.taken sink.old) (W.taken sink.new) (replicate count blank) result }
     ensures counted { W.failures sink.new ≡ count_after result (W.failures sink.old) }
 {
     for _blank in 0..count {
@@ -146,7 +147,7 @@ impl LineBuffer {
     // Adds a node of battle play behind so many blanks.
     fn add_node(&mut self, blanks: u64, half: u32, shown: &Shown)
         requires { length self.old + blanks + 44 ≤ room }
-        ensures { self.new ≡ self.old ++ (replicate blanks 32 ++ prefix_text half ++ move_text shown.now ++ codes "\n") }
+        ensures { self.new ≡ self.old ++ (replicate blanks blank ++ prefix_text half ++ move_text shown.now ++ codes "\n") }
     {
         self.add_blanks(blanks);
         self.add_prefix(u64::from(half));
@@ -165,7 +166,7 @@ impl LineBuffer {
 
     fn add_blanks(&mut self, count: u64)
         requires { length self.old + count ≤ room }
-        ensures { self.new ≡ self.old ++ replicate count 32 }
+        ensures { self.new ≡ self.old ++ replicate count blank }
     {
         'blanks: for _blank in 0..count {
             self.add_byte(b' ');

@@ -10,17 +10,18 @@ ghost use Rattle.pop_input.specs.declared.place.Role.TheVariants.{BarredSquares,
 use crate::draft::Draft;
 use crate::fault_kind::FaultKind;
 use crate::names::Awaited;
+use crate::short_word::ShortWord;
 use crate::values::{limit_of, square_of, squares_of};
 use chess_core::man::Unmoved;
 use chess_core::square::Square;
 
 impl Draft {
     /// The number of MaxSolutions.
-    pub(crate) fn take_limit(&mut self, word: &[u8]) -> Option<FaultKind>
+    pub(crate) fn take_limit(&mut self, word: &ShortWord<'_>) -> Option<FaultKind>
         ensures fault { result ≡ role_fault self.old Limit word.now }
         ensures state { result ≡ None → self.new ≡ state_by Limit self.old word.now }
     {
-        match limit_of(word) {
+        match limit_of(word.bytes()) {
             Some(limit) => {
                 self.limit = limit;
                 self.place.awaited = None;
@@ -31,12 +32,11 @@ impl Draft {
     }
 
     /// The square of EnPassant.
-    pub(crate) fn take_crossed(&mut self, word: &[u8]) -> Option<FaultKind>
-        requires { length word.now ≤ 160 }
+    pub(crate) fn take_crossed(&mut self, word: &ShortWord<'_>) -> Option<FaultKind>
         ensures fault { result ≡ role_fault self.old CrossedSquare word.now }
         ensures state { result ≡ None → self.new ≡ state_by CrossedSquare self.old word.now }
     {
-        match square_of(word) {
+        match square_of(word.bytes()) {
             Some(square) => {
                 self.crossed = Some(square);
                 self.place.awaited = None;
@@ -47,12 +47,11 @@ impl Draft {
     }
 
     /// Squares of NoCastling.
-    pub(crate) fn take_barred(&mut self, word: &[u8]) -> Option<FaultKind>
-        requires { length word.now ≤ 160 }
+    pub(crate) fn take_barred(&mut self, word: &ShortWord<'_>) -> Option<FaultKind>
         ensures fault { result ≡ role_fault self.old BarredSquares word.now }
         ensures state { result ≡ None → self.new ≡ state_by BarredSquares self.old word.now }
     {
-        match squares_of(word) {
+        match squares_of(word.bytes()) {
             Some(squares) => match barred_with(self.barred, squares.as_slice()) {
                 Some(barred) => {
                     self.barred = barred;

@@ -8,14 +8,15 @@ ghost use Rattle.pop_input.specs.declared.names.Section.TheVariants.{Condition a
 use crate::draft::Draft;
 use crate::fault_kind::FaultKind;
 use crate::names::condition_of;
+use crate::short_word::ShortWord;
 
 impl Draft {
-    pub(crate) fn take_condition(&mut self, word: &[u8]) -> Option<FaultKind>
-        requires { length word.now ≤ 160 }
+    /// A word of the section of the condition.
+    pub(crate) fn take_condition(&mut self, word: &ShortWord<'_>) -> Option<FaultKind>
         ensures fault { result ≡ role_fault self.old (Within (Some Conditions)) word.now }
         ensures state { result ≡ None → self.new ≡ state_by (Within (Some Conditions)) self.old word.now }
     {
-        match condition_of(word) {
+        match condition_of(word.bytes()) {
             Some(condition) => {
                 if self.condition.is_some() {
                     return Some(FaultKind::SecondCondition);

@@ -12,18 +12,19 @@ ghost use Rattle.pop_input.specs.declared.names.Section.TheVariants.{Pieces};
 use crate::draft::Draft;
 use crate::fault_kind::FaultKind;
 use crate::names::{colour_of, kind_of};
+use crate::short_word::ShortWord;
 use crate::values::{is_digit, squares_of};
 use chess_core::man::{Kind, Man};
 use chess_core::square::Square;
 
 impl Draft {
     /// A colour, or men on squares.
-    pub(crate) fn take_pieces(&mut self, word: &[u8]) -> Option<FaultKind>
-        requires { length word.now ≤ 160 }
+    pub(crate) fn take_pieces(&mut self, word: &ShortWord<'_>) -> Option<FaultKind>
         ensures fault { result ≡ role_fault self.old (Within (Some Pieces)) word.now }
         ensures state { result ≡ None → self.new ≡ state_by (Within (Some Pieces)) self.old word.now }
     {
         self.place.awaited = None;
+        let word = word.bytes();
         match (colour_of(word), word) {
             (Some(colour), _) => {
                 self.colour = Some(colour);

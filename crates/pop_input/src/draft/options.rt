@@ -8,14 +8,15 @@ ghost use Rattle.pop_input.specs.declared.names.Section.TheVariants.{Options};
 use crate::draft::Draft;
 use crate::fault_kind::FaultKind;
 use crate::names::{OptionWord, option_of};
+use crate::short_word::ShortWord;
 
 impl Draft {
-    pub(crate) fn take_option(&mut self, word: &[u8]) -> Option<FaultKind>
-        requires { length word.now ≤ 160 }
+    /// A word of the section of options.
+    pub(crate) fn take_option(&mut self, word: &ShortWord<'_>) -> Option<FaultKind>
         ensures fault { result ≡ role_fault self.old (Within (Some Options)) word.now }
         ensures state { result ≡ None → self.new ≡ state_by (Within (Some Options)) self.old word.now }
     {
-        match option_of(word) {
+        match option_of(word.bytes()) {
             Some(option) => {
                 self.apply(option);
                 None

@@ -7,22 +7,24 @@ ghost use Rattle.pop_input.specs.declared.names.Section.TheVariants.{Stipulation
 
 use crate::draft::Draft;
 use crate::fault_kind::FaultKind;
+use crate::short_word::ShortWord;
 use crate::values::stipulation_of;
 
 impl Draft {
-    pub(crate) fn take_stipulation(&mut self, word: &[u8]) -> Option<FaultKind>
-        requires { length word.now ≤ 160 }
+    /// A word of the section of the stipulation.
+    pub(crate) fn take_stipulation(&mut self, word: &ShortWord<'_>) -> Option<FaultKind>
         ensures fault { result ≡ role_fault self.old (Within (Some Stipulations)) word.now }
         ensures state { result ≡ None → self.new ≡ state_by (Within (Some Stipulations)) self.old word.now }
     {
         if self.stipulation.is_some() {
+            let word = word.bytes();
             return if word.contains(&b'#') || word.contains(&b'=') {
                 Some(FaultKind::SecondStipulation)
             } else {
                 Some(FaultKind::WordMisplaced)
             };
         }
-        match stipulation_of(word) {
+        match stipulation_of(word.bytes()) {
             Some(stipulation) => {
                 self.stipulation = Some(stipulation);
                 self.place.awaited = None;

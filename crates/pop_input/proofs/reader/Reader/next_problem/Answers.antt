@@ -4,7 +4,7 @@ use Rattle.pop_input.specs.Names.{command_of}
 use Rattle.pop_input.specs.ties.Closings.{last_of}
 use Rattle.pop_input.specs.ties.Standing.{Standing}
 use Rattle.pop_input.specs.declared.reader.Next.TheVariants.{Later, Nothing}
-use Rattle.pop_input.proofs.Items.{block_starts, line_read, long_read, open_read, not_closing}
+use Rattle.pop_input.proofs.Items.{ReadsWord, block_starts, line_read, long_read, open_read, not_closing}
 use Rattle.pop_input.proofs.Skipping.{skip_read}
 use Rattle.pop_input.proofs.Ends.{word_closes, input_ends, cut_with_fault, cut_without_fault}
 use Rattle.pop_input.specs.declared.item.Last.TheVariants.{No}
@@ -51,14 +51,16 @@ words-preserved-in-TooLong g c =
 pub words-preserved : goal.words-preserved
 words-preserved g c =
     let i = c.words.invariant in
+    let reads : ReadsWord c.match-self.first c.args.self.now.at c.words.self-inside.scanner c.next_token.new.scanner (g.S.Source.remaining c.args.source.now) (g.S.Source.remaining c.words.source) (g.S.Source.remaining c.next_token.new.source) c.words.block c.read.new.self i.block c.next_token.new.word.line c.next_token.new.word.bytes.items
+    = rw (← c.of-said.ensures) (c.read.ensures.fault, λ none. (c.read.ensures.begun none, c.read.ensures.draft none, c.read.ensures.title, c.read.ensures.author)) in
     let t = c.next_token.ensures.token in
     let word = rw c.in-Word.is at t in
     let new = c.skip_on.new.scanner in
-    let is : last_of (command_of c.next_token.new.word.bytes.items) ≡ None = ap (λ text. last_of (command_of text)) (sym c.as_slice.ensures.value) ∙ ap last_of (sym c.command_of-command.ensures) ∙ sym c.closing_of.ensures ∙ c.in-None.is in
+    let is : last_of (command_of c.next_token.new.word.bytes.items) ≡ None = ap (λ text. last_of (command_of text)) (sym c.of-said.ensures) ∙ ap last_of (sym c.command.ensures.value) ∙ sym c.closing_of.ensures ∙ c.in-None.is in
     record {
       block = skip_read c.match-self.first c.args.self.now.at c.next_token.new.scanner new (g.S.Source.remaining c.args.source.now) (g.S.Source.remaining c.next_token.new.source) c.read.new.self
           (open_read c.match-self.first c.args.self.now.at c.words.self-inside.scanner c.next_token.new.scanner (g.S.Source.remaining c.args.source.now) (g.S.Source.remaining c.words.source) (g.S.Source.remaining c.next_token.new.source) c.words.block c.read.new.self i.block
-          c.next_token.new.word.line c.next_token.new.word.bytes.items word.0 (not_closing _ is) (c.read.ensures.fault, λ none. (c.read.ensures.begun none, c.read.ensures.draft none, c.read.ensures.title, c.read.ensures.author)))
+          c.next_token.new.word.line c.next_token.new.word.bytes.items word.0 (not_closing _ is) reads)
           c.skip_on.ensures.skips c.skip_on.ensures.sound;
       starts = i.starts;
       seen = λ s. rw c.skip_on.ensures.skips.end (c.next_token.ensures.seen (i.seen s));
@@ -69,12 +71,14 @@ words-preserved g c =
 pub returns-in-Some-clause-item : goal.returns-in-Some-clause-item
 returns-in-Some-clause-item g c =
     let i = c.words.invariant in
+    let reads : ReadsWord c.match-self.first c.args.self.now.at c.words.self-inside.scanner c.next_token.new.scanner (g.S.Source.remaining c.args.source.now) (g.S.Source.remaining c.words.source) (g.S.Source.remaining c.next_token.new.source) c.words.block c.read.new.self i.block c.next_token.new.word.line c.next_token.new.word.bytes.items
+    = rw (← c.of-said.ensures) (c.read.ensures.fault, λ none. (c.read.ensures.begun none, c.read.ensures.draft none, c.read.ensures.title, c.read.ensures.author)) in
     let t = c.in-Word.ensures.token in
-    let is : last_of (command_of c.next_token.new.word.bytes.items) ≡ Some c.in-Some.last = ap (λ text. last_of (command_of text)) (sym c.as_slice.ensures.value) ∙ ap last_of (sym c.command_of-command.ensures) ∙ sym c.closing_of.ensures ∙ c.in-Some.is in
+    let is : last_of (command_of c.next_token.new.word.bytes.items) ≡ Some c.in-Some.last = ap (λ text. last_of (command_of text)) (sym c.of-said.ensures) ∙ ap last_of (sym c.command.ensures.value) ∙ sym c.closing_of.ensures ∙ c.in-Some.is in
     let new : Standing = record { next = c.next_behind-self-inside.result; at = c.next_token.new.scanner } in
     (word_closes c.match-self.first c.args.self.now new (g.S.Source.remaining c.args.source.now) (g.S.Source.remaining c.next_token.new.source) i.starts
     c.words.self-inside.scanner (g.S.Source.remaining c.words.source) c.words.block c.read.new.self i.block c.next_token.new.word.line c.next_token.new.word.bytes.items t.0
-    (c.read.ensures.fault, λ none. (c.read.ensures.begun none, c.read.ensures.draft none, c.read.ensures.title, c.read.ensures.author)) c.closed.result c.in-Some.last (command_of c.next_token.new.word.bytes.items) c.closed.ensures refl is c.next_behind-self-inside.ensures)
+    reads c.closed.result c.in-Some.last (command_of c.next_token.new.word.bytes.items) c.closed.ensures refl is c.next_behind-self-inside.ensures)
 
 pub returns-in-Ended-clause-item : goal.returns-in-Ended-clause-item
 returns-in-Ended-clause-item g c =
@@ -100,9 +104,11 @@ returns-in-None-fault-clause-item g c =
 pub returns-in-Some-clause-numbered : goal.returns-in-Some-clause-numbered
 returns-in-Some-clause-numbered g c =
     let i = c.words.invariant in
+    let reads : ReadsWord c.match-self.first c.args.self.now.at c.words.self-inside.scanner c.next_token.new.scanner (g.S.Source.remaining c.args.source.now) (g.S.Source.remaining c.words.source) (g.S.Source.remaining c.next_token.new.source) c.words.block c.read.new.self i.block c.next_token.new.word.line c.next_token.new.word.bytes.items
+    = rw (← c.of-said.ensures) (c.read.ensures.fault, λ none. (c.read.ensures.begun none, c.read.ensures.draft none, c.read.ensures.title, c.read.ensures.author)) in
     let t = c.in-Word.ensures.token in
     word_numbered c.match-self.first c.args.self.now c.words.self-inside.scanner c.next_token.new.scanner (g.S.Source.remaining c.args.source.now) (g.S.Source.remaining c.words.source) (g.S.Source.remaining c.next_token.new.source) c.words.block c.read.new.self i.block c.next_token.new.word.line c.next_token.new.word.bytes.items t.0
-    (c.read.ensures.fault, λ none. (c.read.ensures.begun none, c.read.ensures.draft none, c.read.ensures.title, c.read.ensures.author)) c.closed.result c.in-Some.last c.closed.ensures
+    reads c.closed.result c.in-Some.last c.closed.ensures
 
 pub returns-in-Ended-clause-numbered : goal.returns-in-Ended-clause-numbered
 returns-in-Ended-clause-numbered g c =
