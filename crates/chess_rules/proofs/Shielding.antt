@@ -24,7 +24,7 @@ use Rattle.chess_rules.specs.Attacks.{attacked, check_of, in_check, paralysed, s
 use Rattle.chess_rules.specs.ties.CheckSquares.{may_check_from, may_check_from_on}
 use Rattle.chess_rules.specs.ties.Shields.{cannot_expose, has_fairy, is_behind, is_shut, is_unshielded, is_fairy, is_plain, may_expose, may_expose_on, rider_along, steps_along}
 use Rattle.chess_rules.specs.Legal.{is_promotion_right, pseudo}
-use Rattle.chess_rules.specs.Play.{after, after_by, arriving, capture_square, is_castling, man_on_at, moved_men, reborn_at, reborn_square, without_at}
+use Rattle.chess_rules.specs.Play.{after, after_by, arriving, capture_square, is_castling, moved_men, reborn_square, without_at}
 use Rattle.chess_rules.specs.ties.Lines.{is_ahead, is_on_some}
 use Rattle.chess_rules.specs.Reaches.{is_vacant, reaches, reaches_as, rides}
 use Rattle.chess_rules.specs.RuleSet.{RuleSet, is_circe, is_madrasi}
@@ -141,10 +141,6 @@ pub record IsCovered (rule : RuleSet) (men : List (Option Man)) (c : Colour) (a 
   pub safe : attacked rule men k (other c) ≡ false
   pub apart : (k == a) ≡ false
   pub open_lines : (l : RiderLines) → is_shut men (other c) (rider_along l) (steps_along l) k a ≡ false
-
-on_both : (P : RiderLines → Type 0) → P Straight → P Diagonal → (l : RiderLines) → P l
-on_both P s d Straight = s
-on_both P s d Diagonal = d
 
 covered_parts : (rule : RuleSet) (men : List (Option Man)) (c : Colour) (a k : ℕ) → may_expose_on rule men (Some k) c a ≡ false → IsCovered rule men c a k
 unfolding is_unshielded
@@ -285,16 +281,6 @@ stays_safe rule men after a b z c i g = by (king_square after c) refl where
       let at : king_square men c ≡ Some k = king_stays rule men after a b z c k i g small f.here in
       let no : may_expose_on rule men (Some k) c a ≡ false = ap (λ (o : Option ℕ). may_expose_on rule men o c a) (sym at) ∙ g.cannot_expose in
       not_attacked rule men after a b z c k i (covered_parts rule men c a k no) small (g.quiet k at)
-
--- nobody is reborn where nobody is captured, or without Circe
-none_reborn : (men : List (Option Man)) (o : Option Man) (s : ℕ) → reborn_at false men o (Some s) ≡ None
-none_reborn men None s = refl
-none_reborn men (Some y) s = refl
-
-nobody_reborn : (circe : Bool) (men before : List (Option Man)) (o : Option ℕ) → (circe ≡ true → o ≡ None) → reborn_at circe men (man_on_at before o) o ≡ None
-nobody_reborn circe men before None h = refl
-nobody_reborn false men before (Some s) h = none_reborn men (man_on before s) s
-nobody_reborn true men before (Some s) h = let bad : Some s ≡ None = h refl in cc
 
 -- a plain move captures on its arrival alone
 captures_there : (p : Position) (x : Man) (m : Move) (s : ℕ) → is_square p.crossed m.to ≡ false → capture_square p x m ≡ Some s → s ≡ m.to

@@ -1,22 +1,12 @@
-use Rattle.std.proofs.Common.{◌≡◌, ◌<◌, ◌==◌, ◌∙◌, Some, false, arith, sym}
-use Rattle.std.specs.Int.{bit_at}
-use Rattle.chess_core.specs.Position.{man_on}
+use Rattle.std.proofs.Common.{rules}
 use Rattle.chess_rules.proofs.CheckTargets.{check_targets_all, check_targets_nobody, check_targets_some}
 use Rattle.chess_rules.proofs.checks.check_targets.Goals as goal
 
 pub returns-in_default : goal.returns-in_default
-returns-in_default g c = check_targets_nobody g.R.Rules.rule c.args.board.now c.args.from 0 (sym c.man_at.ensures ∙ c.in_default.is)
+returns-in_default g c = search (rules, check_targets_nobody)
 
 pub returns-then-contains : goal.returns-then-contains
-returns-then-contains g c = check_targets_all g.R.Rules.rule c.args.board.now c.args.from
+returns-then-contains g c = search (rules, check_targets_all)
 
 pub returns : goal.returns
-returns g c =
-    let p = c.args.board.now in
-    let x = c.in-Some.man in
-    let small : c.args.from < 64 = omega (arith, c.index-small.ensures.value, c.index-small.ensures.small) in
-    let here : man_on p.men c.args.from ≡ Some x = sym c.man_at.ensures ∙ c.in-Some.is in
-    let covered : (bit_at c.args.squares.now.shield_squares c.args.from == 1) ≡ false = sym c.contains.ensures ∙ c.if-contains.false in
-    check_targets_some g.R.Rules.rule p x c.args.squares.now c.args.from c.requires.well_formed here c.requires.squares small covered _ _ _ _
-    c.check_squares_for-checked_from.ensures (rw c.crossed.ensures at c.only.ensures) c.special_targets.ensures.promotes c.special_targets.ensures.castles
-    c.rebirth_captures.ensures
+returns g c = search (rules, check_targets_some)

@@ -1,9 +1,9 @@
-use Rattle.std.proofs.Common.{sym, ◌∙◌}
+use Rattle.std.proofs.Common.{sym, ◌∙◌, rules}
 use Rattle.chess_rules.proofs.CheckTargets.{check_targets_nobody, check_targets_there}
 use Rattle.chess_rules.proofs.checks.near_check_targets.Goals as goal
 
 pub returns-in_default : goal.returns-in_default
-returns-in_default g c = check_targets_nobody g.R.Rules.rule c.args.board.now c.args.from 0 (sym c.man_at.ensures ∙ c.in_default.is)
+returns-in_default g c = search (rules, check_targets_nobody)
 
 pub returns : goal.returns
 returns g c =
