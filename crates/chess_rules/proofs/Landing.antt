@@ -85,11 +85,11 @@ knight_same f g h =
 pub reaches_alike : (men others : List (Option Man)) (c : Colour) (j : Kind) (s t : ℕ) → StandAlike men others t
     → reaches_as men c j s t ≡ reaches_as others c j s t
 unfolding reaches_as
-reaches_alike men others c Queen s t a = queen_same (rides men s t) (rides others s t) (λ x. ride_alike men others s t (step_of x) (ordered x) a)
-reaches_alike men others c Rook s t a = straight_same (rides men s t) (rides others s t) (λ x. ride_alike men others s t (step_of x) (ordered x) a)
-reaches_alike men others c Bishop s t a = diagonal_same (rides men s t) (rides others s t) (λ x. ride_alike men others s t (step_of x) (ordered x) a)
-reaches_alike men others c Grasshopper s t a = queen_same (hops men s t) (hops others s t) (λ x. hop_alike men others s t (step_of x) (ordered x) a)
-reaches_alike men others c Nightrider s t a = knight_same (rides men s t) (rides others s t) (λ x. ride_alike men others s t (step_of x) (ordered x) a)
+reaches_alike men others c Queen s t a = search (rules, ordered, queen_same, ride_alike)
+reaches_alike men others c Rook s t a = search (rules, ordered, ride_alike, straight_same)
+reaches_alike men others c Bishop s t a = search (rules, diagonal_same, ordered, ride_alike)
+reaches_alike men others c Grasshopper s t a = search (rules, hop_alike, ordered, queen_same)
+reaches_alike men others c Nightrider s t a = search (rules, knight_same, ordered, ride_alike)
 reaches_alike men others c k s t a = refl
 
 -- a king doesn't step where it stands

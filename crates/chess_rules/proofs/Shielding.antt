@@ -84,10 +84,7 @@ pub record NoneShut (men : List (Option Man)) (a k s : ℕ) (j : Kind) : Type 0 
 module _ (men after : List (Option Man)) (a b : ℕ) (z : Man) (i : IsShift men after a b z) where
   stays_vacant : (o : Option ℕ) → is_vacant after o ≡ true → is_square o a ≡ false → is_vacant men o ≡ true
   stays_vacant None h ne = h
-  stays_vacant (Some q) h ne =
-      let none : man_on after q ≡ None = none_from_is_some (man_on after q) (not-true _ h) in
-      let free : man_on men q ≡ None = i.vacated q none (λ e. let y : (q == a) ≡ true = eq-eqb q a e in cc) in
-      rw free refl
+  stays_vacant (Some q) h ne = search (rules, eq-eqb, none_from_is_some, not-true)
 
   -- what rides to a now, where a is empty, rode there before
   rode_there : (k : ℕ) (l : RiderLines) → list_any (rides after k a) (steps_along l) ≡ true → list_any (rides men k a) (steps_along l) ≡ true
@@ -158,7 +155,7 @@ unfolding reaches_as
 rider_reaches men e Rook Straight a k h r = r
 rider_reaches men e Bishop Diagonal a k h r = r
 rider_reaches men e Queen Straight a k h r = list_any-append (rides men a k) straight_steps diagonal_steps ∙ or_left _ _ r
-rider_reaches men e Queen Diagonal a k h r = list_any-append (rides men a k) straight_steps diagonal_steps ∙ or_right (list_any (rides men a k) straight_steps) _ r
+rider_reaches men e Queen Diagonal a k h r = search (rules, list_any-append, or_right)
 rider_reaches men e j Straight a k h r = cc
 rider_reaches men e j Diagonal a k h r = cc
 
@@ -180,10 +177,7 @@ module _ (rule : RuleSet) (men after : List (Option Man)) (a b : ℕ) (z : Man) 
   struck : (s : ℕ) (y : Man) → man_on men s ≡ Some y → same_colour y.colour (other c) ≡ true → reaches_as men y.colour y.kind s k ≡ true
       → strikes rule men k (other c) s ≡ true
   unfolding strikes paralysed reaches
-  struck s y there side was =
-      let mine : is_side (man_on men s) (other c) ≡ true = rw there side in
-      let reach : reaches men s k ≡ true = rw there was in
-      and_from _ _ (and_from _ _ mine (ap not (and_left (is_madrasi rule) _ g.orthodox))) reach
+  struck s y there side was = search (rules, and_from, and_left)
 
   not_struck : (s : ℕ) → s < 64 → strikes rule men k (other c) s ≡ true → ⊥
   unfolding attacked
@@ -418,7 +412,7 @@ every_square test h = ap (bit_not w64) (word_empty (λ s. false) (λ s b. refl))
 -- the word of the squares from which a move may uncover a king
 pub shield_squares_none : (rule : RuleSet) (men : List (Option Man)) (c : Colour) → king_square men c ≡ None → 0 ≡ word (may_expose rule men c)
 unfolding may_expose
-shield_squares_none rule men c h = word_empty (may_expose rule men c) (λ s b. ap (λ (o : Option ℕ). may_expose_on rule men o c s) h)
+shield_squares_none rule men c h = search (rules, word_empty)
 
 pub shield_squares_all : (rule : RuleSet) (men : List (Option Man)) (c : Colour) (k : ℕ) → king_square men c ≡ Some k → is_unshielded rule men c k ≡ true
     → bit_not w64 0 ≡ word (may_expose rule men c)
