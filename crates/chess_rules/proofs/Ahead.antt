@@ -1,6 +1,6 @@
 -- Squares one after another on a line.
 use Rattle.std.proofs.Common.{◌≡◌, ℕ, ◌+◌, ◌-◌, ◌*◌, ◌<◌, ◌≤◌, true, false, ◌&&◌, refl, sym, ap, ◌∙◌, arith, inl, inr, Some, rules}
-use Rattle.std.proofs.Math.Nat.{add-mul, mul-add, mul_assoc, mul_comm}
+use Rattle.std.proofs.Math.Nat.{add-mul, mul-add}
 use Rattle.std.proofs.lemmas.Bool.{and_from, cases_lt, leb-true}
 use Rattle.chess_core.specs.Squares.{is_on_board, file_of, rank_of}
 use Rattle.chess_core.specs.Steps.{along, step_by}
@@ -55,9 +55,6 @@ passes s t d k i p le h =
         small = omega (arith, f.0, f.1, r.0, r.1);
       },
     )
-
-spread : (k l n : ℕ) → k * (l + 8 * n) ≡ k * l + 8 * (k * n)
-spread k l n = mul-add k l (8 * n) ∙ ap (λ x. k * l + x) (sym (mul_assoc k 8 n) ∙ ap (λ x. x * n) (mul_comm k 8) ∙ mul_assoc 8 k n)
 
 -- the number of the square that lies k steps on
 number_at : (s q : ℕ) (d : Step) (k : ℕ) → along s d k ≡ Some q → (q + k * (d.left + 8 * d.down) ≡ s + k * (d.right + 8 * d.up)) × (q < 64)

@@ -1,5 +1,5 @@
 -- The words of the squares to which a man may go.
-use Rattle.std.proofs.Common.{◌≡◌, ℕ, ◌+◌, ◌*◌, ◌/◌, ◌%◌, ◌<◌, Bool, false, true, not, ◌&&◌, ◌||◌, ◌==◌, List, Option, Some, None, is_some, find, refl, sym, ap, ◌∙◌, arith, inl, inr}
+use Rattle.std.proofs.Common.{◌≡◌, ℕ, ◌+◌, ◌*◌, ◌/◌, ◌%◌, ◌<◌, Bool, false, true, not, ◌&&◌, ◌||◌, ◌==◌, List, Option, Some, None, is_some, find, refl, sym, ap, ◌∙◌, arith, inl, inr, rules}
 use Rattle.std.specs.Int.{bit_at, bit_not, w64}
 use Rattle.std.specs.Int.Bits.{bit_and, bit_or}
 use Rattle.std.specs.List.{list_any, range_with_len}
@@ -17,7 +17,7 @@ use Rattle.chess_core.specs.declared.man.Man.{Man}
 use Rattle.chess_core.specs.declared.man.Move.{Move}
 use Rattle.chess_core.proofs.Words.{squares_both, squares_either, squares_not, squares_same}
 use Rattle.chess_rules.specs.Attacks.{paralysed}
-use Rattle.chess_rules.specs.Legal.{forward, goes, is_arrival_free, is_promotion_right, pawn_steps, pseudo, second_rank}
+use Rattle.chess_rules.specs.Legal.{forward, goes, is_arrival_free, is_promotion_right, pseudo, second_rank}
 use Rattle.chess_core.specs.WellFormed.{is_vacant_at}
 use Rattle.chess_rules.specs.ties.Lines.{is_advance}
 use Rattle.chess_rules.specs.Reaches.{leaps, reaches, reaches_as}
@@ -89,24 +89,16 @@ module _ (p : Position) (x : Man) (s : ℕ) (small : s < 64) (a o k : ℕ) (adva
   next t = ahead t && list_any (leaps s t) queen_steps
 
   ahead_word : bit_and a (bit_not w64 o) ≡ word ahead
-  ahead_word =
-      (λ j. bit_and (advances j) (bit_not w64 (occupied j)))
-      ∙ (λ j. bit_and (word (is_advance x.colour s)) (squares_not (λ t. is_some (man_on p.men t)) j))
-      ∙ squares_both (is_advance x.colour s) (λ t. not (is_some (man_on p.men t)))
+  ahead_word = search (rules, squares_both, squares_not)
 
   next_word : bit_and (bit_and a (bit_not w64 o)) k ≡ word next
   next_word = (λ j. bit_and (ahead_word j) (near j)) ∙ squares_both ahead (λ t. list_any (leaps s t) queen_steps)
 
   next_of : (t : ℕ) → t < 64 → is_square (along s (forward x.colour) 1) t ≡ true → not (is_some (man_on p.men t)) ≡ true → next t ≡ true
-  next_of t lt one free =
-      let both = and_parts _ _ (sym (one_near x.colour s t small lt) ∙ one) in
-      and_from _ _ (and_from _ _ both.0 free) both.1
+  next_of t lt one free = search (rules, and_from, and_parts, one_near)
 
   one_of : (t : ℕ) → t < 64 → next t ≡ true → is_square (along s (forward x.colour) 1) t ≡ true
-  one_of t lt h =
-      let n = and_parts (ahead t) (list_any (leaps s t) queen_steps) h in
-      let m = and_parts (is_advance x.colour s t) (not (is_some (man_on p.men t))) n.0 in
-      one_near x.colour s t small lt ∙ and_from _ _ m.0 n.1
+  one_of t lt h = search (rules, and_from, and_parts, one_near)
 
   half_small : (t : ℕ) → t < 64 → (s + t) / 2 < 64
   half_small t lt = omega (arith, lt, small)
@@ -183,10 +175,7 @@ pawn_ways p x s r o y g pawn hr ho hy hg =
 
 pub other_ways : (p : Position) (x : Man) (s r g : ℕ) → same_kind x.kind Pawn ≡ false → r ≡ word (λ t. reaches_as p.men x.colour x.kind s t) → g ≡ word (λ t. has_unmoved p.unmoved s && steps_to x s t) → bit_or r g ≡ word (may_go p x s)
 unfolding may_go
-other_ways p x s r g none hr hg =
-    (λ j. bit_or (hr j) (hg j))
-    ∙ squares_either (λ t. reaches_as p.men x.colour x.kind s t) (λ t. has_unmoved p.unmoved s && steps_to x s t)
-    ∙ squares_same _ _ (λ t b. sym (cond-false (same_kind x.kind Pawn) _ _ none))
+other_ways p x s r g none hr hg = search (rules, cond-false, squares_either, squares_same)
 
 -- the squares to which the man on a square may go
 pub arrivals_nobody : (rule : RuleSet) (p : Position) (s : ℕ) → man_on p.men s ≡ None → 0 ≡ word (is_arrival rule p s)
@@ -203,64 +192,34 @@ arrivals_paralysed rule p x s here mine h = word_empty (is_arrival rule p s) (λ
 
 pub arrivals_some : (rule : RuleSet) (p : Position) (x : Man) (s f g : ℕ) → man_on p.men s ≡ Some x → same_colour x.colour p.turn ≡ true → paralysed rule p.men s ≡ false → f ≡ word (λ t. is_arrival_free p.turn (man_on p.men t)) → g ≡ word (may_go p x s) → bit_and f g ≡ word (is_arrival rule p s)
 unfolding is_arrival
-arrivals_some rule p x s f g here mine free hf hg =
-    (λ j. bit_and (hf j) (hg j)) ∙ squares_both (λ t. is_arrival_free p.turn (man_on p.men t)) (may_go p x s) ∙ squares_same _ _ (λ t b. rw (here, mine, free) refl)
+arrivals_some rule p x s f g here mine free hf hg = search (rules, squares_both, squares_same)
 
 -- a move that goes where its man may go
 pub may_go_aimed : (rule : RuleSet) (p : Position) (x : Man) (m : Move) → man_on p.men m.from ≡ Some x → is_arrival rule p m.from m.to ≡ true → may_go p x m.from m.to ≡ true
 unfolding is_arrival
-may_go_aimed rule p x m here h =
-    let h0 : is_arrival_of rule p (Some x) m.from m.to ≡ true = rw here at h in
-    (and_parts (same_colour x.colour p.turn && not (paralysed rule p.men m.from) && is_arrival_free p.turn (man_on p.men m.to)) (may_go p x m.from m.to) h0).1
+may_go_aimed rule p x m here h = search (rules, and_parts)
 
 goes_as_pawn : (rule : RuleSet) (p : Position) (x : Man) (m : Move) → man_on p.men m.from ≡ Some x → same_kind x.kind Pawn ≡ true → may_go p x m.from m.to ≡ true → goes rule p x m ≡ true
 unfolding may_go reaches
-goes_as_pawn rule p x m here pawn h =
-    let h0 = sym (cond-true (same_kind x.kind Pawn) _ _ pawn) ∙ h in
-    cond-true (same_kind x.kind Pawn) _ _ pawn ∙ elim (or_cases _ _ h0) [
-      | inl e ↦
-          let t = and_parts (reaches_as p.men x.colour x.kind m.from m.to) (is_some (man_on p.men m.to) || is_square p.crossed m.to) e in
-          let r : reaches p.men m.from m.to ≡ true = rw here t.0 in
-          or_left (reaches p.men m.from m.to && (is_some (man_on p.men m.to) || is_square p.crossed m.to)) (pawn_steps p x m) (and_from _ _ r t.1)
-      | inr e ↦ or_right (reaches p.men m.from m.to && (is_some (man_on p.men m.to) || is_square p.crossed m.to)) (pawn_steps p x m) e
-    ]
+goes_as_pawn rule p x m here pawn h = search (rules, and_from, and_parts, cond-true, or_cases, or_left, or_right)
 
 pub no_steps : (x : Man) (s t : ℕ) (a u : Bool) → same_kind x.kind Pawn ≡ false → same_kind x.kind King ≡ false → (a || (u && steps_to x s t)) ≡ true → a ≡ true
 unfolding steps_to
-no_steps x s t a u none piece h = elim (or_cases a _ h) [
-  | inl e ↦ e
-  | inr e ↦ absurd (let still : steps_to x s t ≡ false = cond-false (same_kind x.kind Pawn) _ _ none ∙ cond-false (same_kind x.kind King) _ _ piece in let steps : steps_to x s t ≡ true = (and_parts u _ e).1 in cc)
-]
+no_steps x s t a u none piece h = search (rules, and_parts, cond-false, or_cases)
 
 goes_as_piece : (rule : RuleSet) (p : Position) (x : Man) (m : Move) → man_on p.men m.from ≡ Some x → same_kind x.kind Pawn ≡ false → same_kind x.kind King ≡ false → may_go p x m.from m.to ≡ true → goes rule p x m ≡ true
 unfolding may_go reaches
-goes_as_piece rule p x m here none piece h =
-    let h0 : (reaches_as p.men x.colour x.kind m.from m.to || (has_unmoved p.unmoved m.from && steps_to x m.from m.to)) ≡ true = sym (cond-false (same_kind x.kind Pawn) _ _ none) ∙ h in
-    let r : reaches_as p.men x.colour x.kind m.from m.to ≡ true = no_steps x m.from m.to _ _ none piece h0 in
-    let r2 : reaches p.men m.from m.to ≡ true = rw here r in
-    cond-false (same_kind x.kind Pawn) _ _ none ∙ or_left _ _ r2
+goes_as_piece rule p x m here none piece h = search (rules, cond-false, no_steps, or_left)
 
 -- a king that doesn't stand unmoved reaches where he goes
 goes_as_king : (rule : RuleSet) (p : Position) (x : Man) (m : Move) → man_on p.men m.from ≡ Some x → same_kind x.kind King ≡ true → has_unmoved p.unmoved m.from ≡ false
     → may_go p x m.from m.to ≡ true → goes rule p x m ≡ true
 unfolding may_go reaches
-goes_as_king rule p x m here king moved h =
-    let none : same_kind x.kind Pawn ≡ false = king_is_no_pawn x.kind king in
-    let h0 : (reaches_as p.men x.colour x.kind m.from m.to || (has_unmoved p.unmoved m.from && steps_to x m.from m.to)) ≡ true = sym (cond-false (same_kind x.kind Pawn) _ _ none) ∙ h in
-    cond-false (same_kind x.kind Pawn) _ _ none ∙ elim (or_cases (reaches_as p.men x.colour x.kind m.from m.to) (has_unmoved p.unmoved m.from && steps_to x m.from m.to) h0) [
-      | inl r ↦ let r2 : reaches p.men m.from m.to ≡ true = rw here r in or_left _ _ r2
-      | inr e ↦ absurd (let still = (and_parts (has_unmoved p.unmoved m.from) (steps_to x m.from m.to) e).0 in cc)
-    ]
+goes_as_king rule p x m here king moved h = search (rules, and_parts, cond-false, king_is_no_pawn, or_cases, or_left)
 
 pub goes_on : (rule : RuleSet) (p : Position) (x : Man) (m : Move) → man_on p.men m.from ≡ Some x → may_go p x m.from m.to ≡ true
     → (same_kind x.kind King && has_unmoved p.unmoved m.from) ≡ false → true ≡ goes rule p x m
-goes_on rule p x m here h free = elim (cases_Bool (same_kind x.kind Pawn)) [
-  | inl pawn ↦ sym (goes_as_pawn rule p x m here pawn h)
-  | inr none ↦ elim (cases_Bool (same_kind x.kind King)) [
-    | inl king ↦ sym (goes_as_king rule p x m here king (sym (ap (λ b. b && has_unmoved p.unmoved m.from) king) ∙ free) h)
-    | inr piece ↦ sym (goes_as_piece rule p x m here none piece h)
-  ]
-]
+goes_on rule p x m here h free = search (rules, cases_Bool, goes_as_king, goes_as_pawn, goes_as_piece)
 
 last_two : (a b c : Bool) → a ≡ true → (a && b && c) ≡ (b && c)
 last_two a b c h = rw h refl
@@ -268,10 +227,7 @@ last_two a b c h = rw h refl
 -- of such a move, promotion and way are left to be tested
 left_to_test : (rule : RuleSet) (p : Position) (x : Man) (m : Move) → man_on p.men m.from ≡ Some x → is_arrival rule p m.from m.to ≡ true → pseudo rule p m ≡ (is_promotion_right p x m m.promo && goes rule p x m)
 unfolding is_arrival pseudo
-left_to_test rule p x m here h =
-    let h0 : is_arrival_of rule p (Some x) m.from m.to ≡ true = rw here at h in
-    let all = (and_parts (same_colour x.colour p.turn && not (paralysed rule p.men m.from) && is_arrival_free p.turn (man_on p.men m.to)) (may_go p x m.from m.to) h0).0 in
-    rw here (last_two _ _ _ all)
+left_to_test rule p x m here h = search (rules, and_parts, last_two)
 
 middle : (a b c : Bool) → a ≡ true → c ≡ true → ((a && b) && c) ≡ b
 middle true true true h i = refl

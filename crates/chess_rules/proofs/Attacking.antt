@@ -5,7 +5,7 @@ use Rattle.std.specs.Int.Bits.{bit_or, bit_and}
 use Rattle.std.specs.List.{list_any}
 use Rattle.std.proofs.lemmas.Bool.{false≢true}
 use Rattle.std.proofs.lemmas.List.Folds.{list_any-append}
-use Rattle.chess_core.specs.Position.{is_man, is_side, man_on, other, same_colour, same_kind}
+use Rattle.chess_core.specs.Position.{is_man, is_side, man_on, other, same_kind}
 use Rattle.chess_core.specs.Squares.{some_square}
 use Rattle.chess_core.specs.Steps.{diagonal_steps, knight_steps, pawn_captures, queen_steps, straight_steps}
 use Rattle.chess_core.specs.ties.Words.{squares_of, word}
@@ -73,8 +73,7 @@ comes_nightrider men c t q = squares_same _ _ (λ s p. nightrider-back men t s q
 -- a man of this colour and kind goes as such men go
 reaches_of_man : (men : List (Option Man)) (o : Option Man) (c : Colour) (k : Kind) (s t : ℕ) → is_man o c k ≡ true → reaches_of men o s t ≡ reaches_as men c k s t
 reaches_of_man men None c k s t h = absurd (false≢true h)
-reaches_of_man men (Some x) c k s t h =
-    (λ j. reaches_as men (same_colour-true x.colour c (first_of_and _ _ h) j) (same_kind-is x.kind k (second_of_and (same_colour x.colour c) _ h) j) s t)
+reaches_of_man men (Some x) c k s t h = search (rules, first_of_and, same_colour-true, same_kind-is, second_of_and)
 
 only_then : (a b c : Bool) → (a ≡ true → b ≡ c) → (a && b) ≡ (a && c)
 only_then true b c h = h refl
@@ -134,16 +133,14 @@ bishop_reaches men c k s t p q e = rw e (diagonal-back men s t p q)
 
 queen_reaches : (men : List (Option Man)) (c : Colour) (k : Kind) (s t : ℕ) → s < 64 → t < 64 → k ≡ Queen → reaches_as men c k s t ≡ (list_any (rides men t s) straight_steps || list_any (rides men t s) diagonal_steps)
 unfolding reaches_as
-queen_reaches men c k s t p q e = rw e (queen_rides-back men s t p q ∙ list_any-append (rides men t s) straight_steps diagonal_steps)
+queen_reaches men c k s t p q e = search (rules, list_any-append, queen_rides-back)
 
 -- on one square
 at_square : (men : List (Option Man)) (c : Colour) (o : Option Man) (s t : ℕ) → s < 64 → t < 64
     → ((((is_man o c Rook || is_man o c Queen) && list_any (rides men t s) straight_steps) || ((is_man o c Bishop || is_man o c Queen) && list_any (rides men t s) diagonal_steps)) || list_any (λ k. is_man o c k && reaches_of men o s t) others)
     ≡ (is_side o c && reaches_of men o s t)
 at_square men c None s t p q = refl
-at_square men c (Some x) s t p q =
-    by_lines (same_colour x.colour c) x.kind (reaches_as men x.colour x.kind s t) (list_any (rides men t s) straight_steps) (list_any (rides men t s) diagonal_steps)
-    (rook_reaches men x.colour x.kind s t p q) (bishop_reaches men x.colour x.kind s t p q) (queen_reaches men x.colour x.kind s t p q)
+at_square men c (Some x) s t p q = search (rules, bishop_reaches, by_lines, queen_reaches, rook_reaches)
 
 pub met : (men : List (Option Man)) (c : Colour) (k : Kind) (t m n w : ℕ) (ds : List Step) → m ≡ squares_of men c k → n ≡ squares_of men c Queen → w ≡ word (λ s. list_any (rides men t s) ds)
     → bit_and (bit_or m n) w ≡ word (is_met men c k ds t)

@@ -1,5 +1,5 @@
 -- A move that goes to no square from which its man may give check gives none.
-use Rattle.std.proofs.Common.{◌≡◌, ℕ, ◌<◌, Bool, true, false, ◌&&◌, ◌||◌, ◌==◌, not, Option, Some, None, is_some, refl, sym, ap, ◌∙◌, arith, inl, inr}
+use Rattle.std.proofs.Common.{◌≡◌, ℕ, ◌<◌, Bool, true, false, ◌||◌, ◌==◌, not, Option, Some, None, is_some, refl, sym, ap, ◌∙◌, rules}
 use Rattle.std.specs.Int.{bit_at, bit_not, w64}
 use Rattle.std.specs.Int.Bits.{bit_and, bit_or}
 use Rattle.std.proofs.lemmas.Bool.{agree_below_at, and_left, and_parts, and_right, cases_Bool, eq-eqb, eqb-true, false≢true}
@@ -17,7 +17,7 @@ use Rattle.chess_core.specs.declared.man.Move.{Move}
 use Rattle.chess_rules.specs.declared.checks.CheckSquares.{CheckSquares}
 use Rattle.chess_rules.specs.Attacks.{in_check}
 use Rattle.chess_rules.specs.ties.CheckSquares.{AreCheckSquares, AreCheckTargets, check_squares_for}
-use Rattle.chess_rules.specs.ties.Shields.{cannot_expose, is_plain, may_expose}
+use Rattle.chess_rules.specs.ties.Shields.{cannot_expose, is_plain}
 use Rattle.chess_rules.specs.Legal.{last_rank, pseudo}
 use Rattle.chess_rules.specs.Play.{after, arriving, is_castling}
 use Rattle.chess_rules.specs.RuleSet.{RuleSet, is_circe}
@@ -31,16 +31,10 @@ use Rattle.chess_rules.proofs.Targeting.{arrival_needed, castling_steps, every_s
 
 -- a square off both words is off each
 pub off_left : (a b i : ℕ) → (bit_at (bit_or a b) i == 1) ≡ false → (bit_at a i == 1) ≡ false
-off_left a b i h = false_by (bit_at a i == 1) (λ y.
-    let one : bit_at a i ≡ 1 = eqb-true _ _ y in
-    let both : (bit_at (bit_or a b) i == 1) ≡ true = eq-eqb _ _ (omega (arith, bit_at_or a b i, one, bit_at-lt b i)) in
-    cc)
+off_left a b i h = search (rules, bit_at-lt, bit_at_or, eq-eqb, eqb-true, false_by)
 
 pub off_right : (a b i : ℕ) → (bit_at (bit_or a b) i == 1) ≡ false → (bit_at b i == 1) ≡ false
-off_right a b i h = false_by (bit_at b i == 1) (λ y.
-    let one : bit_at b i ≡ 1 = eqb-true _ _ y in
-    let both : (bit_at (bit_or a b) i == 1) ≡ true = eq-eqb _ _ (omega (arith, bit_at_or a b i, one, bit_at-lt a i)) in
-    cc)
+off_right a b i h = search (rules, bit_at-lt, bit_at_or, eq-eqb, eqb-true, false_by)
 
 -- a pawn's last rank is in the word of both
 implied : (a b : Bool) → (not a || b) ≡ true → a ≡ true → b ≡ true
@@ -58,26 +52,15 @@ pub plain_elsewhere : (rule : RuleSet) (p : Position) (x : Man) (m : Move) (b d 
     → b ≡ word (λ t. is_square p.crossed t) → (bit_at b m.to == 1) ≡ false
     → (is_circe rule ≡ true → d ≡ word (λ t. is_some (man_on p.men t))) → (bit_at d m.to == 1) ≡ false → is_plain rule p x m ≡ true
 unfolding is_plain
-plain_elsewhere rule p x m b d small no_castling crossed off-b reborn off-d =
-    let not_crossed : is_square p.crossed m.to ≡ false = sym (word_has (λ t. is_square p.crossed t) b m.to crossed small) ∙ off-b in
-    let no_rebirth : (is_circe rule && is_some (man_on p.men m.to)) ≡ false = elim (cases_Bool (is_circe rule)) [
-      | inl y ↦ and_right (is_circe rule) _ (sym (word_has (λ t. is_some (man_on p.men t)) d m.to (reborn y) small) ∙ off-d)
-      | inr n ↦ and_left (is_circe rule) _ n
-    ] in
-    rw (no_castling, not_crossed, no_rebirth) refl
+plain_elsewhere rule p x m b d small no_castling crossed off-b reborn off-d = search (rules, and_left, and_right, cases_Bool, word_has)
 
 -- nobody moves from an empty square
 pub check_targets_nobody : (rule : RuleSet) (p : Position) (f w : ℕ) → man_on p.men f ≡ None → AreCheckTargets rule p f w
-check_targets_nobody rule p f w none = record {
-  elsewhere = λ m at small may off.
-      absurd (let none_moves : pseudo rule p m ≡ false = nobody_moves rule p m (ap (man_on p.men) at ∙ none) in cc);
-}
+check_targets_nobody rule p f w none = search (rules, nobody_moves)
 
 -- every square is in the word
 pub check_targets_all : (rule : RuleSet) (p : Position) (f : ℕ) → AreCheckTargets rule p f (bit_not w64 0)
-check_targets_all rule p f = record {
-  elsewhere = λ m at small may off. absurd (let on = every_square_on m.to small in cc);
-}
+check_targets_all rule p f = search (rules, every_square_on)
 
 module _ (rule : RuleSet) (p : Position) (x : Man) (s : CheckSquares) (f : ℕ) (well : IsWellFormed p) (here : man_on p.men f ≡ Some x)
     (checks : AreCheckSquares rule p.men (other p.turn) s) (inside : f < 64) (covered : (bit_at s.shield_squares f == 1) ≡ false) (a b c d : ℕ)
@@ -100,11 +83,7 @@ module _ (rule : RuleSet) (p : Position) (x : Man) (s : CheckSquares) (f : ℕ) 
 
     -- nobody promotes
     unturned : arrives x m.to ≡ false
-    unturned = false_by (arrives x m.to) (λ y.
-        let parts = and_parts _ _ y in
-        let no_bit = off-c in
-        let on : (bit_at c m.to == 1) ≡ true = rw (promotes parts.0) (last_rank_on x.colour m.to small parts.1) in
-        cc)
+    unturned = search (rules, and_parts, false_by, last_rank_on, off-c)
 
     unnamed : (o : Option Kind) → m.promo ≡ o → o ≡ None
     unnamed None e = refl
@@ -124,15 +103,7 @@ module _ (rule : RuleSet) (p : Position) (x : Man) (s : CheckSquares) (f : ℕ) 
 
     covering : cannot_expose rule p (other p.turn) m ≡ true
     unfolding cannot_expose
-    covering =
-        let covers : may_expose rule p.men (other p.turn) m.from ≡ false =
-        rw at (sym (word_has (may_expose rule p.men (other p.turn)) s.shield_squares f checks.shield_squares inside) ∙ covered) in
-        rw (
-          stands,
-          covers,
-          plain_elsewhere rule p x m b d small no_castling crossed (off_right a b m.to off-ab) reborn
-              (off_right (bit_or (bit_or a b) c) d m.to off),
-        ) refl
+    covering = search (rules, no_castling, off-ab, off_right, plain_elsewhere, stands, word_has)
 
     no_check_elsewhere : in_check rule (after rule p m).men (other p.turn) ≡ false
     no_check_elsewhere =

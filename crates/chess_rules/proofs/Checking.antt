@@ -42,7 +42,7 @@ comes_back men c Nightrider k t f p q = cc
 
 pub check_squares_of_none : (men : List (Option Man)) (c : Colour) (j : Kind) → king_square men c ≡ None → 0 ≡ word (may_check_from men c (enemy c j))
 unfolding may_check_from
-check_squares_of_none men c j h = word_empty (may_check_from men c (enemy c j)) (λ s b. ap (λ (o : Option ℕ). may_check_from_on men o (enemy c j) s) h)
+check_squares_of_none men c j h = search (rules, word_empty)
 
 pub check_squares_of_all : (men : List (Option Man)) (c : Colour) (j : Kind) (k : ℕ) → king_square men c ≡ Some k → is_fairy j ≡ true
     → bit_not w64 0 ≡ word (may_check_from men c (enemy c j))

@@ -1,5 +1,5 @@
 -- Lines looked at from their other end.
-use Rattle.std.proofs.Common.{◌≡◌, ℕ, ◌+◌, ◌-◌, ◌*◌, ◌<◌, ◌≤◌, Bool, true, false, ◌&&◌, nat_le, cond, List, refl, sym, ap, ◌∙◌, arith, Option, Some, None, rules}
+use Rattle.std.proofs.Common.{◌≡◌, ℕ, ◌+◌, ◌-◌, ◌*◌, ◌<◌, ◌≤◌, Bool, true, false, ◌&&◌, cond, List, refl, sym, ap, ◌∙◌, arith, Option, Some, None, rules}
 use Rattle.std.specs.List.{range_with_len, list_any}
 use Rattle.std.proofs.Math.Nat.{add-mul}
 use Rattle.std.proofs.lemmas.Bool.{and_from, eq-eqb, eqb-true, false≢true, leb-true, le-leb}
@@ -31,10 +31,7 @@ some_is : (a b : ℕ) → Some a ≡ Some b → a ≡ b
 some_is a b h = cc
 
 placed_by : (f r t : ℕ) (b : Bool) → (is_on_board f && is_on_board r) ≡ b → cond b (Some (8 * (r - 1) + (f - 1))) None ≡ Some t → Placed f r t
-placed_by f r t true on h =
-    let bf : is_on_board f ≡ true = first_of_and _ _ on in
-    let br : is_on_board r ≡ true = second_of_and (is_on_board f) _ on in
-    placed_at f r t (leb-true 1 f (first_of_and _ _ bf)) (leb-true f 8 (second_of_and (nat_le 1 f) _ bf)) (leb-true 1 r (first_of_and _ _ br)) (leb-true r 8 (second_of_and (nat_le 1 r) _ br)) (some_is _ _ h)
+placed_by f r t true on h = search (rules, first_of_and, leb-true, placed_at, second_of_and, some_is)
 placed_by f r t false on h = absurd (cc)
 
 pub placed_from : (f r t : ℕ) → square_at f r ≡ Some t → Placed f r t

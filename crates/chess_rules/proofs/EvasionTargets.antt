@@ -1,5 +1,5 @@
 -- A move that goes to no square at which a check is met is not legal.
-use Rattle.std.proofs.Common.{◌≡◌, ℕ, ◌<◌, true, false, ◌==◌, Some, None, is_some, refl, ap, ◌∙◌}
+use Rattle.std.proofs.Common.{◌≡◌, ℕ, ◌<◌, true, false, ◌==◌, Some, None, is_some, refl, ap, ◌∙◌, rules}
 use Rattle.std.specs.Int.{bit_at, bit_not, w64}
 use Rattle.std.specs.Int.Bits.{bit_or}
 use Rattle.std.proofs.lemmas.Bool.{and_parts}
@@ -20,15 +20,10 @@ use Rattle.chess_rules.proofs.StayingInCheck.{check_unmet}
 use Rattle.chess_rules.proofs.Targeting.{every_square_on, false_by, nobody_moves}
 
 pub evasions_from_nobody : (rule : RuleSet) (p : Position) (f w : ℕ) → man_on p.men f ≡ None → AreEvasionsFrom rule p f w
-evasions_from_nobody rule p f w none = record {
-  elsewhere = λ m at small may off.
-      absurd (let never : pseudo rule p m ≡ false = nobody_moves rule p m (ap (man_on p.men) at ∙ none) in cc);
-}
+evasions_from_nobody rule p f w none = search (rules, nobody_moves)
 
 pub evasions_from_all : (rule : RuleSet) (p : Position) (f : ℕ) → AreEvasionsFrom rule p f (bit_not w64 0)
-evasions_from_all rule p f = record {
-  elsewhere = λ m at small may off. absurd (let on = every_square_on m.to small in cc);
-}
+evasions_from_all rule p f = search (rules, every_square_on)
 
 module _ (rule : RuleSet) (p : Position) (x : Man) (f : ℕ) (well : IsWellFormed p) (here : man_on p.men f ≡ Some x) (piece : same_kind x.kind King ≡ false)
     (a b c : ℕ) (evasion_squares : AreEvasions rule p.men p.turn a) (crossed : b ≡ word (λ t. is_square p.crossed t))

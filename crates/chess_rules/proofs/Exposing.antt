@@ -7,7 +7,7 @@ use Rattle.chess_core.specs.WellFormed.{IsWellFormed}
 use Rattle.chess_core.specs.ties.Words.{squares_of, word}
 use Rattle.chess_core.specs.declared.man.Colour.{Colour}
 use Rattle.chess_core.specs.declared.man.Kind.{Kind}
-use Rattle.chess_core.specs.declared.man.Kind.TheVariants.{King, Pawn}
+use Rattle.chess_core.specs.declared.man.Kind.TheVariants.{King}
 use Rattle.chess_core.specs.declared.man.Man.{Man}
 use Rattle.chess_core.specs.declared.man.Move.{Move}
 use Rattle.chess_rules.specs.Attacks.{check_of, faces, faces_its_like, in_check, is_faced, paralysed}
@@ -97,7 +97,7 @@ none_paralysed rule men s off = sym (and_left (is_madrasi rule) _ off)
 -- who goes and who is captured
 captures_arrival : (p : Position) (x : Man) (m : Move) → is_some (man_on p.men m.to) ≡ true → is_square (capture_square p x m) m.to ≡ true
 unfolding capture_square
-captures_arrival p x m h = ap (λ (o : Option ℕ). is_square o m.to) (cond-true (is_some (man_on p.men m.to)) _ _ h) ∙ eq-eqb m.to m.to refl
+captures_arrival p x m h = search (rules, cond-true, eq-eqb)
 
 goes_capturing : (rule : RuleSet) (p : Position) (x : Man) (m : Move) → IsWellFormed p → IsMade rule p x m → m.to < 64
     → IsCapture p.men m.from (capture_square p x m) m.to (arriving x m.promo) p.turn
@@ -106,13 +106,11 @@ goes_capturing rule p x m well is small = search (rules, captures_arrival, other
 -- the king after the move
 pub free_of_king : (c : Colour) (o : Option Man) → is_arrival_free c o ≡ true → is_man o c King ≡ false
 free_of_king c None h = refl
-free_of_king c (Some y) h = and_left (same_colour y.colour c) _ (not-true _ (and_parts (not (same_colour y.colour c)) (not (same_kind y.kind King)) h).0)
+free_of_king c (Some y) h = search (rules, and_left, and_parts, not-true)
 
 king_stays_king : (p : Position) (x : Man) (m : Move) (r : Option Kind) → is_promotion_right p x m r ≡ true → same_kind x.kind King ≡ true → arriving x r ≡ x
 king_stays_king p x m None right king = refl
-king_stays_king p x m (Some k) right king =
-    let pawn : same_kind x.kind Pawn ≡ true = (and_parts _ _ (and_parts _ _ right).0).0 in
-    absurd (false≢true (sym (pawn_is_no_king x.kind pawn) ∙ king))
+king_stays_king p x m (Some k) right king = search (rules, and_parts, false≢true, pawn_is_no_king)
 
 goes_without_king : (rule : RuleSet) (p : Position) (x : Man) (m : Move) → IsWellFormed p → IsMade rule p x m → m.to < 64 → same_kind x.kind King ≡ false
     → IsNoKing p.men m.from (capture_square p x m) m.to (arriving x m.promo) p.turn

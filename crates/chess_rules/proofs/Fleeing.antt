@@ -47,9 +47,7 @@ use Rattle.chess_rules.proofs.Walks.{on_first}
 -- a legal move is one of the moves
 some_left : (rule : RuleSet) (p : Position) (n : ℕ) → n < 28672 → legal rule p (triple_at n) ≡ true → (j a : ℕ) → a + j ≡ n
     → is_nil (moves_behind rule p a) ≡ false
-some_left rule p n lt h zero a e =
-    let at : a ≡ n = omega (arith, e) in
-    ap is_nil (ap (moves_behind rule p) at ∙ moves_behind-here rule p n lt h)
+some_left rule p n lt h zero a e = search (rules, moves_behind-here)
 some_left rule p n lt h (suc j) a e = elim (cases_Bool (legal rule p (triple_at a))) [
   | inl y ↦ ap is_nil (moves_behind-here rule p a (omega (arith, e, lt)) y)
   | inr nay ↦ ap is_nil (moves_behind-skip rule p a (omega (arith, e, lt)) nay) ∙ some_left rule p n lt h j (a + 1) (omega (arith, e))
@@ -88,7 +86,7 @@ after_seen rule p m x k i = search (rules, simple_after)
 
 no_king_free : (c d : Colour) (o : Option Man) → is_arrival_free c o ≡ true → is_man o d King ≡ false
 no_king_free c d None h = refl
-no_king_free c d (Some y) h = and_right (same_colour y.colour d) _ (not-true _ (and_parts (not (same_colour y.colour c)) (not (same_kind y.kind King)) h).1)
+no_king_free c d (Some y) h = search (rules, and_parts, and_right, not-true)
 
 no_own_free : (c : Colour) (o : Option Man) → is_arrival_free c o ≡ true → is_side o c ≡ false
 no_own_free c None h = refl
@@ -451,4 +449,4 @@ pub has_flight_first : (rule : RuleSet) (p : Position) (m : Move) (x : Man) (k n
     → 0 ≡ word (λ s. is_side (man_on l s) p.turn && reaches l s t))
     → is_some o ≡ true → has_flight rule (after rule p m) ≡ true
 has_flight_first rule p m x k n r None i small near arrives within safe h = absurd (false≢true h)
-has_flight_first rule p m x k n r (Some t) i small near arrives within safe h = has_flight_to rule p m x k n r t i small within.0 near arrives within.1 safe
+has_flight_first rule p m x k n r (Some t) i small near arrives within safe h = search (rules, has_flight_to)

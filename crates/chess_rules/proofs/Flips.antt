@@ -1,5 +1,5 @@
 -- Lists of steps that hold each step with its opposite.
-use Rattle.std.proofs.Common.{◌≡◌, ℕ, ◌<◌, Bool, true, ◌&&◌, ◌==◌, List, [], ◌∷◌, refl, sym, ap, ◌∙◌, Option, inl, inr}
+use Rattle.std.proofs.Common.{◌≡◌, ℕ, ◌<◌, Bool, true, ◌&&◌, ◌==◌, List, [], ◌∷◌, refl, sym, ap, ◌∙◌, Option, inl, inr, rules}
 use Rattle.std.specs.List.{list_all, list_any}
 use Rattle.std.proofs.lemmas.Bool.{and_parts, eqb-true, or_cases, or_left, or_right}
 use Rattle.chess_core.specs.Steps.{straight_steps, diagonal_steps, queen_steps, knight_steps, pawn_captures}
@@ -19,11 +19,7 @@ abbrev pub same_step : Step → Step → Bool
 same_step a b = (a.right == b.right && a.left == b.left) && (a.up == b.up && a.down == b.down)
 
 step_is : (a b : Step) → same_step a b ≡ true → a ≡ b
-step_is a b h =
-    let h1 = and_parts (a.right == b.right && a.left == b.left) (a.up == b.up && a.down == b.down) h in
-    let sides = and_parts (a.right == b.right) (a.left == b.left) h1.0 in
-    let ranks = and_parts (a.up == b.up) (a.down == b.down) h1.1 in
-    (λ j. record { right = eqb-true _ _ sides.0 j; left = eqb-true _ _ sides.1 j; up = eqb-true _ _ ranks.0 j; down = eqb-true _ _ ranks.1 j })
+step_is a b h = search (rules, and_parts, eqb-true)
 
 -- each step of the first list has its opposite in the second
 abbrev pub opposed : List Step → List Step → Bool
@@ -45,7 +41,7 @@ across p q (x ∷ xs) ds h o y =
 
 pub flip : (xs ds : List Step) (p q : Step → Bool) → opposed xs ds ≡ true → opposed ds xs ≡ true → ((d : Step) → p d ≡ q (back d))
     → list_any p xs ≡ list_any q ds
-flip xs ds p q there here h = same_Bool _ _ (across p q xs ds (λ d e. sym (h d) ∙ e) there) (across q p ds xs (λ d e. h (back d) ∙ e) here)
+flip xs ds p q there here h = search (rules, across, back, same_Bool)
 
 -- lines looked at backward
 pub backward : (ds : List Step) (p : Step → Bool) → opposed ds ds ≡ true → list_any (λ d. p (back d)) ds ≡ list_any p ds
@@ -58,8 +54,7 @@ rides_turned ds men s t o p q = flip ds ds (rides men s t) (rides men t s) o o (
 leaps_turned : (xs ds : List Step) (s t : ℕ) → opposed xs ds ≡ true → opposed ds xs ≡ true → s < 64 → t < 64
     → list_any (leaps s t) xs ≡ list_any (leaps t s) ds
 unfolding leaps
-leaps_turned xs ds s t there here p q =
-    flip xs ds (leaps s t) (leaps t s) there here (λ d. same_Bool _ _ (returns_to s t d 1 p) (returns_to t s (back d) 1 q))
+leaps_turned xs ds s t there here p q = search (rules, back, flip, returns_to, same_Bool)
 
 pub queen_rides-back : (men : List (Option Man)) (s t : ℕ) → s < 64 → t < 64 → list_any (rides men s t) queen_steps ≡ list_any (rides men t s) queen_steps
 queen_rides-back men s t = rides_turned queen_steps men s t refl
@@ -87,4 +82,4 @@ pawn-back White s t = leaps_turned (pawn_captures White) (pawn_captures Black) s
 pawn-back Black s t = leaps_turned (pawn_captures Black) (pawn_captures White) s t refl refl
 
 pub grasshopper-back : (men : List (Option Man)) (s t : ℕ) → s < 64 → t < 64 → list_any (hops men s t) queen_steps ≡ list_any (hopped_from men t s) queen_steps
-grasshopper-back men s t p q = flip queen_steps queen_steps (hops men s t) (hopped_from men t s) refl refl (λ d. hops-back men s t d p q)
+grasshopper-back men s t p q = search (rules, flip, hops-back)

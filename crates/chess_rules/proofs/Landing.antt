@@ -1,5 +1,5 @@
 -- What a man reaches doesn't depend on who stands on the square that it reaches.
-use Rattle.std.proofs.Common.{◌≡◌, ◌≢◌, ℕ, zero, suc, ◌+◌, ◌-◌, ◌<◌, ◌≤◌, Bool, false, ◌&&◌, ◌||◌, not, List, Option, Some, None, is_some, refl, sym, ap, ◌∙◌, arith, inl, inr, rules}
+use Rattle.std.proofs.Common.{◌≡◌, ◌≢◌, ℕ, zero, suc, ◌+◌, ◌-◌, ◌<◌, ◌≤◌, Bool, false, ◌&&◌, ◌||◌, List, Option, Some, None, is_some, refl, sym, ap, ◌∙◌, arith, inl, inr, rules}
 use Rattle.std.specs.List.{list_all, list_any, range_with_len}
 use Rattle.std.proofs.lemmas.Bool.{and_left, cases_Bool, false_from_ne_true}
 use Rattle.chess_core.specs.Position.{man_on}
@@ -11,7 +11,7 @@ use Rattle.chess_core.specs.declared.man.Kind.TheVariants.{King, Queen, Rook, Bi
 use Rattle.chess_core.specs.declared.man.Man.{Man}
 use Rattle.chess_core.specs.declared.step.Step.{Step}
 use Rattle.chess_rules.specs.ties.Lines.{place, step_of}
-use Rattle.chess_rules.specs.Reaches.{hops, leaps, is_clear, is_occupied, is_vacant, reaches_as, rides}
+use Rattle.chess_rules.specs.Reaches.{hops, leaps, is_clear, is_occupied, reaches_as, rides}
 use Rattle.chess_rules.specs.declared.lines.Direction.{Direction}
 use Rattle.chess_rules.specs.declared.lines.Direction.TheVariants.{East, West, North, South, NorthEast, SouthEast, NorthWest, SouthWest, NorthNorthEast, SouthSouthEast, NorthNorthWest, SouthSouthWest, EastNorthEast, EastSouthEast, WestNorthWest, WestSouthWest}
 use Rattle.chess_rules.proofs.Ahead.{Ordered, ordered}
@@ -21,10 +21,6 @@ use Rattle.chess_rules.proofs.Tests.{any_range_same}
 -- men stand on the same squares, t apart
 pub record StandAlike (men others : List (Option Man)) (t : ℕ) : Type 0 where
   pub alike : (q : ℕ) → q ≢ t → is_some (man_on men q) ≡ is_some (man_on others q)
-
-vacant_alike : (men others : List (Option Man)) (t : ℕ) (o : Option ℕ) → StandAlike men others t → o ≢ Some t → is_vacant men o ≡ is_vacant others o
-vacant_alike men others t None a ne = refl
-vacant_alike men others t (Some q) a ne = ap not (a.alike q (λ e. ne (ap (λ (n : ℕ). Some n) e)))
 
 occupied_alike : (men others : List (Option Man)) (t : ℕ) (o : Option ℕ) → StandAlike men others t → o ≢ Some t → is_occupied men o ≡ is_occupied others o
 occupied_alike men others t None a ne = refl
@@ -89,11 +85,11 @@ knight_same f g h =
 pub reaches_alike : (men others : List (Option Man)) (c : Colour) (j : Kind) (s t : ℕ) → StandAlike men others t
     → reaches_as men c j s t ≡ reaches_as others c j s t
 unfolding reaches_as
-reaches_alike men others c Queen s t a = queen_same (rides men s t) (rides others s t) (λ x. ride_alike men others s t (step_of x) (ordered x) a)
-reaches_alike men others c Rook s t a = straight_same (rides men s t) (rides others s t) (λ x. ride_alike men others s t (step_of x) (ordered x) a)
-reaches_alike men others c Bishop s t a = diagonal_same (rides men s t) (rides others s t) (λ x. ride_alike men others s t (step_of x) (ordered x) a)
-reaches_alike men others c Grasshopper s t a = queen_same (hops men s t) (hops others s t) (λ x. hop_alike men others s t (step_of x) (ordered x) a)
-reaches_alike men others c Nightrider s t a = knight_same (rides men s t) (rides others s t) (λ x. ride_alike men others s t (step_of x) (ordered x) a)
+reaches_alike men others c Queen s t a = search (rules, ordered, queen_same, ride_alike)
+reaches_alike men others c Rook s t a = search (rules, ordered, ride_alike, straight_same)
+reaches_alike men others c Bishop s t a = search (rules, diagonal_same, ordered, ride_alike)
+reaches_alike men others c Grasshopper s t a = search (rules, hop_alike, ordered, queen_same)
+reaches_alike men others c Nightrider s t a = search (rules, knight_same, ordered, ride_alike)
 reaches_alike men others c k s t a = refl
 
 -- a king doesn't step where it stands

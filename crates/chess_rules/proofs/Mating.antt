@@ -1,5 +1,5 @@
 -- The moves that mate, by their numbers.
-use Rattle.std.proofs.Common.{◌≡◌, ℕ, zero, suc, ◌+◌, ◌-◌, ◌<◌, ◌≤◌, Bool, true, false, ◌&&◌, not, List, [], ◌∷◌, filter, refl, sym, ap, ◌∙◌, arith, inl, inr, rules}
+use Rattle.std.proofs.Common.{◌≡◌, ℕ, zero, suc, ◌+◌, ◌-◌, ◌<◌, ◌≤◌, Bool, true, false, ◌&&◌, not, [], ◌∷◌, refl, sym, ap, ◌∙◌, arith, inl, inr, rules}
 use Rattle.std.proofs.lemmas.Bool.{and_left, cases_lt}
 use Rattle.chess_core.specs.Position.{Position, other}
 use Rattle.chess_core.specs.declared.man.Move.{Move}
@@ -39,7 +39,7 @@ skip_by rule p (suc n) a b e le h =
 
 pub mates_behind-end : (rule : RuleSet) (p : Position) (n : ℕ) → 28672 ≤ n → mates_behind rule p n ≡ []
 unfolding mates_behind
-mates_behind-end rule p n ge = ap (λ (l : List Move). filter (λ m. is_goal rule (after rule p m)) l) (moves_behind-end rule p n ge)
+mates_behind-end rule p n ge = search (rules, moves_behind-end)
 
 pub mates_behind-none : (rule : RuleSet) (p : Position) (a b : ℕ) → (b < 28672 → a ≤ b) → b ≤ 28672 → HaveNone (mates rule p) a b
     → mates_behind rule p a ≡ mates_behind rule p b
@@ -68,7 +68,7 @@ no_mate_quietly rule p m may quiet = search (rules, turn_after)
 pub mates_after : (rule : RuleSet) (p : Position) (m : Move) → pseudo rule p m ≡ true
     → (not (in_check rule (after rule p m).men p.turn) && is_goal rule (after rule p m)) ≡ mates rule p m
 unfolding mates legal
-mates_after rule p m may = sym (ap (λ (b : Bool). b && not (in_check rule (after rule p m).men p.turn) && is_goal rule (after rule p m)) may)
+mates_after rule p m may = search rules
 
 -- the first move that mates from a place on, by its number
 pub mates_numbered : (rule : RuleSet) (p : Position) (start n : ℕ) → n < 28672 → mates_behind rule p n ≡ mates_behind rule p start

@@ -1,22 +1,19 @@
 -- Where a man goes, he might go on an empty board.
-use Rattle.std.proofs.Common.{◌≡◌, ℕ, ◌<◌, Bool, true, false, ◌&&◌, ◌||◌, ◌==◌, List, Option, is_some, refl, sym, ◌∙◌, inl, inr}
+use Rattle.std.proofs.Common.{◌≡◌, ℕ, ◌<◌, Bool, true, false, ◌&&◌, ◌||◌, ◌==◌, List, Option, refl, sym, ◌∙◌, inl, inr, rules}
 use Rattle.std.specs.Int.{bit_at}
 use Rattle.std.specs.Int.Bits.{bit_or}
 use Rattle.std.specs.List.{list_any}
 use Rattle.std.proofs.lemmas.List.Folds.{list_any-append}
 use Rattle.std.proofs.lemmas.Bool.{and_parts, cond-false, cond-true, false≢true, or_cases, true_from_ne_false}
-use Rattle.chess_core.specs.Castling.{has_unmoved}
-use Rattle.chess_core.specs.Position.{Position, man_on, same_kind}
-use Rattle.chess_core.specs.Squares.{is_square}
-use Rattle.chess_core.specs.Steps.{along, diagonal_steps, knight_steps, pawn_captures, straight_steps}
+use Rattle.chess_core.specs.Position.{Position, same_kind}
+use Rattle.chess_core.specs.Steps.{diagonal_steps, knight_steps, pawn_captures, straight_steps}
 use Rattle.chess_core.specs.ties.Words.{word}
 use Rattle.chess_core.specs.declared.man.Kind.{Kind}
 use Rattle.chess_core.specs.declared.man.Kind.TheVariants.{Bishop, King, Knight, Pawn, Queen, Rook}
 use Rattle.chess_core.specs.declared.man.Man.{Man}
-use Rattle.chess_rules.specs.Legal.{forward}
 use Rattle.chess_rules.specs.Reaches.{leaps, reaches_as, rides}
 use Rattle.chess_rules.specs.ties.Lines.{is_advance, is_on_some}
-use Rattle.chess_rules.specs.ties.Targets.{may_go, pawn_goes}
+use Rattle.chess_rules.specs.ties.Targets.{may_go}
 use Rattle.chess_rules.proofs.Arrivals.{no_steps}
 use Rattle.chess_rules.proofs.Bits.{word_has}
 use Rattle.chess_rules.proofs.CheckTargets.{off_left, off_right}
@@ -33,7 +30,7 @@ on_right a b i h = true_from_ne_false _ (λ e. let off = off_right a b i e in cc
 reached : (p : Position) (x : Man) (s t : ℕ) → same_kind x.kind Pawn ≡ false → same_kind x.kind King ≡ false → may_go p x s t ≡ true
     → reaches_as p.men x.colour x.kind s t ≡ true
 unfolding may_go
-reached p x s t none piece h = no_steps x s t _ (has_unmoved p.unmoved s) none piece (sym (cond-false (same_kind x.kind Pawn) _ _ none) ∙ h)
+reached p x s t none piece h = search (rules, cond-false, no_steps)
 
 rides_on : (men : List (Option Man)) (s t : ℕ) (ds : List _) → list_any (rides men s t) ds ≡ true → is_on_some ds s t ≡ true
 unfolding is_on_some
@@ -75,14 +72,4 @@ module _ (p : Position) (x : Man) (s t : ℕ) (small : t < 64) (h : may_go p x s
   pub pawn_squares : (l a : ℕ) → x.kind ≡ Pawn → l ≡ word (λ q. list_any (leaps s q) (pawn_captures x.colour)) → a ≡ word (is_advance x.colour s)
       → (bit_at (bit_or l a) t == 1) ≡ true
   unfolding may_go reaches_as
-  pawn_squares l a kind squares steps =
-      let pawn : same_kind x.kind Pawn ≡ true = rw kind refl in
-      let reach = reaches_as p.men x.colour x.kind s t in
-      let taken = is_some (man_on p.men t) || is_square p.crossed t in
-      elim (or_cases (reach && taken) (pawn_goes p x s t) (sym (cond-true (same_kind x.kind Pawn) _ _ pawn) ∙ h)) [
-        | inl y ↦
-            let r : reaches_as p.men x.colour x.kind s t ≡ true = (and_parts reach taken y).0 in
-            on_left l a t (word_has (λ q. list_any (leaps s q) (pawn_captures x.colour)) l t squares small ∙ rw kind at r)
-        | inr y ↦ on_right l a t (word_has (is_advance x.colour s) a t steps small
-            ∙ advances _ (is_square (along s (forward x.colour) 1) t) (is_square (along s (forward x.colour) 2) t) _ _ y)
-      ]
+  pawn_squares l a kind squares steps = search (rules, advances, and_parts, cond-true, on_left, on_right, or_cases, word_has)

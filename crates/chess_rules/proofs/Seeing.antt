@@ -1,8 +1,7 @@
 -- The men that an attack sees once a move is made.
-use Rattle.std.proofs.Common.{◌≡◌, ◌≢◌, ℕ, zero, suc, ◌+◌, ◌<◌, find, if◌then◌else◌, Bool, true, false, ◌&&◌, ◌||◌, not, List, length, Option, Some, None, is_some, refl, sym, ap, ◌∙◌, inl, inr, rules}
+use Rattle.std.proofs.Common.{◌≡◌, ◌≢◌, ℕ, ◌<◌, Bool, true, false, ◌&&◌, ◌||◌, not, List, length, Option, Some, None, is_some, refl, sym, ap, ◌∙◌, inl, inr, rules}
 use Rattle.std.specs.Int.{bit_not, w64}
 use Rattle.std.specs.Int.Bits.{bit_and}
-use Rattle.std.specs.List.{range_with_len}
 use Rattle.std.proofs.lemmas.Bool.{and_left, and_right, cases_Bool, cases_eq, eq-eqb, eqb-true, false≢true, or_cases, or_left, or_parts, or_right}
 use Rattle.std.proofs.lemmas.List.{length-set}
 use Rattle.chess_core.specs.Position.{is_man, is_side, king_square, man_on, other, same_colour, same_kind, with_man, without_man}
@@ -144,11 +143,6 @@ pub seen_after : (men : List (Option Man)) (a : ℕ) (o : Option ℕ) (b : ℕ) 
     → AreSeen men (gone_to men a o b z) (other c) (sight_after men a o b)
 unfolding squares_of
 seen_after men a o b z c i = search (rules, enemy_now, occupied_now, occupied_words, squares_both, squares_not, squares_same)
-
--- the first of the squares that pass is the same for tests that agree
-find_same : (p q : ℕ → Bool) (a n : ℕ) → ((k : ℕ) → p k ≡ q k) → find p (range_with_len a n) ≡ find q (range_with_len a n)
-find_same p q a zero h = refl
-find_same p q a (suc n) h = (λ j. if h a j then Some a else find_same p q (a + 1) n h j)
 
 -- no king goes, arrives, or is captured
 pub record IsNoKing (men : List (Option Man)) (a : ℕ) (o : Option ℕ) (b : ℕ) (z : Man) (c : Colour) : Type 0 where

@@ -24,7 +24,7 @@ use Rattle.chess_rules.specs.Attacks.{attacked, check_of, in_check, paralysed, s
 use Rattle.chess_rules.specs.ties.CheckSquares.{may_check_from, may_check_from_on}
 use Rattle.chess_rules.specs.ties.Shields.{cannot_expose, has_fairy, is_behind, is_reached, is_shut, is_unshielded, is_fairy, is_plain, may_expose, may_expose_on, rider_along, steps_along}
 use Rattle.chess_rules.specs.Legal.{is_promotion_right, pseudo}
-use Rattle.chess_rules.specs.Play.{after, after_by, arriving, capture_square, is_castling, man_on_at, moved_men, reborn_at, reborn_square, without_at}
+use Rattle.chess_rules.specs.Play.{after, after_by, arriving, capture_square, is_castling, moved_men, reborn_square, without_at}
 use Rattle.chess_rules.specs.ties.Lines.{is_ahead, is_on_some}
 use Rattle.chess_rules.specs.Reaches.{is_clear, is_vacant, reaches, reaches_as, rides}
 use Rattle.chess_rules.specs.RuleSet.{RuleSet, is_circe, is_madrasi}
@@ -84,10 +84,7 @@ pub record NoneShut (men : List (Option Man)) (a k s : ℕ) (j : Kind) : Type 0 
 module _ (men after : List (Option Man)) (a b : ℕ) (z : Man) (i : IsShift men after a b z) where
   stays_vacant : (o : Option ℕ) → is_vacant after o ≡ true → is_square o a ≡ false → is_vacant men o ≡ true
   stays_vacant None h ne = h
-  stays_vacant (Some q) h ne =
-      let none : man_on after q ≡ None = none_from_is_some (man_on after q) (not-true _ h) in
-      let free : man_on men q ≡ None = i.vacated q none (λ e. let y : (q == a) ≡ true = eq-eqb q a e in cc) in
-      rw free refl
+  stays_vacant (Some q) h ne = search (rules, eq-eqb, none_from_is_some, not-true)
 
   -- what rides to a now, where a is empty, rode there before
   rode_there : (k : ℕ) (l : RiderLines) → list_any (rides after k a) (steps_along l) ≡ true → list_any (rides men k a) (steps_along l) ≡ true
@@ -141,19 +138,9 @@ pub record IsCovered (rule : RuleSet) (men : List (Option Man)) (c : Colour) (a 
   pub apart : (k == a) ≡ false
   pub open_lines : (l : RiderLines) → is_shut men (other c) (rider_along l) (steps_along l) k a ≡ false
 
-on_both : (P : RiderLines → Type 0) → P Straight → P Diagonal → (l : RiderLines) → P l
-on_both P s d Straight = s
-on_both P s d Diagonal = d
-
 covered_parts : (rule : RuleSet) (men : List (Option Man)) (c : Colour) (a k : ℕ) → may_expose_on rule men (Some k) c a ≡ false → IsCovered rule men c a k
 unfolding is_unshielded
-covered_parts rule men c a k h =
-    let shut : RiderLines → Bool = λ l. is_shut men (other c) (rider_along l) (steps_along l) k a in
-    let h0 = or_parts (is_unshielded men c k || k == a || shut Straight) (shut Diagonal) h in
-    let h1 = or_parts (is_unshielded men c k || k == a) (shut Straight) h0.0 in
-    let h2 = or_parts (is_unshielded men c k) (k == a) h1.0 in
-    let h3 = or_parts (has_fairy men (other c)) (is_reached men k (other c)) h2.0 in
-    record { no_fairy = h3.0; safe = h3.1; apart = h2.1; open_lines = on_both (λ l. shut l ≡ false) h1.1 h0.1 }
+covered_parts rule men c a k h = search rules
 
 -- and the one that has moved is no enemy, or doesn't reach the king
 pub record IsQuiet (men : List (Option Man)) (c : Colour) (a b k : ℕ) (z : Man) : Type 0 where
@@ -167,7 +154,7 @@ unfolding reaches_as
 rider_reaches men e Rook Straight a k h r = r
 rider_reaches men e Bishop Diagonal a k h r = r
 rider_reaches men e Queen Straight a k h r = list_any-append (rides men a k) straight_steps diagonal_steps ∙ or_left _ _ r
-rider_reaches men e Queen Diagonal a k h r = list_any-append (rides men a k) straight_steps diagonal_steps ∙ or_right (list_any (rides men a k) straight_steps) _ r
+rider_reaches men e Queen Diagonal a k h r = search (rules, list_any-append, or_right)
 rider_reaches men e j Straight a k h r = cc
 rider_reaches men e j Diagonal a k h r = cc
 
@@ -286,16 +273,6 @@ stays_safe rule men after a b z c i g = by (king_square after c) refl where
       let at : king_square men c ≡ Some k = king_stays rule men after a b z c k i g small f.here in
       let no : may_expose_on rule men (Some k) c a ≡ false = ap (λ (o : Option ℕ). may_expose_on rule men o c a) (sym at) ∙ g.cannot_expose in
       not_attacked rule men after a b z c k i (covered_parts rule men c a k no) small (g.quiet k at)
-
--- nobody is reborn where nobody is captured, or without Circe
-none_reborn : (men : List (Option Man)) (o : Option Man) (s : ℕ) → reborn_at false men o (Some s) ≡ None
-none_reborn men None s = refl
-none_reborn men (Some y) s = refl
-
-nobody_reborn : (circe : Bool) (men before : List (Option Man)) (o : Option ℕ) → (circe ≡ true → o ≡ None) → reborn_at circe men (man_on_at before o) o ≡ None
-nobody_reborn circe men before None h = refl
-nobody_reborn false men before (Some s) h = none_reborn men (man_on before s) s
-nobody_reborn true men before (Some s) h = let bad : Some s ≡ None = h refl in cc
 
 -- a plain move captures on its arrival alone
 captures_there : (p : Position) (x : Man) (m : Move) (s : ℕ) → is_square p.crossed m.to ≡ false → capture_square p x m ≡ Some s → s ≡ m.to
@@ -433,7 +410,7 @@ every_square test h = ap (bit_not w64) (word_empty (λ s. false) (λ s b. refl))
 -- the word of the squares from which a move may uncover a king
 pub shield_squares_none : (rule : RuleSet) (men : List (Option Man)) (c : Colour) → king_square men c ≡ None → 0 ≡ word (may_expose rule men c)
 unfolding may_expose
-shield_squares_none rule men c h = word_empty (may_expose rule men c) (λ s b. ap (λ (o : Option ℕ). may_expose_on rule men o c s) h)
+shield_squares_none rule men c h = search (rules, word_empty)
 
 pub shield_squares_all : (rule : RuleSet) (men : List (Option Man)) (c : Colour) (k : ℕ) → king_square men c ≡ Some k → is_unshielded men c k ≡ true
     → bit_not w64 0 ≡ word (may_expose rule men c)

@@ -7,7 +7,7 @@ use Rattle.std.proofs.lemmas.Bool.{and_from, and_left, and_parts, eq-eqb, false�
 use Rattle.std.proofs.lemmas.List.Folds.{list_any-append}
 use Rattle.chess_core.specs.Position.{AtMostOneKing, Position, is_man, is_side, king_square, man_on, other, same_colour, same_kind}
 use Rattle.chess_core.specs.Squares.{is_square, squares}
-use Rattle.chess_core.specs.Steps.{diagonal_steps, queen_steps, straight_steps}
+use Rattle.chess_core.specs.Steps.{queen_steps}
 use Rattle.chess_core.specs.WellFormed.{IsWellFormed}
 use Rattle.chess_core.specs.ties.Words.{word}
 use Rattle.chess_core.specs.declared.man.Colour.{Colour}
@@ -65,9 +65,8 @@ module _ (men after : List (Option Man)) (a b : ℕ) (z : Man) (c : Colour) (k s
   reaches_after : (e : Colour) (j : Kind) → is_fairy j ≡ false → reaches_as men e j s k ≡ true → reaches_as after e j s k ≡ true
   unfolding reaches_as
   reaches_after e Queen f h = line_after queen_steps refl (λ g y. y) h
-  reaches_after e Rook f h = line_after straight_steps refl (λ g y. list_any-append g straight_steps diagonal_steps ∙ or_left (list_any g straight_steps) _ y) h
-  reaches_after e Bishop f h =
-      line_after diagonal_steps refl (λ g y. list_any-append g straight_steps diagonal_steps ∙ or_right (list_any g straight_steps) _ y) h
+  reaches_after e Rook f h = search (rules, line_after, list_any-append, or_left)
+  reaches_after e Bishop f h = search (rules, line_after, list_any-append, or_right)
   reaches_after e Grasshopper f h = cc
   reaches_after e Nightrider f h = cc
   reaches_after e j f h = h
@@ -122,11 +121,7 @@ not_king x c piece h = let king = (and_parts (same_colour x.colour c) (same_kind
 -- no king of the mover's on a free arrival
 free_of_king : (o : Option Man) (c : Colour) → is_arrival_free c o ≡ true → is_man o c King ≡ true → ⊥
 free_of_king None c h k = cc
-free_of_king (Some y) c h k =
-    let own = (and_parts (same_colour y.colour c) (same_kind y.kind King) k).0 in
-    let foreign = (and_parts (not (same_colour y.colour c)) (not (same_kind y.kind King)) h).0 in
-    let foreign2 : not true ≡ true = ap not (sym own) ∙ foreign in
-    cc
+free_of_king (Some y) c h k = search (rules, and_parts)
 
 -- a plain move that doesn't meet a check, and isn't the king's, leaves its mover in check
 pub check_stays : (rule : RuleSet) (p : Position) (x : Man) (m : Move) → IsWellFormed p → pseudo rule p m ≡ true → man_on p.men m.from ≡ Some x → m.to < 64

@@ -13,7 +13,6 @@ use Rattle.chess_core.proofs.Men.{man_on-with_other, man_on-without_other, man_o
 use Rattle.chess_core.proofs.Words.{squares_both, squares_either, squares_not, squares_same}
 use Rattle.chess_rules.specs.ties.Flights.{sight_lifted, sight_with}
 use Rattle.chess_rules.specs.ties.Lines.{occupied_squares}
-use Rattle.chess_rules.specs.Play.{without_at}
 use Rattle.chess_rules.specs.ties.Sight.{AreSeen}
 use Rattle.chess_rules.proofs.Landing.{StandAlike}
 use Rattle.chess_rules.proofs.Seeing.{gone_to, is_occupied_after, kept_now, left_now, length-without_at, neither, no_man, occupied_now, occupied_words, there_now}
@@ -34,7 +33,7 @@ pub record IsStep (men : List (Option Man)) (a : ℕ) (o : Option ℕ) (b k : �
   pub apart : b ≢ k
 
 length-gone : (men : List (Option Man)) (a : ℕ) (o : Option ℕ) (b : ℕ) (z : Man) → length (gone_to men a o b z) ≡ length men
-length-gone men a o b z = length-set (without_at (without_man men a) o) b (Some z) ∙ length-without_at (without_man men a) o ∙ length-set men a None
+length-gone men a o b z = search (rules, length-set, length-without_at)
 
 taken_nowhere : (u : Option ℕ) (t q : ℕ) → ((s : ℕ) → is_square u s ≡ true → s ≡ t) → q ≢ t → is_square u q ≡ false
 taken_nowhere u t q h ne = false_from_ne_true _ (λ y. ne (h q y))
@@ -51,7 +50,7 @@ on_left men a o b z k u t x q ne y = left_now (gone_to men a o b z) k u t x q ne
 on_others : (men : List (Option Man)) (a : ℕ) (o : Option ℕ) (b : ℕ) (z : Man) (k : ℕ) (u : Option ℕ) (t : ℕ) (x : Man) (q : ℕ)
     → ((s : ℕ) → is_square u s ≡ true → s ≡ t) → q ≢ t → (k == q) ≡ false
     → man_on (stepped men a o b z k u t x) q ≡ man_on (gone_to men a o b z) q
-on_others men a o b z k u t x q h ne off = kept_now (gone_to men a o b z) k u t x q ne (neither (k == q) (is_square u q) off (taken_nowhere u t q h ne))
+on_others men a o b z k u t x q h ne off = search (rules, gone_to, kept_now, neither, taken_nowhere)
 
 pub stands_arrived : (men : List (Option Man)) (a : ℕ) (o : Option ℕ) (b : ℕ) (z : Man) (k : ℕ) (u : Option ℕ) (t : ℕ) (x : Man) (q : ℕ) → b < length men
     → ((s : ℕ) → is_square u s ≡ true → s ≡ t) → q ≡ b → q ≢ t → b ≢ k

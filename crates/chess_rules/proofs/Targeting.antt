@@ -1,5 +1,5 @@
 -- Where a man may go, and no move is missed by going from one such square to the next.
-use Rattle.std.proofs.Common.{◌≡◌, ℕ, ◌+◌, ◌-◌, ◌*◌, ◌/◌, ◌%◌, ◌<◌, ◌≤◌, Bool, true, false, ◌==◌, not, List, Option, Some, None, is_some, find, refl, sym, ap, ◌∙◌, arith, inl, inr, rules}
+use Rattle.std.proofs.Common.{◌≡◌, ℕ, ◌+◌, ◌-◌, ◌*◌, ◌/◌, ◌%◌, ◌<◌, ◌≤◌, Bool, true, false, ◌==◌, List, Option, Some, None, is_some, find, refl, sym, ap, ◌∙◌, arith, inl, inr, rules}
 use Rattle.std.specs.Int.{bit_at, bit_not, w64}
 use Rattle.std.specs.List.{range_with_len}
 use Rattle.std.proofs.lemmas.Bool.{agree_below_at, and_from, and_parts, cases_Bool, cases_eq, cond-true, cond-false, or_left, or_right}
@@ -32,11 +32,11 @@ pawn_word x s n pawn h = h ∙ squares_same _ _ (λ t b. sym (cond-true (same_ki
 
 pub king_word : (x : Man) (s n : ℕ) → same_kind x.kind Pawn ≡ false → same_kind x.kind King ≡ true → n ≡ word (is_aside s) → n ≡ word (steps_to x s)
 unfolding steps_to
-king_word x s n none king h = h ∙ squares_same _ _ (λ t b. sym (cond-false (same_kind x.kind Pawn) _ _ none ∙ cond-true (same_kind x.kind King) _ _ king))
+king_word x s n none king h = search (rules, cond-false, cond-true, squares_same)
 
 pub other_word : (x : Man) (s : ℕ) → same_kind x.kind Pawn ≡ false → same_kind x.kind King ≡ false → 0 ≡ word (steps_to x s)
 unfolding steps_to
-other_word x s none king = word_empty (steps_to x s) (λ t b. cond-false (same_kind x.kind Pawn) _ _ none ∙ cond-false (same_kind x.kind King) _ _ king)
+other_word x s none king = search (rules, cond-false, word_empty)
 
 -- the square on a square's file and rank
 square_of : (f r t : ℕ) → t < 64 → f ≡ file_of t → r ≡ rank_of t → is_square (square_at f r) t ≡ true
@@ -73,7 +73,7 @@ false_by false h = refl
 
 -- a promotion is named exactly on the last rank
 promoted : (p : Position) (x : Man) (m : Move) (o : Option Kind) → is_promotion_right p x m o ≡ true → o ≡ None → arrives x m.to ≡ false
-promoted p x m None h e = elim (cases_Bool (arrives x m.to)) [ inl y ↦ absurd (let bad : false ≡ true = ap not (sym y) ∙ h in cc) | inr n ↦ n ]
+promoted p x m None h e = search (rules, cases_Bool)
 promoted p x m (Some k) h e = cc
 
 pub unpromoted : (p : Position) (x : Man) (m : Move) (o : Option Kind) (k : Kind) → is_promotion_right p x m o ≡ true → o ≡ Some k → arrives x m.to ≡ true
@@ -106,7 +106,7 @@ pub from-empty : (p : Position) (s z a : ℕ) → IsBarrenFrom p s z a a
 from-empty p s z a = record { fails = λ rule k lo hi on. absurd (omega (arith, lo, hi)) }
 
 pub from-nobody : (p : Position) (s z a b : ℕ) → man_on p.men s ≡ None → IsBarrenFrom p s z a b
-from-nobody p s z a b h = record { fails = λ rule k lo hi on. nobody_moves rule p (record { from = s; to = k / 7; promo = promotion_at (k % 7) }) h }
+from-nobody p s z a b h = search (rules, nobody_moves)
 
 pub from-join : (p : Position) (s z a b c : ℕ) → IsBarrenFrom p s z a b → IsBarrenFrom p s z b c → IsBarrenFrom p s z a c
 from-join p s z a b c x y = search rules

@@ -1,5 +1,5 @@
 -- No move is missed by walking from candidate to candidate.
-use Rattle.std.proofs.Common.{◌≡◌, ℕ, ◌+◌, ◌-◌, ◌*◌, ◌/◌, ◌%◌, ◌<◌, ◌≤◌, Bool, true, false, ◌==◌, not, None, find, min, refl, subst, sym, ap, ◌∙◌, arith, inl, inr}
+use Rattle.std.proofs.Common.{◌≡◌, ℕ, ◌+◌, ◌-◌, ◌*◌, ◌/◌, ◌%◌, ◌<◌, ◌≤◌, Bool, true, false, ◌==◌, not, None, find, refl, subst, sym, ap, ◌∙◌, arith, inl, inr, rules}
 use Rattle.std.specs.Int.{bit_at}
 use Rattle.std.specs.Int.Bits.{bit_and}
 use Rattle.std.specs.List.{range_with_len}
@@ -21,18 +21,10 @@ use Rattle.chess_rules.proofs.Tests.{IsFirst, find_no}
 
 -- squares of two words
 pub on_first : (a b i : ℕ) → (bit_at (bit_and a b) i == 1) ≡ true → (bit_at a i == 1) ≡ true
-on_first a b i h =
-    let both : bit_at (bit_and a b) i ≡ 1 = eqb-true _ _ h in
-    let e : bit_at (bit_and a b) i ≡ min (bit_at a i) (bit_at b i) = bit_at_and a b i in
-    eq-eqb _ _ (omega (arith, both, e, bit_at-lt a i, bit_at-lt b i))
+on_first a b i h = search (rules, bit_at-lt, bit_at_and, eq-eqb, eqb-true)
 
 pub off_second : (a b i : ℕ) → (bit_at (bit_and a b) i == 1) ≡ false → (bit_at a i == 1) ≡ true → (bit_at b i == 1) ≡ false
-off_second a b i h on = false_by (bit_at b i == 1) (λ y.
-    let e : bit_at (bit_and a b) i ≡ min (bit_at a i) (bit_at b i) = bit_at_and a b i in
-    let one : bit_at a i ≡ 1 = eqb-true _ _ on in
-    let two : bit_at b i ≡ 1 = eqb-true _ _ y in
-    let both : (bit_at (bit_and a b) i == 1) ≡ true = eq-eqb _ _ (omega (arith, e, one, two)) in
-    cc)
+off_second a b i h on = search (rules, bit_at_and, eq-eqb, eqb-true, false_by)
 
 pub off_zero : (i : ℕ) → (bit_at 0 i == 1) ≡ false
 off_zero i = rw (bit_at-zero i) refl
@@ -42,34 +34,18 @@ module _ (rule : RuleSet) (p : Position) (test : Move → Bool) (needs : (m : Mo
   pub candidates : (s a w : ℕ) → a ≡ word (is_arrival rule p s)
       → ((m : Move) → m.from ≡ s → m.to < 64 → pseudo rule p m ≡ true → (bit_at w m.to == 1) ≡ false → test m ≡ false)
       → AreCandidates rule p test s (bit_and a w)
-  candidates s a w arrivals h = record {
-    inside = λ t small on. sym (word_has (is_arrival rule p s) a t arrivals small) ∙ on_first a w t on;
-    outside = λ m at small off. elim (cases_Bool (pseudo rule p m)) [
-      | inr idle ↦ needs m idle
-      | inl may ↦
-          let there : is_arrival rule p s m.to ≡ true = subst (λ n. is_arrival rule p n m.to ≡ true) at (arrival_needed rule p m small may) in
-          h m at small may (off_second a w m.to off (word_has (is_arrival rule p s) a m.to arrivals small ∙ there))
-    ];
-  }
+  candidates s a w arrivals h = search (rules, arrival_needed, cases_Bool, off_second, on_first, word_has)
 
   pub no_candidates : (s w : ℕ) → w ≡ 0 → ((m : Move) → m.from ≡ s → m.to < 64 → pseudo rule p m ≡ true → (bit_at w m.to == 1) ≡ false → test m ≡ false)
       → AreCandidates rule p test s 0
-  no_candidates s w zero h = record {
-    inside = λ t small on. absurd (let never = off_zero t in cc);
-    outside = λ m at small off. elim (cases_Bool (pseudo rule p m)) [
-      | inr idle ↦ needs m idle
-      | inl may ↦ h m at small may (rw zero off)
-    ];
-  }
+  no_candidates s w zero h = search (rules, cases_Bool, off_zero)
 
   -- stretches of triples of which none passes the test
   pub none-empty : (a : ℕ) → HaveNone test a a
   none-empty a = record { fails = λ k lo hi. absurd (omega (arith, lo, hi)) }
 
   pub none-join : (a b c : ℕ) → HaveNone test a b → HaveNone test b c → HaveNone test a c
-  none-join a b c x y = record {
-    fails = λ k lo hi. elim (cases_lt k b) [ inl lt ↦ x.fails k lo lt | inr ge ↦ y.fails k ge hi ];
-  }
+  none-join a b c x y = search (rules, cases_lt)
 
   pub none-less : (a b c : ℕ) → b ≤ c → HaveNone test a c → HaveNone test a b
   none-less a b c le x = record { fails = λ k lo hi. x.fails k lo (omega (arith, hi, le)) }
@@ -79,10 +55,7 @@ module _ (rule : RuleSet) (p : Position) (test : Move → Bool) (needs : (m : Mo
 
   none-move : (s w : ℕ) (m : Move) → AreCandidates rule p test s w → m.from ≡ s → m.to < 64 → ((bit_at w m.to == 1) ≡ true → pseudo rule p m ≡ false)
       → test m ≡ false
-  none-move s w m are at small h = elim (cases_Bool (bit_at w m.to == 1)) [
-    | inl on ↦ needs m (h on)
-    | inr off ↦ are.outside m at small off
-  ]
+  none-move s w m are at small h = search (rules, cases_Bool)
 
   none-from : (s w a b : ℕ) → b ≤ 448 → AreCandidates rule p test s w → IsBarrenFrom p s w a b → HaveNone test (448 * s + a) (448 * s + b)
   unfolding triple_at

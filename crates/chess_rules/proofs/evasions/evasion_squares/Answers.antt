@@ -1,20 +1,20 @@
-use Rattle.std.proofs.Common.{◌<◌, ◌==◌, ◌∙◌, arith, sym}
+use Rattle.std.proofs.Common.{◌<◌, ◌==◌, ◌∙◌, arith, sym, rules}
 use Rattle.std.specs.Int.{bit_at}
 use Rattle.chess_rules.proofs.StayingInCheck.{evasion_squares_all, evasion_squares_one}
 use Rattle.chess_rules.proofs.Tests.{find_first}
 use Rattle.chess_rules.proofs.evasions.evasion_squares.Goals as goal
 
 pub returns-in_default : goal.returns-in_default
-returns-in_default g c = evasion_squares_all g.R.Rules.rule c.args.board.now.men c.args.colour
+returns-in_default g c = search (rules, evasion_squares_all)
 
 pub returns-then-is_madrasi : goal.returns-then-is_madrasi
-returns-then-is_madrasi g c = evasion_squares_all g.R.Rules.rule c.args.board.now.men c.args.colour
+returns-then-is_madrasi g c = search (rules, evasion_squares_all)
 
 pub returns-then-has_fairy : goal.returns-then-has_fairy
-returns-then-has_fairy g c = evasion_squares_all g.R.Rules.rule c.args.board.now.men c.args.colour
+returns-then-has_fairy g c = search (rules, evasion_squares_all)
 
 pub returns-in_default-next_bit : goal.returns-in_default-next_bit
-returns-in_default-next_bit g c = evasion_squares_all g.R.Rules.rule c.args.board.now.men c.args.colour
+returns-in_default-next_bit g c = search (rules, evasion_squares_all)
 
 pub returns : goal.returns
 returns g c =
@@ -25,4 +25,4 @@ returns g c =
     evasion_squares_one g.R.Rules.rule c.args.board.now.men c.args.colour c.in-Some.king c.in-Some-next_bit.checker c.only.result c.reach_as.result c.reach_as-2.result c.attackers.result (sym c.king_of.ensures ∙ c.in-Some.is) (sym c.is_madrasi.ensures ∙ c.if-is_madrasi.false) no_fairy all small first.here c.only.ensures c.reach_as.ensures c.reach_as-2.ensures
 
 pub returns-then-shield_squares : goal.returns-then-shield_squares
-returns-then-shield_squares g c = evasion_squares_all g.R.Rules.rule c.args.board.now.men c.args.colour
+returns-then-shield_squares g c = search (rules, evasion_squares_all)

@@ -1,4 +1,4 @@
-use Rattle.std.proofs.Common.{◌≡◌, ◌<◌, ◌∙◌, None, Some, is_some, ap, arith, sym, true}
+use Rattle.std.proofs.Common.{◌≡◌, ◌<◌, ◌∙◌, Some, is_some, ap, arith, sym, true, rules}
 use Rattle.chess_core.specs.Position.{man_on}
 use Rattle.chess_core.specs.Triple.{Triple}
 use Rattle.chess_rules.specs.Play.{capture_square}
@@ -7,18 +7,7 @@ use Rattle.chess_rules.proofs.Exposing.{exposed_is, no_king_exposed}
 use Rattle.chess_rules.proofs.exposure.exposes_unplayed.Goals as goal
 
 pub returns-in_default-king_after : goal.returns-in_default-king_after
-returns-in_default-king_after g c =
-    let p = c.args.board.now in
-    let m = c.args.m.now in
-    let x = c.in-Some.man in
-    let from : c.m.inside.from ≡ m.from = ap (λ (v : Triple). v.from) c.m.view_is in
-    let to : c.m.inside.to ≡ m.to = ap (λ (v : Triple). v.to) c.m.view_is in
-    let small : m.to < 64 = omega (arith, to, c.index-small.ensures.value, c.index-small.ensures.small) in
-    let here : man_on p.men m.from ≡ Some x = ap (man_on p.men) (sym from) ∙ sym c.man_at.ensures ∙ c.in-Some.is in
-    let simple : is_simple g.R.Rules.rule x m (is_some (capture_square p x m)) ≡ true =
-    rw (c.is_some.ensures, c.capture_square-captured.ensures) at (sym c.is_simple.ensures ∙ c.if-not-is_simple.false) in
-    let king : king_after p x m ≡ None = sym c.king_after.ensures ∙ c.in_default-king_after.is in
-    no_king_exposed g.R.Rules.rule p x m c.requires.well_formed c.requires.pseudo small here simple king
+returns-in_default-king_after g c = search (rules, no_king_exposed)
 
 pub returns : goal.returns
 returns g c =

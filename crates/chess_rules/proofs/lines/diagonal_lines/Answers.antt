@@ -1,5 +1,6 @@
+use Rattle.std.proofs.Common.{rules}
 use Rattle.chess_rules.proofs.Computed.{diagonal_lines_at}
 use Rattle.chess_rules.proofs.lines.diagonal_lines.Goals as goal
 
 pub returns : goal.returns
-returns c = diagonal_lines_at c.args.from _ _ c.index.ensures.value c.index.ensures.small
+returns c = search (rules, diagonal_lines_at)

@@ -1,4 +1,4 @@
-use Rattle.std.proofs.Common.{◌≡◌, true, ◌||◌, refl, ◌∙◌, List, Option, Some, None, is_some}
+use Rattle.std.proofs.Common.{◌≡◌, true, ◌||◌, refl, ◌∙◌, List, Option, Some, None, is_some, rules}
 use Rattle.std.specs.Int.Bits.{bit_or}
 use Rattle.chess_core.specs.Position.{is_side, man_on, same_colour}
 use Rattle.chess_core.specs.ties.Words.{side_of, word}
@@ -21,4 +21,4 @@ unfolding side_of
 joined men = squares_either (λ s. is_side (man_on men s) White) (λ s. is_side (man_on men s) Black) ∙ squares_same _ _ (λ s p. of_either (man_on men s))
 
 pub returns : goal.returns
-returns c = rw (c.side.ensures, c.side-2.ensures) (joined c.args.board.now.men)
+returns c = search (rules, joined)

@@ -1,13 +1,10 @@
-use Rattle.std.proofs.Common.{◌-◌, ◌==◌, ◌&&◌, ◌∙◌, not, sym, ap, arith}
+use Rattle.std.proofs.Common.{◌-◌, ◌==◌, ◌&&◌, ◌∙◌, not, sym, ap, arith, rules}
 use Rattle.std.specs.Int.{bit_at}
 use Rattle.std.proofs.lemmas.Bool.{and_from, and_right}
-use Rattle.chess_core.proofs.Ranges.{NoneBelow-more, NoneBelow-start, some_square_false, some_square_true}
+use Rattle.chess_core.proofs.Ranges.{some_square_false, some_square_true}
 use Rattle.chess_rules.specs.Attacks.{paralysed}
 use Rattle.chess_rules.proofs.Tests.{find_first, skipped, skipped_all}
 use Rattle.chess_rules.proofs.outward.some_free.Goals as goal
-
-pub loop-square-init : goal.loop-square-init
-loop-square-init g c = NoneBelow-start (λ s. bit_at c.args.word s == 1 && not (paralysed g.R.Rules.rule c.args.board.now.men s))
 
 pub returns-then-not-paralysed : goal.returns-then-not-paralysed
 returns-then-not-paralysed g c =
@@ -17,13 +14,7 @@ returns-then-not-paralysed g c =
     (and_from _ _ first.here (ap not (sym c.paralysed.ensures ∙ c.if-not-paralysed.true))))
 
 pub loop-square-preserved : goal.loop-square-preserved
-loop-square-preserved g c =
-    let men = c.args.board.now.men in
-    let first = find_first (λ s. bit_at c.args.word s == 1) c.loop-square.number (64 - c.loop-square.number) c.in-Some.square (sym c.next_bit.ensures.value ∙ c.in-Some.is) in
-    rw c.index-number.ensures.value
-    (NoneBelow-more (λ s. bit_at c.args.word s == 1 && not (paralysed g.R.Rules.rule men s)) c.in-Some.square
-    (skipped (λ s. bit_at c.args.word s == 1) (λ s. not (paralysed g.R.Rules.rule men s)) c.loop-square.number (64 - c.loop-square.number) c.in-Some.square c.loop-square.invariant first)
-    (and_right (bit_at c.args.word c.in-Some.square == 1) _ (ap not (sym c.paralysed.ensures ∙ c.if-not-paralysed.false))))
+loop-square-preserved g c = search (rules, and_right, find_first, skipped)
 
 pub returns : goal.returns
 returns g c =

@@ -1,4 +1,4 @@
-use Rattle.std.proofs.Common.{◌≡◌, ◌<◌, ◌&&◌, ◌∙◌, Bool, Some, None, ap, arith, not, sym}
+use Rattle.std.proofs.Common.{◌≡◌, ◌<◌, ◌&&◌, ◌∙◌, Bool, Some, ap, arith, not, sym, rules}
 use Rattle.chess_core.specs.Position.{man_on}
 use Rattle.chess_core.specs.Triple.{Triple}
 use Rattle.chess_rules.specs.ties.Shields.{is_plain}
@@ -26,8 +26,4 @@ returns-else-not-contains g c =
     c.contains.ensures
 
 pub returns-in-None : goal.returns-in-None
-returns-in-None g c =
-    let p = c.args.board.now in
-    let from : c.m.inside.from ≡ c.args.m.now.from = ap (λ (v : Triple). v.from) c.m.view_is in
-    let here : man_on p.men c.args.m.now.from ≡ None = ap (man_on p.men) (sym from) ∙ sym c.man_at.ensures ∙ c.in-None.is in
-    cannot_expose_nobody g.R.Rules.rule p c.args.colour c.args.m.now here
+returns-in-None g c = search (rules, cannot_expose_nobody)

@@ -1,11 +1,9 @@
+use Rattle.std.proofs.Common.{rules}
 use Rattle.chess_rules.proofs.Shielding.{some_grasshopper, some_nightrider}
 use Rattle.chess_rules.proofs.shields.has_fairy.Goals as goal
 
 pub returns-then-squares-ne0 : goal.returns-then-squares-ne0
-returns-then-squares-ne0 c =
-    some_grasshopper c.args.board.now.men c.args.colour c.squares.result c.squares.ensures.word c.if-squares-ne0.true
+returns-then-squares-ne0 c = search (rules, some_grasshopper)
 
 pub returns-else-squares-ne0 : goal.returns-else-squares-ne0
-returns-else-squares-ne0 c =
-    some_nightrider c.args.board.now.men c.args.colour c.squares.result c.squares-else-squares-ne0.result c.squares.ensures.word c.if-squares-ne0.false
-    c.squares-else-squares-ne0.ensures.word
+returns-else-squares-ne0 c = search (rules, some_nightrider)

@@ -1,4 +1,4 @@
-use Rattle.std.proofs.Common.{◌-◌, ◌==◌, ◌∙◌, arith, sym}
+use Rattle.std.proofs.Common.{◌-◌, ◌==◌, ◌∙◌, arith, sym, rules}
 use Rattle.std.specs.Int.{bit_at}
 use Rattle.chess_rules.specs.ties.Shields.{steps_along}
 use Rattle.chess_rules.proofs.Riding.{ridden_all, ridden_more, ridden_none}
@@ -6,7 +6,7 @@ use Rattle.chess_rules.proofs.Tests.{find_first, find_no}
 use Rattle.chess_rules.proofs.shields.ridden_squares.Goals as goal
 
 pub loop-rider-init : goal.loop-rider-init
-loop-rider-init c = record { small = omega arith; ridden = λ men held. ridden_none men (steps_along c.args.lines) c.args.riders }
+loop-rider-init c = search (rules, ridden_none)
 
 pub loop-rider-preserved : goal.loop-rider-preserved
 loop-rider-preserved c =

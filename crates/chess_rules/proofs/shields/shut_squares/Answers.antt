@@ -1,11 +1,10 @@
+use Rattle.std.proofs.Common.{rules}
 use Rattle.chess_rules.specs.ties.Shields.{rider_along, steps_along}
 use Rattle.chess_rules.proofs.Riding.{none_shut, shut_are}
 use Rattle.chess_rules.proofs.shields.shut_squares.Goals as goal
 
 pub returns-then-riders-eq0 : goal.returns-then-riders-eq0
-returns-then-riders-eq0 c =
-    none_shut c.args.board.now.men c.args.colour (rider_along c.args.lines) (steps_along c.args.lines) c.args.square c.riders_on_lines-riders.result
-    c.riders_on_lines-riders.ensures c.if-riders-eq0.true
+returns-then-riders-eq0 c = search (rules, none_shut)
 
 pub returns : goal.returns
 returns c =

@@ -2,15 +2,9 @@ use Rattle.std.proofs.Common.{◌≡◌, ◌∙◌, ◌+◌, ◌-◌, ◌*◌, �
 use Rattle.std.specs.Int.{bit_at}
 use Rattle.chess_rules.specs.ties.Places.{HaveNone, IsBarrenFrom}
 use Rattle.chess_rules.specs.ties.Targets.{AreCandidates}
-use Rattle.chess_rules.proofs.Walks.{aimed_from, none-empty, none-end, none-origin}
+use Rattle.chess_rules.proofs.Walks.{aimed_from, none-end, none-origin}
 use Rattle.chess_rules.proofs.Tests.{find_first}
 use Rattle.chess_rules.proofs.sought.next_candidate.Goals as goal
-
-pub loop-from-init : goal.loop-from-init
-loop-from-init g c =
-    let rule = g.R.Rules.rule in
-    let p = c.args.board.now in
-    record { low = omega arith; none = none-empty rule p (g.S.Sought.test rule p) (λ m h. g.met.S.Sought.idle rule p m h) c.args.start; kept = c.requires.kept }
 
 pub returns-then-at-lt-PER_ORIGIN-clause-none : goal.returns-then-at-lt-PER_ORIGIN-clause-none
 returns-then-at-lt-PER_ORIGIN-clause-none g c =

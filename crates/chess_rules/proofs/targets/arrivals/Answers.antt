@@ -1,21 +1,16 @@
-use Rattle.std.proofs.Common.{◌≡◌, ◌∙◌, true, false, sym}
+use Rattle.std.proofs.Common.{◌≡◌, ◌∙◌, true, sym, rules}
 use Rattle.chess_core.specs.Position.{same_colour}
 use Rattle.chess_rules.proofs.Arrivals.{arrivals_nobody, arrivals_other, arrivals_paralysed, arrivals_some}
 use Rattle.chess_rules.proofs.targets.arrivals.Goals as goal
 
 pub returns-in_default : goal.returns-in_default
-returns-in_default g c =
-    arrivals_nobody g.R.Rules.rule c.args.board.now c.args.from (sym c.man_at.ensures ∙ c.in_default.is)
+returns-in_default g c = search (rules, arrivals_nobody)
 
 pub returns-then-not-is : goal.returns-then-not-is
-returns-then-not-is g c =
-    let mine : same_colour c.in-Some.man.colour c.args.board.now.turn ≡ false = rw c.turn.ensures at (sym c.is.ensures ∙ c.if-not-is.true) in
-    arrivals_other g.R.Rules.rule c.args.board.now c.in-Some.man c.args.from (sym c.man_at.ensures ∙ c.in-Some.is) mine
+returns-then-not-is g c = search (rules, arrivals_other)
 
 pub returns-then-paralysed : goal.returns-then-paralysed
-returns-then-paralysed g c =
-    let mine : same_colour c.in-Some.man.colour c.args.board.now.turn ≡ true = rw c.turn.ensures at (sym c.is.ensures ∙ c.if-not-is.false) in
-    arrivals_paralysed g.R.Rules.rule c.args.board.now c.in-Some.man c.args.from (sym c.man_at.ensures ∙ c.in-Some.is) mine (sym c.paralysed.ensures ∙ c.if-paralysed.true)
+returns-then-paralysed g c = search (rules, arrivals_paralysed)
 
 pub returns : goal.returns
 returns g c =

@@ -1,11 +1,9 @@
-use Rattle.std.proofs.Common.{◌∙◌, sym}
+use Rattle.std.proofs.Common.{rules}
 use Rattle.chess_rules.proofs.Arrivals.{other_ways, pawn_ways}
 use Rattle.chess_rules.proofs.targets.goes_to.Goals as goal
 
 pub returns-then-is : goal.returns-then-is
-returns-then-is c =
-    pawn_ways c.args.board.now c.args.man c.args.from c.reach_as-reach.result c.occupied.result c.only.result c.pawn_goes.result (sym c.is.ensures ∙ c.if-is.true) c.reach_as-reach.ensures c.occupied.ensures (rw c.crossed.ensures at c.only.ensures) c.pawn_goes.ensures
+returns-then-is c = search (rules, pawn_ways)
 
 pub returns : goal.returns
-returns c =
-    other_ways c.args.board.now c.args.man c.args.from c.reach_as-reach.result c.castling_squares.result (sym c.is.ensures ∙ c.if-is.false) c.reach_as-reach.ensures c.castling_squares.ensures
+returns c = search (rules, other_ways)

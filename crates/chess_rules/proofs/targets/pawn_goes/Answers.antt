@@ -1,4 +1,4 @@
-use Rattle.std.proofs.Common.{◌≡◌, ◌∙◌, ◌==◌, true, false, arith, sym}
+use Rattle.std.proofs.Common.{◌≡◌, ◌∙◌, ◌==◌, true, arith, sym, rules}
 use Rattle.std.specs.Int.{bit_at, bit_not, w64}
 use Rattle.std.specs.Int.Bits.{bit_and}
 use Rattle.std.proofs.lemmas.Bool.{eq-eqb}
@@ -9,8 +9,7 @@ use Rattle.chess_rules.proofs.Tests.{differs, find_first}
 use Rattle.chess_rules.proofs.targets.pawn_goes.Goals as goal
 
 pub returns-in_default : goal.returns-in_default
-returns-in_default c =
-    goes-blocked c.args.board.now c.args.man c.args.from (omega arith) c.pawn_advances.result c.occupied.result c.king_leaps.result c.pawn_advances.ensures c.occupied.ensures c.king_leaps.ensures (sym c.next_bit.ensures.value ∙ c.in_default.is)
+returns-in_default c = search (rules, goes-blocked)
 
 pub returns-then-rank-second_rank : goal.returns-then-rank-second_rank
 returns-then-rank-second_rank c =
@@ -20,6 +19,4 @@ returns-then-rank-second_rank c =
     goes-twice c.args.board.now c.args.man c.args.from (omega arith) c.pawn_advances.result c.occupied.result c.king_leaps.result c.pawn_advances.ensures c.occupied.ensures c.king_leaps.ensures c.in-Some._next first second
 
 pub returns : goal.returns
-returns c =
-    let second : (rank_of c.args.from == second_rank c.args.man.colour) ≡ false = differs _ _ (λ e. c.if-rank-second_rank.false (c.rank.ensures.value ∙ e ∙ sym c.second_rank.ensures)) in
-    goes-once c.args.board.now c.args.man c.args.from (omega arith) c.pawn_advances.result c.occupied.result c.king_leaps-2.result c.pawn_advances.ensures c.occupied.ensures c.king_leaps-2.ensures second
+returns c = search (rules, differs, goes-once)

@@ -1,4 +1,4 @@
-use Rattle.std.proofs.Common.{◌<◌, ◌-◌, ◌*◌, ◌^◌, ◌%◌, sym, ℕ, arith}
+use Rattle.std.proofs.Common.{◌<◌, ◌-◌, ◌*◌, ◌^◌, ◌%◌, sym, ℕ, arith, rules}
 use Rattle.std.proofs.lemmas.Nat.{and_le_l}
 use Rattle.chess_rules.proofs.Bits.{from_on, next_none, next_some, next_low}
 use Rattle.chess_rules.proofs.words.next_bit.Goals as goal
@@ -14,5 +14,4 @@ returns-clause-value c =
     rw c.lowest.ensures (sym (next_some c.args.word c.args.from (omega arith) (omega arith) (fits c.args.word c.args.from (omega arith))))
 
 pub returns-clause-behind : goal.returns-clause-behind
-returns-clause-behind c =
-    rw c.lowest.ensures (next_low c.args.word c.args.from (omega arith) (omega arith) (fits c.args.word c.args.from (omega arith)))
+returns-clause-behind c = search (rules, fits, next_low)

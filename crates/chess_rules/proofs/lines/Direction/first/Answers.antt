@@ -1,7 +1,6 @@
-use Rattle.std.proofs.Common.{sym, ◌∙◌, arith}
+use Rattle.std.proofs.Common.{arith, rules}
 use Rattle.std.specs.Int.{w64}
 use Rattle.std.proofs.lemmas.Nat.Bits.{bit_at_set_same}
-use Rattle.chess_rules.specs.ties.Lines.{step_of}
 use Rattle.chess_rules.proofs.Firsts.{has_bit, highest_stop, lowest_stop}
 use Rattle.chess_rules.proofs.lines.Direction.first.Goals as goal
 
@@ -12,9 +11,7 @@ pub highest-requires : goal.highest-requires
 highest-requires c = has_bit _ 0 (bit_at_set_same w64 c.args.word 0 (omega arith))
 
 pub returns-then-rises : goal.returns-then-rises
-returns-then-rises c =
-    rw c.lowest.ensures (lowest_stop (step_of c.args.self) c.args.word (omega arith) (sym c.rises.ensures ∙ c.if-rises.true))
+returns-then-rises c = search (rules, lowest_stop)
 
 pub returns-else-rises : goal.returns-else-rises
-returns-else-rises c =
-    highest_stop (step_of c.args.self) c.args.word c.highest.result (sym c.rises.ensures ∙ c.if-rises.false) c.highest.ensures.low c.highest.ensures.high c.highest.ensures.small
+returns-else-rises c = search (rules, highest_stop)
