@@ -10,6 +10,7 @@ use Rattle.chess_core.specs.ties.Words.{side_of, squares_of, word}
 use Rattle.chess_core.specs.declared.man.Colour.{Colour}
 use Rattle.chess_core.specs.declared.man.Kind.{Kind}
 use Rattle.chess_core.specs.declared.man.Man.{Man}
+use Rattle.chess_core.specs.declared.man.Move.{Move}
 use Rattle.chess_core.proofs.Kept.{same_kind-is}
 use Rattle.chess_core.proofs.Men.{same_colour-true}
 use Rattle.chess_rules.specs.Legal.{pseudo}
@@ -78,15 +79,24 @@ off_without o f i fits small off on =
     let e : bit_at (bit_and o (bit_not w64 f)) i ≡ min (bit_at o i) (bit_at (bit_not w64 f) i) = bit_at_and o (bit_not w64 f) i in
     eq-eqb _ _ (omega (arith, e, one, not_f, none, bit_at-lt f i))
 
+-- a move that may be made goes from a square of its side
+from_own : (rule : RuleSet) (p : Position) (o : ℕ) (m : Move) → o ≡ side_of p.men p.turn → m.from < 64 → pseudo rule p m ≡ true → (bit_at o m.from == 1) ≡ true
+unfolding side_of
+from_own rule p o m own inside may = elim (cases_Bool (bit_at o m.from == 1)) [
+  | inl y ↦ y
+  | inr off_side ↦ absurd (let idle : pseudo rule p m ≡ false =
+      own_moves p rule m (man_on p.men m.from) refl (sym (word_has (λ s. is_side (man_on p.men s) p.turn) o m.from own inside) ∙ off_side) in cc)
+]
+
+pub check_origins_own : (rule : RuleSet) (p : Position) (o : ℕ) → o ≡ side_of p.men p.turn → AreCheckOrigins rule p o
+check_origins_own rule p o own = record {
+  elsewhere = λ m inside small may off. absurd (let mine = from_own rule p o m own inside may in cc);
+}
+
 pub check_origins_are : (rule : RuleSet) (p : Position) (o f : ℕ) → o ≡ side_of p.men p.turn → f < 2 ^ 64 → AreFar rule p f
     → AreCheckOrigins rule p (bit_and o (bit_not w64 f))
-unfolding side_of
 check_origins_are rule p o f own fits are = record {
   elsewhere = λ m inside small may off.
-      let mine : (bit_at o m.from == 1) ≡ true = elim (cases_Bool (bit_at o m.from == 1)) [
-        | inl y ↦ y
-        | inr off_side ↦ absurd (let idle : pseudo rule p m ≡ false =
-            own_moves p rule m (man_on p.men m.from) refl (sym (word_has (λ s. is_side (man_on p.men s) p.turn) o m.from own inside) ∙ off_side) in cc)
-      ] in
+      let mine : (bit_at o m.from == 1) ≡ true = from_own rule p o m own inside may in
       (are.far m.from inside (off_without o f m.from fits inside off mine)).elsewhere m refl small may (off_zero m.to);
 }

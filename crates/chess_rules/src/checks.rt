@@ -89,6 +89,12 @@ fn check_squares_for(squares: &CheckSquares, kind: Kind) -> u64
     }
 }
 
+// Whether every square is a check square to each man, as far as is told here: he exposes the king from
+// wherever he goes, or many captures are followed by a rebirth.
+pub(crate) fn are_all_near<R: Rules>(squares: &CheckSquares) -> bool {
+    squares.shield_squares == !0 || R::is_circe()
+}
+
 // The first rank and the last.
 const LAST_RANKS: u64 = 0xff00_0000_0000_00ff;
 

@@ -5,7 +5,7 @@ ghost use Rattle.chess_core.specs.Position.{other};
 ghost use Rattle.chess_core.specs.WellFormed.{IsWellFormed};
 ghost use Rattle.chess_rules.specs.ties.CheckSquares.{AreCheckOrigins, AreCheckSquares, AreCheckTargets};
 
-use crate::checks::{CheckSquares, near_targets_of};
+use crate::checks::{CheckSquares, are_all_near, near_targets_of};
 use crate::rules::Rules;
 use crate::words::{next_bit, only};
 use chess_core::board::Board;
@@ -40,9 +40,13 @@ pub(crate) fn check_origins<R: Rules>(board: &Board, squares: &CheckSquares) -> 
     requires squares { AreCheckSquares R.rule board.now.men (other board.now.turn) squares.now }
     ensures { AreCheckOrigins R.rule board.now result }
 {
+    let own = board.side(board.turn());
+    if are_all_near::<R>(squares) {
+        return own;
+    }
     let far = far_men::<R>(board, squares, Kind::Pawn)
         | far_men::<R>(board, squares, Kind::Knight)
         | far_men::<R>(board, squares, Kind::Bishop)
         | far_men::<R>(board, squares, Kind::Rook);
-    board.side(board.turn()) & !far
+    own & !far
 }
