@@ -7,7 +7,7 @@ use Rattle.std.proofs.lemmas.Bool.{and_from, and_parts, and_right, cases_Bool, c
 use Rattle.std.proofs.lemmas.List.Folds.{list_any-append}
 use Rattle.chess_core.specs.Position.{AtMostOneKing, Position, is_man, is_side, king_square, man_on, other, same_colour, same_kind, without_man}
 use Rattle.chess_core.specs.Squares.{is_square, squares, some_square}
-use Rattle.chess_core.specs.Steps.{along, diagonal_steps, straight_steps}
+use Rattle.chess_core.specs.Steps.{along, diagonal_steps, knight_steps, queen_steps, straight_steps}
 use Rattle.chess_core.specs.WellFormed.{IsWellFormed}
 use Rattle.chess_core.specs.ties.Words.{squares_of, word}
 use Rattle.chess_core.specs.declared.man.Colour.{Colour}
@@ -21,14 +21,15 @@ use Rattle.chess_core.proofs.Men.{man_on-with_other, man_on-without_same}
 use Rattle.chess_core.proofs.Ranges.{all_range_true, any_range_false, any_range_true, find_square_some, some_square_false, some_square_true}
 use Rattle.chess_core.proofs.Words.{squares_either, squares_not, squares_same}
 use Rattle.chess_rules.specs.Attacks.{attacked, check_of, in_check, paralysed, strikes}
-use Rattle.chess_rules.specs.ties.CheckSquares.{may_check_from, may_check_from_on}
-use Rattle.chess_rules.specs.ties.Shields.{cannot_expose, has_fairy, is_behind, is_reached, is_shut, is_unshielded, is_fairy, is_plain, may_expose, may_expose_on}
+use Rattle.chess_rules.specs.ties.CheckSquares.{is_absent, may_check_from, may_check_from_on}
+use Rattle.chess_rules.specs.ties.Shields.{cannot_expose, has_fairy, is_behind, is_on_fairy_line, is_on_fairy_line_to, is_reached, is_shut, is_plain, may_expose, may_expose_on, may_stand_between}
 use Rattle.chess_rules.specs.Legal.{is_promotion_right, pseudo}
 use Rattle.chess_rules.specs.Play.{after, after_by, arriving, capture_square, is_castling, is_diagonal, man_on_at, moved_men, put_at, reborn_at, reborn_square, without_at}
 use Rattle.chess_rules.specs.ties.Lines.{is_ahead, is_on_some}
-use Rattle.chess_rules.specs.Reaches.{is_clear, is_vacant, reaches, reaches_as, rides}
+use Rattle.chess_rules.specs.Reaches.{hops, is_clear, is_occupied, is_vacant, reaches, reaches_as, rides}
 use Rattle.chess_rules.specs.RuleSet.{RuleSet, is_circe}
 use Rattle.chess_rules.proofs.Bits.{not_zero, word_empty, word_has}
+use Rattle.chess_rules.proofs.FairyLines.{Holds, fairy_parts, hopper_comes, hopper_stays, nightrider_comes, nightrider_stays}
 use Rattle.chess_rules.proofs.Fits.{arrived, arrived_other, arriving_king}
 use Rattle.chess_rules.proofs.Ends.{back}
 use Rattle.chess_rules.proofs.Flips.{diagonal-back, diagonal-flip, straight-back, straight-flip}
@@ -155,17 +156,19 @@ diagonal_before men after a b z k s i p q never h =
           (sym (diagonal-flip (λ d. rides after s a (back d)) (rides after s a) (λ d. refl)) ∙ y),
     ))
 
--- a doesn't shut a line along which a man of kind j on s would ride to k
-pub record NoneShut (men : List (Option Man)) (a k s : ℕ) (j : Kind) : Type 0 where
+-- a doesn't shut a line along which a man of kind j on s would ride to k, and a fairy man there goes to k as before
+pub record NoneShut (men after : List (Option Man)) (a k s : ℕ) (j : Kind) : Type 0 where
   pub straight : (same_kind j Rook || same_kind j Queen) ≡ true → is_on_some straight_steps k s ≡ true → IsParted men a k s straight_steps → ⊥
   pub diagonal : (same_kind j Bishop || same_kind j Queen) ≡ true → is_on_some diagonal_steps k s ≡ true → IsParted men a k s diagonal_steps → ⊥
+  pub hopped : same_kind j Grasshopper ≡ true → list_any (hops after s k) queen_steps ≡ true → list_any (hops men s k) queen_steps ≡ true
+  pub ridden : same_kind j Nightrider ≡ true → list_any (rides after s k) knight_steps ≡ true → list_any (rides men s k) knight_steps ≡ true
 
--- an orthodox man that reaches k now, where it stands, reached it before, had it stood there
+-- a man that reaches k now, where it stands, reached it before, had it stood there
 reaches_before : (men after : List (Option Man)) (a b : ℕ) (z : Man) (e : Colour) (k s : ℕ) (j : Kind) → IsShift men after a b z → s < 64 → k < 64
-    → is_fairy j ≡ false → NoneShut men a k s j → reaches_as after e j s k ≡ true → reaches_as men e j s k ≡ true
+    → NoneShut men after a k s j → reaches_as after e j s k ≡ true → reaches_as men e j s k ≡ true
 unfolding reaches_as
-reaches_before men after a b z e k s King i p q f n h = h
-reaches_before men after a b z e k s Queen i p q f n h =
+reaches_before men after a b z e k s King i p q n h = h
+reaches_before men after a b z e k s Queen i p q n h =
     elim (or_cases (list_any (rides after s k) straight_steps) (list_any (rides after s k) diagonal_steps)
     (sym (list_any-append (rides after s k) straight_steps diagonal_steps) ∙ h)) [
       | inl y ↦
@@ -175,56 +178,43 @@ reaches_before men after a b z e k s Queen i p q f n h =
           let was : list_any (rides men s k) diagonal_steps ≡ true = diagonal_before men after a b z k s i p q (n.diagonal refl) y in
           list_any-append (rides men s k) straight_steps diagonal_steps ∙ or_right (list_any (rides men s k) straight_steps) _ was
     ]
-reaches_before men after a b z e k s Rook i p q f n h = straight_before men after a b z k s i p q (n.straight refl) h
-reaches_before men after a b z e k s Bishop i p q f n h = diagonal_before men after a b z k s i p q (n.diagonal refl) h
-reaches_before men after a b z e k s Knight i p q f n h = h
-reaches_before men after a b z e k s Pawn i p q f n h = h
-reaches_before men after a b z e k s Grasshopper i p q f n h = cc
-reaches_before men after a b z e k s Nightrider i p q f n h = cc
+reaches_before men after a b z e k s Rook i p q n h = straight_before men after a b z k s i p q (n.straight refl) h
+reaches_before men after a b z e k s Bishop i p q n h = diagonal_before men after a b z k s i p q (n.diagonal refl) h
+reaches_before men after a b z e k s Knight i p q n h = h
+reaches_before men after a b z e k s Pawn i p q n h = h
+reaches_before men after a b z e k s Grasshopper i p q n h = n.hopped refl h
+reaches_before men after a b z e k s Nightrider i p q n h = n.ridden refl h
 
-pub orthodox_man : (men : List (Option Man)) (c : Colour) (s : ℕ) (y : Man) → s < 64 → man_on men s ≡ Some y → same_colour y.colour c ≡ true
-    → has_fairy men c ≡ false → is_fairy y.kind ≡ false
-unfolding has_fairy
-orthodox_man men c s y small there side none = by y.kind refl where
-  by : (j : Kind) → y.kind ≡ j → is_fairy j ≡ false
-  by King e = refl
-  by Queen e = refl
-  by Rook e = refl
-  by Bishop e = refl
-  by Knight e = refl
-  by Pawn e = refl
-  by Grasshopper e =
-      let n = or_parts (some_square (λ s. is_man (man_on men s) c Grasshopper)) (some_square (λ s. is_man (man_on men s) c Nightrider)) none in
-      let yes : some_square (λ s. is_man (man_on men s) c Grasshopper) ≡ true =
-      some_square_true (λ s. is_man (man_on men s) c Grasshopper) s small
-      (rw there (and_from (same_colour y.colour c) (same_kind y.kind Grasshopper) side (rw e refl))) in
-      let no = n.0 in
-      cc
-  by Nightrider e =
-      let n = or_parts (some_square (λ s. is_man (man_on men s) c Grasshopper)) (some_square (λ s. is_man (man_on men s) c Nightrider)) none in
-      let yes : some_square (λ s. is_man (man_on men s) c Nightrider) ≡ true =
-      some_square_true (λ s. is_man (man_on men s) c Nightrider) s small
-      (rw there (and_from (same_colour y.colour c) (same_kind y.kind Nightrider) side (rw e refl))) in
-      let no = n.1 in
-      cc
+-- what stands now stood before, the arrival apart
+someone : (o : Option Man) → is_some o ≡ true → (y : Man) × (o ≡ Some y)
+someone None h = absurd (false≢true h)
+someone (Some y) h = (y, refl)
+
+stood : (men after : List (Option Man)) (a b : ℕ) (z : Man) → IsShift men after a b z → Holds after men b
+stood men after a b z i = record { occupied = λ o h off. by o h off } where
+  by : (o : Option ℕ) → is_occupied after o ≡ true → is_square o b ≡ false → is_occupied men o ≡ true
+  by None h off = absurd (false≢true h)
+  by (Some q) h off =
+      let y = someone (man_on after q) h in
+      ap is_some (i.others q y.0 y.1 (λ e. false≢true (sym off ∙ eq-eqb q b e)))
 
 -- what keeps a king on k from being uncovered
 pub record IsCovered (rule : RuleSet) (men : List (Option Man)) (c : Colour) (a k : ℕ) : Type 0 where
-  pub no_fairy : has_fairy men (other c) ≡ false
   pub safe : is_reached men k (other c) ≡ false
   pub apart : (k == a) ≡ false
   pub straight : is_shut men (other c) Rook straight_steps k a ≡ false
   pub diagonal : is_shut men (other c) Bishop diagonal_steps k a ≡ false
+  pub unlined : is_on_fairy_line men (other c) k a ≡ false
 
 covered_parts : (rule : RuleSet) (men : List (Option Man)) (c : Colour) (a k : ℕ) → may_expose_on rule men (Some k) c a ≡ false → IsCovered rule men c a k
-unfolding is_unshielded
 covered_parts rule men c a k h =
-    let h0 = or_parts (is_unshielded men c k || k == a || is_shut men (other c) Rook straight_steps k a) (is_shut men (other c) Bishop diagonal_steps k a)
-    h in
-    let h1 = or_parts (is_unshielded men c k || k == a) (is_shut men (other c) Rook straight_steps k a) h0.0 in
-    let h2 = or_parts (is_unshielded men c k) (k == a) h1.0 in
-    let h3 = or_parts (has_fairy men (other c)) (is_reached men k (other c)) h2.0 in
-    record { no_fairy = h3.0; safe = h3.1; apart = h2.1; straight = h1.1; diagonal = h0.1 }
+    let h0 = or_parts (is_reached men k (other c) || k == a || is_shut men (other c) Rook straight_steps k a || is_shut men (other c) Bishop diagonal_steps k a)
+    (is_on_fairy_line men (other c) k a) h in
+    let h1 = or_parts (is_reached men k (other c) || k == a || is_shut men (other c) Rook straight_steps k a)
+    (is_shut men (other c) Bishop diagonal_steps k a) h0.0 in
+    let h2 = or_parts (is_reached men k (other c) || k == a) (is_shut men (other c) Rook straight_steps k a) h1.0 in
+    let h3 = or_parts (is_reached men k (other c)) (k == a) h2.0 in
+    record { safe = h3.0; apart = h3.1; straight = h2.1; diagonal = h1.1; unlined = h0.1 }
 
 -- what keeps one square from shutting a line to a man that stands on another
 not_parted : (men : List (Option Man)) (a k s : ℕ) (e : Colour) (j : Kind) (ds : List Step) → is_shut men e j ds k a ≡ false
@@ -245,28 +235,34 @@ rider_there men e s y j there side h =
 
 -- a man that reaches the king now and hasn't moved reached it before
 checks_before : (rule : RuleSet) (men after : List (Option Man)) (a b : ℕ) (z : Man) (c : Colour) (k s : ℕ) (o : Option Man) → man_on after s ≡ o
-    → IsShift men after a b z → IsCovered rule men c a k → s < 64 → k < 64 → s ≢ b → is_side o (other c) ≡ true → reaches after s k ≡ true
+    → IsShift men after a b z → IsCovered rule men c a k → is_on_fairy_line men (other c) k b ≡ false → s < 64 → k < 64 → s ≢ b → is_side o (other c) ≡ true
+    → reaches after s k ≡ true
     → (is_side (man_on men s) (other c) && reaches men s k) ≡ true
 unfolding reaches
-checks_before rule men after a b z c k s None at i g p q ne side h = cc
-checks_before rule men after a b z c k s (Some y) at i g p q ne side h =
+checks_before rule men after a b z c k s None at i g f p q ne side h = cc
+checks_before rule men after a b z c k s (Some y) at i g f p q ne side h =
     let there : man_on men s ≡ Some y = i.others s y at ne in
     let now : reaches_as after y.colour y.kind s k ≡ true = rw at at h in
-    let plain : is_fairy y.kind ≡ false = orthodox_man men (other c) s y p there side g.no_fairy in
+    let of : (j : Kind) → same_kind y.kind j ≡ true → is_man (man_on men s) (other c) j ≡ true =
+    λ j is. ap (λ (o : Option Man). is_man o (other c) j) there ∙ and_from _ _ side is in
+    let left = fairy_parts men (other c) k a g.unlined in
+    let come = fairy_parts men (other c) k b f in
     let rider : (j : Kind) → (same_kind y.kind j || same_kind y.kind Queen) ≡ true
     → (is_man (man_on men s) (other c) j || is_man (man_on men s) (other c) Queen) ≡ true = λ j h. rider_there men (other c) s y j there side h in
-    let none : NoneShut men a k s y.kind = record {
+    let none : NoneShut men after a k s y.kind = record {
       straight = λ h on both. not_parted men a k s (other c) Rook straight_steps g.straight (rider Rook h) p on both;
       diagonal = λ h on both. not_parted men a k s (other c) Bishop diagonal_steps g.diagonal (rider Bishop h) p on both;
+      hopped = λ is h. hopper_stays men after (other c) a b k s (frees men after a b z i) (stood men after a b z i) p (of Grasshopper is) left.0 come.0 h;
+      ridden = λ is h. nightrider_stays men after (other c) a k s (frees men after a b z i) p (of Nightrider is) left.1 h;
     } in
-    let was : reaches_as men y.colour y.kind s k ≡ true = reaches_before men after a b z y.colour k s y.kind i p q plain none now in
+    let was : reaches_as men y.colour y.kind s k ≡ true = reaches_before men after a b z y.colour k s y.kind i p q none now in
     let mine : is_side (man_on men s) (other c) ≡ true = rw there side in
     let then : reaches men s k ≡ true = rw there was in
     and_from _ _ mine then
 
 -- and the one that has moved is no enemy, or doesn't reach the king
 pub record IsQuiet (men : List (Option Man)) (c : Colour) (a b k : ℕ) (z : Man) : Type 0 where
-  pub quiet : same_colour z.colour (other c) ≡ true → (is_fairy z.kind ≡ false) × (reaches_as men z.colour z.kind b k ≡ false)
+  pub quiet : same_colour z.colour (other c) ≡ true → reaches_as men z.colour z.kind b k ≡ false
   pub stood : same_colour z.colour (other c) ≡ true → (man_on men a ≡ Some z) × (a < 64)
 
 -- a rider on a that a line leads to reaches along it
@@ -316,20 +312,25 @@ arrival_strikes rule men after a b z c k (Some y) at i g l p q side h =
     let came : reaches_as after z.colour z.kind b k ≡ true = ap (λ (x : Man). reaches_as after x.colour x.kind b k) (sym is) ∙ now in
     let n = l.quiet mine in
     let here = l.stood mine in
-    let none : NoneShut men a k b z.kind = record {
+    let of : (j : Kind) → same_kind z.kind j ≡ true → is_man (man_on men a) (other c) j ≡ true =
+    λ j is. ap (λ (o : Option Man). is_man o (other c) j) here.0 ∙ and_from _ _ mine is in
+    let left = fairy_parts men (other c) k a g.unlined in
+    let none : NoneShut men after a k b z.kind = record {
       straight = λ h on both. attacked_from rule men c a k z g here.1 here.0 mine
           (straight_rider men z.colour z.kind a k h (straight-back men a k here.1 q ∙ both.0));
       diagonal = λ h on both. attacked_from rule men c a k z g here.1 here.0 mine
           (diagonal_rider men z.colour z.kind a k h (diagonal-back men a k here.1 q ∙ both.0));
+      hopped = λ is h. hopper_comes men after (other c) a k b (frees men after a b z i) (stood men after a b z i) p here.1 (of Grasshopper is) left.0 h;
+      ridden = λ is h. nightrider_comes men after (other c) a k b (frees men after a b z i) p here.1 (of Nightrider is) left.1 h;
     } in
-    let was : reaches_as men z.colour z.kind b k ≡ true = reaches_before men after a b z z.colour k b z.kind i p q n.0 none came in
-    let no = n.1 in
+    let was : reaches_as men z.colour z.kind b k ≡ true = reaches_before men after a b z z.colour k b z.kind i p q none came in
+    let no = n in
     cc
 
 not_attacked : (rule : RuleSet) (men after : List (Option Man)) (a b : ℕ) (z : Man) (c : Colour) (k : ℕ) → IsShift men after a b z → IsCovered rule men c a k
-    → IsQuiet men c a b k z → k < 64 → attacked rule after k (other c) ≡ false
+    → is_on_fairy_line men (other c) k b ≡ false → IsQuiet men c a b k z → k < 64 → attacked rule after k (other c) ≡ false
 unfolding attacked strikes is_reached
-not_attacked rule men after a b z c k i g l q =
+not_attacked rule men after a b z c k i g f l q =
     some_square_false (strikes rule after k (other c)) 64 (omega arith) (record {
       fails = λ s p. false_from_ne_true _ (λ h.
           let h1 = and_parts (is_side (man_on after s) (other c) && not (paralysed rule after s)) (reaches after s k) h in
@@ -342,7 +343,7 @@ not_attacked rule men after a b z c k i g l q =
                 arrival_strikes rule men after a b z c k (man_on after b) refl i g l small q side hit
             | inr ne ↦
                 let yes : some_square (λ s. is_side (man_on men s) (other c) && reaches men s k) ≡ true =
-                some_square_true (λ s. is_side (man_on men s) (other c) && reaches men s k) s p (checks_before rule men after a b z c k s (man_on after s) refl i g p q ne h2.0 h1.1) in
+                some_square_true (λ s. is_side (man_on men s) (other c) && reaches men s k) s p (checks_before rule men after a b z c k s (man_on after s) refl i g f p q ne h2.0 h1.1) in
                 let no = g.safe in
                 cc
           ]);
@@ -365,6 +366,7 @@ pub record IsHarmless (rule : RuleSet) (men : List (Option Man)) (c : Colour) (a
   pub one : AtMostOneKing men
   pub king : is_man (Some z) c King ≡ true → king_square men c ≡ Some a
   pub cannot_expose : may_expose rule men c a ≡ false
+  pub aside : may_stand_between men c b ≡ false
   pub quiet : (k : ℕ) → king_square men c ≡ Some k → IsQuiet men c a b k z
 
 king_stays : (rule : RuleSet) (men after : List (Option Man)) (a b : ℕ) (z : Man) (c : Colour) (k : ℕ) → IsShift men after a b z → IsHarmless rule men c a b z
@@ -389,7 +391,7 @@ king_stays rule men after a b z c k i g small h =
 
 pub stays_safe : (rule : RuleSet) (men after : List (Option Man)) (a b : ℕ) (z : Man) (c : Colour) → IsShift men after a b z → IsHarmless rule men c a b z
     → in_check rule after c ≡ false
-unfolding in_check king_square squares may_expose
+unfolding in_check king_square squares may_expose may_stand_between
 stays_safe rule men after a b z c i g = by (king_square after c) refl where
   by : (o : Option ℕ) → king_square after c ≡ o → check_of rule after o (other c) ≡ false
   by None e = refl
@@ -398,7 +400,8 @@ stays_safe rule men after a b z c i g = by (king_square after c) refl where
       let small : k < 64 = omega (arith, f.high) in
       let at : king_square men c ≡ Some k = king_stays rule men after a b z c k i g small f.here in
       let no : may_expose_on rule men (Some k) c a ≡ false = ap (λ (o : Option ℕ). may_expose_on rule men o c a) (sym at) ∙ g.cannot_expose in
-      not_attacked rule men after a b z c k i (covered_parts rule men c a k no) (g.quiet k at) small
+      let off : is_on_fairy_line_to men (Some k) c b ≡ false = ap (λ (o : Option ℕ). is_on_fairy_line_to men o c b) (sym at) ∙ g.aside in
+      not_attacked rule men after a b z c k i (covered_parts rule men c a k no) off (g.quiet k at) small
 
 -- nobody is reborn where nobody is captured, or without Circe
 none_reborn : (men : List (Option Man)) (o : Option Man) (s : ℕ) → reborn_at false men o (Some s) ≡ None
@@ -497,13 +500,13 @@ king_came p x m c well here right h =
     king_is p.men c m.from well.kings (on_board p.men m.from x well.size here) (rw here is)
 
 plain_safe : (rule : RuleSet) (p : Position) (x : Man) (m : Move) (c : Colour) → IsWellFormed p → IsMade rule p x m → m.to < 64 → IsPlain rule p x m
-    → may_expose rule p.men c m.from ≡ false
+    → may_expose rule p.men c m.from ≡ false → may_stand_between p.men c m.to ≡ false
     → ((k : ℕ) → king_square p.men c ≡ Some k → IsQuiet p.men c m.from m.to k (arriving x m.promo))
     → in_check rule (after rule p m).men c ≡ false
-plain_safe rule p x m c well is small plain cannot_expose quiet =
+plain_safe rule p x m c well is small plain cannot_expose aside quiet =
     ap (λ (l : List (Option Man)). in_check rule l c) (men_after rule p x m is.here plain)
     ∙ stays_safe rule p.men (arrived p x m) m.from m.to (arriving x m.promo) c (arrived_shift rule p x m well is small plain)
-    (record { one = well.kings; king = king_came p x m c well is.here is.promotion; cannot_expose = cannot_expose; quiet = quiet })
+    (record { one = well.kings; king = king_came p x m c well is.here is.promotion; cannot_expose = cannot_expose; aside = aside; quiet = quiet })
 
 pub arriving_colour : (x : Man) (r : Option Kind) → (arriving x r).colour ≡ x.colour
 arriving_colour x None = refl
@@ -513,13 +516,19 @@ pub other_differs : (c : Colour) → same_colour c (other c) ≡ false
 other_differs White = refl
 other_differs Black = refl
 
+pub record CannotExpose (rule : RuleSet) (p : Position) (x : Man) (c : Colour) (m : Move) : Type 0 where
+  pub origin : may_expose rule p.men c m.from ≡ false
+  pub aside : may_stand_between p.men c m.to ≡ false
+  pub plain : IsPlain rule p x m
+
 cannot_expose_parts : (rule : RuleSet) (p : Position) (x : Man) (c : Colour) (m : Move) → man_on p.men m.from ≡ Some x → cannot_expose rule p c m ≡ true
-    → (may_expose rule p.men c m.from ≡ false) × IsPlain rule p x m
+    → CannotExpose rule p x c m
 unfolding cannot_expose
 cannot_expose_parts rule p x c m here h =
-    let h0 : (not (may_expose rule p.men c m.from) && is_plain rule p x m) ≡ true = rw here at h in
-    let h1 = and_parts (not (may_expose rule p.men c m.from)) (is_plain rule p x m) h0 in
-    (not-true _ h1.0, plain_parts rule p x m h1.1)
+    let h0 : (not (may_expose rule p.men c m.from) && (not (may_stand_between p.men c m.to) && is_plain rule p x m)) ≡ true = rw here at h in
+    let h1 = and_parts (not (may_expose rule p.men c m.from)) _ h0 in
+    let h2 = and_parts (not (may_stand_between p.men c m.to)) (is_plain rule p x m) h1.1 in
+    record { origin = not-true _ h1.0; aside = not-true _ h2.0; plain = plain_parts rule p x m h2.1 }
 
 -- such a move doesn't leave its mover in check
 pub cannot_expose_own : (rule : RuleSet) (p : Position) (m : Move) → IsWellFormed p → pseudo rule p m ≡ true → m.to < 64 → cannot_expose rule p p.turn m ≡ true
@@ -531,7 +540,7 @@ cannot_expose_own rule p m well may small h =
     let parts = cannot_expose_parts rule p x p.turn m w.1 h in
     let own : same_colour (arriving x m.promo).colour (other p.turn) ≡ false =
     ap (λ (c : Colour). same_colour c (other p.turn)) (arriving_colour x m.promo ∙ is.mine) ∙ other_differs p.turn in
-    plain_safe rule p x m p.turn well is small parts.1 parts.0 (λ k at. record {
+    plain_safe rule p x m p.turn well is small parts.plain parts.origin parts.aside (λ k at. record {
       quiet = λ enemy. absurd (false≢true (sym own ∙ enemy));
       stood = λ enemy. absurd (false≢true (sym own ∙ enemy));
     })
@@ -543,11 +552,11 @@ pub gives_no_check : (rule : RuleSet) (p : Position) (x : Man) (m : Move) → Is
 unfolding may_check_from
 gives_no_check rule p x m well may small here unpromoted h off =
     let parts = cannot_expose_parts rule p x (other p.turn) m here h in
-    plain_safe rule p x m (other p.turn) well (made rule p m x may here) small parts.1 parts.0 (λ k at. record {
+    plain_safe rule p x m (other p.turn) well (made rule p m x may here) small parts.plain parts.origin parts.aside (λ k at. record {
       quiet = λ enemy.
           let no : may_check_from_on p.men (Some k) (arriving x m.promo) m.to ≡ false =
           ap (λ (o : Option ℕ). may_check_from_on p.men o (arriving x m.promo) m.to) (sym at) ∙ off in
-          or_parts (is_fairy (arriving x m.promo).kind) (reaches_as p.men (arriving x m.promo).colour (arriving x m.promo).kind m.to k) no;
+          (or_parts (is_absent p.men (arriving x m.promo)) (reaches_as p.men (arriving x m.promo).colour (arriving x m.promo).kind m.to k) no).1;
       stood = λ enemy. (here ∙ ap (λ (r : Option Kind). Some (arriving x r)) (sym unpromoted), on_board p.men m.from x well.size here);
     })
 
@@ -576,33 +585,44 @@ pub shield_squares_none : (rule : RuleSet) (men : List (Option Man)) (c : Colour
 unfolding may_expose
 shield_squares_none rule men c h = word_empty (may_expose rule men c) (λ s b. ap (λ (o : Option ℕ). may_expose_on rule men o c s) h)
 
-pub shield_squares_all : (rule : RuleSet) (men : List (Option Man)) (c : Colour) (k : ℕ) → king_square men c ≡ Some k → is_unshielded men c k ≡ true
+pub shield_squares_all : (rule : RuleSet) (men : List (Option Man)) (c : Colour) (k : ℕ) → king_square men c ≡ Some k → is_reached men k (other c) ≡ true
     → bit_not w64 0 ≡ word (may_expose rule men c)
 unfolding may_expose
-shield_squares_all rule men c k at unshielded =
-    every_square (may_expose rule men c) (λ s b. ap (λ (o : Option ℕ). may_expose_on rule men o c s) at ∙ or_left _ _ (or_left _ _ (or_left _ _ unshielded)))
+shield_squares_all rule men c k at reached =
+    every_square (may_expose rule men c) (λ s b. ap (λ (o : Option ℕ). may_expose_on rule men o c s) at
+    ∙ or_left _ _ (or_left _ _ (or_left _ _ (or_left _ _ reached))))
 
-pub shield_squares_some : (rule : RuleSet) (men : List (Option Man)) (c : Colour) (k w : ℕ) → king_square men c ≡ Some k → is_unshielded men c k ≡ false
+pub shield_squares_some : (rule : RuleSet) (men : List (Option Man)) (c : Colour) (k w n : ℕ) → king_square men c ≡ Some k → is_reached men k (other c) ≡ false
     → w ≡ bit_or (bit_or (word (is_square (Some k))) (word (is_shut men (other c) Rook straight_steps k)))
     (word (is_shut men (other c) Bishop diagonal_steps k))
-    → w ≡ word (may_expose rule men c)
-unfolding may_expose
-shield_squares_some rule men c k w at unshielded h =
-    h
-    ∙ (λ j. bit_or (squares_either (λ t. is_square (Some k) t) (is_shut men (other c) Rook straight_steps k) j)
-    (word (is_shut men (other c) Bishop diagonal_steps k)))
-    ∙ squares_either (λ t. is_square (Some k) t || is_shut men (other c) Rook straight_steps k t) (is_shut men (other c) Bishop diagonal_steps k)
+    → n ≡ word (may_stand_between men c) → bit_or w n ≡ word (may_expose rule men c)
+unfolding may_expose may_stand_between
+shield_squares_some rule men c k w n at unreached h i =
+    let rook : ℕ → Bool = is_shut men (other c) Rook straight_steps k in
+    let bishop : ℕ → Bool = is_shut men (other c) Bishop diagonal_steps k in
+    (λ j. bit_or (h j) (i j))
+    ∙ (λ j. bit_or (bit_or (squares_either (λ t. is_square (Some k) t) rook j) (word bishop)) (word (may_stand_between men c)))
+    ∙ (λ j. bit_or (squares_either (λ t. is_square (Some k) t || rook t) bishop j) (word (may_stand_between men c)))
+    ∙ squares_either (λ t. (is_square (Some k) t || rook t) || bishop t) (may_stand_between men c)
     ∙ squares_same _ (may_expose rule men c)
-    (λ s b. sym (ap (λ (o : Option ℕ). may_expose_on rule men o c s) at
-    ∙ ap (λ (x : Bool). x || k == s || is_shut men (other c) Rook straight_steps k s || is_shut men (other c) Bishop diagonal_steps k s) unshielded))
+    (λ s b. ap (λ (o : Option ℕ). ((k == s || rook s) || bishop s) || is_on_fairy_line_to men o c s) at
+    ∙ sym (ap (λ (o : Option ℕ). may_expose_on rule men o c s) at
+    ∙ ap (λ (x : Bool). x || k == s || rook s || bishop s || is_on_fairy_line men (other c) k s) unreached))
 
 -- whether a move can't uncover a king, told by that word
 pub cannot_expose_is : (rule : RuleSet) (p : Position) (x : Man) (c : Colour) (m : Move) (w s : ℕ) (b : Bool) → man_on p.men m.from ≡ Some x
-    → w ≡ word (may_expose rule p.men c) → s ≡ m.from → s < 64 → b ≡ (bit_at w s == 1) → (not b && is_plain rule p x m) ≡ cannot_expose rule p c m
+    → w ≡ word (may_expose rule p.men c) → s ≡ m.from → s < 64 → b ≡ (bit_at w s == 1)
+    → (not b && (not (may_stand_between p.men c m.to) && is_plain rule p x m)) ≡ cannot_expose rule p c m
 unfolding cannot_expose
 cannot_expose_is rule p x c m w s b here h same small e =
-    rw here (ap (λ (u : Bool). not u && is_plain rule p x m) (e ∙ word_has (may_expose rule p.men c) w s h small ∙ ap (may_expose rule p.men c) same))
+    rw here (ap (λ (u : Bool). not u && (not (may_stand_between p.men c m.to) && is_plain rule p x m)) (e ∙ word_has (may_expose rule p.men c) w s h small ∙ ap (may_expose rule p.men c) same))
 
 pub cannot_expose_nobody : (rule : RuleSet) (p : Position) (c : Colour) (m : Move) → man_on p.men m.from ≡ None → false ≡ cannot_expose rule p c m
 unfolding cannot_expose
 cannot_expose_nobody rule p c m none = rw none refl
+
+-- and its second half, by the word of the lines
+pub stands_aside_is : (men : List (Option Man)) (c : Colour) (w t n : ℕ) (b u : Bool) → w ≡ word (may_stand_between men c) → t ≡ n → t < 64
+    → b ≡ (bit_at w t == 1) → (not b && u) ≡ (not (may_stand_between men c n) && u)
+stands_aside_is men c w t n b u h same small e =
+    ap (λ (y : Bool). not y && u) (e ∙ word_has (may_stand_between men c) w t h small ∙ ap (may_stand_between men c) same)

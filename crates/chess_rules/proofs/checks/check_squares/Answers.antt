@@ -1,5 +1,3 @@
-use Rattle.std.proofs.Common.{◌∙◌}
-use Rattle.chess_rules.proofs.Checking.{fairy_alike}
 use Rattle.chess_rules.proofs.checks.check_squares.Goals as goal
 
 pub returns : goal.returns
@@ -11,5 +9,5 @@ returns g c = record {
   knight = c.check_squares_of-4.ensures;
   pawn = c.check_squares_of-5.ensures;
   grasshopper = c.check_squares_of-6.ensures;
-  nightrider = c.check_squares_of-6.ensures ∙ fairy_alike c.args.board.now.men c.args.colour;
+  nightrider = c.check_squares_of-7.ensures;
 }

@@ -17,6 +17,6 @@ returns g c =
     let small : c.args.from < 64 = omega (arith, c.index-small.ensures.value, c.index-small.ensures.small) in
     let here : man_on p.men c.args.from ≡ Some x = sym c.man_at.ensures ∙ c.in-Some.is in
     let covered : (bit_at c.args.squares.now.shield_squares c.args.from == 1) ≡ false = sym c.contains.ensures ∙ c.if-contains.false in
-    check_targets_some g.R.Rules.rule p x c.args.squares.now c.args.from c.requires.well_formed here c.requires.squares small covered _ _ _ _
+    check_targets_some g.R.Rules.rule p x c.args.squares.now c.args.from c.requires.well_formed here c.requires.squares small covered _ _ _ _ _
     c.check_squares_for-checked_from.ensures (rw c.crossed.ensures at c.only.ensures) c.special_targets.ensures.promotes c.special_targets.ensures.castles
-    c.rebirth_captures.ensures
+    c.rebirth_captures.ensures (rw (c.other.ensures, c.turn.ensures) at c.fairy_lines.ensures)
