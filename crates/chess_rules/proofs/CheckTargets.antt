@@ -17,7 +17,7 @@ use Rattle.chess_core.specs.declared.man.Move.{Move}
 use Rattle.chess_rules.specs.declared.checks.CheckSquares.{CheckSquares}
 use Rattle.chess_rules.specs.Attacks.{in_check}
 use Rattle.chess_rules.specs.ties.CheckSquares.{AreCheckSquares, AreCheckTargets, check_squares_for}
-use Rattle.chess_rules.specs.ties.Shields.{cannot_expose, is_plain}
+use Rattle.chess_rules.specs.ties.Shields.{cannot_expose, is_plain, may_stand_between}
 use Rattle.chess_rules.specs.Legal.{last_rank, pseudo}
 use Rattle.chess_rules.specs.Play.{after, arriving, is_castling}
 use Rattle.chess_rules.specs.RuleSet.{RuleSet, is_circe}
@@ -63,12 +63,18 @@ pub check_targets_all : (rule : RuleSet) (p : Position) (f : ℕ) → AreCheckTa
 check_targets_all rule p f = search (rules, every_square_on)
 
 module _ (rule : RuleSet) (p : Position) (x : Man) (s : CheckSquares) (f : ℕ) (well : IsWellFormed p) (here : man_on p.men f ≡ Some x)
-    (checks : AreCheckSquares rule p.men (other p.turn) s) (inside : f < 64) (covered : (bit_at s.shield_squares f == 1) ≡ false) (a b c d : ℕ)
+    (checks : AreCheckSquares rule p.men (other p.turn) s) (inside : f < 64) (covered : (bit_at s.shield_squares f == 1) ≡ false) (a b c d e : ℕ)
     (checked_from : a ≡ check_squares_for s x.kind) (crossed : b ≡ word (λ t. is_square p.crossed t))
     (promotes : same_kind x.kind Pawn ≡ true → c ≡ 18374686479671623935) (castles : same_kind x.kind Pawn ≡ false → c ≡ word (steps_to x f))
-    (reborn : is_circe rule ≡ true → d ≡ word (λ t. is_some (man_on p.men t))) where
+    (reborn : is_circe rule ≡ true → d ≡ word (λ t. is_some (man_on p.men t))) (lines : e ≡ word (may_stand_between p.men (other p.turn))) where
   module _ (m : Move) (at : m.from ≡ f) (small : m.to < 64) (may : pseudo rule p m ≡ true)
-      (off : (bit_at (bit_or (bit_or (bit_or a b) c) d) m.to == 1) ≡ false) where
+      (off-lines : (bit_at (bit_or (bit_or (bit_or (bit_or a b) c) d) e) m.to == 1) ≡ false) where
+    off : (bit_at (bit_or (bit_or (bit_or a b) c) d) m.to == 1) ≡ false
+    off = off_left (bit_or (bit_or (bit_or a b) c) d) e m.to off-lines
+
+    aside : may_stand_between p.men (other p.turn) m.to ≡ false
+    aside = sym (word_has (may_stand_between p.men (other p.turn)) e m.to lines small) ∙ off_right (bit_or (bit_or (bit_or a b) c) d) e m.to off-lines
+
     stands : man_on p.men m.from ≡ Some x
     stands = ap (man_on p.men) at ∙ here
 
@@ -103,14 +109,14 @@ module _ (rule : RuleSet) (p : Position) (x : Man) (s : CheckSquares) (f : ℕ) 
 
     covering : cannot_expose rule p (other p.turn) m ≡ true
     unfolding cannot_expose
-    covering = search (rules, no_castling, off-ab, off_right, plain_elsewhere, stands, word_has)
+    covering = search (rules, aside, no_castling, off-ab, off_right, plain_elsewhere, stands, word_has)
 
     no_check_elsewhere : in_check rule (after rule p m).men (other p.turn) ≡ false
     no_check_elsewhere =
         no_check rule p x m s (arriving x m.promo) (check_squares_for s (arriving x m.promo).kind) m.to well may stands checks refl refl refl small
         by_kind (unnamed m.promo refl) covering
 
-  pub check_targets_some : AreCheckTargets rule p f (bit_or (bit_or (bit_or a b) c) d)
+  pub check_targets_some : AreCheckTargets rule p f (bit_or (bit_or (bit_or (bit_or a b) c) d) e)
   check_targets_some = record { elsewhere = λ m at small may off. no_check_elsewhere m at small may off }
 
 -- the targets among the squares to which the man might go

@@ -1,12 +1,13 @@
 -- The squares from which a move may give check, by kinds.
-use Rattle.std.proofs.Common.{◌≡◌, ℕ, ◌<◌, ◌==◌, ◌||◌, true, false, List, Option, Some, None, refl, sym, ap, ◌∙◌, arith, rules}
+use Rattle.std.proofs.Common.{◌≡◌, ℕ, ◌<◌, ◌==◌, ◌&&◌, ◌||◌, Bool, true, false, not, List, Option, Some, None, refl, sym, ap, ◌∙◌, arith}
 use Rattle.std.specs.Int.{bit_at, bit_not, w64}
 use Rattle.std.specs.Int.Bits.{bit_or}
+use Rattle.std.proofs.lemmas.Bool.{or_left}
 use Rattle.std.proofs.lemmas.List.Folds.{list_any-append}
-use Rattle.chess_core.specs.Position.{Position, king_square, man_on, other}
+use Rattle.chess_core.specs.Position.{Position, is_man, king_square, man_on, other}
 use Rattle.chess_core.specs.Steps.{diagonal_steps, straight_steps}
 use Rattle.chess_core.specs.WellFormed.{IsWellFormed}
-use Rattle.chess_core.specs.ties.Words.{word}
+use Rattle.chess_core.specs.ties.Words.{squares_of, word}
 use Rattle.chess_core.specs.declared.man.Colour.{Colour}
 use Rattle.chess_core.specs.declared.man.Colour.TheVariants.{White, Black}
 use Rattle.chess_core.specs.declared.man.Kind.{Kind}
@@ -16,43 +17,42 @@ use Rattle.chess_core.specs.declared.man.Move.{Move}
 use Rattle.chess_core.proofs.Words.{squares_either, squares_same}
 use Rattle.chess_rules.specs.declared.checks.CheckSquares.{CheckSquares}
 use Rattle.chess_rules.specs.Attacks.{in_check}
-use Rattle.chess_rules.specs.ties.CheckSquares.{AreCheckSquares, enemy, may_check_from, may_check_from_on, check_squares_for}
+use Rattle.chess_rules.specs.ties.CheckSquares.{AreCheckSquares, enemy, is_absent, may_check_from, may_check_from_on, check_squares_for}
 use Rattle.chess_rules.specs.ties.Shields.{cannot_expose, is_fairy}
 use Rattle.chess_rules.specs.Legal.{pseudo}
 use Rattle.chess_rules.specs.Play.{after, arriving}
 use Rattle.chess_rules.specs.Reaches.{reaches_as, rides}
 use Rattle.chess_rules.specs.RuleSet.{RuleSet}
-use Rattle.chess_rules.proofs.Bits.{word_empty, word_has}
+use Rattle.chess_rules.proofs.Bits.{not_zero, word_empty, word_has}
 use Rattle.chess_rules.proofs.Shielding.{arriving_colour, every_square, gives_no_check}
-use Rattle.chess_rules.proofs.Flips.{diagonal-back, king-back, knight-back, pawn-back, queen_rides-back, straight-back}
 use Rattle.chess_rules.proofs.Pseudo.{made}
-
--- an orthodox man goes to where an enemy of its kind would come from
-comes_back : (men : List (Option Man)) (c : Colour) (j : Kind) (k t : ℕ) → is_fairy j ≡ false → k < 64 → t < 64
-    → reaches_as men c j k t ≡ reaches_as men (other c) j t k
-unfolding reaches_as
-comes_back men c King k t f p q = king-back k t p q
-comes_back men c Queen k t f p q = queen_rides-back men k t p q
-comes_back men c Rook k t f p q = straight-back men k t p q
-comes_back men c Bishop k t f p q = diagonal-back men k t p q
-comes_back men c Knight k t f p q = knight-back k t p q
-comes_back men c Pawn k t f p q = pawn-back c k t p q
-comes_back men c Grasshopper k t f p q = cc
-comes_back men c Nightrider k t f p q = cc
 
 pub check_squares_of_none : (men : List (Option Man)) (c : Colour) (j : Kind) → king_square men c ≡ None → 0 ≡ word (may_check_from men c (enemy c j))
 unfolding may_check_from
-check_squares_of_none men c j h = search (rules, word_empty)
+check_squares_of_none men c j h = word_empty (may_check_from men c (enemy c j)) (λ s b. ap (λ (o : Option ℕ). may_check_from_on men o (enemy c j) s) h)
 
-pub check_squares_of_all : (men : List (Option Man)) (c : Colour) (j : Kind) (k : ℕ) → king_square men c ≡ Some k → is_fairy j ≡ true
+pub check_squares_of_all : (men : List (Option Man)) (c : Colour) (j : Kind) (k : ℕ) → king_square men c ≡ Some k → is_absent men (enemy c j) ≡ true
     → bit_not w64 0 ≡ word (may_check_from men c (enemy c j))
 unfolding may_check_from
-check_squares_of_all men c j k at fairy = search (rules, every_square)
+check_squares_of_all men c j k at absent =
+    every_square (may_check_from men c (enemy c j)) (λ s b. ap (λ (o : Option ℕ). may_check_from_on men o (enemy c j) s) at ∙ or_left _ _ absent)
 
-pub check_squares_of_some : (men : List (Option Man)) (c : Colour) (j : Kind) (k w : ℕ) → king_square men c ≡ Some k → k < 64 → is_fairy j ≡ false
-    → w ≡ word (λ t. reaches_as men c j k t) → w ≡ word (may_check_from men c (enemy c j))
+pub check_squares_of_some : (men : List (Option Man)) (c : Colour) (j : Kind) (k w : ℕ) → king_square men c ≡ Some k → is_absent men (enemy c j) ≡ false
+    → w ≡ word (λ s. reaches_as men (other c) j s k) → w ≡ word (may_check_from men c (enemy c j))
 unfolding may_check_from
-check_squares_of_some men c j k w at small plain h = search (rules, comes_back, squares_same)
+check_squares_of_some men c j k w at present h =
+    h ∙ squares_same (λ s. reaches_as men (other c) j s k) (may_check_from men c (enemy c j))
+    (λ s b. sym (ap (λ (o : Option ℕ). may_check_from_on men o (enemy c j) s) at ∙ ap (λ (x : Bool). x || reaches_as men (other c) j s k) present))
+
+-- whether no such fairy man stands on the board, told by the word of his kind
+pub absent_is : (men : List (Option Man)) (c : Colour) (j : Kind) (w : ℕ) → w ≡ squares_of men c j
+    → (is_fairy j && (w == 0)) ≡ is_absent men (record { colour = c; kind = j })
+unfolding squares_of
+absent_is men c j w h =
+    ap (λ (b : Bool). is_fairy j && b) (twice (w == 0) ∙ ap not (ap (λ n. not (n == 0)) h ∙ not_zero (λ q. is_man (man_on men q) c j))) where
+      twice : (b : Bool) → b ≡ not (not b)
+      twice true = refl
+      twice false = refl
 
 -- a queen's squares are a rook's and a bishop's
 queen_on : (men : List (Option Man)) (c : Colour) (o : Option ℕ) (s : ℕ)
@@ -79,11 +79,6 @@ squares_by_kind rule men c s Knight a = a.knight
 squares_by_kind rule men c s Pawn a = a.pawn
 squares_by_kind rule men c s Grasshopper a = a.grasshopper
 squares_by_kind rule men c s Nightrider a = a.nightrider
-
--- both fairy kinds strike from everywhere
-pub fairy_alike : (men : List (Option Man)) (c : Colour) → word (may_check_from men c (enemy c Grasshopper)) ≡ word (may_check_from men c (enemy c Nightrider))
-unfolding may_check_from
-fairy_alike men c = search rules
 
 pub other_twice : (c : Colour) → other (other c) ≡ c
 other_twice White = refl

@@ -20,12 +20,13 @@ use Rattle.chess_rules.specs.ties.Outward.{hopped_from, is_met, rides_on}
 use Rattle.chess_rules.specs.Play.{after, after_by, capture_square, moved_men, reborn_square, rebirth, unmoved_after}
 use Rattle.chess_rules.specs.Reaches.{hops, is_clear, leaps, reaches, reaches_as, rides}
 use Rattle.chess_rules.specs.RuleSet.{RuleSet, madrasi, orthodox}
-use Rattle.chess_rules.specs.ties.Shields.{has_fairy, is_behind, is_reached, is_shut, is_unshielded, may_expose}
+use Rattle.chess_rules.specs.ties.Shields.{has_fairy, is_behind, is_reached, is_shut, may_expose, is_on_fairy_line}
 use Rattle.chess_core.specs.ties.Words.{word, word_of}
 use Rattle.chess_rules.specs.ties.Sight.{sight_after}
 use Rattle.chess_rules.specs.ties.Targets.{may_go, pawn_goes, steps_to}
 use Rattle.chess_rules.proofs.Pseudo.{on_board}
 use Rattle.chess_rules.proofs.StayingInCheck.{side_there}
+use Rattle.chess_rules.specs.ties.Lines.{is_ahead}
 use Rattle.chess_rules.proofs.Typed.{go, man, on, position, set_up}
 use Rattle.chess_core.specs.SquareNames.{a1, b1, c1, d1, e1, g1, h1, a2, a3, b3, d3, a4, d5, e4, a5, a6, b6, d6, e5, e7, a8, e8, f8, g8, h8}
 
@@ -78,7 +79,7 @@ crossed_square_may_give_check w are = true_from_ne_false _ (λ e. false≢true (
 -- and no man that leaves e5 opens a line
 pub no_pawn_checks_from_there : (may_check_from opening_capture.men Black (enemy Black Pawn) d6 ≡ false)
     × (may_expose orthodox opening_capture.men Black e5 ≡ false)
-unfolding may_check_from may_expose is_unshielded is_reached has_fairy is_shut is_behind check_after_a_move
+unfolding may_check_from may_expose is_reached is_on_fairy_line is_ahead is_shut is_behind check_after_a_move
 no_pawn_checks_from_there = (refl, refl)
 
 -- White Ke4 Pe5, Black Kh8 Pd5, which gives check and has just passed d6: the capture en passant meets the check

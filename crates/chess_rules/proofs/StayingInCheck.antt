@@ -19,14 +19,14 @@ use Rattle.chess_core.specs.declared.step.Step.{Step}
 use Rattle.chess_core.proofs.Ranges.{some_square_true}
 use Rattle.chess_core.proofs.Words.{squares_both, squares_either}
 use Rattle.chess_rules.specs.Attacks.{attacked, check_of, in_check, paralysed, strikes}
-use Rattle.chess_rules.specs.ties.Evasions.{AreEvasions, IsNoEvasion}
-use Rattle.chess_rules.specs.ties.Shields.{has_fairy, is_fairy, is_plain}
+use Rattle.chess_rules.specs.ties.Evasions.{is_fairy_man, AreEvasions, IsNoEvasion}
+use Rattle.chess_rules.specs.ties.Shields.{is_fairy, is_plain}
 use Rattle.chess_rules.specs.Legal.{is_arrival_free, pseudo}
 use Rattle.chess_rules.specs.Play.{after, arriving}
 use Rattle.chess_rules.specs.Reaches.{is_vacant, reaches, reaches_as, rides}
 use Rattle.chess_rules.specs.RuleSet.{RuleSet, is_madrasi}
 use Rattle.chess_rules.proofs.Bits.{word_has}
-use Rattle.chess_rules.proofs.Shielding.{IsPlain, IsShift, arrived_shift, every_square, king_is, man_there, men_after, orthodox_man, other_differs, plain_parts}
+use Rattle.chess_rules.proofs.Shielding.{IsPlain, IsShift, arrived_shift, every_square, king_is, man_there, men_after, other_differs, plain_parts}
 use Rattle.chess_rules.proofs.Fits.{arrived}
 use Rattle.chess_rules.proofs.Flips.{backward, opposed, rides_turned}
 use Rattle.chess_rules.proofs.Parting.{line_open}
@@ -105,7 +105,7 @@ no_evasion_stays rule men after a b z c i one away u =
     let free = or_parts (u.checker == b) (reaches_as men c Queen u.king b && reaches_as men c Queen u.checker b) u.no_evasion in
     let off : u.checker ≢ b = λ e. (let yes : (u.checker == b) ≡ true = eq-eqb u.checker b e in let no = free.0 in cc) in
     let y_stays : man_on after u.checker ≡ Some y.0 = keeps men after a b z u.checker y.0 i y.1.0 (away.enemy u.checker u.enemy) off in
-    let plain : is_fairy y.0.kind ≡ false = orthodox_man men (other c) u.checker y.0 small y.1.0 y.1.1 u.no_fairy in
+    let plain : is_fairy y.0.kind ≡ false = ap is_fairy_man (sym y.1.0) ∙ u.plain in
     let hit = rw y.1.0 at u.check in
     let hits : reaches_as after y.0.colour y.0.kind u.checker u.king ≡ true =
     reaches_after men after a b z c u.king u.checker i small king.0 free.1 y.0.colour y.0.kind plain hit in
@@ -157,10 +157,10 @@ evasion_squares_all rule men c = record {
 
 -- the squares that meet one check
 pub evasion_squares_one : (rule : RuleSet) (men : List (Option Man)) (c : Colour) (k s w n r t : ℕ) → king_square men c ≡ Some k → is_madrasi rule ≡ false
-    → has_fairy men (other c) ≡ false → t ≡ word (λ q. is_side (man_on men q) (other c) && reaches men q k) → s < 64 → (bit_at t s == 1) ≡ true
+    → is_fairy_man (man_on men s) ≡ false → t ≡ word (λ q. is_side (man_on men q) (other c) && reaches men q k) → s < 64 → (bit_at t s == 1) ≡ true
     → w ≡ word (λ q. is_square (Some s) q) → n ≡ word (λ q. reaches_as men c Queen k q) → r ≡ word (λ q. reaches_as men c Queen s q)
     → AreEvasions rule men c (bit_or w (bit_and n r))
-evasion_squares_one rule men c k s w n r t at orthodox no_fairy all small set h i j =
+evasion_squares_one rule men c k s w n r t at orthodox plain all small set h i j =
     search (rules, first_of_and, second_of_and, squares_both, squares_either, word_has)
 
 -- the same, for a word

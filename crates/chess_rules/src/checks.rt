@@ -5,17 +5,18 @@ ghost use Rattle.chess_core.specs.declared.man.Kind.TheVariants.{Pawn};
 ghost use Rattle.chess_core.specs.WellFormed.{IsWellFormed};
 ghost use Rattle.chess_core.specs.ties.Words.{word};
 ghost use Rattle.chess_rules.specs.Attacks.{in_check};
-ghost use Rattle.chess_rules.specs.ties.CheckSquares.{AreCheckSquares, AreCheckTargets, enemy, may_check_from, check_squares_for};
+ghost use Rattle.chess_rules.specs.ties.CheckSquares.{AreCheckSquares, AreCheckTargets, enemy, is_absent, may_check_from, check_squares_for};
 ghost use Rattle.chess_rules.specs.ties.Shields.{cannot_expose, is_fairy};
 ghost use Rattle.chess_rules.specs.Legal.{pseudo};
 ghost use Rattle.chess_rules.specs.Play.{after};
 ghost use Rattle.chess_rules.specs.ties.Targets.{steps_to};
 
 use crate::evasions::rebirth_captures;
+use crate::lines::occupied;
 use crate::open_board::open_targets;
-use crate::reach::reach_as;
+use crate::outward::comes_as;
 use crate::rules::Rules;
-use crate::shields::{cannot_expose, shield_squares};
+use crate::shields::{cannot_expose, fairy_lines, shield_squares};
 use crate::targets::steps_to;
 use crate::words::{contains, only};
 use chess_core::board::Board;
@@ -32,11 +33,12 @@ pub(crate) struct CheckSquares {
     diagonal: u64,
     knight: u64,
     pawn: u64,
-    fairy: u64,
+    grasshopper: u64,
+    nightrider: u64,
 }
 
 // Whether it is a grasshopper or a nightrider.
-fn is_fairy(kind: Kind) -> bool
+pub(crate) fn is_fairy(kind: Kind) -> bool
     ensures { result ≡ is_fairy kind }
 {
     match kind {
@@ -45,18 +47,25 @@ fn is_fairy(kind: Kind) -> bool
     }
 }
 
-// The squares from which an enemy of this kind may give check to the colour's king.
+// Whether it is one of the fairy kinds, and none of the colour stands on the board.
+fn is_absent(board: &Board, colour: Colour, kind: Kind) -> bool
+    ensures { result ≡ is_absent board.now.men (record { colour = colour; kind = kind }) }
+{
+    is_fairy(kind) && board.squares(colour, kind) == 0
+}
+
+// The squares from which an enemy of this kind may give check to the colour's king: all of them for fairy men
+// of whom none stands on the board.
 fn check_squares_of(board: &Board, colour: Colour, kind: Kind) -> u64
     ensures { result ≡ word (may_check_from board.now.men colour (enemy colour kind)) }
 {
     let Some(king) = board.king_of(colour) else {
         return 0;
     };
-    let _small = king.index();
-    if is_fairy(kind) {
+    if is_absent(board, colour.other(), kind) {
         return !0;
     }
-    reach_as(board, colour, kind, king)
+    comes_as(occupied(board), colour.other(), kind, king)
 }
 
 // The squares from which a move may give check to the colour's king.
@@ -70,7 +79,8 @@ pub(crate) fn check_squares<R: Rules>(board: &Board, colour: Colour) -> CheckSqu
         diagonal: check_squares_of(board, colour, Kind::Bishop),
         knight: check_squares_of(board, colour, Kind::Knight),
         pawn: check_squares_of(board, colour, Kind::Pawn),
-        fairy: check_squares_of(board, colour, Kind::Grasshopper),
+        grasshopper: check_squares_of(board, colour, Kind::Grasshopper),
+        nightrider: check_squares_of(board, colour, Kind::Nightrider),
     }
 }
 
@@ -85,7 +95,8 @@ fn check_squares_for(squares: &CheckSquares, kind: Kind) -> u64
         Kind::Bishop => squares.diagonal,
         Kind::Knight => squares.knight,
         Kind::Pawn => squares.pawn,
-        Kind::Grasshopper | Kind::Nightrider => squares.fairy,
+        Kind::Grasshopper => squares.grasshopper,
+        Kind::Nightrider => squares.nightrider,
     }
 }
 
@@ -122,7 +133,11 @@ fn check_targets<R: Rules>(board: &Board, squares: &CheckSquares, man: Man, from
         return !0;
     }
     let checked_from = check_squares_for(squares, man.kind);
-    checked_from | only(board.crossed()) | special_targets(man, from) | rebirth_captures::<R>(board)
+    checked_from
+        | only(board.crossed())
+        | special_targets(man, from)
+        | rebirth_captures::<R>(board)
+        | fairy_lines(board, board.turn().other())
 }
 
 // Those of them to which he might go, were the others gone.

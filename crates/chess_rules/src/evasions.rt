@@ -4,22 +4,33 @@ ghost use Rattle.chess_core.specs.Position.{man_on, other};
 ghost use Rattle.chess_core.specs.WellFormed.{IsWellFormed};
 ghost use Rattle.chess_core.specs.ties.Words.{word};
 ghost use Rattle.chess_rules.specs.Attacks.{in_check};
-ghost use Rattle.chess_rules.specs.ties.Evasions.{AreEvasionsFrom, AreEvasions};
-ghost use Rattle.chess_rules.specs.ties.Shields.{cannot_expose, has_fairy, is_plain, may_expose};
+ghost use Rattle.chess_rules.specs.ties.Evasions.{AreEvasionsFrom, AreEvasions, is_fairy_man};
+ghost use Rattle.chess_rules.specs.ties.Shields.{cannot_expose, is_plain, may_expose};
 ghost use Rattle.chess_rules.specs.Legal.{pseudo};
 ghost use Rattle.chess_rules.specs.Play.{after};
 ghost use Rattle.chess_rules.specs.RuleSet.{is_circe};
 
+use crate::checks::is_fairy;
 use crate::exposure::exposes;
 use crate::lines::occupied;
 use crate::outward::attackers;
 use crate::reach::reach_as;
 use crate::rules::Rules;
-use crate::shields::{cannot_expose, has_fairy, is_plain};
+use crate::shields::{cannot_expose, is_plain};
 use crate::words::{contains, next_bit, only};
 use chess_core::board::Board;
 use chess_core::man::{Colour, Kind, Move};
 use chess_core::square::Square;
+
+// Whether a fairy man stands on the square.
+fn is_fairy_on(board: &Board, square: Square) -> bool
+    ensures { result ≡ is_fairy_man (man_on board.now.men square) }
+{
+    match board.man_at(square) {
+        Some(man) => is_fairy(man.kind),
+        None => false,
+    }
+}
 
 // The squares to which a move of another man than the king may go that ends a check to the colour's king,
 // unless it is no plain move: all of them where no check is seen. `shield_squares` are the squares from which
@@ -36,12 +47,12 @@ pub(crate) fn evasion_squares<R: Rules>(board: &Board, colour: Colour, shield_sq
     if R::is_madrasi() {
         return !0;
     }
-    if has_fairy(board, colour.other()) {
-        return !0;
-    }
     let Some(checker) = next_bit(attackers(board, king, colour.other()), 0) else {
         return !0;
     };
+    if is_fairy_on(board, checker) {
+        return !0;
+    }
     only(Some(checker))
         | (reach_as(board, colour, Kind::Queen, king)
             & reach_as(board, colour, Kind::Queen, checker))

@@ -1,11 +1,15 @@
 //! Lines in one direction, and the squares that riders get to along them.
-ghost use Rattle.std.specs.Prelude.{◌≡◌, ℕ, ◌<◌, List, Option};
+ghost use Rattle.std.specs.Prelude.{◌≡◌, ℕ, ◌<◌, ◌&&◌, Bool, List, Option};
 ghost use Rattle.std.specs.List.{list_any};
 ghost use Rattle.chess_core.specs.declared.man.Man.{Man};
 ghost use Rattle.chess_core.specs.Steps.{along, diagonal_steps, knight_steps, queen_steps, straight_steps};
-ghost use Rattle.chess_core.specs.ties.Words.{word};
-ghost use Rattle.chess_rules.specs.ties.Lines.{IsStop, direction_number, flat_steps, is_on_some, occupied_squares, ray, rises, steep_steps, step_of};
+ghost use Rattle.chess_core.specs.Squares.{some_square};
+ghost use Rattle.chess_core.specs.declared.man.Colour.{Colour};
+ghost use Rattle.chess_core.specs.declared.man.Kind.TheVariants.{Grasshopper, Nightrider};
+ghost use Rattle.chess_core.specs.ties.Words.{squares_of, word};
+ghost use Rattle.chess_rules.specs.ties.Lines.{IsStop, direction_number, flat_steps, is_ahead, is_on_some, occupied_squares, ray, rises, steep_steps, step_of};
 ghost use Rattle.chess_rules.specs.ties.Outward.{hopped_from};
+ghost use Rattle.chess_rules.specs.ties.Shields.{is_lined};
 ghost use Rattle.chess_rules.specs.Reaches.{hops, rides};
 
 use crate::geometry::{DIAGONAL_LINES, RAYS, STRAIGHT_LINES};
@@ -153,6 +157,19 @@ pub(crate) fn queen_rides(occupied: u64, from: Square) -> u64
     straight_rides(occupied, from) | diagonal_rides(occupied, from)
 }
 
+// The squares of the line in this direction, if it passes a square of the word.
+fn line_with(from: Square, squares: u64, direction: Direction) -> u64
+    ensures { (test : ℕ → Bool) → squares ≡ word test
+        → result ≡ word (λ t. is_ahead from (step_of direction) t
+        && some_square (λ q. test q && is_ahead from (step_of direction) q)) }
+{
+    let ray = direction.ray(from);
+    if ray & squares == 0 {
+        return 0;
+    }
+    ray
+}
+
 // The square to which a grasshopper on `from` hops in this direction, if there is one.
 fn hop(occupied: u64, from: Square, direction: Direction) -> u64
     ensures { (men : List (Option Man)) → occupied ≡ occupied_squares men → result ≡ word (λ t. hops men from t (step_of direction)) }
@@ -257,4 +274,36 @@ pub(crate) fn queen_hops_back(occupied: u64, to: Square) -> u64
     ensures { (men : List (Option Man)) → occupied ≡ occupied_squares men → result ≡ word (λ s. list_any (hopped_from men to s) queen_steps) }
 {
     straight_hops_back(occupied, to) | diagonal_hops_back(occupied, to)
+}
+
+// The squares of those of the queen's lines from the square that pass a square of the word.
+pub(crate) fn queen_lines_with(from: Square, squares: u64) -> u64
+    ensures { (men : List (Option Man)) (e : Colour) → squares ≡ squares_of men e Grasshopper
+        → result ≡ word (λ t. list_any (is_lined men e Grasshopper from t) queen_steps) }
+{
+    let straight = line_with(from, squares, Direction::East)
+        | line_with(from, squares, Direction::West)
+        | line_with(from, squares, Direction::North)
+        | line_with(from, squares, Direction::South);
+    let diagonal = line_with(from, squares, Direction::NorthEast)
+        | line_with(from, squares, Direction::SouthEast)
+        | line_with(from, squares, Direction::NorthWest)
+        | line_with(from, squares, Direction::SouthWest);
+    straight | diagonal
+}
+
+// The same of a nightrider's lines.
+pub(crate) fn knight_lines_with(from: Square, squares: u64) -> u64
+    ensures { (men : List (Option Man)) (e : Colour) → squares ≡ squares_of men e Nightrider
+        → result ≡ word (λ t. list_any (is_lined men e Nightrider from t) knight_steps) }
+{
+    let steep = line_with(from, squares, Direction::NorthNorthEast)
+        | line_with(from, squares, Direction::SouthSouthEast)
+        | line_with(from, squares, Direction::NorthNorthWest)
+        | line_with(from, squares, Direction::SouthSouthWest);
+    let flat = line_with(from, squares, Direction::EastNorthEast)
+        | line_with(from, squares, Direction::EastSouthEast)
+        | line_with(from, squares, Direction::WestNorthWest)
+        | line_with(from, squares, Direction::WestSouthWest);
+    steep | flat
 }

@@ -27,7 +27,7 @@ use chess_core::man::{Colour, Kind};
 use chess_core::square::Square;
 
 // The squares from which a man of this colour and kind could go to `to` if an enemy stood there.
-fn comes_as(occupied: u64, colour: Colour, kind: Kind, to: Square) -> u64
+pub(crate) fn comes_as(occupied: u64, colour: Colour, kind: Kind, to: Square) -> u64
     ensures { (men : List (Option Man)) → occupied ≡ occupied_squares men → result ≡ word (λ s. reaches_as men colour kind s to) }
 {
     let _small = to.index();

@@ -1,5 +1,5 @@
 //! The squares that shield a king, and the moves that can't expose it.
-ghost use Rattle.std.specs.Prelude.{◌≡◌, ◌==◌, ◌&&◌, ◌||◌, List, Option, is_some};
+ghost use Rattle.std.specs.Prelude.{◌≡◌, ◌==◌, ◌&&◌, ◌||◌, List, Option, is_some, not};
 ghost use Rattle.std.specs.Int.{bit_at};
 ghost use Rattle.std.specs.Int.Bits.{bit_or};
 ghost use Rattle.std.specs.List.{list_any};
@@ -11,10 +11,13 @@ ghost use Rattle.chess_core.specs.declared.man.Kind.TheVariants.{Bishop, Queen, 
 ghost use Rattle.chess_rules.specs.ties.Lines.{is_on_some, occupied_squares};
 ghost use Rattle.chess_rules.specs.Reaches.{rides};
 ghost use Rattle.chess_core.specs.ties.Words.{squares_of, word};
-ghost use Rattle.chess_rules.specs.ties.Shields.{cannot_expose, has_fairy, is_shut, is_unshielded, is_plain, may_expose, rider_along, steps_along};
+ghost use Rattle.chess_rules.specs.ties.Shields.{cannot_expose, has_fairy, is_shut, is_plain, may_expose, may_stand_between, rider_along, steps_along};
 ghost use Rattle.chess_rules.specs.RuleSet.{is_circe};
 
-use crate::lines::{diagonal_lines, diagonal_rides, occupied, straight_lines, straight_rides};
+use crate::lines::{
+    diagonal_lines, diagonal_rides, knight_lines_with, occupied, queen_lines_with, straight_lines,
+    straight_rides,
+};
 use crate::outward::is_reached;
 use crate::play::is_castling;
 use crate::rules::Rules;
@@ -30,13 +33,29 @@ pub(crate) fn has_fairy(board: &Board, colour: Colour) -> bool
     board.squares(colour, Kind::Grasshopper) != 0 || board.squares(colour, Kind::Nightrider) != 0
 }
 
-// Whether an enemy reaches the colour's king, on this square, be it paralysed or not, or check may come to it
-// by other ways than an orthodox man's.
-#[tactic(auto, unfolding(crate::specs::ties::Shields::is_unshielded))]
-fn is_unshielded(board: &Board, colour: Colour, king: Square) -> bool
-    ensures { result ≡ is_unshielded board.now.men colour king }
+// The squares of the lines to the colour's king with a fairy man of the other colour on them: the queen's
+// lines with a grasshopper, and a nightrider's with a nightrider.
+#[inline(always)]
+pub(crate) fn fairy_lines(board: &Board, colour: Colour) -> u64
+    ensures { result ≡ word (may_stand_between board.now.men colour) }
 {
-    has_fairy(board, colour.other()) || is_reached(board, king, colour.other())
+    if !has_fairy(board, colour.other()) {
+        return 0;
+    }
+    lines_with_fairy_men(board, colour)
+}
+
+// The same where there is such a man.
+#[inline(never)]
+fn lines_with_fairy_men(board: &Board, colour: Colour) -> u64
+    ensures { result ≡ word (may_stand_between board.now.men colour) }
+{
+    let side = colour.other();
+    let Some(king) = board.king_of(colour) else {
+        return 0;
+    };
+    queen_lines_with(king, board.squares(side, Kind::Grasshopper))
+        | knight_lines_with(king, board.squares(side, Kind::Nightrider))
 }
 
 /// The lines of a rook, or those of a bishop.
@@ -139,10 +158,10 @@ pub(crate) fn shield_squares<R: Rules>(board: &Board, colour: Colour) -> u64
     let Some(king) = board.king_of(colour) else {
         return 0;
     };
-    if is_unshielded(board, colour, king) {
+    if is_reached(board, king, colour.other()) {
         return !0;
     }
-    shields_of(board, colour, king)
+    shields_of(board, colour, king) | fairy_lines(board, colour)
 }
 
 // Whether the man's move changes nothing but its own square.
@@ -155,6 +174,16 @@ pub(crate) fn is_plain<R: Rules>(board: &Board, man: Man, m: &Move) -> bool
         && !(R::is_circe() && board.man_at(m.to).is_some())
 }
 
+// Whether the man arrives on no line to the colour's king with a fairy man of the other colour, and its move
+// changes nothing but its own square.
+fn stands_aside<R: Rules>(board: &Board, man: Man, colour: Colour, m: &Move) -> bool
+    ensures { result ≡ (not (may_stand_between board.now.men colour m.now.to)
+        && is_plain R.rule board.now man m.now) }
+{
+    let _small = m.to.index();
+    !contains(fairy_lines(board, colour), m.to) && is_plain::<R>(board, man, m)
+}
+
 // Whether the move can't expose the colour's king; `squares` are those from which one may.
 pub(crate) fn cannot_expose<R: Rules>(board: &Board, colour: Colour, squares: u64, m: &Move) -> bool
     requires { squares ≡ word (may_expose R.rule board.now.men colour) }
@@ -162,7 +191,7 @@ pub(crate) fn cannot_expose<R: Rules>(board: &Board, colour: Colour, squares: u6
 {
     let _small = m.from.index();
     match board.man_at(m.from) {
-        Some(man) => !contains(squares, m.from) && is_plain::<R>(board, man, m),
+        Some(man) => !contains(squares, m.from) && stands_aside::<R>(board, man, colour, m),
         None => false,
     }
 }

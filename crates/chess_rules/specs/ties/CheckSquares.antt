@@ -1,8 +1,9 @@
 -- Squares from which a move may give check (own).
-use Rattle.std.specs.Prelude.{◌≡◌, ◌<◌, ℕ, Bool, true, false, ◌||◌, ◌==◌, List, Option, Some, None}
+use Rattle.std.specs.Prelude.{◌≡◌, ◌<◌, ℕ, Bool, true, false, ◌&&◌, ◌||◌, ◌==◌, not, List, Option, Some, None}
 use Rattle.std.specs.Int.{bit_at}
 use Rattle.std.specs.Int.Bits.{bit_or}
-use Rattle.chess_core.specs.Position.{Position, king_square, other}
+use Rattle.chess_core.specs.Position.{Position, is_man, king_square, man_on, other}
+use Rattle.chess_core.specs.Squares.{some_square}
 use Rattle.chess_core.specs.ties.Words.{word}
 use Rattle.chess_core.specs.declared.man.Man.{Man}
 use Rattle.chess_core.specs.declared.man.Move.{Move}
@@ -17,10 +18,15 @@ use Rattle.chess_rules.specs.Reaches.{reaches_as}
 use Rattle.chess_rules.specs.RuleSet.{RuleSet}
 use Rattle.chess_rules.specs.ties.Shields.{is_fairy, may_expose}
 
--- x, on t, may give check to a king on this square, if there is one
+-- it is a fairy man, and none of its colour and kind stands on the board
+abbrev pub is_absent : List (Option Man) → Man → Bool
+is_absent men x = is_fairy x.kind && not (some_square (λ q. is_man (man_on men q) x.colour x.kind))
+
+-- x, on t, may give check to a king on this square, if there is one; a fairy man of whom none stands on the
+-- board may from everywhere
 abbrev pub may_check_from_on : List (Option Man) → Option ℕ → Man → ℕ → Bool
 may_check_from_on men None x t = false
-may_check_from_on men (Some k) x t = is_fairy x.kind || reaches_as men x.colour x.kind t k
+may_check_from_on men (Some k) x t = is_absent men x || reaches_as men x.colour x.kind t k
 
 -- x, on t, may give check to the king of colour c
 unfoldable pub may_check_from : List (Option Man) → Colour → Man → ℕ → Bool
@@ -39,8 +45,8 @@ pub record AreCheckSquares (rule : RuleSet) (men : List (Option Man)) (c : Colou
   pub diagonal : s.diagonal ≡ word (may_check_from men c (enemy c Bishop))
   pub knight : s.knight ≡ word (may_check_from men c (enemy c Knight))
   pub pawn : s.pawn ≡ word (may_check_from men c (enemy c Pawn))
-  pub grasshopper : s.fairy ≡ word (may_check_from men c (enemy c Grasshopper))
-  pub nightrider : s.fairy ≡ word (may_check_from men c (enemy c Nightrider))
+  pub grasshopper : s.grasshopper ≡ word (may_check_from men c (enemy c Grasshopper))
+  pub nightrider : s.nightrider ≡ word (may_check_from men c (enemy c Nightrider))
 
 -- of these words that of a kind
 abbrev pub check_squares_for : CheckSquares → Kind → ℕ
@@ -50,8 +56,8 @@ check_squares_for s Rook = s.straight
 check_squares_for s Bishop = s.diagonal
 check_squares_for s Knight = s.knight
 check_squares_for s Pawn = s.pawn
-check_squares_for s Grasshopper = s.fairy
-check_squares_for s Nightrider = s.fairy
+check_squares_for s Grasshopper = s.grasshopper
+check_squares_for s Nightrider = s.nightrider
 
 -- a move from s that may be made gives no check, if it goes to a square not in the word
 pub record AreCheckTargets (rule : RuleSet) (p : Position) (s w : ℕ) : Type 0 where

@@ -1,5 +1,5 @@
 -- Squares to which a move may go that answers a check (own).
-use Rattle.std.specs.Prelude.{◌≡◌, ◌<◌, ℕ, Bool, true, false, ◌&&◌, ◌||◌, ◌==◌, List, Option, Some}
+use Rattle.std.specs.Prelude.{◌≡◌, ◌<◌, ℕ, Bool, true, false, ◌&&◌, ◌||◌, ◌==◌, List, Option, None, Some}
 use Rattle.std.specs.Int.{bit_at}
 use Rattle.chess_core.specs.Position.{Position, is_side, king_square, man_on, other}
 use Rattle.chess_core.specs.declared.man.Man.{Man}
@@ -10,7 +10,7 @@ use Rattle.chess_rules.specs.Attacks.{in_check}
 use Rattle.chess_rules.specs.Legal.{pseudo}
 use Rattle.chess_rules.specs.Play.{after}
 use Rattle.chess_rules.specs.Reaches.{reaches, reaches_as}
-use Rattle.chess_rules.specs.ties.Shields.{has_fairy}
+use Rattle.chess_rules.specs.ties.Shields.{is_fairy}
 use Rattle.chess_rules.specs.RuleSet.{RuleSet, is_madrasi}
 
 -- a move to t answers the check that the man on q gives to the king of colour c on k: it takes that man, or
@@ -18,13 +18,18 @@ use Rattle.chess_rules.specs.RuleSet.{RuleSet, is_madrasi}
 abbrev pub is_evasion : List (Option Man) → Colour → ℕ → ℕ → ℕ → Bool
 is_evasion men c k q t = q == t || (reaches_as men c Queen k t && reaches_as men c Queen q t)
 
--- an orthodox check to the king of colour c that a move to t doesn't meet
+-- the man, if there is one, is a grasshopper or a nightrider
+abbrev pub is_fairy_man : Option Man → Bool
+is_fairy_man None = false
+is_fairy_man (Some y) = is_fairy y.kind
+
+-- a check of an orthodox man to the king of colour c that a move to t doesn't meet
 pub record IsNoEvasion (rule : RuleSet) (men : List (Option Man)) (c : Colour) (t : ℕ) : Type 0 where
   pub king : ℕ
   pub checker : ℕ
   pub here : king_square men c ≡ Some king
   pub orthodox : is_madrasi rule ≡ false
-  pub no_fairy : has_fairy men (other c) ≡ false
+  pub plain : is_fairy_man (man_on men checker) ≡ false
   pub enemy : is_side (man_on men checker) (other c) ≡ true
   pub check : reaches men checker king ≡ true
   pub no_evasion : is_evasion men c king checker t ≡ false

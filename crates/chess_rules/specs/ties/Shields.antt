@@ -9,9 +9,9 @@ use Rattle.chess_core.specs.declared.man.Kind.{Kind}
 use Rattle.chess_core.specs.declared.man.Kind.TheVariants.{King, Queen, Rook, Bishop, Knight, Pawn, Grasshopper, Nightrider}
 use Rattle.chess_rules.specs.Play.{is_castling}
 use Rattle.std.specs.List.{list_any}
-use Rattle.chess_core.specs.Steps.{diagonal_steps, straight_steps}
+use Rattle.chess_core.specs.Steps.{diagonal_steps, knight_steps, queen_steps, straight_steps}
 use Rattle.chess_core.specs.declared.step.Step.{Step}
-use Rattle.chess_rules.specs.ties.Lines.{is_on_some}
+use Rattle.chess_rules.specs.ties.Lines.{is_ahead, is_on_some}
 use Rattle.chess_rules.specs.Reaches.{reaches, rides}
 use Rattle.chess_rules.specs.declared.shields.RiderLines.{RiderLines}
 use Rattle.chess_rules.specs.declared.shields.RiderLines.TheVariants.{Straight, Diagonal}
@@ -37,10 +37,24 @@ has_fairy men c =
 unfoldable pub is_reached : List (Option Man) → ℕ → Colour → Bool
 is_reached men k e = some_square (λ s. is_side (man_on men s) e && reaches men s k)
 
--- an enemy reaches the king of colour c on k, be it paralysed or not, or check may come to it by other ways than an
--- orthodox man's
-unfoldable pub is_unshielded : List (Option Man) → Colour → ℕ → Bool
-is_unshielded men c k = has_fairy men (other c) || is_reached men k (other c)
+-- t lies on a line from k by this step, and so does a man of colour e and kind j
+abbrev pub is_lined : List (Option Man) → Colour → Kind → ℕ → ℕ → Step → Bool
+is_lined men e j k t d = is_ahead k d t && some_square (λ q. is_man (man_on men q) e j && is_ahead k d q)
+
+-- t lies on a queen's line from k on which a grasshopper of colour e stands, or on a nightrider's line from
+-- there with such a nightrider
+unfoldable pub is_on_fairy_line : List (Option Man) → Colour → ℕ → ℕ → Bool
+is_on_fairy_line men e k t =
+    list_any (is_lined men e Grasshopper k t) queen_steps || list_any (is_lined men e Nightrider k t) knight_steps
+
+-- the same with the king's square, if there is a king
+abbrev pub is_on_fairy_line_to : List (Option Man) → Option ℕ → Colour → ℕ → Bool
+is_on_fairy_line_to men None c t = false
+is_on_fairy_line_to men (Some k) c t = is_on_fairy_line men (other c) k t
+
+-- a man on t may be a hurdle before the king of colour c, or shut a nightrider's line to it
+unfoldable pub may_stand_between : List (Option Man) → Colour → ℕ → Bool
+may_stand_between men c t = is_on_fairy_line_to men (king_square men c) c t
 
 -- a queen or a man of kind j, of colour e, stands on q, on one of the lines from k by these steps, and comes to s
 -- by such a step
@@ -56,10 +70,12 @@ is_shut men e j ds k s = list_any (rides men k s) ds && some_square (is_behind m
 abbrev pub may_expose_on : RuleSet → List (Option Man) → Option ℕ → Colour → ℕ → Bool
 may_expose_on rule men None c s = false
 may_expose_on rule men (Some k) c s =
-    is_unshielded men c k || k == s || is_shut men (other c) Rook straight_steps k s || is_shut men (other c) Bishop diagonal_steps k s
+    is_reached men k (other c) || k == s || is_shut men (other c) Rook straight_steps k s
+    || is_shut men (other c) Bishop diagonal_steps k s || is_on_fairy_line men (other c) k s
 
--- a move from s may expose the king of colour c: it is the king's own, or s shuts a line between it and an
--- enemy rider of that line
+-- a move from s may expose the king of colour c: an enemy reaches it, be it paralysed or not, the move is
+-- the king's own, or s shuts a line between it and an enemy rider of that line, or lies on a line to it with
+-- an enemy grasshopper or nightrider
 unfoldable pub may_expose : RuleSet → List (Option Man) → Colour → ℕ → Bool
 may_expose rule men c s = may_expose_on rule men (king_square men c) c s
 
@@ -82,7 +98,8 @@ is_plain rule p x m =
 -- the move of this man, if there is one, can't uncover the king of colour c
 abbrev pub cannot_expose_of : RuleSet → Position → Option Man → Colour → Move → Bool
 cannot_expose_of rule p None c m = false
-cannot_expose_of rule p (Some x) c m = not (may_expose rule p.men c m.from) && is_plain rule p x m
+cannot_expose_of rule p (Some x) c m =
+    not (may_expose rule p.men c m.from) && (not (may_stand_between p.men c m.to) && is_plain rule p x m)
 
 -- the move can't uncover the king of colour c
 unfoldable pub cannot_expose : RuleSet → Position → Colour → Move → Bool

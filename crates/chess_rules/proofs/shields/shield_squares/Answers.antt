@@ -1,12 +1,16 @@
-use Rattle.std.proofs.Common.{rules}
+use Rattle.std.proofs.Common.{◌∙◌, sym}
 use Rattle.chess_rules.proofs.Shielding.{shield_squares_all, shield_squares_none, shield_squares_some}
 use Rattle.chess_rules.proofs.shields.shield_squares.Goals as goal
 
 pub returns-in_default : goal.returns-in_default
-returns-in_default g c = search (rules, shield_squares_none)
+returns-in_default g c = shield_squares_none g.R.Rules.rule c.args.board.now.men c.args.colour (sym c.king_of.ensures ∙ c.in_default.is)
 
-pub returns-then-is_unshielded : goal.returns-then-is_unshielded
-returns-then-is_unshielded g c = search (rules, shield_squares_all)
+pub returns-then-is_reached : goal.returns-then-is_reached
+returns-then-is_reached g c =
+    shield_squares_all g.R.Rules.rule c.args.board.now.men c.args.colour c.in-Some.king (sym c.king_of.ensures ∙ c.in-Some.is)
+    (rw c.other.ensures at (sym c.is_reached.ensures ∙ c.if-is_reached.true))
 
 pub returns : goal.returns
-returns g c = search (rules, shield_squares_some)
+returns g c =
+    shield_squares_some g.R.Rules.rule c.args.board.now.men c.args.colour c.in-Some.king c.shields_of.result c.fairy_lines.result (sym c.king_of.ensures ∙ c.in-Some.is)
+    (rw c.other.ensures at (sym c.is_reached.ensures ∙ c.if-is_reached.false)) c.shields_of.ensures c.fairy_lines.ensures

@@ -1,0 +1,20 @@
+use Rattle.std.proofs.Common.{ℕ, Bool}
+use Rattle.chess_core.specs.Position.{is_man, man_on}
+use Rattle.chess_core.specs.Steps.{diagonal_steps, straight_steps}
+use Rattle.chess_core.specs.declared.man.Kind.TheVariants.{Grasshopper}
+use Rattle.chess_rules.specs.declared.lines.Direction.TheVariants.{East, West, North, South, NorthEast, SouthEast, NorthWest, SouthWest}
+use Rattle.chess_rules.specs.ties.Lines.{step_of}
+use Rattle.chess_rules.specs.ties.Shields.{is_lined}
+use Rattle.chess_rules.proofs.FairyLines.{man_test}
+use Rattle.chess_rules.proofs.Joining.{both_lists, four}
+use Rattle.chess_rules.proofs.lines.queen_lines_with.Goals as goal
+
+pub returns : goal.returns
+returns c = λ men e squares.
+    let test : ℕ → Bool = λ q. is_man (man_on men q) e Grasshopper in
+    let held = man_test men e Grasshopper c.args.squares squares in
+    both_lists (is_lined men e Grasshopper c.args.from) straight_steps diagonal_steps _ _
+    (four (is_lined men e Grasshopper c.args.from) (step_of East) (step_of West) (step_of North) (step_of South) c.line_with.result c.line_with-2.result c.line_with-3.result c.line_with-4.result
+    (c.line_with.ensures test held) (c.line_with-2.ensures test held) (c.line_with-3.ensures test held) (c.line_with-4.ensures test held))
+    (four (is_lined men e Grasshopper c.args.from) (step_of NorthEast) (step_of SouthEast) (step_of NorthWest) (step_of SouthWest) c.line_with-5.result c.line_with-6.result c.line_with-7.result c.line_with-8.result
+    (c.line_with-5.ensures test held) (c.line_with-6.ensures test held) (c.line_with-7.ensures test held) (c.line_with-8.ensures test held))
