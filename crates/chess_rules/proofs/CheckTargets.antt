@@ -17,7 +17,7 @@ use Rattle.chess_core.specs.declared.man.Move.{Move}
 use Rattle.chess_rules.specs.declared.checks.CheckSquares.{CheckSquares}
 use Rattle.chess_rules.specs.Attacks.{in_check}
 use Rattle.chess_rules.specs.ties.CheckSquares.{AreCheckSquares, AreCheckTargets, check_squares_for}
-use Rattle.chess_rules.specs.ties.Shields.{cannot_expose, is_plain, may_stand_between}
+use Rattle.chess_rules.specs.ties.Shields.{cannot_expose, is_plain, may_expose, may_stand_between}
 use Rattle.chess_rules.specs.Legal.{last_rank, pseudo}
 use Rattle.chess_rules.specs.Play.{after, arriving, is_castling}
 use Rattle.chess_rules.specs.RuleSet.{RuleSet, is_circe}
@@ -109,7 +109,11 @@ module _ (rule : RuleSet) (p : Position) (x : Man) (s : CheckSquares) (f : ℕ) 
 
     covering : cannot_expose rule p (other p.turn) m ≡ true
     unfolding cannot_expose
-    covering = search (rules, aside, no_castling, off-ab, off_right, plain_elsewhere, stands, word_has)
+    covering =
+        let stays : may_expose rule p.men (other p.turn) m.from ≡ false =
+                rw at (sym (word_has (may_expose rule p.men (other p.turn)) s.shield_squares f checks.shield_squares inside) ∙ covered) in
+        let plain = plain_elsewhere rule p x m b d small no_castling crossed (off_right a b m.to off-ab) reborn (off_right (bit_or (bit_or a b) c) d m.to off) in
+        rw (stands, stays, aside, plain) refl
 
     no_check_elsewhere : in_check rule (after rule p m).men (other p.turn) ≡ false
     no_check_elsewhere =

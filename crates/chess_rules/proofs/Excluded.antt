@@ -14,7 +14,7 @@ use Rattle.chess_core.specs.declared.man.Kind.TheVariants.{King, Queen, Rook, Bi
 use Rattle.chess_core.specs.declared.man.Man.{Man}
 use Rattle.chess_rules.specs.Attacks.{attacked, faces, faces_its_like, in_check, paralysed, strikes}
 use Rattle.chess_rules.specs.ties.CheckSquares.{AreCheckTargets, enemy, may_check_from}
-use Rattle.chess_rules.specs.ties.Evasions.{AreEvasions, AreEvasionsFrom, is_evasion}
+use Rattle.chess_rules.specs.ties.Evasions.{is_fairy_man, AreEvasions, AreEvasionsFrom, is_evasion}
 use Rattle.chess_rules.specs.Legal.{castles, goes, is_arrival_free, legal, may_castle, pseudo, triples}
 use Rattle.chess_rules.specs.ties.Outward.{hopped_from, is_met, rides_on}
 use Rattle.chess_rules.specs.Play.{after, after_by, capture_square, moved_men, reborn_square, rebirth, unmoved_after}
@@ -192,9 +192,19 @@ pub grasshopper_is_seen : has_fairy (set_up (on Black Grasshopper a1 ∷ [])) Bl
 unfolding has_fairy squares some_square
 grasshopper_is_seen = refl
 
--- may meet a check from everywhere
+-- Black men other than fairy men: there is none
+abbrev orthodox_enemy : ℕ → Bool
+orthodox_enemy s =
+    is_side (man_on (set_up (on Black Grasshopper a1 ∷ [])) s) Black && not (is_fairy_man (man_on (set_up (on Black Grasshopper a1 ∷ [])) s))
+
+-- so a grasshopper's check may be met everywhere
 pub any_square_may_meet_a_fairy_check : (w t : ℕ) → t < 64 → AreEvasions orthodox (set_up (on Black Grasshopper a1 ∷ [])) White w → (bit_at w t == 1) ≡ true
-any_square_may_meet_a_fairy_check w t small are = true_from_ne_false _ (λ e. false≢true (sym (are.elsewhere t small e).no_fairy ∙ grasshopper_is_seen))
+any_square_may_meet_a_fairy_check w t small are = true_from_ne_false _ (λ e.
+    let men = set_up (on Black Grasshopper a1 ∷ []) in
+    let u = are.elsewhere t small e in
+    let enemy = side_there (man_on men u.checker) Black u.enemy in
+    let inside : u.checker < 64 = on_board men u.checker enemy.0 refl enemy.1.0 in
+    false≢true (sym (agree_below_at orthodox_enemy (λ _. false) 64 u.checker refl inside) ∙ and_from _ _ u.enemy (ap not u.plain)))
 
 -- an enemy on s gives check to the king on a1, and a man that goes to t doesn't meet it
 abbrev unmet : ℕ → ℕ → Bool

@@ -20,7 +20,7 @@ use Rattle.chess_core.proofs.Ranges.{any_range_false, some_square_false, some_sq
 use Rattle.chess_core.proofs.Words.{squares_both, squares_either, squares_not}
 use Rattle.chess_rules.specs.Attacks.{attacked, in_check, is_faced, paralysed, strikes}
 use Rattle.chess_rules.specs.ties.Flights.{AreOpen, IsSeenFrom, has_flight, is_flight, is_flight_from, is_open, sight_lifted, sight_with}
-use Rattle.chess_rules.specs.Legal.{is_promotion_right, is_arrival_free, is_goal, is_nil, legal, moves, pseudo}
+use Rattle.chess_rules.specs.Legal.{goes, is_promotion_right, is_arrival_free, is_goal, is_nil, legal, moves, pseudo}
 use Rattle.chess_rules.specs.ties.Lines.{occupied_squares}
 use Rattle.chess_rules.specs.ties.Places.{mates, moves_behind, triple_at}
 use Rattle.chess_rules.specs.Play.{after, arriving, capture_square}
