@@ -128,6 +128,7 @@ impl Reader {
 }
 
 // After a fault, uses words that say nothing.
+#[tactic(auto, using(pop_text::proofs::Plain::skips_none))]
 fn skip_on(scanner: &mut Scanner, fault: Option<Fault>)
     ensures skips { Skips scanner.old scanner.new }
     ensures sound { fault ≡ None → scanner.new ≡ scanner.old }

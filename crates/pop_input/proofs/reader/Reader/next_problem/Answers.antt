@@ -51,7 +51,9 @@ words-preserved-in-TooLong g c =
 pub words-preserved : goal.words-preserved
 words-preserved g c =
     let i = c.words.invariant in
-    let reads : ReadsWord c.match-self.first c.args.self.now.at c.words.self-inside.scanner c.next_token.new.scanner (g.S.Source.remaining c.args.source.now) (g.S.Source.remaining c.words.source) (g.S.Source.remaining c.next_token.new.source) c.words.block c.read.new.self i.block c.next_token.new.word.line c.next_token.new.word.bytes.items
+    let reads : ReadsWord c.match-self.first c.args.self.now.at c.words.self-inside.scanner c.next_token.new.scanner
+    (g.S.Source.remaining c.args.source.now) (g.S.Source.remaining c.words.source) (g.S.Source.remaining c.next_token.new.source)
+    c.words.block c.read.new.self i.block c.next_token.new.word.line c.next_token.new.word.bytes.items
     = rw (← c.of-said.ensures) (c.read.ensures.fault, λ none. (c.read.ensures.begun none, c.read.ensures.draft none, c.read.ensures.title, c.read.ensures.author)) in
     let t = c.next_token.ensures.token in
     let word = rw c.in-Word.is at t in
@@ -71,7 +73,9 @@ words-preserved g c =
 pub returns-in-Some-clause-item : goal.returns-in-Some-clause-item
 returns-in-Some-clause-item g c =
     let i = c.words.invariant in
-    let reads : ReadsWord c.match-self.first c.args.self.now.at c.words.self-inside.scanner c.next_token.new.scanner (g.S.Source.remaining c.args.source.now) (g.S.Source.remaining c.words.source) (g.S.Source.remaining c.next_token.new.source) c.words.block c.read.new.self i.block c.next_token.new.word.line c.next_token.new.word.bytes.items
+    let reads : ReadsWord c.match-self.first c.args.self.now.at c.words.self-inside.scanner c.next_token.new.scanner
+    (g.S.Source.remaining c.args.source.now) (g.S.Source.remaining c.words.source) (g.S.Source.remaining c.next_token.new.source)
+    c.words.block c.read.new.self i.block c.next_token.new.word.line c.next_token.new.word.bytes.items
     = rw (← c.of-said.ensures) (c.read.ensures.fault, λ none. (c.read.ensures.begun none, c.read.ensures.draft none, c.read.ensures.title, c.read.ensures.author)) in
     let t = c.in-Word.ensures.token in
     let is : last_of (command_of c.next_token.new.word.bytes.items) ≡ Some c.in-Some.last = ap (λ text. last_of (command_of text)) (sym c.of-said.ensures) ∙ ap last_of (sym c.command.ensures.value) ∙ sym c.closing_of.ensures ∙ c.in-Some.is in
@@ -104,7 +108,9 @@ returns-in-None-fault-clause-item g c =
 pub returns-in-Some-clause-numbered : goal.returns-in-Some-clause-numbered
 returns-in-Some-clause-numbered g c =
     let i = c.words.invariant in
-    let reads : ReadsWord c.match-self.first c.args.self.now.at c.words.self-inside.scanner c.next_token.new.scanner (g.S.Source.remaining c.args.source.now) (g.S.Source.remaining c.words.source) (g.S.Source.remaining c.next_token.new.source) c.words.block c.read.new.self i.block c.next_token.new.word.line c.next_token.new.word.bytes.items
+    let reads : ReadsWord c.match-self.first c.args.self.now.at c.words.self-inside.scanner c.next_token.new.scanner
+    (g.S.Source.remaining c.args.source.now) (g.S.Source.remaining c.words.source) (g.S.Source.remaining c.next_token.new.source)
+    c.words.block c.read.new.self i.block c.next_token.new.word.line c.next_token.new.word.bytes.items
     = rw (← c.of-said.ensures) (c.read.ensures.fault, λ none. (c.read.ensures.begun none, c.read.ensures.draft none, c.read.ensures.title, c.read.ensures.author)) in
     let t = c.in-Word.ensures.token in
     word_numbered c.match-self.first c.args.self.now c.words.self-inside.scanner c.next_token.new.scanner (g.S.Source.remaining c.args.source.now) (g.S.Source.remaining c.words.source) (g.S.Source.remaining c.next_token.new.source) c.words.block c.read.new.self i.block c.next_token.new.word.line c.next_token.new.word.bytes.items t.0

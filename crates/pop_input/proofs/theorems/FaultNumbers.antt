@@ -1,0 +1,32 @@
+-- Each kind of fault has a number of its own.
+use Rattle.std.proofs.Common.{◌≡◌, Some, refl}
+use Rattle.pop_input.specs.FaultKinds.{kind_numbered, number_of}
+use Rattle.pop_input.specs.declared.fault_kind.FaultKind.{FaultKind}
+use Rattle.pop_input.specs.declared.fault_kind.FaultKind.TheVariants.{BeginProblemMissing, WordMisplaced, WordTooLong, ColourMissing, SquareTaken, PawnOnOuterRank, SecondKing}
+use Rattle.pop_input.specs.declared.fault_kind.FaultKind.TheVariants.{BadStipulation, SecondStipulation, StipulationMissing, NoMen, SecondCondition, BadLimit, SquareMissing}
+use Rattle.pop_input.specs.declared.fault_kind.FaultKind.TheVariants.{EnPassantImpossible, NoneCastlesThere, KingMissing, WaitingSideInCheck, EndProblemMissing, InputTooLong, DeviceFailed}
+
+-- The kind that has the number of a kind is this one: so a fault that is told by its number is told by its own text.
+pub numbered_is : (kind : FaultKind) → kind_numbered (number_of kind) ≡ Some kind
+unfolding kind_numbered
+numbered_is BeginProblemMissing = refl
+numbered_is WordMisplaced = refl
+numbered_is WordTooLong = refl
+numbered_is ColourMissing = refl
+numbered_is SquareTaken = refl
+numbered_is PawnOnOuterRank = refl
+numbered_is SecondKing = refl
+numbered_is BadStipulation = refl
+numbered_is SecondStipulation = refl
+numbered_is StipulationMissing = refl
+numbered_is NoMen = refl
+numbered_is SecondCondition = refl
+numbered_is BadLimit = refl
+numbered_is SquareMissing = refl
+numbered_is EnPassantImpossible = refl
+numbered_is NoneCastlesThere = refl
+numbered_is KingMissing = refl
+numbered_is WaitingSideInCheck = refl
+numbered_is EndProblemMissing = refl
+numbered_is InputTooLong = refl
+numbered_is DeviceFailed = refl
