@@ -3,7 +3,7 @@ use Rattle.std.proofs.Common.{◌≡◌, ◌≢◌, ℕ, zero, suc, ◌+◌, ◌
 use Rattle.std.specs.Int.{bit_at, bit_not, w64}
 use Rattle.std.specs.Int.Bits.{bit_and, bit_or}
 use Rattle.std.specs.List.{list_any}
-use Rattle.std.proofs.lemmas.Bool.{and_from, and_left, and_parts, and_right, cases_Bool, cases_eq, cond-true, eq-eqb, eqb-true, false_from_ne_true, false≢true, not-true, or_parts}
+use Rattle.std.proofs.lemmas.Bool.{and_from, and_left, and_parts, and_right, cases_Bool, cases_eq, cond-false, cond-true, eq-eqb, eqb-true, false_from_ne_true, false≢true, not-true, or_left, or_parts}
 use Rattle.std.proofs.lemmas.Nat.Bits.{bit_at-lt, bit_at-zero, bit_at_and}
 use Rattle.chess_core.specs.Position.{Position, is_man, is_side, king_square, man_on, other, same_colour, same_kind, without_man}
 use Rattle.chess_core.specs.Squares.{is_square, some_square, squares}
@@ -20,7 +20,7 @@ use Rattle.chess_core.proofs.Ranges.{any_range_false, some_square_false, some_sq
 use Rattle.chess_core.proofs.Words.{squares_both, squares_either, squares_not}
 use Rattle.chess_rules.specs.Attacks.{attacked, in_check, is_faced, paralysed, strikes}
 use Rattle.chess_rules.specs.ties.Flights.{AreOpen, IsSeenFrom, has_flight, is_flight, is_flight_from, is_open, sight_lifted, sight_with}
-use Rattle.chess_rules.specs.Legal.{goes, is_promotion_right, is_arrival_free, is_goal, is_nil, legal, moves, pseudo}
+use Rattle.chess_rules.specs.Legal.{goes, is_promotion_right, is_arrival_free, is_goal, is_nil, legal, moves, pseudo, pseudo_of}
 use Rattle.chess_rules.specs.ties.Lines.{occupied_squares}
 use Rattle.chess_rules.specs.ties.Places.{mates, moves_behind, triple_at}
 use Rattle.chess_rules.specs.Play.{after, arriving, capture_square}
