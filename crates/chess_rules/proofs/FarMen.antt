@@ -63,11 +63,14 @@ far_either rule p a b x y = record {
   ];
 }
 
-pub far_one : (rule : RuleSet) (p : Position) (s n o : ℕ) → o ≡ word (λ t. is_square (Some s) t) → n ≡ 0 → AreCheckTargets rule p s n → AreFar rule p o
-far_one rule p s n o h empty are = record {
+pub far_by : (rule : RuleSet) (p : Position) (s n : ℕ) → AreCheckTargets rule p s n → (n == 0) ≡ true → AreCheckTargets rule p s 0
+far_by rule p s n are none = subst (λ w. AreCheckTargets rule p s w) (eqb-true n 0 none) are
+
+pub far_one : (rule : RuleSet) (p : Position) (s o : ℕ) → o ≡ word (λ t. is_square (Some s) t) → AreCheckTargets rule p s 0 → AreFar rule p o
+far_one rule p s o h are = record {
   far = λ t small on.
       let same : s ≡ t = eqb-true _ _ (sym (word_has (λ q. is_square (Some s) q) o t h small) ∙ on) in
-      subst (λ q. AreCheckTargets rule p q 0) same (subst (λ w. AreCheckTargets rule p s w) empty are);
+      subst (λ q. AreCheckTargets rule p q 0) same are;
 }
 
 -- off the first word, or on the second

@@ -1,8 +1,9 @@
 -- What the clauses of the scanner exclude: a call that uses more than its word or its line, and a word with another number, where the bytes of the
--- source are known; and a part of a line that holds a line end.
+-- source are known; a part of a line that holds a line end; and a text of which a part was left out.
 use Rattle.std.proofs.Common.{◌≡◌, ℕ, ◌+◌, List, [], ◌∷◌, ◌++◌, length, length-append, Some, true, refl, sym, ◌∙◌, ap, arith, inl, inr, count_by, Ok}
 use Rattle.std.specs.List.{list_all}
 use Rattle.std.proofs.lemmas.List.{append_cancel_right}
+use Rattle.pop_text.specs.Bytes.{Appends}
 use Rattle.pop_text.specs.Words.{is_gap, is_in_line, is_in_word, is_line_end}
 use Rattle.pop_text.specs.ties.Reading.{Reading, Uses}
 use Rattle.pop_text.specs.ties.Runs.{UsesRun, UsesLine}
@@ -67,3 +68,9 @@ nothing_behind_line old new had left text line behind plain used (other, p, is, 
 pub nothing_behind_line_end : (line behind : List ℕ) → list_all is_in_line (line ++ 10 ∷ behind) ≡ true → ⊥
 nothing_behind_line_end [] behind e = cc
 nothing_behind_line_end (b ∷ line) behind e = nothing_behind_line_end line behind (all_parts is_in_line b (line ++ 10 ∷ behind) e).1
+
+-- where all of a text was written, no part of it was left out
+pub nothing_left_out : (before now text behind : List ℕ) → Appends (Some before) (Some now) text → Appends (Some before) (Some now) (text ++ behind) → behind ≡ []
+nothing_left_out before now text [] p q = refl
+nothing_left_out before now text (b ∷ behind) p q =
+    absurd (omega (arith, ap length (sym p ∙ q), length-append before text, length-append before (text ++ b ∷ behind), length-append text (b ∷ behind)))

@@ -1,3 +1,4 @@
+pub mod Excluded
 pub mod Findings
 pub mod Running
 pub mod theorems

@@ -3,13 +3,13 @@ use Rattle.std.specs.Int.{bit_at}
 use Rattle.chess_rules.proofs.FarMen.{far_either, far_none, far_one, man_of_word}
 use Rattle.chess_rules.proofs.Tests.{find_first}
 use Rattle.chess_rules.proofs.origins.far_men.Goals as goal
-use Rattle.chess_rules.proofs.origins.far_men.Goals.{then-near_targets_of-eq0, else-near_targets_of-eq0}
+use Rattle.chess_rules.proofs.origins.far_men.Goals.{then-is_far, else-is_far}
 
 pub loop-from-init : goal.loop-from-init
 loop-from-init g c = record { small = omega arith; far = far_none g.R.Rules.rule c.args.board.now }
 
-pub near_targets_of-requires-clause-here : goal.near_targets_of-requires-clause-here
-near_targets_of-requires-clause-here g c =
+pub is_far-requires-clause-here : goal.is_far-requires-clause-here
+is_far-requires-clause-here g c =
     let first = find_first (λ s. bit_at c.squares-men.result s == 1) c.loop-from.number (64 - c.loop-from.number) c.in-Some.from
     (sym c.next_bit.ensures.value ∙ c.in-Some.is) in
     man_of_word c.args.board.now.men c.turn.result c.args.kind c.squares-men.result c.in-Some.from c.squares-men.ensures.word
@@ -20,13 +20,13 @@ loop-from-preserved g c =
     let first = find_first (λ s. bit_at c.squares-men.result s == 1) c.loop-from.number (64 - c.loop-from.number) c.in-Some.from
     (sym c.next_bit.ensures.value ∙ c.in-Some.is) in
     let small : c.index-number.result + 1 ≤ 64 = omega (arith, c.index-number.ensures.small) in
-    elim c.if-near_targets_of-eq0.branch [
-      | then-near_targets_of-eq0 w ↦ record {
+    elim c.if-is_far.branch [
+      | then-is_far w ↦ record {
         small = small;
         far = rw w.far-is (far_either g.R.Rules.rule c.args.board.now c.loop-from.far w.only-far.result c.loop-from.invariant.far
-            (far_one g.R.Rules.rule c.args.board.now c.in-Some.from c.near_targets_of.result w.only-far.result w.only-far.ensures w.if-near_targets_of-eq0.true c.near_targets_of.ensures));
+            (far_one g.R.Rules.rule c.args.board.now c.in-Some.from w.only-far.result w.only-far.ensures (c.is_far.ensures w.if-is_far.true)));
       }
-      | else-near_targets_of-eq0 w ↦ record { small = small; far = rw w.far-is c.loop-from.invariant.far }
+      | else-is_far w ↦ record { small = small; far = rw w.far-is c.loop-from.invariant.far }
     ]
 
 pub returns : goal.returns
