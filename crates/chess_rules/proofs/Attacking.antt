@@ -22,7 +22,7 @@ use Rattle.chess_rules.specs.Attacks.{attacked, faces, faces_its_like, paralysed
 use Rattle.chess_rules.specs.ties.Lines.{is_ahead, is_on_some}
 use Rattle.chess_rules.specs.ties.Outward.{hopped_from, is_met}
 use Rattle.chess_rules.specs.ties.Shields.{is_reached}
-use Rattle.chess_rules.specs.Reaches.{is_clear, leaps, reaches, reaches_as, reaches_of, rides}
+use Rattle.chess_rules.specs.Reaches.{leaps, reaches, reaches_as, reaches_of, rides}
 use Rattle.chess_rules.specs.RuleSet.{RuleSet}
 use Rattle.chess_rules.proofs.Bits.{not_zero, word_empty, word_has}
 use Rattle.chess_rules.proofs.Flips.{diagonal-back, grasshopper-back, king-back, knight-back, nightrider-back, pawn-back, queen_rides-back, straight-back}

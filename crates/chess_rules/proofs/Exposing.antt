@@ -1,7 +1,7 @@
 -- Whether a move leaves its mover in check, told by the men that an attack sees after it.
 use Rattle.std.proofs.Common.{◌≡◌, ℕ, ◌<◌, Bool, true, false, ◌&&◌, ◌||◌, ◌==◌, not, List, Option, Some, None, is_some, refl, sym, ap, ◌∙◌, arith, inl, inr, rules}
 use Rattle.std.proofs.lemmas.Bool.{and_from, and_left, and_parts, and_right, cases_Bool, cases_eq, cond-false, cond-true, eq-eqb, false_from_ne_true, false≢true, not-true, or_parts}
-use Rattle.chess_core.specs.Position.{AtMostOneKing, Position, is_man, is_side, king_square, man_on, other, same_colour, same_kind}
+use Rattle.chess_core.specs.Position.{Position, is_man, is_side, king_square, man_on, other, same_colour, same_kind}
 use Rattle.chess_core.specs.Squares.{is_square, some_square}
 use Rattle.chess_core.specs.WellFormed.{IsWellFormed}
 use Rattle.chess_core.specs.ties.Words.{squares_of, word}

@@ -18,7 +18,7 @@ use Rattle.chess_core.specs.declared.man.Move.{Move}
 use Rattle.chess_core.proofs.Men.{same_colour-true}
 use Rattle.chess_core.proofs.Ranges.{any_range_false, some_square_false, some_square_true}
 use Rattle.chess_core.proofs.Words.{squares_both, squares_either, squares_not}
-use Rattle.chess_rules.specs.Attacks.{attacked, in_check, is_faced, paralysed, strikes}
+use Rattle.chess_rules.specs.Attacks.{attacked, is_faced, paralysed, strikes}
 use Rattle.chess_rules.specs.ties.Flights.{AreOpen, IsSeenFrom, has_flight, is_flight, is_flight_from, is_open, sight_lifted, sight_with}
 use Rattle.chess_rules.specs.Legal.{goes, is_promotion_right, is_arrival_free, is_goal, is_nil, legal, moves, pseudo, pseudo_of}
 use Rattle.chess_rules.specs.ties.Lines.{occupied_squares}
@@ -29,7 +29,7 @@ use Rattle.chess_rules.specs.RuleSet.{RuleSet, is_circe, is_madrasi}
 use Rattle.chess_rules.specs.ties.Sight.{AreSeen, king_after}
 use Rattle.chess_rules.proofs.Bits.{word_has}
 use Rattle.chess_rules.proofs.Checking.{other_twice}
-use Rattle.chess_rules.proofs.Exposing.{IsSimple, check_is, simple_parts}
+use Rattle.chess_rules.proofs.Exposing.{IsSimple, check_is}
 use Rattle.chess_rules.proofs.Fits.{arrived, arriving_king, capture_of_piece, is_square-some, king_no_step, no_capture, taken}
 use Rattle.chess_rules.proofs.Landing.{StandAlike, no_step_there, reaches_alike}
 use Rattle.chess_rules.proofs.Mating.{turn_after}

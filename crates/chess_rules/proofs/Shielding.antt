@@ -31,7 +31,6 @@ use Rattle.chess_rules.specs.RuleSet.{RuleSet, is_circe}
 use Rattle.chess_rules.proofs.Bits.{not_zero, word_empty, word_has}
 use Rattle.chess_rules.proofs.FairyLines.{Holds, fairy_parts, hopper_comes, hopper_stays, nightrider_comes, nightrider_stays}
 use Rattle.chess_rules.proofs.Fits.{arrived, arrived_other, arriving_king}
-use Rattle.chess_rules.proofs.Ends.{back}
 use Rattle.chess_rules.proofs.Flips.{backward, diagonal-back, straight-back}
 use Rattle.chess_rules.proofs.Parting.{Frees, line_open}
 use Rattle.chess_rules.proofs.Plays.{none_from_is_some, stays_empty}

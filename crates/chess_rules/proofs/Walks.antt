@@ -13,7 +13,7 @@ use Rattle.chess_rules.specs.ties.Evasions.{AreEvasionsFrom}
 use Rattle.chess_rules.specs.Legal.{legal, pseudo}
 use Rattle.chess_rules.specs.ties.Places.{HaveNone, IsBarrenFrom, IsNamed, mates, promotion_at, triple_at}
 use Rattle.chess_rules.specs.RuleSet.{RuleSet}
-use Rattle.chess_rules.specs.ties.Targets.{AreCandidates, AreKept, AreOrigins, IsAimed, is_arrival}
+use Rattle.chess_rules.specs.ties.Targets.{AreCandidates, AreOrigins, IsAimed, is_arrival}
 use Rattle.chess_rules.proofs.Bits.{word_has}
 use Rattle.chess_rules.proofs.Mating.{no_mate_quietly, not_mating}
 use Rattle.chess_rules.proofs.Targeting.{arrival_needed, false_by, own_moves}
