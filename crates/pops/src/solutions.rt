@@ -85,6 +85,7 @@ fn start_search<R: Rules>(problem: &Problem) -> Search<R, 33>
     ensures problem { result.problem ≡ problem.now }
     ensures left { result.left ≡ events R.rule problem.now }
 {
+    // For the proof: a stipulation that was read has at most 32 half-moves.
     let _aim = problem.stipulation();
     Search::new(problem)
 }
