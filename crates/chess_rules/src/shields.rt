@@ -176,6 +176,7 @@ pub(crate) fn is_plain<R: Rules>(board: &Board, man: Man, m: &Move) -> bool
 
 // Whether the man arrives on no line to the colour's king with a fairy man of the other colour, and its move
 // changes nothing but its own square.
+#[inline(always)]
 fn stands_aside<R: Rules>(board: &Board, man: Man, colour: Colour, m: &Move) -> bool
     ensures { result ≡ (not (may_stand_between board.now.men colour m.now.to)
         && is_plain R.rule board.now man m.now) }
@@ -185,6 +186,7 @@ fn stands_aside<R: Rules>(board: &Board, man: Man, colour: Colour, m: &Move) -> 
 }
 
 // Whether the move can't expose the colour's king; `squares` are those from which one may.
+#[inline(always)]
 pub(crate) fn cannot_expose<R: Rules>(board: &Board, colour: Colour, squares: u64, m: &Move) -> bool
     requires { squares ≡ word (may_expose R.rule board.now.men colour) }
     ensures { result ≡ cannot_expose R.rule board.now colour m.now }
