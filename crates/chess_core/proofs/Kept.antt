@@ -57,7 +57,8 @@ set_by_kind f Pawn v = refl
 set_by_kind f Grasshopper v = refl
 set_by_kind f Nightrider v = refl
 
-replace_kind : {X : Type 0} (f g : Kind → X) (k : Kind) (v : X) → v ≡ g k → ((j : Kind) → same_kind k j ≡ false → f j ≡ g j) → set (map f kinds) (kind_number k) v ≡ map g kinds
+replace_kind : {X : Type 0} (f g : Kind → X) (k : Kind) (v : X) → v ≡ g k → ((j : Kind) → same_kind k j ≡ false → f j ≡ g j)
+    → set (map f kinds) (kind_number k) v ≡ map g kinds
 replace_kind {X} f g k v e h =
     let at : (j : Kind) → cond (same_kind k j) v (f j) ≡ g j = λ j. elim (cases_Bool (same_kind k j)) [
       | inl y ↦ cond-true (same_kind k j) v (f j) y ∙ e ∙ ap g (same_kind-is k j y)
@@ -73,7 +74,8 @@ set_by_colour : {X : Type 0} (f : Colour → X) (c : Colour) (v : X) → set (ma
 set_by_colour f White v = refl
 set_by_colour f Black v = refl
 
-replace_colour : {X : Type 0} (f g : Colour → X) (c : Colour) (v : X) → v ≡ g c → ((j : Colour) → same_colour c j ≡ false → f j ≡ g j) → set (map f colours) (colour_number c) v ≡ map g colours
+replace_colour : {X : Type 0} (f g : Colour → X) (c : Colour) (v : X) → v ≡ g c → ((j : Colour) → same_colour c j ≡ false → f j ≡ g j)
+    → set (map f colours) (colour_number c) v ≡ map g colours
 replace_colour {X} f g c v e h =
     let at : (j : Colour) → cond (same_colour c j) v (f j) ≡ g j = λ j. elim (cases_Bool (same_colour c j)) [
       | inl y ↦ cond-true (same_colour c j) v (f j) y ∙ e ∙ ap g (same_colour-true c j y)
@@ -84,7 +86,8 @@ replace_colour {X} f g c v e h =
 -- ---- a man is put on an empty square
 
 pub placed : (men : List (Option Man)) (ks ss : List ℕ) (s : ℕ) (x : Man) → IsInStep men ks ss → length men ≡ 64 → s < 64 → man_on men s ≡ None
-    → IsInStep (set men s (Some x)) (set ks (kind_number x.kind) (bit_or (get_or ks (kind_number x.kind) 0) (1 * 2 ^ s % 2 ^ 64))) (set ss (colour_number x.colour) (bit_or (get_or ss (colour_number x.colour) 0) (1 * 2 ^ s % 2 ^ 64)))
+    → IsInStep (set men s (Some x)) (set ks (kind_number x.kind) (bit_or (get_or ks (kind_number x.kind) 0) (1 * 2 ^ s % 2 ^ 64)))
+    (set ss (colour_number x.colour) (bit_or (get_or ss (colour_number x.colour) 0) (1 * 2 ^ s % 2 ^ 64)))
 unfolding kind_words side_words
 placed men ks ss s x is l p empty =
     let fk : Kind → ℕ = λ k. word_of (λ y. is_kind y k) men in
@@ -98,14 +101,16 @@ placed men ks ss s x is l p empty =
       sides_are =
           ap (λ ns. set ns (colour_number x.colour) (bit_or (get_or ns (colour_number x.colour) 0) (1 * 2 ^ s % 2 ^ 64))) is.sides_are
           ∙ replace_colour fc (λ c. word_of (λ y. is_side y c) (set men s (Some x))) x.colour _
-          (ap (λ n. bit_or n (1 * 2 ^ s % 2 ^ 64)) (get_by_colour fc x.colour 0) ∙ word_with (λ y. is_side y x.colour) men s (Some x) l p (same_colour-refl x.colour))
+          (ap (λ n. bit_or n (1 * 2 ^ s % 2 ^ 64)) (get_by_colour fc x.colour 0)
+          ∙ word_with (λ y. is_side y x.colour) men s (Some x) l p (same_colour-refl x.colour))
           (λ j h. sym (word_same (λ y. is_side y j) men s (Some x) None (ap (λ y. is_side y j) empty ∙ sym h)));
     }
 
 -- ---- a man is taken off
 
 pub lifted : (men : List (Option Man)) (ks ss : List ℕ) (s : ℕ) (x : Man) → IsInStep men ks ss → length men ≡ 64 → s < 64 → man_on men s ≡ Some x
-    → IsInStep (set men s None) (set ks (kind_number x.kind) (bit_and (get_or ks (kind_number x.kind) 0) (bit_not w64 (1 * 2 ^ s % 2 ^ 64)))) (set ss (colour_number x.colour) (bit_and (get_or ss (colour_number x.colour) 0) (bit_not w64 (1 * 2 ^ s % 2 ^ 64))))
+    → IsInStep (set men s None) (set ks (kind_number x.kind) (bit_and (get_or ks (kind_number x.kind) 0) (bit_not w64 (1 * 2 ^ s % 2 ^ 64))))
+    (set ss (colour_number x.colour) (bit_and (get_or ss (colour_number x.colour) 0) (bit_not w64 (1 * 2 ^ s % 2 ^ 64))))
 unfolding kind_words side_words
 lifted men ks ss s x is l p held =
     let fk : Kind → ℕ = λ k. word_of (λ y. is_kind y k) men in

@@ -18,7 +18,8 @@ king_square-none men c e =
     find_square_none test 64 (omega arith) (record { fails = λ s p. bit_false _ (sym (square_bit test s p) ∙ ap (λ n. bit_at n s) e ∙ bit_at-zero s) })
 
 -- the lowest bit is the first king
-pub king_square-some : (men : List (Option Man)) (c : Colour) → 0 < squares_of men c King → king_square men c ≡ Some (trailing_zeros w64 (squares_of men c King))
+pub king_square-some : (men : List (Option Man)) (c : Colour) → 0 < squares_of men c King
+    → king_square men c ≡ Some (trailing_zeros w64 (squares_of men c King))
 unfolding king_square squares_of
 king_square-some men c h =
     let test : ℕ → Bool = λ s. is_man (man_on men s) c King in

@@ -33,29 +33,34 @@ word_bit test (x ∷ xs) d (suc i) h =
     bit_at-suc (bit_of (test x) + 2 * word_of test xs) i ∙ ap (λ n. bit_at n i) (low (test x) (word_of test xs)).1 ∙ word_bit test xs d i (omega arith)
 
 -- a number of 64 bits with these bits is the word
-pub word_from_bits : {X : Type 0} (test : X → Bool) (xs : List X) (d : X) (n : ℕ) → length xs ≡ 64 → n < 2 ^ 64 → ((i : ℕ) → i < 64 → bit_at n i ≡ bit_of (test (get_or xs i d))) → n ≡ word_of test xs
+pub word_from_bits : {X : Type 0} (test : X → Bool) (xs : List X) (d : X) (n : ℕ) → length xs ≡ 64 → n < 2 ^ 64
+    → ((i : ℕ) → i < 64 → bit_at n i ≡ bit_of (test (get_or xs i d))) → n ≡ word_of test xs
 word_from_bits test xs d n l b h =
     let w : word_of test xs < 2 ^ 64 = subst (λ k. word_of test xs < 2 ^ k) l (word_small test xs) in
     same_from_bits_below 64 n (word_of test xs) b w (λ i p. h i p ∙ sym (word_bit test xs d i (omega arith)))
 
 -- a member is put in that passes the test
-pub word_with : {X : Type 0} (test : X → Bool) (xs : List X) (s : ℕ) (y : X) → length xs ≡ 64 → s < 64 → test y ≡ true → bit_or (word_of test xs) (1 * 2 ^ s % 2 ^ 64) ≡ word_of test (set xs s y)
+pub word_with : {X : Type 0} (test : X → Bool) (xs : List X) (s : ℕ) (y : X) → length xs ≡ 64 → s < 64 → test y ≡ true
+    → bit_or (word_of test xs) (1 * 2 ^ s % 2 ^ 64) ≡ word_of test (set xs s y)
 word_with test xs s y l p h =
     let w : word_of test xs < 2 ^ 64 = subst (λ k. word_of test xs < 2 ^ k) l (word_small test xs) in
     word_from_bits test (set xs s y) y _ (length-set xs s y ∙ l) (or_lt 64 _ _ w (omega arith))
     (λ i q. elim (cases_eq i s) [
       | inl e ↦ rw e (bit_at_set_same w64 (word_of test xs) s p ∙ sym (ap (λ x. bit_of (test x)) (get_or-set_same xs s y y (omega arith)) ∙ ap bit_of h))
-      | inr ne ↦ bit_at_set_other w64 (word_of test xs) s p i ne ∙ word_bit test xs y i (omega arith) ∙ sym (ap (λ x. bit_of (test x)) (get_or-set_other xs s i y y ne))
+      | inr ne ↦ bit_at_set_other w64 (word_of test xs) s p i ne ∙ word_bit test xs y i (omega arith)
+          ∙ sym (ap (λ x. bit_of (test x)) (get_or-set_other xs s i y y ne))
     ])
 
 -- a member is put in that does not
-pub word_without : {X : Type 0} (test : X → Bool) (xs : List X) (s : ℕ) (y : X) → length xs ≡ 64 → s < 64 → test y ≡ false → bit_and (word_of test xs) (bit_not w64 (1 * 2 ^ s % 2 ^ 64)) ≡ word_of test (set xs s y)
+pub word_without : {X : Type 0} (test : X → Bool) (xs : List X) (s : ℕ) (y : X) → length xs ≡ 64 → s < 64 → test y ≡ false
+    → bit_and (word_of test xs) (bit_not w64 (1 * 2 ^ s % 2 ^ 64)) ≡ word_of test (set xs s y)
 word_without test xs s y l p h =
     let w : word_of test xs < 2 ^ 64 = subst (λ k. word_of test xs < 2 ^ k) l (word_small test xs) in
     word_from_bits test (set xs s y) y _ (length-set xs s y ∙ l) (omega (arith, and_le_l (word_of test xs) (bit_not w64 (1 * 2 ^ s % 2 ^ 64))))
     (λ i q. elim (cases_eq i s) [
       | inl e ↦ rw e (bit_at_clear_same w64 (word_of test xs) s p ∙ sym (ap (λ x. bit_of (test x)) (get_or-set_same xs s y y (omega arith)) ∙ ap bit_of h))
-      | inr ne ↦ bit_at_clear_other w64 (word_of test xs) s p i q ne ∙ word_bit test xs y i (omega arith) ∙ sym (ap (λ x. bit_of (test x)) (get_or-set_other xs s i y y ne))
+      | inr ne ↦ bit_at_clear_other w64 (word_of test xs) s p i q ne ∙ word_bit test xs y i (omega arith)
+          ∙ sym (ap (λ x. bit_of (test x)) (get_or-set_other xs s i y y ne))
     ])
 
 -- a member is put in that the test cannot tell from the one before
@@ -72,7 +77,8 @@ both false true = refl
 both false false = refl
 
 -- what passes both tests
-pub word_both : {X : Type 0} (p q r : X → Bool) (xs : List X) (d : X) → length xs ≡ 64 → ((x : X) → (p x && q x) ≡ r x) → bit_and (word_of p xs) (word_of q xs) ≡ word_of r xs
+pub word_both : {X : Type 0} (p q r : X → Bool) (xs : List X) (d : X) → length xs ≡ 64 → ((x : X) → (p x && q x) ≡ r x)
+    → bit_and (word_of p xs) (word_of q xs) ≡ word_of r xs
 word_both p q r xs d l h =
     let w : word_of p xs < 2 ^ 64 = subst (λ k. word_of p xs < 2 ^ k) l (word_small p xs) in
     word_from_bits r xs d _ l (omega (arith, and_le_l (word_of p xs) (word_of q xs)))

@@ -33,7 +33,10 @@ impl Model for Placement {
 
     ghost inverse = { λ v. record { array = v; by_kind = kind_words v; by_side = side_words v } };
 
-    ghost inverse_ok = { λ p h i. record p { by_kind = sym h.1.kinds_are i; by_side = sym h.1.sides_are i } };
+    ghost inverse_ok = { λ p h i. record p {
+      by_kind = sym h.1.kinds_are i;
+      by_side = sym h.1.sides_are i;
+    } };
 }
 
 impl Placement {

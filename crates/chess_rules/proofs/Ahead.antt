@@ -51,7 +51,8 @@ passes s t d k i p le h =
     let rr : ℕ = rank_of s + i * d.up - i * d.down in (
       8 * (rr - 1) + (ff - 1),
       record {
-        at = cond-on (is_on_board ff && is_on_board rr) (8 * (rr - 1) + (ff - 1)) (8 * (rr - 1) + (ff - 1)) (and_from _ _ (on_board ff f.0 f.1) (on_board rr r.0 r.1)) refl;
+        at = cond-on (is_on_board ff && is_on_board rr) (8 * (rr - 1) + (ff - 1)) (8 * (rr - 1) + (ff - 1))
+            (and_from _ _ (on_board ff f.0 f.1) (on_board rr r.0 r.1)) refl;
         small = omega (arith, f.0, f.1, r.0, r.1);
       },
     )
@@ -92,7 +93,8 @@ rising d up = record {
   in_order = λ s j k b t h i lt.
       let x = number_at s b d j h in
       let y = number_at s t d k i in
-      let less : b < t = grows s b t j k (d.left + 8 * d.down) (d.right + 8 * d.up) x.0 y.0 lt (omega (arith, leb-true (d.left + 8 * d.down + 1) (d.right + 8 * d.up) up)) in
+      let less : b < t = grows s b t j k (d.left + 8 * d.down) (d.right + 8 * d.up) x.0 y.0 lt
+      (omega (arith, leb-true (d.left + 8 * d.down + 1) (d.right + 8 * d.up) up)) in
       rw up less;
 }
 

@@ -42,36 +42,44 @@ pub comes_king : (men : List (Option Man)) (c : Colour) (t : ℕ) → t < 64 →
 unfolding reaches_as
 comes_king men c t q = squares_same _ _ (λ s p. king-back t s q p)
 
-pub comes_queen : (men : List (Option Man)) (c : Colour) (t : ℕ) → t < 64 → word (λ s. list_any (rides men t s) queen_steps) ≡ word (λ s. reaches_as men c Queen s t)
+pub comes_queen : (men : List (Option Man)) (c : Colour) (t : ℕ) → t < 64
+    → word (λ s. list_any (rides men t s) queen_steps) ≡ word (λ s. reaches_as men c Queen s t)
 unfolding reaches_as
 comes_queen men c t q = squares_same _ _ (λ s p. queen_rides-back men t s q p)
 
-pub comes_rook : (men : List (Option Man)) (c : Colour) (t : ℕ) → t < 64 → word (λ s. list_any (rides men t s) straight_steps) ≡ word (λ s. reaches_as men c Rook s t)
+pub comes_rook : (men : List (Option Man)) (c : Colour) (t : ℕ) → t < 64
+    → word (λ s. list_any (rides men t s) straight_steps) ≡ word (λ s. reaches_as men c Rook s t)
 unfolding reaches_as
 comes_rook men c t q = squares_same _ _ (λ s p. straight-back men t s q p)
 
-pub comes_bishop : (men : List (Option Man)) (c : Colour) (t : ℕ) → t < 64 → word (λ s. list_any (rides men t s) diagonal_steps) ≡ word (λ s. reaches_as men c Bishop s t)
+pub comes_bishop : (men : List (Option Man)) (c : Colour) (t : ℕ) → t < 64
+    → word (λ s. list_any (rides men t s) diagonal_steps) ≡ word (λ s. reaches_as men c Bishop s t)
 unfolding reaches_as
 comes_bishop men c t q = squares_same _ _ (λ s p. diagonal-back men t s q p)
 
-pub comes_knight : (men : List (Option Man)) (c : Colour) (t : ℕ) → t < 64 → word (λ s. list_any (leaps t s) knight_steps) ≡ word (λ s. reaches_as men c Knight s t)
+pub comes_knight : (men : List (Option Man)) (c : Colour) (t : ℕ) → t < 64
+    → word (λ s. list_any (leaps t s) knight_steps) ≡ word (λ s. reaches_as men c Knight s t)
 unfolding reaches_as
 comes_knight men c t q = squares_same _ _ (λ s p. knight-back t s q p)
 
-pub comes_pawn : (men : List (Option Man)) (c : Colour) (t : ℕ) → t < 64 → word (λ s. list_any (leaps t s) (pawn_captures (other c))) ≡ word (λ s. reaches_as men c Pawn s t)
+pub comes_pawn : (men : List (Option Man)) (c : Colour) (t : ℕ) → t < 64
+    → word (λ s. list_any (leaps t s) (pawn_captures (other c))) ≡ word (λ s. reaches_as men c Pawn s t)
 unfolding reaches_as
 comes_pawn men c t q = squares_same _ _ (λ s p. sym (pawn-back c s t p q))
 
-pub comes_grasshopper : (men : List (Option Man)) (c : Colour) (t : ℕ) → t < 64 → word (λ s. list_any (hopped_from men t s) queen_steps) ≡ word (λ s. reaches_as men c Grasshopper s t)
+pub comes_grasshopper : (men : List (Option Man)) (c : Colour) (t : ℕ) → t < 64
+    → word (λ s. list_any (hopped_from men t s) queen_steps) ≡ word (λ s. reaches_as men c Grasshopper s t)
 unfolding reaches_as
 comes_grasshopper men c t q = squares_same _ _ (λ s p. sym (grasshopper-back men s t p q))
 
-pub comes_nightrider : (men : List (Option Man)) (c : Colour) (t : ℕ) → t < 64 → word (λ s. list_any (rides men t s) knight_steps) ≡ word (λ s. reaches_as men c Nightrider s t)
+pub comes_nightrider : (men : List (Option Man)) (c : Colour) (t : ℕ) → t < 64
+    → word (λ s. list_any (rides men t s) knight_steps) ≡ word (λ s. reaches_as men c Nightrider s t)
 unfolding reaches_as
 comes_nightrider men c t q = squares_same _ _ (λ s p. nightrider-back men t s q p)
 
 -- a man of this colour and kind goes as such men go
-reaches_of_man : (men : List (Option Man)) (o : Option Man) (c : Colour) (k : Kind) (s t : ℕ) → is_man o c k ≡ true → reaches_of men o s t ≡ reaches_as men c k s t
+reaches_of_man : (men : List (Option Man)) (o : Option Man) (c : Colour) (k : Kind) (s t : ℕ) → is_man o c k ≡ true
+    → reaches_of men o s t ≡ reaches_as men c k s t
 reaches_of_man men None c k s t h = absurd (false≢true h)
 reaches_of_man men (Some x) c k s t h = search (rules, first_of_and, same_colour-true, same_kind-is, second_of_and)
 
@@ -79,11 +87,13 @@ only_then : (a b c : Bool) → (a ≡ true → b ≡ c) → (a && b) ≡ (a && c
 only_then true b c h = h refl
 only_then false b c h = refl
 
-pub reached : (men : List (Option Man)) (c : Colour) (k : Kind) (t w n : ℕ) → w ≡ squares_of men c k → n ≡ word (λ s. reaches_as men c k s t) → bit_and w n ≡ word (λ s. is_man (man_on men s) c k && reaches men s t)
+pub reached : (men : List (Option Man)) (c : Colour) (k : Kind) (t w n : ℕ) → w ≡ squares_of men c k → n ≡ word (λ s. reaches_as men c k s t)
+    → bit_and w n ≡ word (λ s. is_man (man_on men s) c k && reaches men s t)
 unfolding reaches squares_of
 reached men c k t w n h r =
     (λ j. bit_and (h j) (r j)) ∙ squares_both (λ s. is_man (man_on men s) c k) (λ s. reaches_as men c k s t)
-    ∙ squares_same _ _ (λ s b. only_then (is_man (man_on men s) c k) (reaches_as men c k s t) (reaches men s t) (λ h. sym (reaches_of_man men (man_on men s) c k s t h)))
+    ∙ squares_same _ _ (λ s b. only_then (is_man (man_on men s) c k) (reaches_as men c k s t) (reaches men s t)
+    (λ h. sym (reaches_of_man men (man_on men s) c k s t h)))
 
 fails_first : (a b : Bool) → a ≡ false → (a && b) ≡ false
 fails_first true b h = absurd (cc)
@@ -93,7 +103,8 @@ fails_first false b h = refl
 word_lacks : (test : ℕ → Bool) → word test ≡ 0 → (s : ℕ) → s < 64 → test s ≡ false
 word_lacks test h s b = sym (word_has test (word test) s refl b) ∙ word_has (λ s. false) (word test) s (h ∙ word_empty (λ s. false) (λ s b. refl)) b
 
-pub reached_none : (men : List (Option Man)) (c : Colour) (k : Kind) (t w : ℕ) → w ≡ squares_of men c k → w ≡ 0 → 0 ≡ word (λ s. is_man (man_on men s) c k && reaches men s t)
+pub reached_none : (men : List (Option Man)) (c : Colour) (k : Kind) (t w : ℕ) → w ≡ squares_of men c k → w ≡ 0
+    → 0 ≡ word (λ s. is_man (man_on men s) c k && reaches men s t)
 unfolding squares_of
 reached_none men c k t w h z =
     word_empty _ (λ s b. fails_first (is_man (man_on men s) c k) (reaches men s t) (word_lacks (λ s. is_man (man_on men s) c k) (sym h ∙ z) s b))
@@ -103,7 +114,8 @@ abbrev pub others : List Kind
 others = King ∷ Knight ∷ Pawn ∷ Grasshopper ∷ Nightrider ∷ []
 
 by_lines : (b : Bool) (k : Kind) (r s d : Bool) → (k ≡ Rook → r ≡ s) → (k ≡ Bishop → r ≡ d) → (k ≡ Queen → r ≡ (s || d))
-    → (((((b && same_kind k Rook) || (b && same_kind k Queen)) && s) || (((b && same_kind k Bishop) || (b && same_kind k Queen)) && d)) || list_any (λ j. (b && same_kind k j) && r) others) ≡ (b && r)
+    → (((((b && same_kind k Rook) || (b && same_kind k Queen)) && s) || (((b && same_kind k Bishop) || (b && same_kind k Queen)) && d))
+    || list_any (λ j. (b && same_kind k j) && r) others) ≡ (b && r)
 by_lines false k r s d rook bishop queen = refl
 by_lines true King true s d rook bishop queen = refl
 by_lines true King false s d rook bishop queen = refl
@@ -123,26 +135,31 @@ by_lines true Queen r true d rook bishop queen = sym (queen refl)
 by_lines true Queen r false true rook bishop queen = sym (queen refl)
 by_lines true Queen r false false rook bishop queen = sym (queen refl)
 
-rook_reaches : (men : List (Option Man)) (c : Colour) (k : Kind) (s t : ℕ) → s < 64 → t < 64 → k ≡ Rook → reaches_as men c k s t ≡ list_any (rides men t s) straight_steps
+rook_reaches : (men : List (Option Man)) (c : Colour) (k : Kind) (s t : ℕ) → s < 64 → t < 64 → k ≡ Rook
+    → reaches_as men c k s t ≡ list_any (rides men t s) straight_steps
 unfolding reaches_as
 rook_reaches men c k s t p q e = rw e (straight-back men s t p q)
 
-bishop_reaches : (men : List (Option Man)) (c : Colour) (k : Kind) (s t : ℕ) → s < 64 → t < 64 → k ≡ Bishop → reaches_as men c k s t ≡ list_any (rides men t s) diagonal_steps
+bishop_reaches : (men : List (Option Man)) (c : Colour) (k : Kind) (s t : ℕ) → s < 64 → t < 64 → k ≡ Bishop
+    → reaches_as men c k s t ≡ list_any (rides men t s) diagonal_steps
 unfolding reaches_as
 bishop_reaches men c k s t p q e = rw e (diagonal-back men s t p q)
 
-queen_reaches : (men : List (Option Man)) (c : Colour) (k : Kind) (s t : ℕ) → s < 64 → t < 64 → k ≡ Queen → reaches_as men c k s t ≡ (list_any (rides men t s) straight_steps || list_any (rides men t s) diagonal_steps)
+queen_reaches : (men : List (Option Man)) (c : Colour) (k : Kind) (s t : ℕ) → s < 64 → t < 64 → k ≡ Queen
+    → reaches_as men c k s t ≡ (list_any (rides men t s) straight_steps || list_any (rides men t s) diagonal_steps)
 unfolding reaches_as
 queen_reaches men c k s t p q e = search (rules, list_any-append, queen_rides-back)
 
 -- on one square
 at_square : (men : List (Option Man)) (c : Colour) (o : Option Man) (s t : ℕ) → s < 64 → t < 64
-    → ((((is_man o c Rook || is_man o c Queen) && list_any (rides men t s) straight_steps) || ((is_man o c Bishop || is_man o c Queen) && list_any (rides men t s) diagonal_steps)) || list_any (λ k. is_man o c k && reaches_of men o s t) others)
+    → ((((is_man o c Rook || is_man o c Queen) && list_any (rides men t s) straight_steps)
+    || ((is_man o c Bishop || is_man o c Queen) && list_any (rides men t s) diagonal_steps)) || list_any (λ k. is_man o c k && reaches_of men o s t) others)
     ≡ (is_side o c && reaches_of men o s t)
 at_square men c None s t p q = refl
 at_square men c (Some x) s t p q = search (rules, bishop_reaches, by_lines, queen_reaches, rook_reaches)
 
-pub met : (men : List (Option Man)) (c : Colour) (k : Kind) (t m n w : ℕ) (ds : List Step) → m ≡ squares_of men c k → n ≡ squares_of men c Queen → w ≡ word (λ s. list_any (rides men t s) ds)
+pub met : (men : List (Option Man)) (c : Colour) (k : Kind) (t m n w : ℕ) (ds : List Step) → m ≡ squares_of men c k → n ≡ squares_of men c Queen
+    → w ≡ word (λ s. list_any (rides men t s) ds)
     → bit_and (bit_or m n) w ≡ word (is_met men c k ds t)
 unfolding squares_of is_met
 met men c k t m n w ds h i j = search (rules, squares_both, squares_either)
@@ -159,20 +176,24 @@ neither false b c d h f g = rw (f refl) (g h)
 rides_some : (men : List (Option Man)) (t s : ℕ) (ds : List Step) → is_on_some ds t s ≡ false → list_any (rides men t s) ds ≡ false
 unfolding is_on_some
 rides_some men t s [] h = refl
-rides_some men t s (d ∷ ds) h = neither (is_ahead t d s) (list_any (λ d. is_ahead t d s) ds) (rides men t s d) (list_any (rides men t s) ds) h (rides_ahead men t s d) (rides_some men t s ds)
+rides_some men t s (d ∷ ds) h = neither (is_ahead t d s) (list_any (λ d. is_ahead t d s) ds) (rides men t s d) (list_any (rides men t s) ds) h
+    (rides_ahead men t s d) (rides_some men t s ds)
 
 apart : (m l r : Bool) → (m && l) ≡ false → (l ≡ false → r ≡ false) → (m && r) ≡ false
 apart true l r h f = f h
 apart false l r h f = refl
 
-pub met_none : (men : List (Option Man)) (c : Colour) (k : Kind) (t m n l : ℕ) (ds : List Step) → m ≡ squares_of men c k → n ≡ squares_of men c Queen → l ≡ word (is_on_some ds t) → bit_and (bit_or m n) l ≡ 0
+pub met_none : (men : List (Option Man)) (c : Colour) (k : Kind) (t m n l : ℕ) (ds : List Step) → m ≡ squares_of men c k → n ≡ squares_of men c Queen
+    → l ≡ word (is_on_some ds t) → bit_and (bit_or m n) l ≡ 0
     → 0 ≡ word (is_met men c k ds t)
 unfolding squares_of is_met
 met_none men c k t m n l ds h i j z =
     let rider : ℕ → Bool = λ s. is_man (man_on men s) c k || is_man (man_on men s) c Queen in
     let lined : word (λ s. rider s && is_on_some ds t s) ≡ 0 =
-    sym ((λ a. bit_and (bit_or (h a) (i a)) (j a)) ∙ (λ a. bit_and (squares_either (λ s. is_man (man_on men s) c k) (λ s. is_man (man_on men s) c Queen) a) (word (is_on_some ds t))) ∙ squares_both rider (is_on_some ds t)) ∙ z in
-    word_empty _ (λ s b. apart (rider s) (is_on_some ds t s) (list_any (rides men t s) ds) (word_lacks (λ s. rider s && is_on_some ds t s) lined s b) (rides_some men t s ds))
+    sym ((λ a. bit_and (bit_or (h a) (i a)) (j a)) ∙ (λ a. bit_and (squares_either (λ s. is_man (man_on men s) c k) (λ s. is_man (man_on men s) c Queen) a)
+    (word (is_on_some ds t))) ∙ squares_both rider (is_on_some ds t)) ∙ z in
+    word_empty _ (λ s b. apart (rider s) (is_on_some ds t s) (list_any (rides men t s) ds) (word_lacks (λ s. rider s && is_on_some ds t s) lined s b)
+    (rides_some men t s ds))
 
 -- the square of a man of this colour and kind from which it reaches t
 abbrev pub comer : List (Option Man) → Colour → ℕ → Kind → ℕ → Bool
@@ -202,13 +223,18 @@ attackers_are men c t r b k n p g f q hr hb hk hn hp hg hf =
     let bishop : ℕ → Bool = is_met men c Bishop diagonal_steps t in
     let by : Kind → ℕ → Bool = comer men c t in
     (λ a. bit_or (bit_or (bit_or (bit_or (bit_or (bit_or (hr a) (hb a)) (hk a)) (hn a)) (hp a)) (hg a)) (hf a))
-    ∙ (λ a. bit_or (bit_or (bit_or (bit_or (bit_or (squares_either rook bishop a) (word (by King))) (word (by Knight))) (word (by Pawn))) (word (by Grasshopper))) (word (by Nightrider)))
-    ∙ (λ a. bit_or (bit_or (bit_or (bit_or (squares_either (λ s. rook s || bishop s) (by King) a) (word (by Knight))) (word (by Pawn))) (word (by Grasshopper))) (word (by Nightrider)))
-    ∙ (λ a. bit_or (bit_or (bit_or (squares_either (λ s. (rook s || bishop s) || by King s) (by Knight) a) (word (by Pawn))) (word (by Grasshopper))) (word (by Nightrider)))
-    ∙ (λ a. bit_or (bit_or (squares_either (λ s. ((rook s || bishop s) || by King s) || by Knight s) (by Pawn) a) (word (by Grasshopper))) (word (by Nightrider)))
+    ∙ (λ a. bit_or (bit_or (bit_or (bit_or (bit_or (squares_either rook bishop a) (word (by King))) (word (by Knight))) (word (by Pawn)))
+    (word (by Grasshopper))) (word (by Nightrider)))
+    ∙ (λ a. bit_or (bit_or (bit_or (bit_or (squares_either (λ s. rook s || bishop s) (by King) a) (word (by Knight))) (word (by Pawn))) (word (by Grasshopper)))
+    (word (by Nightrider)))
+    ∙ (λ a. bit_or (bit_or (bit_or (squares_either (λ s. (rook s || bishop s) || by King s) (by Knight) a) (word (by Pawn))) (word (by Grasshopper)))
+    (word (by Nightrider)))
+    ∙ (λ a. bit_or (bit_or (squares_either (λ s. ((rook s || bishop s) || by King s) || by Knight s) (by Pawn) a) (word (by Grasshopper)))
+    (word (by Nightrider)))
     ∙ (λ a. bit_or (squares_either (λ s. (((rook s || bishop s) || by King s) || by Knight s) || by Pawn s) (by Grasshopper) a) (word (by Nightrider)))
     ∙ squares_either (λ s. ((((rook s || bishop s) || by King s) || by Knight s) || by Pawn s) || by Grasshopper s) (by Nightrider)
-    ∙ squares_same _ _ (λ s z. one_by_one (rook s || bishop s) (by King s) (by Knight s) (by Pawn s) (by Grasshopper s) (by Nightrider s) ∙ at_square men c (man_on men s) s t z q)
+    ∙ squares_same _ _ (λ s z. one_by_one (rook s || bishop s) (by King s) (by Knight s) (by Pawn s) (by Grasshopper s) (by Nightrider s)
+    ∙ at_square men c (man_on men s) s t z q)
 
 last_two : (a b c : Bool) → ((a && b) && c) ≡ ((a && c) && b)
 last_two true true true = refl
@@ -218,7 +244,8 @@ last_two true false false = refl
 last_two false b c = refl
 
 -- attack by the men that reach the square and aren't paralysed
-pub attacked_by : (rule : RuleSet) (men : List (Option Man)) (t w : ℕ) (c : Colour) → w ≡ word (λ s. is_side (man_on men s) c && reaches men s t) → some_square (λ s. bit_at w s == 1 && not (paralysed rule men s)) ≡ attacked rule men t c
+pub attacked_by : (rule : RuleSet) (men : List (Option Man)) (t w : ℕ) (c : Colour) → w ≡ word (λ s. is_side (man_on men s) c && reaches men s t)
+    → some_square (λ s. bit_at w s == 1 && not (paralysed rule men s)) ≡ attacked rule men t c
 unfolding attacked strikes
 attacked_by rule men t w c h = search (rules, some_square_same, word_has)
 
@@ -227,6 +254,7 @@ pub is_reached_by : (men : List (Option Man)) (t w : ℕ) (c : Colour) → w ≡
 unfolding is_reached
 is_reached_by men t w c h = ap (λ n. not (n == 0)) h ∙ not_zero (λ s. is_side (man_on men s) c && reaches men s t)
 
-pub faced : (men : List (Option Man)) (x : Man) (t w : ℕ) → w ≡ word (λ s. is_man (man_on men s) (other x.colour) x.kind && reaches men s t) → not (w == 0) ≡ faces_its_like men x t
+pub faced : (men : List (Option Man)) (x : Man) (t w : ℕ) → w ≡ word (λ s. is_man (man_on men s) (other x.colour) x.kind && reaches men s t)
+    → not (w == 0) ≡ faces_its_like men x t
 unfolding faces_its_like faces
 faced men x t w h = ap (λ n. not (n == 0)) h ∙ not_zero (λ s. is_man (man_on men s) (other x.colour) x.kind && reaches men s t)

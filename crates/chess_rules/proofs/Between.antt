@@ -23,22 +23,26 @@ pub between-past : (rule : RuleSet) (p : Position) (a b : ℕ) → 28672 ≤ a �
 unfolding moves_between
 between-past rule p a b ge = rw (drop_triples_past a ge, take-none (b - a)) refl
 
-pub between-here : (rule : RuleSet) (p : Position) (a b : ℕ) → a < 28672 → a < b → legal rule p (triple_at a) ≡ true → moves_between rule p a b ≡ triple_at a ∷ moves_between rule p (a + 1) b
+pub between-here : (rule : RuleSet) (p : Position) (a b : ℕ) → a < 28672 → a < b → legal rule p (triple_at a) ≡ true
+    → moves_between rule p a b ≡ triple_at a ∷ moves_between rule p (a + 1) b
 unfolding moves_between
 between-here rule p a b lt low h = search (rules, drop_triples)
 
-pub between-skip : (rule : RuleSet) (p : Position) (a b : ℕ) → a < 28672 → legal rule p (triple_at a) ≡ false → moves_between rule p a b ≡ moves_between rule p (a + 1) b
+pub between-skip : (rule : RuleSet) (p : Position) (a b : ℕ) → a < 28672 → legal rule p (triple_at a) ≡ false
+    → moves_between rule p a b ≡ moves_between rule p (a + 1) b
 unfolding moves_between
 between-skip rule p a b lt h = search (rules, between-none, drop_triples)
 
 -- over a stretch without moves
-between-skips : (rule : RuleSet) (p : Position) (n a b e : ℕ) → b ≡ a + n → b ≤ 28672 → HaveNone (legal rule p) a b → moves_between rule p a e ≡ moves_between rule p b e
+between-skips : (rule : RuleSet) (p : Position) (n a b e : ℕ) → b ≡ a + n → b ≤ 28672 → HaveNone (legal rule p) a b
+    → moves_between rule p a e ≡ moves_between rule p b e
 between-skips rule p zero a b e at le h = let same : a ≡ b = omega (arith, at) in ap (λ x. moves_between rule p x e) same
 between-skips rule p (suc n) a b e at le h =
     between-skip rule p a e (omega (arith, at, le)) (h.fails a (omega arith) (omega (arith, at)))
     ∙ between-skips rule p n (a + 1) b e (omega (arith, at)) le (record { fails = λ k lo hi. h.fails k (omega (arith, lo)) hi })
 
-pub between-none-legal : (rule : RuleSet) (p : Position) (a b e : ℕ) → (b < 28672 → a ≤ b) → b ≤ 28672 → HaveNone (legal rule p) a b → moves_between rule p a e ≡ moves_between rule p b e
+pub between-none-legal : (rule : RuleSet) (p : Position) (a b e : ℕ) → (b < 28672 → a ≤ b) → b ≤ 28672 → HaveNone (legal rule p) a b
+    → moves_between rule p a e ≡ moves_between rule p b e
 between-none-legal rule p a b e low high h = elim (cases_lt b a) [
   | inr ge ↦ between-skips rule p (b - a) a b e (omega (arith, ge)) high h
   | inl lt ↦ elim (cases_lt b 28672) [
@@ -48,11 +52,13 @@ between-none-legal rule p a b e low high h = elim (cases_lt b a) [
 ]
 
 -- up to the first legal one, and where none is left before the end
-pub until-legal : (rule : RuleSet) (p : Position) (a n e : ℕ) → a ≤ n → n < e → n < 28672 → HaveNone (legal rule p) a n → legal rule p (triple_at n) ≡ true → moves_between rule p a e ≡ triple_at n ∷ moves_between rule p (n + 1) e
+pub until-legal : (rule : RuleSet) (p : Position) (a n e : ℕ) → a ≤ n → n < e → n < 28672 → HaveNone (legal rule p) a n → legal rule p (triple_at n) ≡ true
+    → moves_between rule p a e ≡ triple_at n ∷ moves_between rule p (n + 1) e
 until-legal rule p a n e low before fits none h =
     between-none-legal rule p a n e (λ lt. low) (omega (arith, fits)) none ∙ between-here rule p n e fits before h
 
-pub until-end : (rule : RuleSet) (p : Position) (a n e : ℕ) → n ≤ 28672 → n ≤ e → (n < 28672 → e ≤ n) → HaveNone (legal rule p) a n → moves_between rule p a e ≡ []
+pub until-end : (rule : RuleSet) (p : Position) (a n e : ℕ) → n ≤ 28672 → n ≤ e → (n < 28672 → e ≤ n) → HaveNone (legal rule p) a n
+    → moves_between rule p a e ≡ []
 until-end rule p a n e fits before all none = search (rules, between-none, between-none-legal, between-past)
 
 drop-nil : (k : ℕ) → drop {A = Move} k [] ≡ []
@@ -68,13 +74,16 @@ drop_twice : (a b : ℕ) (l : List Move) → a ≤ b → drop (b - a) (drop a l)
 drop_twice a b l le = let e : a + (b - a) ≡ b = omega (arith, le) in drop_more a (b - a) l ∙ ap (λ n. drop n l) e
 
 -- all moves, cut at two places
-pub cut_moves : (rule : RuleSet) (p : Position) (a b : ℕ) → a ≤ b → moves rule p ≡ moves_between rule p 0 a ++ (moves_between rule p a b ++ moves_behind rule p b)
+pub cut_moves : (rule : RuleSet) (p : Position) (a b : ℕ) → a ≤ b
+    → moves rule p ≡ moves_between rule p 0 a ++ (moves_between rule p a b ++ moves_behind rule p b)
 unfolding moves moves_between moves_behind
 cut_moves rule p a b le =
     let z : a - 0 ≡ a = omega arith in
     rw z (sym (ap (filter (legal rule p)) (take-append-drop a triples))
     ∙ filter-append (legal rule p) (take a triples) (drop a triples)
-    ∙ ap (λ ms. filter (legal rule p) (take a triples) ++ ms) (sym (ap (filter (legal rule p)) (take-append-drop (b - a) (drop a triples))) ∙ filter-append (legal rule p) (take (b - a) (drop a triples)) (drop (b - a) (drop a triples)) ∙ ap (λ l. filter (legal rule p) (take (b - a) (drop a triples)) ++ filter (legal rule p) l) (drop_twice a b triples le)))
+    ∙ ap (λ ms. filter (legal rule p) (take a triples) ++ ms) (sym (ap (filter (legal rule p)) (take-append-drop (b - a) (drop a triples)))
+    ∙ filter-append (legal rule p) (take (b - a) (drop a triples)) (drop (b - a) (drop a triples))
+    ∙ ap (λ l. filter (legal rule p) (take (b - a) (drop a triples)) ++ filter (legal rule p) l) (drop_twice a b triples le)))
 
 -- the moves behind a place, cut at another
 behind_cut : (rule : RuleSet) (p : Position) (a b : ℕ) → a ≤ b → moves_behind rule p a ≡ moves_between rule p a b ++ moves_behind rule p b
@@ -90,12 +99,14 @@ none_before (x ∷ xs) ys e =
     absurd (let n : length ((x ∷ xs) ++ ys) ≡ length ys = ap length e in let m = length-append (x ∷ xs) ys in omega (arith, n, m))
 
 -- the first move that mates behind a place, by its number
-pub next_mate_numbered : (rule : RuleSet) (p : Position) (start n : ℕ) → start ≤ n → n < 28672 → mates_behind rule p n ≡ mates_behind rule p start → mates rule p (triple_at n) ≡ true → IsNextMate rule p start (n + 1) (triple_at n)
+pub next_mate_numbered : (rule : RuleSet) (p : Position) (start n : ℕ) → start ≤ n → n < 28672 → mates_behind rule p n ≡ mates_behind rule p start
+    → mates rule p (triple_at n) ≡ true → IsNextMate rule p start (n + 1) (triple_at n)
 unfolding mates_behind mates
 next_mate_numbered rule p start n le lt same h =
     let less : n + 1 - 1 ≡ n = omega arith in
     let cut = behind_cut rule p start n le in
-    let both = sym (filter-append (is_mating rule p) (moves_between rule p start n) (moves_behind rule p n)) ∙ ap (filter (is_mating rule p)) (sym cut) ∙ sym same in
+    let both = sym (filter-append (is_mating rule p) (moves_between rule p start n) (moves_behind rule p n)) ∙ ap (filter (is_mating rule p)) (sym cut)
+    ∙ sym same in
     record {
       over = moves_between rule p start n;
       passed = rw less cut;

@@ -44,7 +44,8 @@ next_low word from p pos fits =
       | inr q ↦ q
     ]
 
-pub next_some : (word from : ℕ) → from < 64 → 0 < from_on word from → from_on word from < 2 ^ 64 → find (λ s. bit_at word s == 1) (range_with_len from (64 - from)) ≡ Some (trailing_zeros w64 (from_on word from))
+pub next_some : (word from : ℕ) → from < 64 → 0 < from_on word from → from_on word from < 2 ^ 64
+    → find (λ s. bit_at word s == 1) (range_with_len from (64 - from)) ≡ Some (trailing_zeros w64 (from_on word from))
 next_some word from p pos fits =
     let t = trailing_zeros w64 (from_on word from) in
     let w = bit_at-trailing_zeros w64 (from_on word from) pos fits in

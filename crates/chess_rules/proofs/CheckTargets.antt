@@ -111,8 +111,9 @@ module _ (rule : RuleSet) (p : Position) (x : Man) (s : CheckSquares) (f : ℕ) 
     unfolding cannot_expose
     covering =
         let stays : may_expose rule p.men (other p.turn) m.from ≡ false =
-                rw at (sym (word_has (may_expose rule p.men (other p.turn)) s.shield_squares f checks.shield_squares inside) ∙ covered) in
-        let plain = plain_elsewhere rule p x m b d small no_castling crossed (off_right a b m.to off-ab) reborn (off_right (bit_or (bit_or a b) c) d m.to off) in
+        rw at (sym (word_has (may_expose rule p.men (other p.turn)) s.shield_squares f checks.shield_squares inside) ∙ covered) in
+        let plain = plain_elsewhere rule p x m b d small no_castling crossed (off_right a b m.to off-ab) reborn
+        (off_right (bit_or (bit_or a b) c) d m.to off) in
         rw (stands, stays, aside, plain) refl
 
     no_check_elsewhere : in_check rule (after rule p m).men (other p.turn) ≡ false

@@ -45,7 +45,8 @@ pub between : (s t : ℕ) (d : Step) (k i : ℕ) → i ≤ k → along s d k ≡
 unfolding along
 between s t d k i le h =
     let p : Placed (file_of s + k * d.right - k * d.left) (rank_of s + k * d.up - k * d.down) t = placed_from _ _ t h in
-    let f : file_of t + (k - i) * d.left - (k - i) * d.right ≡ file_of s + i * d.right - i * d.left = rw p.file (part (file_of s) k i d.right d.left le p.f_low) in
+    let f : file_of t + (k - i) * d.left - (k - i) * d.right ≡ file_of s
+    + i * d.right - i * d.left = rw p.file (part (file_of s) k i d.right d.left le p.f_low) in
     let r : rank_of t + (k - i) * d.down - (k - i) * d.up ≡ rank_of s + i * d.up - i * d.down = rw p.rank (part (rank_of s) k i d.up d.down le p.r_low) in
     (λ j. square_at (f j) (r j))
 
@@ -71,7 +72,8 @@ returns_to s t d k p h =
     let b : along t (back d) k ≡ Some s = ap (along t (back d)) (sym e) ∙ between s t d k 0 (omega arith) at ∙ stays s d p in
     ap (λ o. is_square o s) b ∙ eq-eqb s s refl
 
-clear_back : (men : List (Option Man)) (s t : ℕ) (d : Step) (k : ℕ) → along s d k ≡ Some t → is_clear men s d (k - 1) ≡ true → is_clear men t (back d) (k - 1) ≡ true
+clear_back : (men : List (Option Man)) (s t : ℕ) (d : Step) (k : ℕ) → along s d k ≡ Some t → is_clear men s d (k - 1) ≡ true
+    → is_clear men t (back d) (k - 1) ≡ true
 unfolding is_clear
 clear_back men s t d k at h =
     all_range_true (λ i. is_vacant men (along t (back d) i)) 1 (k - 1)
@@ -80,7 +82,8 @@ clear_back men s t d k at h =
     ap (λ n. is_vacant men (along t (back d) n)) e ∙ ap (is_vacant men) (between s t d k (k - i) (omega arith) at)
     ∙ all_at (λ i. is_vacant men (along s d i)) 1 (k - 1) (k - i) h (omega arith) (omega arith))
 
-ride_test : (men : List (Option Man)) (s t : ℕ) (d : Step) (k : ℕ) → s < 64 → (is_square (along s d k) t && is_clear men s d (k - 1)) ≡ true → (is_square (along t (back d) k) s && is_clear men t (back d) (k - 1)) ≡ true
+ride_test : (men : List (Option Man)) (s t : ℕ) (d : Step) (k : ℕ) → s < 64 → (is_square (along s d k) t && is_clear men s d (k - 1)) ≡ true
+    → (is_square (along t (back d) k) s && is_clear men t (back d) (k - 1)) ≡ true
 ride_test men s t d k p h = search (rules, clear_back, first_of_and, returns_to, second_of_and, square_is)
 
 -- a ride is seen from both ends

@@ -12,7 +12,8 @@ use Rattle.chess_rules.proofs.Calls.{pseudo-from_legal}
 use Rattle.chess_rules.proofs.Mating.{no_mate_quietly}
 
 -- a legal move that gives no check doesn't mate
-pub quiet : (rule : RuleSet) (p : Position) (m : Move) → legal rule p m ≡ true → in_check rule (after rule p m).men (other p.turn) ≡ false → is_mating rule p m ≡ false
+pub quiet : (rule : RuleSet) (p : Position) (m : Move) → legal rule p m ≡ true → in_check rule (after rule p m).men (other p.turn) ≡ false
+    → is_mating rule p m ≡ false
 unfolding mates
 quiet rule p m lawful calm = second (legal rule p m) (is_mating rule p m) lawful (sym (no_mate_quietly rule p m (pseudo-from_legal rule p m lawful) calm))
   where

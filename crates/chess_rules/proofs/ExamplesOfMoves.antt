@@ -16,53 +16,76 @@ use Rattle.chess_core.specs.SquareNames.{a1, d1, e1, f1, g1, h1, f2, h2, b3, f3,
 
 -- White Ke1 Rh1 Re8 Rg8, Black Kf3: castling mates
 abbrev castling : Position
-castling = record (position (on White King e1 ∷ on White Rook h1 ∷ on White Rook e8 ∷ on White Rook g8 ∷ on Black King f3 ∷ []) White) { unmoved = with_unmoved (with_unmoved none_unmoved e1) h1 }
+castling = record (position (on White King e1 ∷ on White Rook h1 ∷ on White Rook e8 ∷ on White Rook g8 ∷ on Black King f3 ∷ []) White) {
+  unmoved = with_unmoved
+      (with_unmoved none_unmoved e1) h1;
+}
 
 -- the king castles, and this is mate
 castling_mates : (legal orthodox castling (go e1 g1) ≡ true) × (is_goal orthodox (after orthodox castling (go e1 g1)) ≡ true)
-unfolding reaches reaches_as rides hops leaps is_clear along squares some_square king_square faces_its_like faces strikes paralysed attacked in_check after after_by unmoved_after moved_men capture_square reborn_square rebirth castles may_castle pseudo legal none_unmoved has_unmoved mark_unmoved moves triples is_goal
+unfolding reaches reaches_as rides hops leaps is_clear along squares some_square king_square faces_its_like faces strikes paralysed attacked in_check after
+    after_by unmoved_after moved_men capture_square reborn_square rebirth castles may_castle pseudo legal none_unmoved has_unmoved mark_unmoved moves triples
+    is_goal
 castling_mates = (refl, refl)
 
 -- once the rook has moved it may not
 castling_wants_the_rook_unmoved : legal orthodox (record castling { unmoved = with_unmoved none_unmoved e1 }) (go e1 g1) ≡ false
-unfolding reaches reaches_as rides hops leaps is_clear along squares some_square king_square faces_its_like faces strikes paralysed attacked in_check after after_by unmoved_after moved_men capture_square reborn_square rebirth castles may_castle pseudo legal none_unmoved has_unmoved mark_unmoved moves triples is_goal
+unfolding reaches reaches_as rides hops leaps is_clear along squares some_square king_square faces_its_like faces strikes paralysed attacked in_check after
+    after_by unmoved_after moved_men capture_square reborn_square rebirth castles may_castle pseudo legal none_unmoved has_unmoved mark_unmoved moves triples
+    is_goal
 castling_wants_the_rook_unmoved = refl
 
 -- the same with a black grasshopper on d1: after castling it hops over f1 to g1
 abbrev guarded : Position
-guarded = record (position (on White King e1 ∷ on White Rook h1 ∷ on White Rook e8 ∷ on White Rook g8 ∷ on Black King f3 ∷ on Black Grasshopper d1 ∷ []) White) { unmoved = with_unmoved (with_unmoved none_unmoved e1) h1 }
+guarded = record (position (on White King e1 ∷ on White Rook h1 ∷ on White Rook e8 ∷ on White Rook g8 ∷ on Black King f3 ∷ on Black Grasshopper d1 ∷ [])
+    White) { unmoved = with_unmoved (with_unmoved none_unmoved e1) h1 }
 
 -- so castling isn't legal, and Rh1-f1 isn't mate, since the grasshopper captures there
 grasshopper_forbids_castling : (legal orthodox guarded (go e1 g1) ≡ false) × (is_goal orthodox (after orthodox guarded (go h1 f1)) ≡ false)
-unfolding reaches reaches_as rides hops leaps is_clear along squares some_square king_square faces_its_like faces strikes paralysed attacked in_check after after_by unmoved_after moved_men capture_square reborn_square rebirth castles may_castle pseudo legal none_unmoved has_unmoved mark_unmoved moves triples is_goal
+unfolding reaches reaches_as rides hops leaps is_clear along squares some_square king_square faces_its_like faces strikes paralysed attacked in_check after
+    after_by unmoved_after moved_men capture_square reborn_square rebirth castles may_castle pseudo legal none_unmoved has_unmoved mark_unmoved moves triples
+    is_goal
 grasshopper_forbids_castling = (refl, refl)
 
 -- White Kg6 Ba1 Bb3 Pe5, Black Kh8 Pd5, whose pawn has just passed d6
 abbrev passing : Position
-passing = record (position (on White King g6 ∷ on White Bishop a1 ∷ on White Bishop b3 ∷ on White Pawn e5 ∷ on Black King h8 ∷ on Black Pawn d5 ∷ []) White) { crossed = Some d6 }
+passing = record (position (on White King g6 ∷ on White Bishop a1 ∷ on White Bishop b3 ∷ on White Pawn e5 ∷ on Black King h8 ∷ on Black Pawn d5 ∷ [])
+    White) { crossed = Some d6 }
 
 -- the capture en passant takes the pawn off d5 and mates
 en_passant_mates : (man_on (after orthodox passing (go e5 d6)).men d5 ≡ None) × (is_goal orthodox (after orthodox passing (go e5 d6)) ≡ true)
-unfolding reaches reaches_as rides hops leaps is_clear along squares some_square king_square faces_its_like faces strikes paralysed attacked in_check after after_by unmoved_after moved_men capture_square reborn_square rebirth castles may_castle pseudo legal none_unmoved has_unmoved mark_unmoved moves triples is_goal
+unfolding reaches reaches_as rides hops leaps is_clear along squares some_square king_square faces_its_like faces strikes paralysed attacked in_check after
+    after_by unmoved_after moved_men capture_square reborn_square rebirth castles may_castle pseudo legal none_unmoved has_unmoved mark_unmoved moves triples
+    is_goal
 en_passant_mates = (refl, refl)
 
 -- in Circe the pawn is reborn on d7
 en_passant_in_circe : man_on (after circe passing (go e5 d6)).men d7 ≡ Some (man Black Pawn)
-unfolding reaches reaches_as rides hops leaps is_clear along squares some_square king_square faces_its_like faces strikes paralysed attacked in_check after after_by unmoved_after moved_men capture_square reborn_square rebirth castles may_castle pseudo legal none_unmoved has_unmoved mark_unmoved moves triples is_goal
+unfolding reaches reaches_as rides hops leaps is_clear along squares some_square king_square faces_its_like faces strikes paralysed attacked in_check after
+    after_by unmoved_after moved_men capture_square reborn_square rebirth castles may_castle pseudo legal none_unmoved has_unmoved mark_unmoved moves triples
+    is_goal
 en_passant_in_circe = refl
 
 -- without the crossed square there is no such capture
 en_passant_wants_the_crossed_square : legal orthodox (record passing { crossed = None }) (go e5 d6) ≡ false
-unfolding reaches reaches_as rides hops leaps is_clear along squares some_square king_square faces_its_like faces strikes paralysed attacked in_check after after_by unmoved_after moved_men capture_square reborn_square rebirth castles may_castle pseudo legal none_unmoved has_unmoved mark_unmoved moves triples is_goal
+unfolding reaches reaches_as rides hops leaps is_clear along squares some_square king_square faces_its_like faces strikes paralysed attacked in_check after
+    after_by unmoved_after moved_men capture_square reborn_square rebirth castles may_castle pseudo legal none_unmoved has_unmoved mark_unmoved moves triples
+    is_goal
 en_passant_wants_the_crossed_square = refl
 
 -- White Ke1 Rb3, Black Ke8 Rb8, Black to move in Circe
 abbrev rook_takes_rook : Position
-rook_takes_rook = record (position (on White King e1 ∷ on White Rook b3 ∷ on Black King e8 ∷ on Black Rook b8 ∷ []) Black) { unmoved = with_unmoved (with_unmoved none_unmoved e1) e8 }
+rook_takes_rook = record (position (on White King e1 ∷ on White Rook b3 ∷ on Black King e8 ∷ on Black Rook b8 ∷ []) Black) {
+  unmoved = with_unmoved
+      (with_unmoved none_unmoved e1) e8;
+}
 
 -- the white rook is reborn on h1, which counts as unmoved then
-rook_is_reborn : (man_on (after circe rook_takes_rook (go b8 b3)).men h1 ≡ Some (man White Rook)) × ((after circe rook_takes_rook (go b8 b3)).unmoved ≡ with_unmoved (with_unmoved (with_unmoved none_unmoved e1) h1) e8)
-unfolding reaches reaches_as rides hops leaps is_clear along squares some_square king_square faces_its_like faces strikes paralysed attacked in_check after after_by unmoved_after moved_men capture_square reborn_square rebirth castles may_castle pseudo legal none_unmoved has_unmoved mark_unmoved moves triples is_goal
+rook_is_reborn : (man_on (after circe rook_takes_rook (go b8 b3)).men h1 ≡ Some (man White Rook))
+    × ((after circe rook_takes_rook (go b8 b3)).unmoved ≡ with_unmoved (with_unmoved (with_unmoved none_unmoved e1) h1) e8)
+unfolding reaches reaches_as rides hops leaps is_clear along squares some_square king_square faces_its_like faces strikes paralysed attacked in_check after
+    after_by unmoved_after moved_men capture_square reborn_square rebirth castles may_castle pseudo legal none_unmoved has_unmoved mark_unmoved moves triples
+    is_goal
 rook_is_reborn = (refl, refl)
 
 -- White Kg6 Ra1, Black Kg8 Ba8, in Circe: on a8, a light square, its home is c8
@@ -70,8 +93,11 @@ abbrev bishop_at_home : Position
 bishop_at_home = position (on White King g6 ∷ on White Rook a1 ∷ on Black King g8 ∷ on Black Bishop a8 ∷ []) White
 
 -- the captured bishop is reborn there, and this is no mate
-bishop_is_reborn : (man_on (after circe bishop_at_home (go a1 a8)).men c8 ≡ Some (man Black Bishop)) × (is_goal circe (after circe bishop_at_home (go a1 a8)) ≡ false)
-unfolding reaches reaches_as rides hops leaps is_clear along squares some_square king_square faces_its_like faces strikes paralysed attacked in_check after after_by unmoved_after moved_men capture_square reborn_square rebirth castles may_castle pseudo legal none_unmoved has_unmoved mark_unmoved moves triples is_goal
+bishop_is_reborn : (man_on (after circe bishop_at_home (go a1 a8)).men c8 ≡ Some (man Black Bishop))
+    × (is_goal circe (after circe bishop_at_home (go a1 a8)) ≡ false)
+unfolding reaches reaches_as rides hops leaps is_clear along squares some_square king_square faces_its_like faces strikes paralysed attacked in_check after
+    after_by unmoved_after moved_men capture_square reborn_square rebirth castles may_castle pseudo legal none_unmoved has_unmoved mark_unmoved moves triples
+    is_goal
 bishop_is_reborn = (refl, refl)
 
 -- the same with a rook on a8, which is its home: it is captured for good
@@ -80,21 +106,29 @@ rook_at_home = position (on White King g6 ∷ on White Rook a1 ∷ on Black King
 
 -- so this is mate
 rook_vanishes : is_goal circe (after circe rook_at_home (go a1 a8)) ≡ true
-unfolding reaches reaches_as rides hops leaps is_clear along squares some_square king_square faces_its_like faces strikes paralysed attacked in_check after after_by unmoved_after moved_men capture_square reborn_square rebirth castles may_castle pseudo legal none_unmoved has_unmoved mark_unmoved moves triples is_goal
+unfolding reaches reaches_as rides hops leaps is_clear along squares some_square king_square faces_its_like faces strikes paralysed attacked in_check after
+    after_by unmoved_after moved_men capture_square reborn_square rebirth castles may_castle pseudo legal none_unmoved has_unmoved mark_unmoved moves triples
+    is_goal
 rook_vanishes = refl
 
 -- White Kf2 Pe7, Black Kh2 Bh1 Ph3 Na8: a nightrider stands in the diagram
 abbrev promotion : Position
-promotion = record (position (on White King f2 ∷ on White Pawn e7 ∷ on Black King h2 ∷ on Black Bishop h1 ∷ on Black Pawn h3 ∷ on Black Nightrider a8 ∷ []) White) { nightriders = true }
+promotion = record (position (on White King f2 ∷ on White Pawn e7 ∷ on Black King h2 ∷ on Black Bishop h1 ∷ on Black Pawn h3 ∷ on Black Nightrider a8 ∷ [])
+    White) { nightriders = true }
 
 -- promotion to a nightrider mates
 nightrider_mates : is_goal orthodox (after orthodox promotion (promoting e7 e8 Nightrider)) ≡ true
-unfolding reaches reaches_as rides hops leaps is_clear along squares some_square king_square faces_its_like faces strikes paralysed attacked in_check after after_by unmoved_after moved_men capture_square reborn_square rebirth castles may_castle pseudo legal none_unmoved has_unmoved mark_unmoved moves triples is_goal
+unfolding reaches reaches_as rides hops leaps is_clear along squares some_square king_square faces_its_like faces strikes paralysed attacked in_check after
+    after_by unmoved_after moved_men capture_square reborn_square rebirth castles may_castle pseudo legal none_unmoved has_unmoved mark_unmoved moves triples
+    is_goal
 nightrider_mates = refl
 
 -- without one in the diagram there is no such promotion, and a king there is never
-no_nightrider_without_one : (legal orthodox (record promotion { nightriders = false }) (promoting e7 e8 Nightrider) ≡ false) × (legal orthodox promotion (promoting e7 e8 King) ≡ false)
-unfolding reaches reaches_as rides hops leaps is_clear along squares some_square king_square faces_its_like faces strikes paralysed attacked in_check after after_by unmoved_after moved_men capture_square reborn_square rebirth castles may_castle pseudo legal none_unmoved has_unmoved mark_unmoved moves triples is_goal
+no_nightrider_without_one : (legal orthodox (record promotion { nightriders = false }) (promoting e7 e8 Nightrider) ≡ false)
+    × (legal orthodox promotion (promoting e7 e8 King) ≡ false)
+unfolding reaches reaches_as rides hops leaps is_clear along squares some_square king_square faces_its_like faces strikes paralysed attacked in_check after
+    after_by unmoved_after moved_men capture_square reborn_square rebirth castles may_castle pseudo legal none_unmoved has_unmoved mark_unmoved moves triples
+    is_goal
 no_nightrider_without_one = (refl, refl)
 
 -- White Kg6 Ra1, Black Kg8 Rh1 in Madrasi: the rooks paralyse each other
@@ -103,5 +137,7 @@ like_rooks = position (on White King g6 ∷ on White Rook a1 ∷ on Black King g
 
 -- the rook mates on a8 in orthodox chess, and may not go there in Madrasi
 paralysed_rook_stays : (is_goal orthodox (after orthodox like_rooks (go a1 a8)) ≡ true) × (legal madrasi like_rooks (go a1 a8) ≡ false)
-unfolding reaches reaches_as rides hops leaps is_clear along squares some_square king_square faces_its_like faces strikes paralysed attacked in_check after after_by unmoved_after moved_men capture_square reborn_square rebirth castles may_castle pseudo legal none_unmoved has_unmoved mark_unmoved moves triples is_goal
+unfolding reaches reaches_as rides hops leaps is_clear along squares some_square king_square faces_its_like faces strikes paralysed attacked in_check after
+    after_by unmoved_after moved_men capture_square reborn_square rebirth castles may_castle pseudo legal none_unmoved has_unmoved mark_unmoved moves triples
+    is_goal
 paralysed_rook_stays = (refl, refl)

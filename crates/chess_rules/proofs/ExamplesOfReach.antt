@@ -32,7 +32,8 @@ unfolding reaches reaches_as rides hops leaps is_clear along
 nightrider_rides = refl
 
 -- a white pawn on e4 reaches d5 and f5, and neither e5 nor d3
-pawn_captures_forward : (reaches (set_up (on White Pawn e4 ∷ [])) e4 d5 ≡ true) × (reaches (set_up (on White Pawn e4 ∷ [])) e4 e5 ≡ false) × (reaches (set_up (on White Pawn e4 ∷ [])) e4 d3 ≡ false)
+pawn_captures_forward : (reaches (set_up (on White Pawn e4 ∷ [])) e4 d5 ≡ true) × (reaches (set_up (on White Pawn e4 ∷ [])) e4 e5 ≡ false)
+    × (reaches (set_up (on White Pawn e4 ∷ [])) e4 d3 ≡ false)
 unfolding reaches reaches_as rides hops leaps is_clear along
 pawn_captures_forward = (refl, refl, refl)
 

@@ -74,7 +74,8 @@ en_passant_checks = (refl, refl)
 
 -- so the squares to which the pawn must go to give check hold d6, from which a pawn gives none
 pub crossed_square_may_give_check : (w : ℕ) → AreCheckTargets orthodox opening_capture e5 w → (bit_at w d6 == 1) ≡ true
-crossed_square_may_give_check w are = true_from_ne_false _ (λ e. false≢true (sym (are.elsewhere (go e5 d6) refl (omega arith) en_passant_checks.0 e) ∙ en_passant_checks.1))
+crossed_square_may_give_check w are = true_from_ne_false _ (λ e. false≢true
+    (sym (are.elsewhere (go e5 d6) refl (omega arith) en_passant_checks.0 e) ∙ en_passant_checks.1))
 
 -- and no man that leaves e5 opens a line
 pub no_pawn_checks_from_there : (may_check_from opening_capture.men Black (enemy Black Pawn) d6 ≡ false)
@@ -93,7 +94,8 @@ en_passant_meets = (refl, refl, refl)
 
 -- so the squares to which the pawn must go to leave no check hold d6, which meets it in no other way
 pub crossed_square_may_meet_a_check : (w : ℕ) → AreEvasionsFrom orthodox passing_check e5 w → (bit_at w d6 == 1) ≡ true
-crossed_square_may_meet_a_check w are = true_from_ne_false _ (λ e. true≢false (sym (are.elsewhere (go e5 d6) refl (omega arith) en_passant_meets.1 e) ∙ en_passant_meets.2))
+crossed_square_may_meet_a_check w are = true_from_ne_false _ (λ e. true≢false
+    (sym (are.elsewhere (go e5 d6) refl (omega arith) en_passant_meets.1 e) ∙ en_passant_meets.2))
 
 pub no_evasion_there : is_evasion passing_check.men White e4 d5 d6 ≡ false
 unfolding reaches_as rides is_clear along
@@ -157,15 +159,20 @@ king_castles_on_both_sides = (refl, refl)
 -- White Ke1 Rh1, both unmoved, Black Ke8 Rf8: the king would cross an attacked square
 abbrev crossing_a_line : Position
 crossing_a_line =
-    record (position (on White King e1 ∷ on White Rook h1 ∷ on Black King e8 ∷ on Black Rook f8 ∷ []) White) { unmoved = with_unmoved (with_unmoved none_unmoved e1) h1 }
+    record (position (on White King e1 ∷ on White Rook h1 ∷ on Black King e8 ∷ on Black Rook f8 ∷ []) White) {
+      unmoved = with_unmoved
+          (with_unmoved none_unmoved e1) h1;
+    }
 
-pub no_castling_through_an_attack : (may_go crossing_a_line (man White King) e1 g1 ≡ true) × (castles orthodox crossing_a_line (man White King) (go e1 g1) ≡ false)
+pub no_castling_through_an_attack : (may_go crossing_a_line (man White King) e1 g1 ≡ true)
+    × (castles orthodox crossing_a_line (man White King) (go e1 g1) ≡ false)
     × (goes orthodox crossing_a_line (man White King) (go e1 g1) ≡ false)
 unfolding may_go steps_to check_after_a_move
 no_castling_through_an_attack = (refl, refl, refl)
 
 -- a pawn goes two squares from its second rank alone, and to no square that is taken, nor over one
-pub pawn_steps_over_empty_squares : (pawn_goes (position [] White) (man White Pawn) a2 a4 ≡ true) × (pawn_goes (position [] White) (man White Pawn) a3 a5 ≡ false)
+pub pawn_steps_over_empty_squares : (pawn_goes (position [] White) (man White Pawn) a2 a4 ≡ true)
+    × (pawn_goes (position [] White) (man White Pawn) a3 a5 ≡ false)
     × (pawn_goes (position (on Black Rook a3 ∷ []) White) (man White Pawn) a2 a3 ≡ false)
     × (pawn_goes (position (on Black Rook a3 ∷ []) White) (man White Pawn) a2 a4 ≡ false)
 unfolding along
@@ -230,7 +237,8 @@ captures_and_shuts_meet_a_check w are = (
 )
 
 -- a rook on a8 attacks a1, which is no flight then
-pub attacked_square_is_no_flight : word (λ s. is_side (man_on (set_up (on Black Rook a8 ∷ [])) s) Black && reaches (set_up (on Black Rook a8 ∷ [])) s a1) ≡ 2 ^ 56
+pub attacked_square_is_no_flight : word (λ s. is_side (man_on (set_up (on Black Rook a8 ∷ [])) s) Black && reaches (set_up (on Black Rook a8 ∷ [])) s a1)
+    ≡ 2 ^ 56
 unfolding word word_of squares reaches reaches_as rides hops leaps is_clear along
 attacked_square_is_no_flight = refl
 
@@ -247,7 +255,8 @@ unfolding check_after_a_move
 paralysed_man_attacks_nothing = (refl, refl)
 
 -- a stretch without a move ends before a move to one of the word's squares
-ends_at : (p : Position) (s w k b : ℕ) → (bit_at w (k / 7) == 1) ≡ true → pseudo orthodox p (record { from = s; to = k / 7; promo = promotion_at (k % 7) }) ≡ true
+ends_at : (p : Position) (s w k b : ℕ) → (bit_at w (k / 7) == 1) ≡ true
+    → pseudo orthodox p (record { from = s; to = k / 7; promo = promotion_at (k % 7) }) ≡ true
     → IsBarrenFrom p s w 0 b → b ≤ k
 ends_at p s w k b on may barren = elim (cases_lt k b) [
   | inl lt ↦ absurd (false≢true (sym (barren.fails orthodox k (omega arith) lt on) ∙ may))

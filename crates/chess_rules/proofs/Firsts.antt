@@ -28,7 +28,8 @@ lowest_stop d w fits up =
         | inl lt ↦ absurd (let no_bit : bit_at v q ≡ 0 = z.2 q lt in let yes_bit : bit_at v q ≡ 1 = kept w (1 * 2 ^ 63 % 2 ^ 64) q h in omega arith)
         | inr ge ↦ ge
       ]);
-      here = λ lt. let less : trailing_zeros w64 v < 63 = rw up at lt in sym (bit_at_set_other w64 w 63 (omega arith) (trailing_zeros w64 v) (λ e. omega arith)) ∙ z.1;
+      here = λ lt. let less : trailing_zeros w64 v < 63 = rw up at lt in sym (bit_at_set_other w64 w 63 (omega arith) (trailing_zeros w64 v) (λ e. omega arith))
+          ∙ z.1;
     }
 
 top_bit : (n r : ℕ) → 2 ^ r ≤ n → n < 2 * 2 ^ r → bit_at n r ≡ 1
@@ -41,7 +42,8 @@ pub highest_stop : (d : Step) (w r : ℕ) → rises d ≡ false → 2 ^ r ≤ bi
 highest_stop d w r down a b small = record {
   small = small;
   first = λ q p h. rw down (elim (cases_lt r q) [
-    | inl lt ↦ absurd (let none : bit_at (bit_or w 1) q ≡ 0 = none_above (bit_or w 1) r q b lt in let some : bit_at (bit_or w 1) q ≡ 1 = kept w 1 q h in omega arith)
+    | inl lt ↦ absurd (let none : bit_at (bit_or w 1) q ≡ 0 = none_above (bit_or w 1) r q b lt in let some : bit_at (bit_or w 1) q ≡ 1 = kept w 1 q h in
+        omega arith)
     | inr ge ↦ let far : 63 - r ≤ 63 - q = omega arith in far
   ]);
   here = λ lt. let less : 63 - r < 63 = rw down at lt in sym (bit_at_set_other w64 w 0 (omega arith) r (λ e. omega arith)) ∙ top_bit (bit_or w 1) r a b;

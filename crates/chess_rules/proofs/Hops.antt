@@ -21,7 +21,8 @@ and_false true b = refl
 and_false false b = refl
 
 -- the squares between are the same from both ends
-far : (men : List (Option Man)) (s t : ℕ) (d : Step) (k : ℕ) → 2 ≤ k → along s d k ≡ Some t → is_clear men s d (k - 2) ≡ list_all (λ i. is_vacant men (along t (back d) i)) (range_with_len 2 (k - 2))
+far : (men : List (Option Man)) (s t : ℕ) (d : Step) (k : ℕ) → 2 ≤ k → along s d k ≡ Some t
+    → is_clear men s d (k - 2) ≡ list_all (λ i. is_vacant men (along t (back d) i)) (range_with_len 2 (k - 2))
 unfolding is_clear
 far men s t d k lo at =
     same_Bool _ _
@@ -52,7 +53,8 @@ false_first false b c false y z h l = refl
 
 hop_test : (men : List (Option Man)) (s t : ℕ) (d : Step) (k : ℕ) → s < 64 → t < 64 → 2 ≤ k
     → (is_square (along s d k) t && is_occupied men (along s d (k - 1)) && is_clear men s d (k - 2))
-    ≡ (is_square (along t (back d) k) s && is_occupied men (along t (back d) 1) && list_all (λ i. is_vacant men (along t (back d) i)) (range_with_len 2 (k - 2)))
+    ≡ (is_square (along t (back d) k) s && is_occupied men (along t (back d) 1)
+    && list_all (λ i. is_vacant men (along t (back d) i)) (range_with_len 2 (k - 2)))
 hop_test men s t d k p q lo =
     let same : is_square (along s d k) t ≡ is_square (along t (back d) k) s = same_Bool _ _ (returns_to s t d k p) (returns_to t s (back d) k q) in
     elim (cases_Bool (is_square (along s d k) t)) [
@@ -68,4 +70,5 @@ pub hops-back : (men : List (Option Man)) (s t : ℕ) (d : Step) → s < 64 → 
 unfolding hops hopped_from rides_on
 hops-back men s t d p q =
     any_range_same _ _ 2 6 (λ k lo hi. hop_test men s t d k p q lo)
-    ∙ and_out (λ k. is_square (along t (back d) k) s) (λ k. list_all (λ i. is_vacant men (along t (back d) i)) (range_with_len 2 (k - 2))) (is_occupied men (along t (back d) 1)) 2 6
+    ∙ and_out (λ k. is_square (along t (back d) k) s) (λ k. list_all (λ i. is_vacant men (along t (back d) i)) (range_with_len 2 (k - 2)))
+    (is_occupied men (along t (back d) 1)) 2 6

@@ -23,6 +23,7 @@ four p a b c d k l m n x y z w =
     ∙ squares_either (λ t. (p t a || p t b) || p t c) (λ t. p t d)
     ∙ squares_same _ _ (λ t q. one_by_one (p t a) (p t b) (p t c) (p t d))
 
-pub both_lists : (p : ℕ → Step → Bool) (xs ys : List Step) (k l : ℕ) → k ≡ word (λ t. list_any (p t) xs) → l ≡ word (λ t. list_any (p t) ys) → bit_or k l ≡ word (λ t. list_any (p t) (xs ++ ys))
+pub both_lists : (p : ℕ → Step → Bool) (xs ys : List Step) (k l : ℕ) → k ≡ word (λ t. list_any (p t) xs) → l ≡ word (λ t. list_any (p t) ys)
+    → bit_or k l ≡ word (λ t. list_any (p t) (xs ++ ys))
 both_lists p xs ys k l x y =
     (λ j. bit_or (x j) (y j)) ∙ squares_either (λ t. list_any (p t) xs) (λ t. list_any (p t) ys) ∙ squares_same _ _ (λ t q. sym (list_any-append (p t) xs ys))

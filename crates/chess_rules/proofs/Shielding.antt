@@ -342,7 +342,8 @@ not_attacked rule men after a b z c k i g f l q =
                 arrival_strikes rule men after a b z c k (man_on after b) refl i g l small q side hit
             | inr ne ↦
                 let yes : some_square (λ s. is_side (man_on men s) (other c) && reaches men s k) ≡ true =
-                some_square_true (λ s. is_side (man_on men s) (other c) && reaches men s k) s p (checks_before rule men after a b z c k s (man_on after s) refl i g f p q ne h2.0 h1.1) in
+                some_square_true (λ s. is_side (man_on men s) (other c) && reaches men s k) s p
+                (checks_before rule men after a b z c k s (man_on after s) refl i g f p q ne h2.0 h1.1) in
                 let no = g.safe in
                 cc
           ]);
@@ -614,7 +615,8 @@ pub cannot_expose_is : (rule : RuleSet) (p : Position) (x : Man) (c : Colour) (m
     → (not b && (not (may_stand_between p.men c m.to) && is_plain rule p x m)) ≡ cannot_expose rule p c m
 unfolding cannot_expose
 cannot_expose_is rule p x c m w s b here h same small e =
-    rw here (ap (λ (u : Bool). not u && (not (may_stand_between p.men c m.to) && is_plain rule p x m)) (e ∙ word_has (may_expose rule p.men c) w s h small ∙ ap (may_expose rule p.men c) same))
+    rw here (ap (λ (u : Bool). not u && (not (may_stand_between p.men c m.to) && is_plain rule p x m))
+    (e ∙ word_has (may_expose rule p.men c) w s h small ∙ ap (may_expose rule p.men c) same))
 
 pub cannot_expose_nobody : (rule : RuleSet) (p : Position) (c : Colour) (m : Move) → man_on p.men m.from ≡ None → false ≡ cannot_expose rule p c m
 unfolding cannot_expose

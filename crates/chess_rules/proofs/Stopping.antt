@@ -31,11 +31,13 @@ pub passes_test : (test : ℕ → Bool) (w q : ℕ) → w ≡ word test → q < 
 passes_test test w q h b e = sym (word_has test w q h b) ∙ eq-eqb _ 1 e
 
 -- the men ahead of s
-pub ahead_men : (men : List (Option Man)) (s : ℕ) (d : Step) (r o : ℕ) → r ≡ ray s d → o ≡ word (λ q. is_some (man_on men q)) → bit_and r o ≡ word (λ q. is_ahead s d q && is_some (man_on men q))
+pub ahead_men : (men : List (Option Man)) (s : ℕ) (d : Step) (r o : ℕ) → r ≡ ray s d → o ≡ word (λ q. is_some (man_on men q))
+    → bit_and r o ≡ word (λ q. is_ahead s d q && is_some (man_on men q))
 unfolding ray
 ahead_men men s d r o h i = (λ j. bit_and (h j) (i j)) ∙ squares_both (is_ahead s d) (λ q. is_some (man_on men q))
 
-pub stops : (men : List (Option Man)) (s : ℕ) (d : Step) (r o b : ℕ) → r ≡ ray s d → o ≡ word (λ q. is_some (man_on men q)) → IsStop d (bit_and r o) b → Stops men s d b
+pub stops : (men : List (Option Man)) (s : ℕ) (d : Step) (r o b : ℕ) → r ≡ ray s d → o ≡ word (λ q. is_some (man_on men q)) → IsStop d (bit_and r o) b
+    → Stops men s d b
 stops men s d r o b h i stop =
     let w : bit_and r o ≡ word (λ q. is_ahead s d q && is_some (man_on men q)) = ahead_men men s d r o h i in
     record {
@@ -69,7 +71,8 @@ occupied_not_vacant : (men : List (Option Man)) (o : Option ℕ) (q : ℕ) → o
 occupied_not_vacant men o q at man = rw at (ap not man)
 
 -- what lies ahead of the stop isn't reached
-blocked : (men : List (Option Man)) (s : ℕ) (d : Step) (b t k : ℕ) → Ordered d → Stops men s d b → t < 64 → along s d k ≡ Some t → is_ahead b d t ≡ true → is_clear men s d (k - 1) ≡ false
+blocked : (men : List (Option Man)) (s : ℕ) (d : Step) (b t k : ℕ) → Ordered d → Stops men s d b → t < 64 → along s d k ≡ Some t → is_ahead b d t ≡ true
+    → is_clear men s d (k - 1) ≡ false
 unfolding is_clear
 blocked men s d b t k line stop p at behind =
     let on = steps_on b d t behind in
@@ -80,14 +83,17 @@ blocked men s d b t k line stop p at behind =
     let sooner : to.0 < k = elim (cases_lt to.0 k) [
       | inl lt ↦ lt
       | inr ge ↦ elim (cases_eq k to.0) [
-        | inl e ↦ absurd (let same : Some b ≡ Some t = sym to.1.at ∙ ap (along s d) (sym e) ∙ at in let n : b ≡ t = cc in let m : place d b ≡ place d t = ap (place d) n in omega arith)
+        | inl e ↦ absurd (let same : Some b ≡ Some t = sym to.1.at ∙ ap (along s d) (sym e) ∙ at in let n : b ≡ t = cc in
+            let m : place d b ≡ place d t = ap (place d) n in omega arith)
         | inr ne ↦ absurd (let other : place d t < place d b = line.in_order s k to.0 t b at to.1.at (omega arith) in omega arith)
       ]
     ] in
-    all_range_false (λ i. is_vacant men (along s d i)) 1 (k - 1) to.0 to.1.low (omega arith) (occupied_not_vacant men (along s d to.0) b to.1.at (second_of_and (is_ahead s d b) _ here))
+    all_range_false (λ i. is_vacant men (along s d i)) 1 (k - 1) to.0 to.1.low (omega arith)
+    (occupied_not_vacant men (along s d to.0) b to.1.at (second_of_and (is_ahead s d b) _ here))
 
 -- up to the stop the line is empty
-nobody : (men : List (Option Man)) (s : ℕ) (d : Step) (b t k i q : ℕ) → Ordered d → Stops men s d b → t < 64 → 1 ≤ i → i < k → k < 8 → along s d k ≡ Some t → along s d i ≡ Some q → q < 64 → is_ahead b d t ≡ false → is_some (man_on men q) ≡ true → ⊥
+nobody : (men : List (Option Man)) (s : ℕ) (d : Step) (b t k i q : ℕ) → Ordered d → Stops men s d b → t < 64 → 1 ≤ i → i < k → k < 8 → along s d k ≡ Some t
+    → along s d i ≡ Some q → q < 64 → is_ahead b d t ≡ false → is_some (man_on men q) ≡ true → ⊥
 nobody men s d b t k i q line stop p lo lt hi at here small not_behind man =
     let le : place d b ≤ place d q = stop.first q small (ahead_at s d q i lo (omega arith) here) man in
     let past : place d q < place d t = line.in_order s i k q t here at lt in
@@ -101,7 +107,8 @@ nobody men s d b t k i q line stop p lo lt hi at here small not_behind man =
     let on : along b d (k - to.0) ≡ Some t = onward s b d to.0 (k - to.0) to.1.at ∙ ap (along s d) e ∙ at in
     false≢true (sym not_behind ∙ ahead_at b d t (k - to.0) (omega arith) (omega arith) on)
 
-open_to : (men : List (Option Man)) (s : ℕ) (d : Step) (b t k : ℕ) → Ordered d → Stops men s d b → s < 64 → t < 64 → k < 8 → along s d k ≡ Some t → is_ahead b d t ≡ false → is_clear men s d (k - 1) ≡ true
+open_to : (men : List (Option Man)) (s : ℕ) (d : Step) (b t k : ℕ) → Ordered d → Stops men s d b → s < 64 → t < 64 → k < 8 → along s d k ≡ Some t
+    → is_ahead b d t ≡ false → is_clear men s d (k - 1) ≡ true
 unfolding is_clear
 open_to men s d b t k line stop p q hi at free =
     all_range_true (λ i. is_vacant men (along s d i)) 1 (k - 1) (λ i lo lt.
@@ -112,7 +119,8 @@ open_to men s d b t k line stop p q hi at free =
     ])
 
 -- a ride gets to what is ahead and not ahead of the stop
-ridden : (men : List (Option Man)) (s : ℕ) (d : Step) (b t : ℕ) → Ordered d → Stops men s d b → s < 64 → t < 64 → (is_ahead s d t && not (is_ahead b d t)) ≡ rides men s t d
+ridden : (men : List (Option Man)) (s : ℕ) (d : Step) (b t : ℕ) → Ordered d → Stops men s d b → s < 64 → t < 64
+    → (is_ahead s d t && not (is_ahead b d t)) ≡ rides men s t d
 unfolding rides
 ridden men s d b t line stop p q = elim (cases_Bool (is_ahead s d t)) [
   | inl y ↦ elim (cases_Bool (is_ahead b d t)) [
@@ -136,7 +144,8 @@ ridden men s d b t line stop p q = elim (cases_Bool (is_ahead s d t)) [
       ])))
 ]
 
-pub ride_is : (men : List (Option Man)) (s : ℕ) (d : Step) (r o b n : ℕ) → Ordered d → s < 64 → r ≡ ray s d → o ≡ word (λ q. is_some (man_on men q)) → IsStop d (bit_and r o) b → n ≡ ray b d → bit_and r (bit_not w64 n) ≡ word (λ t. rides men s t d)
+pub ride_is : (men : List (Option Man)) (s : ℕ) (d : Step) (r o b n : ℕ) → Ordered d → s < 64 → r ≡ ray s d → o ≡ word (λ q. is_some (man_on men q))
+    → IsStop d (bit_and r o) b → n ≡ ray b d → bit_and r (bit_not w64 n) ≡ word (λ t. rides men s t d)
 unfolding ray
 ride_is men s d r o b n line p h i stop k =
     (λ j. bit_and (h j) (bit_not w64 (k j)))

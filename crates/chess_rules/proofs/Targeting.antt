@@ -51,15 +51,18 @@ unfolding reaches
 reaches_man men x s t here h = rw here at h
 
 -- a move goes where its man may go
-may_go_of : (rule : RuleSet) (p : Position) (x : Man) (m : Move) → m.to < 64 → man_on p.men m.from ≡ Some x → goes rule p x m ≡ true → may_go p x m.from m.to ≡ true
+may_go_of : (rule : RuleSet) (p : Position) (x : Man) (m : Move) → m.to < 64 → man_on p.men m.from ≡ Some x → goes rule p x m ≡ true
+    → may_go p x m.from m.to ≡ true
 unfolding may_go castles may_castle
 may_go_of rule p x m small here h = search (rules, and_from, and_parts, castling_steps, cond-false, cond-true, or_left, or_right, reaches_man)
 
-arrival_of : (rule : RuleSet) (p : Position) (x : Man) (m : Move) → m.to < 64 → man_on p.men m.from ≡ Some x → pseudo_of rule p (Some x) m ≡ true → is_arrival rule p m.from m.to ≡ true
+arrival_of : (rule : RuleSet) (p : Position) (x : Man) (m : Move) → m.to < 64 → man_on p.men m.from ≡ Some x → pseudo_of rule p (Some x) m ≡ true
+    → is_arrival rule p m.from m.to ≡ true
 unfolding is_arrival
 arrival_of rule p x m small here h = search (rules, and_from, and_parts, may_go_of)
 
-arrival_by : (rule : RuleSet) (p : Position) (m : Move) (o : Option Man) → m.to < 64 → man_on p.men m.from ≡ o → pseudo_of rule p o m ≡ true → is_arrival rule p m.from m.to ≡ true
+arrival_by : (rule : RuleSet) (p : Position) (m : Move) (o : Option Man) → m.to < 64 → man_on p.men m.from ≡ o → pseudo_of rule p o m ≡ true
+    → is_arrival rule p m.from m.to ≡ true
 arrival_by rule p m None small here h = cc
 arrival_by rule p m (Some x) small here h = arrival_of rule p x m small here h
 
@@ -80,11 +83,13 @@ pub unpromoted : (p : Position) (x : Man) (m : Move) (o : Option Kind) (k : Kind
 unpromoted p x m None k h e = cc
 unpromoted p x m (Some j) k h e = (and_parts _ _ h).0
 
-no_promotion_here : (rule : RuleSet) (p : Position) (x : Man) (m : Move) (k : Kind) → man_on p.men m.from ≡ Some x → m.promo ≡ Some k → arrives x m.to ≡ false → pseudo rule p m ≡ false
+no_promotion_here : (rule : RuleSet) (p : Position) (x : Man) (m : Move) (k : Kind) → man_on p.men m.from ≡ Some x → m.promo ≡ Some k → arrives x m.to ≡ false
+    → pseudo rule p m ≡ false
 no_promotion_here rule p x m k here e h =
     false_by (pseudo rule p m) (λ y. let t = unpromoted p x m m.promo k (made rule p m x y here).promotion e in cc)
 
-promotion_missing : (rule : RuleSet) (p : Position) (x : Man) (m : Move) → man_on p.men m.from ≡ Some x → m.promo ≡ None → arrives x m.to ≡ true → pseudo rule p m ≡ false
+promotion_missing : (rule : RuleSet) (p : Position) (x : Man) (m : Move) → man_on p.men m.from ≡ Some x → m.promo ≡ None → arrives x m.to ≡ true
+    → pseudo rule p m ≡ false
 promotion_missing rule p x m here e h =
     false_by (pseudo rule p m) (λ y. let t = promoted p x m m.promo (made rule p m x y here).promotion e in cc)
 
@@ -96,7 +101,8 @@ nobody_moves rule p m h = ap (λ o. pseudo_of rule p o m) h
 pub own_moves : (p : Position) (rule : RuleSet) (m : Move) (o : Option Man) → man_on p.men m.from ≡ o → is_side o p.turn ≡ false → pseudo rule p m ≡ false
 own_moves p rule m None e h = nobody_moves rule p m e
 own_moves p rule m (Some x) e h =
-    false_by (pseudo rule p m) (λ y. let c : x.colour ≡ p.turn = (made rule p m x y e).mine in let t : same_colour p.turn p.turn ≡ false = rw c at h in let u = same p.turn in cc) where
+    false_by (pseudo rule p m) (λ y. let c : x.colour ≡ p.turn = (made rule p m x y e).mine in let t : same_colour p.turn p.turn ≡ false = rw c at h in
+    let u = same p.turn in cc) where
       same : (c : Colour) → same_colour c c ≡ true
       same White = refl
       same Black = refl
@@ -152,16 +158,19 @@ from-promoted p x s z t here h = record {
 }
 
 -- up to the first target
-pub from-target : (p : Position) (s start at t w : ℕ) → IsBarrenFrom p s w start at → IsFirst (λ q. bit_at w q == 1) (at / 7) (64 - at / 7) t → IsBarrenFrom p s w start (7 * t)
+pub from-target : (p : Position) (s start at t w : ℕ) → IsBarrenFrom p s w start at → IsFirst (λ q. bit_at w q == 1) (at / 7) (64 - at / 7) t
+    → IsBarrenFrom p s w start (7 * t)
 from-target p s start at t w past f = search rules
 
 -- up to the end, where there is none
-pub from-none : (p : Position) (s start at w : ℕ) → IsBarrenFrom p s w start at → find (λ q. bit_at w q == 1) (range_with_len (at / 7) (64 - at / 7)) ≡ None → IsBarrenFrom p s w start 448
+pub from-none : (p : Position) (s start at w : ℕ) → IsBarrenFrom p s w start at → find (λ q. bit_at w q == 1) (range_with_len (at / 7) (64 - at / 7)) ≡ None
+    → IsBarrenFrom p s w start 448
 from-none p s start at w past none =
     from-join p s w start at 448 past (from-missed p s at 448 w (λ q lo hi. find_no (λ q. bit_at w q == 1) (at / 7) (64 - at / 7) q none lo (omega arith)))
 
 -- the triple that is found
-pub named_at : (p : Position) (x : Man) (s t n w : ℕ) → man_on p.men s ≡ Some x → (bit_at w t == 1) ≡ true → n / 7 ≡ t → is_some (promotion_at (n % 7)) ≡ arrives x t → IsNamed p s w n
+pub named_at : (p : Position) (x : Man) (s t n w : ℕ) → man_on p.men s ≡ Some x → (bit_at w t == 1) ≡ true → n / 7 ≡ t
+    → is_some (promotion_at (n % 7)) ≡ arrives x t → IsNamed p s w n
 named_at p x s t n w here set at named = record { man = x; here = here; inside = rw at set; promotion = rw at named }
 
 pub some_named : (n : ℕ) → 1 ≤ n → n < 7 → is_some (promotion_at n) ≡ true

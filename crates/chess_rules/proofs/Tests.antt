@@ -42,7 +42,8 @@ any_range_cases p a (suc n) = elim (cases_Bool (p (a + n))) [
 pub any_range_same : (p q : ℕ → Bool) (a n : ℕ) → ((k : ℕ) → a ≤ k → k < a + n → p k ≡ q k) → list_any p (range_with_len a n) ≡ list_any q (range_with_len a n)
 any_range_same p q a zero h = refl
 any_range_same p q a (suc n) h =
-    let r : list_any p (range_with_len (a + 1) n) ≡ list_any q (range_with_len (a + 1) n) = any_range_same p q (a + 1) n (λ k lo hi. h k (omega arith) (omega arith)) in
+    let r : list_any p (range_with_len (a + 1) n) ≡ list_any q (range_with_len (a + 1) n) = any_range_same p q (a + 1) n
+    (λ k lo hi. h k (omega arith) (omega arith)) in
     (λ j. h a (omega arith) (omega arith) j || r j)
 
 -- k is the first number of the range that passes

@@ -62,10 +62,11 @@ fn check_squares_of(board: &Board, colour: Colour, kind: Kind) -> u64
     let Some(king) = board.king_of(colour) else {
         return 0;
     };
-    if is_absent(board, colour.other(), kind) {
+    let enemy = colour.other();
+    if is_absent(board, enemy, kind) {
         return !0;
     }
-    comes_as(occupied(board), colour.other(), kind, king)
+    comes_as(occupied(board), enemy, kind, king)
 }
 
 // The squares from which a move may give check to the colour's king.
@@ -194,7 +195,8 @@ pub(crate) fn may_check<R: Rules>(board: &Board, squares: &CheckSquares, m: &Mov
     requires well_formed { IsWellFormed board.now }
     requires pseudo { pseudo R.rule board.now m.now ≡ true }
     requires squares { AreCheckSquares R.rule board.now.men (other board.now.turn) squares.now }
-    ensures { result ≡ false → in_check R.rule (after R.rule board.now m.now).men (other board.now.turn) ≡ false }
+    ensures { result ≡ false → in_check R.rule (after R.rule board.now m.now).men
+        (other board.now.turn) ≡ false }
 {
     let Some(man) = board.man_at(m.from) else {
         return true;

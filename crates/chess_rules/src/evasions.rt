@@ -64,7 +64,8 @@ fn leaves_check<R: Rules>(board: &Board, evasion_squares: u64, m: &Move) -> bool
     requires well_formed { IsWellFormed board.now }
     requires pseudo { pseudo R.rule board.now m.now ≡ true }
     requires evasion_squares { AreEvasions R.rule board.now.men board.now.turn evasion_squares }
-    ensures { result ≡ true → in_check R.rule (after R.rule board.now m.now).men board.now.turn ≡ true }
+    ensures { result ≡ true → in_check R.rule (after R.rule board.now m.now).men board.now.turn
+        ≡ true }
 {
     let _small = m.to.index();
     if contains(evasion_squares, m.to) {

@@ -40,7 +40,8 @@ fn has_quiet_move<R: Rules>(
     requires squares { AreCheckSquares R.rule board.old.men (other board.old.turn) squares.now }
     requires place { IsPlaceIn R.rule board.old moves }
     ensures quiet { result ≡ true
-        → list_all (is_mating R.rule board.old) (moves_behind R.rule board.old moves.place) ≡ false }
+        → list_all (is_mating R.rule board.old) (moves_behind R.rule board.old moves.place)
+        ≡ false }
     ensures board { board.new ≡ board.old }
 {
     while let Some(m) = moves.next(board) {

@@ -68,7 +68,8 @@ fn is_faced_after(
     kind: Kind,
 ) -> bool
     ensures { (men : List (Option Man)) → AreArrived board.now.men men man m.now sight
-        → result ≡ some_square (λ s. is_man (man_on men s) man.colour kind && reaches men s square) }
+        → result ≡ some_square (λ s. is_man (man_on men s) man.colour kind
+        && reaches men s square) }
 {
     let own = own_squares_after(board, sight, man, m, kind);
     those_reaching(sight.occupied, own, square, man.colour, kind) != 0
@@ -83,7 +84,8 @@ fn is_paralysed_after<R: Rules>(
     square: Square,
 ) -> bool
     ensures { (men : List (Option Man)) → AreArrived board.now.men men man m.now sight
-        → is_side (man_on men square) (other man.colour) ≡ true → result ≡ paralysed R.rule men square }
+        → is_side (man_on men square) (other man.colour) ≡ true
+        → result ≡ paralysed R.rule men square }
 {
     if !R::is_madrasi() {
         return false;
@@ -117,7 +119,8 @@ fn some_free_after<R: Rules>(board: &Board, sight: Sight, man: Man, m: &Move, wo
 fn exposes_unplayed<R: Rules>(board: &Board, m: &Move) -> Option<bool>
     requires well_formed { IsWellFormed board.now }
     requires pseudo { pseudo R.rule board.now m.now ≡ true }
-    ensures { IfSome result (λ b. b ≡ in_check R.rule (after R.rule board.now m.now).men board.now.turn) }
+    ensures { IfSome result (λ b. b ≡ in_check R.rule (after R.rule board.now m.now).men
+        board.now.turn) }
 {
     let _small = m.to.index();
     let Some(man) = board.man_at(m.from) else {

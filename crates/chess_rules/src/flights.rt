@@ -93,7 +93,8 @@ fn open_squares<R: Rules>(board: &Board, sight: Sight, king: Square) -> u64
 // that moved apart.
 fn first_safe(board: &Board, sight: Sight, squares: u64, colour: Colour) -> Option<Square>
     ensures within { IfSome result (λ t. (t < 64) × ((bit_at squares t == 1) ≡ true)) }
-    ensures safe { IfSome result (λ t. (men : List (Option Man)) → AreSeen board.now.men men colour (sight_with sight t)
+    ensures safe { IfSome result (λ t. (men : List (Option Man))
+        → AreSeen board.now.men men colour (sight_with sight t)
         → 0 ≡ word (λ s. is_side (man_on men s) colour && reaches men s t)) }
 {
     let mut number = 0u8;

@@ -37,9 +37,20 @@ impl<R> Model for LegalMoves<R> {
 
     ghost Value = { LegalPlace };
 
-    ghost view = { λ m. record { place = m.passed; shield_squares = m.shield_squares; evasion_squares = m.evasion_squares; kept = m.targets } };
+    ghost view = { λ m. record {
+      place = m.passed;
+      shield_squares = m.shield_squares;
+      evasion_squares = m.evasion_squares;
+      kept = m.targets;
+    } };
 
-    ghost inverse = { λ v. record { passed = v.place; shield_squares = v.shield_squares; evasion_squares = v.evasion_squares; targets = v.kept; rules = record {} } };
+    ghost inverse = { λ v. record {
+      passed = v.place;
+      shield_squares = v.shield_squares;
+      evasion_squares = v.evasion_squares;
+      targets = v.kept;
+      rules = record {};
+    } };
 }
 
 impl<R: Rules> LegalMoves<R> {
@@ -82,10 +93,14 @@ impl<R: Rules> LegalMoves<R> {
         requires well_formed { IsWellFormed board.old }
         requires place { IsPlaceIn R.rule board.old self.old }
         ensures first { result ≡ first_behind R.rule board.old self.old.place }
-        ensures place { self.new ≡ record self.old { place = place_of result; kept = self.new.kept } }
+        ensures place { self.new ≡ record self.old {
+          place = place_of result;
+          kept = self.new.kept;
+        } }
         ensures within { IsPlaceIn R.rule board.old self.new }
         ensures rest { MatchOption result (moves_behind R.rule board.old self.old.place ≡ [])
-            (λ m. moves_behind R.rule board.old self.old.place ≡ m ∷ moves_behind R.rule board.old self.new.place) }
+            (λ m. moves_behind R.rule board.old self.old.place
+            ≡ m ∷ moves_behind R.rule board.old self.new.place) }
         ensures legal { IfSome result (λ m. legal R.rule board.old m ≡ true) }
         ensures onward { IfSome result (λ m. self.old.place < self.new.place) }
         ensures board { board.new ≡ board.old }
@@ -113,7 +128,8 @@ impl<R: Rules> LegalMoves<R> {
         requires place { IsPlaceIn R.rule board.old self.old }
         ensures within { IsPlaceIn R.rule board.old self.new }
         ensures rest { MatchOption result (moves_between R.rule board.old self.old.place end ≡ [])
-            (λ m. moves_between R.rule board.old self.old.place end ≡ m ∷ moves_between R.rule board.old self.new.place end) }
+            (λ m. moves_between R.rule board.old self.old.place end
+            ≡ m ∷ moves_between R.rule board.old self.new.place end) }
         ensures legal { IfSome result (λ m. legal R.rule board.old m ≡ true) }
         ensures board { board.new ≡ board.old }
     {
@@ -181,7 +197,8 @@ impl Sought for Known {
 
     ghost test = { legal };
 
-    ghost fits = { λ s rule p. (s.shield_squares ≡ word (may_expose rule p.men p.turn)) × AreEvasions rule p.men p.turn s.evasion_squares };
+    ghost fits = { λ s rule p. (s.shield_squares ≡ word (may_expose rule p.men p.turn))
+        × AreEvasions rule p.men p.turn s.evasion_squares };
 
     fn origins<R: Rules>(&self, board: &Board) -> u64 {
         own_origins::<R>(board)

@@ -108,7 +108,8 @@ pub(crate) fn occupied(board: &Board) -> u64
 // The squares to which a rider on `from` gets in this direction, whichever men stand on the occupied
 // squares.
 fn ride(occupied: u64, from: Square, direction: Direction) -> u64
-    ensures { (men : List (Option Man)) → occupied ≡ occupied_squares men → result ≡ word (λ t. rides men from t (step_of direction)) }
+    ensures { (men : List (Option Man)) → occupied ≡ occupied_squares men
+        → result ≡ word (λ t. rides men from t (step_of direction)) }
 {
     let _small = from.index();
     let ray = direction.ray(from);
@@ -132,7 +133,8 @@ pub(crate) fn diagonal_lines(from: Square) -> u64
 
 // The squares to which a rider on `from` gets along its file and its rank.
 pub(crate) fn straight_rides(occupied: u64, from: Square) -> u64
-    ensures { (men : List (Option Man)) → occupied ≡ occupied_squares men → result ≡ word (λ t. list_any (rides men from t) straight_steps) }
+    ensures { (men : List (Option Man)) → occupied ≡ occupied_squares men
+        → result ≡ word (λ t. list_any (rides men from t) straight_steps) }
 {
     ride(occupied, from, Direction::East)
         | ride(occupied, from, Direction::West)
@@ -142,7 +144,8 @@ pub(crate) fn straight_rides(occupied: u64, from: Square) -> u64
 
 // The squares to which it gets along its diagonals.
 pub(crate) fn diagonal_rides(occupied: u64, from: Square) -> u64
-    ensures { (men : List (Option Man)) → occupied ≡ occupied_squares men → result ≡ word (λ t. list_any (rides men from t) diagonal_steps) }
+    ensures { (men : List (Option Man)) → occupied ≡ occupied_squares men
+        → result ≡ word (λ t. list_any (rides men from t) diagonal_steps) }
 {
     ride(occupied, from, Direction::NorthEast)
         | ride(occupied, from, Direction::SouthEast)
@@ -152,7 +155,8 @@ pub(crate) fn diagonal_rides(occupied: u64, from: Square) -> u64
 
 // The squares to which it gets along all of them.
 pub(crate) fn queen_rides(occupied: u64, from: Square) -> u64
-    ensures { (men : List (Option Man)) → occupied ≡ occupied_squares men → result ≡ word (λ t. list_any (rides men from t) queen_steps) }
+    ensures { (men : List (Option Man)) → occupied ≡ occupied_squares men
+        → result ≡ word (λ t. list_any (rides men from t) queen_steps) }
 {
     straight_rides(occupied, from) | diagonal_rides(occupied, from)
 }
@@ -172,7 +176,8 @@ fn line_with(from: Square, squares: u64, direction: Direction) -> u64
 
 // The square to which a grasshopper on `from` hops in this direction, if there is one.
 fn hop(occupied: u64, from: Square, direction: Direction) -> u64
-    ensures { (men : List (Option Man)) → occupied ≡ occupied_squares men → result ≡ word (λ t. hops men from t (step_of direction)) }
+    ensures { (men : List (Option Man)) → occupied ≡ occupied_squares men
+        → result ≡ word (λ t. hops men from t (step_of direction)) }
 {
     let _small = from.index();
     let hurdle = direction.first(direction.ray(from) & occupied);
@@ -181,7 +186,8 @@ fn hop(occupied: u64, from: Square, direction: Direction) -> u64
 
 // The squares from which a grasshopper hops to `to` against this direction: behind the man next to it.
 fn hop_back(occupied: u64, to: Square, direction: Direction) -> u64
-    ensures { (men : List (Option Man)) → occupied ≡ occupied_squares men → result ≡ word (λ s. hopped_from men to s (step_of direction)) }
+    ensures { (men : List (Option Man)) → occupied ≡ occupied_squares men
+        → result ≡ word (λ s. hopped_from men to s (step_of direction)) }
 {
     let _small = to.index();
     let Some(next) = direction.next(to) else {
@@ -197,7 +203,8 @@ fn hop_back(occupied: u64, to: Square, direction: Direction) -> u64
 
 // The squares to which a nightrider on `from` gets, two ranks a step.
 fn steep_rides(occupied: u64, from: Square) -> u64
-    ensures { (men : List (Option Man)) → occupied ≡ occupied_squares men → result ≡ word (λ t. list_any (rides men from t) steep_steps) }
+    ensures { (men : List (Option Man)) → occupied ≡ occupied_squares men
+        → result ≡ word (λ t. list_any (rides men from t) steep_steps) }
 {
     ride(occupied, from, Direction::NorthNorthEast)
         | ride(occupied, from, Direction::SouthSouthEast)
@@ -207,7 +214,8 @@ fn steep_rides(occupied: u64, from: Square) -> u64
 
 // Those to which it gets one rank a step.
 fn flat_rides(occupied: u64, from: Square) -> u64
-    ensures { (men : List (Option Man)) → occupied ≡ occupied_squares men → result ≡ word (λ t. list_any (rides men from t) flat_steps) }
+    ensures { (men : List (Option Man)) → occupied ≡ occupied_squares men
+        → result ≡ word (λ t. list_any (rides men from t) flat_steps) }
 {
     ride(occupied, from, Direction::EastNorthEast)
         | ride(occupied, from, Direction::EastSouthEast)
@@ -217,14 +225,16 @@ fn flat_rides(occupied: u64, from: Square) -> u64
 
 // The squares to which a nightrider on `from` gets.
 pub(crate) fn knight_rides(occupied: u64, from: Square) -> u64
-    ensures { (men : List (Option Man)) → occupied ≡ occupied_squares men → result ≡ word (λ t. list_any (rides men from t) knight_steps) }
+    ensures { (men : List (Option Man)) → occupied ≡ occupied_squares men
+        → result ≡ word (λ t. list_any (rides men from t) knight_steps) }
 {
     steep_rides(occupied, from) | flat_rides(occupied, from)
 }
 
 // The squares to which a grasshopper on `from` hops along its file and its rank.
 fn straight_hops(occupied: u64, from: Square) -> u64
-    ensures { (men : List (Option Man)) → occupied ≡ occupied_squares men → result ≡ word (λ t. list_any (hops men from t) straight_steps) }
+    ensures { (men : List (Option Man)) → occupied ≡ occupied_squares men
+        → result ≡ word (λ t. list_any (hops men from t) straight_steps) }
 {
     hop(occupied, from, Direction::East)
         | hop(occupied, from, Direction::West)
@@ -234,7 +244,8 @@ fn straight_hops(occupied: u64, from: Square) -> u64
 
 // Those to which it hops along its diagonals.
 fn diagonal_hops(occupied: u64, from: Square) -> u64
-    ensures { (men : List (Option Man)) → occupied ≡ occupied_squares men → result ≡ word (λ t. list_any (hops men from t) diagonal_steps) }
+    ensures { (men : List (Option Man)) → occupied ≡ occupied_squares men
+        → result ≡ word (λ t. list_any (hops men from t) diagonal_steps) }
 {
     hop(occupied, from, Direction::NorthEast)
         | hop(occupied, from, Direction::SouthEast)
@@ -244,14 +255,16 @@ fn diagonal_hops(occupied: u64, from: Square) -> u64
 
 // The squares to which a grasshopper on `from` hops.
 pub(crate) fn queen_hops(occupied: u64, from: Square) -> u64
-    ensures { (men : List (Option Man)) → occupied ≡ occupied_squares men → result ≡ word (λ t. list_any (hops men from t) queen_steps) }
+    ensures { (men : List (Option Man)) → occupied ≡ occupied_squares men
+        → result ≡ word (λ t. list_any (hops men from t) queen_steps) }
 {
     straight_hops(occupied, from) | diagonal_hops(occupied, from)
 }
 
 // The squares from which a grasshopper hops to `to` along its file and its rank.
 fn straight_hops_back(occupied: u64, to: Square) -> u64
-    ensures { (men : List (Option Man)) → occupied ≡ occupied_squares men → result ≡ word (λ s. list_any (hopped_from men to s) straight_steps) }
+    ensures { (men : List (Option Man)) → occupied ≡ occupied_squares men
+        → result ≡ word (λ s. list_any (hopped_from men to s) straight_steps) }
 {
     hop_back(occupied, to, Direction::East)
         | hop_back(occupied, to, Direction::West)
@@ -261,7 +274,8 @@ fn straight_hops_back(occupied: u64, to: Square) -> u64
 
 // Those from which it hops there along its diagonals.
 fn diagonal_hops_back(occupied: u64, to: Square) -> u64
-    ensures { (men : List (Option Man)) → occupied ≡ occupied_squares men → result ≡ word (λ s. list_any (hopped_from men to s) diagonal_steps) }
+    ensures { (men : List (Option Man)) → occupied ≡ occupied_squares men
+        → result ≡ word (λ s. list_any (hopped_from men to s) diagonal_steps) }
 {
     hop_back(occupied, to, Direction::NorthEast)
         | hop_back(occupied, to, Direction::SouthEast)
@@ -271,7 +285,8 @@ fn diagonal_hops_back(occupied: u64, to: Square) -> u64
 
 // The squares from which a grasshopper hops to `to`.
 pub(crate) fn queen_hops_back(occupied: u64, to: Square) -> u64
-    ensures { (men : List (Option Man)) → occupied ≡ occupied_squares men → result ≡ word (λ s. list_any (hopped_from men to s) queen_steps) }
+    ensures { (men : List (Option Man)) → occupied ≡ occupied_squares men
+        → result ≡ word (λ s. list_any (hopped_from men to s) queen_steps) }
 {
     straight_hops_back(occupied, to) | diagonal_hops_back(occupied, to)
 }

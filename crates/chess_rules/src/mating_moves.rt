@@ -39,7 +39,12 @@ impl<R> Model for MatingMoves<R> {
 
     ghost view = { λ m. record { place = m.passed; checks = m.checks; kept = m.targets } };
 
-    ghost inverse = { λ v. record { passed = v.place; checks = v.checks; targets = v.kept; rules = record {} } };
+    ghost inverse = { λ v. record {
+      passed = v.place;
+      checks = v.checks;
+      targets = v.kept;
+      rules = record {};
+    } };
 }
 
 impl<R: Rules> MatingMoves<R> {
@@ -79,11 +84,16 @@ impl<R: Rules> MatingMoves<R> {
     pub fn next(&mut self, board: &mut Board) -> Option<Move>
         requires well_formed { IsWellFormed board.old }
         requires place { IsMatingPlaceIn R.rule board.old self.old }
-        ensures place { self.new ≡ record self.old { place = place_of result; kept = self.new.kept } }
+        ensures place { self.new ≡ record self.old {
+          place = place_of result;
+          kept = self.new.kept;
+        } }
         ensures within { IsMatingPlaceIn R.rule board.old self.new }
         ensures rest { MatchOption result (mates_behind R.rule board.old self.old.place ≡ [])
-            (λ m. mates_behind R.rule board.old self.old.place ≡ m ∷ mates_behind R.rule board.old self.new.place) }
-        ensures next { IfSome result (λ m. IsNextMate R.rule board.old self.old.place self.new.place m) }
+            (λ m. mates_behind R.rule board.old self.old.place
+            ≡ m ∷ mates_behind R.rule board.old self.new.place) }
+        ensures next { IfSome result (λ m. IsNextMate R.rule board.old self.old.place self.new.place
+            m) }
         ensures mates { IfSome result (λ m. mates R.rule board.old m ≡ true) }
         ensures legal { IfSome result (λ m. legal R.rule board.old m ≡ true) }
         ensures onward { IfSome result (λ m. self.old.place < self.new.place) }
@@ -205,7 +215,8 @@ fn gives_mate<R: Rules>(board: &mut Board, m: Move) -> bool
 #[tactic(auto, unfolding(crate::specs::Legal::is_goal))]
 fn is_mated_by<R: Rules>(board: &mut Board, mover: Colour) -> bool
     requires { IsWellFormed board.old }
-    ensures answer { result ≡ (not (in_check R.rule board.old.men mover) && is_goal R.rule board.old) }
+    ensures answer { result ≡ (not (in_check R.rule board.old.men mover)
+        && is_goal R.rule board.old) }
     ensures board { board.new ≡ board.old }
 {
     in_check::<R>(board, board.turn())

@@ -12,7 +12,8 @@ use chess_core::square::Square;
 // The squares to which the man on `from` might go, were the others gone, and perhaps more: of a king or a
 // fairy man all.
 pub(crate) fn open_targets(man: Man, from: Square) -> u64
-    ensures { (p : Position) (t : ℕ) → t < 64 → may_go p man from t ≡ true → (bit_at result t == 1) ≡ true }
+    ensures { (p : Position) (t : ℕ) → t < 64 → may_go p man from t ≡ true
+        → (bit_at result t == 1) ≡ true }
 {
     match man.kind {
         Kind::Queen => straight_lines(from) | diagonal_lines(from),

@@ -30,7 +30,8 @@ fn is_far<R: Rules>(board: &Board, squares: &CheckSquares, man: Man, from: Squar
 fn far_men<R: Rules>(board: &Board, squares: &CheckSquares, kind: Kind) -> u64
     requires well_formed { IsWellFormed board.now }
     requires squares { AreCheckSquares R.rule board.now.men (other board.now.turn) squares.now }
-    ensures { (s : ℕ) → s < 64 → (bit_at result s == 1) ≡ true → AreCheckTargets R.rule board.now s 0 }
+    ensures { (s : ℕ) → s < 64 → (bit_at result s == 1) ≡ true
+        → AreCheckTargets R.rule board.now s 0 }
 {
     let man = Man {
         colour: board.turn(),

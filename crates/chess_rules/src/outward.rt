@@ -28,7 +28,8 @@ use chess_core::square::Square;
 
 // The squares from which a man of this colour and kind could go to `to` if an enemy stood there.
 pub(crate) fn comes_as(occupied: u64, colour: Colour, kind: Kind, to: Square) -> u64
-    ensures { (men : List (Option Man)) → occupied ≡ occupied_squares men → result ≡ word (λ s. reaches_as men colour kind s to) }
+    ensures { (men : List (Option Man)) → occupied ≡ occupied_squares men
+        → result ≡ word (λ s. reaches_as men colour kind s to) }
 {
     let _small = to.index();
     match kind {
@@ -66,7 +67,8 @@ pub(crate) fn those_reaching(
     colour: Colour,
     kind: Kind,
 ) -> u64
-    ensures { (men : List (Option Man)) → occupied ≡ occupied_squares men → squares ≡ squares_of men colour kind
+    ensures { (men : List (Option Man)) → occupied ≡ occupied_squares men
+        → squares ≡ squares_of men colour kind
         → result ≡ word (λ s. is_man (man_on men s) colour kind && reaches men s square) }
 {
     if squares == 0 {
@@ -119,7 +121,8 @@ pub(crate) fn attackers_seen(board: &Board, sight: Sight, square: Square, colour
 
 // The same on the board as it stands.
 pub(crate) fn attackers(board: &Board, square: Square, colour: Colour) -> u64
-    ensures { result ≡ word (λ s. is_side (man_on board.now.men s) colour && reaches board.now.men s square) }
+    ensures { result ≡ word (λ s. is_side (man_on board.now.men s) colour
+        && reaches board.now.men s square) }
 {
     attackers_seen(board, sight_now(board), square, colour)
 }
@@ -134,7 +137,8 @@ pub(crate) fn is_reached(board: &Board, square: Square, colour: Colour) -> bool
 
 // Whether a man on one of the word's squares isn't paralysed, or no man stands there.
 pub(crate) fn some_free<R: Rules>(board: &Board, word: u64) -> bool
-    ensures { result ≡ some_square (λ s. bit_at word s == 1 && not (paralysed R.rule board.now.men s)) }
+    ensures { result ≡ some_square (λ s. bit_at word s == 1
+        && not (paralysed R.rule board.now.men s)) }
 {
     let mut number = 0u8;
     while let Some(square) = next_bit(word, number) {

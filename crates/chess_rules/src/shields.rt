@@ -88,7 +88,8 @@ impl RiderLines {
 
     // The squares to which a rider on `from` gets along them.
     fn rides(self, occupied: u64, from: Square) -> u64
-        ensures { (men : List (Option Man)) → occupied ≡ occupied_squares men → result ≡ word (λ t. list_any (rides men from t) (steps_along self)) }
+        ensures { (men : List (Option Man)) → occupied ≡ occupied_squares men
+            → result ≡ word (λ t. list_any (rides men from t) (steps_along self)) }
     {
         match self {
             RiderLines::Straight => straight_rides(occupied, from),
@@ -100,7 +101,8 @@ impl RiderLines {
 // The squares to which the riders on these squares get along the lines.
 fn ridden_squares(occupied: u64, riders: u64, lines: RiderLines) -> u64
     ensures { (men : List (Option Man)) → occupied ≡ occupied_squares men
-        → result ≡ word (λ s. some_square (λ q. bit_at riders q == 1 && list_any (rides men q s) (steps_along lines))) }
+        → result ≡ word (λ s. some_square
+        (λ q. bit_at riders q == 1 && list_any (rides men q s) (steps_along lines))) }
 {
     let mut ridden = 0u64;
     let mut number = 0u8;
@@ -113,14 +115,16 @@ fn ridden_squares(occupied: u64, riders: u64, lines: RiderLines) -> u64
 
 // The squares of the queens of this colour and of its riders along these lines.
 fn line_riders(board: &Board, colour: Colour, lines: RiderLines) -> u64
-    ensures { result ≡ bit_or (squares_of board.now.men colour (rider_along lines)) (squares_of board.now.men colour Queen) }
+    ensures { result ≡ bit_or (squares_of board.now.men colour (rider_along lines))
+        (squares_of board.now.men colour Queen) }
 {
     board.squares(colour, lines.rider()) | board.squares(colour, Kind::Queen)
 }
 
 // Those that stand on one of the lines of the square.
 fn riders_on_lines(board: &Board, colour: Colour, square: Square, lines: RiderLines) -> u64
-    ensures { result ≡ word (λ q. (is_man (man_on board.now.men q) colour (rider_along lines) || is_man (man_on board.now.men q) colour Queen)
+    ensures { result ≡ word (λ q. (is_man (man_on board.now.men q) colour (rider_along lines)
+        || is_man (man_on board.now.men q) colour Queen)
         && is_on_some (steps_along lines) square q) }
 {
     line_riders(board, colour, lines) & lines.all(square)
@@ -129,7 +133,8 @@ fn riders_on_lines(board: &Board, colour: Colour, square: Square, lines: RiderLi
 // The squares that shut a line between the square and a rider of this colour. Mostly no such rider stands
 // on its lines.
 fn shut_squares(board: &Board, colour: Colour, square: Square, lines: RiderLines) -> u64
-    ensures { result ≡ word (is_shut board.now.men colour (rider_along lines) (steps_along lines) square) }
+    ensures { result ≡ word (is_shut board.now.men colour (rider_along lines) (steps_along lines)
+        square) }
 {
     let riders = riders_on_lines(board, colour, square, lines);
     if riders == 0 {

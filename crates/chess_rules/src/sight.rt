@@ -46,7 +46,8 @@ pub(crate) fn sight_after(
 
 // The squares of the men of this colour and kind.
 pub(crate) fn squares_seen(board: &Board, sight: Sight, colour: Colour, kind: Kind) -> u64
-    ensures { (men : List (Option Man)) → AreSeen board.now.men men colour sight → result ≡ squares_of men colour kind }
+    ensures { (men : List (Option Man)) → AreSeen board.now.men men colour sight
+        → result ≡ squares_of men colour kind }
 {
     board.squares(colour, kind) & sight.standing
 }

@@ -46,7 +46,8 @@ pub(crate) trait Sought {
         ensures answer { result ≡ test R.rule board.old m }
         ensures board { board.new ≡ board.old };
 
-    ghost idle: { (rule : RuleSet) (p : Position) (m : Move) → pseudo rule p m ≡ false → test rule p m ≡ false };
+    ghost idle: { (rule : RuleSet) (p : Position) (m : Move) → pseudo rule p m ≡ false
+        → test rule p m ≡ false };
 }
 
 // What was kept, if it is of this origin, and else the squares to which the man on it may go by a move that

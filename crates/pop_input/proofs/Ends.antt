@@ -43,14 +43,16 @@ abbrev pub block_of : Bool → Next
 block_of true = First
 block_of false = Later
 
-entries_start : (first : Bool) (next : Next) (place : Reading) (rest : Input) → next ≡ block_of first → entries_at next place rest ≡ entries_of first (words_left None place rest)
+entries_start : (first : Bool) (next : Next) (place : Reading) (rest : Input) → next ≡ block_of first
+    → entries_at next place rest ≡ entries_of first (words_left None place rest)
 entries_start true next place rest is = rw is refl
 entries_start false next place rest is = rw is refl
 
 module _ (first : Bool) (old new : Standing) (had left : Option (List ℕ)) (starts : old.next ≡ block_of first) where
   -- items of tokens that were taken
   reads_by : (done : List Part) → Takes (among old.at) (among new.at) had left done → (entries : List Entry)
-      → ((rest : Input) → MayFollow new.at.end rest → entries_of first (put_before done (words_left None new.at rest)) ≡ entries ++ entries_left new rest) → Reads old new had left entries
+      → ((rest : Input) → MayFollow new.at.end rest → entries_of first (put_before done (words_left None new.at rest)) ≡ entries ++ entries_left new rest)
+      → Reads old new had left entries
   reads_by done t entries is = record {
     bytes = t.bytes;
     taken = t.taken;
@@ -63,15 +65,19 @@ module _ (first : Bool) (old new : Standing) (had left : Option (List ℕ)) (sta
 
   -- The item of a block that is closed.
 
-  module _ (block : Block) (full : List Part) (line : ℕ) (fault : block.fault ≡ block_fault first full) (told : block.fault ≡ None → Tells first block full) where
-    ending_by : (f : Option Fault) → block.fault ≡ f → or_else f (at_line line (end_fault_in block.draft)) ≡ or_else f (at_line line (end_fault_in (said first full)))
+  module _ (block : Block) (full : List Part) (line : ℕ) (fault : block.fault ≡ block_fault first full)
+      (told : block.fault ≡ None → Tells first block full) where
+    ending_by : (f : Option Fault) → block.fault ≡ f → or_else f (at_line line (end_fault_in block.draft))
+        ≡ or_else f (at_line line (end_fault_in (said first full)))
     ending_by None is = let k = told is in ap (λ s. at_line line (end_fault_in s)) k.draft
     ending_by (Some f) is = refl
 
     ending_is : closing_fault block line ≡ or_else (block_fault first full) (at_line line (end_fault_in (said first full)))
     ending_is = ending_by block.fault refl ∙ ap (λ f. or_else f (at_line line (end_fault_in (said first full)))) fault
 
-    closes_entry : (f : Option Fault) → closing_fault block line ≡ f → Reads old new had left (closed_entry (block_fault first full) line (inside first full) ∷ []) → Reads old new had left (entry_of f (problem_of (inside first full)) ∷ [])
+    closes_entry : (f : Option Fault) → closing_fault block line ≡ f
+        → Reads old new had left (closed_entry (block_fault first full) line (inside first full) ∷ [])
+        → Reads old new had left (entry_of f (problem_of (inside first full)) ∷ [])
     closes_entry f is reads = subst (λ e. Reads old new had left (entry_of e (problem_of (inside first full)) ∷ [])) (sym ending_is ∙ is) reads
 
     problem_is : closing_fault block line ≡ None → posed_of block.draft block.title block.author ≡ problem_of (inside first full)
@@ -79,31 +85,38 @@ module _ (first : Bool) (old new : Standing) (had left : Option (List ℕ)) (sta
         let k = told (or_first block.fault (at_line line (end_fault_in block.draft)) none) in
         rw (k.draft, k.title, k.author) refl
 
-    closed_item : (item : Item) (last : Last) → Closes block line last item → new.next ≡ next_behind last → Reads old new had left (closed_entry (block_fault first full) line (inside first full) ∷ []) → NextItem old new had left item
+    closed_item : (item : Item) (last : Last) → Closes block line last item → new.next ≡ next_behind last
+        → Reads old new had left (closed_entry (block_fault first full) line (inside first full) ∷ []) → NextItem old new had left item
     closed_item (SoundItem problem answered) last c next reads =
         (subst (λ p. Reads old new had left (SoundEntry p ∷ [])) (sym (c.1 ∙ problem_is c.0)) (closes_entry None c.0 reads), next ∙ ap next_behind (sym c.2))
     closed_item (FaultyItem f answered) last c next reads = (closes_entry (Some f) c.0 reads, next ∙ ap next_behind (sym c.1))
     closed_item NoItem last c next reads = absurd c
 
-  module _ (mid : Reading) (met : Option (List ℕ)) (block next : Block) (b : BlockSoFar first old.at mid had met block) (line : ℕ) (text : List ℕ) (t : TakesPart mid new.at met left (Word line text)) (r : ReadsWord first old.at mid new.at had met left block next b line text) where
+  module _ (mid : Reading) (met : Option (List ℕ)) (block next : Block) (b : BlockSoFar first old.at mid had met block) (line : ℕ) (text : List ℕ)
+      (t : TakesPart mid new.at met left (Word line text)) (r : ReadsWord first old.at mid new.at had met left block next b line text) where
     abbrev full : List Part
     full = b.done ++ Word line text ∷ []
 
     taken : Takes (among old.at) (among new.at) had left full
     taken = takes_more first old.at mid new.at had met left block next b (Word line text) t
 
-    closed_reads : (item : Item) (last : Last) → Closes next line last item → new.next ≡ next_behind last → Reads old new had left (closed_entry (block_fault first full) line (inside first full) ∷ []) → NextItem old new had left item
-    closed_reads item last c is reads = let w = word_read first old.at mid new.at had met left block next b line text r in closed_item next full line w.0 w.1 item last c is reads
+    closed_reads : (item : Item) (last : Last) → Closes next line last item → new.next ≡ next_behind last
+        → Reads old new had left (closed_entry (block_fault first full) line (inside first full) ∷ []) → NextItem old new had left item
+    closed_reads item last c is reads = let w = word_read first old.at mid new.at had met left block next b line text r in
+        closed_item next full line w.0 w.1 item last c is reads
 
     next_closes : (item : Item) → Closes next line No item → command_of text ≡ Some NextProblem → new.next ≡ Later → NextItem old new had left item
     next_closes item c is later = closed_reads item No c later (reads_by full taken _ (λ rest may.
-        next_entries first b.done line text b.plain (words_left None new.at rest) is ∙ ap (λ n. closed_entry (block_fault first full) line (inside first full) ∷ entries_at n new.at rest) (sym later)))
+        next_entries first b.done line text b.plain (words_left None new.at rest) is
+        ∙ ap (λ n. closed_entry (block_fault first full) line (inside first full) ∷ entries_at n new.at rest) (sym later)))
 
     last_closes : (item : Item) → Closes next line Yes item → command_of text ≡ Some EndProblem → new.next ≡ Nothing → NextItem old new had left item
     last_closes item c is over = closed_reads item Yes c over (reads_by full taken _ (λ rest may.
-        last_entries first b.done line text b.plain (words_left None new.at rest) is ∙ ap (λ n. closed_entry (block_fault first full) line (inside first full) ∷ entries_at n new.at rest) (sym over)))
+        last_entries first b.done line text b.plain (words_left None new.at rest) is
+        ∙ ap (λ n. closed_entry (block_fault first full) line (inside first full) ∷ entries_at n new.at rest) (sym over)))
 
-    pub word_closes : (item : Item) (last : Last) (c : Option Command) → Closes next line last item → command_of text ≡ c → last_of c ≡ Some last → new.next ≡ next_behind last → NextItem old new had left item
+    pub word_closes : (item : Item) (last : Last) (c : Option Command) → Closes next line last item → command_of text ≡ c → last_of c ≡ Some last
+        → new.next ≡ next_behind last → NextItem old new had left item
     word_closes item No (Some NextProblem) how is e behind = next_closes item how is behind
     word_closes item Yes (Some EndProblem) how is e behind = last_closes item how is behind
     word_closes item Yes (Some NextProblem) how is e behind = cc
@@ -115,16 +128,19 @@ module _ (first : Bool) (old new : Standing) (had left : Option (List ℕ)) (sta
   -- Ends of the input.
 
   module _ (mid : Reading) (met : Option (List ℕ)) (block : Block) (b : BlockSoFar first old.at mid had met block) where
-    left_over : (tail : Tail) → IsOver new.at tail → (rest : Input) → MayFollow new.at.end rest → entries_of first (put_before b.done (words_left None new.at rest)) ≡ entries_by (block_fault first b.done) None first tail new.at.line b.done
+    left_over : (tail : Tail) → IsOver new.at tail → (rest : Input) → MayFollow new.at.end rest
+        → entries_of first (put_before b.done (words_left None new.at rest)) ≡ entries_by (block_fault first b.done) None first tail new.at.line b.done
     left_over tail over rest may = ap (λ w. entries_of first (put_before b.done w)) (over rest may) ∙ ended_entries first b.done tail new.at.line b.plain
 
     all_taken : Takes (among mid) (among new.at) met left [] → Takes (among old.at) (among new.at) had left b.done
-    all_taken t = subst (λ d. Takes (among old.at) (among new.at) had left d) (append-nil b.done) (takes_then (among old.at) (among mid) (among new.at) had met left b.done [] b.takes t)
+    all_taken t = subst (λ d. Takes (among old.at) (among new.at) had left d) (append-nil b.done)
+        (takes_then (among old.at) (among mid) (among new.at) had met left b.done [] b.takes t)
 
     begun_is : block.fault ≡ None → block.begun ≡ has_begun first b.done
     begun_is none = let k = b.told none in k.begun
 
-    ended_by_fault : (f : Option Fault) (line : ℕ) → block.fault ≡ f → line ≡ new.at.line → entries_by f None first AtEnd new.at.line b.done ≡ FaultyEntry (ended_by f (fault_at (tail_fault block.begun AtEnd) line)) ∷ []
+    ended_by_fault : (f : Option Fault) (line : ℕ) → block.fault ≡ f → line ≡ new.at.line
+        → entries_by f None first AtEnd new.at.line b.done ≡ FaultyEntry (ended_by f (fault_at (tail_fault block.begun AtEnd) line)) ∷ []
     ended_by_fault (Some fault) line is here = refl
     ended_by_fault None line is here = rw (begun_is is, here) refl
 
@@ -140,7 +156,8 @@ module _ (first : Bool) (old new : Standing) (had left : Option (List ℕ)) (sta
     )
 
     -- the input is cut off in a block with a fault
-    fault_then_cut : (fault : Fault) (tail : Tail) → block.fault ≡ Some fault → Takes (among mid) (among new.at) met left [] → IsOver new.at tail → more_entries tail new.at.line ≡ entries_of false (no_words tail new.at.line) → new.next ≡ Later → NextItem old new had left (FaultyItem fault No)
+    fault_then_cut : (fault : Fault) (tail : Tail) → block.fault ≡ Some fault → Takes (among mid) (among new.at) met left [] → IsOver new.at tail
+        → more_entries tail new.at.line ≡ entries_of false (no_words tail new.at.line) → new.next ≡ Later → NextItem old new had left (FaultyItem fault No)
     fault_then_cut fault tail is t over more later = (
       reads_by b.done (all_taken t) _ (λ rest may.
           left_over tail over rest may
@@ -149,13 +166,16 @@ module _ (first : Bool) (old new : Standing) (had left : Option (List ℕ)) (sta
       later,
     )
 
-    pub cut_with_fault : (fault : Fault) (cut : ReadFault) → block.fault ≡ Some fault → CutsOff mid new.at met left cut → new.next ≡ Later → NextItem old new had left (FaultyItem fault No)
+    pub cut_with_fault : (fault : Fault) (cut : ReadFault) → block.fault ≡ Some fault → CutsOff mid new.at met left cut → new.next ≡ Later
+        → NextItem old new had left (FaultyItem fault No)
     cut_with_fault fault (TooLong line) is t later = absurd t
     cut_with_fault fault (PastLimit line) is t later = fault_then_cut fault Long is t.0 t.1 refl later
     cut_with_fault fault (Device line) is t later = fault_then_cut fault Failing is t.0.0 t.0.1 refl later
 
     -- and in one without
-    cut_alone : (kind : FaultKind) (line : ℕ) (tail : Tail) → block.fault ≡ None → Takes (among mid) (among new.at) met left [] → IsOver new.at tail → line ≡ new.at.line → ((begun : Bool) → tail_fault begun tail ≡ kind) → new.next ≡ Nothing → NextItem old new had left (FaultyItem (fault_at kind line) Yes)
+    cut_alone : (kind : FaultKind) (line : ℕ) (tail : Tail) → block.fault ≡ None → Takes (among mid) (among new.at) met left [] → IsOver new.at tail
+        → line ≡ new.at.line → ((begun : Bool) → tail_fault begun tail ≡ kind) → new.next ≡ Nothing
+        → NextItem old new had left (FaultyItem (fault_at kind line) Yes)
     cut_alone kind line tail is t over here tails nothing = (
       reads_by b.done (all_taken t) _ (λ rest may.
           left_over tail over rest may
@@ -164,7 +184,8 @@ module _ (first : Bool) (old new : Standing) (had left : Option (List ℕ)) (sta
       nothing,
     )
 
-    pub cut_without_fault : (cut : ReadFault) → block.fault ≡ None → CutsOff mid new.at met left cut → new.next ≡ Nothing → NextItem old new had left (FaultyItem (cut_fault cut) Yes)
+    pub cut_without_fault : (cut : ReadFault) → block.fault ≡ None → CutsOff mid new.at met left cut → new.next ≡ Nothing
+        → NextItem old new had left (FaultyItem (cut_fault cut) Yes)
     cut_without_fault (TooLong line) is t nothing = absurd t
     cut_without_fault (PastLimit line) is t nothing = cut_alone InputTooLong line Long is t.0 t.1 t.2 long_tail nothing
     cut_without_fault (Device line) is t nothing = cut_alone DeviceFailed line Failing is t.0.0 t.0.1 t.0.2 failing_tail nothing

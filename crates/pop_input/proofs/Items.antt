@@ -50,11 +50,28 @@ keeps_bytes (Some bytes) = refl
 pub takes_none : (place : Reading) (had : Option (List ℕ)) → Takes (among place) (among place) had had []
 takes_none place had = record { bytes = []; amount = omega arith; taken = keeps_bytes had; follows = λ rest may. may; begin = λ rest may. refl }
 
-pub block_starts : (first : Bool) (place : Reading) (had : Option (List ℕ)) (block : Block) → block.fault ≡ None → block.begun ≡ not first → block.draft ≡ state_of [] → block.title ≡ [] → block.author ≡ [] → BlockSoFar first place place had had block
+pub block_starts : (first : Bool) (place : Reading) (had : Option (List ℕ)) (block : Block) → block.fault ≡ None → block.begun ≡ not first
+    → block.draft ≡ state_of [] → block.title ≡ [] → block.author ≡ [] → BlockSoFar first place place had had block
 block_starts true place had block fault begun says title author =
-    record { done = []; takes = takes_none place had; plain = refl; fault = fault; told = λ _. record { begun = begun; draft = says; title = title; author = author }; on = omega arith; further = inl fault }
+    record {
+      done = [];
+      takes = takes_none place had;
+      plain = refl;
+      fault = fault;
+      told = λ _. record { begun = begun; draft = says; title = title; author = author };
+      on = omega arith;
+      further = inl fault;
+    }
 block_starts false place had block fault begun says title author =
-    record { done = []; takes = takes_none place had; plain = refl; fault = fault; told = λ _. record { begun = begun; draft = says; title = title; author = author }; on = omega arith; further = inl fault }
+    record {
+      done = [];
+      takes = takes_none place had;
+      plain = refl;
+      fault = fault;
+      told = λ _. record { begun = begun; draft = says; title = title; author = author };
+      on = omega arith;
+      further = inl fault;
+    }
 
 pub or_first : {A : Type 0} (a b : Option A) → or_else a b ≡ None → a ≡ None
 or_first None b h = refl
@@ -81,13 +98,15 @@ long_no_command text long =
 long_fault : (begun : Bool) (state : State) (text : List ℕ) → 160 < length text → fault_of begun state text ≡ Some WordTooLong
 long_fault begun state text long = rw (lt-ltb 160 (length text) long) refl
 
-title_with : (k : TextWord) (text : List ℕ) (rest : List ℕ) (had : List ℕ) (before : List ℕ) → text ≡ text_of_line rest → had ≡ before → text_with Title had k text ≡ text_after Title before (Some k) rest
+title_with : (k : TextWord) (text : List ℕ) (rest : List ℕ) (had : List ℕ) (before : List ℕ) → text ≡ text_of_line rest → had ≡ before
+    → text_with Title had k text ≡ text_after Title before (Some k) rest
 title_with Title text rest had before p q = p
 title_with Author text rest had before p q = q
 title_with Origin text rest had before p q = q
 title_with Remark text rest had before p q = q
 
-author_with : (k : TextWord) (text : List ℕ) (rest : List ℕ) (had : List ℕ) (before : List ℕ) → text ≡ text_of_line rest → had ≡ before → text_with Author had k text ≡ text_after Author before (Some k) rest
+author_with : (k : TextWord) (text : List ℕ) (rest : List ℕ) (had : List ℕ) (before : List ℕ) → text ≡ text_of_line rest → had ≡ before
+    → text_with Author had k text ≡ text_after Author before (Some k) rest
 author_with Title text rest had before p q = q
 author_with Author text rest had before p q = p
 author_with Origin text rest had before p q = q
@@ -95,8 +114,10 @@ author_with Remark text rest had before p q = q
 
 -- Texts behind one more token.
 
-title_line : (first : Bool) (done : List Part) (line : ℕ) (name rest : List ℕ) (keyword : TextWord) (text had : List ℕ) (begun : Bool) → begun ≡ has_begun first done → text_word_of name ≡ Some keyword → text ≡ text_of_line rest
-    → had ≡ last_text Title [] (inside first done) → noted begun Title had keyword text ≡ last_text Title [] (inside first (done ++ TextLine line name rest ∷ []))
+title_line : (first : Bool) (done : List Part) (line : ℕ) (name rest : List ℕ) (keyword : TextWord) (text had : List ℕ) (begun : Bool)
+    → begun ≡ has_begun first done → text_word_of name ≡ Some keyword → text ≡ text_of_line rest
+    → had ≡ last_text Title [] (inside first done) → noted begun Title had keyword text
+    ≡ last_text Title [] (inside first (done ++ TextLine line name rest ∷ []))
 title_line first done line name rest keyword text had true begun is bytes title =
     title_with keyword text rest had (last_text Title [] (inside first done)) bytes title
     ∙ sym (text_line Title [] (inside first done) line name rest ∙ ap (λ k. text_after Title (last_text Title [] (inside first done)) k rest) is)
@@ -104,8 +125,10 @@ title_line first done line name rest keyword text had true begun is bytes title 
 title_line first done line name rest keyword text had false begun is bytes title =
     title ∙ ap (last_text Title []) (inside_none first done (sym begun) ∙ sym (inside_first first done (TextLine line name rest) (sym begun)))
 
-author_line : (first : Bool) (done : List Part) (line : ℕ) (name rest : List ℕ) (keyword : TextWord) (text had : List ℕ) (begun : Bool) → begun ≡ has_begun first done → text_word_of name ≡ Some keyword → text ≡ text_of_line rest
-    → had ≡ last_text Author [] (inside first done) → noted begun Author had keyword text ≡ last_text Author [] (inside first (done ++ TextLine line name rest ∷ []))
+author_line : (first : Bool) (done : List Part) (line : ℕ) (name rest : List ℕ) (keyword : TextWord) (text had : List ℕ) (begun : Bool)
+    → begun ≡ has_begun first done → text_word_of name ≡ Some keyword → text ≡ text_of_line rest
+    → had ≡ last_text Author [] (inside first done) → noted begun Author had keyword text
+    ≡ last_text Author [] (inside first (done ++ TextLine line name rest ∷ []))
 author_line first done line name rest keyword text had true begun is bytes author =
     author_with keyword text rest had (last_text Author [] (inside first done)) bytes author
     ∙ sym (text_line Author [] (inside first done) line name rest ∙ ap (λ k. text_after Author (last_text Author [] (inside first done)) k rest) is)
@@ -113,19 +136,26 @@ author_line first done line name rest keyword text had true begun is bytes autho
 author_line first done line name rest keyword text had false begun is bytes author =
     author ∙ ap (last_text Author []) (inside_none first done (sym begun) ∙ sym (inside_first first done (TextLine line name rest) (sym begun)))
 
-words_inside : (first : Bool) (done : List Part) (line : ℕ) (name rest : List ℕ) (begun : Bool) → begun ≡ has_begun first done → said first done ≡ said first (done ++ TextLine line name rest ∷ [])
+words_inside : (first : Bool) (done : List Part) (line : ℕ) (name rest : List ℕ) (begun : Bool) → begun ≡ has_begun first done
+    → said first done ≡ said first (done ++ TextLine line name rest ∷ [])
 words_inside first done line name rest true begun =
-    ap state_of (sym (words_line [] (inside first done) line name rest)) ∙ ap (λ ts. state_of (words_before [] ts)) (sym (inside_more first done (TextLine line name rest) (sym begun)))
+    ap state_of (sym (words_line [] (inside first done) line name rest))
+    ∙ ap (λ ts. state_of (words_before [] ts)) (sym (inside_more first done (TextLine line name rest) (sym begun)))
 words_inside first done line name rest false begun =
     ap (λ ts. state_of (words_before [] ts)) (inside_none first done (sym begun) ∙ sym (inside_first first done (TextLine line name rest) (sym begun)))
 
-text_word : (wanted : TextWord) (first : Bool) (done : List Part) (line : ℕ) (text : List ℕ) (begun : Bool) → begun ≡ has_begun first done → last_text wanted [] (inside first done) ≡ last_text wanted [] (inside first (done ++ Word line text ∷ []))
-text_word wanted first done line text true begun = sym (text_more wanted [] (inside first done) line text) ∙ ap (last_text wanted []) (sym (inside_more first done (Word line text) (sym begun)))
-text_word wanted first done line text false begun = ap (last_text wanted []) (inside_none first done (sym begun) ∙ sym (inside_first first done (Word line text) (sym begun)))
+text_word : (wanted : TextWord) (first : Bool) (done : List Part) (line : ℕ) (text : List ℕ) (begun : Bool) → begun ≡ has_begun first done
+    → last_text wanted [] (inside first done) ≡ last_text wanted [] (inside first (done ++ Word line text ∷ []))
+text_word wanted first done line text true begun = sym (text_more wanted [] (inside first done) line text)
+    ∙ ap (last_text wanted []) (sym (inside_more first done (Word line text) (sym begun)))
+text_word wanted first done line text false begun = ap (last_text wanted [])
+    (inside_none first done (sym begun) ∙ sym (inside_first first done (Word line text) (sym begun)))
 
-said_word : (first : Bool) (done : List Part) (line : ℕ) (text : List ℕ) (begun : Bool) → begun ≡ has_begun first done → said_after begun (said first done) text ≡ said first (done ++ Word line text ∷ [])
+said_word : (first : Bool) (done : List Part) (line : ℕ) (text : List ℕ) (begun : Bool) → begun ≡ has_begun first done
+    → said_after begun (said first done) text ≡ said first (done ++ Word line text ∷ [])
 said_word first done line text true begun =
-    ap state_of (sym (words_more [] (inside first done) line text)) ∙ ap (λ ts. state_of (words_before [] ts)) (sym (inside_more first done (Word line text) (sym begun)))
+    ap state_of (sym (words_more [] (inside first done) line text))
+    ∙ ap (λ ts. state_of (words_before [] ts)) (sym (inside_more first done (Word line text) (sym begun)))
 said_word first done line text false begun =
     ap (λ ts. state_of (words_before [] ts)) (inside_none first done (sym begun) ∙ sym (inside_first first done (Word line text) (sym begun)))
 
@@ -140,8 +170,10 @@ module _ (first : Bool) (old mid new : Reading) (had met left : Option (List ℕ
   goes_on part t = let on = b.on in let step = t.1.0 in omega (arith, on, step)
 
   -- a text line
-  pub line_read : (line : ℕ) (name rest : List ℕ) (keyword : TextWord) (text : List ℕ) → TakesPart mid new met left (TextLine line name rest) → text_word_of name ≡ Some keyword → text ≡ text_of_line rest
-      → next.fault ≡ block.fault → next.begun ≡ block.begun → next.draft ≡ block.draft → next.title ≡ noted block.begun Title block.title keyword text → next.author ≡ noted block.begun Author block.author keyword text → BlockSoFar first old new had left next
+  pub line_read : (line : ℕ) (name rest : List ℕ) (keyword : TextWord) (text : List ℕ) → TakesPart mid new met left (TextLine line name rest)
+      → text_word_of name ≡ Some keyword → text ≡ text_of_line rest
+      → next.fault ≡ block.fault → next.begun ≡ block.begun → next.draft ≡ block.draft → next.title ≡ noted block.begun Title block.title keyword text
+      → next.author ≡ noted block.begun Author block.author keyword text → BlockSoFar first old new had left next
   line_read line name rest keyword text t is bytes fault begun says title author = record {
     done = b.done ++ TextLine line name rest ∷ [];
     takes = takes_more (TextLine line name rest) t;
@@ -163,16 +195,21 @@ module _ (first : Bool) (old mid new : Reading) (had met left : Option (List ℕ
   abbrev pub ReadsWord : ℕ → List ℕ → Type 0
   ReadsWord line text =
       (fault : next.fault ≡ or_else block.fault (at_line line (fault_of block.begun block.draft text)))
-      × (next.fault ≡ None → (next.begun ≡ true) × (next.draft ≡ said_after block.begun block.draft text) × (next.title ≡ block.title) × (next.author ≡ block.author))
+      × (next.fault ≡ None → (next.begun ≡ true) × (next.draft ≡ said_after block.begun block.draft text) × (next.title ≡ block.title)
+      × (next.author ≡ block.author))
 
-  fault_is : (line : ℕ) (text : List ℕ) (f : Option Fault) → block.fault ≡ f → or_else f (at_line line (fault_of block.begun block.draft text)) ≡ or_else f (at_line line (fault_of (has_begun first b.done) (said first b.done) text))
-  fault_is line text None is = let k = b.told is in ap (λ n. at_line line (fault_of n block.draft text)) k.begun ∙ ap (λ s. at_line line (fault_of (has_begun first b.done) s text)) k.draft
+  fault_is : (line : ℕ) (text : List ℕ) (f : Option Fault) → block.fault ≡ f
+      → or_else f (at_line line (fault_of block.begun block.draft text)) ≡ or_else f (at_line line (fault_of (has_begun first b.done) (said first b.done) text))
+  fault_is line text None is = let k = b.told is in ap (λ n. at_line line (fault_of n block.draft text)) k.begun
+      ∙ ap (λ s. at_line line (fault_of (has_begun first b.done) s text)) k.draft
   fault_is line text (Some f) is = refl
 
   -- a word, the closing one too
-  pub word_read : (line : ℕ) (text : List ℕ) → ReadsWord line text → (next.fault ≡ block_fault first (b.done ++ Word line text ∷ [])) × (next.fault ≡ None → Tells first next (b.done ++ Word line text ∷ []))
+  pub word_read : (line : ℕ) (text : List ℕ) → ReadsWord line text
+      → (next.fault ≡ block_fault first (b.done ++ Word line text ∷ [])) × (next.fault ≡ None → Tells first next (b.done ++ Word line text ∷ []))
   word_read line text r = (
-    r.0 ∙ fault_is line text block.fault refl ∙ ap (λ f. or_else f (at_line line (fault_of (has_begun first b.done) (said first b.done) text))) b.fault ∙ sym (block_more first b.done line text),
+    r.0 ∙ fault_is line text block.fault refl ∙ ap (λ f. or_else f (at_line line (fault_of (has_begun first b.done) (said first b.done) text))) b.fault
+        ∙ sym (block_more first b.done line text),
     λ none.
         let k = b.told (or_first block.fault _ (sym r.0 ∙ none)) in
         let w = r.1 none in
@@ -185,7 +222,8 @@ module _ (first : Bool) (old mid new : Reading) (had met left : Option (List ℕ
   )
 
   -- a word that does not close the block
-  pub open_read : (line : ℕ) (text : List ℕ) → TakesPart mid new met left (Word line text) → closes (command_of text) ≡ false → ReadsWord line text → BlockSoFar first old new had left next
+  pub open_read : (line : ℕ) (text : List ℕ) → TakesPart mid new met left (Word line text) → closes (command_of text) ≡ false → ReadsWord line text
+      → BlockSoFar first old new had left next
   open_read line text t is r =
       let w = word_read line text r in
       record {
@@ -199,10 +237,14 @@ module _ (first : Bool) (old mid new : Reading) (had met left : Option (List ℕ
       }
 
   -- a word that was too long
-  pub long_read : (line : ℕ) (text : List ℕ) → TakesPart mid new met left (Word line text) → 160 < length text → next.fault ≡ or_else block.fault (Some (fault_at WordTooLong line)) → BlockSoFar first old new had left next
+  pub long_read : (line : ℕ) (text : List ℕ) → TakesPart mid new met left (Word line text) → 160 < length text
+      → next.fault ≡ or_else block.fault (Some (fault_at WordTooLong line)) → BlockSoFar first old new had left next
   long_read line text t long fault =
-      open_read line text t (ap closes (long_no_command text long))
-      (fault ∙ ap (λ n. or_else block.fault (at_line line n)) (sym (long_fault block.begun block.draft text long)), λ none. absurd (never block.fault (fault_at WordTooLong line) (sym fault ∙ none)))
+      open_read line text t (ap closes (long_no_command text long)) (
+        fault ∙ ap (λ n. or_else block.fault (at_line line n)) (sym (long_fault block.begun block.draft text long)),
+        λ none. absurd
+            (never block.fault (fault_at WordTooLong line) (sym fault ∙ none)),
+      )
 
 pub not_closing : (c : Option Command) → last_of c ≡ None → closes c ≡ false
 not_closing None h = refl

@@ -11,15 +11,21 @@ abbrev pub small : List ℕ → List ℕ
 small word = map to_ascii_lowercase word
 
 -- one letter more
-pub begins_step : (name word : List ℕ) (i : ℕ) → i < length name → i < length word → starts_with nat_eq (drop i name) (small (drop i word)) ≡ (nat_eq (to_ascii_lowercase (get_or word i 0)) (get_or name i 0) && starts_with nat_eq (drop (i + 1) name) (small (drop (i + 1) word)))
+pub begins_step : (name word : List ℕ) (i : ℕ) → i < length name → i < length word
+    → starts_with nat_eq (drop i name) (small (drop i word)) ≡ (nat_eq (to_ascii_lowercase (get_or word i 0)) (get_or name i 0)
+    && starts_with nat_eq (drop (i + 1) name) (small (drop (i + 1) word)))
 begins_step name word i in_name in_word = rw (drop_more name i 0 in_name, drop_more word i 0 in_word) refl
 
 -- a letter that is the name's, or is not
-pub begins_more : (name word : List ℕ) (i : ℕ) → i < length name → i < length word → to_ascii_lowercase (get_or word i 0) ≡ get_or name i 0 → starts_with nat_eq (drop i name) (small (drop i word)) ≡ starts_with nat_eq (drop (i + 1) name) (small (drop (i + 1) word))
-begins_more name word i in_name in_word same = begins_step name word i in_name in_word ∙ ap (λ t. t && starts_with nat_eq (drop (i + 1) name) (small (drop (i + 1) word))) (eq-eqb (to_ascii_lowercase (get_or word i 0)) (get_or name i 0) same)
+pub begins_more : (name word : List ℕ) (i : ℕ) → i < length name → i < length word → to_ascii_lowercase (get_or word i 0) ≡ get_or name i 0
+    → starts_with nat_eq (drop i name) (small (drop i word)) ≡ starts_with nat_eq (drop (i + 1) name) (small (drop (i + 1) word))
+begins_more name word i in_name in_word same = begins_step name word i in_name in_word
+    ∙ ap (λ t. t && starts_with nat_eq (drop (i + 1) name) (small (drop (i + 1) word))) (eq-eqb (to_ascii_lowercase (get_or word i 0)) (get_or name i 0) same)
 
-pub begins_stop : (name word : List ℕ) (i : ℕ) → i < length name → i < length word → (to_ascii_lowercase (get_or word i 0) ≡ get_or name i 0 → ⊥) → starts_with nat_eq (drop i name) (small (drop i word)) ≡ false
-begins_stop name word i in_name in_word other = begins_step name word i in_name in_word ∙ ap (λ t. t && starts_with nat_eq (drop (i + 1) name) (small (drop (i + 1) word))) (ne_eqb (to_ascii_lowercase (get_or word i 0)) (get_or name i 0) other)
+pub begins_stop : (name word : List ℕ) (i : ℕ) → i < length name → i < length word → (to_ascii_lowercase (get_or word i 0) ≡ get_or name i 0 → ⊥)
+    → starts_with nat_eq (drop i name) (small (drop i word)) ≡ false
+begins_stop name word i in_name in_word other = begins_step name word i in_name in_word
+    ∙ ap (λ t. t && starts_with nat_eq (drop (i + 1) name) (small (drop (i + 1) word))) (ne_eqb (to_ascii_lowercase (get_or word i 0)) (get_or name i 0) other)
 
 begins_none : (name : List ℕ) → starts_with nat_eq name [] ≡ true
 begins_none [] = refl
@@ -33,7 +39,8 @@ pub too_long : (name word : List ℕ) → length name < length word → starts_w
 too_long name word long = longer name (small word) (omega (arith, length-map word to_ascii_lowercase))
 
 -- a word of another first letter is no short form
-pub other_letter : (name word : List ℕ) → 0 < length name → 0 < length word → nat_eq (to_ascii_lowercase (get_or word 0 0)) (get_or name 0 0) ≡ false → starts_with nat_eq name (small word) ≡ false
+pub other_letter : (name word : List ℕ) → 0 < length name → 0 < length word → nat_eq (to_ascii_lowercase (get_or word 0 0)) (get_or name 0 0) ≡ false
+    → starts_with nat_eq name (small word) ≡ false
 other_letter (a ∷ name) (b ∷ word) p q h = rw h refl
 other_letter [] word p q h = absurd (omega arith)
 other_letter (a ∷ name) [] p q h = absurd (omega arith)

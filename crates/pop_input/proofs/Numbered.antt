@@ -11,11 +11,14 @@ use Rattle.pop_input.specs.declared.item.Last.{Last}
 use Rattle.pop_input.proofs.Items.{BlockSoFar, ReadsWord, word_read}
 use Rattle.pop_input.proofs.Numbers.{SmallFault, block_small, closed_numbered}
 
-pub block_fault_small : (first : Bool) (old new : Reading) (had left : Option (List ℕ)) (block : Block) → BlockSoFar first old new had left block → SmallFault block.fault
+pub block_fault_small : (first : Bool) (old new : Reading) (had left : Option (List ℕ)) (block : Block) → BlockSoFar first old new had left block
+    → SmallFault block.fault
 block_fault_small first old new had left block b = subst SmallFault (sym b.fault) (block_small first b.done)
 
-module _ (first : Bool) (old : Standing) (mid new : Reading) (had met left : Option (List ℕ)) (block next : Block) (b : BlockSoFar first old.at mid had met block) where
-  pub word_numbered : (line : ℕ) (text : List ℕ) → TakesPart mid new met left (Word line text) → ReadsWord first old.at mid new had met left block next b line text → (item : Item) (last : Last) → Closes next line last item → IsNumbered new item
+module _ (first : Bool) (old : Standing) (mid new : Reading) (had met left : Option (List ℕ)) (block next : Block)
+    (b : BlockSoFar first old.at mid had met block) where
+  pub word_numbered : (line : ℕ) (text : List ℕ) → TakesPart mid new met left (Word line text)
+      → ReadsWord first old.at mid new had met left block next b line text → (item : Item) (last : Last) → Closes next line last item → IsNumbered new item
   word_numbered line text t r item last c =
       let w = word_read first old.at mid new had met left block next b line text r in
       closed_numbered new next line last item c (subst SmallFault (sym w.0) (block_small first (b.done ++ Word line text ∷ [])))

@@ -73,7 +73,8 @@ man_small men man square = three_small (is_some (man_on men square)) (is_pawn_in
 
 men_small : (men : List (Option Man)) (man : Man) (squares : List ℕ) → IsSmall (men_fault men man squares)
 men_small men man [] = tt
-men_small men man (square ∷ squares) = small_else (man_fault men man square) (men_fault (with_man men square man) man squares) (man_small men man square) (men_small (with_man men square man) man squares)
+men_small men man (square ∷ squares) = small_else (man_fault men man square) (men_fault (with_man men square man) man squares) (man_small men man square)
+    (men_small (with_man men square man) man squares)
 
 put_small : (men : List (Option Man)) (colour : Option Colour) (of : Kind) (squares : Option (List ℕ)) → IsSmall (put_fault men colour of squares)
 put_small men None of squares = (omega arith, omega arith)
@@ -86,14 +87,16 @@ letter_small state (Some of) text = small_if _ (Some WordMisplaced) _ (omega ari
 
 pieces_small : (state : State) (text : List ℕ) → IsSmall (pieces_fault state text)
 pieces_small state [] = tt
-pieces_small state (letter ∷ text) = small_if (is_some (colour_of (letter ∷ text))) None (letter_fault state (kind_of letter) text) tt (letter_small state (kind_of letter) text)
+pieces_small state (letter ∷ text) = small_if (is_some (colour_of (letter ∷ text))) None (letter_fault state (kind_of letter) text) tt
+    (letter_small state (kind_of letter) text)
 
 stipulation_small : (given : Option Stipulation) (text : List ℕ) → IsSmall (stipulation_fault given text)
 stipulation_small None text = small_if _ (Some BadStipulation) None (omega arith, omega arith) tt
 stipulation_small (Some given) text = small_if _ (Some SecondStipulation) (Some WordMisplaced) (omega arith, omega arith) (omega arith, omega arith)
 
 condition_small : (given : Option Condition) (text : List ℕ) → IsSmall (condition_fault given text)
-condition_small given text = small_if _ (Some WordMisplaced) _ (omega arith, omega arith) (small_if (is_some given) (Some SecondCondition) None (omega arith, omega arith) tt)
+condition_small given text = small_if _ (Some WordMisplaced) _ (omega arith, omega arith)
+    (small_if (is_some given) (Some SecondCondition) None (omega arith, omega arith) tt)
 
 role_small : (state : State) (role : Role) (text : List ℕ) → IsSmall (role_fault state role text)
 role_small state Limit text = small_if _ (Some BadLimit) None (omega arith, omega arith) tt
@@ -114,9 +117,12 @@ begin_small (Some EndProblem) = (omega arith, omega arith)
 begin_small None = (omega arith, omega arith)
 
 word_small : (begun : Bool) (state : State) (text : List ℕ) → IsSmall (fault_of begun state text)
-word_small begun state text = small_if _ (Some WordTooLong) _ (omega arith, omega arith) (small_if begun (role_fault state (role_of state.place text) text) (begin_fault (command_of text)) (role_small state (role_of state.place text) text) (begin_small (command_of text)))
+word_small begun state text = small_if _ (Some WordTooLong) _ (omega arith, omega arith)
+    (small_if begun (role_fault state (role_of state.place text) text) (begin_fault (command_of text)) (role_small state (role_of state.place text) text)
+    (begin_small (command_of text)))
 
-four_small : (a b c d : Bool) → IsSmall (if not a then Some NoMen else (if not b then Some EnPassantImpossible else (if not c then Some KingMissing else (if d then Some WaitingSideInCheck else None))))
+four_small : (a b c d : Bool) → IsSmall (if not a then Some NoMen
+    else (if not b then Some EnPassantImpossible else (if not c then Some KingMissing else (if d then Some WaitingSideInCheck else None))))
 four_small false b c d = (omega arith, omega arith)
 four_small true false c d = (omega arith, omega arith)
 four_small true true false d = (omega arith, omega arith)
@@ -126,7 +132,8 @@ setup_small : (state : State) (of : Option Stipulation) → IsSmall (stated_faul
 setup_small state None = (omega arith, omega arith)
 setup_small state (Some stipulation) =
     let setup = setup_of state stipulation.form in
-    four_small (has_men setup.men) (is_crossed_right setup.men setup.turn setup.crossed) (has_king_to_mate stipulation setup.men) (in_check (rule_of state.condition) setup.men (other setup.turn))
+    four_small (has_men setup.men) (is_crossed_right setup.men setup.turn setup.crossed) (has_king_to_mate stipulation setup.men)
+    (in_check (rule_of state.condition) setup.men (other setup.turn))
 
 end_small : (state : State) → IsSmall (end_fault_in state)
 unfolding end_fault_in
@@ -150,7 +157,8 @@ first_small : (before : List (List ℕ)) (tokens : List Token) → SmallFault (f
 first_small before [] = tt
 first_small before (Word line text ∷ tokens) =
     let fault = fault_of true (state_of before) text in
-    fault_else (at_line line fault) (first_fault (text ∷ before) tokens) (small_at line fault (word_small true (state_of before) text)) (first_small (text ∷ before) tokens)
+    fault_else (at_line line fault) (first_fault (text ∷ before) tokens) (small_at line fault (word_small true (state_of before) text))
+    (first_small (text ∷ before) tokens)
 first_small before (TextLine line keyword text ∷ tokens) = first_small before tokens
 
 pub block_small : (first : Bool) (tokens : List Token) → SmallFault (block_fault first tokens)
@@ -172,10 +180,12 @@ small_item place fault last p =
 closing_item : (place : Reading) (f : Option Fault) (fault : Fault) (last : Last) → SmallFault f → f ≡ Some fault → IsNumbered place (Faulty fault last)
 closing_item place f fault last p is = small_item place fault last (subst SmallFault is p)
 
-pub closed_numbered : (place : Reading) (block : Block) (line : ℕ) (last : Last) (item : Item) → Closes block line last item → SmallFault block.fault → IsNumbered place item
+pub closed_numbered : (place : Reading) (block : Block) (line : ℕ) (last : Last) (item : Item) → Closes block line last item → SmallFault block.fault
+    → IsNumbered place item
 closed_numbered place block line last (Sound problem answered) c p = tt
 closed_numbered place block line last (Faulty fault answered) c p =
-    closing_item place (closing_fault block line) fault answered (fault_else block.fault (at_line line (end_fault_in block.draft)) p (small_at line (end_fault_in block.draft) (end_small block.draft))) c.0
+    closing_item place (closing_fault block line) fault answered
+    (fault_else block.fault (at_line line (end_fault_in block.draft)) p (small_at line (end_fault_in block.draft) (end_small block.draft))) c.0
 closed_numbered place block line last End c p = absurd c
 
 ended_small : (f : Option Fault) (begun : Bool) (line : ℕ) → SmallFault f → SmallFault (Some (ended_by f (fault_at (tail_fault begun AtEnd) line)))
@@ -184,9 +194,11 @@ ended_small None true line p = (omega arith, omega arith)
 ended_small None false line p = (omega arith, omega arith)
 
 pub ended_numbered : (place : Reading) (block : Block) (line : ℕ) → SmallFault block.fault → IsNumbered place (ended_item block line)
-ended_numbered place block line p = small_item place (ended_by block.fault (fault_at (tail_fault block.begun AtEnd) line)) Yes (ended_small block.fault block.begun line p)
+ended_numbered place block line p = small_item place (ended_by block.fault (fault_at (tail_fault block.begun AtEnd) line)) Yes
+    (ended_small block.fault block.begun line p)
 
-pub cut_numbered : (old new : Reading) (had left : Option (List ℕ)) (cut : ReadFault) → CutsOff old new had left cut → IsNumbered new (Faulty (cut_fault cut) Yes)
+pub cut_numbered : (old new : Reading) (had left : Option (List ℕ)) (cut : ReadFault) → CutsOff old new had left cut
+    → IsNumbered new (Faulty (cut_fault cut) Yes)
 cut_numbered old new had left (TooLong line) t = absurd t
 cut_numbered old new had left (PastLimit line) t = (omega arith, omega arith, λ is. absurd (omega (arith, is)))
 cut_numbered old new had left (Device line) t = (omega arith, omega arith, λ is. t.1)

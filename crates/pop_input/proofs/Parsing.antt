@@ -15,7 +15,8 @@ pub front_none : (squares : Option (List ℕ)) → with_front [] squares ≡ squ
 front_none None = refl
 front_none (Some squares) = refl
 
-pub front_more : (done : List ℕ) (square : ℕ) (squares : Option (List ℕ)) → with_front done (before_squares (Some square) squares) ≡ with_front (done ++ square ∷ []) squares
+pub front_more : (done : List ℕ) (square : ℕ) (squares : Option (List ℕ))
+    → with_front done (before_squares (Some square) squares) ≡ with_front (done ++ square ∷ []) squares
 front_more done square None = refl
 front_more done square (Some squares) = ap (λ (l : List ℕ). Some l) (sym (append_assoc done (square ∷ []) squares))
 
@@ -39,7 +40,8 @@ odd_end word at lt e =
     rw (drop_more word at 0 lt, past) refl
 
 -- two bytes that name a square
-pub pair_step : (word : List ℕ) (at square : ℕ) → at + 1 < length word → square_by (get_or word at 0) (get_or word (at + 1) 0) ≡ Some square → squares_from (drop at word) ≡ before_squares (Some square) (squares_from (drop (at + 2) word))
+pub pair_step : (word : List ℕ) (at square : ℕ) → at + 1 < length word → square_by (get_or word at 0) (get_or word (at + 1) 0) ≡ Some square
+    → squares_from (drop at word) ≡ before_squares (Some square) (squares_from (drop (at + 2) word))
 pair_step word at square lt e =
     let two : (at + 1) + 1 ≡ at + 2 = omega arith in
     rw (drop_more word at 0 (omega arith), drop_more word (at + 1) 0 lt, e, two) refl

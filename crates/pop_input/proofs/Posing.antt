@@ -48,17 +48,20 @@ module _ (men : List (Option Man)) (barred : Unmoved) where
   ]
 
 -- well formed but for the crossed square
-well_formed_by : (state : State) (form : Form) → ArePut state.men → is_crossed_right state.men (starts form) state.crossed ≡ true → IsWellFormed (position_of (setup_of state form))
+well_formed_by : (state : State) (form : Form) → ArePut state.men → is_crossed_right state.men (starts form) state.crossed ≡ true
+    → IsWellFormed (position_of (setup_of state form))
 unfolding position_of
 well_formed_by state form put right = record { size = put.size; kings = put.kings; pawns = put.pawns; homes = homes state.men state.barred; crossed = right }
 
 -- without one it is
-pub well_formed_without : (state : State) (form : Form) (setup : Setup) → setup ≡ setup_of state form → ArePut state.men → state.crossed ≡ None → IsWellFormed (position_of setup)
+pub well_formed_without : (state : State) (form : Form) (setup : Setup) → setup ≡ setup_of state form → ArePut state.men → state.crossed ≡ None
+    → IsWellFormed (position_of setup)
 unfolding is_crossed_right
 well_formed_without state form setup is put none = rw is (well_formed_by state form put (rw none refl))
 
 -- where it isn't, the crossed square cannot be
-pub crossed_wrong : (state : State) (form : Form) → ArePut state.men → (IsWellFormed (position_of (setup_of state form)) → ⊥) → is_crossed_right state.men (starts form) state.crossed ≡ false
+pub crossed_wrong : (state : State) (form : Form) → ArePut state.men → (IsWellFormed (position_of (setup_of state form)) → ⊥)
+    → is_crossed_right state.men (starts form) state.crossed ≡ false
 crossed_wrong state form put ill = elim (cases_Bool (is_crossed_right state.men (starts form) state.crossed)) [
   | inl right ↦ absurd (ill (well_formed_by state form put right))
   | inr wrong ↦ wrong
@@ -74,7 +77,8 @@ pub shown_men : (setup : Setup) → (position_of setup).men ≡ setup.men
 unfolding position_of
 shown_men setup = refl
 
-module _ (state : State) (stipulation : Stipulation) (setup : Setup) (is : setup ≡ setup_of state stipulation.form) (put : ArePut state.men) (some : has_men setup.men ≡ true) where
+module _ (state : State) (stipulation : Stipulation) (setup : Setup) (is : setup ≡ setup_of state stipulation.form) (put : ArePut state.men)
+    (some : has_men setup.men ≡ true) where
   pub ill_fault : (IsWellFormed (position_of setup) → ⊥) → Some EnPassantImpossible ≡ setup_fault state stipulation setup
   ill_fault ill =
       let wrong : is_crossed_right setup.men setup.turn setup.crossed ≡ false = rw is (crossed_wrong state stipulation.form put (rw is at ill)) in
@@ -85,13 +89,16 @@ module _ (state : State) (stipulation : Stipulation) (setup : Setup) (is : setup
     right = crossed_fine setup well
 
     -- the faults of the position
-    pub position_told : (king check : Bool) → king ≡ has_king_to_mate stipulation setup.men → check ≡ in_check (rule_of state.condition) setup.men (other (starts stipulation.form)) → position_fault king check ≡ setup_fault state stipulation setup
+    pub position_told : (king check : Bool) → king ≡ has_king_to_mate stipulation setup.men
+        → check ≡ in_check (rule_of state.condition) setup.men (other (starts stipulation.form))
+        → position_fault king check ≡ setup_fault state stipulation setup
     position_told king check k at =
         let turn : setup.turn ≡ starts stipulation.form = ap (λ s. s.turn) is in
         rw (some, right, ← k, turn, ← at) refl
 
 abbrev tests_by : Bool → Bool → Bool → Bool → Option FaultKind
-tests_by some right king check = if not some then Some NoMen else (if not right then Some EnPassantImpossible else (if not king then Some KingMissing else (if check then Some WaitingSideInCheck else None)))
+tests_by some right king check = if not some then Some NoMen else (if not right then Some EnPassantImpossible
+    else (if not king then Some KingMissing else (if check then Some WaitingSideInCheck else None)))
 
 passed : (some right king check : Bool) → tests_by some right king check ≡ None → (king ≡ true) × (check ≡ false)
 passed false right king check h = cc
@@ -101,11 +108,14 @@ passed true true true true h = cc
 passed true true true false h = (refl, refl)
 
 -- a problem whose words have no fault, nor their end
-pub sound_by : (state : State) (stipulation : Stipulation) (title author : List ℕ) → state.stipulation ≡ Some stipulation → is_stated state.stipulation ≡ true → 1 ≤ state.limit → state.limit ≤ most_solutions
-    → IsWellFormed (position_of (setup_of state stipulation.form)) → setup_fault state stipulation (setup_of state stipulation.form) ≡ None → IsSound (posed_by state stipulation title author)
+pub sound_by : (state : State) (stipulation : Stipulation) (title author : List ℕ) → state.stipulation ≡ Some stipulation → is_stated state.stipulation ≡ true
+    → 1 ≤ state.limit → state.limit ≤ most_solutions
+    → IsWellFormed (position_of (setup_of state stipulation.form)) → setup_fault state stipulation (setup_of state stipulation.form) ≡ None
+    → IsSound (posed_by state stipulation title author)
 sound_by state stipulation title author is stated low high well none =
     let setup = setup_of state stipulation.form in
-    let tests = passed (has_men setup.men) (is_crossed_right setup.men setup.turn setup.crossed) (has_king_to_mate stipulation setup.men) (in_check (rule_of state.condition) setup.men (other setup.turn)) none in
+    let tests = passed (has_men setup.men) (is_crossed_right setup.men setup.turn setup.crossed) (has_king_to_mate stipulation setup.men)
+    (in_check (rule_of state.condition) setup.men (other setup.turn)) none in
     record {
       well_formed = well;
       turn = refl;

@@ -44,7 +44,8 @@ no_king men colour size none s = elim (cases_lt s 64) [
 ]
 
 -- one more man
-more_put : (men : List (Option Man)) (man : Man) (square : ℕ) → ArePut men → is_pawn_inside (Some man) square ≡ true → (same_kind man.kind King ≡ true → stands men man.colour King ≡ false) → ArePut (with_man men square man)
+more_put : (men : List (Option Man)) (man : Man) (square : ℕ) → ArePut men → is_pawn_inside (Some man) square ≡ true
+    → (same_kind man.kind King ≡ true → stands men man.colour King ≡ false) → ArePut (with_man men square man)
 more_put men man square put inside king = record {
   size = length-set men square (Some man) ∙ put.size;
   kings = AtMostOneKing-with men square man put.kings (λ is. no_king men man.colour put.size (king is));
@@ -57,7 +58,8 @@ more_put men man square put inside king = record {
   ];
 }
 
-fits_by : (taken inside king second : Bool) → (if taken then Some SquareTaken else (if not inside then Some PawnOnOuterRank else fault_if (king && second) SecondKing)) ≡ None → (inside ≡ true) × (king ≡ true → second ≡ false)
+fits_by : (taken inside king second : Bool) → (if taken then Some SquareTaken
+    else (if not inside then Some PawnOnOuterRank else fault_if (king && second) SecondKing)) ≡ None → (inside ≡ true) × (king ≡ true → second ≡ false)
 fits_by true inside king second h = cc
 fits_by false false king second h = cc
 fits_by false true false second h = (refl, λ is. cc)
@@ -66,7 +68,8 @@ fits_by false true true false h = (refl, λ is. refl)
 
 -- a man that is put without a fault, or not put
 pub put_keeps : (r : Result (Unit {0}) Taken) (old new : Setup) (square : ℕ) (man : Man)
-    → MatchResult r (λ _. (man_on old.men square ≡ None) × (new ≡ record old { men = with_man old.men square man })) (λ _. IsSome (man_on old.men square) × (new ≡ old))
+    → MatchResult r (λ _. (man_on old.men square ≡ None) × (new ≡ record old { men = with_man old.men square man }))
+    (λ _. IsSome (man_on old.men square) × (new ≡ old))
     → man_fault old.men man square ≡ None → ArePut old.men → ArePut new.men
 put_keeps (Ok done) old new square man did none put =
     let fits = fits_by (is_some (man_on old.men square)) (is_pawn_inside (Some man) square) (same_kind man.kind King) (stands old.men man.colour King) none in

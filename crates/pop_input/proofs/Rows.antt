@@ -37,48 +37,81 @@ abbrev only_fault : FaultKind → ℕ → List Entry
 only_fault kind line = Faulty (fault_at kind line) ∷ []
 
 -- an input without words, and a first word too short
-no_words : (items [] ≡ only_fault BeginProblemMissing 1) × (items (codes "Be") ≡ only_fault BeginProblemMissing 1) × (items (codes "Beg") ≡ only_fault EndProblemMissing 1)
+no_words : (items [] ≡ only_fault BeginProblemMissing 1) × (items (codes "Be") ≡ only_fault BeginProblemMissing 1)
+    × (items (codes "Beg") ≡ only_fault EndProblemMissing 1)
 unfolding limit command_of section_of
 no_words = (refl, refl, refl)
 
 -- men without a colour, an unknown word, a word that is a man and no squares
-men_misplaced : (items (codes "BeginProblem\nPieces Kg6\n") ≡ only_fault ColourMissing 2) × (items (codes "BeginProblem\nPieces White Protocol\n") ≡ only_fault WordMisplaced 2) × (items (codes "BeginProblem\nPieces White Kg6h\n") ≡ only_fault SquareMissing 2) × (items (codes "BeginProblem\nPieces White Kg") ≡ only_fault SquareMissing 2)
-unfolding limit awaited_of colour_of command_of condition_of kind_of option_of section_of text_word_of limit_of squares_of stipulation_of is_there stands some_square squares
+men_misplaced : (items (codes "BeginProblem\nPieces Kg6\n") ≡ only_fault ColourMissing 2)
+    × (items (codes "BeginProblem\nPieces White Protocol\n") ≡ only_fault WordMisplaced 2)
+    × (items (codes "BeginProblem\nPieces White Kg6h\n") ≡ only_fault SquareMissing 2)
+    × (items (codes "BeginProblem\nPieces White Kg") ≡ only_fault SquareMissing 2)
+unfolding limit awaited_of colour_of command_of condition_of kind_of option_of section_of text_word_of limit_of squares_of stipulation_of is_there stands
+    some_square squares
 men_misplaced = (refl, refl, refl, refl)
 
 -- a square given twice, a pawn on rank 8, a second king
-squares_misplaced : (items (codes "BeginProblem\nPieces White Kg6 Rg6 Black Kg8\n") ≡ only_fault SquareTaken 2) × (items (codes "BeginProblem\nPieces White Pa8\n") ≡ only_fault PawnOnOuterRank 2) × (items (codes "BeginProblem\nPieces White Kg6h1\n") ≡ only_fault SecondKing 2)
-unfolding limit awaited_of colour_of command_of condition_of kind_of option_of section_of text_word_of limit_of squares_of stipulation_of is_there stands some_square squares
+squares_misplaced : (items (codes "BeginProblem\nPieces White Kg6 Rg6 Black Kg8\n") ≡ only_fault SquareTaken 2)
+    × (items (codes "BeginProblem\nPieces White Pa8\n") ≡ only_fault PawnOnOuterRank 2)
+    × (items (codes "BeginProblem\nPieces White Kg6h1\n") ≡ only_fault SecondKing 2)
+unfolding limit awaited_of colour_of command_of condition_of kind_of option_of section_of text_word_of limit_of squares_of stipulation_of is_there stands
+    some_square squares
 squares_misplaced = (refl, refl, refl)
 
 -- a second stipulation, another word behind one, one out of range
-stipulations_misplaced : (items (codes "BeginProblem\nPieces White Kg6 Ra1 Black Kg8\nStipulation #1 #1\nEndProblem\n") ≡ only_fault SecondStipulation 3) × (items (codes "BeginProblem\nPieces White Kg6 Ra1 Black Kg8\nStipulation #1 foo\nEndProblem\n") ≡ only_fault WordMisplaced 3) × (items (codes "BeginProblem\nPieces White Kg6 Ra1 Black Kg8\nStipulation h#16.5\nEndProblem\n") ≡ only_fault BadStipulation 3) × (items (codes "BeginProblem\nPieces White Kg6 Ra1 Black Kg8\nStipulation #0\nEndProblem\n") ≡ only_fault BadStipulation 3)
-unfolding limit awaited_of colour_of command_of condition_of kind_of option_of section_of text_word_of limit_of squares_of stipulation_of is_there stands some_square squares
+stipulations_misplaced : (items (codes "BeginProblem\nPieces White Kg6 Ra1 Black Kg8\nStipulation #1 #1\nEndProblem\n") ≡ only_fault SecondStipulation 3)
+    × (items (codes "BeginProblem\nPieces White Kg6 Ra1 Black Kg8\nStipulation #1 foo\nEndProblem\n") ≡ only_fault WordMisplaced 3)
+    × (items (codes "BeginProblem\nPieces White Kg6 Ra1 Black Kg8\nStipulation h#16.5\nEndProblem\n") ≡ only_fault BadStipulation 3)
+    × (items (codes "BeginProblem\nPieces White Kg6 Ra1 Black Kg8\nStipulation #0\nEndProblem\n") ≡ only_fault BadStipulation 3)
+unfolding limit awaited_of colour_of command_of condition_of kind_of option_of section_of text_word_of limit_of squares_of stipulation_of is_there stands
+    some_square squares
 stipulations_misplaced = (refl, refl, refl, refl)
 
 -- with the other goal: a second stipulation, numbers out of range and with a leading zero
-goals_misplaced : (items (codes "BeginProblem\nPieces White Kg6 Ra1 Black Kg8\nStipulation #1 =1\nEndProblem\n") ≡ only_fault SecondStipulation 3) × (items (codes "BeginProblem\nStipulation =0\n") ≡ only_fault BadStipulation 2) × (items (codes "BeginProblem\nStipulation =17\n") ≡ only_fault BadStipulation 2) × (items (codes "BeginProblem\nStipulation s=01\n") ≡ only_fault BadStipulation 2) × (items (codes "BeginProblem\nStipulation h=16.5\n") ≡ only_fault BadStipulation 2)
-unfolding limit awaited_of colour_of command_of condition_of kind_of option_of section_of text_word_of limit_of squares_of stipulation_of is_there stands some_square squares
+goals_misplaced : (items (codes "BeginProblem\nPieces White Kg6 Ra1 Black Kg8\nStipulation #1 =1\nEndProblem\n") ≡ only_fault SecondStipulation 3)
+    × (items (codes "BeginProblem\nStipulation =0\n") ≡ only_fault BadStipulation 2)
+    × (items (codes "BeginProblem\nStipulation =17\n") ≡ only_fault BadStipulation 2)
+    × (items (codes "BeginProblem\nStipulation s=01\n") ≡ only_fault BadStipulation 2)
+    × (items (codes "BeginProblem\nStipulation h=16.5\n") ≡ only_fault BadStipulation 2)
+unfolding limit awaited_of colour_of command_of condition_of kind_of option_of section_of text_word_of limit_of squares_of stipulation_of is_there stands
+    some_square squares
 goals_misplaced = (refl, refl, refl, refl, refl)
 
 -- limits out of range, a square that does not come, a square from which none castles, a second condition
-values_misplaced : (items (codes "BeginProblem\nPieces White Kg6 Ra1 Black Kg8\nStipulation #1\nOption MaxSolutions 4000000001\nEndProblem\n") ≡ only_fault BadLimit 4) × (items (codes "BeginProblem\nPieces White Kg6 Ra1 Black Kg8\nStipulation #1\nOption MaxSolutions 0\nEndProblem\n") ≡ only_fault BadLimit 4) × (items (codes "BeginProblem\nPieces White Kg6 Ra1 Black Kg8\nStipulation #1\nOption EnPassant\nEndProblem\n") ≡ only_fault SquareMissing 5) × (items (codes "BeginProblem\nPieces White Kg6 Ra1 Black Kg8\nStipulation #1\nOption NoCastling a2\nEndProblem\n") ≡ only_fault NoneCastlesThere 4) × (items (codes "BeginProblem\nPieces White Kg6 Ra1 Black Kg8\nStipulation #1\nCondition Circe Circe\nEndProblem\n") ≡ only_fault SecondCondition 4)
-unfolding limit awaited_of colour_of command_of condition_of kind_of option_of section_of text_word_of limit_of squares_of stipulation_of is_there stands some_square squares
+values_misplaced : (items (codes "BeginProblem\nPieces White Kg6 Ra1 Black Kg8\nStipulation #1\nOption MaxSolutions 4000000001\nEndProblem\n")
+    ≡ only_fault BadLimit 4) × (items (codes "BeginProblem\nPieces White Kg6 Ra1 Black Kg8\nStipulation #1\nOption MaxSolutions 0\nEndProblem\n")
+    ≡ only_fault BadLimit 4) × (items (codes "BeginProblem\nPieces White Kg6 Ra1 Black Kg8\nStipulation #1\nOption EnPassant\nEndProblem\n")
+    ≡ only_fault SquareMissing 5) × (items (codes "BeginProblem\nPieces White Kg6 Ra1 Black Kg8\nStipulation #1\nOption NoCastling a2\nEndProblem\n")
+    ≡ only_fault NoneCastlesThere 4) × (items (codes "BeginProblem\nPieces White Kg6 Ra1 Black Kg8\nStipulation #1\nCondition Circe Circe\nEndProblem\n")
+    ≡ only_fault SecondCondition 4)
+unfolding limit awaited_of colour_of command_of condition_of kind_of option_of section_of text_word_of limit_of squares_of stipulation_of is_there stands
+    some_square squares
 values_misplaced = (refl, refl, refl, refl, refl)
 
 -- a word of 161 bytes, and one of 160
-long_words : (items (codes "BeginProblem\n" ++ replicate 161 120 ++ codes "\nEndProblem\n") ≡ only_fault WordTooLong 2) × (items (codes "BeginProblem\n" ++ replicate 160 120 ++ codes "\nEndProblem\n") ≡ only_fault WordMisplaced 2)
-unfolding limit awaited_of colour_of command_of condition_of kind_of option_of section_of text_word_of limit_of squares_of stipulation_of is_there stands some_square squares
+long_words : (items (codes "BeginProblem\n" ++ replicate 161 120 ++ codes "\nEndProblem\n") ≡ only_fault WordTooLong 2)
+    × (items (codes "BeginProblem\n" ++ replicate 160 120 ++ codes "\nEndProblem\n") ≡ only_fault WordMisplaced 2)
+unfolding limit awaited_of colour_of command_of condition_of kind_of option_of section_of text_word_of limit_of squares_of stipulation_of is_there stands
+    some_square squares
 long_words = (refl, refl)
 
 -- a source that fails in a problem, and behind a fault of one
-failing_source : (items_by Failed (codes "BeginProblem\nPieces White Kg6\nxx") ≡ only_fault DeviceFailed 3) × (items_by Failed (codes "BeginProblem\nxx\n") ≡ Faulty (fault_at WordMisplaced 2) ∷ only_fault DeviceFailed 3)
-unfolding limit awaited_of colour_of command_of condition_of kind_of option_of section_of text_word_of limit_of squares_of stipulation_of is_there stands some_square squares
+failing_source : (items_by Failed (codes "BeginProblem\nPieces White Kg6\nxx") ≡ only_fault DeviceFailed 3)
+    × (items_by Failed (codes "BeginProblem\nxx\n") ≡ Faulty (fault_at WordMisplaced 2) ∷ only_fault DeviceFailed 3)
+unfolding limit awaited_of colour_of command_of condition_of kind_of option_of section_of text_word_of limit_of squares_of stipulation_of is_there stands
+    some_square squares
 failing_source = (refl, refl)
 
 -- a stipulation missing, no men, en passant not possible, no king to be mated, check to the side that is not to move
-ends : (items (codes "BeginProblem\nEndProblem\n") ≡ only_fault StipulationMissing 2) × (items (codes "BeginProblem\nStipulation #1\nEndProblem\n") ≡ only_fault NoMen 3) × (items (codes "BeginProblem\nPieces White Kg6 Ba1 Bb3 Pe5 Black Kh8\nStipulation #1\nOption EnPassant d6\nEndProblem\n") ≡ only_fault EnPassantImpossible 5) × (items (codes "BeginProblem\nPieces White Kg6 Ra1\nStipulation #1\nEndProblem\n") ≡ only_fault KingMissing 4) × (items (codes "BeginProblem\nPieces White Kg6 Rh1 Black Kh8\nStipulation #1\nEndProblem\n") ≡ only_fault WaitingSideInCheck 4)
-unfolding limit awaited_of colour_of command_of condition_of kind_of option_of section_of text_word_of limit_of squares_of stipulation_of is_there stands some_square squares end_fault_in is_taken unmoved_of has_unmoved mark_unmoved none_unmoved is_home is_crossed_right king_square attacked faces faces_its_like in_check paralysed strikes hops is_clear leaps reaches reaches_as rides along
+ends : (items (codes "BeginProblem\nEndProblem\n") ≡ only_fault StipulationMissing 2)
+    × (items (codes "BeginProblem\nStipulation #1\nEndProblem\n") ≡ only_fault NoMen 3)
+    × (items (codes "BeginProblem\nPieces White Kg6 Ba1 Bb3 Pe5 Black Kh8\nStipulation #1\nOption EnPassant d6\nEndProblem\n")
+    ≡ only_fault EnPassantImpossible 5) × (items (codes "BeginProblem\nPieces White Kg6 Ra1\nStipulation #1\nEndProblem\n") ≡ only_fault KingMissing 4)
+    × (items (codes "BeginProblem\nPieces White Kg6 Rh1 Black Kh8\nStipulation #1\nEndProblem\n") ≡ only_fault WaitingSideInCheck 4)
+unfolding limit awaited_of colour_of command_of condition_of kind_of option_of section_of text_word_of limit_of squares_of stipulation_of is_there stands
+    some_square squares end_fault_in is_taken unmoved_of has_unmoved mark_unmoved none_unmoved is_home is_crossed_right king_square attacked faces
+    faces_its_like in_check paralysed strikes hops is_clear leaps reaches reaches_as rides along
 ends = (refl, refl, refl, refl, refl)
 
 abbrev man : Colour → Kind → Man
@@ -89,7 +122,8 @@ abbrev three_men : List (Option Man)
 three_men = with_man (with_man (with_man no_men 46 (man White King)) 0 (man White Rook)) 62 (man Black King)
 
 -- a title before the problem has no effect; the last author stands, without the blanks around it; a word in a text line is none
-sound_problem : items (codes "Title early\nBeginProblem\nAuthor X\nPieces White Kg6 Remark EndProblem\nRa1 Black Kg8\naut  A. B. \nStipulation #1\nEndProblem foo\n")
+sound_problem : items
+    (codes "Title early\nBeginProblem\nAuthor X\nPieces White Kg6 Remark EndProblem\nRa1 Black Kg8\naut  A. B. \nStipulation #1\nEndProblem foo\n")
     ≡ Sound (record {
       diagram = record { men = three_men; turn = White; unmoved = mark_unmoved none_unmoved 0 true; crossed = None };
       stipulation = record { form = Direct; goal = Mate; n = 1 };
@@ -101,7 +135,9 @@ sound_problem : items (codes "Title early\nBeginProblem\nAuthor X\nPieces White 
       title = [];
       author = codes "A. B.";
     }) ∷ []
-unfolding limit awaited_of colour_of command_of condition_of kind_of option_of section_of text_word_of limit_of squares_of stipulation_of is_there stands some_square squares end_fault_in is_taken unmoved_of has_unmoved mark_unmoved none_unmoved is_home is_crossed_right king_square attacked faces faces_its_like in_check paralysed strikes hops is_clear leaps reaches reaches_as rides along
+unfolding limit awaited_of colour_of command_of condition_of kind_of option_of section_of text_word_of limit_of squares_of stipulation_of is_there stands
+    some_square squares end_fault_in is_taken unmoved_of has_unmoved mark_unmoved none_unmoved is_home is_crossed_right king_square attacked faces
+    faces_its_like in_check paralysed strikes hops is_clear leaps reaches reaches_as rides along
 sound_problem = refl
 
 -- sections twice and in any order, small letters, short forms, options with their values
@@ -117,5 +153,7 @@ sound_options : items (codes "beg\nopt set max 5 max 007 noc h1a1\nsti H=12\ncon
       title = [];
       author = [];
     }) ∷ only_fault EndProblemMissing 9
-unfolding limit awaited_of colour_of command_of condition_of kind_of option_of section_of text_word_of limit_of squares_of stipulation_of is_there stands some_square squares end_fault_in is_taken unmoved_of has_unmoved mark_unmoved none_unmoved is_home is_crossed_right king_square attacked faces faces_its_like in_check paralysed strikes hops is_clear leaps reaches reaches_as rides along
+unfolding limit awaited_of colour_of command_of condition_of kind_of option_of section_of text_word_of limit_of squares_of stipulation_of is_there stands
+    some_square squares end_fault_in is_taken unmoved_of has_unmoved mark_unmoved none_unmoved is_home is_crossed_right king_square attacked faces
+    faces_its_like in_check paralysed strikes hops is_clear leaps reaches reaches_as rides along
 sound_options = refl

@@ -51,15 +51,18 @@ plain_all [] h = refl
 plain_all (token ∷ tokens) h = let p = plain_parts token tokens h in rw (plain_open token p.0, plain_all tokens p.1) refl
 
 -- the first fault stays
-fault_stays : (first : Bool) (fault : Fault) (done tokens : List Part) → list_all is_plain tokens ≡ true → block_fault first done ≡ Some fault → block_fault first (done ++ tokens) ≡ Some fault
+fault_stays : (first : Bool) (fault : Fault) (done tokens : List Part) → list_all is_plain tokens ≡ true → block_fault first done ≡ Some fault
+    → block_fault first (done ++ tokens) ≡ Some fault
 fault_stays first fault done [] h is = ap (block_fault first) (append-nil done) ∙ is
 fault_stays first fault done (TextLine line keyword text ∷ tokens) h is = let bad = (plain_parts (TextLine line keyword text) tokens h).0 in cc
 fault_stays first fault done (Word line text ∷ tokens) h is =
     let p = plain_parts (Word line text) tokens h in
     ap (block_fault first) (sym (append_assoc done (Word line text ∷ []) tokens))
-    ∙ fault_stays first fault (done ++ Word line text ∷ []) tokens p.1 (block_more first done line text ∙ ap (λ f. or_else f (at_line line (fault_of (has_begun first done) (said first done) text))) is)
+    ∙ fault_stays first fault (done ++ Word line text ∷ []) tokens p.1
+    (block_more first done line text ∙ ap (λ f. or_else f (at_line line (fault_of (has_begun first done) (said first done) text))) is)
 
-module _ (first : Bool) (old mid new : Reading) (had left : Option (List ℕ)) (block : Block) (b : BlockSoFar first old mid had left block) (s : Skips mid new) where
+module _ (first : Bool) (old mid new : Reading) (had left : Option (List ℕ)) (block : Block) (b : BlockSoFar first old mid had left block)
+    (s : Skips mid new) where
   behind_fault : (fault : Fault) → block.fault ≡ Some fault → BlockSoFar first old new had left block
   behind_fault fault is = record {
     done = b.done ++ s.tokens;

@@ -24,7 +24,8 @@ after_both xs ys rest = rw (append_assoc xs ys rest.bytes) refl
 put_both : (xs ys : List Part) (words : Words) → put_before xs (put_before ys words) ≡ put_before (xs ++ ys) words
 put_both xs ys words = rw (append_assoc xs ys words.tokens) refl
 
-pub takes_then : (a b c : Spot) (had mid left : Option (List ℕ)) (xs ys : List Part) → Takes a b had mid xs → Takes b c mid left ys → Takes a c had left (xs ++ ys)
+pub takes_then : (a b c : Spot) (had mid left : Option (List ℕ)) (xs ys : List Part) → Takes a b had mid xs → Takes b c mid left ys
+    → Takes a c had left (xs ++ ys)
 takes_then a b c had mid left xs ys p q = record {
   bytes = p.bytes ++ q.bytes;
   taken = consumes_then had mid left p.bytes q.bytes p.taken q.taken;
@@ -37,7 +38,9 @@ takes_then a b c had mid left xs ys p q = record {
       ∙ put_both xs ys (words_left c.behind c.at rest);
 }
 
-module _ (old mid new : Reading) (had met left : Option (List ℕ)) (room : Room) (keyword : TextWord) (word : TakesWord (is_text_word room.bytes.items) old mid had met room.line room.bytes.items) (is : text_word_of room.bytes.items ≡ Some keyword) (text : is_text_word room.bytes.items ≡ true) where
+module _ (old mid new : Reading) (had met left : Option (List ℕ)) (room : Room) (keyword : TextWord)
+    (word : TakesWord (is_text_word room.bytes.items) old mid had met room.line room.bytes.items) (is : text_word_of room.bytes.items ≡ Some keyword)
+    (text : is_text_word room.bytes.items ≡ true) where
   abbrev name : List ℕ
   name = room.bytes.items
 
@@ -46,13 +49,36 @@ module _ (old mid new : Reading) (had met left : Option (List ℕ)) (room : Room
 
   -- a text word, and the rest of its line
   pub line_token : (kept : List ℕ) → GoesOn old mid → RestOfLine name mid new met left (Ok kept) → NextToken old new had left room kept (Line keyword)
-  line_token kept goes rest =
-      (mid.line, name, rest.0, (takes_then (among old) (behind_word name mid) (among new) had met left [] (TextLine mid.line name rest.0 ∷ []) behind rest.1, (omega (arith, goes.0, rest.3), rest.4)), is, rest.2)
+  line_token kept goes rest = (
+    mid.line,
+    name,
+    rest.0,
+    (
+      takes_then (among old) (behind_word name mid) (among new) had met left [] (TextLine mid.line name rest.0 ∷ []) behind rest.1,
+      (omega (arith, goes.0, rest.3), rest.4),
+    ),
+    is,
+    rest.2,
+  )
 
-  pub cut_token : (fault : ReadFault) (kept : List ℕ) → GoesOn old mid → RestOfLine name mid new met left (Err fault) → NextToken old new had left room kept (Cut fault)
+  pub cut_token : (fault : ReadFault) (kept : List ℕ) → GoesOn old mid → RestOfLine name mid new met left (Err fault)
+      → NextToken old new had left room kept (Cut fault)
   cut_token (TooLong number) kept goes rest = absurd rest
-  cut_token (InputTooLong number) kept goes rest = (takes_then (among old) (behind_word name mid) (among new) had met left [] [] behind rest.0, rest.1, rest.2, (let on = goes.0 in let further = rest.3.0 in omega (arith, on, further), rest.3.1))
-  cut_token (Device number) kept goes rest = ((takes_then (among old) (behind_word name mid) (among new) had met left [] [] behind rest.0, rest.1, rest.2, (let on = goes.0 in let further = rest.3.0 in omega (arith, on, further), rest.3.1)), rest.4)
+  cut_token (InputTooLong number) kept goes rest = (
+    takes_then (among old) (behind_word name mid) (among new) had met left [] [] behind rest.0,
+    rest.1,
+    rest.2,
+    (let on = goes.0 in let further = rest.3.0 in omega (arith, on, further), rest.3.1),
+  )
+  cut_token (Device number) kept goes rest = (
+    (
+      takes_then (among old) (behind_word name mid) (among new) had met left [] [] behind rest.0,
+      rest.1,
+      rest.2,
+      (let on = goes.0 in let further = rest.3.0 in omega (arith, on, further), rest.3.1),
+    ),
+    rest.4,
+  )
 
 -- where no token is taken, the place stays within the limit
 pub none_within : (old : Spot) (new : Reading) (had left : Option (List ℕ)) (fault : ReadFault) → TakesNone old new had left fault → new.used ≤ limit

@@ -43,14 +43,16 @@ inside true ((TextLine line keyword text) ∷ tokens) = inside true tokens
 -- the first fault of tokens, after these words
 abbrev pub first_fault : List (List ℕ) → List Token → Option Fault
 first_fault before [] = None
-first_fault before ((Word line text) ∷ tokens) = or_else (at_line line (fault_of true (state_of before) text)) (first_fault (text ∷ before) tokens)
+first_fault before ((Word line text) ∷ tokens) = or_else
+    (at_line line (fault_of true (state_of before) text)) (first_fault (text ∷ before) tokens)
 first_fault before ((TextLine line keyword text) ∷ tokens) = first_fault before tokens
 
 -- the first fault of the tokens of a block, which is the first of the input or a later one
 abbrev pub block_fault : Bool → List Token → Option Fault
 block_fault false tokens = first_fault [] tokens
 block_fault true [] = None
-block_fault true ((Word line text) ∷ tokens) = or_else (at_line line (fault_of false (state_of []) text)) (first_fault [] tokens)
+block_fault true ((Word line text) ∷ tokens) = or_else
+    (at_line line (fault_of false (state_of []) text)) (first_fault [] tokens)
 block_fault true ((TextLine line keyword text) ∷ tokens) = block_fault true tokens
 
 -- whether a token closes its block
@@ -84,7 +86,8 @@ line_if false line = None
 -- the line of the word that closes a block
 abbrev pub closing_line : List Token → Option ℕ
 closing_line [] = None
-closing_line (token ∷ tokens) = or_else (closing_line tokens) (line_if (closes (closing_of token)) (line_of token))
+closing_line (token ∷ tokens) = or_else (closing_line tokens)
+    (line_if (closes (closing_of token)) (line_of token))
 
 -- The text lines of a problem.
 
@@ -98,11 +101,13 @@ text_after _ old _ line = old
 abbrev pub last_text : TextWord → List ℕ → List Token → List ℕ
 last_text wanted old [] = old
 last_text wanted old ((Word line text) ∷ tokens) = last_text wanted old tokens
-last_text wanted old ((TextLine line keyword text) ∷ tokens) = last_text wanted (text_after wanted old (text_word_of keyword) text) tokens
+last_text wanted old ((TextLine line keyword text) ∷ tokens) = last_text wanted
+    (text_after wanted old (text_word_of keyword) text) tokens
 
 -- the problem that words and text lines pose
 abbrev pub problem_of : List Token → Posed
-problem_of tokens = posed_of (state_of (words_before [] tokens)) (last_text Title [] tokens) (last_text Author [] tokens)
+problem_of tokens = posed_of (state_of (words_before [] tokens)) (last_text Title [] tokens)
+    (last_text Author [] tokens)
 
 -- a sound problem, or a fault
 pub data Entry : Type 0 where
@@ -129,19 +134,24 @@ entry_of (Some fault) problem = Faulty fault
 
 -- the entry of a block that a word in this line closes: its first fault, or that of its end, or none
 abbrev pub closed_entry : Option Fault → ℕ → List Token → Entry
-closed_entry fault line tokens = entry_of (or_else fault (at_line line (end_fault_in (state_of (words_before [] tokens))))) (problem_of tokens)
+closed_entry fault line tokens = entry_of
+    (or_else fault (at_line line (end_fault_in (state_of (words_before [] tokens)))))
+    (problem_of tokens)
 
 -- by the word fault, and the line of the closing word
 abbrev pub entries_by : Option Fault → Option ℕ → Bool → Tail → ℕ → List Token → List Entry
-entries_by fault (Some line) first tail tail_line block = closed_entry fault line (inside first block) ∷ []
+entries_by fault (Some line) first tail tail_line block = closed_entry fault line
+    (inside first block) ∷ []
 entries_by (Some fault) None first tail tail_line block = Faulty fault ∷ more_entries tail tail_line
-entries_by None None first tail tail_line block = Faulty (fault_at (tail_fault (has_begun first block) tail) tail_line) ∷ []
+entries_by None None first tail tail_line block = Faulty
+    (fault_at (tail_fault (has_begun first block) tail) tail_line) ∷ []
 
 -- the entries of blocks, the first block of the input among them or not
 abbrev pub block_entries : Bool → Tail → ℕ → List (List Token) → List Entry
 block_entries first tail tail_line [] = []
 block_entries first tail tail_line (block ∷ blocks) =
-    entries_by (block_fault first block) (closing_line block) first tail tail_line block ++ block_entries false tail tail_line blocks
+    entries_by (block_fault first block) (closing_line block) first tail tail_line block
+    ++ block_entries false tail tail_line blocks
 
 -- the entries of words from the start of a block on, the first block or a later one
 abbrev pub entries_of : Bool → Words → List Entry

@@ -25,11 +25,17 @@ counts men barred square = is_home (man_on men square) square && not (has_unmove
 
 -- the castling squares that count as unmoved
 unfoldable pub unmoved_of : List (Option Man) → Unmoved → Unmoved
-unmoved_of men barred = fold (λ set square. mark_unmoved set square (counts men barred square)) none_unmoved castling_squares
+unmoved_of men barred = fold (λ set square. mark_unmoved set square (counts men barred square))
+    none_unmoved castling_squares
 
 -- the diagram that words pose: who starts is said by the form
 abbrev pub setup_of : State → Form → Setup
-setup_of state form = record { men = state.men; turn = starts form; unmoved = unmoved_of state.men state.barred; crossed = state.crossed }
+setup_of state form = record {
+  men = state.men;
+  turn = starts form;
+  unmoved = unmoved_of state.men state.barred;
+  crossed = state.crossed;
+}
 
 -- for words without one
 abbrev pub no_stipulation : Stipulation
@@ -51,25 +57,29 @@ posed_by state stipulation title author = record {
 
 -- the problem that words pose, with a title and an author
 abbrev pub posed_of : State → List ℕ → List ℕ → Posed
-posed_of state title author = posed_by state (unwrap_or state.stipulation no_stipulation) title author
+posed_of state title author = posed_by state (unwrap_or state.stipulation no_stipulation) title
+    author
 
 -- The tests, in their order.
 
 -- no king to be mated, the side that isn't to move in check
 abbrev pub position_fault : Bool → Bool → Option FaultKind
-position_fault has_king in_check = if not has_king then Some KingMissing else (if in_check then Some WaitingSideInCheck else None)
+position_fault has_king in_check = if not has_king then Some KingMissing
+    else (if in_check then Some WaitingSideInCheck else None)
 
 -- no men, en passant not possible, and the faults of the position
 abbrev pub setup_fault : State → Stipulation → Setup → Option FaultKind
 setup_fault state stipulation setup =
     if not (has_men setup.men) then Some NoMen
     else (if not (is_crossed_right setup.men setup.turn setup.crossed) then Some EnPassantImpossible
-    else position_fault (has_king_to_mate stipulation setup.men) (in_check (rule_of state.condition) setup.men (other setup.turn)))
+    else position_fault (has_king_to_mate stipulation setup.men)
+    (in_check (rule_of state.condition) setup.men (other setup.turn)))
 
 -- no stipulation, or a fault of the diagram
 abbrev pub stated_fault : State → Option Stipulation → Option FaultKind
 stated_fault state None = Some StipulationMissing
-stated_fault state (Some stipulation) = setup_fault state stipulation (setup_of state stipulation.form)
+stated_fault state (Some stipulation) = setup_fault state stipulation
+    (setup_of state stipulation.form)
 
 -- the fault at the end of a block whose words have none
 unfoldable pub end_fault_in : State → Option FaultKind

@@ -9,9 +9,12 @@ use Rattle.pop_input.specs.declared.fault_kind.FaultKind.TheVariants.{EnPassantI
 -- all kinds, in the order of their numbers
 abbrev pub fault_kinds : List FaultKind
 fault_kinds =
-    BeginProblemMissing ∷ WordMisplaced ∷ WordTooLong ∷ ColourMissing ∷ SquareTaken ∷ PawnOnOuterRank ∷ SecondKing
-    ∷ BadStipulation ∷ SecondStipulation ∷ StipulationMissing ∷ NoMen ∷ SecondCondition ∷ BadLimit ∷ SquareMissing
-    ∷ EnPassantImpossible ∷ NoneCastlesThere ∷ KingMissing ∷ WaitingSideInCheck ∷ EndProblemMissing ∷ InputTooLong
+    BeginProblemMissing ∷ WordMisplaced ∷ WordTooLong ∷ ColourMissing ∷ SquareTaken
+    ∷ PawnOnOuterRank ∷ SecondKing
+    ∷ BadStipulation ∷ SecondStipulation ∷ StipulationMissing ∷ NoMen ∷ SecondCondition ∷ BadLimit
+    ∷ SquareMissing
+    ∷ EnPassantImpossible ∷ NoneCastlesThere ∷ KingMissing ∷ WaitingSideInCheck ∷ EndProblemMissing
+    ∷ InputTooLong
     ∷ DeviceFailed ∷ []
 
 -- the number of a kind

@@ -23,7 +23,8 @@ use Rattle.pop_input.specs.declared.names.TextWord.TheVariants.{Title, Author, O
 
 -- the entry of a table of which the word is a short form
 abbrev pub look_up : {A : Type 0} → List (List ℕ × A) → List ℕ → Option A
-look_up table text = option_map (λ entry. entry.1) (find (λ entry. is_short_form entry.0 text) table)
+look_up table text = option_map (λ entry. entry.1)
+    (find (λ entry. is_short_form entry.0 text) table)
 
 -- the first of two, if it is there
 abbrev pub or_else : {A : Type 0} → Option A → Option A → Option A
@@ -32,15 +33,18 @@ or_else (Some a) later = Some a
 
 -- the section that a command opens
 unfoldable pub section_of : List ℕ → Option Section
-section_of text = look_up ((codes "pieces", Pieces) ∷ (codes "stipulation", Stipulation) ∷ (codes "condition", Conditions) ∷ (codes "option", Options) ∷ []) text
+section_of text = look_up ((codes "pieces", Pieces) ∷ (codes "stipulation", Stipulation)
+    ∷ (codes "condition", Conditions) ∷ (codes "option", Options) ∷ []) text
 
 -- the command that a word is, if it is one
 unfoldable pub command_of : List ℕ → Option Command
-command_of text = or_else (look_up ((codes "beginproblem", Begin) ∷ (codes "nextproblem", Next) ∷ (codes "endproblem", Last) ∷ []) text) (option_map Enter (section_of text))
+command_of text = or_else (look_up ((codes "beginproblem", Begin) ∷ (codes "nextproblem", Next)
+    ∷ (codes "endproblem", Last) ∷ []) text) (option_map Enter (section_of text))
 
 -- the text word that a word is, if it is one
 unfoldable pub text_word_of : List ℕ → Option TextWord
-text_word_of text = look_up ((codes "title", Title) ∷ (codes "author", Author) ∷ (codes "origin", Origin) ∷ (codes "remark", Remark) ∷ []) text
+text_word_of text = look_up ((codes "title", Title) ∷ (codes "author", Author)
+    ∷ (codes "origin", Origin) ∷ (codes "remark", Remark) ∷ []) text
 
 -- the condition that a word names
 unfoldable pub condition_of : List ℕ → Option Condition
@@ -48,19 +52,23 @@ condition_of text = look_up ((codes "circe", Circe) ∷ (codes "madrasi", Madras
 
 -- what the options that await a value await
 unfoldable pub awaited_of : List ℕ → Option Awaited
-awaited_of text = look_up ((codes "maxsolutions", Number) ∷ (codes "enpassant", OneSquare) ∷ (codes "nocastling", Squares) ∷ []) text
+awaited_of text = look_up ((codes "maxsolutions", Number) ∷ (codes "enpassant", OneSquare)
+    ∷ (codes "nocastling", Squares) ∷ []) text
 
 -- the option that a word names
 unfoldable pub option_of : List ℕ → Option OptionWord
-option_of text = or_else (look_up ((codes "setplay", SetPlay) ∷ (codes "variation", Variation) ∷ (codes "noboard", NoBoard) ∷ []) text) (option_map Awaits (awaited_of text))
+option_of text = or_else (look_up ((codes "setplay", SetPlay) ∷ (codes "variation", Variation)
+    ∷ (codes "noboard", NoBoard) ∷ []) text) (option_map Awaits (awaited_of text))
 
 -- one letter or more with which the colour's name begins, in capitals or not
 abbrev pub is_colour : List ℕ → List ℕ → Bool
-is_colour name text = nat_le 1 (length text) && starts_with nat_eq name (map to_ascii_lowercase text)
+is_colour name text = nat_le 1 (length text)
+    && starts_with nat_eq name (map to_ascii_lowercase text)
 
 -- the colour that a word names
 unfoldable pub colour_of : List ℕ → Option Colour
-colour_of text = if is_colour (codes "white") text then Some White else (if is_colour (codes "black") text then Some Black else None)
+colour_of text = if is_colour (codes "white") text then Some White
+    else (if is_colour (codes "black") text then Some Black else None)
 
 -- the kind of a man's letter, in capitals or not
 unfoldable pub kind_of : ℕ → Option Kind
@@ -69,7 +77,8 @@ kind_of letter =
     if small == king_letter then Some King else (if small == queen_letter then Some Queen
     else (if small == rook_letter then Some Rook else (if small == bishop_letter then Some Bishop
     else (if small == knight_letter then Some Knight else (if small == pawn_letter then Some Pawn
-    else (if small == grasshopper_letter then Some Grasshopper else (if small == nightrider_letter then Some Nightrider else None)))))))
+    else (if small == grasshopper_letter then Some Grasshopper
+    else (if small == nightrider_letter then Some Nightrider else None)))))))
 
 -- whether a command closes a block
 abbrev pub closes : Option Command → Bool

@@ -38,4 +38,5 @@ pub record IsSound (posed : Posed) : Type 0 where
   pub some_solution : 1 ≤ posed.max_solutions
   pub limit : posed.max_solutions ≤ 4000000000
   pub king : has_king_to_mate posed.stipulation posed.diagram.men ≡ true
-  pub quiet : in_check (rule_of posed.condition) posed.diagram.men (other posed.diagram.turn) ≡ false
+  pub quiet : in_check (rule_of posed.condition) posed.diagram.men (other posed.diagram.turn)
+      ≡ false

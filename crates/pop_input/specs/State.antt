@@ -37,7 +37,8 @@ abbrev pub role_by : Option Awaited → Place → List ℕ → Role
 role_by (Some Number) place text = Limit
 role_by (Some OneSquare) place text = CrossedSquare
 role_by (Some Squares) place text = BarredSquares
-role_by (Some MoreSquares) place text = if is_some (squares_of text) then BarredSquares else plain_role (command_of text) place.section
+role_by (Some MoreSquares) place text = if is_some (squares_of text) then BarredSquares
+    else plain_role (command_of text) place.section
 role_by None place text = plain_role (command_of text) place.section
 
 -- what a word at a place is: an awaited value, a command or a word of the section
@@ -62,7 +63,10 @@ awaited_after _ text = None
 
 -- the place behind one more word
 abbrev pub place_after : Role → Place → List ℕ → Place
-place_after role place text = record { section = opened_by place.section role; awaited = awaited_after role text }
+place_after role place text = record {
+  section = opened_by place.section role;
+  awaited = awaited_after role text;
+}
 
 -- the place behind words
 abbrev pub place_at : List (List ℕ) → Place
@@ -93,13 +97,15 @@ put_men men man (square ∷ squares) = put_men (with_man men square man) man squ
 
 -- the men with those that a colour, a letter and squares put, if all three are there
 abbrev pub put_kind : Option Colour → Option Kind → List ℕ → List (Option Man) → List (Option Man)
-put_kind (Some colour) (Some kind) squares men = put_men men (record { colour = colour; kind = kind }) squares
+put_kind (Some colour) (Some kind) squares men = put_men men
+    (record { colour = colour; kind = kind }) squares
 put_kind _ _ squares men = men
 
 -- the men with those that a word of a letter and squares puts
 abbrev pub put_word : Option Colour → List ℕ → List (Option Man) → List (Option Man)
 put_word colour [] men = men
-put_word colour (letter ∷ text) men = if is_some (colour_of (letter ∷ text)) then men else put_kind colour (kind_of letter) (unwrap_or (squares_of text) []) men
+put_word colour (letter ∷ text) men = if is_some (colour_of (letter ∷ text)) then men
+    else put_kind colour (kind_of letter) (unwrap_or (squares_of text) []) men
 
 -- the men behind one more word
 abbrev pub men_by : Role → Option Colour → List ℕ → List (Option Man) → List (Option Man)

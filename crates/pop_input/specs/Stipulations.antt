@@ -63,7 +63,8 @@ is_for_stalemate Stalemate = true
 
 -- among these men stands the king that is to be mated; stalemate asks for none
 abbrev pub has_king_to_mate : Stipulation → List (Option Man) → Bool
-has_king_to_mate stipulation men = is_for_stalemate stipulation.goal || is_some (king_square men (mated stipulation.form))
+has_king_to_mate stipulation men = is_for_stalemate stipulation.goal
+    || is_some (king_square men (mated stipulation.form))
 
 -- the most moves of a stipulation
 abbrev pub most_moves : ℕ

@@ -53,11 +53,14 @@ most_solutions = 4000000000
 
 -- a limit of solutions, in digits
 unfoldable pub limit_of : List ℕ → Option ℕ
-limit_of text = if list_all is_digit text && (nat_le 1 (value_of text) && nat_le (value_of text) most_solutions) then Some (value_of text) else None
+limit_of text = if list_all is_digit text
+    && (nat_le 1 (value_of text) && nat_le (value_of text) most_solutions) then Some (value_of text)
+    else None
 
 -- the goal that a sign names: `#` or `=`
 abbrev pub goal_of : ℕ → Option Goal
-goal_of sign = if sign == mate_sign then Some Mate else (if sign == stalemate_sign then Some Stalemate else None)
+goal_of sign = if sign == mate_sign then Some Mate
+    else (if sign == stalemate_sign then Some Stalemate else None)
 
 -- the number that one digit writes, or two of which the first isn't 0
 abbrev pub one_digit : ℕ → Option ℕ
@@ -65,11 +68,13 @@ one_digit a = if is_digit a then Some (a - digit_0) else None
 
 -- the number that two digits write, of which the first isn't 0
 abbrev pub two_digits : ℕ → ℕ → Option ℕ
-two_digits a b = if (is_digit a && not (a == digit_0)) && is_digit b then Some (10 * (a - digit_0) + (b - digit_0)) else None
+two_digits a b = if (is_digit a && not (a == digit_0))
+    && is_digit b then Some (10 * (a - digit_0) + (b - digit_0)) else None
 
 -- a form with its goal and its number of moves, if it has both and may have the number
 abbrev pub stated : Form → Option Goal → Option ℕ → Option Stipulation
-stated form (Some goal) (Some n) = if may_have form n then Some (record { form = form; goal = goal; n = n }) else None
+stated form (Some goal) (Some n) = if may_have form n
+    then Some (record { form = form; goal = goal; n = n }) else None
 stated form None _ = None
 stated form (Some goal) None = None
 
@@ -80,14 +85,17 @@ stipulation_in_small_letters (a ∷ []) = None
 stipulation_in_small_letters (a ∷ n ∷ []) = stated Direct (goal_of a) (one_digit n)
 stipulation_in_small_letters (a ∷ b ∷ n ∷ []) =
     if a == selfmate_letter then stated SelfMate (goal_of b) (one_digit n)
-    else (if a == help_letter then stated Help (goal_of b) (one_digit n) else stated Direct (goal_of a) (two_digits b n))
+    else (if a == help_letter then stated Help (goal_of b) (one_digit n)
+    else stated Direct (goal_of a) (two_digits b n))
 stipulation_in_small_letters (a ∷ b ∷ m ∷ n ∷ []) =
     if a == selfmate_letter then stated SelfMate (goal_of b) (two_digits m n)
     else (if a == help_letter then stated Help (goal_of b) (two_digits m n) else None)
 stipulation_in_small_letters (a ∷ b ∷ n ∷ c ∷ d ∷ []) =
-    if (a == help_letter) && ((c == point) && (d == digit_5)) then stated HelpHalf (goal_of b) (one_digit n) else None
+    if (a == help_letter) && ((c == point) && (d == digit_5))
+    then stated HelpHalf (goal_of b) (one_digit n) else None
 stipulation_in_small_letters (a ∷ b ∷ m ∷ n ∷ c ∷ d ∷ []) =
-    if (a == help_letter) && ((c == point) && (d == digit_5)) then stated HelpHalf (goal_of b) (two_digits m n) else None
+    if (a == help_letter) && ((c == point) && (d == digit_5))
+    then stated HelpHalf (goal_of b) (two_digits m n) else None
 stipulation_in_small_letters (a ∷ b ∷ m ∷ n ∷ c ∷ d ∷ e ∷ text) = None
 
 -- the stipulation that a word states

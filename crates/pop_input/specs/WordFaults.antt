@@ -51,13 +51,15 @@ man_fault men man square =
 -- the fault of squares on which a man is put in turn
 abbrev pub men_fault : List (Option Man) → Man → List ℕ → Option FaultKind
 men_fault men man [] = None
-men_fault men man (square ∷ squares) = or_else (man_fault men man square) (men_fault (with_man men square man) man squares)
+men_fault men man (square ∷ squares) = or_else (man_fault men man square)
+    (men_fault (with_man men square man) man squares)
 
 -- of a word of men: no colour yet, no squares, or a fault of a man
 abbrev pub put_fault : List (Option Man) → Option Colour → Kind → Option (List ℕ) → Option FaultKind
 put_fault men None man_kind squares = Some ColourMissing
 put_fault men (Some colour) man_kind None = Some SquareMissing
-put_fault men (Some colour) man_kind (Some squares) = men_fault men (record { colour = colour; kind = man_kind }) squares
+put_fault men (Some colour) man_kind (Some squares) = men_fault men
+    (record { colour = colour; kind = man_kind }) squares
 
 -- two bytes or more, and no digit among them: such a word is none of a man and squares at all
 abbrev pub is_foreign : List ℕ → Bool
@@ -67,22 +69,27 @@ is_foreign text = nat_le 2 (length text) && not (list_any is_digit text)
 abbrev pub letter_fault : State → Option Kind → List ℕ → Option FaultKind
 letter_fault state None text = Some WordMisplaced
 letter_fault state (Some letter) text =
-    if not (is_some (squares_of text)) && is_foreign text then Some WordMisplaced else put_fault state.men state.colour letter (squares_of text)
+    if not (is_some (squares_of text)) && is_foreign text then Some WordMisplaced
+    else put_fault state.men state.colour letter (squares_of text)
 
 -- of a word in Pieces: a colour, or a letter and squares
 abbrev pub pieces_fault : State → List ℕ → Option FaultKind
 pieces_fault state [] = None
-pieces_fault state (letter ∷ text) = if is_some (colour_of (letter ∷ text)) then None else letter_fault state (kind_of letter) text
+pieces_fault state (letter ∷ text) = if is_some (colour_of (letter ∷ text)) then None
+    else letter_fault state (kind_of letter) text
 
 -- where one was given: a second one holds a goal's sign
 abbrev pub stipulation_fault : Option Stipulation → List ℕ → Option FaultKind
 stipulation_fault None text = fault_if (not (is_some (stipulation_of text))) BadStipulation
 stipulation_fault (Some given) text =
-    if list_any (λ b. b == mate_sign) text || list_any (λ b. b == stalemate_sign) text then Some SecondStipulation else Some WordMisplaced
+    if list_any (λ b. b == mate_sign) text
+    || list_any (λ b. b == stalemate_sign) text then Some SecondStipulation
+    else Some WordMisplaced
 
 -- of a word in Condition: no condition, or a second one
 abbrev pub condition_fault : Option Condition → List ℕ → Option FaultKind
-condition_fault given text = if not (is_some (condition_of text)) then Some WordMisplaced else fault_if (is_some given) SecondCondition
+condition_fault given text = if not (is_some (condition_of text)) then Some WordMisplaced
+    else fault_if (is_some given) SecondCondition
 
 -- of a word in a section
 abbrev pub section_fault : State → Option Section → List ℕ → Option FaultKind
@@ -95,7 +102,8 @@ section_fault state (Some Options) text = fault_if (not (is_some (option_of text
 -- of a word that is this
 abbrev pub role_fault : State → Role → List ℕ → Option FaultKind
 role_fault state Limit text = fault_if (not (is_some (limit_of text))) BadLimit
-role_fault state CrossedSquare text = fault_if (not (is_some (only (squares_of text)))) SquareMissing
+role_fault state CrossedSquare text = fault_if (not (is_some (only (squares_of text))))
+    SquareMissing
 role_fault state BarredSquares text = barred_fault (squares_of text)
 role_fault state (Control command) text = control_fault command
 role_fault state (Within section) text = section_fault state section text

@@ -50,9 +50,11 @@ impl Block {
 
     /// Reads a word that stands in this line, unless a fault has been met.
     pub(crate) fn read(&mut self, word: &ShortWord<'_>, line: u64)
-        ensures fault { self.new.fault ≡ or_else self.old.fault (at_line line (fault_of self.old.begun self.old.draft word.now)) }
+        ensures fault { self.new.fault ≡ or_else self.old.fault
+            (at_line line (fault_of self.old.begun self.old.draft word.now)) }
         ensures begun { self.new.fault ≡ None → self.new.begun ≡ true }
-        ensures draft { self.new.fault ≡ None → self.new.draft ≡ said_after self.old.begun self.old.draft word.now }
+        ensures draft { self.new.fault ≡ None
+            → self.new.draft ≡ said_after self.old.begun self.old.draft word.now }
         ensures title { self.new.title ≡ self.old.title }
         ensures author { self.new.author ≡ self.old.author }
     {
@@ -67,7 +69,8 @@ impl Block {
     fn take(&mut self, word: &ShortWord<'_>) -> Option<FaultKind>
         ensures kind { result ≡ fault_of self.old.begun self.old.draft word.now }
         ensures begun { result ≡ None → self.new.begun ≡ true }
-        ensures draft { result ≡ None → self.new.draft ≡ said_after self.old.begun self.old.draft word.now }
+        ensures draft { result ≡ None → self.new.draft
+            ≡ said_after self.old.begun self.old.draft word.now }
         ensures fault { self.new.fault ≡ self.old.fault }
         ensures title { self.new.title ≡ self.old.title }
         ensures author { self.new.author ≡ self.old.author }
@@ -100,8 +103,10 @@ impl Block {
         ensures fault { self.new.fault ≡ self.old.fault }
         ensures begun { self.new.begun ≡ self.old.begun }
         ensures draft { self.new.draft ≡ self.old.draft }
-        ensures title { self.new.title ≡ noted self.old.begun Title self.old.title keyword text.now }
-        ensures author { self.new.author ≡ noted self.old.begun Author self.old.author keyword text.now }
+        ensures title { self.new.title ≡ noted self.old.begun Title self.old.title keyword
+            text.now }
+        ensures author { self.new.author
+            ≡ noted self.old.begun Author self.old.author keyword text.now }
     {
         if self.begun {
             match keyword {

@@ -46,9 +46,20 @@ impl Model for Draft {
 
     ghost Value = { State };
 
-    ghost view = { λ d. record { place = d.place; colour = d.colour; men = d.diagram.men; stipulation = d.stipulation; condition = d.condition; switches = d.switches; limit = d.limit; crossed = d.crossed; barred = d.barred } };
+    ghost view = { λ d. record {
+      place = d.place;
+      colour = d.colour;
+      men = d.diagram.men;
+      stipulation = d.stipulation;
+      condition = d.condition;
+      switches = d.switches;
+      limit = d.limit;
+      crossed = d.crossed;
+      barred = d.barred;
+    } };
 
-    ghost invariant = { λ d. ArePut d.diagram.men × (is_stated d.stipulation ≡ true) × (1 ≤ d.limit) × (d.limit ≤ most_solutions) };
+    ghost invariant = { λ d. ArePut d.diagram.men × (is_stated d.stipulation ≡ true) × (1 ≤ d.limit)
+        × (d.limit ≤ most_solutions) };
 }
 
 impl Draft {

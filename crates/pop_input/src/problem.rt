@@ -27,11 +27,39 @@ impl Model for Problem {
 
     ghost Value = { Posed };
 
-    ghost view = { λ p. record { diagram = p.setup; stipulation = p.aim; condition = p.fairy; set_play = p.switches.set_play; variation = p.switches.variation; no_board = p.switches.no_board; max_solutions = p.limit; title = p.named; author = p.composer } };
+    ghost view = { λ p. record {
+      diagram = p.setup;
+      stipulation = p.aim;
+      condition = p.fairy;
+      set_play = p.switches.set_play;
+      variation = p.switches.variation;
+      no_board = p.switches.no_board;
+      max_solutions = p.limit;
+      title = p.named;
+      author = p.composer;
+    } };
 
-    ghost invariant = { λ p. IsSound (record { diagram = p.setup; stipulation = p.aim; condition = p.fairy; set_play = p.switches.set_play; variation = p.switches.variation; no_board = p.switches.no_board; max_solutions = p.limit; title = p.named; author = p.composer }) };
+    ghost invariant = { λ p. IsSound (record {
+      diagram = p.setup;
+      stipulation = p.aim;
+      condition = p.fairy;
+      set_play = p.switches.set_play;
+      variation = p.switches.variation;
+      no_board = p.switches.no_board;
+      max_solutions = p.limit;
+      title = p.named;
+      author = p.composer;
+    }) };
 
-    ghost inverse = { λ v. record { setup = v.diagram; aim = v.stipulation; fairy = v.condition; switches = record { set_play = v.set_play; variation = v.variation; no_board = v.no_board }; limit = v.max_solutions; named = v.title; composer = v.author } };
+    ghost inverse = { λ v. record {
+      setup = v.diagram;
+      aim = v.stipulation;
+      fairy = v.condition;
+      switches = record { set_play = v.set_play; variation = v.variation; no_board = v.no_board };
+      limit = v.max_solutions;
+      named = v.title;
+      composer = v.author;
+    } };
 }
 
 impl Problem {
@@ -45,8 +73,28 @@ impl Problem {
         title: &Text,
         author: &Text,
     ) -> Problem
-        requires { IsSound (record { diagram = diagram.now; stipulation = stipulation; condition = condition; set_play = switches.set_play; variation = switches.variation; no_board = switches.no_board; max_solutions = max_solutions; title = title.now; author = author.now }) }
-        ensures { result ≡ record { diagram = diagram.now; stipulation = stipulation; condition = condition; set_play = switches.set_play; variation = switches.variation; no_board = switches.no_board; max_solutions = max_solutions; title = title.now; author = author.now } }
+        requires { IsSound (record {
+          diagram = diagram.now;
+          stipulation = stipulation;
+          condition = condition;
+          set_play = switches.set_play;
+          variation = switches.variation;
+          no_board = switches.no_board;
+          max_solutions = max_solutions;
+          title = title.now;
+          author = author.now;
+        }) }
+        ensures { result ≡ record {
+          diagram = diagram.now;
+          stipulation = stipulation;
+          condition = condition;
+          set_play = switches.set_play;
+          variation = switches.variation;
+          no_board = switches.no_board;
+          max_solutions = max_solutions;
+          title = title.now;
+          author = author.now;
+        } }
     {
         Problem {
             setup: *diagram,

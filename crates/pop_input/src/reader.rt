@@ -74,13 +74,17 @@ impl Reader {
     /// Behind faults 1 to 18 words are skipped up to the end of the problem; 20 and 21 come there as items of their own.
     /// Behind the last item the source isn't asked, and its count of failures may be any.
     pub fn next_problem<S: Source>(&mut self, source: &mut S) -> Item
-        requires { self.old.next ≢ Next.Nothing → self.old.at.end ≡ End.Open → S.failures source.old < greatest }
-        ensures item { NextItem self.old self.new (S.remaining source.old) (S.remaining source.new) result }
+        requires { self.old.next ≢ Next.Nothing → self.old.at.end ≡ End.Open
+            → S.failures source.old < greatest }
+        ensures item { NextItem self.old self.new (S.remaining source.old) (S.remaining source.new)
+            result }
         ensures within { self.new.at.used ≤ limit }
         ensures waits { length self.new.at.window ≤ 4096 }
-        ensures seen { IsSeen self.old.at.end (S.remaining source.old) → IsSeen self.new.at.end (S.remaining source.new) }
+        ensures seen { IsSeen self.old.at.end (S.remaining source.old)
+            → IsSeen self.new.at.end (S.remaining source.new) }
         ensures ends { self.old.at.end ≡ End.Open ⊎ self.new.at.end ≡ self.old.at.end }
-        ensures counted { S.failures source.new ≡ failures_after self.old.at.end self.new.at.end (S.failures source.old) }
+        ensures counted { S.failures source.new
+            ≡ failures_after self.old.at.end self.new.at.end (S.failures source.old) }
         ensures numbered { IsNumbered self.new.at result }
         ensures less { is_item result ≡ true → work_left self.new < work_left self.old }
     {

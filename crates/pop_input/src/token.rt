@@ -36,12 +36,15 @@ pub(crate) fn next_token<S: Source>(
     text: &mut Text,
 ) -> Token
     requires { scanner.old.end ≡ End.Open → S.failures source.old < greatest }
-    ensures token { NextToken scanner.old scanner.new (S.remaining source.old) (S.remaining source.new) word.new text.new result }
+    ensures token { NextToken scanner.old scanner.new (S.remaining source.old)
+        (S.remaining source.new) word.new text.new result }
     ensures within { scanner.new.used ≤ limit }
     ensures waits { length scanner.new.window ≤ 4096 }
-    ensures seen { IsSeen scanner.old.end (S.remaining source.old) → IsSeen scanner.new.end (S.remaining source.new) }
+    ensures seen { IsSeen scanner.old.end (S.remaining source.old)
+        → IsSeen scanner.new.end (S.remaining source.new) }
     ensures ends { scanner.old.end ≡ End.Open ⊎ scanner.new.end ≡ scanner.old.end }
-    ensures counted { S.failures source.new ≡ failures_after scanner.old.end scanner.new.end (S.failures source.old) }
+    ensures counted { S.failures source.new
+        ≡ failures_after scanner.old.end scanner.new.end (S.failures source.old) }
 {
     match scanner.read_word(source, word) {
         Ok(Found::Nothing) => Token::Ended(scanner.line()),

@@ -14,12 +14,14 @@ blanks_cut part whole within =
     sym (replicate-append-replicate {A = ℕ} part (whole - part) 32 ∙ ap (λ n. replicate {A = ℕ} n 32) e)
 
 -- a node whose first blanks stand apart
-pub node_cut : (apart depth half : ℕ) (shown : Shown) → apart ≤ 2 * depth → node_text depth half shown ≡ replicate apart 32 ++ (replicate (2 * depth - apart) 32 ++ prefix_text half ++ move_text shown ++ codes "\n")
+pub node_cut : (apart depth half : ℕ) (shown : Shown) → apart ≤ 2 * depth
+    → node_text depth half shown ≡ replicate apart 32 ++ (replicate (2 * depth - apart) 32 ++ prefix_text half ++ move_text shown ++ codes "\n")
 node_cut apart depth half shown within =
     ap (λ row. row ++ prefix_text half ++ move_text shown ++ codes "\n") (blanks_cut apart (2 * depth) within)
     ∙ rw (append_assoc, append_assoc, append_assoc) (rw (append_assoc, append_assoc) refl)
 
 -- a row of blanks of which one more was begun
-pub blanks_begin : (a b c : Option (List ℕ)) (done count : ℕ) → done < count → Appends a b (replicate done 32) → Begins b c (32 ∷ []) → Begins a c (replicate count 32)
+pub blanks_begin : (a b c : Option (List ℕ)) (done count : ℕ) → done < count → Appends a b (replicate done 32) → Begins b c (32 ∷ [])
+    → Begins a c (replicate count 32)
 blanks_begin a b c done count more p q =
     rw (blanks_cut (done + 1) count (omega arith), ← replicate_more {X = ℕ} done 32) (begins_longer _ (begins_later a b c _ _ p q))

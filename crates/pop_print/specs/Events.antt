@@ -10,7 +10,8 @@ use Rattle.pop_print.specs.Notation.{blank}
 
 -- the number of a half-move: one point at White's, which are odd, and three at Black's
 abbrev pub prefix_text : ℕ → List ℕ
-prefix_text half = if half % 2 == 1 then decimal ((half + 1) / 2) ++ codes "." else decimal (half / 2) ++ codes "..."
+prefix_text half = if half % 2 == 1 then decimal ((half + 1) / 2) ++ codes "."
+    else decimal (half / 2) ++ codes "..."
 
 -- what stands before a move of a line: its number before the first and before each of White, a blank between moves
 abbrev pub lead_text : Bool → ℕ → List ℕ
@@ -20,7 +21,8 @@ lead_text false half = codes " " ++ (if half % 2 == 1 then prefix_text half else
 -- moves from a half-move on, the first of the line or later ones
 abbrev pub moves_text : Bool → ℕ → List Shown → List ℕ
 moves_text first half [] = []
-moves_text first half (shown ∷ moves) = lead_text first half ++ move_text shown ++ moves_text false (half + 1) moves
+moves_text first half (shown ∷ moves) = lead_text first half ++ move_text shown
+    ++ moves_text false (half + 1) moves
 
 -- a line of help play
 abbrev pub line_text : ℕ → List Shown → List ℕ
@@ -28,7 +30,8 @@ line_text half moves = moves_text true half moves ++ codes "\n"
 
 -- a node of battle play: two blanks for each node above it
 abbrev pub node_text : ℕ → ℕ → Shown → List ℕ
-node_text depth half shown = replicate (2 * depth) blank ++ prefix_text half ++ move_text shown ++ codes "\n"
+node_text depth half shown = replicate (2 * depth) blank ++ prefix_text half ++ move_text shown
+    ++ codes "\n"
 
 -- the line that opens a phase
 abbrev pub phase_text : PhaseOf → List ℕ

@@ -40,5 +40,6 @@ message_if (Some kind) = message_of kind
 -- a faulty item: its number, the fault with its line, an empty line
 unfoldable pub fault_text : ℕ → Fault → List ℕ
 fault_text number fault =
-    item_line number ++ codes "line " ++ decimal fault.line ++ codes ": fault " ++ decimal fault.number
+    item_line number ++ codes "line " ++ decimal fault.line ++ codes ": fault "
+    ++ decimal fault.number
     ++ codes ": " ++ message_if (kind_numbered fault.number) ++ codes "\n\n"

@@ -29,11 +29,13 @@ cell_of (Some man) = cell_by man.colour (letter_of man.kind)
 -- a rank, counted from 0: its digit, a blank, its eight squares
 unfoldable pub rank_text : List (Option Man) → ℕ → List ℕ
 rank_text men rank =
-    (digit_0 + 1 + rank) ∷ blank ∷ map (λ file. cell_of (man_on men (8 * rank + file))) (0 ∷ 1 ∷ 2 ∷ 3 ∷ 4 ∷ 5 ∷ 6 ∷ 7 ∷ []) ++ codes "\n"
+    (digit_0 + 1 + rank) ∷ blank ∷ map (λ file. cell_of (man_on men (8 * rank + file)))
+    (0 ∷ 1 ∷ 2 ∷ 3 ∷ 4 ∷ 5 ∷ 6 ∷ 7 ∷ []) ++ codes "\n"
 
 -- the board: rank 8 first, and the line of the files
 abbrev pub board_text : List (Option Man) → List ℕ
-board_text men = flat_map (rank_text men) (7 ∷ 6 ∷ 5 ∷ 4 ∷ 3 ∷ 2 ∷ 1 ∷ 0 ∷ []) ++ codes "  abcdefgh\n"
+board_text men = flat_map (rank_text men) (7 ∷ 6 ∷ 5 ∷ 4 ∷ 3 ∷ 2 ∷ 1 ∷ 0 ∷ [])
+    ++ codes "  abcdefgh\n"
 
 -- a title or an author behind its label, where there is one
 abbrev pub labelled : List ℕ → List ℕ → List ℕ
@@ -62,7 +64,8 @@ goal_text Stalemate = codes "="
 -- the stipulation's word
 abbrev pub stipulation_text : Stipulation → List ℕ
 stipulation_text stipulation =
-    form_text stipulation.form ++ goal_text stipulation.goal ++ decimal stipulation.n ++ half_text stipulation.form
+    form_text stipulation.form ++ goal_text stipulation.goal ++ decimal stipulation.n
+    ++ half_text stipulation.form
 
 -- the condition's word behind a blank
 abbrev pub condition_text : Option Condition → List ℕ
@@ -76,7 +79,8 @@ item_line number = codes "problem " ++ decimal number ++ codes "\n"
 
 -- title and author
 unfoldable pub names_text : Posed → List ℕ
-names_text posed = labelled (codes "title: ") posed.title ++ labelled (codes "author: ") posed.author
+names_text posed = labelled (codes "title: ") posed.title
+    ++ labelled (codes "author: ") posed.author
 
 -- the line of the stipulation
 unfoldable pub task_line : Posed → List ℕ
@@ -85,9 +89,11 @@ task_line posed = stipulation_text posed.stipulation ++ condition_text posed.con
 -- the head of a sound item, with its board unless the problem or the settings leave it out
 unfoldable pub head_text : ℕ → Posed → Bool → List ℕ
 head_text number posed no_board =
-    item_line number ++ names_text posed ++ (if no_board || posed.no_board then [] else board_text posed.diagram.men)
+    item_line number ++ names_text posed
+    ++ (if no_board || posed.no_board then [] else board_text posed.diagram.men)
     ++ task_line posed
 
 -- a sound item whose solutions aren't asked for: its head, that it is sound, an empty line
 abbrev pub checked_text : ℕ → Posed → Bool → List ℕ
-checked_text number posed no_board = head_text number posed no_board ++ codes "sound\n" ++ codes "\n"
+checked_text number posed no_board = head_text number posed no_board ++ codes "sound\n"
+    ++ codes "\n"

@@ -33,7 +33,8 @@ promotion_text (Some kind) = codes "=" ++ letter_of kind ∷ []
 abbrev pub rebirth_text : Option (Man × ℕ) → List ℕ
 rebirth_text None = []
 rebirth_text (Some reborn) =
-    codes "[+" ++ colour_letter reborn.0.colour ∷ letter_of reborn.0.kind ∷ [] ++ square_text reborn.1 ++ codes "]"
+    codes "[+" ++ colour_letter reborn.0.colour ∷ letter_of reborn.0.kind ∷ []
+    ++ square_text reborn.1 ++ codes "]"
 
 -- mate, a check that isn't mate, or neither
 abbrev pub mark_text : Mark → List ℕ
@@ -45,7 +46,8 @@ mark_text Plain = []
 -- a move that isn't castling, without its mark
 abbrev pub going_text : Shown → List ℕ
 going_text shown =
-    man_text shown.man.kind ++ square_text shown.from ++ step_text shown.capture ++ square_text shown.to
+    man_text shown.man.kind ++ square_text shown.from ++ step_text shown.capture
+    ++ square_text shown.to
     ++ en_passant_text shown.ep ++ promotion_text shown.promo ++ rebirth_text shown.rebirth
 
 -- a move without its mark

@@ -43,7 +43,8 @@ fn print_line<W: Sink>(sink: &mut W, half: u32, moves: &[Shown]) -> Result<(), S
 // A node of battle play. Blanks past those of any problem's deepest node are written apart.
 fn print_node<W: Sink>(sink: &mut W, depth: u32, half: u32, shown: &Shown) -> Result<(), SinkFault>
     requires { W.failures sink.old < greatest }
-    ensures bytes { Writes (W.taken sink.old) (W.taken sink.new) (node_text depth half shown.now) result }
+    ensures bytes { Writes (W.taken sink.old) (W.taken sink.new) (node_text depth half shown.now)
+        result }
     ensures counted { W.failures sink.new ≡ count_after result (W.failures sink.old) }
 {
     let blanks = 2 * u64::from(depth);
@@ -147,7 +148,8 @@ impl LineBuffer {
     // Adds a node of battle play behind so many blanks.
     fn add_node(&mut self, blanks: u64, half: u32, shown: &Shown)
         requires { length self.old + blanks + 44 ≤ room }
-        ensures { self.new ≡ self.old ++ (replicate blanks blank ++ prefix_text half ++ move_text shown.now ++ codes "\n") }
+        ensures { self.new ≡ self.old ++ (replicate blanks blank ++ prefix_text half
+            ++ move_text shown.now ++ codes "\n") }
     {
         self.add_blanks(blanks);
         self.add_prefix(u64::from(half));

@@ -13,7 +13,8 @@ use pop_text::sink::{Sink, SinkFault};
 pub fn print_fault<W: Sink>(sink: &mut W, number: u64, fault: &Fault) -> Result<(), SinkFault>
     requires sink { W.failures sink.old < greatest }
     requires known { (1 ≤ fault.now.number) × (fault.now.number ≤ 21) }
-    ensures bytes { Writes (W.taken sink.old) (W.taken sink.new) (fault_text number fault.now) result }
+    ensures bytes { Writes (W.taken sink.old) (W.taken sink.new) (fault_text number fault.now)
+        result }
     ensures counted { W.failures sink.new ≡ count_after result (W.failures sink.old) }
 {
     let mut lines = LineBuffer::new();

@@ -25,7 +25,8 @@ pub fn print_head<W: Sink>(
     no_board: bool,
 ) -> Result<(), SinkFault>
     requires { W.failures sink.old < greatest }
-    ensures bytes { Writes (W.taken sink.old) (W.taken sink.new) (head_text number problem.now no_board) result }
+    ensures bytes { Writes (W.taken sink.old) (W.taken sink.new)
+        (head_text number problem.now no_board) result }
     ensures counted { W.failures sink.new ≡ count_after result (W.failures sink.old) }
 {
     let mut lines = LineBuffer::new();
@@ -41,7 +42,8 @@ pub fn print_checked<W: Sink>(
     no_board: bool,
 ) -> Result<(), SinkFault>
     requires { W.failures sink.old < greatest }
-    ensures bytes { Writes (W.taken sink.old) (W.taken sink.new) (checked_text number problem.now no_board) result }
+    ensures bytes { Writes (W.taken sink.old) (W.taken sink.new)
+        (checked_text number problem.now no_board) result }
     ensures counted { W.failures sink.new ≡ count_after result (W.failures sink.old) }
 {
     let mut lines = LineBuffer::new();
@@ -123,7 +125,8 @@ impl LineBuffer {
 
     fn add_board_unless(&mut self, left_out: bool, diagram: &Diagram)
         requires { length self.old + 99 ≤ room }
-        ensures text { self.new ≡ self.old ++ (if left_out then [] else board_text diagram.now.men) }
+        ensures text { self.new ≡ self.old
+            ++ (if left_out then [] else board_text diagram.now.men) }
         ensures short { length self.new ≤ length self.old + 99 }
     {
         if !left_out {

@@ -47,16 +47,20 @@ phase_start problem phase = if is_set phase then set_start (start problem) else 
 
 -- its half-moves: set play drops the first
 abbrev pub phase_half_moves : Posed → Phase → ℕ
-phase_half_moves problem phase = if is_set phase then half_moves problem.stipulation - 1 else half_moves problem.stipulation
+phase_half_moves problem phase = if is_set phase then half_moves problem.stipulation - 1
+    else half_moves problem.stipulation
 
 -- its solutions, each a list of paths: a line, or a node with all below it
 unfoldable pub solutions : RuleSet → Posed → Phase → List (List (List Triple))
 solutions rule problem phase =
     let h = phase_half_moves problem phase in
     let p = phase_start problem phase in
-    if is_help problem.stipulation.form then map (λ path. path ∷ []) (help_lines (chess problem.stipulation.goal rule) h p)
-    else (if is_set phase then set_tree (battle_of problem.stipulation.form) (chess problem.stipulation.goal rule) problem.variation problem.stipulation.n h p
-    else tree (battle_of problem.stipulation.form) (chess problem.stipulation.goal rule) problem.variation problem.stipulation.n h p)
+    if is_help problem.stipulation.form then map (λ path. path ∷ [])
+    (help_lines (chess problem.stipulation.goal rule) h p)
+    else (if is_set phase then set_tree (battle_of problem.stipulation.form)
+    (chess problem.stipulation.goal rule) problem.variation problem.stipulation.n h p
+    else tree (battle_of problem.stipulation.form) (chess problem.stipulation.goal rule)
+    problem.variation problem.stipulation.n h p)
 
 -- a phase with set play's first position is barred where that can't stand
 abbrev pub is_barred : RuleSet → Posed → Phase → Bool
@@ -64,7 +68,8 @@ is_barred rule problem phase = is_set phase && is_impossible rule (set_start (st
 
 -- a path as a step
 abbrev pub step_of : Posed → Phase → List Triple → Step
-step_of problem phase path = if is_help problem.stipulation.form then line phase path else tree_node phase path
+step_of problem phase path = if is_help problem.stipulation.form then line phase path
+    else tree_node phase path
 
 -- how many solutions a phase has, up to the limit
 abbrev pub counted : RuleSet → Posed → Phase → ℕ
@@ -74,13 +79,16 @@ counted rule problem phase = length (take problem.max_solutions (solutions rule 
 unfoldable pub phase_steps : RuleSet → Posed → Phase → List Step
 phase_steps rule problem phase =
     opening phase ∷ (if is_barred rule problem phase then impossible ∷ []
-    else map (step_of problem phase) (flat_map (λ solution. solution) (take problem.max_solutions (solutions rule problem phase)))
-    ++ total (counted rule problem phase) (counted rule problem phase == problem.max_solutions) ∷ [])
+    else map (step_of problem phase) (flat_map (λ solution. solution)
+    (take problem.max_solutions (solutions rule problem phase)))
+    ++ total (counted rule problem phase) (counted rule problem phase == problem.max_solutions)
+    ∷ [])
 
 -- the steps from a phase on
 abbrev pub steps_from : RuleSet → Posed → Phase → List Step
 steps_from rule problem phase =
-    if is_set phase then phase_steps rule problem Set ++ phase_steps rule problem Play else phase_steps rule problem Play
+    if is_set phase then phase_steps rule problem Set ++ phase_steps rule problem Play
+    else phase_steps rule problem Play
 
 -- all steps of a problem
 abbrev pub events : RuleSet → Posed → List Step
@@ -89,7 +97,8 @@ events rule problem = steps_from rule problem (first_phase problem)
 -- the moves of a path from p as they are shown, and the last of them
 abbrev pub shown_along : Goal → RuleSet → Position → List Triple → List Shown
 shown_along goal rule p [] = []
-shown_along goal rule p (m ∷ path) = show goal rule p m ∷ shown_along goal rule (played rule p m) path
+shown_along goal rule p (m ∷ path) = show goal rule p m
+    ∷ shown_along goal rule (played rule p m) path
 
 -- the last move of a path from p as it is shown
 abbrev pub shown_last : Goal → RuleSet → Position → List Triple → Shown
@@ -99,18 +108,24 @@ shown_last goal rule p (m ∷ (n ∷ path)) = shown_last goal rule (played rule 
 
 -- the number of a phase's first half-move
 abbrev pub phase_half : Posed → Phase → ℕ
-phase_half problem phase = if is_set phase then first_half problem.stipulation.form + 1 else first_half problem.stipulation.form
+phase_half problem phase = if is_set phase then first_half problem.stipulation.form + 1
+    else first_half problem.stipulation.form
 
 -- the event of a step
 abbrev pub event_of : RuleSet → Posed → Step → Event
 event_of rule problem (opening phase) = PhaseEvent phase
 event_of rule problem impossible = Impossible
 event_of rule problem (line phase path) =
-    Line (phase_half problem phase) (record { items = shown_along problem.stipulation.goal rule (phase_start problem phase) path })
+    Line (phase_half problem phase) (record {
+      items = shown_along problem.stipulation.goal rule
+          (phase_start problem phase) path;
+    })
 event_of rule problem (tree_node phase path) =
-    Node (length path - 1) (phase_half problem phase + (length path - 1)) (shown_last problem.stipulation.goal rule (phase_start problem phase) path)
+    Node (length path - 1) (phase_half problem phase + (length path - 1))
+    (shown_last problem.stipulation.goal rule (phase_start problem phase) path)
 event_of rule problem (total count stopped) = Total count stopped
 
 -- all events of a problem, under its own condition
 unfoldable pub events_of : Posed → List Event
-events_of problem = map (event_of (rule_of problem.condition) problem) (events (rule_of problem.condition) problem)
+events_of problem = map (event_of (rule_of problem.condition) problem)
+    (events (rule_of problem.condition) problem)

@@ -25,7 +25,8 @@ module _ {P M : Type 0} where
   -- Direct play. The side to move in q is mated within j further moves of the other side, against every defence
   unfoldable pub lost : Game P M → ℕ → P → Bool
   lost game zero q = game.goal q
-  lost game (suc j) q = game.goal q || (can_move game q && every_move game (some_move game (lost game j)) q)
+  lost game (suc j) q = game.goal q || (can_move game q
+      && every_move game (some_move game (lost game j)) q)
 
   -- the side to move in p mates within k moves
   unfoldable pub wins : Game P M → ℕ → P → Bool
@@ -36,11 +37,13 @@ module _ {P M : Type 0} where
   unfoldable pub self_wins : Game P M → ℕ → P → Bool
   self_wins game zero p = false
   self_wins game (suc k) p =
-      some_move game (λ q. can_move game q && every_move game (λ r. game.goal r || self_wins game k r) q) p
+      some_move game (λ q. can_move game q
+      && every_move game (λ r. game.goal r || self_wins game k r) q) p
 
   -- after a move of that side to q, j moves with it: there is a move, and each one reaches the goal or leaves a win
   unfoldable pub self_lost : Game P M → ℕ → P → Bool
-  self_lost game j q = can_move game q && every_move game (λ r. game.goal r || self_wins game (j - 1) r) q
+  self_lost game j q = can_move game q && every_move game
+      (λ r. game.goal r || self_wins game (j - 1) r) q
 
   -- Help play. In the order of moves, all lists of h moves, each legal where it stands, whose last position has the goal
   unfoldable pub lines_to_goal : Game P M → ℕ → P → List (List M)

@@ -28,20 +28,23 @@ module _ {P M : Type 0} where
 
   -- the moves to a win in the least number of moves, up to n
   abbrev pub best : Battle → Game P M → ℕ → P → List M
-  best battle game n r = filter (λ m. keeps battle game (least battle game n r) (game.after r m)) (game.moves r)
+  best battle game n r = filter (λ m. keeps battle game (least battle game n r) (game.after r m))
+      (game.moves r)
 
   unfoldable mutual
     -- the nodes below a position in which Black moves, with h half-moves left: every defence
     pub below : Battle → Game P M → ℕ → ℕ → P → List (List M)
     below battle game n zero q = []
     below battle game n (suc h) q =
-        if game.goal q then [] else flat_map (λ d. node d (answers battle game n h (game.after q d))) (game.moves q)
+        if game.goal q then [] else flat_map
+        (λ d. node d (answers battle game n h (game.after q d))) (game.moves q)
 
     -- the nodes below a position in which White moves: his best continuations
     pub answers : Battle → Game P M → ℕ → ℕ → P → List (List M)
     answers battle game n zero r = []
     answers battle game n (suc h) r =
-        if game.goal r then [] else flat_map (λ m. node m (below battle game n h (game.after r m))) (best battle game n r)
+        if game.goal r then [] else flat_map (λ m. node m (below battle game n h (game.after r m)))
+        (best battle game n r)
 
   -- the play of a problem of n moves and h half-moves: a list of nodes for each key
   abbrev pub tree : Battle → Game P M → Bool → ℕ → ℕ → P → List (List (List M))

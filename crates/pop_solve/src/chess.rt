@@ -50,7 +50,8 @@ pub(crate) fn next_behind<R: Rules>(moves: &mut LegalMoves<R>, board: &mut Board
     ensures unchanged { board.new ≡ board.old }
     ensures within { IsPlaceIn R.rule board.old moves.new }
     ensures next { MatchOption result (moves_behind R.rule board.old moves.old.place ≡ [])
-        (λ m. (moves_behind R.rule board.old moves.old.place ≡ m ∷ moves_behind R.rule board.old moves.new.place)
+        (λ m. (moves_behind R.rule board.old moves.old.place
+        ≡ m ∷ moves_behind R.rule board.old moves.new.place)
         × (legal R.rule board.old m ≡ true)) }
 {
     moves.next(board)
@@ -67,7 +68,8 @@ pub(crate) fn next_move<R: Rules>(
     ensures unchanged { board.new ≡ board.old }
     ensures within { IfSome known.new (λ k. IsPlaceIn R.rule board.old k) }
     ensures next { MatchOption result (moves_behind R.rule board.old place.old ≡ [])
-        (λ m. (moves_behind R.rule board.old place.old ≡ m ∷ moves_behind R.rule board.old place.new)
+        (λ m. (moves_behind R.rule board.old place.old
+        ≡ m ∷ moves_behind R.rule board.old place.new)
         × (legal R.rule board.old m ≡ true)) }
 {
     let mut moves = moves_at::<R>(*known, *place, board);
@@ -88,7 +90,8 @@ pub(crate) fn next_until<R: Rules>(
     ensures unchanged { board.new ≡ board.old }
     ensures within { IsPlaceIn R.rule board.old moves.new }
     ensures next { MatchOption result (moves_between R.rule board.old moves.old.place end ≡ [])
-        (λ m. (moves_between R.rule board.old moves.old.place end ≡ m ∷ moves_between R.rule board.old moves.new.place end)
+        (λ m. (moves_between R.rule board.old moves.old.place end
+        ≡ m ∷ moves_between R.rule board.old moves.new.place end)
         × (legal R.rule board.old m ≡ true)) }
 {
     moves.next_until(end, board)
@@ -119,7 +122,8 @@ pub(crate) fn next_mate<R: Rules>(place: &mut Moves<R>, board: &mut Board) -> Op
     requires well_formed { IsWellFormed board.old }
     ensures unchanged { board.new ≡ board.old }
     ensures next { MatchOption result (mates_behind R.rule board.old place.old ≡ [])
-        (λ m. IsNextMate R.rule board.old place.old place.new m × (legal R.rule board.old m ≡ true)) }
+        (λ m. IsNextMate R.rule board.old place.old place.new m
+        × (legal R.rule board.old m ≡ true)) }
 {
     place.next_mate(board)
 }
@@ -139,7 +143,8 @@ pub(crate) fn can_mate<R: Rules>(board: &mut Board) -> bool
 pub(crate) fn must_mate<R: Rules>(board: &mut Board) -> bool
     requires well_formed { IsWellFormed board.old }
     ensures unchanged { board.new ≡ board.old }
-    ensures mates { result ≡ (has_move (chess Mate R.rule) board.old && every_move (chess Mate R.rule) (chess Mate R.rule).goal board.old) }
+    ensures mates { result ≡ (has_move (chess Mate R.rule) board.old
+        && every_move (chess Mate R.rule) (chess Mate R.rule).goal board.old) }
 {
     every_move_mates::<R>(board)
 }

@@ -37,9 +37,25 @@ impl<R: Rules> Model for Frame<R> {
 
     ghost Value = { Level };
 
-    ghost view = { λ f. record { place = f.place; by = f.by; undo = f.undo; left = f.left; killer = f.killer; stretch = f.stretch; known = f.known } };
+    ghost view = { λ f. record {
+      place = f.place;
+      by = f.by;
+      undo = f.undo;
+      left = f.left;
+      killer = f.killer;
+      stretch = f.stretch;
+      known = f.known;
+    } };
 
-    ghost inverse = { λ v. record { place = v.place; by = v.by; undo = v.undo; left = v.left; killer = v.killer; stretch = v.stretch; known = v.known } };
+    ghost inverse = { λ v. record {
+      place = v.place;
+      by = v.by;
+      undo = v.undo;
+      left = v.left;
+      killer = v.killer;
+      stretch = v.stretch;
+      known = v.known;
+    } };
 }
 
 impl<R: Rules> Default for Frame<R> {

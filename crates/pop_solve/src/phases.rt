@@ -91,14 +91,18 @@ fn walk_on<R: Rules, const N: usize>(
 ) -> bool
     requires sound { IsSound problem.now }
     requires room { half_moves problem.now.stipulation < N }
-    requires walking { IsWalking R.rule (half_moves_of_phase problem.now phase) (phase_start problem.now phase)
+    requires walking { IsWalking R.rule (half_moves_of_phase problem.now phase)
+        (phase_start problem.now phase)
         (reverse frames.old.items) board.old }
     ensures walks { Walks R.rule (plan_of problem.now) (half_moves_of_phase problem.now phase)
-        (phase_start problem.now phase) limit (reverse frames.old.items) (reverse frames.new.items) board.new result }
-    ensures opens { Opens R.rule (plan_of problem.now) (phase_start problem.now phase) (reverse frames.old.items)
+        (phase_start problem.now phase) limit (reverse frames.old.items) (reverse frames.new.items)
+        board.new result }
+    ensures opens { Opens R.rule (plan_of problem.now) (phase_start problem.now phase)
+        (reverse frames.old.items)
         (reverse frames.new.items) opened.old opened.new }
     ensures tries { Tries R.rule (plan_of problem.now) (half_moves_of_phase problem.now phase)
-        (phase_start problem.now phase) (reverse frames.old.items) (reverse frames.new.items) opened.old opened.new }
+        (phase_start problem.now phase) (reverse frames.old.items) (reverse frames.new.items)
+        opened.old opened.new }
 {
     let plan = Plan::of(problem);
     let half_moves = phase_half_moves(problem, phase);
@@ -116,9 +120,11 @@ fn close_all<R: Rules, const N: usize>(
     board: &mut Board,
     frames: &mut ArrayVec<Frame<R>, N>,
 )
-    requires walking { (p : Position) × IsWalking R.rule half_moves p (reverse frames.old.items) board.old }
+    requires walking { (p : Position) × IsWalking R.rule half_moves p (reverse frames.old.items)
+        board.old }
     ensures none { frames.new.items ≡ [] }
-    ensures back { (p : Position) → IsWalking R.rule half_moves p (reverse frames.old.items) board.old → board.new ≡ p }
+    ensures back { (p : Position) → IsWalking R.rule half_moves p (reverse frames.old.items)
+        board.old → board.new ≡ p }
 {
     while let Some(top) = frames.pop() {
         step_back::<R>(frames.len(), top, board);
@@ -134,9 +140,11 @@ fn event_at<R: Rules>(
 ) -> Event
     requires deep { 2 ≤ length frames.now }
     requires shallow { length frames.now ≤ 33 }
-    requires walking { (h : ℕ) × IsWalking R.rule h (phase_start problem.now phase) (reverse frames.now) board.old }
+    requires walking { (h : ℕ) × IsWalking R.rule h (phase_start problem.now phase)
+        (reverse frames.now) board.old }
     ensures unchanged { board.new ≡ board.old }
-    ensures event { result ≡ event_of R.rule problem.now (step_of problem.now phase (path (reverse frames.now))) }
+    ensures event { result ≡ event_of R.rule problem.now
+        (step_of problem.now phase (path (reverse frames.now))) }
 {
     let half = phase_half(problem, phase);
     let goal = problem.stipulation().goal;
@@ -158,7 +166,8 @@ fn event_at<R: Rules>(
 fn set_up<R: Rules>(problem: &Problem, phase: Phase, board: &mut Board) -> bool
     requires { board.old ≡ start problem.now }
     ensures possible { result ≡ not (is_barred R.rule problem.now phase) }
-    ensures board { board.new ≡ (if result then phase_start problem.now phase else start problem.now) }
+    ensures board { board.new ≡ (if result then phase_start problem.now phase
+        else start problem.now) }
 {
     if phase == Phase::Play {
         return true;
@@ -182,11 +191,13 @@ fn begin<R: Rules, const N: usize>(
 ) -> Stage
     requires sound { IsSound problem.now }
     requires room { half_moves problem.now.stipulation < N }
-    requires standing { IsStanding R.rule problem.now (Before phase) (reverse frames.old.items) board.old }
+    requires standing { IsStanding R.rule problem.now (Before phase) (reverse frames.old.items)
+        board.old }
     ensures standing { IsStanding R.rule problem.now result (reverse frames.new.items) board.new }
     ensures left { left_of R.rule problem.now (Before phase) (reverse frames.old.items)
         ≡ opening phase ∷ left_of R.rule problem.now result (reverse frames.new.items) }
-    ensures opens { OpensOn R.rule problem.now (Before phase) result (reverse frames.old.items) (reverse frames.new.items)
+    ensures opens { OpensOn R.rule problem.now (Before phase) result (reverse frames.old.items)
+        (reverse frames.new.items)
         opened.old opened.new (left_of R.rule problem.now (Before phase) (reverse frames.old.items)) }
 {
     if !set_up::<R>(problem, phase, board) {
@@ -211,7 +222,8 @@ fn end<R: Rules, const N: usize>(
     frames: &mut ArrayVec<Frame<R>, N>,
 ) -> Stage
     requires sound { IsSound problem.now }
-    requires walking { IsWalking R.rule (half_moves_of_phase problem.now phase) (phase_start problem.now phase)
+    requires walking { IsWalking R.rule (half_moves_of_phase problem.now phase)
+        (phase_start problem.now phase)
         (reverse frames.old.items) board.old }
     ensures stage { result ≡ (if is_set phase then Before Play else Behind) }
     ensures none { frames.new.items ≡ [] }
@@ -241,12 +253,15 @@ fn go_on<R: Rules, const N: usize>(
 ) -> Event
     requires sound { IsSound problem.now }
     requires room { half_moves problem.now.stipulation < N }
-    requires standing { IsStanding R.rule problem.now (Within phase count) (reverse frames.old.items) board.old }
-    ensures standing { IsStanding R.rule problem.now stage.new (reverse frames.new.items) board.new }
+    requires standing { IsStanding R.rule problem.now (Within phase count)
+        (reverse frames.old.items) board.old }
+    ensures standing { IsStanding R.rule problem.now stage.new (reverse frames.new.items)
+        board.new }
     ensures gives { Gives R.rule problem.now
         (left_of R.rule problem.now (Within phase count) (reverse frames.old.items))
         (left_of R.rule problem.now stage.new (reverse frames.new.items)) result board.new (array_vec_len frames.new) }
-    ensures opens { OpensOn R.rule problem.now (Within phase count) stage.new (reverse frames.old.items)
+    ensures opens { OpensOn R.rule problem.now (Within phase count) stage.new
+        (reverse frames.old.items)
         (reverse frames.new.items) opened.old opened.new
         (left_of R.rule problem.now (Within phase count) (reverse frames.old.items)) }
 {
@@ -282,9 +297,11 @@ fn total(problem: &Problem, count: u32) -> Event
 /// The count of solutions, with one that begins at a path to the top of so many frames.
 fn count_with(problem: &Problem, depth: usize, count: u32) -> u32
     requires sound { IsSound problem.now }
-    requires begins { (if is_help problem.now.stipulation.form || (depth == 2) then 1 else 0) ≤ problem.now.max_solutions - count }
+    requires begins { (if is_help problem.now.stipulation.form || (depth == 2) then 1 else 0)
+        ≤ problem.now.max_solutions - count }
     requires most { count ≤ problem.now.max_solutions }
-    ensures { result ≡ count + (if is_help problem.now.stipulation.form || (depth == 2) then 1 else 0) }
+    ensures { result ≡ count + (if is_help problem.now.stipulation.form || (depth == 2) then 1
+        else 0) }
 {
     if problem.stipulation().form.is_help() || depth == 2 {
         count + 1
@@ -305,15 +322,19 @@ pub(crate) fn advance<R: Rules, const N: usize>(
 ) -> Option<Event>
     requires sound { IsSound problem.now }
     requires room { half_moves problem.now.stipulation < N }
-    requires standing { IsStanding R.rule problem.now stage.old (reverse frames.old.items) board.old }
-    ensures standing { IsStanding R.rule problem.now stage.new (reverse frames.new.items) board.new }
+    requires standing { IsStanding R.rule problem.now stage.old (reverse frames.old.items)
+        board.old }
+    ensures standing { IsStanding R.rule problem.now stage.new (reverse frames.new.items)
+        board.new }
     ensures gives { MatchOption result
-        ((left_of R.rule problem.now stage.old (reverse frames.old.items) ≡ []) × (board.new ≡ start problem.now)
+        ((left_of R.rule problem.now stage.old (reverse frames.old.items) ≡ [])
+        × (board.new ≡ start problem.now)
         × (left_of R.rule problem.now stage.new (reverse frames.new.items) ≡ []))
         (λ event. Gives R.rule problem.now
         (left_of R.rule problem.now stage.old (reverse frames.old.items))
         (left_of R.rule problem.now stage.new (reverse frames.new.items)) event board.new (array_vec_len frames.new)) }
-    ensures opens { OpensOn R.rule problem.now stage.old stage.new (reverse frames.old.items) (reverse frames.new.items)
+    ensures opens { OpensOn R.rule problem.now stage.old stage.new (reverse frames.old.items)
+        (reverse frames.new.items)
         opened.old opened.new (left_of R.rule problem.now stage.old (reverse frames.old.items)) }
 {
     match *stage {

@@ -83,9 +83,11 @@ impl<R: Rules, const N: usize> Search<R, N> {
     /// The next event; `None` behind the last, and then for good. After a line or node the board stands where its path
     /// leads; where there is none it stands on the play's first position.
     pub fn next(&mut self) -> Option<Event>
-        ensures event { result ≡ option_map (event_of R.rule self.old.problem) (slice_get self.old.left 0) }
+        ensures event { result ≡ option_map (event_of R.rule self.old.problem)
+            (slice_get self.old.left 0) }
         ensures left { self.new.left ≡ drop 1 self.old.left }
-        ensures board { MatchOption (slice_get self.old.left 0) (self.new.board ≡ start self.old.problem)
+        ensures board { MatchOption (slice_get self.old.left 0)
+            (self.new.board ≡ start self.old.problem)
             (λ step. StandsOn R.rule self.old.problem step self.new.board self.new.depth) }
         ensures problem { self.new.problem ≡ self.old.problem }
         ensures opened { self.old.opened ≤ self.new.opened }
@@ -114,8 +116,11 @@ impl<R: Rules, const N: usize> Search<R, N> {
 
     /// The events given so far, up to the greatest u64.
     pub fn given(&self) -> u64
-        ensures ending { self.now.left ≡ drop (length (events R.rule self.now.problem) - length self.now.left) (events R.rule self.now.problem) }
-        ensures given { result ≡ min (length (events R.rule self.now.problem) - length self.now.left) (2 ^ 64 - 1) }
+        ensures ending { self.now.left ≡ drop
+            (length (events R.rule self.now.problem) - length self.now.left)
+            (events R.rule self.now.problem) }
+        ensures given { result ≡ min (length (events R.rule self.now.problem) - length
+            self.now.left) (2 ^ 64 - 1) }
     {
         self.given
     }
@@ -125,10 +130,13 @@ impl<R: Rules, const N: usize> Search<R, N> {
     /// opened for each tested move.
     pub fn opened(&self) -> u64
         ensures opened { result ≡ self.now.opened }
-        ensures most { is_walked_once self.now.problem ≡ true → result ≤ whole_walk R.rule self.now.problem }
-        ensures all { is_help self.now.problem.stipulation.form ≡ true → is_never_stopped R.rule self.now.problem ≡ true
+        ensures most { is_walked_once self.now.problem ≡ true
+            → result ≤ whole_walk R.rule self.now.problem }
+        ensures all { is_help self.now.problem.stipulation.form ≡ true
+            → is_never_stopped R.rule self.now.problem ≡ true
             → self.now.left ≡ [] → result ≡ min (whole_walk R.rule self.now.problem) (2 ^ 64 - 1) }
-        ensures fewest { is_help self.now.problem.stipulation.form ≡ false → is_never_stopped R.rule self.now.problem ≡ true
+        ensures fewest { is_help self.now.problem.stipulation.form ≡ false
+            → is_never_stopped R.rule self.now.problem ≡ true
             → self.now.left ≡ [] → min (fewest_tried R.rule self.now.problem) (2 ^ 64 - 1) ≤ result }
     {
         self.opened

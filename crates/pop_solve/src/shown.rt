@@ -53,7 +53,27 @@ impl Model for Shown {
 
     ghost Value = { Sight };
 
-    ghost view = { λ s. record { man = s.man; from = s.from; to = s.to; capture = s.capture; ep = s.ep; promo = s.promo; castling = s.castling; rebirth = s.rebirth; mark = s.mark } };
+    ghost view = { λ s. record {
+      man = s.man;
+      from = s.from;
+      to = s.to;
+      capture = s.capture;
+      ep = s.ep;
+      promo = s.promo;
+      castling = s.castling;
+      rebirth = s.rebirth;
+      mark = s.mark;
+    } };
 
-    ghost inverse = { λ v. record { man = v.man; from = v.from; to = v.to; capture = v.capture; ep = v.ep; promo = v.promo; castling = v.castling; rebirth = v.rebirth; mark = v.mark } };
+    ghost inverse = { λ v. record {
+      man = v.man;
+      from = v.from;
+      to = v.to;
+      capture = v.capture;
+      ep = v.ep;
+      promo = v.promo;
+      castling = v.castling;
+      rebirth = v.rebirth;
+      mark = v.mark;
+    } };
 }

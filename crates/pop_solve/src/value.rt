@@ -87,9 +87,11 @@ fn settled<R: Rules>(
         (λ v. v ≡ value aim.battle (chess aim.goal R.rule) left board.old) }
     ensures known { IfSome known.new (λ k. IsPlaceIn R.rule board.old k) }
     ensures opened { MatchOption result (opened.new ≡ opened.old)
-        (λ _. opened.new ≤ opened.old + walk_count (legal_moves R.rule) (played R.rule) left board.old) }
+        (λ _. opened.new ≤ opened.old + walk_count (legal_moves R.rule) (played R.rule) left
+        board.old) }
     ensures tried { IfSome result
-        (λ _. HasCounted opened.old opened.new (smallest_tree aim.battle (chess aim.goal R.rule) left board.old)) }
+        (λ _. HasCounted opened.old opened.new
+        (smallest_tree aim.battle (chess aim.goal R.rule) left board.old)) }
 {
     *known = None;
     if left == 0 {
@@ -133,7 +135,8 @@ fn next_in_order<R: Rules>(
     ensures unchanged { board.new ≡ board.old }
     ensures within { IsPlaceIn R.rule board.old moves.new }
     ensures next { MatchOption result (ahead R.rule board.old Before moves.old.place killer ≡ [])
-        (λ m. (ahead R.rule board.old Before moves.old.place killer ≡ m ∷ ahead R.rule board.old stretch.new moves.new.place killer)
+        (λ m. (ahead R.rule board.old Before moves.old.place killer
+        ≡ m ∷ ahead R.rule board.old stretch.new moves.new.place killer)
         × (legal R.rule board.old m ≡ true)) }
 {
     if let Some(by) = next_until::<R>(moves, killer.back(), board) {
@@ -157,7 +160,8 @@ fn next_tried<R: Rules>(
     requires known { IsPlaceIn R.rule board.old moves.old }
     ensures unchanged { board.new ≡ board.old }
     ensures within { IsPlaceIn R.rule board.old moves.new }
-    ensures next { MatchOption result (ahead R.rule board.old stretch.old moves.old.place killer ≡ [])
+    ensures next { MatchOption result (ahead R.rule board.old stretch.old moves.old.place killer
+        ≡ [])
         (λ m. (ahead R.rule board.old stretch.old moves.old.place killer ≡ m ∷ ahead R.rule board.old stretch.new moves.new.place killer)
         × (legal R.rule board.old m ≡ true)) }
 {
@@ -186,7 +190,8 @@ fn close<R: Rules>(
     requires { floor < depth → CameFrom R.rule top board.old }
     ensures lowest { depth ≤ floor → (result ≡ Some value) × (board.new ≡ board.old) }
     ensures above { floor < depth → (result ≡ None) × (answer.new ≡ Some value) }
-    ensures before { (p : Position) → floor < depth → CameFromAt R.rule top board.old p → board.new ≡ p }
+    ensures before { (p : Position) → floor < depth → CameFromAt R.rule top board.old p
+        → board.new ≡ p }
 {
     if depth <= floor {
         return Some(value);
@@ -214,7 +219,8 @@ fn descend<R: Rules, const N: usize>(
     requires room { array_vec_len frames.old + top.left ≤ N }
     requires legal { legal R.rule board.old by ≡ true }
     ensures opened { MatchOption answer.new (opened.new ≤ opened.old + 1)
-        (λ _. opened.new ≤ opened.old + walk_count (legal_moves R.rule) (played R.rule) (top.left - 1) (played R.rule board.old by)) }
+        (λ _. opened.new ≤ opened.old + walk_count (legal_moves R.rule) (played R.rule)
+        (top.left - 1) (played R.rule board.old by)) }
     ensures tried { MatchOption answer.new (HasCounted opened.old opened.new 1)
         (λ _. HasCounted opened.old opened.new
         (smallest_tree aim.battle (chess aim.goal R.rule) (top.left - 1) (played R.rule board.old by))) }
@@ -265,9 +271,12 @@ fn turn<R: Rules, const N: usize>(
     requires well_formed { IsWellFormed board.old }
     requires above { floor < array_vec_len frames.old }
     requires room { top_left (tests floor frames.old.items) + array_vec_len frames.old ≤ N + 1 }
-    requires testing { (p : Position) × IsTesting R.rule p (tests floor frames.old.items) board.old }
-    ensures room { IfNone result (top_left (tests floor frames.new.items) + array_vec_len frames.new ≤ N + 1) }
-    ensures next { (p : Position) → IsTesting R.rule p (tests floor frames.old.items) board.old → MatchOption result
+    requires testing { (p : Position) × IsTesting R.rule p (tests floor frames.old.items)
+        board.old }
+    ensures room { IfNone result (top_left (tests floor frames.new.items) + array_vec_len frames.new
+        ≤ N + 1) }
+    ensures next { (p : Position) → IsTesting R.rule p (tests floor frames.old.items) board.old
+        → MatchOption result
         (Turns R.rule aim floor p frames.old.items frames.new.items answer.old answer.new board.new opened.old opened.new)
         (λ v. Ends R.rule aim floor p frames.old.items frames.new.items answer.old board.new opened.old opened.new v) }
 {
@@ -317,8 +326,10 @@ pub(crate) fn value_of<R: Rules, const N: usize>(
     ensures value { result ≡ value aim.battle (chess aim.goal R.rule) left board.old }
     ensures board { board.new ≡ board.old }
     ensures frames { frames.new.items ≡ frames.old.items }
-    ensures opened { opened.new ≤ opened.old + walk_count (legal_moves R.rule) (played R.rule) left board.old }
-    ensures tried { HasCounted opened.old opened.new (smallest_tree aim.battle (chess aim.goal R.rule) left board.old) }
+    ensures opened { opened.new ≤ opened.old
+        + walk_count (legal_moves R.rule) (played R.rule) left board.old }
+    ensures tried { HasCounted opened.old opened.new
+        (smallest_tree aim.battle (chess aim.goal R.rule) left board.old) }
 {
     let killer = killers.of(aim.battle, left);
     let mut known = None;

@@ -52,7 +52,8 @@ fn least_length<R: Rules, const N: usize>(
 ) -> usize
     requires well_formed { IsWellFormed board.old }
     requires room { array_vec_len frames.old + left ≤ N }
-    ensures least { result ≡ first_from aim.battle (chess aim.goal R.rule) board.old ((left - fewest_of aim.battle) / 2) (fewest_of aim.battle) }
+    ensures least { result ≡ first_from aim.battle (chess aim.goal R.rule) board.old
+        ((left - fewest_of aim.battle) / 2) (fewest_of aim.battle) }
     ensures board { board.new ≡ board.old }
     ensures frames { frames.new.items ≡ frames.old.items }
     ensures grows { HasCounted opened.old opened.new 0 }
@@ -109,7 +110,8 @@ fn length_below<R: Rules, const N: usize>(
     ensures board { board.new ≡ board.old }
     ensures frames { frames.new.items ≡ frames.old.items }
     ensures opened { is_help plan.form ≡ true → opened.new ≡ opened.old }
-    ensures keys_alone { IsTrue (not (varies plan) && seeks (battle_of plan.form) (left + 1)) → opened.new ≡ opened.old }
+    ensures keys_alone { IsTrue (not (varies plan) && seeks (battle_of plan.form) (left + 1))
+        → opened.new ≡ opened.old }
     ensures grows { HasCounted opened.old opened.new 0 }
 {
     if plan.form.is_help() {
@@ -169,16 +171,20 @@ fn enter<R: Rules, const N: usize>(
     requires well_formed { IsWellFormed board.old }
     requires room { array_vec_len frames.old + left < N }
     requires legal { legal R.rule board.old by ≡ true }
-    ensures passes { is_followed plan (chess plan.goal R.rule) root left (played R.rule board.old by) ≡ false
+    ensures passes { is_followed plan (chess plan.goal R.rule) root left
+        (played R.rule board.old by) ≡ false
         → (result ≡ false) × (board.new ≡ board.old) × (frames.new.items ≡ frames.old.items) }
-    ensures enters { is_followed plan (chess plan.goal R.rule) root left (played R.rule board.old by) ≡ true
+    ensures enters { is_followed plan (chess plan.goal R.rule) root left
+        (played R.rule board.old by) ≡ true
         → (result ≡ is_given plan (chess plan.goal R.rule) left (played R.rule board.old by))
         × (board.new ≡ played R.rule board.old by)
         × (frames.new.items ≡ frames.old.items ++ opened_frame by (undo_of R.rule board.old by)
         (goes_on plan (chess plan.goal R.rule) left (played R.rule board.old by)) ∷ []) }
-    ensures more { is_help plan.form ≡ true → 0 < left → opened.new ≡ min (opened.old + 1) (2 ^ 64 - 1) }
+    ensures more { is_help plan.form ≡ true → 0 < left
+        → opened.new ≡ min (opened.old + 1) (2 ^ 64 - 1) }
     ensures none { is_help plan.form ≡ true → left ≡ 0 → opened.new ≡ opened.old }
-    ensures keys { is_help plan.form ≡ false → varies plan ≡ false → seeks (battle_of plan.form) (left + 1) ≡ true
+    ensures keys { is_help plan.form ≡ false → varies plan ≡ false
+        → seeks (battle_of plan.form) (left + 1) ≡ true
         → opened.new ≤ opened.old + walk_count (legal_moves R.rule) (played R.rule) left (played R.rule board.old by) }
     ensures tries { HasCounted opened.old opened.new
         (fewest_for plan (chess plan.goal R.rule) root left (played R.rule board.old by)) }
@@ -205,7 +211,8 @@ fn enter<R: Rules, const N: usize>(
 
 /// Whether each path that is given ends with the next half-move, which mates: the last of help play for mate.
 fn ends_with_mate(plan: Plan, left: usize) -> bool
-    ensures { IsTrue result ↔ ((is_for_mate plan.goal ≡ true) × (is_help plan.form ≡ true) × (left ≡ 1)) }
+    ensures { IsTrue result ↔ ((is_for_mate plan.goal ≡ true) × (is_help plan.form ≡ true)
+        × (left ≡ 1)) }
 {
     is_for_mate(plan.goal) && plan.form.is_help() && left == 1
 }
@@ -224,7 +231,8 @@ fn next_of<R: Rules>(
     ensures unchanged { board.new ≡ board.old }
     ensures within { IfSome known.new (λ k. IsPlaceIn R.rule board.old k) }
     ensures next { MatchOption result ((left ≡ 0) ⊎ GoesTo R.rule plan left board.old place.old [])
-        (λ m. (0 < left) × GoesTo R.rule plan left board.old place.old (m ∷ moves_behind R.rule board.old place.new)
+        (λ m. (0 < left) × GoesTo R.rule plan left board.old place.old
+        (m ∷ moves_behind R.rule board.old place.new)
         × (legal R.rule board.old m ≡ true)) }
 {
     if left == 0 {
@@ -240,7 +248,8 @@ fn next_of<R: Rules>(
 pub(crate) fn step_back<R: Rules>(depth: usize, top: Frame<R>, board: &mut Board)
     requires { 0 < depth → CameFrom R.rule top board.old }
     ensures lowest { depth ≡ 0 → board.new ≡ board.old }
-    ensures before { (p : Position) → 0 < depth → CameFromAt R.rule top board.old p → board.new ≡ p }
+    ensures before { (p : Position) → 0 < depth → CameFromAt R.rule top board.old p
+        → board.new ≡ p }
 {
     if depth > 0 {
         retract::<R>(board, top.by, top.undo);
@@ -260,8 +269,10 @@ pub(crate) fn step<R: Rules, const N: usize>(
     requires well_formed { IsWellFormed board.old }
     requires room { half_moves < N }
     requires open { 0 < array_vec_len frames.old }
-    requires walking { (p : Position) × IsWalking R.rule half_moves p (reverse frames.old.items) board.old }
-    ensures steps { (p : Position) → IsWalking R.rule half_moves p (reverse frames.old.items) board.old
+    requires walking { (p : Position) × IsWalking R.rule half_moves p (reverse frames.old.items)
+        board.old }
+    ensures steps { (p : Position) → IsWalking R.rule half_moves p (reverse frames.old.items)
+        board.old
         → Steps R.rule plan half_moves p (reverse frames.old.items) (reverse frames.new.items) board.new opened.old opened.new result }
 {
     let Some(top) = frames.pop() else {

@@ -33,14 +33,16 @@ cycled_whole text = cycled_rest text text
 -- What a call gives.
 
 module _ (text rest back : List ℕ) (left count : ℕ) (behind : back ≡ drop count rest) where
-  pub gives : (given after : List ℕ) → count ≤ left → count ≤ length rest → given ≡ take count rest → cycled text rest left ≡ take count (given ++ after) ++ cycled text back (left - count)
+  pub gives : (given after : List ℕ) → count ≤ left → count ≤ length rest → given ≡ take count rest
+      → cycled text rest left ≡ take count (given ++ after) ++ cycled text back (left - count)
   gives given after some few is =
       let size : length given ≡ count = ap length is ∙ length-take-le count rest few in
       let front : take count (given ++ after) ≡ given = ap (λ n. take n (given ++ after)) (sym size) ∙ take-append_seam given after in
       rw (front, is, behind) (cycled_front text rest left count some few)
 
   -- no byte, where there is room, only at the end
-  pub gives_none : (room : ℕ) → (0 < length rest → 0 < room → 0 < left → 0 < count) → (length rest ≡ 0 → text ≡ []) → count ≡ 0 → 0 < room → cycled text back (left - count) ≡ []
+  pub gives_none : (room : ℕ) → (0 < length rest → 0 < room → 0 < left → 0 < count) → (length rest ≡ 0 → text ≡ []) → count ≡ 0 → 0 < room
+      → cycled text back (left - count) ≡ []
   gives_none room some none nothing wide = elim (cases_lt 0 (length rest)) [
     | inl more ↦ elim (cases_lt 0 left) [
       | inl still ↦ let bad = some more wide still in absurd (omega (arith, bad, nothing))

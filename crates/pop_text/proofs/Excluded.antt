@@ -24,7 +24,8 @@ pub gap_or_word : (b : ℕ) → is_gap b ≡ true → is_in_word b ≡ true → 
 gap_or_word b g w = grind (arith, g, w)
 
 -- a gap before a run is the same one, and nothing follows
-same_gap : (g h : List ℕ) (c : ℕ) (run behind : List ℕ) → list_all is_gap g ≡ true → list_all is_gap h ≡ true → is_in_word c ≡ true → h ++ c ∷ run ≡ (g ++ c ∷ run) ++ behind → (g ≡ h) × (behind ≡ [])
+same_gap : (g h : List ℕ) (c : ℕ) (run behind : List ℕ) → list_all is_gap g ≡ true → list_all is_gap h ≡ true → is_in_word c ≡ true
+    → h ++ c ∷ run ≡ (g ++ c ∷ run) ++ behind → (g ≡ h) × (behind ≡ [])
 same_gap [] [] c run behind p q w e = (refl, no_more (c ∷ run) behind e)
 same_gap [] (b ∷ h) c run behind p q w e = let is : b ≡ c = cc in absurd (gap_or_word b (all_parts is_gap b h q).0 (rw is w))
 same_gap (b ∷ g) [] c run behind p q w e = let is : c ≡ b = cc in absurd (gap_or_word b (all_parts is_gap b g p).0 (rw (← is) w))
@@ -35,7 +36,8 @@ same_gap (b ∷ g) (d ∷ h) c run behind p q w e =
     (cc, rest.1)
 
 -- a call that used a gap, a run and bytes behind it: there are none, and the number is that of the run's line
-pub nothing_behind_word : (old new : Reading) (had left : List ℕ) (number : ℕ) (gap : List ℕ) (c : ℕ) (run behind : List ℕ) → list_all is_gap gap ≡ true → is_in_word c ≡ true → Uses old new (Some had) (Some left) ((gap ++ c ∷ run) ++ behind)
+pub nothing_behind_word : (old new : Reading) (had left : List ℕ) (number : ℕ) (gap : List ℕ) (c : ℕ) (run behind : List ℕ) → list_all is_gap gap ≡ true
+    → is_in_word c ≡ true → Uses old new (Some had) (Some left) ((gap ++ c ∷ run) ++ behind)
     → UsesRun old new (Some had) (Some left) number (c ∷ run) → (behind ≡ []) × (number ≡ old.line + count_by is_line_end gap)
 nothing_behind_word old new had left number gap c run behind blank solid used u =
     let same = same_gap gap u.gap c run behind blank u.blank solid (same_bytes old new had left (u.gap ++ c ∷ run) ((gap ++ c ∷ run) ++ behind) u.uses used) in
@@ -45,7 +47,8 @@ plain_end : (b : ℕ) → is_in_line b ≡ true → b ≡ 10 → ⊥
 plain_end b h e = grind (arith, h, e)
 
 -- a line before its line end is the same one, and nothing follows
-same_line : (line other behind : List ℕ) → list_all is_in_line line ≡ true → list_all is_in_line other ≡ true → other ++ 10 ∷ [] ≡ (line ++ 10 ∷ []) ++ behind → behind ≡ []
+same_line : (line other behind : List ℕ) → list_all is_in_line line ≡ true → list_all is_in_line other ≡ true → other ++ 10 ∷ [] ≡ (line ++ 10 ∷ []) ++ behind
+    → behind ≡ []
 same_line [] [] behind p q e = no_more (10 ∷ []) behind e
 same_line [] (b ∷ other) behind p q e = absurd (plain_end b (all_parts is_in_line b other q).0 cc)
 same_line (b ∷ line) [] behind p q e = absurd (plain_end b (all_parts is_in_line b line p).0 cc)
@@ -58,7 +61,8 @@ no_end (b ∷ line) [] behind q e = cc
 no_end (b ∷ line) (d ∷ other) behind q e = no_end line other behind (all_parts is_in_line d other q).1 cc
 
 -- a call that used a line, its line end and bytes behind that: there are none
-pub nothing_behind_line : (old new : Reading) (had left : List ℕ) (text : Text) (line behind : List ℕ) → list_all is_in_line line ≡ true → Uses old new (Some had) (Some left) ((line ++ 10 ∷ []) ++ behind) → UsesLine old new (Some had) (Some left) (Ok text) → behind ≡ []
+pub nothing_behind_line : (old new : Reading) (had left : List ℕ) (text : Text) (line behind : List ℕ) → list_all is_in_line line ≡ true
+    → Uses old new (Some had) (Some left) ((line ++ 10 ∷ []) ++ behind) → UsesLine old new (Some had) (Some left) (Ok text) → behind ≡ []
 nothing_behind_line old new had left text line behind plain used (other, p, is, whole) = elim whole [
   | inl u ↦ same_line line other behind plain p (same_bytes old new had left (other ++ 10 ∷ []) ((line ++ 10 ∷ []) ++ behind) u used)
   | inr u ↦ absurd (no_end line other behind p (same_bytes old new had left other ((line ++ 10 ∷ []) ++ behind) u.0 used))
@@ -70,7 +74,8 @@ nothing_behind_line_end [] behind e = cc
 nothing_behind_line_end (b ∷ line) behind e = nothing_behind_line_end line behind (all_parts is_in_line b (line ++ 10 ∷ behind) e).1
 
 -- where all of a text was written, no part of it was left out
-pub nothing_left_out : (before now text behind : List ℕ) → Appends (Some before) (Some now) text → Appends (Some before) (Some now) (text ++ behind) → behind ≡ []
+pub nothing_left_out : (before now text behind : List ℕ) → Appends (Some before) (Some now) text → Appends (Some before) (Some now) (text ++ behind)
+    → behind ≡ []
 nothing_left_out before now text [] p q = refl
 nothing_left_out before now text (b ∷ behind) p q =
     absurd (omega (arith, ap length (sym p ∙ q), length-append before text, length-append before (text ++ b ∷ behind), length-append text (b ∷ behind)))

@@ -17,10 +17,12 @@ module _ (test : ℕ → Bool) (view part : List ℕ) (count more : ℕ) (is : p
   -- those of both that pass it
   pub count_both : (n m : ℕ) → n ≡ count_by test (take count view) → m ≡ count_by test part → n + m ≡ count_by test (take (count + more) view)
   count_both n m front behind =
-      let sum : count_by test (take count view ++ part) ≡ count_by test (take count view) + count_by test part = sum_by-append (λ b. cond (test b) 1 0) (take count view) part in
+      let sum : count_by test (take count view ++ part) ≡ count_by test (take count view)
+      + count_by test part = sum_by-append (λ b. cond (test b) 1 0) (take count view) part in
       omega (arith, front, behind, sum, ap (count_by test) both)
 
 -- both have a byte where the view's first one is no gap
-pub some_both : (view left : List ℕ) (count more : ℕ) → left ≡ drop count view → ((b : ℕ) (rest : List ℕ) → left ≡ b ∷ rest → is_in_word b ≡ true → 0 < more) → (b : ℕ) (rest : List ℕ) → view ≡ b ∷ rest → is_in_word b ≡ true → 0 < count + more
+pub some_both : (view left : List ℕ) (count more : ℕ) → left ≡ drop count view → ((b : ℕ) (rest : List ℕ) → left ≡ b ∷ rest → is_in_word b ≡ true → 0 < more)
+    → (b : ℕ) (rest : List ℕ) → view ≡ b ∷ rest → is_in_word b ≡ true → 0 < count + more
 some_both view left zero more is some b rest at solid = let behind : 0 < more = some b rest (is ∙ at) solid in omega (arith, behind)
 some_both view left (suc count) more is some b rest at solid = omega arith

@@ -54,7 +54,8 @@ view_at place rest = take (limit - place.used) (place.window ++ rest.bytes)
 abbrev pub tail_at : Reading → Input → Tail
 tail_at place rest = tail_of (drop (limit - place.used) (place.window ++ rest.bytes)) rest.ending
 
-views : (room more : ℕ) (used bytes all : List ℕ) → room ≡ length used + more → all ≡ used ++ bytes → (take room all ≡ used ++ take more bytes) × (drop room all ≡ drop more bytes)
+views : (room more : ℕ) (used bytes all : List ℕ) → room ≡ length used + more → all ≡ used ++ bytes
+    → (take room all ≡ used ++ take more bytes) × (drop room all ≡ drop more bytes)
 views room more used bytes all e f = rw (e, f) (take-append-add used bytes more, drop-append-add used bytes more)
 
 still_follows : (a b : End) (taken : List ℕ) (rest : Input) → a ≡ Open ⊎ ((taken ≡ []) × (b ≡ a)) → MayFollow b rest → MayFollow a (after taken rest)
@@ -68,7 +69,8 @@ same_words ts us tail l m e f = rw (e, f) refl
 pub count_then : (line : ℕ) (xs ys : List ℕ) → line + count_by is_line_end (xs ++ ys) ≡ (line + count_by is_line_end xs) + count_by is_line_end ys
 count_then line xs ys = omega (arith, sum_by-append (λ x. cond (is_line_end x) 1 0) xs ys)
 
-module _ {old new : Reading} {had left : Option (List ℕ)} {used : List ℕ} (u : Uses old new had left used) (within : new.used ≤ limit) (b c : Option (List ℕ)) where
+module _ {old new : Reading} {had left : Option (List ℕ)} {used : List ℕ} (u : Uses old new had left used) (within : new.used ≤ limit)
+    (b c : Option (List ℕ)) where
   -- used bytes stand first in the view
   left_is : (rest : Input) → words_left b old (after u.taken rest) ≡ words_by b old.line (used ++ view_at new rest) (tail_at new rest)
   left_is rest =
@@ -80,13 +82,15 @@ module _ {old new : Reading} {had left : Option (List ℕ)} {used : List ℕ} (u
 
   -- they take the tokens that they say, whatever stands behind them
   pub takes : (tokens : List Token)
-      → ((rest : Input) → MayFollow new.end rest → tokens_from b (is_cut (tail_at new rest)) old.line (used ++ view_at new rest) ≡ tokens ++ tokens_from c (is_cut (tail_at new rest)) new.line (view_at new rest))
+      → ((rest : Input) → MayFollow new.end rest → tokens_from b (is_cut (tail_at new rest)) old.line (used ++ view_at new rest) ≡ tokens
+      ++ tokens_from c (is_cut (tail_at new rest)) new.line (view_at new rest))
       → Takes (record { behind = b; at = old }) (record { behind = c; at = new }) had left tokens
   takes tokens say = record {
     bytes = u.taken;
     taken = u.consumed;
     follows = λ rest may. still_follows old.end new.end u.taken rest u.still may;
-    begin = λ rest may. left_is rest ∙ same_words _ _ (tail_at new rest) _ _ (say rest may) (omega (arith, u.line, count_then old.line used (view_at new rest)));
+    begin = λ rest may. left_is rest ∙ same_words _ _ (tail_at new rest) _ _ (say rest may)
+        (omega (arith, u.line, count_then old.line used (view_at new rest)));
     amount = omega (arith, u.used, ap length u.unread, length-append old.window u.taken, length-append used new.window);
   }
 
@@ -96,12 +100,14 @@ module _ {old new : Reading} {had left : Option (List ℕ)} {used : List ℕ} (u
 abbrev Stops : Reading → Tail → Type 0
 Stops place tail = (rest : Input) → MayFollow place.end rest → (view_at place rest ≡ []) × (tail_at place rest ≡ tail)
 
-stops_by : (place : Reading) (end : End) (ending : Ending) → place.window ≡ [] → place.end ≡ end → ((rest : Input) → MayFollow end rest → rest ≡ record { bytes = []; ending = ending }) → Stops place (tail_of [] ending)
+stops_by : (place : Reading) (end : End) (ending : Ending) → place.window ≡ [] → place.end ≡ end
+    → ((rest : Input) → MayFollow end rest → rest ≡ record { bytes = []; ending = ending }) → Stops place (tail_of [] ending)
 stops_by place end ending empty is only rest may =
     let r = only rest (subst (λ e. MayFollow e rest) is may) in
     rw (empty, r, take-nil {A = ℕ} (limit - place.used), drop-nil {A = ℕ} (limit - place.used)) (refl, refl)
 
-full_view : (n : ℕ) (window : List ℕ) (rest : Input) → n ≡ 0 → 0 < length window → (take n (window ++ rest.bytes) ≡ []) × (tail_of (drop n (window ++ rest.bytes)) rest.ending ≡ Long)
+full_view : (n : ℕ) (window : List ℕ) (rest : Input) → n ≡ 0 → 0 < length window
+    → (take n (window ++ rest.bytes) ≡ []) × (tail_of (drop n (window ++ rest.bytes)) rest.ending ≡ Long)
 full_view n [] rest z some = absurd (omega arith)
 full_view n (b ∷ window) rest z some = rw z (refl, refl)
 
@@ -162,10 +168,16 @@ gap_takes {old} {new} p within = takes p.uses within None None [] (λ rest may.
     ∙ ap (λ n. tokens_from None (is_cut (tail_at new rest)) n (view_at new rest)) (sym p.uses.line))
 
 -- where a fault is found at the place, no word is taken and none is left
-none_left : {old new : Reading} {had left : Option (List ℕ)} (b : Option (List ℕ)) (fault : ReadFault) → Peeks new (Err fault) → old.used ≤ new.used → Takes (record { behind = b; at = old }) (among new) had left []
+none_left : {old new : Reading} {had left : Option (List ℕ)} (b : Option (List ℕ)) (fault : ReadFault) → Peeks new (Err fault) → old.used ≤ new.used
+    → Takes (record { behind = b; at = old }) (among new) had left []
     → TakesNone (record { behind = b; at = old }) new had left fault
 none_left {new = new} b (TooLong line) at on t = absurd at
-none_left {new = new} b (InputTooLong line) at on t = (t, over new Long (stops_at_fault (InputTooLong line) new at), at.2, (on, within_fault (InputTooLong line) new at))
+none_left {new = new} b (InputTooLong line) at on t = (
+  t,
+  over new Long (stops_at_fault (InputTooLong line) new at),
+  at.2,
+  (on, within_fault (InputTooLong line) new at),
+)
 none_left {new = new} b (Device line) at on t = (t, over new Failing (stops_at_fault (Device line) new at), at.2, (on, at.3), at.1)
 
 module _ {old new : Reading} {had left : Option (List ℕ)} {number : ℕ} (run : List ℕ) (p : UsesRun old new had left number run) where
@@ -183,7 +195,8 @@ module _ {old new : Reading} {had left : Option (List ℕ)} {number : ℕ} (run 
       (skip_gap true old.line p.gap run p.blank ∙ drop_run (old.line + count_by is_line_end p.gap) run p.solid)))
 
   over_said : (text : Bool) → is_text_word run ≡ text → 0 < length run → IsRunOver new → (rest : Input) → MayFollow new.end rest
-      → tokens_from None (is_cut (tail_at new rest)) old.line ((p.gap ++ run) ++ view_at new rest) ≡ run_tokens text (is_cut (tail_at new rest)) new.line run (view_at new rest)
+      → tokens_from None (is_cut (tail_at new rest)) old.line ((p.gap ++ run) ++ view_at new rest)
+      ≡ run_tokens text (is_cut (tail_at new rest)) new.line run (view_at new rest)
   over_said text is some over rest may =
       run_said (is_cut (tail_at new rest)) old.line p.gap run (view_at new rest) p.blank p.solid some (run_ends new rest may over)
       ∙ ap (λ t. run_tokens t (is_cut (tail_at new rest)) (old.line + count_by is_line_end p.gap) run (view_at new rest)) is
@@ -198,9 +211,15 @@ module _ {old new : Reading} {had left : Option (List ℕ)} {number : ℕ} (run 
   goes_on some over = (omega (arith, some, grows), run_within new over)
 
 -- what the used bytes and the place behind them say of the next word
-pub next_of : (old new : Reading) (had left : Option (List ℕ)) (result : Result (Option Read) ReadFault) → UsesWord old new had left result → Stands new result → NextWord old new had left result
+pub next_of : (old new : Reading) (had left : Option (List ℕ)) (result : Result (Option Read) ReadFault) → UsesWord old new had left result → Stands new result
+    → NextWord old new had left result
 next_of old new had left (Ok None) p at = (gap_takes p at.2, over new AtEnd (stops_at_end new at), (omega (arith, p.uses.used), at.2))
-next_of old new had left (Ok (Some word)) p some = (word_takes word.bytes.items p.0 (is_text_word word.bytes.items) refl some p.1, some, goes_on word.bytes.items p.0 some p.1)
+next_of old new had left (Ok (Some word)) p some = (
+  word_takes word.bytes.items p.0 (is_text_word word.bytes.items) refl some p.1,
+  some,
+  goes_on
+      word.bytes.items p.0 some p.1,
+)
 next_of old new had left (Err (TooLong line)) (run, long, p, ends) at =
     let some : 0 < length run = omega (arith, long) in
     (run, long, word_takes run p false (long_no_text run long) some ends, goes_on run p some ends)
@@ -209,7 +228,8 @@ next_of old new had left (Err (Device line)) p at = cut_takes p.0 p.1 (Device li
 
 -- Text lines.
 
-line_takes : {old new : Reading} {had left : Option (List ℕ)} (keyword line : List ℕ) → list_all is_in_line line ≡ true → UsesWhole old new had left line → new.used ≤ limit
+line_takes : {old new : Reading} {had left : Option (List ℕ)} (keyword line : List ℕ) → list_all is_in_line line ≡ true → UsesWhole old new had left line
+    → new.used ≤ limit
     → Takes (behind_word keyword old) (among new) had left (TextLine old.line keyword line ∷ [])
 line_takes {old} {new} keyword line plain (inl u) within =
     let one : count_by is_line_end (10 ∷ []) ≡ 1 = refl in
@@ -226,10 +246,13 @@ line_on : {old new : Reading} {had left : Option (List ℕ)} (line : List ℕ) �
 line_on line (inl u) = omega (arith, u.used)
 line_on line (inr last) = let u = last.0 in omega (arith, u.used)
 
-pub line_of : (old new : Reading) (had left : Option (List ℕ)) (keyword : List ℕ) (text : Text) → UsesLine old new had left (Ok text) → new.used ≤ limit → RestOfLine keyword old new had left (Ok text)
+pub line_of : (old new : Reading) (had left : Option (List ℕ)) (keyword : List ℕ) (text : Text) → UsesLine old new had left (Ok text) → new.used ≤ limit
+    → RestOfLine keyword old new had left (Ok text)
 line_of old new had left keyword text (line, plain, is, whole) within = (line, line_takes keyword line plain whole within, is, line_on line whole, within)
 
-pub line_cut : {old new : Reading} {had left : Option (List ℕ)} (keyword : List ℕ) (fault : ReadFault) → UsesAll is_in_line old new had left → Peeks new (Err fault) → RestOfLine keyword old new had left (Err fault)
-line_cut {old} {new} keyword fault p at = none_left (Some keyword) fault at (omega (arith, p.uses.used)) (takes p.uses (within_fault fault new at) (Some keyword) None [] (λ rest may.
+pub line_cut : {old new : Reading} {had left : Option (List ℕ)} (keyword : List ℕ) (fault : ReadFault) → UsesAll is_in_line old new had left
+    → Peeks new (Err fault) → RestOfLine keyword old new had left (Err fault)
+line_cut {old} {new} keyword fault p at = none_left (Some keyword) fault at (omega (arith, p.uses.used))
+    (takes p.uses (within_fault fault new at) (Some keyword) None [] (λ rest may.
     let v = stops_at_fault fault new at rest may in
     rw (v.0, v.1, cut_by_fault fault, append-nil p.bytes) (take_last_line keyword true old.line p.bytes p.all)))

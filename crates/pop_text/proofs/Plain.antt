@@ -24,9 +24,13 @@ and_three true true false s h = refl
 and_three true true true s h = cc
 
 -- a word with other first letters is no short form
-no_front : (x y z : ℕ) (name : List ℕ) (a b c : ℕ) (word : List ℕ) → (((to_ascii_lowercase a == x) && (to_ascii_lowercase b == y)) && (to_ascii_lowercase c == z)) ≡ false → is_short_form (x ∷ y ∷ z ∷ name) (a ∷ b ∷ c ∷ word) ≡ false
+no_front : (x y z : ℕ) (name : List ℕ) (a b c : ℕ) (word : List ℕ)
+    → (((to_ascii_lowercase a == x) && (to_ascii_lowercase b == y)) && (to_ascii_lowercase c == z)) ≡ false
+    → is_short_form (x ∷ y ∷ z ∷ name) (a ∷ b ∷ c ∷ word) ≡ false
 no_front x y z name a b c word h =
-    ap (λ t. nat_le 3 (length (map to_ascii_lowercase (a ∷ b ∷ c ∷ word))) && t) (and_three (to_ascii_lowercase a == x) (to_ascii_lowercase b == y) (to_ascii_lowercase c == z) _ h) ∙ and_false (nat_le 3 (length (map to_ascii_lowercase (a ∷ b ∷ c ∷ word))))
+    ap (λ t. nat_le 3 (length (map to_ascii_lowercase (a ∷ b ∷ c ∷ word))) && t)
+    (and_three (to_ascii_lowercase a == x) (to_ascii_lowercase b == y) (to_ascii_lowercase c == z) _ h)
+    ∙ and_false (nat_le 3 (length (map to_ascii_lowercase (a ∷ b ∷ c ∷ word))))
 
 or_parts : (p q : Bool) → (p || q) ≡ false → (p ≡ false) × (q ≡ false)
 or_parts false q h = (refl, h)
@@ -42,10 +46,17 @@ plain_no_text (a ∷ b ∷ c ∷ word) h =
     let three = or_parts _ _ four.0 in
     let two = or_parts _ _ three.0 in
     let one = or_parts _ _ two.0 in
-    rw (no_front 116 105 116 (codes "le") a b c word one.0, no_front 97 117 116 (codes "hor") a b c word one.1, no_front 111 114 105 (codes "gin") a b c word two.1, no_front 114 101 109 (codes "ark") a b c word three.1) refl
+    rw (
+      no_front 116 105 116 (codes "le") a b c word one.0,
+      no_front 97 117 116 (codes "hor") a b c word one.1,
+      no_front 111 114 105 (codes "gin") a b c word
+          two.1,
+      no_front 114 101 109 (codes "ark") a b c word three.1,
+    ) refl
 
 -- nor does it close a problem
-pub plain_no_closing : (word : List ℕ) → is_named word ≡ false → (is_short_form (codes "nextproblem") word ≡ false) × (is_short_form (codes "endproblem") word ≡ false)
+pub plain_no_closing : (word : List ℕ) → is_named word ≡ false → (is_short_form (codes "nextproblem") word ≡ false)
+    × (is_short_form (codes "endproblem") word ≡ false)
 plain_no_closing [] h = (refl, refl)
 plain_no_closing (a ∷ []) h = (refl, refl)
 plain_no_closing (a ∷ b ∷ []) h = (refl, refl)
@@ -61,14 +72,16 @@ none_plain =
     record { tokens = λ line. []; plain = λ line. refl; words = λ cut line behind ends. let same : line + 0 ≡ line = omega arith in rw same refl }
 
 -- a run behind bytes begins behind a gap, or there are none
-runs_start : (bytes gap word rest behind : List ℕ) → list_all is_gap gap ≡ true → list_all is_in_word word ≡ true → 0 < length word → RunsOut bytes ((gap ++ word) ++ rest)
+runs_start : (bytes gap word rest behind : List ℕ) → list_all is_gap gap ≡ true → list_all is_in_word word ≡ true → 0 < length word
+    → RunsOut bytes ((gap ++ word) ++ rest)
     → (bytes ≡ []) ⊎ ((c : ℕ) × (more : List ℕ) × ((gap ++ word) ++ behind ≡ c ∷ more) × (is_gap c ≡ true))
 runs_start bytes [] [] rest behind g w some out = absurd (omega arith)
 runs_start bytes [] (b ∷ word) rest behind g w some (inl none) = inl none
 runs_start bytes [] (b ∷ word) rest behind g w some (inr is) = absurd (gap_or_word b is (all_parts is_in_word b word w).0)
 runs_start bytes (c ∷ gap) word rest behind g w some out = inr (c, (gap ++ word) ++ behind, refl, (all_parts is_gap c gap g).0)
 
-module _ (bytes gap word : List ℕ) (some : 0 < length word) (blank : list_all is_gap gap ≡ true) (solid : list_all is_in_word word ≡ true) (plain : is_named word ≡ false) where
+module _ (bytes gap word : List ℕ) (some : 0 < length word) (blank : list_all is_gap gap ≡ true) (solid : list_all is_in_word word ≡ true)
+    (plain : is_named word ≡ false) where
   abbrev piece : List ℕ
   piece = gap ++ word
 
@@ -112,29 +125,43 @@ none_out (b ∷ behind) = inl refl
 drop_first : (behind : List ℕ) (r : ℕ) → r < length behind → get_or (drop r behind) 0 0 ≡ get_or behind r 0
 drop_first behind r less = rw (drop_more behind r 0 less) refl
 
-module _ (view left behind : List ℕ) (k g r lines more : ℕ) (at_left : left ≡ drop k view) (at_behind : behind ≡ drop g left) (some : r ≡ 0 → ⊥) (short : r ≡ length behind → ⊥) (few : g ≤ length left) (fits : r ≤ length behind) where
+module _ (view left behind : List ℕ) (k g r lines more : ℕ) (at_left : left ≡ drop k view) (at_behind : behind ≡ drop g left) (some : r ≡ 0 → ⊥)
+    (short : r ≡ length behind → ⊥) (few : g ≤ length left) (fits : r ≤ length behind) where
   word : List ℕ
   word = take r behind
 
   pieces : take (k + (g + r)) view ≡ take k view ++ (take g left ++ take r behind)
-  pieces = take-add k (g + r) view ∙ ap (λ t. take k view ++ t) (ap (take (g + r)) (sym at_left) ∙ take-add g r left ∙ ap (λ t. take g left ++ take r t) (sym at_behind))
+  pieces = take-add k (g + r) view ∙ ap (λ t. take k view ++ t) (ap (take (g + r)) (sym at_left) ∙ take-add g r left
+      ∙ ap (λ t. take g left ++ take r t) (sym at_behind))
 
   rest_is : drop (k + (g + r)) view ≡ drop r behind
   rest_is = sym (drop-drop (g + r) k view) ∙ ap (drop (g + r)) (sym at_left) ∙ sym (drop-drop r g left) ∙ ap (drop r) (sym at_behind)
 
   parts : drop k view ≡ (take g left ++ take r behind) ++ drop r behind
-  parts = sym at_left ∙ sym (take-append-drop g left) ∙ ap (λ t. take g left ++ t) (sym at_behind ∙ sym (take-append-drop r behind)) ∙ sym (append_assoc (take g left) (take r behind) (drop r behind))
+  parts = sym at_left ∙ sym (take-append-drop g left) ∙ ap (λ t. take g left ++ t) (sym at_behind ∙ sym (take-append-drop r behind))
+      ∙ sym (append_assoc (take g left) (take r behind) (drop r behind))
 
   less : r < length behind
   less = omega (arith, short, fits)
 
-  pub step_more : list_all is_gap (take g left) ≡ true → list_all is_in_word (take r behind) ≡ true → (r < length behind → is_gap (get_or behind r 0) ≡ true) → is_named (take r behind) ≡ false → more ≡ count_by is_line_end (take g left) → Step view k lines → Step view (k + (g + r)) (lines + more)
+  pub step_more : list_all is_gap (take g left) ≡ true → list_all is_in_word (take r behind) ≡ true → (r < length behind → is_gap (get_or behind r 0) ≡ true)
+      → is_named (take r behind) ≡ false → more ≡ count_by is_line_end (take g left) → Step view k lines → Step view (k + (g + r)) (lines + more)
   step_more blank solid over plain are s =
       let size : length (take r behind) ≡ r = omega (arith, length-take r behind, fits) in record {
         within = let at = s.within in omega (arith, at, ap length at_left, length-drop k view, ap length at_behind, length-drop g left, few, fits);
-        plain = rw pieces (plain_more (take k view) (take g left) (take r behind) (omega (arith, some, size)) blank solid plain (drop r behind) s.plain (rw parts at s.over));
-        over = rw rest_is (runs_out (take (k + (g + r)) view) (drop r behind) (omega (arith, less, length-drop r behind)) (ap is_gap (drop_first behind r less) ∙ over less));
-        lines = let n = s.lines in rw pieces (omega (arith, n, are, count_then 0 (take k view) (take g left ++ take r behind), count_then 0 (take g left) (take r behind), line_lines (take r behind) (solid_line (take r behind) solid)));
+        plain = rw pieces (plain_more (take k view) (take g left) (take r behind) (omega (arith, some, size)) blank solid plain (drop r behind) s.plain
+            (rw parts at s.over));
+        over = rw rest_is (runs_out (take (k + (g + r)) view) (drop r behind) (omega (arith, less, length-drop r behind))
+            (ap is_gap (drop_first behind r less) ∙ over less));
+        lines = let n = s.lines in rw pieces (omega (
+          arith,
+          n,
+          are,
+          count_then 0 (take k view) (take g left ++ take r behind),
+          count_then 0 (take g left)
+              (take r behind),
+          line_lines (take r behind) (solid_line (take r behind) solid),
+        ));
       }
 
 -- What was skipped.
@@ -144,12 +171,14 @@ first_of zero xs ys out b e = cc
 first_of (suc n) [] ys out b e = cc
 first_of (suc n) (c ∷ xs) ys out b e = let is : c ≡ b = cc in (take n (xs ++ ys), ap (λ h. h ∷ take n (xs ++ ys)) is)
 
-ends_at : (bytes out : List ℕ) (new : Reading) (rest : Input) → RunsOut bytes out → out ≡ take (limit - new.used) new.window → (bytes ≡ []) ⊎ ((b : ℕ) × (more : List ℕ) × (view_at new rest ≡ b ∷ more) × (is_gap b ≡ true))
+ends_at : (bytes out : List ℕ) (new : Reading) (rest : Input) → RunsOut bytes out → out ≡ take (limit - new.used) new.window
+    → (bytes ≡ []) ⊎ ((b : ℕ) × (more : List ℕ) × (view_at new rest ≡ b ∷ more) × (is_gap b ≡ true))
 ends_at bytes [] new rest over is = inl over
 ends_at bytes (b ∷ out) new rest (inl none) is = inl none
 ends_at bytes (b ∷ out) new rest (inr gap) is = let front = first_of (limit - new.used) new.window rest.bytes out b is in inr (b, front.0, front.1, gap)
 
-module _ (old new : Reading) (bytes out : List ℕ) (uses : (had : Option (List ℕ)) → Uses old new had had bytes) (plain : IsPlain bytes) (over : RunsOut bytes out) (is : out ≡ take (limit - new.used) new.window) (within : new.used ≤ limit) where
+module _ (old new : Reading) (bytes out : List ℕ) (uses : (had : Option (List ℕ)) → Uses old new had had bytes) (plain : IsPlain bytes)
+    (over : RunsOut bytes out) (is : out ≡ take (limit - new.used) new.window) (within : new.used ≤ limit) where
   skip_takes : (had : Option (List ℕ)) → Takes (among old) (among new) had had (plain.tokens old.line)
   skip_takes had = takes (uses had) within None None (plain.tokens old.line) (λ rest may.
       plain.words (is_cut (tail_at new rest)) old.line (view_at new rest) (ends_at bytes out new rest over is)
@@ -168,7 +197,8 @@ module _ (old new : Reading) (bytes out : List ℕ) (uses : (had : Option (List 
 
 -- what stands behind the front of a view
 pub behind_view : (view window : List ℕ) (room k : ℕ) → view ≡ take room window → k ≤ room → drop k view ≡ take (room - k) (drop k window)
-behind_view view window room k is few = let parts : room ≡ k + (room - k) = omega arith in ap (drop k) (is ∙ ap (λ n. take n window) parts) ∙ drop-take k (room - k) window
+behind_view view window room k is few = let parts : room ≡ k + (room - k) = omega arith in ap (drop k) (is ∙ ap (λ n. take n window) parts)
+    ∙ drop-take k (room - k) window
 
 takes_none : (place : Reading) (had : Option (List ℕ)) → Takes (among place) (among place) had had []
 takes_none place had = record { bytes = []; amount = omega arith; taken = keeps_bytes had; follows = λ rest may. may; begin = λ rest may. refl }

@@ -53,12 +53,14 @@ no_run test place had = record {
   uses = record { taken = []; consumed = keeps_bytes had; unread = append-nil place.window; used = omega arith; line = omega arith; still = inr (refl, refl) };
 }
 
-unfoldable pub all_then : {test : ℕ → Bool} {a b c : Reading} {had mid left : Option (List ℕ)} → UsesAll test a b had mid → UsesAll test b c mid left → UsesAll test a c had left
+unfoldable pub all_then : {test : ℕ → Bool} {a b c : Reading} {had mid left : Option (List ℕ)} → UsesAll test a b had mid → UsesAll test b c mid left
+    → UsesAll test a c had left
 all_then {test} p q =
     record { bytes = p.bytes ++ q.bytes; all = list_all-append test p.bytes q.bytes ∙ rw (p.all, q.all) refl; uses = uses_then p.uses q.uses }
 
 -- after a byte was looked at
-unfoldable pub all_seen : {test : ℕ → Bool} {a b c : Reading} {had mid left : Option (List ℕ)} → UsesAll test a b had mid → Uses b c mid left [] → UsesAll test a c had left
+unfoldable pub all_seen : {test : ℕ → Bool} {a b c : Reading} {had mid left : Option (List ℕ)} → UsesAll test a b had mid → Uses b c mid left []
+    → UsesAll test a c had left
 all_seen p u = record { bytes = p.bytes; all = p.all; uses = rw append-nil at (uses_then p.uses u) }
 
 -- Bytes that pass a test were used, and of them this was kept.
@@ -76,7 +78,8 @@ unfolding all_seen
 seen_so_far p u = record { used = all_seen p.used u; is = p.is }
 
 -- a byte was looked at, and then a part was used
-pub more_so_far : {A : Type 0} {test : ℕ → Bool} {keep : List ℕ → A} {a b c d : Reading} {had mid left : Option (List ℕ)} {kept : A} (part : List ℕ) (next : A) (p : SoFar test keep a b had mid kept)
+pub more_so_far : {A : Type 0} {test : ℕ → Bool} {keep : List ℕ → A} {a b c d : Reading} {had mid left : Option (List ℕ)} {kept : A} (part : List ℕ) (next : A)
+    (p : SoFar test keep a b had mid kept)
     → Uses b c mid left [] → list_all test part ≡ true → Uses c d left left part → next ≡ keep (p.used.bytes ++ part) → SoFar test keep a d had left next
 unfolding all_then all_seen
 more_so_far part next p u all uses is = record { used = all_then (all_seen p.used u) (record { bytes = part; all = all; uses = uses }); is = is }
@@ -89,7 +92,8 @@ failures_same Ended m = refl
 failures_same Broken m = refl
 
 -- failures of two steps
-pub failures_then : (a b c : End) (n m k : ℕ) → a ≡ Open ⊎ b ≡ a → b ≡ Open ⊎ c ≡ b → m ≡ failures_after a b n → k ≡ failures_after b c m → k ≡ failures_after a c n
+pub failures_then : (a b c : End) (n m k : ℕ) → a ≡ Open ⊎ b ≡ a → b ≡ Open ⊎ c ≡ b → m ≡ failures_after a b n → k ≡ failures_after b c m
+    → k ≡ failures_after a c n
 failures_then a b c n m k (inl first) (inl then) e f = cc (failures_same b n)
 failures_then a b c n m k (inr same) (inl then) e f = cc (failures_same b n)
 failures_then a b c n m k p (inr same) e f = cc (failures_same b m)
@@ -124,13 +128,15 @@ run_more run part some = elim (cases_lt 160 (length run)) [
       let front : take 160 (take 160 run ++ part) ≡ take 160 (run ++ part) =
       take_room (take 160 run) part 0 (omega arith) ∙ append-nil (take 160 run) ∙ sym (take-append-le 160 run part (omega arith)) in
       let whole : nat_lt (length (take 160 run ++ part)) 161 ≡ nat_lt (length (run ++ part)) 161 =
-      le-ltb (length (take 160 run ++ part)) 161 (omega (arith, size, length-append (take 160 run) part)) ∙ sym (le-ltb (length (run ++ part)) 161 (omega (arith, length-append run part))) in
+      le-ltb (length (take 160 run ++ part)) 161 (omega (arith, size, length-append (take 160 run) part))
+      ∙ sym (le-ltb (length (run ++ part)) 161 (omega (arith, length-append run part))) in
       rw (front, whole) refl
   | inr short ↦ ap (λ r. kept_of_run (r ++ part)) (take_all 160 run short)
 ]
 
 -- a run is over
-pub run_over : {old new : Reading} {had left : Option (List ℕ)} {kept : List ℕ} (fits : Bool) → SoFar is_in_word kept_of_run old new had left (kept, fits) → IsRunOver new → RunsTo old new had left kept (Ok fits)
+pub run_over : {old new : Reading} {had left : Option (List ℕ)} {kept : List ℕ} (fits : Bool) → SoFar is_in_word kept_of_run old new had left (kept, fits)
+    → IsRunOver new → RunsTo old new had left kept (Ok fits)
 run_over {kept = kept} true p over =
     let few : length p.used.bytes < 161 = ltb-true (length p.used.bytes) 161 (sym (ap (λ k. k.1) p.is)) in
     let whole : kept ≡ p.used.bytes = ap (λ k. k.0) p.is ∙ take_all 160 p.used.bytes (omega arith) in
@@ -140,11 +146,13 @@ run_over false p over =
     (p.used.bytes, omega arith, record { solid = p.used.all; uses = p.used.uses }, over)
 
 -- a gap, and a run behind it
-gap_run : {a b c : Reading} {had mid left : Option (List ℕ)} (number : ℕ) {run : List ℕ} → UsesAll is_gap a b had mid → UsesSolid b c mid left run → number ≡ b.line → UsesRun a c had left number run
+gap_run : {a b c : Reading} {had mid left : Option (List ℕ)} (number : ℕ) {run : List ℕ} → UsesAll is_gap a b had mid → UsesSolid b c mid left run
+    → number ≡ b.line → UsesRun a c had left number run
 gap_run number p q is = record { gap = p.bytes; blank = p.all; solid = q.solid; uses = uses_then p.uses q.uses; line = is ∙ p.uses.line }
 
 -- a run is not empty where a byte stands that is in no gap
-first_byte : (b : ℕ) (rest : List ℕ) (new : Reading) (taken run : List ℕ) → (b ∷ rest) ++ taken ≡ run ++ new.window → is_gap b ≡ false → IsRunOver new → 0 < length run
+first_byte : (b : ℕ) (rest : List ℕ) (new : Reading) (taken run : List ℕ) → (b ∷ rest) ++ taken ≡ run ++ new.window → is_gap b ≡ false → IsRunOver new
+    → 0 < length run
 first_byte b rest new taken [] e out (inl here) = grind (arith, e, here.2, here.3, out)
 first_byte b rest new taken [] e out (inr ended) = grind (arith, e, ended.0)
 first_byte b rest new taken (c ∷ run) e out over = omega arith
@@ -154,7 +162,8 @@ cut_line {run = run} number q is = let u = q.uses in omega (arith, is, u.line, l
 
 -- a gap and the run behind it are the word that is found, or the fault
 pub found_uses : (old mid new : Reading) (had met left : Option (List ℕ)) (word : Read) (run : Result Bool ReadFault)
-    → UsesAll is_gap old mid had met → word.line ≡ mid.line → RunsTo mid new met left word.bytes.items run → UsesWord old new had left (found_by word (found_of run word.line))
+    → UsesAll is_gap old mid had met → word.line ≡ mid.line → RunsTo mid new met left word.bytes.items run
+    → UsesWord old new had left (found_by word (found_of run word.line))
 found_uses old mid new had met left word (Ok true) p line q = (gap_run word.line p q.0 line, q.1)
 found_uses old mid new had met left word (Ok false) p line (run, long, q, over) = (run, long, gap_run word.line p q line, over)
 found_uses old mid new had met left word (Err (TooLong number)) p line q = absurd q.2
@@ -175,7 +184,8 @@ found_stands mid new met left word (Err (Device number)) b rest q at out = q.2
 pub uses_cut : (old new : Reading) (had left : Option (List ℕ)) (fault : ReadFault) → UsesAll is_gap old new had left → Peeks new (Err fault) → UsesWord old new had left (Err fault)
 unfolding no_run
 uses_cut old new had left fault p at =
-    found_uses old new new had left left (record { bytes = record { items = [] }; line = new.line }) (Err fault) p refl ([], record { solid = refl; uses = (no_run is_gap new left).uses }, at)
+    found_uses old new new had left left (record { bytes = record { items = [] }; line = new.line }) (Err fault) p refl
+    ([], record { solid = refl; uses = (no_run is_gap new left).uses }, at)
 
 pub fault_sticks : (fault : ReadFault) (place : Reading) → Peeks place (Err fault) → Sticks place fault
 fault_sticks (TooLong line) place at = tt

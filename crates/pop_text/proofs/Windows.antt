@@ -15,19 +15,24 @@ window_length : (cells : List ℕ) (start stop : ℕ) → stop ≤ length cells 
 window_length cells start stop within = omega (arith, length-take (stop - start) (drop start cells), length-drop start cells, within)
 
 -- its first byte
-window_front : (cells : List ℕ) (start stop : ℕ) → start < stop → stop ≤ length cells → slice_range cells start stop ≡ get_or cells start 0 ∷ slice_range cells (start + 1) stop
+window_front : (cells : List ℕ) (start stop : ℕ) → start < stop → stop ≤ length cells
+    → slice_range cells start stop ≡ get_or cells start 0 ∷ slice_range cells (start + 1) stop
 window_front cells start stop some within =
     let one : stop - start ≡ suc (stop - (start + 1)) = omega arith in
     rw (drop_more cells start 0 (omega arith), one) refl
 
 -- and what stands behind others
-window_drop : (cells : List ℕ) (start stop count : ℕ) → start + count ≤ stop → slice_range cells (start + count) stop ≡ drop count (slice_range cells start stop)
+window_drop : (cells : List ℕ) (start stop count : ℕ) → start + count ≤ stop
+    → slice_range cells (start + count) stop ≡ drop count (slice_range cells start stop)
 window_drop cells start stop count within =
     let parts : stop - start ≡ count + (stop - (start + count)) = omega arith in
-    sym (ap (λ n. drop count (take n (drop start cells))) parts ∙ drop-take count (stop - (start + count)) (drop start cells) ∙ ap (take (stop - (start + count))) (drop-drop count start cells))
+    sym (ap (λ n. drop count (take n (drop start cells))) parts ∙ drop-take count (stop - (start + count)) (drop start cells)
+    ∙ ap (take (stop - (start + count))) (drop-drop count start cells))
 
 -- bytes were used of it
-front_used : (old new : Reading) (had : Option (List ℕ)) (count : ℕ) → count ≤ length old.window → new.window ≡ drop count old.window → new.used ≡ old.used + count → new.line ≡ old.line + count_by is_line_end (take count old.window) → new.end ≡ old.end → Uses old new had had (take count old.window)
+front_used : (old new : Reading) (had : Option (List ℕ)) (count : ℕ) → count ≤ length old.window → new.window ≡ drop count old.window
+    → new.used ≡ old.used + count → new.line ≡ old.line + count_by is_line_end (take count old.window) → new.end ≡ old.end
+    → Uses old new had had (take count old.window)
 front_used old new had count within window used line end = record {
   taken = [];
   consumed = keeps_bytes had;
@@ -45,13 +50,16 @@ module _ (cells : List ℕ) (start stop : ℕ) (within : stop ≤ length cells) 
   pub front_peeks : (used line : ℕ) (end : End) → start < stop → used < limit → Peeks (reading start used line end) (Ok (Some (get_or cells start 0)))
   front_peeks used line end some room = (slice_range cells (start + 1) stop, window_front cells start stop some within, room)
 
-  pub some_used : (used line count lines : ℕ) (end : End) (had : Option (List ℕ)) → start ≤ stop → count ≤ length (slice_range cells start stop) → lines ≡ count_by is_line_end (take count (slice_range cells start stop))
+  pub some_used : (used line count lines : ℕ) (end : End) (had : Option (List ℕ)) → start ≤ stop → count ≤ length (slice_range cells start stop)
+      → lines ≡ count_by is_line_end (take count (slice_range cells start stop))
       → Uses (reading start used line end) (reading (start + count) (used + count) (line + lines) end) had had (take count (slice_range cells start stop))
   some_used used line count lines end had in_order few are =
       let room : start + count ≤ stop = omega (arith, window_length cells start stop within, few) in
-      front_used (reading start used line end) (reading (start + count) (used + count) (line + lines) end) had count few (window_drop cells start stop count room) refl (ap (λ n. line + n) are) refl
+      front_used (reading start used line end) (reading (start + count) (used + count) (line + lines) end) had count few
+      (window_drop cells start stop count room) refl (ap (λ n. line + n) are) refl
 
-  pub rest_waits : (count : ℕ) → start ≤ stop → count ≤ length (slice_range cells start stop) → slice_range cells (start + count) stop ≡ drop count (slice_range cells start stop)
+  pub rest_waits : (count : ℕ) → start ≤ stop → count ≤ length (slice_range cells start stop)
+      → slice_range cells (start + count) stop ≡ drop count (slice_range cells start stop)
   rest_waits count in_order few = window_drop cells start stop count (omega (arith, window_length cells start stop within, few))
 
 -- The bytes that belong to the input.
@@ -62,7 +70,8 @@ pub record IsWithin (now : Reading) (view : List ℕ) (count : ℕ) : Type 0 whe
   pub few : count ≤ length now.window
   pub room : now.used + count ≤ limit
 
-module _ (now : Reading) (view : List ℕ) (count : ℕ) (within : now.used ≤ limit) (is : view ≡ take (limit - now.used) now.window) (few : count ≤ length view) where
+module _ (now : Reading) (view : List ℕ) (count : ℕ) (within : now.used ≤ limit) (is : view ≡ take (limit - now.used) now.window)
+    (few : count ≤ length view) where
   pub view_within : IsWithin now view count
   view_within =
       let size : length view ≤ limit - now.used = omega (arith, ap length is, length-take (limit - now.used) now.window) in
@@ -78,7 +87,8 @@ module _ (now : Reading) (view : List ℕ) (count : ℕ) (within : now.used ≤ 
       is ∙ ap (λ n. take n now.window) one ∙ ap (take (suc (limit - now.used - 1))) at
 
   -- some stand there, where the window's first byte passes a test
-  pub view_some : (test : ℕ → Bool) → ((b : ℕ) (rest : List ℕ) → view ≡ b ∷ rest → test b ≡ true → 0 < count) → (b : ℕ) (rest : List ℕ) → now.window ≡ b ∷ rest → test b ≡ true → now.used < limit → 0 < count
+  pub view_some : (test : ℕ → Bool) → ((b : ℕ) (rest : List ℕ) → view ≡ b ∷ rest → test b ≡ true → 0 < count) → (b : ℕ) (rest : List ℕ) → now.window ≡ b ∷ rest
+      → test b ≡ true → now.used < limit → 0 < count
   view_some test some b rest at passes room = some b (take (limit - now.used - 1) rest) (first_byte b rest at room) passes
 
   pub front_is : (test : ℕ → Bool) → ((bytes : List ℕ) → list_all test bytes ≡ true → list_all is_in_line bytes ≡ true) → list_all test (take count view) ≡ true
@@ -97,7 +107,8 @@ module _ (now : Reading) (view : List ℕ) (count : ℕ) (within : now.used ≤ 
       }
 
 -- bytes before the first line end
-pub plain_front : (view : List ℕ) (count : ℕ) → count ≤ length view → ((k : ℕ) → k < count → (slice_index view k == 10) ≡ true → ⊥) → list_all is_in_line (take count view) ≡ true
+pub plain_front : (view : List ℕ) (count : ℕ) → count ≤ length view → ((k : ℕ) → k < count → (slice_index view k == 10) ≡ true → ⊥)
+    → list_all is_in_line (take count view) ≡ true
 plain_front view zero within none = refl
 plain_front [] (suc count) within none = absurd (omega arith)
 plain_front (b ∷ view) (suc count) within none = elim (cases_Bool (b == 10)) [

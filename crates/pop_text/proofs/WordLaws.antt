@@ -13,7 +13,8 @@ blank_parts cut n b (l ∷ []) h = rw h refl
 blank_parts cut n b (l ∷ m ∷ ls) h = rw h refl
 
 -- a blank says nothing
-skip_blank : (cut : Bool) (n b : ℕ) (view : List ℕ) → is_blank b ≡ true → is_line_end b ≡ false → tokens_from None cut n (b ∷ view) ≡ tokens_from None cut n view
+skip_blank : (cut : Bool) (n b : ℕ) (view : List ℕ) → is_blank b ≡ true → is_line_end b ≡ false
+    → tokens_from None cut n (b ∷ view) ≡ tokens_from None cut n view
 skip_blank cut n b view h e = rw e (blank_parts cut n b (slice_split is_line_end view) h)
 
 empty_line : (cut : Bool) (n : ℕ) (parts : List (List ℕ)) → lines_tokens cut n ([] ∷ parts) ≡ lines_tokens cut (n + 1) parts
@@ -44,19 +45,23 @@ word_byte b h = neither (is_line_end b) (is_blank b) h
 pub all_parts : (test : ℕ → Bool) (b : ℕ) (bytes : List ℕ) → list_all test (b ∷ bytes) ≡ true → (test b ≡ true) × (list_all test bytes ≡ true)
 all_parts test b bytes h = grind arith
 
-skip_one : (cut : Bool) (n b : ℕ) (view : List ℕ) → is_gap b ≡ true → tokens_from None cut n (b ∷ view) ≡ tokens_from None cut (n + cond (is_line_end b) 1 0) view
+skip_one : (cut : Bool) (n b : ℕ) (view : List ℕ) → is_gap b ≡ true
+    → tokens_from None cut n (b ∷ view) ≡ tokens_from None cut (n + cond (is_line_end b) 1 0) view
 skip_one cut n b view h = elim (gap_byte b h) [
   | inl is ↦ rw (ap (λ t. n + cond t 1 0) is) (skip_line_end cut n b view is)
-  | inr plain ↦ skip_blank cut n b view plain.0 plain.1 ∙ ap (λ m. tokens_from None cut m view) (let same : n ≡ n + 0 = omega arith in same ∙ ap (λ t. n + cond t 1 0) (sym plain.1))
+  | inr plain ↦ skip_blank cut n b view plain.0 plain.1 ∙ ap (λ m. tokens_from None cut m view)
+      (let same : n ≡ n + 0 = omega arith in same ∙ ap (λ t. n + cond t 1 0) (sym plain.1))
 ]
 
 -- a gap only counts lines
-pub skip_gap : (cut : Bool) (n : ℕ) (gap view : List ℕ) → list_all is_gap gap ≡ true → tokens_from None cut n (gap ++ view) ≡ tokens_from None cut (n + count_by is_line_end gap) view
+pub skip_gap : (cut : Bool) (n : ℕ) (gap view : List ℕ) → list_all is_gap gap ≡ true
+    → tokens_from None cut n (gap ++ view) ≡ tokens_from None cut (n + count_by is_line_end gap) view
 skip_gap cut n [] view h = ap (λ m. tokens_from None cut m view) (omega arith)
 skip_gap cut n (b ∷ gap) view h =
     let p = all_parts is_gap b gap h in
     skip_one cut n b (gap ++ view) p.0 ∙ skip_gap cut (n + cond (is_line_end b) 1 0) gap view p.1
-    ∙ ap (λ m. tokens_from None cut m view) (let sum : count_by is_line_end (b ∷ gap) ≡ (0 + cond (is_line_end b) 1 0) + count_by is_line_end gap = sum_by-append (λ x. cond (is_line_end x) 1 0) (b ∷ []) gap in omega (arith, sum))
+    ∙ ap (λ m. tokens_from None cut m view) (let sum : count_by is_line_end (b ∷ gap)
+    ≡ (0 + cond (is_line_end b) 1 0) + count_by is_line_end gap = sum_by-append (λ x. cond (is_line_end x) 1 0) (b ∷ []) gap in omega (arith, sum))
 
 -- Runs of a line.
 
@@ -102,7 +107,8 @@ line_lines [] h = refl
 line_lines (b ∷ line) h =
     let p = all_parts is_in_line b line h in
     let one : ◌≡◌ {A = ℕ} (cond (is_line_end b) 1 0) 0 = ap (λ t. cond t 1 0) (no_line_end b p.0) in
-    let sum : count_by is_line_end (b ∷ line) ≡ (0 + cond (is_line_end b) 1 0) + count_by is_line_end line = sum_by-append (λ x. cond (is_line_end x) 1 0) (b ∷ []) line in
+    let sum : count_by is_line_end (b ∷ line) ≡ (0 + cond (is_line_end b) 1 0)
+    + count_by is_line_end line = sum_by-append (λ x. cond (is_line_end x) 1 0) (b ∷ []) line in
     omega (arith, sum, one, line_lines line p.1)
 
 -- a run's bytes are bytes of a line
@@ -120,31 +126,38 @@ run_lines true cut n run parts = text_lines run cut n parts
 run_lines false cut n run parts = Word n run ∷ lines_tokens cut n parts
 
 abbrev first_tokens : Bool → Bool → ℕ → List ℕ → List ℕ → List Token
-first_tokens text cut n run line = if text then (if cut then [] else TextLine n run line ∷ []) else (if cut && is_line_over line then [] else Word n run ∷ tokens_of cut n (runs_of line))
+first_tokens text cut n run line = if text then (if cut then [] else TextLine n run line ∷ [])
+    else (if cut && is_line_over line then [] else Word n run ∷ tokens_of cut n (runs_of line))
 
-first_of : (cut : Bool) (n b : ℕ) (run line : List ℕ) → list_all is_in_word (b ∷ run) ≡ true → Apart line → tokens_of cut n (runs_of ((b ∷ run) ++ line)) ≡ first_tokens (is_text_word (b ∷ run)) cut n (b ∷ run) line
+first_of : (cut : Bool) (n b : ℕ) (run line : List ℕ) → list_all is_in_word (b ∷ run) ≡ true → Apart line
+    → tokens_of cut n (runs_of ((b ∷ run) ++ line)) ≡ first_tokens (is_text_word (b ∷ run)) cut n (b ∷ run) line
 first_of cut n b run line h apart = ap (tokens_of cut n) (runs_front b run line h apart)
 
 end_by : (text : Bool) (n : ℕ) (run : List ℕ) → first_tokens text false n run [] ≡ run_lines text false n run ([] ∷ [])
 end_by true n run = refl
 end_by false n run = refl
 
-line_by : (text cut : Bool) (n : ℕ) (run line m : List ℕ) (ms : List (List ℕ)) → first_tokens text false n run line ++ lines_tokens cut (n + 1) (m ∷ ms) ≡ run_lines text cut n run (line ∷ m ∷ ms)
+line_by : (text cut : Bool) (n : ℕ) (run line m : List ℕ) (ms : List (List ℕ))
+    → first_tokens text false n run line ++ lines_tokens cut (n + 1) (m ∷ ms) ≡ run_lines text cut n run (line ∷ m ∷ ms)
 line_by true cut n run line m ms = refl
 line_by false cut n run line m ms = refl
 
-blank_by : (text cut : Bool) (n : ℕ) (run : List ℕ) (c : ℕ) (line : List ℕ) → first_tokens text cut n run (c ∷ line) ≡ run_lines text cut n run ((c ∷ line) ∷ [])
+blank_by : (text cut : Bool) (n : ℕ) (run : List ℕ) (c : ℕ) (line : List ℕ)
+    → first_tokens text cut n run (c ∷ line) ≡ run_lines text cut n run ((c ∷ line) ∷ [])
 blank_by true true n run c line = refl
 blank_by true false n run c line = refl
 blank_by false true n run c line = refl
 blank_by false false n run c line = refl
 
-run_parts : (cut : Bool) (n b : ℕ) (run l : List ℕ) (ls : List (List ℕ)) → list_all is_in_word (b ∷ run) ≡ true → Over cut (l ∷ ls) → lines_tokens cut n (((b ∷ run) ++ l) ∷ ls) ≡ run_lines (is_text_word (b ∷ run)) cut n (b ∷ run) (l ∷ ls)
+run_parts : (cut : Bool) (n b : ℕ) (run l : List ℕ) (ls : List (List ℕ)) → list_all is_in_word (b ∷ run) ≡ true → Over cut (l ∷ ls)
+    → lines_tokens cut n (((b ∷ run) ++ l) ∷ ls) ≡ run_lines (is_text_word (b ∷ run)) cut n (b ∷ run) (l ∷ ls)
 run_parts false n b run [] [] h at_end = first_of false n b run [] h nothing ∙ end_by (is_text_word (b ∷ run)) n (b ∷ run)
 run_parts true n b run [] [] h over = elim over [ ]
-run_parts cut n b run [] (m ∷ ms) h at_line_end = ap (λ ts. ts ++ lines_tokens cut (n + 1) (m ∷ ms)) (first_of false n b run [] h nothing) ∙ line_by (is_text_word (b ∷ run)) cut n (b ∷ run) [] m ms
+run_parts cut n b run [] (m ∷ ms) h at_line_end = ap (λ ts. ts ++ lines_tokens cut (n + 1) (m ∷ ms)) (first_of false n b run [] h nothing)
+    ∙ line_by (is_text_word (b ∷ run)) cut n (b ∷ run) [] m ms
 run_parts cut n b run (c ∷ l) [] h (at_blank is) = first_of cut n b run (c ∷ l) h (blank is) ∙ blank_by (is_text_word (b ∷ run)) cut n (b ∷ run) c l
-run_parts cut n b run (c ∷ l) (m ∷ ms) h (at_blank is) = ap (λ ts. ts ++ lines_tokens cut (n + 1) (m ∷ ms)) (first_of false n b run (c ∷ l) h (blank is)) ∙ line_by (is_text_word (b ∷ run)) cut n (b ∷ run) (c ∷ l) m ms
+run_parts cut n b run (c ∷ l) (m ∷ ms) h (at_blank is) = ap (λ ts. ts ++ lines_tokens cut (n + 1) (m ∷ ms)) (first_of false n b run (c ∷ l) h (blank is))
+    ∙ line_by (is_text_word (b ∷ run)) cut n (b ∷ run) (c ∷ l) m ms
 
 -- a view in which a run just ended
 pub data RunEnds : Bool → List ℕ → Type 0 where
@@ -179,15 +192,18 @@ parts_of cut (b ∷ view) (with_gap h) =
       | inr plain ↦ record { first = b ∷ s.0; others = s.1; are = rw (plain.1, s.2) refl; over = at_blank plain.0 }
     ]
 
-run_tokens_are : (text cut : Bool) (n : ℕ) (run view l : List ℕ) (ls : List (List ℕ)) → slice_split is_line_end view ≡ l ∷ ls → run_lines text cut n run (l ∷ ls) ≡ run_tokens text cut n run view
+run_tokens_are : (text cut : Bool) (n : ℕ) (run view l : List ℕ) (ls : List (List ℕ)) → slice_split is_line_end view ≡ l ∷ ls
+    → run_lines text cut n run (l ∷ ls) ≡ run_tokens text cut n run view
 run_tokens_are true cut n run view l ls e = rw e refl
 run_tokens_are false cut n run view l ls e = rw e refl
 
 -- a run that is over is the first token, or the text word behind which the next one begins
-pub take_run : (cut : Bool) (n b : ℕ) (run view : List ℕ) → list_all is_in_word (b ∷ run) ≡ true → RunEnds cut view → tokens_from None cut n ((b ∷ run) ++ view) ≡ run_tokens (is_text_word (b ∷ run)) cut n (b ∷ run) view
+pub take_run : (cut : Bool) (n b : ℕ) (run view : List ℕ) → list_all is_in_word (b ∷ run) ≡ true → RunEnds cut view
+    → tokens_from None cut n ((b ∷ run) ++ view) ≡ run_tokens (is_text_word (b ∷ run)) cut n (b ∷ run) view
 take_run cut n b run view h ends =
     let p = parts_of cut view ends in
-    ap (lines_tokens cut n) (line_parts (b ∷ run) view p.first p.others (solid_line (b ∷ run) h) p.are) ∙ run_parts cut n b run p.first p.others h p.over ∙ run_tokens_are (is_text_word (b ∷ run)) cut n (b ∷ run) view p.first p.others p.are
+    ap (lines_tokens cut n) (line_parts (b ∷ run) view p.first p.others (solid_line (b ∷ run) h) p.are) ∙ run_parts cut n b run p.first p.others h p.over
+    ∙ run_tokens_are (is_text_word (b ∷ run)) cut n (b ∷ run) view p.first p.others p.are
 
 cut_by : (text : Bool) (n : ℕ) (run : List ℕ) → first_tokens text true n run [] ≡ []
 cut_by true n run = refl
@@ -197,16 +213,20 @@ cut_by false n run = refl
 pub drop_run : (n : ℕ) (run : List ℕ) → list_all is_in_word run ≡ true → tokens_from None true n run ≡ []
 drop_run n [] h = refl
 drop_run n (b ∷ run) h =
-    ap (tokens_from None true n) (sym (append-nil (b ∷ run))) ∙ ap (lines_tokens true n) (line_parts (b ∷ run) [] [] [] (solid_line (b ∷ run) h) refl) ∙ first_of true n b run [] h nothing ∙ cut_by (is_text_word (b ∷ run)) n (b ∷ run)
+    ap (tokens_from None true n) (sym (append-nil (b ∷ run))) ∙ ap (lines_tokens true n) (line_parts (b ∷ run) [] [] [] (solid_line (b ∷ run) h) refl)
+    ∙ first_of true n b run [] h nothing ∙ cut_by (is_text_word (b ∷ run)) n (b ∷ run)
 
 -- Text lines.
 
 -- behind a text word, a line that its line end ends is the first token
-pub take_line : (keyword : List ℕ) (cut : Bool) (n : ℕ) (line view : List ℕ) → list_all is_in_line line ≡ true → tokens_from (Some keyword) cut n (line ++ 10 ∷ view) ≡ TextLine n keyword line ∷ tokens_from None cut (n + 1) view
+pub take_line : (keyword : List ℕ) (cut : Bool) (n : ℕ) (line view : List ℕ) → list_all is_in_line line ≡ true
+    → tokens_from (Some keyword) cut n (line ++ 10 ∷ view) ≡ TextLine n keyword line ∷ tokens_from None cut (n + 1) view
 take_line keyword cut n line view h =
     let s = split_some view in
     rw (line_parts line (10 ∷ view) [] (s.0 ∷ s.1) h (rw s.2 refl), s.2, append-nil line) refl
 
 -- one that the end of the view ends is the last, where nothing is cut, and otherwise no token
-pub take_last_line : (keyword : List ℕ) (cut : Bool) (n : ℕ) (line : List ℕ) → list_all is_in_line line ≡ true → tokens_from (Some keyword) cut n line ≡ (if cut then [] else TextLine n keyword line ∷ [])
-take_last_line keyword cut n line h = ap (tokens_from (Some keyword) cut n) (sym (append-nil line)) ∙ ap (text_lines keyword cut n) (line_parts line [] [] [] h refl) ∙ ap (λ l. if cut then [] else TextLine n keyword l ∷ []) (append-nil line)
+pub take_last_line : (keyword : List ℕ) (cut : Bool) (n : ℕ) (line : List ℕ) → list_all is_in_line line ≡ true
+    → tokens_from (Some keyword) cut n line ≡ (if cut then [] else TextLine n keyword line ∷ [])
+take_last_line keyword cut n line h = ap (tokens_from (Some keyword) cut n) (sym (append-nil line))
+    ∙ ap (text_lines keyword cut n) (line_parts line [] [] [] h refl) ∙ ap (λ l. if cut then [] else TextLine n keyword l ∷ []) (append-nil line)

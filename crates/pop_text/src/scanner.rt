@@ -66,9 +66,15 @@ impl Model for Scanner {
 
     ghost Value = { Reading };
 
-    ghost view = { λ s. record { window = slice_range s.cells s.start s.stop; used = s.used; line = s.line; end = s.end } };
+    ghost view = { λ s. record {
+      window = slice_range s.cells s.start s.stop;
+      used = s.used;
+      line = s.line;
+      end = s.end;
+    } };
 
-    ghost invariant = { λ s. (s.start ≤ s.stop) × (s.stop ≤ 4096) × (s.used ≤ 2 ^ 30) × (s.line ≤ s.used + 1) };
+    ghost invariant = { λ s. (s.start ≤ s.stop) × (s.stop ≤ 4096) × (s.used ≤ 2 ^ 30)
+        × (s.line ≤ s.used + 1) };
 }
 
 impl Scanner {
@@ -100,7 +106,8 @@ impl Scanner {
         ensures uses { Uses self.old self.new (S.remaining source.old) (S.remaining source.new) [] }
         ensures known { self.new.window ≡ [] → self.new.end ≢ End.Open }
         ensures waits { length self.new.window ≤ 4096 }
-        ensures asks { Asks self.old.end self.new.end (S.remaining source.old) (S.remaining source.new) (S.failures source.old) (S.failures source.new) }
+        ensures asks { Asks self.old.end self.new.end (S.remaining source.old)
+            (S.remaining source.new) (S.failures source.old) (S.failures source.new) }
         ensures kept { self.old.end ≢ End.Open ⊎ 0 < length self.old.window → self.new ≡ self.old }
     {
         if self.start < self.stop {
@@ -125,8 +132,10 @@ impl Scanner {
         ensures uses { Uses self.old self.new (S.remaining source.old) (S.remaining source.new) [] }
         ensures at { Peeks self.new result }
         ensures waits { length self.new.window ≤ 4096 }
-        ensures asks { Asks self.old.end self.new.end (S.remaining source.old) (S.remaining source.new) (S.failures source.old) (S.failures source.new) }
-        ensures stuck { (fault : ReadFault) → Peeks self.old (Err fault) → (result ≡ Err fault) × (self.new ≡ self.old) }
+        ensures asks { Asks self.old.end self.new.end (S.remaining source.old)
+            (S.remaining source.new) (S.failures source.old) (S.failures source.new) }
+        ensures stuck { (fault : ReadFault) → Peeks self.old (Err fault)
+            → (result ≡ Err fault) × (self.new ≡ self.old) }
     {
         self.refill(source);
         if self.start < self.stop {
@@ -147,7 +156,8 @@ impl Scanner {
         requires waits { count ≤ length self.old.window }
         requires room { self.old.used + count ≤ limit }
         requires lines { line_ends ≡ count_by is_line_end (take count self.old.window) }
-        ensures uses { (had : Option (List ℕ)) → Uses self.old self.new had had (take count self.old.window) }
+        ensures uses { (had : Option (List ℕ))
+            → Uses self.old self.new had had (take count self.old.window) }
         ensures end { self.new.end ≡ self.old.end }
         ensures used { self.new.used ≡ self.old.used + count }
         ensures window { self.new.window ≡ drop count self.old.window }
@@ -199,7 +209,8 @@ impl Scanner {
         ensures end { self.new.end ≡ self.old.end }
         ensures waits { length self.new.window ≤ length self.old.window }
         ensures within { self.new.used ≤ limit }
-        ensures some { (b : ℕ) → (rest : List ℕ) → self.old.window ≡ b ∷ rest → is_gap b ≡ true → self.old.used < limit → self.old.used < self.new.used }
+        ensures some { (b : ℕ) → (rest : List ℕ) → self.old.window ≡ b ∷ rest → is_gap b ≡ true
+            → self.old.used < limit → self.old.used < self.new.used }
     {
         let gap = gap_front(self.view());
         self.advance(gap.count, gap.line_ends);
@@ -209,12 +220,15 @@ impl Scanner {
     #[tactic(auto, using(crate::proofs::Using::all_seen))]
     fn skip_gap<S: Source>(&mut self, source: &mut S) -> Result<Option<u8>, ReadFault>
         requires { self.old.end ≡ End.Open → S.failures source.old < greatest }
-        ensures uses { UsesAll is_gap self.old self.new (S.remaining source.old) (S.remaining source.new) }
+        ensures uses { UsesAll is_gap self.old self.new (S.remaining source.old)
+            (S.remaining source.new) }
         ensures at { Peeks self.new result }
         ensures other { IfOk result (λ o. IfSome o (λ b. is_gap b ≡ false)) }
         ensures waits { length self.new.window ≤ 4096 }
-        ensures asks { Asks self.old.end self.new.end (S.remaining source.old) (S.remaining source.new) (S.failures source.old) (S.failures source.new) }
-        ensures stuck { (fault : ReadFault) → Peeks self.old (Err fault) → (result ≡ Err fault) × (self.new ≡ self.old) }
+        ensures asks { Asks self.old.end self.new.end (S.remaining source.old)
+            (S.remaining source.new) (S.failures source.old) (S.failures source.new) }
+        ensures stuck { (fault : ReadFault) → Peeks self.old (Err fault)
+            → (result ≡ Err fault) × (self.new ≡ self.old) }
     {
         'gap: loop {
             match self.peek(source) {
@@ -232,9 +246,11 @@ impl Scanner {
     ) -> Result<bool, ReadFault>
         requires failures { self.old.end ≡ End.Open → S.failures source.old < greatest }
         requires empty { word.old.items ≡ [] }
-        ensures run { RunsTo self.old self.new (S.remaining source.old) (S.remaining source.new) word.new.items result }
+        ensures run { RunsTo self.old self.new (S.remaining source.old) (S.remaining source.new)
+            word.new.items result }
         ensures waits { length self.new.window ≤ 4096 }
-        ensures asks { Asks self.old.end self.new.end (S.remaining source.old) (S.remaining source.new) (S.failures source.old) (S.failures source.new) }
+        ensures asks { Asks self.old.end self.new.end (S.remaining source.old)
+            (S.remaining source.new) (S.failures source.old) (S.failures source.new) }
     {
         let mut fits = true;
         'run: loop {
@@ -262,14 +278,19 @@ impl Scanner {
     /// A word that the limit of the input or a failure cuts is none: that fault is answered in its place.
     pub fn next_word<S: Source>(&mut self, source: &mut S) -> Result<Option<Word>, ReadFault>
         requires { self.old.end ≡ End.Open → S.failures source.old < greatest }
-        ensures word { NextWord self.old self.new (S.remaining source.old) (S.remaining source.new) result }
-        ensures used { UsesWord self.old self.new (S.remaining source.old) (S.remaining source.new) result }
+        ensures word { NextWord self.old self.new (S.remaining source.old) (S.remaining source.new)
+            result }
+        ensures used { UsesWord self.old self.new (S.remaining source.old) (S.remaining source.new)
+            result }
         ensures sticks { IfErr result (Sticks self.new) }
         ensures waits { length self.new.window ≤ 4096 }
-        ensures seen { IsSeen self.old.end (S.remaining source.old) → IsSeen self.new.end (S.remaining source.new) }
+        ensures seen { IsSeen self.old.end (S.remaining source.old)
+            → IsSeen self.new.end (S.remaining source.new) }
         ensures ends { self.old.end ≡ End.Open ⊎ self.new.end ≡ self.old.end }
-        ensures counted { S.failures source.new ≡ failures_after self.old.end self.new.end (S.failures source.old) }
-        ensures stuck { (fault : ReadFault) → Peeks self.old (Err fault) → (result ≡ Err fault) × (self.new ≡ self.old) }
+        ensures counted { S.failures source.new
+            ≡ failures_after self.old.end self.new.end (S.failures source.old) }
+        ensures stuck { (fault : ReadFault) → Peeks self.old (Err fault)
+            → (result ≡ Err fault) × (self.new ≡ self.old) }
     {
         let mut word = Word::new();
         match self.read_word(source, &mut word) {
@@ -286,14 +307,19 @@ impl Scanner {
         word: &mut Word,
     ) -> Result<Found, ReadFault>
         requires { self.old.end ≡ End.Open → S.failures source.old < greatest }
-        ensures word { NextWord self.old self.new (S.remaining source.old) (S.remaining source.new) (found_by word.new result) }
-        ensures used { UsesWord self.old self.new (S.remaining source.old) (S.remaining source.new) (found_by word.new result) }
+        ensures word { NextWord self.old self.new (S.remaining source.old) (S.remaining source.new)
+            (found_by word.new result) }
+        ensures used { UsesWord self.old self.new (S.remaining source.old) (S.remaining source.new)
+            (found_by word.new result) }
         ensures sticks { IfErr result (Sticks self.new) }
         ensures waits { length self.new.window ≤ 4096 }
-        ensures seen { IsSeen self.old.end (S.remaining source.old) → IsSeen self.new.end (S.remaining source.new) }
+        ensures seen { IsSeen self.old.end (S.remaining source.old)
+            → IsSeen self.new.end (S.remaining source.new) }
         ensures ends { self.old.end ≡ End.Open ⊎ self.new.end ≡ self.old.end }
-        ensures counted { S.failures source.new ≡ failures_after self.old.end self.new.end (S.failures source.old) }
-        ensures stuck { (fault : ReadFault) → Peeks self.old (Err fault) → (result ≡ Err fault) × (self.new ≡ self.old) }
+        ensures counted { S.failures source.new
+            ≡ failures_after self.old.end self.new.end (S.failures source.old) }
+        ensures stuck { (fault : ReadFault) → Peeks self.old (Err fault)
+            → (result ≡ Err fault) × (self.new ≡ self.old) }
     {
         match self.skip_gap(source) {
             Ok(None) => Ok(Found::Nothing),
@@ -312,14 +338,20 @@ impl Scanner {
     /// A line that the limit of the input or a failure cuts gives that fault, and never `TooLong`.
     pub fn rest_of_line<S: Source>(&mut self, source: &mut S) -> Result<Text, ReadFault>
         requires { self.old.end ≡ End.Open → S.failures source.old < greatest }
-        ensures text { (keyword : List ℕ) → RestOfLine keyword self.old self.new (S.remaining source.old) (S.remaining source.new) result }
-        ensures used { UsesLine self.old self.new (S.remaining source.old) (S.remaining source.new) result }
+        ensures text { (keyword : List ℕ)
+            → RestOfLine keyword self.old self.new (S.remaining source.old) (S.remaining source.new)
+            result }
+        ensures used { UsesLine self.old self.new (S.remaining source.old) (S.remaining source.new)
+            result }
         ensures sticks { IfErr result (Sticks self.new) }
         ensures waits { length self.new.window ≤ 4096 }
-        ensures seen { IsSeen self.old.end (S.remaining source.old) → IsSeen self.new.end (S.remaining source.new) }
+        ensures seen { IsSeen self.old.end (S.remaining source.old)
+            → IsSeen self.new.end (S.remaining source.new) }
         ensures ends { self.old.end ≡ End.Open ⊎ self.new.end ≡ self.old.end }
-        ensures counted { S.failures source.new ≡ failures_after self.old.end self.new.end (S.failures source.old) }
-        ensures stuck { (fault : ReadFault) → Peeks self.old (Err fault) → (result ≡ Err fault) × (self.new ≡ self.old) }
+        ensures counted { S.failures source.new
+            ≡ failures_after self.old.end self.new.end (S.failures source.old) }
+        ensures stuck { (fault : ReadFault) → Peeks self.old (Err fault)
+            → (result ≡ Err fault) × (self.new ≡ self.old) }
     {
         let mut kept = ArrayVec::new();
         'line: loop {
@@ -373,7 +405,8 @@ fn gap_front(view: &[u8]) -> Front
     ensures within { result.count ≤ length view.now }
     ensures all { list_all is_gap (take result.count view.now) ≡ true }
     ensures lines { result.line_ends ≡ count_by is_line_end (take result.count view.now) }
-    ensures some { (b : ℕ) → (rest : List ℕ) → view.now ≡ b ∷ rest → is_gap b ≡ true → 0 < result.count }
+    ensures some { (b : ℕ) → (rest : List ℕ) → view.now ≡ b ∷ rest → is_gap b ≡ true
+        → 0 < result.count }
 {
     let near = near_gap(view);
     if near.count < NEAR {
@@ -401,7 +434,8 @@ fn near_gap(view: &[u8]) -> Front
     ensures within { result.count ≤ length view.now }
     ensures all { list_all is_gap (take result.count view.now) ≡ true }
     ensures lines { result.line_ends ≡ count_by is_line_end (take result.count view.now) }
-    ensures some { (b : ℕ) → (rest : List ℕ) → view.now ≡ b ∷ rest → is_gap b ≡ true → 0 < result.count }
+    ensures some { (b : ℕ) → (rest : List ℕ) → view.now ≡ b ∷ rest → is_gap b ≡ true
+        → 0 < result.count }
     ensures few { result.line_ends ≤ result.count }
 {
     let mut line_ends = 0;
@@ -472,7 +506,8 @@ fn line_ends_in(block: &[u8]) -> u8
 fn run_length(view: &[u8], is_long: bool) -> usize
     ensures within { result ≤ length view.now }
     ensures all { list_all is_in_word (take result view.now) ≡ true }
-    ensures some { (b : ℕ) → (rest : List ℕ) → view.now ≡ b ∷ rest → is_in_word b ≡ true → 0 < result }
+    ensures some { (b : ℕ) → (rest : List ℕ) → view.now ≡ b ∷ rest → is_in_word b ≡ true
+        → 0 < result }
 {
     if is_long {
         far_run(view)
@@ -485,7 +520,8 @@ fn run_length(view: &[u8], is_long: bool) -> usize
 fn run_front(view: &[u8]) -> usize
     ensures within { result ≤ length view.now }
     ensures all { list_all is_in_word (take result view.now) ≡ true }
-    ensures some { (b : ℕ) → (rest : List ℕ) → view.now ≡ b ∷ rest → is_in_word b ≡ true → 0 < result }
+    ensures some { (b : ℕ) → (rest : List ℕ) → view.now ≡ b ∷ rest → is_in_word b ≡ true
+        → 0 < result }
     ensures over { result < length view.now → is_gap (slice_index view.now result) ≡ true }
 {
     'run: for (count, &byte) in view.iter().enumerate() {
@@ -501,7 +537,8 @@ fn run_front(view: &[u8]) -> usize
 fn far_run(view: &[u8]) -> usize
     ensures within { result ≤ length view.now }
     ensures all { list_all is_in_word (take result view.now) ≡ true }
-    ensures some { (b : ℕ) → (rest : List ℕ) → view.now ≡ b ∷ rest → is_in_word b ≡ true → 0 < result }
+    ensures some { (b : ℕ) → (rest : List ℕ) → view.now ≡ b ∷ rest → is_in_word b ≡ true
+        → 0 < result }
 {
     let whole = run_blocks(view);
     whole + run_front(&view[whole..])
@@ -601,7 +638,8 @@ fn is_front(a: u8, b: u8, c: u8) -> bool
 fn line_front(view: &[u8]) -> usize
     ensures within { result ≤ length view.now }
     ensures all { list_all is_in_line (take result view.now) ≡ true }
-    ensures some { (b : ℕ) → (rest : List ℕ) → view.now ≡ b ∷ rest → is_in_line b ≡ true → 0 < result }
+    ensures some { (b : ℕ) → (rest : List ℕ) → view.now ≡ b ∷ rest → is_in_line b ≡ true
+        → 0 < result }
 {
     match memchr(b'\n', view) {
         Some(count) => count,

@@ -27,7 +27,8 @@ impl Model for Text {
 
     ghost inverse = { λ bytes. record { cells = padded bytes; size = length bytes } };
 
-    ghost inverse_ok = { λ t kept. ap₂ (λ (cells : List ℕ) (size : ℕ). record { cells = cells; size = size }) kept.cells_are kept.size_is };
+    ghost inverse_ok = { λ t kept. ap₂ (λ (cells : List ℕ) (size : ℕ).
+        record { cells = cells; size = size }) kept.cells_are kept.size_is };
 }
 
 impl Text {

@@ -24,7 +24,14 @@ impl<'a> Model for TrialSource<'a> {
 
     ghost Value = { TrialInput };
 
-    ghost view = { λ s. record { text = s.text.now; rest = s.rest.now; left = s.left; at_most = s.at_most; until_failure = s.until_failure; failures = s.failures } };
+    ghost view = { λ s. record {
+      text = s.text.now;
+      rest = s.rest.now;
+      left = s.left;
+      at_most = s.at_most;
+      until_failure = s.until_failure;
+      failures = s.failures;
+    } };
 
     ghost invariant = { λ s. 0 < s.at_most };
 }
@@ -35,7 +42,14 @@ impl<'a> TrialSource<'a> {
         requires { 0 < at_most }
         ensures remaining { ⟦<TrialSource<'a> as Source>⟧.remaining result ≡ Some text.now }
         ensures failures { ⟦<TrialSource<'a> as Source>⟧.failures result ≡ 0 }
-        ensures trial { result ≡ record { text = text.now; rest = text.now; left = length text.now; at_most = at_most; until_failure = fails_at; failures = 0 } }
+        ensures trial { result ≡ record {
+          text = text.now;
+          rest = text.now;
+          left = length text.now;
+          at_most = at_most;
+          until_failure = fails_at;
+          failures = 0;
+        } }
     {
         TrialSource {
             text,
@@ -55,9 +69,17 @@ impl<'a> TrialSource<'a> {
         fails_at: Option<usize>,
     ) -> TrialSource<'a>
         requires { 0 < at_most }
-        ensures remaining { ⟦<TrialSource<'a> as Source>⟧.remaining result ≡ Some (repeated text.now length) }
+        ensures remaining { ⟦<TrialSource<'a> as Source>⟧.remaining result
+            ≡ Some (repeated text.now length) }
         ensures failures { ⟦<TrialSource<'a> as Source>⟧.failures result ≡ 0 }
-        ensures trial { result ≡ record { text = text.now; rest = text.now; left = length; at_most = at_most; until_failure = fails_at; failures = 0 } }
+        ensures trial { result ≡ record {
+          text = text.now;
+          rest = text.now;
+          left = length;
+          at_most = at_most;
+          until_failure = fails_at;
+          failures = 0;
+        } }
     {
         TrialSource {
             text,
@@ -72,7 +94,8 @@ impl<'a> TrialSource<'a> {
     // What comes next of the text: the rest, or behind it the text anew.
     fn round(&self) -> &'a [u8]
         ensures round { result.now ≡ round_of self.now }
-        ensures same { (n : ℕ) → cycled self.now.text result.now n ≡ cycled self.now.text self.now.rest n }
+        ensures same { (n : ℕ) → cycled self.now.text result.now n
+            ≡ cycled self.now.text self.now.rest n }
         ensures some { length result.now ≡ 0 → self.now.text ≡ [] }
     {
         if self.rest.is_empty() {
@@ -85,7 +108,11 @@ impl<'a> TrialSource<'a> {
     // Goes on behind so many bytes, where this is the rest of the round.
     fn pass(&mut self, rest: &'a [u8], count: usize)
         requires { count ≤ self.old.left }
-        ensures { self.new ≡ record self.old { rest = rest.now; left = self.old.left - count; until_failure = option_map (λ bytes. bytes - count) self.old.until_failure } }
+        ensures { self.new ≡ record self.old {
+          rest = rest.now;
+          left = self.old.left - count;
+          until_failure = option_map (λ bytes. bytes - count) self.old.until_failure;
+        } }
     {
         self.rest = rest;
         self.left -= count;
@@ -121,7 +148,8 @@ impl<'a> Source for TrialSource<'a> {
     fn read(&mut self, buffer: &mut [u8]) -> Result<usize, Device>
         requires { self.old.failures < greatest }
         ensures bound { ReadsAtMost result buffer.new }
-        ensures bytes { ReadConsumes (⟦<TrialSource<'a> as Source>⟧.remaining self.old) (⟦<TrialSource<'a> as Source>⟧.remaining self.new) result buffer.new }
+        ensures bytes { ReadConsumes (⟦<TrialSource<'a> as Source>⟧.remaining self.old)
+            (⟦<TrialSource<'a> as Source>⟧.remaining self.new) result buffer.new }
         ensures counted { self.new.failures ≡ count_after result self.old.failures }
         ensures exact { Gives self.old self.new (length buffer.old) result }
     {

@@ -28,15 +28,18 @@ some_rest Ended = (record { bytes = []; ending = Clean }, refl)
 some_rest Broken = (record { bytes = []; ending = Failed }, refl)
 
 -- one item is read, and no other one
-same_item : (old new : Standing) (had left : List ℕ) (entry other : Entry) → Reads old new (Some had) (Some left) (entry ∷ []) → Reads old new (Some had) (Some left) (other ∷ []) → entry ≡ other
+same_item : (old new : Standing) (had left : List ℕ) (entry other : Entry) → Reads old new (Some had) (Some left) (entry ∷ [])
+    → Reads old new (Some had) (Some left) (other ∷ []) → entry ≡ other
 same_item old new had left entry other p q =
     let bytes : p.bytes ≡ q.bytes = append_cancel_right p.bytes q.bytes left (sym p.taken ∙ q.taken) in
     let r = some_rest new.at.end in
-    let first : entry ∷ entries_left new r.0 ≡ other ∷ entries_left new r.0 = sym (p.begin r.0 r.1) ∙ ap (λ taken. entries_left old (after taken r.0)) bytes ∙ q.begin r.0 r.1 in
+    let first : entry ∷ entries_left new r.0 ≡ other ∷ entries_left new r.0 = sym (p.begin r.0 r.1) ∙ ap (λ taken. entries_left old (after taken r.0)) bytes
+    ∙ q.begin r.0 r.1 in
     cc
 
 -- a step tells of an item that it is sound, or that it is faulty, and not both
-pub sound_or_faulty : (old new : Place) (had left : List ℕ) (before now : Option (List ℕ)) → Steps old new (Some had) (Some left) before now (Ok (Problem true)) → Steps old new (Some had) (Some left) before now (Ok (Problem false)) → ⊥
+pub sound_or_faulty : (old new : Place) (had left : List ℕ) (before now : Option (List ℕ)) → Steps old new (Some had) (Some left) before now (Ok (Problem true))
+    → Steps old new (Some had) (Some left) before now (Ok (Problem false)) → ⊥
 sound_or_faulty old new had left before now (entry, p, text, runs, sound) (other, q, text', runs', faulty) =
     let same : entry ≡ other = same_item old.at new.at had left entry other p.reads q.reads in
     let both : true ≡ false = sound ∙ ap (λ e. not (is_faulty e)) same ∙ sym faulty in
@@ -55,10 +58,12 @@ pub no_other_flag : (words : List Text) (s : Settings) → one_of (codes "check"
 no_other_flag words s absent set is = let unset : s.check ≡ false = is.check.absent absent in cc
 
 -- words that the command takes aren't told as wrong, and words that it refuses give no settings
-pub taken_words_are_right : (words : List Text) (result : Result Settings ArgFault) → IfErr result (λ e. takes command words ≡ true → e ≡ Memory) → takes command words ≡ true → result ≡ Err Usage → ⊥
+pub taken_words_are_right : (words : List Text) (result : Result Settings ArgFault) → IfErr result (λ e. takes command words ≡ true → e ≡ Memory)
+    → takes command words ≡ true → result ≡ Err Usage → ⊥
 taken_words_are_right words (Ok s) told right is = cc
 taken_words_are_right words (Err e) told right is = let memory : e ≡ Memory = told right in let same : e ≡ Usage = cc in cc
 
-pub refused_words_set_nothing : (words : List Text) (result : Result Settings ArgFault) → IfOk result (λ s. refusals words ≡ []) → refusals words ≢ [] → (s : Settings) → result ≡ Ok s → ⊥
+pub refused_words_set_nothing : (words : List Text) (result : Result Settings ArgFault) → IfOk result (λ s. refusals words ≡ []) → refusals words ≢ []
+    → (s : Settings) → result ≡ Ok s → ⊥
 refused_words_set_nothing words (Ok s) taken refused t is = refused taken
 refused_words_set_nothing words (Err e) taken refused t is = cc

@@ -20,7 +20,8 @@ pub record IsPrinting {A : Type 0} (text : A → List ℕ) (all left : List A) (
 pub printing_starts : {A : Type 0} (text : A → List ℕ) (all : List A) (before : Option (List ℕ)) → IsPrinting text all all before before
 printing_starts text all before = record { front = []; written = appends_none before; whole = refl }
 
-pub printing_goes_on : {A : Type 0} (text : A → List ℕ) (all left : List A) (item : A) (before mid now : Option (List ℕ)) → IsPrinting text all (item ∷ left) before mid → Appends mid now (text item) → IsPrinting text all left before now
+pub printing_goes_on : {A : Type 0} (text : A → List ℕ) (all left : List A) (item : A) (before mid now : Option (List ℕ))
+    → IsPrinting text all (item ∷ left) before mid → Appends mid now (text item) → IsPrinting text all left before now
 printing_goes_on text all left item before mid now p q = record {
   front = p.front ++ text item;
   written = appends_then before mid now p.front (text item) p.written q;
@@ -28,16 +29,19 @@ printing_goes_on text all left item before mid now p q = record {
 }
 
 -- the last text is written
-pub printing_ends : {A : Type 0} (text : A → List ℕ) (all : List A) (before now : Option (List ℕ)) → IsPrinting text all [] before now → Appends before now (flat_map text all)
+pub printing_ends : {A : Type 0} (text : A → List ℕ) (all : List A) (before now : Option (List ℕ)) → IsPrinting text all [] before now
+    → Appends before now (flat_map text all)
 printing_ends text all before now p = rw (p.whole, append-nil) p.written
 
 -- of one text a beginning was written
-pub printing_breaks_off : {A : Type 0} (text : A → List ℕ) (all left : List A) (item : A) (before mid now : Option (List ℕ)) → IsPrinting text all (item ∷ left) before mid → Begins mid now (text item) → Begins before now (flat_map text all)
+pub printing_breaks_off : {A : Type 0} (text : A → List ℕ) (all left : List A) (item : A) (before mid now : Option (List ℕ))
+    → IsPrinting text all (item ∷ left) before mid → Begins mid now (text item) → Begins before now (flat_map text all)
 printing_breaks_off text all left item before mid now p q =
     rw (p.whole ∙ sym (append_assoc p.front (text item) (flat_map text left))) (begins_longer _ (begins_later before mid now p.front (text item) p.written q))
 
 -- the first of some steps, where one is shown, and what stands behind it
-pub first_shown : {S E : Type 0} (show : S → E) (left new : List S) (event : E) → Some event ≡ option_map show (slice_get left 0) → new ≡ drop 1 left → map show left ≡ event ∷ map show new
+pub first_shown : {S E : Type 0} (show : S → E) (left new : List S) (event : E) → Some event ≡ option_map show (slice_get left 0) → new ≡ drop 1 left
+    → map show left ≡ event ∷ map show new
 first_shown show [] new event shown behind = absurd (none-some event (sym shown))
 first_shown show (step ∷ left) new event shown behind = rw behind (ap (λ e. e ∷ map show left) (sym (same_Some event (show step) shown)))
 

@@ -24,7 +24,9 @@ use Rattle.pops.specs.declared.status.Status.TheVariants.{Sound, Faulty, InputFa
 use Rattle.pops.specs.declared.status.Step.TheVariants.{Problem, Finished}
 
 -- an item that was read and printed so is what a step answers of it
-pub item_done : {A : Type 0} (old new : Place) (had left before now : Option (List ℕ)) (entry : Entry) (printed : Result A SinkFault) → TakesItem old new had left entry → new.stopped ≡ is_err printed → Writes before now (entry_text old.choice old.number entry) printed → Steps old new had left before now (step_of printed (not (is_faulty entry)))
+pub item_done : {A : Type 0} (old new : Place) (had left before now : Option (List ℕ)) (entry : Entry) (printed : Result A SinkFault)
+    → TakesItem old new had left entry → new.stopped ≡ is_err printed → Writes before now (entry_text old.choice old.number entry) printed
+    → Steps old new had left before now (step_of printed (not (is_faulty entry)))
 item_done old new had left before now entry (Ok done) takes stopped written = (entry, takes, written, stopped, refl)
 item_done old new had left before now entry (Err fault) takes stopped written = (entry, takes, written, stopped)
 
@@ -46,20 +48,24 @@ after_after : (xs ys : List ℕ) (rest : Input) → after (xs ++ ys) rest ≡ af
 after_after xs ys rest = ap (λ bytes. let r : Input = record { bytes = bytes; ending = rest.ending } in r) (append_assoc xs ys rest.bytes)
 
 -- one read after another
-pub reads_then : (a b c : Standing) (had mid left : Option (List ℕ)) (xs ys : List Entry) → Reads a b had mid xs → Reads b c mid left ys → Reads a c had left (xs ++ ys)
+pub reads_then : (a b c : Standing) (had mid left : Option (List ℕ)) (xs ys : List Entry) → Reads a b had mid xs → Reads b c mid left ys
+    → Reads a c had left (xs ++ ys)
 reads_then a b c had mid left xs ys p q = record {
   bytes = p.bytes ++ q.bytes;
   taken = consumes_then had mid left p.bytes q.bytes p.taken q.taken;
   follows = λ rest may. rw (after_after p.bytes q.bytes rest) (p.follows (after q.bytes rest) (q.follows rest may));
-  begin = λ rest may. ap (entries_left a) (after_after p.bytes q.bytes rest) ∙ p.begin (after q.bytes rest) (q.follows rest may) ∙ ap (λ zs. xs ++ zs) (q.begin rest may) ∙ sym (append_assoc xs ys (entries_left c rest));
+  begin = λ rest may. ap (entries_left a) (after_after p.bytes q.bytes rest) ∙ p.begin (after q.bytes rest) (q.follows rest may)
+      ∙ ap (λ zs. xs ++ zs) (q.begin rest may) ∙ sym (append_assoc xs ys (entries_left c rest));
   amount = omega (arith, length-append p.bytes q.bytes, p.amount, q.amount);
 }
 
-report-append : (choice : Choice) (n : ℕ) (xs ys : List Entry) → report_from choice n (xs ++ ys) ≡ report_from choice n xs ++ report_from choice (n + length xs) ys
+report-append : (choice : Choice) (n : ℕ) (xs ys : List Entry) → report_from choice n (xs ++ ys) ≡ report_from choice n xs
+    ++ report_from choice (n + length xs) ys
 report-append choice n [] ys = ap (λ k. report_from choice k ys) (omega arith)
 report-append choice n (x ∷ xs) ys =
     let e : (n + 1) + length xs ≡ n + length (x ∷ xs) = omega arith in
-    ap (λ t. entry_text choice n x ++ t) (report-append choice (n + 1) xs ys ∙ ap (λ k. report_from choice (n + 1) xs ++ report_from choice k ys) e) ∙ sym (append_assoc (entry_text choice n x) _ _)
+    ap (λ t. entry_text choice n x ++ t) (report-append choice (n + 1) xs ys ∙ ap (λ k. report_from choice (n + 1) xs ++ report_from choice k ys) e)
+    ∙ sym (append_assoc (entry_text choice n x) _ _)
 
 or_assoc : (a b c : Bool) → (a || (b || c)) ≡ ((a || b) || c)
 or_assoc true b c = refl
@@ -69,7 +75,8 @@ any_more : (test : Entry → Bool) (xs : List Entry) (x : Entry) → list_any te
 any_more test [] x = grind arith
 any_more test (y ∷ xs) x = rw (any_more test xs x) (or_assoc (test y) (list_any test xs) (test x))
 
-status_cases : (failed faulty failure fault : Bool) → (if failed || failure then InputFailed else (if faulty || fault then Faulty else Sound)) ≡ status_with (if failed then InputFailed else (if faulty then Faulty else Sound)) failure fault
+status_cases : (failed faulty failure fault : Bool) → (if failed || failure then InputFailed else (if faulty || fault then Faulty else Sound))
+    ≡ status_with (if failed then InputFailed else (if faulty then Faulty else Sound)) failure fault
 status_cases true faulty true fault = refl
 status_cases true faulty false true = refl
 status_cases true faulty false false = refl
@@ -82,7 +89,8 @@ status_cases false false false false = refl
 -- the status of items and one more
 status_more : (xs : List Entry) (x : Entry) → status_of (xs ++ x ∷ []) ≡ status_with (status_of xs) (tells_failure x) (is_faulty x)
 unfolding status_of
-status_more xs x = rw (any_more tells_failure xs x, any_more is_faulty xs x) (status_cases (list_any tells_failure xs) (list_any is_faulty xs) (tells_failure x) (is_faulty x))
+status_more xs x = rw (any_more tells_failure xs x, any_more is_faulty xs x)
+    (status_cases (list_any tells_failure xs) (list_any is_faulty xs) (tells_failure x) (is_faulty x))
 
 pub progress_start : (choice : Choice) (had before : Option (List ℕ)) → Progress choice (start choice) had had before before
 unfolding status_of
@@ -96,7 +104,8 @@ progress_start choice had before = record {
   running = refl;
 }
 
-pub progress_step : (choice : Choice) (old new : Place) (had mid left before t now : Option (List ℕ)) (sound : Bool) → Progress choice old had mid before t → Steps old new mid left t now (Ok (Problem sound)) → Progress choice new had left before now
+pub progress_step : (choice : Choice) (old new : Place) (had mid left before t now : Option (List ℕ)) (sound : Bool) → Progress choice old had mid before t
+    → Steps old new mid left t now (Ok (Problem sound)) → Progress choice new had left before now
 progress_step choice old new had mid left before t now sound p q = record {
   items = p.items ++ q.0 ∷ [];
   reads = reads_then before_all old.at new.at had mid left p.items (q.0 ∷ []) p.reads q.1.reads;
@@ -122,11 +131,22 @@ taken_front bytes ys =
     ap (λ n. take n (bytes ++ ys)) e ∙ take-append_seam bytes ys ∙ sym (append-nil bytes)
 
 -- what was met is what was taken and what may follow
-met_after : (e : End) (left : Option (List ℕ)) (r bytes : List ℕ) → Consumes (Some r) left bytes → IsSeen e left → (rest : Input) × MayFollow e rest × (met (is_broken e) r left ≡ after bytes rest)
+met_after : (e : End) (left : Option (List ℕ)) (r bytes : List ℕ) → Consumes (Some r) left bytes → IsSeen e left
+    → (rest : Input) × MayFollow e rest × (met (is_broken e) r left ≡ after bytes rest)
 met_after e None r bytes p seen = absurd p
 met_after Open (Some ys) r bytes p seen = (record { bytes = ys; ending = Clean }, tt, ap (λ bs. let i : Input = record { bytes = bs; ending = Clean } in i) p)
-met_after Ended (Some ys) r bytes p seen = (record { bytes = []; ending = Clean }, refl, ap (λ bs. let i : Input = record { bytes = bs; ending = Clean } in i) (p ∙ ap (λ zs. bytes ++ zs) seen))
-met_after Broken (Some ys) r bytes p seen = (record { bytes = []; ending = Failed }, refl, ap (λ bs. let i : Input = record { bytes = bs; ending = Failed } in i) (ap (λ zs. take (length zs - length ys) zs) p ∙ taken_front bytes ys))
+met_after Ended (Some ys) r bytes p seen = (
+  record { bytes = []; ending = Clean },
+  refl,
+  ap (λ bs. let i : Input = record { bytes = bs; ending = Clean } in i)
+      (p ∙ ap (λ zs. bytes ++ zs) seen),
+)
+met_after Broken (Some ys) r bytes p seen = (
+  record { bytes = []; ending = Failed },
+  refl,
+  ap
+      (λ bs. let i : Input = record { bytes = bs; ending = Failed } in i) (ap (λ zs. take (length zs - length ys) zs) p ∙ taken_front bytes ys),
+)
 
 -- before all items, those that are still to come are all of the input's
 all_to_come : (rest : Input) → entries_left before_all rest ≡ entries_in rest
@@ -136,7 +156,9 @@ all_to_come rest =
     ap (λ room. entries_of true (words_from None room 1 rest)) all
 
 -- a run that ends
-progress_end : (choice : Choice) (old new : Place) (mid left before t now : Option (List ℕ)) (r : List ℕ) (answer : Status) → Progress choice old (Some r) mid before t → Steps old new mid left t now (Ok (Finished answer)) → IsSeen new.at.at.end left → Runs choice (met (is_broken new.at.at.end) r left) before now false answer
+progress_end : (choice : Choice) (old new : Place) (mid left before t now : Option (List ℕ)) (r : List ℕ) (answer : Status)
+    → Progress choice old (Some r) mid before t → Steps old new mid left t now (Ok (Finished answer)) → IsSeen new.at.at.end left
+    → Runs choice (met (is_broken new.at.at.end) r left) before now false answer
 progress_end choice old new mid left before t now r answer p q seen =
     let all = reads_then before_all old.at new.at (Some r) mid left p.items [] p.reads q.0 in
     let m = met_after new.at.at.end left r all.bytes all.taken seen in
@@ -145,14 +167,19 @@ progress_end choice old new mid left before t now r answer p q seen =
     (rw items (appends_kept before t now _ p.written q.2), q.3 ∙ p.status ∙ sym (ap status_of items))
 
 -- a run that the sink cuts off
-progress_cut : (choice : Choice) (old new : Place) (mid left before t now : Option (List ℕ)) (r : List ℕ) (fault : SinkFault) → Progress choice old (Some r) mid before t → Steps old new mid left t now (Err fault) → IsSeen new.at.at.end left → Runs choice (met (is_broken new.at.at.end) r left) before now true OutputFailed
+progress_cut : (choice : Choice) (old new : Place) (mid left before t now : Option (List ℕ)) (r : List ℕ) (fault : SinkFault)
+    → Progress choice old (Some r) mid before t → Steps old new mid left t now (Err fault) → IsSeen new.at.at.end left
+    → Runs choice (met (is_broken new.at.at.end) r left) before now true OutputFailed
 progress_cut choice old new mid left before t now r fault p q seen =
     let all = reads_then before_all old.at new.at (Some r) mid left p.items (q.0 ∷ []) p.reads q.1.reads in
     let m = met_after new.at.at.end left r all.bytes all.taken seen in
     let items : entries_in (met (is_broken new.at.at.end) r left) ≡ (p.items ++ q.0 ∷ []) ++ entries_left new.at m.0 =
     ap entries_in m.2 ∙ sym (all_to_come _) ∙ all.begin m.0 m.1 in
-    let text : report choice (met (is_broken new.at.at.end) r left) ≡ (report_from choice 1 p.items ++ entry_text choice (1 + length p.items) q.0) ++ report_from choice (1 + length (p.items ++ q.0 ∷ [])) (entries_left new.at m.0) =
-    ap (report_from choice 1) items ∙ report-append choice 1 (p.items ++ q.0 ∷ []) _ ∙ ap (λ x. x ++ report_from choice (1 + length (p.items ++ q.0 ∷ [])) (entries_left new.at m.0)) (report-append choice 1 p.items (q.0 ∷ []) ∙ ap (λ x. report_from choice 1 p.items ++ x) (append-nil _)) in
+    let text : report choice (met (is_broken new.at.at.end) r left) ≡ (report_from choice 1 p.items ++ entry_text choice (1 + length p.items) q.0)
+    ++ report_from choice (1 + length (p.items ++ q.0 ∷ [])) (entries_left new.at m.0) =
+    ap (report_from choice 1) items ∙ report-append choice 1 (p.items ++ q.0 ∷ []) _
+    ∙ ap (λ x. x ++ report_from choice (1 + length (p.items ++ q.0 ∷ [])) (entries_left new.at m.0))
+    (report-append choice 1 p.items (q.0 ∷ []) ∙ ap (λ x. report_from choice 1 p.items ++ x) (append-nil _)) in
     (rw text (begins_longer _ (begins_later before t now _ _ p.written (rw (p.number, p.choice_is) at q.2))), refl)
 
 grew_same : (n : ℕ) → grew n n ≡ false
@@ -167,18 +194,23 @@ grew_broken Open n m is = rw is (grew_same n)
 grew_broken Ended n m is = rw is (grew_same n)
 grew_broken Broken n m is = rw is (grew_more n)
 
-pub run_ends : (choice : Choice) (old new : Place) (had mid left before t now : Option (List ℕ)) (answer : Status) (n m v w : ℕ) → Progress choice old had mid before t → Steps old new mid left t now (Ok (Finished answer)) → IsSeen new.at.at.end left → m ≡ failures_after Open new.at.at.end n → w ≡ v → IfSome had (λ r. Runs choice (met (grew n m) r left) before now (grew v w) answer)
+pub run_ends : (choice : Choice) (old new : Place) (had mid left before t now : Option (List ℕ)) (answer : Status) (n m v w : ℕ)
+    → Progress choice old had mid before t → Steps old new mid left t now (Ok (Finished answer)) → IsSeen new.at.at.end left
+    → m ≡ failures_after Open new.at.at.end n → w ≡ v → IfSome had (λ r. Runs choice (met (grew n m) r left) before now (grew v w) answer)
 run_ends choice old new None mid left before t now answer n m v w p q seen reads writes = tt
 run_ends choice old new (Some r) mid left before t now answer n m v w p q seen reads writes =
     rw (grew_broken new.at.at.end n m reads, writes, grew_same v) (progress_end choice old new mid left before t now r answer p q seen)
 
-pub run_cut : (choice : Choice) (old new : Place) (had mid left before t now : Option (List ℕ)) (fault : SinkFault) (n m v w : ℕ) → Progress choice old had mid before t → Steps old new mid left t now (Err fault) → IsSeen new.at.at.end left → m ≡ failures_after Open new.at.at.end n → w ≡ v + 1 → IfSome had (λ r. Runs choice (met (grew n m) r left) before now (grew v w) OutputFailed)
+pub run_cut : (choice : Choice) (old new : Place) (had mid left before t now : Option (List ℕ)) (fault : SinkFault) (n m v w : ℕ)
+    → Progress choice old had mid before t → Steps old new mid left t now (Err fault) → IsSeen new.at.at.end left → m ≡ failures_after Open new.at.at.end n
+    → w ≡ v + 1 → IfSome had (λ r. Runs choice (met (grew n m) r left) before now (grew v w) OutputFailed)
 run_cut choice old new None mid left before t now fault n m v w p q seen reads writes = tt
 run_cut choice old new (Some r) mid left before t now fault n m v w p q seen reads writes =
     rw (grew_broken new.at.at.end n m reads, writes, grew_more v) (progress_cut choice old new mid left before t now r fault p q seen)
 
 -- a run takes as many bytes as are used and as wait in the window
-taken_most : (new : Standing) (r : List ℕ) (left : Option (List ℕ)) (items : List Entry) → Reads before_all new (Some r) left items → new.at.used + length new.at.window ≤ limit + 4096 → length (taken_of r left) ≤ 2 ^ 30 + 4096
+taken_most : (new : Standing) (r : List ℕ) (left : Option (List ℕ)) (items : List Entry) → Reads before_all new (Some r) left items
+    → new.at.used + length new.at.window ≤ limit + 4096 → length (taken_of r left) ≤ 2 ^ 30 + 4096
 unfolding limit
 taken_most new r None items p most = absurd p.taken
 taken_most new r (Some ys) items p most =
@@ -192,10 +224,16 @@ failed_once Open n m is = omega arith
 failed_once Ended n m is = omega arith
 failed_once Broken n m is = omega arith
 
-pub ended_most : (choice : Choice) (old new : Place) (had mid left before t now : Option (List ℕ)) (answer : Status) → Progress choice old had mid before t → Steps old new mid left t now (Ok (Finished answer)) → new.at.at.used + length new.at.at.window ≤ limit + 4096 → IfSome had (λ r. length (taken_of r left) ≤ 2 ^ 30 + 4096)
+pub ended_most : (choice : Choice) (old new : Place) (had mid left before t now : Option (List ℕ)) (answer : Status) → Progress choice old had mid before t
+    → Steps old new mid left t now (Ok (Finished answer)) → new.at.at.used + length new.at.at.window ≤ limit + 4096
+    → IfSome had (λ r. length (taken_of r left) ≤ 2 ^ 30 + 4096)
 ended_most choice old new None mid left before t now answer p q most = tt
-ended_most choice old new (Some r) mid left before t now answer p q most = taken_most new.at r left _ (reads_then before_all old.at new.at (Some r) mid left p.items [] p.reads q.0) most
+ended_most choice old new (Some r) mid left before t now answer p q most = taken_most new.at r left _
+    (reads_then before_all old.at new.at (Some r) mid left p.items [] p.reads q.0) most
 
-pub cut_most : (choice : Choice) (old new : Place) (had mid left before t now : Option (List ℕ)) (fault : SinkFault) → Progress choice old had mid before t → Steps old new mid left t now (Err fault) → new.at.at.used + length new.at.at.window ≤ limit + 4096 → IfSome had (λ r. length (taken_of r left) ≤ 2 ^ 30 + 4096)
+pub cut_most : (choice : Choice) (old new : Place) (had mid left before t now : Option (List ℕ)) (fault : SinkFault) → Progress choice old had mid before t
+    → Steps old new mid left t now (Err fault) → new.at.at.used + length new.at.at.window ≤ limit + 4096
+    → IfSome had (λ r. length (taken_of r left) ≤ 2 ^ 30 + 4096)
 cut_most choice old new None mid left before t now fault p q most = tt
-cut_most choice old new (Some r) mid left before t now fault p q most = taken_most new.at r left _ (reads_then before_all old.at new.at (Some r) mid left p.items (q.0 ∷ []) p.reads q.1.reads) most
+cut_most choice old new (Some r) mid left before t now fault p q most = taken_most new.at r left _
+    (reads_then before_all old.at new.at (Some r) mid left p.items (q.0 ∷ []) p.reads q.1.reads) most

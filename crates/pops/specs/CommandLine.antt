@@ -17,11 +17,15 @@ check = record (new_rule (codes "check")) { long = Some (codes "check"); action 
 
 -- the option --no-board
 abbrev pub no_board : Rule
-no_board = record (new_rule (codes "no-board")) { long = Some (codes "no-board"); action = Some SetTrue }
+no_board = record (new_rule (codes "no-board")) {
+  long = Some (codes "no-board");
+  action = Some SetTrue;
+}
 
 -- pops [--check] [--no-board] [FILE]
 abbrev pub command : App
-command = with_rule (with_rule (with_rule (new_app (codes "pops")) check) no_board) (new_rule (codes "file"))
+command = with_rule (with_rule (with_rule (new_app (codes "pops")) check) no_board)
+    (new_rule (codes "file"))
 
 -- a flag as clap reads its text
 pub record IsFlag (text : Option Text) (flag : Bool) : Type 0 where

@@ -31,13 +31,15 @@ findings false posed = flat_map event_text (events_of posed)
 
 -- the text of an item
 unfoldable pub entry_text : Choice → ℕ → Entry → List ℕ
-entry_text choice number (SoundEntry posed) = head_text number posed choice.no_board ++ findings choice.check posed ++ codes "\n"
+entry_text choice number (SoundEntry posed) = head_text number posed choice.no_board
+    ++ findings choice.check posed ++ codes "\n"
 entry_text choice number (FaultyEntry fault) = fault_text number fault
 
 -- the texts of items, the first with this number
 abbrev pub report_from : Choice → ℕ → List Entry → List ℕ
 report_from choice number [] = []
-report_from choice number (entry ∷ entries) = entry_text choice number entry ++ report_from choice (number + 1) entries
+report_from choice number (entry ∷ entries) = entry_text choice number entry
+    ++ report_from choice (number + 1) entries
 
 -- all items of an input
 unfoldable pub entries_in : Input → List Entry
@@ -59,7 +61,8 @@ is_faulty (FaultyEntry fault) = true
 
 -- the status of items
 unfoldable pub status_of : List Entry → Status
-status_of entries = if list_any tells_failure entries then InputFailed else (if list_any is_faulty entries then Faulty else Sound)
+status_of entries = if list_any tells_failure entries then InputFailed
+    else (if list_any is_faulty entries then Faulty else Sound)
 
 -- the status of an input
 abbrev pub status : Input → Status

@@ -23,5 +23,7 @@ grew old new = nat_lt old new
 
 -- The report of the input is written and its status answered. Where the sink failed, a beginning is written.
 abbrev pub Runs : Choice → Input → Option (List ℕ) → Option (List ℕ) → Bool → Status → Type 0
-Runs choice input before now false answer = Appends before now (report choice input) × (answer ≡ status input)
-Runs choice input before now true answer = Begins before now (report choice input) × (answer ≡ OutputFailed)
+Runs choice input before now false answer = Appends before now (report choice input)
+    × (answer ≡ status input)
+Runs choice input before now true answer = Begins before now (report choice input)
+    × (answer ≡ OutputFailed)

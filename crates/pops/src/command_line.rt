@@ -19,9 +19,11 @@ use std::alloc::Global;
 /// second FILE, `--help`. `Memory` comes where a growth was refused, whatever the words.
 pub fn settings(alloc: Global, words: &[&str]) -> Result<Settings, ArgFault>
     ensures chosen { IfOk result (IsSettings (map (λ s. s.now) words.now)) }
-    ensures memory { IfErr result (λ e. takes command (map (λ s. s.now) words.now) ≡ true → e ≡ ArgFault.Memory) }
+    ensures memory { IfErr result (λ e. takes command (map (λ s. s.now) words.now) ≡ true
+        → e ≡ ArgFault.Memory) }
     ensures taken { IfOk result (λ s. refusals (map (λ s. s.now) words.now) ≡ []) }
-    ensures usage { IfErr result (λ e. e ≡ ArgFault.Usage → refusals (map (λ s. s.now) words.now) ≢ []) }
+    ensures usage { IfErr result (λ e. e ≡ ArgFault.Usage
+        → refusals (map (λ s. s.now) words.now) ≢ []) }
 {
     let matches = match matched(alloc, words) {
         Ok(matches) => matches,
@@ -53,8 +55,10 @@ fn fault_told(error: &Error) -> ArgFault
 
 // The words as clap matches them.
 fn matched<'a>(alloc: Global, words: &'a [&'a str]) -> Result<ArgMatches<'a>, Error>
-    ensures rows { IfOk result (λ m. rows_of (found_of m) ≡ matches_of command (map (λ s. s.now) words.now)) }
-    ensures passes { IfErr result (λ e. takes command (map (λ s. s.now) words.now) ≡ true → kind_of e ≡ ErrorKind.OutOfMemory) }
+    ensures rows { IfOk result (λ m. rows_of (found_of m)
+        ≡ matches_of command (map (λ s. s.now) words.now)) }
+    ensures passes { IfErr result (λ e. takes command (map (λ s. s.now) words.now) ≡ true
+        → kind_of e ≡ ErrorKind.OutOfMemory) }
     ensures kinds { FailsBy (refusals (map (λ s. s.now) words.now)) result }
 {
     let check = Arg::new(alloc, "check")

@@ -41,9 +41,17 @@ impl Model for Session {
 
     ghost Value = { Place };
 
-    ghost view = { λ s. record { at = s.reader; number = s.next_number; status = s.so_far; stopped = s.has_stopped; choice = record { check = s.check; no_board = s.no_board } } };
+    ghost view = { λ s. record {
+      at = s.reader;
+      number = s.next_number;
+      status = s.so_far;
+      stopped = s.has_stopped;
+      choice = record { check = s.check; no_board = s.no_board };
+    } };
 
-    ghost invariant = { λ s. (s.next_number + work_left s.reader ≤ 2 ^ 31) × (s.reader.at.used + length s.reader.at.window ≤ limit + 4096) × (ends s.reader.next ≡ says_last s.last) };
+    ghost invariant = { λ s. (s.next_number + work_left s.reader ≤ 2 ^ 31)
+        × (s.reader.at.used + length s.reader.at.window ≤ limit + 4096)
+        × (ends s.reader.next ≡ says_last s.last) };
 }
 
 impl Session {
@@ -72,14 +80,22 @@ impl Session {
         source: &mut S,
         sink: &mut W,
     ) -> Result<Step, SinkFault>
-        requires source { GoesOn self.old → self.old.at.at.end ≡ End.Open → S.failures source.old < greatest }
+        requires source { GoesOn self.old → self.old.at.at.end ≡ End.Open
+            → S.failures source.old < greatest }
         requires sink { GoesOn self.old → W.failures sink.old < greatest }
-        ensures does { self.old.stopped ≡ false → Steps self.old self.new (S.remaining source.old) (S.remaining source.new) (W.taken sink.old) (W.taken sink.new) result }
-        ensures stopped { self.old.stopped ≡ true → IsErr result × (self.new ≡ self.old) × (source.new ≡ source.old) × (sink.new ≡ sink.old) }
-        ensures seen { IsSeen self.old.at.at.end (S.remaining source.old) → IsSeen self.new.at.at.end (S.remaining source.new) }
+        ensures does { self.old.stopped ≡ false
+            → Steps self.old self.new (S.remaining source.old) (S.remaining source.new)
+            (W.taken sink.old) (W.taken sink.new) result }
+        ensures stopped { self.old.stopped ≡ true
+            → IsErr result × (self.new ≡ self.old) × (source.new ≡ source.old)
+            × (sink.new ≡ sink.old) }
+        ensures seen { IsSeen self.old.at.at.end (S.remaining source.old)
+            → IsSeen self.new.at.at.end (S.remaining source.new) }
         ensures ends { self.old.at.at.end ≡ End.Open ⊎ self.new.at.at.end ≡ self.old.at.at.end }
-        ensures read_failures { S.failures source.new ≡ failures_after self.old.at.at.end self.new.at.at.end (S.failures source.old) }
-        ensures write_failures { self.old.stopped ≡ false → W.failures sink.new ≡ count_after result (W.failures sink.old) }
+        ensures read_failures { S.failures source.new
+            ≡ failures_after self.old.at.at.end self.new.at.at.end (S.failures source.old) }
+        ensures write_failures { self.old.stopped ≡ false
+            → W.failures sink.new ≡ count_after result (W.failures sink.old) }
         ensures most { self.new.at.at.used + length self.new.at.at.window ≤ limit + 4096 }
         ensures less { is_problem result ≡ true → work_left self.new.at < work_left self.old.at }
     {
@@ -112,7 +128,10 @@ impl Session {
     // Stops where the sink failed.
     fn answer(&mut self, printed: Result<(), SinkFault>, sound: bool) -> Result<Step, SinkFault>
         ensures step { result ≡ step_of printed sound }
-        ensures place { self.new ≡ record self.old { stopped = self.old.stopped || is_err printed } }
+        ensures place { self.new ≡ record self.old {
+          stopped = self.old.stopped
+              || is_err printed;
+        } }
     {
         match printed {
             Ok(()) => Ok(Step::Problem { sound }),

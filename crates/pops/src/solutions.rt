@@ -25,7 +25,9 @@ pub(crate) fn print_sound<W: Sink>(
     no_board: bool,
 ) -> Result<(), SinkFault>
     requires { W.failures sink.old < greatest }
-    ensures bytes { Writes (W.taken sink.old) (W.taken sink.new) (entry_text (record { check = check; no_board = no_board }) number (SoundEntry problem.now)) result }
+    ensures bytes { Writes (W.taken sink.old) (W.taken sink.new)
+        (entry_text (record { check = check; no_board = no_board }) number (SoundEntry problem.now))
+        result }
     ensures counted { W.failures sink.new ≡ count_after result (W.failures sink.old) }
 {
     if check {
@@ -44,7 +46,9 @@ fn print_solved<W: Sink>(
     no_board: bool,
 ) -> Result<(), SinkFault>
     requires { W.failures sink.old < greatest }
-    ensures bytes { Writes (W.taken sink.old) (W.taken sink.new) (entry_text (record { check = false; no_board = no_board }) number (SoundEntry problem.now)) result }
+    ensures bytes { Writes (W.taken sink.old) (W.taken sink.new)
+        (entry_text (record { check = false; no_board = no_board }) number (SoundEntry problem.now))
+        result }
     ensures counted { W.failures sink.new ≡ count_after result (W.failures sink.old) }
 {
     print_head(sink, number, problem, no_board)?;
@@ -55,7 +59,8 @@ fn print_solved<W: Sink>(
 // The solutions of a problem, under the rules of its condition.
 fn print_play<W: Sink>(sink: &mut W, problem: &Problem) -> Result<(), SinkFault>
     requires { W.failures sink.old < greatest }
-    ensures bytes { Writes (W.taken sink.old) (W.taken sink.new) (findings false problem.now) result }
+    ensures bytes { Writes (W.taken sink.old) (W.taken sink.new) (findings false problem.now)
+        result }
     ensures counted { W.failures sink.new ≡ count_after result (W.failures sink.old) }
 {
     match problem.condition() {
@@ -69,7 +74,8 @@ fn print_play<W: Sink>(sink: &mut W, problem: &Problem) -> Result<(), SinkFault>
 fn print_solutions<R: Rules, W: Sink>(sink: &mut W, problem: &Problem) -> Result<(), SinkFault>
     requires sink { W.failures sink.old < greatest }
     requires rules { R.rule ≡ rule_of problem.now.condition }
-    ensures bytes { Writes (W.taken sink.old) (W.taken sink.new) (flat_map event_text (events_of problem.now)) result }
+    ensures bytes { Writes (W.taken sink.old) (W.taken sink.new)
+        (flat_map event_text (events_of problem.now)) result }
     ensures counted { W.failures sink.new ≡ count_after result (W.failures sink.old) }
 {
     let mut search = start_search::<R>(problem);

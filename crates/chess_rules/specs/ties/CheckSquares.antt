@@ -38,7 +38,8 @@ enemy c j = record { colour = other c; kind = j }
 
 -- the words are those of the squares from which a move may expose the king of colour c, and from which
 -- its enemies of each kind may give check to it
-pub record AreCheckSquares (rule : RuleSet) (men : List (Option Man)) (c : Colour) (s : CheckSquares) : Type 0 where
+pub record AreCheckSquares (rule : RuleSet) (men : List (Option Man)) (c : Colour)
+    (s : CheckSquares) : Type 0 where
   pub shield_squares : s.shield_squares ≡ word (may_expose rule men c)
   pub king : s.king ≡ word (may_check_from men c (enemy c King))
   pub straight : s.straight ≡ word (may_check_from men c (enemy c Rook))
@@ -61,8 +62,10 @@ check_squares_for s Nightrider = s.nightrider
 
 -- a move from s that may be made gives no check, if it goes to a square not in the word
 pub record AreCheckTargets (rule : RuleSet) (p : Position) (s w : ℕ) : Type 0 where
-  pub elsewhere : (m : Move) → m.from ≡ s → m.to < 64 → pseudo rule p m ≡ true → (bit_at w m.to == 1) ≡ false → in_check rule (after rule p m).men (other p.turn) ≡ false
+  pub elsewhere : (m : Move) → m.from ≡ s → m.to < 64 → pseudo rule p m ≡ true
+      → (bit_at w m.to == 1) ≡ false → in_check rule (after rule p m).men (other p.turn) ≡ false
 
 -- a move that may be made gives no check, if it goes from a square not in the word
 pub record AreCheckOrigins (rule : RuleSet) (p : Position) (w : ℕ) : Type 0 where
-  pub elsewhere : (m : Move) → m.from < 64 → m.to < 64 → pseudo rule p m ≡ true → (bit_at w m.from == 1) ≡ false → in_check rule (after rule p m).men (other p.turn) ≡ false
+  pub elsewhere : (m : Move) → m.from < 64 → m.to < 64 → pseudo rule p m ≡ true
+      → (bit_at w m.from == 1) ≡ false → in_check rule (after rule p m).men (other p.turn) ≡ false

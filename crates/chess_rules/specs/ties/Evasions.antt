@@ -24,7 +24,8 @@ is_fairy_man None = false
 is_fairy_man (Some y) = is_fairy y.kind
 
 -- a check of an orthodox man to the king of colour c that a move to t doesn't meet
-pub record IsNoEvasion (rule : RuleSet) (men : List (Option Man)) (c : Colour) (t : ℕ) : Type 0 where
+pub record IsNoEvasion (rule : RuleSet) (men : List (Option Man)) (c : Colour) (t : ℕ) : Type
+    0 where
   pub king : ℕ
   pub checker : ℕ
   pub here : king_square men c ≡ Some king
@@ -35,9 +36,11 @@ pub record IsNoEvasion (rule : RuleSet) (men : List (Option Man)) (c : Colour) (
   pub no_evasion : is_evasion men c king checker t ≡ false
 
 -- a plain move of another man than the king leaves a check unanswered, if it goes to a square not in the word
-pub record AreEvasions (rule : RuleSet) (men : List (Option Man)) (c : Colour) (w : ℕ) : Type 0 where
+pub record AreEvasions (rule : RuleSet) (men : List (Option Man)) (c : Colour) (w : ℕ) : Type
+    0 where
   pub elsewhere : (t : ℕ) → t < 64 → (bit_at w t == 1) ≡ false → IsNoEvasion rule men c t
 
 -- a move from s that may be made leaves its mover in check, if it goes to a square not in the word
 pub record AreEvasionsFrom (rule : RuleSet) (p : Position) (s w : ℕ) : Type 0 where
-  pub elsewhere : (m : Move) → m.from ≡ s → m.to < 64 → pseudo rule p m ≡ true → (bit_at w m.to == 1) ≡ false → in_check rule (after rule p m).men p.turn ≡ true
+  pub elsewhere : (m : Move) → m.from ≡ s → m.to < 64 → pseudo rule p m ≡ true
+      → (bit_at w m.to == 1) ≡ false → in_check rule (after rule p m).men p.turn ≡ true

@@ -34,7 +34,8 @@ has_flight rule p = some_square (is_flight rule p)
 -- Circe, where a man that is captured may be reborn, nobody
 unfoldable pub is_open : RuleSet → List (Option Man) → Colour → ℕ → ℕ → Bool
 is_open rule men c k t =
-    reaches_as men c King k t && is_arrival_free c (man_on men t) && not (is_circe rule && is_some (man_on men t))
+    reaches_as men c King k t && is_arrival_free c (man_on men t)
+    && not (is_circe rule && is_some (man_on men t))
 
 -- the king of colour c on k may step so to each square of the word
 pub record AreOpen (rule : RuleSet) (men : List (Option Man)) (c : Colour) (k w : ℕ) : Type 0 where

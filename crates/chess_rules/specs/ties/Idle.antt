@@ -8,11 +8,13 @@ use Rattle.chess_rules.specs.ties.Places.{mates}
 use Rattle.chess_rules.specs.RuleSet.{RuleSet}
 
 -- it isn't legal
-pub legal-idle : (rule : RuleSet) (p : Position) (m : Move) → pseudo rule p m ≡ false → legal rule p m ≡ false
+pub legal-idle : (rule : RuleSet) (p : Position) (m : Move) → pseudo rule p m ≡ false
+    → legal rule p m ≡ false
 unfolding legal
 legal-idle rule p m h = and_left _ _ h
 
 -- nor does it mate
-pub mates-idle : (rule : RuleSet) (p : Position) (m : Move) → pseudo rule p m ≡ false → mates rule p m ≡ false
+pub mates-idle : (rule : RuleSet) (p : Position) (m : Move) → pseudo rule p m ≡ false
+    → mates rule p m ≡ false
 unfolding mates
 mates-idle rule p m h = and_left _ _ (legal-idle rule p m h)

@@ -38,11 +38,13 @@ occupied_squares men = word (λ s. is_some (man_on men s))
 
 -- the knight's steps of two ranks, and those of one
 abbrev pub steep_steps : List Step
-steep_steps = step_of NorthNorthEast ∷ step_of SouthSouthEast ∷ step_of NorthNorthWest ∷ step_of SouthSouthWest ∷ []
+steep_steps = step_of NorthNorthEast ∷ step_of SouthSouthEast ∷ step_of NorthNorthWest
+    ∷ step_of SouthSouthWest ∷ []
 
 -- those of one
 abbrev pub flat_steps : List Step
-flat_steps = step_of EastNorthEast ∷ step_of EastSouthEast ∷ step_of WestNorthWest ∷ step_of WestSouthWest ∷ []
+flat_steps = step_of EastNorthEast ∷ step_of EastSouthEast ∷ step_of WestNorthWest
+    ∷ step_of WestSouthWest ∷ []
 
 -- the place of a direction in their order
 abbrev pub direction_number : Direction → ℕ
@@ -81,7 +83,8 @@ is_advance c s t = is_square (along s (forward c) 1) t || is_square (along s (fo
 
 -- t is two files beside s
 abbrev pub is_aside : ℕ → ℕ → Bool
-is_aside s t = is_square (along s (step_by 2 0 0 0) 1) t || is_square (along s (step_by 0 2 0 0) 1) t
+is_aside s t = is_square (along s (step_by 2 0 0 0) 1) t
+    || is_square (along s (step_by 0 2 0 0) 1) t
 
 -- whether the numbers of the squares rise along it
 unfoldable pub rises : Step → Bool

@@ -13,12 +13,15 @@ use Rattle.chess_rules.specs.Reaches.{is_occupied, is_vacant, rides}
 
 -- a queen or a man of kind k, of this colour, stands on s, and a rider on t gets there by one of the steps
 unfoldable pub is_met : List (Option Man) → Colour → Kind → List Step → ℕ → ℕ → Bool
-is_met men c k ds t s = (is_man (man_on men s) c k || is_man (man_on men s) c Queen) && list_any (rides men t s) ds
+is_met men c k ds t s = (is_man (man_on men s) c k || is_man (man_on men s) c Queen)
+    && list_any (rides men t s) ds
 
 -- t is at least f steps from s, and every square from the f-th on is empty up to it
 unfoldable pub rides_on : ℕ → List (Option Man) → ℕ → ℕ → Step → Bool
 rides_on f men s t d =
-    list_any (λ k. is_square (along s d k) t && list_all (λ i. is_vacant men (along s d i)) (range_with_len f (k - f))) (range_with_len f (8 - f))
+    list_any (λ k. is_square (along s d k) t
+    && list_all (λ i. is_vacant men (along s d i)) (range_with_len f (k - f)))
+    (range_with_len f (8 - f))
 
 -- a grasshopper on s hops to t against this step: a man stands next to t, and s is behind it
 unfoldable pub hopped_from : List (Option Man) → ℕ → ℕ → Step → Bool

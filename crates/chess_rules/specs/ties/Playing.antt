@@ -16,10 +16,15 @@ pub record CanCastle (men : List (Option Man)) (a b : ℕ) : Type 0 where
 pub record CanMove (p : Position) (x : Man) (m : Move) : Type 0 where
   pub here : man_on p.men m.from ≡ Some x
   pub taken : (s : ℕ) → capture_square p x m ≡ Some s → IsSome (man_on (without_man p.men m.from) s)
-  pub one_king : same_kind (arriving x m.promo).kind King ≡ true → HasNoKing (without_at (without_man p.men m.from) (capture_square p x m)) (arriving x m.promo).colour
-  pub rook : is_castling x m ≡ true → CanCastle (with_man (without_at (without_man p.men m.from) (capture_square p x m)) m.to (arriving x m.promo)) (corner m) (halfway m)
+  pub one_king : same_kind (arriving x m.promo).kind King ≡ true
+      → HasNoKing (without_at (without_man p.men m.from) (capture_square p x m))
+      (arriving x m.promo).colour
+  pub rook : is_castling x m ≡ true → CanCastle
+      (with_man (without_at (without_man p.men m.from) (capture_square p x m)) m.to
+      (arriving x m.promo)) (corner m) (halfway m)
 
 -- and when the move is made whole
 pub record CanPlay (rule : RuleSet) (p : Position) (m : Move) : Type 0 where
   pub moves : (x : Man) → man_on p.men m.from ≡ Some x → CanMove p x m
-  pub mortal : (x y : Man) (s : ℕ) → man_on p.men m.from ≡ Some x → capture_square p x m ≡ Some s → man_on p.men s ≡ Some y → same_kind y.kind King ≡ false
+  pub mortal : (x y : Man) (s : ℕ) → man_on p.men m.from ≡ Some x → capture_square p x m ≡ Some s
+      → man_on p.men s ≡ Some y → same_kind y.kind King ≡ false

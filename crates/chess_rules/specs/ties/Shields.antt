@@ -31,7 +31,8 @@ is_fairy Nightrider = true
 -- a grasshopper or a nightrider of colour c stands on the board
 unfoldable pub has_fairy : List (Option Man) → Colour → Bool
 has_fairy men c =
-    some_square (λ s. is_man (man_on men s) c Grasshopper) || some_square (λ s. is_man (man_on men s) c Nightrider)
+    some_square (λ s. is_man (man_on men s) c Grasshopper)
+    || some_square (λ s. is_man (man_on men s) c Nightrider)
 
 -- some man of colour e reaches k, be it paralysed or not
 unfoldable pub is_reached : List (Option Man) → ℕ → Colour → Bool
@@ -39,13 +40,15 @@ is_reached men k e = some_square (λ s. is_side (man_on men s) e && reaches men 
 
 -- t lies on a line from k by this step, and so does a man of colour e and kind j
 abbrev pub is_lined : List (Option Man) → Colour → Kind → ℕ → ℕ → Step → Bool
-is_lined men e j k t d = is_ahead k d t && some_square (λ q. is_man (man_on men q) e j && is_ahead k d q)
+is_lined men e j k t d = is_ahead k d t && some_square
+    (λ q. is_man (man_on men q) e j && is_ahead k d q)
 
 -- t lies on a queen's line from k on which a grasshopper of colour e stands, or on a nightrider's line from
 -- there with such a nightrider
 unfoldable pub is_on_fairy_line : List (Option Man) → Colour → ℕ → ℕ → Bool
 is_on_fairy_line men e k t =
-    list_any (is_lined men e Grasshopper k t) queen_steps || list_any (is_lined men e Nightrider k t) knight_steps
+    list_any (is_lined men e Grasshopper k t) queen_steps
+    || list_any (is_lined men e Nightrider k t) knight_steps
 
 -- the same with the king's square, if there is a king
 abbrev pub is_on_fairy_line_to : List (Option Man) → Option ℕ → Colour → ℕ → Bool
@@ -60,7 +63,8 @@ may_stand_between men c t = is_on_fairy_line_to men (king_square men c) c t
 -- by such a step
 unfoldable pub is_behind : List (Option Man) → Colour → Kind → List Step → ℕ → ℕ → ℕ → Bool
 is_behind men e j ds k s q =
-    ((is_man (man_on men q) e j || is_man (man_on men q) e Queen) && is_on_some ds k q) && list_any (rides men q s) ds
+    ((is_man (man_on men q) e j || is_man (man_on men q) e Queen) && is_on_some ds k q)
+    && list_any (rides men q s) ds
 
 -- s shuts a line between k and such a man: both come to it
 unfoldable pub is_shut : List (Option Man) → Colour → Kind → List Step → ℕ → ℕ → Bool
@@ -93,13 +97,15 @@ rider_along Diagonal = Bishop
 -- nor a capture en passant, and nobody is reborn
 unfoldable pub is_plain : RuleSet → Position → Man → Move → Bool
 is_plain rule p x m =
-    not (is_castling x m) && not (is_square p.crossed m.to) && not (is_circe rule && is_some (man_on p.men m.to))
+    not (is_castling x m) && not (is_square p.crossed m.to)
+    && not (is_circe rule && is_some (man_on p.men m.to))
 
 -- the move of this man, if there is one, can't uncover the king of colour c
 abbrev pub cannot_expose_of : RuleSet → Position → Option Man → Colour → Move → Bool
 cannot_expose_of rule p None c m = false
 cannot_expose_of rule p (Some x) c m =
-    not (may_expose rule p.men c m.from) && (not (may_stand_between p.men c m.to) && is_plain rule p x m)
+    not (may_expose rule p.men c m.from)
+    && (not (may_stand_between p.men c m.to) && is_plain rule p x m)
 
 -- the move can't uncover the king of colour c
 unfoldable pub cannot_expose : RuleSet → Position → Colour → Move → Bool

@@ -23,7 +23,9 @@ pub record AreSeen (before men : List (Option Man)) (c : Colour) (v : Sight) : T
 -- the words once the man on a is gone, that on o too, and one has come to b
 abbrev pub sight_after : List (Option Man) → ℕ → Option ℕ → ℕ → Sight
 sight_after men a o b = record {
-  occupied = bit_or (bit_and (occupied_squares men) (bit_not w64 (bit_or (word (is_square (Some a))) (word (is_square o))))) (word (is_square (Some b)));
+  occupied = bit_or (bit_and (occupied_squares men)
+      (bit_not w64 (bit_or (word (is_square (Some a))) (word (is_square o)))))
+      (word (is_square (Some b)));
   standing = bit_not w64 (word (is_square o));
 }
 
@@ -38,14 +40,17 @@ is_arriving_as x m k s = same_kind (arriving x m.promo).kind k && is_square (Som
 -- the squares of the men of its colour and of kind k once x has made the move m
 abbrev pub own_after : List (Option Man) → Sight → Man → Move → Kind → ℕ
 own_after men v x m k =
-    bit_or (bit_and (bit_and (squares_of men x.colour k) v.standing) (bit_not w64 (word (is_square (Some m.from))))) (word (is_arriving_as x m k))
+    bit_or (bit_and (bit_and (squares_of men x.colour k) v.standing)
+    (bit_not w64 (word (is_square (Some m.from))))) (word (is_arriving_as x m k))
 
 -- the words are those of these men, the ones after the move m of x: its colour's men stand as above, and the
 -- others where they stood
-pub record AreArrived (before men : List (Option Man)) (x : Man) (m : Move) (v : Sight) : Type 0 where
+pub record AreArrived (before men : List (Option Man)) (x : Man) (m : Move) (v : Sight) : Type
+    0 where
   pub occupied : v.occupied ≡ occupied_squares men
   pub own : (k : Kind) → own_after before v x m k ≡ squares_of men x.colour k
-  pub others : (s : ℕ) → is_side (man_on men s) (other x.colour) ≡ true → man_on men s ≡ man_on before s
+  pub others : (s : ℕ) → is_side (man_on men s) (other x.colour) ≡ true
+      → man_on men s ≡ man_on before s
 
 -- men of the other colour than c stand on all squares of the word
 pub record AreOthers (men : List (Option Man)) (c : Colour) (w : ℕ) : Type 0 where

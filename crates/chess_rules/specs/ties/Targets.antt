@@ -17,7 +17,10 @@ use Rattle.chess_rules.specs.declared.targets.Kept.{Kept}
 -- a pawn goes one or two squares forward, a king two squares aside
 unfoldable pub steps_to : Man → ℕ → ℕ → Bool
 steps_to x s t =
-    if same_kind x.kind Pawn then is_square (along s (forward x.colour) 1) t || is_square (along s (forward x.colour) 2) t else (if same_kind x.kind King then is_square (along s (step_by 2 0 0 0) 1) t || is_square (along s (step_by 0 2 0 0) 1) t else false)
+    if same_kind x.kind Pawn then is_square (along s (forward x.colour) 1) t
+    || is_square (along s (forward x.colour) 2) t
+    else (if same_kind x.kind King then is_square (along s (step_by 2 0 0 0) 1) t
+    || is_square (along s (step_by 0 2 0 0) 1) t else false)
 
 -- a pawn on s steps to t
 abbrev pub pawn_goes : Position → Man → ℕ → ℕ → Bool
@@ -27,14 +30,17 @@ pawn_goes p x s t = pawn_steps p x (record { from = s; to = t; promo = None })
 -- a king that stands unmoved goes two squares aside
 unfoldable pub may_go : Position → Man → ℕ → ℕ → Bool
 may_go p x s t =
-    if same_kind x.kind Pawn then (reaches_as p.men x.colour x.kind s t && (is_some (man_on p.men t) || is_square p.crossed t)) || pawn_goes p x s t else reaches_as p.men x.colour x.kind s t || (has_unmoved p.unmoved s && steps_to x s t)
+    if same_kind x.kind Pawn then (reaches_as p.men x.colour x.kind s t
+    && (is_some (man_on p.men t) || is_square p.crossed t)) || pawn_goes p x s t
+    else reaches_as p.men x.colour x.kind s t || (has_unmoved p.unmoved s && steps_to x s t)
 
 -- this man, if there is one, is the mover's, isn't paralysed and goes to t, where no man of the mover and
 -- no king stands
 abbrev pub is_arrival_of : RuleSet → Position → Option Man → ℕ → ℕ → Bool
 is_arrival_of rule p None s t = false
 is_arrival_of rule p (Some x) s t =
-    same_colour x.colour p.turn && not (paralysed rule p.men s) && is_arrival_free p.turn (man_on p.men t) && may_go p x s t
+    same_colour x.colour p.turn && not (paralysed rule p.men s)
+    && is_arrival_free p.turn (man_on p.men t) && may_go p x s t
 
 -- the man on s may go to t, the tests of castling and of the promotion apart
 unfoldable pub is_arrival : RuleSet → Position → ℕ → ℕ → Bool
@@ -53,7 +59,8 @@ pub record IsAimed (rule : RuleSet) (p : Position) (m : Move) : Type 0 where
   pub promotion : is_some m.promo ≡ arrives man m.to
 
 -- the man on s may go to each square of the word, and no move from s to another passes the test
-pub record AreCandidates (rule : RuleSet) (p : Position) (test : Move → Bool) (s w : ℕ) : Type 0 where
+pub record AreCandidates (rule : RuleSet) (p : Position) (test : Move → Bool) (s w : ℕ) : Type
+    0 where
   pub inside : (t : ℕ) → t < 64 → (bit_at w t == 1) ≡ true → is_arrival rule p s t ≡ true
   pub outside : (m : Move) → m.from ≡ s → m.to < 64 → (bit_at w m.to == 1) ≡ false → test m ≡ false
 
@@ -63,4 +70,5 @@ pub record AreKept (rule : RuleSet) (p : Position) (test : Move → Bool) (k : K
 
 -- no move from a square that isn't in the word passes the test
 pub record AreOrigins (test : Move → Bool) (w : ℕ) : Type 0 where
-  pub elsewhere : (m : Move) → m.from < 64 → m.to < 64 → (bit_at w m.from == 1) ≡ false → test m ≡ false
+  pub elsewhere : (m : Move) → m.from < 64 → m.to < 64 → (bit_at w m.from == 1) ≡ false
+      → test m ≡ false

@@ -43,8 +43,10 @@ closing_fault block line = or_else block.fault (at_line line (end_fault_in block
 
 -- what is answered of it
 abbrev pub Closes : Block → ℕ → Last → Item → Type 0
-Closes block line last (Sound problem answered) = (closing_fault block line ≡ None) × (problem ≡ posed_of block.draft block.title block.author) × (answered ≡ last)
-Closes block line last (Faulty fault answered) = (closing_fault block line ≡ Some fault) × (answered ≡ last)
+Closes block line last (Sound problem answered) = (closing_fault block line ≡ None)
+    × (problem ≡ posed_of block.draft block.title block.author) × (answered ≡ last)
+Closes block line last (Faulty fault answered) = (closing_fault block line ≡ Some fault)
+    × (answered ≡ last)
 Closes block line last NoItem = ⊥
 
 -- what is answered of words without a fault that a word in this line closes
@@ -62,7 +64,8 @@ ended_by None other = other
 
 -- and of one in which the input ends
 abbrev pub ended_item : Block → ℕ → Item
-ended_item block line = Faulty (ended_by block.fault (fault_at (tail_fault block.begun End) line)) Yes
+ended_item block line = Faulty (ended_by block.fault (fault_at (tail_fault block.begun End) line))
+    Yes
 
 -- the fault of an input that is cut
 abbrev pub cut_fault : ReadFault → Fault

@@ -33,12 +33,15 @@ abbrev pub entries_left : Standing → Input → List Entry
 entries_left standing rest = entries_at standing.next standing.at rest
 
 -- From old to new these items were read: some bytes were taken from the source, and however it goes on, they begin the items still to come.
-pub record Reads (old new : Standing) (had left : Option (List ℕ)) (entries : List Entry) : Type 0 where
+pub record Reads (old new : Standing) (had left : Option (List ℕ)) (entries : List Entry) : Type
+    0 where
   pub bytes : List ℕ
   pub taken : Consumes had left bytes
   pub follows : (rest : Input) → MayFollow new.at.end rest → MayFollow old.at.end (after bytes rest)
-  pub begin : (rest : Input) → MayFollow new.at.end rest → entries_left old (after bytes rest) ≡ entries ++ entries_left new rest
-  pub amount : length bytes + (old.at.used + length old.at.window) ≡ new.at.used + length new.at.window
+  pub begin : (rest : Input) → MayFollow new.at.end rest
+      → entries_left old (after bytes rest) ≡ entries ++ entries_left new rest
+  pub amount : length bytes + (old.at.used + length old.at.window)
+      ≡ new.at.used + length new.at.window
 
 -- which block is next behind an item
 abbrev pub next_behind : Last → Next
@@ -47,8 +50,10 @@ next_behind No = Later
 
 -- what next_problem does
 abbrev pub NextItem : Standing → Standing → Option (List ℕ) → Option (List ℕ) → Item → Type 0
-NextItem old new had left (Sound problem last) = Reads old new had left (SoundEntry problem ∷ []) × (new.next ≡ next_behind last)
-NextItem old new had left (Faulty fault last) = Reads old new had left (FaultyEntry fault ∷ []) × (new.next ≡ next_behind last)
+NextItem old new had left (Sound problem last) = Reads old new had left (SoundEntry problem ∷ [])
+    × (new.next ≡ next_behind last)
+NextItem old new had left (Faulty fault last) = Reads old new had left (FaultyEntry fault ∷ [])
+    × (new.next ≡ next_behind last)
 NextItem old new had left End = (old.next ≡ Nothing) × (new ≡ old) × Reads old new had left []
 
 -- how much may still be read: it falls with every item
@@ -70,5 +75,6 @@ is_item (Faulty fault last) = true
 -- The fault of an item has one of the 21 numbers, and number 21 where the source has failed.
 abbrev pub IsNumbered : Reading → Item → Type 0
 IsNumbered place (Sound problem last) = Unit {0}
-IsNumbered place (Faulty fault last) = (1 ≤ fault.number) × (fault.number ≤ 21) × (fault.number ≡ 21 → place.end ≡ Broken)
+IsNumbered place (Faulty fault last) = (1 ≤ fault.number) × (fault.number ≤ 21)
+    × (fault.number ≡ 21 → place.end ≡ Broken)
 IsNumbered place End = Unit {0}

@@ -13,22 +13,30 @@ use Rattle.pop_input.specs.declared.token.Token.TheVariants.{Word as AWord, TooL
 
 -- a part of the input was taken
 abbrev pub TakesPart : Reading → Reading → Option (List ℕ) → Option (List ℕ) → Part → Type 0
-TakesPart old new had left part = Takes (among old) (among new) had left (part ∷ []) × GoesOn old new
+TakesPart old new had left part = Takes (among old) (among new) had left (part ∷ [])
+    × GoesOn old new
 
 -- none is left
 abbrev pub TakesNothing : Reading → Reading → Option (List ℕ) → Option (List ℕ) → Tail → ℕ → Type 0
-TakesNothing old new had left tail line = Takes (among old) (among new) had left [] × IsOver new tail × (line ≡ new.line) × StaysWithin old new
+TakesNothing old new had left tail line = Takes (among old) (among new) had left []
+    × IsOver new tail × (line ≡ new.line) × StaysWithin old new
 
 -- the input is cut
 abbrev pub CutsOff : Reading → Reading → Option (List ℕ) → Option (List ℕ) → ReadFault → Type 0
 CutsOff old new had left (LongWord line) = ⊥
 CutsOff old new had left (InputTooLong line) = TakesNothing old new had left Long line
-CutsOff old new had left (Device line) = TakesNothing old new had left Failing line × (new.end ≡ Broken)
+CutsOff old new had left (Device line) = TakesNothing old new had left Failing line
+    × (new.end ≡ Broken)
 
 -- what next_token does, with the word and the text that it leaves
-abbrev pub NextToken : Reading → Reading → Option (List ℕ) → Option (List ℕ) → Room → List ℕ → Token → Type 0
-NextToken old new had left word text AWord = TakesPart old new had left (Word word.line word.bytes.items) × (length word.bytes.items ≤ 160)
-NextToken old new had left word text (TooLong line) = (long : List ℕ) × TakesPart old new had left (Word line long) × (160 < length long)
-NextToken old new had left word text (Line keyword) = (line : ℕ) × (name : List ℕ) × (rest : List ℕ) × TakesPart old new had left (TextLine line name rest) × (text_word_of name ≡ Some keyword) × (text ≡ text_of_line rest)
+abbrev pub NextToken : Reading → Reading → Option (List ℕ) → Option (List ℕ) → Room → List ℕ → Token
+    → Type 0
+NextToken old new had left word text AWord = TakesPart old new had left
+    (Word word.line word.bytes.items) × (length word.bytes.items ≤ 160)
+NextToken old new had left word text (TooLong line) = (long : List ℕ)
+    × TakesPart old new had left (Word line long) × (160 < length long)
+NextToken old new had left word text (Line keyword) = (line : ℕ) × (name : List ℕ) × (rest : List ℕ)
+    × TakesPart old new had left (TextLine line name rest) × (text_word_of name ≡ Some keyword)
+    × (text ≡ text_of_line rest)
 NextToken old new had left word text (Ended line) = TakesNothing old new had left AtEnd line
 NextToken old new had left word text (Cut fault) = CutsOff old new had left fault

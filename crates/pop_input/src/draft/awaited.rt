@@ -67,7 +67,8 @@ impl Draft {
 
 // The castling squares of the set and of the list, if all of the list are such.
 fn barred_with(barred: Unmoved, squares: &[Square]) -> Option<Unmoved>
-    ensures { result ≡ (if list_all is_castling squares.now then Some (fold with_unmoved barred squares.now) else None) }
+    ensures { result ≡ (if list_all is_castling squares.now
+        then Some (fold with_unmoved barred squares.now) else None) }
 {
     let mut set = barred;
     'squares: for &square in squares {

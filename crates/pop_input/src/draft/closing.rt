@@ -83,7 +83,8 @@ impl Draft {
     // Whether that diagram is well formed: only the crossed square may be wrong in it.
     fn is_well_formed(&self, diagram: &Diagram, form: Form) -> bool
         requires { diagram.now ≡ setup_of self.now form }
-        ensures { MatchBool result (IsWellFormed (position_of diagram.now)) (IsWellFormed (position_of diagram.now) → ⊥) }
+        ensures { MatchBool result (IsWellFormed (position_of diagram.now))
+            (IsWellFormed (position_of diagram.now) → ⊥) }
     {
         match self.crossed {
             None => true,

@@ -14,7 +14,8 @@ impl Draft {
     /// A word of the section of the condition.
     pub(crate) fn take_condition(&mut self, word: &ShortWord<'_>) -> Option<FaultKind>
         ensures fault { result ≡ role_fault self.old (Within (Some Conditions)) word.now }
-        ensures state { result ≡ None → self.new ≡ state_by (Within (Some Conditions)) self.old word.now }
+        ensures state { result ≡ None → self.new
+            ≡ state_by (Within (Some Conditions)) self.old word.now }
     {
         match condition_of(word.bytes()) {
             Some(condition) => {

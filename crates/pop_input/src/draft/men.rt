@@ -21,7 +21,8 @@ impl Draft {
     /// A colour, or men on squares.
     pub(crate) fn take_pieces(&mut self, word: &ShortWord<'_>) -> Option<FaultKind>
         ensures fault { result ≡ role_fault self.old (Within (Some Pieces)) word.now }
-        ensures state { result ≡ None → self.new ≡ state_by (Within (Some Pieces)) self.old word.now }
+        ensures state { result ≡ None → self.new
+            ≡ state_by (Within (Some Pieces)) self.old word.now }
     {
         self.place.awaited = None;
         let word = word.bytes();
@@ -39,7 +40,11 @@ impl Draft {
     fn take_men(&mut self, letter: u8, text: &[u8]) -> Option<FaultKind>
         requires { length text.now ≤ 160 }
         ensures fault { result ≡ letter_fault self.old (kind_of letter) text.now }
-        ensures state { result ≡ None → self.new ≡ record self.old { men = put_kind self.old.colour (kind_of letter) (unwrap_or (squares_of text.now) []) self.old.men } }
+        ensures state { result ≡ None → self.new
+            ≡ record self.old {
+              men = put_kind self.old.colour (kind_of letter)
+                  (unwrap_or (squares_of text.now) []) self.old.men;
+            } }
     {
         match kind_of(letter) {
             Some(kind) => self.take_kind(kind, text),
@@ -51,7 +56,11 @@ impl Draft {
     fn take_kind(&mut self, kind: Kind, text: &[u8]) -> Option<FaultKind>
         requires { length text.now ≤ 160 }
         ensures fault { result ≡ letter_fault self.old (Some kind) text.now }
-        ensures state { result ≡ None → self.new ≡ record self.old { men = put_kind self.old.colour (Some kind) (unwrap_or (squares_of text.now) []) self.old.men } }
+        ensures state { result ≡ None → self.new
+            ≡ record self.old {
+              men = put_kind self.old.colour (Some kind)
+                  (unwrap_or (squares_of text.now) []) self.old.men;
+            } }
     {
         match squares_of(text) {
             Some(squares) => match self.colour {
@@ -73,7 +82,8 @@ impl Draft {
     // Puts the man on the squares in turn, up to a fault.
     fn put_men(&mut self, man: Man, squares: &[Square]) -> Option<FaultKind>
         ensures fault { result ≡ men_fault self.old.men man squares.now }
-        ensures state { result ≡ None → self.new ≡ record self.old { men = put_men self.old.men man squares.now } }
+        ensures state { result ≡ None → self.new
+            ≡ record self.old { men = put_men self.old.men man squares.now } }
     {
         'squares: for &square in squares {
             if let Some(fault) = self.put_man(man, square) {
@@ -85,7 +95,8 @@ impl Draft {
 
     fn put_man(&mut self, man: Man, square: Square) -> Option<FaultKind>
         ensures fault { result ≡ man_fault self.old.men man square }
-        ensures state { result ≡ None → self.new ≡ record self.old { men = with_man self.old.men square man } }
+        ensures state { result ≡ None → self.new
+            ≡ record self.old { men = with_man self.old.men square man } }
     {
         if let Some(fault) = self.man_fault(man, square) {
             return Some(fault);

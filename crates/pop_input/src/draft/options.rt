@@ -14,7 +14,8 @@ impl Draft {
     /// A word of the section of options.
     pub(crate) fn take_option(&mut self, word: &ShortWord<'_>) -> Option<FaultKind>
         ensures fault { result ≡ role_fault self.old (Within (Some Options)) word.now }
-        ensures state { result ≡ None → self.new ≡ state_by (Within (Some Options)) self.old word.now }
+        ensures state { result ≡ None → self.new
+            ≡ state_by (Within (Some Options)) self.old word.now }
     {
         match option_of(word.bytes()) {
             Some(option) => {
@@ -27,7 +28,10 @@ impl Draft {
 
     // An option holds from now on, or awaits its value.
     fn apply(&mut self, option: OptionWord)
-        ensures { self.new ≡ record self.old { place = record { section = self.old.place.section; awaited = awaited_by (Some option) }; switches = switches_with (Some option) self.old.switches } }
+        ensures { self.new ≡ record self.old {
+          place = record { section = self.old.place.section; awaited = awaited_by (Some option) };
+          switches = switches_with (Some option) self.old.switches;
+        } }
     {
         self.place.awaited = None;
         match option {

@@ -14,7 +14,8 @@ impl Draft {
     /// A word of the section of the stipulation.
     pub(crate) fn take_stipulation(&mut self, word: &ShortWord<'_>) -> Option<FaultKind>
         ensures fault { result ≡ role_fault self.old (Within (Some Stipulations)) word.now }
-        ensures state { result ≡ None → self.new ≡ state_by (Within (Some Stipulations)) self.old word.now }
+        ensures state { result ≡ None → self.new
+            ≡ state_by (Within (Some Stipulations)) self.old word.now }
     {
         if self.stipulation.is_some() {
             let word = word.bytes();

@@ -161,21 +161,21 @@ same_going a b j k p q e = elim (man_case j) [
   | inl x ↦ elim (man_case k) [
     | inl y ↦ same_way a b (p ∙ x ∙ sym y ∙ sym q) (rw (x, y) at e)
     | inr y ↦ absurd (no_file k a.from (sym (ap first (rw x at e ∙ y _))))
-    ]
+  ]
   | inr x ↦ elim (man_case k) [
     | inl y ↦ absurd (no_file j b.from (ap first (sym (x _) ∙ rw y at e)))
     | inr y ↦
-      let whole : letter_of j ∷ ways a.from (step_byte a.capture) a.to (tail_text a)
-              ≡ letter_of k ∷ ways b.from (step_byte b.capture) b.to (tail_text b) = sym (x _) ∙ e ∙ y _ in
-      same_way a b (p ∙ same_letter j k (ap first whole) ∙ sym q) (ap (drop 1) whole)
-    ]
+        let whole : letter_of j ∷ ways a.from (step_byte a.capture) a.to (tail_text a)
+        ≡ letter_of k ∷ ways b.from (step_byte b.capture) b.to (tail_text b) = sym (x _) ∙ e ∙ y _ in
+        same_way a b (p ∙ same_letter j k (ap first whole) ∙ sym q) (ap (drop 1) whole)
+  ]
 ]
 
 regrouped : (m s c q e p r k : List ℕ) → m ++ s ++ c ++ q ++ e ++ p ++ r ++ k ≡ m ++ (s ++ (c ++ (q ++ (e ++ (p ++ r ++ k)))))
 regrouped m s c q e p r k =
     append_assoc (m ++ s ++ c ++ q ++ e ++ p) r k ∙ append_assoc (m ++ s ++ c ++ q ++ e) p _ ∙ append_assoc (m ++ s ++ c ++ q) e _
-        ∙ append_assoc (m ++ s ++ c) q _ ∙ append_assoc (m ++ s) c _ ∙ append_assoc m s _
-        ∙ ap (λ x. m ++ (s ++ (c ++ (q ++ (e ++ x))))) (sym (append_assoc p r k))
+    ∙ append_assoc (m ++ s ++ c) q _ ∙ append_assoc (m ++ s) c _ ∙ append_assoc m s _
+    ∙ ap (λ x. m ++ (s ++ (c ++ (q ++ (e ++ x))))) (sym (append_assoc p r k))
 
 behind_step : (c : Bool) (s q : ℕ) (rest : List ℕ) → square_text s ++ (step_text c ++ (square_text q ++ rest)) ≡ ways s (step_byte c) q rest
 behind_step true s q rest = refl
@@ -186,7 +186,7 @@ going_is : (a : Shown) → unmarked_text None a ++ mark_text a.mark
     ≡ man_text a.man.kind ++ ways a.from (step_byte a.capture) a.to (tail_text a)
 going_is a =
     regrouped (man_text a.man.kind) (square_text a.from) (step_text a.capture) (square_text a.to) (en_passant_text a.ep) (promotion_text a.promo)
-        (rebirth_text a.rebirth) (mark_text a.mark) ∙ ap (λ x. man_text a.man.kind ++ x) (behind_step a.capture a.from a.to (tail_text a))
+    (rebirth_text a.rebirth) (mark_text a.mark) ∙ ap (λ x. man_text a.man.kind ++ x) (behind_step a.capture a.from a.to (tail_text a))
 
 -- The first byte of a move that isn't castling is a letter.
 begins_by : (k : Kind) (s : ℕ) (rest : List ℕ) → 60 < first (man_text k ++ (96 + file_of s) ∷ rest)
@@ -243,23 +243,23 @@ castled : (x : Man) (m : Triple) (side : Side) → castling_side x m ≡ Some si
 castled x m side e = elim (cases_Bool (is_castling x m)) [
   | inr no_castle ↦ let none : castling_side x m ≡ None = cond-false (is_castling x m) _ _ no_castle in absurd (cc)
   | inl is ↦
-    let told : Some (cond (nat_lt m.from m.to) H A) ≡ Some side = sym (cond-true (is_castling x m) _ _ is) ∙ e in
-    let c1 = and_parts _ _ is in
-    let c2 = and_parts _ _ c1.0 in
-    let rank : rank_of m.from ≡ rank_of m.to = eqb-true _ _ c2.1 in
-    record {
-      king = c2.0;
-      way = elim (or_cases _ _ c1.1) [
-        | inl far ↦
-          let f : file_of m.from + 2 ≡ file_of m.to = eqb-true _ _ far in
-          let lt : m.from < m.to = omega arith in
-          inl (omega arith, sym (side_is (nat_lt m.from m.to) side told) ∙ cond-true (nat_lt m.from m.to) _ _ (lt-ltb m.from m.to lt))
-        | inr far ↦
-          let f : file_of m.to + 2 ≡ file_of m.from = eqb-true _ _ far in
-          let ge : m.to ≤ m.from = omega arith in
-          inr (omega arith, sym (side_is (nat_lt m.from m.to) side told) ∙ cond-false (nat_lt m.from m.to) _ _ (le-ltb m.from m.to ge))
-      ];
-    }
+      let told : Some (cond (nat_lt m.from m.to) H A) ≡ Some side = sym (cond-true (is_castling x m) _ _ is) ∙ e in
+      let c1 = and_parts _ _ is in
+      let c2 = and_parts _ _ c1.0 in
+      let rank : rank_of m.from ≡ rank_of m.to = eqb-true _ _ c2.1 in
+      record {
+        king = c2.0;
+        way = elim (or_cases _ _ c1.1) [
+          | inl far ↦
+              let f : file_of m.from + 2 ≡ file_of m.to = eqb-true _ _ far in
+              let lt : m.from < m.to = omega arith in
+              inl (omega arith, sym (side_is (nat_lt m.from m.to) side told) ∙ cond-true (nat_lt m.from m.to) _ _ (lt-ltb m.from m.to lt))
+          | inr far ↦
+              let f : file_of m.to + 2 ≡ file_of m.from = eqb-true _ _ far in
+              let ge : m.to ≤ m.from = omega arith in
+              inr (omega arith, sym (side_is (nat_lt m.from m.to) side told) ∙ cond-false (nat_lt m.from m.to) _ _ (le-ltb m.from m.to ge))
+        ];
+      }
 ]
 
 no_promotion : (p : Position) (x : Man) (m : Triple) (r : Option Kind) → is_promotion_right p x m r ≡ true → same_kind x.kind King ≡ true → r ≡ None
@@ -281,7 +281,7 @@ same_castling m n H from (inl a) (inr b) = absurd (let bad : H ≡ A = b.1 in cc
 same_triple : (m n : Triple) → m.from ≡ n.from → m.to ≡ n.to → m.promo ≡ n.promo → m ≡ n
 same_triple m n from to promo =
     ap (λ s. record { from = s; to = m.to; promo = m.promo }) from ∙ ap (λ s. record { from = n.from; to = s; promo = m.promo }) to
-        ∙ ap (λ r. record { from = n.from; to = n.to; promo = r }) promo
+    ∙ ap (λ r. record { from = n.from; to = n.to; promo = r }) promo
 
 module _ (goal : Goal) (rule : RuleSet) (p : Position) (well : IsWellFormed p) where
   -- A legal move's man, and what is shown of it.
@@ -319,7 +319,7 @@ module _ (goal : Goal) (rule : RuleSet) (p : Position) (well : IsWellFormed p) w
       let from : m.from ≡ n.from = well.kings.same p.turn m.from n.from here there in
       let to : m.to ≡ n.to = same_castling m n side from v.way w.way in
       let promo : m.promo ≡ n.promo =
-              no_promotion p x m m.promo a.made.promotion v.king ∙ sym (no_promotion p y n n.promo b.made.promotion w.king) in
+      no_promotion p x m m.promo a.made.promotion v.king ∙ sym (no_promotion p y n n.promo b.made.promotion w.king) in
       same_triple m n from to promo
   same_move m n x y None (Some other) a b e f s goes = cc
   same_move m n x y (Some side) None a b e f s goes = cc

@@ -13,17 +13,20 @@ module _ {M : Type 0} where
   -- the least of n and of the numbers of those moves that pass the test
   unfoldable pub least_of : (M → Bool) → (M → ℕ) → ℕ → List M → ℕ
   least_of test f n [] = n
-  least_of test f n (m ∷ ms) = if test m then min (f m) (least_of test f n ms) else least_of test f n ms
+  least_of test f n (m ∷ ms) = if test m then min (f m) (least_of test f n ms)
+      else least_of test f n ms
 
 module _ {P M : Type 0} where
   -- how many lists of fewer than r moves there are, each legal where it stands
   unfoldable pub walk_count : (P → List M) → (P → M → P) → ℕ → P → ℕ
   walk_count moves after zero p = 0
-  walk_count moves after (suc r) p = 1 + sum_by (λ m. walk_count moves after r (after p m)) (moves p)
+  walk_count moves after (suc r) p = 1 + sum_by (λ m. walk_count moves after r (after p m))
+      (moves p)
 
   -- the move m, after which t half-moves are left, decides p
   abbrev pub decided_by : Battle → Game P M → ℕ → P → M → Bool
-  decided_by battle game t p m = decides (seeks battle (suc t)) (value battle game t (game.after p m))
+  decided_by battle game t p m = decides (seeks battle (suc t))
+      (value battle game t (game.after p m))
 
   -- the positions of a smallest tree that decides p with t half-moves left: none where no half-move or no move is left;
   -- else p itself, with those after one move that decides it or with those after all moves
@@ -31,7 +34,8 @@ module _ {P M : Type 0} where
   smallest_tree battle game zero p = 0
   smallest_tree battle game (suc t) p =
       if can_move game p
-      then 1 + least_of (decided_by battle game t p) (λ m. smallest_tree battle game t (game.after p m))
+      then 1 + least_of (decided_by battle game t p)
+      (λ m. smallest_tree battle game t (game.after p m))
       (sum_by (λ m. smallest_tree battle game t (game.after p m)) (game.moves p)) (game.moves p)
       else 0
 

@@ -48,8 +48,10 @@ IsLinked rule p (f ∷ (g ∷ below)) =
 
 -- the moves that a test has still to try: on the first stretch the killer, then the moves before it, then those behind it
 unfoldable pub ahead : RuleSet → Position → Stretch → ℕ → ℕ → List Triple
-ahead rule p First place killer = moves_between rule p place killer ++ (moves_between rule p 0 (killer - 1) ++ moves_behind rule p killer)
-ahead rule p Before place killer = moves_between rule p place (killer - 1) ++ moves_behind rule p killer
+ahead rule p First place killer = moves_between rule p place killer
+    ++ (moves_between rule p 0 (killer - 1) ++ moves_behind rule p killer)
+ahead rule p Before place killer = moves_between rule p place (killer - 1)
+    ++ moves_behind rule p killer
 ahead rule p Behind place killer = moves_behind rule p place
 
 -- the moves of a frame that a test has still to try
@@ -61,7 +63,8 @@ unfoldable pub deliver : RuleSet → Aim → Position → List Frame → Bool �
 deliver rule aim p [] v = v
 deliver rule aim p (f ∷ below) v =
     deliver rule aim p below (join (seeks aim.battle f.left) v
-    (joined aim.battle (chess aim.goal rule) f.left (position rule p (f ∷ below)) (untried rule (position rule p (f ∷ below)) f)))
+    (joined aim.battle (chess aim.goal rule) f.left (position rule p (f ∷ below))
+    (untried rule (position rule p (f ∷ below)) f)))
 
 -- the same before the next move of the top frame is tried: the answer for its last move may be known
 unfoldable pub pending : RuleSet → Aim → Position → List Frame → Option Bool → Bool
@@ -69,7 +72,8 @@ pending rule aim p [] answer = false
 pending rule aim p (f ∷ below) (Some v) = deliver rule aim p (f ∷ below) v
 pending rule aim p (f ∷ below) None =
     deliver rule aim p below
-    (joined aim.battle (chess aim.goal rule) f.left (position rule p (f ∷ below)) (untried rule (position rule p (f ∷ below)) f))
+    (joined aim.battle (chess aim.goal rule) f.left (position rule p (f ∷ below))
+    (untried rule (position rule p (f ∷ below)) f))
 
 -- the steps that a test takes, which falls at each one
 unfoldable pub steps : RuleSet → ℕ → Position → ℕ
@@ -91,13 +95,15 @@ steps_among rule (suc h) p ms = sum_by (λ m. 1 + steps rule h (played rule p m)
 unfoldable pub work : RuleSet → Position → List Frame → ℕ
 work rule p [] = 0
 work rule p (f ∷ below) =
-    1 + steps_among rule f.left (position rule p (f ∷ below)) (untried rule (position rule p (f ∷ below)) f) + work rule p below
+    1 + steps_among rule f.left (position rule p (f ∷ below))
+    (untried rule (position rule p (f ∷ below)) f) + work rule p below
 
 -- the most frames that the moves behind the places can still open
 unfoldable pub walk_behind : RuleSet → ℕ → Position → ℕ → ℕ
 walk_behind rule zero p place = 0
 walk_behind rule (suc h) p place =
-    sum_by (λ m. walk_count (legal_moves rule) (played rule) h (played rule p m)) (moves_behind rule p place)
+    sum_by (λ m. walk_count (legal_moves rule) (played rule) h (played rule p m))
+    (moves_behind rule p place)
 
 -- the same of all frames of a walk
 unfoldable pub to_open : RuleSet → Position → List Frame → ℕ
@@ -108,31 +114,37 @@ to_open rule p (f ∷ below) =
 -- the same of a test's frames
 unfoldable pub walk_among : RuleSet → ℕ → Position → List Triple → ℕ
 walk_among rule zero p ms = 0
-walk_among rule (suc h) p ms = sum_by (λ m. walk_count (legal_moves rule) (played rule) h (played rule p m)) ms
+walk_among rule (suc h) p ms = sum_by (λ m. walk_count (legal_moves rule) (played rule) h
+    (played rule p m)) ms
 
 -- the same of all frames of a test
 unfoldable pub to_test : RuleSet → Position → List Frame → ℕ
 to_test rule p [] = 0
 to_test rule p (f ∷ below) =
-    walk_among rule f.left (position rule p (f ∷ below)) (untried rule (position rule p (f ∷ below)) f) + to_test rule p below
+    walk_among rule f.left (position rule p (f ∷ below))
+    (untried rule (position rule p (f ∷ below)) f) + to_test rule p below
 
 -- the fewest positions that a test has still to try, once v is the value of the position after the top frame's last move
 unfoldable pub to_try_with : RuleSet → Aim → Position → List Frame → Bool → ℕ
 to_try_with rule aim p [] v = 0
 to_try_with rule aim p (f ∷ below) v =
     (if decides (seeks aim.battle f.left) v then 0
-    else smallest_below aim.battle (chess aim.goal rule) f.left (position rule p (f ∷ below)) (untried rule (position rule p (f ∷ below)) f))
+    else smallest_below aim.battle (chess aim.goal rule) f.left (position rule p (f ∷ below))
+    (untried rule (position rule p (f ∷ below)) f))
     + to_try_with rule aim p below (join (seeks aim.battle f.left) v
-    (joined aim.battle (chess aim.goal rule) f.left (position rule p (f ∷ below)) (untried rule (position rule p (f ∷ below)) f)))
+    (joined aim.battle (chess aim.goal rule) f.left (position rule p (f ∷ below))
+    (untried rule (position rule p (f ∷ below)) f)))
 
 -- the same before the next move of the top frame is tried
 unfoldable pub to_try : RuleSet → Aim → Position → List Frame → Option Bool → ℕ
 to_try rule aim p [] answer = 0
 to_try rule aim p (f ∷ below) (Some v) = to_try_with rule aim p (f ∷ below) v
 to_try rule aim p (f ∷ below) None =
-    smallest_below aim.battle (chess aim.goal rule) f.left (position rule p (f ∷ below)) (untried rule (position rule p (f ∷ below)) f)
+    smallest_below aim.battle (chess aim.goal rule) f.left (position rule p (f ∷ below))
+    (untried rule (position rule p (f ∷ below)) f)
     + to_try_with rule aim p below
-    (joined aim.battle (chess aim.goal rule) f.left (position rule p (f ∷ below)) (untried rule (position rule p (f ∷ below)) f))
+    (joined aim.battle (chess aim.goal rule) f.left (position rule p (f ∷ below))
+    (untried rule (position rule p (f ∷ below)) f))
 
 -- from the top down each frame has a half-move to make, and one less than the frame below it
 unfoldable pub IsCut : List Frame → Type 0
@@ -143,10 +155,12 @@ IsCut (f ∷ (g ∷ below)) = (0 < f.left) × (f.left + 1 ≡ g.left) × IsCut (
 -- what each frame knows is of its own position
 unfoldable pub AreKnown : RuleSet → Position → List Frame → Type 0
 AreKnown rule p [] = Unit {0}
-AreKnown rule p (f ∷ below) = IfSome f.known (IsPlaceIn rule (position rule p (f ∷ below))) × AreKnown rule p below
+AreKnown rule p (f ∷ below) = IfSome f.known (IsPlaceIn rule (position rule p (f ∷ below)))
+    × AreKnown rule p below
 
 -- the board stands on the top frame of a test
-pub record IsTesting (rule : RuleSet) (p : Position) (frames : List Frame) (board : Position) : Type 0 where
+pub record IsTesting (rule : RuleSet) (p : Position) (frames : List Frame) (board : Position) : Type
+    0 where
   pub linked : IsLinked rule p frames
   pub cut : IsCut frames
   pub known : AreKnown rule p frames
@@ -173,18 +187,21 @@ unfoldable pub tests : ℕ → List Frame → List Frame
 tests floor frames = reverse (drop floor frames)
 
 -- what one turn of a test leaves: another state with the same value to come, or the value
-pub record Turns (rule : RuleSet) (aim : Aim) (floor : ℕ) (p : Position) (old new : List Frame) (was is : Option Bool) (board : Position) (before after : ℕ) : Type 0 where
+pub record Turns (rule : RuleSet) (aim : Aim) (floor : ℕ) (p : Position) (old new : List Frame)
+    (was is : Option Bool) (board : Position) (before after : ℕ) : Type 0 where
   pub testing : IsTesting rule p (tests floor new) board
   pub same : pending rule aim p (tests floor old) was ≡ pending rule aim p (tests floor new) is
   pub falls : work rule p (tests floor new) < work rule p (tests floor old)
   pub above : floor < length new
   pub base : take floor new ≡ take floor old
   pub counted : after + to_test rule p (tests floor new) ≤ before + to_test rule p (tests floor old)
-  pub tried : min (before + to_try rule aim p (tests floor old) was) (2 ^ 64 - 1) ≤ after + to_try rule aim p (tests floor new) is
+  pub tried : min (before + to_try rule aim p (tests floor old) was) (2 ^ 64 - 1)
+      ≤ after + to_try rule aim p (tests floor new) is
 
 -- the value, the board and the frames as they were before the test, and no more frames opened than its moves allow, and
 -- no fewer than a smallest tree has positions
-pub record Ends (rule : RuleSet) (aim : Aim) (floor : ℕ) (p : Position) (old new : List Frame) (was : Option Bool) (board : Position) (before after : ℕ) (v : Bool) : Type 0 where
+pub record Ends (rule : RuleSet) (aim : Aim) (floor : ℕ) (p : Position) (old new : List Frame)
+    (was : Option Bool) (board : Position) (before after : ℕ) (v : Bool) : Type 0 where
   pub value : pending rule aim p (tests floor old) was ≡ v
   pub back : board ≡ p
   pub base : new ≡ take floor old
@@ -193,14 +210,31 @@ pub record Ends (rule : RuleSet) (aim : Aim) (floor : ℕ) (p : Position) (old n
 
 -- the frame of a position that a move has reached, of which no move has been tried
 abbrev pub opened : Triple → Loss → ℕ → Frame
-opened by undo left = record { place = 0; by = by; undo = undo; left = left; killer = 0; stretch = Behind; known = None }
+opened by undo left = record {
+  place = 0;
+  by = by;
+  undo = undo;
+  left = left;
+  killer = 0;
+  stretch = Behind;
+  known = None;
+}
 
 -- the same in a test, where the killer is tried first
 abbrev pub tested : ℕ → Triple → Loss → ℕ → Option LegalPlace → Frame
-tested killer by undo left known = record { place = killer - 1; by = by; undo = undo; left = left; killer = killer; stretch = First; known = known }
+tested killer by undo left known = record {
+  place = killer - 1;
+  by = by;
+  undo = undo;
+  left = left;
+  killer = killer;
+  stretch = First;
+  known = known;
+}
 
 -- to some frames one of a test is added, which knows at most its own position
-pub record IsOpenedOn (rule : RuleSet) (p : Position) (old new : List Frame) (killer : ℕ) (by : Triple) (undo : Loss) (left : ℕ) : Type 0 where
+pub record IsOpenedOn (rule : RuleSet) (p : Position) (old new : List Frame) (killer : ℕ)
+    (by : Triple) (undo : Loss) (left : ℕ) : Type 0 where
   pub known : Option LegalPlace
   pub within : IfSome known (IsPlaceIn rule p)
   pub added : new ≡ old ++ tested killer by undo left known ∷ []

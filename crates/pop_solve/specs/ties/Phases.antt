@@ -33,12 +33,14 @@ module _ {M : Type 0} where
   unfoldable pub started : Bool → ℕ → List (List M) → ℕ
   started help n [] = 0
   started help zero (x ∷ xs) = if begins help x then 0 else started help zero xs
-  started help (suc n) (x ∷ xs) = if begins help x then 1 + started help n xs else started help (suc n) xs
+  started help (suc n) (x ∷ xs) = if begins help x then 1 + started help n xs
+      else started help (suc n) xs
 
 -- the paths to come from the frames of a phase
 abbrev pub phase_paths : RuleSet → Posed → Phase → List Frame → List (List Triple)
 phase_paths rule problem phase frames =
-    to_come rule (plan_of problem) (phase_half_moves problem phase) (phase_start problem phase) frames
+    to_come rule (plan_of problem) (phase_half_moves problem phase) (phase_start problem phase)
+    frames
 
 -- the steps still to come
 unfoldable pub left_of : RuleSet → Posed → Stage → List Frame → List Step
@@ -49,7 +51,8 @@ left_of rule problem (Within phase count) frames =
     let limit = problem.max_solutions - count in
     let all = count + started (is_help problem.stipulation.form) limit paths in
     map (step_of problem phase) (keep (is_help problem.stipulation.form) limit paths)
-    ++ total all (all == problem.max_solutions) ∷ (if is_set phase then steps_from rule problem Play else [])
+    ++ total all (all == problem.max_solutions)
+    ∷ (if is_set phase then steps_from rule problem Play else [])
 left_of rule problem Behind frames = []
 
 -- what holds of board and frames at a stage
@@ -62,10 +65,16 @@ IsStanding rule problem (Within phase count) frames board =
 IsStanding rule problem Behind frames board = (frames ≡ []) × (board ≡ start problem)
 
 -- what walking on in a phase leaves, at most `limit` solutions being still to begin
-pub record Walks (rule : RuleSet) (plan : Plan) (h : ℕ) (p : Position) (limit : ℕ) (old new : List Frame) (board : Position) (given : Bool) : Type 0 where
+pub record Walks (rule : RuleSet) (plan : Plan) (h : ℕ) (p : Position) (limit : ℕ)
+    (old new : List Frame) (board : Position) (given : Bool) : Type 0 where
   pub walking : IsWalking rule h p new board
-  pub come : given ≡ true → keep (is_help plan.form) limit (to_come rule plan h p old) ≡ path new ∷ keep (is_help plan.form) (limit - (if begins (is_help plan.form) (path new) then 1 else 0)) (to_come rule plan h p new)
-  pub starts : given ≡ true → started (is_help plan.form) limit (to_come rule plan h p old) ≡ (if begins (is_help plan.form) (path new) then 1 else 0) + started (is_help plan.form) (limit - (if begins (is_help plan.form) (path new) then 1 else 0)) (to_come rule plan h p new)
+  pub come : given ≡ true → keep (is_help plan.form) limit (to_come rule plan h p old)
+      ≡ path new ∷ keep (is_help plan.form)
+      (limit - (if begins (is_help plan.form) (path new) then 1 else 0)) (to_come rule plan h p new)
+  pub starts : given ≡ true → started (is_help plan.form) limit (to_come rule plan h p old)
+      ≡ (if begins (is_help plan.form) (path new) then 1 else 0)
+      + started (is_help plan.form) (limit - (if begins (is_help plan.form) (path new) then 1
+      else 0)) (to_come rule plan h p new)
   pub within : given ≡ true → (if begins (is_help plan.form) (path new) then 1 else 0) ≤ limit
   pub deep : given ≡ true → 2 ≤ length new
   pub ended : given ≡ false → keep (is_help plan.form) limit (to_come rule plan h p old) ≡ []
@@ -73,7 +82,8 @@ pub record Walks (rule : RuleSet) (plan : Plan) (h : ℕ) (p : Position) (limit 
   pub none : given ≡ false → started (is_help plan.form) limit (to_come rule plan h p old) ≡ 0
 
 -- what a call gives: the first step still to come, as an event, with board and frames where that step stands
-pub record Gives (rule : RuleSet) (problem : Posed) (old new : List Step) (event : Event) (board : Position) (depth : ℕ) : Type 0 where
+pub record Gives (rule : RuleSet) (problem : Posed) (old new : List Step) (event : Event)
+    (board : Position) (depth : ℕ) : Type 0 where
   pub step : Step
   pub left : old ≡ step ∷ new
   pub event_is : event ≡ event_of rule problem step
@@ -84,7 +94,8 @@ unfoldable pub rest_open : RuleSet → Posed → Stage → List Frame → ℕ
 rest_open rule problem (Before phase) frames = walk_from rule problem phase
 rest_open rule problem Barred frames = walk_from rule problem Play
 rest_open rule problem (Within phase count) frames =
-    to_open rule (phase_start problem phase) frames + (if is_set phase then walk_from rule problem Play else 0)
+    to_open rule (phase_start problem phase) frames
+    + (if is_set phase then walk_from rule problem Play else 0)
 rest_open rule problem Behind frames = 0
 
 -- the fewest positions that have still to be tried
@@ -92,7 +103,8 @@ unfoldable pub rest_fewest : RuleSet → Posed → Stage → List Frame → ℕ
 rest_fewest rule problem (Before phase) frames = fewest_from rule problem phase
 rest_fewest rule problem Barred frames = fewest_from rule problem Play
 rest_fewest rule problem (Within phase count) frames =
-    fewest_left rule (plan_of problem) (phase_half_moves problem phase) (phase_start problem phase) frames
+    fewest_left rule (plan_of problem) (phase_half_moves problem phase) (phase_start problem phase)
+    frames
     + (if is_set phase then fewest_from rule problem Play else 0)
 rest_fewest rule problem Behind frames = 0
 
@@ -104,7 +116,8 @@ pub record IsKeys (problem : Posed) (phase : Phase) : Type 0 where
 
 -- help play, or keys alone, for which White alone has frames
 unfoldable pub IsNarrow : Posed → Stage → List Frame → Type 0
-IsNarrow problem (Before phase) frames = (is_help problem.stipulation.form ≡ true) ⊎ IsKeys problem phase
+IsNarrow problem (Before phase) frames = (is_help problem.stipulation.form ≡ true)
+    ⊎ IsKeys problem phase
 IsNarrow problem Barred frames = is_help problem.stipulation.form ≡ true
 IsNarrow problem (Within phase count) frames =
     (is_help problem.stipulation.form ≡ true)
@@ -112,22 +125,31 @@ IsNarrow problem (Within phase count) frames =
 IsNarrow problem Behind frames = Unit {0}
 
 -- what a call opens, `left` being the steps still to come before it
-pub record OpensOn (rule : RuleSet) (problem : Posed) (old new : Stage) (frames last : List Frame) (before after : ℕ) (left : List Step) : Type 0 where
+pub record OpensOn (rule : RuleSet) (problem : Posed) (old new : Stage) (frames last : List Frame)
+    (before after : ℕ) (left : List Step) : Type 0 where
   pub narrow : IsNarrow problem old frames → IsNarrow problem new last
-  pub most : IsNarrow problem old frames → after + rest_open rule problem new last ≤ before + rest_open rule problem old frames
-  pub counted : is_help problem.stipulation.form ≡ true → is_unstopped left ≡ true → (walk : ℕ) → IsCounted walk before (rest_open rule problem old frames) → IsCounted walk after (rest_open rule problem new last)
+  pub most : IsNarrow problem old frames
+      → after + rest_open rule problem new last ≤ before + rest_open rule problem old frames
+  pub counted : is_help problem.stipulation.form ≡ true → is_unstopped left ≡ true → (walk : ℕ)
+      → IsCounted walk before (rest_open rule problem old frames)
+      → IsCounted walk after (rest_open rule problem new last)
   pub grows : min before (2 ^ 64 - 1) ≤ after
   pub fewest : is_help problem.stipulation.form ≡ false → is_unstopped left ≡ true
-      → min (before + rest_fewest rule problem old frames) (2 ^ 64 - 1) ≤ after + rest_fewest rule problem new last
+      → min (before + rest_fewest rule problem old frames) (2 ^ 64 - 1)
+      ≤ after + rest_fewest rule problem new last
 
 -- the frames opened so far: never too many, in help play exactly those that aren't still to be opened, and in a battle no
 -- fewer than have to be
-pub record IsOpened (rule : RuleSet) (problem : Posed) (stage : Stage) (frames : List Frame) (opened : ℕ) : Type 0 where
+pub record IsOpened (rule : RuleSet) (problem : Posed) (stage : Stage) (frames : List Frame)
+    (opened : ℕ) : Type 0 where
   pub narrow : is_walked_once problem ≡ true → IsNarrow problem stage frames
-  pub most : is_walked_once problem ≡ true → opened + rest_open rule problem stage frames ≤ whole_walk rule problem
-  pub counted : is_help problem.stipulation.form ≡ true → is_never_stopped rule problem ≡ true → IsCounted (whole_walk rule problem) opened (rest_open rule problem stage frames)
+  pub most : is_walked_once problem ≡ true
+      → opened + rest_open rule problem stage frames ≤ whole_walk rule problem
+  pub counted : is_help problem.stipulation.form ≡ true → is_never_stopped rule problem ≡ true
+      → IsCounted (whole_walk rule problem) opened (rest_open rule problem stage frames)
   pub fewest : is_help problem.stipulation.form ≡ false → is_never_stopped rule problem ≡ true
-      → min (fewest_tried rule problem) (2 ^ 64 - 1) ≤ opened + rest_fewest rule problem stage frames
+      → min (fewest_tried rule problem) (2 ^ 64 - 1)
+      ≤ opened + rest_fewest rule problem stage frames
 
 -- the events given, counted up to the greatest u64; the steps still to come are an ending of all
 pub record IsGiven (rule : RuleSet) (problem : Posed) (left : List Step) (given : ℕ) : Type 0 where

@@ -22,7 +22,11 @@ varies plan = shows_variations plan.tree
 
 -- what is walked of a problem
 abbrev pub plan_of : Posed → Plan
-plan_of problem = record { form = problem.stipulation.form; goal = problem.stipulation.goal; tree = tree_shown problem.variation }
+plan_of problem = record {
+  form = problem.stipulation.form;
+  goal = problem.stipulation.goal;
+  tree = tree_shown problem.variation;
+}
 
 -- the battle and its goal
 abbrev pub aim_of : Plan → Aim

@@ -20,20 +20,26 @@ use Rattle.pop_solve.specs.ties.Plans.{plan_of}
 abbrev pub StandsOn : RuleSet → Posed → Step → Position → ℕ → Type 0
 StandsOn rule problem (opening phase) board depth = Unit {0}
 StandsOn rule problem impossible board depth = Unit {0}
-StandsOn rule problem (line phase path) board depth = (board ≡ reach (played rule) (phase_start problem phase) path) × (depth ≡ length path + 1)
-StandsOn rule problem (tree_node phase path) board depth = (board ≡ reach (played rule) (phase_start problem phase) path) × (depth ≡ length path + 1)
+StandsOn rule problem (line phase path) board
+    depth = (board ≡ reach (played rule) (phase_start problem phase) path)
+    × (depth ≡ length path + 1)
+StandsOn rule problem (tree_node phase path) board
+    depth = (board ≡ reach (played rule) (phase_start problem phase) path)
+    × (depth ≡ length path + 1)
 StandsOn rule problem (total count stopped) board depth = Unit {0}
 
 -- how many lists of fewer moves than its half-moves, each legal where it stands, a phase has: none where it is barred
 abbrev pub phase_walk : RuleSet → Posed → Phase → ℕ
 phase_walk rule problem phase =
     if is_barred rule problem phase then 0
-    else walk_count (legal_moves rule) (played rule) (phase_half_moves problem phase) (phase_start problem phase)
+    else walk_count (legal_moves rule) (played rule) (phase_half_moves problem phase)
+    (phase_start problem phase)
 
 -- the same of all phases from one on
 abbrev pub walk_from : RuleSet → Posed → Phase → ℕ
 walk_from rule problem phase =
-    if is_set phase then phase_walk rule problem Set + phase_walk rule problem Play else phase_walk rule problem Play
+    if is_set phase then phase_walk rule problem Set + phase_walk rule problem Play
+    else phase_walk rule problem Play
 
 -- the same of all phases of a problem
 abbrev pub whole_walk : RuleSet → Posed → ℕ
@@ -45,13 +51,15 @@ abbrev pub phase_fewest : RuleSet → Posed → Phase → ℕ
 phase_fewest rule problem phase =
     if is_barred rule problem phase then 0
     else (if phase_half_moves problem phase == 0 then 0 else 1)
-    + fewest_walked (plan_of problem) (chess problem.stipulation.goal rule) true (phase_half_moves problem phase) (phase_half_moves problem phase)
+    + fewest_walked (plan_of problem) (chess problem.stipulation.goal rule) true
+    (phase_half_moves problem phase) (phase_half_moves problem phase)
     (phase_start problem phase) (legal_moves rule (phase_start problem phase))
 
 -- the same of all phases from one on
 abbrev pub fewest_from : RuleSet → Posed → Phase → ℕ
 fewest_from rule problem phase =
-    if is_set phase then phase_fewest rule problem Set + phase_fewest rule problem Play else phase_fewest rule problem Play
+    if is_set phase then phase_fewest rule problem Set + phase_fewest rule problem Play
+    else phase_fewest rule problem Play
 
 -- the same of all phases of a problem
 abbrev pub fewest_tried : RuleSet → Posed → ℕ
@@ -75,7 +83,8 @@ is_never_stopped rule problem = is_unstopped (events rule problem)
 
 -- problems whose walk makes no move twice: help play, and keys alone
 abbrev pub is_walked_once : Posed → Bool
-is_walked_once problem = is_help problem.stipulation.form || (not problem.variation && not problem.set_play)
+is_walked_once problem = is_help problem.stipulation.form
+    || (not problem.variation && not problem.set_play)
 
 -- what a contract sees of a search
 pub record Seen : Type 0 where

@@ -28,18 +28,21 @@ module _ {P M : Type 0} where
   -- the first of n + 1 numbers of half-moves, from a on by twos, with which White reaches his aim; the last untried
   unfoldable pub first_from : Battle → Game P M → P → ℕ → ℕ → ℕ
   first_from battle game q zero a = a
-  first_from battle game q (suc n) a = if value battle game a q then a else first_from battle game q n (a + 2)
+  first_from battle game q (suc n) a = if value battle game a q then a
+      else first_from battle game q n (a + 2)
 
   -- with how many half-moves the moves of q are shown in battle play, where t are left: 0 for none
   unfoldable pub open_length : Battle → Game P M → ℕ → P → ℕ
   open_length battle game t q =
       if t == 0 || game.goal q then 0
-      else (if seeks battle t then first_from battle game q ((t - fewest battle) / 2) (fewest battle) else t)
+      else (if seeks battle t then first_from battle game q ((t - fewest battle) / 2)
+      (fewest battle) else t)
 
   -- whether the walk follows a move to q, with t half-moves left there: moves of White and those of a root are tested
   unfoldable pub follows : Plan → Game P M → Bool → ℕ → P → Bool
   follows plan game root t q =
-      is_help plan.form || (not (root || seeks (battle_of plan.form) (t + 1)) || value (battle_of plan.form) game t q)
+      is_help plan.form || (not (root || seeks (battle_of plan.form) (t + 1))
+      || value (battle_of plan.form) game t q)
 
   -- whether it gives the path to q: in help play where the last half-move reaches the goal
   unfoldable pub gives : Plan → Game P M → ℕ → P → Bool
@@ -49,7 +52,8 @@ module _ {P M : Type 0} where
   unfoldable pub goes_on : Plan → Game P M → ℕ → P → ℕ
   goes_on plan game t q =
       if is_help plan.form then t
-      else (if not (varies plan) && seeks (battle_of plan.form) (t + 1) then 0 else open_length (battle_of plan.form) game t q)
+      else (if not (varies plan) && seeks (battle_of plan.form) (t + 1) then 0
+      else open_length (battle_of plan.form) game t q)
 
   -- the paths that the walk gives from P by these moves, with `left` half-moves; `fuel` is at least `left`
   unfoldable pub shown : Plan → Game P M → Bool → ℕ → ℕ → P → List M → List (List M)
@@ -59,14 +63,16 @@ module _ {P M : Type 0} where
       flat_map (λ m. let q = game.after p m in
       if follows plan game root t q
       then (if gives plan game t q then (m ∷ []) ∷ [] else [])
-      ++ map (λ path. m ∷ path) (shown plan game false fuel (goes_on plan game t q) q (game.moves q))
+      ++ map (λ path. m ∷ path) (shown plan game false fuel (goes_on plan game t q) q
+      (game.moves q))
       else []) ms
 
   -- the fewest positions that are tried for a move to q, with t half-moves left there: where the move is tested those of a
   -- smallest tree, else q itself if the walk goes on from it
   abbrev pub fewest_for : Plan → Game P M → Bool → ℕ → P → ℕ
   fewest_for plan game root t q =
-      if not (is_help plan.form) && (root || seeks (battle_of plan.form) (t + 1)) then smallest_tree (battle_of plan.form) game t q
+      if not (is_help plan.form) && (root || seeks (battle_of plan.form) (t + 1))
+      then smallest_tree (battle_of plan.form) game t q
       else (if goes_on plan game t q == 0 then 0 else 1)
 
   -- the same for these moves of p, with `left` half-moves, and for all that the walk gives below them
@@ -76,7 +82,8 @@ module _ {P M : Type 0} where
   fewest_walked plan game root (suc fuel) (suc t) p ms =
       sum_by (λ m. let q = game.after p m in
       fewest_for plan game root t q
-      + (if follows plan game root t q then fewest_walked plan game false fuel (goes_on plan game t q) q (game.moves q) else 0)) ms
+      + (if follows plan game root t q then fewest_walked plan game false fuel
+      (goes_on plan game t q) q (game.moves q) else 0)) ms
 
 -- the moves that lead to the top frame
 unfoldable pub path : List Frame → List Triple
@@ -89,14 +96,16 @@ unfoldable pub to_come : RuleSet → Plan → ℕ → Position → List Frame �
 to_come rule plan h p [] = []
 to_come rule plan h p (f ∷ below) =
     map (λ line. path (f ∷ below) ++ line)
-    (shown plan (chess plan.goal rule) (length below == 0) (h - length below) f.left (position rule p (f ∷ below)) (moves_behind rule (position rule p (f ∷ below)) f.place))
+    (shown plan (chess plan.goal rule) (length below == 0) (h - length below) f.left
+    (position rule p (f ∷ below)) (moves_behind rule (position rule p (f ∷ below)) f.place))
     ++ to_come rule plan h p below
 
 -- the fewest positions that are still to be tried for all frames
 unfoldable pub fewest_left : RuleSet → Plan → ℕ → Position → List Frame → ℕ
 fewest_left rule plan h p [] = 0
 fewest_left rule plan h p (f ∷ below) =
-    fewest_walked plan (chess plan.goal rule) (length below == 0) (h - length below) f.left (position rule p (f ∷ below)) (moves_behind rule (position rule p (f ∷ below)) f.place)
+    fewest_walked plan (chess plan.goal rule) (length below == 0) (h - length below) f.left
+    (position rule p (f ∷ below)) (moves_behind rule (position rule p (f ∷ below)) f.place)
     + fewest_left rule plan h p below
 
 -- each frame has room for its half-moves
@@ -105,7 +114,8 @@ IsRoomy h [] = Unit {0}
 IsRoomy h (f ∷ below) = (f.left + length below ≤ h) × IsRoomy h below
 
 -- the board stands on the top frame of a walk
-pub record IsWalking (rule : RuleSet) (h : ℕ) (p : Position) (frames : List Frame) (board : Position) : Type 0 where
+pub record IsWalking (rule : RuleSet) (h : ℕ) (p : Position) (frames : List Frame)
+    (board : Position) : Type 0 where
   pub linked : IsLinked rule p frames
   pub roomy : IsRoomy h frames
   pub known : AreKnown rule p frames
@@ -116,7 +126,8 @@ pub record IsWalking (rule : RuleSet) (h : ℕ) (p : Position) (frames : List Fr
 unfoldable pub turns : RuleSet → ℕ → Position → List Frame → ℕ
 turns rule h p [] = 0
 turns rule h p (f ∷ below) =
-    1 + steps_behind rule (h - length below) (position rule p (f ∷ below)) f.place + turns rule h p below
+    1 + steps_behind rule (h - length below) (position rule p (f ∷ below)) f.place
+    + turns rule h p below
 
 -- of `walk` frames all but `rest` have been opened, counted up to the greatest u64
 pub record IsCounted (walk opened rest : ℕ) : Type 0 where
@@ -129,30 +140,42 @@ IsWhites battle frames = list_all (λ f. f.left == 0 || seeks battle f.left) fra
 
 -- the frames opened and still to be opened, before a part of a walk and after it: in help play and where keys alone are
 -- shown they grow by nothing
-pub record Opens (rule : RuleSet) (plan : Plan) (p : Position) (old new : List Frame) (before after : ℕ) : Type 0 where
-  pub whites : is_help plan.form ≡ false → varies plan ≡ false → IsWhites (battle_of plan.form) old ≡ true → IsWhites (battle_of plan.form) new ≡ true
-  pub most : is_help plan.form ≡ false → varies plan ≡ false → IsWhites (battle_of plan.form) old ≡ true → after + to_open rule p new ≤ before + to_open rule p old
+pub record Opens (rule : RuleSet) (plan : Plan) (p : Position) (old new : List Frame)
+    (before after : ℕ) : Type 0 where
+  pub whites : is_help plan.form ≡ false → varies plan ≡ false
+      → IsWhites (battle_of plan.form) old ≡ true → IsWhites (battle_of plan.form) new ≡ true
+  pub most : is_help plan.form ≡ false → varies plan ≡ false
+      → IsWhites (battle_of plan.form) old ≡ true
+      → after + to_open rule p new ≤ before + to_open rule p old
   pub helped : is_help plan.form ≡ true → after + to_open rule p new ≤ before + to_open rule p old
-  pub counted : is_help plan.form ≡ true → (walk : ℕ) → IsCounted walk before (to_open rule p old) → IsCounted walk after (to_open rule p new)
+  pub counted : is_help plan.form ≡ true → (walk : ℕ) → IsCounted walk before (to_open rule p old)
+      → IsCounted walk after (to_open rule p new)
 
 -- a part of a walk counts on, and in a battle it tries no fewer positions than have to be
-pub record Tries (rule : RuleSet) (plan : Plan) (h : ℕ) (p : Position) (old new : List Frame) (before after : ℕ) : Type 0 where
+pub record Tries (rule : RuleSet) (plan : Plan) (h : ℕ) (p : Position) (old new : List Frame)
+    (before after : ℕ) : Type 0 where
   pub grows : min before (2 ^ 64 - 1) ≤ after
-  pub fewest : is_help plan.form ≡ false → min (before + fewest_left rule plan h p old) (2 ^ 64 - 1) ≤ after + fewest_left rule plan h p new
+  pub fewest : is_help plan.form ≡ false
+      → min (before + fewest_left rule plan h p old) (2 ^ 64 - 1)
+      ≤ after + fewest_left rule plan h p new
 
 -- from a place to the moves `rest` behind a later one only moves are passed over whose paths aren't given: in help play
 -- for mate, with one half-move left, those that don't mate
-pub record GoesTo (rule : RuleSet) (plan : Plan) (left : ℕ) (p : Position) (place : ℕ) (rest : List Triple) : Type 0 where
+pub record GoesTo (rule : RuleSet) (plan : Plan) (left : ℕ) (p : Position) (place : ℕ)
+    (rest : List Triple) : Type 0 where
   pub mid : ℕ
   pub over : List Triple
   pub passed : moves_behind rule p place ≡ over ++ moves_behind rule p mid
-  pub none : (over ≡ []) ⊎ ((is_help plan.form ≡ true) × (plan.goal ≡ Mate) × (left ≡ 1) × (filter (is_mating rule p) over ≡ []))
+  pub none : (over ≡ []) ⊎ ((is_help plan.form ≡ true) × (plan.goal ≡ Mate) × (left ≡ 1)
+      × (filter (is_mating rule p) over ≡ []))
   pub here : moves_behind rule p mid ≡ rest
 
 -- what one step of a walk leaves, for frames listed from the top down; `given` says whether the path to the new top is given
-pub record Steps (rule : RuleSet) (plan : Plan) (h : ℕ) (p : Position) (old new : List Frame) (board : Position) (before after : ℕ) (given : Bool) : Type 0 where
+pub record Steps (rule : RuleSet) (plan : Plan) (h : ℕ) (p : Position) (old new : List Frame)
+    (board : Position) (before after : ℕ) (given : Bool) : Type 0 where
   pub walking : IsWalking rule h p new board
-  pub come : to_come rule plan h p old ≡ (if given then path new ∷ [] else []) ++ to_come rule plan h p new
+  pub come : to_come rule plan h p old ≡ (if given then path new ∷ [] else [])
+      ++ to_come rule plan h p new
   pub deep : given ≡ true → length new ≡ length old + 1
   pub falls : turns rule h p new < turns rule h p old
   pub opens : Opens rule plan p old new before after

@@ -24,11 +24,16 @@ MayFollow Broken rest = rest ≡ record { bytes = []; ending = Failed }
 
 -- the words still to come from a place, behind a text word of its line or behind none, where the source goes on so
 abbrev pub words_left : Option (List ℕ) → Reading → Input → Words
-words_left behind place rest = words_from behind (limit - place.used) place.line (after place.window rest)
+words_left behind place rest = words_from behind (limit - place.used) place.line
+    (after place.window rest)
 
 -- tokens before the words still to come
 abbrev pub put_before : List Token → Words → Words
-put_before tokens words = record { tokens = tokens ++ words.tokens; tail = words.tail; tail_line = words.tail_line }
+put_before tokens words = record {
+  tokens = tokens ++ words.tokens;
+  tail = words.tail;
+  tail_line = words.tail_line;
+}
 
 -- a place, and the text word behind which it is
 pub record Spot : Type 0 where
@@ -40,8 +45,11 @@ pub record Takes (old new : Spot) (had left : Option (List ℕ)) (tokens : List 
   pub bytes : List ℕ
   pub taken : Consumes had left bytes
   pub follows : (rest : Input) → MayFollow new.at.end rest → MayFollow old.at.end (after bytes rest)
-  pub begin : (rest : Input) → MayFollow new.at.end rest → words_left old.behind old.at (after bytes rest) ≡ put_before tokens (words_left new.behind new.at rest)
-  pub amount : length bytes + (old.at.used + length old.at.window) ≡ new.at.used + length new.at.window
+  pub begin : (rest : Input) → MayFollow new.at.end rest
+      → words_left old.behind old.at (after bytes rest)
+      ≡ put_before tokens (words_left new.behind new.at rest)
+  pub amount : length bytes + (old.at.used + length old.at.window)
+      ≡ new.at.used + length new.at.window
 
 -- among words
 abbrev pub among : Reading → Spot
@@ -57,12 +65,15 @@ no_words tail line = record { tokens = []; tail = tail; tail_line = line }
 
 -- however the source goes on, the input ends here so
 abbrev pub IsOver : Reading → Tail → Type 0
-IsOver place tail = (rest : Input) → MayFollow place.end rest → words_left None place rest ≡ no_words tail place.line
+IsOver place tail = (rest : Input) → MayFollow place.end rest
+    → words_left None place rest ≡ no_words tail place.line
 
 -- a word was taken, or the place is now behind it if it is a text word
-abbrev pub TakesWord : Bool → Reading → Reading → Option (List ℕ) → Option (List ℕ) → ℕ → List ℕ → Type 0
+abbrev pub TakesWord : Bool → Reading → Reading → Option (List ℕ) → Option (List ℕ) → ℕ → List ℕ
+    → Type 0
 TakesWord true old new had left line text = Takes (among old) (behind_word text new) had left []
-TakesWord false old new had left line text = Takes (among old) (among new) had left (Word line text ∷ [])
+TakesWord false old new had left line text = Takes (among old) (among new) had left
+    (Word line text ∷ [])
 
 -- the place is not before the old one, and within the limit
 abbrev pub StaysWithin : Reading → Reading → Type 0
@@ -71,8 +82,10 @@ StaysWithin old new = (old.used ≤ new.used) × (new.used ≤ limit)
 -- no word is taken, and none is left
 abbrev pub TakesNone : Spot → Reading → Option (List ℕ) → Option (List ℕ) → ReadFault → Type 0
 TakesNone old new had left (TooLong line) = ⊥
-TakesNone old new had left (InputTooLong line) = Takes old (among new) had left [] × IsOver new Long × (line ≡ new.line) × StaysWithin old.at new
-TakesNone old new had left (Device line) = Takes old (among new) had left [] × IsOver new Failing × (line ≡ new.line) × StaysWithin old.at new × (new.end ≡ Broken)
+TakesNone old new had left (InputTooLong line) = Takes old (among new) had left [] × IsOver new Long
+    × (line ≡ new.line) × StaysWithin old.at new
+TakesNone old new had left (Device line) = Takes old (among new) had left [] × IsOver new Failing
+    × (line ≡ new.line) × StaysWithin old.at new × (new.end ≡ Broken)
 
 -- bytes were used, within the limit
 abbrev pub GoesOn : Reading → Reading → Type 0
@@ -91,14 +104,23 @@ found_of (Ok false) line = Err (TooLong line)
 found_of (Err fault) line = Err fault
 
 -- what next_word does
-abbrev pub NextWord : Reading → Reading → Option (List ℕ) → Option (List ℕ) → Result (Option Read) ReadFault → Type 0
-NextWord old new had left (Ok None) = Takes (among old) (among new) had left [] × IsOver new AtEnd × StaysWithin old new
-NextWord old new had left (Ok (Some word)) = TakesWord (is_text_word word.bytes.items) old new had left word.line word.bytes.items × (0 < length word.bytes.items) × GoesOn old new
-NextWord old new had left (Err (TooLong line)) = (text : List ℕ) × (160 < length text) × Takes (among old) (among new) had left (Word line text ∷ []) × GoesOn old new
-NextWord old new had left (Err (InputTooLong line)) = TakesNone (among old) new had left (InputTooLong line)
+abbrev pub NextWord : Reading → Reading → Option (List ℕ) → Option (List ℕ)
+    → Result (Option Read) ReadFault → Type 0
+NextWord old new had left (Ok None) = Takes (among old) (among new) had left [] × IsOver new AtEnd
+    × StaysWithin old new
+NextWord old new had left (Ok (Some word)) = TakesWord (is_text_word word.bytes.items) old new had
+    left word.line word.bytes.items × (0 < length word.bytes.items) × GoesOn old new
+NextWord old new had left (Err (TooLong line)) = (text : List ℕ) × (160 < length text)
+    × Takes (among old) (among new) had left (Word line text ∷ []) × GoesOn old new
+NextWord old new had left (Err (InputTooLong line)) = TakesNone (among old) new had left
+    (InputTooLong line)
 NextWord old new had left (Err (Device line)) = TakesNone (among old) new had left (Device line)
 
 -- what rest_of_line does behind a text word, whichever it is
-abbrev pub RestOfLine : List ℕ → Reading → Reading → Option (List ℕ) → Option (List ℕ) → Result Text ReadFault → Type 0
-RestOfLine keyword old new had left (Ok text) = (line : List ℕ) × Takes (behind_word keyword old) (among new) had left (TextLine old.line keyword line ∷ []) × (text ≡ text_of_line line) × (old.used ≤ new.used) × (new.used ≤ limit)
-RestOfLine keyword old new had left (Err fault) = TakesNone (behind_word keyword old) new had left fault
+abbrev pub RestOfLine : List ℕ → Reading → Reading → Option (List ℕ) → Option (List ℕ)
+    → Result Text ReadFault → Type 0
+RestOfLine keyword old new had left (Ok text) = (line : List ℕ)
+    × Takes (behind_word keyword old) (among new) had left (TextLine old.line keyword line ∷ [])
+    × (text ≡ text_of_line line) × (old.used ≤ new.used) × (new.used ≤ limit)
+RestOfLine keyword old new had left (Err fault) = TakesNone (behind_word keyword old) new had left
+    fault

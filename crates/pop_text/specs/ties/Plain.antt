@@ -9,14 +9,17 @@ use Rattle.pop_text.specs.ties.Left.{Takes, among}
 -- tit, aut, ori, rem, nex, end: the first letters of title, author, origin, remark, nextproblem and endproblem
 abbrev pub is_named_front : ℕ → ℕ → ℕ → Bool
 is_named_front a b c =
-    (((((((a == 116 && b == 105) && c == 116) || ((a == 97 && b == 117) && c == 116)) || ((a == 111 && b == 114) && c == 105)) || ((a == 114 && b == 101) && c == 109)) || ((a == 110 && b == 101) && c == 120)) || ((a == 101 && b == 110) && c == 100))
+    (((((((a == 116 && b == 105) && c == 116) || ((a == 97 && b == 117) && c == 116))
+    || ((a == 111 && b == 114) && c == 105)) || ((a == 114 && b == 101) && c == 109))
+    || ((a == 110 && b == 101) && c == 120)) || ((a == 101 && b == 110) && c == 100))
 
 -- three letters or more that begin like one of these, in capitals or not
 abbrev pub is_named : List ℕ → Bool
 is_named [] = false
 is_named (a ∷ []) = false
 is_named (a ∷ b ∷ []) = false
-is_named (a ∷ b ∷ c ∷ word) = is_named_front (to_ascii_lowercase a) (to_ascii_lowercase b) (to_ascii_lowercase c)
+is_named (a ∷ b ∷ c ∷ word) = is_named_front (to_ascii_lowercase a) (to_ascii_lowercase b)
+    (to_ascii_lowercase c)
 
 -- a word that says nothing in skipped text
 abbrev pub is_plain : Token → Bool
@@ -32,8 +35,10 @@ RunsOut bytes (b ∷ behind) = (bytes ≡ []) ⊎ (is_gap b ≡ true)
 pub record IsPlain (bytes : List ℕ) : Type 0 where
   pub tokens : ℕ → List Token
   pub plain : (line : ℕ) → list_all is_plain (tokens line) ≡ true
-  pub words : (cut : Bool) (line : ℕ) (behind : List ℕ) → (bytes ≡ []) ⊎ ((b : ℕ) × (more : List ℕ) × (behind ≡ b ∷ more) × (is_gap b ≡ true))
-      → tokens_from None cut line (bytes ++ behind) ≡ tokens line ++ tokens_from None cut (line + count_by is_line_end bytes) behind
+  pub words : (cut : Bool) (line : ℕ) (behind : List ℕ)
+      → (bytes ≡ []) ⊎ ((b : ℕ) × (more : List ℕ) × (behind ≡ b ∷ more) × (is_gap b ≡ true))
+      → tokens_from None cut line (bytes ++ behind) ≡ tokens line
+      ++ tokens_from None cut (line + count_by is_line_end bytes) behind
 
 -- plain words of the window were used
 pub record Skips (old new : Reading) : Type 0 where

@@ -39,7 +39,8 @@ pub record IsFront (test : ℕ → Bool) (now : Reading) (part : List ℕ) : Typ
   pub within : length part ≤ length now.window
   pub room : now.used + length part ≤ limit
   pub all : list_all test part ≡ true
-  pub some : (b : ℕ) → (rest : List ℕ) → now.window ≡ b ∷ rest → test b ≡ true → now.used < limit → 0 < length part
+  pub some : (b : ℕ) → (rest : List ℕ) → now.window ≡ b ∷ rest → test b ≡ true → now.used < limit
+      → 0 < length part
 
 -- a seen end is one
 abbrev pub IsSeen : End → Option (List ℕ) → Type 0

@@ -13,9 +13,11 @@ use Rattle.pop_text.specs.declared.word.Word.{Word}
 abbrev pub Peeks : Reading → Result (Option ℕ) ReadFault → Type 0
 Peeks new (Ok (Some b)) = (rest : List ℕ) × (new.window ≡ b ∷ rest) × (new.used < limit)
 Peeks new (Ok None) = (new.window ≡ []) × (new.end ≡ Ended) × (new.used ≤ limit)
-Peeks new (Err (InputTooLong line)) = (0 < length new.window) × (new.used ≡ limit) × (line ≡ new.line)
+Peeks new (Err (InputTooLong line)) = (0 < length new.window) × (new.used ≡ limit)
+    × (line ≡ new.line)
 Peeks new (Err (TooLong line)) = ⊥
-Peeks new (Err (Device line)) = (new.window ≡ []) × (new.end ≡ Broken) × (line ≡ new.line) × (new.used ≤ limit)
+Peeks new (Err (Device line)) = (new.window ≡ []) × (new.end ≡ Broken) × (line ≡ new.line)
+    × (new.used ≤ limit)
 
 -- a fault is found at the place, and so again by every later call; a word too long is behind it
 abbrev pub Sticks : Reading → ReadFault → Type 0
@@ -25,7 +27,8 @@ Sticks new (Device line) = Peeks new (Err (Device line))
 
 -- a run is over: a gap follows it, or nothing does
 abbrev pub IsRunOver : Reading → Type 0
-IsRunOver new = ((b : ℕ) × (rest : List ℕ) × (new.window ≡ b ∷ rest) × (is_gap b ≡ true) × (new.used < limit)) ⊎ ((new.window ≡ []) × (new.end ≡ Ended) × (new.used ≤ limit))
+IsRunOver new = ((b : ℕ) × (rest : List ℕ) × (new.window ≡ b ∷ rest) × (is_gap b ≡ true)
+    × (new.used < limit)) ⊎ ((new.window ≡ []) × (new.end ≡ Ended) × (new.used ≤ limit))
 
 -- these bytes of a run were used
 pub record UsesSolid (old new : Reading) (had left : Option (List ℕ)) (run : List ℕ) : Type 0 where
@@ -33,13 +36,17 @@ pub record UsesSolid (old new : Reading) (had left : Option (List ℕ)) (run : L
   pub uses : Uses old new had left run
 
 -- a whole run was used, which the word has or which is too long for it, or a beginning of one up to a fault
-abbrev pub RunsTo : Reading → Reading → Option (List ℕ) → Option (List ℕ) → List ℕ → Result Bool ReadFault → Type 0
+abbrev pub RunsTo : Reading → Reading → Option (List ℕ) → Option (List ℕ) → List ℕ
+    → Result Bool ReadFault → Type 0
 RunsTo old new had left kept (Ok true) = UsesSolid old new had left kept × IsRunOver new
-RunsTo old new had left kept (Ok false) = (run : List ℕ) × (160 < length run) × UsesSolid old new had left run × IsRunOver new
-RunsTo old new had left kept (Err fault) = (run : List ℕ) × UsesSolid old new had left run × Peeks new (Err fault)
+RunsTo old new had left kept (Ok false) = (run : List ℕ) × (160 < length run)
+    × UsesSolid old new had left run × IsRunOver new
+RunsTo old new had left kept (Err fault) = (run : List ℕ) × UsesSolid old new had left run
+    × Peeks new (Err fault)
 
 -- a gap and the run behind it were used, and no byte behind that; the run begins in the line with this number
-pub record UsesRun (old new : Reading) (had left : Option (List ℕ)) (number : ℕ) (run : List ℕ) : Type 0 where
+pub record UsesRun (old new : Reading) (had left : Option (List ℕ)) (number : ℕ)
+    (run : List ℕ) : Type 0 where
   pub gap : List ℕ
   pub blank : list_all is_gap gap ≡ true
   pub solid : list_all is_in_word run ≡ true
@@ -47,11 +54,15 @@ pub record UsesRun (old new : Reading) (had left : Option (List ℕ)) (number : 
   pub line : number ≡ old.line + count_by is_line_end gap
 
 -- which bytes next_word uses: the gap and the word, which is over there; where there is none the gap, and a run that a fault cuts
-abbrev pub UsesWord : Reading → Reading → Option (List ℕ) → Option (List ℕ) → Result (Option Word) ReadFault → Type 0
+abbrev pub UsesWord : Reading → Reading → Option (List ℕ) → Option (List ℕ)
+    → Result (Option Word) ReadFault → Type 0
 UsesWord old new had left (Ok None) = UsesAll is_gap old new had left
-UsesWord old new had left (Ok (Some word)) = UsesRun old new had left word.line word.bytes.items × IsRunOver new
-UsesWord old new had left (Err (TooLong line)) = (run : List ℕ) × (160 < length run) × UsesRun old new had left line run × IsRunOver new
-UsesWord old new had left (Err (InputTooLong line)) = (run : List ℕ) × UsesRun old new had left line run
+UsesWord old new had left (Ok (Some word)) = UsesRun old new had left word.line word.bytes.items
+    × IsRunOver new
+UsesWord old new had left (Err (TooLong line)) = (run : List ℕ) × (160 < length run)
+    × UsesRun old new had left line run × IsRunOver new
+UsesWord old new had left (Err (InputTooLong line)) = (run : List ℕ)
+    × UsesRun old new had left line run
 UsesWord old new had left (Err (Device line)) = (run : List ℕ) × UsesRun old new had left line run
 
 -- what is known of the place behind a search for a word, by its answer
@@ -62,9 +73,12 @@ Stands new (Err fault) = Sticks new fault
 
 -- a line and its line end were used, or a line that the input ends
 abbrev pub UsesWhole : Reading → Reading → Option (List ℕ) → Option (List ℕ) → List ℕ → Type 0
-UsesWhole old new had left line = Uses old new had left (line ++ 10 ∷ []) ⊎ (Uses old new had left line × (new.window ≡ []) × (new.end ≡ Ended))
+UsesWhole old new had left line = Uses old new had left (line ++ 10 ∷ [])
+    ⊎ (Uses old new had left line × (new.window ≡ []) × (new.end ≡ Ended))
 
 -- which bytes rest_of_line uses: those of the line, whose text is answered, or up to a fault some of them
-abbrev pub UsesLine : Reading → Reading → Option (List ℕ) → Option (List ℕ) → Result Text ReadFault → Type 0
-UsesLine old new had left (Ok text) = (line : List ℕ) × (list_all is_in_line line ≡ true) × (text ≡ text_of_line line) × UsesWhole old new had left line
+abbrev pub UsesLine : Reading → Reading → Option (List ℕ) → Option (List ℕ) → Result Text ReadFault
+    → Type 0
+UsesLine old new had left (Ok text) = (line : List ℕ) × (list_all is_in_line line ≡ true)
+    × (text ≡ text_of_line line) × UsesWhole old new had left line
 UsesLine old new had left (Err fault) = UsesAll is_in_line old new had left

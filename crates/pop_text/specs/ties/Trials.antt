@@ -37,12 +37,19 @@ round_of trial = round_from trial.text trial.rest
 
 -- how many bytes a call hands out into so much room: as many as there are in the round
 abbrev pub handed_out : TrialInput → ℕ → ℕ
-handed_out trial room = before_failure trial.until_failure (min (min (min (length (round_of trial)) room) trial.left) trial.at_most)
+handed_out trial room = before_failure trial.until_failure
+    (min (min (min (length (round_of trial)) room) trial.left) trial.at_most)
 
 -- a call fails exactly at the place of the failure, and hands out no fewer bytes than it may
 abbrev pub Gives : {E : Type 0} → TrialInput → TrialInput → ℕ → Result ℕ E → Type 0
-Gives old new room (Ok n) = (old.until_failure ≢ Some 0) × (n ≡ handed_out old room) × (new ≡ record old { rest = drop n (round_of old); left = old.left - n; until_failure = option_map (λ until. until - n) old.until_failure })
-Gives old new room (Err e) = (old.until_failure ≡ Some 0) × (new ≡ record old { until_failure = None; failures = old.failures + 1 })
+Gives old new room (Ok n) = (old.until_failure ≢ Some 0) × (n ≡ handed_out old room)
+    × (new ≡ record old {
+      rest = drop n (round_of old);
+      left = old.left - n;
+      until_failure = option_map (λ until. until - n) old.until_failure;
+    })
+Gives old new room (Err e) = (old.until_failure ≡ Some 0)
+    × (new ≡ record old { until_failure = None; failures = old.failures + 1 })
 
 -- what a trial has taken, the most bytes a call, the bytes before the failure
 pub record TrialOutput : Type 0 where
@@ -53,9 +60,15 @@ pub record TrialOutput : Type 0 where
 
 -- how many bytes of a text a call takes, where the whole room is so large
 abbrev pub taken_of : ℕ → TrialOutput → List ℕ → ℕ
-taken_of size trial text = before_failure trial.until_failure (min (min (length text) (size - length trial.taken)) trial.at_most)
+taken_of size trial text = before_failure trial.until_failure
+    (min (min (length text) (size - length trial.taken)) trial.at_most)
 
 -- a call fails exactly where it can take nothing of a text: at the place of the failure, or where the room is full
 abbrev pub Accepts : {E : Type 0} → ℕ → TrialOutput → TrialOutput → List ℕ → Result ℕ E → Type 0
-Accepts size old new text (Ok n) = (0 < length text → 0 < n) × (n ≡ taken_of size old text) × (new ≡ record old { taken = old.taken ++ take n text; until_failure = option_map (λ until. until - n) old.until_failure })
-Accepts size old new text (Err e) = (0 < length text) × (taken_of size old text ≡ 0) × (new ≡ record old { until_failure = None; failures = old.failures + 1 })
+Accepts size old new text (Ok n) = (0 < length text → 0 < n) × (n ≡ taken_of size old text)
+    × (new ≡ record old {
+      taken = old.taken ++ take n text;
+      until_failure = option_map (λ until. until - n) old.until_failure;
+    })
+Accepts size old new text (Err e) = (0 < length text) × (taken_of size old text ≡ 0)
+    × (new ≡ record old { until_failure = None; failures = old.failures + 1 })

@@ -41,7 +41,13 @@ pub record GoesOn (place : Place) : Type 0 where
 
 -- before all items
 abbrev pub start : Choice → Place
-start choice = record { at = before_all; number = 1; status = Sound; stopped = false; choice = choice }
+start choice = record {
+  at = before_all;
+  number = 1;
+  status = Sound;
+  stopped = false;
+  choice = choice;
+}
 
 -- the status after one more item: a failed device outweighs all, and a fault what is sound
 abbrev pub status_with : Status → Bool → Bool → Status
@@ -62,14 +68,18 @@ pub record TakesItem (old new : Place) (had left : Option (List ℕ)) (entry : E
   pub choice : new.choice ≡ old.choice
 
 -- what a step does that begins at old
-abbrev pub Steps : Place → Place → Option (List ℕ) → Option (List ℕ) → Option (List ℕ) → Option (List ℕ) → Result Step SinkFault → Type 0
+abbrev pub Steps : Place → Place → Option (List ℕ) → Option (List ℕ) → Option (List ℕ)
+    → Option (List ℕ) → Result Step SinkFault → Type 0
 Steps old new had left before now (Ok (Problem sound)) =
-    (entry : Entry) × TakesItem old new had left entry × Appends before now (entry_text old.choice old.number entry)
+    (entry : Entry) × TakesItem old new had left entry
+    × Appends before now (entry_text old.choice old.number entry)
     × (new.stopped ≡ false) × (sound ≡ not (is_faulty entry))
 Steps old new had left before now (Ok (Finished status)) =
-    Reads old.at new.at had left [] × IsOver new.at × Keeps before now × (status ≡ old.status) × (new ≡ record old { at = new.at })
+    Reads old.at new.at had left [] × IsOver new.at × Keeps before now × (status ≡ old.status)
+    × (new ≡ record old { at = new.at })
 Steps old new had left before now (Err fault) =
-    (entry : Entry) × TakesItem old new had left entry × Begins before now (entry_text old.choice old.number entry) × (new.stopped ≡ true)
+    (entry : Entry) × TakesItem old new had left entry
+    × Begins before now (entry_text old.choice old.number entry) × (new.stopped ≡ true)
 
 -- the step is a problem
 abbrev pub is_problem : Result Step SinkFault → Bool

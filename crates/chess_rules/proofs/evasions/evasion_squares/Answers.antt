@@ -22,7 +22,9 @@ returns g c =
     let small : c.in-Some-next_bit.checker < 64 = omega (arith, first.high) in
     let plain = sym c.is_fairy_on.ensures ∙ c.if-is_fairy_on.false in
     let all = rw c.other.ensures at c.attackers.ensures in
-    evasion_squares_one g.R.Rules.rule c.args.board.now.men c.args.colour c.in-Some.king c.in-Some-next_bit.checker c.only.result c.reach_as.result c.reach_as-2.result c.attackers.result (sym c.king_of.ensures ∙ c.in-Some.is) (sym c.is_madrasi.ensures ∙ c.if-is_madrasi.false) plain all small first.here c.only.ensures c.reach_as.ensures c.reach_as-2.ensures
+    evasion_squares_one g.R.Rules.rule c.args.board.now.men c.args.colour c.in-Some.king c.in-Some-next_bit.checker c.only.result c.reach_as.result
+    c.reach_as-2.result c.attackers.result (sym c.king_of.ensures ∙ c.in-Some.is) (sym c.is_madrasi.ensures ∙ c.if-is_madrasi.false) plain all small
+    first.here c.only.ensures c.reach_as.ensures c.reach_as-2.ensures
 
 pub returns-then-shield_squares : goal.returns-then-shield_squares
 returns-then-shield_squares g c = evasion_squares_all g.R.Rules.rule c.args.board.now.men c.args.colour

@@ -8,7 +8,10 @@ abbrev pub invariant-loop-m : goal.invariant-loop-m
 invariant-loop-m g l = record {
   board : l.board ≡ l.fn.board;
   within : IsPlaceIn g.R.Rules.rule l.fn.board l.moves;
-  rest : ((l.some || not (is_nil (moves_behind g.R.Rules.rule l.fn.board l.moves.place))) && list_all (is_mating g.R.Rules.rule l.fn.board) (moves_behind g.R.Rules.rule l.fn.board l.moves.place)) ≡ (not (is_nil (moves_behind g.R.Rules.rule l.fn.board l.fn.moves.place)) && list_all (is_mating g.R.Rules.rule l.fn.board) (moves_behind g.R.Rules.rule l.fn.board l.fn.moves.place));
+  rest : ((l.some || not (is_nil (moves_behind g.R.Rules.rule l.fn.board l.moves.place)))
+      && list_all (is_mating g.R.Rules.rule l.fn.board) (moves_behind g.R.Rules.rule l.fn.board l.moves.place))
+      ≡ (not (is_nil (moves_behind g.R.Rules.rule l.fn.board l.fn.moves.place))
+      && list_all (is_mating g.R.Rules.rule l.fn.board) (moves_behind g.R.Rules.rule l.fn.board l.fn.moves.place));
 }
 
 abbrev pub decreases-loop-m : goal.decreases-loop-m

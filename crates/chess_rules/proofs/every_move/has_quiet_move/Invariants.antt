@@ -7,7 +7,8 @@ abbrev pub invariant-loop-m : goal.invariant-loop-m
 invariant-loop-m g l = record {
   board : l.board ≡ l.fn.board;
   within : IsPlaceIn g.R.Rules.rule l.fn.board l.moves;
-  rest : list_all (is_mating g.R.Rules.rule l.fn.board) (moves_behind g.R.Rules.rule l.fn.board l.moves.place) ≡ false → list_all (is_mating g.R.Rules.rule l.fn.board) (moves_behind g.R.Rules.rule l.fn.board l.fn.moves.place) ≡ false;
+  rest : list_all (is_mating g.R.Rules.rule l.fn.board) (moves_behind g.R.Rules.rule l.fn.board l.moves.place) ≡ false
+      → list_all (is_mating g.R.Rules.rule l.fn.board) (moves_behind g.R.Rules.rule l.fn.board l.fn.moves.place) ≡ false;
 }
 
 abbrev pub decreases-loop-m : goal.decreases-loop-m

@@ -11,7 +11,8 @@ loop-square-init g c = λ men are others. NoneBelow-start (λ s. bit_at c.args.w
 
 pub returns-then-not-is_paralysed_after : goal.returns-then-not-is_paralysed_after
 returns-then-not-is_paralysed_after g c = λ men are others.
-    let first = find_first (λ s. bit_at c.args.word s == 1) c.loop-square.number (64 - c.loop-square.number) c.in-Some.square (sym c.next_bit.ensures.value ∙ c.in-Some.is) in
+    let first = find_first (λ s. bit_at c.args.word s == 1) c.loop-square.number (64 - c.loop-square.number) c.in-Some.square
+    (sym c.next_bit.ensures.value ∙ c.in-Some.is) in
     let small : c.in-Some.square < 64 = omega (arith, first.high, first.low) in
     sym (some_square_true (λ s. bit_at c.args.word s == 1 && not (paralysed g.R.Rules.rule men s)) c.in-Some.square small
     (and_from _ _ first.here
@@ -19,7 +20,8 @@ returns-then-not-is_paralysed_after g c = λ men are others.
 
 pub loop-square-preserved : goal.loop-square-preserved
 loop-square-preserved g c = λ men are others.
-    let first = find_first (λ s. bit_at c.args.word s == 1) c.loop-square.number (64 - c.loop-square.number) c.in-Some.square (sym c.next_bit.ensures.value ∙ c.in-Some.is) in
+    let first = find_first (λ s. bit_at c.args.word s == 1) c.loop-square.number (64 - c.loop-square.number) c.in-Some.square
+    (sym c.next_bit.ensures.value ∙ c.in-Some.is) in
     let small : c.in-Some.square < 64 = omega (arith, first.high, first.low) in
     rw c.index-number.ensures.value
     (NoneBelow-more (λ s. bit_at c.args.word s == 1 && not (paralysed g.R.Rules.rule men s)) c.in-Some.square

@@ -5,4 +5,5 @@ use Rattle.chess_rules.proofs.lines.knight_rides.Goals as goal
 
 pub returns : goal.returns
 returns c = λ men held.
-    both_lists (rides men c.args.from) steep_steps flat_steps c.steep_rides.result c.flat_rides.result (c.steep_rides.ensures men held) (c.flat_rides.ensures men held)
+    both_lists (rides men c.args.from) steep_steps flat_steps c.steep_rides.result c.flat_rides.result (c.steep_rides.ensures men held)
+    (c.flat_rides.ensures men held)

@@ -5,4 +5,5 @@ use Rattle.chess_rules.proofs.lines.queen_hops.Goals as goal
 
 pub returns : goal.returns
 returns c = λ men held.
-    both_lists (hops men c.args.from) straight_steps diagonal_steps c.straight_hops.result c.diagonal_hops.result (c.straight_hops.ensures men held) (c.diagonal_hops.ensures men held)
+    both_lists (hops men c.args.from) straight_steps diagonal_steps c.straight_hops.result c.diagonal_hops.result (c.straight_hops.ensures men held)
+    (c.diagonal_hops.ensures men held)

@@ -5,4 +5,5 @@ use Rattle.chess_rules.proofs.lines.queen_hops_back.Goals as goal
 
 pub returns : goal.returns
 returns c = λ men held.
-    both_lists (hopped_from men c.args.to) straight_steps diagonal_steps c.straight_hops_back.result c.diagonal_hops_back.result (c.straight_hops_back.ensures men held) (c.diagonal_hops_back.ensures men held)
+    both_lists (hopped_from men c.args.to) straight_steps diagonal_steps c.straight_hops_back.result c.diagonal_hops_back.result
+    (c.straight_hops_back.ensures men held) (c.diagonal_hops_back.ensures men held)

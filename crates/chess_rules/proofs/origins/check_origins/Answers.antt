@@ -11,7 +11,8 @@ returns g c =
     let and_bishops = far_either rule p _ c.far_men-3.result leapers (record { far = c.far_men-3.ensures }) in
     let all = far_either rule p _ c.far_men-4.result and_bishops (record { far = c.far_men-4.ensures }) in
     check_origins_are rule p c.own_squares-own.result _ c.own_squares-own.ensures
-    (or_lt 64 _ c.far_men-4.result (or_lt 64 _ c.far_men-3.result (or_lt 64 c.far_men.result c.far_men-2.result (omega arith) (omega arith)) (omega arith)) (omega arith)) all
+    (or_lt 64 _ c.far_men-4.result (or_lt 64 _ c.far_men-3.result (or_lt 64 c.far_men.result c.far_men-2.result (omega arith) (omega arith)) (omega arith))
+    (omega arith)) all
 
 pub returns-then-are_all_near : goal.returns-then-are_all_near
 returns-then-are_all_near g c = check_origins_own g.R.Rules.rule c.args.board.now c.own_squares-own.result c.own_squares-own.ensures

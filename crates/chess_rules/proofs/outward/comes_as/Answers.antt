@@ -8,15 +8,18 @@ returns-in-King c = λ men held.
 
 pub returns-in-Queen : goal.returns-in-Queen
 returns-in-Queen c = λ men held.
-    rw c.in-Queen.is ((c.queen_rides.ensures men held) ∙ comes_queen men c.args.colour c.args.to (rw c.index-small.ensures.value at c.index-small.ensures.small))
+    rw c.in-Queen.is ((c.queen_rides.ensures men held) ∙ comes_queen men c.args.colour c.args.to
+    (rw c.index-small.ensures.value at c.index-small.ensures.small))
 
 pub returns-in-Rook : goal.returns-in-Rook
 returns-in-Rook c = λ men held.
-    rw c.in-Rook.is ((c.straight_rides.ensures men held) ∙ comes_rook men c.args.colour c.args.to (rw c.index-small.ensures.value at c.index-small.ensures.small))
+    rw c.in-Rook.is ((c.straight_rides.ensures men held) ∙ comes_rook men c.args.colour c.args.to
+    (rw c.index-small.ensures.value at c.index-small.ensures.small))
 
 pub returns-in-Bishop : goal.returns-in-Bishop
 returns-in-Bishop c = λ men held.
-    rw c.in-Bishop.is ((c.diagonal_rides.ensures men held) ∙ comes_bishop men c.args.colour c.args.to (rw c.index-small.ensures.value at c.index-small.ensures.small))
+    rw c.in-Bishop.is ((c.diagonal_rides.ensures men held) ∙ comes_bishop men c.args.colour c.args.to
+    (rw c.index-small.ensures.value at c.index-small.ensures.small))
 
 pub returns-in-Knight : goal.returns-in-Knight
 returns-in-Knight c = λ men held.
@@ -24,12 +27,15 @@ returns-in-Knight c = λ men held.
 
 pub returns-in-Pawn : goal.returns-in-Pawn
 returns-in-Pawn c = λ men held.
-    rw c.in-Pawn.is (rw c.other.ensures at c.pawn_leaps.ensures ∙ comes_pawn men c.args.colour c.args.to (rw c.index-small.ensures.value at c.index-small.ensures.small))
+    rw c.in-Pawn.is (rw c.other.ensures at c.pawn_leaps.ensures ∙ comes_pawn men c.args.colour c.args.to
+    (rw c.index-small.ensures.value at c.index-small.ensures.small))
 
 pub returns-in-Grasshopper : goal.returns-in-Grasshopper
 returns-in-Grasshopper c = λ men held.
-    rw c.in-Grasshopper.is ((c.queen_hops_back.ensures men held) ∙ comes_grasshopper men c.args.colour c.args.to (rw c.index-small.ensures.value at c.index-small.ensures.small))
+    rw c.in-Grasshopper.is ((c.queen_hops_back.ensures men held)
+    ∙ comes_grasshopper men c.args.colour c.args.to (rw c.index-small.ensures.value at c.index-small.ensures.small))
 
 pub returns-in-Nightrider : goal.returns-in-Nightrider
 returns-in-Nightrider c = λ men held.
-    rw c.in-Nightrider.is ((c.knight_rides.ensures men held) ∙ comes_nightrider men c.args.colour c.args.to (rw c.index-small.ensures.value at c.index-small.ensures.small))
+    rw c.in-Nightrider.is ((c.knight_rides.ensures men held) ∙ comes_nightrider men c.args.colour c.args.to
+    (rw c.index-small.ensures.value at c.index-small.ensures.small))

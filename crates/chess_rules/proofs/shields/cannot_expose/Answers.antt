@@ -11,7 +11,8 @@ returns-then-not-contains g c =
     let from : c.m.inside.from ≡ c.args.m.now.from = ap (λ (v : Triple). v.from) c.m.view_is in
     let small : c.m.inside.from < 64 = omega (arith, c.index-small.ensures.value, c.index-small.ensures.small) in
     let here : man_on p.men c.args.m.now.from ≡ Some c.in-Some.man = ap (man_on p.men) (sym from) ∙ sym c.man_at.ensures ∙ c.in-Some.is in
-    c.stands_aside.ensures ∙ sym (ap (λ (u : Bool). not u && (not (may_stand_between p.men c.args.colour c.args.m.now.to) && is_plain g.R.Rules.rule p c.in-Some.man c.args.m.now)) c.if-not-contains.true)
+    c.stands_aside.ensures ∙ sym (ap (λ (u : Bool). not u && (not (may_stand_between p.men c.args.colour c.args.m.now.to)
+    && is_plain g.R.Rules.rule p c.in-Some.man c.args.m.now)) c.if-not-contains.true)
     ∙ cannot_expose_is g.R.Rules.rule p c.in-Some.man c.args.colour c.args.m.now c.args.squares c.m.inside.from c.contains.result here c.requires from small
     c.contains.ensures
 
@@ -21,7 +22,8 @@ returns-else-not-contains g c =
     let from : c.m.inside.from ≡ c.args.m.now.from = ap (λ (v : Triple). v.from) c.m.view_is in
     let small : c.m.inside.from < 64 = omega (arith, c.index-small.ensures.value, c.index-small.ensures.small) in
     let here : man_on p.men c.args.m.now.from ≡ Some c.in-Some.man = ap (man_on p.men) (sym from) ∙ sym c.man_at.ensures ∙ c.in-Some.is in
-    ap not c.if-not-contains.false ∙ sym (ap (λ (u : Bool). not u && (not (may_stand_between p.men c.args.colour c.args.m.now.to) && is_plain g.R.Rules.rule p c.in-Some.man c.args.m.now)) c.if-not-contains.false)
+    ap not c.if-not-contains.false ∙ sym (ap (λ (u : Bool). not u
+    && (not (may_stand_between p.men c.args.colour c.args.m.now.to) && is_plain g.R.Rules.rule p c.in-Some.man c.args.m.now)) c.if-not-contains.false)
     ∙ cannot_expose_is g.R.Rules.rule p c.in-Some.man c.args.colour c.args.m.now c.args.squares c.m.inside.from c.contains.result here c.requires from small
     c.contains.ensures
 

@@ -12,5 +12,6 @@ returns-then-is_reached g c =
 
 pub returns : goal.returns
 returns g c =
-    shield_squares_some g.R.Rules.rule c.args.board.now.men c.args.colour c.in-Some.king c.shields_of.result c.fairy_lines.result (sym c.king_of.ensures ∙ c.in-Some.is)
+    shield_squares_some g.R.Rules.rule c.args.board.now.men c.args.colour c.in-Some.king c.shields_of.result c.fairy_lines.result
+    (sym c.king_of.ensures ∙ c.in-Some.is)
     (rw c.other.ensures at (sym c.is_reached.ensures ∙ c.if-is_reached.false)) c.shields_of.ensures c.fairy_lines.ensures

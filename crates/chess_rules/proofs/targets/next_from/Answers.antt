@@ -19,7 +19,8 @@ returns-then-at-first-clause-barren c =
     let first = find_first (λ s. bit_at w s == 1) (c.loop-to.at / 7) (64 - c.loop-to.at / 7) t (sym c.next_bit.ensures.value ∙ c.in-Some-next_bit.is) in
     let at : c.from-first.result * 7 ≡ 7 * t = omega (arith, c.from-first.ensures, c.index.ensures.value) in
     let before : IsBarrenFrom p c.args.from w c.args.start (7 * t) = from-target p c.args.from c.args.start c.loop-to.at t w c.loop-to.invariant.barren first in
-    rw at (from-join p c.args.from w c.args.start (7 * t) (7 * t + 1) before (from-promoted p x c.args.from w t here (sym c.arrives.ensures ∙ c.if-arrives.true)))
+    rw at (from-join p c.args.from w c.args.start (7 * t) (7 * t + 1) before
+    (from-promoted p x c.args.from w t here (sym c.arrives.ensures ∙ c.if-arrives.true)))
 
 pub returns-then-at-first-2-clause-barren : goal.returns-then-at-first-2-clause-barren
 returns-then-at-first-2-clause-barren c = search (rules, find_first, from-target)
@@ -57,7 +58,8 @@ returns-then-at-first-2-clause-named c lt =
     let x = c.in-Some.man in
     let t = c.in-Some-next_bit.to in
     let here : man_on p.men c.args.from ≡ Some x = sym c.man_at.ensures ∙ c.in-Some.is in
-    let first = find_first (λ s. bit_at c.args.word s == 1) (c.loop-to.at / 7) (64 - c.loop-to.at / 7) t (sym c.next_bit.ensures.value ∙ c.in-Some-next_bit.is) in
+    let first = find_first (λ s. bit_at c.args.word s == 1) (c.loop-to.at / 7) (64 - c.loop-to.at / 7) t
+    (sym c.next_bit.ensures.value ∙ c.in-Some-next_bit.is) in
     let at : c.from-first.result * 7 ≡ 7 * t = omega (arith, c.from-first.ensures, c.index.ensures.value) in
     named_at p x c.args.from t (c.from-first.result * 7) c.args.word here first.here (omega (arith, at))
     (none_named (c.from-first.result * 7 % 7) (omega (arith, at)) ∙ sym (sym c.arrives.ensures ∙ c.if-arrives.false))

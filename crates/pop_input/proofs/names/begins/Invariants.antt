@@ -6,4 +6,5 @@ use Rattle.pop_input.proofs.names.begins.Given as goal
 
 -- what is left to compare decides
 abbrev pub invariant-letters : goal.invariant-letters
-invariant-letters l = starts_with nat_eq l.name (map to_ascii_lowercase l.word) ≡ starts_with nat_eq (drop l.at l.name) (map to_ascii_lowercase (drop l.at l.word))
+invariant-letters l = starts_with nat_eq l.name (map to_ascii_lowercase l.word)
+    ≡ starts_with nat_eq (drop l.at l.name) (map to_ascii_lowercase (drop l.at l.word))

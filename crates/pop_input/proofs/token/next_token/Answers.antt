@@ -7,16 +7,19 @@ use Rattle.pop_input.proofs.token.next_token.Goals as goal
 pub returns-in-Ok-clause-token : goal.returns-in-Ok-clause-token
 returns-in-Ok-clause-token g c =
     let w = rw c.in-Ok-Word.field-0-is at c.in-Ok-Word.ensures.word in
-    line_token c.args.scanner.now c.read_word.new.self c.rest_of_line.new.self (g.S.Source.remaining c.args.source.now) (g.S.Source.remaining c.read_word.new.source) (g.S.Source.remaining c.rest_of_line.new.source)
+    line_token c.args.scanner.now c.read_word.new.self c.rest_of_line.new.self (g.S.Source.remaining c.args.source.now)
+    (g.S.Source.remaining c.read_word.new.source) (g.S.Source.remaining c.rest_of_line.new.source)
     c.read_word.new.word c.in-Some.keyword w.0 (ap text_word_of (sym c.as_slice.ensures.value) ∙ sym c.text_word_of.ensures.value ∙ c.in-Some.is)
     (ap is_text_word (sym c.as_slice.ensures.value) ∙ sym c.text_word_of.ensures.is ∙ ap is_some c.in-Some.is) c.in-Ok.line w.2 (c.in-Ok.ensures.text _)
 
 pub returns-in-Err-rest_of_line-clause-token : goal.returns-in-Err-rest_of_line-clause-token
 returns-in-Err-rest_of_line-clause-token g c =
     let w = rw c.in-Ok-Word.field-0-is at c.in-Ok-Word.ensures.word in
-    cut_token c.args.scanner.now c.read_word.new.self c.rest_of_line.new.self (g.S.Source.remaining c.args.source.now) (g.S.Source.remaining c.read_word.new.source) (g.S.Source.remaining c.rest_of_line.new.source)
+    cut_token c.args.scanner.now c.read_word.new.self c.rest_of_line.new.self (g.S.Source.remaining c.args.source.now)
+    (g.S.Source.remaining c.read_word.new.source) (g.S.Source.remaining c.rest_of_line.new.source)
     c.read_word.new.word c.in-Some.keyword w.0 (ap text_word_of (sym c.as_slice.ensures.value) ∙ sym c.text_word_of.ensures.value ∙ c.in-Some.is)
-    (ap is_text_word (sym c.as_slice.ensures.value) ∙ sym c.text_word_of.ensures.is ∙ ap is_some c.in-Some.is) c.in-Err-rest_of_line.fault c.args.text.now w.2 (c.in-Err-rest_of_line.ensures.text _)
+    (ap is_text_word (sym c.as_slice.ensures.value) ∙ sym c.text_word_of.ensures.is ∙ ap is_some c.in-Some.is) c.in-Err-rest_of_line.fault c.args.text.now w.2
+    (c.in-Err-rest_of_line.ensures.text _)
 
 pub returns-in-Ok-clause-within : goal.returns-in-Ok-clause-within
 returns-in-Ok-clause-within g c = (c.in-Ok.ensures.text []).4

@@ -4,7 +4,8 @@ use Rattle.pop_input.proofs.Parsing.{with_front, odd_end, pair_step, front_more}
 use Rattle.pop_input.proofs.values.squares_of.Goals as goal
 
 pub returns-then-at-word : goal.returns-then-at-word
-returns-then-at-word c = sym (c.pairs.invariant.rest ∙ ap (with_front c.pairs.squares.items) (odd_end c.args.word.now c.pairs.at c.pairs-test.true c.if-at-word.true))
+returns-then-at-word c = sym (c.pairs.invariant.rest ∙ ap (with_front c.pairs.squares.items)
+    (odd_end c.args.word.now c.pairs.at c.pairs-test.true c.if-at-word.true))
 
 pub pairs-preserved : goal.pairs-preserved
 pairs-preserved c =

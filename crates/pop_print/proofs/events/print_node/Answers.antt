@@ -13,4 +13,5 @@ returns-in_err-put_blanks-clause-bytes g c =
 pub returns-clause-bytes : goal.returns-clause-bytes
 returns-clause-bytes g c =
     let within : c.saturating_sub-apart.result ≤ 2 * c.args.depth = omega (arith, c.saturating_sub-apart.ensures) in
-    rw (node_cut c.saturating_sub-apart.result c.args.depth c.args.half c.args.shown.now within) (writes_then _ _ _ _ _ _ (c.in_ok-put_blanks.ensures.bytes) (rw (c.add_node.ensures, c.new-line.ensures, c.from-blanks.ensures) at c.put.ensures.bytes))
+    rw (node_cut c.saturating_sub-apart.result c.args.depth c.args.half c.args.shown.now within)
+    (writes_then _ _ _ _ _ _ (c.in_ok-put_blanks.ensures.bytes) (rw (c.add_node.ensures, c.new-line.ensures, c.from-blanks.ensures) at c.put.ensures.bytes))

@@ -10,7 +10,8 @@ returns-clause-all c =
     let near = c.run_blocks-whole in
     let far = c.run_front in
     let view = c.args.view.now in
-    all_both is_in_word view (take far.result (slice_range view near.result (length view))) near.result far.result (ap (take far.result) (take_rest view near.result)) near.ensures.all far.ensures.all
+    all_both is_in_word view (take far.result (slice_range view near.result (length view))) near.result far.result
+    (ap (take far.result) (take_rest view near.result)) near.ensures.all far.ensures.all
 
 pub returns-clause-some : goal.returns-clause-some
 returns-clause-some c b rest is solid =

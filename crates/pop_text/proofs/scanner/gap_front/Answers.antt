@@ -11,7 +11,8 @@ returns-clause-all c =
     let far = c.gap_blocks-far in
     let view = c.args.view.now in
     rw c.both.ensures.count
-    (all_both is_gap view (take far.result.count (slice_range view near.result.count (length view))) near.result.count far.result.count (ap (take far.result.count) (take_rest view near.result.count)) near.ensures.all far.ensures.all)
+    (all_both is_gap view (take far.result.count (slice_range view near.result.count (length view))) near.result.count far.result.count
+    (ap (take far.result.count) (take_rest view near.result.count)) near.ensures.all far.ensures.all)
 
 pub returns-clause-lines : goal.returns-clause-lines
 returns-clause-lines c =
@@ -19,4 +20,5 @@ returns-clause-lines c =
     let far = c.gap_blocks-far in
     let view = c.args.view.now in
     rw (c.both.ensures.count, c.both.ensures.line_ends)
-    (count_both is_line_end view (take far.result.count (slice_range view near.result.count (length view))) near.result.count far.result.count (ap (take far.result.count) (take_rest view near.result.count)) near.result.line_ends far.result.line_ends near.ensures.lines far.ensures.lines)
+    (count_both is_line_end view (take far.result.count (slice_range view near.result.count (length view))) near.result.count far.result.count
+    (ap (take far.result.count) (take_rest view near.result.count)) near.result.line_ends far.result.line_ends near.ensures.lines far.ensures.lines)

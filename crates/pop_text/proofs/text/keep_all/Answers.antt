@@ -9,5 +9,6 @@ pub returns-then-is_full : goal.returns-then-is_full
 returns-then-is_full c =
     let full : length c.bytes.kept.items ≡ 200 = eqb-true _ _ (sym c.if-is_full.ensures.value) in
     let byte = get_or c.args.bytes.now c.bytes.byte-index 0 in
-    fold_stuck (with_byte 200) c.bytes.kept.items (λ b. full_stays c.bytes.kept.items b full) c.args.kept.now.items c.args.bytes.now c.bytes.byte-index 0 c.bytes-test.true
+    fold_stuck (with_byte 200) c.bytes.kept.items (λ b. full_stays c.bytes.kept.items b full) c.args.kept.now.items c.args.bytes.now c.bytes.byte-index 0
+    c.bytes-test.true
     (ap (λ k. with_byte 200 k byte) (sym c.bytes.invariant) ∙ full_stays c.bytes.kept.items byte full)

@@ -23,13 +23,15 @@ command_is c =
     let no_board_is : rule_of c.action-no_board.result ≡ no_board = search rules in
     let file_is : rule_of c.new-file.result ≡ new_rule (codes "file") = search rules in
     c.in_ok-command.ensures.shape (search rules)
-    ∙ ap₂ with_rule (c.in_ok-arg-2.ensures.shape (search rules) ∙ ap₂ with_rule (c.in_ok-arg.ensures.shape (search rules) ∙ ap₂ with_rule c.new-3.ensures.app check_is) no_board_is) file_is
+    ∙ ap₂ with_rule (c.in_ok-arg-2.ensures.shape (search rules) ∙ ap₂ with_rule
+    (c.in_ok-arg.ensures.shape (search rules) ∙ ap₂ with_rule c.new-3.ensures.app check_is) no_board_is) file_is
 
 pub returns-clause-rows : goal.returns-clause-rows
 returns-clause-rows c =
     let parse = c.try_get_matches_from in
     let is = command_is c in
-    IfOk-weaker parse.result _ _ (λ m h. (h (ap is_simple is ∙ is_simple_command)).0 ∙ ap (λ a. matches_of a (map (λ s. s.now) c.args.words.now)) is) parse.ensures.matches
+    IfOk-weaker parse.result _ _ (λ m h. (h (ap is_simple is ∙ is_simple_command)).0 ∙ ap (λ a. matches_of a (map (λ s. s.now) c.args.words.now)) is)
+    parse.ensures.matches
 
 pub returns-clause-passes : goal.returns-clause-passes
 returns-clause-passes c =
@@ -41,4 +43,5 @@ pub returns-clause-kinds : goal.returns-clause-kinds
 returns-clause-kinds c =
     let parse = c.try_get_matches_from in
     let is = command_is c in
-    fails_as parse.result _ _ (ap (λ a. fault_of a (map (λ s. s.now) c.args.words.now)) is) (parse.ensures.kinds (ap is_simple_and_free is ∙ is_simple_and_free_command))
+    fails_as parse.result _ _ (ap (λ a. fault_of a (map (λ s. s.now) c.args.words.now)) is)
+    (parse.ensures.kinds (ap is_simple_and_free is ∙ is_simple_and_free_command))

@@ -10,7 +10,8 @@ pub items-preserved : goal.items-preserved
 items-preserved g c =
     let i = c.items.invariant in
     record {
-      progress = progress_step _ c.items.session c.step.new.self _ (g.S.Source.remaining c.items.source) (g.S.Source.remaining c.step.new.source) _ (g.W.Sink.taken c.items.sink) (g.W.Sink.taken c.step.new.sink)
+      progress = progress_step _ c.items.session c.step.new.self _ (g.S.Source.remaining c.items.source) (g.S.Source.remaining c.step.new.source) _
+          (g.W.Sink.taken c.items.sink) (g.W.Sink.taken c.step.new.sink)
           c.in-Ok-Problem._sound i.progress (rw c.in-Ok-Problem.field-0-is at (c.in-Ok-Problem.ensures.does i.progress.running));
       seen = c.step.ensures.seen i.seen;
       read_failures = failures_then _ _ _ _ _ _ (inl refl) c.step.ensures.ends i.read_failures c.step.ensures.read_failures;
@@ -21,14 +22,18 @@ pub returns-in-Ok-Finished : goal.returns-in-Ok-Finished
 returns-in-Ok-Finished g c =
     let i = c.items.invariant in
     record {
-      headline = run_ends _ c.items.session c.step.new.self _ (g.S.Source.remaining c.items.source) (g.S.Source.remaining c.step.new.source) _ (g.W.Sink.taken c.items.sink) (g.W.Sink.taken c.step.new.sink)
-          c.in-Ok-Finished.status _ _ _ _ i.progress (rw c.in-Ok-Finished.field-0-is at (c.in-Ok-Finished.ensures.does i.progress.running)) (c.step.ensures.seen i.seen)
-          (failures_then _ _ _ _ _ _ (inl refl) c.step.ensures.ends i.read_failures c.step.ensures.read_failures) (c.in-Ok-Finished.ensures.write_failures i.progress.running ∙ i.write_failures);
+      headline = run_ends _ c.items.session c.step.new.self _ (g.S.Source.remaining c.items.source) (g.S.Source.remaining c.step.new.source) _
+          (g.W.Sink.taken c.items.sink) (g.W.Sink.taken c.step.new.sink)
+          c.in-Ok-Finished.status _ _ _ _ i.progress (rw c.in-Ok-Finished.field-0-is at (c.in-Ok-Finished.ensures.does i.progress.running))
+          (c.step.ensures.seen i.seen)
+          (failures_then _ _ _ _ _ _ (inl refl) c.step.ensures.ends i.read_failures c.step.ensures.read_failures)
+          (c.in-Ok-Finished.ensures.write_failures i.progress.running ∙ i.write_failures);
       once = (
         failed_once c.step.new.self.at.at.end _ _ (failures_then _ _ _ _ _ _ (inl refl) c.step.ensures.ends i.read_failures c.step.ensures.read_failures),
         omega (arith, c.in-Ok-Finished.ensures.write_failures i.progress.running, i.write_failures),
       );
-      taken = ended_most _ c.items.session c.step.new.self _ (g.S.Source.remaining c.items.source) (g.S.Source.remaining c.step.new.source) _ (g.W.Sink.taken c.items.sink) (g.W.Sink.taken c.step.new.sink)
+      taken = ended_most _ c.items.session c.step.new.self _ (g.S.Source.remaining c.items.source) (g.S.Source.remaining c.step.new.source) _
+          (g.W.Sink.taken c.items.sink) (g.W.Sink.taken c.step.new.sink)
           c.in-Ok-Finished.status i.progress (rw c.in-Ok-Finished.field-0-is at (c.in-Ok-Finished.ensures.does i.progress.running)) c.step.ensures.most;
     }
 
@@ -36,13 +41,16 @@ pub returns-in-Err : goal.returns-in-Err
 returns-in-Err g c =
     let i = c.items.invariant in
     record {
-      headline = run_cut _ c.items.session c.step.new.self _ (g.S.Source.remaining c.items.source) (g.S.Source.remaining c.step.new.source) _ (g.W.Sink.taken c.items.sink) (g.W.Sink.taken c.step.new.sink)
+      headline = run_cut _ c.items.session c.step.new.self _ (g.S.Source.remaining c.items.source) (g.S.Source.remaining c.step.new.source) _
+          (g.W.Sink.taken c.items.sink) (g.W.Sink.taken c.step.new.sink)
           c.in-Err.field-0 _ _ _ _ i.progress (c.in-Err.ensures.does i.progress.running) (c.step.ensures.seen i.seen)
-          (failures_then _ _ _ _ _ _ (inl refl) c.step.ensures.ends i.read_failures c.step.ensures.read_failures) (c.in-Err.ensures.write_failures i.progress.running ∙ ap (λ n. n + 1) i.write_failures);
+          (failures_then _ _ _ _ _ _ (inl refl) c.step.ensures.ends i.read_failures c.step.ensures.read_failures)
+          (c.in-Err.ensures.write_failures i.progress.running ∙ ap (λ n. n + 1) i.write_failures);
       once = (
         failed_once c.step.new.self.at.at.end _ _ (failures_then _ _ _ _ _ _ (inl refl) c.step.ensures.ends i.read_failures c.step.ensures.read_failures),
         omega (arith, c.in-Err.ensures.write_failures i.progress.running, i.write_failures),
       );
-      taken = cut_most _ c.items.session c.step.new.self _ (g.S.Source.remaining c.items.source) (g.S.Source.remaining c.step.new.source) _ (g.W.Sink.taken c.items.sink) (g.W.Sink.taken c.step.new.sink)
+      taken = cut_most _ c.items.session c.step.new.self _ (g.S.Source.remaining c.items.source) (g.S.Source.remaining c.step.new.source) _
+          (g.W.Sink.taken c.items.sink) (g.W.Sink.taken c.step.new.sink)
           c.in-Err.field-0 i.progress (c.in-Err.ensures.does i.progress.running) c.step.ensures.most;
     }

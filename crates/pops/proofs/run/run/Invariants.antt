@@ -9,7 +9,8 @@ use Rattle.pops.proofs.run.run.Given as goal
 -- the items so far are read and reported
 abbrev pub invariant-items : goal.invariant-items
 invariant-items g l = record {
-  progress : Progress (choice_of l.settings) l.session (g.S.Source.remaining l.fn.source) (g.S.Source.remaining l.source) (g.W.Sink.taken l.fn.sink) (g.W.Sink.taken l.sink);
+  progress : Progress (choice_of l.settings) l.session (g.S.Source.remaining l.fn.source) (g.S.Source.remaining l.source) (g.W.Sink.taken l.fn.sink)
+      (g.W.Sink.taken l.sink);
   seen : IsSeen l.session.at.at.end (g.S.Source.remaining l.source);
   read_failures : g.S.Source.failures l.source ≡ failures_after Open l.session.at.at.end (g.S.Source.failures l.fn.source);
   write_failures : g.W.Sink.failures l.sink ≡ g.W.Sink.failures l.fn.sink;

@@ -8,7 +8,8 @@ use Rattle.pops.proofs.solutions.print_solutions.Given as goal
 abbrev pub invariant-events : goal.invariant-events
 invariant-events g l = record {
   problem : l.search.problem ≡ l.problem;
-  printing : IsPrinting event_text (events_of l.problem) (map (event_of g.R.Rules.rule l.problem) l.search.left) (g.W.Sink.taken l.fn.sink) (g.W.Sink.taken l.sink);
+  printing : IsPrinting event_text (events_of l.problem) (map (event_of g.R.Rules.rule l.problem) l.search.left) (g.W.Sink.taken l.fn.sink)
+      (g.W.Sink.taken l.sink);
   counted : g.W.Sink.failures l.sink ≡ g.W.Sink.failures l.fn.sink;
 }
 

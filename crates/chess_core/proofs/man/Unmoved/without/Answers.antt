@@ -10,10 +10,12 @@ pub invariant_of-result : goal.invariant_of-result
 invariant_of-result c =
     let w : c.self.inside.squares ≡ word (has_unmoved c.args.self) = c.self.invariant ∙ ap (λ u. word (has_unmoved u)) c.self.view_is in
     let small : c.args.square < 64 = rw c.index.ensures.value at c.index.ensures.small in
-    rw c.index.ensures.value (word_in_step (mark_unmoved c.args.self c.args.square false) _ (ap (λ n. bit_and n (bit_not w64 (1 * 2 ^ c.args.square % 2 ^ 64))) w ∙ without_word c.args.self c.args.square small))
+    rw c.index.ensures.value (word_in_step (mark_unmoved c.args.self c.args.square false) _
+    (ap (λ n. bit_and n (bit_not w64 (1 * 2 ^ c.args.square % 2 ^ 64))) w ∙ without_word c.args.self c.args.square small))
 
 pub returns : goal.returns
 returns c =
     let w : c.self.inside.squares ≡ word (has_unmoved c.args.self) = c.self.invariant ∙ ap (λ u. word (has_unmoved u)) c.self.view_is in
     let small : c.args.square < 64 = rw c.index.ensures.value at c.index.ensures.small in
-    rw c.index.ensures.value (word_read (mark_unmoved c.args.self c.args.square false) _ (ap (λ n. bit_and n (bit_not w64 (1 * 2 ^ c.args.square % 2 ^ 64))) w ∙ without_word c.args.self c.args.square small))
+    rw c.index.ensures.value (word_read (mark_unmoved c.args.self c.args.square false) _
+    (ap (λ n. bit_and n (bit_not w64 (1 * 2 ^ c.args.square % 2 ^ 64))) w ∙ without_word c.args.self c.args.square small))

@@ -9,4 +9,5 @@ pub returns : goal.returns
 unfolding squares_of
 returns c =
     rw (c.number.ensures.value, c.number-2.ensures.value, ← c.self.view_is)
-    (men_kept _ _ _ c.args.colour c.args.kind c.self.invariant.0 c.self.invariant.1 ∙ word_on (λ x. is_man x c.args.colour c.args.kind) c.self.inside.array None c.self.invariant.0)
+    (men_kept _ _ _ c.args.colour c.args.kind c.self.invariant.0 c.self.invariant.1
+    ∙ word_on (λ x. is_man x c.args.colour c.args.kind) c.self.inside.array None c.self.invariant.0)

@@ -10,13 +10,18 @@ use Rattle.pop_input.proofs.draft.Draft.setup_fault.Goals as goal
 pub returns-then-not-is_well_formed-clause-fault : goal.returns-then-not-is_well_formed-clause-fault
 returns-then-not-is_well_formed-clause-fault c =
     let put : ArePut c.args.self.now.men = rw (← c.self.view_is) c.self.invariant.0 in
-    ill_fault c.args.self.now c.args.stipulation c.args.diagram.now c.requires put (sym c.has_men.ensures ∙ c.if-not-has_men.false) c.if-not-is_well_formed.ensures
+    ill_fault c.args.self.now c.args.stipulation c.args.diagram.now c.requires put (sym c.has_men.ensures ∙ c.if-not-has_men.false)
+    c.if-not-is_well_formed.ensures
 
 pub returns-clause-fault : goal.returns-clause-fault
 returns-clause-fault c =
     let put : ArePut c.args.self.now.men = rw (← c.self.view_is) c.self.invariant.0 in
     let men = ap (λ p. p.men) c.of-board.ensures ∙ shown_men c.args.diagram.now in
     let condition = ap (λ s. s.condition) c.self.view_is in
-    let king : c.has_king_to_mate-has_king.result ≡ has_king_to_mate c.args.stipulation c.args.diagram.now.men = rw (← men) c.has_king_to_mate-has_king.ensures in
-    let check : c.is_in_check-in_check.result ≡ in_check (rule_of c.args.self.now.condition) c.args.diagram.now.men (other (starts c.args.stipulation.form)) = rw (← condition, ← men, ← c.starts.ensures, ← c.other.ensures) c.is_in_check-in_check.ensures in
-    c.position_fault.ensures ∙ position_told c.args.self.now c.args.stipulation c.args.diagram.now c.requires put (sym c.has_men.ensures ∙ c.if-not-has_men.false) c.if-not-is_well_formed.ensures c.has_king_to_mate-has_king.result c.is_in_check-in_check.result king check
+    let king : c.has_king_to_mate-has_king.result ≡ has_king_to_mate c.args.stipulation c.args.diagram.now.men = rw (← men)
+    c.has_king_to_mate-has_king.ensures in
+    let check : c.is_in_check-in_check.result ≡ in_check (rule_of c.args.self.now.condition) c.args.diagram.now.men
+    (other (starts c.args.stipulation.form)) = rw (← condition, ← men, ← c.starts.ensures, ← c.other.ensures) c.is_in_check-in_check.ensures in
+    c.position_fault.ensures ∙ position_told c.args.self.now c.args.stipulation c.args.diagram.now c.requires put
+    (sym c.has_men.ensures ∙ c.if-not-has_men.false) c.if-not-is_well_formed.ensures c.has_king_to_mate-has_king.result c.is_in_check-in_check.result king
+    check

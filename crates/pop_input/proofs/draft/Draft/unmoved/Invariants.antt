@@ -5,4 +5,5 @@ use Rattle.pop_input.proofs.draft.Draft.unmoved.Given as goal
 
 -- the castling squares so far are marked
 abbrev pub invariant-squares : goal.invariant-squares
-invariant-squares l = l.set ≡ fold (λ set square. mark_unmoved set square (counts l.self.men l.self.barred square)) none_unmoved (take l.square-index castling_squares)
+invariant-squares l = l.set ≡ fold (λ set square. mark_unmoved set square (counts l.self.men l.self.barred square)) none_unmoved
+    (take l.square-index castling_squares)

@@ -9,7 +9,8 @@ returns-clause-uses c =
     let within : i.stop ≤ length i.cells = omega (arith, kept, c.self.told) in
     let few = rw (← c.self.view_is) at c.requires.waits in
     let lines = rw (← c.self.view_is) at c.requires.lines in
-    rw (← c.self.view_is, c.line_behind-self-inside.ensures) (λ had. some_used i.cells i.start i.stop within i.used i.line c.args.count c.args.line_ends i.end had c.self.invariant.0 few lines)
+    rw (← c.self.view_is, c.line_behind-self-inside.ensures) (λ had. some_used i.cells i.start i.stop within i.used i.line c.args.count c.args.line_ends i.end
+    had c.self.invariant.0 few lines)
 
 pub returns-clause-window : goal.returns-clause-window
 returns-clause-window c =

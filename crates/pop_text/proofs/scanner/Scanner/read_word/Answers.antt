@@ -14,7 +14,8 @@ pub returns-in-Ok-Some-clause-word : goal.returns-in-Ok-Some-clause-word
 returns-in-Ok-Some-clause-word g c =
     let at = rw c.in-Ok-Some.field-0-is at c.in-Ok-Some.ensures.at in
     let out = rw c.in-Ok-Some.field-0-is at c.in-Ok-Some.ensures.other in
-    next_of _ _ _ _ _ (returns-in-Ok-Some-clause-used g c) (rw c.run_told.ensures (found_stands _ _ _ _ _ c.take_run-run.result _ _ c.take_run-run.ensures.run at.1 out))
+    next_of _ _ _ _ _ (returns-in-Ok-Some-clause-used g c) (rw c.run_told.ensures
+    (found_stands _ _ _ _ _ c.take_run-run.result _ _ c.take_run-run.ensures.run at.1 out))
 
 pub returns-in-Err-clause-used : goal.returns-in-Err-clause-used
 returns-in-Err-clause-used g c = uses_cut _ _ _ _ c.in-Err.fault c.skip_gap.ensures.uses c.in-Err.ensures.at

@@ -21,9 +21,11 @@ line-preserved g c =
     let bytes = c.line_part-part.result.now in
     let new = c.advance-in-Ok-Some-2.new.self in
     record {
-      line = rw c.keep_all.ensures (more_so_far bytes _ i.line c.peek.ensures.uses part.all (subst (λ b. Uses c.peek.new.self new now now b) part.front (c.advance-in-Ok-Some-2.ensures.uses now))
+      line = rw c.keep_all.ensures (more_so_far bytes _ i.line c.peek.ensures.uses part.all
+          (subst (λ b. Uses c.peek.new.self new now now b) part.front (c.advance-in-Ok-Some-2.ensures.uses now))
           (rw i.line.is (kept_all i.line.used.bytes bytes)));
-      stuck = λ fault at. let bad = (c.peek.ensures.stuck fault (still_stuck c.args.self.now c.line.self fault (i.stuck fault at) at)).0 in let read = c.in-Ok-Some-2.is in cc;
+      stuck = λ fault at. let bad = (c.peek.ensures.stuck fault (still_stuck c.args.self.now c.line.self fault (i.stuck fault at) at)).0 in
+          let read = c.in-Ok-Some-2.is in cc;
       asks = rw c.advance-in-Ok-Some-2.ensures.end (asks_then i.asks c.peek.ensures.asks);
     }
 
@@ -32,7 +34,8 @@ line-smaller g c =
     let part = c.line_part-part.ensures in
     let at = rw c.in-Ok-Some.field-0-is at c.in-Ok-Some.ensures.at in
     let some = part.some c.in-Ok-Some.byte at.0 at.1 (ap not (sym c.ends_line.ensures ∙ c.if-ends_line.false)) at.2 in
-    let fewer : limit - c.advance-in-Ok-Some-2.new.self.used < limit - c.line.self.used = omega (arith, some, part.room, c.advance-in-Ok-Some-2.ensures.used, c.peek.ensures.uses.used) in
+    let fewer : limit - c.advance-in-Ok-Some-2.new.self.used < limit - c.line.self.used = omega
+    (arith, some, part.room, c.advance-in-Ok-Some-2.ensures.used, c.peek.ensures.uses.used) in
     fewer
 
 pub returns-in-Ok-Some-clause-used : goal.returns-in-Ok-Some-clause-used
@@ -54,7 +57,8 @@ returns-in-Ok-None-clause-used g c =
     (line.used.bytes, line.used.all, c.trimmed-in-Ok-None.ensures ∙ ap without_trailing line.is, inr (line.used.uses, at.0, at.1))
 
 pub returns-in-Ok-None-clause-text : goal.returns-in-Ok-None-clause-text
-returns-in-Ok-None-clause-text g c keyword = line_of _ _ _ _ keyword _ (returns-in-Ok-None-clause-used g c) (rw c.in-Ok-None.field-0-is at c.in-Ok-None.ensures.at).2
+returns-in-Ok-None-clause-text g c keyword = line_of _ _ _ _ keyword _ (returns-in-Ok-None-clause-used g c)
+    (rw c.in-Ok-None.field-0-is at c.in-Ok-None.ensures.at).2
 
 pub returns-in-Err-clause-used : goal.returns-in-Err-clause-used
 returns-in-Err-clause-used g c = (seen_so_far c.line.invariant.line c.peek.ensures.uses).used

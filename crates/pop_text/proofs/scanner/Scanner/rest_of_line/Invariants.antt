@@ -12,7 +12,8 @@ abbrev pub invariant-line : goal.invariant-line
 invariant-line g l = record {
   line : SoFar is_in_line kept_of_line l.fn.self l.self (g.S.Source.remaining l.fn.source) (g.S.Source.remaining l.source) l.kept.items;
   stuck : (fault : ReadFault) → Peeks l.fn.self (Err fault) → l.self ≡ l.fn.self;
-  asks : Asks l.fn.self.end l.self.end (g.S.Source.remaining l.fn.source) (g.S.Source.remaining l.source) (g.S.Source.failures l.fn.source) (g.S.Source.failures l.source);
+  asks : Asks l.fn.self.end l.self.end (g.S.Source.remaining l.fn.source) (g.S.Source.remaining l.source) (g.S.Source.failures l.fn.source)
+      (g.S.Source.failures l.source);
 }
 
 abbrev pub decreases-line : goal.decreases-line

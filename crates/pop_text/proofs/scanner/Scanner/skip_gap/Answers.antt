@@ -8,7 +8,8 @@ gap-preserved g c =
     let i = c.gap.invariant in
     record {
       uses = all_then (all_seen i.uses c.peek.ensures.uses) (c.skip_part.ensures.uses (g.S.Source.remaining c.peek.new.source));
-      stuck = λ fault at. let bad = (c.peek.ensures.stuck fault (still_stuck c.args.self.now c.gap.self fault (i.stuck fault at) at)).0 in let read = c.in-Ok-Some.is in cc;
+      stuck = λ fault at. let bad = (c.peek.ensures.stuck fault (still_stuck c.args.self.now c.gap.self fault (i.stuck fault at) at)).0 in
+          let read = c.in-Ok-Some.is in cc;
       asks = rw c.skip_part.ensures.end (asks_then i.asks c.peek.ensures.asks);
     }
 

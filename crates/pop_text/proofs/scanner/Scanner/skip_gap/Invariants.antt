@@ -10,7 +10,8 @@ abbrev pub invariant-gap : goal.invariant-gap
 invariant-gap g l = record {
   uses : UsesAll is_gap l.fn.self l.self (g.S.Source.remaining l.fn.source) (g.S.Source.remaining l.source);
   stuck : (fault : ReadFault) → Peeks l.fn.self (Err fault) → l.self ≡ l.fn.self;
-  asks : Asks l.fn.self.end l.self.end (g.S.Source.remaining l.fn.source) (g.S.Source.remaining l.source) (g.S.Source.failures l.fn.source) (g.S.Source.failures l.source);
+  asks : Asks l.fn.self.end l.self.end (g.S.Source.remaining l.fn.source) (g.S.Source.remaining l.source) (g.S.Source.failures l.fn.source)
+      (g.S.Source.failures l.source);
 }
 
 abbrev pub decreases-gap : goal.decreases-gap

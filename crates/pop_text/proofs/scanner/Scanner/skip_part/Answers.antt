@@ -19,5 +19,6 @@ returns c =
       waits = omega (arith, ap length c.advance.ensures.window, length-drop c.gap_front-gap.result.count c.args.self.now.window);
       within = let room = v.room in omega (arith, room, c.advance.ensures.used);
       some = λ b rest at is below.
-          let h = view_some c.args.self.now _ _ c.view.ensures.within c.view.ensures.bytes gap.within is_gap gap.some b rest at is below in omega (arith, h, c.advance.ensures.used);
+          let h = view_some c.args.self.now _ _ c.view.ensures.within c.view.ensures.bytes gap.within is_gap gap.some b rest at is below in
+          omega (arith, h, c.advance.ensures.used);
     }

@@ -22,6 +22,7 @@ returns c =
     let room = v.room in
     let left : limit - old.used - count ≡ limit - new.used = omega (arith, c.advance.ensures.used) in
     let behind = behind_view view old.window (limit - old.used) count c.view.ensures.bytes (omega (arith, room)) in
-    skips old new (take count view) (drop count view) (λ had. subst (λ bytes. Uses old new had had bytes) (sym v.front) (c.advance.ensures.uses had)) plain.plain plain.over
+    skips old new (take count view) (drop count view) (λ had. subst (λ bytes. Uses old new had had bytes) (sym v.front) (c.advance.ensures.uses had))
+    plain.plain plain.over
     (behind ∙ ap (λ n. take n (drop count old.window)) left ∙ ap (take (limit - new.used)) (sym c.advance.ensures.window))
     (omega (arith, room, c.advance.ensures.used)) c.advance.ensures.end (omega (arith, ap length c.advance.ensures.window, length-drop count old.window))

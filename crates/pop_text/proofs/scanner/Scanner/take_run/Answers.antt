@@ -22,7 +22,8 @@ run-preserved g c =
     let some = part.some c.in-Some.byte here.0 here.1 out here.2 in
     let kept = ap (λ k. kept_of_run (k ++ bytes)) (ap (λ k. k.0) i.run.is) ∙ run_more i.run.used.bytes bytes some in
     record {
-      run = more_so_far bytes _ i.run c.peek.ensures.uses part.all (subst (λ b. Uses c.peek.new.self c.advance.new.self now now b) part.front (c.advance.ensures.uses now))
+      run = more_so_far bytes _ i.run c.peek.ensures.uses part.all
+          (subst (λ b. Uses c.peek.new.self c.advance.new.self now now b) part.front (c.advance.ensures.uses now))
           (rw (c.keep_run-fits.ensures.kept, c.keep_run-fits.ensures.fits) kept);
       asks = rw c.advance.ensures.end (asks_then i.asks c.peek.ensures.asks);
     }
@@ -45,7 +46,9 @@ returns-in_err-byte-clause-run g c =
 pub returns-in_default-clause-run : goal.returns-in_default-clause-run
 returns-in_default-clause-run g c =
     let here = rw c.in-Some.is at c.in_ok-byte.ensures.at in
-    run_over c.run.fits (seen_so_far c.run.invariant.run c.peek.ensures.uses) (inl (c.in-Some.byte, here.0, here.1, sym c.in_gap.ensures ∙ c.if-not-in_gap.false, here.2))
+    run_over c.run.fits (seen_so_far c.run.invariant.run c.peek.ensures.uses)
+    (inl (c.in-Some.byte, here.0, here.1, sym c.in_gap.ensures ∙ c.if-not-in_gap.false, here.2))
 
 pub returns-in_default-2-clause-run : goal.returns-in_default-2-clause-run
-returns-in_default-2-clause-run g c = run_over c.run.fits (seen_so_far c.run.invariant.run c.peek.ensures.uses) (inr (rw c.in_default.is at c.in_ok-byte.ensures.at))
+returns-in_default-2-clause-run g c = run_over c.run.fits (seen_so_far c.run.invariant.run c.peek.ensures.uses)
+    (inr (rw c.in_default.is at c.in_ok-byte.ensures.at))

@@ -8,7 +8,8 @@ use Rattle.pop_text.proofs.scanner.Scanner.take_run.Given as goal
 abbrev pub invariant-run : goal.invariant-run
 invariant-run g l = record {
   run : SoFar is_in_word kept_of_run l.fn.self l.self (g.S.Source.remaining l.fn.source) (g.S.Source.remaining l.source) (l.word.items, l.fits);
-  asks : Asks l.fn.self.end l.self.end (g.S.Source.remaining l.fn.source) (g.S.Source.remaining l.source) (g.S.Source.failures l.fn.source) (g.S.Source.failures l.source);
+  asks : Asks l.fn.self.end l.self.end (g.S.Source.remaining l.fn.source) (g.S.Source.remaining l.source) (g.S.Source.failures l.fn.source)
+      (g.S.Source.failures l.source);
 }
 
 abbrev pub decreases-run : goal.decreases-run

@@ -14,7 +14,16 @@ returns-clause-bytes c =
     let some = rw (← c.self.view_is) at c.reach-count.ensures.some in
     rw (c.pass.ensures, ← c.self.view_is) (
       sym (same s.left)
-          ∙ gives s.text.now rest back s.left count c.split_at.ensures.back c.copy_from_slice.new.self _ left c.reach-count.ensures.rest (c.copy_from_slice.ensures.after ∙ c.split_at.ensures.front),
+          ∙ gives s.text.now rest back s.left count c.split_at.ensures.back c.copy_from_slice.new.self _ left c.reach-count.ensures.rest
+          (c.copy_from_slice.ensures.after ∙ c.split_at.ensures.front),
       λ nothing wide. gives_none s.text.now rest back s.left count c.split_at.ensures.back (length c.args.buffer.now) some none nothing
-          (omega (arith, wide, length-append c.copy_from_slice.new.self (drop count c.args.buffer.now), c.copy_from_slice.ensures.len, length-take count c.args.buffer.now, length-drop count c.args.buffer.now)),
+          (omega (
+            arith,
+            wide,
+            length-append c.copy_from_slice.new.self (drop count c.args.buffer.now),
+            c.copy_from_slice.ensures.len,
+            length-take count
+                c.args.buffer.now,
+            length-drop count c.args.buffer.now,
+          )),
     )
