@@ -19,7 +19,7 @@ use Rattle.chess_rules.specs.Legal.{castles, goes, is_arrival_free, legal, may_c
 use Rattle.chess_rules.specs.ties.Outward.{hopped_from, is_met, rides_on}
 use Rattle.chess_rules.specs.Play.{after, after_by, capture_square, moved_men, reborn_square, rebirth, unmoved_after}
 use Rattle.chess_rules.specs.Reaches.{hops, is_clear, leaps, reaches, reaches_as, rides}
-use Rattle.chess_rules.specs.RuleSet.{RuleSet, madrasi, orthodox}
+use Rattle.chess_rules.specs.RuleSet.{RuleSet, circe, madrasi, orthodox}
 use Rattle.chess_rules.specs.ties.Shields.{has_fairy, is_behind, is_reached, is_shut, may_expose, is_on_fairy_line}
 use Rattle.chess_core.specs.ties.Words.{word, word_of}
 use Rattle.chess_rules.specs.ties.Sight.{sight_after}
@@ -82,6 +82,21 @@ pub no_pawn_checks_from_there : (may_check_from opening_capture.men Black (enemy
     × (may_expose orthodox opening_capture.men Black e5 ≡ false)
 unfolding may_check_from may_expose is_reached is_on_fairy_line is_ahead is_shut is_behind check_after_a_move
 no_pawn_checks_from_there = (refl, refl)
+
+-- Circe, White Ka1 Ga8 Rd1, Black Kh8 Sd3: the rook captures the knight, which is reborn on g8, and the grasshopper hops
+-- over it to the king
+abbrev reborn_hurdle : Position
+reborn_hurdle = position (on White King a1 ∷ on White Grasshopper a8 ∷ on White Rook d1 ∷ on Black King h8 ∷ on Black Knight d3 ∷ []) White
+
+reborn_knight_checks : (pseudo circe reborn_hurdle (go d1 d3) ≡ true)
+    × (in_check circe (after circe reborn_hurdle (go d1 d3)).men Black ≡ true)
+unfolding check_after_a_move
+reborn_knight_checks = (refl, refl)
+
+-- so the squares to which the rook must go to give check hold d3, from which it gives none
+pub captures_with_rebirth_may_give_check : (w : ℕ) → AreCheckTargets circe reborn_hurdle d1 w → (bit_at w d3 == 1) ≡ true
+captures_with_rebirth_may_give_check w are = true_from_ne_false _ (λ e. false≢true
+    (sym (are.elsewhere (go d1 d3) refl (omega arith) reborn_knight_checks.0 e) ∙ reborn_knight_checks.1))
 
 -- White Ke4 Pe5, Black Kh8 Pd5, which gives check and has just passed d6: the capture en passant meets the check
 abbrev passing_check : Position
