@@ -129,6 +129,7 @@ fn check_targets<R: Rules>(board: &Board, squares: &CheckSquares, man: Man, from
     requires here { man_on board.now.men from ≡ Some man }
     ensures { AreCheckTargets R.rule board.now from result }
 {
+    // For the proof: a square's number is below 64.
     let _small = from.index();
     if contains(squares.shield_squares, from) {
         return !0;
@@ -204,6 +205,7 @@ pub(crate) fn may_check<R: Rules>(board: &Board, squares: &CheckSquares, m: &Mov
     if !keeps_its_kind(m) {
         return true;
     }
+    // For the proof: a square's number is below 64.
     let _small = m.to.index();
     let from_there = check_squares_for(squares, man.kind);
     contains(from_there, m.to) || may_discover::<R>(board, squares, m)

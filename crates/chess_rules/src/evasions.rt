@@ -67,6 +67,7 @@ fn leaves_check<R: Rules>(board: &Board, evasion_squares: u64, m: &Move) -> bool
     ensures { result ≡ true → in_check R.rule (after R.rule board.now m.now).men board.now.turn
         ≡ true }
 {
+    // For the proof: a square's number is below 64.
     let _small = m.to.index();
     if contains(evasion_squares, m.to) {
         return false;
@@ -91,6 +92,7 @@ pub(crate) fn evasions_from<R: Rules>(board: &Board, evasion_squares: u64, from:
     requires evasion_squares { AreEvasions R.rule board.now.men board.now.turn evasion_squares }
     ensures { AreEvasionsFrom R.rule board.now from result }
 {
+    // For the proof: a square's number is below 64.
     let _small = from.index();
     if evasion_squares == !0 {
         return !0;
@@ -119,6 +121,7 @@ pub(crate) fn is_safe<R: Rules>(
     ensures answer { result ≡ not (in_check R.rule (after R.rule board.old m).men board.old.turn) }
     ensures board { board.new ≡ board.old }
 {
+    // For the proof: a square's number is below 64.
     let _small = m.to.index();
     if cannot_expose::<R>(board, board.turn(), squares, &m) {
         return true;

@@ -122,6 +122,7 @@ fn exposes_unplayed<R: Rules>(board: &Board, m: &Move) -> Option<bool>
     ensures { IfSome result (λ b. b ≡ in_check R.rule (after R.rule board.now m.now).men
         board.now.turn) }
 {
+    // For the proof: a square's number is below 64.
     let _small = m.to.index();
     let Some(man) = board.man_at(m.from) else {
         return None;

@@ -120,6 +120,7 @@ fn has_flight_from<R: Rules>(
     requires captured { captured ≡ capture_square board.now man m.now }
     ensures { result ≡ true → has_flight R.rule (after R.rule board.now m.now) ≡ true }
 {
+    // For the proof: a square's number is below 64.
     let _small = m.to.index();
     let sight = sight_lifted(board, m.from, captured, m.to, king);
     let near = open_squares::<R>(board, sight, king);

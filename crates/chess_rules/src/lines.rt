@@ -89,6 +89,7 @@ impl Direction {
     fn next(self, from: Square) -> Option<Square>
         ensures { result ≡ along from (step_of self) 1 }
     {
+        // For the proof: a square's number is below 64.
         let _small = from.index();
         let ray = self.ray(from);
         if ray == 0 {
@@ -111,6 +112,7 @@ fn ride(occupied: u64, from: Square, direction: Direction) -> u64
     ensures { (men : List (Option Man)) → occupied ≡ occupied_squares men
         → result ≡ word (λ t. rides men from t (step_of direction)) }
 {
+    // For the proof: a square's number is below 64.
     let _small = from.index();
     let ray = direction.ray(from);
     let stop = direction.first(ray & occupied);
@@ -179,6 +181,7 @@ fn hop(occupied: u64, from: Square, direction: Direction) -> u64
     ensures { (men : List (Option Man)) → occupied ≡ occupied_squares men
         → result ≡ word (λ t. hops men from t (step_of direction)) }
 {
+    // For the proof: a square's number is below 64.
     let _small = from.index();
     let hurdle = direction.first(direction.ray(from) & occupied);
     only(direction.next(hurdle))
@@ -189,10 +192,12 @@ fn hop_back(occupied: u64, to: Square, direction: Direction) -> u64
     ensures { (men : List (Option Man)) → occupied ≡ occupied_squares men
         → result ≡ word (λ s. hopped_from men to s (step_of direction)) }
 {
+    // For the proof: a square's number is below 64.
     let _small = to.index();
     let Some(next) = direction.next(to) else {
         return 0;
     };
+    // For the proof: the next square's number is below 64.
     let _near = next.index();
     if contains(occupied, next) {
         ride(occupied, next, direction)

@@ -31,6 +31,7 @@ pub(crate) fn comes_as(occupied: u64, colour: Colour, kind: Kind, to: Square) ->
     ensures { (men : List (Option Man)) → occupied ≡ occupied_squares men
         → result ≡ word (λ s. reaches_as men colour kind s to) }
 {
+    // For the proof: a square's number is below 64.
     let _small = to.index();
     match kind {
         Kind::King => king_leaps(to),
@@ -109,6 +110,7 @@ pub(crate) fn attackers_seen(board: &Board, sight: Sight, square: Square, colour
     ensures { (men : List (Option Man)) → AreSeen board.now.men men colour sight
         → result ≡ word (λ s. is_side (man_on men s) colour && reaches men s square) }
 {
+    // For the proof: a square's number is below 64.
     let _small = square.index();
     straight_attackers(board, sight, square, colour)
         | diagonal_attackers(board, sight, square, colour)

@@ -46,6 +46,7 @@ pub(crate) fn reaches(board: &Board, from: Square, to: Square) -> bool
 {
     match board.man_at(from) {
         Some(man) => {
+            // For the proof: a square's number is below 64.
             let _small = to.index();
             contains(reach_as(board, man.colour, man.kind, from), to)
         }

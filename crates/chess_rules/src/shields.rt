@@ -186,6 +186,7 @@ fn stands_aside<R: Rules>(board: &Board, man: Man, colour: Colour, m: &Move) -> 
     ensures { result ≡ (not (may_stand_between board.now.men colour m.now.to)
         && is_plain R.rule board.now man m.now) }
 {
+    // For the proof: a square's number is below 64.
     let _small = m.to.index();
     !contains(fairy_lines(board, colour), m.to) && is_plain::<R>(board, man, m)
 }
@@ -196,6 +197,7 @@ pub(crate) fn cannot_expose<R: Rules>(board: &Board, colour: Colour, squares: u6
     requires { squares ≡ word (may_expose R.rule board.now.men colour) }
     ensures { result ≡ cannot_expose R.rule board.now colour m.now }
 {
+    // For the proof: a square's number is below 64.
     let _small = m.from.index();
     match board.man_at(m.from) {
         Some(man) => !contains(squares, m.from) && stands_aside::<R>(board, man, colour, m),

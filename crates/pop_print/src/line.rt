@@ -37,6 +37,7 @@ impl LineBuffer {
         requires { length self.old + length piece.now ≤ room }
         ensures { self.new ≡ self.old ++ piece.now }
     {
+        // It always fits: the call asks for the room.
         let _fits = self.text.try_extend_from_slice(piece);
     }
 

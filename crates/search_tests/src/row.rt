@@ -125,6 +125,7 @@ pub(crate) fn row<const N: usize>(rt: &impl Abort, text: &str, want: &str) -> u6
 fn agrees_under<R: Rules>(problem: &Problem) -> bool
     requires { R.rule ≡ rule_of problem.now.condition }
 {
+    // For the proof: a stipulation that was read has at most 32 half-moves.
     let _half_moves = half_moves(problem);
     let given = run::<R, 33>(problem, ALL);
     let plain = solve::<R>(problem);

@@ -135,6 +135,7 @@ fn note(event: &Event, opened: u64, seen: &mut Seen, stood: &mut Stood) {
 fn watch_under<R: Rules>(rt: &impl Abort, problem: &Problem, most: u64) -> Seen
     requires { R.rule ≡ rule_of problem.now.condition }
 {
+    // For the proof: a stipulation that was read has at most 32 half-moves.
     let _half_moves = half_moves(problem);
     let mut seen = Seen::default();
     let mut stood = Stood {

@@ -17,6 +17,7 @@ abbrev pub shows_variations : Tree → Bool
 shows_variations Keys = false
 shows_variations Variations = true
 
+-- and so in what is walked
 abbrev pub varies : Plan → Bool
 varies plan = shows_variations plan.tree
 
