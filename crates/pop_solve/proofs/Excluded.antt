@@ -125,8 +125,8 @@ module _ (rule : RuleSet) (plan : Plan) (left place : ℕ) (p : Position) where
       (ap (filter (is_mating rule p)) (sym here) ∙ no_mate_is_passed_over (n ∷ rest) t)
     where
       by : (a b : Bool) → a ≡ true → b ≡ true
-          → cond a (m ∷ filter (is_mating rule p) more) (filter (is_mating rule p) more) ≡ cond b (n ∷ filter (is_mating rule p) rest) (filter (is_mating rule p) rest)
-          → n ≡ m
+          → cond a (m ∷ filter (is_mating rule p) more) (filter (is_mating rule p) more)
+          ≡ cond b (n ∷ filter (is_mating rule p) rest) (filter (is_mating rule p) rest) → n ≡ m
       by true true e f same = cc
       by false b e f same = absurd cc
       by true false e f same = absurd cc
