@@ -1,8 +1,13 @@
 -- Castling that uncovers no king gives check by its rook alone.
 use Rattle.std.proofs.Common.{◌≡◌, ◌≢◌, ℕ, ◌+◌, ◌-◌, ◌*◌, ◌/◌, ◌%◌, ◌^◌, ◌<◌, ◌≤◌, suc, Bool, true, false, ◌&&◌, ◌||◌, ◌==◌, not, List, [], ◌∷◌, length, Option, Some, None, is_some, refl, sym, ap, ◌∙◌, arith, inl, inr, ◌⊎◌, rules}
+use Rattle.std.specs.Int.{bit_at, bit_not, w64}
+use Rattle.std.specs.Int.Bits.{bit_and, bit_or}
 use Rattle.std.specs.List.{list_all, list_any, range_with_len}
-use Rattle.std.proofs.lemmas.Bool.{agree_below_at, and_from, and_left, and_parts, cases_Bool, cond-true, cases_eq, eq-eqb, eqb-true, false_from_ne_true, false≢true, not-true, or_cases, or_left, or_parts, or_right}
+use Rattle.std.proofs.lemmas.Bool.{agree_below_at, and_from, and_left, and_parts, cases_Bool, cond-false, cond-true, cases_eq, eq-eqb, eqb-true, false_from_ne_true, false≢true, not-true, or_cases, or_left, or_parts, or_right}
 use Rattle.std.proofs.lemmas.List.{length-set}
+use Rattle.std.proofs.lemmas.Nat.Bits.{bit_at-lt, bit_at-suc, bit_at_cat_low, bit_at_or}
+use Rattle.chess_core.specs.ties.Words.{word}
+use Rattle.chess_core.proofs.Boards.{along-is}
 use Rattle.chess_core.specs.Position.{Position, is_man, is_side, king_square, man_on, other, same_colour, same_kind, with_man, without_man}
 use Rattle.chess_core.specs.Squares.{is_square, some_square, squares}
 use Rattle.chess_core.specs.Steps.{along, diagonal_steps, knight_steps, queen_steps, straight_steps}
@@ -16,16 +21,18 @@ use Rattle.chess_core.specs.declared.step.Step.{Step}
 use Rattle.chess_core.proofs.Men.{man_on-with_other, man_on-with_same, man_on-without_other, man_on-without_same}
 use Rattle.chess_core.proofs.Ranges.{some_square_false, some_square_true}
 use Rattle.chess_rules.specs.Attacks.{check_of, in_check}
-use Rattle.chess_rules.specs.ties.CheckSquares.{enemy, is_absent, may_check_from, may_check_from_on}
+use Rattle.chess_rules.specs.ties.CheckSquares.{AreCastlingTargets, enemy, is_absent, may_check_from, may_check_from_on}
 use Rattle.chess_rules.specs.Legal.{castles, is_promotion_right, may_castle, squares_between}
-use Rattle.chess_rules.specs.ties.Lines.{is_ahead, is_on_some, step_of}
+use Rattle.chess_rules.specs.ties.Lines.{is_ahead, is_aside, is_on_some, step_of}
 use Rattle.chess_rules.specs.Play.{after, arriving, capture_square, corner, halfway, is_castling, is_diagonal, move_man, moved_men, without_at}
 use Rattle.chess_rules.specs.Reaches.{hops, is_clear, reaches, reaches_as, rides}
 use Rattle.chess_rules.specs.RuleSet.{RuleSet, is_circe}
+use Rattle.chess_rules.specs.ties.Targets.{steps_to}
 use Rattle.chess_rules.specs.ties.Shields.{is_lined, is_on_fairy_line, is_on_fairy_line_to, is_reached, may_expose, may_expose_on, may_stand_between}
 use Rattle.chess_rules.specs.declared.lines.Direction.{Direction}
 use Rattle.chess_rules.specs.declared.lines.Direction.TheVariants.{East, West, North, South, NorthEast, SouthEast, NorthWest, SouthWest}
 use Rattle.chess_rules.proofs.Ahead.{onward}
+use Rattle.chess_rules.proofs.Bits.{word_has}
 use Rattle.chess_rules.proofs.Castles.{no_man}
 use Rattle.chess_rules.proofs.Ends.{back, returns_to, square_is}
 use Rattle.chess_rules.proofs.FairyLines.{Holds, IsBeside, any_kept, beside_lined, fairy_parts, hop_kept, knight_directions, queen_directions, ride_kept, steps_of}
@@ -34,7 +41,9 @@ use Rattle.chess_rules.proofs.Flips.{backward}
 use Rattle.chess_rules.proofs.Parting.{Frees}
 use Rattle.chess_rules.proofs.Pseudo.{IsCastle, IsMade, king_is_no_pawn, on_board, ways}
 use Rattle.chess_rules.proofs.Shielding.{IsCovered, IsShift, covered_parts, frees, goes_on, king_is, man_there, not_attacked, not_parted, stood, straight_before, unreached, unreborn_after}
+use Rattle.chess_rules.proofs.Targeting.{castling_steps, false_by}
 use Rattle.chess_rules.proofs.Tests.{all_at, find_first}
+use Rattle.chess_rules.proofs.Walks.{off_second}
 
 -- the corners of the board: no line goes through one
 abbrev is_corner : ℕ → Bool
@@ -465,3 +474,49 @@ module _ (rule : RuleSet) (p : Position) (x : Man) (m : Move) (well : IsWellForm
           let stands : is_man (man_on p.men k) c King ≡ true = king_stood k f.here in
           let at : king_square p.men c ≡ Some k = king_is p.men c k well.kings inside stands in
           not_attacked rule castled (other c) k (castled_unreached k at stands inside)
+
+-- the words of the squares over which a king castles
+pub castling_aside : (x : Man) (m : Move) → m.to < 64 → is_castling x m ≡ true → is_aside m.from m.to ≡ true
+unfolding steps_to
+castling_aside x m small h =
+    let king : same_kind x.kind King ≡ true = (and_parts _ _ (and_parts _ _ h).0).0 in
+    sym (cond-false (same_kind x.kind Pawn) _ _ (king_is_no_pawn x.kind king) ∙ cond-true (same_kind x.kind King) _ _ king)
+    ∙ castling_steps x m small h
+
+half_below : (w : ℕ) → (w * 2 ^ 1 % 2 ^ 64) / 2 ≡ w % 2 ^ 63
+half_below w = omega arith
+
+bit_below : (w i : ℕ) → i < 63 → bit_at (w % 2 ^ 63) i ≡ bit_at w i
+bit_below w i lt =
+    let parts : w / 2 ^ 63 * 2 ^ 63 + w % 2 ^ 63 ≡ w = omega arith in
+    sym (bit_at_cat_low (w / 2 ^ 63) 63 (w % 2 ^ 63) i lt) ∙ ap (λ n. bit_at n i) parts
+
+shifted_up : (w i : ℕ) → i < 63 → bit_at (w * 2 ^ 1 % 2 ^ 64) (suc i) ≡ bit_at w i
+shifted_up w i lt = bit_at-suc (w * 2 ^ 1 % 2 ^ 64) i ∙ ap (λ n. bit_at n i) (half_below w) ∙ bit_below w i lt
+
+shifted_down : (w i : ℕ) → bit_at (w / 2 ^ 1) i ≡ bit_at w (suc i)
+shifted_down w i = sym (bit_at-suc w i)
+
+two_aside : (s t : ℕ) → is_aside s t ≡ true → (t ≡ s + 2) ⊎ (s ≡ t + 2)
+two_aside s t h = search (rules, along-is, or_cases)
+
+off_either : (a b i : ℕ) → (bit_at (bit_or a b) i == 1) ≡ false → ((bit_at a i == 1) ≡ false) × ((bit_at b i == 1) ≡ false)
+off_either a b i h = search (rules, bit_at-lt, bit_at_or, eq-eqb, eqb-true, false_by)
+
+pub crossed_aside : (w s a : ℕ) → s < 64 → a ≡ word (is_aside s)
+    → AreCastlingTargets w s (bit_and a (bit_or (w * 2 ^ 1 % 2 ^ 64) (w / 2 ^ 1)))
+crossed_aside w s a small are = record {
+  elsewhere = λ t lt aside off.
+      let on : (bit_at a t == 1) ≡ true = word_has (is_aside s) a t are lt ∙ aside in
+      let both = off_either (w * 2 ^ 1 % 2 ^ 64) (w / 2 ^ 1) t (off_second a (bit_or (w * 2 ^ 1 % 2 ^ 64) (w / 2 ^ 1)) t off on) in
+      elim (two_aside s t aside) [
+        | inl e ↦
+            let next : t ≡ suc (s + 1) = omega arith in
+            let half : (s + t) / 2 ≡ s + 1 = omega arith in
+            ap (λ n. bit_at w n == 1) half ∙ ap (λ n. n == 1) (sym (shifted_up w (s + 1) (omega arith)))
+            ∙ ap (λ n. bit_at (w * 2 ^ 1 % 2 ^ 64) n == 1) (sym next) ∙ both.0
+        | inr e ↦
+            let half : (s + t) / 2 ≡ suc t = omega arith in
+            ap (λ n. bit_at w n == 1) half ∙ ap (λ n. n == 1) (sym (shifted_down w t)) ∙ both.1
+      ];
+}

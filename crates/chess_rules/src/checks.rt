@@ -1,23 +1,22 @@
 //! Moves that give no check, told before they are made.
 ghost use Rattle.std.specs.Prelude.{◌≡◌, ℕ, None, Some, false, not, true};
 ghost use Rattle.chess_core.specs.Position.{man_on, other, same_kind};
-ghost use Rattle.chess_core.specs.declared.man.Kind.TheVariants.{Pawn};
+ghost use Rattle.chess_core.specs.declared.man.Kind.TheVariants.{King, Pawn};
 ghost use Rattle.chess_core.specs.WellFormed.{IsWellFormed};
 ghost use Rattle.chess_core.specs.ties.Words.{word};
 ghost use Rattle.chess_rules.specs.Attacks.{in_check};
-ghost use Rattle.chess_rules.specs.ties.CheckSquares.{AreCheckSquares, AreCheckTargets, enemy, is_absent, may_check_from, check_squares_for};
+ghost use Rattle.chess_rules.specs.ties.CheckSquares.{AreCastlingTargets, AreCheckSquares, AreCheckTargets, enemy, is_absent, may_check_from, check_squares_for};
 ghost use Rattle.chess_rules.specs.ties.Shields.{cannot_expose, is_fairy};
 ghost use Rattle.chess_rules.specs.Legal.{pseudo};
 ghost use Rattle.chess_rules.specs.Play.{after};
-ghost use Rattle.chess_rules.specs.ties.Targets.{steps_to};
 
 use crate::evasions::rebirth_captures;
+use crate::leaps::squares_aside;
 use crate::lines::occupied;
 use crate::open_board::open_targets;
 use crate::outward::comes_as;
 use crate::rules::Rules;
 use crate::shields::{cannot_expose, fairy_lines, shield_squares};
-use crate::targets::steps_to;
 use crate::words::{contains, only};
 use chess_core::board::Board;
 use chess_core::man::{Colour, Kind, Man, Move};
@@ -110,15 +109,22 @@ pub(crate) fn are_all_near<R: Rules>(squares: &CheckSquares) -> bool {
 // The first rank and the last.
 const LAST_RANKS: u64 = 0xff00_0000_0000_00ff;
 
-// The squares to which the man on `from` promotes or castles, and perhaps more.
-fn special_targets(man: Man, from: Square) -> u64
-    ensures promotes { same_kind man.kind Pawn ≡ true → result ≡ 18374686479671623935 }
-    ensures castles { same_kind man.kind Pawn ≡ false → result ≡ word (steps_to man from) }
+// The squares to which a king on `from` castles over a square of the word, and perhaps more.
+fn castling_targets(crossed: u64, from: Square) -> u64
+    ensures { AreCastlingTargets crossed from result }
 {
-    if man.kind.is(Kind::Pawn) {
-        LAST_RANKS
-    } else {
-        steps_to(man, from)
+    squares_aside(from) & (crossed << 1 | crossed >> 1)
+}
+
+// The squares to which the man on `from` promotes, or castles over a square of the word, and perhaps more.
+fn special_targets(crossed: u64, man: Man, from: Square) -> u64
+    ensures promotes { same_kind man.kind Pawn ≡ true → result ≡ 18374686479671623935 }
+    ensures castles { same_kind man.kind King ≡ true → AreCastlingTargets crossed from result }
+{
+    match man.kind {
+        Kind::Pawn => LAST_RANKS,
+        Kind::King => castling_targets(crossed, from),
+        _ => 0,
     }
 }
 
@@ -135,11 +141,13 @@ fn check_targets<R: Rules>(board: &Board, squares: &CheckSquares, man: Man, from
         return !0;
     }
     let checked_from = check_squares_for(squares, man.kind);
+    let lines = fairy_lines(board, board.turn().other());
+    // Castling checks by the rook, or where the rook is a grasshopper's hurdle.
     checked_from
         | only(board.crossed())
-        | special_targets(man, from)
+        | special_targets(squares.straight | lines, man, from)
         | rebirth_captures::<R>(board)
-        | fairy_lines(board, board.turn().other())
+        | lines
 }
 
 // Those of them to which he might go, were the others gone.
