@@ -1,16 +1,16 @@
 -- Castling that uncovers no king gives check by its rook alone.
 use Rattle.std.proofs.Common.{◌≡◌, ◌≢◌, ℕ, ◌+◌, ◌-◌, ◌*◌, ◌/◌, ◌%◌, ◌^◌, ◌<◌, ◌≤◌, suc, Bool, true, false, ◌&&◌, ◌||◌, ◌==◌, not, List, [], ◌∷◌, length, Option, Some, None, is_some, refl, sym, ap, ◌∙◌, arith, inl, inr, ◌⊎◌, rules}
-use Rattle.std.specs.Int.{bit_at, bit_not, w64}
+use Rattle.std.specs.Int.{bit_at}
 use Rattle.std.specs.Int.Bits.{bit_and, bit_or}
 use Rattle.std.specs.List.{list_all, list_any, range_with_len}
-use Rattle.std.proofs.lemmas.Bool.{agree_below_at, and_from, and_left, and_parts, cases_Bool, cond-false, cond-true, cases_eq, eq-eqb, eqb-true, false_from_ne_true, false≢true, not-true, or_cases, or_left, or_parts, or_right}
+use Rattle.std.proofs.lemmas.Bool.{agree_below_at, and_from, and_left, and_parts, cond-false, cond-true, cases_eq, eq-eqb, eqb-true, false_from_ne_true, false≢true, or_cases, or_left, or_parts, or_right}
 use Rattle.std.proofs.lemmas.List.{length-set}
 use Rattle.std.proofs.lemmas.Nat.Bits.{bit_at-lt, bit_at-suc, bit_at_cat_low, bit_at_or}
 use Rattle.chess_core.specs.ties.Words.{word}
 use Rattle.chess_core.proofs.Boards.{along-is}
 use Rattle.chess_core.specs.Position.{Position, is_man, is_side, king_square, man_on, other, same_colour, same_kind, with_man, without_man}
-use Rattle.chess_core.specs.Squares.{is_square, some_square, squares}
-use Rattle.chess_core.specs.Steps.{along, diagonal_steps, knight_steps, queen_steps, straight_steps}
+use Rattle.chess_core.specs.Squares.{squares}
+use Rattle.chess_core.specs.Steps.{along, queen_steps, straight_steps}
 use Rattle.chess_core.specs.WellFormed.{IsWellFormed, is_vacant_at}
 use Rattle.chess_core.specs.declared.man.Colour.{Colour}
 use Rattle.chess_core.specs.declared.man.Kind.{Kind}
@@ -26,9 +26,10 @@ use Rattle.chess_rules.specs.Legal.{castles, is_promotion_right, may_castle, squ
 use Rattle.chess_rules.specs.ties.Lines.{is_ahead, is_aside, is_on_some, step_of}
 use Rattle.chess_rules.specs.Play.{after, arriving, capture_square, corner, halfway, is_castling, is_diagonal, move_man, moved_men, without_at}
 use Rattle.chess_rules.specs.Reaches.{hops, is_clear, reaches, reaches_as, rides}
-use Rattle.chess_rules.specs.RuleSet.{RuleSet, is_circe}
+use Rattle.chess_rules.specs.RuleSet.{RuleSet}
 use Rattle.chess_rules.specs.ties.Targets.{steps_to}
 use Rattle.chess_rules.specs.ties.Shields.{is_lined, is_on_fairy_line, is_on_fairy_line_to, is_reached, may_expose, may_expose_on, may_stand_between}
+use Rattle.chess_rules.specs.declared.checks.CheckSquares.{CheckSquares}
 use Rattle.chess_rules.specs.declared.lines.Direction.{Direction}
 use Rattle.chess_rules.specs.declared.lines.Direction.TheVariants.{East, West, North, South, NorthEast, SouthEast, NorthWest, SouthWest}
 use Rattle.chess_rules.proofs.Ahead.{onward}
@@ -36,10 +37,10 @@ use Rattle.chess_rules.proofs.Bits.{word_has}
 use Rattle.chess_rules.proofs.Castles.{no_man}
 use Rattle.chess_rules.proofs.Ends.{back, returns_to, square_is}
 use Rattle.chess_rules.proofs.FairyLines.{Holds, IsBeside, any_kept, beside_lined, fairy_parts, hop_kept, knight_directions, queen_directions, ride_kept, steps_of}
-use Rattle.chess_rules.proofs.Fits.{arrived, arriving_king, castle_of, corner_stays, kind_is_king, king_no_step, no_capture}
+use Rattle.chess_rules.proofs.Fits.{arrived, castle_of, corner_stays, kind_is_king, king_no_step, no_capture}
 use Rattle.chess_rules.proofs.Flips.{backward}
 use Rattle.chess_rules.proofs.Parting.{Frees}
-use Rattle.chess_rules.proofs.Pseudo.{IsCastle, IsMade, king_is_no_pawn, on_board, ways}
+use Rattle.chess_rules.proofs.Pseudo.{IsCastle, IsMade, king_is_no_pawn, ways}
 use Rattle.chess_rules.proofs.Shielding.{IsCovered, IsShift, covered_parts, frees, goes_on, king_is, man_there, not_attacked, not_parted, stood, straight_before, unreached, unreborn_after}
 use Rattle.chess_rules.proofs.Targeting.{castling_steps, false_by}
 use Rattle.chess_rules.proofs.Tests.{all_at, find_first}
@@ -503,20 +504,29 @@ two_aside s t h = search (rules, along-is, or_cases)
 off_either : (a b i : ℕ) → (bit_at (bit_or a b) i == 1) ≡ false → ((bit_at a i == 1) ≡ false) × ((bit_at b i == 1) ≡ false)
 off_either a b i h = search (rules, bit_at-lt, bit_at_or, eq-eqb, eqb-true, false_by)
 
-pub crossed_aside : (w s a : ℕ) → s < 64 → a ≡ word (is_aside s)
-    → AreCastlingTargets w s (bit_and a (bit_or (w * 2 ^ 1 % 2 ^ 64) (w / 2 ^ 1)))
-crossed_aside w s a small are = record {
-  elsewhere = λ t lt aside off.
-      let on : (bit_at a t == 1) ≡ true = word_has (is_aside s) a t are lt ∙ aside in
-      let both = off_either (w * 2 ^ 1 % 2 ^ 64) (w / 2 ^ 1) t (off_second a (bit_or (w * 2 ^ 1 % 2 ^ 64) (w / 2 ^ 1)) t off on) in
-      elim (two_aside s t aside) [
-        | inl e ↦
-            let next : t ≡ suc (s + 1) = omega arith in
-            let half : (s + t) / 2 ≡ s + 1 = omega arith in
-            ap (λ n. bit_at w n == 1) half ∙ ap (λ n. n == 1) (sym (shifted_up w (s + 1) (omega arith)))
-            ∙ ap (λ n. bit_at (w * 2 ^ 1 % 2 ^ 64) n == 1) (sym next) ∙ both.0
-        | inr e ↦
-            let half : (s + t) / 2 ≡ suc t = omega arith in
-            ap (λ n. bit_at w n == 1) half ∙ ap (λ n. n == 1) (sym (shifted_down w t)) ∙ both.1
-      ];
+crossed_aside : (w s a t : ℕ) → s < 64 → a ≡ word (is_aside s) → t < 64 → is_aside s t ≡ true
+    → (bit_at (bit_and a (bit_or (w * 2 ^ 1 % 2 ^ 64) (w / 2 ^ 1))) t == 1) ≡ false → (bit_at w ((s + t) / 2) == 1) ≡ false
+crossed_aside w s a t small are lt aside off =
+    let on : (bit_at a t == 1) ≡ true = word_has (is_aside s) a t are lt ∙ aside in
+    let both = off_either (w * 2 ^ 1 % 2 ^ 64) (w / 2 ^ 1) t (off_second a (bit_or (w * 2 ^ 1 % 2 ^ 64) (w / 2 ^ 1)) t off on) in
+    elim (two_aside s t aside) [
+      | inl e ↦
+          let next : t ≡ suc (s + 1) = omega arith in
+          let half : (s + t) / 2 ≡ s + 1 = omega arith in
+          ap (λ n. bit_at w n == 1) half ∙ ap (λ n. n == 1) (sym (shifted_up w (s + 1) (omega arith)))
+          ∙ ap (λ n. bit_at (w * 2 ^ 1 % 2 ^ 64) n == 1) (sym next) ∙ both.0
+      | inr e ↦
+          let half : (s + t) / 2 ≡ suc t = omega arith in
+          ap (λ n. bit_at w n == 1) half ∙ ap (λ n. n == 1) (sym (shifted_down w t)) ∙ both.1
+    ]
+
+pub castling_targets_are : (p : Position) (v : CheckSquares) (s l a : ℕ) → s < 64 → l ≡ word (may_stand_between p.men (other p.turn))
+    → a ≡ word (is_aside s)
+    → AreCastlingTargets p v s (bit_and a (bit_or (bit_or v.straight l * 2 ^ 1 % 2 ^ 64) (bit_or v.straight l / 2 ^ 1)))
+castling_targets_are p v s l a small lines are = record {
+  quiet = λ t lt aside off. (off_either v.straight l ((s + t) / 2) (crossed_aside (bit_or v.straight l) s a t small are lt aside off)).0;
+  apart = λ t lt aside off.
+      let half : (s + t) / 2 < 64 = omega (arith, small, lt) in
+      sym (word_has (may_stand_between p.men (other p.turn)) l ((s + t) / 2) lines half)
+      ∙ (off_either v.straight l ((s + t) / 2) (crossed_aside (bit_or v.straight l) s a t small are lt aside off)).1;
 }

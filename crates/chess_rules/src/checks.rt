@@ -109,21 +109,24 @@ pub(crate) fn are_all_near<R: Rules>(squares: &CheckSquares) -> bool {
 // The first rank and the last.
 const LAST_RANKS: u64 = 0xff00_0000_0000_00ff;
 
-// The squares to which a king on `from` castles over a square of the word, and perhaps more.
-fn castling_targets(crossed: u64, from: Square) -> u64
-    ensures { AreCastlingTargets crossed from result }
+// The squares to which a king on `from` castles, and perhaps more: those are left out where the rook, halfway,
+// gives no check and is no grasshopper's hurdle.
+fn castling_targets(board: &Board, squares: &CheckSquares, from: Square) -> u64
+    ensures { AreCastlingTargets board.now squares.now from result }
 {
+    let crossed = squares.straight | fairy_lines(board, board.turn().other());
     squares_aside(from) & (crossed << 1 | crossed >> 1)
 }
 
-// The squares to which the man on `from` promotes, or castles over a square of the word, and perhaps more.
-fn special_targets(crossed: u64, man: Man, from: Square) -> u64
+// The squares to which the man on `from` promotes or castles, and perhaps more.
+fn special_targets(board: &Board, squares: &CheckSquares, man: Man, from: Square) -> u64
     ensures promotes { same_kind man.kind Pawn ≡ true → result ≡ 18374686479671623935 }
-    ensures castles { same_kind man.kind King ≡ true → AreCastlingTargets crossed from result }
+    ensures castles { same_kind man.kind King ≡ true
+        → AreCastlingTargets board.now squares.now from result }
 {
     match man.kind {
         Kind::Pawn => LAST_RANKS,
-        Kind::King => castling_targets(crossed, from),
+        Kind::King => castling_targets(board, squares, from),
         _ => 0,
     }
 }
@@ -141,13 +144,11 @@ fn check_targets<R: Rules>(board: &Board, squares: &CheckSquares, man: Man, from
         return !0;
     }
     let checked_from = check_squares_for(squares, man.kind);
-    let lines = fairy_lines(board, board.turn().other());
-    // Castling checks by the rook, or where the rook is a grasshopper's hurdle.
     checked_from
         | only(board.crossed())
-        | special_targets(squares.straight | lines, man, from)
+        | special_targets(board, squares, man, from)
         | rebirth_captures::<R>(board)
-        | lines
+        | fairy_lines(board, board.turn().other())
 }
 
 // Those of them to which he might go, were the others gone.
