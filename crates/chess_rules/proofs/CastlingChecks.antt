@@ -9,7 +9,7 @@ use Rattle.std.proofs.lemmas.Nat.Bits.{bit_at-lt, bit_at-suc, bit_at_cat_low, bi
 use Rattle.chess_core.specs.ties.Words.{word}
 use Rattle.chess_core.proofs.Boards.{along-is}
 use Rattle.chess_core.specs.Position.{Position, is_man, is_side, king_square, man_on, other, same_colour, same_kind, with_man, without_man}
-use Rattle.chess_core.specs.Squares.{squares}
+use Rattle.chess_core.specs.Squares.{is_square, squares}
 use Rattle.chess_core.specs.Steps.{along, queen_steps, straight_steps}
 use Rattle.chess_core.specs.WellFormed.{IsWellFormed, is_vacant_at}
 use Rattle.chess_core.specs.declared.man.Colour.{Colour}
@@ -28,17 +28,16 @@ use Rattle.chess_rules.specs.Play.{after, arriving, capture_square, corner, half
 use Rattle.chess_rules.specs.Reaches.{hops, is_clear, reaches, reaches_as, rides}
 use Rattle.chess_rules.specs.RuleSet.{RuleSet}
 use Rattle.chess_rules.specs.ties.Targets.{steps_to}
-use Rattle.chess_rules.specs.ties.Shields.{is_lined, is_on_fairy_line, is_on_fairy_line_to, is_reached, may_expose, may_expose_on, may_stand_between}
+use Rattle.chess_rules.specs.ties.Shields.{is_on_fairy_line, is_on_fairy_line_to, is_reached, may_expose, may_expose_on, may_stand_between}
 use Rattle.chess_rules.specs.declared.checks.CheckSquares.{CheckSquares}
 use Rattle.chess_rules.specs.declared.lines.Direction.{Direction}
 use Rattle.chess_rules.specs.declared.lines.Direction.TheVariants.{East, West, North, South, NorthEast, SouthEast, NorthWest, SouthWest}
-use Rattle.chess_rules.proofs.Ahead.{onward}
+use Rattle.chess_rules.proofs.Ahead.{onward, passes}
 use Rattle.chess_rules.proofs.Bits.{word_has}
 use Rattle.chess_rules.proofs.Castles.{no_man}
 use Rattle.chess_rules.proofs.Ends.{back, returns_to, square_is}
-use Rattle.chess_rules.proofs.FairyLines.{Holds, IsBeside, any_kept, beside_lined, fairy_parts, hop_kept, knight_directions, queen_directions, ride_kept, steps_of}
-use Rattle.chess_rules.proofs.Fits.{arrived, castle_of, corner_stays, kind_is_king, king_no_step, no_capture}
-use Rattle.chess_rules.proofs.Flips.{backward}
+use Rattle.chess_rules.proofs.FairyLines.{Holds, IsBeside, IsNoHurdle, hop_kept, knight_directions, queen_directions, ride_kept, steps_of}
+use Rattle.chess_rules.proofs.Fits.{arrived, castle_of, corner_stays, king_no_step, no_capture}
 use Rattle.chess_rules.proofs.Parting.{Frees}
 use Rattle.chess_rules.proofs.Pseudo.{IsCastle, IsMade, king_is_no_pawn, ways}
 use Rattle.chess_rules.proofs.Shielding.{IsCovered, IsShift, covered_parts, frees, goes_on, king_is, man_there, not_attacked, not_parted, stood, straight_before, unreached, unreborn_after}
@@ -81,6 +80,44 @@ corner_beside x b s k h inside small = λ n i at low lt le. false_from_ne_true _
       | inr e ↦ end_none b (back (step_of x)) i s e low (omega arith) came
     ])
 
+-- the squares halfway of castlings: lines through one go along its rank alone
+abbrev is_half : ℕ → Bool
+is_half h = h == 3 || h == 5 || h == 59 || h == 61
+
+-- a square that isn't right behind h on a line from elsewhere, the two beside h apart
+abbrev is_beside_alone : ℕ → Step → Bool
+is_beside_alone h d = not (is_some (along h (back d) 1)) || not (is_some (along h d 1)) || is_square (along h d 1) (h + 1)
+    || is_square (along h d 1) (h - 1)
+
+half_alone : (x : Direction) (h : ℕ) → h < 64 → (not (is_half h) || is_beside_alone h (step_of x)) ≡ true
+unfolding along
+half_alone East h lt = agree_below_at (λ h. not (is_half h) || is_beside_alone h (step_of East)) (λ h. true) 64 h refl lt
+half_alone x h lt = agree_below_at (λ h. not (is_half h) || is_beside_alone h (step_of x)) (λ h. true) 64 h refl lt
+
+implied_by : (a b : Bool) → (not a || b) ≡ true → a ≡ true → b ≡ true
+implied_by true b h e = h
+implied_by false b h e = absurd (false≢true e)
+
+-- who stands halfway is a hurdle before none but the squares beside him
+half_no_hurdle : (x : Direction) (h s k : ℕ) → is_half h ≡ true → h < 64 → s < 64 → k ≢ h + 1 → k ≢ h - 1 → IsNoHurdle h s k (step_of x)
+half_no_hurdle x h s k half inside small ne1 ne2 = λ n at low le. false_from_ne_true _ (λ y.
+    let here : along s (step_of x) (n - 1) ≡ Some h = square_is _ h y in
+    let rest : n - 1 + 1 ≡ n = omega arith in
+    let on : along h (step_of x) 1 ≡ Some k = onward s h (step_of x) (n - 1) 1 here ∙ ap (along s (step_of x)) rest ∙ at in
+    let came : along h (back (step_of x)) (n - 1) ≡ Some s = square_is _ s (returns_to s h (step_of x) (n - 1) small y) in
+    let before = passes h s (back (step_of x)) (n - 1) 1 inside (omega arith) came in
+    let alone = implied_by (is_half h) (is_beside_alone h (step_of x)) (half_alone x h inside) half in
+    elim (or_cases _ (is_square (along h (step_of x) 1) (h - 1)) alone) [
+      | inl e ↦ elim (or_cases _ (is_square (along h (step_of x) 1) (h + 1)) e) [
+        | inl f ↦ elim (or_cases (not (is_some (along h (back (step_of x)) 1))) (not (is_some (along h (step_of x) 1))) f) [
+          | inl g ↦ false≢true (sym (ap (λ o. not (is_some o)) before.1.at) ∙ g)
+          | inr g ↦ false≢true (sym (ap (λ o. not (is_some o)) on) ∙ g)
+        ]
+        | inr f ↦ ne1 (eqb-true k (h + 1) (sym (ap (λ o. is_square o (h + 1)) on) ∙ f))
+      ]
+      | inr e ↦ ne2 (eqb-true k (h - 1) (sym (ap (λ o. is_square o (h - 1)) on) ∙ e))
+    ])
+
 -- each test of a direction that holds now held before
 any_of : (xs : List Direction) (f g : Step → Bool) → ((x : Direction) → f (step_of x) ≡ true → g (step_of x) ≡ true)
     → list_any f (steps_of xs) ≡ true → list_any g (steps_of xs) ≡ true
@@ -108,18 +145,12 @@ module _ (men after : List (Option Man)) (b s k : ℕ) (free : Frees after men b
   reached e Grasshopper hop h = hop refl h
   reached e Nightrider hop h = rode knight_directions h
 
-  -- and grasshoppers too, if the man went to no line on which such a man stands
-  hopped : (stood_before : List (Option Man)) (e : Colour) (t : ℕ) → Holds after men t → is_man (man_on stood_before s) e Grasshopper ≡ true
-      → list_any (is_lined stood_before e Grasshopper k t) queen_steps ≡ false
+  -- and grasshoppers too, if the man went to no square right before k
+  hopped : (t : ℕ) → Holds after men t → ((x : Direction) → IsNoHurdle t s k (step_of x))
       → list_any (hops after s k) queen_steps ≡ true → list_any (hops men s k) queen_steps ≡ true
-  hopped stood_before e t holds man off h =
-      let turned : list_any (λ d. is_lined stood_before e Grasshopper k t (back d)) queen_steps ≡ false =
-      backward queen_steps (is_lined stood_before e Grasshopper k t) refl ∙ off in
-      any_kept queen_directions (hops after s k) (hops men s k) (λ d. is_lined stood_before e Grasshopper k t (back d))
-      (λ d. is_lined stood_before e Grasshopper k t (back d))
-      (λ x u v hop. hop_kept men after b t s k (step_of x) free holds (corner_beside x b s k edge inside small)
-      (beside_lined stood_before e Grasshopper k s t (step_of x) u small man) hop)
-      turned turned h
+  hopped t holds none h =
+      any_of queen_directions (hops after s k) (hops men s k)
+      (λ x hop. hop_kept men after b t s k (step_of x) free holds (corner_beside x b s k edge inside small) (none x) hop) h
 
 -- a man goes from a to b
 shift_of : (men : List (Option Man)) (a b : ℕ) (z : Man) → b < length men → IsShift men (with_man (without_man men a) b z) a b z
@@ -151,6 +182,8 @@ record IsWay (men : List (Option Man)) (a t c h : ℕ) : Type 0 where
   pub ride : list_any (rides men c a) straight_steps ≡ true
   pub edge : is_corner c ≡ true
   pub inside : c < 64
+  pub half : is_half h ≡ true
+  pub beside : (k : ℕ) → k ≢ a → k ≢ t → (k ≢ h + 1) × (k ≢ h - 1)
   pub lined : (k : ℕ) → k < 64 → k ≢ c → is_on_some straight_steps k h ≡ true → is_on_some straight_steps k a ≡ true → is_on_some straight_steps k c ≡ true
 
 implied : (a b c d : Bool) → (not (a && b) || c || d) ≡ true → a ≡ true → b ≡ true → c ≡ false → d ≡ true
@@ -180,6 +213,8 @@ white_short men v =
       ride = rw (e5, e6) refl;
       edge = refl;
       inside = omega arith;
+      half = refl;
+      beside = λ k p q. (q, p);
       lined = λ k lt. lined_up 4 7 5 k (agree_below_at (is_lined_up 4 7 5) (λ k. true) 64 k refl lt);
     }
 
@@ -197,6 +232,8 @@ white_long men v =
       ride = rw (e1, e2, e3) refl;
       edge = refl;
       inside = omega arith;
+      half = refl;
+      beside = λ k p q. (p, q);
       lined = λ k lt. lined_up 4 0 3 k (agree_below_at (is_lined_up 4 0 3) (λ k. true) 64 k refl lt);
     }
 
@@ -212,6 +249,8 @@ black_short men v =
       ride = rw (e61, e62) refl;
       edge = refl;
       inside = omega arith;
+      half = refl;
+      beside = λ k p q. (q, p);
       lined = λ k lt. lined_up 60 63 61 k (agree_below_at (is_lined_up 60 63 61) (λ k. true) 64 k refl lt);
     }
 
@@ -229,6 +268,8 @@ black_long men v =
       ride = rw (e57, e58, e59) refl;
       edge = refl;
       inside = omega arith;
+      half = refl;
+      beside = λ k p q. (p, q);
       lined = λ k lt. lined_up 60 56 59 k (agree_below_at (is_lined_up 60 56 59) (λ k. true) 64 k refl lt);
     }
 
@@ -364,7 +405,7 @@ module _ (rule : RuleSet) (p : Position) (x : Man) (m : Move) (well : IsWellForm
   -- what is asked, so that castling gives no check to the king of colour c
   module _ (c : Colour) (enemy_of : same_colour x.colour c ≡ false) (covered : may_expose rule p.men c m.from ≡ false)
       (aside : may_stand_between p.men c m.to ≡ false) (king_off : may_check_from p.men c (enemy c King) m.to ≡ false)
-      (rook_off : may_check_from p.men c (enemy c Rook) (halfway m) ≡ false) (no_hurdle : may_stand_between p.men c (halfway m) ≡ false) where
+      (rook_off : may_check_from p.men c (enemy c Rook) (halfway m) ≡ false) where
     module _ (k : ℕ) (at : king_square p.men c ≡ Some k) (stands : is_man (man_on p.men k) c King ≡ true) (inside : k < 64) where
       parts : IsCovered rule p.men c m.from k
       unfolding may_expose
@@ -394,6 +435,12 @@ module _ (rule : RuleSet) (p : Position) (x : Man) (m : Move) (well : IsWellForm
           let none : same_kind rook.0.kind King ≡ false = ap (λ (j : Kind). same_kind j King) (kind_is_rook rook.0.kind rook_kind) in
           false≢true (sym none ∙ (and_parts _ _ other_kind).1)
 
+      apart : (k ≢ halfway m + 1) × (k ≢ halfway m - 1)
+      apart =
+          let off_from : k ≢ m.from = λ e. false≢true (sym parts.apart ∙ eq-eqb k m.from e) in
+          let off_to : k ≢ m.to = λ e. false≢true (ap (λ (o : Option Man). is_man o c King) (sym (ap (man_on p.men) e ∙ the_way.empty)) ∙ stands) in
+          the_way.beside k off_from off_to
+
       -- nor does the rook from halfway
       rook_strikes : is_side (man_on castled (halfway m)) (other c) ≡ true → reaches castled (halfway m) k ≡ true → ⊥
       unfolding reaches reaches_as is_on_some
@@ -421,17 +468,11 @@ module _ (rule : RuleSet) (p : Position) (x : Man) (m : Move) (well : IsWellForm
           let stood_so : man_on stepped s ≡ Some y = rook_shift.others s y there ne in
           let now : reaches_as castled y.colour y.kind s k ≡ true = rw there at hit in
           let frees_corner = frees stepped castled (corner m) (halfway m) rook.0 rook_shift in
-          let hopper : same_kind y.kind Grasshopper ≡ true → is_man (man_on p.men s) (other c) Grasshopper ≡ true = λ is_hopper.
-          let elsewhere : s ≢ m.to = λ e.
-          let same : y ≡ x = king_shift.arrived y (ap (man_on stepped) (sym e) ∙ stood_so) in
-          let no_hopper : same_kind x.kind Grasshopper ≡ false = ap (λ (j : Kind). same_kind j Grasshopper) (kind_is_king x.kind king) in
-          false≢true (sym no_hopper ∙ ap (λ (w : Man). same_kind w.kind Grasshopper) (sym same) ∙ is_hopper) in
-          ap (λ (o : Option Man). is_man o (other c) Grasshopper) (king_shift.others s y stood_so elsewhere) ∙ and_from _ _ side is_hopper in
           let before : reaches_as stepped y.colour y.kind s k ≡ true =
           reached stepped castled (corner m) s k frees_corner the_way.edge the_way.inside lt y.colour y.kind
-          (λ is_hopper hop. hopped stepped castled (corner m) s k frees_corner the_way.edge the_way.inside lt p.men (other c) (halfway m)
-          (stood stepped castled (corner m) (halfway m) rook.0 rook_shift) (hopper is_hopper)
-          (fairy_parts p.men (other c) k (halfway m) (off_lines (halfway m) no_hurdle)).0 hop) now in
+          (λ hopper hop. hopped stepped castled (corner m) s k frees_corner the_way.edge the_way.inside lt (halfway m)
+          (stood stepped castled (corner m) (halfway m) rook.0 rook_shift)
+          (λ w. half_no_hurdle w (halfway m) s k the_way.half small.2 lt apart.0 apart.1) hop) now in
           let mine : is_side (man_on stepped s) (other c) ≡ true = rw stood_so side in
           let then : reaches stepped s k ≡ true = rw stood_so before in
           false≢true (sym king_steps
@@ -520,13 +561,6 @@ crossed_aside w s a t small are lt aside off =
           ap (λ n. bit_at w n == 1) half ∙ ap (λ n. n == 1) (sym (shifted_down w t)) ∙ both.1
     ]
 
-pub castling_targets_are : (p : Position) (v : CheckSquares) (s l a : ℕ) → s < 64 → l ≡ word (may_stand_between p.men (other p.turn))
-    → a ≡ word (is_aside s)
-    → AreCastlingTargets p v s (bit_and a (bit_or (bit_or v.straight l * 2 ^ 1 % 2 ^ 64) (bit_or v.straight l / 2 ^ 1)))
-castling_targets_are p v s l a small lines are = record {
-  quiet = λ t lt aside off. (off_either v.straight l ((s + t) / 2) (crossed_aside (bit_or v.straight l) s a t small are lt aside off)).0;
-  apart = λ t lt aside off.
-      let half : (s + t) / 2 < 64 = omega (arith, small, lt) in
-      sym (word_has (may_stand_between p.men (other p.turn)) l ((s + t) / 2) lines half)
-      ∙ (off_either v.straight l ((s + t) / 2) (crossed_aside (bit_or v.straight l) s a t small are lt aside off)).1;
-}
+pub castling_targets_are : (v : CheckSquares) (s a : ℕ) → s < 64 → a ≡ word (is_aside s)
+    → AreCastlingTargets v s (bit_and a (bit_or (v.straight * 2 ^ 1 % 2 ^ 64) (v.straight / 2 ^ 1)))
+castling_targets_are v s a small are = record { elsewhere = λ t lt aside off. crossed_aside v.straight s a t small are lt aside off }

@@ -70,7 +70,7 @@ module _ (rule : RuleSet) (p : Position) (x : Man) (s : CheckSquares) (f : ℕ) 
     (checks : AreCheckSquares rule p.men (other p.turn) s) (inside : f < 64) (covered : (bit_at s.shield_squares f == 1) ≡ false) (a b c d e : ℕ)
     (checked_from : a ≡ check_squares_for s x.kind) (crossed : b ≡ word (λ t. is_square p.crossed t))
     (promotes : same_kind x.kind Pawn ≡ true → c ≡ 18374686479671623935)
-    (castles : same_kind x.kind King ≡ true → AreCastlingTargets p s f c)
+    (castles : same_kind x.kind King ≡ true → AreCastlingTargets s f c)
     (reborn : is_circe rule ≡ true → d ≡ word (λ t. is_some (man_on p.men t))) (lines : e ≡ word (may_stand_between p.men (other p.turn))) where
   module _ (m : Move) (at : m.from ≡ f) (small : m.to < 64) (may : pseudo rule p m ≡ true)
       (off-lines : (bit_at (bit_or (bit_or (bit_or (bit_or a b) c) d) e) m.to == 1) ≡ false) where
@@ -118,10 +118,9 @@ module _ (rule : RuleSet) (p : Position) (x : Man) (s : CheckSquares) (f : ℕ) 
         let half : (m.from + m.to) / 2 < 64 = omega (arith, small, inside, at) in
         let beside : is_aside f m.to ≡ true = ap (λ n. is_aside n m.to) (sym at) ∙ castling_aside x m small y in
         let rook_off : (bit_at s.straight (halfway m) == 1) ≡ false =
-        ap (λ n. bit_at s.straight ((n + m.to) / 2) == 1) at ∙ (castles king).quiet m.to small beside off-c in
+        ap (λ n. bit_at s.straight ((n + m.to) / 2) == 1) at ∙ (castles king).elsewhere m.to small beside off-c in
         castling_gives_no_check rule p x m well (made rule p m x may stands) y (other p.turn) enemy_of origin_stays aside king_off
         (sym (word_has (may_check_from p.men (other p.turn) (enemy (other p.turn) Rook)) s.straight (halfway m) checks.straight half) ∙ rook_off)
-        (ap (λ n. may_stand_between p.men (other p.turn) ((n + m.to) / 2)) at ∙ (castles king).apart m.to small beside off-c)
 
     covering : is_castling x m ≡ false → cannot_expose rule p (other p.turn) m ≡ true
     unfolding cannot_expose

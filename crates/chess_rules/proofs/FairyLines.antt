@@ -45,6 +45,13 @@ its_own s k d n small at low le = ahead_on s k d n 0 s at (omega arith) le (ap (
 abbrev pub IsBeside : ℕ → ℕ → ℕ → Step → Type 0
 IsBeside a s k d = (n i : ℕ) → along s d n ≡ Some k → 1 ≤ i → i < n → n ≤ 7 → is_square (along s d i) a ≡ false
 
+-- nor does it pass a right before k, where a hurdle would be
+abbrev pub IsNoHurdle : ℕ → ℕ → ℕ → Step → Type 0
+IsNoHurdle a s k d = (n : ℕ) → along s d n ≡ Some k → 2 ≤ n → n ≤ 7 → is_square (along s d (n - 1)) a ≡ false
+
+no_hurdle : (a s k : ℕ) (d : Step) → IsBeside a s k d → IsNoHurdle a s k d
+no_hurdle a s k d beside = λ n at low le. beside n (n - 1) at (omega arith) (omega arith) le
+
 -- where a lies off the line on which s lies
 off_line : (a s k : ℕ) (d : Step) → s < 64 → (is_ahead k (back d) s ≡ true → is_ahead k (back d) a ≡ false) → IsBeside a s k d
 off_line a s k d small off = λ n i at low lt le. false_from_ne_true _ (λ y.
@@ -73,10 +80,10 @@ ride_kept men after a s k d i beside h = elim (any_range_cases (λ n. is_square 
 ]
 
 -- a hop from s to k is one before a man left a, off the line, and another came to b, which is off it between them
-pub hop_kept : (men after : List (Option Man)) (a b s k : ℕ) (d : Step) → Frees after men a → Holds after men b → IsBeside a s k d → IsBeside b s k d
+pub hop_kept : (men after : List (Option Man)) (a b s k : ℕ) (d : Step) → Frees after men a → Holds after men b → IsBeside a s k d → IsNoHurdle b s k d
     → hops after s k d ≡ true → hops men s k d ≡ true
 unfolding hops
-hop_kept men after a b s k d i o beside between h =
+hop_kept men after a b s k d i o beside none_there h =
     elim (any_range_cases (λ n. is_square (along s d n) k && is_occupied after (along s d (n - 1)) && is_clear after s d (n - 2)) 2 6) [
       | inl w ↦
           let first : (is_square (along s d w.0) k && is_occupied after (along s d (w.0 - 1))) ≡ true = first_of_and _ _ w.3 in
@@ -86,7 +93,7 @@ hop_kept men after a b s k d i o beside between h =
           let low : 2 ≤ w.0 = w.1 in
           let hurdle : is_occupied men (along s d (w.0 - 1)) ≡ true =
           o.occupied (along s d (w.0 - 1)) (second_of_and (is_square (along s d w.0) k) _ first)
-          (between w.0 (w.0 - 1) at (omega (arith, low)) (omega (arith, low)) le) in
+          (none_there w.0 at low le) in
           any_range_true (λ n. is_square (along s d n) k && is_occupied men (along s d (n - 1)) && is_clear men s d (n - 2)) 2 6 w.0 w.1 w.2
           (and_from _ _ (and_from _ _ ends hurdle) (clear_kept men after a s k d w.0 (w.0 - 2) i at le (omega (arith, low)) beside
           (second_of_and (is_square (along s d w.0) k && is_occupied after (along s d (w.0 - 1))) _ w.3)))
@@ -100,7 +107,7 @@ abbrev pub steps_of : List Direction → List Step
 steps_of [] = []
 steps_of (x ∷ xs) = step_of x ∷ steps_of xs
 
-pub any_kept : (xs : List Direction) (f g u v : Step → Bool)
+any_kept : (xs : List Direction) (f g u v : Step → Bool)
     → ((x : Direction) → u (step_of x) ≡ false → v (step_of x) ≡ false → f (step_of x) ≡ true → g (step_of x) ≡ true)
     → list_any u (steps_of xs) ≡ false → list_any v (steps_of xs) ≡ false → list_any f (steps_of xs) ≡ true → list_any g (steps_of xs) ≡ true
 any_kept [] f g u v each p q h = h
@@ -125,7 +132,7 @@ unlined men e j k s t d off small man ahead =
     false_from_ne_true _ (λ y. false≢true (sym off
     ∙ and_from _ _ y (some_square_true (λ q. is_man (man_on men q) e j && is_ahead k d q) s small (and_from _ _ man ahead))))
 
-pub beside_lined : (men : List (Option Man)) (e : Colour) (j : Kind) (k s t : ℕ) (d : Step) → is_lined men e j k t (back d) ≡ false → s < 64
+beside_lined : (men : List (Option Man)) (e : Colour) (j : Kind) (k s t : ℕ) (d : Step) → is_lined men e j k t (back d) ≡ false → s < 64
     → is_man (man_on men s) e j ≡ true → IsBeside t s k d
 beside_lined men e j k s t d off small man = off_line t s k d small (unlined men e j k s t (back d) off small man)
 
@@ -147,7 +154,7 @@ pub hopper_stays : (men after : List (Option Man)) (e : Colour) (a b k s : ℕ) 
 hopper_stays men after e a b k s i o small man p q h =
     any_kept queen_directions (hops after s k) (hops men s k) (λ d. is_lined men e Grasshopper k a (back d)) (λ d. is_lined men e Grasshopper k b (back d))
     (λ x u v hop. hop_kept men after a b s k (step_of x) i o (beside_lined men e Grasshopper k s a (step_of x) u small man)
-    (beside_lined men e Grasshopper k s b (step_of x) v small man) hop)
+    (no_hurdle b s k (step_of x) (beside_lined men e Grasshopper k s b (step_of x) v small man)) hop)
     (backward queen_steps (is_lined men e Grasshopper k a) refl ∙ p)
     (backward queen_steps (is_lined men e Grasshopper k b) refl ∙ q) h
 
@@ -161,7 +168,7 @@ hopper_comes men after e a k s i o small low man p h =
     any_kept queen_directions (hops after s k) (hops men s k) (λ d. is_lined men e Grasshopper k a (back d)) (λ d. is_lined men e Grasshopper k a (back d))
     (λ x u v hop. hop_kept men after a s s k (step_of x) i o
     (off_line a s k (step_of x) small (λ y. self_unlined men e Grasshopper k a (back (step_of x)) u low man))
-    (λ n j at one lt le. not_again s j (step_of x) (ordered x) small one) hop)
+    (λ n at low le. not_again s (n - 1) (step_of x) (ordered x) small (omega arith)) hop)
     off off h
 
 -- and so for nightriders

@@ -109,24 +109,24 @@ pub(crate) fn are_all_near<R: Rules>(squares: &CheckSquares) -> bool {
 // The first rank and the last.
 const LAST_RANKS: u64 = 0xff00_0000_0000_00ff;
 
-// The squares to which a king on `from` castles, and perhaps more: those are left out where the rook, halfway,
-// gives no check and is no grasshopper's hurdle.
-fn castling_targets(board: &Board, squares: &CheckSquares, from: Square) -> u64
-    ensures { AreCastlingTargets board.now squares.now from result }
+// The squares to which a king on `from` castles, and perhaps more, but for those where the rook, halfway, gives
+// no check.
+#[tactic(auto, using(crate::proofs::CastlingChecks::castling_targets_are))]
+fn castling_targets(squares: &CheckSquares, from: Square) -> u64
+    ensures { AreCastlingTargets squares.now from result }
 {
-    let crossed = squares.straight | fairy_lines(board, board.turn().other());
-    squares_aside(from) & (crossed << 1 | crossed >> 1)
+    let checked_from = squares.straight;
+    squares_aside(from) & (checked_from << 1 | checked_from >> 1)
 }
 
 // The squares to which the man on `from` promotes or castles, and perhaps more.
-fn special_targets(board: &Board, squares: &CheckSquares, man: Man, from: Square) -> u64
+fn special_targets(squares: &CheckSquares, man: Man, from: Square) -> u64
     ensures promotes { same_kind man.kind Pawn ≡ true → result ≡ 18374686479671623935 }
-    ensures castles { same_kind man.kind King ≡ true
-        → AreCastlingTargets board.now squares.now from result }
+    ensures castles { same_kind man.kind King ≡ true → AreCastlingTargets squares.now from result }
 {
     match man.kind {
         Kind::Pawn => LAST_RANKS,
-        Kind::King => castling_targets(board, squares, from),
+        Kind::King => castling_targets(squares, from),
         _ => 0,
     }
 }
@@ -146,7 +146,7 @@ fn check_targets<R: Rules>(board: &Board, squares: &CheckSquares, man: Man, from
     let checked_from = check_squares_for(squares, man.kind);
     checked_from
         | only(board.crossed())
-        | special_targets(board, squares, man, from)
+        | special_targets(squares, man, from)
         | rebirth_captures::<R>(board)
         | fairy_lines(board, board.turn().other())
 }

@@ -17,7 +17,7 @@ use Rattle.chess_rules.specs.Play.{after}
 use Rattle.chess_rules.specs.Reaches.{reaches_as}
 use Rattle.chess_rules.specs.RuleSet.{RuleSet}
 use Rattle.chess_rules.specs.ties.Lines.{is_aside}
-use Rattle.chess_rules.specs.ties.Shields.{is_fairy, may_expose, may_stand_between}
+use Rattle.chess_rules.specs.ties.Shields.{is_fairy, may_expose}
 
 -- it is a fairy man, and none of its colour and kind stands on the board
 abbrev pub is_absent : List (Option Man) → Man → Bool
@@ -66,13 +66,10 @@ pub record AreCheckTargets (rule : RuleSet) (p : Position) (s w : ℕ) : Type 0 
   pub elsewhere : (m : Move) → m.from ≡ s → m.to < 64 → pseudo rule p m ≡ true
       → (bit_at w m.to == 1) ≡ false → in_check rule (after rule p m).men (other p.turn) ≡ false
 
--- halfway to a square two files beside s that isn't in the word, a rook gives no check, and no line to the
--- king with a grasshopper or a nightrider on it passes there
-pub record AreCastlingTargets (p : Position) (v : CheckSquares) (s w : ℕ) : Type 0 where
-  pub quiet : (t : ℕ) → t < 64 → is_aside s t ≡ true → (bit_at w t == 1) ≡ false
+-- halfway to a square two files beside s that isn't in the word, a rook gives no check
+pub record AreCastlingTargets (v : CheckSquares) (s w : ℕ) : Type 0 where
+  pub elsewhere : (t : ℕ) → t < 64 → is_aside s t ≡ true → (bit_at w t == 1) ≡ false
       → (bit_at v.straight ((s + t) / 2) == 1) ≡ false
-  pub apart : (t : ℕ) → t < 64 → is_aside s t ≡ true → (bit_at w t == 1) ≡ false
-      → may_stand_between p.men (other p.turn) ((s + t) / 2) ≡ false
 
 -- a move that may be made gives no check, if it goes from a square not in the word
 pub record AreCheckOrigins (rule : RuleSet) (p : Position) (w : ℕ) : Type 0 where
