@@ -111,6 +111,7 @@ const LAST_RANKS: u64 = 0xff00_0000_0000_00ff;
 
 // The squares to which a king on `from` castles, and perhaps more, but for those where the rook, halfway, gives
 // no check.
+#[inline(never)]
 #[tactic(auto, using(crate::proofs::CastlingChecks::castling_targets_are))]
 fn castling_targets(squares: &CheckSquares, from: Square) -> u64
     ensures { AreCastlingTargets squares.now from result }
@@ -124,10 +125,12 @@ fn special_targets(squares: &CheckSquares, man: Man, from: Square) -> u64
     ensures promotes { same_kind man.kind Pawn ≡ true → result ≡ 18374686479671623935 }
     ensures castles { same_kind man.kind King ≡ true → AreCastlingTargets squares.now from result }
 {
-    match man.kind {
-        Kind::Pawn => LAST_RANKS,
-        Kind::King => castling_targets(squares, from),
-        _ => 0,
+    if man.kind.is(Kind::Pawn) {
+        LAST_RANKS
+    } else if man.kind.is(Kind::King) {
+        castling_targets(squares, from)
+    } else {
+        0
     }
 }
 
