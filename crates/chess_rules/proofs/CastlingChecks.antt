@@ -53,6 +53,7 @@ is_corner s = s == 0 || s == 7 || s == 56 || s == 63
 abbrev is_end : ℕ → Step → Bool
 is_end s d = list_all (λ n. not (is_some (along s d n))) (range_with_len 1 7)
 
+-- from a corner no line goes both ways
 corner_ends : (x : Direction) (b : ℕ) → b < 64 → (not (is_corner b) || is_end b (step_of x) || is_end b (back (step_of x))) ≡ true
 unfolding along
 corner_ends East b lt =
@@ -66,6 +67,7 @@ end_none s d n t h low le at =
     let some : is_some (along s d n) ≡ true = ap is_some at in
     false≢true (sym (ap not some) ∙ none)
 
+-- so a man in a corner stands between no two squares
 corner_beside : (x : Direction) (b s k : ℕ) → is_corner b ≡ true → b < 64 → s < 64 → IsBeside b s k (step_of x)
 corner_beside x b s k h inside small = λ n i at low lt le. false_from_ne_true _ (λ y.
     let here : along s (step_of x) i ≡ Some b = square_is _ b y in
@@ -84,7 +86,7 @@ corner_beside x b s k h inside small = λ n i at low lt le. false_from_ne_true _
 abbrev is_half : ℕ → Bool
 is_half h = h == 3 || h == 5 || h == 59 || h == 61
 
--- a square that isn't right behind h on a line from elsewhere, the two beside h apart
+-- no square is right behind h on a line from elsewhere, the two beside h on its rank apart
 abbrev is_beside_alone : ℕ → Step → Bool
 is_beside_alone h d = not (is_some (along h (back d) 1)) || not (is_some (along h d 1)) || is_square (along h d 1) (h + 1)
     || is_square (along h d 1) (h - 1)
@@ -133,7 +135,8 @@ module _ (men after : List (Option Man)) (b s k : ℕ) (free : Frees after men b
   rode xs h = any_of xs (rides after s k) (rides men s k)
       (λ x ride. ride_kept men after b s k (step_of x) free (corner_beside x b s k edge inside small) ride) h
 
-  reached : (e : Colour) (j : Kind) → (same_kind j Grasshopper ≡ true → list_any (hops after s k) queen_steps ≡ true → list_any (hops men s k) queen_steps ≡ true)
+  reached : (e : Colour) (j : Kind)
+      → (same_kind j Grasshopper ≡ true → list_any (hops after s k) queen_steps ≡ true → list_any (hops men s k) queen_steps ≡ true)
       → reaches_as after e j s k ≡ true → reaches_as men e j s k ≡ true
   unfolding reaches_as
   reached e King hop h = h

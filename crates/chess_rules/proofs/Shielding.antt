@@ -419,7 +419,8 @@ none_reborn : (men : List (Option Man)) (o : Option Man) (s : ℕ) → reborn_at
 none_reborn men None s = refl
 none_reborn men (Some y) s = refl
 
-pub nobody_reborn : (circe : Bool) (men before : List (Option Man)) (o : Option ℕ) → (circe ≡ true → o ≡ None) → reborn_at circe men (man_on_at before o) o ≡ None
+pub nobody_reborn : (circe : Bool) (men before : List (Option Man)) (o : Option ℕ) → (circe ≡ true → o ≡ None)
+    → reborn_at circe men (man_on_at before o) o ≡ None
 nobody_reborn circe men before None h = refl
 nobody_reborn false men before (Some s) h = none_reborn men (man_on before s) s
 nobody_reborn true men before (Some s) h = let bad : Some s ≡ None = h refl in cc

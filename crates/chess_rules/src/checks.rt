@@ -109,8 +109,8 @@ pub(crate) fn are_all_near<R: Rules>(squares: &CheckSquares) -> bool {
 // The first rank and the last.
 const LAST_RANKS: u64 = 0xff00_0000_0000_00ff;
 
-// The squares to which a king on `from` castles, and perhaps more, but for those where the rook, halfway, gives
-// no check.
+// The squares to which a king on `from` castles so that the rook, who comes to the square halfway, gives check,
+// and perhaps more.
 #[inline(never)]
 #[tactic(auto, using(crate::proofs::CastlingChecks::castling_targets_are))]
 fn castling_targets(squares: &CheckSquares, from: Square) -> u64
