@@ -1,33 +1,37 @@
 -- A move that goes to no square from which its man may give check gives none.
-use Rattle.std.proofs.Common.{◌≡◌, ℕ, ◌<◌, Bool, true, false, ◌||◌, ◌==◌, not, Option, Some, None, is_some, refl, sym, ap, ◌∙◌, rules}
+use Rattle.std.proofs.Common.{◌≡◌, ℕ, ◌+◌, ◌/◌, ◌<◌, Bool, true, false, ◌||◌, ◌==◌, not, Option, Some, None, is_some, refl, sym, ap, ◌∙◌, arith, inl, inr, rules}
 use Rattle.std.specs.Int.{bit_at, bit_not, w64}
 use Rattle.std.specs.Int.Bits.{bit_and, bit_or}
 use Rattle.std.proofs.lemmas.Bool.{agree_below_at, and_left, and_parts, and_right, cases_Bool, eq-eqb, eqb-true, false≢true}
 use Rattle.std.proofs.lemmas.Nat.Bits.{bit_at_or, bit_at-lt}
-use Rattle.chess_core.specs.Position.{Position, man_on, other, same_kind}
+use Rattle.chess_core.specs.Position.{Position, man_on, other, same_colour, same_kind}
 use Rattle.chess_core.specs.Squares.{is_square, rank_of}
 use Rattle.chess_core.specs.WellFormed.{IsWellFormed}
 use Rattle.chess_core.specs.ties.Words.{word}
 use Rattle.chess_core.specs.declared.man.Colour.{Colour}
 use Rattle.chess_core.specs.declared.man.Colour.TheVariants.{White, Black}
 use Rattle.chess_core.specs.declared.man.Kind.{Kind}
-use Rattle.chess_core.specs.declared.man.Kind.TheVariants.{Pawn}
+use Rattle.chess_core.specs.declared.man.Kind.TheVariants.{King, Pawn, Rook}
 use Rattle.chess_core.specs.declared.man.Man.{Man}
 use Rattle.chess_core.specs.declared.man.Move.{Move}
 use Rattle.chess_rules.specs.declared.checks.CheckSquares.{CheckSquares}
 use Rattle.chess_rules.specs.Attacks.{in_check}
-use Rattle.chess_rules.specs.ties.CheckSquares.{AreCheckSquares, AreCheckTargets, check_squares_for}
+use Rattle.chess_rules.specs.ties.CheckSquares.{AreCastlingTargets, AreCheckSquares, AreCheckTargets, check_squares_for, enemy, may_check_from}
 use Rattle.chess_rules.specs.ties.Shields.{cannot_expose, is_plain, may_expose, may_stand_between}
 use Rattle.chess_rules.specs.Legal.{last_rank, pseudo}
-use Rattle.chess_rules.specs.Play.{after, arriving, is_castling}
+use Rattle.chess_rules.specs.Play.{after, arriving, halfway, is_castling}
 use Rattle.chess_rules.specs.RuleSet.{RuleSet, is_circe}
-use Rattle.chess_rules.specs.ties.Targets.{arrives, is_arrival, may_go, steps_to}
+use Rattle.chess_rules.specs.ties.Targets.{arrives, is_arrival, may_go}
 use Rattle.chess_rules.proofs.Arrivals.{may_go_aimed}
+use Rattle.chess_rules.specs.ties.Lines.{is_aside}
 use Rattle.chess_rules.proofs.Bits.{word_has}
+use Rattle.chess_rules.proofs.CastlingChecks.{castling_aside, castling_gives_no_check}
 use Rattle.chess_rules.proofs.Checking.{no_check}
-use Rattle.chess_rules.proofs.Pseudo.{king_is_no_pawn, made}
+use Rattle.chess_rules.proofs.Fits.{kind_is_king}
+use Rattle.chess_rules.proofs.Pseudo.{made}
+use Rattle.chess_rules.proofs.Shielding.{other_differs}
 use Rattle.chess_rules.proofs.Walks.{off_second}
-use Rattle.chess_rules.proofs.Targeting.{arrival_needed, castling_steps, every_square_on, false_by, nobody_moves, unpromoted}
+use Rattle.chess_rules.proofs.Targeting.{arrival_needed, every_square_on, false_by, nobody_moves, unpromoted}
 
 -- a square off both words is off each
 pub off_left : (a b i : ℕ) → (bit_at (bit_or a b) i == 1) ≡ false → (bit_at a i == 1) ≡ false
@@ -65,7 +69,8 @@ check_targets_all rule p f = search (rules, every_square_on)
 module _ (rule : RuleSet) (p : Position) (x : Man) (s : CheckSquares) (f : ℕ) (well : IsWellFormed p) (here : man_on p.men f ≡ Some x)
     (checks : AreCheckSquares rule p.men (other p.turn) s) (inside : f < 64) (covered : (bit_at s.shield_squares f == 1) ≡ false) (a b c d e : ℕ)
     (checked_from : a ≡ check_squares_for s x.kind) (crossed : b ≡ word (λ t. is_square p.crossed t))
-    (promotes : same_kind x.kind Pawn ≡ true → c ≡ 18374686479671623935) (castles : same_kind x.kind Pawn ≡ false → c ≡ word (steps_to x f))
+    (promotes : same_kind x.kind Pawn ≡ true → c ≡ 18374686479671623935)
+    (castles : same_kind x.kind King ≡ true → AreCastlingTargets s f c)
     (reborn : is_circe rule ≡ true → d ≡ word (λ t. is_some (man_on p.men t))) (lines : e ≡ word (may_stand_between p.men (other p.turn))) where
   module _ (m : Move) (at : m.from ≡ f) (small : m.to < 64) (may : pseudo rule p m ≡ true)
       (off-lines : (bit_at (bit_or (bit_or (bit_or (bit_or a b) c) d) e) m.to == 1) ≡ false) where
@@ -98,28 +103,39 @@ module _ (rule : RuleSet) (p : Position) (x : Man) (s : CheckSquares) (f : ℕ) 
     by_kind : (bit_at (check_squares_for s (arriving x m.promo).kind) m.to == 1) ≡ false
     by_kind = rw (unnamed m.promo refl, ← checked_from) (off_left a b m.to off-ab)
 
-    no_castling : is_castling x m ≡ false
-    no_castling = false_by (is_castling x m) (λ y.
-        let king = (and_parts _ _ (and_parts _ _ y).0).0 in
-        let w = castles (king_is_no_pawn x.kind king) in
-        let step : steps_to x f m.to ≡ true = ap (λ n. steps_to x n m.to) (sym at) ∙ castling_steps x m small y in
-        let no_bit = off-c in
-        let on : (bit_at c m.to == 1) ≡ true = word_has (steps_to x f) c m.to w small ∙ step in
-        cc)
+    origin_stays : may_expose rule p.men (other p.turn) m.from ≡ false
+    origin_stays = rw at (sym (word_has (may_expose rule p.men (other p.turn)) s.shield_squares f checks.shield_squares inside) ∙ covered)
 
-    covering : cannot_expose rule p (other p.turn) m ≡ true
+    -- a king that castles: the square halfway is none from which a rook gives check
+    castled : is_castling x m ≡ true → in_check rule (after rule p m).men (other p.turn) ≡ false
+    castled y =
+        let king : same_kind x.kind King ≡ true = (and_parts _ _ (and_parts _ _ y).0).0 in
+        let aimed : a ≡ s.king = checked_from ∙ ap (check_squares_for s) (kind_is_king x.kind king) in
+        let king_off : may_check_from p.men (other p.turn) (enemy (other p.turn) King) m.to ≡ false =
+        sym (word_has (may_check_from p.men (other p.turn) (enemy (other p.turn) King)) a m.to (aimed ∙ checks.king) small) ∙ off_left a b m.to off-ab in
+        let enemy_of : same_colour x.colour (other p.turn) ≡ false =
+        ap (λ (c : Colour). same_colour c (other p.turn)) (made rule p m x may stands).mine ∙ other_differs p.turn in
+        let half : (m.from + m.to) / 2 < 64 = omega (arith, small, inside, at) in
+        let beside : is_aside f m.to ≡ true = ap (λ n. is_aside n m.to) (sym at) ∙ castling_aside x m small y in
+        let rook_off : (bit_at s.straight (halfway m) == 1) ≡ false =
+        ap (λ n. bit_at s.straight ((n + m.to) / 2) == 1) at ∙ (castles king).elsewhere m.to small beside off-c in
+        castling_gives_no_check rule p x m well (made rule p m x may stands) y (other p.turn) enemy_of origin_stays aside king_off
+        (sym (word_has (may_check_from p.men (other p.turn) (enemy (other p.turn) Rook)) s.straight (halfway m) checks.straight half) ∙ rook_off)
+
+    covering : is_castling x m ≡ false → cannot_expose rule p (other p.turn) m ≡ true
     unfolding cannot_expose
-    covering =
-        let stays : may_expose rule p.men (other p.turn) m.from ≡ false =
-        rw at (sym (word_has (may_expose rule p.men (other p.turn)) s.shield_squares f checks.shield_squares inside) ∙ covered) in
+    covering no_castling =
         let plain = plain_elsewhere rule p x m b d small no_castling crossed (off_right a b m.to off-ab) reborn
         (off_right (bit_or (bit_or a b) c) d m.to off) in
-        rw (stands, stays, aside, plain) refl
+        rw (stands, origin_stays, aside, plain) refl
 
     no_check_elsewhere : in_check rule (after rule p m).men (other p.turn) ≡ false
-    no_check_elsewhere =
-        no_check rule p x m s (arriving x m.promo) (check_squares_for s (arriving x m.promo).kind) m.to well may stands checks refl refl refl small
-        by_kind (unnamed m.promo refl) covering
+    no_check_elsewhere = elim (cases_Bool (is_castling x m)) [
+      | inl y ↦ castled y
+      | inr n ↦
+          no_check rule p x m s (arriving x m.promo) (check_squares_for s (arriving x m.promo).kind) m.to well may stands checks refl refl refl small
+          by_kind (unnamed m.promo refl) (covering n)
+    ]
 
   pub check_targets_some : AreCheckTargets rule p f (bit_or (bit_or (bit_or (bit_or a b) c) d) e)
   check_targets_some = record { elsewhere = λ m at small may off. no_check_elsewhere m at small may off }

@@ -41,36 +41,49 @@ ahead_on s k d n i q at lt le here =
 its_own : (s k : ℕ) (d : Step) (n : ℕ) → s < 64 → along s d n ≡ Some k → 1 ≤ n → n ≤ 7 → is_ahead k (back d) s ≡ true
 its_own s k d n small at low le = ahead_on s k d n 0 s at (omega arith) le (ap (λ o. is_square o s) (stays s d small) ∙ eq-eqb s s refl)
 
+-- no line from s to k in this direction passes a
+abbrev pub IsBeside : ℕ → ℕ → ℕ → Step → Type 0
+IsBeside a s k d = (n i : ℕ) → along s d n ≡ Some k → 1 ≤ i → i < n → n ≤ 7 → is_square (along s d i) a ≡ false
+
+-- nor does it pass a right before k, where a hurdle would be
+abbrev pub IsNoHurdle : ℕ → ℕ → ℕ → Step → Type 0
+IsNoHurdle a s k d = (n : ℕ) → along s d n ≡ Some k → 2 ≤ n → n ≤ 7 → is_square (along s d (n - 1)) a ≡ false
+
+no_hurdle : (a s k : ℕ) (d : Step) → IsBeside a s k d → IsNoHurdle a s k d
+no_hurdle a s k d beside = λ n at low le. beside n (n - 1) at (omega arith) (omega arith) le
+
+-- where a lies off the line on which s lies
+off_line : (a s k : ℕ) (d : Step) → s < 64 → (is_ahead k (back d) s ≡ true → is_ahead k (back d) a ≡ false) → IsBeside a s k d
+off_line a s k d small off = λ n i at low lt le. false_from_ne_true _ (λ y.
+    false≢true (sym (off (its_own s k d n small at (omega (arith, low, lt)) le)) ∙ ahead_on s k d n i a at lt le y))
+
 clear_kept : (men after : List (Option Man)) (a s k : ℕ) (d : Step) (n m : ℕ) → Frees after men a → along s d n ≡ Some k → n ≤ 7 → m < n
-    → is_ahead k (back d) a ≡ false → is_clear after s d m ≡ true → is_clear men s d m ≡ true
+    → IsBeside a s k d → is_clear after s d m ≡ true → is_clear men s d m ≡ true
 unfolding is_clear
-clear_kept men after a s k d n m i at le lt off clear =
+clear_kept men after a s k d n m i at le lt beside clear =
     all_range_true (λ q. is_vacant men (along s d q)) 1 m (λ j lo hi.
     i.vacant (along s d j) (all_at (λ q. is_vacant after (along s d q)) 1 m j clear lo hi)
-    (false_from_ne_true _ (λ y. false≢true (sym off ∙ ahead_on s k d n j a at (omega (arith, hi, lt)) le y))))
+    (beside n j at lo (omega (arith, hi, lt)) le))
 
 -- a ride from s to k is one before a man left a, off the line
-ride_kept : (men after : List (Option Man)) (a s k : ℕ) (d : Step) → Frees after men a → s < 64
-    → (is_ahead k (back d) s ≡ true → is_ahead k (back d) a ≡ false) → rides after s k d ≡ true → rides men s k d ≡ true
+pub ride_kept : (men after : List (Option Man)) (a s k : ℕ) (d : Step) → Frees after men a → IsBeside a s k d → rides after s k d ≡ true
+    → rides men s k d ≡ true
 unfolding rides
-ride_kept men after a s k d i small off h = elim (any_range_cases (λ n. is_square (along s d n) k && is_clear after s d (n - 1)) 1 7) [
+ride_kept men after a s k d i beside h = elim (any_range_cases (λ n. is_square (along s d n) k && is_clear after s d (n - 1)) 1 7) [
   | inl w ↦
       let ends : is_square (along s d w.0) k ≡ true = first_of_and _ _ w.3 in
       let at : along s d w.0 ≡ Some k = square_is _ k ends in
-      let apart : is_ahead k (back d) a ≡ false = off (its_own s k d w.0 small at w.1 (omega (arith, w.2))) in
       any_range_true (λ n. is_square (along s d n) k && is_clear men s d (n - 1)) 1 7 w.0 w.1 w.2
-      (and_from _ _ ends (clear_kept men after a s k d w.0 (w.0 - 1) i at (omega (arith, w.2)) (omega (arith, w.1)) apart
+      (and_from _ _ ends (clear_kept men after a s k d w.0 (w.0 - 1) i at (omega (arith, w.2)) (omega (arith, w.1)) beside
       (second_of_and (is_square (along s d w.0) k) _ w.3)))
   | inr none ↦ absurd (false≢true (sym (any_range_false (λ n. is_square (along s d n) k && is_clear after s d (n - 1)) 1 7 none) ∙ h))
 ]
 
 -- a hop from s to k is one before a man left a, off the line, and another came to b, which is off it between them
-hop_kept : (men after : List (Option Man)) (a b s k : ℕ) (d : Step) → Frees after men a → Holds after men b → s < 64
-    → (is_ahead k (back d) s ≡ true → is_ahead k (back d) a ≡ false)
-    → ((n i : ℕ) → along s d n ≡ Some k → 1 ≤ i → i < n → n ≤ 7 → is_square (along s d i) b ≡ false)
+pub hop_kept : (men after : List (Option Man)) (a b s k : ℕ) (d : Step) → Frees after men a → Holds after men b → IsBeside a s k d → IsNoHurdle b s k d
     → hops after s k d ≡ true → hops men s k d ≡ true
 unfolding hops
-hop_kept men after a b s k d i o small off between h =
+hop_kept men after a b s k d i o beside none_there h =
     elim (any_range_cases (λ n. is_square (along s d n) k && is_occupied after (along s d (n - 1)) && is_clear after s d (n - 2)) 2 6) [
       | inl w ↦
           let first : (is_square (along s d w.0) k && is_occupied after (along s d (w.0 - 1))) ≡ true = first_of_and _ _ w.3 in
@@ -78,12 +91,11 @@ hop_kept men after a b s k d i o small off between h =
           let at : along s d w.0 ≡ Some k = square_is _ k ends in
           let le : w.0 ≤ 7 = omega (arith, w.2) in
           let low : 2 ≤ w.0 = w.1 in
-          let apart : is_ahead k (back d) a ≡ false = off (its_own s k d w.0 small at (omega (arith, low)) le) in
           let hurdle : is_occupied men (along s d (w.0 - 1)) ≡ true =
           o.occupied (along s d (w.0 - 1)) (second_of_and (is_square (along s d w.0) k) _ first)
-          (between w.0 (w.0 - 1) at (omega (arith, low)) (omega (arith, low)) le) in
+          (none_there w.0 at low le) in
           any_range_true (λ n. is_square (along s d n) k && is_occupied men (along s d (n - 1)) && is_clear men s d (n - 2)) 2 6 w.0 w.1 w.2
-          (and_from _ _ (and_from _ _ ends hurdle) (clear_kept men after a s k d w.0 (w.0 - 2) i at le (omega (arith, low)) apart
+          (and_from _ _ (and_from _ _ ends hurdle) (clear_kept men after a s k d w.0 (w.0 - 2) i at le (omega (arith, low)) beside
           (second_of_and (is_square (along s d w.0) k && is_occupied after (along s d (w.0 - 1))) _ w.3)))
       | inr none ↦
           absurd (false≢true (sym (any_range_false
@@ -91,7 +103,7 @@ hop_kept men after a b s k d i o small off between h =
     ]
 
 -- lists of directions
-abbrev steps_of : List Direction → List Step
+abbrev pub steps_of : List Direction → List Step
 steps_of [] = []
 steps_of (x ∷ xs) = step_of x ∷ steps_of xs
 
@@ -107,10 +119,10 @@ any_kept (x ∷ xs) f g u v each p q h =
       | inr y ↦ or_right (g (step_of x)) _ (any_kept xs f g u v each m.1 n.1 y)
     ]
 
-abbrev queen_directions : List Direction
+abbrev pub queen_directions : List Direction
 queen_directions = East ∷ West ∷ North ∷ South ∷ NorthEast ∷ SouthEast ∷ NorthWest ∷ SouthWest ∷ []
 
-abbrev knight_directions : List Direction
+abbrev pub knight_directions : List Direction
 knight_directions = NorthNorthEast ∷ SouthSouthEast ∷ NorthNorthWest ∷ SouthSouthWest ∷ EastNorthEast ∷ EastSouthEast ∷ WestNorthWest ∷ WestSouthWest ∷ []
 
 -- a square that isn't lined with a man of the kind lies on no line with him
@@ -119,6 +131,10 @@ unlined : (men : List (Option Man)) (e : Colour) (j : Kind) (k s t : ℕ) (d : S
 unlined men e j k s t d off small man ahead =
     false_from_ne_true _ (λ y. false≢true (sym off
     ∙ and_from _ _ y (some_square_true (λ q. is_man (man_on men q) e j && is_ahead k d q) s small (and_from _ _ man ahead))))
+
+beside_lined : (men : List (Option Man)) (e : Colour) (j : Kind) (k s t : ℕ) (d : Step) → is_lined men e j k t (back d) ≡ false → s < 64
+    → is_man (man_on men s) e j ≡ true → IsBeside t s k d
+beside_lined men e j k s t d off small man = off_line t s k d small (unlined men e j k s t (back d) off small man)
 
 self_unlined : (men : List (Option Man)) (e : Colour) (j : Kind) (k a : ℕ) (d : Step) → is_lined men e j k a d ≡ false → a < 64
     → is_man (man_on men a) e j ≡ true → is_ahead k d a ≡ false
@@ -137,11 +153,8 @@ pub hopper_stays : (men after : List (Option Man)) (e : Colour) (a b k s : ℕ) 
     → list_any (hops after s k) queen_steps ≡ true → list_any (hops men s k) queen_steps ≡ true
 hopper_stays men after e a b k s i o small man p q h =
     any_kept queen_directions (hops after s k) (hops men s k) (λ d. is_lined men e Grasshopper k a (back d)) (λ d. is_lined men e Grasshopper k b (back d))
-    (λ x u v hop. hop_kept men after a b s k (step_of x) i o small (unlined men e Grasshopper k s a (back (step_of x)) u small man)
-    (λ n j at low lt le. false_from_ne_true _ (λ y.
-    let off : is_ahead k (back (step_of x)) b ≡ false = unlined men e Grasshopper k s b (back (step_of x)) v small man
-    (its_own s k (step_of x) n small at (omega (arith, low, lt)) le) in
-    false≢true (sym off ∙ ahead_on s k (step_of x) n j b at lt le y))) hop)
+    (λ x u v hop. hop_kept men after a b s k (step_of x) i o (beside_lined men e Grasshopper k s a (step_of x) u small man)
+    (no_hurdle b s k (step_of x) (beside_lined men e Grasshopper k s b (step_of x) v small man)) hop)
     (backward queen_steps (is_lined men e Grasshopper k a) refl ∙ p)
     (backward queen_steps (is_lined men e Grasshopper k b) refl ∙ q) h
 
@@ -153,8 +166,9 @@ hopper_comes men after e a k s i o small low man p h =
     let off : list_any (λ d. is_lined men e Grasshopper k a (back d)) queen_steps ≡ false =
     backward queen_steps (is_lined men e Grasshopper k a) refl ∙ p in
     any_kept queen_directions (hops after s k) (hops men s k) (λ d. is_lined men e Grasshopper k a (back d)) (λ d. is_lined men e Grasshopper k a (back d))
-    (λ x u v hop. hop_kept men after a s s k (step_of x) i o small (λ y. self_unlined men e Grasshopper k a (back (step_of x)) u low man)
-    (λ n j at one lt le. not_again s j (step_of x) (ordered x) small one) hop)
+    (λ x u v hop. hop_kept men after a s s k (step_of x) i o
+    (off_line a s k (step_of x) small (λ y. self_unlined men e Grasshopper k a (back (step_of x)) u low man))
+    (λ n at low le. not_again s (n - 1) (step_of x) (ordered x) small (omega arith)) hop)
     off off h
 
 -- and so for nightriders
@@ -165,7 +179,7 @@ nightrider_stays men after e a k s i small man p h =
     let off : list_any (λ d. is_lined men e Nightrider k a (back d)) knight_steps ≡ false =
     backward knight_steps (is_lined men e Nightrider k a) refl ∙ p in
     any_kept knight_directions (rides after s k) (rides men s k) (λ d. is_lined men e Nightrider k a (back d)) (λ d. is_lined men e Nightrider k a (back d))
-    (λ x u v ride. ride_kept men after a s k (step_of x) i small (unlined men e Nightrider k s a (back (step_of x)) u small man) ride)
+    (λ x u v ride. ride_kept men after a s k (step_of x) i (beside_lined men e Nightrider k s a (step_of x) u small man) ride)
     off off h
 
 pub nightrider_comes : (men after : List (Option Man)) (e : Colour) (a k s : ℕ) → Frees after men a → s < 64 → a < 64
@@ -175,7 +189,8 @@ nightrider_comes men after e a k s i small low man p h =
     let off : list_any (λ d. is_lined men e Nightrider k a (back d)) knight_steps ≡ false =
     backward knight_steps (is_lined men e Nightrider k a) refl ∙ p in
     any_kept knight_directions (rides after s k) (rides men s k) (λ d. is_lined men e Nightrider k a (back d)) (λ d. is_lined men e Nightrider k a (back d))
-    (λ x u v ride. ride_kept men after a s k (step_of x) i small (λ y. self_unlined men e Nightrider k a (back (step_of x)) u low man) ride)
+    (λ x u v ride. ride_kept men after a s k (step_of x) i
+    (off_line a s k (step_of x) small (λ y. self_unlined men e Nightrider k a (back (step_of x)) u low man)) ride)
     off off h
 
 pub fairy_parts : (men : List (Option Man)) (e : Colour) (k t : ℕ) → is_on_fairy_line men e k t ≡ false

@@ -97,7 +97,7 @@ rides_before men after a b z k t (d ∷ ds) i ne h =
       | inr y ↦ or_right (rides men k t d) _ (rides_before men after a b z k t ds i n.1 y)
     ]
 
-frees : (men after : List (Option Man)) (a b : ℕ) (z : Man) → IsShift men after a b z → Frees after men a
+pub frees : (men after : List (Option Man)) (a b : ℕ) (z : Man) → IsShift men after a b z → Frees after men a
 frees men after a b z i = record { vacant = λ o free off. stays_vacant men after a b z o i free off }
 
 -- where a rider gets, a line goes
@@ -127,7 +127,7 @@ rode_there men after a b z k ds i h = elim (cases_Bool (list_any (rides men k a)
 abbrev IsParted : List (Option Man) → ℕ → ℕ → ℕ → List Step → Type 0
 IsParted men a k s ds = (list_any (rides men k a) ds ≡ true) × (list_any (rides men s a) ds ≡ true)
 
-straight_before : (men after : List (Option Man)) (a b : ℕ) (z : Man) (k s : ℕ) → IsShift men after a b z → s < 64 → k < 64
+pub straight_before : (men after : List (Option Man)) (a b : ℕ) (z : Man) (k s : ℕ) → IsShift men after a b z → s < 64 → k < 64
     → (is_on_some straight_steps k s ≡ true → IsParted men a k s straight_steps → ⊥)
     → list_any (rides after s k) straight_steps ≡ true → list_any (rides men s k) straight_steps ≡ true
 unfolding is_on_some
@@ -189,7 +189,7 @@ someone : (o : Option Man) → is_some o ≡ true → (y : Man) × (o ≡ Some y
 someone None h = absurd (false≢true h)
 someone (Some y) h = (y, refl)
 
-stood : (men after : List (Option Man)) (a b : ℕ) (z : Man) → IsShift men after a b z → Holds after men b
+pub stood : (men after : List (Option Man)) (a b : ℕ) (z : Man) → IsShift men after a b z → Holds after men b
 stood men after a b z i = record { occupied = λ o h off. by o h off } where
   by : (o : Option ℕ) → is_occupied after o ≡ true → is_square o b ≡ false → is_occupied men o ≡ true
   by None h off = absurd (false≢true h)
@@ -205,7 +205,7 @@ pub record IsCovered (rule : RuleSet) (men : List (Option Man)) (c : Colour) (a 
   pub diagonal : is_shut men (other c) Bishop diagonal_steps k a ≡ false
   pub unlined : is_on_fairy_line men (other c) k a ≡ false
 
-covered_parts : (rule : RuleSet) (men : List (Option Man)) (c : Colour) (a k : ℕ) → may_expose_on rule men (Some k) c a ≡ false → IsCovered rule men c a k
+pub covered_parts : (rule : RuleSet) (men : List (Option Man)) (c : Colour) (a k : ℕ) → may_expose_on rule men (Some k) c a ≡ false → IsCovered rule men c a k
 covered_parts rule men c a k h =
     let h0 = or_parts (is_reached men k (other c) || k == a || is_shut men (other c) Rook straight_steps k a || is_shut men (other c) Bishop diagonal_steps k a)
     (is_on_fairy_line men (other c) k a) h in
@@ -216,7 +216,7 @@ covered_parts rule men c a k h =
     record { safe = h3.0; apart = h3.1; straight = h2.1; diagonal = h1.1; unlined = h0.1 }
 
 -- what keeps one square from shutting a line to a man that stands on another
-not_parted : (men : List (Option Man)) (a k s : ℕ) (e : Colour) (j : Kind) (ds : List Step) → is_shut men e j ds k a ≡ false
+pub not_parted : (men : List (Option Man)) (a k s : ℕ) (e : Colour) (j : Kind) (ds : List Step) → is_shut men e j ds k a ≡ false
     → (is_man (man_on men s) e j || is_man (man_on men s) e Queen) ≡ true → s < 64 → is_on_some ds k s ≡ true
     → (list_any (rides men k a) ds ≡ true) × (list_any (rides men s a) ds ≡ true) → ⊥
 unfolding is_shut is_behind
@@ -326,27 +326,38 @@ arrival_strikes rule men after a b z c k (Some y) at i g l p q side h =
     let no = n in
     cc
 
-not_attacked : (rule : RuleSet) (men after : List (Option Man)) (a b : ℕ) (z : Man) (c : Colour) (k : ℕ) → IsShift men after a b z → IsCovered rule men c a k
-    → is_on_fairy_line men (other c) k b ≡ false → IsQuiet men c a b k z → k < 64 → attacked rule after k (other c) ≡ false
-unfolding attacked strikes is_reached
-not_attacked rule men after a b z c k i g f l q =
-    some_square_false (strikes rule after k (other c)) 64 (omega arith) (record {
+-- no enemy reaches the king
+pub unreached : (rule : RuleSet) (men after : List (Option Man)) (a b : ℕ) (z : Man) (c : Colour) (k : ℕ) → IsShift men after a b z → IsCovered rule men c a k
+    → is_on_fairy_line men (other c) k b ≡ false → IsQuiet men c a b k z → k < 64 → is_reached after k (other c) ≡ false
+unfolding is_reached
+unreached rule men after a b z c k i g f l q =
+    some_square_false (λ s. is_side (man_on after s) (other c) && reaches after s k) 64 (omega arith) (record {
       fails = λ s p. false_from_ne_true _ (λ h.
-          let h1 = and_parts (is_side (man_on after s) (other c) && not (paralysed rule after s)) (reaches after s k) h in
-          let h2 = and_parts (is_side (man_on after s) (other c)) (not (paralysed rule after s)) h1.0 in
+          let h1 = and_parts (is_side (man_on after s) (other c)) (reaches after s k) h in
           elim (cases_eq s b) [
             | inl e ↦
                 let small : b < 64 = omega arith in
-                let side : is_side (man_on after b) (other c) ≡ true = ap (λ (n : ℕ). is_side (man_on after n) (other c)) (sym e) ∙ h2.0 in
+                let side : is_side (man_on after b) (other c) ≡ true = ap (λ (n : ℕ). is_side (man_on after n) (other c)) (sym e) ∙ h1.0 in
                 let hit : reaches after b k ≡ true = ap (λ (n : ℕ). reaches after n k) (sym e) ∙ h1.1 in
                 arrival_strikes rule men after a b z c k (man_on after b) refl i g l small q side hit
             | inr ne ↦
                 let yes : some_square (λ s. is_side (man_on men s) (other c) && reaches men s k) ≡ true =
                 some_square_true (λ s. is_side (man_on men s) (other c) && reaches men s k) s p
-                (checks_before rule men after a b z c k s (man_on after s) refl i g f p q ne h2.0 h1.1) in
+                (checks_before rule men after a b z c k s (man_on after s) refl i g f p q ne h1.0 h1.1) in
                 let no = g.safe in
                 cc
           ]);
+    })
+
+-- so none attacks him
+pub not_attacked : (rule : RuleSet) (men : List (Option Man)) (e : Colour) (k : ℕ) → is_reached men k e ≡ false → attacked rule men k e ≡ false
+unfolding attacked strikes is_reached
+not_attacked rule men e k h =
+    some_square_false (strikes rule men k e) 64 (omega arith) (record {
+      fails = λ s p. false_from_ne_true _ (λ y.
+          let y1 = and_parts (is_side (man_on men s) e && not (paralysed rule men s)) (reaches men s k) y in
+          let y2 = and_parts (is_side (man_on men s) e) (not (paralysed rule men s)) y1.0 in
+          false≢true (sym h ∙ some_square_true (λ s. is_side (man_on men s) e && reaches men s k) s p (and_from _ _ y2.0 y1.1)));
     })
 
 -- the square of a king is its side's
@@ -401,14 +412,15 @@ stays_safe rule men after a b z c i g = by (king_square after c) refl where
       let at : king_square men c ≡ Some k = king_stays rule men after a b z c k i g small f.here in
       let no : may_expose_on rule men (Some k) c a ≡ false = ap (λ (o : Option ℕ). may_expose_on rule men o c a) (sym at) ∙ g.cannot_expose in
       let off : is_on_fairy_line_to men (Some k) c b ≡ false = ap (λ (o : Option ℕ). is_on_fairy_line_to men o c b) (sym at) ∙ g.aside in
-      not_attacked rule men after a b z c k i (covered_parts rule men c a k no) off (g.quiet k at) small
+      not_attacked rule after (other c) k (unreached rule men after a b z c k i (covered_parts rule men c a k no) off (g.quiet k at) small)
 
 -- nobody is reborn where nobody is captured, or without Circe
 none_reborn : (men : List (Option Man)) (o : Option Man) (s : ℕ) → reborn_at false men o (Some s) ≡ None
 none_reborn men None s = refl
 none_reborn men (Some y) s = refl
 
-nobody_reborn : (circe : Bool) (men before : List (Option Man)) (o : Option ℕ) → (circe ≡ true → o ≡ None) → reborn_at circe men (man_on_at before o) o ≡ None
+pub nobody_reborn : (circe : Bool) (men before : List (Option Man)) (o : Option ℕ) → (circe ≡ true → o ≡ None)
+    → reborn_at circe men (man_on_at before o) o ≡ None
 nobody_reborn circe men before None h = refl
 nobody_reborn false men before (Some s) h = none_reborn men (man_on before s) s
 nobody_reborn true men before (Some s) h = let bad : Some s ≡ None = h refl in cc
@@ -457,14 +469,19 @@ pub moved_plainly : (p : Position) (x : Man) (m : Move) → is_castling x m ≡ 
 unfolding moved_men
 moved_plainly p x m h = rw h refl
 
--- where nobody castles and nobody is reborn
-pub simple_after : (rule : RuleSet) (p : Position) (x : Man) (m : Move) → man_on p.men m.from ≡ Some x → is_castling x m ≡ false
-    → (is_circe rule ≡ true → capture_square p x m ≡ None) → (after rule p m).men ≡ arrived p x m
+-- where nobody is reborn
+pub unreborn_after : (rule : RuleSet) (p : Position) (x : Man) (m : Move) → man_on p.men m.from ≡ Some x → (is_circe rule ≡ true → capture_square p x m ≡ None)
+    → (after rule p m).men ≡ moved_men p x m
 unfolding after after_by reborn_square
-simple_after rule p x m here castling rebirth =
+unreborn_after rule p x m here rebirth =
     let nobody : reborn_at (is_circe rule) (moved_men p x m) (man_on_at p.men (capture_square p x m)) (capture_square p x m) ≡ None =
     nobody_reborn (is_circe rule) (moved_men p x m) p.men (capture_square p x m) rebirth in
-    rw here (ap (λ (o : Option ℕ). put_at (moved_men p x m) o (man_on_at p.men (capture_square p x m))) nobody ∙ moved_plainly p x m castling)
+    rw here (ap (λ (o : Option ℕ). put_at (moved_men p x m) o (man_on_at p.men (capture_square p x m))) nobody)
+
+-- and nobody castles
+pub simple_after : (rule : RuleSet) (p : Position) (x : Man) (m : Move) → man_on p.men m.from ≡ Some x → is_castling x m ≡ false
+    → (is_circe rule ≡ true → capture_square p x m ≡ None) → (after rule p m).men ≡ arrived p x m
+simple_after rule p x m here castling rebirth = unreborn_after rule p x m here rebirth ∙ moved_plainly p x m castling
 
 pub men_after : (rule : RuleSet) (p : Position) (x : Man) (m : Move) → man_on p.men m.from ≡ Some x → IsPlain rule p x m → (after rule p m).men ≡ arrived p x m
 men_after rule p x m here plain = simple_after rule p x m here plain.castling plain.rebirth

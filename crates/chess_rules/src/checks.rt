@@ -1,23 +1,22 @@
 //! Moves that give no check, told before they are made.
 ghost use Rattle.std.specs.Prelude.{◌≡◌, ℕ, None, Some, false, not, true};
 ghost use Rattle.chess_core.specs.Position.{man_on, other, same_kind};
-ghost use Rattle.chess_core.specs.declared.man.Kind.TheVariants.{Pawn};
+ghost use Rattle.chess_core.specs.declared.man.Kind.TheVariants.{King, Pawn};
 ghost use Rattle.chess_core.specs.WellFormed.{IsWellFormed};
 ghost use Rattle.chess_core.specs.ties.Words.{word};
 ghost use Rattle.chess_rules.specs.Attacks.{in_check};
-ghost use Rattle.chess_rules.specs.ties.CheckSquares.{AreCheckSquares, AreCheckTargets, enemy, is_absent, may_check_from, check_squares_for};
+ghost use Rattle.chess_rules.specs.ties.CheckSquares.{AreCastlingTargets, AreCheckSquares, AreCheckTargets, enemy, is_absent, may_check_from, check_squares_for};
 ghost use Rattle.chess_rules.specs.ties.Shields.{cannot_expose, is_fairy};
 ghost use Rattle.chess_rules.specs.Legal.{pseudo};
 ghost use Rattle.chess_rules.specs.Play.{after};
-ghost use Rattle.chess_rules.specs.ties.Targets.{steps_to};
 
 use crate::evasions::rebirth_captures;
+use crate::leaps::squares_aside;
 use crate::lines::occupied;
 use crate::open_board::open_targets;
 use crate::outward::comes_as;
 use crate::rules::Rules;
 use crate::shields::{cannot_expose, fairy_lines, shield_squares};
-use crate::targets::steps_to;
 use crate::words::{contains, only};
 use chess_core::board::Board;
 use chess_core::man::{Colour, Kind, Man, Move};
@@ -110,15 +109,28 @@ pub(crate) fn are_all_near<R: Rules>(squares: &CheckSquares) -> bool {
 // The first rank and the last.
 const LAST_RANKS: u64 = 0xff00_0000_0000_00ff;
 
+// The squares to which a king on `from` castles so that the rook, who comes to the square halfway, gives check,
+// and perhaps more.
+#[inline(never)]
+#[tactic(auto, using(crate::proofs::CastlingChecks::castling_targets_are))]
+fn castling_targets(squares: &CheckSquares, from: Square) -> u64
+    ensures { AreCastlingTargets squares.now from result }
+{
+    let checked_from = squares.straight;
+    squares_aside(from) & (checked_from << 1 | checked_from >> 1)
+}
+
 // The squares to which the man on `from` promotes or castles, and perhaps more.
-fn special_targets(man: Man, from: Square) -> u64
+fn special_targets(squares: &CheckSquares, man: Man, from: Square) -> u64
     ensures promotes { same_kind man.kind Pawn ≡ true → result ≡ 18374686479671623935 }
-    ensures castles { same_kind man.kind Pawn ≡ false → result ≡ word (steps_to man from) }
+    ensures castles { same_kind man.kind King ≡ true → AreCastlingTargets squares.now from result }
 {
     if man.kind.is(Kind::Pawn) {
         LAST_RANKS
+    } else if man.kind.is(Kind::King) {
+        castling_targets(squares, from)
     } else {
-        steps_to(man, from)
+        0
     }
 }
 
@@ -137,7 +149,7 @@ fn check_targets<R: Rules>(board: &Board, squares: &CheckSquares, man: Man, from
     let checked_from = check_squares_for(squares, man.kind);
     checked_from
         | only(board.crossed())
-        | special_targets(man, from)
+        | special_targets(squares, man, from)
         | rebirth_captures::<R>(board)
         | fairy_lines(board, board.turn().other())
 }

@@ -24,6 +24,8 @@ pub(crate) enum Family {
     Promotions,
     // Kings and rooks at home.
     Castling,
+    // The same with the other king on their rank.
+    HomeRanks,
     // A king in check by a rider, with room behind him.
     KingSteps,
     // A king at the edge with few flights.
@@ -54,6 +56,7 @@ impl Family {
             Family::EnPassant => pawns::en_passant(draw),
             Family::Promotions => pawns::promotions(draw),
             Family::Castling => castling::castling(draw),
+            Family::HomeRanks => castling::home_ranks(draw),
             Family::KingSteps => kings::king_steps(draw),
             Family::Flights => kings::flights(draw),
             Family::Refuges => kings::refuges(draw),

@@ -1,5 +1,5 @@
 -- Squares from which a move may give check (own).
-use Rattle.std.specs.Prelude.{◌≡◌, ◌<◌, ℕ, Bool, true, false, ◌&&◌, ◌||◌, ◌==◌, not, List, Option, Some, None}
+use Rattle.std.specs.Prelude.{◌≡◌, ℕ, ◌+◌, ◌/◌, ◌<◌, Bool, true, false, ◌&&◌, ◌||◌, ◌==◌, not, List, Option, Some, None}
 use Rattle.std.specs.Int.{bit_at}
 use Rattle.std.specs.Int.Bits.{bit_or}
 use Rattle.chess_core.specs.Position.{Position, is_man, king_square, man_on, other}
@@ -16,6 +16,7 @@ use Rattle.chess_rules.specs.Legal.{pseudo}
 use Rattle.chess_rules.specs.Play.{after}
 use Rattle.chess_rules.specs.Reaches.{reaches_as}
 use Rattle.chess_rules.specs.RuleSet.{RuleSet}
+use Rattle.chess_rules.specs.ties.Lines.{is_aside}
 use Rattle.chess_rules.specs.ties.Shields.{is_fairy, may_expose}
 
 -- it is a fairy man, and none of its colour and kind stands on the board
@@ -64,6 +65,11 @@ check_squares_for s Nightrider = s.nightrider
 pub record AreCheckTargets (rule : RuleSet) (p : Position) (s w : ℕ) : Type 0 where
   pub elsewhere : (m : Move) → m.from ≡ s → m.to < 64 → pseudo rule p m ≡ true
       → (bit_at w m.to == 1) ≡ false → in_check rule (after rule p m).men (other p.turn) ≡ false
+
+-- halfway to a square two files beside s that isn't in the word, a rook gives no check
+pub record AreCastlingTargets (v : CheckSquares) (s w : ℕ) : Type 0 where
+  pub elsewhere : (t : ℕ) → t < 64 → is_aside s t ≡ true → (bit_at w t == 1) ≡ false
+      → (bit_at v.straight ((s + t) / 2) == 1) ≡ false
 
 -- a move that may be made gives no check, if it goes from a square not in the word
 pub record AreCheckOrigins (rule : RuleSet) (p : Position) (w : ℕ) : Type 0 where

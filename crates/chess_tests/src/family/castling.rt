@@ -65,3 +65,41 @@ fn put_net(diagram: &mut Diagram, draw: &mut Draw, up: (u8, u8)) {
         let _guard = put(diagram, far, man(mover, guard));
     }
 }
+
+// King and one rook at home, the other king behind the square from which the king castles, on their rank, and
+// a rook or a queen on the next.
+pub(crate) fn home_ranks(draw: &mut Draw) -> Diagram {
+    let mut diagram = Diagram::new();
+    diagram.turn = draw.colour();
+    let mover = diagram.turn;
+    let kinds = draw.kinds();
+    let (home, next) = if mover == Colour::White {
+        (1u8, 2u8)
+    } else {
+        (8, 7)
+    };
+    let aside = draw.below(2);
+    let bar = draw.below(5);
+    let (corner, far, file) = if draw.once_in(2) {
+        (8u8, 1 + aside, 4 + bar)
+    } else {
+        (1, 8 - aside, 5 - bar)
+    };
+    let guard = if draw.once_in(3) {
+        Kind::Queen
+    } else {
+        Kind::Rook
+    };
+    for (file, rank, who) in [
+        (5u8, home, man(mover, Kind::King)),
+        (corner, home, man(mover, Kind::Rook)),
+        (far, home, man(mover.other(), Kind::King)),
+        (file, next, man(mover, guard)),
+    ] {
+        let _put = put(&mut diagram, Square::new(file, rank), who);
+    }
+    let count = draw.below(4);
+    scatter(&mut diagram, draw, kinds, count);
+    mark_homes(&mut diagram, draw);
+    diagram
+}

@@ -228,6 +228,21 @@ fn castling_mates(rt: HostRuntime) {
     assert_eq!(rt; mates_of::<Orthodox>(&diagram), moves("e1g1 h1f1"));
 }
 
+// The rook that castles checks along the rank, through the square that the king left; the other rook has the
+// second rank. A king's step to it shuts that rank.
+#[test]
+fn castling_mates_along_the_rank(rt: HostRuntime) {
+    let mut short = diagram_of("8/8/8/8/8/8/7R/k3K2R");
+    short.unmoved = unmoved("e1 h1");
+    assert!(rt; short.is_well_formed());
+    assert_eq!(rt; mates_of::<Orthodox>(&short), moves("e1g1"));
+    let mut long = diagram_of("8/8/8/8/8/8/R7/R3K2k");
+    long.unmoved = unmoved("a1 e1");
+    assert!(rt; long.is_well_formed());
+    assert_eq!(rt; mates_of::<Circe>(&long), moves("e1c1"));
+    assert_eq!(rt; mates_of::<Madrasi>(&long), moves("e1c1"));
+}
+
 // The capture en passant opens the diagonal from a1 to h8, and the bishop on b3 then sees g8.
 #[test]
 fn en_passant_mates(rt: HostRuntime) {

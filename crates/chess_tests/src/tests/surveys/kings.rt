@@ -21,6 +21,15 @@ fn castling(rt: HostRuntime) {
 }
 
 #[test]
+fn castling_along_the_rank(rt: HostRuntime) {
+    let motifs = [Motif::Castles, Motif::CastlingChecks, Motif::CastlingMates];
+    for survey in under_all_rules(Family::HomeRanks, 300, &motifs) {
+        assert_eq!(rt; survey.unlike, None);
+        assert_eq!(rt; survey.rare(&motifs, 20), None);
+    }
+}
+
+#[test]
 fn steps_along_a_line(rt: HostRuntime) {
     let motifs = [
         Motif::StepsAlong,
