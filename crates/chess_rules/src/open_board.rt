@@ -4,13 +4,14 @@ ghost use Rattle.std.specs.Int.{bit_at};
 ghost use Rattle.chess_core.specs.Position.{Position};
 ghost use Rattle.chess_rules.specs.ties.Targets.{may_go};
 
-use crate::leaps::{knight_leaps, pawn_advances, pawn_leaps};
+use crate::leaps::{king_leaps, knight_leaps, pawn_advances, pawn_leaps};
 use crate::lines::{diagonal_lines, straight_lines};
+use crate::targets::steps_to;
 use chess_core::man::{Kind, Man};
 use chess_core::square::Square;
 
-// The squares to which the man on `from` might go, were the others gone, and perhaps more: of a king or a
-// fairy man all.
+// The squares to which the man on `from` might go, were the others gone, castling among them, and perhaps
+// more: of a fairy man all.
 pub(crate) fn open_targets(man: Man, from: Square) -> u64
     ensures { (p : Position) (t : ℕ) → t < 64 → may_go p man from t ≡ true
         → (bit_at result t == 1) ≡ true }
@@ -21,6 +22,7 @@ pub(crate) fn open_targets(man: Man, from: Square) -> u64
         Kind::Bishop => diagonal_lines(from),
         Kind::Knight => knight_leaps(from),
         Kind::Pawn => pawn_leaps(man.colour, from) | pawn_advances(man.colour, from),
-        Kind::King | Kind::Grasshopper | Kind::Nightrider => !0,
+        Kind::King => king_leaps(from) | steps_to(man, from),
+        Kind::Grasshopper | Kind::Nightrider => !0,
     }
 }

@@ -69,6 +69,7 @@ pub(crate) fn check_origins<R: Rules>(board: &Board, squares: &CheckSquares) -> 
     let far = far_men::<R>(board, squares, Kind::Pawn)
         | far_men::<R>(board, squares, Kind::Knight)
         | far_men::<R>(board, squares, Kind::Bishop)
-        | far_men::<R>(board, squares, Kind::Rook);
+        | far_men::<R>(board, squares, Kind::Rook)
+        | far_men::<R>(board, squares, Kind::King);
     own & !far
 }
