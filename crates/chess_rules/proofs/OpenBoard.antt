@@ -20,14 +20,14 @@ use Rattle.chess_rules.proofs.CheckTargets.{off_left, off_right}
 use Rattle.chess_rules.proofs.Shielding.{goes_on}
 
 -- a square of either word is one of both together
-on_left : (a b i : ℕ) → (bit_at a i == 1) ≡ true → (bit_at (bit_or a b) i == 1) ≡ true
+pub on_left : (a b i : ℕ) → (bit_at a i == 1) ≡ true → (bit_at (bit_or a b) i == 1) ≡ true
 on_left a b i h = true_from_ne_false _ (λ e. let off = off_left a b i e in cc)
 
-on_right : (a b i : ℕ) → (bit_at b i == 1) ≡ true → (bit_at (bit_or a b) i == 1) ≡ true
+pub on_right : (a b i : ℕ) → (bit_at b i == 1) ≡ true → (bit_at (bit_or a b) i == 1) ≡ true
 on_right a b i h = true_from_ne_false _ (λ e. let off = off_right a b i e in cc)
 
 -- a piece that is no king reaches where it goes
-reached : (p : Position) (x : Man) (s t : ℕ) → same_kind x.kind Pawn ≡ false → same_kind x.kind King ≡ false → may_go p x s t ≡ true
+pub reached : (p : Position) (x : Man) (s t : ℕ) → same_kind x.kind Pawn ≡ false → same_kind x.kind King ≡ false → may_go p x s t ≡ true
     → reaches_as p.men x.colour x.kind s t ≡ true
 unfolding may_go
 reached p x s t none piece h = search (rules, cond-false, no_steps)
@@ -37,7 +37,7 @@ unfolding is_on_some
 rides_on men s t ds h = goes_on men s t ds h
 
 -- a pawn steps one square or two
-advances : (v one two rank free : Bool) → (v && (one || (rank && two && free))) ≡ true → (one || two) ≡ true
+pub advances : (v one two rank free : Bool) → (v && (one || (rank && two && free))) ≡ true → (one || two) ≡ true
 advances true true two rank free h = refl
 advances true false two true free h = (and_parts two free h).0
 advances true false two false free h = absurd (false≢true h)
