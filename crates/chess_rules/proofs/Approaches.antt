@@ -34,7 +34,7 @@ bit_up w k s from small =
 abbrev is_on : ℕ → ℕ → ℕ → Bool
 is_on k s t = t == k + s
 
--- a target so many squares on, or back
+-- from a square so many squares before a target, or behind it, the word moved by as many
 from_below : (w k s t : ℕ) → (bit_at w t == 1) ≡ true → is_on k s t ≡ true → (bit_at (w / 2 ^ k) s == 1) ≡ true
 from_below w k s t h at = ap (λ n. n == 1) (bit_down w k s ∙ ap (bit_at w) (sym (eqb-true t (k + s) at))) ∙ h
 
@@ -55,7 +55,7 @@ implied : (a b : Bool) → (not a || b) ≡ true → a ≡ true → b ≡ true
 implied true b h e = h
 implied false b h e = cc
 
--- where a pawn goes on an empty board
+-- where a pawn might go on an empty board
 abbrev pawn_way : Colour → ℕ → ℕ → Bool
 pawn_way c s t = list_any (leaps s t) (pawn_captures c) || is_advance c s t
 
@@ -63,7 +63,7 @@ pawn_goes_so : (p : Position) (c : Colour) (s t : ℕ) → may_go p (record { co
 unfolding may_go reaches_as
 pawn_goes_so p c s t h = search (rules, advances, and_parts, or_cases, or_left, or_right)
 
--- the distances
+-- the distances between the squares of a white pawn's moves
 abbrev pawn_distance : ℕ → ℕ → Bool
 pawn_distance s t = ((is_on 7 s t || is_on 8 s t) || is_on 9 s t) || is_on 16 s t
 
@@ -74,8 +74,10 @@ pawn_distance_by Black s t = pawn_distance t s
 pawns_far : (c : Colour) (s t : ℕ) → s < 64 → t < 64 → pawn_way c s t ≡ true → pawn_distance_by c s t ≡ true
 pawns_far c s t p q = by (64 * s + t) (omega (arith, p, q)) (omega (arith, q)) (omega (arith, q)) where
   table : (c : Colour) (k : ℕ) → k < 4096 → (not (pawn_way c (k / 64) (k % 64)) || pawn_distance_by c (k / 64) (k % 64)) ≡ true
-  table White k lt = unfold along leaps in agree_below_at (λ n. not (pawn_way White (n / 64) (n % 64)) || pawn_distance (n / 64) (n % 64)) (λ n. true) 4096 k refl lt
-  table Black k lt = unfold along leaps in agree_below_at (λ n. not (pawn_way Black (n / 64) (n % 64)) || pawn_distance (n % 64) (n / 64)) (λ n. true) 4096 k refl lt
+  table White k lt = unfold along leaps in
+      agree_below_at (λ n. not (pawn_way White (n / 64) (n % 64)) || pawn_distance (n / 64) (n % 64)) (λ n. true) 4096 k refl lt
+  table Black k lt = unfold along leaps in
+      agree_below_at (λ n. not (pawn_way Black (n / 64) (n % 64)) || pawn_distance (n % 64) (n / 64)) (λ n. true) 4096 k refl lt
 
   by : (k : ℕ) → k < 4096 → k / 64 ≡ s → k % 64 ≡ t → pawn_way c s t ≡ true → pawn_distance_by c s t ≡ true
   by k lt a b = rw (← a, ← b) (implied _ _ (table c k lt))
@@ -95,7 +97,8 @@ module _ (w s t : ℕ) (small : s < 64) (on : (bit_at w t == 1) ≡ true) where
       → (bit_at (bit_or (bit_or (bit_or (w * 2 ^ 7 % 2 ^ 64) (w * 2 ^ 8 % 2 ^ 64)) (w * 2 ^ 9 % 2 ^ 64)) (w * 2 ^ 16 % 2 ^ 64)) s == 1) ≡ true
   black_steps = on_either _ _ _ _ s (on_either _ _ _ _ s (on_either _ _ _ _ s (up 7) (up 8)) (up 9)) (up 16)
 
-pub white_pawns_before : (w : ℕ) → AreApproaches (record { colour = White; kind = Pawn }) w (bit_or (bit_or (bit_or (w / 2 ^ 7) (w / 2 ^ 8)) (w / 2 ^ 9)) (w / 2 ^ 16))
+pub white_pawns_before : (w : ℕ) → AreApproaches (record { colour = White; kind = Pawn }) w
+    (bit_or (bit_or (bit_or (w / 2 ^ 7) (w / 2 ^ 8)) (w / 2 ^ 9)) (w / 2 ^ 16))
 white_pawns_before w = record {
   approach = λ p s t small inside goes on. white_steps w s t small on (pawns_far White s t small inside (pawn_goes_so p White s t goes));
 }

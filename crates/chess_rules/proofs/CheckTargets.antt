@@ -135,8 +135,8 @@ check_targets_there rule p x f o w here there are = record {
 }
 
 -- the targets of the mover's men of a kind, no kings, on a square that isn't a shield square
-pub kind_targets : (rule : RuleSet) (p : Position) (j : Kind) (s : CheckSquares) (a b c d e f : ℕ) → IsWellFormed p → AreCheckSquares rule p.men (other p.turn) s
-    → same_kind j King ≡ false → a ≡ check_squares_for s j → b ≡ word (λ t. is_square p.crossed t)
+pub kind_targets : (rule : RuleSet) (p : Position) (j : Kind) (s : CheckSquares) (a b c d e f : ℕ) → IsWellFormed p
+    → AreCheckSquares rule p.men (other p.turn) s → same_kind j King ≡ false → a ≡ check_squares_for s j → b ≡ word (λ t. is_square p.crossed t)
     → (same_kind j Pawn ≡ true → c ≡ 18374686479671623935) → (same_kind j Pawn ≡ false → c ≡ 0)
     → (is_circe rule ≡ true → d ≡ word (λ t. is_some (man_on p.men t))) → e ≡ word (may_stand_between p.men (other p.turn))
     → f < 64 → man_on p.men f ≡ Some (own_man p j) → (bit_at s.shield_squares f == 1) ≡ false

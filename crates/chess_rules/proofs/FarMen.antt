@@ -89,7 +89,7 @@ far_one rule p s o h are = record {
 }
 
 -- a man who could come to no target from here gives no check
-pub far_unreached : (rule : RuleSet) (p : Position) (x : Man) (s w : ℕ) → man_on p.men s ≡ Some x → AreCheckTargets rule p s w
+far_unreached : (rule : RuleSet) (p : Position) (x : Man) (s w : ℕ) → man_on p.men s ≡ Some x → AreCheckTargets rule p s w
     → ((t : ℕ) → t < 64 → may_go p x s t ≡ true → (bit_at w t == 1) ≡ false) → AreCheckTargets rule p s 0
 far_unreached rule p x s w here are off = record {
   elsewhere = λ m at small may none.

@@ -12,7 +12,8 @@ pub is_far-requires-clause-here : goal.is_far-requires-clause-here
 is_far-requires-clause-here g c =
     let first = find_first (λ s. bit_at c.men_off_shields-men.result s == 1) c.loop-from.number (64 - c.loop-from.number) c.in-Some.from
     (sym c.next_bit.ensures.value ∙ c.in-Some.is) in
-    rw (← c.turn.ensures) at (c.men_off_shields-men.ensures.stands c.in-Some.from (omega (arith, first.high, first.low, c.loop-from.invariant.small)) first.here)
+    rw (← c.turn.ensures) at
+    (c.men_off_shields-men.ensures.stands c.in-Some.from (omega (arith, first.high, first.low, c.loop-from.invariant.small)) first.here)
 
 pub is_far-requires-clause-targets : goal.is_far-requires-clause-targets
 is_far-requires-clause-targets g c =
