@@ -16,7 +16,7 @@ use Rattle.chess_core.specs.declared.man.Man.{Man}
 use Rattle.chess_core.specs.declared.man.Move.{Move}
 use Rattle.chess_rules.specs.declared.checks.CheckSquares.{CheckSquares}
 use Rattle.chess_rules.specs.Attacks.{in_check}
-use Rattle.chess_rules.specs.ties.CheckSquares.{AreCastlingTargets, AreCheckSquares, AreCheckTargets, check_squares_for, enemy, may_check_from}
+use Rattle.chess_rules.specs.ties.CheckSquares.{AreCastlingTargets, AreCheckSquares, AreCheckTargets, check_squares_for, enemy, may_check_from, own_man}
 use Rattle.chess_rules.specs.ties.Shields.{cannot_expose, is_plain, may_expose, may_stand_between}
 use Rattle.chess_rules.specs.Legal.{last_rank, pseudo}
 use Rattle.chess_rules.specs.Play.{after, arriving, halfway, is_castling}
@@ -31,7 +31,7 @@ use Rattle.chess_rules.proofs.Fits.{kind_is_king}
 use Rattle.chess_rules.proofs.Pseudo.{made}
 use Rattle.chess_rules.proofs.Shielding.{other_differs}
 use Rattle.chess_rules.proofs.Walks.{off_second}
-use Rattle.chess_rules.proofs.Targeting.{arrival_needed, every_square_on, false_by, nobody_moves, unpromoted}
+use Rattle.chess_rules.proofs.Targeting.{arrival_needed, every_square_on, false_by, nobody_moves, unpromoted, castling_steps, other_word}
 
 -- a square off both words is off each
 pub off_left : (a b i : ℕ) → (bit_at (bit_or a b) i == 1) ≡ false → (bit_at a i == 1) ≡ false
@@ -149,3 +149,14 @@ check_targets_there rule p x f o w here there are = record {
       let goes : may_go p x m.from m.to ≡ true = may_go_aimed rule p x m (ap (man_on p.men) at ∙ here) arrives_there in
       are.elsewhere m at small may (off_second o w m.to off (there m.to small (ap (λ s. may_go p x s m.to) (sym at) ∙ goes)));
 }
+
+-- the targets of the mover's men of a kind, no kings, on a square that isn't a shield square
+pub kind_targets : (rule : RuleSet) (p : Position) (j : Kind) (s : CheckSquares) (a b c d e f : ℕ) → IsWellFormed p
+    → AreCheckSquares rule p.men (other p.turn) s → same_kind j King ≡ false → a ≡ check_squares_for s j → b ≡ word (λ t. is_square p.crossed t)
+    → (same_kind j Pawn ≡ true → c ≡ 18374686479671623935) → (same_kind j Pawn ≡ false → c ≡ 0)
+    → (is_circe rule ≡ true → d ≡ word (λ t. is_some (man_on p.men t))) → e ≡ word (may_stand_between p.men (other p.turn))
+    → f < 64 → man_on p.men f ≡ Some (own_man p j) → (bit_at s.shield_squares f == 1) ≡ false
+    → AreCheckTargets rule p f (bit_or (bit_or (bit_or (bit_or a b) c) d) e)
+kind_targets rule p j s a b c d e f well checks piece checked_from crossed promotes none reborn lines inside here covered =
+    check_targets_some rule p (own_man p j) s f well here checks inside covered a b c d e checked_from crossed promotes
+    (λ no_pawn. none no_pawn ∙ other_word (own_man p j) f no_pawn piece) reborn lines

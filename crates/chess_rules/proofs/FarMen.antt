@@ -1,5 +1,5 @@
 -- Men who couldn't come to a check square give no check.
-use Rattle.std.proofs.Common.{◌≡◌, ℕ, zero, suc, ◌-◌, ◌^◌, ◌<◌, true, false, ◌==◌, Option, Some, None, max, min, refl, subst, sym, ◌∙◌, arith, inl, inr}
+use Rattle.std.proofs.Common.{◌≡◌, ℕ, zero, suc, ◌-◌, ◌^◌, ◌<◌, true, false, ◌==◌, Option, Some, None, max, min, ap, refl, subst, sym, ◌∙◌, arith, inl, inr}
 use Rattle.std.specs.Int.{bit_at, bit_not, w64}
 use Rattle.std.specs.Int.Bits.{bit_and, bit_or}
 use Rattle.std.proofs.lemmas.Bool.{and_parts, cases_Bool, eq-eqb, eqb-true, false≢true}
@@ -15,10 +15,13 @@ use Rattle.chess_core.proofs.Kept.{same_kind-is}
 use Rattle.chess_core.proofs.Men.{same_colour-true}
 use Rattle.chess_rules.specs.Legal.{pseudo}
 use Rattle.chess_rules.specs.RuleSet.{RuleSet}
-use Rattle.chess_rules.specs.ties.CheckSquares.{AreCheckOrigins, AreCheckTargets}
+use Rattle.chess_rules.specs.ties.CheckSquares.{AreApproaches, AreCheckOrigins, AreCheckTargets}
+use Rattle.chess_rules.specs.ties.Targets.{may_go}
+use Rattle.chess_rules.proofs.Arrivals.{may_go_aimed}
 use Rattle.chess_rules.proofs.Bits.{word_has}
-use Rattle.chess_rules.proofs.Targeting.{own_moves}
-use Rattle.chess_rules.proofs.Walks.{off_zero}
+use Rattle.chess_rules.proofs.CheckTargets.{check_targets_there}
+use Rattle.chess_rules.proofs.Targeting.{arrival_needed, false_by, own_moves}
+use Rattle.chess_rules.proofs.Walks.{off_zero, on_first}
 
 -- the man on a square of his kind
 man_is : (o : Option Man) (c : Colour) (k : Kind) → is_man o c k ≡ true → o ≡ Some (record { colour = c; kind = k })
@@ -55,6 +58,15 @@ on_either a b i h off =
     let none : bit_at a i ≡ 0 = unset (bit_at a i) (bit_at-lt a i) off in
     eq-eqb _ _ (omega (arith, both, e, none))
 
+-- a square of the first of two words, and not of the second
+pub off_denied : (a b i : ℕ) → b < 2 ^ 64 → i < 64 → (bit_at (bit_and a (bit_not w64 b)) i == 1) ≡ true → (bit_at b i == 1) ≡ false
+off_denied a b i fits small on = false_by (bit_at b i == 1) (λ y.
+    let both : bit_at (bit_and a (bit_not w64 b)) i ≡ 1 = eqb-true _ _ on in
+    let one : bit_at b i ≡ 1 = eqb-true _ _ y in
+    let not_b : bit_at (bit_not w64 b) i ≡ 1 - bit_at b i = bit_at_not w64 b i fits small in
+    let e : bit_at (bit_and a (bit_not w64 b)) i ≡ min (bit_at a i) (bit_at (bit_not w64 b) i) = bit_at_and a (bit_not w64 b) i in
+    omega (arith, both, e, one, not_b))
+
 pub far_either : (rule : RuleSet) (p : Position) (a b : ℕ) → AreFar rule p a → AreFar rule p b → AreFar rule p (bit_or a b)
 far_either rule p a b x y = record {
   far = λ s small on. elim (cases_Bool (bit_at a s == 1)) [
@@ -63,8 +75,11 @@ far_either rule p a b x y = record {
   ];
 }
 
-pub far_by : (rule : RuleSet) (p : Position) (s n : ℕ) → AreCheckTargets rule p s n → (n == 0) ≡ true → AreCheckTargets rule p s 0
-far_by rule p s n are none = subst (λ w. AreCheckTargets rule p s w) (eqb-true n 0 none) are
+-- a man who could go to no target on an empty board
+pub far_by : (rule : RuleSet) (p : Position) (x : Man) (s o w : ℕ) → man_on p.men s ≡ Some x → AreCheckTargets rule p s w
+    → ((q : Position) (t : ℕ) → t < 64 → may_go q x s t ≡ true → (bit_at o t == 1) ≡ true) → (bit_and o w == 0) ≡ true → AreCheckTargets rule p s 0
+far_by rule p x s o w here are goes none =
+    subst (λ n. AreCheckTargets rule p s n) (eqb-true (bit_and o w) 0 none) (check_targets_there rule p x s o w here (goes p) are)
 
 pub far_one : (rule : RuleSet) (p : Position) (s o : ℕ) → o ≡ word (λ t. is_square (Some s) t) → AreCheckTargets rule p s 0 → AreFar rule p o
 far_one rule p s o h are = record {
@@ -72,6 +87,26 @@ far_one rule p s o h are = record {
       let same : s ≡ t = eqb-true _ _ (sym (word_has (λ q. is_square (Some s) q) o t h small) ∙ on) in
       subst (λ q. AreCheckTargets rule p q 0) same are;
 }
+
+-- a man who could come to no target from here gives no check
+far_unreached : (rule : RuleSet) (p : Position) (x : Man) (s w : ℕ) → man_on p.men s ≡ Some x → AreCheckTargets rule p s w
+    → ((t : ℕ) → t < 64 → may_go p x s t ≡ true → (bit_at w t == 1) ≡ false) → AreCheckTargets rule p s 0
+far_unreached rule p x s w here are off = record {
+  elsewhere = λ m at small may none.
+      let goes : may_go p x m.from m.to ≡ true = may_go_aimed rule p x m (ap (man_on p.men) at ∙ here) (arrival_needed rule p m small may) in
+      are.elsewhere m at small may (off m.to small (ap (λ s. may_go p x s m.to) (sym at) ∙ goes));
+}
+
+-- men off the squares from which they could come to a target
+pub far_apart : (rule : RuleSet) (p : Position) (x : Man) (m w n : ℕ) → n < 2 ^ 64
+    → ((s : ℕ) → s < 64 → (bit_at m s == 1) ≡ true → man_on p.men s ≡ Some x)
+    → ((s : ℕ) → s < 64 → (bit_at m s == 1) ≡ true → AreCheckTargets rule p s w) → AreApproaches x w n
+    → (s : ℕ) → s < 64 → (bit_at (bit_and m (bit_not w64 n)) s == 1) ≡ true → AreCheckTargets rule p s 0
+far_apart rule p x m w n fits stands are come s small on =
+    let mine : (bit_at m s == 1) ≡ true = on_first m (bit_not w64 n) s on in
+    let apart : (bit_at n s == 1) ≡ false = off_denied m n s fits small on in
+    far_unreached rule p x s w (stands s small mine) (are s small mine)
+    (λ t inside goes. false_by (bit_at w t == 1) (λ y. let near = come.approach p s t small inside goes y in cc))
 
 -- off the first word, or on the second
 off_without : (o f i : ℕ) → f < 2 ^ 64 → i < 64 → (bit_at (bit_and o (bit_not w64 f)) i == 1) ≡ false → (bit_at o i == 1) ≡ true → (bit_at f i == 1) ≡ true

@@ -6,28 +6,28 @@ use Rattle.std.specs.List.{list_any}
 use Rattle.std.proofs.lemmas.List.Folds.{list_any-append}
 use Rattle.std.proofs.lemmas.Bool.{and_parts, cond-false, cond-true, false≢true, or_cases, true_from_ne_false}
 use Rattle.chess_core.specs.Position.{Position, same_kind}
-use Rattle.chess_core.specs.Steps.{diagonal_steps, knight_steps, pawn_captures, straight_steps}
+use Rattle.chess_core.specs.Steps.{diagonal_steps, knight_steps, pawn_captures, queen_steps, straight_steps}
 use Rattle.chess_core.specs.ties.Words.{word}
 use Rattle.chess_core.specs.declared.man.Kind.{Kind}
 use Rattle.chess_core.specs.declared.man.Kind.TheVariants.{Bishop, King, Knight, Pawn, Queen, Rook}
 use Rattle.chess_core.specs.declared.man.Man.{Man}
 use Rattle.chess_rules.specs.Reaches.{leaps, reaches_as, rides}
 use Rattle.chess_rules.specs.ties.Lines.{is_advance, is_on_some}
-use Rattle.chess_rules.specs.ties.Targets.{may_go}
+use Rattle.chess_rules.specs.ties.Targets.{may_go, steps_to}
 use Rattle.chess_rules.proofs.Arrivals.{no_steps}
 use Rattle.chess_rules.proofs.Bits.{word_has}
 use Rattle.chess_rules.proofs.CheckTargets.{off_left, off_right}
 use Rattle.chess_rules.proofs.Shielding.{goes_on}
 
 -- a square of either word is one of both together
-on_left : (a b i : ℕ) → (bit_at a i == 1) ≡ true → (bit_at (bit_or a b) i == 1) ≡ true
+pub on_left : (a b i : ℕ) → (bit_at a i == 1) ≡ true → (bit_at (bit_or a b) i == 1) ≡ true
 on_left a b i h = true_from_ne_false _ (λ e. let off = off_left a b i e in cc)
 
-on_right : (a b i : ℕ) → (bit_at b i == 1) ≡ true → (bit_at (bit_or a b) i == 1) ≡ true
+pub on_right : (a b i : ℕ) → (bit_at b i == 1) ≡ true → (bit_at (bit_or a b) i == 1) ≡ true
 on_right a b i h = true_from_ne_false _ (λ e. let off = off_right a b i e in cc)
 
 -- a piece that is no king reaches where it goes
-reached : (p : Position) (x : Man) (s t : ℕ) → same_kind x.kind Pawn ≡ false → same_kind x.kind King ≡ false → may_go p x s t ≡ true
+pub reached : (p : Position) (x : Man) (s t : ℕ) → same_kind x.kind Pawn ≡ false → same_kind x.kind King ≡ false → may_go p x s t ≡ true
     → reaches_as p.men x.colour x.kind s t ≡ true
 unfolding may_go
 reached p x s t none piece h = search (rules, cond-false, no_steps)
@@ -37,7 +37,7 @@ unfolding is_on_some
 rides_on men s t ds h = goes_on men s t ds h
 
 -- a pawn steps one square or two
-advances : (v one two rank free : Bool) → (v && (one || (rank && two && free))) ≡ true → (one || two) ≡ true
+pub advances : (v one two rank free : Bool) → (v && (one || (rank && two && free))) ≡ true → (one || two) ≡ true
 advances true true two rank free h = refl
 advances true false two true free h = (and_parts two free h).0
 advances true false two false free h = absurd (false≢true h)
@@ -73,3 +73,9 @@ module _ (p : Position) (x : Man) (s t : ℕ) (small : t < 64) (h : may_go p x s
       → (bit_at (bit_or l a) t == 1) ≡ true
   unfolding may_go reaches_as
   pawn_squares l a kind squares steps = search (rules, advances, and_parts, cond-true, on_left, on_right, or_cases, word_has)
+
+  -- a king's leaps, and where he castles
+  pub king_squares : (l a : ℕ) → x.kind ≡ King → l ≡ word (λ q. list_any (leaps s q) queen_steps) → a ≡ word (steps_to x s)
+      → (bit_at (bit_or l a) t == 1) ≡ true
+  unfolding may_go reaches_as
+  king_squares l a kind squares steps = search (rules, and_parts, cond-false, on_left, on_right, or_cases, word_has)

@@ -1,12 +1,13 @@
 //! Moves that give no check, told before they are made.
-ghost use Rattle.std.specs.Prelude.{◌≡◌, ℕ, None, Some, false, not, true};
+ghost use Rattle.std.specs.Prelude.{◌≡◌, ◌<◌, ◌==◌, ℕ, None, Some, false, not, true};
+ghost use Rattle.std.specs.Int.{bit_at};
 ghost use Rattle.chess_core.specs.Position.{man_on, other, same_kind};
 ghost use Rattle.chess_core.specs.declared.man.Kind.TheVariants.{King, Pawn};
 ghost use Rattle.chess_core.specs.WellFormed.{IsWellFormed};
 ghost use Rattle.chess_core.specs.ties.Words.{word};
 ghost use Rattle.chess_rules.specs.Attacks.{in_check};
-ghost use Rattle.chess_rules.specs.ties.CheckSquares.{AreCastlingTargets, AreCheckSquares, AreCheckTargets, enemy, is_absent, may_check_from, check_squares_for};
-ghost use Rattle.chess_rules.specs.ties.Shields.{cannot_expose, is_fairy};
+ghost use Rattle.chess_rules.specs.ties.CheckSquares.{AreCastlingTargets, AreCheckSquares, AreCheckTargets, enemy, is_absent, may_check_from, check_squares_for, own_man};
+ghost use Rattle.chess_rules.specs.ties.Shields.{cannot_expose, is_fairy, may_stand_between};
 ghost use Rattle.chess_rules.specs.Legal.{pseudo};
 ghost use Rattle.chess_rules.specs.Play.{after};
 
@@ -221,4 +222,70 @@ pub(crate) fn may_check<R: Rules>(board: &Board, squares: &CheckSquares, m: &Mov
     let _small = m.to.index();
     let from_there = check_squares_for(squares, man.kind);
     contains(from_there, m.to) || may_discover::<R>(board, squares, m)
+}
+
+impl CheckSquares {
+    // The squares from which a move may expose the king.
+    pub(crate) fn shields(&self) -> u64
+        ensures { result ≡ self.now.shield_squares }
+    {
+        self.shield_squares
+    }
+}
+
+// The squares to which a pawn promotes, and perhaps more; none for another man.
+fn promotion_squares(kind: Kind) -> u64
+    ensures pawns { same_kind kind Pawn ≡ true → result ≡ 18374686479671623935 }
+    ensures others { same_kind kind Pawn ≡ false → result ≡ 0 }
+{
+    if kind.is(Kind::Pawn) { LAST_RANKS } else { 0 }
+}
+
+// The squares to which the mover's men of this kind, no kings, must go to give check from a square that
+// isn't a shield square. `lines` are those to the king with a fairy man on them.
+#[inline(always)]
+pub(crate) fn targets_of_kind<R: Rules>(
+    board: &Board,
+    squares: &CheckSquares,
+    kind: Kind,
+    lines: u64,
+) -> u64
+    requires well_formed { IsWellFormed board.now }
+    requires squares { AreCheckSquares R.rule board.now.men (other board.now.turn) squares.now }
+    requires lines { lines ≡ word (may_stand_between board.now.men (other board.now.turn)) }
+    requires no_king { same_kind kind King ≡ false }
+    ensures { (s : ℕ) → s < 64 → man_on board.now.men s ≡ Some (own_man board.now kind)
+        → (bit_at squares.now.shield_squares s == 1) ≡ false
+        → AreCheckTargets R.rule board.now s result }
+{
+    let passed = only(board.crossed());
+    let reborn = rebirth_captures::<R>(board);
+    check_squares_for(squares, kind) | passed | promotion_squares(kind) | reborn | lines
+}
+
+// The squares to which the mover's king must go from here to give check, castling among his moves, where
+// his square is no shield square. `lines` as above.
+#[inline(always)]
+pub(crate) fn targets_of_king<R: Rules>(
+    board: &Board,
+    squares: &CheckSquares,
+    from: Square,
+    lines: u64,
+) -> u64
+    requires well_formed { IsWellFormed board.now }
+    requires squares { AreCheckSquares R.rule board.now.men (other board.now.turn) squares.now }
+    requires lines { lines ≡ word (may_stand_between board.now.men (other board.now.turn)) }
+    requires here { man_on board.now.men from ≡ Some (own_man board.now King) }
+    requires unshielding { (bit_at squares.now.shield_squares from == 1) ≡ false }
+    ensures { AreCheckTargets R.rule board.now from result }
+{
+    let king = Man {
+        colour: board.turn(),
+        kind: Kind::King,
+    };
+    // For the proof: a square's number is below 64.
+    let _small = from.index();
+    let passed = only(board.crossed());
+    let reborn = rebirth_captures::<R>(board);
+    squares.king | passed | special_targets(squares, king, from) | reborn | lines
 }

@@ -32,6 +32,8 @@ pub(crate) enum Family {
     Flights,
     // A king among his men, with lines through the free squares beside him.
     Refuges,
+    // A king shut in, with a pawn before a check and a battery of a pawn or a king.
+    Nooks,
     // Positions without one king or both.
     MissingKings,
     // Grasshoppers and hurdles before kings.
@@ -60,6 +62,7 @@ impl Family {
             Family::KingSteps => kings::king_steps(draw),
             Family::Flights => kings::flights(draw),
             Family::Refuges => kings::refuges(draw),
+            Family::Nooks => kings::nooks(draw),
             Family::MissingKings => kings::missing_kings(draw),
             Family::Hurdles => fairy::hurdles(draw),
             Family::NightriderLines => fairy::nightrider_lines(draw),

@@ -27,6 +27,14 @@ pub(crate) enum Motif {
     CastlingMates,
     // A pawn that becomes a man of this kind does, checking itself.
     PromotionMates(Kind),
+    // A pawn that steps one square does, checking itself.
+    StepMates,
+    // One that steps two does.
+    DoubleStepMates,
+    // One that captures on the way does, but not en passant.
+    CaptureMates,
+    // A man of this kind does, and another that stood there before gives check.
+    UncoversMate(Kind),
     // It ends a check.
     Parries(Kind),
     // A capture en passant is legal.
@@ -200,6 +208,12 @@ impl<'a> Case<'a> {
             Motif::EnPassantParries => self.is_en_passant() && self.parries(),
             Motif::EnPassantMates => self.is_en_passant() && self.mates(),
             Motif::CastlingMates => self.castling().is_some() && self.mates(),
+            Motif::StepMates => self.pawn_mates() && self.goes_ahead(1),
+            Motif::DoubleStepMates => self.pawn_mates() && self.goes_ahead(2),
+            Motif::CaptureMates => { self.pawn_mates() && !self.before.is_empty(self.m.to) }
+            Motif::UncoversMate(kind) => {
+                self.man.kind == kind && self.mates() && self.uncovers()
+            }
             Motif::EnPassantUncovers => self.is_en_passant() && self.uncovers(),
             Motif::Castles => self.castling().is_some() && self.legal,
             Motif::CastlingChecks => {
@@ -291,6 +305,20 @@ impl<'a> Case<'a> {
 
     fn promotes_with_check(&self, kind: Kind) -> bool {
         self.legal && self.m.promo == Some(kind) && self.checkers.contains(&self.m.to)
+    }
+
+    // Whether a pawn mates, stays one and gives check itself.
+    fn pawn_mates(&self) -> bool {
+        self.man.kind == Kind::Pawn
+            && self.m.promo.is_none()
+            && self.mates()
+            && self.checkers.contains(&self.m.to)
+    }
+
+    // Whether the move goes so many ranks along its file.
+    fn goes_ahead(&self, ranks: u8) -> bool {
+        self.m.from.file() == self.m.to.file()
+            && self.m.from.rank().abs_diff(self.m.to.rank()) == ranks
     }
 
     fn steps_along(&self) -> bool {

@@ -18,6 +18,7 @@ use Rattle.chess_rules.specs.Reaches.{reaches_as}
 use Rattle.chess_rules.specs.RuleSet.{RuleSet}
 use Rattle.chess_rules.specs.ties.Lines.{is_aside}
 use Rattle.chess_rules.specs.ties.Shields.{is_fairy, may_expose}
+use Rattle.chess_rules.specs.ties.Targets.{may_go}
 
 -- it is a fairy man, and none of its colour and kind stands on the board
 abbrev pub is_absent : List (Option Man) → Man → Bool
@@ -36,6 +37,10 @@ may_check_from men c x t = may_check_from_on men (king_square men c) x t
 -- a man of this kind, an enemy of colour c
 abbrev pub enemy : Colour → Kind → Man
 enemy c j = record { colour = other c; kind = j }
+
+-- a man of this kind of the side to move
+abbrev pub own_man : Position → Kind → Man
+own_man p j = record { colour = p.turn; kind = j }
 
 -- the words are those of the squares from which a move may expose the king of colour c, and from which
 -- its enemies of each kind may give check to it
@@ -75,3 +80,8 @@ pub record AreCastlingTargets (v : CheckSquares) (s w : ℕ) : Type 0 where
 pub record AreCheckOrigins (rule : RuleSet) (p : Position) (w : ℕ) : Type 0 where
   pub elsewhere : (m : Move) → m.from < 64 → m.to < 64 → pseudo rule p m ≡ true
       → (bit_at w m.from == 1) ≡ false → in_check rule (after rule p m).men (other p.turn) ≡ false
+
+-- the word has each square from which this man, whoever else stands there, may go to one of the targets
+pub record AreApproaches (x : Man) (targets w : ℕ) : Type 0 where
+  pub approach : (p : Position) (s t : ℕ) → s < 64 → t < 64 → may_go p x s t ≡ true
+      → (bit_at targets t == 1) ≡ true → (bit_at w s == 1) ≡ true

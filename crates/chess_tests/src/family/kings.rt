@@ -2,7 +2,7 @@
 use crate::draw::{Draw, Kinds};
 use crate::plain::{LINES, next};
 use crate::scene::{man, mark_homes, put, put_battery, put_king, put_rider, scatter, steps};
-use chess_core::{Diagram, Kind, Square};
+use chess_core::{Colour, Diagram, Kind, Square};
 
 // A king in check along a line that goes on behind him.
 pub(crate) fn king_steps(draw: &mut Draw) -> Diagram {
@@ -116,4 +116,74 @@ pub(crate) fn missing_kings(draw: &mut Draw) -> Diagram {
     scatter(&mut diagram, draw, kinds, count);
     mark_homes(&mut diagram, draw);
     diagram
+}
+
+// The other side's king shut in by his men but for one square: there a pawn of the mover's may check him, or
+// from there on the mover's king or a pawn stands between him and a rider.
+pub(crate) fn nooks(draw: &mut Draw) -> Diagram {
+    let mut diagram = Diagram::new();
+    diagram.turn = draw.colour();
+    let mover = diagram.turn;
+    let middle = match mover {
+        Colour::White => 5u8,
+        Colour::Black => 4,
+    };
+    let rank = if draw.once_in(2) {
+        middle
+    } else {
+        2 + draw.below(6)
+    };
+    let at = Square::new(1 + draw.below(8), rank).unwrap_or_default();
+    let _king = put(&mut diagram, Some(at), man(mover.other(), Kind::King));
+    let hole = if draw.once_in(2) {
+        put_pawn_before(&mut diagram, draw, at)
+    } else {
+        let line = draw.line();
+        let front = [Kind::Pawn, Kind::King][draw.below(2) as usize];
+        let _battery = put_battery(&mut diagram, draw, at, line, man(mover, front), mover);
+        next(at, line).unwrap_or(at)
+    };
+    shut_in(&mut diagram, draw, at, hole);
+    let _own = put_king(&mut diagram, draw, mover);
+    diagram
+}
+
+// A pawn of the mover's one step, two steps or a capture before a square from which it checks the king, and
+// that square.
+fn put_pawn_before(diagram: &mut Diagram, draw: &mut Draw, king: Square) -> Square {
+    let mover = diagram.turn;
+    let back = match mover {
+        Colour::White => 255u8,
+        Colour::Black => 1,
+    };
+    let sides = [1u8, 255];
+    let checked_from = next(king, (sides[draw.below(2) as usize], back)).unwrap_or_default();
+    let pawn = man(mover, Kind::Pawn);
+    if draw.once_in(3) {
+        let way = (sides[draw.below(2) as usize], back);
+        let victim = man(mover.other(), Kind::Bishop);
+        let _victim = put(diagram, Some(checked_from), victim);
+        let _pawn = put(diagram, next(checked_from, way), pawn);
+    } else {
+        let far = 1 + draw.below(2);
+        let _pawn = put(diagram, steps(checked_from, (0, back), far), pawn);
+    }
+    checked_from
+}
+
+// The king's own men on the other squares beside him, a rider that sees the hole, and one that sees another
+// square.
+fn shut_in(diagram: &mut Diagram, draw: &mut Draw, king: Square, hole: Square) {
+    let mover = diagram.turn;
+    for way in &LINES {
+        let beside = next(king, *way);
+        if beside != Some(hole) && !draw.once_in(20) {
+            let guard = [Kind::Pawn, Kind::Bishop][draw.below(2) as usize];
+            let _guard = put(diagram, beside, man(mover.other(), guard));
+        }
+    }
+    for seen in [hole, next(king, draw.line()).unwrap_or(king)] {
+        let line = draw.line();
+        let _rider = put_rider(diagram, draw, seen, line, mover);
+    }
 }

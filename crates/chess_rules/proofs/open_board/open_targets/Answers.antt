@@ -1,5 +1,5 @@
 use Rattle.std.proofs.Common.{rules}
-use Rattle.chess_rules.proofs.OpenBoard.{bishop_lines, knight_squares, pawn_squares, queen_lines, rook_lines}
+use Rattle.chess_rules.proofs.OpenBoard.{bishop_lines, king_squares, knight_squares, pawn_squares, queen_lines, rook_lines}
 use Rattle.chess_rules.proofs.Targeting.{every_square_on}
 use Rattle.chess_rules.proofs.open_board.open_targets.Goals as goal
 
@@ -19,4 +19,7 @@ pub returns-in-Pawn : goal.returns-in-Pawn
 returns-in-Pawn c = search (rules, pawn_squares)
 
 pub returns-in-King : goal.returns-in-King
-returns-in-King c = search (rules, every_square_on)
+returns-in-King c = search (rules, king_squares)
+
+pub returns-in-Grasshopper : goal.returns-in-Grasshopper
+returns-in-Grasshopper c = search (rules, every_square_on)

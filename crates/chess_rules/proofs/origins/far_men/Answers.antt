@@ -1,6 +1,6 @@
-use Rattle.std.proofs.Common.{◌+◌, ◌-◌, ◌≤◌, ◌==◌, ◌∙◌, arith, sym}
+use Rattle.std.proofs.Common.{◌+◌, ◌-◌, ◌<◌, ◌≤◌, ◌==◌, ◌∙◌, arith, sym}
 use Rattle.std.specs.Int.{bit_at}
-use Rattle.chess_rules.proofs.FarMen.{far_either, far_none, far_one, man_of_word}
+use Rattle.chess_rules.proofs.FarMen.{far_either, far_none, far_one}
 use Rattle.chess_rules.proofs.Tests.{find_first}
 use Rattle.chess_rules.proofs.origins.far_men.Goals as goal
 use Rattle.chess_rules.proofs.origins.far_men.Goals.{then-is_far, else-is_far}
@@ -10,15 +10,21 @@ loop-from-init g c = record { small = omega arith; far = far_none g.R.Rules.rule
 
 pub is_far-requires-clause-here : goal.is_far-requires-clause-here
 is_far-requires-clause-here g c =
-    let first = find_first (λ s. bit_at c.squares-men.result s == 1) c.loop-from.number (64 - c.loop-from.number) c.in-Some.from
+    let first = find_first (λ s. bit_at c.men_off_shields-men.result s == 1) c.loop-from.number (64 - c.loop-from.number) c.in-Some.from
     (sym c.next_bit.ensures.value ∙ c.in-Some.is) in
-    man_of_word c.args.board.now.men c.turn.result c.args.kind c.squares-men.result c.in-Some.from c.squares-men.ensures.word
-    (omega (arith, first.high, first.low, c.loop-from.invariant.small)) first.here
+    rw (← c.turn.ensures) at
+    (c.men_off_shields-men.ensures.stands c.in-Some.from (omega (arith, first.high, first.low, c.loop-from.invariant.small)) first.here)
+
+pub is_far-requires-clause-targets : goal.is_far-requires-clause-targets
+is_far-requires-clause-targets g c =
+    let first = find_first (λ s. bit_at c.men_off_shields-men.result s == 1) c.loop-from.number (64 - c.loop-from.number) c.in-Some.from
+    (sym c.next_bit.ensures.value ∙ c.in-Some.is) in
+    let small : c.in-Some.from < 64 = omega (arith, first.high, first.low, c.loop-from.invariant.small) in
+    c.targets_of_kind-targets.ensures c.in-Some.from small (c.men_off_shields-men.ensures.stands c.in-Some.from small first.here)
+    (c.men_off_shields-men.ensures.unshielding c.in-Some.from small first.here)
 
 pub loop-from-preserved : goal.loop-from-preserved
 loop-from-preserved g c =
-    let first = find_first (λ s. bit_at c.squares-men.result s == 1) c.loop-from.number (64 - c.loop-from.number) c.in-Some.from
-    (sym c.next_bit.ensures.value ∙ c.in-Some.is) in
     let small : c.index-number.result + 1 ≤ 64 = omega (arith, c.index-number.ensures.small) in
     elim c.if-is_far.branch [
       | then-is_far w ↦ record {

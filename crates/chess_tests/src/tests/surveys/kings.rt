@@ -66,6 +66,21 @@ fn refuges(rt: HostRuntime) {
 }
 
 #[test]
+fn mates_by_pawns_and_kings(rt: HostRuntime) {
+    let motifs = [
+        Motif::StepMates,
+        Motif::DoubleStepMates,
+        Motif::CaptureMates,
+        Motif::UncoversMate(Kind::Pawn),
+        Motif::UncoversMate(Kind::King),
+    ];
+    for survey in under_all_rules(Family::Nooks, 800, &motifs) {
+        assert_eq!(rt; survey.unlike, None);
+        assert_eq!(rt; survey.rare(&motifs, 5), None);
+    }
+}
+
+#[test]
 fn missing_kings(rt: HostRuntime) {
     let motifs = [Motif::KinglessMover, Motif::KinglessEnemy];
     for survey in under_all_rules(Family::MissingKings, 400, &motifs) {

@@ -1,0 +1,30 @@
+use Rattle.std.proofs.Common.{◌==◌, ◌∙◌, arith, sym}
+use Rattle.std.specs.Int.{bit_at}
+use Rattle.chess_rules.proofs.FarMen.{far_none, far_one}
+use Rattle.chess_rules.proofs.Tests.{find_first}
+use Rattle.chess_rules.proofs.origins.far_king.Goals as goal
+
+pub returns-in_default : goal.returns-in_default
+returns-in_default g c = (far_none g.R.Rules.rule c.args.board.now).far
+
+pub targets_of_king-requires-clause-here : goal.targets_of_king-requires-clause-here
+targets_of_king-requires-clause-here g c =
+    let first = find_first (λ s. bit_at c.men_off_shields.result s == 1) 0 64 c.in-Some.from (sym c.next_bit.ensures.value ∙ c.in-Some.is) in
+    c.men_off_shields.ensures.stands c.in-Some.from (omega (arith, first.high)) first.here
+
+pub targets_of_king-requires-clause-unshielding : goal.targets_of_king-requires-clause-unshielding
+targets_of_king-requires-clause-unshielding g c =
+    let first = find_first (λ s. bit_at c.men_off_shields.result s == 1) 0 64 c.in-Some.from (sym c.next_bit.ensures.value ∙ c.in-Some.is) in
+    c.men_off_shields.ensures.unshielding c.in-Some.from (omega (arith, first.high)) first.here
+
+pub is_far-requires-clause-here : goal.is_far-requires-clause-here
+is_far-requires-clause-here g c =
+    let first = find_first (λ s. bit_at c.men_off_shields.result s == 1) 0 64 c.in-Some.from (sym c.next_bit.ensures.value ∙ c.in-Some.is) in
+    rw (← c.turn.ensures) at (c.men_off_shields.ensures.stands c.in-Some.from (omega (arith, first.high)) first.here)
+
+pub returns-then-not-is_far : goal.returns-then-not-is_far
+returns-then-not-is_far g c = (far_none g.R.Rules.rule c.args.board.now).far
+
+pub returns : goal.returns
+returns g c =
+    (far_one g.R.Rules.rule c.args.board.now c.in-Some.from c.only.result c.only.ensures (c.is_far.ensures c.if-not-is_far.false)).far
