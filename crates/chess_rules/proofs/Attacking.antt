@@ -62,10 +62,12 @@ pub comes_knight : (men : List (Option Man)) (c : Colour) (t : ℕ) → t < 64
 unfolding reaches_as
 comes_knight men c t q = squares_same _ _ (λ s p. knight-back t s q p)
 
-pub comes_pawn : (men : List (Option Man)) (c : Colour) (t : ℕ) → t < 64
-    → word (λ s. list_any (leaps t s) (pawn_captures (other c))) ≡ word (λ s. reaches_as men c Pawn s t)
+-- where e is the other side
+pub comes_pawn : (men : List (Option Man)) (c e : Colour) (t w : ℕ) → t < 64 → w ≡ word (λ s. list_any (leaps t s) (pawn_captures e)) → e ≡ other c
+    → w ≡ word (λ s. reaches_as men c Pawn s t)
 unfolding reaches_as
-comes_pawn men c t q = squares_same _ _ (λ s p. sym (pawn-back c s t p q))
+comes_pawn men c e t w q h other_side =
+    h ∙ ap (λ d. word (λ s. list_any (leaps t s) (pawn_captures d))) other_side ∙ squares_same _ _ (λ s p. sym (pawn-back c s t p q))
 
 pub comes_grasshopper : (men : List (Option Man)) (c : Colour) (t : ℕ) → t < 64
     → word (λ s. list_any (hopped_from men t s) queen_steps) ≡ word (λ s. reaches_as men c Grasshopper s t)

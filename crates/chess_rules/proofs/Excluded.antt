@@ -10,7 +10,8 @@ use Rattle.chess_core.specs.Position.{Position, is_man, is_side, king_square, ma
 use Rattle.chess_core.specs.Squares.{squares, some_square}
 use Rattle.chess_core.specs.Steps.{along, step_by, straight_steps}
 use Rattle.chess_core.specs.declared.man.Colour.TheVariants.{White, Black}
-use Rattle.chess_core.specs.declared.man.Kind.TheVariants.{King, Queen, Rook, Bishop, Knight, Grasshopper, Pawn}
+use Rattle.chess_core.specs.declared.man.Kind.TheVariants.{King, Queen, Rook, Bishop, Knight, Grasshopper, Nightrider, Pawn}
+use Rattle.chess_core.specs.declared.man.Kind.{Kind}
 use Rattle.chess_core.specs.declared.man.Man.{Man}
 use Rattle.chess_rules.specs.Attacks.{attacked, faces, faces_its_like, in_check, paralysed, strikes}
 use Rattle.chess_rules.specs.ties.CheckSquares.{AreCheckTargets, enemy, may_check_from}
@@ -20,15 +21,15 @@ use Rattle.chess_rules.specs.ties.Outward.{hopped_from, is_met, rides_on}
 use Rattle.chess_rules.specs.Play.{after, after_by, capture_square, moved_men, reborn_square, rebirth, unmoved_after}
 use Rattle.chess_rules.specs.Reaches.{hops, is_clear, leaps, reaches, reaches_as, rides}
 use Rattle.chess_rules.specs.RuleSet.{RuleSet, circe, madrasi, orthodox}
-use Rattle.chess_rules.specs.ties.Shields.{has_fairy, is_behind, is_reached, is_shut, may_expose, is_on_fairy_line}
+use Rattle.chess_rules.specs.ties.Shields.{cannot_expose, has_fairy, is_behind, is_plain, is_reached, is_shut, may_expose, may_stand_between, is_on_fairy_line}
 use Rattle.chess_core.specs.ties.Words.{word, word_of}
 use Rattle.chess_rules.specs.ties.Sight.{sight_after}
 use Rattle.chess_rules.specs.ties.Targets.{may_go, pawn_goes, steps_to}
 use Rattle.chess_rules.proofs.Pseudo.{on_board}
 use Rattle.chess_rules.proofs.StayingInCheck.{side_there}
-use Rattle.chess_rules.specs.ties.Lines.{is_ahead}
+use Rattle.chess_rules.specs.ties.Lines.{is_ahead, is_on_some}
 use Rattle.chess_rules.proofs.Typed.{go, man, on, position, set_up}
-use Rattle.chess_core.specs.SquareNames.{a1, b1, c1, d1, e1, g1, h1, a2, a3, b3, d3, a4, d5, e4, a5, a6, b6, d6, e5, e7, a8, e8, f8, g8, h8}
+use Rattle.chess_core.specs.SquareNames.{a1, b1, c1, d1, e1, g1, h1, a2, b2, h2, a3, b3, c3, d3, h3, a4, d5, e4, a5, a6, b6, d6, e5, e7, h7, a8, b8, e8, f8, g8, h8}
 
 -- White rooks a1 and a8 see each other, and neither is faced by its like: only enemies paralyse
 abbrev own_rooks : List (Option Man)
@@ -268,6 +269,82 @@ pub paralysed_man_attacks_nothing : (attacked orthodox (set_up (on White Rook a1
     × (attacked madrasi (set_up (on White Rook a1 ∷ on Black Rook h1 ∷ [])) d1 Black ≡ false)
 unfolding check_after_a_move
 paralysed_man_attacks_nothing = (refl, refl)
+
+-- Madrasi, White Kh1 Rd1, Black Kb8 Rh3, which gives check: on d3 White's rook paralyses it, and only an orthodox rook checks on
+abbrev rook_faces_rook : Position
+rook_faces_rook = position (on White King h1 ∷ on White Rook d1 ∷ on Black King b8 ∷ on Black Rook h3 ∷ []) White
+
+pub arriving_man_paralyses : (in_check madrasi rook_faces_rook.men White ≡ true) × (pseudo madrasi rook_faces_rook (go d1 d3) ≡ true)
+    × (in_check madrasi (after madrasi rook_faces_rook (go d1 d3)).men White ≡ false)
+    × (in_check orthodox (after orthodox rook_faces_rook (go d1 d3)).men White ≡ true)
+unfolding check_after_a_move
+arriving_man_paralyses = (refl, refl, refl, refl)
+
+-- Madrasi, White Ka1, Black Kc3: on b2 White's king faces its like, which still attacks it
+abbrev king_faces_king : Position
+king_faces_king = position (on White King a1 ∷ on Black King c3 ∷ []) White
+
+pub kings_are_never_paralysed : (faces_its_like (after madrasi king_faces_king (go a1 b2)).men (man Black King) c3 ≡ true)
+    × (paralysed madrasi (after madrasi king_faces_king (go a1 b2)).men c3 ≡ false)
+    × (in_check madrasi (after madrasi king_faces_king (go a1 b2)).men White ≡ true)
+unfolding check_after_a_move
+kings_are_never_paralysed = (refl, refl, refl)
+
+-- but queens are: White Kh1 Qd1, Black Kb8 Qh3, and the queen goes to d3
+pub queens_are_paralysed : in_check madrasi
+    (after madrasi (position (on White King h1 ∷ on White Queen d1 ∷ on Black King b8 ∷ on Black Queen h3 ∷ []) White) (go d1 d3)).men White ≡ false
+unfolding check_after_a_move
+queens_are_paralysed = refl
+
+-- what the examples of shields compute with beside it
+lines_to_a_king : Unit {0}
+unfolding may_expose cannot_expose may_stand_between is_on_fairy_line is_plain is_reached is_ahead is_on_some is_shut is_behind
+lines_to_a_king = tt
+
+-- White Ka1 Rh2, Black Kh8 Ga8: on a2 the rook is the hurdle over which the grasshopper gives check, though the rook stood on no line to
+-- the king
+abbrev hurdle_comes : Position
+hurdle_comes = position (on White King a1 ∷ on White Rook h2 ∷ on Black King h8 ∷ on Black Grasshopper a8 ∷ []) White
+
+pub arriving_man_is_a_hurdle : (may_expose orthodox hurdle_comes.men White h2 ≡ false) × (may_stand_between hurdle_comes.men White h2 ≡ false)
+    × (may_stand_between hurdle_comes.men White a2 ≡ true) × (cannot_expose orthodox hurdle_comes White (go h2 a2) ≡ false)
+    × (pseudo orthodox hurdle_comes (go h2 a2) ≡ true) × (in_check orthodox hurdle_comes.men White ≡ false)
+    × (in_check orthodox (after orthodox hurdle_comes (go h2 a2)).men White ≡ true)
+unfolding lines_to_a_king check_after_a_move
+arriving_man_is_a_hurdle = (refl, refl, refl, refl, refl, refl, refl)
+
+-- White Ka1 Ra2 Na4, Black Kh8 Ga8: once the knight has gone, the rook is the hurdle, though the knight shut no line of a rook
+abbrev hurdle_goes : Position
+hurdle_goes = position (on White King a1 ∷ on White Rook a2 ∷ on White Knight a4 ∷ on Black King h8 ∷ on Black Grasshopper a8 ∷ []) White
+
+pub leaving_man_opens_a_hop : (is_shut hurdle_goes.men Black Rook straight_steps a1 a4 ≡ false)
+    × (may_stand_between hurdle_goes.men Black a4 ≡ false) × (may_expose orthodox hurdle_goes.men White a4 ≡ true)
+    × (pseudo orthodox hurdle_goes (go a4 b6) ≡ true) × (in_check orthodox hurdle_goes.men White ≡ false)
+    × (in_check orthodox (after orthodox hurdle_goes (go a4 b6)).men White ≡ true)
+unfolding lines_to_a_king check_after_a_move
+leaving_man_opens_a_hop = (refl, refl, refl, refl, refl, refl)
+
+-- White Kc1 Bd3, Black Kh8 and a nightrider on e5: the bishop shuts its line to the king, as no line of a knight is shut
+abbrev shut_nightrider : Kind → Position
+shut_nightrider k = position (on White King c1 ∷ on White Bishop d3 ∷ on Black King h8 ∷ on Black k e5 ∷ []) White
+
+pub nightriders_line_is_shut : (may_stand_between (shut_nightrider Nightrider).men White d3 ≡ true)
+    × (may_stand_between (shut_nightrider Knight).men White d3 ≡ false)
+    × (pseudo orthodox (shut_nightrider Nightrider) (go d3 e4) ≡ true) × (in_check orthodox (shut_nightrider Nightrider).men White ≡ false)
+    × (in_check orthodox (after orthodox (shut_nightrider Nightrider) (go d3 e4)).men White ≡ true)
+unfolding lines_to_a_king check_after_a_move
+nightriders_line_is_shut = (refl, refl, refl, refl, refl)
+
+-- Black Ka1 Pa2, a White grasshopper on h7: on a3 it gives check over the pawn, where a queen gives none, and on h1 a queen alone does
+abbrev hop_to_a_king : List (Option Man)
+hop_to_a_king = set_up (on Black King a1 ∷ on Black Pawn a2 ∷ on White Grasshopper h7 ∷ [])
+
+pub grasshopper_checks_over_a_hurdle : (may_check_from hop_to_a_king Black (enemy Black Grasshopper) a3 ≡ true)
+    × (may_check_from hop_to_a_king Black (enemy Black Queen) a3 ≡ false)
+    × (may_check_from hop_to_a_king Black (enemy Black Grasshopper) h1 ≡ false)
+    × (may_check_from hop_to_a_king Black (enemy Black Queen) h1 ≡ true)
+unfolding may_check_from check_after_a_move
+grasshopper_checks_over_a_hurdle = (refl, refl, refl, refl)
 
 -- a stretch without a move ends before a move to one of the word's squares
 ends_at : (p : Position) (s w k b : ℕ) → (bit_at w (k / 7) == 1) ≡ true

@@ -71,10 +71,7 @@ faced_is men c y s side =
     let mine : other y.colour ≡ c = ap other (same_colour-true y.colour (other c) side) ∙ other_twice c in
     ap (λ (d : Colour). some_square (λ q. is_man (man_on men q) d y.kind && reaches men q s)) (sym mine)
 
--- of a man that is no king, and of a king
-pub faced_man : (king f : Bool) → king ≡ false → f ≡ (not king && f)
-faced_man king f h = sym (ap (λ (k : Bool). not k && f) h)
-
+-- a king is none
 pub faced_king : (king f : Bool) → king ≡ true → not king ≡ (not king && f)
 faced_king king f h = (λ i. not (h i)) ∙ sym (ap (λ (k : Bool). not k && f) h)
 

@@ -639,7 +639,18 @@ unfolding cannot_expose
 cannot_expose_nobody rule p c m none = rw none refl
 
 -- and its second half, by the word of the lines
-pub stands_aside_is : (men : List (Option Man)) (c : Colour) (w t n : ℕ) (b u : Bool) → w ≡ word (may_stand_between men c) → t ≡ n → t < 64
-    → b ≡ (bit_at w t == 1) → (not b && u) ≡ (not (may_stand_between men c n) && u)
-stands_aside_is men c w t n b u h same small e =
-    ap (λ (y : Bool). not y && u) (e ∙ word_has (may_stand_between men c) w t h small ∙ ap (may_stand_between men c) same)
+between_is : (men : List (Option Man)) (c : Colour) (w t n : ℕ) (b : Bool) → w ≡ word (may_stand_between men c) → t ≡ n → t < 64
+    → b ≡ (bit_at w t == 1) → b ≡ may_stand_between men c n
+between_is men c w t n b h same small e = e ∙ word_has (may_stand_between men c) w t h small ∙ ap (may_stand_between men c) same
+
+-- where he stands aside
+pub stands_aside_is : (men : List (Option Man)) (c : Colour) (w t n : ℕ) (b u r : Bool) → w ≡ word (may_stand_between men c) → t ≡ n → t < 64
+    → b ≡ (bit_at w t == 1) → b ≡ false → r ≡ u → r ≡ (not (may_stand_between men c n) && u)
+stands_aside_is men c w t n b u r h same small e off plain =
+    plain ∙ ap (λ (y : Bool). not y && u) (sym off ∙ between_is men c w t n b h same small e)
+
+-- and where he doesn't
+pub stands_between : (men : List (Option Man)) (c : Colour) (w t n : ℕ) (b u : Bool) → w ≡ word (may_stand_between men c) → t ≡ n → t < 64
+    → b ≡ (bit_at w t == 1) → b ≡ true → false ≡ (not (may_stand_between men c n) && u)
+stands_between men c w t n b u h same small e there =
+    ap (λ (y : Bool). not y && u) (sym there ∙ between_is men c w t n b h same small e)

@@ -100,6 +100,11 @@ unfolding left_of
 left-ended rule problem phase count old new board w =
     let n : count + 0 ≡ count = omega arith in rw (w.ended refl, w.none refl, n) refl
 
+pub within-limit : (rule : RuleSet) (problem : Posed) (phase : Phase) (count : ℕ) (frames : List Frame) (board : Position)
+    → IsStanding rule problem (Within phase count) frames board → count ≤ problem.max_solutions
+unfolding IsStanding
+within-limit rule problem phase count frames board s = s.1
+
 two_one : (n : ℕ) → 2 ≤ n → eqb n 2 ≡ eqb (n - 1) 1
 two_one n h = let m : n ≡ suc (n - 1) = omega (arith, h) in rw m (grind (arith, nat_tests))
 
@@ -129,10 +134,10 @@ module _ (rule : RuleSet) (problem : Posed) (phase : Phase) (count : ℕ) (old :
     stands = stands_at rule problem phase (phase_half_moves problem phase) frames board w.walking deep-given;
   }
 
-  pub standing-given : (next : ℕ) → next ≡ count + cond (is_help problem.stipulation.form || eqb (length frames) 2) 1 0
+  stands-here : (next : ℕ) → next ≡ count + cond (is_help problem.stipulation.form || eqb (length frames) 2) 1 0
       → IsStanding rule problem (Within phase next) (reverse frames) board
   unfolding IsStanding
-  standing-given next n = (w.walking, omega (arith, n, most, room-given))
+  stands-here next n = (w.walking, omega (arith, n, most, room-given))
 
   -- once board and frames still stand as they were left
   module _ (left : List Frame) (stand : Position) (kept : left ≡ frames) (stays : stand ≡ board) where
@@ -140,6 +145,10 @@ module _ (rule : RuleSet) (problem : Posed) (phase : Phase) (count : ℕ) (old :
         → event ≡ event_of rule problem (step_of problem phase (path (reverse frames)))
         → Gives rule problem (left_of rule problem (Within phase count) old) (left_of rule problem (Within phase next) (reverse left)) event stand (length left)
     gives-given next event n e = rw (kept, stays) (gives-here next event n e)
+
+  pub standing-given : (left : List Frame) (stand : Position) → left ≡ reverse frames → stand ≡ board → (next : ℕ)
+      → next ≡ count + cond (is_help problem.stipulation.form || eqb (length frames) 2) 1 0 → IsStanding rule problem (Within phase next) left stand
+  standing-given left stand kept stays next n = rw (kept, stays) (stands-here next n)
 
   pub shallow-given : IsSound problem → length frames ≤ 33
   shallow-given s = shallow rule problem phase (phase_half_moves problem phase) frames board w.walking deep-given (at_most phase)

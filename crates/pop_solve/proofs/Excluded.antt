@@ -1,5 +1,7 @@
--- What the clause of `go_on` excludes: events given after the board was taken back, totals that say the wrong thing, and totals that come too early.
-use Rattle.std.proofs.Common.{◌≡◌, ℕ, ◌-◌, Bool, true, false, eqb, cond, List, [], ◌∷◌, ◌++◌, map, ◌∙◌, ap, arith}
+-- What the clauses of a search exclude: events given after the board was taken back or given twice, totals that say the wrong thing or come too early,
+-- mates passed over, and counts of events and frames that begin or grow otherwise.
+use Rattle.std.proofs.Common.{◌≡◌, ℕ, ◌+◌, ◌-◌, ◌^◌, min, Bool, true, false, eqb, cond, List, [], ◌∷◌, ◌++◌, map, filter, length, sym, ◌∙◌, ap, arith, inl, inr, ◌⊎◌}
+use Rattle.std.proofs.lemmas.List.Elements.{filter-append}
 use Rattle.arrayvec.specs.ArrayVec.{ArrayVec}
 use Rattle.chess_core.specs.Position.{Position}
 use Rattle.chess_core.specs.Triple.{Triple}
@@ -7,12 +9,17 @@ use Rattle.chess_rules.specs.RuleSet.{RuleSet}
 use Rattle.pop_input.specs.Posed.{Posed}
 use Rattle.pop_input.specs.Stipulations.{is_help}
 use Rattle.pop_solve.specs.declared.event.Phase.{Phase}
+use Rattle.pop_solve.specs.declared.event.Event.{Event}
 use Rattle.pop_solve.specs.declared.event.Event.TheVariants.{Line, Node, Total}
-use Rattle.pop_solve.specs.declared.phases.Stage.TheVariants.{Within}
+use Rattle.pop_solve.specs.declared.phases.Stage.TheVariants.{Barred, Before, Within}
+use Rattle.pop_solve.specs.declared.plan.Plan.{Plan}
+use Rattle.pop_input.specs.declared.stipulation.Goal.TheVariants.{Mate}
+use Rattle.chess_rules.specs.ties.Places.{is_mating, moves_behind}
+use Rattle.pop_solve.specs.ties.Walk.{GoesTo}
 use Rattle.pop_solve.specs.ties.Frames.{Frame}
-use Rattle.pop_solve.specs.Events.{Step, opening, impossible, line, tree_node, total, step_of, event_of}
-use Rattle.pop_solve.specs.ties.Seen.{StandsOn}
-use Rattle.pop_solve.specs.ties.Phases.{keep, left_of, phase_paths, Gives}
+use Rattle.pop_solve.specs.Events.{Step, first_phase, opening, impossible, line, tree_node, total, step_of, event_of}
+use Rattle.pop_solve.specs.ties.Seen.{is_walked_once, StandsOn}
+use Rattle.pop_solve.specs.ties.Phases.{keep, left_of, phase_paths, rest_open, Gives, IsGiven, IsOpened}
 use Rattle.pop_solve.specs.Shown.{Shown}
 
 module _ (rule : RuleSet) (problem : Posed) (old new : List Step) (board : Position) where
@@ -74,3 +81,52 @@ module _ (rule : RuleSet) (problem : Posed) (phase : Phase) (count : ℕ) (frame
       → Gives rule problem (left_of rule problem (Within phase count) frames) new (Total c s) board depth → ⊥
   unfolding left_of
   no_total_before_the_last_path x xs k g = at_path x _ g.step (rw k at g.left) g.event_is
+
+module _ (rule : RuleSet) (problem : Posed) (event : Event) (board : Position) (depth : ℕ) where
+  -- a step that was given isn't still to come
+  pub no_step_stays : (left : List Step) → Gives rule problem left left event board depth → ⊥
+  no_step_stays left g = absurd (omega (arith, ap length g.left))
+
+  -- so set play is said to be impossible once
+  pub impossible_is_given_once : (old new : List Frame)
+      → Gives rule problem (left_of rule problem Barred old) (left_of rule problem Barred new) event board depth → ⊥
+  unfolding left_of
+  impossible_is_given_once old new g = no_step_stays _ g
+
+module _ (rule : RuleSet) (problem : Posed) where
+  -- each event given counts one
+  pub one_event_is_counted : (step : Step) (left : List Step) (before after : ℕ) → IsGiven rule problem (step ∷ left) before
+      → IsGiven rule problem left after → after ≡ min (before + 1) (2 ^ 64 - 1)
+  one_event_is_counted step left before after g h = omega (arith, g.counts, h.counts, g.within)
+
+  -- a search that has given nothing has opened nothing, where no line of moves is walked twice
+  pub nothing_is_opened_at_first : (frames : List Frame) (opened : ℕ) → is_walked_once problem ≡ true
+      → IsOpened rule problem (Before (first_phase problem)) frames opened → opened ≡ 0
+  unfolding rest_open
+  nothing_is_opened_at_first frames opened once o = omega (arith, o.most once)
+
+module _ (rule : RuleSet) (plan : Plan) (left place : ℕ) (p : Position) where
+  -- in help play no mate behind the place is passed over
+  pub no_mate_is_passed_over : (rest : List Triple) → GoesTo rule plan left p place rest
+      → filter (is_mating rule p) (moves_behind rule p place) ≡ filter (is_mating rule p) rest
+  no_mate_is_passed_over rest t =
+      ap (filter (is_mating rule p)) t.passed ∙ filter-append (is_mating rule p) t.over (moves_behind rule p t.mid)
+      ∙ (λ i. none t.none i ++ filter (is_mating rule p) (t.here i))
+    where
+      none : (t.over ≡ []) ⊎ ((is_help plan.form ≡ true) × (plan.goal ≡ Mate) × (left ≡ 1) × (filter (is_mating rule p) t.over ≡ []))
+          → filter (is_mating rule p) t.over ≡ []
+      none (inl e) = ap (filter (is_mating rule p)) e
+      none (inr h) = h.3
+
+  -- so where the next move mates, it is the next solution
+  pub first_mate_is_next : (m n : Triple) (more rest : List Triple) → moves_behind rule p place ≡ m ∷ more → is_mating rule p m ≡ true
+      → is_mating rule p n ≡ true → GoesTo rule plan left p place (n ∷ rest) → n ≡ m
+  first_mate_is_next m n more rest here mates too t = by (is_mating rule p m) (is_mating rule p n) mates too
+      (ap (filter (is_mating rule p)) (sym here) ∙ no_mate_is_passed_over (n ∷ rest) t)
+    where
+      by : (a b : Bool) → a ≡ true → b ≡ true
+          → cond a (m ∷ filter (is_mating rule p) more) (filter (is_mating rule p) more)
+          ≡ cond b (n ∷ filter (is_mating rule p) rest) (filter (is_mating rule p) rest) → n ≡ m
+      by true true e f same = cc
+      by false b e f same = absurd cc
+      by true false e f same = absurd cc

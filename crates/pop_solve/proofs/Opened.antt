@@ -181,9 +181,10 @@ module _ (rule : RuleSet) (problem : Posed) where
     walked-counted h walk c =
         counted-along walk (later phase) after _ (omega (arith, c.within)) (x.counted h (walk - later phase) (counted-apart walk (later phase) before _ c))
 
-    pub opens-given : (next : ℕ) (left : List Step) → OpensOn rule problem (Within phase count) (Within phase next) old new before after left
+    pub opens-given : (next : ℕ) (left : List Step) (last : List Frame) → last ≡ new
+        → OpensOn rule problem (Within phase count) (Within phase next) old last before after left
     unfolding rest_open rest_fewest IsNarrow
-    opens-given next left = record {
+    opens-given next left last kept = rw kept record {
       narrow = λ n. narrowed n;
       most = λ n. omega (arith, walked-most n);
       counted = λ h u walk c. walked-counted h walk c;
@@ -278,9 +279,9 @@ module _ (rule : RuleSet) (problem : Posed) where
   }
 
   -- a search that has opened nothing
-  pub opened-start : (frames : List Frame) → IsOpened rule problem (Before (first_phase problem)) frames 0
+  pub opened-start : (frames : List Frame) (opened : ℕ) → opened ≡ 0 → IsOpened rule problem (Before (first_phase problem)) frames opened
   unfolding rest_open rest_fewest IsNarrow
-  opened-start frames = record {
+  opened-start frames opened none = rw none record {
     narrow = λ w. narrowed (is_help problem.stipulation.form) problem.variation problem.set_play refl refl refl w;
     most = λ w. omega arith;
     counted = λ h u. record { within = omega arith; counts = omega arith };

@@ -25,4 +25,4 @@ returns g c =
     rw (c.capture_square-captured.ensures, from, to) at c.sight_after-sight.ensures in
     exposed_is g.R.Rules.rule p x m c.in-Some-king_after.king c.attackers_seen-attackers.result c.some_free_after.result c.requires.well_formed
     c.requires.pseudo small here simple king (rw (seen, c.other.ensures, c.turn.ensures) at c.attackers_seen-attackers.ensures)
-    (rw seen at c.some_free_after.ensures)
+    (λ men are others. search (rules, c.some_free_after.ensures men (rw seen are) others))

@@ -1,4 +1,4 @@
-use Rattle.std.proofs.Common.{◌∙◌}
+use Rattle.std.proofs.Common.{◌∙◌, rules}
 use Rattle.chess_rules.proofs.Attacking.{comes_king, comes_queen, comes_rook, comes_bishop, comes_knight, comes_pawn, comes_grasshopper, comes_nightrider}
 use Rattle.chess_rules.proofs.outward.comes_as.Goals as goal
 
@@ -27,8 +27,8 @@ returns-in-Knight c = λ men held.
 
 pub returns-in-Pawn : goal.returns-in-Pawn
 returns-in-Pawn c = λ men held.
-    rw c.in-Pawn.is (rw c.other.ensures at c.pawn_leaps.ensures ∙ comes_pawn men c.args.colour c.args.to
-    (rw c.index-small.ensures.value at c.index-small.ensures.small))
+    rw c.in-Pawn.is (comes_pawn men c.args.colour _ c.args.to _ (rw c.index-small.ensures.value at c.index-small.ensures.small) c.pawn_leaps.ensures
+    (search rules))
 
 pub returns-in-Grasshopper : goal.returns-in-Grasshopper
 returns-in-Grasshopper c = λ men held.

@@ -1,4 +1,4 @@
-use Rattle.std.proofs.Common.{◌∙◌, sym}
+use Rattle.std.proofs.Common.{◌∙◌, sym, rules}
 use Rattle.chess_rules.proofs.Shielding.{shield_squares_all, shield_squares_none, shield_squares_some}
 use Rattle.chess_rules.proofs.shields.shield_squares.Goals as goal
 
@@ -11,7 +11,4 @@ returns-then-is_reached g c =
     (rw c.other.ensures at (sym c.is_reached.ensures ∙ c.if-is_reached.true))
 
 pub returns : goal.returns
-returns g c =
-    shield_squares_some g.R.Rules.rule c.args.board.now.men c.args.colour c.in-Some.king c.shields_of.result c.fairy_lines.result
-    (sym c.king_of.ensures ∙ c.in-Some.is)
-    (rw c.other.ensures at (sym c.is_reached.ensures ∙ c.if-is_reached.false)) c.shields_of.ensures c.fairy_lines.ensures
+returns g c = search (rules, shield_squares_some)

@@ -1,5 +1,6 @@
-use Rattle.pop_solve.proofs.Opened as opened
+use Rattle.std.proofs.Common.{rules}
+use Rattle.pop_solve.proofs.Opened.{opens-play}
 use Rattle.pop_solve.proofs.phases.advance.Goals as goal
 
 pub returns-in-Barred-clause-opens : goal.returns-in-Barred-clause-opens
-returns-in-Barred-clause-opens g c = rw c.in-Barred.is (opened.opens-play g.R.Rules.rule c.args.problem.now _ _ _)
+returns-in-Barred-clause-opens g c = rw c.in-Barred.is (search (rules, opens-play))

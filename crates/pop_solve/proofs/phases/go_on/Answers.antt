@@ -26,11 +26,11 @@ event_at-event-requires g c =
     }
 
 pub returns-then-walk_on-clause-standing : goal.returns-then-walk_on-clause-standing
-unfolding IsStanding
 returns-then-walk_on-clause-standing g c =
-    rw c.event_at-event.ensures.unchanged
-    (events.standing-given g.R.Rules.rule c.args.problem.now c.args.phase _ _ _ _ c.requires.standing.1
-    (rw c.still_to_begin-limit.ensures at c.if-walk_on.ensures.walks) _ (rw c.len.ensures.value at c.count_with-count.ensures))
+    events.standing-given g.R.Rules.rule c.args.problem.now c.args.phase c.args.count _ _ _
+    (events.within-limit g.R.Rules.rule c.args.problem.now c.args.phase c.args.count _ _ c.requires.standing)
+    (rw c.still_to_begin-limit.ensures at c.if-walk_on.ensures.walks) _ _ (search rules) (search rules) _
+    (rw c.len.ensures.value at c.count_with-count.ensures)
 
 pub returns-then-walk_on-clause-gives : goal.returns-then-walk_on-clause-gives
 unfolding IsStanding
@@ -51,7 +51,8 @@ returns-clause-gives g c =
 
 pub returns-then-walk_on-clause-opens : goal.returns-then-walk_on-clause-opens
 returns-then-walk_on-clause-opens g c =
-    opened.opens-given g.R.Rules.rule c.args.problem.now c.args.phase _ _ _ _ _ c.walk_on.ensures.opens c.walk_on.ensures.tries _ _
+    opened.opens-given g.R.Rules.rule c.args.problem.now c.args.phase _ _ _ _ _ c.walk_on.ensures.opens c.walk_on.ensures.tries _ _ _
+    (search rules)
 
 pub returns-clause-opens : goal.returns-clause-opens
 unfolding IsStanding

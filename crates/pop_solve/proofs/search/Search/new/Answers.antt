@@ -1,4 +1,4 @@
-use Rattle.std.proofs.Common.{◌∙◌, ap, refl}
+use Rattle.std.proofs.Common.{◌∙◌, ap, refl, rules}
 use Rattle.chess_core.specs.Diagrams.{position_of}
 use Rattle.pop_solve.specs.Events.{steps_from}
 use Rattle.pop_solve.specs.ties.Phases.{IsStanding, left_of}
@@ -13,7 +13,7 @@ invariant_of-result g c = (
   c.requires.room,
   rw c.new.ensures (refl, c.of.ensures ∙ ap position_of c.diagram.ensures.diagram),
   rw c.first_phase.ensures (given-all g.R.Rules.rule c.args.problem.now),
-  rw c.first_phase.ensures (opened-start g.R.Rules.rule c.args.problem.now _),
+  rw c.first_phase.ensures (opened-start g.R.Rules.rule c.args.problem.now _ _ (search rules)),
 )
 
 pub returns-clause-left : goal.returns-clause-left
