@@ -175,7 +175,8 @@ unfolding moved_men
 moved_lacks p x m e here unpromoted none =
     let comes : is_man (Some (arriving x m.promo)) e Grasshopper ≡ false = ap (λ (r : Option Kind). is_man (Some (arriving x r)) e Grasshopper) unpromoted
     ∙ ap (λ (o : Option Man). is_man o e Grasshopper) (sym here) ∙ none m.from in
-    let arrived_lacks : LacksGrasshopper (arrived p x m) e = lacks_with (without_at (without_man p.men m.from) (capture_square p x m)) m.to (arriving x m.promo) e
+    let arrived_lacks : LacksGrasshopper (arrived p x m) e =
+    lacks_with (without_at (without_man p.men m.from) (capture_square p x m)) m.to (arriving x m.promo) e
     (lacks_without_at (without_man p.men m.from) (capture_square p x m) e (lacks_without p.men m.from e none)) comes in
     elim (cases_Bool (is_castling x m)) [
       | inl castles ↦ rw castles (lacks_moved (arrived p x m) (corner m) (halfway m) (man_on (arrived p x m) (corner m)) e refl arrived_lacks)
@@ -204,7 +205,8 @@ rebirth_gives_no_check p x m well may here unpromoted absent safe =
       is = made circe p m x may here
 
       before : in_check orthodox (moved_men p x m) (other p.turn) ≡ false
-      before = ap (λ (men : List (Option Man)). in_check orthodox men (other p.turn)) (sym (unreborn_after orthodox p x m here (λ e. absurd (false≢true e)))) ∙ safe
+      before =
+          ap (λ (men : List (Option Man)). in_check orthodox men (other p.turn)) (sym (unreborn_after orthodox p x m here (λ e. absurd (false≢true e)))) ∙ safe
 
       lacks : LacksGrasshopper (moved_men p x m) p.turn
       lacks = moved_lacks p x m p.turn here unpromoted (absent_lacks p.men p.turn well.size absent)
@@ -258,8 +260,8 @@ no_check_by_rebirth rule p x m s y w t well may here a is h same small off unpro
       ap (λ (r : RuleSet). cannot_expose r p (other p.turn) m) (sym (cond-true (are_rebirths_quiet rule p.men p.turn) _ _ quiet)) ∙ cover in
       ap (λ (r : RuleSet). in_check r (after r p m).men (other p.turn)) parts.0
       ∙ rebirth_gives_no_check p x m well may_so here unpromoted parts.1
-      (no_check orthodox p x m s y w t well (pseudo_so p m may_so) here (check_squares_alike rule orthodox p.men (other p.turn) s a) is h same small off unpromoted
-      cover_so)
+      (no_check orthodox p x m s y w t well (pseudo_so p m may_so) here (check_squares_alike rule orthodox p.men (other p.turn) s a) is h same small off
+      unpromoted cover_so)
   | inr loud ↦
       let cover_so : cannot_expose rule p (other p.turn) m ≡ true =
       ap (λ (r : RuleSet). cannot_expose r p (other p.turn) m) (sym (cond-false (are_rebirths_quiet rule p.men p.turn) _ _ loud)) ∙ cover in
