@@ -16,11 +16,11 @@ use Rattle.chess_core.specs.declared.man.Man.{Man}
 use Rattle.chess_core.specs.declared.man.Move.{Move}
 use Rattle.chess_rules.specs.declared.checks.CheckSquares.{CheckSquares}
 use Rattle.chess_rules.specs.Attacks.{in_check}
-use Rattle.chess_rules.specs.ties.CheckSquares.{AreCastlingTargets, AreCheckSquares, AreCheckTargets, check_squares_for, enemy, may_check_from, own_man}
+use Rattle.chess_rules.specs.ties.CheckSquares.{AreCastlingTargets, AreCheckSquares, AreCheckTargets, check_squares_for, enemy, may_check_from, own_man, are_rebirths_quiet}
 use Rattle.chess_rules.specs.ties.Shields.{cannot_expose, is_plain, may_expose, may_stand_between}
 use Rattle.chess_rules.specs.Legal.{last_rank, pseudo}
 use Rattle.chess_rules.specs.Play.{after, arriving, halfway, is_castling}
-use Rattle.chess_rules.specs.RuleSet.{RuleSet, is_circe}
+use Rattle.chess_rules.specs.RuleSet.{RuleSet, circe, is_circe, orthodox}
 use Rattle.chess_rules.specs.ties.Targets.{arrives, is_arrival, may_go}
 use Rattle.chess_rules.proofs.Arrivals.{may_go_aimed}
 use Rattle.chess_rules.specs.ties.Lines.{is_aside}
@@ -29,9 +29,10 @@ use Rattle.chess_rules.proofs.CastlingChecks.{castling_aside, castling_gives_no_
 use Rattle.chess_rules.proofs.Checking.{no_check}
 use Rattle.chess_rules.proofs.Fits.{kind_is_king}
 use Rattle.chess_rules.proofs.Pseudo.{made}
+use Rattle.chess_rules.proofs.Rebirths.{check_squares_alike, pseudo_so, quiet_parts, rebirth_gives_no_check}
 use Rattle.chess_rules.proofs.Shielding.{other_differs}
 use Rattle.chess_rules.proofs.Walks.{off_second}
-use Rattle.chess_rules.proofs.Targeting.{arrival_needed, every_square_on, false_by, nobody_moves, unpromoted, castling_steps, other_word}
+use Rattle.chess_rules.proofs.Targeting.{arrival_needed, every_square_on, false_by, nobody_moves, unpromoted}
 
 -- a square off both words is off each
 pub off_left : (a b i : ℕ) → (bit_at (bit_or a b) i == 1) ≡ false → (bit_at a i == 1) ≡ false
@@ -137,8 +138,33 @@ module _ (rule : RuleSet) (p : Position) (x : Man) (s : CheckSquares) (f : ℕ) 
           by_kind (unnamed m.promo refl) (covering n)
     ]
 
+-- the captures that may be followed by a rebirth among them, where that may give check
+module _ (rule : RuleSet) (p : Position) (x : Man) (s : CheckSquares) (f : ℕ) (well : IsWellFormed p) (here : man_on p.men f ≡ Some x)
+    (checks : AreCheckSquares rule p.men (other p.turn) s) (inside : f < 64) (covered : (bit_at s.shield_squares f == 1) ≡ false) (a b c d e : ℕ)
+    (checked_from : a ≡ check_squares_for s x.kind) (crossed : b ≡ word (λ t. is_square p.crossed t))
+    (promotes : same_kind x.kind Pawn ≡ true → c ≡ 18374686479671623935)
+    (castles : same_kind x.kind King ≡ true → AreCastlingTargets s f c)
+    (reborn : are_rebirths_quiet rule p.men p.turn ≡ false → is_circe rule ≡ true → d ≡ word (λ t. is_some (man_on p.men t)))
+    (lines : e ≡ word (may_stand_between p.men (other p.turn))) where
+  by_rule : (m : Move) → m.from ≡ f → m.to < 64 → pseudo rule p m ≡ true → (bit_at (bit_or (bit_or (bit_or (bit_or a b) c) d) e) m.to == 1) ≡ false
+      → in_check rule (after rule p m).men (other p.turn) ≡ false
+  by_rule m at small may off = elim (cases_Bool (are_rebirths_quiet rule p.men p.turn)) [
+    | inl quiet ↦
+        let parts = quiet_parts rule p.men p.turn quiet in
+        let may_so : pseudo circe p m ≡ true = ap (λ (r : RuleSet). pseudo r p m) (sym parts.0) ∙ may in
+        let checks_so : AreCheckSquares orthodox p.men (other p.turn) s = check_squares_alike rule orthodox p.men (other p.turn) s checks in
+        let unpromoted : m.promo ≡ None = unnamed orthodox p x s f well here checks_so inside covered a b c d e checked_from crossed promotes castles
+        (λ bad. absurd (false≢true bad)) lines m at small (pseudo_so p m may_so) off m.promo refl in
+        ap (λ (r : RuleSet). in_check r (after r p m).men (other p.turn)) parts.0
+        ∙ rebirth_gives_no_check p x m well may_so (ap (man_on p.men) at ∙ here) unpromoted parts.1
+        (no_check_elsewhere orthodox p x s f well here checks_so inside covered a b c d e checked_from crossed promotes castles (λ bad. absurd (false≢true bad))
+        lines m at small (pseudo_so p m may_so) off)
+    | inr loud ↦
+        no_check_elsewhere rule p x s f well here checks inside covered a b c d e checked_from crossed promotes castles (reborn loud) lines m at small may off
+  ]
+
   pub check_targets_some : AreCheckTargets rule p f (bit_or (bit_or (bit_or (bit_or a b) c) d) e)
-  check_targets_some = record { elsewhere = λ m at small may off. no_check_elsewhere m at small may off }
+  check_targets_some = record { elsewhere = λ m at small may off. by_rule m at small may off }
 
 -- the targets among the squares to which the man might go
 pub check_targets_there : (rule : RuleSet) (p : Position) (x : Man) (f o w : ℕ) → man_on p.men f ≡ Some x
@@ -154,9 +180,9 @@ check_targets_there rule p x f o w here there are = record {
 pub kind_targets : (rule : RuleSet) (p : Position) (j : Kind) (s : CheckSquares) (a b c d e f : ℕ) → IsWellFormed p
     → AreCheckSquares rule p.men (other p.turn) s → same_kind j King ≡ false → a ≡ check_squares_for s j → b ≡ word (λ t. is_square p.crossed t)
     → (same_kind j Pawn ≡ true → c ≡ 18374686479671623935) → (same_kind j Pawn ≡ false → c ≡ 0)
-    → (is_circe rule ≡ true → d ≡ word (λ t. is_some (man_on p.men t))) → e ≡ word (may_stand_between p.men (other p.turn))
+    → (are_rebirths_quiet rule p.men p.turn ≡ false → is_circe rule ≡ true → d ≡ word (λ t. is_some (man_on p.men t))) → e ≡ word (may_stand_between p.men (other p.turn))
     → f < 64 → man_on p.men f ≡ Some (own_man p j) → (bit_at s.shield_squares f == 1) ≡ false
     → AreCheckTargets rule p f (bit_or (bit_or (bit_or (bit_or a b) c) d) e)
 kind_targets rule p j s a b c d e f well checks piece checked_from crossed promotes none reborn lines inside here covered =
     check_targets_some rule p (own_man p j) s f well here checks inside covered a b c d e checked_from crossed promotes
-    (λ no_pawn. none no_pawn ∙ other_word (own_man p j) f no_pawn piece) reborn lines
+    (λ king. absurd (false≢true (sym piece ∙ king))) reborn lines

@@ -1,22 +1,23 @@
 //! Moves that give no check, told before they are made.
-ghost use Rattle.std.specs.Prelude.{◌≡◌, ◌<◌, ◌==◌, ℕ, None, Some, false, not, true};
+ghost use Rattle.std.specs.Prelude.{◌≡◌, ◌<◌, ◌==◌, ℕ, None, Some, false, not, true, is_some};
 ghost use Rattle.std.specs.Int.{bit_at};
 ghost use Rattle.chess_core.specs.Position.{man_on, other, same_kind};
 ghost use Rattle.chess_core.specs.declared.man.Kind.TheVariants.{King, Pawn};
 ghost use Rattle.chess_core.specs.WellFormed.{IsWellFormed};
 ghost use Rattle.chess_core.specs.ties.Words.{word};
 ghost use Rattle.chess_rules.specs.Attacks.{in_check};
-ghost use Rattle.chess_rules.specs.ties.CheckSquares.{AreCastlingTargets, AreCheckSquares, AreCheckTargets, enemy, is_absent, may_check_from, check_squares_for, own_man};
+ghost use Rattle.chess_rules.specs.ties.CheckSquares.{AreCastlingTargets, AreCheckSquares, AreCheckTargets, enemy, is_absent, may_check_from, check_squares_for, own_man, are_rebirths_quiet, rule_of_checks};
 ghost use Rattle.chess_rules.specs.ties.Shields.{cannot_expose, is_fairy, may_stand_between};
 ghost use Rattle.chess_rules.specs.Legal.{pseudo};
 ghost use Rattle.chess_rules.specs.Play.{after};
+ghost use Rattle.chess_rules.specs.RuleSet.{is_circe};
 
 use crate::evasions::rebirth_captures;
 use crate::leaps::squares_aside;
 use crate::lines::occupied;
 use crate::open_board::open_targets;
 use crate::outward::comes_as;
-use crate::rules::Rules;
+use crate::rules::{Orthodox, Rules};
 use crate::shields::{cannot_expose, fairy_lines, shield_squares};
 use crate::words::{contains, only};
 use chess_core::board::Board;
@@ -101,10 +102,32 @@ fn check_squares_for(squares: &CheckSquares, kind: Kind) -> u64
     }
 }
 
+// Whether a man who is reborn gives no check, nor uncovers one: in Circe, where the mover has no grasshopper
+// to which he might be a hurdle.
+#[inline(always)]
+#[tactic(auto, unfolding(crate::specs::ties::CheckSquares::are_rebirths_quiet))]
+fn are_rebirths_quiet<R: Rules>(board: &Board) -> bool
+    ensures { result ≡ are_rebirths_quiet R.rule board.now.men board.now.turn }
+{
+    R::is_circe() && is_absent(board, board.turn(), Kind::Grasshopper)
+}
+
+// The squares on which a man may be captured and reborn, where that may give check.
+#[inline(always)]
+fn checking_rebirths<R: Rules>(board: &Board) -> u64
+    ensures { are_rebirths_quiet R.rule board.now.men board.now.turn ≡ false
+        → is_circe R.rule ≡ true → result ≡ word (λ s. is_some (man_on board.now.men s)) }
+{
+    if are_rebirths_quiet::<R>(board) {
+        return 0;
+    }
+    rebirth_captures::<R>(board)
+}
+
 // Whether every square is a check square to each man, as far as is told here: he exposes the king from
-// wherever he goes, or many captures are followed by a rebirth.
-pub(crate) fn are_all_near<R: Rules>(squares: &CheckSquares) -> bool {
-    squares.shield_squares == !0 || R::is_circe()
+// wherever he goes, or many captures are followed by a rebirth that may give check.
+pub(crate) fn are_all_near<R: Rules>(board: &Board, squares: &CheckSquares) -> bool {
+    squares.shield_squares == !0 || R::is_circe() && !are_rebirths_quiet::<R>(board)
 }
 
 // The first rank and the last.
@@ -151,7 +174,7 @@ fn check_targets<R: Rules>(board: &Board, squares: &CheckSquares, man: Man, from
     checked_from
         | only(board.crossed())
         | special_targets(squares, man, from)
-        | rebirth_captures::<R>(board)
+        | checking_rebirths::<R>(board)
         | fairy_lines(board, board.turn().other())
 }
 
@@ -191,8 +214,12 @@ pub(crate) fn near_check_targets<R: Rules>(
 // captured, castled or reborn.
 fn may_discover<R: Rules>(board: &Board, squares: &CheckSquares, m: &Move) -> bool
     requires { AreCheckSquares R.rule board.now.men (other board.now.turn) squares.now }
-    ensures { result ≡ not (cannot_expose R.rule board.now (other board.now.turn) m.now) }
+    ensures { result ≡ not (cannot_expose (rule_of_checks R.rule board.now.men board.now.turn)
+        board.now (other board.now.turn) m.now) }
 {
+    if are_rebirths_quiet::<R>(board) {
+        return !cannot_expose::<Orthodox>(board, board.turn().other(), squares.shield_squares, m);
+    }
     !cannot_expose::<R>(board, board.turn().other(), squares.shield_squares, m)
 }
 
@@ -259,7 +286,7 @@ pub(crate) fn targets_of_kind<R: Rules>(
         → AreCheckTargets R.rule board.now s result }
 {
     let passed = only(board.crossed());
-    let reborn = rebirth_captures::<R>(board);
+    let reborn = checking_rebirths::<R>(board);
     check_squares_for(squares, kind) | passed | promotion_squares(kind) | reborn | lines
 }
 
@@ -286,6 +313,6 @@ pub(crate) fn targets_of_king<R: Rules>(
     // For the proof: a square's number is below 64.
     let _small = from.index();
     let passed = only(board.crossed());
-    let reborn = rebirth_captures::<R>(board);
+    let reborn = checking_rebirths::<R>(board);
     squares.king | passed | special_targets(squares, king, from) | reborn | lines
 }

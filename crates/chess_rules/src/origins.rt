@@ -123,7 +123,7 @@ pub(crate) fn check_origins<R: Rules>(board: &Board, squares: &CheckSquares) -> 
     ensures { AreCheckOrigins R.rule board.now result }
 {
     let own = own_squares(board);
-    if are_all_near::<R>(squares) {
+    if are_all_near::<R>(board, squares) {
         return own;
     }
     let lines = fairy_lines(board, board.turn().other());

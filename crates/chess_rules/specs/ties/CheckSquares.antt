@@ -1,5 +1,5 @@
 -- Squares from which a move may give check (own).
-use Rattle.std.specs.Prelude.{◌≡◌, ℕ, ◌+◌, ◌/◌, ◌<◌, Bool, true, false, ◌&&◌, ◌||◌, ◌==◌, not, List, Option, Some, None}
+use Rattle.std.specs.Prelude.{◌≡◌, ℕ, ◌+◌, ◌/◌, ◌<◌, Bool, true, false, ◌&&◌, ◌||◌, ◌==◌, not, List, Option, Some, None, if◌then◌else◌}
 use Rattle.std.specs.Int.{bit_at}
 use Rattle.std.specs.Int.Bits.{bit_or}
 use Rattle.chess_core.specs.Position.{Position, is_man, king_square, man_on, other}
@@ -15,7 +15,7 @@ use Rattle.chess_rules.specs.Attacks.{in_check}
 use Rattle.chess_rules.specs.Legal.{pseudo}
 use Rattle.chess_rules.specs.Play.{after}
 use Rattle.chess_rules.specs.Reaches.{reaches_as}
-use Rattle.chess_rules.specs.RuleSet.{RuleSet}
+use Rattle.chess_rules.specs.RuleSet.{RuleSet, is_circe, orthodox}
 use Rattle.chess_rules.specs.ties.Lines.{is_aside}
 use Rattle.chess_rules.specs.ties.Shields.{is_fairy, may_expose}
 use Rattle.chess_rules.specs.ties.Targets.{may_go}
@@ -33,6 +33,16 @@ may_check_from_on men (Some k) x t = is_absent men x || reaches_as men x.colour 
 -- x, on t, may give check to the king of colour c
 unfoldable pub may_check_from : List (Option Man) → Colour → Man → ℕ → Bool
 may_check_from men c x t = may_check_from_on men (king_square men c) x t
+
+-- a man who is reborn gives no check, nor uncovers one: in Circe, where colour e, which captures, has no
+-- grasshopper to which he might be a hurdle
+unfoldable pub are_rebirths_quiet : RuleSet → List (Option Man) → Colour → Bool
+are_rebirths_quiet rule men e =
+    is_circe rule && is_absent men (record { colour = e; kind = Grasshopper })
+
+-- the rules by which it is told what moves of colour e uncover: the orthodox ones, where rebirths are quiet
+abbrev pub rule_of_checks : RuleSet → List (Option Man) → Colour → RuleSet
+rule_of_checks rule men e = if are_rebirths_quiet rule men e then orthodox else rule
 
 -- a man of this kind, an enemy of colour c
 abbrev pub enemy : Colour → Kind → Man

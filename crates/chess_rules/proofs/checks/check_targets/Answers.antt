@@ -14,4 +14,4 @@ returns g c =
     let covered : (bit_at c.args.squares.now.shield_squares c.args.from == 1) ≡ false = sym c.contains.ensures ∙ c.if-contains.false in
     check_targets_some g.R.Rules.rule p x c.args.squares.now c.args.from c.requires.well_formed c.requires.here c.requires.squares small covered _ _ _ _ _
     c.check_squares_for-checked_from.ensures (rw c.crossed.ensures at c.only.ensures) c.special_targets.ensures.promotes c.special_targets.ensures.castles
-    c.rebirth_captures.ensures (rw (c.other.ensures, c.turn.ensures) at c.fairy_lines.ensures)
+    c.checking_rebirths.ensures (rw (c.other.ensures, c.turn.ensures) at c.fairy_lines.ensures)

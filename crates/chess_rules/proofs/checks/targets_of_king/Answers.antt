@@ -10,5 +10,5 @@ returns g c =
     let small : c.args.from < 64 = omega (arith, c.index-small.ensures.value, c.index-small.ensures.small) in
     check_targets_some g.R.Rules.rule p (own_man p King) c.args.squares.now c.args.from c.requires.well_formed c.requires.here c.requires.squares small
     c.requires.unshielding _ _ _ _ _ refl (rw c.crossed.ensures at c.only-passed.ensures) c.special_targets.ensures.promotes
-    (rw c.turn.ensures at c.special_targets.ensures.castles)
-    c.rebirth_captures-reborn.ensures c.requires.lines
+    c.special_targets.ensures.castles
+    c.checking_rebirths-reborn.ensures c.requires.lines
