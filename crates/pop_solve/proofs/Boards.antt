@@ -58,29 +58,29 @@ module _ (rule : RuleSet) (p : Position) where
       any_mating (moves rule p) ∙ ap (λ ms. not (is_nil (filter (is_mating rule p) ms))) (sym (behind_start rule p))
       ∙ ap (λ ms. not (is_nil ms)) (cut_mates rule p 0 b (omega arith))
 
-  some_within : (before behind : List Triple) (m : Triple) (more : List Triple) → behind ≡ m ∷ more → true ≡ not (is_nil (before ++ behind))
-  some_within [] behind m more e = rw e refl
-  some_within (x ∷ before) behind m more e = refl
+  mate_within : (before behind : List Triple) (m : Triple) (more : List Triple) → behind ≡ m ∷ more → true ≡ not (is_nil (before ++ behind))
+  mate_within [] behind m more e = rw e refl
+  mate_within (x ∷ before) behind m more e = refl
 
-  pub mate_behind : (b next : ℕ) (o : Option Triple) → true ≡ is_some o
+  pub mate_behind : (b next : ℕ) (o : Option Triple)
       → MatchOption o (mates_behind rule p b ≡ []) (λ m. mates_behind rule p b ≡ m ∷ mates_behind rule p next)
-      → true ≡ some_good (chess Mate rule) (is_goal rule) p
-  mate_behind b next None at found = absurd cc
-  mate_behind b next (Some m) at found = some_within (mates_between rule p 0 b) (mates_behind rule p b) m _ found ∙ sym (some_mates b)
+      → true ≡ is_some o → true ≡ some_good (chess Mate rule) (is_reached Mate rule) p
+  mate_behind b next None found some = absurd cc
+  mate_behind b next (Some m) found some = mate_within (mates_between rule p 0 b) (mates_behind rule p b) m _ found ∙ sym (some_mates b)
 
-  pub mate_before : (b place next : ℕ) (o : Option Triple) → place ≡ 0 → true ≡ is_some o
-      → MatchOption o (mates_between rule p place b ≡ []) (λ m. mates_between rule p place b ≡ m ∷ mates_between rule p next b)
-      → true ≡ some_good (chess Mate rule) (is_goal rule) p
-  mate_before b place next None start at found = absurd cc
-  mate_before b place next (Some m) start at found = rw (some_mates b, (rw start at found)) refl
+  pub mate_before : (a b next : ℕ) (q : Position) (o : Option Triple)
+      → MatchOption o (mates_between rule q a b ≡ []) (λ m. mates_between rule q a b ≡ m ∷ mates_between rule q next b)
+      → a ≡ 0 → q ≡ p → true ≡ is_some o → true ≡ some_good (chess Mate rule) (is_reached Mate rule) p
+  mate_before a b next q None found start same some = absurd cc
+  mate_before a b next q (Some m) found start same some = rw (some_mates b, rw (start, same) at found) refl
 
-  pub no_mate : (b place next last : ℕ) (o o' : Option Triple) → place ≡ 0 → false ≡ is_some o → false ≡ is_some o'
+  pub no_mate : (a b b' next last : ℕ) (q : Position) (o o' : Option Triple)
       → MatchOption o (mates_behind rule p b ≡ []) (λ m. mates_behind rule p b ≡ m ∷ mates_behind rule p next)
-      → MatchOption o' (mates_between rule p place b ≡ []) (λ m. mates_between rule p place b ≡ m ∷ mates_between rule p last b)
-      → false ≡ some_good (chess Mate rule) (is_goal rule) p
-  no_mate b place next last None None start at at' behind before = rw (some_mates b, (rw start at before), behind) refl
-  no_mate b place next last (Some m) o' start at at' behind before = absurd cc
-  no_mate b place next last None (Some m) start at at' behind before = absurd cc
+      → MatchOption o' (mates_between rule q a b' ≡ []) (λ m. mates_between rule q a b' ≡ m ∷ mates_between rule q last b')
+      → a ≡ 0 → b ≡ b' → q ≡ p → false ≡ is_some o → false ≡ is_some o' → false ≡ some_good (chess Mate rule) (is_reached Mate rule) p
+  no_mate a b b' next last q None None behind before start cut same none none' = rw (some_mates b', rw (start, same) at before, rw cut at behind) refl
+  no_mate a b b' next last q (Some m) o' behind before start cut same none none' = absurd cc
+  no_mate a b b' next last q None (Some m) behind before start cut same none none' = absurd cc
 
 -- with a half-move left there is something to walk
 pub walk_count-some : {P M : Type 0} (moves : P → List M) (after : P → M → P) (left : ℕ) (p : P) → 0 < left → 1 ≤ walk_count moves after left p

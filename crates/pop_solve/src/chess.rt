@@ -135,13 +135,14 @@ pub(crate) fn find_mate<R: Rules>(killer: Moves<R>, board: &mut Board) -> Option
     ensures unchanged { board.new ≡ board.old }
     ensures mates { is_some result ≡ some_move (chess Mate R.rule) (chess Mate R.rule).goal board.old }
 {
+    let before = killer.back();
     let mut moves = MatingMoves::<R>::of(board);
-    moves.go_to(killer.back());
+    moves.go_to(before);
     if moves.next(board).is_some() {
         return Some(moves.place());
     }
     moves.go_to(Moves::start());
-    if moves.next_until(killer.back(), board).is_some() {
+    if moves.next_until(before, board).is_some() {
         return Some(moves.place());
     }
     None
