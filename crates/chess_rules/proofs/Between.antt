@@ -1,13 +1,14 @@
 -- The legal moves between two places, and those that mate.
 use Rattle.std.proofs.lemmas.Bool.{cases_lt}
 use Rattle.std.proofs.lemmas.List.Elements.{filter-append}
-use Rattle.std.proofs.lemmas.List.{length-append, take-append-drop}
+use Rattle.std.proofs.lemmas.List.{append_cancel_right, length-append, take-append-drop}
 use Rattle.std.proofs.Common.{◌≡◌, ℕ, zero, suc, inl, inr, ◌+◌, ◌-◌, ◌<◌, ◌≤◌, true, false, List, [], ◌∷◌, ◌++◌, filter, take, drop, length, refl, sym, ap, ◌∙◌, arith, rules}
 use Rattle.chess_core.specs.Position.{Position}
 use Rattle.chess_core.specs.declared.man.Move.{Move}
 use Rattle.chess_rules.specs.RuleSet.{RuleSet}
 use Rattle.chess_rules.specs.Legal.{legal, moves, triples}
-use Rattle.chess_rules.specs.ties.Places.{HaveNone, IsNextMate, is_mating, mates, mates_behind, moves_behind, moves_between, triple_at}
+use Rattle.chess_rules.specs.ties.Places.{HaveNone, IsNextMate, is_mating, mates, mates_behind, mates_between, moves_behind, moves_between, triple_at}
+use Rattle.chess_rules.proofs.Mating.{mates_behind-end, mates_behind-none, mates_numbered}
 use Rattle.chess_rules.proofs.Places.{drop_triples, drop_triples_past, moves_behind-here}
 use Rattle.chess_rules.proofs.Tests.{first_of_and, second_of_and}
 
@@ -114,3 +115,38 @@ next_mate_numbered rule p start n le lt same h =
       here = rw less (moves_behind-here rule p n lt (first_of_and _ _ h));
       mates = second_of_and (legal rule p (triple_at n)) _ h;
     }
+
+-- the mates behind a place, cut at another
+pub cut_mates : (rule : RuleSet) (p : Position) (a b : ℕ) → a ≤ b → mates_behind rule p a ≡ mates_between rule p a b ++ mates_behind rule p b
+unfolding mates_behind mates_between
+cut_mates rule p a b le =
+    ap (filter (is_mating rule p)) (behind_cut rule p a b le)
+    ∙ filter-append (is_mating rule p) (moves_between rule p a b) (moves_behind rule p b)
+
+-- up to the first move that mates, and where none is left before the end
+pub until-mate : (rule : RuleSet) (p : Position) (a n e : ℕ) → a ≤ n → n < e → n < 28672 → HaveNone (mates rule p) a n → mates rule p (triple_at n) ≡ true
+    → mates_between rule p a e ≡ triple_at n ∷ mates_between rule p (n + 1) e
+until-mate rule p a n e low before fits none h =
+    append_cancel_right (mates_between rule p a e) (triple_at n ∷ mates_between rule p (n + 1) e) (mates_behind rule p e)
+    (sym (cut_mates rule p a e (omega (arith, low, before)))
+    ∙ mates_numbered rule p a n fits (sym (mates_behind-none rule p a n (λ lt. low) (omega (arith, fits)) none)) h
+    ∙ ap (λ ms. triple_at n ∷ ms) (cut_mates rule p (n + 1) e (omega (arith, before))))
+
+pub until-mateless : (rule : RuleSet) (p : Position) (a n e : ℕ) → a < n → n ≤ 28672 → n ≤ e → (n < 28672 → e ≤ n) → HaveNone (mates rule p) a n
+    → mates_between rule p a e ≡ []
+until-mateless rule p a n e lt fits before all none =
+    none_before _ _ (sym (cut_mates rule p a e (omega (arith, lt, before))) ∙ mates_behind-none rule p a n (λ h. omega (arith, lt)) fits none ∙ last)
+  where
+    last : mates_behind rule p n ≡ mates_behind rule p e
+    last = elim (cases_lt n 28672) [
+      | inl h ↦ (let same : n ≡ e = omega (arith, before, all h) in ap (mates_behind rule p) same)
+      | inr past ↦ mates_behind-end rule p n past ∙ sym (mates_behind-end rule p e (omega (arith, past, before)))
+    ]
+
+pub mates_between-none : (rule : RuleSet) (p : Position) (a b : ℕ) → b ≤ a → mates_between rule p a b ≡ []
+unfolding mates_between
+mates_between-none rule p a b le = rw (between-none rule p a b le) refl
+
+pub mates_between-past : (rule : RuleSet) (p : Position) (a b : ℕ) → 28672 ≤ a → mates_between rule p a b ≡ []
+unfolding mates_between
+mates_between-past rule p a b ge = rw (between-past rule p a b ge) refl

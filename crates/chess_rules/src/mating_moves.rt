@@ -5,7 +5,7 @@ ghost use Rattle.chess_core.specs.WellFormed.{IsWellFormed};
 ghost use Rattle.chess_rules.specs.Attacks.{in_check};
 ghost use Rattle.chess_rules.specs.ties.CheckSquares.{AreCheckSquares};
 ghost use Rattle.chess_rules.specs.Legal.{is_goal, legal, pseudo};
-ghost use Rattle.chess_rules.specs.ties.Places.{HaveNone, IsMatingPlaceIn, IsNextMate, mates, mates_behind, place_of, triple_at};
+ghost use Rattle.chess_rules.specs.ties.Places.{HaveNone, IsMatingPlaceIn, IsNextMate, mates, mates_behind, mates_between, place_of, triple_at};
 ghost use Rattle.chess_rules.specs.Play.{after};
 ghost use Rattle.chess_rules.specs.ties.Targets.{AreCandidates, AreKept, AreOrigins, IsAimed};
 
@@ -99,7 +99,7 @@ impl<R: Rules> MatingMoves<R> {
         ensures onward { IfSome result (λ m. self.old.place < self.new.place) }
         ensures board { board.new ≡ board.old }
     {
-        let number = next_mating::<R>(board, &self.checks, &mut self.targets, self.passed);
+        let number = next_mating::<R>(board, &self.checks, &mut self.targets, self.passed, TRIPLES);
         if number < TRIPLES {
             self.passed = number + 1;
             return Some(triple(number));
@@ -107,27 +107,54 @@ impl<R: Rules> MatingMoves<R> {
         self.passed = TRIPLES;
         None
     }
+
+    /// The first legal move behind the place that mates and doesn't lie behind `end`, on which the place
+    /// then stands. The board is unchanged. The place must be one in the board's position.
+    pub fn next_until(&mut self, end: Moves<R>, board: &mut Board) -> Option<Move>
+        requires well_formed { IsWellFormed board.old }
+        requires place { IsMatingPlaceIn R.rule board.old self.old }
+        ensures within { IsMatingPlaceIn R.rule board.old self.new }
+        ensures rest { MatchOption result (mates_between R.rule board.old self.old.place end ≡ [])
+            (λ m. mates_between R.rule board.old self.old.place end
+            ≡ m ∷ mates_between R.rule board.old self.new.place end) }
+        ensures mates { IfSome result (λ m. mates R.rule board.old m ≡ true) }
+        ensures legal { IfSome result (λ m. legal R.rule board.old m ≡ true) }
+        ensures board { board.new ≡ board.old }
+    {
+        let last = end.number().min(TRIPLES);
+        if self.passed >= last {
+            return None;
+        }
+        let number = next_mating::<R>(board, &self.checks, &mut self.targets, self.passed, last);
+        if number < last {
+            self.passed = number + 1;
+            return Some(triple(number));
+        }
+        None
+    }
 }
 
-// The number of the first move that mates from the triple numbered `start` on; 28,672 where there is
-// none.
+// The number of the first move that mates from the triple numbered `start` on and before the one numbered
+// `end`; `end` where there is none.
 pub(crate) fn next_mating<R: Rules>(
     board: &mut Board,
     squares: &CheckSquares,
     kept: &mut Kept,
     start: u16,
+    end: u16,
 ) -> u16
     requires well_formed { IsWellFormed board.old }
     requires squares { AreCheckSquares R.rule board.old.men (other board.old.turn) squares.now }
     requires kept { AreKept R.rule board.old (mates R.rule board.old) kept.old }
-    ensures low { result < 28672 → start ≤ result }
-    ensures high { result ≤ 28672 }
+    requires end { end ≤ 28672 }
+    ensures low { result < end → start ≤ result }
+    ensures high { result ≤ end }
     ensures none { HaveNone (mates R.rule board.old) start result }
-    ensures mates { result < 28672 → mates R.rule board.old (triple_at result) ≡ true }
+    ensures mates { result < end → mates R.rule board.old (triple_at result) ≡ true }
     ensures kept { AreKept R.rule board.old (mates R.rule board.old) kept.new }
     ensures board { board.new ≡ board.old }
 {
-    next_passing::<R, CheckSquares>(board, squares, kept, start, TRIPLES)
+    next_passing::<R, CheckSquares>(board, squares, kept, start, end)
 }
 
 impl Sought for CheckSquares {

@@ -16,6 +16,7 @@ pub(crate) enum Question {
     MovesUntil,
     NextMate,
     MatingMoves,
+    MatesUntil,
     Attack,
     Paralysis,
     Check,
@@ -113,6 +114,9 @@ fn unlike_of_moves<R: Rules>(board: &mut Board, choices: &Choices) -> Option<Que
         if !gives_mates::<R>(board, choices, passed) {
             return Some(Question::NextMate);
         }
+        if !gives_mates_until::<R>(board, choices, passed, last) {
+            return Some(Question::MatesUntil);
+        }
     }
     None
 }
@@ -195,6 +199,28 @@ fn gives_mates<R: Rules>(board: &mut Board, choices: &Choices, passed: usize) ->
         }
     }
     place.next_mate(board).is_none()
+}
+
+// Whether the mates behind the first `passed` legal moves up to the one numbered `last` are given.
+fn gives_mates_until<R: Rules>(
+    board: &mut Board,
+    choices: &Choices,
+    passed: usize,
+    last: usize,
+) -> bool
+    requires { IsWellFormed board.old }
+    ensures { board.new ≡ board.old }
+{
+    let end = place_behind::<R>(board, last);
+    let mut place = MatingMoves::<R>::of(board);
+    place.go_to(place_behind::<R>(board, passed));
+    for (number, choice) in choices.iter().enumerate() {
+        let between = number >= passed && number < last;
+        if between && choice.mates && place.next_until(end, board) != Some(choice.by) {
+            return false;
+        }
+    }
+    place.next_until(end, board).is_none()
 }
 
 // Of the positions one move on, and of the one that is there again when the move is taken back.

@@ -8,8 +8,8 @@ use Rattle.chess_core.specs.Position.{Position}
 use Rattle.chess_core.specs.Triple.{Triple}
 use Rattle.chess_rules.specs.Attacks.{in_check}
 use Rattle.chess_rules.specs.Legal.{is_goal, is_nil, is_stalemate, legal, moves}
-use Rattle.chess_rules.specs.ties.Places.{is_mating, mates_behind, moves_behind, moves_between}
-use Rattle.chess_rules.proofs.Between.{cut_moves}
+use Rattle.chess_rules.specs.ties.Places.{is_mating, mates_behind, mates_between, moves_behind, moves_between}
+use Rattle.chess_rules.proofs.Between.{cut_mates, cut_moves}
 use Rattle.chess_rules.specs.RuleSet.{RuleSet}
 use Rattle.pop_solve.specs.Chess.{chess, is_reached}
 use Rattle.pop_solve.specs.ties.Marks.{is_for_mate}
@@ -41,36 +41,46 @@ pub mate-value : (rule : RuleSet) (battle : Battle) (goal : Goal) (left : ℕ) (
     → v ≡ value battle (chess Mate rule) 1 p → v ≡ value battle (chess goal rule) left p
 mate-value rule battle goal left p v for one e = rw (for, one) e
 
--- the first mate says whether there is one
-pub mate-any : (rule : RuleSet) (p : Position) (next : ℕ) (o : Option Triple)
-    → MatchOption o (mates_behind rule p 0 ≡ []) (λ m. mates_behind rule p 0 ≡ m ∷ mates_behind rule p next)
-    → is_some o ≡ some_good (chess Mate rule) (is_goal rule) p
-unfolding mates_behind
-mate-any rule p next o e = found o (moves_behind rule p 0) e ∙ ap (λ ms. list_any (is_mating rule p) ms) (behind_start rule p)
-  where
-    any_none : (ms : List Triple) → filter (is_mating rule p) ms ≡ [] → list_any (is_mating rule p) ms ≡ false
-    any_none [] e = refl
-    any_none (m ∷ ms) e = elim
-        (is_mating rule p m) as (λ b. cond b (m ∷ filter (is_mating rule p) ms) (filter (is_mating rule p) ms) ≡ [] → (b || list_any (is_mating rule p) ms)
-        ≡ false) [
-          | true ↦ λ e. cc
-          | false ↦ λ e. any_none ms e
-        ] e
+-- a mate says that there is one, wherever it was looked for
+module _ (rule : RuleSet) (p : Position) where
+  any_mating : (ms : List Triple) → list_any (is_mating rule p) ms ≡ not (is_nil (filter (is_mating rule p) ms))
+  any_mating [] = refl
+  any_mating (m ∷ ms) = elim
+      (is_mating rule p m) as (λ b. (b || list_any (is_mating rule p) ms)
+      ≡ not (is_nil (cond b (m ∷ filter (is_mating rule p) ms) (filter (is_mating rule p) ms)))) [
+        | true ↦ refl
+        | false ↦ any_mating ms
+      ]
 
-    any_some : (ms more : List Triple) (x : Triple) → filter (is_mating rule p) ms ≡ x ∷ more → list_any (is_mating rule p) ms ≡ true
-    any_some [] more x e = cc
-    any_some (m ∷ ms) more x e = elim
-        (is_mating rule p m) as (λ b. cond b (m ∷ filter (is_mating rule p) ms) (filter (is_mating rule p) ms) ≡ x ∷ more
-        → (b || list_any (is_mating rule p) ms) ≡ true) [
-          | true ↦ λ e. refl
-          | false ↦ λ e. any_some ms more x e
-        ] e
+  some_mates : (b : ℕ) → some_good (chess Mate rule) (is_goal rule) p ≡ not (is_nil (mates_between rule p 0 b ++ mates_behind rule p b))
+  unfolding mates_behind
+  some_mates b =
+      any_mating (moves rule p) ∙ ap (λ ms. not (is_nil (filter (is_mating rule p) ms))) (sym (behind_start rule p))
+      ∙ ap (λ ms. not (is_nil ms)) (cut_mates rule p 0 b (omega arith))
 
-    found : (o : Option Triple) (ms : List Triple)
-        → MatchOption o (filter (is_mating rule p) ms ≡ []) (λ m. filter (is_mating rule p) ms ≡ m ∷ mates_behind rule p next)
-        → is_some o ≡ list_any (is_mating rule p) ms
-    found None ms e = sym (any_none ms e)
-    found (Some m) ms e = sym (any_some ms _ m e)
+  mate_within : (before behind : List Triple) (m : Triple) (more : List Triple) → behind ≡ m ∷ more → true ≡ not (is_nil (before ++ behind))
+  mate_within [] behind m more e = rw e refl
+  mate_within (x ∷ before) behind m more e = refl
+
+  pub mate_behind : (b next : ℕ) (o : Option Triple)
+      → MatchOption o (mates_behind rule p b ≡ []) (λ m. mates_behind rule p b ≡ m ∷ mates_behind rule p next)
+      → true ≡ is_some o → true ≡ some_good (chess Mate rule) (is_reached Mate rule) p
+  mate_behind b next None found some = absurd cc
+  mate_behind b next (Some m) found some = mate_within (mates_between rule p 0 b) (mates_behind rule p b) m _ found ∙ sym (some_mates b)
+
+  pub mate_before : (a b next : ℕ) (q : Position) (o : Option Triple)
+      → MatchOption o (mates_between rule q a b ≡ []) (λ m. mates_between rule q a b ≡ m ∷ mates_between rule q next b)
+      → a ≡ 0 → q ≡ p → true ≡ is_some o → true ≡ some_good (chess Mate rule) (is_reached Mate rule) p
+  mate_before a b next q None found start same some = absurd cc
+  mate_before a b next q (Some m) found start same some = rw (some_mates b, rw (start, same) at found) refl
+
+  pub no_mate : (a b b' next last : ℕ) (q : Position) (o o' : Option Triple)
+      → MatchOption o (mates_behind rule p b ≡ []) (λ m. mates_behind rule p b ≡ m ∷ mates_behind rule p next)
+      → MatchOption o' (mates_between rule q a b' ≡ []) (λ m. mates_between rule q a b' ≡ m ∷ mates_between rule q last b')
+      → a ≡ 0 → b ≡ b' → q ≡ p → false ≡ is_some o → false ≡ is_some o' → false ≡ some_good (chess Mate rule) (is_reached Mate rule) p
+  no_mate a b b' next last q None None behind before start cut same none none' = rw (some_mates b', rw (start, same) at before, rw cut at behind) refl
+  no_mate a b b' next last q (Some m) o' behind before start cut same none none' = absurd cc
+  no_mate a b b' next last q None (Some m) behind before start cut same none none' = absurd cc
 
 -- with a half-move left there is something to walk
 pub walk_count-some : {P M : Type 0} (moves : P → List M) (after : P → M → P) (left : ℕ) (p : P) → 0 < left → 1 ≤ walk_count moves after left p

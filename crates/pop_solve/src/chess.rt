@@ -20,6 +20,7 @@ use chess_core::man::{Man, Move};
 use chess_core::square::Square;
 use chess_rules::every_move::every_move_mates;
 use chess_rules::legal_moves::LegalMoves;
+use chess_rules::mating_moves::MatingMoves;
 use chess_rules::moves::{Moves, has_legal_move, is_mate, is_stalemate};
 use chess_rules::play::{Undo, is_castling};
 use chess_rules::rules::{Rules, in_check};
@@ -128,14 +129,23 @@ pub(crate) fn next_mate<R: Rules>(place: &mut Moves<R>, board: &mut Board) -> Op
     place.next_mate(board)
 }
 
-/// Whether a legal move mates.
-pub(crate) fn can_mate<R: Rules>(board: &mut Board) -> bool
+/// The place on a legal move that mates, if there is one; the killer is looked at first, then the moves behind it.
+pub(crate) fn find_mate<R: Rules>(killer: Moves<R>, board: &mut Board) -> Option<Moves<R>>
     requires well_formed { IsWellFormed board.old }
     ensures unchanged { board.new ≡ board.old }
-    ensures mates { result ≡ some_move (chess Mate R.rule) (chess Mate R.rule).goal board.old }
+    ensures mates { is_some result ≡ some_move (chess Mate R.rule) (chess Mate R.rule).goal board.old }
 {
-    let mut place = Moves::<R>::start();
-    place.next_mate(board).is_some()
+    let before = killer.back();
+    let mut moves = MatingMoves::<R>::of(board);
+    moves.go_to(before);
+    if moves.next(board).is_some() {
+        return Some(moves.place());
+    }
+    moves.go_to(Moves::start());
+    if moves.next_until(before, board).is_some() {
+        return Some(moves.place());
+    }
+    None
 }
 
 /// Whether the side to move has a legal move and each of its legal moves mates.

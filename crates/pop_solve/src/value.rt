@@ -19,7 +19,7 @@ ghost use Rattle.pop_solve.specs.ties.Values.{seeks, join, joined, value};
 
 use crate::aim::{Aim, Battle};
 use crate::chess::{
-    can_mate, first_look, is_for_mate, is_reached_without_move, moves_at, must_mate, next_behind,
+    find_mate, first_look, is_for_mate, is_reached_without_move, moves_at, must_mate, next_behind,
     next_until, reaches_goal, retract,
 };
 use crate::frame::{Frame, Stretch};
@@ -57,14 +57,19 @@ fn value_without_move<R: Rules>(goal: Goal, left: usize, board: &Board) -> bool
     left % 2 == 0 && is_reached_without_move::<R>(goal, board)
 }
 
-/// The value of a position with one half-move left, where mate is the goal: White mates, or Black must.
-fn last_value<R: Rules>(battle: Battle, board: &mut Board) -> bool
+/// The value of a position with one half-move left, where mate is the goal: White mates, or Black must. The move that
+/// mates is remembered for the next such position, until one has none.
+fn last_value<R: Rules>(battle: Battle, board: &mut Board, killers: &mut Killers<R>) -> bool
     requires well_formed { IsWellFormed board.old }
     ensures unchanged { board.new ≡ board.old }
     ensures value { result ≡ value battle (chess Mate R.rule) 1 board.old }
 {
     match battle {
-        Battle::Direct => can_mate::<R>(board),
+        Battle::Direct => {
+            let found = find_mate::<R>(killers.of(battle, 1), board);
+            killers.put(1, found.unwrap_or_default());
+            found.is_some()
+        }
         Battle::Selfmate => must_mate::<R>(board),
     }
 }
@@ -74,7 +79,7 @@ fn last_value<R: Rules>(battle: Battle, board: &mut Board) -> bool
 fn settled<R: Rules>(
     aim: Aim,
     left: usize,
-    killer: Moves<R>,
+    killers: &mut Killers<R>,
     board: &mut Board,
     known: &mut Option<LegalMoves<R>>,
     opened: &mut u64,
@@ -99,12 +104,12 @@ fn settled<R: Rules>(
     }
     if is_for_mate(aim.goal) && left == 1 {
         *opened = opened.saturating_add(1);
-        return Some(last_value::<R>(aim.battle, board));
+        return Some(last_value::<R>(aim.battle, board, killers));
     }
     if is_free(aim.battle, left) {
         return None;
     }
-    *known = first_look::<R>(killer, board);
+    *known = first_look::<R>(killers.of(aim.battle, left), board);
     if known.is_some() {
         None
     } else {
@@ -209,6 +214,7 @@ fn descend<R: Rules, const N: usize>(
     top: Frame<R>,
     by: Move,
     killer: Moves<R>,
+    killers: &mut Killers<R>,
     board: &mut Board,
     frames: &mut ArrayVec<Frame<R>, N>,
     answer: &mut Option<bool>,
@@ -240,7 +246,7 @@ fn descend<R: Rules, const N: usize>(
     let left = top.left - 1;
     let undo = R::play(board, by);
     let mut known = None;
-    *answer = settled::<R>(aim, left, killer, board, &mut known, opened);
+    *answer = settled::<R>(aim, left, killers, board, &mut known, opened);
     if answer.is_some() {
         retract::<R>(board, by, undo);
     } else {
@@ -304,6 +310,7 @@ fn turn<R: Rules, const N: usize>(
         },
         by,
         killers.of(aim.battle, top.left - 1),
+        killers,
         board,
         frames,
         answer,
@@ -333,7 +340,7 @@ pub(crate) fn value_of<R: Rules, const N: usize>(
 {
     let killer = killers.of(aim.battle, left);
     let mut known = None;
-    if let Some(v) = settled::<R>(aim, left, killer, board, &mut known, opened) {
+    if let Some(v) = settled::<R>(aim, left, killers, board, &mut known, opened) {
         return v;
     }
     let floor = frames.len();

@@ -6,7 +6,7 @@ use Rattle.pop_solve.proofs.value.last_value.Goals as goal
 
 pub returns-in-Direct-clause-value : goal.returns-in-Direct-clause-value
 returns-in-Direct-clause-value g c =
-    c.can_mate.ensures.mates ∙ sym (values.value-mates c.args.battle (chess Mate g.R.Rules.rule) c.args.board.now c.in-Direct.is)
+    c.is_some.ensures ∙ c.find_mate-found.ensures.mates ∙ sym (values.value-mates c.args.battle (chess Mate g.R.Rules.rule) c.args.board.now c.in-Direct.is)
 
 pub returns-in-Selfmate-clause-value : goal.returns-in-Selfmate-clause-value
 returns-in-Selfmate-clause-value g c =

@@ -63,12 +63,15 @@ descend-requires g c =
     let taken = rw (← c.top.view_is) at c.in-Some.ensures.items in (
       search rules,
       (
-        rw c.next_tried.ensures.unchanged c.requires.well_formed,
+        search rules,
         (
-          test.top_some g.R.Rules.rule c.args.aim _ _ _ _ taken c.requires.above _ _ c.requires.testing.1,
+          rw c.next_tried.ensures.unchanged c.requires.well_formed,
           (
-            test.top_room g.R.Rules.rule c.args.aim _ _ _ _ taken c.requires.above _ c.requires.room,
-            rw c.next_tried.ensures.unchanged c.in-Some-next_tried.ensures.next.1,
+            test.top_some g.R.Rules.rule c.args.aim _ _ _ _ taken c.requires.above _ _ c.requires.testing.1,
+            (
+              test.top_room g.R.Rules.rule c.args.aim _ _ _ _ taken c.requires.above _ c.requires.room,
+              rw c.next_tried.ensures.unchanged c.in-Some-next_tried.ensures.next.1,
+            ),
           ),
         ),
       ),

@@ -1,0 +1,6 @@
+use Rattle.std.proofs.Common.{◌≡◌}
+use Rattle.chess_rules.specs.ties.Places.{IsMatingPlaceIn}
+use Rattle.chess_tests.proofs.compared.gives_mates_until.Given as goal
+
+abbrev pub invariant-loop-number : goal.invariant-loop-number
+invariant-loop-number g l = (l.board ≡ l.fn.board) × IsMatingPlaceIn g.R.Rules.rule l.fn.board l.place
