@@ -412,7 +412,7 @@ module _ (rule : RuleSet) (aim : Aim) (floor : ℕ) (top : Frame) (old new : Lis
       | inr low ↦ rw (lowest low).0 tt
     ]
 
-  module _ (place : ℕ) (s : Stretch) (kn : Option LegalPlace) (m : Triple) (k : ℕ) (board after : Position) (N : ℕ) (was : Option Bool) (last : List Frame)
+  module _ (place : ℕ) (s : Stretch) (kn : Option LegalPlace) (m : Triple) (board after : Position) (N : ℕ) (was : Option Bool) (last : List Frame)
       (some : 0 < top.left) (open_yet : (was ≡ None) ⊎ (was ≡ Some (not (seeks aim.battle top.left))))
       (next : untried rule board top ≡ m ∷ ahead rule board s place top.killer) (lawful : legal rule board m ≡ true)
       (within : IfSome kn (IsPlaceIn rule board)) where
@@ -424,7 +424,7 @@ module _ (rule : RuleSet) (aim : Aim) (floor : ℕ) (top : Frame) (old new : Lis
         × (value aim.battle (chess aim.goal rule) (top.left - 1) (played rule board m) ≡ joined aim.battle (chess aim.goal rule) (top.left - 1)
         (played rule board m) (legal_moves rule (played rule board m)))
         × (after ≡ played rule board m)
-        × IsOpenedOn rule (played rule board m) (new ++ passed top place s kn ∷ []) last k m (undo_of rule board m) (top.left - 1))
+        × IsOpenedOn rule (played rule board m) (new ++ passed top place s kn ∷ []) last m (undo_of rule board m) (top.left - 1))
         (λ v. (v ≡ value aim.battle (chess aim.goal rule) (top.left - 1) (played rule board m)) × (after ≡ board) × (last ≡ new ++ passed top place s kn ∷ []))
 
     left_is : top.left ≡ suc (top.left - 1)
@@ -448,33 +448,33 @@ module _ (rule : RuleSet) (aim : Aim) (floor : ℕ) (top : Frame) (old new : Lis
         let at : board ≡ position rule p (top ∷ tests floor new) = (testing_top p board r).board_at in
         let here : untried rule (position rule p (top ∷ tests floor new)) top ≡ m ∷ ahead rule
         (position rule p (top ∷ tests floor new)) s place top.killer = rw (← at) next in
-        let last_is : tests floor last ≡ tested k m (undo_of rule board m) (top.left - 1) d.3.known ∷ (passed top place s kn ∷ tests floor new) = ap
+        let last_is : tests floor last ≡ tested d.3.killer m (undo_of rule board m) (top.left - 1) d.3.known ∷ (passed top place s kn ∷ tests floor new) = ap
         (tests floor) d.3.added ∙ tests-push floor (new ++ passed top place s kn ∷ []) _ low_mid
-        ∙ ap (λ fs. tested k m (undo_of rule board m) (top.left - 1) d.3.known ∷ fs) mid_is in
+        ∙ ap (λ fs. tested d.3.killer m (undo_of rule board m) (top.left - 1) d.3.known ∷ fs) mid_is in
         record {
           testing = rw (last_is, d.2)
-              (testing-open rule p top place s m k (top.left - 1) kn d.3.known (tests floor new) board
+              (testing-open rule p top place s m d.3.killer (top.left - 1) kn d.3.known (tests floor new) board
               (testing_top p board r) lawful d.0 left_is within d.3.within);
           same = ap (λ fs. pending rule aim p fs was) popped
               ∙ pending-undecided rule aim p top (tests floor new) was open_yet
-              ∙ deliver-next rule aim p top (tests floor new) place s m (undo_of rule board m) k (top.left - 1) kn d.3.known left_is here
-              ∙ deliver-open rule aim p top (tests floor new) place s m (undo_of rule board m) k (top.left - 1) kn d.3.known left_is here _ (rw (← at) d.1)
+              ∙ deliver-next rule aim p top (tests floor new) place s m (undo_of rule board m) d.3.killer (top.left - 1) kn d.3.known left_is here
+              ∙ deliver-open rule aim p top (tests floor new) place s m (undo_of rule board m) d.3.killer (top.left - 1) kn d.3.known left_is here _ (rw (← at) d.1)
               ∙ ap (λ fs. pending rule aim p fs None) (sym last_is);
-          falls = rw (last_is, popped) (work-open rule aim p top (tests floor new) place s m (undo_of rule board m) k (top.left - 1) kn d.3.known left_is here);
+          falls = rw (last_is, popped) (work-open rule aim p top (tests floor new) place s m (undo_of rule board m) d.3.killer (top.left - 1) kn d.3.known left_is here);
           above = omega (
             arith,
             ap length d.3.added,
             length-append (new ++ passed top place s kn ∷ [])
-                (tested k m (undo_of rule board m) (top.left - 1) d.3.known ∷ []),
+                (tested d.3.killer m (undo_of rule board m) (top.left - 1) d.3.known ∷ []),
             low_mid,
           );
           base = ap (take floor) d.3.added ∙ take-append-le floor (new ++ passed top place s kn ∷ []) _ low_mid ∙ base_mid;
           counted = rw (last_is, popped)
-              (omega (arith, o, open-open rule aim p top (tests floor new) place s m (undo_of rule board m) k (top.left - 1) kn d.3.known left_is here d.0));
+              (omega (arith, o, open-open rule aim p top (tests floor new) place s m (undo_of rule board m) d.3.killer (top.left - 1) kn d.3.known left_is here d.0));
           tried =
-              let n = try-next rule aim p top (tests floor new) place s m (undo_of rule board m) k (top.left - 1) kn d.3.known left_is here in
+              let n = try-next rule aim p top (tests floor new) place s m (undo_of rule board m) d.3.killer (top.left - 1) kn d.3.known left_is here in
               let v = value aim.battle (chess aim.goal rule) (top.left - 1) (played rule (position rule p (top ∷ tests floor new)) m) in
-              let t = try-open rule aim p top (tests floor new) place s m (undo_of rule board m) k (top.left - 1) kn d.3.known left_is here v (rw (← at) d.1) in
+              let t = try-open rule aim p top (tests floor new) place s m (undo_of rule board m) d.3.killer (top.left - 1) kn d.3.known left_is here v (rw (← at) d.1) in
               rw (last_is, popped) (omega (arith, tries, try-undecided rule aim p top (tests floor new) was open_yet, n, t));
         }
     descend_turns (Some v) d before count o tries p r =
@@ -486,11 +486,11 @@ module _ (rule : RuleSet) (aim : Aim) (floor : ℕ) (top : Frame) (old new : Lis
           testing = rw (last_is, d.1) (testing-settled rule p top place s kn (tests floor new) board (testing_top p board r) within);
           same = ap (λ fs. pending rule aim p fs was) popped
               ∙ pending-undecided rule aim p top (tests floor new) was open_yet
-              ∙ deliver-next rule aim p top (tests floor new) place s m (undo_of rule board m) k (top.left - 1) kn None left_is here
+              ∙ deliver-next rule aim p top (tests floor new) place s m (undo_of rule board m) 0 (top.left - 1) kn None left_is here
               ∙ ap (deliver rule aim p (passed top place s kn ∷ tests floor new)) (rw (← at) (sym d.0))
               ∙ deliver-some rule aim p (passed top place s kn ∷ tests floor new) v (omega arith)
               ∙ ap (λ fs. pending rule aim p fs (Some v)) (sym last_is);
-          falls = rw (last_is, popped) (work-settled rule aim p top (tests floor new) place s m (undo_of rule board m) k (top.left - 1) kn None left_is here);
+          falls = rw (last_is, popped) (work-settled rule aim p top (tests floor new) place s m (undo_of rule board m) 0 (top.left - 1) kn None left_is here);
           above = omega (arith, ap length d.2, length-append new (passed top place s kn ∷ []), low_new);
           base = ap (take floor) d.2 ∙ base_mid;
           counted = rw (last_is, popped)
@@ -499,10 +499,10 @@ module _ (rule : RuleSet) (aim : Aim) (floor : ℕ) (top : Frame) (old new : Lis
                 o,
                 ap (λ b. walk_count (legal_moves rule) (played rule) (top.left - 1) (played rule b m)) at,
                 open-settled rule aim p top
-                    (tests floor new) place s m (undo_of rule board m) k (top.left - 1) kn None left_is here,
+                    (tests floor new) place s m (undo_of rule board m) 0 (top.left - 1) kn None left_is here,
               ));
           tried =
-              let n = try-next rule aim p top (tests floor new) place s m (undo_of rule board m) k (top.left - 1) kn None left_is here in
+              let n = try-next rule aim p top (tests floor new) place s m (undo_of rule board m) 0 (top.left - 1) kn None left_is here in
               let e : v ≡ value aim.battle (chess aim.goal rule) (top.left - 1) (played rule (position rule p (top ∷ tests floor new)) m) = rw (← at) d.0 in
               let t = try-some rule aim p (passed top place s kn ∷ tests floor new) v (omega arith) in
               rw (last_is, popped) (omega (
@@ -519,9 +519,9 @@ module _ (rule : RuleSet) (aim : Aim) (floor : ℕ) (top : Frame) (old new : Lis
 
     pub descend_room : (is : Option Bool) → Descends is → top_left (tests floor old) + length old ≤ N + 1 → top_left (tests floor last) + length last ≤ N + 1
     descend_room None d room =
-        let last_is : tests floor last ≡ tested k m (undo_of rule board m) (top.left - 1) d.3.known ∷ (passed top place s kn ∷ tests floor new) = ap
+        let last_is : tests floor last ≡ tested d.3.killer m (undo_of rule board m) (top.left - 1) d.3.known ∷ (passed top place s kn ∷ tests floor new) = ap
         (tests floor) d.3.added ∙ tests-push floor (new ++ passed top place s kn ∷ []) _ low_mid
-        ∙ ap (λ fs. tested k m (undo_of rule board m) (top.left - 1) d.3.known ∷ fs) mid_is in
+        ∙ ap (λ fs. tested d.3.killer m (undo_of rule board m) (top.left - 1) d.3.known ∷ fs) mid_is in
         let t : top_left (tests floor old) ≡ top.left = ap top_left popped in
         let u : top_left (tests floor last) ≡ top.left - 1 = ap top_left last_is in
         omega (
@@ -533,7 +533,7 @@ module _ (rule : RuleSet) (aim : Aim) (floor : ℕ) (top : Frame) (old new : Lis
           some,
           ap length d.3.added,
           length-append (new ++ passed top place s kn ∷ [])
-              (tested k m (undo_of rule board m) (top.left - 1) d.3.known ∷ []),
+              (tested d.3.killer m (undo_of rule board m) (top.left - 1) d.3.known ∷ []),
           length-append new (passed top place s kn ∷ []),
         )
     descend_room (Some v) d room =

@@ -118,6 +118,41 @@ pub(crate) fn first_look<R: Rules>(killer: Moves<R>, board: &mut Board) -> Optio
     None
 }
 
+/// Whether the killer is a legal move of the board's position, whose moves then stand on it.
+fn is_legal_here<R: Rules>(killer: Moves<R>, moves: &mut LegalMoves<R>, board: &mut Board) -> bool
+    requires well_formed { IsWellFormed board.old }
+    requires known { IsPlaceIn R.rule board.old moves.old }
+    ensures unchanged { board.new ≡ board.old }
+    ensures within { IsPlaceIn R.rule board.old moves.new }
+{
+    moves.go_to(killer.back());
+    next_until::<R>(moves, killer, board).is_some()
+}
+
+/// The killer that is tried first in the board's position: the earlier one where it alone is legal, else the last.
+pub(crate) fn killer_here<R: Rules>(
+    last: Moves<R>,
+    earlier: Moves<R>,
+    known: &mut Option<LegalMoves<R>>,
+    board: &mut Board,
+) -> Moves<R>
+    requires well_formed { IsWellFormed board.old }
+    requires known { IfSome known.old (λ k. IsPlaceIn R.rule board.old k) }
+    ensures unchanged { board.new ≡ board.old }
+    ensures within { IfSome known.new (λ k. IsPlaceIn R.rule board.old k) }
+{
+    let mut moves = moves_at::<R>(*known, Moves::start(), board);
+    let killer = if !is_legal_here::<R>(last, &mut moves, board)
+        && is_legal_here::<R>(earlier, &mut moves, board)
+    {
+        earlier
+    } else {
+        last
+    };
+    *known = Some(moves);
+    killer
+}
+
 /// The next legal move behind the place that mates.
 pub(crate) fn next_mate<R: Rules>(place: &mut Moves<R>, board: &mut Board) -> Option<Move>
     requires well_formed { IsWellFormed board.old }

@@ -1,17 +1,18 @@
 //! The moves that decided tests.
-ghost use Rattle.std.specs.Prelude.{◌≡◌, ◌<◌, slice_index_or, slice_set};
+ghost use Rattle.std.specs.Prelude.{◌≡◌, ◌==◌, ◌<◌, if◌then◌else◌, slice_index_or, slice_set};
 ghost use Rattle.pop_solve.specs.declared.aim.Battle.TheVariants.{Direct};
 
 use crate::aim::Battle;
 use chess_rules::moves::Moves;
 use chess_rules::rules::Rules;
 
-/// For each number of half-moves below 32 the place on the move that last decided a position with so many half-moves
-/// left. In a direct mate it is tried first in the next such position; that any place may stand here costs time alone.
-/// In a selfmate moves are tried in order: there the last one that decided is no good guess.
+/// For each number of half-moves below 32 the places on the last two moves that decided a position with so many
+/// half-moves left. In a direct mate one that is legal is tried first in the next such position; that any place may stand
+/// here costs time alone. In a selfmate moves are tried in order: there the last one that decided is no good guess.
 #[derive(Clone, Copy)]
 pub struct Killers<R: Rules> {
     places: [Moves<R>; 32],
+    earlier: [Moves<R>; 32],
 }
 
 impl<R: Rules> Killers<R> {
@@ -19,6 +20,7 @@ impl<R: Rules> Killers<R> {
     pub fn none() -> Killers<R> {
         Killers {
             places: [Moves::start(); 32],
+            earlier: [Moves::start(); 32],
         }
     }
 
@@ -33,11 +35,28 @@ impl<R: Rules> Killers<R> {
         }
     }
 
-    /// Remembers another.
+    /// The place on the one before that was another move.
+    pub fn earlier(&self, battle: Battle, left: usize) -> Moves<R>
+        ensures { battle ≡ Direct → left < 32 → result ≡ slice_index_or self.now.earlier left 0 }
+    {
+        if battle == Battle::Direct && left < 32 {
+            self.earlier[left]
+        } else {
+            Moves::start()
+        }
+    }
+
+    /// Remembers another; the one so far is the earlier one then.
     pub fn put(&mut self, left: usize, place: Moves<R>)
-        ensures { left < 32 → self.new.places ≡ slice_set self.old.places left place }
+        ensures last { left < 32 → self.new.places ≡ slice_set self.old.places left place }
+        ensures earlier { left < 32 → self.new.earlier
+            ≡ (if slice_index_or self.old.places left 0 == place then self.old.earlier
+            else slice_set self.old.earlier left (slice_index_or self.old.places left 0)) }
     {
         if left < 32 {
+            if !self.places[left].is(place) {
+                self.earlier[left] = self.places[left];
+            }
             self.places[left] = place;
         }
     }

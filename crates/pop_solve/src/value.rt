@@ -19,8 +19,8 @@ ghost use Rattle.pop_solve.specs.ties.Values.{seeks, join, joined, value};
 
 use crate::aim::{Aim, Battle};
 use crate::chess::{
-    find_mate, first_look, is_for_mate, is_reached_without_move, moves_at, must_mate, next_behind,
-    next_until, reaches_goal, retract,
+    find_mate, first_look, is_for_mate, is_reached_without_move, killer_here, moves_at, must_mate,
+    next_behind, next_until, reaches_goal, retract,
 };
 use crate::frame::{Frame, Stretch};
 use crate::killers::Killers;
@@ -183,6 +183,27 @@ fn next_tried<R: Rules>(
     }
 }
 
+/// The killer that is tried first in the board's position.
+fn first_killer<R: Rules>(
+    battle: Battle,
+    left: usize,
+    killers: &Killers<R>,
+    known: &mut Option<LegalMoves<R>>,
+    board: &mut Board,
+) -> Moves<R>
+    requires well_formed { IsWellFormed board.old }
+    requires known { IfSome known.old (λ k. IsPlaceIn R.rule board.old k) }
+    ensures unchanged { board.new ≡ board.old }
+    ensures within { IfSome known.new (λ k. IsPlaceIn R.rule board.old k) }
+{
+    killer_here::<R>(
+        killers.of(battle, left),
+        killers.earlier(battle, left),
+        known,
+        board,
+    )
+}
+
 /// Closes a frame with the value of its position: the lowest gives the value of the test.
 fn close<R: Rules>(
     value: bool,
@@ -213,7 +234,6 @@ fn descend<R: Rules, const N: usize>(
     aim: Aim,
     top: Frame<R>,
     by: Move,
-    killer: Moves<R>,
     killers: &mut Killers<R>,
     board: &mut Board,
     frames: &mut ArrayVec<Frame<R>, N>,
@@ -237,7 +257,7 @@ fn descend<R: Rules, const N: usize>(
         (legal_moves R.rule (played R.rule board.old by)))
         × (board.new ≡ played R.rule board.old by)
         × IsOpenedOn R.rule (played R.rule board.old by) (frames.old.items ++ top ∷ []) frames.new.items
-        killer by (undo_of R.rule board.old by) (top.left - 1))
+        by (undo_of R.rule board.old by) (top.left - 1))
         (λ v. (v ≡ value aim.battle (chess aim.goal R.rule) (top.left - 1) (played R.rule board.old by))
         × (board.new ≡ board.old)
         × (frames.new.items ≡ frames.old.items ++ top ∷ [])) }
@@ -251,6 +271,7 @@ fn descend<R: Rules, const N: usize>(
         retract::<R>(board, by, undo);
     } else {
         *opened = opened.saturating_add(1);
+        let killer = first_killer::<R>(aim.battle, left, killers, &mut known, board);
         frames.push(Frame {
             place: killer.back(),
             by,
@@ -309,7 +330,6 @@ fn turn<R: Rules, const N: usize>(
             ..top
         },
         by,
-        killers.of(aim.battle, top.left - 1),
         killers,
         board,
         frames,
@@ -338,13 +358,13 @@ pub(crate) fn value_of<R: Rules, const N: usize>(
     ensures tried { HasCounted opened.old opened.new
         (smallest_tree aim.battle (chess aim.goal R.rule) left board.old) }
 {
-    let killer = killers.of(aim.battle, left);
     let mut known = None;
     if let Some(v) = settled::<R>(aim, left, killers, board, &mut known, opened) {
         return v;
     }
     let floor = frames.len();
     *opened = opened.saturating_add(1);
+    let killer = first_killer::<R>(aim.battle, left, killers, &mut known, board);
     frames.push(Frame {
         place: killer.back(),
         left,

@@ -233,8 +233,9 @@ tested killer by undo left known = record {
 }
 
 -- to some frames one of a test is added, which knows at most its own position
-pub record IsOpenedOn (rule : RuleSet) (p : Position) (old new : List Frame) (killer : ℕ)
-    (by : Triple) (undo : Loss) (left : ℕ) : Type 0 where
+pub record IsOpenedOn (rule : RuleSet) (p : Position) (old new : List Frame) (by : Triple)
+    (undo : Loss) (left : ℕ) : Type 0 where
+  pub killer : ℕ
   pub known : Option LegalPlace
   pub within : IfSome known (IsPlaceIn rule p)
   pub added : new ≡ old ++ tested killer by undo left known ∷ []

@@ -53,11 +53,6 @@ returns-in_default-next_tried-clause-next g c = λ p r.
     (rw seek (test.exhausted_left g.R.Rules.rule c.args.aim _ _ _ _ c.in-Some.ensures.items c.requires.above p _ _ r u
     (sym same ∙ (rw c.moves_at-moves.ensures.place at c.in_default-next_tried.ensures.next))))
 
-pub overflow_sub-top-inside : goal.overflow_sub-top-inside
-overflow_sub-top-inside g c =
-    let taken = rw (← c.top.view_is) at c.in-Some.ensures.items in
-    test.top_some g.R.Rules.rule c.args.aim _ _ _ _ taken c.requires.above _ _ c.requires.testing.1
-
 pub descend-requires : goal.descend-requires
 descend-requires g c =
     let taken = rw (← c.top.view_is) at c.in-Some.ensures.items in (
@@ -83,7 +78,7 @@ returns-clause-room g c =
     let u : (c.args.answer.now ≡ None) ⊎ (c.args.answer.now ≡ Some (not (seeks c.args.aim.battle c.top.inside.left))) =
     rw (← c.seeking-seek.ensures) c.if-decided.ensures in
     let some = test.top_some g.R.Rules.rule c.args.aim _ _ _ _ taken c.requires.above _ _ c.requires.testing.1 in
-    test.descend_room g.R.Rules.rule c.args.aim _ _ _ _ taken c.requires.above _ _ _ _ _ _ _ _ _ _ some u
+    test.descend_room g.R.Rules.rule c.args.aim _ _ _ _ taken c.requires.above _ _ _ _ _ _ _ _ _ some u
     (rw (c.moves_at-moves.ensures.place, ← c.place.ensures) at c.in-Some-next_tried.ensures.next.0) c.in-Some-next_tried.ensures.next.1
     c.next_tried.ensures.within c.descend.new.answer (rw c.next_tried.ensures.unchanged at c.descend.ensures.answer) c.requires.room
 
@@ -93,7 +88,7 @@ returns-clause-next g c = λ p r.
     let u : (c.args.answer.now ≡ None) ⊎ (c.args.answer.now ≡ Some (not (seeks c.args.aim.battle c.top.inside.left))) =
     rw (← c.seeking-seek.ensures) c.if-decided.ensures in
     let some = test.top_some g.R.Rules.rule c.args.aim _ _ _ _ taken c.requires.above _ _ r in
-    test.descend_turns g.R.Rules.rule c.args.aim _ _ _ _ taken c.requires.above _ _ _ _ _ _ _ 0 _ _ some u
+    test.descend_turns g.R.Rules.rule c.args.aim _ _ _ _ taken c.requires.above _ _ _ _ _ _ 0 _ _ some u
     (rw (c.moves_at-moves.ensures.place, ← c.place.ensures) at c.in-Some-next_tried.ensures.next.0) c.in-Some-next_tried.ensures.next.1
     c.next_tried.ensures.within c.descend.new.answer (rw c.next_tried.ensures.unchanged at c.descend.ensures.answer) _ _
     (rw c.next_tried.ensures.unchanged at c.descend.ensures.opened) (rw c.next_tried.ensures.unchanged at c.descend.ensures.tried) p r
