@@ -198,7 +198,8 @@ fn begin<R: Rules, const N: usize>(
         ≡ opening phase ∷ left_of R.rule problem.now result (reverse frames.new.items) }
     ensures opens { OpensOn R.rule problem.now (Before phase) result (reverse frames.old.items)
         (reverse frames.new.items)
-        opened.old opened.new (left_of R.rule problem.now (Before phase) (reverse frames.old.items)) }
+        opened.old opened.new
+        (left_of R.rule problem.now (Before phase) (reverse frames.old.items)) }
 {
     if !set_up::<R>(problem, phase, board) {
         return Stage::Barred;
@@ -259,7 +260,8 @@ fn go_on<R: Rules, const N: usize>(
         board.new }
     ensures gives { Gives R.rule problem.now
         (left_of R.rule problem.now (Within phase count) (reverse frames.old.items))
-        (left_of R.rule problem.now stage.new (reverse frames.new.items)) result board.new (array_vec_len frames.new) }
+        (left_of R.rule problem.now stage.new (reverse frames.new.items))
+        result board.new (array_vec_len frames.new) }
     ensures opens { OpensOn R.rule problem.now (Within phase count) stage.new
         (reverse frames.old.items)
         (reverse frames.new.items) opened.old opened.new
@@ -332,7 +334,8 @@ pub(crate) fn advance<R: Rules, const N: usize>(
         × (left_of R.rule problem.now stage.new (reverse frames.new.items) ≡ []))
         (λ event. Gives R.rule problem.now
         (left_of R.rule problem.now stage.old (reverse frames.old.items))
-        (left_of R.rule problem.now stage.new (reverse frames.new.items)) event board.new (array_vec_len frames.new)) }
+        (left_of R.rule problem.now stage.new (reverse frames.new.items))
+        event board.new (array_vec_len frames.new)) }
     ensures opens { OpensOn R.rule problem.now stage.old stage.new (reverse frames.old.items)
         (reverse frames.new.items)
         opened.old opened.new (left_of R.rule problem.now stage.old (reverse frames.old.items)) }

@@ -47,7 +47,8 @@ impl<R: Rules, const N: usize> Model for Search<R, N> {
     ghost invariant = { λ s. IsSound s.problem
         × (half_moves s.problem.stipulation < N)
         × IsStanding R.rule s.problem s.stage (reverse s.frames.items) s.board
-        × IsGiven R.rule s.problem (left_of R.rule s.problem s.stage (reverse s.frames.items)) s.given
+        × IsGiven R.rule s.problem
+        (left_of R.rule s.problem s.stage (reverse s.frames.items)) s.given
         × IsOpened R.rule s.problem s.stage (reverse s.frames.items) s.opened };
 }
 
@@ -137,7 +138,8 @@ impl<R: Rules, const N: usize> Search<R, N> {
             → self.now.left ≡ [] → result ≡ min (whole_walk R.rule self.now.problem) (2 ^ 64 - 1) }
         ensures fewest { is_help self.now.problem.stipulation.form ≡ false
             → is_never_stopped R.rule self.now.problem ≡ true
-            → self.now.left ≡ [] → min (fewest_tried R.rule self.now.problem) (2 ^ 64 - 1) ≤ result }
+            → self.now.left ≡ []
+            → min (fewest_tried R.rule self.now.problem) (2 ^ 64 - 1) ≤ result }
     {
         self.opened
     }

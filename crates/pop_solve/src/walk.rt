@@ -185,7 +185,8 @@ fn enter<R: Rules, const N: usize>(
     ensures none { is_help plan.form ≡ true → left ≡ 0 → opened.new ≡ opened.old }
     ensures keys { is_help plan.form ≡ false → varies plan ≡ false
         → seeks (battle_of plan.form) (left + 1) ≡ true
-        → opened.new ≤ opened.old + walk_count (legal_moves R.rule) (played R.rule) left (played R.rule board.old by) }
+        → opened.new ≤ opened.old
+        + walk_count (legal_moves R.rule) (played R.rule) left (played R.rule board.old by) }
     ensures tries { HasCounted opened.old opened.new
         (fewest_for plan (chess plan.goal R.rule) root left (played R.rule board.old by)) }
 {
@@ -273,7 +274,8 @@ pub(crate) fn step<R: Rules, const N: usize>(
         board.old }
     ensures steps { (p : Position) → IsWalking R.rule half_moves p (reverse frames.old.items)
         board.old
-        → Steps R.rule plan half_moves p (reverse frames.old.items) (reverse frames.new.items) board.new opened.old opened.new result }
+        → Steps R.rule plan half_moves p (reverse frames.old.items) (reverse frames.new.items)
+        board.new opened.old opened.new result }
 {
     let Some(top) = frames.pop() else {
         return false;

@@ -21,7 +21,8 @@ pub fn run<S: Source, W: Sink>(settings: &Settings, source: &mut S, sink: &mut W
     ensures headline { IfSome (S.remaining source.old) (λ had.
         Runs (choice_of settings.now) (met (grew (S.failures source.old) (S.failures source.new))
         had (S.remaining source.new))
-        (W.taken sink.old) (W.taken sink.new) (grew (W.failures sink.old) (W.failures sink.new)) result) }
+        (W.taken sink.old) (W.taken sink.new)
+        (grew (W.failures sink.old) (W.failures sink.new)) result) }
     ensures once { (S.failures source.new ≤ S.failures source.old + 1)
         × (W.failures sink.new ≤ W.failures sink.old + 1) }
     ensures taken { IfSome (S.remaining source.old)
