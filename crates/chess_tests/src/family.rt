@@ -42,6 +42,10 @@ pub(crate) enum Family {
     NightriderLines,
     // Men to be captured whose home squares lie near the kings.
     Rebirths,
+    // Men to be captured whose home squares lie between the other king and a grasshopper.
+    RebornHurdles,
+    // A grasshopper on a king's diagonal, and a pawn who comes back between them.
+    HurdleNets,
     // Men of one kind that face each other near the kings.
     Paralysis,
     // A king on his home rank, seen by the other, and captures on lines to him.
@@ -67,6 +71,8 @@ impl Family {
             Family::Hurdles => fairy::hurdles(draw),
             Family::NightriderLines => fairy::nightrider_lines(draw),
             Family::Rebirths => rebirths::rebirths(draw),
+            Family::RebornHurdles => rebirths::reborn_hurdles(draw),
+            Family::HurdleNets => rebirths::hurdle_nets(draw),
             Family::Paralysis => rebirths::paralysis(draw),
             Family::Nets => rebirths::nets(draw),
         }

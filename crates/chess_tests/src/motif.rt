@@ -91,6 +91,14 @@ pub(crate) enum Motif {
     RebirthSaves,
     // A capture gives no check since the reborn man shuts the line.
     RebirthParries,
+    // A pawn that captures and is promoted gives no check since the reborn man shuts the line.
+    RebirthParriesPromoted,
+    // A capture gives check since the reborn man is a grasshopper's hurdle.
+    RebirthChecks,
+    // And mate.
+    RebirthMatesOver,
+    // Check so by a pawn that has become the grasshopper, where the mover had none.
+    RebirthChecksPromoted,
     // A capture mates by the reborn man, who takes a flight or guards nothing there.
     RebirthMates,
     // A capture would mate, but for the reborn man.
@@ -240,6 +248,17 @@ impl<'a> Case<'a> {
                 self.legal && self.unborn().is_in_check(self.rule, self.man.colour)
             }
             Motif::RebirthParries => self.legal && self.is_parried_by_rebirth(),
+            Motif::RebirthParriesPromoted => {
+                self.legal && self.m.promo.is_some() && self.is_parried_by_rebirth()
+            }
+            Motif::RebirthChecks => self.legal && self.checks_by_rebirth(),
+            Motif::RebirthMatesOver => self.mates() && self.checks_by_rebirth(),
+            Motif::RebirthChecksPromoted => {
+                self.legal
+                    && self.m.promo.is_some()
+                    && !self.had_grasshopper()
+                    && self.checks_by_rebirth()
+            }
             Motif::RebirthMates => self.mates() && !self.unborn().is_mate(self.rule),
             Motif::RebirthAnswers => {
                 self.legal && !self.mates() && self.unborn().is_mate(self.rule)
@@ -487,6 +506,23 @@ impl<'a> Case<'a> {
             && self
                 .unborn()
                 .is_in_check(self.rule, self.man.colour.other())
+    }
+
+    fn checks_by_rebirth(&self) -> bool {
+        !self.checkers.is_empty()
+            && !self
+                .unborn()
+                .is_in_check(self.rule, self.man.colour.other())
+    }
+
+    // Whether the mover had a grasshopper before the move.
+    fn had_grasshopper(&self) -> bool {
+        for number in 0..64u8 {
+            if self.before.has(Square::numbered(number), self.man.colour, Kind::Grasshopper) {
+                return true;
+            }
+        }
+        false
     }
 
     // Whether one of these, who stood there, reached the king before, but was paralysed.

@@ -450,7 +450,7 @@ fn passed(man: Man, m: &Move) -> Option<Square> {
 }
 
 // Where a man captured on the square is reborn.
-fn home(man: Man, captured: Square) -> Square {
+pub(crate) fn home(man: Man, captured: Square) -> Square {
     let dark = captured.file() % 2 == captured.rank() % 2;
     let first = match man.colour {
         Colour::White => 1,

@@ -1,6 +1,6 @@
 //! What captures bring back, and what men of one kind do to each other.
 use crate::draw::{Draw, Kinds};
-use crate::plain::{LINES, next};
+use crate::plain::{LINES, home, next};
 use crate::scene::{man, mark_homes, put, put_battery, put_king, put_rider, rider, scatter, steps};
 use chess_core::{Colour, Diagram, Kind, Square};
 
@@ -41,6 +41,98 @@ pub(crate) fn rebirths(draw: &mut Draw) -> Diagram {
     let count = draw.below(6);
     scatter(&mut diagram, draw, kinds, count);
     mark_homes(&mut diagram, draw);
+    diagram
+}
+
+// Men to be captured who come back beside the other side's king, and behind their home squares grasshoppers
+// or other men of the mover.
+pub(crate) fn reborn_hurdles(draw: &mut Draw) -> Diagram {
+    let mut diagram = Diagram::new();
+    diagram.turn = draw.colour();
+    let mover = diagram.turn;
+    let promotes = draw.once_in(2);
+    let (before, last) = match mover {
+        Colour::White => (7u8, 8u8),
+        Colour::Black => (2u8, 1u8),
+    };
+    let kind = draw.kind(Kinds::Orthodox);
+    let victim = man(mover.other(), kind);
+    let rank = if promotes { last } else { 2 + draw.below(6) };
+    let at = Square::new(1 + draw.below(8), rank).unwrap_or_default();
+    let home = home(victim, at);
+    let line = draw.line();
+    let _king = put(
+        &mut diagram,
+        next(home, line),
+        man(mover.other(), Kind::King),
+    );
+    let _victim = put(&mut diagram, Some(at), victim);
+    let back = (line.0.wrapping_neg(), line.1.wrapping_neg());
+    let colour = if draw.once_in(3) {
+        mover.other()
+    } else {
+        mover
+    };
+    let rear = if promotes {
+        draw.square()
+    } else {
+        steps(home, back, 1 + draw.below(5)).unwrap_or_default()
+    };
+    let _hopper = put(&mut diagram, Some(rear), man(colour, Kind::Grasshopper));
+    if promotes {
+        let side = if draw.once_in(2) { 1u8 } else { 255 };
+        let file = at.file().wrapping_add(side);
+        let _pawn = put(
+            &mut diagram,
+            Square::new(file, before),
+            man(mover, Kind::Pawn),
+        );
+    } else {
+        let aside = draw.line();
+        let taker = man(mover, rider(draw, aside));
+        let _taker = put(&mut diagram, steps(at, aside, 1 + draw.below(3)), taker);
+    }
+    let _own = put_king(&mut diagram, draw, mover);
+    let count = draw.below(5);
+    scatter(&mut diagram, draw, Kinds::All, count);
+    diagram
+}
+
+// The other side's king in the corner, without a flight, and a grasshopper that sees him along the diagonal,
+// once a pawn captured aside has come back between them.
+pub(crate) fn hurdle_nets(draw: &mut Draw) -> Diagram {
+    let mut diagram = Diagram::new();
+    diagram.turn = draw.colour();
+    let mover = diagram.turn;
+    let (last, third, down) = match mover {
+        Colour::White => (8u8, 6u8, 255u8),
+        Colour::Black => (1u8, 3u8, 1u8),
+    };
+    let (file, beside, inward) = if draw.once_in(2) {
+        (1u8, 2u8, 1u8)
+    } else {
+        (8u8, 7u8, 255u8)
+    };
+    let corner = Square::new(file, last).unwrap_or_default();
+    let _king = put(&mut diagram, Some(corner), man(mover.other(), Kind::King));
+    let guard = man(mover.other(), Kind::Bishop);
+    let _guard = put(&mut diagram, Square::new(beside, last), guard);
+    let _own = put(
+        &mut diagram,
+        Square::new(beside, third),
+        man(mover, Kind::King),
+    );
+    let hopper = steps(corner, (inward, down), 3 + draw.below(3));
+    let _hopper = put(&mut diagram, hopper, man(mover, Kind::Grasshopper));
+    let at = Square::new(beside, 3 + draw.below(4)).unwrap_or_default();
+    let _victim = put(&mut diagram, Some(at), man(mover.other(), Kind::Pawn));
+    for _taker in 0..2u8 {
+        let line = draw.line();
+        let taker = man(mover, rider(draw, line));
+        let _taker = put(&mut diagram, steps(at, line, 1 + draw.below(3)), taker);
+    }
+    let count = draw.below(4);
+    scatter(&mut diagram, draw, Kinds::All, count);
     diagram
 }
 

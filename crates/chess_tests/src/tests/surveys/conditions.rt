@@ -18,6 +18,27 @@ fn rebirths(rt: HostRuntime) {
 }
 
 #[test]
+fn reborn_hurdles(rt: HostRuntime) {
+    let motifs = [
+        Motif::RebirthChecks,
+        Motif::RebirthChecksPromoted,
+        Motif::RebirthParries,
+        Motif::RebirthParriesPromoted,
+    ];
+    let survey = surveyed::<Circe>(Family::RebornHurdles, Rule::Circe, 2000, &motifs);
+    assert_eq!(rt; survey.unlike, None);
+    assert_eq!(rt; survey.rare(&motifs, 5), None);
+}
+
+#[test]
+fn mates_over_reborn_hurdles(rt: HostRuntime) {
+    let motifs = [Motif::RebirthMatesOver];
+    let survey = surveyed::<Circe>(Family::HurdleNets, Rule::Circe, 500, &motifs);
+    assert_eq!(rt; survey.unlike, None);
+    assert_eq!(rt; survey.rare(&motifs, 20), None);
+}
+
+#[test]
 fn rebirths_before_mates(rt: HostRuntime) {
     let motifs = [Motif::RebirthMates, Motif::RebirthAnswers];
     let survey = surveyed::<Circe>(Family::Nets, Rule::Circe, 2000, &motifs);
