@@ -168,7 +168,8 @@ pub(crate) fn next_mate<R: Rules>(place: &mut Moves<R>, board: &mut Board) -> Op
 pub(crate) fn find_mate<R: Rules>(killer: Moves<R>, board: &mut Board) -> Option<Moves<R>>
     requires well_formed { IsWellFormed board.old }
     ensures unchanged { board.new ≡ board.old }
-    ensures mates { is_some result ≡ some_move (chess Mate R.rule) (chess Mate R.rule).goal board.old }
+    ensures mates { is_some result
+        ≡ some_move (chess Mate R.rule) (chess Mate R.rule).goal board.old }
 {
     let before = killer.back();
     let mut moves = MatingMoves::<R>::of(board);

@@ -167,7 +167,8 @@ fn next_tried<R: Rules>(
     ensures within { IsPlaceIn R.rule board.old moves.new }
     ensures next { MatchOption result (ahead R.rule board.old stretch.old moves.old.place killer
         ≡ [])
-        (λ m. (ahead R.rule board.old stretch.old moves.old.place killer ≡ m ∷ ahead R.rule board.old stretch.new moves.new.place killer)
+        (λ m. (ahead R.rule board.old stretch.old moves.old.place killer
+        ≡ m ∷ ahead R.rule board.old stretch.new moves.new.place killer)
         × (legal R.rule board.old m ≡ true)) }
 {
     match *stretch {
@@ -249,16 +250,19 @@ fn descend<R: Rules, const N: usize>(
         (top.left - 1) (played R.rule board.old by)) }
     ensures tried { MatchOption answer.new (HasCounted opened.old opened.new 1)
         (λ _. HasCounted opened.old opened.new
-        (smallest_tree aim.battle (chess aim.goal R.rule) (top.left - 1) (played R.rule board.old by))) }
+        (smallest_tree aim.battle (chess aim.goal R.rule) (top.left - 1)
+        (played R.rule board.old by))) }
     ensures answer { MatchOption answer.new
         ((0 < top.left - 1)
         × (value aim.battle (chess aim.goal R.rule) (top.left - 1) (played R.rule board.old by)
         ≡ joined aim.battle (chess aim.goal R.rule) (top.left - 1) (played R.rule board.old by)
         (legal_moves R.rule (played R.rule board.old by)))
         × (board.new ≡ played R.rule board.old by)
-        × IsOpenedOn R.rule (played R.rule board.old by) (frames.old.items ++ top ∷ []) frames.new.items
+        × IsOpenedOn R.rule (played R.rule board.old by)
+        (frames.old.items ++ top ∷ []) frames.new.items
         by (undo_of R.rule board.old by) (top.left - 1))
-        (λ v. (v ≡ value aim.battle (chess aim.goal R.rule) (top.left - 1) (played R.rule board.old by))
+        (λ v. (v ≡ value aim.battle (chess aim.goal R.rule) (top.left - 1)
+        (played R.rule board.old by))
         × (board.new ≡ board.old)
         × (frames.new.items ≡ frames.old.items ++ top ∷ [])) }
 {
@@ -304,8 +308,10 @@ fn turn<R: Rules, const N: usize>(
         ≤ N + 1) }
     ensures next { (p : Position) → IsTesting R.rule p (tests floor frames.old.items) board.old
         → MatchOption result
-        (Turns R.rule aim floor p frames.old.items frames.new.items answer.old answer.new board.new opened.old opened.new)
-        (λ v. Ends R.rule aim floor p frames.old.items frames.new.items answer.old board.new opened.old opened.new v) }
+        (Turns R.rule aim floor p frames.old.items frames.new.items
+        answer.old answer.new board.new opened.old opened.new)
+        (λ v. Ends R.rule aim floor p frames.old.items frames.new.items
+        answer.old board.new opened.old opened.new v) }
 {
     let Some(top) = frames.pop() else {
         return None;
