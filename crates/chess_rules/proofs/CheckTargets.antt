@@ -179,10 +179,10 @@ check_targets_there rule p x f o w here there are = record {
 -- the targets of the mover's men of a kind, no kings, on a square that isn't a shield square
 pub kind_targets : (rule : RuleSet) (p : Position) (j : Kind) (s : CheckSquares) (a b c d e f : ℕ) → IsWellFormed p
     → AreCheckSquares rule p.men (other p.turn) s → same_kind j King ≡ false → a ≡ check_squares_for s j → b ≡ word (λ t. is_square p.crossed t)
-    → (same_kind j Pawn ≡ true → c ≡ 18374686479671623935) → (same_kind j Pawn ≡ false → c ≡ 0)
+    → (same_kind j Pawn ≡ true → c ≡ 18374686479671623935)
     → (are_rebirths_quiet rule p.men p.turn ≡ false → is_circe rule ≡ true → d ≡ word (λ t. is_some (man_on p.men t))) → e ≡ word (may_stand_between p.men (other p.turn))
     → f < 64 → man_on p.men f ≡ Some (own_man p j) → (bit_at s.shield_squares f == 1) ≡ false
     → AreCheckTargets rule p f (bit_or (bit_or (bit_or (bit_or a b) c) d) e)
-kind_targets rule p j s a b c d e f well checks piece checked_from crossed promotes none reborn lines inside here covered =
+kind_targets rule p j s a b c d e f well checks piece checked_from crossed promotes reborn lines inside here covered =
     check_targets_some rule p (own_man p j) s f well here checks inside covered a b c d e checked_from crossed promotes
     (λ king. absurd (false≢true (sym piece ∙ king))) reborn lines
