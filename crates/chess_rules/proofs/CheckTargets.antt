@@ -180,7 +180,8 @@ check_targets_there rule p x f o w here there are = record {
 pub kind_targets : (rule : RuleSet) (p : Position) (j : Kind) (s : CheckSquares) (a b c d e f : ℕ) → IsWellFormed p
     → AreCheckSquares rule p.men (other p.turn) s → same_kind j King ≡ false → a ≡ check_squares_for s j → b ≡ word (λ t. is_square p.crossed t)
     → (same_kind j Pawn ≡ true → c ≡ 18374686479671623935)
-    → (are_rebirths_quiet rule p.men p.turn ≡ false → is_circe rule ≡ true → d ≡ word (λ t. is_some (man_on p.men t))) → e ≡ word (may_stand_between p.men (other p.turn))
+    → (are_rebirths_quiet rule p.men p.turn ≡ false → is_circe rule ≡ true → d ≡ word (λ t. is_some (man_on p.men t)))
+    → e ≡ word (may_stand_between p.men (other p.turn))
     → f < 64 → man_on p.men f ≡ Some (own_man p j) → (bit_at s.shield_squares f == 1) ≡ false
     → AreCheckTargets rule p f (bit_or (bit_or (bit_or (bit_or a b) c) d) e)
 kind_targets rule p j s a b c d e f well checks piece checked_from crossed promotes reborn lines inside here covered =

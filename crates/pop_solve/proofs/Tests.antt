@@ -458,9 +458,11 @@ module _ (rule : RuleSet) (aim : Aim) (floor : ℕ) (top : Frame) (old new : Lis
           same = ap (λ fs. pending rule aim p fs was) popped
               ∙ pending-undecided rule aim p top (tests floor new) was open_yet
               ∙ deliver-next rule aim p top (tests floor new) place s m (undo_of rule board m) d.3.killer (top.left - 1) kn d.3.known left_is here
-              ∙ deliver-open rule aim p top (tests floor new) place s m (undo_of rule board m) d.3.killer (top.left - 1) kn d.3.known left_is here _ (rw (← at) d.1)
+              ∙ deliver-open rule aim p top (tests floor new) place s m (undo_of rule board m) d.3.killer (top.left - 1) kn d.3.known left_is here _
+              (rw (← at) d.1)
               ∙ ap (λ fs. pending rule aim p fs None) (sym last_is);
-          falls = rw (last_is, popped) (work-open rule aim p top (tests floor new) place s m (undo_of rule board m) d.3.killer (top.left - 1) kn d.3.known left_is here);
+          falls = rw (last_is, popped)
+              (work-open rule aim p top (tests floor new) place s m (undo_of rule board m) d.3.killer (top.left - 1) kn d.3.known left_is here);
           above = omega (
             arith,
             ap length d.3.added,
@@ -470,11 +472,16 @@ module _ (rule : RuleSet) (aim : Aim) (floor : ℕ) (top : Frame) (old new : Lis
           );
           base = ap (take floor) d.3.added ∙ take-append-le floor (new ++ passed top place s kn ∷ []) _ low_mid ∙ base_mid;
           counted = rw (last_is, popped)
-              (omega (arith, o, open-open rule aim p top (tests floor new) place s m (undo_of rule board m) d.3.killer (top.left - 1) kn d.3.known left_is here d.0));
+              (omega (
+                arith,
+                o,
+                open-open rule aim p top (tests floor new) place s m (undo_of rule board m) d.3.killer (top.left - 1) kn d.3.known left_is here d.0,
+              ));
           tried =
               let n = try-next rule aim p top (tests floor new) place s m (undo_of rule board m) d.3.killer (top.left - 1) kn d.3.known left_is here in
               let v = value aim.battle (chess aim.goal rule) (top.left - 1) (played rule (position rule p (top ∷ tests floor new)) m) in
-              let t = try-open rule aim p top (tests floor new) place s m (undo_of rule board m) d.3.killer (top.left - 1) kn d.3.known left_is here v (rw (← at) d.1) in
+              let t = try-open rule aim p top (tests floor new) place s m (undo_of rule board m) d.3.killer (top.left - 1) kn d.3.known left_is here v
+              (rw (← at) d.1) in
               rw (last_is, popped) (omega (arith, tries, try-undecided rule aim p top (tests floor new) was open_yet, n, t));
         }
     descend_turns (Some v) d before count o tries p r =

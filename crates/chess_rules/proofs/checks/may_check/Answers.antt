@@ -18,5 +18,6 @@ returns-else-contains g c = λ h.
     let unpromoted : c.args.m.now.promo ≡ None = c.keeps_its_kind.ensures c.if-not-keeps_its_kind.false in
     let arrives : x ≡ arriving x c.args.m.now.promo = ap (arriving x) (sym unpromoted) in
     let off : (bit_at c.check_squares_for-from_there.result c.m.inside.to == 1) ≡ false = sym c.contains.ensures ∙ c.if-contains.false in
-    no_check_by_rebirth g.R.Rules.rule p x c.args.m.now c.args.squares.now x c.check_squares_for-from_there.result c.m.inside.to c.requires.well_formed c.requires.pseudo
+    no_check_by_rebirth g.R.Rules.rule p x c.args.m.now c.args.squares.now x c.check_squares_for-from_there.result
+    c.m.inside.to c.requires.well_formed c.requires.pseudo
     here c.requires.squares arrives c.check_squares_for-from_there.ensures to small off unpromoted (not-false _ (sym c.may_discover.ensures ∙ h))
