@@ -184,27 +184,6 @@ fn next_tried<R: Rules>(
     }
 }
 
-/// The killer that is tried first in the board's position.
-fn first_killer<R: Rules>(
-    battle: Battle,
-    left: usize,
-    killers: &Killers<R>,
-    known: &mut Option<LegalMoves<R>>,
-    board: &mut Board,
-) -> Moves<R>
-    requires well_formed { IsWellFormed board.old }
-    requires known { IfSome known.old (λ k. IsPlaceIn R.rule board.old k) }
-    ensures unchanged { board.new ≡ board.old }
-    ensures within { IfSome known.new (λ k. IsPlaceIn R.rule board.old k) }
-{
-    killer_here::<R>(
-        killers.of(battle, left),
-        killers.earlier(battle, left),
-        known,
-        board,
-    )
-}
-
 /// Closes a frame with the value of its position: the lowest gives the value of the test.
 fn close<R: Rules>(
     value: bool,
@@ -275,7 +254,12 @@ fn descend<R: Rules, const N: usize>(
         retract::<R>(board, by, undo);
     } else {
         *opened = opened.saturating_add(1);
-        let killer = first_killer::<R>(aim.battle, left, killers, &mut known, board);
+        let killer = killer_here::<R>(
+            killers.of(aim.battle, left),
+            killers.earlier(aim.battle, left),
+            &mut known,
+            board,
+        );
         frames.push(Frame {
             place: killer.back(),
             by,
@@ -370,7 +354,12 @@ pub(crate) fn value_of<R: Rules, const N: usize>(
     }
     let floor = frames.len();
     *opened = opened.saturating_add(1);
-    let killer = first_killer::<R>(aim.battle, left, killers, &mut known, board);
+    let killer = killer_here::<R>(
+        killers.of(aim.battle, left),
+        killers.earlier(aim.battle, left),
+        &mut known,
+        board,
+    );
     frames.push(Frame {
         place: killer.back(),
         left,
