@@ -319,11 +319,6 @@ kind_is_rook : (j : Kind) → same_kind j Rook ≡ true → j ≡ Rook
 kind_is_rook Rook h = refl
 kind_is_rook j h = cc
 
-kings_are_alike : (men : List (Option Man)) (e f : Colour) (j : Kind) (s k : ℕ) → same_kind j King ≡ true → reaches_as men e King s k ≡ reaches_as men f j s k
-unfolding reaches_as
-kings_are_alike men e f King s k h = refl
-kings_are_alike men e f j s k h = cc
-
 -- a king isn't promoted
 king_arrives : (p : Position) (x : Man) (m : Move) (o : Option Kind) → same_kind x.kind Pawn ≡ false → is_promotion_right p x m o ≡ true → arriving x o ≡ x
 king_arrives p x m None piece h = refl
@@ -407,7 +402,7 @@ module _ (rule : RuleSet) (p : Position) (x : Man) (m : Move) (well : IsWellForm
 
   -- what is asked, so that castling gives no check to the king of colour c
   module _ (c : Colour) (enemy_of : same_colour x.colour c ≡ false) (covered : may_expose rule p.men c m.from ≡ false)
-      (aside : may_stand_between p.men c m.to ≡ false) (king_off : may_check_from p.men c (enemy c King) m.to ≡ false)
+      (aside : may_stand_between p.men c m.to ≡ false) (king_off : may_check_from p.men c x m.to ≡ false)
       (rook_off : may_check_from p.men c (enemy c Rook) (halfway m) ≡ false) where
     module _ (k : ℕ) (at : king_square p.men c ≡ Some k) (stands : is_man (man_on p.men k) c King ≡ true) (inside : k < 64) where
       parts : IsCovered rule p.men c m.from k
@@ -418,17 +413,17 @@ module _ (rule : RuleSet) (p : Position) (x : Man) (m : Move) (well : IsWellForm
       unfolding may_stand_between
       off_lines t h = ap (λ (o : Option ℕ). is_on_fairy_line_to p.men o c t) (sym at) ∙ h
 
-      from_there : (j : Kind) (t : ℕ) → may_check_from p.men c (enemy c j) t ≡ false → reaches_as p.men (other c) j t k ≡ false
+      from_there : (y : Man) (t : ℕ) → may_check_from p.men c y t ≡ false → reaches_as p.men y.colour y.kind t k ≡ false
       unfolding may_check_from
-      from_there j t h =
-          (or_parts (is_absent p.men (enemy c j)) (reaches_as p.men (other c) j t k)
-          (ap (λ (o : Option ℕ). may_check_from_on p.men o (enemy c j) t) (sym at) ∙ h)).1
+      from_there y t h =
+          (or_parts (is_absent p.men y) (reaches_as p.men y.colour y.kind t k)
+          (ap (λ (o : Option ℕ). may_check_from_on p.men o y t) (sym at) ∙ h)).1
 
       -- once the king has stepped, no man reaches the other king
       king_steps : is_reached stepped k (other c) ≡ false
       king_steps =
           unreached rule p.men stepped m.from m.to x c k king_shift parts (off_lines m.to aside) (record {
-            quiet = λ mine. sym (kings_are_alike p.men (other c) x.colour x.kind m.to k king) ∙ from_there King m.to king_off;
+            quiet = λ mine. from_there x m.to king_off;
             stood = λ mine. (is.here, small.0);
           }) inside
 
@@ -461,7 +456,7 @@ module _ (rule : RuleSet) (p : Position) (x : Man) (m : Move) (well : IsWellForm
           straight_before p.men stepped m.from m.to x k (halfway m) king_shift small.2 inside
           (λ line both. not_parted p.men m.from k (corner m) (other c) Rook straight_steps parts.straight rider the_way.inside
           (the_way.lined k inside not_corner line (goes_on p.men k m.from straight_steps both.0)) (both.0, the_way.ride)) rides_now in
-          false≢true (sym (from_there Rook (halfway m) rook_off) ∙ rode)
+          false≢true (sym (from_there (enemy c Rook) (halfway m) rook_off) ∙ rode)
 
       -- nor another man, who would have reached him before the rook went
       others_strike : (s : ℕ) (o : Option Man) → man_on castled s ≡ o → s < 64 → s ≢ halfway m → is_side o (other c) ≡ true → reaches castled s k ≡ true → ⊥

@@ -18,7 +18,7 @@ use Rattle.chess_rules.specs.declared.checks.CheckSquares.{CheckSquares}
 use Rattle.chess_rules.specs.Attacks.{in_check}
 use Rattle.chess_rules.specs.ties.CheckSquares.{AreCastlingTargets, AreCheckSquares, AreCheckTargets, check_squares_for, enemy, may_check_from, own_man, are_rebirths_quiet}
 use Rattle.chess_rules.specs.ties.Shields.{cannot_expose, is_plain, may_expose, may_stand_between}
-use Rattle.chess_rules.specs.Legal.{last_rank, pseudo}
+use Rattle.chess_rules.specs.Legal.{last_rank, pseudo, legal}
 use Rattle.chess_rules.specs.Play.{after, arriving, halfway, is_castling}
 use Rattle.chess_rules.specs.RuleSet.{RuleSet, circe, is_circe, orthodox}
 use Rattle.chess_rules.specs.ties.Targets.{arrives, is_arrival, may_go}
@@ -27,12 +27,13 @@ use Rattle.chess_rules.specs.ties.Lines.{is_aside}
 use Rattle.chess_rules.proofs.Bits.{word_has}
 use Rattle.chess_rules.proofs.CastlingChecks.{castling_aside, castling_gives_no_check}
 use Rattle.chess_rules.proofs.Checking.{no_check}
-use Rattle.chess_rules.proofs.Fits.{kind_is_king}
 use Rattle.chess_rules.proofs.Pseudo.{made}
 use Rattle.chess_rules.proofs.Rebirths.{check_squares_alike, pseudo_so, quiet_parts, rebirth_gives_no_check}
 use Rattle.chess_rules.proofs.Shielding.{other_differs}
 use Rattle.chess_rules.proofs.Walks.{off_second}
 use Rattle.chess_rules.proofs.Targeting.{arrival_needed, every_square_on, false_by, nobody_moves, unpromoted}
+use Rattle.chess_rules.proofs.Calls.{pseudo-from_legal}
+use Rattle.chess_rules.proofs.KingsApart.{kings_apart}
 
 -- a square off both words is off each
 pub off_left : (a b i : ℕ) → (bit_at (bit_or a b) i == 1) ≡ false → (bit_at a i == 1) ≡ false
@@ -61,6 +62,7 @@ plain_elsewhere rule p x m b d small no_castling crossed off-b reborn off-d = se
 
 -- nobody moves from an empty square
 pub check_targets_nobody : (rule : RuleSet) (p : Position) (f w : ℕ) → man_on p.men f ≡ None → AreCheckTargets rule p f w
+unfolding legal
 check_targets_nobody rule p f w none = search (rules, nobody_moves)
 
 -- every square is in the word
@@ -74,6 +76,7 @@ module _ (rule : RuleSet) (p : Position) (x : Man) (s : CheckSquares) (f : ℕ) 
     (castles : same_kind x.kind King ≡ true → AreCastlingTargets s f c)
     (reborn : is_circe rule ≡ true → d ≡ word (λ t. is_some (man_on p.men t))) (lines : e ≡ word (may_stand_between p.men (other p.turn))) where
   module _ (m : Move) (at : m.from ≡ f) (small : m.to < 64) (may : pseudo rule p m ≡ true)
+      (apart : same_kind x.kind King ≡ true → may_check_from p.men (other p.turn) x m.to ≡ false)
       (off-lines : (bit_at (bit_or (bit_or (bit_or (bit_or a b) c) d) e) m.to == 1) ≡ false) where
     off : (bit_at (bit_or (bit_or (bit_or a b) c) d) m.to == 1) ≡ false
     off = off_left (bit_or (bit_or (bit_or a b) c) d) e m.to off-lines
@@ -104,6 +107,9 @@ module _ (rule : RuleSet) (p : Position) (x : Man) (s : CheckSquares) (f : ℕ) 
     by_kind : (bit_at (check_squares_for s (arriving x m.promo).kind) m.to == 1) ≡ false
     by_kind = rw (unnamed m.promo refl, ← checked_from) (off_left a b m.to off-ab)
 
+    arriving_apart : same_kind (arriving x m.promo).kind King ≡ true → may_check_from p.men (other p.turn) (arriving x m.promo) m.to ≡ false
+    arriving_apart = rw (unnamed m.promo refl) apart
+
     origin_stays : may_expose rule p.men (other p.turn) m.from ≡ false
     origin_stays = rw at (sym (word_has (may_expose rule p.men (other p.turn)) s.shield_squares f checks.shield_squares inside) ∙ covered)
 
@@ -111,16 +117,13 @@ module _ (rule : RuleSet) (p : Position) (x : Man) (s : CheckSquares) (f : ℕ) 
     castled : is_castling x m ≡ true → in_check rule (after rule p m).men (other p.turn) ≡ false
     castled y =
         let king : same_kind x.kind King ≡ true = (and_parts _ _ (and_parts _ _ y).0).0 in
-        let aimed : a ≡ s.king = checked_from ∙ ap (check_squares_for s) (kind_is_king x.kind king) in
-        let king_off : may_check_from p.men (other p.turn) (enemy (other p.turn) King) m.to ≡ false =
-        sym (word_has (may_check_from p.men (other p.turn) (enemy (other p.turn) King)) a m.to (aimed ∙ checks.king) small) ∙ off_left a b m.to off-ab in
         let enemy_of : same_colour x.colour (other p.turn) ≡ false =
         ap (λ (c : Colour). same_colour c (other p.turn)) (made rule p m x may stands).mine ∙ other_differs p.turn in
         let half : (m.from + m.to) / 2 < 64 = omega (arith, small, inside, at) in
         let beside : is_aside f m.to ≡ true = ap (λ n. is_aside n m.to) (sym at) ∙ castling_aside x m small y in
         let rook_off : (bit_at s.straight (halfway m) == 1) ≡ false =
         ap (λ n. bit_at s.straight ((n + m.to) / 2) == 1) at ∙ (castles king).elsewhere m.to small beside off-c in
-        castling_gives_no_check rule p x m well (made rule p m x may stands) y (other p.turn) enemy_of origin_stays aside king_off
+        castling_gives_no_check rule p x m well (made rule p m x may stands) y (other p.turn) enemy_of origin_stays aside (apart king)
         (sym (word_has (may_check_from p.men (other p.turn) (enemy (other p.turn) Rook)) s.straight (halfway m) checks.straight half) ∙ rook_off)
 
     covering : is_castling x m ≡ false → cannot_expose rule p (other p.turn) m ≡ true
@@ -135,7 +138,7 @@ module _ (rule : RuleSet) (p : Position) (x : Man) (s : CheckSquares) (f : ℕ) 
       | inl y ↦ castled y
       | inr n ↦
           no_check rule p x m s (arriving x m.promo) (check_squares_for s (arriving x m.promo).kind) m.to well may stands checks refl refl refl small
-          by_kind (unnamed m.promo refl) (covering n)
+          by_kind arriving_apart (unnamed m.promo refl) (covering n)
     ]
 
 -- the captures that may be followed by a rebirth among them, where that may give check
@@ -146,34 +149,39 @@ module _ (rule : RuleSet) (p : Position) (x : Man) (s : CheckSquares) (f : ℕ) 
     (castles : same_kind x.kind King ≡ true → AreCastlingTargets s f c)
     (reborn : are_rebirths_quiet rule p.men p.turn ≡ false → is_circe rule ≡ true → d ≡ word (λ t. is_some (man_on p.men t)))
     (lines : e ≡ word (may_stand_between p.men (other p.turn))) where
-  by_rule : (m : Move) → m.from ≡ f → m.to < 64 → pseudo rule p m ≡ true → (bit_at (bit_or (bit_or (bit_or (bit_or a b) c) d) e) m.to == 1) ≡ false
-      → in_check rule (after rule p m).men (other p.turn) ≡ false
-  by_rule m at small may off = elim (cases_Bool (are_rebirths_quiet rule p.men p.turn)) [
+  by_rule : (m : Move) → m.from ≡ f → m.to < 64 → pseudo rule p m ≡ true
+      → (same_kind x.kind King ≡ true → may_check_from p.men (other p.turn) x m.to ≡ false)
+      → (bit_at (bit_or (bit_or (bit_or (bit_or a b) c) d) e) m.to == 1) ≡ false → in_check rule (after rule p m).men (other p.turn) ≡ false
+  by_rule m at small may apart off = elim (cases_Bool (are_rebirths_quiet rule p.men p.turn)) [
     | inl quiet ↦
         let parts = quiet_parts rule p.men p.turn quiet in
         let may_so : pseudo circe p m ≡ true = ap (λ (r : RuleSet). pseudo r p m) (sym parts.0) ∙ may in
         let checks_so : AreCheckSquares orthodox p.men (other p.turn) s = check_squares_alike rule orthodox p.men (other p.turn) s checks in
         let unpromoted : m.promo ≡ None = unnamed orthodox p x s f well here checks_so inside covered a b c d e checked_from crossed promotes castles
-        (λ bad. absurd (false≢true bad)) lines m at small (pseudo_so p m may_so) off m.promo refl in
+        (λ bad. absurd (false≢true bad)) lines m at small (pseudo_so p m may_so) apart off m.promo refl in
         ap (λ (r : RuleSet). in_check r (after r p m).men (other p.turn)) parts.0
         ∙ rebirth_gives_no_check p x m well may_so (ap (man_on p.men) at ∙ here) unpromoted parts.1
         (no_check_elsewhere orthodox p x s f well here checks_so inside covered a b c d e checked_from crossed promotes castles (λ bad. absurd (false≢true bad))
-        lines m at small (pseudo_so p m may_so) off)
+        lines m at small (pseudo_so p m may_so) apart off)
     | inr loud ↦
-        no_check_elsewhere rule p x s f well here checks inside covered a b c d e checked_from crossed promotes castles (reborn loud) lines m at small may off
+        no_check_elsewhere rule p x s f well here checks inside covered a b c d e checked_from crossed promotes castles (reborn loud) lines m at small may apart off
   ]
 
   pub check_targets_some : AreCheckTargets rule p f (bit_or (bit_or (bit_or (bit_or a b) c) d) e)
-  check_targets_some = record { elsewhere = λ m at small may off. by_rule m at small may off }
+  check_targets_some = record {
+    elsewhere = λ m at small lawful off.
+        let stands : man_on p.men m.from ≡ Some x = ap (man_on p.men) at ∙ here in
+        by_rule m at small (pseudo-from_legal rule p m lawful) (kings_apart rule p x m well stands small lawful) off;
+  }
 
 -- the targets among the squares to which the man might go
 pub check_targets_there : (rule : RuleSet) (p : Position) (x : Man) (f o w : ℕ) → man_on p.men f ≡ Some x
     → ((t : ℕ) → t < 64 → may_go p x f t ≡ true → (bit_at o t == 1) ≡ true) → AreCheckTargets rule p f w → AreCheckTargets rule p f (bit_and o w)
 check_targets_there rule p x f o w here there are = record {
-  elsewhere = λ m at small may off.
-      let arrives_there : is_arrival rule p m.from m.to ≡ true = arrival_needed rule p m small may in
+  elsewhere = λ m at small lawful off.
+      let arrives_there : is_arrival rule p m.from m.to ≡ true = arrival_needed rule p m small (pseudo-from_legal rule p m lawful) in
       let goes : may_go p x m.from m.to ≡ true = may_go_aimed rule p x m (ap (man_on p.men) at ∙ here) arrives_there in
-      are.elsewhere m at small may (off_second o w m.to off (there m.to small (ap (λ s. may_go p x s m.to) (sym at) ∙ goes)));
+      are.elsewhere m at small lawful (off_second o w m.to off (there m.to small (ap (λ s. may_go p x s m.to) (sym at) ∙ goes)));
 }
 
 -- the targets of the mover's men of a kind, no kings, on a square that isn't a shield square

@@ -1,10 +1,10 @@
 -- The squares from which a move may give check, by kinds.
-use Rattle.std.proofs.Common.{◌≡◌, ℕ, ◌<◌, ◌==◌, ◌&&◌, ◌||◌, Bool, true, false, not, List, Option, Some, None, refl, sym, ap, ◌∙◌, arith}
+use Rattle.std.proofs.Common.{◌≡◌, ℕ, ◌<◌, ◌==◌, ◌&&◌, ◌||◌, Bool, true, false, not, List, Option, Some, None, refl, sym, ap, ◌∙◌, arith, inl, inr}
 use Rattle.std.specs.Int.{bit_at, bit_not, w64}
 use Rattle.std.specs.Int.Bits.{bit_or}
-use Rattle.std.proofs.lemmas.Bool.{or_left}
+use Rattle.std.proofs.lemmas.Bool.{or_left, cases_Bool, false≢true}
 use Rattle.std.proofs.lemmas.List.Folds.{list_any-append}
-use Rattle.chess_core.specs.Position.{Position, is_man, king_square, man_on, other}
+use Rattle.chess_core.specs.Position.{Position, is_man, king_square, man_on, other, same_kind}
 use Rattle.chess_core.specs.Steps.{diagonal_steps, straight_steps}
 use Rattle.chess_core.specs.WellFormed.{IsWellFormed}
 use Rattle.chess_core.specs.ties.Words.{squares_of, word}
@@ -70,15 +70,15 @@ queen_squares men c r b h i =
     (λ s p. queen_on men c (king_square men c) s)
 
 squares_by_kind : (rule : RuleSet) (men : List (Option Man)) (c : Colour) (s : CheckSquares) (j : Kind) → AreCheckSquares rule men c s
-    → check_squares_for s j ≡ word (may_check_from men c (enemy c j))
-squares_by_kind rule men c s King a = a.king
-squares_by_kind rule men c s Queen a = queen_squares men c s.straight s.diagonal a.straight a.diagonal
-squares_by_kind rule men c s Rook a = a.straight
-squares_by_kind rule men c s Bishop a = a.diagonal
-squares_by_kind rule men c s Knight a = a.knight
-squares_by_kind rule men c s Pawn a = a.pawn
-squares_by_kind rule men c s Grasshopper a = a.grasshopper
-squares_by_kind rule men c s Nightrider a = a.nightrider
+    → same_kind j King ≡ false → check_squares_for s j ≡ word (may_check_from men c (enemy c j))
+squares_by_kind rule men c s King a piece = absurd (false≢true (sym piece))
+squares_by_kind rule men c s Queen a piece = queen_squares men c s.straight s.diagonal a.straight a.diagonal
+squares_by_kind rule men c s Rook a piece = a.straight
+squares_by_kind rule men c s Bishop a piece = a.diagonal
+squares_by_kind rule men c s Knight a piece = a.knight
+squares_by_kind rule men c s Pawn a piece = a.pawn
+squares_by_kind rule men c s Grasshopper a piece = a.grasshopper
+squares_by_kind rule men c s Nightrider a piece = a.nightrider
 
 pub other_twice : (c : Colour) → other (other c) ≡ c
 other_twice White = refl
@@ -87,18 +87,28 @@ other_twice Black = refl
 is_enemy : (x : Man) (c : Colour) → x.colour ≡ c → enemy (other c) x.kind ≡ x
 is_enemy x c h = ap (λ (d : Colour). record x { colour = d }) (other_twice c ∙ sym h)
 
+-- a man off the squares of his kind gives no check by standing there; of a king that has to be known
+off_check_squares : (rule : RuleSet) (men : List (Option Man)) (e : Colour) (s : CheckSquares) (y : Man) (w t : ℕ) → AreCheckSquares rule men (other e) s
+    → y.colour ≡ e → w ≡ check_squares_for s y.kind → t < 64 → (bit_at w t == 1) ≡ false
+    → (same_kind y.kind King ≡ true → may_check_from men (other e) y t ≡ false) → may_check_from men (other e) y t ≡ false
+off_check_squares rule men e s y w t a colour h small off apart = elim (cases_Bool (same_kind y.kind King)) [
+  | inl king ↦ apart king
+  | inr piece ↦
+      let word_is : w ≡ word (may_check_from men (other e) (enemy (other e) y.kind)) = h ∙ squares_by_kind rule men (other e) s y.kind a piece in
+      ap (λ (z : Man). may_check_from men (other e) z t) (sym (is_enemy y e colour))
+      ∙ sym (word_has (may_check_from men (other e) (enemy (other e) y.kind)) w t word_is small) ∙ off
+]
+
 pub no_check : (rule : RuleSet) (p : Position) (x : Man) (m : Move) (s : CheckSquares) (y : Man) (w t : ℕ) → IsWellFormed p → pseudo rule p m ≡ true
     → man_on p.men m.from ≡ Some x → AreCheckSquares rule p.men (other p.turn) s → y ≡ arriving x m.promo → w ≡ check_squares_for s y.kind → t ≡ m.to → t < 64
-    → (bit_at w t == 1) ≡ false → m.promo ≡ None → cannot_expose rule p (other p.turn) m ≡ true → in_check rule (after rule p m).men (other p.turn) ≡ false
-no_check rule p x m s y w t well may here a is h same small off unpromoted cover =
+    → (bit_at w t == 1) ≡ false → (same_kind y.kind King ≡ true → may_check_from p.men (other p.turn) y t ≡ false) → m.promo ≡ None
+    → cannot_expose rule p (other p.turn) m ≡ true → in_check rule (after rule p m).men (other p.turn) ≡ false
+no_check rule p x m s y w t well may here a is h same small off apart unpromoted cover =
     let colour : y.colour ≡ p.turn = ap (λ (z : Man). z.colour) is ∙ arriving_colour x m.promo ∙ (made rule p m x may here).mine in
-    let word_is : w ≡ word (may_check_from p.men (other p.turn) (enemy (other p.turn) y.kind)) = h ∙ squares_by_kind rule p.men (other p.turn) s y.kind a in
-    let off1 : may_check_from p.men (other p.turn) (enemy (other p.turn) y.kind) t ≡ false =
-    sym (word_has (may_check_from p.men (other p.turn) (enemy (other p.turn) y.kind)) w t word_is small) ∙ off in
-    let off2 : may_check_from p.men (other p.turn) y t ≡ false = ap (λ (z : Man). may_check_from p.men (other p.turn) z t) (sym (is_enemy y p.turn colour))
-    ∙ off1 in
-    let off3 : may_check_from p.men (other p.turn) (arriving x m.promo) t ≡ false = ap (λ (z : Man). may_check_from p.men (other p.turn) z t) (sym is) ∙ off2 in
-    let off4 : may_check_from p.men (other p.turn) (arriving x m.promo) m.to ≡ false =
-    ap (λ (n : ℕ). may_check_from p.men (other p.turn) (arriving x m.promo) n) (sym same) ∙ off3 in
+    let off_there : may_check_from p.men (other p.turn) y t ≡ false = off_check_squares rule p.men p.turn s y w t a colour h small off apart in
+    let off_arriving : may_check_from p.men (other p.turn) (arriving x m.promo) t ≡ false =
+    ap (λ (z : Man). may_check_from p.men (other p.turn) z t) (sym is) ∙ off_there in
+    let off_arrival : may_check_from p.men (other p.turn) (arriving x m.promo) m.to ≡ false =
+    ap (λ (n : ℕ). may_check_from p.men (other p.turn) (arriving x m.promo) n) (sym same) ∙ off_arriving in
     let to : m.to < 64 = omega arith in
-    gives_no_check rule p x m well may to here unpromoted cover off4
+    gives_no_check rule p x m well may to here unpromoted cover off_arrival

@@ -15,7 +15,7 @@ use Rattle.chess_rules.proofs.Mating.{no_mate_quietly}
 pub quiet : (rule : RuleSet) (p : Position) (m : Move) → legal rule p m ≡ true → in_check rule (after rule p m).men (other p.turn) ≡ false
     → is_mating rule p m ≡ false
 unfolding mates
-quiet rule p m lawful calm = second (legal rule p m) (is_mating rule p m) lawful (sym (no_mate_quietly rule p m (pseudo-from_legal rule p m lawful) calm))
+quiet rule p m lawful calm = second (legal rule p m) (is_mating rule p m) lawful (sym (no_mate_quietly rule p m (λ h. calm)))
   where
     second : (a b : Bool) → a ≡ true → (a && b) ≡ false → b ≡ false
     second true b e h = h

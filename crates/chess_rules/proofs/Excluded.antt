@@ -68,9 +68,9 @@ abbrev opening_capture : Position
 opening_capture =
     record (position (on White King a1 ∷ on White Bishop b3 ∷ on White Pawn e5 ∷ on Black King g8 ∷ on Black Pawn d5 ∷ []) White) { crossed = Some d6 }
 
-en_passant_checks : (pseudo orthodox opening_capture (go e5 d6) ≡ true)
+en_passant_checks : (legal orthodox opening_capture (go e5 d6) ≡ true)
     × (in_check orthodox (after orthodox opening_capture (go e5 d6)).men Black ≡ true)
-unfolding check_after_a_move
+unfolding legal check_after_a_move
 en_passant_checks = (refl, refl)
 
 -- so the squares to which the pawn must go to give check hold d6, from which a pawn gives none
@@ -89,9 +89,9 @@ no_pawn_checks_from_there = (refl, refl)
 abbrev reborn_hurdle : Position
 reborn_hurdle = position (on White King a1 ∷ on White Grasshopper a8 ∷ on White Rook d1 ∷ on Black King h8 ∷ on Black Knight d3 ∷ []) White
 
-reborn_knight_checks : (pseudo circe reborn_hurdle (go d1 d3) ≡ true)
+reborn_knight_checks : (legal circe reborn_hurdle (go d1 d3) ≡ true)
     × (in_check circe (after circe reborn_hurdle (go d1 d3)).men Black ≡ true)
-unfolding check_after_a_move
+unfolding legal check_after_a_move
 reborn_knight_checks = (refl, refl)
 
 -- so the squares to which the rook must go to give check hold d3, from which it gives none

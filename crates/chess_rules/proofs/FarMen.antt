@@ -16,12 +16,13 @@ use Rattle.chess_core.proofs.Men.{same_colour-true}
 use Rattle.chess_rules.specs.Legal.{pseudo}
 use Rattle.chess_rules.specs.RuleSet.{RuleSet}
 use Rattle.chess_rules.specs.ties.CheckSquares.{AreApproaches, AreCheckOrigins, AreCheckTargets}
-use Rattle.chess_rules.specs.ties.Targets.{may_go}
+use Rattle.chess_rules.specs.ties.Targets.{may_go, is_arrival}
 use Rattle.chess_rules.proofs.Arrivals.{may_go_aimed}
 use Rattle.chess_rules.proofs.Bits.{word_has}
 use Rattle.chess_rules.proofs.CheckTargets.{check_targets_there}
 use Rattle.chess_rules.proofs.Targeting.{arrival_needed, false_by, own_moves}
 use Rattle.chess_rules.proofs.Walks.{off_zero, on_first}
+use Rattle.chess_rules.proofs.Calls.{pseudo-from_legal}
 
 -- the man on a square of his kind
 man_is : (o : Option Man) (c : Colour) (k : Kind) → is_man o c k ≡ true → o ≡ Some (record { colour = c; kind = k })
@@ -37,7 +38,7 @@ pub man_of_word : (men : _) (c : Colour) (k : Kind) (w s : ℕ) → w ≡ square
 unfolding squares_of
 man_of_word men c k w s h small on = man_is (man_on men s) c k (sym (word_has (λ q. is_man (man_on men q) c k) w s h small) ∙ on)
 
--- no man on a square of the word gives check by a move that may be made
+-- no man on a square of the word gives check by a legal move
 pub record AreFar (rule : RuleSet) (p : Position) (w : ℕ) : Type 0 where
   pub far : (s : ℕ) → s < 64 → (bit_at w s == 1) ≡ true → AreCheckTargets rule p s 0
 
@@ -92,9 +93,10 @@ far_one rule p s o h are = record {
 far_unreached : (rule : RuleSet) (p : Position) (x : Man) (s w : ℕ) → man_on p.men s ≡ Some x → AreCheckTargets rule p s w
     → ((t : ℕ) → t < 64 → may_go p x s t ≡ true → (bit_at w t == 1) ≡ false) → AreCheckTargets rule p s 0
 far_unreached rule p x s w here are off = record {
-  elsewhere = λ m at small may none.
-      let goes : may_go p x m.from m.to ≡ true = may_go_aimed rule p x m (ap (man_on p.men) at ∙ here) (arrival_needed rule p m small may) in
-      are.elsewhere m at small may (off m.to small (ap (λ s. may_go p x s m.to) (sym at) ∙ goes));
+  elsewhere = λ m at small lawful none.
+      let arrives_there : is_arrival rule p m.from m.to ≡ true = arrival_needed rule p m small (pseudo-from_legal rule p m lawful) in
+      let goes : may_go p x m.from m.to ≡ true = may_go_aimed rule p x m (ap (man_on p.men) at ∙ here) arrives_there in
+      are.elsewhere m at small lawful (off m.to small (ap (λ s. may_go p x s m.to) (sym at) ∙ goes));
 }
 
 -- men off the squares from which they could come to a target
@@ -128,13 +130,13 @@ from_own rule p o m own inside may = elim (cases_Bool (bit_at o m.from == 1)) [
 
 pub check_origins_own : (rule : RuleSet) (p : Position) (o : ℕ) → o ≡ side_of p.men p.turn → AreCheckOrigins rule p o
 check_origins_own rule p o own = record {
-  elsewhere = λ m inside small may off. absurd (let mine = from_own rule p o m own inside may in cc);
+  elsewhere = λ m inside small lawful off. absurd (let mine = from_own rule p o m own inside (pseudo-from_legal rule p m lawful) in cc);
 }
 
 pub check_origins_are : (rule : RuleSet) (p : Position) (o f : ℕ) → o ≡ side_of p.men p.turn → f < 2 ^ 64 → AreFar rule p f
     → AreCheckOrigins rule p (bit_and o (bit_not w64 f))
 check_origins_are rule p o f own fits are = record {
-  elsewhere = λ m inside small may off.
-      let mine : (bit_at o m.from == 1) ≡ true = from_own rule p o m own inside may in
-      (are.far m.from inside (off_without o f m.from fits inside off mine)).elsewhere m refl small may (off_zero m.to);
+  elsewhere = λ m inside small lawful off.
+      let mine : (bit_at o m.from == 1) ≡ true = from_own rule p o m own inside (pseudo-from_legal rule p m lawful) in
+      (are.far m.from inside (off_without o f m.from fits inside off mine)).elsewhere m refl small lawful (off_zero m.to);
 }

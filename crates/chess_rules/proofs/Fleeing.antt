@@ -295,7 +295,7 @@ other_side (Some y) c h = by c (same_colour-true y.colour (other c) (first_of_an
   by White q = rw q refl
   by Black q = rw q refl
 
-steps_there : (men : List (Option Man)) (x : Man) (c : Colour) (k t : ℕ) → man_on men k ≡ Some x → same_colour x.colour c ≡ true → same_kind x.kind King ≡ true
+pub steps_there : (men : List (Option Man)) (x : Man) (c : Colour) (k t : ℕ) → man_on men k ≡ Some x → same_colour x.colour c ≡ true → same_kind x.kind King ≡ true
     → reaches_as men c King k t ≡ true → reaches men k t ≡ true
 unfolding reaches
 steps_there men x c k t here mine king h = search rules
@@ -323,7 +323,7 @@ abbrev step_to : ℕ → ℕ → Move
 step_to k t = record { from = k; to = t; promo = None }
 
 -- a king isn't paralysed
-king_is_able : (rule : RuleSet) (men : List (Option Man)) (x : Man) (k : ℕ) → man_on men k ≡ Some x → same_kind x.kind King ≡ true
+pub king_is_able : (rule : RuleSet) (men : List (Option Man)) (x : Man) (k : ℕ) → man_on men k ≡ Some x → same_kind x.kind King ≡ true
     → paralysed rule men k ≡ false
 unfolding paralysed
 king_is_able rule men x k here king =
@@ -366,7 +366,7 @@ pub record IsKingOn (men : List (Option Man)) (c : Colour) (k : ℕ) (x : Man) :
   pub mine : same_colour x.colour c ≡ true
   pub king : same_kind x.kind King ≡ true
 
-king_on : (men : List (Option Man)) (c : Colour) (k : ℕ) → king_square men c ≡ Some k → (x : Man) × IsKingOn men c k x
+pub king_on : (men : List (Option Man)) (c : Colour) (k : ℕ) → king_square men c ≡ Some k → (x : Man) × IsKingOn men c k x
 king_on men c k at =
     let there = king_there men c k at in
     let y = man_there (man_on men k) c King there.1 in
@@ -377,7 +377,7 @@ king_on men c k at =
 king_is_other : (x : Man) (c : Colour) → same_colour x.colour (other c) ≡ true → same_colour x.colour c ≡ false
 king_is_other x c h = search rules
 
-no_king_square : (men : List (Option Man)) (c d : Colour) (k b : ℕ) → king_square men d ≡ Some k → is_arrival_free c (man_on men b) ≡ true → b ≢ k
+pub no_king_square : (men : List (Option Man)) (c d : Colour) (k b : ℕ) → king_square men d ≡ Some k → is_arrival_free c (man_on men b) ≡ true → b ≢ k
 no_king_square men c d k b at free e =
     false≢true (sym (no_king_free c d (man_on men b) free) ∙ ap (λ (s : ℕ). is_man (man_on men s) d King) e ∙ (king_there men d k at).1)
 

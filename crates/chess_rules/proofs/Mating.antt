@@ -1,6 +1,6 @@
 -- The moves that mate, by their numbers.
 use Rattle.std.proofs.Common.{◌≡◌, ℕ, zero, suc, ◌+◌, ◌-◌, ◌<◌, ◌≤◌, Bool, true, false, ◌&&◌, not, [], ◌∷◌, refl, sym, ap, ◌∙◌, arith, inl, inr, rules}
-use Rattle.std.proofs.lemmas.Bool.{and_left, cases_lt}
+use Rattle.std.proofs.lemmas.Bool.{and_left, cases_lt, cases_Bool, and_right}
 use Rattle.chess_core.specs.Position.{Position, other}
 use Rattle.chess_core.specs.declared.man.Move.{Move}
 use Rattle.chess_rules.specs.Attacks.{in_check}
@@ -11,6 +11,7 @@ use Rattle.chess_rules.specs.RuleSet.{RuleSet}
 use Rattle.chess_rules.proofs.Places.{moves_behind-end, moves_behind-here, moves_behind-skip, not_pseudo}
 use Rattle.chess_rules.proofs.Stays.{maker}
 use Rattle.chess_rules.proofs.Tests.{first_of_and, second_of_and}
+use Rattle.chess_rules.proofs.Calls.{pseudo-from_legal}
 
 pub mates_behind-here : (rule : RuleSet) (p : Position) (n : ℕ) → n < 28672 → mates rule p (triple_at n) ≡ true
     → mates_behind rule p n ≡ (triple_at n ∷ mates_behind rule p (n + 1))
@@ -51,7 +52,7 @@ mates_behind-none rule p a b low high h = elim (cases_lt b a) [
   ]
 ]
 
--- a move that can't be made doesn't mate, nor one that gives no check
+-- a move that can't be made doesn't mate, nor one that gives no check if it is legal
 pub no_mate : (rule : RuleSet) (p : Position) (m : Move) → false ≡ pseudo rule p m → false ≡ mates rule p m
 no_mate rule p m h = sym (not_mating rule p m (sym h))
 
@@ -59,10 +60,16 @@ pub turn_after : (rule : RuleSet) (p : Position) (m : Move) → pseudo rule p m 
 unfolding after after_by
 turn_after rule p m h = let x = maker rule p m h in rw x.1 refl
 
-pub no_mate_quietly : (rule : RuleSet) (p : Position) (m : Move) → pseudo rule p m ≡ true → in_check rule (after rule p m).men (other p.turn) ≡ false
-    → false ≡ mates rule p m
+pub no_mate_quietly : (rule : RuleSet) (p : Position) (m : Move)
+    → (legal rule p m ≡ true → in_check rule (after rule p m).men (other p.turn) ≡ false) → false ≡ mates rule p m
 unfolding mates is_goal
-no_mate_quietly rule p m may quiet = search (rules, turn_after)
+no_mate_quietly rule p m quiet = elim (cases_Bool (legal rule p m)) [
+  | inr unlawful ↦ sym (and_left _ _ unlawful)
+  | inl lawful ↦
+      let turn : (after rule p m).turn ≡ other p.turn = turn_after rule p m (pseudo-from_legal rule p m lawful) in
+      let calm : in_check rule (after rule p m).men (after rule p m).turn ≡ false = ap (in_check rule (after rule p m).men) turn ∙ quiet lawful in
+      sym (and_right (legal rule p m) _ (and_left _ _ calm))
+]
 
 -- a move that may be made, tested in the position after it
 pub mates_after : (rule : RuleSet) (p : Position) (m : Move) → pseudo rule p m ≡ true

@@ -23,7 +23,7 @@ use Rattle.chess_rules.specs.Play.{after, after_by, arriving, capture_square, co
 use Rattle.chess_rules.specs.Reaches.{is_clear, is_vacant, reaches, reaches_as, reaches_of, rides}
 use Rattle.chess_rules.specs.RuleSet.{RuleSet, circe, madrasi, orthodox}
 use Rattle.chess_rules.specs.declared.checks.CheckSquares.{CheckSquares}
-use Rattle.chess_rules.specs.ties.CheckSquares.{AreCheckSquares, are_rebirths_quiet, check_squares_for, is_absent, rule_of_checks}
+use Rattle.chess_rules.specs.ties.CheckSquares.{AreCheckSquares, are_rebirths_quiet, check_squares_for, is_absent, rule_of_checks, may_check_from}
 use Rattle.chess_rules.specs.ties.Shields.{cannot_expose, may_expose, may_expose_on}
 use Rattle.chess_rules.proofs.Checking.{no_check, other_twice}
 use Rattle.chess_rules.proofs.Fits.{arrived}
@@ -189,7 +189,7 @@ absent_lacks men e size absent = λ s. false_from_ne_true _ (λ h.
     let z = man_there (man_on men s) e Grasshopper h in
     false≢true (sym (not-true _ absent) ∙ some_square_true (λ q. is_man (man_on men q) e Grasshopper) s (on_board men s z.0 size z.1) h))
 
-after_is : (rule : RuleSet) (p : Position) (x : Man) (m : Move) → man_on p.men m.from ≡ Some x
+pub after_is : (rule : RuleSet) (p : Position) (x : Man) (m : Move) → man_on p.men m.from ≡ Some x
     → (after rule p m).men ≡ put_at (moved_men p x m) (reborn_square rule p x m) (man_on_at p.men (capture_square p x m))
 unfolding after after_by
 after_is rule p x m here = rw here refl
@@ -231,7 +231,6 @@ shields_alike q r men c = squares_same (may_expose q men c) (may_expose r men c)
 pub check_squares_alike : (q r : RuleSet) (men : List (Option Man)) (c : Colour) (s : CheckSquares) → AreCheckSquares q men c s → AreCheckSquares r men c s
 check_squares_alike q r men c s a = record {
   shield_squares = a.shield_squares ∙ shields_alike q r men c;
-  king = a.king;
   straight = a.straight;
   diagonal = a.diagonal;
   knight = a.knight;
@@ -250,9 +249,9 @@ quiet_parts madrasi men e h = absurd (false≢true h)
 -- a move that gives no check by the rules of checks gives none
 pub no_check_by_rebirth : (rule : RuleSet) (p : Position) (x : Man) (m : Move) (s : CheckSquares) (y : Man) (w t : ℕ) → IsWellFormed p → pseudo rule p m ≡ true
     → man_on p.men m.from ≡ Some x → AreCheckSquares rule p.men (other p.turn) s → y ≡ arriving x m.promo → w ≡ check_squares_for s y.kind → t ≡ m.to → t < 64
-    → (bit_at w t == 1) ≡ false → m.promo ≡ None → cannot_expose (rule_of_checks rule p.men p.turn) p (other p.turn) m ≡ true
-    → in_check rule (after rule p m).men (other p.turn) ≡ false
-no_check_by_rebirth rule p x m s y w t well may here a is h same small off unpromoted cover = elim (cases_Bool (are_rebirths_quiet rule p.men p.turn)) [
+    → (bit_at w t == 1) ≡ false → (same_kind y.kind King ≡ true → may_check_from p.men (other p.turn) y t ≡ false) → m.promo ≡ None
+    → cannot_expose (rule_of_checks rule p.men p.turn) p (other p.turn) m ≡ true → in_check rule (after rule p m).men (other p.turn) ≡ false
+no_check_by_rebirth rule p x m s y w t well may here a is h same small off apart unpromoted cover = elim (cases_Bool (are_rebirths_quiet rule p.men p.turn)) [
   | inl quiet ↦
       let parts = quiet_parts rule p.men p.turn quiet in
       let may_so : pseudo circe p m ≡ true = ap (λ (r : RuleSet). pseudo r p m) (sym parts.0) ∙ may in
@@ -261,9 +260,9 @@ no_check_by_rebirth rule p x m s y w t well may here a is h same small off unpro
       ap (λ (r : RuleSet). in_check r (after r p m).men (other p.turn)) parts.0
       ∙ rebirth_gives_no_check p x m well may_so here unpromoted parts.1
       (no_check orthodox p x m s y w t well (pseudo_so p m may_so) here (check_squares_alike rule orthodox p.men (other p.turn) s a) is h same small off
-      unpromoted cover_so)
+      apart unpromoted cover_so)
   | inr loud ↦
       let cover_so : cannot_expose rule p (other p.turn) m ≡ true =
       ap (λ (r : RuleSet). cannot_expose r p (other p.turn) m) (sym (cond-false (are_rebirths_quiet rule p.men p.turn) _ _ loud)) ∙ cover in
-      no_check rule p x m s y w t well may here a is h same small off unpromoted cover_so
+      no_check rule p x m s y w t well may here a is h same small off apart unpromoted cover_so
 ]

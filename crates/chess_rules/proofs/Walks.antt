@@ -15,7 +15,7 @@ use Rattle.chess_rules.specs.ties.Places.{HaveNone, IsBarrenFrom, IsNamed, mates
 use Rattle.chess_rules.specs.RuleSet.{RuleSet}
 use Rattle.chess_rules.specs.ties.Targets.{AreCandidates, AreOrigins, IsAimed, is_arrival}
 use Rattle.chess_rules.proofs.Bits.{word_has}
-use Rattle.chess_rules.proofs.Mating.{no_mate_quietly, not_mating}
+use Rattle.chess_rules.proofs.Mating.{no_mate_quietly}
 use Rattle.chess_rules.proofs.Targeting.{arrival_needed, false_by, own_moves}
 use Rattle.chess_rules.proofs.Tests.{IsFirst, find_no}
 
@@ -132,13 +132,10 @@ evasions_elsewhere rule p s w h m at small may off = and_right (pseudo rule p m)
 
 pub checks_elsewhere : (rule : RuleSet) (p : Position) (s w : ℕ) → AreCheckTargets rule p s w → (m : Move) → m.from ≡ s → m.to < 64 → pseudo rule p m ≡ true
     → (bit_at w m.to == 1) ≡ false → mates rule p m ≡ false
-checks_elsewhere rule p s w h m at small may off = sym (no_mate_quietly rule p m may (h.elsewhere m at small may off))
+checks_elsewhere rule p s w h m at small may off = sym (no_mate_quietly rule p m (λ lawful. h.elsewhere m at small lawful off))
 
 -- a move from no square from which one may give check doesn't mate
 pub mating_origins : (rule : RuleSet) (p : Position) (w : ℕ) → AreCheckOrigins rule p w → AreOrigins (mates rule p) w
 mating_origins rule p w h = record {
-  elsewhere = λ m inside small off. elim (cases_Bool (pseudo rule p m)) [
-    | inr idle ↦ not_mating rule p m idle
-    | inl may ↦ sym (no_mate_quietly rule p m may (h.elsewhere m inside small may off))
-  ];
+  elsewhere = λ m inside small off. sym (no_mate_quietly rule p m (λ lawful. h.elsewhere m inside small lawful off));
 }

@@ -8,7 +8,7 @@ ghost use Rattle.chess_core.specs.ties.Words.{word};
 ghost use Rattle.chess_rules.specs.Attacks.{in_check};
 ghost use Rattle.chess_rules.specs.ties.CheckSquares.{AreCastlingTargets, AreCheckSquares, AreCheckTargets, enemy, is_absent, may_check_from, check_squares_for, own_man, are_rebirths_quiet, rule_of_checks};
 ghost use Rattle.chess_rules.specs.ties.Shields.{cannot_expose, is_fairy, may_stand_between};
-ghost use Rattle.chess_rules.specs.Legal.{pseudo};
+ghost use Rattle.chess_rules.specs.Legal.{legal, pseudo};
 ghost use Rattle.chess_rules.specs.Play.{after};
 ghost use Rattle.chess_rules.specs.RuleSet.{is_circe};
 
@@ -25,11 +25,10 @@ use chess_core::man::{Colour, Kind, Man, Move};
 use chess_core::square::Square;
 
 /// The squares from which a move may give check in a position: by exposing the king, or by a man of
-/// this kind that arrives there.
+/// this kind that arrives there. A king gives none so: next to the other he would be in check himself.
 #[derive(Clone, Copy)]
 pub(crate) struct CheckSquares {
     shield_squares: u64,
-    king: u64,
     straight: u64,
     diagonal: u64,
     knight: u64,
@@ -76,7 +75,6 @@ pub(crate) fn check_squares<R: Rules>(board: &Board, colour: Colour) -> CheckSqu
 {
     CheckSquares {
         shield_squares: shield_squares::<R>(board, colour),
-        king: check_squares_of(board, colour, Kind::King),
         straight: check_squares_of(board, colour, Kind::Rook),
         diagonal: check_squares_of(board, colour, Kind::Bishop),
         knight: check_squares_of(board, colour, Kind::Knight),
@@ -86,12 +84,12 @@ pub(crate) fn check_squares<R: Rules>(board: &Board, colour: Colour) -> CheckSqu
     }
 }
 
-// Those from which a man of this kind may.
+// Those from which a man of this kind may by a legal move.
 fn check_squares_for(squares: &CheckSquares, kind: Kind) -> u64
     ensures { result ≡ check_squares_for squares.now kind }
 {
     match kind {
-        Kind::King => squares.king,
+        Kind::King => 0,
         Kind::Queen => squares.straight | squares.diagonal,
         Kind::Rook => squares.straight,
         Kind::Bishop => squares.diagonal,
@@ -158,7 +156,7 @@ fn special_targets(squares: &CheckSquares, man: Man, from: Square) -> u64
     }
 }
 
-// The squares to which this man must go from here to give check.
+// The squares to which this man must go from here to give check by a legal move.
 fn check_targets<R: Rules>(board: &Board, squares: &CheckSquares, man: Man, from: Square) -> u64
     requires well_formed { IsWellFormed board.now }
     requires squares { AreCheckSquares R.rule board.now.men (other board.now.turn) squares.now }
@@ -230,14 +228,14 @@ fn keeps_its_kind(m: &Move) -> bool
     m.promo.is_none()
 }
 
-// Whether the move may give check: where it answers `false`, it gives none. A promoted man may see through
-// the square that the pawn left, so a promotion always may.
+// Whether the move may give check, if it is legal: where it answers `false`, it gives none. A promoted man
+// may see through the square that the pawn left, so a promotion always may.
 pub(crate) fn may_check<R: Rules>(board: &Board, squares: &CheckSquares, m: &Move) -> bool
     requires well_formed { IsWellFormed board.now }
     requires pseudo { pseudo R.rule board.now m.now ≡ true }
     requires squares { AreCheckSquares R.rule board.now.men (other board.now.turn) squares.now }
-    ensures { result ≡ false → in_check R.rule (after R.rule board.now m.now).men
-        (other board.now.turn) ≡ false }
+    ensures { result ≡ false → legal R.rule board.now m.now ≡ true
+        → in_check R.rule (after R.rule board.now m.now).men (other board.now.turn) ≡ false }
 {
     let Some(man) = board.man_at(m.from) else {
         return true;
@@ -291,7 +289,7 @@ pub(crate) fn targets_of_kind<R: Rules>(
 }
 
 // The squares to which the mover's king must go from here to give check, castling among his moves, where
-// his square is no shield square. `lines` as above.
+// his square is no shield square: none from which he himself would. `lines` as above.
 #[inline(always)]
 pub(crate) fn targets_of_king<R: Rules>(
     board: &Board,
@@ -314,5 +312,5 @@ pub(crate) fn targets_of_king<R: Rules>(
     let _small = from.index();
     let passed = only(board.crossed());
     let reborn = checking_rebirths::<R>(board);
-    squares.king | passed | special_targets(squares, king, from) | reborn | lines
+    passed | special_targets(squares, king, from) | reborn | lines
 }

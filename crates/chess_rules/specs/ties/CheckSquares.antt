@@ -12,7 +12,7 @@ use Rattle.chess_core.specs.declared.man.Kind.{Kind}
 use Rattle.chess_core.specs.declared.man.Kind.TheVariants.{King, Queen, Rook, Bishop, Knight, Pawn, Grasshopper, Nightrider}
 use Rattle.chess_rules.specs.declared.checks.CheckSquares.{CheckSquares}
 use Rattle.chess_rules.specs.Attacks.{in_check}
-use Rattle.chess_rules.specs.Legal.{pseudo}
+use Rattle.chess_rules.specs.Legal.{legal}
 use Rattle.chess_rules.specs.Play.{after}
 use Rattle.chess_rules.specs.Reaches.{reaches_as}
 use Rattle.chess_rules.specs.RuleSet.{RuleSet, is_circe, orthodox}
@@ -53,11 +53,10 @@ abbrev pub own_man : Position → Kind → Man
 own_man p j = record { colour = p.turn; kind = j }
 
 -- the words are those of the squares from which a move may expose the king of colour c, and from which
--- its enemies of each kind may give check to it
+-- its enemies of each kind but kings may give check to it
 pub record AreCheckSquares (rule : RuleSet) (men : List (Option Man)) (c : Colour)
     (s : CheckSquares) : Type 0 where
   pub shield_squares : s.shield_squares ≡ word (may_expose rule men c)
-  pub king : s.king ≡ word (may_check_from men c (enemy c King))
   pub straight : s.straight ≡ word (may_check_from men c (enemy c Rook))
   pub diagonal : s.diagonal ≡ word (may_check_from men c (enemy c Bishop))
   pub knight : s.knight ≡ word (may_check_from men c (enemy c Knight))
@@ -65,9 +64,9 @@ pub record AreCheckSquares (rule : RuleSet) (men : List (Option Man)) (c : Colou
   pub grasshopper : s.grasshopper ≡ word (may_check_from men c (enemy c Grasshopper))
   pub nightrider : s.nightrider ≡ word (may_check_from men c (enemy c Nightrider))
 
--- of these words that of a kind
+-- of these words that of a kind: a king who stood where he gives check would be in check himself
 abbrev pub check_squares_for : CheckSquares → Kind → ℕ
-check_squares_for s King = s.king
+check_squares_for s King = 0
 check_squares_for s Queen = bit_or s.straight s.diagonal
 check_squares_for s Rook = s.straight
 check_squares_for s Bishop = s.diagonal
@@ -76,9 +75,9 @@ check_squares_for s Pawn = s.pawn
 check_squares_for s Grasshopper = s.grasshopper
 check_squares_for s Nightrider = s.nightrider
 
--- a move from s that may be made gives no check, if it goes to a square not in the word
+-- a legal move from s gives no check, if it goes to a square not in the word
 pub record AreCheckTargets (rule : RuleSet) (p : Position) (s w : ℕ) : Type 0 where
-  pub elsewhere : (m : Move) → m.from ≡ s → m.to < 64 → pseudo rule p m ≡ true
+  pub elsewhere : (m : Move) → m.from ≡ s → m.to < 64 → legal rule p m ≡ true
       → (bit_at w m.to == 1) ≡ false → in_check rule (after rule p m).men (other p.turn) ≡ false
 
 -- halfway to a square two files beside s that isn't in the word, a rook gives no check
@@ -86,9 +85,9 @@ pub record AreCastlingTargets (v : CheckSquares) (s w : ℕ) : Type 0 where
   pub elsewhere : (t : ℕ) → t < 64 → is_aside s t ≡ true → (bit_at w t == 1) ≡ false
       → (bit_at v.straight ((s + t) / 2) == 1) ≡ false
 
--- a move that may be made gives no check, if it goes from a square not in the word
+-- a legal move gives no check, if it goes from a square not in the word
 pub record AreCheckOrigins (rule : RuleSet) (p : Position) (w : ℕ) : Type 0 where
-  pub elsewhere : (m : Move) → m.from < 64 → m.to < 64 → pseudo rule p m ≡ true
+  pub elsewhere : (m : Move) → m.from < 64 → m.to < 64 → legal rule p m ≡ true
       → (bit_at w m.from == 1) ≡ false → in_check rule (after rule p m).men (other p.turn) ≡ false
 
 -- the word has each square from which this man, whoever else stands there, may go to one of the targets

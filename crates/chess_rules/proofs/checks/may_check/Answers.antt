@@ -1,14 +1,16 @@
 use Rattle.std.proofs.Common.{◌≡◌, ◌<◌, ◌==◌, ◌∙◌, None, Some, false, ap, arith, sym}
 use Rattle.std.specs.Int.{bit_at}
 use Rattle.std.proofs.lemmas.Bool.{not-false}
-use Rattle.chess_core.specs.Position.{man_on}
+use Rattle.chess_core.specs.Position.{man_on, other}
 use Rattle.chess_core.specs.Triple.{Triple}
 use Rattle.chess_rules.specs.Play.{arriving}
 use Rattle.chess_rules.proofs.Rebirths.{no_check_by_rebirth}
 use Rattle.chess_rules.proofs.checks.may_check.Goals as goal
+use Rattle.chess_rules.proofs.KingsApart.{kings_apart}
+use Rattle.chess_rules.specs.ties.CheckSquares.{may_check_from}
 
 pub returns-else-contains : goal.returns-else-contains
-returns-else-contains g c = λ h.
+returns-else-contains g c = λ h lawful.
     let p = c.args.board.now in
     let x = c.in-Some.man in
     let from : c.m.inside.from ≡ c.args.m.now.from = ap (λ (v : Triple). v.from) c.m.view_is in
@@ -20,4 +22,6 @@ returns-else-contains g c = λ h.
     let off : (bit_at c.check_squares_for-from_there.result c.m.inside.to == 1) ≡ false = sym c.contains.ensures ∙ c.if-contains.false in
     no_check_by_rebirth g.R.Rules.rule p x c.args.m.now c.args.squares.now x c.check_squares_for-from_there.result
     c.m.inside.to c.requires.well_formed c.requires.pseudo
-    here c.requires.squares arrives c.check_squares_for-from_there.ensures to small off unpromoted (not-false _ (sym c.may_discover.ensures ∙ h))
+    here c.requires.squares arrives c.check_squares_for-from_there.ensures to small off
+    (λ king. ap (may_check_from p.men (other p.turn) x) to ∙ kings_apart g.R.Rules.rule p x c.args.m.now c.requires.well_formed here (rw to at small) lawful
+    king) unpromoted (not-false _ (sym c.may_discover.ensures ∙ h))
