@@ -18,22 +18,22 @@ use Rattle.chess_rules.specs.declared.checks.CheckSquares.{CheckSquares}
 use Rattle.chess_rules.specs.Attacks.{in_check}
 use Rattle.chess_rules.specs.ties.CheckSquares.{AreCastlingTargets, AreCheckSquares, AreCheckTargets, check_squares_for, enemy, may_check_from, own_man, are_rebirths_quiet}
 use Rattle.chess_rules.specs.ties.Shields.{cannot_expose, is_plain, may_expose, may_stand_between}
-use Rattle.chess_rules.specs.Legal.{last_rank, pseudo, legal}
+use Rattle.chess_rules.specs.Legal.{last_rank, legal, pseudo}
 use Rattle.chess_rules.specs.Play.{after, arriving, halfway, is_castling}
 use Rattle.chess_rules.specs.RuleSet.{RuleSet, circe, is_circe, orthodox}
 use Rattle.chess_rules.specs.ties.Targets.{arrives, is_arrival, may_go}
 use Rattle.chess_rules.proofs.Arrivals.{may_go_aimed}
 use Rattle.chess_rules.specs.ties.Lines.{is_aside}
 use Rattle.chess_rules.proofs.Bits.{word_has}
+use Rattle.chess_rules.proofs.Calls.{pseudo-from_legal}
 use Rattle.chess_rules.proofs.CastlingChecks.{castling_aside, castling_gives_no_check}
 use Rattle.chess_rules.proofs.Checking.{no_check}
+use Rattle.chess_rules.proofs.KingsApart.{kings_apart}
 use Rattle.chess_rules.proofs.Pseudo.{made}
 use Rattle.chess_rules.proofs.Rebirths.{check_squares_alike, pseudo_so, quiet_parts, rebirth_gives_no_check}
 use Rattle.chess_rules.proofs.Shielding.{other_differs}
 use Rattle.chess_rules.proofs.Walks.{off_second}
 use Rattle.chess_rules.proofs.Targeting.{arrival_needed, every_square_on, false_by, nobody_moves, unpromoted}
-use Rattle.chess_rules.proofs.Calls.{pseudo-from_legal}
-use Rattle.chess_rules.proofs.KingsApart.{kings_apart}
 
 -- a square off both words is off each
 pub off_left : (a b i : ℕ) → (bit_at (bit_or a b) i == 1) ≡ false → (bit_at a i == 1) ≡ false
@@ -164,7 +164,8 @@ module _ (rule : RuleSet) (p : Position) (x : Man) (s : CheckSquares) (f : ℕ) 
         (no_check_elsewhere orthodox p x s f well here checks_so inside covered a b c d e checked_from crossed promotes castles (λ bad. absurd (false≢true bad))
         lines m at small (pseudo_so p m may_so) apart off)
     | inr loud ↦
-        no_check_elsewhere rule p x s f well here checks inside covered a b c d e checked_from crossed promotes castles (reborn loud) lines m at small may apart off
+        no_check_elsewhere rule p x s f well here checks inside covered a b c d e checked_from crossed promotes castles (reborn loud) lines m at small may
+        apart off
   ]
 
   pub check_targets_some : AreCheckTargets rule p f (bit_or (bit_or (bit_or (bit_or a b) c) d) e)
@@ -195,3 +196,14 @@ pub kind_targets : (rule : RuleSet) (p : Position) (j : Kind) (s : CheckSquares)
 kind_targets rule p j s a b c d e f well checks piece checked_from crossed promotes reborn lines inside here covered =
     check_targets_some rule p (own_man p j) s f well here checks inside covered a b c d e checked_from crossed promotes
     (λ king. absurd (false≢true (sym piece ∙ king))) reborn lines
+
+-- and of its king: there he gives no check himself
+pub king_targets : (rule : RuleSet) (p : Position) (s : CheckSquares) (b c d e f : ℕ) → IsWellFormed p → AreCheckSquares rule p.men (other p.turn) s
+    → b ≡ word (λ t. is_square p.crossed t) → AreCastlingTargets s f c
+    → (are_rebirths_quiet rule p.men p.turn ≡ false → is_circe rule ≡ true → d ≡ word (λ t. is_some (man_on p.men t)))
+    → e ≡ word (may_stand_between p.men (other p.turn))
+    → f < 64 → man_on p.men f ≡ Some (own_man p King) → (bit_at s.shield_squares f == 1) ≡ false
+    → AreCheckTargets rule p f (bit_or (bit_or (bit_or b c) d) e)
+king_targets rule p s b c d e f well checks crossed castles reborn lines inside here covered =
+    check_targets_some rule p (own_man p King) s f well here checks inside covered 0 b c d e refl crossed
+    (λ pawn. absurd (false≢true pawn)) (λ king. castles) reborn lines

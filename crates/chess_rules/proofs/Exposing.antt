@@ -105,7 +105,8 @@ pub free_of_king : (c : Colour) (o : Option Man) → is_arrival_free c o ≡ tru
 free_of_king c None h = refl
 free_of_king c (Some y) h = search (rules, and_left, and_parts, not-true)
 
-pub king_stays_king : (p : Position) (x : Man) (m : Move) (r : Option Kind) → is_promotion_right p x m r ≡ true → same_kind x.kind King ≡ true → arriving x r ≡ x
+pub king_stays_king : (p : Position) (x : Man) (m : Move) (r : Option Kind) → is_promotion_right p x m r ≡ true → same_kind x.kind King ≡ true
+    → arriving x r ≡ x
 king_stays_king p x m None right king = refl
 king_stays_king p x m (Some k) right king = search (rules, and_parts, false≢true, pawn_is_no_king)
 

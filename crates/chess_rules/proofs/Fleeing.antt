@@ -295,8 +295,8 @@ other_side (Some y) c h = by c (same_colour-true y.colour (other c) (first_of_an
   by White q = rw q refl
   by Black q = rw q refl
 
-pub steps_there : (men : List (Option Man)) (x : Man) (c : Colour) (k t : ℕ) → man_on men k ≡ Some x → same_colour x.colour c ≡ true → same_kind x.kind King ≡ true
-    → reaches_as men c King k t ≡ true → reaches men k t ≡ true
+pub steps_there : (men : List (Option Man)) (x : Man) (c : Colour) (k t : ℕ) → man_on men k ≡ Some x → same_colour x.colour c ≡ true
+    → same_kind x.kind King ≡ true → reaches_as men c King k t ≡ true → reaches men k t ≡ true
 unfolding reaches
 steps_there men x c k t here mine king h = search rules
 

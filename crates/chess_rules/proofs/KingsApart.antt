@@ -1,5 +1,6 @@
 -- A king who goes next to the other king is in check there: no legal move does so.
-use Rattle.std.proofs.Common.{◌≡◌, ◌≢◌, ℕ, ◌<◌, true, false, not, List, Option, Some, None, refl, sym, ap, ◌∙◌, inl, inr, ◌||◌, Bool}
+use Rattle.std.proofs.Common.{◌≡◌, ◌≢◌, ℕ, ◌<◌, Bool, true, false, ◌||◌, not, List, Option, Some, None, refl, sym, ap, ◌∙◌, inl, inr}
+use Rattle.std.specs.List.{list_any}
 use Rattle.std.proofs.lemmas.Bool.{and_from, and_left, and_parts, cases_Bool, false_from_ne_true, false≢true, not-true}
 use Rattle.chess_core.specs.Position.{Position, is_man, is_side, king_square, man_on, other, same_colour, same_kind, without_man}
 use Rattle.chess_core.specs.Steps.{queen_steps}
@@ -13,10 +14,11 @@ use Rattle.chess_core.proofs.Ranges.{some_square_true}
 use Rattle.chess_rules.specs.Attacks.{attacked, check_of, in_check, strikes}
 use Rattle.chess_rules.specs.Legal.{legal, pseudo}
 use Rattle.chess_rules.specs.Play.{after, capture_square, corner, halfway, is_castling, man_on_at, moved_men, put_at, reborn_square}
-use Rattle.chess_rules.specs.Reaches.{reaches_as, leaps}
+use Rattle.chess_rules.specs.Reaches.{leaps, reaches_as}
 use Rattle.chess_rules.specs.RuleSet.{RuleSet}
 use Rattle.chess_rules.specs.ties.CheckSquares.{is_absent, may_check_from, may_check_from_on}
 use Rattle.chess_rules.specs.ties.Playing.{CanCastle}
+use Rattle.chess_rules.specs.ties.Shields.{is_fairy}
 use Rattle.chess_rules.proofs.Calls.{pseudo-from_legal}
 use Rattle.chess_rules.proofs.Exposing.{king_stays_king}
 use Rattle.chess_rules.proofs.Fits.{arrived, arrived_other, can_move, kind_is_king, taken}
@@ -27,8 +29,6 @@ use Rattle.chess_rules.proofs.Rebirths.{after_is}
 use Rattle.chess_rules.proofs.Returns.{moved_arrival}
 use Rattle.chess_rules.proofs.Shielding.{king_is, moved_plainly, other_differs}
 use Rattle.chess_rules.proofs.Stays.{after_well_formed, colour_self, move_man_other, reborn_is}
-use Rattle.std.specs.List.{list_any}
-use Rattle.chess_rules.specs.ties.Shields.{is_fairy}
 
 -- who stands on a square stays there when somebody is put on an empty one
 stays_put : (men : List (Option Man)) (o : Option ℕ) (w : Option Man) (s : ℕ) (z : Man) → ((r : ℕ) → o ≡ Some r → man_on men r ≡ None)
@@ -51,8 +51,7 @@ module _ (rule : RuleSet) (p : Position) (x : Man) (m : Move) (well : IsWellForm
     off_from e =
         let same : Some y ≡ Some x = sym stood.here ∙ ap (man_on p.men) e ∙ is.here in
         let one : y ≡ x = cc in
-        let colour : x.colour ≡ p.turn = is.mine in
-        false≢true (sym (other_differs p.turn) ∙ ap (λ (c : Colour). same_colour c (other p.turn)) (sym colour)
+        false≢true (sym (other_differs p.turn) ∙ ap (λ (c : Colour). same_colour c (other p.turn)) (sym is.mine)
         ∙ ap (λ (z : Man). same_colour z.colour (other p.turn)) (sym one) ∙ stood.mine)
 
     uncaptured : (s : ℕ) → capture_square p x m ≡ Some s → k ≢ s

@@ -289,7 +289,7 @@ pub(crate) fn targets_of_kind<R: Rules>(
 }
 
 // The squares to which the mover's king must go from here to give check, castling among his moves, where
-// his square is no shield square: none from which he himself would. `lines` as above.
+// his square is no shield square. He himself gives none from anywhere. `lines` as above.
 #[inline(always)]
 pub(crate) fn targets_of_king<R: Rules>(
     board: &Board,
