@@ -128,7 +128,13 @@ fn fairy_attackers(board: &Board, sight: Sight, square: Square, colour: Colour) 
         return 0;
     }
     those_reaching(sight.occupied, hoppers, square, colour, Kind::Grasshopper)
-        | those_reaching(sight.occupied, nightriders, square, colour, Kind::Nightrider)
+        | those_reaching(
+            sight.occupied,
+            nightriders,
+            square,
+            colour,
+            Kind::Nightrider,
+        )
 }
 
 // The squares of the men of this colour that reach the square.
