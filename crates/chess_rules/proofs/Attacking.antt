@@ -201,7 +201,7 @@ met_none men c k t m n l ds h i j z =
 abbrev pub comer : List (Option Man) → Colour → ℕ → Kind → ℕ → Bool
 comer men c t k s = is_man (man_on men s) c k && reaches men s t
 
-one_by_one : (x a b c d e : Bool) → (((((x || a) || b) || c) || d) || e) ≡ (x || (a || (b || (c || (d || (e || false))))))
+one_by_one : (x a b c d e : Bool) → ((((x || a) || b) || c) || (d || e)) ≡ (x || (a || (b || (c || (d || (e || false))))))
 one_by_one true a b c d e = refl
 one_by_one false true b c d e = refl
 one_by_one false false true c d e = refl
@@ -210,33 +210,37 @@ one_by_one false false false false true e = refl
 one_by_one false false false false false true = refl
 one_by_one false false false false false false = refl
 
-pub attackers_are : (men : List (Option Man)) (c : Colour) (t r b k n p g f : ℕ) → t < 64
+pub attackers_are : (men : List (Option Man)) (c : Colour) (t r b k n p f : ℕ) → t < 64
     → r ≡ word (is_met men c Rook straight_steps t)
     → b ≡ word (is_met men c Bishop diagonal_steps t)
     → k ≡ word (comer men c t King)
     → n ≡ word (comer men c t Knight)
     → p ≡ word (comer men c t Pawn)
-    → g ≡ word (comer men c t Grasshopper)
-    → f ≡ word (comer men c t Nightrider)
-    → bit_or (bit_or (bit_or (bit_or (bit_or (bit_or r b) k) n) p) g) f ≡ word (λ s. is_side (man_on men s) c && reaches men s t)
+    → f ≡ word (λ s. comer men c t Grasshopper s || comer men c t Nightrider s)
+    → bit_or (bit_or (bit_or (bit_or (bit_or r b) k) n) p) f ≡ word (λ s. is_side (man_on men s) c && reaches men s t)
 unfolding reaches is_met
-attackers_are men c t r b k n p g f q hr hb hk hn hp hg hf =
+attackers_are men c t r b k n p f q hr hb hk hn hp hf =
     let rook : ℕ → Bool = is_met men c Rook straight_steps t in
     let bishop : ℕ → Bool = is_met men c Bishop diagonal_steps t in
     let by : Kind → ℕ → Bool = comer men c t in
-    (λ a. bit_or (bit_or (bit_or (bit_or (bit_or (bit_or (hr a) (hb a)) (hk a)) (hn a)) (hp a)) (hg a)) (hf a))
-    ∙ (λ a. bit_or (bit_or (bit_or (bit_or (bit_or (squares_either rook bishop a) (word (by King))) (word (by Knight))) (word (by Pawn)))
-    (word (by Grasshopper))) (word (by Nightrider)))
-    ∙ (λ a. bit_or (bit_or (bit_or (bit_or (squares_either (λ s. rook s || bishop s) (by King) a) (word (by Knight))) (word (by Pawn))) (word (by Grasshopper)))
-    (word (by Nightrider)))
-    ∙ (λ a. bit_or (bit_or (bit_or (squares_either (λ s. (rook s || bishop s) || by King s) (by Knight) a) (word (by Pawn))) (word (by Grasshopper)))
-    (word (by Nightrider)))
-    ∙ (λ a. bit_or (bit_or (squares_either (λ s. ((rook s || bishop s) || by King s) || by Knight s) (by Pawn) a) (word (by Grasshopper)))
-    (word (by Nightrider)))
-    ∙ (λ a. bit_or (squares_either (λ s. (((rook s || bishop s) || by King s) || by Knight s) || by Pawn s) (by Grasshopper) a) (word (by Nightrider)))
-    ∙ squares_either (λ s. ((((rook s || bishop s) || by King s) || by Knight s) || by Pawn s) || by Grasshopper s) (by Nightrider)
+    let fairy : ℕ → Bool = λ s. by Grasshopper s || by Nightrider s in
+    (λ a. bit_or (bit_or (bit_or (bit_or (bit_or (hr a) (hb a)) (hk a)) (hn a)) (hp a)) (hf a))
+    ∙ (λ a. bit_or (bit_or (bit_or (bit_or (squares_either rook bishop a) (word (by King))) (word (by Knight))) (word (by Pawn))) (word fairy))
+    ∙ (λ a. bit_or (bit_or (bit_or (squares_either (λ s. rook s || bishop s) (by King) a) (word (by Knight))) (word (by Pawn))) (word fairy))
+    ∙ (λ a. bit_or (bit_or (squares_either (λ s. (rook s || bishop s) || by King s) (by Knight) a) (word (by Pawn))) (word fairy))
+    ∙ (λ a. bit_or (squares_either (λ s. ((rook s || bishop s) || by King s) || by Knight s) (by Pawn) a) (word fairy))
+    ∙ squares_either (λ s. (((rook s || bishop s) || by King s) || by Knight s) || by Pawn s) fairy
     ∙ squares_same _ _ (λ s z. one_by_one (rook s || bishop s) (by King s) (by Knight s) (by Pawn s) (by Grasshopper s) (by Nightrider s)
     ∙ at_square men c (man_on men s) s t z q)
+
+-- grasshoppers and nightriders together
+pub fairy_are : (men : List (Option Man)) (c : Colour) (t g f : ℕ) → g ≡ word (comer men c t Grasshopper) → f ≡ word (comer men c t Nightrider)
+    → bit_or g f ≡ word (λ s. comer men c t Grasshopper s || comer men c t Nightrider s)
+fairy_are men c t g f hg hf = (λ a. bit_or (hg a) (hf a)) ∙ squares_either (comer men c t Grasshopper) (comer men c t Nightrider)
+
+pub fairy_none : (men : List (Option Man)) (c : Colour) (t g f : ℕ) → g ≡ squares_of men c Grasshopper → f ≡ squares_of men c Nightrider → g ≡ 0 → f ≡ 0
+    → 0 ≡ word (λ s. comer men c t Grasshopper s || comer men c t Nightrider s)
+fairy_none men c t g f hg hf zg zf = fairy_are men c t 0 0 (reached_none men c Grasshopper t g hg zg) (reached_none men c Nightrider t f hf zf)
 
 last_two : (a b c : Bool) → ((a && b) && c) ≡ ((a && c) && b)
 last_two true true true = refl

@@ -168,6 +168,32 @@ pub from-none : (p : Position) (s start at w : ℕ) → IsBarrenFrom p s w start
 from-none p s start at w past none =
     from-join p s w start at 448 past (from-missed p s at 448 w (λ q lo hi. find_no (λ q. bit_at w q == 1) (at / 7) (64 - at / 7) q none lo (omega arith)))
 
+no_pawn_promotes : (x : Man) (t : ℕ) → same_kind x.kind Pawn ≡ false → arrives x t ≡ false
+no_pawn_promotes x t h = rw h refl
+
+-- a man that is no pawn has no other triple to a square than that without a promotion
+from-plain : (p : Position) (x : Man) (s a w : ℕ) → man_on p.men s ≡ Some x → same_kind x.kind Pawn ≡ false → IsBarrenFrom p s w a (7 * ((a + 6) / 7))
+from-plain p x s a w here h = elim (cases_eq (a % 7) 0) [
+  | inl e ↦ let at : 7 * ((a + 6) / 7) ≡ a = omega (arith, e) in rw at (from-empty p s w a)
+  | inr ne ↦
+      let at : 7 * ((a + 6) / 7) ≡ 7 * (a / 7) + 7 = omega (arith, ne) in
+      rw at (from-unpromoted p x s w (a / 7) a here (no_pawn_promotes x (a / 7) h) (omega (arith, ne)))
+]
+
+pub plain-target : (p : Position) (x : Man) (s start t w : ℕ) → man_on p.men s ≡ Some x → same_kind x.kind Pawn ≡ false
+    → IsFirst (λ q. bit_at w q == 1) ((start + 6) / 7) (64 - (start + 6) / 7) t
+    → IsBarrenFrom p s w start (7 * t)
+plain-target p x s start t w here h f =
+    let at : 7 * ((start + 6) / 7) / 7 ≡ (start + 6) / 7 = omega arith in
+    from-target p s start (7 * ((start + 6) / 7)) t w (from-plain p x s start w here h) (rw at f)
+
+pub plain-none : (p : Position) (x : Man) (s start w : ℕ) → man_on p.men s ≡ Some x → same_kind x.kind Pawn ≡ false
+    → find (λ q. bit_at w q == 1) (range_with_len ((start + 6) / 7) (64 - (start + 6) / 7)) ≡ None
+    → IsBarrenFrom p s w start 448
+plain-none p x s start w here h none =
+    let at : 7 * ((start + 6) / 7) / 7 ≡ (start + 6) / 7 = omega arith in
+    from-none p s start (7 * ((start + 6) / 7)) w (from-plain p x s start w here h) (rw at none)
+
 -- the triple that is found
 pub named_at : (p : Position) (x : Man) (s t n w : ℕ) → man_on p.men s ≡ Some x → (bit_at w t == 1) ≡ true → n / 7 ≡ t
     → is_some (promotion_at (n % 7)) ≡ arrives x t → IsNamed p s w n
@@ -178,6 +204,12 @@ some_named n lo hi = let k = some_promotion n lo hi in rw k.1 refl
 
 pub none_named : (n : ℕ) → n ≡ 0 → is_some (promotion_at n) ≡ false
 none_named n e = rw e refl
+
+pub plain-named : (p : Position) (x : Man) (s t w : ℕ) → man_on p.men s ≡ Some x → same_kind x.kind Pawn ≡ false → (bit_at w t == 1) ≡ true
+    → IsNamed p s w (7 * t)
+plain-named p x s t w here h set =
+    let zero : 7 * t % 7 ≡ 0 = omega arith in
+    named_at p x s t (7 * t) w here set (omega arith) (none_named (7 * t % 7) zero ∙ sym (no_pawn_promotes x t h))
 
 pub every_square_on : (t : ℕ) → t < 64 → (bit_at (bit_not w64 0) t == 1) ≡ true
 every_square_on t lt = agree_below_at (λ n. bit_at (bit_not w64 0) n == 1) (λ _. true) 64 t refl lt

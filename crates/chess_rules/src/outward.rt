@@ -1,5 +1,5 @@
 //! Attack looked for outward from the square.
-ghost use Rattle.std.specs.Prelude.{◌≡◌, ℕ, ◌&&◌, ◌==◌, not, List, Option};
+ghost use Rattle.std.specs.Prelude.{◌≡◌, ℕ, ◌&&◌, ◌||◌, ◌==◌, not, List, Option};
 ghost use Rattle.std.specs.Int.{bit_at};
 ghost use Rattle.chess_core.specs.Position.{is_man, is_side, man_on};
 ghost use Rattle.chess_core.specs.declared.man.Man.{Man};
@@ -12,7 +12,7 @@ ghost use Rattle.chess_rules.specs.ties.Outward.{is_met};
 ghost use Rattle.chess_rules.specs.ties.Shields.{is_reached};
 ghost use Rattle.chess_rules.specs.Reaches.{reaches, reaches_as};
 ghost use Rattle.chess_core.specs.Steps.{diagonal_steps, straight_steps};
-ghost use Rattle.chess_core.specs.declared.man.Kind.TheVariants.{Bishop, Rook};
+ghost use Rattle.chess_core.specs.declared.man.Kind.TheVariants.{Bishop, Grasshopper, Nightrider, Rook};
 
 use crate::leaps::{king_leaps, knight_leaps, pawn_leaps};
 use crate::lines::{
@@ -105,6 +105,38 @@ fn diagonal_attackers(board: &Board, sight: Sight, square: Square, colour: Colou
     men & diagonal_rides(sight.occupied, square)
 }
 
+// The squares of the men of this colour and kind that reach the square, looked for at once: leaps stand in a
+// table.
+#[inline(always)]
+fn leaping_attackers(board: &Board, sight: Sight, square: Square, colour: Colour, kind: Kind) -> u64
+    ensures { (men : List (Option Man)) → AreSeen board.now.men men colour sight
+        → result ≡ word (λ s. is_man (man_on men s) colour kind && reaches men s square) }
+{
+    squares_seen(board, sight, colour, kind) & comes_as(sight.occupied, colour, kind, square)
+}
+
+// The squares of its grasshoppers and nightriders that reach the square. Mostly there is none.
+#[inline(always)]
+fn fairy_attackers(board: &Board, sight: Sight, square: Square, colour: Colour) -> u64
+    ensures { (men : List (Option Man)) → AreSeen board.now.men men colour sight
+        → result ≡ word (λ s. (is_man (man_on men s) colour Grasshopper && reaches men s square)
+        || (is_man (man_on men s) colour Nightrider && reaches men s square)) }
+{
+    let hoppers = squares_seen(board, sight, colour, Kind::Grasshopper);
+    let nightriders = squares_seen(board, sight, colour, Kind::Nightrider);
+    if hoppers == 0 && nightriders == 0 {
+        return 0;
+    }
+    those_reaching(sight.occupied, hoppers, square, colour, Kind::Grasshopper)
+        | those_reaching(
+            sight.occupied,
+            nightriders,
+            square,
+            colour,
+            Kind::Nightrider,
+        )
+}
+
 // The squares of the men of this colour that reach the square.
 pub(crate) fn attackers_seen(board: &Board, sight: Sight, square: Square, colour: Colour) -> u64
     ensures { (men : List (Option Man)) → AreSeen board.now.men men colour sight
@@ -114,11 +146,10 @@ pub(crate) fn attackers_seen(board: &Board, sight: Sight, square: Square, colour
     let _small = square.index();
     straight_attackers(board, sight, square, colour)
         | diagonal_attackers(board, sight, square, colour)
-        | reached_by(board, sight, square, colour, Kind::King)
-        | reached_by(board, sight, square, colour, Kind::Knight)
-        | reached_by(board, sight, square, colour, Kind::Pawn)
-        | reached_by(board, sight, square, colour, Kind::Grasshopper)
-        | reached_by(board, sight, square, colour, Kind::Nightrider)
+        | leaping_attackers(board, sight, square, colour, Kind::King)
+        | leaping_attackers(board, sight, square, colour, Kind::Knight)
+        | leaping_attackers(board, sight, square, colour, Kind::Pawn)
+        | fairy_attackers(board, sight, square, colour)
 }
 
 // The same on the board as it stands.
