@@ -68,8 +68,11 @@ fn far_men<R: Rules>(board: &Board, squares: &CheckSquares, kind: Kind, lines: u
         colour: board.turn(),
         kind,
     };
-    let targets = targets_of_kind::<R>(board, squares, kind, lines);
     let men = men_off_shields(board, squares, kind);
+    if men == 0 {
+        return 0;
+    }
+    let targets = targets_of_kind::<R>(board, squares, kind, lines);
     let mut far = 0u64;
     let mut number = 0u8;
     while let Some(from) = next_bit(men, number) {
