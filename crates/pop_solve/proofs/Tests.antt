@@ -23,7 +23,7 @@ use Rattle.pop_solve.specs.declared.frame.Stretch.{Stretch}
 use Rattle.pop_solve.specs.declared.frame.Stretch.TheVariants.{Killer}
 use Rattle.pop_solve.specs.ties.Counts.{HasCounted, decided_by, least_of, smallest_below, smallest_tree, walk_count}
 use Rattle.pop_solve.specs.ties.Values.{decides, seeks, join, value, joined}
-use Rattle.pop_solve.specs.ties.Frames.{Frame, position, AreKnown, IsLinked, IsCut, IsOpenedOn, IsTesting, deliver, pending, steps, steps_among, work, CameFromAt, CameFrom, tests, Turns, Ends, tested, top_left, walk_among, to_test, to_try, to_try_with, ahead, stretch_of, unordered, untried, Order}
+use Rattle.pop_solve.specs.ties.Frames.{Frame, position, AreKnown, IsLinked, IsCut, IsOpenedOn, IsTesting, deliver, pending, steps, steps_among, work, CameFromAt, CameFrom, tests, Turns, Ends, tested, top_left, walk_among, to_test, to_try, to_try_with, ahead, comes_early, is_at, unordered, untried, Order}
 use Rattle.pop_solve.proofs.SmallestTrees.{trees-next, trees-end, trees-start}
 
 -- the frame with its place moved on
@@ -62,7 +62,7 @@ module _ (rule : RuleSet) (q : Position) (o : Order) where
   pub any-start : (test : Triple → Bool) → list_any test first ≡ list_any test (legal_moves rule q)
   any-start test =
       ap (list_any test) (all_ahead rule q o)
-      ∙ same_parted (λ m c. test m || c) (list_any test) (λ m ms. refl) (λ m n. swap (test m) (test n)) (stretch_of q o) (legal_moves rule q)
+      ∙ same_parted (λ m c. test m || c) (list_any test) (λ m ms. refl) (λ m n. swap (test m) (test n)) (is_at o.killer) (is_at o.earlier) (comes_early o.early q) (legal_moves rule q)
     where
       swap : (a b c : Bool) → (a || (b || c)) ≡ (b || (a || c))
       swap true true c = refl
@@ -72,7 +72,7 @@ module _ (rule : RuleSet) (q : Position) (o : Order) where
   pub all-start : (test : Triple → Bool) → list_all test first ≡ list_all test (legal_moves rule q)
   all-start test =
       ap (list_all test) (all_ahead rule q o)
-      ∙ same_parted (λ m c. test m && c) (list_all test) (λ m ms. refl) (λ m n. swap (test m) (test n)) (stretch_of q o) (legal_moves rule q)
+      ∙ same_parted (λ m c. test m && c) (list_all test) (λ m ms. refl) (λ m n. swap (test m) (test n)) (is_at o.killer) (is_at o.earlier) (comes_early o.early q) (legal_moves rule q)
     where
       swap : (a b c : Bool) → (a && (b && c)) ≡ (b && (a && c))
       swap true b c = refl
@@ -82,14 +82,14 @@ module _ (rule : RuleSet) (q : Position) (o : Order) where
   pub sum-start : (f : Triple → ℕ) → sum_by f first ≡ sum_by f (legal_moves rule q)
   sum-start f =
       ap (sum_by f) (all_ahead rule q o)
-      ∙ same_parted (λ m c. f m + c) (sum_by f) (sum_by-cons f) (λ m n c. omega arith) (stretch_of q o) (legal_moves rule q)
+      ∙ same_parted (λ m c. f m + c) (sum_by f) (sum_by-cons f) (λ m n c. omega arith) (is_at o.killer) (is_at o.earlier) (comes_early o.early q) (legal_moves rule q)
 
   least-start : (test : Triple → Bool) (f : Triple → ℕ) (n : ℕ) → least_of test f n first ≡ least_of test f n (legal_moves rule q)
   unfolding least_of
   least-start test f n =
       ap (least_of test f n) (all_ahead rule q o)
-      ∙ same_parted (λ m c. cond (test m) (min (f m) c) c) (least_of test f n) (λ m ms. refl) (λ m n. swap (test m) (test n) (f m) (f n)) (stretch_of q o)
-      (legal_moves rule q)
+      ∙ same_parted (λ m c. cond (test m) (min (f m) c) c) (least_of test f n) (λ m ms. refl) (λ m n. swap (test m) (test n) (f m) (f n)) (is_at o.killer)
+      (is_at o.earlier) (comes_early o.early q) (legal_moves rule q)
     where
       swap : (a b : Bool) (x y c : ℕ) → cond a (min x (cond b (min y c) c)) (cond b (min y c) c) ≡ cond b (min y (cond a (min x c) c)) (cond a (min x c) c)
       swap true true x y c = omega arith

@@ -10,7 +10,7 @@ use chess_rules::rules::Rules;
 use std::marker::Model;
 
 /// Which moves of a position a test tries, one stretch after another; each move belongs to one of them.
-#[derive(Clone, Copy)]
+#[derive(Clone, Copy, PartialEq, Eq)]
 pub enum Stretch {
     /// The last killer.
     Killer,

@@ -8,7 +8,7 @@ ghost use Rattle.chess_rules.specs.Legal.{legal};
 ghost use Rattle.chess_rules.specs.ties.Places.{IsPlaceIn, moves_behind, place_of};
 ghost use Rattle.chess_rules.specs.Play.{undo_of};
 ghost use Rattle.arrayvec.specs.ArrayVec.{array_vec_len};
-ghost use Rattle.pop_solve.specs.ties.Frames.{IsTesting, IsOpenedOn, CameFrom, CameFromAt, Turns, Ends, tests, tested, top_left, ahead, all_of, belongs, comes_early, here, is_stretch, later, stretch_of, stretches_behind};
+ghost use Rattle.pop_solve.specs.ties.Frames.{IsTesting, IsOpenedOn, CameFrom, CameFromAt, Turns, Ends, tests, tested, top_left, ahead, all_of, belongs, comes_early, here, later, stretches_behind};
 ghost use Rattle.pop_solve.specs.Chess.{chess};
 ghost use Rattle.pop_solve.specs.ties.Marks.{is_for_mate};
 ghost use Rattle.pop_input.specs.declared.stipulation.Goal.TheVariants.{Mate};
@@ -156,33 +156,28 @@ fn comes_early(early: Early, by: &Move, board: &Board) -> bool
     }
 }
 
-/// The stretch to which a move belongs, on which `place` stands.
-#[tactic(auto, unfolding(crate::specs::ties::Frames::stretch_of))]
-fn stretch_of<R: Rules>(order: Order<R>, place: Moves<R>, by: &Move, board: &Board) -> Stretch
+/// Whether a move, on which `place` stands, belongs to the stretch.
+#[tactic(auto, unfolding(crate::specs::ties::Frames::belongs))]
+fn belongs<R: Rules>(
+    order: Order<R>,
+    stretch: Stretch,
+    place: Moves<R>,
+    by: &Move,
+    board: &Board,
+) -> bool
     requires { place ≡ place_of (Some by.now) }
-    ensures { result ≡ stretch_of board.now order by.now }
+    ensures { result ≡ belongs board.now order stretch by.now }
 {
     if place.is(order.killer) {
-        Stretch::Killer
-    } else if place.is(order.earlier) {
-        Stretch::Earlier
-    } else if comes_early(order.early, by, board) {
-        Stretch::Aimed
-    } else {
-        Stretch::Others
+        return stretch == Stretch::Killer;
     }
-}
-
-/// Whether they are one stretch.
-fn is_stretch(one: Stretch, other: Stretch) -> bool
-    ensures { result ≡ is_stretch one other }
-{
-    match (one, other) {
-        (Stretch::Killer, Stretch::Killer)
-        | (Stretch::Earlier, Stretch::Earlier)
-        | (Stretch::Aimed, Stretch::Aimed)
-        | (Stretch::Others, Stretch::Others) => true,
-        _ => false,
+    if place.is(order.earlier) {
+        return stretch == Stretch::Earlier;
+    }
+    match stretch {
+        Stretch::Killer | Stretch::Earlier => false,
+        Stretch::Aimed => comes_early(order.early, by, board),
+        Stretch::Others => !comes_early(order.early, by, board),
     }
 }
 
@@ -207,7 +202,7 @@ fn next_of_stretch<R: Rules>(
         × (legal R.rule board.old m ≡ true)) }
 {
     while let Some(by) = next_behind::<R>(moves, board) {
-        if is_stretch(stretch, stretch_of::<R>(order, moves.place(), &by, board)) {
+        if belongs::<R>(order, stretch, moves.place(), &by, board) {
             return Some(by);
         }
     }

@@ -2,7 +2,7 @@
 use Rattle.chess_rules.specs.Play.{after as played}
 use Rattle.chess_rules.specs.Legal.{moves as legal_moves}
 use Rattle.pop_solve.specs.declared.aim.Aim.{Aim}
-use Rattle.std.specs.Prelude.{◌≡◌, ◌<◌, IfSome, Bool, true, false, Option, Some, None, ℕ, zero, suc, ◌+◌, ◌-◌, ◌≤◌, ◌^◌, min, if◌then◌else◌, List, [], ◌∷◌, ◌++◌, ◌==◌, filter, length, take, drop, reverse}
+use Rattle.std.specs.Prelude.{◌≡◌, ◌<◌, IfSome, Bool, true, false, not, ◌&&◌, Option, Some, None, ℕ, zero, suc, ◌+◌, ◌-◌, ◌≤◌, ◌^◌, min, if◌then◌else◌, List, [], ◌∷◌, ◌++◌, ◌==◌, filter, length, take, drop, reverse}
 use Rattle.std.specs.List.{sum_by}
 use Rattle.chess_core.specs.Position.{Position}
 use Rattle.chess_core.specs.Triple.{Triple}
@@ -65,24 +65,18 @@ abbrev pub comes_early : Early → Position → Triple → Bool
 comes_early AimedMoves p m = aims_at_king p m
 comes_early NoMoves p m = false
 
--- the stretch to which a move belongs
-unfoldable pub stretch_of : Position → Order → Triple → Stretch
-stretch_of p order m =
-    if place_of (Some m) == order.killer then Killer
-    else (if place_of (Some m) == order.earlier then Earlier
-    else (if comes_early order.early p m then Aimed else Others))
+-- the move stands at this place
+abbrev pub is_at : ℕ → Triple → Bool
+is_at place m = place_of (Some m) == place
 
--- they are one stretch
-abbrev pub is_stretch : Stretch → Stretch → Bool
-is_stretch Killer Killer = true
-is_stretch Earlier Earlier = true
-is_stretch Aimed Aimed = true
-is_stretch Others Others = true
-is_stretch s t = false
-
--- the move belongs to the stretch
-abbrev pub belongs : Position → Order → Stretch → Triple → Bool
-belongs p order s m = is_stretch s (stretch_of p order m)
+-- the move belongs to the stretch, and so to none before it
+unfoldable pub belongs : Position → Order → Stretch → Triple → Bool
+belongs p order Killer m = is_at order.killer m
+belongs p order Earlier m = not (is_at order.killer m) && is_at order.earlier m
+belongs p order Aimed m =
+    not (is_at order.killer m) && (not (is_at order.earlier m) && comes_early order.early p m)
+belongs p order Others m =
+    not (is_at order.killer m) && (not (is_at order.earlier m) && not (comes_early order.early p m))
 
 -- the legal moves of a stretch
 abbrev pub all_of : RuleSet → Position → Order → Stretch → List Triple
