@@ -18,12 +18,12 @@ use Rattle.chess_rules.specs.ties.Places.{IsPlaceIn, LegalPlace}
 use Rattle.chess_rules.specs.Play.{undo_of}
 use Rattle.chess_rules.specs.RuleSet.{RuleSet}
 use Rattle.pop_solve.specs.Chess.{chess}
-use Rattle.pop_solve.proofs.Orders.{all_ahead, same_parted}
+use Rattle.pop_solve.proofs.Orders.{same_start}
 use Rattle.pop_solve.specs.declared.frame.Stretch.{Stretch}
 use Rattle.pop_solve.specs.declared.frame.Stretch.TheVariants.{Killer}
 use Rattle.pop_solve.specs.ties.Counts.{HasCounted, decided_by, least_of, smallest_below, smallest_tree, walk_count}
 use Rattle.pop_solve.specs.ties.Values.{decides, seeks, join, value, joined}
-use Rattle.pop_solve.specs.ties.Frames.{Frame, position, AreKnown, IsLinked, IsCut, IsOpenedOn, IsTesting, deliver, pending, steps, steps_among, work, CameFromAt, CameFrom, tests, Turns, Ends, tested, top_left, walk_among, to_test, to_try, to_try_with, ahead, comes_early, is_at, unordered, untried, Order}
+use Rattle.pop_solve.specs.ties.Frames.{Frame, position, AreKnown, IsLinked, IsCut, IsOpenedOn, IsTesting, deliver, pending, steps, steps_among, work, CameFromAt, CameFrom, tests, Turns, Ends, tested, top_left, walk_among, to_test, to_try, to_try_with, ahead, unordered, untried, Order}
 use Rattle.pop_solve.proofs.SmallestTrees.{trees-next, trees-end, trees-start}
 
 -- the frame with its place moved on
@@ -59,42 +59,19 @@ module _ (rule : RuleSet) (q : Position) (o : Order) where
   abbrev pub first : List Triple
   first = ahead rule q o Killer (o.killer - 1)
 
-  pub any-start : (test : Triple → Bool) → list_any test first ≡ list_any test (legal_moves rule q)
-  any-start test =
-      ap (list_any test) (all_ahead rule q o)
-      ∙ same_parted (λ m c. test m || c) (list_any test) (λ m ms. refl) (λ m n. swap (test m) (test n)) (is_at o.killer) (is_at o.earlier) (comes_early o.early q) (legal_moves rule q)
-    where
-      swap : (a b c : Bool) → (a || (b || c)) ≡ (b || (a || c))
-      swap true true c = refl
-      swap true false c = refl
-      swap false b c = refl
+  any-start : (test : Triple → Bool) → list_any test first ≡ list_any test (legal_moves rule q)
+  any-start test = same_start rule q o (λ m c. test m || c) (list_any test) (λ m ms. refl) (λ m n c. grind arith)
 
-  pub all-start : (test : Triple → Bool) → list_all test first ≡ list_all test (legal_moves rule q)
-  all-start test =
-      ap (list_all test) (all_ahead rule q o)
-      ∙ same_parted (λ m c. test m && c) (list_all test) (λ m ms. refl) (λ m n. swap (test m) (test n)) (is_at o.killer) (is_at o.earlier) (comes_early o.early q) (legal_moves rule q)
-    where
-      swap : (a b c : Bool) → (a && (b && c)) ≡ (b && (a && c))
-      swap true b c = refl
-      swap false true c = refl
-      swap false false c = refl
+  all-start : (test : Triple → Bool) → list_all test first ≡ list_all test (legal_moves rule q)
+  all-start test = same_start rule q o (λ m c. test m && c) (list_all test) (λ m ms. refl) (λ m n c. grind arith)
 
-  pub sum-start : (f : Triple → ℕ) → sum_by f first ≡ sum_by f (legal_moves rule q)
-  sum-start f =
-      ap (sum_by f) (all_ahead rule q o)
-      ∙ same_parted (λ m c. f m + c) (sum_by f) (sum_by-cons f) (λ m n c. omega arith) (is_at o.killer) (is_at o.earlier) (comes_early o.early q) (legal_moves rule q)
+  sum-start : (f : Triple → ℕ) → sum_by f first ≡ sum_by f (legal_moves rule q)
+  sum-start f = same_start rule q o (λ m c. f m + c) (sum_by f) (sum_by-cons f) (λ m n c. omega arith)
 
   least-start : (test : Triple → Bool) (f : Triple → ℕ) (n : ℕ) → least_of test f n first ≡ least_of test f n (legal_moves rule q)
   unfolding least_of
   least-start test f n =
-      ap (least_of test f n) (all_ahead rule q o)
-      ∙ same_parted (λ m c. cond (test m) (min (f m) c) c) (least_of test f n) (λ m ms. refl) (λ m n. swap (test m) (test n) (f m) (f n)) (is_at o.killer)
-      (is_at o.earlier) (comes_early o.early q) (legal_moves rule q)
-    where
-      swap : (a b : Bool) (x y c : ℕ) → cond a (min x (cond b (min y c) c)) (cond b (min y c) c) ≡ cond b (min y (cond a (min x c) c)) (cond a (min x c) c)
-      swap true true x y c = omega arith
-      swap true false x y c = refl
-      swap false b x y c = refl
+      same_start rule q o (λ m c. cond (test m) (min (f m) c) c) (least_of test f n) (λ m ms. refl) (λ m k c. grind arith)
 
 module _ (rule : RuleSet) (aim : Aim) where
   -- the value of some moves of a position
@@ -480,7 +457,8 @@ module _ (rule : RuleSet) (aim : Aim) (floor : ℕ) (top : Frame) (old new : Lis
               ∙ ap (deliver rule aim p (passed top place s kn ∷ tests floor new)) (rw (← at) (sym d.0))
               ∙ deliver-some rule aim p (passed top place s kn ∷ tests floor new) v (omega arith)
               ∙ ap (λ fs. pending rule aim p fs (Some v)) (sym last_is);
-          falls = rw (last_is, popped) (work-settled rule aim p top (tests floor new) place s m (undo_of rule board m) unordered (top.left - 1) kn None left_is here);
+          falls = rw (last_is, popped)
+              (work-settled rule aim p top (tests floor new) place s m (undo_of rule board m) unordered (top.left - 1) kn None left_is here);
           above = omega (arith, ap length d.2, length-append new (passed top place s kn ∷ []), low_new);
           base = ap (take floor) d.2 ∙ base_mid;
           counted = rw (last_is, popped)

@@ -249,7 +249,7 @@ fn stretch_behind<R: Rules>(order: Order<R>, stretch: Stretch) -> Option<Stretch
 }
 
 /// The place before the first move of a stretch: where both killers are one, the earlier has none.
-#[tactic(auto, using(crate::proofs::Orders::first_place))]
+#[tactic(auto, using(crate::proofs::Orders::first_place), unfolding(crate::specs::ties::Frames::here))]
 fn place_before<R: Rules>(order: Order<R>, stretch: Stretch) -> Moves<R>
     ensures { (p : Position) → here R.rule p order stretch result ≡ all_of R.rule p order stretch }
 {
@@ -272,7 +272,8 @@ fn next_tried<R: Rules>(
     requires known { IsPlaceIn R.rule board.old moves.old }
     ensures unchanged { board.new ≡ board.old }
     ensures within { IsPlaceIn R.rule board.old moves.new }
-    ensures next { MatchOption result (ahead R.rule board.old order stretch.old moves.old.place ≡ [])
+    ensures next { MatchOption result
+        (ahead R.rule board.old order stretch.old moves.old.place ≡ [])
         (λ m. (ahead R.rule board.old order stretch.old moves.old.place
         ≡ m ∷ ahead R.rule board.old order stretch.new moves.new.place)
         × (legal R.rule board.old m ≡ true)) }
