@@ -1,3 +1,4 @@
+pub mod Aims
 pub mod CheckSquares
 pub mod Evasions
 pub mod Flights

@@ -56,7 +56,7 @@ fn is_absent(board: &Board, colour: Colour, kind: Kind) -> bool
 
 // The squares from which an enemy of this kind may give check to the colour's king: all of them for fairy men
 // of whom none stands on the board.
-fn check_squares_of(board: &Board, colour: Colour, kind: Kind) -> u64
+pub(crate) fn check_squares_of(board: &Board, colour: Colour, kind: Kind) -> u64
     ensures { result ≡ word (may_check_from board.now.men colour (enemy colour kind)) }
 {
     let Some(king) = board.king_of(colour) else {

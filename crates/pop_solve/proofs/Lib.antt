@@ -1,6 +1,7 @@
 pub mod Boards
 pub mod Values
 pub mod SmallestTrees
+pub mod Orders
 pub mod Tests
 pub mod Battles
 pub mod Lengths

@@ -1,7 +1,7 @@
 -- The smallest trees that decide a position.
 use Rattle.pop_solve.specs.declared.aim.Battle.{Battle}
-use Rattle.std.proofs.Common.{◌≡◌, ℕ, zero, suc, ◌+◌, ◌≤◌, min, Bool, true, false, cond, List, [], ◌∷◌, ◌++◌, refl, arith}
-use Rattle.std.proofs.lemmas.List.Sums.{sum_by-append, sum_by-cons}
+use Rattle.std.proofs.Common.{◌≡◌, ℕ, zero, suc, ◌+◌, ◌≤◌, min, Bool, true, false, cond, List, [], ◌∷◌, refl, arith}
+use Rattle.std.proofs.lemmas.List.Sums.{sum_by-cons}
 use Rattle.std.specs.List.{sum_by}
 use Rattle.pop_solve.specs.Game.{Game, can_move}
 use Rattle.pop_solve.specs.ties.Counts.{decided_by, least_of, smallest_below, smallest_tree}
@@ -23,15 +23,6 @@ module _ {M : Type 0} (test : M → Bool) (f : M → ℕ) where
       (least_of test f a ms))
       [ true ↦ omega (arith, l) | false ↦ l ]
 
-  least-append : (n : ℕ) (xs ys : List M) → least_of test f n (xs ++ ys) ≡ min (least_of test f n xs) (least_of test f n ys)
-  unfolding least_of
-  least-append n [] ys = omega (arith, least-most n ys)
-  least-append n (m ∷ xs) ys =
-      let l = least-append n xs ys in
-      elim (test m) as (λ b. cond b (min (f m) (least_of test f n (xs ++ ys))) (least_of test f n (xs ++ ys)) ≡ min
-      (cond b (min (f m) (least_of test f n xs)) (least_of test f n xs)) (least_of test f n ys))
-      [ true ↦ omega (arith, l) | false ↦ l ]
-
   -- that of all moves, or of one that passes the test
   abbrev below : List M → ℕ
   below ms = least_of test f (sum_by f ms) ms
@@ -46,25 +37,12 @@ module _ {M : Type 0} (test : M → Bool) (f : M → ℕ) where
   below-next : (m : M) (ms : List M) → below (m ∷ ms) ≤ f m + cond (test m) 0 (below ms)
   below-next m ms = least-next m (sum_by f ms) (sum_by f (m ∷ ms)) ms (sum_by-cons f m ms)
 
-  -- it doesn't depend on the order
-  below-swap : (xs ys zs : List M) → below (xs ++ (ys ++ zs)) ≡ below (ys ++ (xs ++ zs))
-  below-swap xs ys zs =
-      let s : sum_by f (xs ++ (ys ++ zs)) ≡ sum_by f (ys ++ (xs ++ zs)) =
-      omega (arith, sum_by-append f xs (ys ++ zs), sum_by-append f ys zs, sum_by-append f ys (xs ++ zs), sum_by-append f xs zs) in
-      let n = sum_by f (ys ++ (xs ++ zs)) in
-      rw s (omega (arith, least-append n xs (ys ++ zs), least-append n ys zs, least-append n ys (xs ++ zs), least-append n xs zs))
-
 module _ {P M : Type 0} (battle : Battle) (game : Game P M) where
   pub trees-next : (t : ℕ) (p : P) (m : M) (ms : List M)
       → smallest_below battle game (suc t) p (m ∷ ms) ≤ smallest_tree battle game t (game.after p m) + cond (decided_by battle game t p m) 0
       (smallest_below battle game (suc t) p ms)
   unfolding smallest_below
   trees-next t p m ms = below-next (decided_by battle game t p) (λ m. smallest_tree battle game t (game.after p m)) m ms
-
-  pub trees-swap : (t : ℕ) (p : P) (xs ys zs : List M) → smallest_below battle game t p (xs ++ (ys ++ zs)) ≡ smallest_below battle game t p (ys ++ (xs ++ zs))
-  unfolding smallest_below
-  trees-swap zero p xs ys zs = refl
-  trees-swap (suc t) p xs ys zs = below-swap (decided_by battle game t p) (λ m. smallest_tree battle game t (game.after p m)) xs ys zs
 
   -- none below no moves
   pub trees-end : (t : ℕ) (p : P) → smallest_below battle game t p [] ≡ 0

@@ -5,8 +5,7 @@ use Rattle.pop_solve.specs.declared.aim.Aim.{Aim}
 use Rattle.std.proofs.Common.{◌≡◌, ℕ, zero, suc, ◌+◌, ◌-◌, ◌<◌, ◌≤◌, ◌^◌, min, Bool, true, false, not, ◌&&◌, ◌||◌, cond, Option, Some, None, List, [], ◌∷◌, ◌++◌, length, take, drop, reverse, refl, sym, ◌∙◌, ap, arith, subst, ◌⊎◌, inl, inr, MatchOption, IfNone, IfSome}
 use Rattle.std.proofs.lemmas.List.{reverse-append, length-reverse, length-drop, length-append, drop-append-le, take-append-le, take_all}
 use Rattle.std.proofs.lemmas.Bool.{cases_lt}
-use Rattle.std.proofs.lemmas.List.Folds.{list_any-append, list_all-append}
-use Rattle.std.proofs.lemmas.List.Sums.{sum_by-append, sum_by-cons}
+use Rattle.std.proofs.lemmas.List.Sums.{sum_by-cons}
 use Rattle.std.specs.List.{list_any, list_all, sum_by}
 use Rattle.chess_core.specs.Position.{Position}
 use Rattle.chess_core.specs.Triple.{Triple}
@@ -15,17 +14,17 @@ use Rattle.chess_rules.proofs.Calls.{pseudo-from_legal}
 use Rattle.chess_rules.proofs.Stays.{after_well_formed}
 use Rattle.chess_rules.specs.Legal.{legal}
 use Rattle.chess_rules.specs.Loss.{Loss}
-use Rattle.chess_rules.specs.ties.Places.{IsPlaceIn, LegalPlace, moves_behind, moves_between}
+use Rattle.chess_rules.specs.ties.Places.{IsPlaceIn, LegalPlace}
 use Rattle.chess_rules.specs.Play.{undo_of}
 use Rattle.chess_rules.specs.RuleSet.{RuleSet}
 use Rattle.pop_solve.specs.Chess.{chess}
-use Rattle.chess_rules.proofs.Between.{cut_moves}
+use Rattle.pop_solve.proofs.Orders.{same_start}
 use Rattle.pop_solve.specs.declared.frame.Stretch.{Stretch}
-use Rattle.pop_solve.specs.declared.frame.Stretch.TheVariants.{First}
-use Rattle.pop_solve.specs.ties.Counts.{HasCounted, smallest_below, smallest_tree, walk_count}
+use Rattle.pop_solve.specs.declared.frame.Stretch.TheVariants.{Killer}
+use Rattle.pop_solve.specs.ties.Counts.{HasCounted, decided_by, least_of, smallest_below, smallest_tree, walk_count}
 use Rattle.pop_solve.specs.ties.Values.{decides, seeks, join, value, joined}
-use Rattle.pop_solve.specs.ties.Frames.{Frame, position, AreKnown, IsLinked, IsCut, IsOpenedOn, IsTesting, deliver, pending, steps, steps_among, work, CameFromAt, CameFrom, tests, Turns, Ends, tested, top_left, walk_among, to_test, to_try, to_try_with, ahead, untried}
-use Rattle.pop_solve.proofs.SmallestTrees.{trees-next, trees-swap, trees-end, trees-start}
+use Rattle.pop_solve.specs.ties.Frames.{Frame, position, AreKnown, IsLinked, IsCut, IsOpenedOn, IsTesting, deliver, pending, steps, steps_among, work, CameFromAt, CameFrom, tests, Turns, Ends, tested, top_left, walk_among, to_test, to_try, to_try_with, ahead, unordered, untried, Order}
+use Rattle.pop_solve.proofs.SmallestTrees.{trees-next, trees-end, trees-start}
 
 -- the frame with its place moved on
 abbrev pub moved : Frame → ℕ → Frame
@@ -55,69 +54,24 @@ decides-not : (s : Bool) → decides s (not s) ≡ false
 decides-not true = refl
 decides-not false = refl
 
--- a position's moves with the killer first are all its moves, in another order
-module _ (rule : RuleSet) (q : Position) (k : ℕ) where
-  abbrev before : List Triple
-  before = moves_between rule q 0 (k - 1)
+-- the moves of a frame that is opened are all its position's moves, in another order
+module _ (rule : RuleSet) (q : Position) (o : Order) where
+  abbrev pub first : List Triple
+  first = ahead rule q o Killer (o.killer - 1)
 
-  abbrev here : List Triple
-  here = moves_between rule q (k - 1) k
+  any-start : (test : Triple → Bool) → list_any test first ≡ list_any test (legal_moves rule q)
+  any-start test = same_start rule q o (λ m c. test m || c) (list_any test) (λ m ms. refl) (λ m n c. grind arith)
 
-  abbrev behind : List Triple
-  behind = moves_behind rule q k
+  all-start : (test : Triple → Bool) → list_all test first ≡ list_all test (legal_moves rule q)
+  all-start test = same_start rule q o (λ m c. test m && c) (list_all test) (λ m ms. refl) (λ m n c. grind arith)
 
-  killer-first : ahead rule q First (k - 1) k ≡ here ++ (before ++ behind)
-  unfolding ahead
-  killer-first = refl
+  sum-start : (f : Triple → ℕ) → sum_by f first ≡ sum_by f (legal_moves rule q)
+  sum-start f = same_start rule q o (λ m c. f m + c) (sum_by f) (sum_by-cons f) (λ m n c. omega arith)
 
-  in-order : legal_moves rule q ≡ before ++ (here ++ behind)
-  in-order = cut_moves rule q (k - 1) k (omega arith)
-
-  pub any-start : (test : Triple → Bool) → list_any test (ahead rule q First (k - 1) k) ≡ list_any test (legal_moves rule q)
-  any-start test =
-      rw (
-        killer-first,
-        in-order,
-        list_any-append test here (before ++ behind),
-        list_any-append test before behind,
-        list_any-append test before
-            (here ++ behind),
-        list_any-append test here behind,
-      ) (swap (list_any test here) (list_any test before) (list_any test behind))
-    where
-      swap : (a b c : Bool) → (a || (b || c)) ≡ (b || (a || c))
-      swap true true c = refl
-      swap true false c = refl
-      swap false b c = refl
-
-  pub all-start : (test : Triple → Bool) → list_all test (ahead rule q First (k - 1) k) ≡ list_all test (legal_moves rule q)
-  all-start test =
-      rw (
-        killer-first,
-        in-order,
-        list_all-append test here (before ++ behind),
-        list_all-append test before behind,
-        list_all-append test before
-            (here ++ behind),
-        list_all-append test here behind,
-      ) (swap (list_all test here) (list_all test before) (list_all test behind))
-    where
-      swap : (a b c : Bool) → (a && (b && c)) ≡ (b && (a && c))
-      swap true b c = refl
-      swap false true c = refl
-      swap false false c = refl
-
-  pub sum-start : (f : Triple → ℕ) → sum_by f (ahead rule q First (k - 1) k) ≡ sum_by f (legal_moves rule q)
-  sum-start f =
-      rw (
-        killer-first,
-        in-order,
-        sum_by-append f here (before ++ behind),
-        sum_by-append f before behind,
-        sum_by-append f before
-            (here ++ behind),
-        sum_by-append f here behind,
-      ) (omega arith)
+  least-start : (test : Triple → Bool) (f : Triple → ℕ) (n : ℕ) → least_of test f n first ≡ least_of test f n (legal_moves rule q)
+  unfolding least_of
+  least-start test f n =
+      same_start rule q o (λ m c. cond (test m) (min (f m) c) c) (least_of test f n) (λ m ms. refl) (λ m k c. grind arith)
 
 module _ (rule : RuleSet) (aim : Aim) where
   -- the value of some moves of a position
@@ -142,12 +96,12 @@ module _ (rule : RuleSet) (aim : Aim) where
       split true v a b = refl
       split false v a b = refl
 
-  rest-start : (t : ℕ) (q : Position) (k : ℕ) → rest t q (ahead rule q First (k - 1) k) ≡ rest t q (legal_moves rule q)
+  rest-start : (t : ℕ) (q : Position) (o : Order) → rest t q (first rule q o) ≡ rest t q (legal_moves rule q)
   unfolding joined
-  rest-start zero q k = refl
-  rest-start (suc t) q k = rw (
-    any-start rule q k (λ m. value aim.battle (chess aim.goal rule) t (played rule q m)),
-    all-start rule q k (λ m. value aim.battle
+  rest-start zero q o = refl
+  rest-start (suc t) q o = rw (
+    any-start rule q o (λ m. value aim.battle (chess aim.goal rule) t (played rule q m)),
+    all-start rule q o (λ m. value aim.battle
         (chess aim.goal rule) t (played rule q m)),
   ) refl
 
@@ -179,11 +133,17 @@ module _ (rule : RuleSet) (aim : Aim) where
   abbrev pub fewest : ℕ → Position → List Triple → ℕ
   fewest left P ms = smallest_below aim.battle (chess aim.goal rule) left P ms
 
-  fewest-start : (t : ℕ) (q : Position) (k : ℕ) → smallest_tree aim.battle (chess aim.goal rule) t q ≤ 1 + fewest t q (ahead rule q First (k - 1) k)
-  fewest-start t q k =
-      let s = trees-start aim.battle (chess aim.goal rule) t q in
-      let w = trees-swap aim.battle (chess aim.goal rule) t q (here rule q k) (before rule q k) (behind rule q k) in
-      rw (killer-first rule q k) (omega (arith, s, w, ap (fewest t q) (in-order rule q k)))
+  same-fewest : (t : ℕ) (q : Position) (o : Order) → fewest t q (first rule q o) ≡ fewest t q (legal_moves rule q)
+  unfolding smallest_below
+  same-fewest zero q o = refl
+  same-fewest (suc t) q o = rw (
+    sum-start rule q o (λ m. smallest_tree aim.battle (chess aim.goal rule) t (played rule q m)),
+    least-start rule q o (decided_by aim.battle (chess aim.goal rule) t q)
+        (λ m. smallest_tree aim.battle (chess aim.goal rule) t (played rule q m)),
+  ) refl
+
+  fewest-start : (t : ℕ) (q : Position) (o : Order) → smallest_tree aim.battle (chess aim.goal rule) t q ≤ 1 + fewest t q (first rule q o)
+  fewest-start t q o = rw (same-fewest t q o) (trees-start aim.battle (chess aim.goal rule) t q)
 
   pub try-decided : (p : Position) (f : Frame) (below : List Frame) (answer : Option Bool) → answer ≡ Some (seeks aim.battle f.left)
       → to_try rule aim p (f ∷ below) answer ≡ to_try_with rule aim p below (seeks aim.battle f.left)
@@ -208,29 +168,29 @@ module _ (rule : RuleSet) (aim : Aim) where
   try-none p [] v none = refl
   try-none p (g ∷ below) v none = absurd (omega (arith, none))
 
-  steps-start : (t : ℕ) (q : Position) (k : ℕ) → steps rule t q ≡ 1 + steps_among rule t q (ahead rule q First (k - 1) k)
+  steps-start : (t : ℕ) (q : Position) (o : Order) → steps rule t q ≡ 1 + steps_among rule t q (first rule q o)
   unfolding steps steps_among
-  steps-start zero q k = refl
-  steps-start (suc t) q k = rw (sum-start rule q k (λ m. 1 + steps rule t (played rule q m))) refl
+  steps-start zero q o = refl
+  steps-start (suc t) q o = rw (sum-start rule q o (λ m. 1 + steps rule t (played rule q m))) refl
 
   steps-next : (t : ℕ) (P : Position) (ms more : List Triple) (m : Triple) → ms ≡ m ∷ more
       → steps_among rule (suc t) P ms ≡ (1 + steps rule t (played rule P m)) + steps_among rule (suc t) P more
   unfolding steps_among
   steps-next t P ms more m e = rw e (sum_by-cons (λ x. 1 + steps rule t (played rule P x)) m more)
 
-  walk_count-start : (t : ℕ) (q : Position) (k : ℕ) → 0 < t
-      → walk_count (legal_moves rule) (played rule) t q ≡ 1 + walk_among rule t q (ahead rule q First (k - 1) k)
+  walk_count-start : (t : ℕ) (q : Position) (o : Order) → 0 < t
+      → walk_count (legal_moves rule) (played rule) t q ≡ 1 + walk_among rule t q (first rule q o)
   unfolding walk_count walk_among
-  walk_count-start zero q k some = absurd (omega (arith, some))
-  walk_count-start (suc t) q k some = rw (sum-start rule q k (λ m. walk_count (legal_moves rule) (played rule) t (played rule q m))) refl
+  walk_count-start zero q o some = absurd (omega (arith, some))
+  walk_count-start (suc t) q o some = rw (sum-start rule q o (λ m. walk_count (legal_moves rule) (played rule) t (played rule q m))) refl
 
   walk-next : (t : ℕ) (P : Position) (ms more : List Triple) (m : Triple) → ms ≡ m ∷ more
       → walk_among rule (suc t) P ms ≡ walk_count (legal_moves rule) (played rule) t (played rule P m) + walk_among rule (suc t) P more
   unfolding walk_among
   walk-next t P ms more m e = rw e (sum_by-cons (λ x. walk_count (legal_moves rule) (played rule) t (played rule P x)) m more)
 
-  module _ (p : Position) (f : Frame) (below : List Frame) (next : ℕ) (s : Stretch) (m : Triple) (undo : Loss) (k t : ℕ) (kn kq : Option LegalPlace)
-      (left : f.left ≡ suc t) (e : untried rule (position rule p (f ∷ below)) f ≡ m ∷ ahead rule (position rule p (f ∷ below)) s next f.killer) where
+  module _ (p : Position) (f : Frame) (below : List Frame) (next : ℕ) (s : Stretch) (m : Triple) (undo : Loss) (k : Order) (t : ℕ) (kn kq : Option LegalPlace)
+      (left : f.left ≡ suc t) (e : untried rule (position rule p (f ∷ below)) f ≡ m ∷ ahead rule (position rule p (f ∷ below)) f.order s next) where
     abbrev P : Position
     P = position rule p (f ∷ below)
 
@@ -238,7 +198,7 @@ module _ (rule : RuleSet) (aim : Aim) where
     pub deliver-next : deliver rule aim p below (rest f.left P (untried rule P f)) ≡ deliver rule aim p (passed f next s kn ∷ below)
         (value aim.battle (chess aim.goal rule) t (played rule P m))
     unfolding deliver position
-    deliver-next = rw (left, rest-next t P (untried rule P f) (ahead rule P s next f.killer) m e) refl
+    deliver-next = rw (left, rest-next t P (untried rule P f) (ahead rule P f.order s next) m e) refl
 
     pub deliver-open : (v : Bool) → v ≡ joined aim.battle (chess aim.goal rule) t (played rule P m) (legal_moves rule (played rule P m))
         → deliver rule aim p (passed f next s kn ∷ below) v ≡ pending rule aim p (tested k m undo t kq ∷ (passed f next s kn ∷ below)) None
@@ -250,8 +210,8 @@ module _ (rule : RuleSet) (aim : Aim) where
         (value aim.battle (chess aim.goal rule) t (played rule P m))
     unfolding to_try_with position
     try-next =
-        let n = trees-next aim.battle (chess aim.goal rule) t P m (ahead rule P s next f.killer) in
-        rw (left, rest-next t P (untried rule P f) (ahead rule P s next f.killer) m e, e) (omega (arith, n))
+        let n = trees-next aim.battle (chess aim.goal rule) t P m (ahead rule P f.order s next) in
+        rw (left, rest-next t P (untried rule P f) (ahead rule P f.order s next) m e, e) (omega (arith, n))
 
     pub try-open : (v : Bool) → v ≡ joined aim.battle (chess aim.goal rule) t (played rule P m) (legal_moves rule (played rule P m))
         → smallest_tree aim.battle (chess aim.goal rule) t (played rule P m) + to_try_with rule aim p (passed f next s kn ∷ below) v ≤ 1 + to_try rule aim p
@@ -261,20 +221,20 @@ module _ (rule : RuleSet) (aim : Aim) where
 
     pub work-settled : work rule p (passed f next s kn ∷ below) < work rule p (f ∷ below)
     unfolding work position
-    work-settled = rw (left, steps-next t P (untried rule P f) (ahead rule P s next f.killer) m e) (omega arith)
+    work-settled = rw (left, steps-next t P (untried rule P f) (ahead rule P f.order s next) m e) (omega arith)
 
     pub work-open : work rule p (tested k m undo t kq ∷ (passed f next s kn ∷ below)) < work rule p (f ∷ below)
     unfolding work position
-    work-open = rw (left, steps-next t P (untried rule P f) (ahead rule P s next f.killer) m e, steps-start t (played rule P m) k) (omega arith)
+    work-open = rw (left, steps-next t P (untried rule P f) (ahead rule P f.order s next) m e, steps-start t (played rule P m) k) (omega arith)
 
     pub open-settled : walk_count (legal_moves rule) (played rule) t (played rule P m) + to_test rule p (passed f next s kn ∷ below) ≤ to_test rule p
         (f ∷ below)
     unfolding to_test position
-    open-settled = rw (left, walk-next t P (untried rule P f) (ahead rule P s next f.killer) m e) (omega arith)
+    open-settled = rw (left, walk-next t P (untried rule P f) (ahead rule P f.order s next) m e) (omega arith)
 
     pub open-open : 0 < t → 1 + to_test rule p (tested k m undo t kq ∷ (passed f next s kn ∷ below)) ≤ to_test rule p (f ∷ below)
     unfolding to_test position
-    open-open some = rw (left, walk-next t P (untried rule P f) (ahead rule P s next f.killer) m e, walk_count-start t (played rule P m) k some) (omega arith)
+    open-open some = rw (left, walk-next t P (untried rule P f) (ahead rule P f.order s next) m e, walk_count-start t (played rule P m) k some) (omega arith)
 
   pub open-close : (p : Position) (f : Frame) (below : List Frame) → to_test rule p below ≤ to_test rule p (f ∷ below)
   unfolding to_test
@@ -328,7 +288,7 @@ module _ (rule : RuleSet) (p : Position) where
   testing-settled f next s kn (g ∷ below) board r w =
       record { linked = r.linked; cut = r.cut; known = (rw (← r.board_at) w, r.known.1); sound = r.sound; board_at = r.board_at }
 
-  pub testing-open : (f : Frame) (next : ℕ) (s : Stretch) (m : Triple) (k t : ℕ) (kn kq : Option LegalPlace) (below : List Frame) (board : Position)
+  pub testing-open : (f : Frame) (next : ℕ) (s : Stretch) (m : Triple) (k : Order) (t : ℕ) (kn kq : Option LegalPlace) (below : List Frame) (board : Position)
       → IsTesting rule p (f ∷ below) board → legal rule board m ≡ true → 0 < t → f.left ≡ suc t → IfSome kn (IsPlaceIn rule board)
       → IfSome kq (IsPlaceIn rule (played rule board m))
       → IsTesting rule p (tested k m (undo_of rule board m) t kq ∷ (passed f next s kn ∷ below)) (played rule board m)
@@ -414,7 +374,7 @@ module _ (rule : RuleSet) (aim : Aim) (floor : ℕ) (top : Frame) (old new : Lis
 
   module _ (place : ℕ) (s : Stretch) (kn : Option LegalPlace) (m : Triple) (board after : Position) (N : ℕ) (was : Option Bool) (last : List Frame)
       (some : 0 < top.left) (open_yet : (was ≡ None) ⊎ (was ≡ Some (not (seeks aim.battle top.left))))
-      (next : untried rule board top ≡ m ∷ ahead rule board s place top.killer) (lawful : legal rule board m ≡ true)
+      (next : untried rule board top ≡ m ∷ ahead rule board top.order s place) (lawful : legal rule board m ≡ true)
       (within : IfSome kn (IsPlaceIn rule board)) where
     -- what `descend` leaves
     abbrev pub Descends : Option Bool → Type 0
@@ -447,27 +407,27 @@ module _ (rule : RuleSet) (aim : Aim) (floor : ℕ) (top : Frame) (old new : Lis
     descend_turns None d before count o tries p r =
         let at : board ≡ position rule p (top ∷ tests floor new) = (testing_top p board r).board_at in
         let here : untried rule (position rule p (top ∷ tests floor new)) top ≡ m ∷ ahead rule
-        (position rule p (top ∷ tests floor new)) s place top.killer = rw (← at) next in
-        let last_is : tests floor last ≡ tested d.3.killer m (undo_of rule board m) (top.left - 1) d.3.known ∷ (passed top place s kn ∷ tests floor new) = ap
+        (position rule p (top ∷ tests floor new)) top.order s place = rw (← at) next in
+        let last_is : tests floor last ≡ tested d.3.order m (undo_of rule board m) (top.left - 1) d.3.known ∷ (passed top place s kn ∷ tests floor new) = ap
         (tests floor) d.3.added ∙ tests-push floor (new ++ passed top place s kn ∷ []) _ low_mid
-        ∙ ap (λ fs. tested d.3.killer m (undo_of rule board m) (top.left - 1) d.3.known ∷ fs) mid_is in
+        ∙ ap (λ fs. tested d.3.order m (undo_of rule board m) (top.left - 1) d.3.known ∷ fs) mid_is in
         record {
           testing = rw (last_is, d.2)
-              (testing-open rule p top place s m d.3.killer (top.left - 1) kn d.3.known (tests floor new) board
+              (testing-open rule p top place s m d.3.order (top.left - 1) kn d.3.known (tests floor new) board
               (testing_top p board r) lawful d.0 left_is within d.3.within);
           same = ap (λ fs. pending rule aim p fs was) popped
               ∙ pending-undecided rule aim p top (tests floor new) was open_yet
-              ∙ deliver-next rule aim p top (tests floor new) place s m (undo_of rule board m) d.3.killer (top.left - 1) kn d.3.known left_is here
-              ∙ deliver-open rule aim p top (tests floor new) place s m (undo_of rule board m) d.3.killer (top.left - 1) kn d.3.known left_is here _
+              ∙ deliver-next rule aim p top (tests floor new) place s m (undo_of rule board m) d.3.order (top.left - 1) kn d.3.known left_is here
+              ∙ deliver-open rule aim p top (tests floor new) place s m (undo_of rule board m) d.3.order (top.left - 1) kn d.3.known left_is here _
               (rw (← at) d.1)
               ∙ ap (λ fs. pending rule aim p fs None) (sym last_is);
           falls = rw (last_is, popped)
-              (work-open rule aim p top (tests floor new) place s m (undo_of rule board m) d.3.killer (top.left - 1) kn d.3.known left_is here);
+              (work-open rule aim p top (tests floor new) place s m (undo_of rule board m) d.3.order (top.left - 1) kn d.3.known left_is here);
           above = omega (
             arith,
             ap length d.3.added,
             length-append (new ++ passed top place s kn ∷ [])
-                (tested d.3.killer m (undo_of rule board m) (top.left - 1) d.3.known ∷ []),
+                (tested d.3.order m (undo_of rule board m) (top.left - 1) d.3.known ∷ []),
             low_mid,
           );
           base = ap (take floor) d.3.added ∙ take-append-le floor (new ++ passed top place s kn ∷ []) _ low_mid ∙ base_mid;
@@ -475,29 +435,30 @@ module _ (rule : RuleSet) (aim : Aim) (floor : ℕ) (top : Frame) (old new : Lis
               (omega (
                 arith,
                 o,
-                open-open rule aim p top (tests floor new) place s m (undo_of rule board m) d.3.killer (top.left - 1) kn d.3.known left_is here d.0,
+                open-open rule aim p top (tests floor new) place s m (undo_of rule board m) d.3.order (top.left - 1) kn d.3.known left_is here d.0,
               ));
           tried =
-              let n = try-next rule aim p top (tests floor new) place s m (undo_of rule board m) d.3.killer (top.left - 1) kn d.3.known left_is here in
+              let n = try-next rule aim p top (tests floor new) place s m (undo_of rule board m) d.3.order (top.left - 1) kn d.3.known left_is here in
               let v = value aim.battle (chess aim.goal rule) (top.left - 1) (played rule (position rule p (top ∷ tests floor new)) m) in
-              let t = try-open rule aim p top (tests floor new) place s m (undo_of rule board m) d.3.killer (top.left - 1) kn d.3.known left_is here v
+              let t = try-open rule aim p top (tests floor new) place s m (undo_of rule board m) d.3.order (top.left - 1) kn d.3.known left_is here v
               (rw (← at) d.1) in
               rw (last_is, popped) (omega (arith, tries, try-undecided rule aim p top (tests floor new) was open_yet, n, t));
         }
     descend_turns (Some v) d before count o tries p r =
         let at : board ≡ position rule p (top ∷ tests floor new) = (testing_top p board r).board_at in
         let here : untried rule (position rule p (top ∷ tests floor new)) top ≡ m ∷ ahead rule
-        (position rule p (top ∷ tests floor new)) s place top.killer = rw (← at) next in
+        (position rule p (top ∷ tests floor new)) top.order s place = rw (← at) next in
         let last_is : tests floor last ≡ passed top place s kn ∷ tests floor new = ap (tests floor) d.2 ∙ mid_is in
         record {
           testing = rw (last_is, d.1) (testing-settled rule p top place s kn (tests floor new) board (testing_top p board r) within);
           same = ap (λ fs. pending rule aim p fs was) popped
               ∙ pending-undecided rule aim p top (tests floor new) was open_yet
-              ∙ deliver-next rule aim p top (tests floor new) place s m (undo_of rule board m) 0 (top.left - 1) kn None left_is here
+              ∙ deliver-next rule aim p top (tests floor new) place s m (undo_of rule board m) unordered (top.left - 1) kn None left_is here
               ∙ ap (deliver rule aim p (passed top place s kn ∷ tests floor new)) (rw (← at) (sym d.0))
               ∙ deliver-some rule aim p (passed top place s kn ∷ tests floor new) v (omega arith)
               ∙ ap (λ fs. pending rule aim p fs (Some v)) (sym last_is);
-          falls = rw (last_is, popped) (work-settled rule aim p top (tests floor new) place s m (undo_of rule board m) 0 (top.left - 1) kn None left_is here);
+          falls = rw (last_is, popped)
+              (work-settled rule aim p top (tests floor new) place s m (undo_of rule board m) unordered (top.left - 1) kn None left_is here);
           above = omega (arith, ap length d.2, length-append new (passed top place s kn ∷ []), low_new);
           base = ap (take floor) d.2 ∙ base_mid;
           counted = rw (last_is, popped)
@@ -506,10 +467,10 @@ module _ (rule : RuleSet) (aim : Aim) (floor : ℕ) (top : Frame) (old new : Lis
                 o,
                 ap (λ b. walk_count (legal_moves rule) (played rule) (top.left - 1) (played rule b m)) at,
                 open-settled rule aim p top
-                    (tests floor new) place s m (undo_of rule board m) 0 (top.left - 1) kn None left_is here,
+                    (tests floor new) place s m (undo_of rule board m) unordered (top.left - 1) kn None left_is here,
               ));
           tried =
-              let n = try-next rule aim p top (tests floor new) place s m (undo_of rule board m) 0 (top.left - 1) kn None left_is here in
+              let n = try-next rule aim p top (tests floor new) place s m (undo_of rule board m) unordered (top.left - 1) kn None left_is here in
               let e : v ≡ value aim.battle (chess aim.goal rule) (top.left - 1) (played rule (position rule p (top ∷ tests floor new)) m) = rw (← at) d.0 in
               let t = try-some rule aim p (passed top place s kn ∷ tests floor new) v (omega arith) in
               rw (last_is, popped) (omega (
@@ -526,9 +487,9 @@ module _ (rule : RuleSet) (aim : Aim) (floor : ℕ) (top : Frame) (old new : Lis
 
     pub descend_room : (is : Option Bool) → Descends is → top_left (tests floor old) + length old ≤ N + 1 → top_left (tests floor last) + length last ≤ N + 1
     descend_room None d room =
-        let last_is : tests floor last ≡ tested d.3.killer m (undo_of rule board m) (top.left - 1) d.3.known ∷ (passed top place s kn ∷ tests floor new) = ap
+        let last_is : tests floor last ≡ tested d.3.order m (undo_of rule board m) (top.left - 1) d.3.known ∷ (passed top place s kn ∷ tests floor new) = ap
         (tests floor) d.3.added ∙ tests-push floor (new ++ passed top place s kn ∷ []) _ low_mid
-        ∙ ap (λ fs. tested d.3.killer m (undo_of rule board m) (top.left - 1) d.3.known ∷ fs) mid_is in
+        ∙ ap (λ fs. tested d.3.order m (undo_of rule board m) (top.left - 1) d.3.known ∷ fs) mid_is in
         let t : top_left (tests floor old) ≡ top.left = ap top_left popped in
         let u : top_left (tests floor last) ≡ top.left - 1 = ap top_left last_is in
         omega (
@@ -540,7 +501,7 @@ module _ (rule : RuleSet) (aim : Aim) (floor : ℕ) (top : Frame) (old new : Lis
           some,
           ap length d.3.added,
           length-append (new ++ passed top place s kn ∷ [])
-              (tested d.3.killer m (undo_of rule board m) (top.left - 1) d.3.known ∷ []),
+              (tested d.3.order m (undo_of rule board m) (top.left - 1) d.3.known ∷ []),
           length-append new (passed top place s kn ∷ []),
         )
     descend_room (Some v) d room =
@@ -611,7 +572,7 @@ pub record IsUnderway (rule : RuleSet) (aim : Aim) (floor : ℕ) (p : Position) 
   pub base : take floor frames ≡ under
 
 module _ (rule : RuleSet) (aim : Aim) where
-  pub begins : (floor : ℕ) (p : Position) (N left k : ℕ) (board : Position) (before count : ℕ) (by : Triple) (undo : Loss) (under frames : List Frame)
+  pub begins : (floor : ℕ) (p : Position) (N left : ℕ) (k : Order) (board : Position) (before count : ℕ) (by : Triple) (undo : Loss) (under frames : List Frame)
       (kn : Option LegalPlace) → floor ≡ length under → frames ≡ under ++ tested k by undo left kn ∷ [] → IfSome kn (IsPlaceIn rule p) → floor + left ≤ N
       → count ≤ before + 1 → HasCounted before count 1 → board ≡ p → IsWellFormed board → (0 < left)
       × (value aim.battle (chess aim.goal rule) left p ≡ joined aim.battle (chess aim.goal rule) left p (legal_moves rule p))

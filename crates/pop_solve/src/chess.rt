@@ -5,7 +5,7 @@ ghost use Rattle.chess_core.specs.Position.{Position};
 ghost use Rattle.chess_core.specs.WellFormed.{IsWellFormed};
 ghost use Rattle.chess_rules.specs.Attacks.{in_check};
 ghost use Rattle.chess_rules.specs.Legal.{legal};
-ghost use Rattle.chess_rules.specs.ties.Places.{IsNextMate, IsPlaceIn, mates_behind, moves_behind, moves_between};
+ghost use Rattle.chess_rules.specs.ties.Places.{IsNextMate, IsPlaceIn, mates_behind, moves_behind, moves_between, place_of};
 ghost use Rattle.pop_input.specs.declared.stipulation.Goal.{Goal};
 ghost use Rattle.pop_input.specs.declared.stipulation.Goal.TheVariants.{Mate};
 ghost use Rattle.pop_solve.specs.Chess.{castling_side, chess, is_impossible, mark_of, reborn, set_start, shown_of};
@@ -54,6 +54,7 @@ pub(crate) fn next_behind<R: Rules>(moves: &mut LegalMoves<R>, board: &mut Board
         (λ m. (moves_behind R.rule board.old moves.old.place
         ≡ m ∷ moves_behind R.rule board.old moves.new.place)
         × (legal R.rule board.old m ≡ true)) }
+    ensures place { moves.new.place ≡ place_of result }
 {
     moves.next(board)
 }
@@ -116,41 +117,6 @@ pub(crate) fn first_look<R: Rules>(killer: Moves<R>, board: &mut Board) -> Optio
         return Some(moves);
     }
     None
-}
-
-/// Whether the killer is a legal move of the board's position, whose moves then stand on it.
-fn is_legal_here<R: Rules>(killer: Moves<R>, moves: &mut LegalMoves<R>, board: &mut Board) -> bool
-    requires well_formed { IsWellFormed board.old }
-    requires known { IsPlaceIn R.rule board.old moves.old }
-    ensures unchanged { board.new ≡ board.old }
-    ensures within { IsPlaceIn R.rule board.old moves.new }
-{
-    moves.go_to(killer.back());
-    next_until::<R>(moves, killer, board).is_some()
-}
-
-/// The killer that is tried first in the board's position: the earlier one where it alone is legal, else the last.
-pub(crate) fn killer_here<R: Rules>(
-    last: Moves<R>,
-    earlier: Moves<R>,
-    known: &mut Option<LegalMoves<R>>,
-    board: &mut Board,
-) -> Moves<R>
-    requires well_formed { IsWellFormed board.old }
-    requires known { IfSome known.old (λ k. IsPlaceIn R.rule board.old k) }
-    ensures unchanged { board.new ≡ board.old }
-    ensures within { IfSome known.new (λ k. IsPlaceIn R.rule board.old k) }
-{
-    let mut moves = moves_at::<R>(*known, Moves::start(), board);
-    let killer = if !is_legal_here::<R>(last, &mut moves, board)
-        && is_legal_here::<R>(earlier, &mut moves, board)
-    {
-        earlier
-    } else {
-        last
-    };
-    *known = Some(moves);
-    killer
 }
 
 /// The next legal move behind the place that mates.

@@ -1,4 +1,7 @@
 //! Frames.
+ghost use Rattle.std.specs.Prelude.{◌≡◌};
+ghost use Rattle.pop_solve.specs.ties.Frames.{unordered};
+
 use chess_core::man::Move;
 use chess_rules::legal_moves::LegalMoves;
 use chess_rules::moves::Moves;
@@ -6,12 +9,56 @@ use chess_rules::play::Undo;
 use chess_rules::rules::Rules;
 use std::marker::Model;
 
-/// Which moves of a position a test tries: the killer first, then the moves before it, then those behind it.
-#[derive(Clone, Copy)]
+/// Which moves of a position a test tries, one stretch after another; each move belongs to one of them.
+#[derive(Clone, Copy, PartialEq, Eq)]
 pub enum Stretch {
-    First,
-    Before,
-    Behind,
+    /// The last killer.
+    Killer,
+    /// The earlier killer, if it is another move.
+    Earlier,
+    /// The other moves whose man aims at the enemy's king, where these come first.
+    Aimed,
+    Others,
+}
+
+/// Which moves come first behind the killers.
+#[derive(Clone, Copy)]
+pub enum Early {
+    /// Those whose man aims at the enemy's king.
+    AimedMoves,
+    NoMoves,
+}
+
+/// How a test orders the moves of a position: the places on two killers, whatever stands there, and which moves come
+/// first behind them. Contracts see the record `Order` of the same fields.
+#[derive(Clone, Copy)]
+pub struct Order<R: Rules> {
+    pub killer: Moves<R>,
+    pub earlier: Moves<R>,
+    pub early: Early,
+}
+
+impl<R: Rules> Model for Order<R> {
+    ghost use Rattle.pop_solve.specs.ties.Frames.{Order as Ordering};
+
+    ghost Value = { Ordering };
+
+    ghost view = { λ o. record { killer = o.killer; earlier = o.earlier; early = o.early } };
+
+    ghost inverse = { λ v. record { killer = v.killer; earlier = v.earlier; early = v.early } };
+}
+
+impl<R: Rules> Order<R> {
+    /// All moves one after another.
+    pub fn unordered() -> Order<R>
+        ensures { result ≡ unordered }
+    {
+        Order {
+            killer: Moves::start(),
+            earlier: Moves::start(),
+            early: Early::NoMoves,
+        }
+    }
 }
 
 /// A position on the way from a phase's first position, whose moves are tried in turn. Contracts see the record `Frame`
@@ -25,8 +72,8 @@ pub struct Frame<R: Rules> {
     pub undo: Undo,
     /// The half-moves that are tried from here.
     pub left: usize,
-    /// In a test: the place on the killer, and the stretch of moves on which `place` stands.
-    pub killer: Moves<R>,
+    /// In a test: the order of the moves, and the stretch on which `place` stands.
+    pub order: Order<R>,
     pub stretch: Stretch,
     /// What is known of the legal moves of the position, once they have been looked for.
     pub known: Option<LegalMoves<R>>,
@@ -42,7 +89,7 @@ impl<R: Rules> Model for Frame<R> {
       by = f.by;
       undo = f.undo;
       left = f.left;
-      killer = f.killer;
+      order = f.order;
       stretch = f.stretch;
       known = f.known;
     } };
@@ -52,7 +99,7 @@ impl<R: Rules> Model for Frame<R> {
       by = v.by;
       undo = v.undo;
       left = v.left;
-      killer = v.killer;
+      order = v.order;
       stretch = v.stretch;
       known = v.known;
     } };
@@ -65,8 +112,8 @@ impl<R: Rules> Default for Frame<R> {
             by: Move::default(),
             undo: Undo::default(),
             left: 0,
-            killer: Moves::start(),
-            stretch: Stretch::Behind,
+            order: Order::unordered(),
+            stretch: Stretch::Others,
             known: None,
         }
     }

@@ -15,6 +15,6 @@ mod value;
 mod walk;
 
 pub use event::{Event, Phase};
-pub use frame::{Frame, Stretch};
+pub use frame::{Early, Frame, Order, Stretch};
 pub use search::Search;
 pub use shown::{Mark, Shown, Side};

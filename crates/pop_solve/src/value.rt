@@ -1,32 +1,32 @@
 //! The tests of battle play.
 ghost use Rattle.chess_rules.specs.Play.{after as played};
 ghost use Rattle.chess_rules.specs.Legal.{moves as legal_moves};
-ghost use Rattle.std.specs.Prelude.{◌≡◌, ◌+◌, ◌<◌, ◌≤◌, ◌%◌, ℕ, List, [], ◌∷◌, ◌++◌, length, reverse, IfSome, IfNone, IsTrue, true, false, Bool, Option, Some, None, not, if◌then◌else◌, MatchOption, MatchBool, ◌⊎◌, ◌&&◌, ◌||◌, ◌==◌, ◌-◌, ◌^◌, min};
+ghost use Rattle.std.specs.Prelude.{◌≡◌, ◌+◌, ◌<◌, ◌≤◌, ◌%◌, ℕ, List, [], ◌∷◌, ◌++◌, filter, length, reverse, IfSome, IfNone, IsTrue, true, false, Bool, Option, Some, None, not, if◌then◌else◌, MatchOption, MatchBool, ◌⊎◌, ◌&&◌, ◌||◌, ◌==◌, ◌-◌, ◌^◌, min};
 ghost use Rattle.chess_core.specs.Position.{Position};
 ghost use Rattle.chess_core.specs.WellFormed.{IsWellFormed};
 ghost use Rattle.chess_rules.specs.Legal.{legal};
-ghost use Rattle.chess_rules.specs.ties.Places.{IsPlaceIn};
+ghost use Rattle.chess_rules.specs.ties.Places.{IsPlaceIn, moves_behind, place_of};
 ghost use Rattle.chess_rules.specs.Play.{undo_of};
 ghost use Rattle.arrayvec.specs.ArrayVec.{array_vec_len};
-ghost use Rattle.pop_solve.specs.ties.Frames.{IsTesting, IsOpenedOn, CameFrom, CameFromAt, Turns, Ends, tests, tested, top_left, ahead};
+ghost use Rattle.pop_solve.specs.ties.Frames.{IsTesting, IsOpenedOn, CameFrom, CameFromAt, Turns, Ends, tests, tested, top_left, ahead, all_of, belongs, comes_early, here, later, stretches_behind};
 ghost use Rattle.pop_solve.specs.Chess.{chess};
 ghost use Rattle.pop_solve.specs.ties.Marks.{is_for_mate};
 ghost use Rattle.pop_input.specs.declared.stipulation.Goal.TheVariants.{Mate};
-ghost use Rattle.pop_solve.specs.declared.frame.Stretch.TheVariants.{Before};
 ghost use Rattle.pop_solve.specs.Game.{can_move as has_move};
 ghost use Rattle.pop_solve.specs.ties.Counts.{HasCounted, smallest_tree, walk_count};
 ghost use Rattle.pop_solve.specs.ties.Values.{seeks, join, joined, value};
 
 use crate::aim::{Aim, Battle};
 use crate::chess::{
-    find_mate, first_look, is_for_mate, is_reached_without_move, killer_here, moves_at, must_mate,
-    next_behind, next_until, reaches_goal, retract,
+    find_mate, first_look, is_for_mate, is_reached_without_move, moves_at, must_mate, next_behind,
+    next_until, reaches_goal, retract,
 };
-use crate::frame::{Frame, Stretch};
+use crate::frame::{Early, Frame, Order, Stretch};
 use crate::killers::Killers;
 use arrayvec::ArrayVec;
 use chess_core::board::Board;
 use chess_core::man::Move;
+use chess_rules::aims::aims_at_king;
 use chess_rules::legal_moves::LegalMoves;
 use chess_rules::moves::Moves;
 use chess_rules::rules::Rules;
@@ -127,36 +127,143 @@ fn decided(answer: Option<bool>, seek: bool) -> bool
     }
 }
 
-/// The next move of a test on its second or third stretch.
-#[tactic(auto, unfolding(crate::specs::ties::Frames::ahead))]
-fn next_in_order<R: Rules>(
-    killer: Moves<R>,
-    stretch: &mut Stretch,
-    moves: &mut LegalMoves<R>,
-    board: &mut Board,
-) -> Option<Move>
-    requires well_formed { IsWellFormed board.old }
-    requires known { IsPlaceIn R.rule board.old moves.old }
-    ensures unchanged { board.new ≡ board.old }
-    ensures within { IsPlaceIn R.rule board.old moves.new }
-    ensures next { MatchOption result (ahead R.rule board.old Before moves.old.place killer ≡ [])
-        (λ m. (ahead R.rule board.old Before moves.old.place killer
-        ≡ m ∷ ahead R.rule board.old stretch.new moves.new.place killer)
-        × (legal R.rule board.old m ≡ true)) }
-{
-    if let Some(by) = next_until::<R>(moves, killer.back(), board) {
-        *stretch = Stretch::Before;
-        return Some(by);
+/// Which moves of a position come first behind the killers: those that aim at the king, where White has two moves or
+/// more left to mate.
+fn early_moves(battle: Battle, left: usize) -> Early {
+    if battle == Battle::Direct && left % 2 == 1 && left >= 3 {
+        Early::AimedMoves
+    } else {
+        Early::NoMoves
     }
-    *stretch = Stretch::Behind;
-    moves.go_to(killer);
-    next_behind::<R>(moves, board)
 }
 
-/// The next move of a test: the killer, then the others in order.
-#[tactic(auto, unfolding(crate::specs::ties::Frames::ahead))]
+/// The order in which the moves of a position are tried with so many half-moves left.
+fn order_of<R: Rules>(killers: &Killers<R>, battle: Battle, left: usize) -> Order<R> {
+    Order {
+        killer: killers.of(battle, left),
+        earlier: killers.earlier(battle, left),
+        early: early_moves(battle, left),
+    }
+}
+
+/// Whether a move that is no killer comes before others.
+fn comes_early(early: Early, by: &Move, board: &Board) -> bool
+    ensures { result ≡ comes_early early board.now by.now }
+{
+    match early {
+        Early::AimedMoves => aims_at_king(board, by),
+        Early::NoMoves => false,
+    }
+}
+
+/// Whether a move, on which `place` stands, belongs to the stretch.
+#[tactic(auto, unfolding(crate::specs::ties::Frames::belongs))]
+fn belongs<R: Rules>(
+    order: Order<R>,
+    stretch: Stretch,
+    place: Moves<R>,
+    by: &Move,
+    board: &Board,
+) -> bool
+    requires { place ≡ place_of (Some by.now) }
+    ensures { result ≡ belongs board.now order stretch by.now }
+{
+    if place.is(order.killer) {
+        return stretch == Stretch::Killer;
+    }
+    if place.is(order.earlier) {
+        return stretch == Stretch::Earlier;
+    }
+    match stretch {
+        Stretch::Killer | Stretch::Earlier => false,
+        Stretch::Aimed => comes_early(order.early, by, board),
+        Stretch::Others => !comes_early(order.early, by, board),
+    }
+}
+
+/// The next move behind the place that belongs to the stretch.
+fn next_of_stretch<R: Rules>(
+    order: Order<R>,
+    stretch: Stretch,
+    moves: &mut LegalMoves<R>,
+    board: &mut Board,
+) -> Option<Move>
+    requires well_formed { IsWellFormed board.old }
+    requires known { IsPlaceIn R.rule board.old moves.old }
+    ensures unchanged { board.new ≡ board.old }
+    ensures within { IsPlaceIn R.rule board.old moves.new }
+    ensures next { MatchOption result
+        (filter (belongs board.old order stretch) (moves_behind R.rule board.old moves.old.place)
+        ≡ [])
+        (λ m. (filter (belongs board.old order stretch) (moves_behind R.rule board.old
+        moves.old.place)
+        ≡ m ∷ filter (belongs board.old order stretch) (moves_behind R.rule board.old
+        moves.new.place))
+        × (legal R.rule board.old m ≡ true)) }
+{
+    while let Some(by) = next_behind::<R>(moves, board) {
+        if belongs::<R>(order, stretch, moves.place(), &by, board) {
+            return Some(by);
+        }
+    }
+    None
+}
+
+/// The next move of the stretch on which the place stands.
+#[tactic(auto, unfolding(crate::specs::ties::Frames::here))]
+fn next_here<R: Rules>(
+    order: Order<R>,
+    stretch: Stretch,
+    moves: &mut LegalMoves<R>,
+    board: &mut Board,
+) -> Option<Move>
+    requires well_formed { IsWellFormed board.old }
+    requires known { IsPlaceIn R.rule board.old moves.old }
+    ensures unchanged { board.new ≡ board.old }
+    ensures within { IsPlaceIn R.rule board.old moves.new }
+    ensures next { MatchOption result (here R.rule board.old order stretch moves.old.place ≡ [])
+        (λ m. (here R.rule board.old order stretch moves.old.place
+        ≡ m ∷ here R.rule board.old order stretch moves.new.place)
+        × (legal R.rule board.old m ≡ true)) }
+{
+    match stretch {
+        Stretch::Killer => next_until::<R>(moves, order.killer, board),
+        Stretch::Earlier => next_until::<R>(moves, order.earlier, board),
+        Stretch::Aimed | Stretch::Others => { next_of_stretch::<R>(order, stretch, moves, board) }
+    }
+}
+
+/// The stretch behind one, if there is one: that of aimed moves only where these come first.
+#[tactic(auto, using(crate::proofs::Orders::next_stretch), unfolding(crate::specs::ties::Frames::later))]
+fn stretch_behind<R: Rules>(order: Order<R>, stretch: Stretch) -> Option<Stretch>
+    ensures later { (p : Position) → MatchOption result (later R.rule p order stretch ≡ [])
+        (λ s. later R.rule p order stretch ≡ all_of R.rule p order s ++ later R.rule p order s) }
+    ensures falls { IfSome result (λ s. stretches_behind s < stretches_behind stretch) }
+{
+    match (stretch, order.early) {
+        (Stretch::Killer, _) => Some(Stretch::Earlier),
+        (Stretch::Earlier, Early::AimedMoves) => Some(Stretch::Aimed),
+        (Stretch::Earlier, Early::NoMoves) | (Stretch::Aimed, _) => Some(Stretch::Others),
+        (Stretch::Others, _) => None,
+    }
+}
+
+/// The place before the first move of a stretch: where both killers are one, the earlier has none.
+#[tactic(auto, using(crate::proofs::Orders::first_place), unfolding(crate::specs::ties::Frames::here))]
+fn place_before<R: Rules>(order: Order<R>, stretch: Stretch) -> Moves<R>
+    ensures { (p : Position) → here R.rule p order stretch result ≡ all_of R.rule p order stretch }
+{
+    match stretch {
+        Stretch::Killer => order.killer.back(),
+        Stretch::Earlier if order.earlier.is(order.killer) => order.earlier,
+        Stretch::Earlier => order.earlier.back(),
+        Stretch::Aimed | Stretch::Others => Moves::start(),
+    }
+}
+
+/// The next move of a test, one stretch after another.
 fn next_tried<R: Rules>(
-    killer: Moves<R>,
+    order: Order<R>,
     stretch: &mut Stretch,
     moves: &mut LegalMoves<R>,
     board: &mut Board,
@@ -165,22 +272,21 @@ fn next_tried<R: Rules>(
     requires known { IsPlaceIn R.rule board.old moves.old }
     ensures unchanged { board.new ≡ board.old }
     ensures within { IsPlaceIn R.rule board.old moves.new }
-    ensures next { MatchOption result (ahead R.rule board.old stretch.old moves.old.place killer
-        ≡ [])
-        (λ m. (ahead R.rule board.old stretch.old moves.old.place killer
-        ≡ m ∷ ahead R.rule board.old stretch.new moves.new.place killer)
+    ensures next { MatchOption result
+        (ahead R.rule board.old order stretch.old moves.old.place ≡ [])
+        (λ m. (ahead R.rule board.old order stretch.old moves.old.place
+        ≡ m ∷ ahead R.rule board.old order stretch.new moves.new.place)
         × (legal R.rule board.old m ≡ true)) }
 {
-    match *stretch {
-        Stretch::First => {
-            if let Some(by) = next_until::<R>(moves, killer, board) {
-                return Some(by);
-            }
-            moves.go_to(Moves::start());
-            next_in_order::<R>(killer, stretch, moves, board)
+    loop {
+        if let Some(by) = next_here::<R>(order, *stretch, moves, board) {
+            return Some(by);
         }
-        Stretch::Before => next_in_order::<R>(killer, stretch, moves, board),
-        Stretch::Behind => next_behind::<R>(moves, board),
+        let Some(behind) = stretch_behind::<R>(order, *stretch) else {
+            return None;
+        };
+        *stretch = behind;
+        moves.go_to(place_before(order, behind));
     }
 }
 
@@ -254,19 +360,14 @@ fn descend<R: Rules, const N: usize>(
         retract::<R>(board, by, undo);
     } else {
         *opened = opened.saturating_add(1);
-        let killer = killer_here::<R>(
-            killers.of(aim.battle, left),
-            killers.earlier(aim.battle, left),
-            &mut known,
-            board,
-        );
+        let order = order_of(killers, aim.battle, left);
         frames.push(Frame {
-            place: killer.back(),
+            place: order.killer.back(),
             by,
             undo,
             left,
-            killer,
-            stretch: Stretch::First,
+            order,
+            stretch: Stretch::Killer,
             known,
             ..top
         });
@@ -308,7 +409,7 @@ fn turn<R: Rules, const N: usize>(
     }
     let mut moves = moves_at::<R>(top.known, top.place, board);
     let mut stretch = top.stretch;
-    let Some(by) = next_tried::<R>(top.killer, &mut stretch, &mut moves, board) else {
+    let Some(by) = next_tried::<R>(top.order, &mut stretch, &mut moves, board) else {
         return close::<R>(!seek, floor, depth, top, board, answer);
     };
     descend::<R, N>(
@@ -354,17 +455,12 @@ pub(crate) fn value_of<R: Rules, const N: usize>(
     }
     let floor = frames.len();
     *opened = opened.saturating_add(1);
-    let killer = killer_here::<R>(
-        killers.of(aim.battle, left),
-        killers.earlier(aim.battle, left),
-        &mut known,
-        board,
-    );
+    let order = order_of(killers, aim.battle, left);
     frames.push(Frame {
-        place: killer.back(),
+        place: order.killer.back(),
         left,
-        killer,
-        stretch: Stretch::First,
+        order,
+        stretch: Stretch::Killer,
         known,
         ..Frame::default()
     });

@@ -20,7 +20,7 @@ ghost use Rattle.pop_solve.specs.ties.Walk.{fewest as fewest_of, fewest_for, fir
 
 use crate::aim::{Aim, Battle};
 use crate::chess::{is_for_mate, next_mate, next_move, reaches_goal, retract};
-use crate::frame::{Frame, Stretch};
+use crate::frame::{Frame, Order, Stretch};
 use crate::killers::Killers;
 use crate::plan::Plan;
 use crate::value::{seeking, value_of};
@@ -202,8 +202,8 @@ fn enter<R: Rules, const N: usize>(
         by,
         undo,
         left: tried,
-        killer: Moves::start(),
-        stretch: Stretch::Behind,
+        order: Order::unordered(),
+        stretch: Stretch::Others,
         known: None,
     });
     *opened = opened_by(*opened, tried, tested);

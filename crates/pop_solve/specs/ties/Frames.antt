@@ -2,31 +2,45 @@
 use Rattle.chess_rules.specs.Play.{after as played}
 use Rattle.chess_rules.specs.Legal.{moves as legal_moves}
 use Rattle.pop_solve.specs.declared.aim.Aim.{Aim}
-use Rattle.std.specs.Prelude.{◌≡◌, ◌<◌, IfSome, Bool, true, false, Option, Some, None, ℕ, zero, suc, ◌+◌, ◌-◌, ◌≤◌, ◌^◌, min, if◌then◌else◌, List, [], ◌∷◌, ◌++◌, length, take, drop, reverse}
+use Rattle.std.specs.Prelude.{◌≡◌, ◌<◌, IfSome, Bool, true, false, not, ◌&&◌, Option, Some, None, ℕ, zero, suc, ◌+◌, ◌-◌, ◌≤◌, ◌^◌, min, if◌then◌else◌, List, [], ◌∷◌, ◌++◌, ◌==◌, filter, length, take, drop, reverse}
 use Rattle.std.specs.List.{sum_by}
 use Rattle.chess_core.specs.Position.{Position}
 use Rattle.chess_core.specs.Triple.{Triple}
 use Rattle.chess_core.specs.WellFormed.{IsWellFormed}
 use Rattle.chess_rules.specs.Legal.{legal}
 use Rattle.chess_rules.specs.Loss.{Loss}
-use Rattle.chess_rules.specs.ties.Places.{IsPlaceIn, LegalPlace, moves_behind, moves_between}
+use Rattle.chess_rules.specs.ties.Aims.{aims_at_king}
+use Rattle.chess_rules.specs.ties.Places.{IsPlaceIn, LegalPlace, moves_behind, moves_between, place_of}
 use Rattle.chess_rules.specs.Play.{undo_of}
 use Rattle.chess_rules.specs.RuleSet.{RuleSet}
 use Rattle.pop_solve.specs.Chess.{chess}
 use Rattle.pop_solve.specs.ties.Counts.{smallest_below, walk_count}
 use Rattle.pop_solve.specs.ties.Values.{decides, seeks, join, joined}
 use Rattle.pop_solve.specs.declared.frame.Stretch.{Stretch}
-use Rattle.pop_solve.specs.declared.frame.Stretch.TheVariants.{First, Before, Behind}
+use Rattle.pop_solve.specs.declared.frame.Stretch.TheVariants.{Killer, Earlier, Aimed, Others}
+use Rattle.pop_solve.specs.declared.frame.Early.{Early}
+use Rattle.pop_solve.specs.declared.frame.Early.TheVariants.{AimedMoves, NoMoves}
+
+-- how a test orders the moves of a position: the places on two killers, which may be any, and which moves come first
+-- behind them
+pub record Order : Type 0 where
+  pub killer : ℕ
+  pub earlier : ℕ
+  pub early : Early
+
+-- all moves one after another
+abbrev pub unordered : Order
+unordered = record { killer = 0; earlier = 0; early = NoMoves }
 
 -- a frame: the place up to which the moves of its position have been tried, the move that led there and what it
--- destroyed, and the half-moves that are tried there; in a test the place on the killer, the move that is tried first,
--- and the stretch of moves on which the place stands; and what is known of the position's legal moves
+-- destroyed, and the half-moves that are tried there; in a test the order of the moves and the stretch on which the
+-- place stands; and what is known of the position's legal moves
 pub record Frame : Type 0 where
   pub place : ℕ
   pub by : Triple
   pub undo : Loss
   pub left : ℕ
-  pub killer : ℕ
+  pub order : Order
   pub stretch : Stretch
   pub known : Option LegalPlace
 
@@ -46,17 +60,57 @@ IsLinked rule p (f ∷ (g ∷ below)) =
     × (f.undo ≡ undo_of rule (position rule p (g ∷ below)) f.by)
     × IsLinked rule p (g ∷ below)
 
--- the moves that a test has still to try: on the first stretch the killer, then the moves before it, then those behind it
-unfoldable pub ahead : RuleSet → Position → Stretch → ℕ → ℕ → List Triple
-ahead rule p First place killer = moves_between rule p place killer
-    ++ (moves_between rule p 0 (killer - 1) ++ moves_behind rule p killer)
-ahead rule p Before place killer = moves_between rule p place (killer - 1)
-    ++ moves_behind rule p killer
-ahead rule p Behind place killer = moves_behind rule p place
+-- the move comes before others that are no killers either
+abbrev pub comes_early : Early → Position → Triple → Bool
+comes_early AimedMoves p m = aims_at_king p m
+comes_early NoMoves p m = false
+
+-- the move stands at this place
+abbrev pub is_at : ℕ → Triple → Bool
+is_at place m = place_of (Some m) == place
+
+-- the move belongs to the stretch, and so to none before it
+unfoldable pub belongs : Position → Order → Stretch → Triple → Bool
+belongs p order Killer m = is_at order.killer m
+belongs p order Earlier m = not (is_at order.killer m) && is_at order.earlier m
+belongs p order Aimed m =
+    not (is_at order.killer m) && (not (is_at order.earlier m) && comes_early order.early p m)
+belongs p order Others m =
+    not (is_at order.killer m) && (not (is_at order.earlier m) && not (comes_early order.early p m))
+
+-- the legal moves of a stretch
+abbrev pub all_of : RuleSet → Position → Order → Stretch → List Triple
+all_of rule p order s = filter (belongs p order s) (legal_moves rule p)
+
+-- those behind a place of the stretch
+unfoldable pub here : RuleSet → Position → Order → Stretch → ℕ → List Triple
+here rule p order Killer place = moves_between rule p place order.killer
+here rule p order Earlier place = moves_between rule p place order.earlier
+here rule p order Aimed place = filter (belongs p order Aimed) (moves_behind rule p place)
+here rule p order Others place = filter (belongs p order Others) (moves_behind rule p place)
+
+-- those of the stretches behind it
+unfoldable pub later : RuleSet → Position → Order → Stretch → List Triple
+later rule p order Killer = all_of rule p order Earlier
+    ++ (all_of rule p order Aimed ++ all_of rule p order Others)
+later rule p order Earlier = all_of rule p order Aimed ++ all_of rule p order Others
+later rule p order Aimed = all_of rule p order Others
+later rule p order Others = []
+
+-- the moves that a test has still to try
+abbrev pub ahead : RuleSet → Position → Order → Stretch → ℕ → List Triple
+ahead rule p order s place = here rule p order s place ++ later rule p order s
+
+-- how many stretches lie behind one
+abbrev pub stretches_behind : Stretch → ℕ
+stretches_behind Killer = 3
+stretches_behind Earlier = 2
+stretches_behind Aimed = 1
+stretches_behind Others = 0
 
 -- the moves of a frame that a test has still to try
 abbrev pub untried : RuleSet → Position → Frame → List Triple
-untried rule p f = ahead rule p f.stretch f.place f.killer
+untried rule p f = ahead rule p f.order f.stretch f.place
 
 -- what the value of the lowest position will be, once that of the top position is known
 unfoldable pub deliver : RuleSet → Aim → Position → List Frame → Bool → Bool
@@ -215,30 +269,30 @@ opened by undo left = record {
   by = by;
   undo = undo;
   left = left;
-  killer = 0;
-  stretch = Behind;
+  order = unordered;
+  stretch = Others;
   known = None;
 }
 
 -- the same in a test, where the killer is tried first
-abbrev pub tested : ℕ → Triple → Loss → ℕ → Option LegalPlace → Frame
-tested killer by undo left known = record {
-  place = killer - 1;
+abbrev pub tested : Order → Triple → Loss → ℕ → Option LegalPlace → Frame
+tested order by undo left known = record {
+  place = order.killer - 1;
   by = by;
   undo = undo;
   left = left;
-  killer = killer;
-  stretch = First;
+  order = order;
+  stretch = Killer;
   known = known;
 }
 
 -- to some frames one of a test is added, which knows at most its own position
 pub record IsOpenedOn (rule : RuleSet) (p : Position) (old new : List Frame) (by : Triple)
     (undo : Loss) (left : ℕ) : Type 0 where
-  pub killer : ℕ
+  pub order : Order
   pub known : Option LegalPlace
   pub within : IfSome known (IsPlaceIn rule p)
-  pub added : new ≡ old ++ tested killer by undo left known ∷ []
+  pub added : new ≡ old ++ tested order by undo left known ∷ []
 
 -- the half-moves left at the top frame
 abbrev pub top_left : List Frame → ℕ

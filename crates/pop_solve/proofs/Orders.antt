@@ -1,0 +1,143 @@
+-- The moves of a position, stretch by stretch, are all its moves in another order.
+use Rattle.std.proofs.Common.{◌≡◌, ℕ, zero, suc, ◌+◌, ◌-◌, ◌<◌, ◌≤◌, Bool, true, false, not, ◌&&◌, cond, eqb, List, [], ◌∷◌, ◌++◌, filter, refl, sym, ◌∙◌, ap, arith, inl, inr, rules}
+use Rattle.std.proofs.lemmas.Bool.{cases_Bool, cases_lt}
+use Rattle.std.proofs.lemmas.Bool.Decides.{nat_tests}
+use Rattle.std.proofs.lemmas.List.{append-nil}
+use Rattle.std.proofs.lemmas.List.Elements.{filter_agree}
+use Rattle.chess_core.specs.Position.{Position}
+use Rattle.chess_core.specs.Triple.{Triple}
+use Rattle.chess_rules.proofs.Between.{between-here, between-none, between-past, between-skip}
+use Rattle.chess_rules.proofs.Places.{moves_behind-end, moves_behind-here, moves_behind-skip, place_of_triple}
+use Rattle.chess_rules.specs.Legal.{moves as legal_moves}
+use Rattle.chess_rules.specs.RuleSet.{RuleSet}
+use Rattle.chess_rules.specs.ties.Places.{moves_behind, moves_between}
+use Rattle.pop_solve.specs.declared.frame.Stretch.TheVariants.{Killer, Earlier, Aimed, Others}
+use Rattle.pop_solve.specs.declared.frame.Early.TheVariants.{NoMoves}
+use Rattle.pop_solve.proofs.Boards.{behind_start}
+use Rattle.pop_solve.specs.ties.Frames.{Order, ahead, all_of, belongs, comes_early, here, is_at, later}
+
+-- a list parted by three tests
+module _ {M : Type 0} (a b c : M → Bool) where
+  abbrev parted : List M → List M
+  parted ms =
+      filter a ms ++ (filter (λ m. not (a m) && b m) ms ++ (filter (λ m. not (a m) && (not (b m) && c m)) ms
+      ++ filter (λ m. not (a m) && (not (b m) && not (c m))) ms))
+
+-- a fold whose steps may change places says the same of a list and of its parts
+module _ {M C : Type 0} (step : M → C → C) (g : List M → C) (cons : (x : M) (xs : List M) → g (x ∷ xs) ≡ step x (g xs))
+    (swap : (x y : M) (c : C) → step x (step y c) ≡ step y (step x c)) where
+  -- an element may come first
+  to_front : (x : M) (xs ys : List M) → g (xs ++ x ∷ ys) ≡ step x (g (xs ++ ys))
+  to_front x [] ys = cons x ys
+  to_front x (y ∷ xs) ys =
+      cons y (xs ++ x ∷ ys) ∙ ap (step y) (to_front x xs ys) ∙ swap y x (g (xs ++ ys)) ∙ ap (step x) (sym (cons y (xs ++ ys)))
+
+  same_behind : (xs ys zs : List M) → g ys ≡ g zs → g (xs ++ ys) ≡ g (xs ++ zs)
+  same_behind [] ys zs e = e
+  same_behind (x ∷ xs) ys zs e = cons x (xs ++ ys) ∙ ap (step x) (same_behind xs ys zs e) ∙ sym (cons x (xs ++ zs))
+
+  past_two : (x : M) (xs ys zs : List M) → g (xs ++ (ys ++ x ∷ zs)) ≡ step x (g (xs ++ (ys ++ zs)))
+  past_two x xs ys zs = same_behind xs (ys ++ x ∷ zs) (x ∷ (ys ++ zs)) (to_front x ys zs ∙ sym (cons x (ys ++ zs))) ∙ to_front x xs (ys ++ zs)
+
+  past_three : (x : M) (ws xs ys zs : List M) → g (ws ++ (xs ++ (ys ++ x ∷ zs))) ≡ step x (g (ws ++ (xs ++ (ys ++ zs))))
+  past_three x ws xs ys zs =
+      same_behind ws (xs ++ (ys ++ x ∷ zs)) (x ∷ (xs ++ (ys ++ zs))) (past_two x xs ys zs ∙ sym (cons x (xs ++ (ys ++ zs))))
+      ∙ to_front x ws (xs ++ (ys ++ zs))
+
+  same_parted : (a b c : M → Bool) (ms : List M) → g (parted a b c ms) ≡ g ms
+  same_parted a b c [] = refl
+  same_parted a b c (m ∷ ms) = at (a m) (b m) (c m) ∙ ap (step m) (same_parted a b c ms) ∙ sym (cons m ms)
+    where
+      front : Bool → (M → Bool) → List M
+      front has test = cond has (m ∷ filter test ms) (filter test ms)
+
+      at : (x y z : Bool) → g (front x a ++ (front (not x && y) (λ m. not (a m) && b m)
+          ++ (front (not x && (not y && z)) (λ m. not (a m) && (not (b m) && c m))
+          ++ front (not x && (not y && not z)) (λ m. not (a m) && (not (b m) && not (c m)))))) ≡ step m (g (parted a b c ms))
+      at true y z = cons m (parted a b c ms)
+      at false true z = to_front m (filter a ms) _
+      at false false true = past_two m (filter a ms) _ _
+      at false false false = past_three m (filter a ms) _ _ _
+
+filter-none : (f : Triple → Bool) (none : (m : Triple) → f m ≡ false) → (ms : List Triple) → filter f ms ≡ []
+filter-none f none [] = refl
+filter-none f none (m ∷ ms) = rw (none m) (filter-none f none ms)
+
+-- the moves at one place
+module _ (rule : RuleSet) (p : Position) (k : ℕ) where
+  -- a triple that stands elsewhere is passed
+  pass : (a : ℕ) → (a + 1 ≡ k → ⊥) → filter (is_at k) (moves_behind rule p a) ≡ filter (is_at k) (moves_behind rule p (a + 1))
+  pass a other = search (rules, cases_lt, cases_Bool, moves_behind-end, moves_behind-here, moves_behind-skip, place_of_triple)
+
+  pass_all : (n a b : ℕ) → b ≡ a + n → ((i : ℕ) → a ≤ i → i < b → i + 1 ≡ k → ⊥)
+      → filter (is_at k) (moves_behind rule p a) ≡ filter (is_at k) (moves_behind rule p b)
+  pass_all zero a b e off = let same : a ≡ b = omega (arith, e) in ap (λ i. filter (is_at k) (moves_behind rule p i)) same
+  pass_all (suc n) a b e off =
+      pass a (off a (omega arith) (omega (arith, e))) ∙ pass_all n (a + 1) b (omega (arith, e)) (λ i lo hi. off i (omega (arith, lo)) hi)
+
+  none_behind : filter (is_at k) (moves_behind rule p k) ≡ []
+  none_behind = pass_all 28672 k (k + 28672) refl (λ i lo hi h. omega (arith, lo, h)) ∙ (rw (moves_behind-end rule p (k + 28672) (omega arith)) refl)
+
+  here_alone : filter (is_at k) (moves_behind rule p (k - 1)) ≡ moves_between rule p (k - 1) k
+  here_alone = elim (cases_lt 0 k) [
+    | inl some ↦
+        let e : k - 1 + 1 ≡ k = omega (arith, some) in
+        search (
+          rules,
+          cases_lt,
+          cases_Bool,
+          between-past,
+          moves_behind-end,
+          between-here,
+          moves_behind-here,
+          between-skip,
+          moves_behind-skip,
+          between-none,
+          none_behind,
+          place_of_triple,
+          e,
+        )
+    | inr none ↦ (let e : k - 1 ≡ k = omega (arith, none) in rw e (none_behind ∙ sym (between-none rule p k k (omega arith))))
+  ]
+
+  one_place : moves_between rule p (k - 1) k ≡ filter (is_at k) (legal_moves rule p)
+  one_place =
+      sym (ap (filter (is_at k)) (sym (behind_start rule p)) ∙ pass_all (k - 1) 0 (k - 1) (omega arith) (λ i lo hi h. omega (arith, hi, h)) ∙ here_alone)
+
+module _ (rule : RuleSet) (p : Position) (order : Order) where
+  -- the place before a stretch
+  pub before_killer : (place : ℕ) → place ≡ order.killer - 1 → here rule p order Killer place ≡ all_of rule p order Killer
+  unfolding here belongs
+  before_killer place at = rw at (one_place rule p order.killer)
+
+  pub before_earlier : (place : ℕ) → place ≡ order.earlier - 1 → eqb order.earlier order.killer ≡ false
+      → here rule p order Earlier place ≡ all_of rule p order Earlier
+  unfolding here belongs
+  before_earlier place at other =
+      rw at (one_place rule p order.earlier
+      ∙ sym (filter_agree (belongs p order Earlier) (is_at order.earlier) (λ m. grind (arith, nat_tests, other)) (legal_moves rule p)))
+
+  pub behind_earlier : (place : ℕ) → place ≡ order.earlier → eqb order.earlier order.killer ≡ true
+      → here rule p order Earlier place ≡ all_of rule p order Earlier
+  unfolding here belongs
+  behind_earlier place at same =
+      rw at (between-none rule p order.earlier order.earlier (omega arith)
+      ∙ sym (filter-none (belongs p order Earlier) (λ m. grind (arith, nat_tests, same)) (legal_moves rule p)))
+
+  -- the stretches behind one
+  pub later_aimed : order.early ≡ NoMoves → later rule p order Earlier ≡ all_of rule p order Others ++ later rule p order Others
+  unfolding later belongs
+  later_aimed none =
+      rw (filter-none (belongs p order Aimed) (λ m. rw none (grind arith)) (legal_moves rule p)) (sym (append-nil (all_of rule p order Others)))
+
+  -- to a frame that is opened all moves are left, in another order
+  pub same_start : {C : Type 0} (step : Triple → C → C) (g : List Triple → C) → ((m : Triple) (ms : List Triple) → g (m ∷ ms) ≡ step m (g ms))
+      → ((m n : Triple) (c : C) → step m (step n c) ≡ step n (step m c)) → g (ahead rule p order Killer (order.killer - 1)) ≡ g (legal_moves rule p)
+  unfolding later belongs
+  same_start step g cons swap =
+      ap (λ ms. g (ms ++ later rule p order Killer)) (before_killer (order.killer - 1) refl)
+      ∙ same_parted step g cons swap (is_at order.killer) (is_at order.earlier) (comes_early order.early p) (legal_moves rule p)
+
+pub ruleset first_place = (before_killer, before_earlier, behind_earlier, behind_start)
+
+pub ruleset next_stretch = (later_aimed, append-nil)
