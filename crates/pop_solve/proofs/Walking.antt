@@ -23,10 +23,10 @@ use Rattle.chess_rules.specs.RuleSet.{RuleSet}
 use Rattle.pop_solve.specs.Chess.{chess}
 use Rattle.pop_solve.proofs.Boards.{behind_start}
 use Rattle.pop_solve.specs.Game.{Game}
-use Rattle.pop_solve.specs.ties.Counts.{HasCounted, walk_count}
+use Rattle.pop_solve.specs.ties.Counts.{HasCounted, smallest_tree, walk_count}
 use Rattle.pop_solve.specs.ties.Values.{seeks, value}
 use Rattle.pop_solve.specs.ties.Frames.{AreKnown, Frame, position, IsLinked, CameFromAt, CameFrom, opened, opened as opened_frame, steps, steps_behind, walk_behind, to_open}
-use Rattle.pop_solve.specs.ties.Walk.{fewest, first_from, open_length, follows, gives, goes_on, shown, path, GoesTo, to_come, IsRoomy, IsWalking, turns, IsCounted, IsWhites, Steps, fewest_for, fewest_left, fewest_walked}
+use Rattle.pop_solve.specs.ties.Walk.{fewest, first_from, open_length, follows, gives, goes_on, shown, path, GoesTo, to_come, IsRoomy, IsWalking, turns, IsCounted, IsWhites, seeks_last, Steps, fewest_for, fewest_left, fewest_walked}
 use Rattle.pop_solve.specs.declared.plan.Plan.{Plan}
 use Rattle.pop_solve.proofs.Tests.{learned, moved}
 use Rattle.pop_solve.specs.ties.Plans.{varies}
@@ -42,6 +42,15 @@ both b t f = cc
 
 pub no_zero : (k : ℕ) → eqb (suc k) 0 ≡ false
 no_zero k = grind (arith, nat_tests)
+
+-- where the first move counts nothing if it fails a test, all that fail it at the head of a list count nothing
+passed-over : {A : Type 0} (f : List Triple → A) (test : Triple → Bool) → ((m : Triple) (ms : List Triple) → test m ≡ false → f (m ∷ ms) ≡ f ms)
+    → (over ms : List Triple) → filter test over ≡ [] → f (over ++ ms) ≡ f ms
+passed-over f test skip [] ms none = refl
+passed-over f test skip (m ∷ over) ms none = elim (cases (test m)) [
+  | inl fails ↦ skip m (over ++ ms) fails ∙ passed-over f test skip over ms (sym (cond-false (test m) _ _ fails) ∙ none)
+  | inr passes ↦ absurd (let bad : m ∷ filter test over ≡ [] = sym (cond-true (test m) _ _ passes) ∙ none in cc)
+]
 
 -- a path, where it is given
 abbrev pub given_path : Bool → List Triple → List (List Triple)
@@ -275,11 +284,17 @@ module _ (rule : RuleSet) (plan : Plan) where
   unfolding to_open
   open-close p f below e = omega (arith, walk_behind-none f.left (position rule p (f ∷ below)) f.place e)
 
-  -- moves passed over that don't mate at the last half-move of help play
+  -- moves passed over that don't mate at the last half-move, by a side that seeks mate
   module _ (h : ℕ) (p : Position) (f : Frame) (below : List Frame) (rest : List Triple)
       (g : GoesTo rule plan f.left (position rule p (f ∷ below)) f.place rest) where
     abbrev P : Position
     P = position rule p (f ∷ below)
+
+    abbrev low : Bool
+    low = eqb (length below) 0
+
+    abbrev room : ℕ
+    room = h - length below
 
     abbrev later : List Frame
     later = moved f g.mid ∷ below
@@ -295,31 +310,52 @@ module _ (rule : RuleSet) (plan : Plan) where
     unfolding gives
     gives-last q a for misses = rw (a, for, misses) refl
 
-    skipped : (low : Bool) (fuel : ℕ) (m : Triple) (ms : List Triple) → is_help plan.form ≡ true → plan.goal ≡ Mate → is_mating rule P m ≡ false
-        → shown plan (chess plan.goal rule) low (suc fuel) 1 P (m ∷ ms) ≡ shown plan (chess plan.goal rule) low (suc fuel) 1 P ms
-    skipped low fuel m ms a for misses =
-        let q = played rule P m in
-        shown-next low fuel 0 P m ms
-        ∙ (rw (follows-help plan (chess plan.goal rule) low 0 q a, gives-last q a for misses, goes_on-help plan (chess plan.goal rule) 0 q a)
-        (ends low fuel fuel m q (legal_moves rule q) ms))
+    -- in direct play a move that doesn't mate isn't followed, and tries nothing
+    seeks-one : (a b : Bool) → (a || b) ≡ true → a ≡ false → b ≡ true
+    seeks-one true b e n = absurd cc
+    seeks-one false b e n = e
 
-    shown-over : (low : Bool) (fuel : ℕ) (over ms : List Triple) → is_help plan.form ≡ true → plan.goal ≡ Mate → filter (is_mating rule P) over ≡ []
-        → shown plan (chess plan.goal rule) low fuel 1 P (over ++ ms) ≡ shown plan (chess plan.goal rule) low fuel 1 P ms
+    follows-last : (low : Bool) (q : Position) → is_help plan.form ≡ false → seeks (battle_of plan.form) 1 ≡ true → plan.goal ≡ Mate → is_goal rule q ≡ false
+        → follows plan (chess plan.goal rule) low 0 q ≡ false
+    unfolding follows value
+    follows-last true q a white for misses = rw (a, for, misses) refl
+    follows-last false q a white for misses = rw (a, white, for, misses) refl
+
+    fewest_for-last : (low : Bool) (q : Position) → is_help plan.form ≡ false → seeks (battle_of plan.form) 1 ≡ true
+        → fewest_for plan (chess plan.goal rule) low 0 q ≡ 0
+    unfolding smallest_tree
+    fewest_for-last true q a white = rw a refl
+    fewest_for-last false q a white = rw (a, white) refl
+
+    skipped : (low : Bool) (fuel : ℕ) → seeks_last plan ≡ true → plan.goal ≡ Mate → (m : Triple) (ms : List Triple) → is_mating rule P m ≡ false
+        → shown plan (chess plan.goal rule) low fuel 1 P (m ∷ ms) ≡ shown plan (chess plan.goal rule) low fuel 1 P ms
     unfolding shown
-    shown-over low zero over ms a for none = refl
-    shown-over low (suc fuel) [] ms a for none = refl
-    shown-over low (suc fuel) (m ∷ over) ms a for none = elim (cases (is_mating rule P m)) [
-      | inl misses ↦
-          let last : filter (is_mating rule P) over ≡ [] = sym (cond-false (is_mating rule P m) _ _ misses) ∙ none in
-          skipped low fuel m (over ++ ms) a for misses ∙ shown-over low (suc fuel) over ms a for last
-      | inr mates ↦ absurd (let bad : m ∷ filter (is_mating rule P) over ≡ [] = sym (cond-true (is_mating rule P m) _ _ mates) ∙ none in cc)
-    ]
+    skipped low zero last for m ms misses = refl
+    skipped low (suc fuel) last for m ms misses =
+        let q = played rule P m in
+        shown-next low fuel 0 P m ms ∙ (elim (cases (is_help plan.form)) [
+          | inl a ↦ rw (follows-last low q a (seeks-one _ _ last a) for misses) refl
+          | inr a ↦ rw (follows-help plan (chess plan.goal rule) low 0 q a, gives-last q a for misses, goes_on-help plan (chess plan.goal rule) 0 q a)
+              (ends low fuel fuel m q (legal_moves rule q) ms)
+        ])
+
+    fewest-skipped : (low : Bool) (fuel : ℕ) → seeks_last plan ≡ true → plan.goal ≡ Mate → is_help plan.form ≡ false
+        → (m : Triple) (ms : List Triple) → is_mating rule P m ≡ false
+        → fewest_walked plan (chess plan.goal rule) low fuel 1 P (m ∷ ms) ≡ fewest_walked plan (chess plan.goal rule) low fuel 1 P ms
+    unfolding fewest_walked
+    fewest-skipped low zero last for a m ms misses = refl
+    fewest-skipped low (suc fuel) last for a m ms misses =
+        let q = played rule P m in
+        let white = seeks-one _ _ last a in
+        fewest-next low fuel 0 P m ms ∙ (rw (fewest_for-last low q a white, follows-last low q a white for misses) (omega arith))
 
     come-skip : to_come rule plan h p (f ∷ below) ≡ to_come rule plan h p later
     unfolding to_come position path
     come-skip = elim g.none [
       | inl e ↦ rw (g.passed, e) refl
-      | inr e ↦ rw (g.passed, e.2, shown-over (eqb (length below) 0) (h - length below) g.over (moves_behind rule P g.mid) e.0 e.1 e.3) refl
+      | inr e ↦
+          let s = passed-over (shown plan (chess plan.goal rule) low room 1 P) (is_mating rule P) (skipped low room e.0 e.1) g.over (moves_behind rule P g.mid) e.3 in
+          rw (g.passed, e.2, s) refl
     ]
 
     fewer : (k : ℕ) → steps_behind rule k P g.mid ≤ steps_behind rule k P f.place
@@ -361,7 +397,10 @@ module _ (rule : RuleSet) (plan : Plan) where
     unfolding fewest_left position
     tries-skip a = elim g.none [
       | inl e ↦ rw (g.passed, e) refl
-      | inr e ↦ absurd (both _ e.0 a)
+      | inr e ↦
+          let s = passed-over (fewest_walked plan (chess plan.goal rule) low room 1 P) (is_mating rule P)
+          (fewest-skipped low room e.0 e.1 a) g.over (moves_behind rule P g.mid) e.3 in
+          rw (g.passed, e.2, s) refl
     ]
 
     pub steps-skip : (new : List Frame) (board : Position) (before after : ℕ) (given : Bool) → Steps rule plan h p later new board before after given
@@ -807,18 +846,18 @@ module _ (rule : RuleSet) (plan : Plan) (left : ℕ) (p : Position) (place next 
   append_none [] = refl
   append_none (x ∷ xs) = ap (λ l. x ∷ l) (append_none xs)
 
-  pub next_mating : (o : Option Triple) → plan.goal ≡ Mate → is_help plan.form ≡ true → left ≡ 1
+  pub next_mating : (o : Option Triple) → plan.goal ≡ Mate → seeks_last plan ≡ true → left ≡ 1
       → MatchOption o (mates_behind rule p place ≡ []) (λ m. IsNextMate rule p place next m × (legal rule p m ≡ true)) → Next o
   unfolding mates_behind
-  next_mating None for help single e =
-      let last : moves_behind rule p 28672 ≡ [] = moves_behind-end rule p 28672 (omega arith) in
+  next_mating None for last single e =
+      let behind : moves_behind rule p 28672 ≡ [] = moves_behind-end rule p 28672 (omega arith) in
       inr (record {
         mid = 28672;
         over = moves_behind rule p place;
         passed = append_none (moves_behind rule p place)
-            ∙ ap (λ l. moves_behind rule p place ++ l) (sym last);
-        none = inr (help, for, single, e);
-        here = last;
+            ∙ ap (λ l. moves_behind rule p place ++ l) (sym behind);
+        none = inr (last, for, single, e);
+        here = behind;
       })
-  next_mating (Some m) for help single e =
-      (omega (arith, single), record { mid = next - 1; over = e.0.over; passed = e.0.passed; none = inr (help, for, single, e.0.none); here = e.0.here }, e.1)
+  next_mating (Some m) for last single e =
+      (omega (arith, single), record { mid = next - 1; over = e.0.over; passed = e.0.passed; none = inr (last, for, single, e.0.none); here = e.0.here }, e.1)

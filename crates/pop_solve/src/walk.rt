@@ -16,7 +16,7 @@ ghost use Rattle.pop_solve.specs.Chess.{chess};
 ghost use Rattle.pop_solve.specs.ties.Marks.{is_for_mate};
 ghost use Rattle.pop_solve.specs.ties.Counts.{HasCounted, walk_count};
 ghost use Rattle.pop_solve.specs.ties.Values.{seeks};
-ghost use Rattle.pop_solve.specs.ties.Walk.{fewest as fewest_of, fewest_for, first_from, open_length, follows as is_followed, gives as is_given, goes_on, GoesTo, IsWalking, Steps};
+ghost use Rattle.pop_solve.specs.ties.Walk.{fewest as fewest_of, fewest_for, first_from, open_length, follows as is_followed, gives as is_given, goes_on, GoesTo, IsWalking, seeks_last, Steps};
 
 use crate::aim::{Aim, Battle};
 use crate::chess::{is_for_mate, next_mate, next_move, reaches_goal, retract};
@@ -210,16 +210,24 @@ fn enter<R: Rules, const N: usize>(
     gives::<R>(plan, left, board)
 }
 
-/// Whether each path that is given ends with the next half-move, which mates: the last of help play for mate.
-fn ends_with_mate(plan: Plan, left: usize) -> bool
-    ensures { IsTrue result ↔ ((is_for_mate plan.goal ≡ true) × (is_help plan.form ≡ true)
-        × (left ≡ 1)) }
+/// Whether the side that makes the last half-move seeks the goal: each side in help play, and White in direct play.
+fn seeking_last(plan: Plan) -> bool
+    ensures { result ≡ seeks_last plan }
 {
-    is_for_mate(plan.goal) && plan.form.is_help() && left == 1
+    plan.form.is_help() || seeking(Battle::of(plan.form), 1)
 }
 
-/// The next move behind a place, in a position from which `left` half-moves are tried: the next mate, where help play
-/// ends with it.
+/// Whether each path that is given ends with the next half-move, which mates: the last one of play for mate, by a side
+/// that seeks it.
+fn ends_with_mate(plan: Plan, left: usize) -> bool
+    ensures { IsTrue result ↔ ((is_for_mate plan.goal ≡ true) × (seeks_last plan ≡ true)
+        × (left ≡ 1)) }
+{
+    is_for_mate(plan.goal) && left == 1 && seeking_last(plan)
+}
+
+/// The next move behind a place, in a position from which `left` half-moves are tried: the next mate, where play ends
+/// with it.
 fn next_of<R: Rules>(
     plan: Plan,
     left: usize,

@@ -159,14 +159,18 @@ pub record Tries (rule : RuleSet) (plan : Plan) (h : ℕ) (p : Position) (old ne
       → min (before + fewest_left rule plan h p old) (2 ^ 64 - 1)
       ≤ after + fewest_left rule plan h p new
 
--- from a place to the moves `rest` behind a later one only moves are passed over whose paths aren't given: in help play
--- for mate, with one half-move left, those that don't mate
+-- the side that makes the last half-move seeks the goal: each side in help play, and White in direct play
+abbrev pub seeks_last : Plan → Bool
+seeks_last plan = is_help plan.form || seeks (battle_of plan.form) 1
+
+-- from a place to the moves `rest` behind a later one only moves are passed over whose paths aren't given: with one
+-- half-move left, by a side that seeks mate, those that don't mate
 pub record GoesTo (rule : RuleSet) (plan : Plan) (left : ℕ) (p : Position) (place : ℕ)
     (rest : List Triple) : Type 0 where
   pub mid : ℕ
   pub over : List Triple
   pub passed : moves_behind rule p place ≡ over ++ moves_behind rule p mid
-  pub none : (over ≡ []) ⊎ ((is_help plan.form ≡ true) × (plan.goal ≡ Mate) × (left ≡ 1)
+  pub none : (over ≡ []) ⊎ ((seeks_last plan ≡ true) × (plan.goal ≡ Mate) × (left ≡ 1)
       × (filter (is_mating rule p) over ≡ []))
   pub here : moves_behind rule p mid ≡ rest
 
