@@ -21,7 +21,7 @@ use Rattle.chess_rules.specs.ties.Places.{IsNextMate, IsPlaceIn, LegalPlace, is_
 use Rattle.chess_rules.specs.Play.{undo_of}
 use Rattle.chess_rules.specs.RuleSet.{RuleSet}
 use Rattle.pop_solve.specs.Chess.{chess}
-use Rattle.pop_solve.proofs.Boards.{behind_start}
+use Rattle.pop_solve.proofs.Boards.{behind_start, for_mate}
 use Rattle.pop_solve.specs.Game.{Game}
 use Rattle.pop_solve.specs.ties.Counts.{HasCounted, smallest_tree, walk_count}
 use Rattle.pop_solve.specs.ties.Values.{seeks, value}
@@ -29,6 +29,7 @@ use Rattle.pop_solve.specs.ties.Frames.{AreKnown, Frame, position, IsLinked, Cam
 use Rattle.pop_solve.specs.ties.Walk.{fewest, first_from, open_length, follows, gives, goes_on, shown, path, GoesTo, to_come, IsRoomy, IsWalking, turns, IsCounted, IsWhites, seeks_last, Steps, fewest_for, fewest_left, fewest_walked}
 use Rattle.pop_solve.specs.declared.plan.Plan.{Plan}
 use Rattle.pop_solve.proofs.Tests.{learned, moved}
+use Rattle.pop_solve.specs.ties.Marks.{is_for_mate}
 use Rattle.pop_solve.specs.ties.Plans.{varies}
 use Rattle.pop_input.specs.Stipulations.{is_help}
 use Rattle.pop_solve.specs.Aims.{battle_of}
@@ -290,8 +291,8 @@ module _ (rule : RuleSet) (plan : Plan) where
     abbrev P : Position
     P = position rule p (f ∷ below)
 
-    abbrev low : Bool
-    low = eqb (length below) 0
+    abbrev deepest : Bool
+    deepest = eqb (length below) 0
 
     abbrev room : ℕ
     room = h - length below
@@ -354,7 +355,8 @@ module _ (rule : RuleSet) (plan : Plan) where
     come-skip = elim g.none [
       | inl e ↦ rw (g.passed, e) refl
       | inr e ↦
-          let s = passed-over (shown plan (chess plan.goal rule) low room 1 P) (is_mating rule P) (skipped low room e.0 e.1) g.over (moves_behind rule P g.mid) e.3 in
+          let s = passed-over (shown plan (chess plan.goal rule) deepest room 1 P) (is_mating rule P)
+          (skipped deepest room e.0 e.1) g.over (moves_behind rule P g.mid) e.3 in
           rw (g.passed, e.2, s) refl
     ]
 
@@ -398,8 +400,8 @@ module _ (rule : RuleSet) (plan : Plan) where
     tries-skip a = elim g.none [
       | inl e ↦ rw (g.passed, e) refl
       | inr e ↦
-          let s = passed-over (fewest_walked plan (chess plan.goal rule) low room 1 P) (is_mating rule P)
-          (fewest-skipped low room e.0 e.1 a) g.over (moves_behind rule P g.mid) e.3 in
+          let s = passed-over (fewest_walked plan (chess plan.goal rule) deepest room 1 P) (is_mating rule P)
+          (fewest-skipped deepest room e.0 e.1 a) g.over (moves_behind rule P g.mid) e.3 in
           rw (g.passed, e.2, s) refl
     ]
 
@@ -861,3 +863,18 @@ module _ (rule : RuleSet) (plan : Plan) (left : ℕ) (p : Position) (place next 
       })
   next_mating (Some m) for last single e =
       (omega (arith, single), record { mid = next - 1; over = e.0.over; passed = e.0.passed; none = inr (last, for, single, e.0.none); here = e.0.here }, e.1)
+
+-- after a mating last half-move the value is known, and nothing has to be tried for it
+pub value-mated : (rule : RuleSet) (plan : Plan) (left : ℕ) (q : Position) → is_for_mate plan.goal ≡ true → left + 1 ≡ 1 → is_goal rule q ≡ true
+    → true ≡ value (battle_of plan.form) (chess plan.goal rule) left q
+unfolding value
+value-mated rule plan zero q for last mated = rw (for_mate plan.goal for, mated) refl
+value-mated rule plan (suc left) q for last mated = absurd (omega (arith, last))
+
+pub tried-mated : (rule : RuleSet) (plan : Plan) (left count : ℕ) (q : Position) → left + 1 ≡ 1
+    → HasCounted count count (smallest_tree (battle_of plan.form) (chess plan.goal rule) left q)
+unfolding smallest_tree
+tried-mated rule plan zero count q last = omega arith
+tried-mated rule plan (suc left) count q last = absurd (omega (arith, last))
+
+pub ruleset mated = (value-mated, tried-mated)

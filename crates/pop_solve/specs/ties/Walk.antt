@@ -8,6 +8,7 @@ use Rattle.chess_core.specs.Position.{Position}
 use Rattle.chess_core.specs.Triple.{Triple}
 use Rattle.chess_core.specs.WellFormed.{IsWellFormed}
 use Rattle.chess_rules.specs.ties.Places.{is_mating, moves_behind}
+use Rattle.chess_rules.specs.Legal.{is_goal}
 use Rattle.chess_rules.specs.RuleSet.{RuleSet}
 use Rattle.pop_input.specs.Stipulations.{is_help}
 use Rattle.pop_solve.specs.Aims.{battle_of}
@@ -17,6 +18,7 @@ use Rattle.pop_solve.specs.ties.Values.{seeks, value}
 use Rattle.pop_solve.specs.Chess.{chess}
 use Rattle.pop_solve.specs.ties.Frames.{AreKnown, Frame, position, IsLinked, steps_behind, to_open}
 use Rattle.pop_solve.specs.declared.plan.Plan.{Plan}
+use Rattle.pop_solve.specs.ties.Marks.{is_for_mate}
 use Rattle.pop_solve.specs.ties.Plans.{varies}
 
 -- the fewest half-moves with which a move of White is tried
@@ -162,6 +164,12 @@ pub record Tries (rule : RuleSet) (plan : Plan) (h : ℕ) (p : Position) (old ne
 -- the side that makes the last half-move seeks the goal: each side in help play, and White in direct play
 abbrev pub seeks_last : Plan → Bool
 seeks_last plan = is_help plan.form || seeks (battle_of plan.form) 1
+
+-- the position after a move, with `left` half-moves left there: where that was the last half-move, by a side that seeks
+-- mate, it mated
+abbrev pub IsMatedAtLast : RuleSet → Plan → ℕ → Position → Type 0
+IsMatedAtLast rule plan left q =
+    is_for_mate plan.goal ≡ true → seeks_last plan ≡ true → left ≡ 0 → is_goal rule q ≡ true
 
 -- from a place to the moves `rest` behind a later one only moves are passed over whose paths aren't given: with one
 -- half-move left, by a side that seeks mate, those that don't mate
