@@ -26,7 +26,7 @@ use Rattle.pop_solve.specs.Game.{Game}
 use Rattle.pop_solve.specs.ties.Counts.{HasCounted, smallest_tree, walk_count}
 use Rattle.pop_solve.specs.ties.Values.{seeks, value}
 use Rattle.pop_solve.specs.ties.Frames.{AreKnown, Frame, position, IsLinked, CameFromAt, CameFrom, opened, opened as opened_frame, steps, steps_behind, walk_behind, to_open}
-use Rattle.pop_solve.specs.ties.Walk.{fewest, first_from, open_length, follows, gives, goes_on, shown, path, GoesTo, to_come, IsRoomy, IsWalking, turns, IsCounted, IsWhites, seeks_last, Steps, fewest_for, fewest_left, fewest_walked}
+use Rattle.pop_solve.specs.ties.Walk.{fewest, first_from, open_length, follows, gives, goes_on, shown, path, GoesTo, to_come, IsRoomy, IsWalking, turns, ends_variation, IsCounted, IsWhites, seeks_last, Steps, fewest_for, fewest_left, fewest_walked}
 use Rattle.pop_solve.specs.declared.plan.Plan.{Plan}
 use Rattle.pop_solve.proofs.Tests.{learned, moved}
 use Rattle.pop_solve.specs.ties.Marks.{is_for_mate}
@@ -111,6 +111,56 @@ module _ {P M : Type 0} (game : Game P M) where
       most true keys n e = omega arith
       most false true n e = omega arith
       most false false n e = e
+
+module _ {P M : Type 0} (game : Game P M) where
+  -- a line goes on with no half-move only where none is left or the goal is reached
+  first_from-some : (battle : Battle) (q : P) (n a : ℕ) → 0 < a → 0 < first_from battle game q n a
+  unfolding first_from
+  first_from-some battle q zero a some = some
+  first_from-some battle q (suc n) a some = elim
+      (value battle game a q) as (λ b. 0 < cond b a (first_from battle game q n (a + 2))) [
+        | true ↦ some
+        | false ↦ first_from-some battle q n (a + 2) (omega arith)
+      ]
+
+  fewest-some : (battle : Battle) → 0 < fewest battle
+  fewest-some Direct = omega arith
+  fewest-some Selfmate = omega arith
+
+  length_none : (battle : Battle) (t n : ℕ) (q : P) (z s goal : Bool) → eqb t 0 ≡ z
+      → cond (z || goal) 0 (cond s (first_from battle game q n (fewest battle)) t) ≡ 0 → (t ≡ 0) ⊎ (goal ≡ true)
+  length_none battle t n q true s goal e l = inl (grind (arith, nat_tests, e))
+  length_none battle t n q false s true e l = inr refl
+  length_none battle t n q false true false e l = absurd (omega (arith, l, first_from-some battle q n (fewest battle) (fewest-some battle)))
+  length_none battle t n q false false false e l = inl l
+
+  goes_on-none : (plan : Plan) (t : ℕ) (q : P) → is_help plan.form ≡ false → varies plan ≡ true → goes_on plan game t q ≡ 0
+      → (t ≡ 0) ⊎ (game.goal q ≡ true)
+  unfolding goes_on open_length
+  goes_on-none plan t q a shown l = length_none (battle_of plan.form) t _ q _ _ (game.goal q) refl (rw (a, shown) at l)
+
+  followed-last : (plan : Plan) (root : Bool) (q : P) → is_help plan.form ≡ false → seeks (battle_of plan.form) 1 ≡ true
+      → follows plan game root 0 q ≡ true → game.goal q ≡ true
+  unfolding follows value
+  followed-last plan true q a white f = rw a at f
+  followed-last plan false q a white f = rw (a, white) at f
+
+  parts : (a b c d : Bool) → (a && (b && (not c && d))) ≡ true → (a ≡ true) × (b ≡ true) × (c ≡ false) × (d ≡ true)
+  parts true true false true e = (refl, refl, refl, refl)
+  parts true true false false e = absurd cc
+  parts true true true d e = absurd cc
+  parts true false c d e = absurd cc
+  parts false b c d e = absurd cc
+
+  -- where a variation ends that is followed, the goal is reached
+  pub ended-reached : (plan : Plan) (root : Bool) (t : ℕ) (q : P) → follows plan game root t q ≡ true
+      → ends_variation plan (goes_on plan game t q) ≡ true → game.goal q ≡ true
+  ended-reached plan root t q f e =
+      let x = parts (eqb (goes_on plan game t q) 0) (varies plan) (is_help plan.form) (seeks (battle_of plan.form) 1) e in
+      elim (goes_on-none plan t q x.2 x.1 (grind (arith, nat_tests, x.0))) [
+        | inl last ↦ followed-last plan root q x.2 x.3 (rw last at f)
+        | inr reached ↦ reached
+      ]
 
 goes_on-help : {P M : Type 0} (plan : Plan) (game : Game P M) (t : ℕ) (q : P) → is_help plan.form ≡ true → goes_on plan game t q ≡ t
 unfolding goes_on
@@ -412,6 +462,7 @@ module _ (rule : RuleSet) (plan : Plan) where
       walking = s.walking;
       come = come-skip ∙ s.come;
       deep = s.deep;
+      ended = s.ended;
       falls = omega (arith, s.falls, turns-skip);
       opens = record {
         whites = λ a b w. s.opens.whites a b w;
@@ -547,6 +598,7 @@ module _ (rule : RuleSet) (plan : Plan) (h : ℕ) (p : Position) (f : Frame) (be
         walking = walking-close rule h p f below board after r lowest before;
         come = come-close rule plan h p f below here;
         deep = λ g. absurd cc;
+        ended = λ g. absurd cc;
         falls = turns-close rule plan h p f below;
         opens = record {
           whites = λ a b w. whites-cut (battle_of plan.form) f below w;
@@ -579,6 +631,7 @@ module _ (rule : RuleSet) (plan : Plan) (h : ℕ) (p : Position) (f : Frame) (be
           walking = walking-moved rule h p plan f next below board after r at;
           come = come-pass rule plan h p f next m below _ t fuel left here (rw (← after_here) b);
           deep = λ g. absurd cc;
+          ended = λ g. absurd cc;
           falls = turns-pass rule plan h p f next m below _ t fuel left here;
           opens = record {
             whites = λ a c w. whites-moved (battle_of plan.form) f next below w;
@@ -625,6 +678,7 @@ module _ (rule : RuleSet) (plan : Plan) (h : ℕ) (p : Position) (f : Frame) (be
               (omega (arith, left, goes_on-most (chess plan.goal rule) plan t (played rule board m))) lawful at;
           come = rw after_here (come-enter rule plan h p f next m below _ t fuel left here u (rw (← after_here) b));
           deep = λ g. omega arith;
+          ended = λ g e. rw at (ended-reached (chess plan.goal rule) plan (eqb (length below) 0) t (played rule board m) b e);
           falls = turns-enter rule plan h p f next m below _ t fuel left here u tried;
           opens = record {
             whites = λ a c w. whites-none (battle_of plan.form) m u tried _
@@ -712,6 +766,7 @@ steps-learned rule plan h p f known [] new after opened opened2 given s =
       walking = s.walking;
       come = s.come;
       deep = s.deep;
+      ended = s.ended;
       falls = s.falls;
       opens = record { whites = s.opens.whites; most = s.opens.most; helped = s.opens.helped; counted = s.opens.counted };
       tries = record { grows = s.tries.grows; fewest = s.tries.fewest };
@@ -721,6 +776,7 @@ steps-learned rule plan h p f known (g ∷ below) new after opened opened2 given
       walking = s.walking;
       come = s.come;
       deep = s.deep;
+      ended = s.ended;
       falls = s.falls;
       opens = record { whites = s.opens.whites; most = s.opens.most; helped = s.opens.helped; counted = s.opens.counted };
       tries = record { grows = s.tries.grows; fewest = s.tries.fewest };

@@ -16,7 +16,7 @@ use Rattle.pop_solve.specs.Game.{Game}
 use Rattle.pop_solve.specs.ties.Counts.{smallest_tree}
 use Rattle.pop_solve.specs.ties.Values.{seeks, value}
 use Rattle.pop_solve.specs.Chess.{chess}
-use Rattle.pop_solve.specs.ties.Frames.{AreKnown, Frame, position, IsLinked, steps_behind, to_open}
+use Rattle.pop_solve.specs.ties.Frames.{AreKnown, Frame, position, IsLinked, steps_behind, to_open, top_left}
 use Rattle.pop_solve.specs.declared.plan.Plan.{Plan}
 use Rattle.pop_solve.specs.ties.Marks.{is_for_mate}
 use Rattle.pop_solve.specs.ties.Plans.{varies}
@@ -182,6 +182,16 @@ pub record GoesTo (rule : RuleSet) (plan : Plan) (left : ℕ) (p : Position) (pl
       × (filter (is_mating rule p) over ≡ []))
   pub here : moves_behind rule p mid ≡ rest
 
+-- whether a variation ends at a frame with `left` half-moves: in direct play with variations, where the goal is reached
+abbrev pub ends_variation : Plan → ℕ → Bool
+ends_variation plan left =
+    left == 0 && (varies plan && (not (is_help plan.form) && seeks (battle_of plan.form) 1))
+
+-- where a variation ends at the top frame, the goal is reached on the board
+abbrev pub IsEnded : RuleSet → Plan → List Frame → Position → Type 0
+IsEnded rule plan frames board = ends_variation plan (top_left frames) ≡ true
+    → (chess plan.goal rule).goal board ≡ true
+
 -- what one step of a walk leaves, for frames listed from the top down; `given` says whether the path to the new top is given
 pub record Steps (rule : RuleSet) (plan : Plan) (h : ℕ) (p : Position) (old new : List Frame)
     (board : Position) (before after : ℕ) (given : Bool) : Type 0 where
@@ -189,6 +199,7 @@ pub record Steps (rule : RuleSet) (plan : Plan) (h : ℕ) (p : Position) (old ne
   pub come : to_come rule plan h p old ≡ (if given then path new ∷ [] else [])
       ++ to_come rule plan h p new
   pub deep : given ≡ true → length new ≡ length old + 1
+  pub ended : given ≡ true → IsEnded rule plan new board
   pub falls : turns rule h p new < turns rule h p old
   pub opens : Opens rule plan p old new before after
   pub tries : Tries rule plan h p old new before after
