@@ -175,7 +175,8 @@ fn value_after<R: Rules, const N: usize>(
     value_of::<R, N>(plan.aim(), left, board, frames, killers, opened)
 }
 
-/// Whether the path to the board's position is given, with `left` half-moves left there.
+/// Whether the path to the board's position is given, with `left` half-moves left there. The last half-move of help play
+/// for mate mated.
 #[tactic(auto, unfolding(crate::specs::ties::Walk::gives))]
 fn gives<R: Rules>(plan: Plan, left: usize, board: &mut Board) -> bool
     requires well_formed { IsWellFormed board.old }
