@@ -15,7 +15,7 @@ use Rattle.pop_solve.specs.declared.phases.Stage.TheVariants.{Barred, Before, Wi
 use Rattle.pop_solve.specs.declared.plan.Plan.{Plan}
 use Rattle.pop_input.specs.declared.stipulation.Goal.TheVariants.{Mate}
 use Rattle.chess_rules.specs.ties.Places.{is_mating, moves_behind}
-use Rattle.pop_solve.specs.ties.Walk.{GoesTo}
+use Rattle.pop_solve.specs.ties.Walk.{GoesTo, seeks_last}
 use Rattle.pop_solve.specs.ties.Frames.{Frame}
 use Rattle.pop_solve.specs.Events.{Step, first_phase, opening, impossible, line, tree_node, total, step_of, event_of}
 use Rattle.pop_solve.specs.ties.Seen.{is_walked_once, StandsOn}
@@ -106,14 +106,14 @@ module _ (rule : RuleSet) (problem : Posed) where
   nothing_is_opened_at_first frames opened once o = omega (arith, o.most once)
 
 module _ (rule : RuleSet) (plan : Plan) (left place : ℕ) (p : Position) where
-  -- in help play no mate behind the place is passed over
+  -- no mate behind the place is passed over
   pub no_mate_is_passed_over : (rest : List Triple) → GoesTo rule plan left p place rest
       → filter (is_mating rule p) (moves_behind rule p place) ≡ filter (is_mating rule p) rest
   no_mate_is_passed_over rest t =
       ap (filter (is_mating rule p)) t.passed ∙ filter-append (is_mating rule p) t.over (moves_behind rule p t.mid)
       ∙ (λ i. none t.none i ++ filter (is_mating rule p) (t.here i))
     where
-      none : (t.over ≡ []) ⊎ ((is_help plan.form ≡ true) × (plan.goal ≡ Mate) × (left ≡ 1) × (filter (is_mating rule p) t.over ≡ []))
+      none : (t.over ≡ []) ⊎ ((seeks_last plan ≡ true) × (plan.goal ≡ Mate) × (left ≡ 1) × (filter (is_mating rule p) t.over ≡ []))
           → filter (is_mating rule p) t.over ≡ []
       none (inl e) = ap (filter (is_mating rule p)) e
       none (inr h) = h.3

@@ -132,6 +132,7 @@ module _ (rule : RuleSet) (plan : Plan) (h : ℕ) (p : Position) where
       starts = λ g. absurd cc;
       within = λ g. absurd cc;
       deep = λ g. absurd cc;
+      closed = λ g. absurd cc;
       ended = λ g. rw (same, none mid e) (keep-nil (is_help plan.form) limit);
       over = λ g. inl (no_frame mid e);
       none = λ g. rw (same, none mid e) (started-nil Triple (is_help plan.form) limit);
@@ -152,6 +153,7 @@ module _ (rule : RuleSet) (plan : Plan) (h : ℕ) (p : Position) where
           starts = λ g. absurd cc;
           within = λ g. absurd cc;
           deep = λ g. absurd cc;
+          closed = λ g. absurd cc;
           ended = λ g. rw (same, z) f.0;
           over = λ g. inr z;
           none = λ g. rw (same, z) f.1;
@@ -179,6 +181,7 @@ module _ (rule : RuleSet) (plan : Plan) (h : ℕ) (p : Position) where
           starts = λ g. rw (same, s.come) (started-next (is_help plan.form) limit (path new) _ _ refl r);
           within = λ g. most_one _ limit r;
           deep = λ g. omega (arith, s.deep refl, some);
+          closed = λ g. s.ended refl;
           ended = λ g. absurd cc;
           over = λ g. absurd cc;
           none = λ g. absurd cc;

@@ -21,14 +21,15 @@ use Rattle.chess_rules.specs.ties.Places.{IsNextMate, IsPlaceIn, LegalPlace, is_
 use Rattle.chess_rules.specs.Play.{undo_of}
 use Rattle.chess_rules.specs.RuleSet.{RuleSet}
 use Rattle.pop_solve.specs.Chess.{chess}
-use Rattle.pop_solve.proofs.Boards.{behind_start}
+use Rattle.pop_solve.proofs.Boards.{behind_start, for_mate}
 use Rattle.pop_solve.specs.Game.{Game}
-use Rattle.pop_solve.specs.ties.Counts.{HasCounted, walk_count}
+use Rattle.pop_solve.specs.ties.Counts.{HasCounted, smallest_tree, walk_count}
 use Rattle.pop_solve.specs.ties.Values.{seeks, value}
 use Rattle.pop_solve.specs.ties.Frames.{AreKnown, Frame, position, IsLinked, CameFromAt, CameFrom, opened, opened as opened_frame, steps, steps_behind, walk_behind, to_open}
-use Rattle.pop_solve.specs.ties.Walk.{fewest, first_from, open_length, follows, gives, goes_on, shown, path, GoesTo, to_come, IsRoomy, IsWalking, turns, IsCounted, IsWhites, Steps, fewest_for, fewest_left, fewest_walked}
+use Rattle.pop_solve.specs.ties.Walk.{fewest, first_from, open_length, follows, gives, goes_on, shown, path, GoesTo, to_come, IsRoomy, IsWalking, turns, ends_variation, IsCounted, IsWhites, seeks_last, Steps, fewest_for, fewest_left, fewest_walked}
 use Rattle.pop_solve.specs.declared.plan.Plan.{Plan}
 use Rattle.pop_solve.proofs.Tests.{learned, moved}
+use Rattle.pop_solve.specs.ties.Marks.{is_for_mate}
 use Rattle.pop_solve.specs.ties.Plans.{varies}
 use Rattle.pop_input.specs.Stipulations.{is_help}
 use Rattle.pop_solve.specs.Aims.{battle_of}
@@ -42,6 +43,15 @@ both b t f = cc
 
 pub no_zero : (k : ℕ) → eqb (suc k) 0 ≡ false
 no_zero k = grind (arith, nat_tests)
+
+-- where the first move counts nothing if it fails a test, all that fail it at the head of a list count nothing
+passed-over : {A : Type 0} (f : List Triple → A) (test : Triple → Bool) → ((m : Triple) (ms : List Triple) → test m ≡ false → f (m ∷ ms) ≡ f ms)
+    → (over ms : List Triple) → filter test over ≡ [] → f (over ++ ms) ≡ f ms
+passed-over f test skip [] ms none = refl
+passed-over f test skip (m ∷ over) ms none = elim (cases (test m)) [
+  | inl fails ↦ skip m (over ++ ms) fails ∙ passed-over f test skip over ms (sym (cond-false (test m) _ _ fails) ∙ none)
+  | inr passes ↦ absurd (let bad : m ∷ filter test over ≡ [] = sym (cond-true (test m) _ _ passes) ∙ none in cc)
+]
 
 -- a path, where it is given
 abbrev pub given_path : Bool → List Triple → List (List Triple)
@@ -101,6 +111,56 @@ module _ {P M : Type 0} (game : Game P M) where
       most true keys n e = omega arith
       most false true n e = omega arith
       most false false n e = e
+
+module _ {P M : Type 0} (game : Game P M) where
+  -- a line goes on with no half-move only where none is left or the goal is reached
+  first_from-some : (battle : Battle) (q : P) (n a : ℕ) → 0 < a → 0 < first_from battle game q n a
+  unfolding first_from
+  first_from-some battle q zero a some = some
+  first_from-some battle q (suc n) a some = elim
+      (value battle game a q) as (λ b. 0 < cond b a (first_from battle game q n (a + 2))) [
+        | true ↦ some
+        | false ↦ first_from-some battle q n (a + 2) (omega arith)
+      ]
+
+  fewest-some : (battle : Battle) → 0 < fewest battle
+  fewest-some Direct = omega arith
+  fewest-some Selfmate = omega arith
+
+  length_none : (battle : Battle) (t n : ℕ) (q : P) (z s goal : Bool) → eqb t 0 ≡ z
+      → cond (z || goal) 0 (cond s (first_from battle game q n (fewest battle)) t) ≡ 0 → (t ≡ 0) ⊎ (goal ≡ true)
+  length_none battle t n q true s goal e l = inl (grind (arith, nat_tests, e))
+  length_none battle t n q false s true e l = inr refl
+  length_none battle t n q false true false e l = absurd (omega (arith, l, first_from-some battle q n (fewest battle) (fewest-some battle)))
+  length_none battle t n q false false false e l = inl l
+
+  goes_on-none : (plan : Plan) (t : ℕ) (q : P) → is_help plan.form ≡ false → varies plan ≡ true → goes_on plan game t q ≡ 0
+      → (t ≡ 0) ⊎ (game.goal q ≡ true)
+  unfolding goes_on open_length
+  goes_on-none plan t q a shown l = length_none (battle_of plan.form) t _ q _ _ (game.goal q) refl (rw (a, shown) at l)
+
+  followed-last : (plan : Plan) (root : Bool) (q : P) → is_help plan.form ≡ false → seeks (battle_of plan.form) 1 ≡ true
+      → follows plan game root 0 q ≡ true → game.goal q ≡ true
+  unfolding follows value
+  followed-last plan true q a white f = rw a at f
+  followed-last plan false q a white f = rw (a, white) at f
+
+  parts : (a b c d : Bool) → (a && (b && (not c && d))) ≡ true → (a ≡ true) × (b ≡ true) × (c ≡ false) × (d ≡ true)
+  parts true true false true e = (refl, refl, refl, refl)
+  parts true true false false e = absurd cc
+  parts true true true d e = absurd cc
+  parts true false c d e = absurd cc
+  parts false b c d e = absurd cc
+
+  -- where a variation ends that is followed, the goal is reached
+  pub ended-reached : (plan : Plan) (root : Bool) (t : ℕ) (q : P) → follows plan game root t q ≡ true
+      → ends_variation plan (goes_on plan game t q) ≡ true → game.goal q ≡ true
+  ended-reached plan root t q f e =
+      let x = parts (eqb (goes_on plan game t q) 0) (varies plan) (is_help plan.form) (seeks (battle_of plan.form) 1) e in
+      elim (goes_on-none plan t q x.2 x.1 (grind (arith, nat_tests, x.0))) [
+        | inl last ↦ followed-last plan root q x.2 x.3 (rw last at f)
+        | inr reached ↦ reached
+      ]
 
 goes_on-help : {P M : Type 0} (plan : Plan) (game : Game P M) (t : ℕ) (q : P) → is_help plan.form ≡ true → goes_on plan game t q ≡ t
 unfolding goes_on
@@ -275,11 +335,17 @@ module _ (rule : RuleSet) (plan : Plan) where
   unfolding to_open
   open-close p f below e = omega (arith, walk_behind-none f.left (position rule p (f ∷ below)) f.place e)
 
-  -- moves passed over that don't mate at the last half-move of help play
+  -- moves passed over that don't mate at the last half-move, by a side that seeks mate
   module _ (h : ℕ) (p : Position) (f : Frame) (below : List Frame) (rest : List Triple)
       (g : GoesTo rule plan f.left (position rule p (f ∷ below)) f.place rest) where
     abbrev P : Position
     P = position rule p (f ∷ below)
+
+    abbrev deepest : Bool
+    deepest = eqb (length below) 0
+
+    abbrev room : ℕ
+    room = h - length below
 
     abbrev later : List Frame
     later = moved f g.mid ∷ below
@@ -295,31 +361,53 @@ module _ (rule : RuleSet) (plan : Plan) where
     unfolding gives
     gives-last q a for misses = rw (a, for, misses) refl
 
-    skipped : (low : Bool) (fuel : ℕ) (m : Triple) (ms : List Triple) → is_help plan.form ≡ true → plan.goal ≡ Mate → is_mating rule P m ≡ false
-        → shown plan (chess plan.goal rule) low (suc fuel) 1 P (m ∷ ms) ≡ shown plan (chess plan.goal rule) low (suc fuel) 1 P ms
-    skipped low fuel m ms a for misses =
-        let q = played rule P m in
-        shown-next low fuel 0 P m ms
-        ∙ (rw (follows-help plan (chess plan.goal rule) low 0 q a, gives-last q a for misses, goes_on-help plan (chess plan.goal rule) 0 q a)
-        (ends low fuel fuel m q (legal_moves rule q) ms))
+    -- in direct play a move that doesn't mate isn't followed, and tries nothing
+    seeks-one : (a b : Bool) → (a || b) ≡ true → a ≡ false → b ≡ true
+    seeks-one true b e n = absurd cc
+    seeks-one false b e n = e
 
-    shown-over : (low : Bool) (fuel : ℕ) (over ms : List Triple) → is_help plan.form ≡ true → plan.goal ≡ Mate → filter (is_mating rule P) over ≡ []
-        → shown plan (chess plan.goal rule) low fuel 1 P (over ++ ms) ≡ shown plan (chess plan.goal rule) low fuel 1 P ms
+    follows-last : (low : Bool) (q : Position) → is_help plan.form ≡ false → seeks (battle_of plan.form) 1 ≡ true → plan.goal ≡ Mate → is_goal rule q ≡ false
+        → follows plan (chess plan.goal rule) low 0 q ≡ false
+    unfolding follows value
+    follows-last true q a white for misses = rw (a, for, misses) refl
+    follows-last false q a white for misses = rw (a, white, for, misses) refl
+
+    fewest_for-last : (low : Bool) (q : Position) → is_help plan.form ≡ false → seeks (battle_of plan.form) 1 ≡ true
+        → fewest_for plan (chess plan.goal rule) low 0 q ≡ 0
+    unfolding smallest_tree
+    fewest_for-last true q a white = rw a refl
+    fewest_for-last false q a white = rw (a, white) refl
+
+    skipped : (low : Bool) (fuel : ℕ) → seeks_last plan ≡ true → plan.goal ≡ Mate → (m : Triple) (ms : List Triple) → is_mating rule P m ≡ false
+        → shown plan (chess plan.goal rule) low fuel 1 P (m ∷ ms) ≡ shown plan (chess plan.goal rule) low fuel 1 P ms
     unfolding shown
-    shown-over low zero over ms a for none = refl
-    shown-over low (suc fuel) [] ms a for none = refl
-    shown-over low (suc fuel) (m ∷ over) ms a for none = elim (cases (is_mating rule P m)) [
-      | inl misses ↦
-          let last : filter (is_mating rule P) over ≡ [] = sym (cond-false (is_mating rule P m) _ _ misses) ∙ none in
-          skipped low fuel m (over ++ ms) a for misses ∙ shown-over low (suc fuel) over ms a for last
-      | inr mates ↦ absurd (let bad : m ∷ filter (is_mating rule P) over ≡ [] = sym (cond-true (is_mating rule P m) _ _ mates) ∙ none in cc)
-    ]
+    skipped low zero last for m ms misses = refl
+    skipped low (suc fuel) last for m ms misses =
+        let q = played rule P m in
+        shown-next low fuel 0 P m ms ∙ (elim (cases (is_help plan.form)) [
+          | inl a ↦ rw (follows-last low q a (seeks-one _ _ last a) for misses) refl
+          | inr a ↦ rw (follows-help plan (chess plan.goal rule) low 0 q a, gives-last q a for misses, goes_on-help plan (chess plan.goal rule) 0 q a)
+              (ends low fuel fuel m q (legal_moves rule q) ms)
+        ])
+
+    fewest-skipped : (low : Bool) (fuel : ℕ) → seeks_last plan ≡ true → plan.goal ≡ Mate → is_help plan.form ≡ false
+        → (m : Triple) (ms : List Triple) → is_mating rule P m ≡ false
+        → fewest_walked plan (chess plan.goal rule) low fuel 1 P (m ∷ ms) ≡ fewest_walked plan (chess plan.goal rule) low fuel 1 P ms
+    unfolding fewest_walked
+    fewest-skipped low zero last for a m ms misses = refl
+    fewest-skipped low (suc fuel) last for a m ms misses =
+        let q = played rule P m in
+        let white = seeks-one _ _ last a in
+        fewest-next low fuel 0 P m ms ∙ (rw (fewest_for-last low q a white, follows-last low q a white for misses) (omega arith))
 
     come-skip : to_come rule plan h p (f ∷ below) ≡ to_come rule plan h p later
     unfolding to_come position path
     come-skip = elim g.none [
       | inl e ↦ rw (g.passed, e) refl
-      | inr e ↦ rw (g.passed, e.2, shown-over (eqb (length below) 0) (h - length below) g.over (moves_behind rule P g.mid) e.0 e.1 e.3) refl
+      | inr e ↦
+          let s = passed-over (shown plan (chess plan.goal rule) deepest room 1 P) (is_mating rule P)
+          (skipped deepest room e.0 e.1) g.over (moves_behind rule P g.mid) e.3 in
+          rw (g.passed, e.2, s) refl
     ]
 
     fewer : (k : ℕ) → steps_behind rule k P g.mid ≤ steps_behind rule k P f.place
@@ -361,7 +449,10 @@ module _ (rule : RuleSet) (plan : Plan) where
     unfolding fewest_left position
     tries-skip a = elim g.none [
       | inl e ↦ rw (g.passed, e) refl
-      | inr e ↦ absurd (both _ e.0 a)
+      | inr e ↦
+          let s = passed-over (fewest_walked plan (chess plan.goal rule) deepest room 1 P) (is_mating rule P)
+          (fewest-skipped deepest room e.0 e.1 a) g.over (moves_behind rule P g.mid) e.3 in
+          rw (g.passed, e.2, s) refl
     ]
 
     pub steps-skip : (new : List Frame) (board : Position) (before after : ℕ) (given : Bool) → Steps rule plan h p later new board before after given
@@ -371,6 +462,7 @@ module _ (rule : RuleSet) (plan : Plan) where
       walking = s.walking;
       come = come-skip ∙ s.come;
       deep = s.deep;
+      ended = s.ended;
       falls = omega (arith, s.falls, turns-skip);
       opens = record {
         whites = λ a b w. s.opens.whites a b w;
@@ -506,6 +598,7 @@ module _ (rule : RuleSet) (plan : Plan) (h : ℕ) (p : Position) (f : Frame) (be
         walking = walking-close rule h p f below board after r lowest before;
         come = come-close rule plan h p f below here;
         deep = λ g. absurd cc;
+        ended = λ g. absurd cc;
         falls = turns-close rule plan h p f below;
         opens = record {
           whites = λ a b w. whites-cut (battle_of plan.form) f below w;
@@ -538,6 +631,7 @@ module _ (rule : RuleSet) (plan : Plan) (h : ℕ) (p : Position) (f : Frame) (be
           walking = walking-moved rule h p plan f next below board after r at;
           come = come-pass rule plan h p f next m below _ t fuel left here (rw (← after_here) b);
           deep = λ g. absurd cc;
+          ended = λ g. absurd cc;
           falls = turns-pass rule plan h p f next m below _ t fuel left here;
           opens = record {
             whites = λ a c w. whites-moved (battle_of plan.form) f next below w;
@@ -584,6 +678,7 @@ module _ (rule : RuleSet) (plan : Plan) (h : ℕ) (p : Position) (f : Frame) (be
               (omega (arith, left, goes_on-most (chess plan.goal rule) plan t (played rule board m))) lawful at;
           come = rw after_here (come-enter rule plan h p f next m below _ t fuel left here u (rw (← after_here) b));
           deep = λ g. omega arith;
+          ended = λ g e. rw at (ended-reached (chess plan.goal rule) plan (eqb (length below) 0) t (played rule board m) b e);
           falls = turns-enter rule plan h p f next m below _ t fuel left here u tried;
           opens = record {
             whites = λ a c w. whites-none (battle_of plan.form) m u tried _
@@ -671,6 +766,7 @@ steps-learned rule plan h p f known [] new after opened opened2 given s =
       walking = s.walking;
       come = s.come;
       deep = s.deep;
+      ended = s.ended;
       falls = s.falls;
       opens = record { whites = s.opens.whites; most = s.opens.most; helped = s.opens.helped; counted = s.opens.counted };
       tries = record { grows = s.tries.grows; fewest = s.tries.fewest };
@@ -680,6 +776,7 @@ steps-learned rule plan h p f known (g ∷ below) new after opened opened2 given
       walking = s.walking;
       come = s.come;
       deep = s.deep;
+      ended = s.ended;
       falls = s.falls;
       opens = record { whites = s.opens.whites; most = s.opens.most; helped = s.opens.helped; counted = s.opens.counted };
       tries = record { grows = s.tries.grows; fewest = s.tries.fewest };
@@ -807,18 +904,33 @@ module _ (rule : RuleSet) (plan : Plan) (left : ℕ) (p : Position) (place next 
   append_none [] = refl
   append_none (x ∷ xs) = ap (λ l. x ∷ l) (append_none xs)
 
-  pub next_mating : (o : Option Triple) → plan.goal ≡ Mate → is_help plan.form ≡ true → left ≡ 1
+  pub next_mating : (o : Option Triple) → plan.goal ≡ Mate → seeks_last plan ≡ true → left ≡ 1
       → MatchOption o (mates_behind rule p place ≡ []) (λ m. IsNextMate rule p place next m × (legal rule p m ≡ true)) → Next o
   unfolding mates_behind
-  next_mating None for help single e =
-      let last : moves_behind rule p 28672 ≡ [] = moves_behind-end rule p 28672 (omega arith) in
+  next_mating None for last single e =
+      let behind : moves_behind rule p 28672 ≡ [] = moves_behind-end rule p 28672 (omega arith) in
       inr (record {
         mid = 28672;
         over = moves_behind rule p place;
         passed = append_none (moves_behind rule p place)
-            ∙ ap (λ l. moves_behind rule p place ++ l) (sym last);
-        none = inr (help, for, single, e);
-        here = last;
+            ∙ ap (λ l. moves_behind rule p place ++ l) (sym behind);
+        none = inr (last, for, single, e);
+        here = behind;
       })
-  next_mating (Some m) for help single e =
-      (omega (arith, single), record { mid = next - 1; over = e.0.over; passed = e.0.passed; none = inr (help, for, single, e.0.none); here = e.0.here }, e.1)
+  next_mating (Some m) for last single e =
+      (omega (arith, single), record { mid = next - 1; over = e.0.over; passed = e.0.passed; none = inr (last, for, single, e.0.none); here = e.0.here }, e.1)
+
+-- after a mating last half-move the value is known, and nothing has to be tried for it
+pub value-mated : (rule : RuleSet) (plan : Plan) (left : ℕ) (q : Position) → is_for_mate plan.goal ≡ true → left + 1 ≡ 1 → is_goal rule q ≡ true
+    → true ≡ value (battle_of plan.form) (chess plan.goal rule) left q
+unfolding value
+value-mated rule plan zero q for last mated = rw (for_mate plan.goal for, mated) refl
+value-mated rule plan (suc left) q for last mated = absurd (omega (arith, last))
+
+pub tried-mated : (rule : RuleSet) (plan : Plan) (left count : ℕ) (q : Position) → left + 1 ≡ 1
+    → HasCounted count count (smallest_tree (battle_of plan.form) (chess plan.goal rule) left q)
+unfolding smallest_tree
+tried-mated rule plan zero count q last = omega arith
+tried-mated rule plan (suc left) count q last = absurd (omega (arith, last))
+
+pub ruleset mated = (value-mated, tried-mated)

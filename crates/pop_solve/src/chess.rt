@@ -191,6 +191,23 @@ pub(crate) fn mark_of<R: Rules>(goal: Goal, board: &mut Board) -> Mark
     }
 }
 
+/// The same where it may be known already that the goal is reached.
+#[tactic(auto, unfolding(crate::specs::Chess::mark_of, chess_rules::specs::Legal::is_goal, chess_rules::specs::Legal::is_stalemate))]
+pub(crate) fn mark_after<R: Rules>(goal: Goal, reached: bool, board: &mut Board) -> Mark
+    requires well_formed { IsWellFormed board.old }
+    requires reached { reached ≡ true → (chess goal R.rule).goal board.old ≡ true }
+    ensures unchanged { board.new ≡ board.old }
+    ensures mark { result ≡ mark_of goal R.rule board.old }
+{
+    if !reached {
+        return mark_of::<R>(goal, board);
+    }
+    match goal {
+        Goal::Mate => Mark::Mate,
+        Goal::Stalemate => Mark::Stalemate,
+    }
+}
+
 /// Whether the goal is mate.
 pub(crate) fn is_for_mate(goal: Goal) -> bool
     ensures { result ≡ is_for_mate goal }

@@ -5,7 +5,7 @@ ghost use Rattle.chess_core.specs.Position.{Position};
 ghost use Rattle.pop_input.specs.Posed.{IsSound};
 ghost use Rattle.pop_input.specs.Stipulations.{half_moves, is_help};
 ghost use Rattle.pop_solve.specs.Events.{first_phase, start, phase_half_moves as half_moves_of_phase, phase_start, phase_half as half_of_phase, event_of, is_barred, step_of, is_set, opening};
-ghost use Rattle.pop_solve.specs.ties.Walk.{IsWalking, Opens, Tries, path};
+ghost use Rattle.pop_solve.specs.ties.Walk.{IsEnded, IsWalking, Opens, Tries, path};
 ghost use Rattle.pop_solve.specs.ties.Plans.{plan_of};
 ghost use Rattle.pop_solve.specs.ties.Phases.{left_of, IsStanding, Walks, Gives, OpensOn};
 ghost use Rattle.pop_solve.specs.declared.event.Event.TheVariants.{Total};
@@ -142,23 +142,24 @@ fn event_at<R: Rules>(
     requires shallow { length frames.now ≤ 33 }
     requires walking { (h : ℕ) × IsWalking R.rule h (phase_start problem.now phase)
         (reverse frames.now) board.old }
+    requires ended { IsEnded R.rule (plan_of problem.now) (reverse frames.now) board.old }
     ensures unchanged { board.new ≡ board.old }
     ensures event { result ≡ event_of R.rule problem.now
         (step_of problem.now phase (path (reverse frames.now))) }
 {
     let half = phase_half(problem, phase);
-    let goal = problem.stipulation().goal;
-    if problem.stipulation().form.is_help() {
+    let plan = Plan::of(problem);
+    if plan.form.is_help() {
         return Event::Line {
             half,
-            moves: line::<R>(goal, frames, board),
+            moves: line::<R>(plan.goal, frames, board),
         };
     }
     let depth = (frames.len() - 2) as u32;
     Event::Node {
         depth,
         half: half + depth,
-        shown: last_shown::<R>(goal, frames, board),
+        shown: last_shown::<R>(plan, frames, board),
     }
 }
 

@@ -4,15 +4,18 @@ ghost use Rattle.chess_core.specs.Position.{Position};
 ghost use Rattle.chess_core.specs.WellFormed.{IsWellFormed};
 ghost use Rattle.chess_rules.specs.Legal.{legal};
 ghost use Rattle.chess_rules.specs.Play.{after as played};
-ghost use Rattle.pop_solve.specs.Chess.{show};
+ghost use Rattle.pop_solve.specs.Chess.{chess, show};
 ghost use Rattle.pop_solve.specs.Events.{shown_along, shown_last};
 ghost use Rattle.pop_solve.specs.ties.Frames.{CameFrom, CameFromAt};
-ghost use Rattle.pop_solve.specs.ties.Walk.{IsWalking, path};
+ghost use Rattle.pop_solve.specs.ties.Walk.{ends_variation, IsEnded, IsWalking, path};
 ghost use Rattle.std.specs.Prelude.{◌≡◌, ◌≤◌, ℕ, length, reverse, true};
 
-use crate::chess::{mark_of, retract, shown_of};
+use crate::aim::Battle;
+use crate::chess::{mark_after, retract, shown_of};
 use crate::frame::Frame;
+use crate::plan::Plan;
 use crate::shown::Shown;
+use crate::value::seeking;
 use arrayvec::ArrayVec;
 use chess_core::board::Board;
 use chess_rules::rules::Rules;
@@ -26,11 +29,23 @@ fn take_back<R: Rules>(frame: &Frame<R>, board: &mut Board)
     retract::<R>(board, frame.by, frame.undo);
 }
 
-/// Plays the move of a frame again, and answers it as it is shown.
+/// Whether a variation ends at the frame: in direct play with variations, where the goal is reached.
+fn ends_variation<R: Rules>(plan: Plan, frame: &Frame<R>) -> bool
+    ensures { result ≡ ends_variation plan frame.now.left }
+{
+    frame.left == 0
+        && plan.tree.has_variations()
+        && !plan.form.is_help()
+        && seeking(Battle::of(plan.form), 1)
+}
+
+/// Plays the move of a frame again, and answers it as it is shown. It may be known that it reaches the goal.
 #[tactic(auto, using(chess_rules::proofs::Calls::playing), unfolding(crate::specs::Chess::show))]
-fn play_shown<R: Rules>(goal: Goal, frame: &Frame<R>, board: &mut Board) -> Shown
+fn play_shown<R: Rules>(goal: Goal, reached: bool, frame: &Frame<R>, board: &mut Board) -> Shown
     requires well_formed { IsWellFormed board.old }
     requires legal { legal R.rule board.old frame.now.by ≡ true }
+    requires reached { reached ≡ true
+        → (chess goal R.rule).goal (played R.rule board.old frame.now.by) ≡ true }
     ensures shown { result ≡ show goal R.rule board.old frame.now.by }
     ensures after { board.new ≡ played R.rule board.old frame.now.by }
     ensures well_formed { IsWellFormed board.new }
@@ -39,7 +54,7 @@ fn play_shown<R: Rules>(goal: Goal, frame: &Frame<R>, board: &mut Board) -> Show
     let man = board.man_at(by.from);
     let there = board.man_at(by.to);
     let undo = R::play(board, by);
-    let mark = mark_of::<R>(goal, board);
+    let mark = mark_after::<R>(goal, reached, board);
     shown_of(man, there, &by, &undo, mark)
 }
 
@@ -74,21 +89,23 @@ pub(crate) fn line<R: Rules>(
     take_all_back::<R>(frames, board);
     let mut line = ArrayVec::new();
     for k in 1..frames.len() {
-        line.push(play_shown::<R>(goal, &frames[k], board));
+        line.push(play_shown::<R>(goal, false, &frames[k], board));
     }
     line
 }
 
 /// The last of them.
-pub(crate) fn last_shown<R: Rules>(goal: Goal, frames: &[Frame<R>], board: &mut Board) -> Shown
+pub(crate) fn last_shown<R: Rules>(plan: Plan, frames: &[Frame<R>], board: &mut Board) -> Shown
     requires deep { 2 ≤ length frames.now }
     requires walking { (h : ℕ) × (p : Position)
         × IsWalking R.rule h p (reverse frames.now) board.old }
+    requires ended { IsEnded R.rule plan (reverse frames.now) board.old }
     ensures unchanged { board.new ≡ board.old }
     ensures shown { (h : ℕ) (p : Position) → IsWalking R.rule h p (reverse frames.now) board.old
-        → result ≡ shown_last goal R.rule p (path (reverse frames.now)) }
+        → result ≡ shown_last plan.goal R.rule p (path (reverse frames.now)) }
 {
     let top = &frames[frames.len() - 1];
+    let reached = ends_variation::<R>(plan, top);
     take_back::<R>(top, board);
-    play_shown::<R>(goal, top, board)
+    play_shown::<R>(plan.goal, reached, top, board)
 }

@@ -14,9 +14,9 @@ ghost use Rattle.pop_solve.specs.ties.Plans.{varies};
 ghost use Rattle.pop_solve.specs.ties.Frames.{CameFrom, CameFromAt, opened as opened_frame};
 ghost use Rattle.pop_solve.specs.Chess.{chess};
 ghost use Rattle.pop_solve.specs.ties.Marks.{is_for_mate};
-ghost use Rattle.pop_solve.specs.ties.Counts.{HasCounted, walk_count};
-ghost use Rattle.pop_solve.specs.ties.Values.{seeks};
-ghost use Rattle.pop_solve.specs.ties.Walk.{fewest as fewest_of, fewest_for, first_from, open_length, follows as is_followed, gives as is_given, goes_on, GoesTo, IsWalking, Steps};
+ghost use Rattle.pop_solve.specs.ties.Counts.{HasCounted, smallest_tree, walk_count};
+ghost use Rattle.pop_solve.specs.ties.Values.{seeks, value};
+ghost use Rattle.pop_solve.specs.ties.Walk.{fewest as fewest_of, fewest_for, first_from, open_length, follows as is_followed, gives as is_given, goes_on, GoesTo, IsMatedAtLast, IsWalking, seeks_last, Steps};
 
 use crate::aim::{Aim, Battle};
 use crate::chess::{is_for_mate, next_mate, next_move, reaches_goal, retract};
@@ -131,14 +131,61 @@ fn is_tested(plan: Plan, root: bool, left: usize) -> bool
     !plan.form.is_help() && (root || seeking(Battle::of(plan.form), left))
 }
 
-/// Whether the path to the board's position is given, with `left` half-moves left there.
+/// Whether the side that makes the last half-move seeks the goal: each side in help play, and White in direct play.
+fn seeking_last(plan: Plan) -> bool
+    ensures { result ≡ seeks_last plan }
+{
+    plan.form.is_help() || seeking(Battle::of(plan.form), 1)
+}
+
+/// Whether each path that is given ends with the next half-move, which mates: the last one of play for mate, by a side
+/// that seeks it.
+fn ends_with_mate(plan: Plan, left: usize) -> bool
+    ensures { IsTrue result ↔ ((is_for_mate plan.goal ≡ true) × (seeks_last plan ≡ true)
+        × (left ≡ 1)) }
+{
+    is_for_mate(plan.goal) && left == 1 && seeking_last(plan)
+}
+
+/// The value of the position that a move has reached, with `left` half-moves left there. It isn't looked at again where
+/// the move was the last one and is known to mate.
+#[tactic(auto, using(crate::proofs::Walking::mated))]
+fn value_after<R: Rules, const N: usize>(
+    plan: Plan,
+    left: usize,
+    board: &mut Board,
+    frames: &mut ArrayVec<Frame<R>, N>,
+    killers: &mut Killers<R>,
+    opened: &mut u64,
+) -> bool
+    requires well_formed { IsWellFormed board.old }
+    requires room { array_vec_len frames.old + left ≤ N }
+    requires mated { IsMatedAtLast R.rule plan left board.old }
+    ensures value { result ≡ value (battle_of plan.form) (chess plan.goal R.rule) left board.old }
+    ensures board { board.new ≡ board.old }
+    ensures frames { frames.new.items ≡ frames.old.items }
+    ensures opened { opened.new ≤ opened.old
+        + walk_count (legal_moves R.rule) (played R.rule) left board.old }
+    ensures tried { HasCounted opened.old opened.new
+        (smallest_tree (battle_of plan.form) (chess plan.goal R.rule) left board.old) }
+{
+    if ends_with_mate(plan, left + 1) {
+        return true;
+    }
+    value_of::<R, N>(plan.aim(), left, board, frames, killers, opened)
+}
+
+/// Whether the path to the board's position is given, with `left` half-moves left there. The last half-move of help play
+/// for mate mated.
 #[tactic(auto, unfolding(crate::specs::ties::Walk::gives))]
 fn gives<R: Rules>(plan: Plan, left: usize, board: &mut Board) -> bool
     requires well_formed { IsWellFormed board.old }
+    requires mated { IsMatedAtLast R.rule plan left board.old }
     ensures unchanged { board.new ≡ board.old }
     ensures given { result ≡ is_given plan (chess plan.goal R.rule) left board.old }
 {
-    !plan.form.is_help() || left == 0 && reaches_goal::<R>(plan.goal, board)
+    !plan.form.is_help()
+        || left == 0 && (is_for_mate(plan.goal) || reaches_goal::<R>(plan.goal, board))
 }
 
 /// The count of opened frames once a frame has been opened that has `tried` half-moves below it. One with none isn't
@@ -171,6 +218,7 @@ fn enter<R: Rules, const N: usize>(
     requires well_formed { IsWellFormed board.old }
     requires room { array_vec_len frames.old + left < N }
     requires legal { legal R.rule board.old by ≡ true }
+    requires mated { IsMatedAtLast R.rule plan left (played R.rule board.old by) }
     ensures passes { is_followed plan (chess plan.goal R.rule) root left
         (played R.rule board.old by) ≡ false
         → (result ≡ false) × (board.new ≡ board.old) × (frames.new.items ≡ frames.old.items) }
@@ -192,7 +240,7 @@ fn enter<R: Rules, const N: usize>(
 {
     let undo = R::play(board, by);
     let tested = is_tested(plan, root, left + 1);
-    if tested && !value_of::<R, N>(plan.aim(), left, board, frames, killers, opened) {
+    if tested && !value_after::<R, N>(plan, left, board, frames, killers, opened) {
         retract::<R>(board, by, undo);
         return false;
     }
@@ -210,16 +258,8 @@ fn enter<R: Rules, const N: usize>(
     gives::<R>(plan, left, board)
 }
 
-/// Whether each path that is given ends with the next half-move, which mates: the last of help play for mate.
-fn ends_with_mate(plan: Plan, left: usize) -> bool
-    ensures { IsTrue result ↔ ((is_for_mate plan.goal ≡ true) × (is_help plan.form ≡ true)
-        × (left ≡ 1)) }
-{
-    is_for_mate(plan.goal) && plan.form.is_help() && left == 1
-}
-
-/// The next move behind a place, in a position from which `left` half-moves are tried: the next mate, where help play
-/// ends with it.
+/// The next move behind a place, in a position from which `left` half-moves are tried: the next mate, where play ends
+/// with it.
 fn next_of<R: Rules>(
     plan: Plan,
     left: usize,
@@ -235,6 +275,8 @@ fn next_of<R: Rules>(
         (λ m. (0 < left) × GoesTo R.rule plan left board.old place.old
         (m ∷ moves_behind R.rule board.old place.new)
         × (legal R.rule board.old m ≡ true)) }
+    ensures mated { IfSome result
+        (λ m. IsMatedAtLast R.rule plan (left - 1) (played R.rule board.old m)) }
 {
     if left == 0 {
         return None;

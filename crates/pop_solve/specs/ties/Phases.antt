@@ -7,7 +7,7 @@ use Rattle.chess_rules.specs.RuleSet.{RuleSet}
 use Rattle.pop_input.specs.Posed.{Posed}
 use Rattle.pop_input.specs.Stipulations.{is_help}
 use Rattle.pop_solve.specs.ties.Frames.{Frame, to_open}
-use Rattle.pop_solve.specs.ties.Walk.{fewest_left, path, to_come, IsWalking, IsCounted, IsWhites}
+use Rattle.pop_solve.specs.ties.Walk.{fewest_left, path, to_come, IsEnded, IsWalking, IsCounted, IsWhites}
 use Rattle.pop_solve.specs.Events.{Step, impossible, is_set, total, start, steps_from, step_of, phase_start, phase_half_moves, event_of, events}
 use Rattle.pop_solve.specs.ties.Seen.{fewest_from, fewest_tried, is_never_stopped, is_unstopped, is_walked_once, walk_from, whole_walk, StandsOn}
 use Rattle.pop_solve.specs.declared.event.Event.{Event}
@@ -77,6 +77,7 @@ pub record Walks (rule : RuleSet) (plan : Plan) (h : ℕ) (p : Position) (limit 
       else 0)) (to_come rule plan h p new)
   pub within : given ≡ true → (if begins (is_help plan.form) (path new) then 1 else 0) ≤ limit
   pub deep : given ≡ true → 2 ≤ length new
+  pub closed : given ≡ true → IsEnded rule plan new board
   pub ended : given ≡ false → keep (is_help plan.form) limit (to_come rule plan h p old) ≡ []
   pub over : given ≡ false → (new ≡ []) ⊎ (limit ≡ 0)
   pub none : given ≡ false → started (is_help plan.form) limit (to_come rule plan h p old) ≡ 0

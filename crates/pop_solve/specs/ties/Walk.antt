@@ -8,6 +8,7 @@ use Rattle.chess_core.specs.Position.{Position}
 use Rattle.chess_core.specs.Triple.{Triple}
 use Rattle.chess_core.specs.WellFormed.{IsWellFormed}
 use Rattle.chess_rules.specs.ties.Places.{is_mating, moves_behind}
+use Rattle.chess_rules.specs.Legal.{is_goal}
 use Rattle.chess_rules.specs.RuleSet.{RuleSet}
 use Rattle.pop_input.specs.Stipulations.{is_help}
 use Rattle.pop_solve.specs.Aims.{battle_of}
@@ -15,8 +16,9 @@ use Rattle.pop_solve.specs.Game.{Game}
 use Rattle.pop_solve.specs.ties.Counts.{smallest_tree}
 use Rattle.pop_solve.specs.ties.Values.{seeks, value}
 use Rattle.pop_solve.specs.Chess.{chess}
-use Rattle.pop_solve.specs.ties.Frames.{AreKnown, Frame, position, IsLinked, steps_behind, to_open}
+use Rattle.pop_solve.specs.ties.Frames.{AreKnown, Frame, position, IsLinked, steps_behind, to_open, top_left}
 use Rattle.pop_solve.specs.declared.plan.Plan.{Plan}
+use Rattle.pop_solve.specs.ties.Marks.{is_for_mate}
 use Rattle.pop_solve.specs.ties.Plans.{varies}
 
 -- the fewest half-moves with which a move of White is tried
@@ -159,16 +161,36 @@ pub record Tries (rule : RuleSet) (plan : Plan) (h : ℕ) (p : Position) (old ne
       → min (before + fewest_left rule plan h p old) (2 ^ 64 - 1)
       ≤ after + fewest_left rule plan h p new
 
--- from a place to the moves `rest` behind a later one only moves are passed over whose paths aren't given: in help play
--- for mate, with one half-move left, those that don't mate
+-- the side that makes the last half-move seeks the goal: each side in help play, and White in direct play
+abbrev pub seeks_last : Plan → Bool
+seeks_last plan = is_help plan.form || seeks (battle_of plan.form) 1
+
+-- the position after a move, with `left` half-moves left there: where that was the last half-move, by a side that seeks
+-- mate, it mated
+abbrev pub IsMatedAtLast : RuleSet → Plan → ℕ → Position → Type 0
+IsMatedAtLast rule plan left q =
+    is_for_mate plan.goal ≡ true → seeks_last plan ≡ true → left ≡ 0 → is_goal rule q ≡ true
+
+-- from a place to the moves `rest` behind a later one only moves are passed over whose paths aren't given: with one
+-- half-move left, by a side that seeks mate, those that don't mate
 pub record GoesTo (rule : RuleSet) (plan : Plan) (left : ℕ) (p : Position) (place : ℕ)
     (rest : List Triple) : Type 0 where
   pub mid : ℕ
   pub over : List Triple
   pub passed : moves_behind rule p place ≡ over ++ moves_behind rule p mid
-  pub none : (over ≡ []) ⊎ ((is_help plan.form ≡ true) × (plan.goal ≡ Mate) × (left ≡ 1)
+  pub none : (over ≡ []) ⊎ ((seeks_last plan ≡ true) × (plan.goal ≡ Mate) × (left ≡ 1)
       × (filter (is_mating rule p) over ≡ []))
   pub here : moves_behind rule p mid ≡ rest
+
+-- whether a variation ends at a frame with `left` half-moves: in direct play with variations, where the goal is reached
+abbrev pub ends_variation : Plan → ℕ → Bool
+ends_variation plan left =
+    left == 0 && (varies plan && (not (is_help plan.form) && seeks (battle_of plan.form) 1))
+
+-- where a variation ends at the top frame, the goal is reached on the board
+abbrev pub IsEnded : RuleSet → Plan → List Frame → Position → Type 0
+IsEnded rule plan frames board = ends_variation plan (top_left frames) ≡ true
+    → (chess plan.goal rule).goal board ≡ true
 
 -- what one step of a walk leaves, for frames listed from the top down; `given` says whether the path to the new top is given
 pub record Steps (rule : RuleSet) (plan : Plan) (h : ℕ) (p : Position) (old new : List Frame)
@@ -177,6 +199,7 @@ pub record Steps (rule : RuleSet) (plan : Plan) (h : ℕ) (p : Position) (old ne
   pub come : to_come rule plan h p old ≡ (if given then path new ∷ [] else [])
       ++ to_come rule plan h p new
   pub deep : given ≡ true → length new ≡ length old + 1
+  pub ended : given ≡ true → IsEnded rule plan new board
   pub falls : turns rule h p new < turns rule h p old
   pub opens : Opens rule plan p old new before after
   pub tries : Tries rule plan h p old new before after

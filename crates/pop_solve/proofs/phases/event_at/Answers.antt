@@ -1,6 +1,6 @@
 use Rattle.std.proofs.Common.{◌≡◌, ◌+◌, ◌-◌, ◌∙◌, ap, length, sym, arith}
-use Rattle.pop_input.specs.declared.stipulation.Stipulation.{Stipulation}
 use Rattle.pop_input.specs.Stipulations.{is_help}
+use Rattle.pop_solve.specs.declared.plan.Plan.{Plan}
 use Rattle.pop_solve.specs.Events.{phase_start}
 use Rattle.pop_solve.proofs.Events as events
 use Rattle.pop_solve.proofs.phases.event_at.Goals as goal
@@ -8,18 +8,19 @@ use Rattle.pop_solve.proofs.phases.event_at.Goals as goal
 pub returns-then-is_help-clause-event : goal.returns-then-is_help-clause-event
 returns-then-is_help-clause-event g c =
     let w = c.requires.walking in
-    let aim : c.stipulation-goal.result.goal ≡ c.args.problem.now.stipulation.goal = ap (λ (s : Stipulation). s.goal) c.stipulation-goal.ensures.stipulation in
     events.line-event c.args.problem.now c.args.phase _ _ _
-    (ap (λ (s : Stipulation). is_help s.form) (sym c.stipulation.ensures.stipulation) ∙ sym c.is_help.ensures
+    (ap (λ (plan : Plan). is_help plan.form) (sym c.of-plan.ensures) ∙ sym c.is_help.ensures
     ∙ c.if-is_help.true) c.phase_half-half.ensures g.R.Rules.rule
-    (rw aim at c.line.ensures.line w.0 (phase_start c.args.problem.now c.args.phase) w.1)
+    (rw c.of-plan.ensures at c.line.ensures.line w.0 (phase_start c.args.problem.now c.args.phase) w.1)
+
+pub last_shown-requires-clause-ended : goal.last_shown-requires-clause-ended
+last_shown-requires-clause-ended g c = rw c.of-plan.ensures c.requires.ended
 
 pub returns-clause-event : goal.returns-clause-event
 returns-clause-event g c =
     let w = c.requires.walking in
-    let aim : c.stipulation-goal.result.goal ≡ c.args.problem.now.stipulation.goal = ap (λ (s : Stipulation). s.goal) c.stipulation-goal.ensures.stipulation in
     let deep : length c.args.frames.now - 2 + 2 ≡ length c.args.frames.now = omega arith in
     events.node-event c.args.problem.now c.args.phase _ _ (length c.args.frames.now - 2) _
-    (ap (λ (s : Stipulation). is_help s.form) (sym c.stipulation.ensures.stipulation) ∙ sym c.is_help.ensures
+    (ap (λ (plan : Plan). is_help plan.form) (sym c.of-plan.ensures) ∙ sym c.is_help.ensures
     ∙ c.if-is_help.false) c.phase_half-half.ensures deep g.R.Rules.rule
-    (rw aim at c.last_shown.ensures.shown w.0 (phase_start c.args.problem.now c.args.phase) w.1)
+    (rw c.of-plan.ensures at c.last_shown.ensures.shown w.0 (phase_start c.args.problem.now c.args.phase) w.1)

@@ -23,6 +23,7 @@ event_at-event-requires g c =
       shallow = rw c.as_slice.ensures.value
           (events.shallow-given g.R.Rules.rule c.args.problem.now c.args.phase _ _ _ _ c.requires.standing.1 w c.requires.sound);
       walking = (phase_half_moves c.args.problem.now c.args.phase, rw c.as_slice.ensures.value w.walking);
+      ended = rw c.as_slice.ensures.value (w.closed refl);
     }
 
 pub returns-then-walk_on-clause-standing : goal.returns-then-walk_on-clause-standing

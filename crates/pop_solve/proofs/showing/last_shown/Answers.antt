@@ -1,5 +1,4 @@
 use Rattle.std.proofs.Common.{◌-◌, length, sym, ◌∙◌, ap, arith}
-use Rattle.chess_rules.specs.Play.{after as played}
 use Rattle.pop_solve.specs.Chess.{show}
 use Rattle.pop_solve.proofs.Paths as paths
 use Rattle.pop_solve.proofs.showing.last_shown.Goals as goal
@@ -25,19 +24,26 @@ play_shown-requires-clause-legal g c =
     let r = paths.back-walking g.R.Rules.rule _ _ _ cut some _ _ _ _ w.2 c.take_back.ensures.before in
     rw r.board_at (paths.forth-legal g.R.Rules.rule _ _ _ cut some _ w.2.linked)
 
+pub play_shown-requires-clause-reached : goal.play_shown-requires-clause-reached
+play_shown-requires-clause-reached g c =
+    let w = c.requires.walking in
+    let cut = paths.cut-last c.args.frames.now (length c.args.frames.now - 1) c.index-frames-frames.result (omega arith) c.index-frames-frames.is in
+    let some = paths.some-taken c.args.frames.now (length c.args.frames.now - 1) (omega arith) (omega arith) in
+    let r = paths.back-walking g.R.Rules.rule _ _ _ cut some _ _ _ _ w.2 c.take_back.ensures.before in
+    paths.forth-ended g.R.Rules.rule _ _ _ cut some c.args.plan _ _ _ _ w.2 r c.requires.ended _ c.ends_variation-reached.ensures
+
 pub returns-clause-unchanged : goal.returns-clause-unchanged
 returns-clause-unchanged g c =
     let w = c.requires.walking in
     let cut = paths.cut-last c.args.frames.now (length c.args.frames.now - 1) c.index-frames-frames.result (omega arith) c.index-frames-frames.is in
     let some = paths.some-taken c.args.frames.now (length c.args.frames.now - 1) (omega arith) (omega arith) in
     let r = paths.back-walking g.R.Rules.rule _ _ _ cut some _ _ _ _ w.2 c.take_back.ensures.before in
-    c.play_shown.ensures.after ∙ ap (λ b. played g.R.Rules.rule b c.index-frames-frames.result.by) r.board_at
-    ∙ sym (w.2.board_at ∙ paths.forth-position g.R.Rules.rule _ _ _ cut some _)
+    c.play_shown.ensures.after ∙ paths.forth-again g.R.Rules.rule _ _ _ cut some _ _ _ _ w.2 r
 
 pub returns-clause-shown : goal.returns-clause-shown
 returns-clause-shown g c = λ h p w.
     let cut = paths.cut-last c.args.frames.now (length c.args.frames.now - 1) c.index-frames-frames.result (omega arith) c.index-frames-frames.is in
     let some = paths.some-taken c.args.frames.now (length c.args.frames.now - 1) (omega arith) (omega arith) in
     let r = paths.back-walking g.R.Rules.rule _ _ _ cut some h p _ _ w c.take_back.ensures.before in
-    c.play_shown.ensures.shown ∙ ap (λ b. show c.args.goal g.R.Rules.rule b c.index-frames-frames.result.by) r.board_at
-    ∙ sym (paths.forth-last g.R.Rules.rule _ _ _ cut some c.args.goal p)
+    c.play_shown.ensures.shown ∙ ap (λ b. show c.args.plan.goal g.R.Rules.rule b c.index-frames-frames.result.by) r.board_at
+    ∙ sym (paths.forth-last g.R.Rules.rule _ _ _ cut some c.args.plan.goal p)

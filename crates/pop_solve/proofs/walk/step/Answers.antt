@@ -39,8 +39,10 @@ enter-requires g c =
           rw c.next_of.ensures.unchanged c.requires.well_formed,
           (
             omega (arith, room, c.in-Some-next_of.ensures.next.0, c.requires.room, c.push.ensures.len),
-            rw c.next_of.ensures.unchanged
-                c.in-Some-next_of.ensures.next.2,
+            (
+              rw c.next_of.ensures.unchanged c.in-Some-next_of.ensures.next.2,
+              rw c.next_of.ensures.unchanged c.in-Some-next_of.ensures.mated,
+            ),
           ),
         ),
       ),
