@@ -25,8 +25,8 @@ use Rattle.chess_rules.specs.ties.Shields.{cannot_expose, has_fairy, is_behind, 
 use Rattle.chess_core.specs.ties.Words.{word, word_of}
 use Rattle.chess_rules.specs.ties.Sight.{sight_after}
 use Rattle.chess_rules.specs.ties.Targets.{may_go, pawn_goes, steps_to}
-use Rattle.chess_rules.proofs.Pseudo.{on_board}
-use Rattle.chess_rules.proofs.StayingInCheck.{side_there}
+use Rattle.chess_rules.proofs.making_moves.Pseudo.{on_board}
+use Rattle.chess_rules.proofs.attacks.StayingInCheck.{side_there}
 use Rattle.chess_rules.specs.ties.Lines.{is_ahead, is_on_some}
 use Rattle.chess_rules.proofs.Typed.{go, man, on, position, set_up}
 use Rattle.chess_core.specs.SquareNames.{a1, b1, c1, d1, e1, g1, h1, a2, b2, h2, a3, b3, c3, d3, h3, a4, d5, e4, a5, a6, b6, d6, e5, e7, h7, a8, b8, e8, f8, g8, h8}

@@ -134,7 +134,7 @@ const LAST_RANKS: u64 = 0xff00_0000_0000_00ff;
 // The squares to which a king on `from` castles so that the rook, who comes to the square halfway, gives check,
 // and perhaps more.
 #[inline(never)]
-#[tactic(auto, using(crate::proofs::CastlingChecks::castling_targets_are))]
+#[tactic(auto, using(crate::proofs::giving_check::CastlingChecks::castling_targets_are))]
 fn castling_targets(squares: &CheckSquares, from: Square) -> u64
     ensures { AreCastlingTargets squares.now from result }
 {

@@ -53,7 +53,7 @@ fn has_quiet_move<R: Rules>(
 }
 
 // Whether a legal move can't give check, so that it doesn't mate.
-#[tactic(auto, using(crate::proofs::EveryMove::quietly))]
+#[tactic(auto, using(crate::proofs::giving_check::EveryMove::quietly))]
 fn is_quiet<R: Rules>(board: &Board, squares: &CheckSquares, m: &Move) -> bool
     requires well_formed { IsWellFormed board.now }
     requires legal { legal R.rule board.now m.now ≡ true }
@@ -82,7 +82,7 @@ fn has_mates_alone<R: Rules>(board: &mut Board, mut moves: LegalMoves<R>) -> boo
 }
 
 // Whether the side to move is mated after a legal move. The board is unchanged after it.
-#[tactic(auto, using(crate::proofs::Calls::playing))]
+#[tactic(auto, using(crate::proofs::listing_moves::Calls::playing))]
 fn mates_by<R: Rules>(board: &mut Board, m: Move) -> bool
     requires well_formed { IsWellFormed board.old }
     requires legal { legal R.rule board.old m ≡ true }

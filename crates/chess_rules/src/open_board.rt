@@ -32,7 +32,7 @@ pub(crate) fn open_targets(man: Man, from: Square) -> u64
 // The squares from which a pawn of this colour might come to one of the targets, and perhaps more: what lies
 // over the edge of a file counts.
 #[inline(always)]
-#[tactic(auto, using(crate::proofs::Approaches::black_pawns_before, crate::proofs::Approaches::white_pawns_before))]
+#[tactic(auto, using(crate::proofs::giving_check::Approaches::black_pawns_before, crate::proofs::giving_check::Approaches::white_pawns_before))]
 pub(crate) fn pawns_before(colour: Colour, targets: u64) -> u64
     ensures { AreApproaches (record { colour = colour; kind = Pawn }) targets result }
 {

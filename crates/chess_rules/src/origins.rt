@@ -19,7 +19,7 @@ use chess_core::square::Square;
 
 // The squares of the mover's men of this kind from which no move exposes the enemy's king.
 #[inline(always)]
-#[tactic(auto, using(crate::proofs::FarMen::man_of_word, crate::proofs::FarMen::off_denied, crate::proofs::Walks::on_first))]
+#[tactic(auto, using(crate::proofs::giving_check::FarMen::man_of_word, crate::proofs::giving_check::FarMen::off_denied, crate::proofs::listing_moves::Walks::on_first))]
 fn men_off_shields(board: &Board, squares: &CheckSquares, kind: Kind) -> u64
     ensures stands { (s : ℕ) → s < 64 → (bit_at result s == 1) ≡ true
         → man_on board.now.men s ≡ Some (own_man board.now kind) }
@@ -44,7 +44,7 @@ fn far_pawns<R: Rules>(board: &Board, squares: &CheckSquares, lines: u64) -> u64
 
 // Whether the man couldn't come from here to one of his targets on an empty board.
 #[inline(always)]
-#[tactic(auto, using(crate::proofs::FarMen::far_by))]
+#[tactic(auto, using(crate::proofs::giving_check::FarMen::far_by))]
 fn is_far<R: Rules>(board: &Board, man: Man, from: Square, targets: u64) -> bool
     requires here { man_on board.now.men from ≡ Some man }
     requires targets { AreCheckTargets R.rule board.now from targets }

@@ -26,7 +26,7 @@ pub(crate) fn compare<R: Rules>(diagram: &Diagram, rule: Rule, length: u32) -> T
 }
 
 // Compares this position, and all less than so many moves from it.
-#[tactic(auto, using(chess_rules::proofs::Calls::playing))]
+#[tactic(auto, using(chess_rules::proofs::listing_moves::Calls::playing))]
 fn compare_on<R: Rules>(board: &mut Board, rule: Rule, length: u32) -> Tally
     requires { IsWellFormed board.old }
     ensures { board.new ≡ board.old }

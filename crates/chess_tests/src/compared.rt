@@ -224,7 +224,7 @@ fn gives_mates_until<R: Rules>(
 }
 
 // Of the positions one move on, and of the one that is there again when the move is taken back.
-#[tactic(auto, using(chess_rules::proofs::Calls::playing))]
+#[tactic(auto, using(chess_rules::proofs::listing_moves::Calls::playing))]
 fn unlike_of_play<R: Rules>(board: &mut Board, plain: &Plain, rule: Rule) -> Option<Question>
     requires { IsWellFormed board.old }
     ensures { board.new ≡ board.old }

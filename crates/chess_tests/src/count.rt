@@ -25,7 +25,7 @@ pub(crate) fn walk_lines<R: Rules>(diagram: &Diagram, length: u32) -> Walk
 }
 
 // Walks along all lines of so many legal moves from here.
-#[tactic(auto, using(chess_rules::proofs::Calls::playing))]
+#[tactic(auto, using(chess_rules::proofs::listing_moves::Calls::playing))]
 fn walk_on<R: Rules>(board: &mut Board, length: u32) -> Walk
     requires { IsWellFormed board.old }
     ensures { board.new ≡ board.old }

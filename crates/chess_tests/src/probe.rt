@@ -79,7 +79,7 @@ fn squares(plain: &Plain, colour: Colour, kind: Kind) -> u64 {
 }
 
 // The board after this move from the diagram, if it is legal.
-#[tactic(auto, using(chess_rules::proofs::Calls::playing))]
+#[tactic(auto, using(chess_rules::proofs::listing_moves::Calls::playing))]
 pub(crate) fn after_move<R: Rules>(diagram: &Diagram, wanted: Move) -> Option<Board>
     requires { IsWellFormed (position_of diagram.now) }
     ensures { IfSome result (λ q. IsWellFormed q) }

@@ -9,7 +9,7 @@ use Rattle.chess_core.specs.Triple.{Triple}
 use Rattle.chess_rules.specs.Attacks.{in_check}
 use Rattle.chess_rules.specs.Legal.{is_goal, is_nil, is_stalemate, legal, moves}
 use Rattle.chess_rules.specs.ties.Places.{is_mating, mates_behind, mates_between, moves_behind, moves_between}
-use Rattle.chess_rules.proofs.Between.{cut_mates, cut_moves}
+use Rattle.chess_rules.proofs.listing_moves.Between.{cut_mates, cut_moves}
 use Rattle.chess_rules.specs.RuleSet.{RuleSet}
 use Rattle.pop_solve.specs.Chess.{chess, is_reached}
 use Rattle.pop_solve.specs.ties.Marks.{is_for_mate}

@@ -3,7 +3,7 @@ use Rattle.std.proofs.Common.{◌≡◌, ◌≢◌, ℕ, zero, suc, ◌-◌, Boo
 use Rattle.std.specs.List.{AllPairs, Contains, filter, flat_map, list_any}
 use Rattle.std.proofs.lemmas.Bool.{false≢true, or_cases, or_left, or_right}
 use Rattle.std.proofs.lemmas.List.Kept.{AllPairs-filter}
-use Rattle.chess_rules.proofs.Members.{first_in, from_filter, from_flat_map, from_map, in_cases, in_filter, in_flat_map, in_map, later_in, none_in_nil, pairs_flat_map, pairs_map, pairs_nil, pairs_of}
+use Rattle.chess_rules.proofs.listing_moves.Members.{first_in, from_filter, from_flat_map, from_map, in_cases, in_filter, in_flat_map, in_map, later_in, none_in_nil, pairs_flat_map, pairs_map, pairs_nil, pairs_of}
 use Rattle.pop_solve.specs.declared.aim.Battle.{Battle}
 use Rattle.pop_solve.specs.Game.{Game}
 use Rattle.pop_solve.specs.Tree.{answers, below, best, keeps, least, node, set_shows, set_tree, tree}

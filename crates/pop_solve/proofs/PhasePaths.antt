@@ -7,7 +7,7 @@ use Rattle.chess_core.specs.MoveOrder.{triple_number}
 use Rattle.chess_core.specs.Position.{Position}
 use Rattle.chess_core.specs.Triple.{Triple}
 use Rattle.chess_rules.specs.RuleSet.{RuleSet}
-use Rattle.chess_rules.proofs.Members.{pairs_front}
+use Rattle.chess_rules.proofs.listing_moves.Members.{pairs_front}
 use Rattle.pop_input.specs.Posed.{Posed}
 use Rattle.pop_input.specs.Stipulations.{is_help}
 use Rattle.pop_solve.specs.declared.aim.Battle.{Battle}

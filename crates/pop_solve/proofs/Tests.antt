@@ -10,8 +10,8 @@ use Rattle.std.specs.List.{list_any, list_all, sum_by}
 use Rattle.chess_core.specs.Position.{Position}
 use Rattle.chess_core.specs.Triple.{Triple}
 use Rattle.chess_core.specs.WellFormed.{IsWellFormed}
-use Rattle.chess_rules.proofs.Calls.{pseudo-from_legal}
-use Rattle.chess_rules.proofs.Stays.{after_well_formed}
+use Rattle.chess_rules.proofs.listing_moves.Calls.{pseudo-from_legal}
+use Rattle.chess_rules.proofs.making_moves.Stays.{after_well_formed}
 use Rattle.chess_rules.specs.Legal.{legal}
 use Rattle.chess_rules.specs.Loss.{Loss}
 use Rattle.chess_rules.specs.ties.Places.{IsPlaceIn, LegalPlace}

@@ -12,9 +12,9 @@ use Rattle.std.specs.List.{sum_by}
 use Rattle.std.proofs.lemmas.Bool.Decides.{nat_tests}
 use Rattle.chess_core.specs.Position.{Position}
 use Rattle.chess_core.specs.Triple.{Triple}
-use Rattle.chess_rules.proofs.Calls.{pseudo-from_legal}
-use Rattle.chess_rules.proofs.Places.{moves_behind-end}
-use Rattle.chess_rules.proofs.Stays.{after_well_formed}
+use Rattle.chess_rules.proofs.listing_moves.Calls.{pseudo-from_legal}
+use Rattle.chess_rules.proofs.listing_moves.Places.{moves_behind-end}
+use Rattle.chess_rules.proofs.making_moves.Stays.{after_well_formed}
 use Rattle.chess_rules.specs.Legal.{is_goal, legal}
 use Rattle.chess_rules.specs.Loss.{Loss}
 use Rattle.chess_rules.specs.ties.Places.{IsNextMate, IsPlaceIn, LegalPlace, is_mating, mates_behind, moves_behind}

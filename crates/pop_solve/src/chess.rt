@@ -162,7 +162,7 @@ pub(crate) fn must_mate<R: Rules>(board: &mut Board) -> bool
 }
 
 /// Takes a move back.
-#[tactic(auto, using(chess_rules::proofs::Calls::playing))]
+#[tactic(auto, using(chess_rules::proofs::listing_moves::Calls::playing))]
 pub(crate) fn retract<R: Rules>(board: &mut Board, by: Move, undo: Undo)
     requires came { (p : Position) × CameBy R.rule by undo board.old p }
     ensures before { (p : Position) → CameBy R.rule by undo board.old p → board.new ≡ p }

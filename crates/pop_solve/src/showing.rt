@@ -40,7 +40,7 @@ fn ends_variation<R: Rules>(plan: Plan, frame: &Frame<R>) -> bool
 }
 
 /// Plays the move of a frame again, and answers it as it is shown. It may be known that it reaches the goal.
-#[tactic(auto, using(chess_rules::proofs::Calls::playing), unfolding(crate::specs::Chess::show))]
+#[tactic(auto, using(chess_rules::proofs::listing_moves::Calls::playing), unfolding(crate::specs::Chess::show))]
 fn play_shown<R: Rules>(goal: Goal, reached: bool, frame: &Frame<R>, board: &mut Board) -> Shown
     requires well_formed { IsWellFormed board.old }
     requires legal { legal R.rule board.old frame.now.by ≡ true }

@@ -315,7 +315,7 @@ fn close<R: Rules>(
 
 /// Plays a move of the top frame, which `top` is once its place has moved on. A frame is opened where the
 /// moves of the position after it decide.
-#[tactic(auto, using(chess_rules::proofs::Calls::playing))]
+#[tactic(auto, using(chess_rules::proofs::listing_moves::Calls::playing))]
 fn descend<R: Rules, const N: usize>(
     aim: Aim,
     top: Frame<R>,

@@ -204,7 +204,7 @@ pub(crate) fn opened_by(opened: u64, tried: usize, tested: bool) -> u64
 
 /// Plays a legal move, after which `left` half-moves are left, and opens the frame of the position after it where the
 /// walk follows the move. Answers whether its path is given.
-#[tactic(auto, using(chess_rules::proofs::Calls::playing), unfolding(crate::specs::ties::Walk::follows, crate::specs::ties::Walk::goes_on))]
+#[tactic(auto, using(chess_rules::proofs::listing_moves::Calls::playing), unfolding(crate::specs::ties::Walk::follows, crate::specs::ties::Walk::goes_on))]
 fn enter<R: Rules, const N: usize>(
     plan: Plan,
     root: bool,

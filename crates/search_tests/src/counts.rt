@@ -11,7 +11,7 @@ use pop_input::problem::Problem;
 use pop_input::stipulation::{Form, Goal};
 
 /// How many lists of fewer moves than `half_moves` there are, each legal where it stands.
-#[tactic(auto, using(chess_rules::proofs::Calls::playing))]
+#[tactic(auto, using(chess_rules::proofs::listing_moves::Calls::playing))]
 fn walk_count<R: Rules>(board: &Board, half_moves: usize) -> u64
     requires { IsWellFormed board.now }
 {
@@ -71,7 +71,7 @@ struct Shown {
 /// What `left` half-moves from here on show. To show it, some half-move has to be tried from each position of a tree: where
 /// one move decides, from the one after the deciding move with the smallest tree; where none does, from those after all moves.
 /// Where the goal is reached or no move is left, none has to be tried.
-#[tactic(auto, using(chess_rules::proofs::Calls::playing))]
+#[tactic(auto, using(chess_rules::proofs::listing_moves::Calls::playing))]
 fn smallest<R: Rules>(battle: Battle, board: &Board, left: usize) -> Shown
     requires { IsWellFormed board.now }
 {
@@ -119,7 +119,7 @@ pub(crate) struct Tried {
     pub positions: u64,
 }
 
-#[tactic(auto, using(chess_rules::proofs::Calls::playing))]
+#[tactic(auto, using(chess_rules::proofs::listing_moves::Calls::playing))]
 fn try_all<R: Rules>(problem: &Problem) -> Tried {
     let diagram = problem.diagram();
     let mut tried = Tried {

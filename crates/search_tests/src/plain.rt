@@ -149,7 +149,7 @@ pub(crate) fn can_move<R: Rules>(board: &Board) -> bool
 }
 
 /// Whether the side to move is mated within so many further moves of the other side, against every defence.
-#[tactic(auto, using(chess_rules::proofs::Calls::playing))]
+#[tactic(auto, using(chess_rules::proofs::listing_moves::Calls::playing))]
 fn lost<R: Rules>(goal: Goal, board: &Board, moves: u8) -> bool
     requires { IsWellFormed board.now }
 {
@@ -178,7 +178,7 @@ fn lost<R: Rules>(goal: Goal, board: &Board, moves: u8) -> bool
 }
 
 /// Whether the side to move forces the other side to mate it within so many moves.
-#[tactic(auto, using(chess_rules::proofs::Calls::playing))]
+#[tactic(auto, using(chess_rules::proofs::listing_moves::Calls::playing))]
 fn self_wins<R: Rules>(goal: Goal, board: &Board, moves: u8) -> bool
     requires { IsWellFormed board.now }
 {
@@ -205,7 +205,7 @@ fn self_wins<R: Rules>(goal: Goal, board: &Board, moves: u8) -> bool
 }
 
 /// Whether after a move of White to this position he still wins within so many moves, that one counted.
-#[tactic(auto, using(chess_rules::proofs::Calls::playing))]
+#[tactic(auto, using(chess_rules::proofs::listing_moves::Calls::playing))]
 fn keeps<R: Rules>(goal: Goal, selfmate: bool, board: &Board, moves: u8) -> bool
     requires { IsWellFormed board.now }
 {
@@ -225,7 +225,7 @@ fn keeps<R: Rules>(goal: Goal, selfmate: bool, board: &Board, moves: u8) -> bool
 }
 
 /// Whether White to move wins within so many moves.
-#[tactic(auto, using(chess_rules::proofs::Calls::playing))]
+#[tactic(auto, using(chess_rules::proofs::listing_moves::Calls::playing))]
 fn wins<R: Rules>(goal: Goal, selfmate: bool, board: &Board, moves: u8) -> bool
     requires { IsWellFormed board.now }
 {
@@ -270,7 +270,7 @@ struct Battle {
 /// The moves of White that win within so many moves, and below each, down to `left` further moves of White, the defences
 /// with the moves of least length against them.
 #[cycle(tree)]
-#[tactic(auto, using(chess_rules::proofs::Calls::playing))]
+#[tactic(auto, using(chess_rules::proofs::listing_moves::Calls::playing))]
 fn white<R: Rules>(told: &mut Told, battle: Battle, board: &Board, moves: u8, depth: u32, left: u8)
     requires { IsWellFormed board.now }
 {
@@ -290,7 +290,7 @@ fn white<R: Rules>(told: &mut Told, battle: Battle, board: &Board, moves: u8, de
 
 /// The defences, and the moves of least length against them.
 #[cycle(tree)]
-#[tactic(auto, using(chess_rules::proofs::Calls::playing))]
+#[tactic(auto, using(chess_rules::proofs::listing_moves::Calls::playing))]
 fn black<R: Rules>(told: &mut Told, battle: Battle, board: &Board, depth: u32, left: u8)
     requires well_formed { IsWellFormed board.now }
     requires some { 1 ≤ left }
@@ -316,7 +316,7 @@ fn black<R: Rules>(told: &mut Told, battle: Battle, board: &Board, depth: u32, l
 }
 
 /// Set play: the first moves of Black after which White still wins, and the moves of least length against them.
-#[tactic(auto, using(chess_rules::proofs::Calls::playing))]
+#[tactic(auto, using(chess_rules::proofs::listing_moves::Calls::playing))]
 fn set<R: Rules>(told: &mut Told, battle: Battle, board: &Board, left: u8)
     requires { IsWellFormed board.now }
 {
@@ -338,7 +338,7 @@ fn set<R: Rules>(told: &mut Told, battle: Battle, board: &Board, left: u8)
 }
 
 /// The lines of so many further half-moves whose last position has the goal.
-#[tactic(auto, using(chess_rules::proofs::Calls::playing))]
+#[tactic(auto, using(chess_rules::proofs::listing_moves::Calls::playing))]
 fn help<R: Rules>(
     told: &mut Told,
     goal: Goal,

@@ -8,9 +8,9 @@ use Rattle.chess_core.specs.declared.man.Move.{Move}
 use Rattle.chess_rules.specs.Attacks.{in_check}
 use Rattle.chess_rules.specs.Legal.{is_goal, is_nil, is_stalemate, legal, moves, promotions, triples}
 use Rattle.chess_rules.specs.RuleSet.{RuleSet}
-use Rattle.chess_rules.proofs.Calls.{pseudo-from_legal}
-use Rattle.chess_rules.proofs.Members.{from_filter, in_filter, pairs_weaker}
-use Rattle.chess_rules.proofs.Triples.{from_triples, in_triples, made_is_triple, triples_rise, by_parts, nil_where_nothing, nothing_in}
+use Rattle.chess_rules.proofs.listing_moves.Calls.{pseudo-from_legal}
+use Rattle.chess_rules.proofs.listing_moves.Members.{from_filter, in_filter, pairs_weaker}
+use Rattle.chess_rules.proofs.listing_moves.Triples.{from_triples, in_triples, made_is_triple, triples_rise, by_parts, nil_where_nothing, nothing_in}
 use Rattle.std.proofs.lemmas.Bool.{and_from, and_parts, false_from_ne_true, not-true, not_from_false, true≢false}
 use Rattle.std.proofs.lemmas.List.Kept.{AllPairs-filter}
 

@@ -13,8 +13,8 @@ use Rattle.chess_core.specs.WellFormed.{IsWellFormed}
 use Rattle.chess_rules.specs.Legal.{is_promotion_right, legal, pseudo, pseudo_of}
 use Rattle.chess_rules.specs.Play.{is_castling}
 use Rattle.chess_rules.specs.RuleSet.{RuleSet}
-use Rattle.chess_rules.proofs.Calls.{pseudo-from_legal}
-use Rattle.chess_rules.proofs.Pseudo.{IsMade, king_is_no_pawn, made}
+use Rattle.chess_rules.proofs.listing_moves.Calls.{pseudo-from_legal}
+use Rattle.chess_rules.proofs.making_moves.Pseudo.{IsMade, king_is_no_pawn, made}
 use Rattle.chess_core.proofs.Kept.{same_colour-refl}
 use Rattle.pop_input.specs.declared.stipulation.Goal.{Goal}
 use Rattle.pop_solve.specs.Chess.{castling_side, show, shown_of}

@@ -5,7 +5,7 @@ use Rattle.chess_core.specs.Triple.{Triple}
 use Rattle.chess_rules.specs.Legal.{legal}
 use Rattle.chess_rules.specs.Play.{after as played}
 use Rattle.chess_rules.specs.RuleSet.{RuleSet}
-use Rattle.chess_rules.proofs.Members.{pairs_weaker}
+use Rattle.chess_rules.proofs.listing_moves.Members.{pairs_weaker}
 use Rattle.chess_rules.proofs.theorems.Moves.{Precedes, moves_are_the_legal_moves, moves_in_order}
 use Rattle.pop_input.specs.Posed.{IsSound, Posed}
 use Rattle.pop_input.specs.Stipulations.{is_help}

@@ -4,7 +4,7 @@ use Rattle.std.specs.List.{AllPairs, Contains}
 use Rattle.std.proofs.lemmas.List.Elements.{Contains-append_cases}
 use Rattle.chess_core.specs.Triple.{Triple}
 use Rattle.chess_rules.specs.RuleSet.{RuleSet}
-use Rattle.chess_rules.proofs.Members.{from_map, in_cases, none_in_nil, pairs_append, pairs_map, pairs_nil, pairs_of}
+use Rattle.chess_rules.proofs.listing_moves.Members.{from_map, in_cases, none_in_nil, pairs_append, pairs_map, pairs_nil, pairs_of}
 use Rattle.pop_input.specs.Posed.{Posed}
 use Rattle.pop_input.specs.Stipulations.{is_help}
 use Rattle.pop_solve.specs.declared.event.Phase.{Phase}

@@ -3,7 +3,7 @@ use Rattle.std.proofs.Common.{◌≡◌, ◌≢◌, ℕ, zero, suc, ◌-◌, ◌
 use Rattle.std.specs.List.{AllPairs, Contains}
 use Rattle.std.proofs.lemmas.Bool.{false≢true}
 use Rattle.std.proofs.lemmas.List.Kept.{AllPairs-filter}
-use Rattle.chess_rules.proofs.Members.{from_filter, in_filter, none_in_nil, pairs_nil, pairs_weaker}
+use Rattle.chess_rules.proofs.listing_moves.Members.{from_filter, in_filter, none_in_nil, pairs_nil, pairs_weaker}
 use Rattle.pop_solve.specs.declared.aim.Battle.{Battle}
 use Rattle.pop_solve.specs.Game.{Game}
 use Rattle.pop_solve.specs.Tree.{answers, below, best, keeps, least, set_shows, set_tree, tree, wins_in}

@@ -1,6 +1,6 @@
 use Rattle.std.proofs.Common.{rules}
 use Rattle.chess_rules.specs.ties.CheckSquares.{may_check_from}
-use Rattle.chess_rules.proofs.Checking.{check_squares_of_all, check_squares_of_none, check_squares_of_some}
+use Rattle.chess_rules.proofs.giving_check.Checking.{check_squares_of_all, check_squares_of_none, check_squares_of_some}
 use Rattle.chess_rules.proofs.checks.check_squares_of.Goals as goal
 
 pub returns-in_default : goal.returns-in_default

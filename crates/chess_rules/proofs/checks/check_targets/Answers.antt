@@ -1,6 +1,6 @@
 use Rattle.std.proofs.Common.{◌≡◌, ◌<◌, ◌==◌, ◌∙◌, false, arith, sym, rules}
 use Rattle.std.specs.Int.{bit_at}
-use Rattle.chess_rules.proofs.CheckTargets.{check_targets_all, check_targets_some}
+use Rattle.chess_rules.proofs.giving_check.CheckTargets.{check_targets_all, check_targets_some}
 use Rattle.chess_rules.proofs.checks.check_targets.Goals as goal
 
 pub returns-then-contains : goal.returns-then-contains

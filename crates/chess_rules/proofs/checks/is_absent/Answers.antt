@@ -1,5 +1,5 @@
 use Rattle.std.proofs.Common.{◌==◌, ◌&&◌, ◌∙◌, Bool, ap, sym}
-use Rattle.chess_rules.proofs.Checking.{absent_is}
+use Rattle.chess_rules.proofs.giving_check.Checking.{absent_is}
 use Rattle.chess_rules.proofs.checks.is_absent.Goals as goal
 
 pub returns-then-is_fairy : goal.returns-then-is_fairy

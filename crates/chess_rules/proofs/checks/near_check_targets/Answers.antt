@@ -1,5 +1,5 @@
 use Rattle.std.proofs.Common.{sym, ◌∙◌}
-use Rattle.chess_rules.proofs.CheckTargets.{check_targets_nobody}
+use Rattle.chess_rules.proofs.giving_check.CheckTargets.{check_targets_nobody}
 use Rattle.chess_rules.proofs.checks.near_check_targets.Goals as goal
 
 pub returns-in_default : goal.returns-in_default

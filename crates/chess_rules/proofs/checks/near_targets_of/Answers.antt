@@ -1,4 +1,4 @@
-use Rattle.chess_rules.proofs.CheckTargets.{check_targets_there}
+use Rattle.chess_rules.proofs.giving_check.CheckTargets.{check_targets_there}
 use Rattle.chess_rules.proofs.checks.near_targets_of.Goals as goal
 
 pub returns : goal.returns

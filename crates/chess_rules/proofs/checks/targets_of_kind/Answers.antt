@@ -1,4 +1,4 @@
-use Rattle.chess_rules.proofs.CheckTargets.{kind_targets}
+use Rattle.chess_rules.proofs.giving_check.CheckTargets.{kind_targets}
 use Rattle.chess_rules.proofs.checks.targets_of_kind.Goals as goal
 
 pub returns : goal.returns

@@ -1,5 +1,5 @@
 use Rattle.std.proofs.Common.{◌<◌, arith, refl, rules}
-use Rattle.chess_rules.proofs.CheckTargets.{king_targets}
+use Rattle.chess_rules.proofs.giving_check.CheckTargets.{king_targets}
 use Rattle.chess_rules.proofs.checks.targets_of_king.Goals as goal
 
 pub returns : goal.returns

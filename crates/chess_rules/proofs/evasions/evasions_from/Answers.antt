@@ -1,5 +1,5 @@
 use Rattle.std.proofs.Common.{rules}
-use Rattle.chess_rules.proofs.EvasionTargets.{evasions_from_all, evasions_from_nobody, evasions_from_some}
+use Rattle.chess_rules.proofs.attacks.EvasionTargets.{evasions_from_all, evasions_from_nobody, evasions_from_some}
 use Rattle.chess_rules.proofs.evasions.evasions_from.Goals as goal
 
 pub returns-then-evasion_squares : goal.returns-then-evasion_squares

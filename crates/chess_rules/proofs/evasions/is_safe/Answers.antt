@@ -1,5 +1,5 @@
 use Rattle.std.proofs.Common.{rules}
-use Rattle.chess_rules.proofs.Shielding.{cannot_expose_own}
+use Rattle.chess_rules.proofs.attacks.Shielding.{cannot_expose_own}
 use Rattle.chess_rules.proofs.evasions.is_safe.Goals as goal
 
 pub returns-then-cannot_expose-clause-answer : goal.returns-then-cannot_expose-clause-answer

@@ -1,6 +1,6 @@
 use Rattle.std.proofs.Common.{rules}
-use Rattle.chess_rules.proofs.EveryMove.{none-all}
-use Rattle.chess_rules.proofs.Places.{moves_behind-start}
+use Rattle.chess_rules.proofs.giving_check.EveryMove.{none-all}
+use Rattle.chess_rules.proofs.listing_moves.Places.{moves_behind-start}
 use Rattle.chess_rules.proofs.every_move.every_move_mates.Goals as goal
 
 pub returns-then-has_quiet_move-clause-answer : goal.returns-then-has_quiet_move-clause-answer

@@ -1,5 +1,5 @@
 use Rattle.std.proofs.Common.{rules}
-use Rattle.chess_rules.proofs.Exposing.{arrives_as, arrives_otherwise}
+use Rattle.chess_rules.proofs.attacks.Exposing.{arrives_as, arrives_otherwise}
 use Rattle.chess_rules.proofs.exposure.arrival_as.Goals as goal
 
 pub returns-then-is : goal.returns-then-is

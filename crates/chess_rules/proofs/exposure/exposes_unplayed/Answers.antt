@@ -3,7 +3,7 @@ use Rattle.chess_core.specs.Position.{man_on}
 use Rattle.chess_core.specs.Triple.{Triple}
 use Rattle.chess_rules.specs.Play.{capture_square}
 use Rattle.chess_rules.specs.ties.Sight.{is_simple, king_after, sight_after}
-use Rattle.chess_rules.proofs.Exposing.{exposed_is, no_king_exposed}
+use Rattle.chess_rules.proofs.attacks.Exposing.{exposed_is, no_king_exposed}
 use Rattle.chess_rules.proofs.exposure.exposes_unplayed.Goals as goal
 
 pub returns-in_default-king_after : goal.returns-in_default-king_after

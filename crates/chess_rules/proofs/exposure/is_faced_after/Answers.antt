@@ -1,5 +1,5 @@
 use Rattle.std.proofs.Common.{◌∙◌}
-use Rattle.chess_rules.proofs.Exposing.{faced_after}
+use Rattle.chess_rules.proofs.attacks.Exposing.{faced_after}
 use Rattle.chess_rules.proofs.exposure.is_faced_after.Goals as goal
 
 pub returns : goal.returns

@@ -1,6 +1,6 @@
 use Rattle.std.proofs.Common.{rules}
 use Rattle.chess_rules.specs.Attacks.{paralysed}
-use Rattle.chess_rules.proofs.Exposing.{faced_king, none_paralysed, paralysed_by}
+use Rattle.chess_rules.proofs.attacks.Exposing.{faced_king, none_paralysed, paralysed_by}
 use Rattle.chess_rules.proofs.exposure.is_paralysed_after.Goals as goal
 
 pub returns-then-not-is_madrasi : goal.returns-then-not-is_madrasi

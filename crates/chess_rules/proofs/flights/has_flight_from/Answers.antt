@@ -3,7 +3,7 @@ use Rattle.chess_core.specs.Triple.{Triple}
 use Rattle.chess_rules.specs.ties.Flights.{AreOpen, sight_lifted}
 use Rattle.chess_rules.specs.Play.{after, capture_square}
 use Rattle.chess_core.specs.Position.{other}
-use Rattle.chess_rules.proofs.Fleeing.{has_flight_first}
+use Rattle.chess_rules.proofs.giving_check.Fleeing.{has_flight_first}
 use Rattle.chess_rules.proofs.flights.has_flight_from.Goals as goal
 
 pub returns : goal.returns

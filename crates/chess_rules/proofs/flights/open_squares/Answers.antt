@@ -1,5 +1,5 @@
 use Rattle.std.proofs.Common.{rules}
-use Rattle.chess_rules.proofs.Fleeing.{open_squares, open_squares_in_circe}
+use Rattle.chess_rules.proofs.giving_check.Fleeing.{open_squares, open_squares_in_circe}
 use Rattle.chess_rules.proofs.flights.open_squares.Goals as goal
 
 pub returns-then-is_circe : goal.returns-then-is_circe

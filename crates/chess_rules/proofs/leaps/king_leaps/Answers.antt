@@ -1,4 +1,4 @@
-use Rattle.chess_rules.proofs.Computed.{neighbours_at}
+use Rattle.chess_rules.proofs.rays.Computed.{neighbours_at}
 use Rattle.chess_rules.proofs.leaps.king_leaps.Goals as goal
 
 pub returns : goal.returns

@@ -1,4 +1,4 @@
-use Rattle.chess_rules.proofs.Computed.{knight_leaps_at}
+use Rattle.chess_rules.proofs.rays.Computed.{knight_leaps_at}
 use Rattle.chess_rules.proofs.leaps.knight_leaps.Goals as goal
 
 pub returns : goal.returns

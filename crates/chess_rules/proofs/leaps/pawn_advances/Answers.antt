@@ -1,4 +1,4 @@
-use Rattle.chess_rules.proofs.Computed.{black_steps_at, white_steps_at}
+use Rattle.chess_rules.proofs.rays.Computed.{black_steps_at, white_steps_at}
 use Rattle.chess_rules.proofs.leaps.pawn_advances.Goals as goal
 
 pub returns-in-White : goal.returns-in-White

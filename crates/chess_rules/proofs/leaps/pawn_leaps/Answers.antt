@@ -1,4 +1,4 @@
-use Rattle.chess_rules.proofs.Computed.{black_captures_at, white_captures_at}
+use Rattle.chess_rules.proofs.rays.Computed.{black_captures_at, white_captures_at}
 use Rattle.chess_rules.proofs.leaps.pawn_leaps.Goals as goal
 
 pub returns-in-White : goal.returns-in-White

@@ -1,5 +1,5 @@
 use Rattle.std.proofs.Common.{rules}
-use Rattle.chess_rules.proofs.Computed.{aside_at}
+use Rattle.chess_rules.proofs.rays.Computed.{aside_at}
 use Rattle.chess_rules.proofs.leaps.squares_aside.Goals as goal
 
 pub returns : goal.returns

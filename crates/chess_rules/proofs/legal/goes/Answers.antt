@@ -1,5 +1,5 @@
 use Rattle.std.proofs.Common.{rules}
-use Rattle.chess_rules.proofs.Arrivals.{goes_on}
+use Rattle.chess_rules.proofs.listing_moves.Arrivals.{goes_on}
 use Rattle.chess_rules.proofs.legal.goes.Goals as goal
 
 pub returns-else-is_unmoved_king-clause-answer : goal.returns-else-is_unmoved_king-clause-answer

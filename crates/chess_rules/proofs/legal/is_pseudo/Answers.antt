@@ -1,5 +1,5 @@
 use Rattle.std.proofs.Common.{rules}
-use Rattle.chess_rules.proofs.Arrivals.{aimed_plain, aimed_promotion, may_go_aimed}
+use Rattle.chess_rules.proofs.listing_moves.Arrivals.{aimed_plain, aimed_promotion, may_go_aimed}
 use Rattle.chess_rules.proofs.legal.is_pseudo.Goals as goal
 
 pub returns-in-Some-clause-answer : goal.returns-in-Some-clause-answer

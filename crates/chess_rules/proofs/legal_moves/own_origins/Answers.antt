@@ -1,6 +1,6 @@
 use Rattle.chess_rules.specs.Legal.{legal}
 use Rattle.chess_rules.specs.ties.Idle.{legal-idle}
-use Rattle.chess_rules.proofs.Walks.{own-origins}
+use Rattle.chess_rules.proofs.listing_moves.Walks.{own-origins}
 use Rattle.chess_rules.proofs.legal_moves.own_origins.Goals as goal
 
 pub returns : goal.returns

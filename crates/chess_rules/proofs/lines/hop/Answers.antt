@@ -1,7 +1,7 @@
 use Rattle.std.proofs.Common.{◌<◌}
 use Rattle.chess_rules.specs.ties.Lines.{step_of}
-use Rattle.chess_rules.proofs.HopWords.{hop_is}
-use Rattle.chess_rules.proofs.Stopping.{stops}
+use Rattle.chess_rules.proofs.rays.HopWords.{hop_is}
+use Rattle.chess_rules.proofs.rays.Stopping.{stops}
 use Rattle.chess_rules.proofs.lines.hop.Goals as goal
 
 pub returns : goal.returns

@@ -4,8 +4,8 @@ use Rattle.chess_core.specs.declared.man.Kind.TheVariants.{Nightrider}
 use Rattle.chess_rules.specs.declared.lines.Direction.TheVariants.{NorthNorthEast, SouthSouthEast, NorthNorthWest, SouthSouthWest, EastNorthEast, EastSouthEast, WestNorthWest, WestSouthWest}
 use Rattle.chess_rules.specs.ties.Lines.{flat_steps, steep_steps, step_of}
 use Rattle.chess_rules.specs.ties.Shields.{is_lined}
-use Rattle.chess_rules.proofs.FairyLines.{man_test}
-use Rattle.chess_rules.proofs.Joining.{both_lists, four}
+use Rattle.chess_rules.proofs.attacks.FairyLines.{man_test}
+use Rattle.chess_rules.proofs.rays.Joining.{both_lists, four}
 use Rattle.chess_rules.proofs.lines.knight_lines_with.Goals as goal
 
 pub returns : goal.returns

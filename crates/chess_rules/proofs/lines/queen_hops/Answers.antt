@@ -1,6 +1,6 @@
 use Rattle.chess_core.specs.Steps.{diagonal_steps, straight_steps}
 use Rattle.chess_rules.specs.Reaches.{hops}
-use Rattle.chess_rules.proofs.Joining.{both_lists}
+use Rattle.chess_rules.proofs.rays.Joining.{both_lists}
 use Rattle.chess_rules.proofs.lines.queen_hops.Goals as goal
 
 pub returns : goal.returns

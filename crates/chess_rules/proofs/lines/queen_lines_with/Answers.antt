@@ -5,8 +5,8 @@ use Rattle.chess_core.specs.declared.man.Kind.TheVariants.{Grasshopper}
 use Rattle.chess_rules.specs.declared.lines.Direction.TheVariants.{East, West, North, South, NorthEast, SouthEast, NorthWest, SouthWest}
 use Rattle.chess_rules.specs.ties.Lines.{step_of}
 use Rattle.chess_rules.specs.ties.Shields.{is_lined}
-use Rattle.chess_rules.proofs.FairyLines.{man_test}
-use Rattle.chess_rules.proofs.Joining.{both_lists, four}
+use Rattle.chess_rules.proofs.attacks.FairyLines.{man_test}
+use Rattle.chess_rules.proofs.rays.Joining.{both_lists, four}
 use Rattle.chess_rules.proofs.lines.queen_lines_with.Goals as goal
 
 pub returns : goal.returns

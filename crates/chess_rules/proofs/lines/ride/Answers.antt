@@ -1,7 +1,7 @@
 use Rattle.std.proofs.Common.{◌<◌}
 use Rattle.chess_rules.specs.ties.Lines.{step_of}
-use Rattle.chess_rules.proofs.Ahead.{ordered}
-use Rattle.chess_rules.proofs.Stopping.{ride_is}
+use Rattle.chess_rules.proofs.rays.Ahead.{ordered}
+use Rattle.chess_rules.proofs.rays.Stopping.{ride_is}
 use Rattle.chess_rules.proofs.lines.ride.Goals as goal
 
 pub returns : goal.returns

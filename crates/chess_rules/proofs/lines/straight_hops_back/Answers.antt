@@ -1,6 +1,6 @@
 use Rattle.chess_core.specs.Steps.{step_by}
 use Rattle.chess_rules.specs.ties.Outward.{hopped_from}
-use Rattle.chess_rules.proofs.Joining.{four}
+use Rattle.chess_rules.proofs.rays.Joining.{four}
 use Rattle.chess_rules.proofs.lines.straight_hops_back.Goals as goal
 
 pub returns : goal.returns

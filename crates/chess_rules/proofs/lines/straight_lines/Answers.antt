@@ -1,5 +1,5 @@
 use Rattle.std.proofs.Common.{rules}
-use Rattle.chess_rules.proofs.Computed.{straight_lines_at}
+use Rattle.chess_rules.proofs.rays.Computed.{straight_lines_at}
 use Rattle.chess_rules.proofs.lines.straight_lines.Goals as goal
 
 pub returns : goal.returns

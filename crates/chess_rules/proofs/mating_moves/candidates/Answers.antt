@@ -1,6 +1,6 @@
 use Rattle.std.proofs.Common.{rules}
-use Rattle.chess_rules.proofs.Mating.{not_mating}
-use Rattle.chess_rules.proofs.Walks.{candidates, checks_elsewhere, no_candidates}
+use Rattle.chess_rules.proofs.giving_check.Mating.{not_mating}
+use Rattle.chess_rules.proofs.listing_moves.Walks.{candidates, checks_elsewhere, no_candidates}
 use Rattle.chess_rules.proofs.mating_moves.candidates.Goals as goal
 
 pub returns-then-word-eq0 : goal.returns-then-word-eq0

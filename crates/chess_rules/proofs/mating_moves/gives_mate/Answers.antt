@@ -1,5 +1,5 @@
 use Rattle.std.proofs.Common.{rules}
-use Rattle.chess_rules.proofs.Mating.{mates_after}
+use Rattle.chess_rules.proofs.giving_check.Mating.{mates_after}
 use Rattle.chess_rules.proofs.mating_moves.gives_mate.Goals as goal
 
 pub returns-clause-answer : goal.returns-clause-answer

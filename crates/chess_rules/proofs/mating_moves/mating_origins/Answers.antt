@@ -1,4 +1,4 @@
-use Rattle.chess_rules.proofs.Walks.{mating_origins}
+use Rattle.chess_rules.proofs.listing_moves.Walks.{mating_origins}
 use Rattle.chess_rules.proofs.mating_moves.mating_origins.Goals as goal
 
 pub returns : goal.returns

@@ -1,6 +1,6 @@
 use Rattle.std.proofs.Common.{◌==◌, ◌∙◌, arith, sym}
 use Rattle.std.specs.Int.{bit_at}
-use Rattle.chess_rules.proofs.FarMen.{far_none, far_one}
+use Rattle.chess_rules.proofs.giving_check.FarMen.{far_none, far_one}
 use Rattle.chess_rules.proofs.Tests.{find_first}
 use Rattle.chess_rules.proofs.origins.far_king.Goals as goal
 

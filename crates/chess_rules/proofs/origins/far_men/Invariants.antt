@@ -1,5 +1,5 @@
 use Rattle.std.proofs.Common.{◌-◌, ◌≤◌}
-use Rattle.chess_rules.proofs.FarMen.{AreFar}
+use Rattle.chess_rules.proofs.giving_check.FarMen.{AreFar}
 use Rattle.chess_rules.proofs.origins.far_men.Given as goal
 
 abbrev pub invariant-loop-from : goal.invariant-loop-from

@@ -1,7 +1,7 @@
 use Rattle.std.proofs.Common.{arith}
 use Rattle.chess_core.specs.declared.man.Kind.TheVariants.{Pawn}
 use Rattle.chess_rules.specs.ties.CheckSquares.{own_man}
-use Rattle.chess_rules.proofs.FarMen.{far_apart}
+use Rattle.chess_rules.proofs.giving_check.FarMen.{far_apart}
 use Rattle.chess_rules.proofs.origins.far_pawns.Goals as goal
 
 pub returns : goal.returns

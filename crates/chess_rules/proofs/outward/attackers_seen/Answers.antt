@@ -1,4 +1,4 @@
-use Rattle.chess_rules.proofs.Attacking.{attackers_are}
+use Rattle.chess_rules.proofs.attacks.Attacking.{attackers_are}
 use Rattle.chess_rules.proofs.outward.attackers_seen.Goals as goal
 
 pub returns : goal.returns

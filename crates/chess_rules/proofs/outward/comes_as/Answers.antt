@@ -1,5 +1,5 @@
 use Rattle.std.proofs.Common.{◌∙◌, rules}
-use Rattle.chess_rules.proofs.Attacking.{comes_king, comes_queen, comes_rook, comes_bishop, comes_knight, comes_pawn, comes_grasshopper, comes_nightrider}
+use Rattle.chess_rules.proofs.attacks.Attacking.{comes_king, comes_queen, comes_rook, comes_bishop, comes_knight, comes_pawn, comes_grasshopper, comes_nightrider}
 use Rattle.chess_rules.proofs.outward.comes_as.Goals as goal
 
 pub returns-in-King : goal.returns-in-King

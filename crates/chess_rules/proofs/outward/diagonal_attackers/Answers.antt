@@ -1,5 +1,5 @@
 use Rattle.std.proofs.Common.{rules}
-use Rattle.chess_rules.proofs.Attacking.{met, met_none}
+use Rattle.chess_rules.proofs.attacks.Attacking.{met, met_none}
 use Rattle.chess_rules.proofs.outward.diagonal_attackers.Goals as goal
 
 pub returns-then-men-diagonal_lines-eq0 : goal.returns-then-men-diagonal_lines-eq0

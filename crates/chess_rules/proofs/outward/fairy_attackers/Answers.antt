@@ -1,4 +1,4 @@
-use Rattle.chess_rules.proofs.Attacking.{fairy_are, fairy_none}
+use Rattle.chess_rules.proofs.attacks.Attacking.{fairy_are, fairy_none}
 use Rattle.chess_rules.proofs.outward.fairy_attackers.Goals as goal
 
 pub returns-then-nightriders-eq0 : goal.returns-then-nightriders-eq0

@@ -1,4 +1,4 @@
-use Rattle.chess_rules.proofs.Attacking.{reached}
+use Rattle.chess_rules.proofs.attacks.Attacking.{reached}
 use Rattle.chess_rules.proofs.outward.leaping_attackers.Goals as goal
 
 pub returns : goal.returns

@@ -1,4 +1,4 @@
-use Rattle.chess_rules.proofs.Attacking.{reached, reached_none}
+use Rattle.chess_rules.proofs.attacks.Attacking.{reached, reached_none}
 use Rattle.chess_rules.proofs.outward.those_reaching.Goals as goal
 
 pub returns-then-squares-eq0 : goal.returns-then-squares-eq0

@@ -2,7 +2,7 @@ use Rattle.std.proofs.Common.{◌≡◌, ◌<◌, ◌&&◌, ◌∙◌, Bool, Som
 use Rattle.chess_core.specs.Position.{man_on}
 use Rattle.chess_core.specs.Triple.{Triple}
 use Rattle.chess_rules.specs.ties.Shields.{is_plain, may_stand_between}
-use Rattle.chess_rules.proofs.Shielding.{cannot_expose_is, cannot_expose_nobody}
+use Rattle.chess_rules.proofs.attacks.Shielding.{cannot_expose_is, cannot_expose_nobody}
 use Rattle.chess_rules.proofs.shields.cannot_expose.Goals as goal
 
 pub returns-then-not-contains : goal.returns-then-not-contains

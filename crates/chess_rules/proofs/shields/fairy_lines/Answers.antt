@@ -1,5 +1,5 @@
 use Rattle.std.proofs.Common.{◌∙◌, sym}
-use Rattle.chess_rules.proofs.FairyLines.{no_fairy_line}
+use Rattle.chess_rules.proofs.attacks.FairyLines.{no_fairy_line}
 use Rattle.chess_rules.proofs.shields.fairy_lines.Goals as goal
 
 pub returns-then-not-has_fairy : goal.returns-then-not-has_fairy

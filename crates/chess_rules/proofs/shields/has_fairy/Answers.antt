@@ -1,5 +1,5 @@
 use Rattle.std.proofs.Common.{rules}
-use Rattle.chess_rules.proofs.Shielding.{some_grasshopper, some_nightrider}
+use Rattle.chess_rules.proofs.attacks.Shielding.{some_grasshopper, some_nightrider}
 use Rattle.chess_rules.proofs.shields.has_fairy.Goals as goal
 
 pub returns-then-squares-ne0 : goal.returns-then-squares-ne0

@@ -1,5 +1,5 @@
 use Rattle.std.proofs.Common.{rules}
-use Rattle.chess_rules.proofs.FairyLines.{fairy_lines_are, no_king_lined}
+use Rattle.chess_rules.proofs.attacks.FairyLines.{fairy_lines_are, no_king_lined}
 use Rattle.chess_rules.proofs.shields.lines_with_fairy_men.Goals as goal
 
 pub returns-in_default : goal.returns-in_default

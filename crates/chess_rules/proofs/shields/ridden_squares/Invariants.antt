@@ -3,7 +3,7 @@ use Rattle.chess_core.specs.ties.Words.{word}
 use Rattle.chess_core.specs.declared.man.Man.{Man}
 use Rattle.chess_rules.specs.ties.Lines.{occupied_squares}
 use Rattle.chess_rules.specs.ties.Shields.{steps_along}
-use Rattle.chess_rules.proofs.Riding.{ridden_below}
+use Rattle.chess_rules.proofs.rays.Riding.{ridden_below}
 use Rattle.chess_rules.proofs.shields.ridden_squares.Given as goal
 
 abbrev pub invariant-loop-rider : goal.invariant-loop-rider

@@ -1,5 +1,5 @@
 use Rattle.chess_rules.specs.ties.Shields.{rider_along, steps_along}
-use Rattle.chess_rules.proofs.Riding.{riders_are}
+use Rattle.chess_rules.proofs.rays.Riding.{riders_are}
 use Rattle.chess_rules.proofs.shields.riders_on_lines.Goals as goal
 
 pub returns : goal.returns

@@ -1,6 +1,6 @@
 use Rattle.std.proofs.Common.{◌≡◌, ap, rules}
 use Rattle.chess_core.specs.Triple.{Triple}
-use Rattle.chess_rules.proofs.Shielding.{stands_aside_is, stands_between}
+use Rattle.chess_rules.proofs.attacks.Shielding.{stands_aside_is, stands_between}
 use Rattle.chess_rules.proofs.shields.stands_aside.Goals as goal
 
 pub returns-then-not-contains : goal.returns-then-not-contains

@@ -1,6 +1,6 @@
 use Rattle.std.proofs.Common.{◌∙◌, sym}
 use Rattle.chess_core.specs.Castling.{has_unmoved}
-use Rattle.chess_rules.proofs.Arrivals.{castling_none}
+use Rattle.chess_rules.proofs.listing_moves.Arrivals.{castling_none}
 use Rattle.chess_rules.proofs.targets.castling_squares.Goals as goal
 
 pub returns-else-has : goal.returns-else-has

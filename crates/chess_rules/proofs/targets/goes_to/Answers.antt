@@ -1,5 +1,5 @@
 use Rattle.std.proofs.Common.{rules}
-use Rattle.chess_rules.proofs.Arrivals.{other_ways, pawn_ways}
+use Rattle.chess_rules.proofs.listing_moves.Arrivals.{other_ways, pawn_ways}
 use Rattle.chess_rules.proofs.targets.goes_to.Goals as goal
 
 pub returns-then-is : goal.returns-then-is

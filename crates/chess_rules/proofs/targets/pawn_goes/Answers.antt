@@ -4,7 +4,7 @@ use Rattle.std.specs.Int.Bits.{bit_and}
 use Rattle.std.proofs.lemmas.Bool.{eq-eqb}
 use Rattle.chess_core.specs.Squares.{rank_of}
 use Rattle.chess_rules.specs.Legal.{second_rank}
-use Rattle.chess_rules.proofs.Arrivals.{goes-blocked, goes-once, goes-twice}
+use Rattle.chess_rules.proofs.listing_moves.Arrivals.{goes-blocked, goes-once, goes-twice}
 use Rattle.chess_rules.proofs.Tests.{differs, find_first}
 use Rattle.chess_rules.proofs.targets.pawn_goes.Goals as goal
 

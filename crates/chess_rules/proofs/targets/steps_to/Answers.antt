@@ -1,5 +1,5 @@
 use Rattle.std.proofs.Common.{rules}
-use Rattle.chess_rules.proofs.Targeting.{king_word, other_word, pawn_word}
+use Rattle.chess_rules.proofs.listing_moves.Targeting.{king_word, other_word, pawn_word}
 use Rattle.chess_rules.proofs.targets.steps_to.Goals as goal
 
 pub returns-then-is : goal.returns-then-is

@@ -1,5 +1,5 @@
 use Rattle.std.proofs.Common.{rules}
-use Rattle.chess_rules.proofs.Between.{until-end, until-legal}
+use Rattle.chess_rules.proofs.listing_moves.Between.{until-end, until-legal}
 use Rattle.chess_rules.proofs.legal_moves.LegalMoves.next_until.Goals as goal
 
 pub returns-then-number-last-clause-rest : goal.returns-then-number-last-clause-rest

@@ -1,7 +1,7 @@
 use Rattle.std.proofs.Common.{arith, rules}
 use Rattle.std.specs.Int.{w64}
 use Rattle.std.proofs.lemmas.Nat.Bits.{bit_at_set_same}
-use Rattle.chess_rules.proofs.Firsts.{has_bit, highest_stop, lowest_stop}
+use Rattle.chess_rules.proofs.rays.Firsts.{has_bit, highest_stop, lowest_stop}
 use Rattle.chess_rules.proofs.lines.Direction.first.Goals as goal
 
 pub lowest-requires : goal.lowest-requires

@@ -1,5 +1,5 @@
 use Rattle.std.proofs.Common.{rules}
-use Rattle.chess_rules.proofs.HopWords.{next_none, next_some}
+use Rattle.chess_rules.proofs.rays.HopWords.{next_none, next_some}
 use Rattle.chess_rules.proofs.lines.Direction.next.Goals as goal
 
 pub returns-then-ray-eq0 : goal.returns-then-ray-eq0

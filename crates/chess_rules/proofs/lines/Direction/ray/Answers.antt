@@ -1,4 +1,4 @@
-use Rattle.chess_rules.proofs.Computed.{ray_at}
+use Rattle.chess_rules.proofs.rays.Computed.{ray_at}
 use Rattle.chess_rules.proofs.lines.Direction.ray.Goals as goal
 
 pub returns : goal.returns

@@ -1,8 +1,8 @@
 use Rattle.std.proofs.Common.{rules}
 use Rattle.chess_rules.specs.ties.Places.{place_of}
-use Rattle.chess_rules.proofs.Between.{next_mate_numbered}
-use Rattle.chess_rules.proofs.Mating.{legal_of_mate, mates_behind-end, mates_behind-none, mates_numbered}
-use Rattle.chess_rules.proofs.Places.{place_of_triple}
+use Rattle.chess_rules.proofs.listing_moves.Between.{next_mate_numbered}
+use Rattle.chess_rules.proofs.giving_check.Mating.{legal_of_mate, mates_behind-end, mates_behind-none, mates_numbered}
+use Rattle.chess_rules.proofs.listing_moves.Places.{place_of_triple}
 use Rattle.chess_rules.proofs.mating_moves.MatingMoves.next.Goals as goal
 
 pub returns-then-number-lt-TRIPLES-clause-place : goal.returns-then-number-lt-TRIPLES-clause-place

@@ -1,5 +1,5 @@
 use Rattle.std.proofs.Common.{rules}
-use Rattle.chess_rules.proofs.Between.{between-none}
+use Rattle.chess_rules.proofs.listing_moves.Between.{between-none}
 use Rattle.chess_rules.proofs.moves.Moves.next_until.Goals as goal
 
 pub returns-then-self-end-clause-rest : goal.returns-then-self-end-clause-rest

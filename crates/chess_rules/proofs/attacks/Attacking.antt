@@ -1,0 +1,266 @@
+-- Attack looked for outward from the square.
+use Rattle.std.proofs.Common.{◌∷◌, ◌≡◌, ℕ, ◌<◌, Bool, true, false, ◌&&◌, ◌||◌, ◌==◌, not, List, [], refl, sym, ap, ◌∙◌, arith, inl, inr, Option, Some, None, rules}
+use Rattle.std.specs.Int.{bit_at}
+use Rattle.std.specs.Int.Bits.{bit_or, bit_and}
+use Rattle.std.specs.List.{list_any}
+use Rattle.std.proofs.lemmas.Bool.{false≢true}
+use Rattle.std.proofs.lemmas.List.Folds.{list_any-append}
+use Rattle.chess_core.specs.Position.{is_man, is_side, man_on, other, same_kind}
+use Rattle.chess_core.specs.Squares.{some_square}
+use Rattle.chess_core.specs.Steps.{diagonal_steps, knight_steps, pawn_captures, queen_steps, straight_steps}
+use Rattle.chess_core.specs.ties.Words.{squares_of, word}
+use Rattle.chess_core.specs.declared.man.Colour.{Colour}
+use Rattle.chess_core.specs.declared.man.Kind.{Kind}
+use Rattle.chess_core.specs.declared.man.Kind.TheVariants.{King, Queen, Rook, Bishop, Knight, Pawn, Grasshopper, Nightrider}
+use Rattle.chess_core.specs.declared.man.Man.{Man}
+use Rattle.chess_core.specs.declared.step.Step.{Step}
+use Rattle.chess_core.proofs.Kept.{same_kind-is}
+use Rattle.chess_core.proofs.Men.{same_colour-true}
+use Rattle.chess_core.proofs.Ranges.{some_square_true, some_square_false}
+use Rattle.chess_core.proofs.Words.{squares_both, squares_either, squares_same}
+use Rattle.chess_rules.specs.Attacks.{attacked, faces, faces_its_like, paralysed, strikes}
+use Rattle.chess_rules.specs.ties.Lines.{is_ahead, is_on_some}
+use Rattle.chess_rules.specs.ties.Outward.{hopped_from, is_met}
+use Rattle.chess_rules.specs.ties.Shields.{is_reached}
+use Rattle.chess_rules.specs.Reaches.{leaps, reaches, reaches_as, reaches_of, rides}
+use Rattle.chess_rules.specs.RuleSet.{RuleSet}
+use Rattle.chess_rules.proofs.Bits.{not_zero, word_empty, word_has}
+use Rattle.chess_rules.proofs.rays.Flips.{diagonal-back, grasshopper-back, king-back, knight-back, nightrider-back, pawn-back, queen_rides-back, straight-back}
+use Rattle.chess_rules.proofs.Tests.{any_range_cases, first_of_and, second_of_and}
+
+-- tests that agree on the squares
+pub some_square_same : (p q : ℕ → Bool) → ((s : ℕ) → s < 64 → p s ≡ q s) → some_square p ≡ some_square q
+some_square_same p q h = elim (any_range_cases p 0 64) [
+  | inl w ↦ some_square_true p w.0 (omega (arith, w.2)) w.3 ∙ sym (some_square_true q w.0 (omega (arith, w.2)) (sym (h w.0 (omega (arith, w.2))) ∙ w.3))
+  | inr none ↦
+      some_square_false p 64 (omega arith) (record { fails = λ s b. none s (omega arith) b })
+      ∙ sym (some_square_false q 64 (omega arith) (record { fails = λ s b. sym (h s b) ∙ none s (omega arith) b }))
+]
+
+-- the squares from which each kind comes
+pub comes_king : (men : List (Option Man)) (c : Colour) (t : ℕ) → t < 64 → word (λ s. list_any (leaps t s) queen_steps) ≡ word (λ s. reaches_as men c King s t)
+unfolding reaches_as
+comes_king men c t q = squares_same _ _ (λ s p. king-back t s q p)
+
+pub comes_queen : (men : List (Option Man)) (c : Colour) (t : ℕ) → t < 64
+    → word (λ s. list_any (rides men t s) queen_steps) ≡ word (λ s. reaches_as men c Queen s t)
+unfolding reaches_as
+comes_queen men c t q = squares_same _ _ (λ s p. queen_rides-back men t s q p)
+
+pub comes_rook : (men : List (Option Man)) (c : Colour) (t : ℕ) → t < 64
+    → word (λ s. list_any (rides men t s) straight_steps) ≡ word (λ s. reaches_as men c Rook s t)
+unfolding reaches_as
+comes_rook men c t q = squares_same _ _ (λ s p. straight-back men t s q p)
+
+pub comes_bishop : (men : List (Option Man)) (c : Colour) (t : ℕ) → t < 64
+    → word (λ s. list_any (rides men t s) diagonal_steps) ≡ word (λ s. reaches_as men c Bishop s t)
+unfolding reaches_as
+comes_bishop men c t q = squares_same _ _ (λ s p. diagonal-back men t s q p)
+
+pub comes_knight : (men : List (Option Man)) (c : Colour) (t : ℕ) → t < 64
+    → word (λ s. list_any (leaps t s) knight_steps) ≡ word (λ s. reaches_as men c Knight s t)
+unfolding reaches_as
+comes_knight men c t q = squares_same _ _ (λ s p. knight-back t s q p)
+
+-- where e is the other side
+pub comes_pawn : (men : List (Option Man)) (c e : Colour) (t w : ℕ) → t < 64 → w ≡ word (λ s. list_any (leaps t s) (pawn_captures e)) → e ≡ other c
+    → w ≡ word (λ s. reaches_as men c Pawn s t)
+unfolding reaches_as
+comes_pawn men c e t w q h other_side =
+    h ∙ ap (λ d. word (λ s. list_any (leaps t s) (pawn_captures d))) other_side ∙ squares_same _ _ (λ s p. sym (pawn-back c s t p q))
+
+pub comes_grasshopper : (men : List (Option Man)) (c : Colour) (t : ℕ) → t < 64
+    → word (λ s. list_any (hopped_from men t s) queen_steps) ≡ word (λ s. reaches_as men c Grasshopper s t)
+unfolding reaches_as
+comes_grasshopper men c t q = squares_same _ _ (λ s p. sym (grasshopper-back men s t p q))
+
+pub comes_nightrider : (men : List (Option Man)) (c : Colour) (t : ℕ) → t < 64
+    → word (λ s. list_any (rides men t s) knight_steps) ≡ word (λ s. reaches_as men c Nightrider s t)
+unfolding reaches_as
+comes_nightrider men c t q = squares_same _ _ (λ s p. nightrider-back men t s q p)
+
+-- a man of this colour and kind goes as such men go
+reaches_of_man : (men : List (Option Man)) (o : Option Man) (c : Colour) (k : Kind) (s t : ℕ) → is_man o c k ≡ true
+    → reaches_of men o s t ≡ reaches_as men c k s t
+reaches_of_man men None c k s t h = absurd (false≢true h)
+reaches_of_man men (Some x) c k s t h = search (rules, first_of_and, same_colour-true, same_kind-is, second_of_and)
+
+only_then : (a b c : Bool) → (a ≡ true → b ≡ c) → (a && b) ≡ (a && c)
+only_then true b c h = h refl
+only_then false b c h = refl
+
+pub reached : (men : List (Option Man)) (c : Colour) (k : Kind) (t w n : ℕ) → w ≡ squares_of men c k → n ≡ word (λ s. reaches_as men c k s t)
+    → bit_and w n ≡ word (λ s. is_man (man_on men s) c k && reaches men s t)
+unfolding reaches squares_of
+reached men c k t w n h r =
+    (λ j. bit_and (h j) (r j)) ∙ squares_both (λ s. is_man (man_on men s) c k) (λ s. reaches_as men c k s t)
+    ∙ squares_same _ _ (λ s b. only_then (is_man (man_on men s) c k) (reaches_as men c k s t) (reaches men s t)
+    (λ h. sym (reaches_of_man men (man_on men s) c k s t h)))
+
+fails_first : (a b : Bool) → a ≡ false → (a && b) ≡ false
+fails_first true b h = absurd (cc)
+fails_first false b h = refl
+
+-- a word that is 0 has no square
+word_lacks : (test : ℕ → Bool) → word test ≡ 0 → (s : ℕ) → s < 64 → test s ≡ false
+word_lacks test h s b = sym (word_has test (word test) s refl b) ∙ word_has (λ s. false) (word test) s (h ∙ word_empty (λ s. false) (λ s b. refl)) b
+
+pub reached_none : (men : List (Option Man)) (c : Colour) (k : Kind) (t w : ℕ) → w ≡ squares_of men c k → w ≡ 0
+    → 0 ≡ word (λ s. is_man (man_on men s) c k && reaches men s t)
+unfolding squares_of
+reached_none men c k t w h z =
+    word_empty _ (λ s b. fails_first (is_man (man_on men s) c k) (reaches men s t) (word_lacks (λ s. is_man (man_on men s) c k) (sym h ∙ z) s b))
+
+-- the men that ride along lines, and the others
+abbrev pub others : List Kind
+others = King ∷ Knight ∷ Pawn ∷ Grasshopper ∷ Nightrider ∷ []
+
+by_lines : (b : Bool) (k : Kind) (r s d : Bool) → (k ≡ Rook → r ≡ s) → (k ≡ Bishop → r ≡ d) → (k ≡ Queen → r ≡ (s || d))
+    → (((((b && same_kind k Rook) || (b && same_kind k Queen)) && s) || (((b && same_kind k Bishop) || (b && same_kind k Queen)) && d))
+    || list_any (λ j. (b && same_kind k j) && r) others) ≡ (b && r)
+by_lines false k r s d rook bishop queen = refl
+by_lines true King true s d rook bishop queen = refl
+by_lines true King false s d rook bishop queen = refl
+by_lines true Knight true s d rook bishop queen = refl
+by_lines true Knight false s d rook bishop queen = refl
+by_lines true Pawn true s d rook bishop queen = refl
+by_lines true Pawn false s d rook bishop queen = refl
+by_lines true Grasshopper true s d rook bishop queen = refl
+by_lines true Grasshopper false s d rook bishop queen = refl
+by_lines true Nightrider true s d rook bishop queen = refl
+by_lines true Nightrider false s d rook bishop queen = refl
+by_lines true Rook r true d rook bishop queen = sym (rook refl)
+by_lines true Rook r false d rook bishop queen = sym (rook refl)
+by_lines true Bishop r s true rook bishop queen = sym (bishop refl)
+by_lines true Bishop r s false rook bishop queen = sym (bishop refl)
+by_lines true Queen r true d rook bishop queen = sym (queen refl)
+by_lines true Queen r false true rook bishop queen = sym (queen refl)
+by_lines true Queen r false false rook bishop queen = sym (queen refl)
+
+rook_reaches : (men : List (Option Man)) (c : Colour) (k : Kind) (s t : ℕ) → s < 64 → t < 64 → k ≡ Rook
+    → reaches_as men c k s t ≡ list_any (rides men t s) straight_steps
+unfolding reaches_as
+rook_reaches men c k s t p q e = rw e (straight-back men s t p q)
+
+bishop_reaches : (men : List (Option Man)) (c : Colour) (k : Kind) (s t : ℕ) → s < 64 → t < 64 → k ≡ Bishop
+    → reaches_as men c k s t ≡ list_any (rides men t s) diagonal_steps
+unfolding reaches_as
+bishop_reaches men c k s t p q e = rw e (diagonal-back men s t p q)
+
+queen_reaches : (men : List (Option Man)) (c : Colour) (k : Kind) (s t : ℕ) → s < 64 → t < 64 → k ≡ Queen
+    → reaches_as men c k s t ≡ (list_any (rides men t s) straight_steps || list_any (rides men t s) diagonal_steps)
+unfolding reaches_as
+queen_reaches men c k s t p q e = search (rules, list_any-append, queen_rides-back)
+
+-- on one square
+at_square : (men : List (Option Man)) (c : Colour) (o : Option Man) (s t : ℕ) → s < 64 → t < 64
+    → ((((is_man o c Rook || is_man o c Queen) && list_any (rides men t s) straight_steps)
+    || ((is_man o c Bishop || is_man o c Queen) && list_any (rides men t s) diagonal_steps)) || list_any (λ k. is_man o c k && reaches_of men o s t) others)
+    ≡ (is_side o c && reaches_of men o s t)
+at_square men c None s t p q = refl
+at_square men c (Some x) s t p q = search (rules, bishop_reaches, by_lines, queen_reaches, rook_reaches)
+
+pub met : (men : List (Option Man)) (c : Colour) (k : Kind) (t m n w : ℕ) (ds : List Step) → m ≡ squares_of men c k → n ≡ squares_of men c Queen
+    → w ≡ word (λ s. list_any (rides men t s) ds)
+    → bit_and (bit_or m n) w ≡ word (is_met men c k ds t)
+unfolding squares_of is_met
+met men c k t m n w ds h i j = search (rules, squares_both, squares_either)
+
+-- a rider gets to squares ahead alone
+rides_ahead : (men : List (Option Man)) (t s : ℕ) (d : Step) → is_ahead t d s ≡ false → rides men t s d ≡ false
+unfolding rides is_ahead
+rides_ahead men t s d h = search rules
+
+neither : (a b c d : Bool) → (a || b) ≡ false → (a ≡ false → c ≡ false) → (b ≡ false → d ≡ false) → (c || d) ≡ false
+neither true b c d h f g = absurd (false≢true (sym h))
+neither false b c d h f g = rw (f refl) (g h)
+
+rides_some : (men : List (Option Man)) (t s : ℕ) (ds : List Step) → is_on_some ds t s ≡ false → list_any (rides men t s) ds ≡ false
+unfolding is_on_some
+rides_some men t s [] h = refl
+rides_some men t s (d ∷ ds) h = neither (is_ahead t d s) (list_any (λ d. is_ahead t d s) ds) (rides men t s d) (list_any (rides men t s) ds) h
+    (rides_ahead men t s d) (rides_some men t s ds)
+
+apart : (m l r : Bool) → (m && l) ≡ false → (l ≡ false → r ≡ false) → (m && r) ≡ false
+apart true l r h f = f h
+apart false l r h f = refl
+
+pub met_none : (men : List (Option Man)) (c : Colour) (k : Kind) (t m n l : ℕ) (ds : List Step) → m ≡ squares_of men c k → n ≡ squares_of men c Queen
+    → l ≡ word (is_on_some ds t) → bit_and (bit_or m n) l ≡ 0
+    → 0 ≡ word (is_met men c k ds t)
+unfolding squares_of is_met
+met_none men c k t m n l ds h i j z =
+    let rider : ℕ → Bool = λ s. is_man (man_on men s) c k || is_man (man_on men s) c Queen in
+    let lined : word (λ s. rider s && is_on_some ds t s) ≡ 0 =
+    sym ((λ a. bit_and (bit_or (h a) (i a)) (j a)) ∙ (λ a. bit_and (squares_either (λ s. is_man (man_on men s) c k) (λ s. is_man (man_on men s) c Queen) a)
+    (word (is_on_some ds t))) ∙ squares_both rider (is_on_some ds t)) ∙ z in
+    word_empty _ (λ s b. apart (rider s) (is_on_some ds t s) (list_any (rides men t s) ds) (word_lacks (λ s. rider s && is_on_some ds t s) lined s b)
+    (rides_some men t s ds))
+
+-- the square of a man of this colour and kind from which it reaches t
+abbrev pub comer : List (Option Man) → Colour → ℕ → Kind → ℕ → Bool
+comer men c t k s = is_man (man_on men s) c k && reaches men s t
+
+one_by_one : (x a b c d e : Bool) → ((((x || a) || b) || c) || (d || e)) ≡ (x || (a || (b || (c || (d || (e || false))))))
+one_by_one true a b c d e = refl
+one_by_one false true b c d e = refl
+one_by_one false false true c d e = refl
+one_by_one false false false true d e = refl
+one_by_one false false false false true e = refl
+one_by_one false false false false false true = refl
+one_by_one false false false false false false = refl
+
+pub attackers_are : (men : List (Option Man)) (c : Colour) (t r b k n p f : ℕ) → t < 64
+    → r ≡ word (is_met men c Rook straight_steps t)
+    → b ≡ word (is_met men c Bishop diagonal_steps t)
+    → k ≡ word (comer men c t King)
+    → n ≡ word (comer men c t Knight)
+    → p ≡ word (comer men c t Pawn)
+    → f ≡ word (λ s. comer men c t Grasshopper s || comer men c t Nightrider s)
+    → bit_or (bit_or (bit_or (bit_or (bit_or r b) k) n) p) f ≡ word (λ s. is_side (man_on men s) c && reaches men s t)
+unfolding reaches is_met
+attackers_are men c t r b k n p f q hr hb hk hn hp hf =
+    let rook : ℕ → Bool = is_met men c Rook straight_steps t in
+    let bishop : ℕ → Bool = is_met men c Bishop diagonal_steps t in
+    let by : Kind → ℕ → Bool = comer men c t in
+    let fairy : ℕ → Bool = λ s. by Grasshopper s || by Nightrider s in
+    (λ a. bit_or (bit_or (bit_or (bit_or (bit_or (hr a) (hb a)) (hk a)) (hn a)) (hp a)) (hf a))
+    ∙ (λ a. bit_or (bit_or (bit_or (bit_or (squares_either rook bishop a) (word (by King))) (word (by Knight))) (word (by Pawn))) (word fairy))
+    ∙ (λ a. bit_or (bit_or (bit_or (squares_either (λ s. rook s || bishop s) (by King) a) (word (by Knight))) (word (by Pawn))) (word fairy))
+    ∙ (λ a. bit_or (bit_or (squares_either (λ s. (rook s || bishop s) || by King s) (by Knight) a) (word (by Pawn))) (word fairy))
+    ∙ (λ a. bit_or (squares_either (λ s. ((rook s || bishop s) || by King s) || by Knight s) (by Pawn) a) (word fairy))
+    ∙ squares_either (λ s. (((rook s || bishop s) || by King s) || by Knight s) || by Pawn s) fairy
+    ∙ squares_same _ _ (λ s z. one_by_one (rook s || bishop s) (by King s) (by Knight s) (by Pawn s) (by Grasshopper s) (by Nightrider s)
+    ∙ at_square men c (man_on men s) s t z q)
+
+-- grasshoppers and nightriders together
+pub fairy_are : (men : List (Option Man)) (c : Colour) (t g f : ℕ) → g ≡ word (comer men c t Grasshopper) → f ≡ word (comer men c t Nightrider)
+    → bit_or g f ≡ word (λ s. comer men c t Grasshopper s || comer men c t Nightrider s)
+fairy_are men c t g f hg hf = (λ a. bit_or (hg a) (hf a)) ∙ squares_either (comer men c t Grasshopper) (comer men c t Nightrider)
+
+pub fairy_none : (men : List (Option Man)) (c : Colour) (t g f : ℕ) → g ≡ squares_of men c Grasshopper → f ≡ squares_of men c Nightrider → g ≡ 0 → f ≡ 0
+    → 0 ≡ word (λ s. comer men c t Grasshopper s || comer men c t Nightrider s)
+fairy_none men c t g f hg hf zg zf = fairy_are men c t 0 0 (reached_none men c Grasshopper t g hg zg) (reached_none men c Nightrider t f hf zf)
+
+last_two : (a b c : Bool) → ((a && b) && c) ≡ ((a && c) && b)
+last_two true true true = refl
+last_two true true false = refl
+last_two true false true = refl
+last_two true false false = refl
+last_two false b c = refl
+
+-- attack by the men that reach the square and aren't paralysed
+pub attacked_by : (rule : RuleSet) (men : List (Option Man)) (t w : ℕ) (c : Colour) → w ≡ word (λ s. is_side (man_on men s) c && reaches men s t)
+    → some_square (λ s. bit_at w s == 1 && not (paralysed rule men s)) ≡ attacked rule men t c
+unfolding attacked strikes
+attacked_by rule men t w c h = search (rules, some_square_same, word_has)
+
+pub is_reached_by : (men : List (Option Man)) (t w : ℕ) (c : Colour) → w ≡ word (λ s. is_side (man_on men s) c && reaches men s t)
+    → not (w == 0) ≡ is_reached men t c
+unfolding is_reached
+is_reached_by men t w c h = ap (λ n. not (n == 0)) h ∙ not_zero (λ s. is_side (man_on men s) c && reaches men s t)
+
+pub faced : (men : List (Option Man)) (x : Man) (t w : ℕ) → w ≡ word (λ s. is_man (man_on men s) (other x.colour) x.kind && reaches men s t)
+    → not (w == 0) ≡ faces_its_like men x t
+unfolding faces_its_like faces
+faced men x t w h = ap (λ n. not (n == 0)) h ∙ not_zero (λ s. is_man (man_on men s) (other x.colour) x.kind && reaches men s t)

@@ -1,0 +1,42 @@
+-- A move that goes to no square at which a check is met is not legal.
+use Rattle.std.proofs.Common.{◌≡◌, ℕ, ◌<◌, true, false, ◌==◌, Some, None, is_some, refl, ap, ◌∙◌, rules}
+use Rattle.std.specs.Int.{bit_at, bit_not, w64}
+use Rattle.std.specs.Int.Bits.{bit_or}
+use Rattle.std.proofs.lemmas.Bool.{and_parts}
+use Rattle.chess_core.specs.Position.{Position, man_on, same_kind}
+use Rattle.chess_core.specs.Squares.{is_square}
+use Rattle.chess_core.specs.WellFormed.{IsWellFormed}
+use Rattle.chess_core.specs.ties.Words.{word}
+use Rattle.chess_core.specs.declared.man.Kind.TheVariants.{King}
+use Rattle.chess_core.specs.declared.man.Man.{Man}
+use Rattle.chess_core.specs.declared.man.Move.{Move}
+use Rattle.chess_rules.specs.Attacks.{in_check}
+use Rattle.chess_rules.specs.ties.Evasions.{AreEvasionsFrom, AreEvasions}
+use Rattle.chess_rules.specs.Legal.{pseudo}
+use Rattle.chess_rules.specs.Play.{after, is_castling}
+use Rattle.chess_rules.specs.RuleSet.{RuleSet, is_circe}
+use Rattle.chess_rules.proofs.giving_check.CheckTargets.{off_left, off_right, plain_elsewhere}
+use Rattle.chess_rules.proofs.attacks.StayingInCheck.{check_unmet}
+use Rattle.chess_rules.proofs.listing_moves.Targeting.{every_square_on, false_by, nobody_moves}
+
+pub evasions_from_nobody : (rule : RuleSet) (p : Position) (f w : ℕ) → man_on p.men f ≡ None → AreEvasionsFrom rule p f w
+evasions_from_nobody rule p f w none = search (rules, nobody_moves)
+
+pub evasions_from_all : (rule : RuleSet) (p : Position) (f : ℕ) → AreEvasionsFrom rule p f (bit_not w64 0)
+evasions_from_all rule p f = search (rules, every_square_on)
+
+module _ (rule : RuleSet) (p : Position) (x : Man) (f : ℕ) (well : IsWellFormed p) (here : man_on p.men f ≡ Some x) (piece : same_kind x.kind King ≡ false)
+    (a b c : ℕ) (evasion_squares : AreEvasions rule p.men p.turn a) (crossed : b ≡ word (λ t. is_square p.crossed t))
+    (reborn : is_circe rule ≡ true → c ≡ word (λ t. is_some (man_on p.men t))) where
+  check_elsewhere : (m : Move) → m.from ≡ f → m.to < 64 → pseudo rule p m ≡ true → (bit_at (bit_or (bit_or a b) c) m.to == 1) ≡ false
+      → in_check rule (after rule p m).men p.turn ≡ true
+  check_elsewhere m at small may off =
+      let off-ab = off_left (bit_or a b) c m.to off in
+      let no_castling : is_castling x m ≡ false =
+      false_by (is_castling x m) (λ y. let king : same_kind x.kind King ≡ true = (and_parts _ _ (and_parts _ _ y).0).0 in let never = piece in cc) in
+      check_unmet rule p x m a m.to well may (ap (man_on p.men) at ∙ here) refl small
+      (plain_elsewhere rule p x m b c small no_castling crossed (off_right a b m.to off-ab) reborn (off_right (bit_or a b) c m.to off))
+      piece evasion_squares (off_left a b m.to off-ab)
+
+  pub evasions_from_some : AreEvasionsFrom rule p f (bit_or (bit_or a b) c)
+  evasions_from_some = record { elsewhere = check_elsewhere }

@@ -1,0 +1,270 @@
+-- Whether a move leaves its mover in check, told by the men that an attack sees after it.
+use Rattle.std.proofs.Common.{◌≡◌, ℕ, ◌<◌, Bool, true, false, ◌&&◌, ◌||◌, ◌==◌, not, List, Option, Some, None, is_some, refl, sym, ap, ◌∙◌, arith, inl, inr, rules}
+use Rattle.std.proofs.lemmas.Bool.{and_from, and_left, and_parts, and_right, cases_Bool, cases_eq, cond-false, cond-true, eq-eqb, false_from_ne_true, false≢true, not-true, or_parts}
+use Rattle.chess_core.specs.Position.{Position, is_man, is_side, king_square, man_on, other, same_colour, same_kind}
+use Rattle.chess_core.specs.Squares.{is_square, some_square}
+use Rattle.chess_core.specs.WellFormed.{IsWellFormed}
+use Rattle.chess_core.specs.ties.Words.{squares_of, word}
+use Rattle.chess_core.specs.declared.man.Colour.{Colour}
+use Rattle.chess_core.specs.declared.man.Kind.{Kind}
+use Rattle.chess_core.specs.declared.man.Kind.TheVariants.{King}
+use Rattle.chess_core.specs.declared.man.Man.{Man}
+use Rattle.chess_core.specs.declared.man.Move.{Move}
+use Rattle.chess_rules.specs.Attacks.{check_of, faces, faces_its_like, in_check, is_faced, paralysed}
+use Rattle.chess_rules.specs.Legal.{is_arrival_free, is_promotion_right, pseudo}
+use Rattle.chess_rules.specs.Play.{after, arriving, capture_square, is_castling}
+use Rattle.chess_rules.specs.Reaches.{reaches}
+use Rattle.chess_rules.specs.RuleSet.{RuleSet, is_circe, is_madrasi}
+use Rattle.chess_rules.specs.ties.Sight.{AreArrived, AreOthers, AreSeen, is_arriving_as, is_simple, king_after, own_after, sight_after}
+use Rattle.chess_rules.specs.declared.sight.Sight.{Sight}
+use Rattle.chess_rules.proofs.attacks.Attacking.{attacked_by}
+use Rattle.chess_rules.proofs.Bits.{not_zero, word_empty, word_has}
+use Rattle.chess_rules.proofs.giving_check.Checking.{other_twice}
+use Rattle.chess_rules.proofs.making_moves.Fits.{arrived, arriving_king, is_square-some, pawn_is_no_king, taken}
+use Rattle.chess_rules.proofs.making_moves.Pseudo.{IsMade, made}
+use Rattle.chess_rules.proofs.attacks.Seeing.{IsCapture, IsNoKing, kept_now, king_stands, left_now, seen_after, there_now}
+use Rattle.chess_rules.proofs.attacks.Shielding.{arriving_colour, king_is, moved_plainly, other_differs, simple_after}
+use Rattle.chess_rules.proofs.making_moves.Returns.{moved_arrival}
+use Rattle.chess_rules.proofs.making_moves.Stays.{colour_self, moved_sound}
+use Rattle.chess_rules.proofs.Tests.{differs}
+use Rattle.chess_core.proofs.Men.{same_colour-true}
+use Rattle.chess_core.proofs.Words.{squares_both, squares_either, squares_not, squares_same}
+use Rattle.std.specs.Int.{bit_at}
+use Rattle.std.specs.Int.Bits.{bit_and, bit_or}
+
+-- the parts of a simple move
+pub record IsSimple (rule : RuleSet) (p : Position) (x : Man) (m : Move) : Type 0 where
+  pub castling : is_castling x m ≡ false
+  pub rebirth : is_circe rule ≡ true → capture_square p x m ≡ None
+
+none_there : (b : Bool) (o : Option ℕ) → (b && is_some o) ≡ false → b ≡ true → o ≡ None
+none_there b None h e = refl
+none_there true (Some s) h e = absurd (false≢true (sym h))
+none_there false (Some s) h e = absurd (false≢true e)
+
+pub simple_parts : (rule : RuleSet) (p : Position) (x : Man) (m : Move) → is_simple rule x m (is_some (capture_square p x m)) ≡ true → IsSimple rule p x m
+simple_parts rule p x m h =
+    let h1 = and_parts (not (is_castling x m)) (not (is_circe rule && is_some (capture_square p x m))) h in
+    record {
+      castling = not-true _ h1.0;
+      rebirth = λ circe. none_there (is_circe rule) (capture_square p x m) (not-true _ h1.1) circe;
+    }
+
+-- the arriving man in a word by kind
+pub arrives_as : (x : Man) (m : Move) (k : Kind) (w : ℕ) → w ≡ word (is_square (Some m.to)) → same_kind (arriving x m.promo).kind k ≡ true
+    → w ≡ word (is_arriving_as x m k)
+arrives_as x m k w h is = h ∙ squares_same _ _ (λ s b. sym (ap (λ (y : Bool). y && is_square (Some m.to) s) is))
+
+pub arrives_otherwise : (x : Man) (m : Move) (k : Kind) → same_kind (arriving x m.promo).kind k ≡ false → 0 ≡ word (is_arriving_as x m k)
+arrives_otherwise x m k off = word_empty (is_arriving_as x m k) (λ s b. and_left _ (is_square (Some m.to) s) off)
+
+-- a man of the kind reaches the square
+pub faced_after : (men : List (Option Man)) (c : Colour) (k : Kind) (t w : ℕ) → w ≡ word (λ s. is_man (man_on men s) c k && reaches men s t)
+    → not (w == 0) ≡ some_square (λ s. is_man (man_on men s) c k && reaches men s t)
+faced_after men c k t w h = ap (λ n. not (n == 0)) h ∙ not_zero (λ s. is_man (man_on men s) c k && reaches men s t)
+
+-- paralysis by the mover's men
+faced_is : (men : List (Option Man)) (c : Colour) (y : Man) (s : ℕ) → same_colour y.colour (other c) ≡ true
+    → some_square (λ q. is_man (man_on men q) c y.kind && reaches men q s) ≡ faces_its_like men y s
+unfolding faces_its_like faces
+faced_is men c y s side =
+    let mine : other y.colour ≡ c = ap other (same_colour-true y.colour (other c) side) ∙ other_twice c in
+    ap (λ (d : Colour). some_square (λ q. is_man (man_on men q) d y.kind && reaches men q s)) (sym mine)
+
+-- a king is none
+pub faced_king : (king f : Bool) → king ≡ true → not king ≡ (not king && f)
+faced_king king f h = (λ i. not (h i)) ∙ sym (ap (λ (k : Bool). not k && f) h)
+
+pub paralysed_by : (rule : RuleSet) (before men : List (Option Man)) (x : Man) (m : Move) (v : Sight) (s : ℕ) (y : Man) (b : Bool) → is_madrasi rule ≡ true
+    → AreArrived before men x m v → is_side (man_on men s) (other x.colour) ≡ true → man_on before s ≡ Some y
+    → b ≡ (not (same_kind y.kind King) && some_square (λ q. is_man (man_on men q) x.colour y.kind && reaches men q s))
+    → b ≡ paralysed rule men s
+unfolding paralysed
+paralysed_by rule before men x m v s y b is are side at h =
+    let there : man_on men s ≡ Some y = are.others s side ∙ at in
+    let mine : same_colour y.colour (other x.colour) ≡ true = ap (λ (o : Option Man). is_side o (other x.colour)) (sym there) ∙ side in
+    h ∙ ap (λ (f : Bool). not (same_kind y.kind King) && f) (faced_is men x.colour y s mine)
+    ∙ sym (ap (λ (o : Option Man). is_faced men o s) there)
+    ∙ sym (ap (λ (a : Bool). a && is_faced men (man_on men s) s) is)
+
+pub none_paralysed : (rule : RuleSet) (men : List (Option Man)) (s : ℕ) → is_madrasi rule ≡ false → false ≡ paralysed rule men s
+unfolding paralysed
+none_paralysed rule men s off = sym (and_left (is_madrasi rule) _ off)
+
+-- who goes and who is captured
+captures_arrival : (p : Position) (x : Man) (m : Move) → is_some (man_on p.men m.to) ≡ true → is_square (capture_square p x m) m.to ≡ true
+unfolding capture_square
+captures_arrival p x m h = search (rules, cond-true, eq-eqb)
+
+goes_capturing : (rule : RuleSet) (p : Position) (x : Man) (m : Move) → IsWellFormed p → IsMade rule p x m → m.to < 64
+    → IsCapture p.men m.from (capture_square p x m) m.to (arriving x m.promo) p.turn
+goes_capturing rule p x m well is small = search (rules, captures_arrival, other_differs)
+
+-- the king after the move
+pub free_of_king : (c : Colour) (o : Option Man) → is_arrival_free c o ≡ true → is_man o c King ≡ false
+free_of_king c None h = refl
+free_of_king c (Some y) h = search (rules, and_left, and_parts, not-true)
+
+pub king_stays_king : (p : Position) (x : Man) (m : Move) (r : Option Kind) → is_promotion_right p x m r ≡ true → same_kind x.kind King ≡ true
+    → arriving x r ≡ x
+king_stays_king p x m None right king = refl
+king_stays_king p x m (Some k) right king = search (rules, and_parts, false≢true, pawn_is_no_king)
+
+goes_without_king : (rule : RuleSet) (p : Position) (x : Man) (m : Move) → IsWellFormed p → IsMade rule p x m → m.to < 64 → same_kind x.kind King ≡ false
+    → IsNoKing p.men m.from (capture_square p x m) m.to (arriving x m.promo) p.turn
+goes_without_king rule p x m well is small other_man = record {
+  small = omega (arith, small, well.size);
+  here = ap (λ (o : Option Man). is_man o p.turn King) is.here ∙ and_right (same_colour x.colour p.turn) _ other_man;
+  comes = false_from_ne_true _ (λ h.
+      let king : same_kind (arriving x m.promo).kind King ≡ true = (and_parts (same_colour (arriving x m.promo).colour p.turn) _ h).1 in
+      let same : arriving x m.promo ≡ x = arriving_king p x m m.promo is.promotion king in
+      false≢true (sym other_man ∙ ap (λ (y : Man). same_kind y.kind King) (sym same) ∙ king));
+  arrival = free_of_king p.turn (man_on p.men m.to) is.arrival;
+  captured = λ s at.
+      let t = taken rule p x m s well is (is_square-some (capture_square p x m) s at) in
+      ap (λ (o : Option Man). is_man o p.turn King) t.there ∙ and_right (same_colour t.man.colour p.turn) _ t.mortal;
+}
+
+pub king_is_after : (rule : RuleSet) (p : Position) (x : Man) (m : Move) → IsWellFormed p → IsMade rule p x m → m.to < 64 → is_castling x m ≡ false
+    → king_square (arrived p x m) p.turn ≡ king_after p x m
+king_is_after rule p x m well is small castling =
+    search (
+      rules,
+      and_from,
+      arrived,
+      cases_Bool,
+      colour_self,
+      cond-false,
+      cond-true,
+      goes_without_king,
+      king_is,
+      king_stands,
+      king_stays_king,
+      moved_arrival,
+      moved_plainly,
+      moved_sound,
+    )
+
+pub check_is : (rule : RuleSet) (p : Position) (x : Man) (m : Move) (o : Option ℕ) → IsWellFormed p → IsMade rule p x m → m.to < 64 → IsSimple rule p x m
+    → king_after p x m ≡ o → in_check rule (after rule p m).men p.turn ≡ check_of rule (arrived p x m) o (other p.turn)
+unfolding in_check
+check_is rule p x m o well is small simple king = search (rules, king_is_after, simple_after)
+
+pub no_king_exposed : (rule : RuleSet) (p : Position) (x : Man) (m : Move) → IsWellFormed p → pseudo rule p m ≡ true → m.to < 64 → man_on p.men m.from ≡ Some x
+    → is_simple rule x m (is_some (capture_square p x m)) ≡ true → king_after p x m ≡ None → false ≡ in_check rule (after rule p m).men p.turn
+no_king_exposed rule p x m well may small here simple king =
+    sym (check_is rule p x m None well (made rule p m x may here) small (simple_parts rule p x m simple) king)
+
+-- the men of either side after the move
+own_elsewhere : (mine o a k b : Bool) → o ≡ false → a ≡ false → b ≡ false → (((mine && not o) && not a) || (k && b)) ≡ mine
+own_elsewhere true false false true false p q r = refl
+own_elsewhere true false false false false p q r = refl
+own_elsewhere false false false true false p q r = refl
+own_elsewhere false false false false false p q r = refl
+own_elsewhere mine true a k b p q r = absurd (false≢true (sym p))
+own_elsewhere mine false true k b p q r = absurd (false≢true (sym q))
+own_elsewhere mine false false k true p q r = absurd (false≢true (sym r))
+
+own_gone : (mine o a k b : Bool) → (a || o) ≡ true → b ≡ false → (((mine && not o) && not a) || (k && b)) ≡ false
+own_gone true true true k b p q = rw q (and_right k false refl)
+own_gone true true false k b p q = rw q (and_right k false refl)
+own_gone true false true k b p q = rw q (and_right k false refl)
+own_gone false o a k b p q = rw q (and_right k false refl)
+own_gone mine false false k b p q = absurd (false≢true p)
+
+own_there : (mine o a k b : Bool) → mine ≡ false → b ≡ true → (((mine && not o) && not a) || (k && b)) ≡ k
+own_there true o a k b p q = absurd (false≢true (sym p))
+own_there false o a true true p q = refl
+own_there false o a false true p q = refl
+own_there false o a k false p q = absurd (false≢true q)
+
+free_of_own : (c : Colour) (k : Kind) (o : Option Man) → is_arrival_free c o ≡ true → is_man o c k ≡ false
+free_of_own c k None h = refl
+free_of_own c k (Some y) h = and_left (same_colour y.colour c) _ (not-true _ (and_parts (not (same_colour y.colour c)) (not (same_kind y.kind King)) h).0)
+
+own_on : (rule : RuleSet) (p : Position) (x : Man) (m : Move) (k : Kind) (s : ℕ) → IsWellFormed p → IsMade rule p x m → m.to < 64
+    → (((is_man (man_on p.men s) x.colour k && not (is_square (capture_square p x m) s)) && not (is_square (Some m.from) s)) || is_arriving_as x m k s)
+    ≡ is_man (man_on (arrived p x m) s) x.colour k
+own_on rule p x m k s well is small = elim (cases_eq s m.to) [
+  | inl e ↦
+      let there : man_on (arrived p x m) s ≡ Some (arriving x m.promo) = ap (man_on (arrived p x m)) e
+      ∙ there_now p.men m.from (capture_square p x m) m.to (arriving x m.promo) (omega (arith, small, well.size)) in
+      let free : is_man (man_on p.men s) x.colour k ≡ false =
+      (λ j. is_man (man_on p.men (e j)) (is.mine j) k) ∙ free_of_own p.turn k (man_on p.men m.to) is.arrival in
+      own_there (is_man (man_on p.men s) x.colour k) _ _ (same_kind (arriving x m.promo).kind k) (is_square (Some m.to) s) free (eq-eqb m.to s (sym e))
+      ∙ sym (ap (λ (o : Option Man). is_man o x.colour k) there
+      ∙ ap (λ (y : Bool). y && same_kind (arriving x m.promo).kind k)
+      (ap (λ (c : Colour). same_colour c x.colour) (arriving_colour x m.promo) ∙ colour_self x.colour))
+  | inr ne ↦
+      let off : is_square (Some m.to) s ≡ false = differs m.to s (λ e. ne (sym e)) in
+      elim (cases_Bool (is_square (Some m.from) s || is_square (capture_square p x m) s)) [
+        | inl y ↦
+            own_gone (is_man (man_on p.men s) x.colour k) _ _ (same_kind (arriving x m.promo).kind k) (is_square (Some m.to) s) y off
+            ∙ sym (ap (λ (o : Option Man). is_man o x.colour k) (left_now p.men m.from (capture_square p x m) m.to (arriving x m.promo) s ne y))
+        | inr n ↦
+            let parts = or_parts (is_square (Some m.from) s) (is_square (capture_square p x m) s) n in
+            own_elsewhere (is_man (man_on p.men s) x.colour k) _ _ (same_kind (arriving x m.promo).kind k) (is_square (Some m.to) s) parts.1 parts.0 off
+            ∙ sym (ap (λ (o : Option Man). is_man o x.colour k) (kept_now p.men m.from (capture_square p x m) m.to (arriving x m.promo) s ne n))
+      ]
+]
+
+others_on : (rule : RuleSet) (p : Position) (x : Man) (m : Move) (s : ℕ) → IsWellFormed p → IsMade rule p x m → m.to < 64
+    → is_side (man_on (arrived p x m) s) (other x.colour) ≡ true → man_on (arrived p x m) s ≡ man_on p.men s
+others_on rule p x m s well is small side = elim (cases_eq s m.to) [
+  | inl e ↦
+      let there : man_on (arrived p x m) s ≡ Some (arriving x m.promo) = ap (man_on (arrived p x m)) e
+      ∙ there_now p.men m.from (capture_square p x m) m.to (arriving x m.promo) (omega (arith, small, well.size)) in
+      let own : is_side (man_on (arrived p x m) s) (other x.colour) ≡ false = ap (λ (o : Option Man). is_side o (other x.colour)) there
+      ∙ ap (λ (c : Colour). same_colour c (other x.colour)) (arriving_colour x m.promo) ∙ other_differs x.colour in
+      absurd (false≢true (sym own ∙ side))
+  | inr ne ↦ elim (cases_Bool (is_square (Some m.from) s || is_square (capture_square p x m) s)) [
+    | inl y ↦
+        let none : is_side (man_on (arrived p x m) s) (other x.colour) ≡ false =
+        ap (λ (o : Option Man). is_side o (other x.colour)) (left_now p.men m.from (capture_square p x m) m.to (arriving x m.promo) s ne y) in
+        absurd (false≢true (sym none ∙ side))
+    | inr n ↦ kept_now p.men m.from (capture_square p x m) m.to (arriving x m.promo) s ne n
+  ]
+]
+
+own_words : (rule : RuleSet) (p : Position) (x : Man) (m : Move) (k : Kind) → IsWellFormed p → IsMade rule p x m → m.to < 64
+    → own_after p.men (sight_after p.men m.from (capture_square p x m) m.to) x m k ≡ squares_of (arrived p x m) x.colour k
+unfolding squares_of
+own_words rule p x m k well is small =
+    let mine : ℕ → Bool = λ s. is_man (man_on p.men s) x.colour k in
+    let stands : ℕ → Bool = λ s. not (is_square (capture_square p x m) s) in
+    let stays : ℕ → Bool = λ s. not (is_square (Some m.from) s) in
+    (λ j. bit_or (bit_and (bit_and (word mine) (squares_not (is_square (capture_square p x m)) j)) (squares_not (is_square (Some m.from)) j))
+    (word (is_arriving_as x m k)))
+    ∙ (λ j. bit_or (bit_and (squares_both mine stands j) (word stays)) (word (is_arriving_as x m k)))
+    ∙ (λ j. bit_or (squares_both (λ s. mine s && stands s) stays j) (word (is_arriving_as x m k)))
+    ∙ squares_either (λ s. (mine s && stands s) && stays s) (is_arriving_as x m k)
+    ∙ squares_same _ _ (λ s b. own_on rule p x m k s well is small)
+
+are_arrived : (rule : RuleSet) (p : Position) (x : Man) (m : Move) → IsWellFormed p → IsMade rule p x m → m.to < 64
+    → AreArrived p.men (arrived p x m) x m (sight_after p.men m.from (capture_square p x m) m.to)
+are_arrived rule p x m well is small = record {
+  occupied = (seen_after p.men m.from (capture_square p x m) m.to (arriving x m.promo) p.turn (goes_capturing rule p x m well is small)).occupied;
+  own = λ k. own_words rule p x m k well is small;
+  others = λ s side. others_on rule p x m s well is small side;
+}
+
+pub exposed_is : (rule : RuleSet) (p : Position) (x : Man) (m : Move) (k w : ℕ) (b : Bool) → IsWellFormed p → pseudo rule p m ≡ true → m.to < 64
+    → man_on p.men m.from ≡ Some x → is_simple rule x m (is_some (capture_square p x m)) ≡ true → king_after p x m ≡ Some k
+    → ((men : List (Option Man)) → AreSeen p.men men (other p.turn) (sight_after p.men m.from (capture_square p x m) m.to)
+    → w ≡ word (λ s. is_side (man_on men s) (other p.turn) && reaches men s k))
+    → ((men : List (Option Man)) → AreArrived p.men men x m (sight_after p.men m.from (capture_square p x m) m.to) → AreOthers men x.colour w
+    → b ≡ some_square (λ s. bit_at w s == 1 && not (paralysed rule men s)))
+    → b ≡ in_check rule (after rule p m).men p.turn
+exposed_is rule p x m k w b well may small here simple king attackers free =
+    let is : IsMade rule p x m = made rule p m x may here in
+    let parts : IsSimple rule p x m = simple_parts rule p x m simple in
+    let are : w ≡ word (λ s. is_side (man_on (arrived p x m) s) (other p.turn) && reaches (arrived p x m) s k) =
+    attackers (arrived p x m) (seen_after p.men m.from (capture_square p x m) m.to (arriving x m.promo) p.turn (goes_capturing rule p x m well is small)) in
+    let others : AreOthers (arrived p x m) x.colour w = record {
+      side = λ s lt on.
+          let both : (is_side (man_on (arrived p x m) s) (other p.turn) && reaches (arrived p x m) s k) ≡ true = sym (word_has _ w s are lt) ∙ on in
+          ap (λ (c : Colour). is_side (man_on (arrived p x m) s) (other c)) is.mine ∙ (and_parts _ _ both).0;
+    } in
+    free (arrived p x m) (are_arrived rule p x m well is small) others
+    ∙ attacked_by rule (arrived p x m) k w (other p.turn) are
+    ∙ sym (check_is rule p x m (Some k) well is small parts king)

@@ -1,0 +1,270 @@
+-- Lines of grasshoppers and nightriders to a square: what stands elsewhere changes nothing on them.
+use Rattle.std.proofs.Common.{◌≡◌, ℕ, ◌-◌, ◌<◌, ◌≤◌, Bool, true, false, ◌&&◌, ◌||◌, ◌==◌, not, List, [], ◌∷◌, Option, Some, None, refl, sym, ap, ◌∙◌, arith, inl, inr}
+use Rattle.std.specs.Int.Bits.{bit_and, bit_or}
+use Rattle.std.specs.List.{list_any}
+use Rattle.std.proofs.lemmas.Bool.{and_from, and_left, and_right, eq-eqb, false_from_ne_true, false≢true, or_cases, or_left, or_parts, or_right}
+use Rattle.chess_core.specs.Position.{is_man, king_square, man_on, other}
+use Rattle.chess_core.specs.Squares.{is_square, some_square}
+use Rattle.chess_core.specs.Steps.{along, knight_steps, queen_steps}
+use Rattle.chess_core.specs.ties.Words.{squares_of, word}
+use Rattle.chess_core.specs.declared.man.Colour.{Colour}
+use Rattle.chess_core.specs.declared.man.Kind.{Kind}
+use Rattle.chess_core.specs.declared.man.Kind.TheVariants.{Grasshopper, Nightrider}
+use Rattle.chess_core.specs.declared.man.Man.{Man}
+use Rattle.chess_core.specs.declared.step.Step.{Step}
+use Rattle.chess_core.proofs.Ranges.{all_range_true, any_range_false, any_range_true, some_square_false, some_square_true}
+use Rattle.chess_core.proofs.Words.{squares_both, squares_either, squares_same}
+use Rattle.chess_rules.specs.Reaches.{hops, is_clear, is_occupied, is_vacant, rides}
+use Rattle.chess_rules.specs.declared.lines.Direction.{Direction}
+use Rattle.chess_rules.specs.declared.lines.Direction.TheVariants.{East, West, North, South, NorthEast, SouthEast, NorthWest, SouthWest, NorthNorthEast, SouthSouthEast, NorthNorthWest, SouthSouthWest, EastNorthEast, EastSouthEast, WestNorthWest, WestSouthWest}
+use Rattle.chess_rules.specs.ties.Lines.{is_ahead, place, ray, step_of}
+use Rattle.chess_rules.specs.ties.Shields.{has_fairy, is_lined, is_on_fairy_line, is_on_fairy_line_to, may_stand_between}
+use Rattle.chess_rules.proofs.rays.Ahead.{Ordered, ordered}
+use Rattle.chess_rules.proofs.attacks.Attacking.{some_square_same}
+use Rattle.chess_rules.proofs.Bits.{not_zero, word_empty}
+use Rattle.chess_rules.proofs.rays.Ends.{back, between, square_is, stays}
+use Rattle.chess_rules.proofs.rays.Flips.{backward}
+use Rattle.chess_rules.proofs.rays.Parting.{Frees}
+use Rattle.chess_rules.proofs.Tests.{all_at, any_range_cases, first_of_and, second_of_and}
+
+-- what is occupied among the first men is occupied among the others, b apart
+pub record Holds (men others : List (Option Man)) (b : ℕ) : Type 0 where
+  pub occupied : (o : Option ℕ) → is_occupied men o ≡ true → is_square o b ≡ false → is_occupied others o ≡ true
+
+-- the squares of a line from s to k lie on that from k
+ahead_on : (s k : ℕ) (d : Step) (n i q : ℕ) → along s d n ≡ Some k → i < n → n ≤ 7 → is_square (along s d i) q ≡ true → is_ahead k (back d) q ≡ true
+unfolding is_ahead
+ahead_on s k d n i q at lt le here =
+    any_range_true (λ j. is_square (along k (back d) j) q) 1 7 (n - i) (omega arith) (omega arith)
+    (ap (λ o. is_square o q) (between s k d n i (omega arith) at) ∙ here)
+
+its_own : (s k : ℕ) (d : Step) (n : ℕ) → s < 64 → along s d n ≡ Some k → 1 ≤ n → n ≤ 7 → is_ahead k (back d) s ≡ true
+its_own s k d n small at low le = ahead_on s k d n 0 s at (omega arith) le (ap (λ o. is_square o s) (stays s d small) ∙ eq-eqb s s refl)
+
+-- no line from s to k in this direction passes a
+abbrev pub IsBeside : ℕ → ℕ → ℕ → Step → Type 0
+IsBeside a s k d = (n i : ℕ) → along s d n ≡ Some k → 1 ≤ i → i < n → n ≤ 7 → is_square (along s d i) a ≡ false
+
+-- nor does it pass a right before k, where a hurdle would be
+abbrev pub IsNoHurdle : ℕ → ℕ → ℕ → Step → Type 0
+IsNoHurdle a s k d = (n : ℕ) → along s d n ≡ Some k → 2 ≤ n → n ≤ 7 → is_square (along s d (n - 1)) a ≡ false
+
+no_hurdle : (a s k : ℕ) (d : Step) → IsBeside a s k d → IsNoHurdle a s k d
+no_hurdle a s k d beside = λ n at low le. beside n (n - 1) at (omega arith) (omega arith) le
+
+-- where a lies off the line on which s lies
+off_line : (a s k : ℕ) (d : Step) → s < 64 → (is_ahead k (back d) s ≡ true → is_ahead k (back d) a ≡ false) → IsBeside a s k d
+off_line a s k d small off = λ n i at low lt le. false_from_ne_true _ (λ y.
+    false≢true (sym (off (its_own s k d n small at (omega (arith, low, lt)) le)) ∙ ahead_on s k d n i a at lt le y))
+
+clear_kept : (men after : List (Option Man)) (a s k : ℕ) (d : Step) (n m : ℕ) → Frees after men a → along s d n ≡ Some k → n ≤ 7 → m < n
+    → IsBeside a s k d → is_clear after s d m ≡ true → is_clear men s d m ≡ true
+unfolding is_clear
+clear_kept men after a s k d n m i at le lt beside clear =
+    all_range_true (λ q. is_vacant men (along s d q)) 1 m (λ j lo hi.
+    i.vacant (along s d j) (all_at (λ q. is_vacant after (along s d q)) 1 m j clear lo hi)
+    (beside n j at lo (omega (arith, hi, lt)) le))
+
+-- a ride from s to k is one before a man left a, off the line
+pub ride_kept : (men after : List (Option Man)) (a s k : ℕ) (d : Step) → Frees after men a → IsBeside a s k d → rides after s k d ≡ true
+    → rides men s k d ≡ true
+unfolding rides
+ride_kept men after a s k d i beside h = elim (any_range_cases (λ n. is_square (along s d n) k && is_clear after s d (n - 1)) 1 7) [
+  | inl w ↦
+      let ends : is_square (along s d w.0) k ≡ true = first_of_and _ _ w.3 in
+      let at : along s d w.0 ≡ Some k = square_is _ k ends in
+      any_range_true (λ n. is_square (along s d n) k && is_clear men s d (n - 1)) 1 7 w.0 w.1 w.2
+      (and_from _ _ ends (clear_kept men after a s k d w.0 (w.0 - 1) i at (omega (arith, w.2)) (omega (arith, w.1)) beside
+      (second_of_and (is_square (along s d w.0) k) _ w.3)))
+  | inr none ↦ absurd (false≢true (sym (any_range_false (λ n. is_square (along s d n) k && is_clear after s d (n - 1)) 1 7 none) ∙ h))
+]
+
+-- a hop from s to k is one before a man left a, off the line, and another came to b, which is off it between them
+pub hop_kept : (men after : List (Option Man)) (a b s k : ℕ) (d : Step) → Frees after men a → Holds after men b → IsBeside a s k d → IsNoHurdle b s k d
+    → hops after s k d ≡ true → hops men s k d ≡ true
+unfolding hops
+hop_kept men after a b s k d i o beside none_there h =
+    elim (any_range_cases (λ n. is_square (along s d n) k && is_occupied after (along s d (n - 1)) && is_clear after s d (n - 2)) 2 6) [
+      | inl w ↦
+          let first : (is_square (along s d w.0) k && is_occupied after (along s d (w.0 - 1))) ≡ true = first_of_and _ _ w.3 in
+          let ends : is_square (along s d w.0) k ≡ true = first_of_and _ _ first in
+          let at : along s d w.0 ≡ Some k = square_is _ k ends in
+          let le : w.0 ≤ 7 = omega (arith, w.2) in
+          let low : 2 ≤ w.0 = w.1 in
+          let hurdle : is_occupied men (along s d (w.0 - 1)) ≡ true =
+          o.occupied (along s d (w.0 - 1)) (second_of_and (is_square (along s d w.0) k) _ first)
+          (none_there w.0 at low le) in
+          any_range_true (λ n. is_square (along s d n) k && is_occupied men (along s d (n - 1)) && is_clear men s d (n - 2)) 2 6 w.0 w.1 w.2
+          (and_from _ _ (and_from _ _ ends hurdle) (clear_kept men after a s k d w.0 (w.0 - 2) i at le (omega (arith, low)) beside
+          (second_of_and (is_square (along s d w.0) k && is_occupied after (along s d (w.0 - 1))) _ w.3)))
+      | inr none ↦
+          absurd (false≢true (sym (any_range_false
+          (λ n. is_square (along s d n) k && is_occupied after (along s d (n - 1)) && is_clear after s d (n - 2)) 2 6 none) ∙ h))
+    ]
+
+-- lists of directions
+abbrev pub steps_of : List Direction → List Step
+steps_of [] = []
+steps_of (x ∷ xs) = step_of x ∷ steps_of xs
+
+any_kept : (xs : List Direction) (f g u v : Step → Bool)
+    → ((x : Direction) → u (step_of x) ≡ false → v (step_of x) ≡ false → f (step_of x) ≡ true → g (step_of x) ≡ true)
+    → list_any u (steps_of xs) ≡ false → list_any v (steps_of xs) ≡ false → list_any f (steps_of xs) ≡ true → list_any g (steps_of xs) ≡ true
+any_kept [] f g u v each p q h = h
+any_kept (x ∷ xs) f g u v each p q h =
+    let m = or_parts (u (step_of x)) (list_any u (steps_of xs)) p in
+    let n = or_parts (v (step_of x)) (list_any v (steps_of xs)) q in
+    elim (or_cases (f (step_of x)) (list_any f (steps_of xs)) h) [
+      | inl y ↦ or_left (g (step_of x)) _ (each x m.0 n.0 y)
+      | inr y ↦ or_right (g (step_of x)) _ (any_kept xs f g u v each m.1 n.1 y)
+    ]
+
+abbrev pub queen_directions : List Direction
+queen_directions = East ∷ West ∷ North ∷ South ∷ NorthEast ∷ SouthEast ∷ NorthWest ∷ SouthWest ∷ []
+
+abbrev pub knight_directions : List Direction
+knight_directions = NorthNorthEast ∷ SouthSouthEast ∷ NorthNorthWest ∷ SouthSouthWest ∷ EastNorthEast ∷ EastSouthEast ∷ WestNorthWest ∷ WestSouthWest ∷ []
+
+-- a square that isn't lined with a man of the kind lies on no line with him
+unlined : (men : List (Option Man)) (e : Colour) (j : Kind) (k s t : ℕ) (d : Step) → is_lined men e j k t d ≡ false → s < 64
+    → is_man (man_on men s) e j ≡ true → is_ahead k d s ≡ true → is_ahead k d t ≡ false
+unlined men e j k s t d off small man ahead =
+    false_from_ne_true _ (λ y. false≢true (sym off
+    ∙ and_from _ _ y (some_square_true (λ q. is_man (man_on men q) e j && is_ahead k d q) s small (and_from _ _ man ahead))))
+
+beside_lined : (men : List (Option Man)) (e : Colour) (j : Kind) (k s t : ℕ) (d : Step) → is_lined men e j k t (back d) ≡ false → s < 64
+    → is_man (man_on men s) e j ≡ true → IsBeside t s k d
+beside_lined men e j k s t d off small man = off_line t s k d small (unlined men e j k s t (back d) off small man)
+
+self_unlined : (men : List (Option Man)) (e : Colour) (j : Kind) (k a : ℕ) (d : Step) → is_lined men e j k a d ≡ false → a < 64
+    → is_man (man_on men a) e j ≡ true → is_ahead k d a ≡ false
+self_unlined men e j k a d off small man = false_from_ne_true _ (λ y. false≢true (sym (unlined men e j k a a d off small man y) ∙ y))
+
+-- a line doesn't come back to its start
+not_again : (s i : ℕ) (d : Step) → Ordered d → s < 64 → 1 ≤ i → is_square (along s d i) s ≡ false
+not_again s i d o small low = false_from_ne_true _ (λ y.
+    let less : place d s < place d s = o.in_order s 0 i s s (stays s d small) (square_is _ s y) (omega arith) in
+    absurd (omega arith))
+
+-- a grasshopper that stands where it stood hops as it hopped
+pub hopper_stays : (men after : List (Option Man)) (e : Colour) (a b k s : ℕ) → Frees after men a → Holds after men b → s < 64
+    → is_man (man_on men s) e Grasshopper ≡ true → list_any (is_lined men e Grasshopper k a) queen_steps ≡ false
+    → list_any (is_lined men e Grasshopper k b) queen_steps ≡ false
+    → list_any (hops after s k) queen_steps ≡ true → list_any (hops men s k) queen_steps ≡ true
+hopper_stays men after e a b k s i o small man p q h =
+    any_kept queen_directions (hops after s k) (hops men s k) (λ d. is_lined men e Grasshopper k a (back d)) (λ d. is_lined men e Grasshopper k b (back d))
+    (λ x u v hop. hop_kept men after a b s k (step_of x) i o (beside_lined men e Grasshopper k s a (step_of x) u small man)
+    (no_hurdle b s k (step_of x) (beside_lined men e Grasshopper k s b (step_of x) v small man)) hop)
+    (backward queen_steps (is_lined men e Grasshopper k a) refl ∙ p)
+    (backward queen_steps (is_lined men e Grasshopper k b) refl ∙ q) h
+
+-- one that has come from a hops as it would have hopped
+pub hopper_comes : (men after : List (Option Man)) (e : Colour) (a k s : ℕ) → Frees after men a → Holds after men s → s < 64 → a < 64
+    → is_man (man_on men a) e Grasshopper ≡ true → list_any (is_lined men e Grasshopper k a) queen_steps ≡ false
+    → list_any (hops after s k) queen_steps ≡ true → list_any (hops men s k) queen_steps ≡ true
+hopper_comes men after e a k s i o small low man p h =
+    let off : list_any (λ d. is_lined men e Grasshopper k a (back d)) queen_steps ≡ false =
+    backward queen_steps (is_lined men e Grasshopper k a) refl ∙ p in
+    any_kept queen_directions (hops after s k) (hops men s k) (λ d. is_lined men e Grasshopper k a (back d)) (λ d. is_lined men e Grasshopper k a (back d))
+    (λ x u v hop. hop_kept men after a s s k (step_of x) i o
+    (off_line a s k (step_of x) small (λ y. self_unlined men e Grasshopper k a (back (step_of x)) u low man))
+    (λ n at low le. not_again s (n - 1) (step_of x) (ordered x) small (omega arith)) hop)
+    off off h
+
+-- and so for nightriders
+pub nightrider_stays : (men after : List (Option Man)) (e : Colour) (a k s : ℕ) → Frees after men a → s < 64
+    → is_man (man_on men s) e Nightrider ≡ true → list_any (is_lined men e Nightrider k a) knight_steps ≡ false
+    → list_any (rides after s k) knight_steps ≡ true → list_any (rides men s k) knight_steps ≡ true
+nightrider_stays men after e a k s i small man p h =
+    let off : list_any (λ d. is_lined men e Nightrider k a (back d)) knight_steps ≡ false =
+    backward knight_steps (is_lined men e Nightrider k a) refl ∙ p in
+    any_kept knight_directions (rides after s k) (rides men s k) (λ d. is_lined men e Nightrider k a (back d)) (λ d. is_lined men e Nightrider k a (back d))
+    (λ x u v ride. ride_kept men after a s k (step_of x) i (beside_lined men e Nightrider k s a (step_of x) u small man) ride)
+    off off h
+
+pub nightrider_comes : (men after : List (Option Man)) (e : Colour) (a k s : ℕ) → Frees after men a → s < 64 → a < 64
+    → is_man (man_on men a) e Nightrider ≡ true → list_any (is_lined men e Nightrider k a) knight_steps ≡ false
+    → list_any (rides after s k) knight_steps ≡ true → list_any (rides men s k) knight_steps ≡ true
+nightrider_comes men after e a k s i small low man p h =
+    let off : list_any (λ d. is_lined men e Nightrider k a (back d)) knight_steps ≡ false =
+    backward knight_steps (is_lined men e Nightrider k a) refl ∙ p in
+    any_kept knight_directions (rides after s k) (rides men s k) (λ d. is_lined men e Nightrider k a (back d)) (λ d. is_lined men e Nightrider k a (back d))
+    (λ x u v ride. ride_kept men after a s k (step_of x) i
+    (off_line a s k (step_of x) small (λ y. self_unlined men e Nightrider k a (back (step_of x)) u low man)) ride)
+    off off h
+
+pub fairy_parts : (men : List (Option Man)) (e : Colour) (k t : ℕ) → is_on_fairy_line men e k t ≡ false
+    → (list_any (is_lined men e Grasshopper k t) queen_steps ≡ false) × (list_any (is_lined men e Nightrider k t) knight_steps ≡ false)
+unfolding is_on_fairy_line
+fairy_parts men e k t h = or_parts (list_any (is_lined men e Grasshopper k t) queen_steps) (list_any (is_lined men e Nightrider k t) knight_steps) h
+
+-- the words of such lines
+passed : (test : ℕ → Bool) (k w r : ℕ) (d : Step) → w ≡ word test → r ≡ ray k d → not (bit_and r w == 0) ≡ some_square (λ q. test q && is_ahead k d q)
+unfolding ray
+passed test k w r d h i =
+    (λ j. not (bit_and (i j) (h j) == 0)) ∙ ap (λ n. not (n == 0)) (squares_both (is_ahead k d) test) ∙ not_zero (λ q. is_ahead k d q && test q)
+    ∙ some_square_same _ _ (λ q b. swapped (is_ahead k d q) (test q)) where
+      swapped : (a b : Bool) → (a && b) ≡ (b && a)
+      swapped true true = refl
+      swapped true false = refl
+      swapped false true = refl
+      swapped false false = refl
+
+pub line_passes : (test : ℕ → Bool) (k w r : ℕ) (d : Step) → w ≡ word test → r ≡ ray k d → (bit_and r w == 0) ≡ false
+    → r ≡ word (λ t. is_ahead k d t && some_square (λ q. test q && is_ahead k d q))
+unfolding ray
+line_passes test k w r d h i some =
+    i ∙ squares_same _ _ (λ t b. sym (ap (λ (y : Bool). is_ahead k d t && y) (sym (passed test k w r d h i) ∙ ap not some) ∙ and_true (is_ahead k d t))) where
+      and_true : (a : Bool) → (a && true) ≡ a
+      and_true true = refl
+      and_true false = refl
+
+pub line_misses : (test : ℕ → Bool) (k w r : ℕ) (d : Step) → w ≡ word test → r ≡ ray k d → (bit_and r w == 0) ≡ true
+    → 0 ≡ word (λ t. is_ahead k d t && some_square (λ q. test q && is_ahead k d q))
+line_misses test k w r d h i none =
+    word_empty _ (λ t b. and_right (is_ahead k d t) _ (sym (passed test k w r d h i) ∙ ap not none))
+
+-- where no such man stands, or no king
+none_of : (p : ℕ → Bool) (q : ℕ) → some_square p ≡ false → q < 64 → p q ≡ false
+none_of p q h lt = false_from_ne_true _ (λ y. false≢true (sym h ∙ some_square_true p q lt y))
+
+no_man_lined : (men : List (Option Man)) (e : Colour) (j : Kind) (k t : ℕ) (ds : List Step) → some_square (λ s. is_man (man_on men s) e j) ≡ false
+    → list_any (is_lined men e j k t) ds ≡ false
+no_man_lined men e j k t [] h = refl
+no_man_lined men e j k t (d ∷ ds) h =
+    let nobody : some_square (λ q. is_man (man_on men q) e j && is_ahead k d q) ≡ false =
+    some_square_false (λ q. is_man (man_on men q) e j && is_ahead k d q) 64 (omega arith) (record {
+      fails = λ q lt. and_left (is_man (man_on men q) e j) _ (none_of (λ s. is_man (man_on men s) e j) q h lt);
+    }) in
+    let first : is_lined men e j k t d ≡ false = and_right (is_ahead k d t) _ nobody in
+    (λ i. first i || no_man_lined men e j k t ds h i)
+
+no_line : (men : List (Option Man)) (e : Colour) (k t : ℕ) → has_fairy men e ≡ false → is_on_fairy_line men e k t ≡ false
+unfolding has_fairy is_on_fairy_line
+no_line men e k t h =
+    let n = or_parts (some_square (λ s. is_man (man_on men s) e Grasshopper)) (some_square (λ s. is_man (man_on men s) e Nightrider)) h in
+    (λ i. no_man_lined men e Grasshopper k t queen_steps n.0 i || no_man_lined men e Nightrider k t knight_steps n.1 i)
+
+pub no_fairy_line : (men : List (Option Man)) (c : Colour) → has_fairy men (other c) ≡ false → 0 ≡ word (may_stand_between men c)
+unfolding may_stand_between
+no_fairy_line men c h = word_empty _ (λ t b. by (king_square men c) t) where
+  by : (o : Option ℕ) (t : ℕ) → is_on_fairy_line_to men o c t ≡ false
+  by None t = refl
+  by (Some k) t = no_line men (other c) k t h
+
+pub no_king_lined : (men : List (Option Man)) (c : Colour) → king_square men c ≡ None → 0 ≡ word (may_stand_between men c)
+unfolding may_stand_between
+no_king_lined men c h = word_empty _ (λ t b. ap (λ (o : Option ℕ). is_on_fairy_line_to men o c t) h)
+
+pub fairy_lines_are : (men : List (Option Man)) (c : Colour) (k w n : ℕ) → king_square men c ≡ Some k
+    → w ≡ word (λ t. list_any (is_lined men (other c) Grasshopper k t) queen_steps)
+    → n ≡ word (λ t. list_any (is_lined men (other c) Nightrider k t) knight_steps) → bit_or w n ≡ word (may_stand_between men c)
+unfolding may_stand_between is_on_fairy_line
+fairy_lines_are men c k w n at h i =
+    (λ j. bit_or (h j) (i j))
+    ∙ squares_either (λ t. list_any (is_lined men (other c) Grasshopper k t) queen_steps) (λ t. list_any (is_lined men (other c) Nightrider k t) knight_steps)
+    ∙ squares_same _ _ (λ t b. sym (ap (λ (o : Option ℕ). is_on_fairy_line_to men o c t) at))
+
+pub man_test : (men : List (Option Man)) (e : Colour) (j : Kind) (w : ℕ) → w ≡ squares_of men e j → w ≡ word (λ q. is_man (man_on men q) e j)
+unfolding squares_of
+man_test men e j w h = h

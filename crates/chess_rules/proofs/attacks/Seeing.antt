@@ -1,0 +1,176 @@
+-- The men that an attack sees once a move is made.
+use Rattle.std.proofs.Common.{◌≡◌, ◌≢◌, ℕ, ◌<◌, Bool, true, false, ◌&&◌, ◌||◌, not, List, length, Option, Some, None, is_some, refl, sym, ap, ◌∙◌, inl, inr, rules}
+use Rattle.std.specs.Int.{bit_not, w64}
+use Rattle.std.specs.Int.Bits.{bit_and}
+use Rattle.std.proofs.lemmas.Bool.{and_left, and_right, cases_Bool, cases_eq, eq-eqb, eqb-true, false≢true, or_cases, or_left, or_parts, or_right}
+use Rattle.std.proofs.lemmas.List.{length-set}
+use Rattle.chess_core.specs.Position.{is_man, is_side, king_square, man_on, other, same_colour, same_kind, with_man, without_man}
+use Rattle.chess_core.specs.Squares.{is_square, squares}
+use Rattle.chess_core.specs.ties.Words.{squares_of, word}
+use Rattle.chess_core.specs.declared.man.Colour.{Colour}
+use Rattle.chess_core.specs.declared.man.Kind.{Kind}
+use Rattle.chess_core.specs.declared.man.Kind.TheVariants.{King}
+use Rattle.chess_core.specs.declared.man.Man.{Man}
+use Rattle.chess_core.proofs.Men.{man_on-with_other, man_on-without_other, man_on-without_same}
+use Rattle.chess_core.proofs.Words.{squares_both, squares_either, squares_not, squares_same}
+use Rattle.chess_rules.specs.Play.{without_at}
+use Rattle.chess_rules.specs.ties.Sight.{AreSeen, sight_after}
+use Rattle.chess_rules.proofs.making_moves.Plays.{stays_empty}
+use Rattle.chess_rules.proofs.attacks.Shielding.{every_square}
+use Rattle.chess_rules.proofs.Tests.{differs}
+
+pub and_true : (a : Bool) → (a && true) ≡ a
+and_true true = refl
+and_true false = refl
+
+-- a man stands on s once the man on a is gone, that on o too, and one has come to b
+abbrev pub is_occupied_after : List (Option Man) → ℕ → Option ℕ → ℕ → ℕ → Bool
+is_occupied_after men a o b s = (is_some (man_on men s) && not (is_square (Some a) s || is_square o s)) || is_square (Some b) s
+
+pub neither : (a b : Bool) → a ≡ false → b ≡ false → (a || b) ≡ false
+neither true b p q = absurd (false≢true (sym p))
+neither false b p q = q
+
+-- all men of the board
+pub seen_now : (men : List (Option Man)) (c : Colour) (k : Kind) → bit_and (squares_of men c k) (bit_not w64 0) ≡ squares_of men c k
+unfolding squares_of
+seen_now men c k =
+    ap (bit_and (word (λ s. is_man (man_on men s) c k))) (every_square (λ s. true) (λ s b. refl))
+    ∙ squares_both (λ s. is_man (man_on men s) c k) (λ s. true)
+    ∙ squares_same _ _ (λ s b. and_true (is_man (man_on men s) c k))
+
+-- the words after a move, by tests
+pub occupied_words : (men : List (Option Man)) (a : ℕ) (o : Option ℕ) (b : ℕ) → (sight_after men a o b).occupied ≡ word (is_occupied_after men a o b)
+occupied_words men a o b = search (rules, squares_both, squares_either, squares_not)
+
+-- the men once z has come from a to b and the man on o is gone
+abbrev pub gone_to : List (Option Man) → ℕ → Option ℕ → ℕ → Man → List (Option Man)
+gone_to men a o b z = with_man (without_at (without_man men a) o) b z
+
+pub length-without_at : (men : List (Option Man)) (o : Option ℕ) → length (without_at men o) ≡ length men
+length-without_at men None = refl
+length-without_at men (Some s) = length-set men s None
+
+pub there_now : (men : List (Option Man)) (a : ℕ) (o : Option ℕ) (b : ℕ) (z : Man) → b < length men → man_on (gone_to men a o b z) b ≡ Some z
+there_now men a o b z small = search rules
+
+gone_at : (men : List (Option Man)) (o : Option ℕ) (q : ℕ) → is_square o q ≡ true → man_on (without_at men o) q ≡ None
+gone_at men None q h = absurd (false≢true h)
+gone_at men (Some s) q h = ap (λ (n : ℕ). man_on (without_man men n) q) (eqb-true s q h) ∙ man_on-without_same men q
+
+kept_at : (men : List (Option Man)) (o : Option ℕ) (q : ℕ) → is_square o q ≡ false → man_on (without_at men o) q ≡ man_on men q
+kept_at men None q h = refl
+kept_at men (Some s) q h = man_on-without_other men s q (λ e. false≢true (sym h ∙ eq-eqb s q (sym e)))
+
+pub left_now : (men : List (Option Man)) (a : ℕ) (o : Option ℕ) (b : ℕ) (z : Man) (q : ℕ) → q ≢ b → (is_square (Some a) q || is_square o q) ≡ true
+    → man_on (gone_to men a o b z) q ≡ None
+left_now men a o b z q ne h =
+    man_on-with_other (without_at (without_man men a) o) b q z ne
+    ∙ elim (or_cases (is_square (Some a) q) (is_square o q) h) [
+      | inl y ↦ stays_empty (without_man men a) o q (gone_at men (Some a) q y)
+      | inr y ↦ gone_at (without_man men a) o q y
+    ]
+
+pub kept_now : (men : List (Option Man)) (a : ℕ) (o : Option ℕ) (b : ℕ) (z : Man) (q : ℕ) → q ≢ b → (is_square (Some a) q || is_square o q) ≡ false
+    → man_on (gone_to men a o b z) q ≡ man_on men q
+kept_now men a o b z q ne h = search (rules, kept_at, man_on-with_other, or_parts)
+
+is_gone : (h l t : Bool) → l ≡ true → t ≡ false → ((h && not l) || t) ≡ false
+is_gone true true false p q = refl
+is_gone false true false p q = refl
+is_gone h false t p q = absurd (false≢true p)
+is_gone true true true p q = absurd (false≢true (sym q))
+is_gone false true true p q = absurd (false≢true (sym q))
+
+is_kept : (h l t : Bool) → l ≡ false → t ≡ false → ((h && not l) || t) ≡ h
+is_kept true false false p q = refl
+is_kept false false false p q = refl
+is_kept h true t p q = absurd (false≢true (sym p))
+is_kept true false true p q = refl
+is_kept false false true p q = absurd (false≢true (sym q))
+
+pub occupied_now : (men : List (Option Man)) (a : ℕ) (o : Option ℕ) (b : ℕ) (z : Man) (q : ℕ) → b < length men
+    → is_occupied_after men a o b q ≡ is_some (man_on (gone_to men a o b z) q)
+occupied_now men a o b z q small = search (rules, cases_Bool, cases_eq, differs, eq-eqb, is_gone, is_kept, kept_now, left_now, or_right, there_now)
+
+-- what is asked of the man on the origin, of the one that arrives, and of the arrival
+pub record IsCapture (men : List (Option Man)) (a : ℕ) (o : Option ℕ) (b : ℕ) (z : Man) (c : Colour) : Type 0 where
+  pub small : b < length men
+  pub own : is_side (man_on men a) (other c) ≡ false
+  pub arriving : same_colour z.colour (other c) ≡ false
+  pub captured : is_some (man_on men b) ≡ true → is_square o b ≡ true
+
+pub no_man : (o : Option Man) (c : Colour) (k : Kind) → is_side o c ≡ false → is_man o c k ≡ false
+no_man None c k h = refl
+no_man (Some y) c k h = and_left (same_colour y.colour c) (same_kind y.kind k) h
+
+nobody : (o : Option Man) (c : Colour) (k : Kind) → is_some o ≡ false → is_man o c k ≡ false
+nobody None c k h = refl
+nobody (Some y) c k h = absurd (false≢true (sym h))
+
+enemy_now : (men : List (Option Man)) (a : ℕ) (o : Option ℕ) (b : ℕ) (z : Man) (c : Colour) (k : Kind) (q : ℕ) → IsCapture men a o b z c
+    → (is_man (man_on men q) (other c) k && not (is_square o q)) ≡ is_man (man_on (gone_to men a o b z) q) (other c) k
+enemy_now men a o b z c k q i = elim (cases_eq q b) [
+  | inl e ↦
+      let there : man_on (gone_to men a o b z) q ≡ Some z = ap (man_on (gone_to men a o b z)) e ∙ there_now men a o b z i.small in
+      let none : is_man (man_on (gone_to men a o b z) q) (other c) k ≡ false =
+      rw there (and_left (same_colour z.colour (other c)) (same_kind z.kind k) i.arriving) in
+      elim (cases_Bool (is_some (man_on men b))) [
+        | inl y ↦ and_right (is_man (man_on men q) (other c) k) (not (is_square o q)) (ap not (ap (is_square o) e ∙ i.captured y)) ∙ sym none
+        | inr n ↦ and_left (is_man (man_on men q) (other c) k) (not (is_square o q))
+            (nobody (man_on men q) (other c) k (ap (λ (s : ℕ). is_some (man_on men s)) e ∙ n)) ∙ sym none
+      ]
+  | inr ne ↦ elim (cases_Bool (is_square o q)) [
+    | inl y ↦
+        let left : man_on (gone_to men a o b z) q ≡ None = left_now men a o b z q ne (or_right (is_square (Some a) q) (is_square o q) y) in
+        and_right (is_man (man_on men q) (other c) k) (not (is_square o q)) (ap not y) ∙ sym (rw left refl)
+    | inr n ↦ elim (cases_Bool (is_square (Some a) q)) [
+      | inl y ↦
+          let left : man_on (gone_to men a o b z) q ≡ None = left_now men a o b z q ne (or_left (is_square (Some a) q) (is_square o q) y) in
+          let mine : is_man (man_on men q) (other c) k ≡ false = ap (λ (s : ℕ). is_man (man_on men s) (other c) k) (sym (eqb-true a q y))
+          ∙ no_man (man_on men a) (other c) k i.own in
+          and_left (is_man (man_on men q) (other c) k) (not (is_square o q)) mine ∙ sym (rw left refl)
+      | inr off ↦
+          let kept : man_on (gone_to men a o b z) q ≡ man_on men q = kept_now men a o b z q ne (neither (is_square (Some a) q) (is_square o q) off n) in
+          ap (λ (x : Bool). is_man (man_on men q) (other c) k && not x) n ∙ and_true (is_man (man_on men q) (other c) k)
+          ∙ sym (ap (λ (y : Option Man). is_man y (other c) k) kept)
+    ]
+  ]
+]
+
+-- the words after a move are those of the men after it
+pub seen_after : (men : List (Option Man)) (a : ℕ) (o : Option ℕ) (b : ℕ) (z : Man) (c : Colour) → IsCapture men a o b z c
+    → AreSeen men (gone_to men a o b z) (other c) (sight_after men a o b)
+unfolding squares_of
+seen_after men a o b z c i = search (rules, enemy_now, occupied_now, occupied_words, squares_both, squares_not, squares_same)
+
+-- no king goes, arrives, or is captured
+pub record IsNoKing (men : List (Option Man)) (a : ℕ) (o : Option ℕ) (b : ℕ) (z : Man) (c : Colour) : Type 0 where
+  pub small : b < length men
+  pub here : is_man (man_on men a) c King ≡ false
+  pub comes : is_man (Some z) c King ≡ false
+  pub arrival : is_man (man_on men b) c King ≡ false
+  pub captured : (s : ℕ) → is_square o s ≡ true → is_man (man_on men s) c King ≡ false
+
+king_now : (men : List (Option Man)) (a : ℕ) (o : Option ℕ) (b : ℕ) (z : Man) (c : Colour) (q : ℕ) → IsNoKing men a o b z c
+    → is_man (man_on (gone_to men a o b z) q) c King ≡ is_man (man_on men q) c King
+king_now men a o b z c q i = elim (cases_eq q b) [
+  | inl e ↦
+      let there : man_on (gone_to men a o b z) q ≡ Some z = ap (man_on (gone_to men a o b z)) e ∙ there_now men a o b z i.small in
+      rw there i.comes ∙ sym (ap (λ (s : ℕ). is_man (man_on men s) c King) e ∙ i.arrival)
+  | inr ne ↦ elim (cases_Bool (is_square (Some a) q || is_square o q)) [
+    | inl y ↦
+        let left : man_on (gone_to men a o b z) q ≡ None = left_now men a o b z q ne y in
+        let none : is_man (man_on men q) c King ≡ false = elim (or_cases (is_square (Some a) q) (is_square o q) y) [
+          | inl at ↦ ap (λ (s : ℕ). is_man (man_on men s) c King) (sym (eqb-true a q at)) ∙ i.here
+          | inr at ↦ i.captured q at
+        ] in
+        rw left (sym none)
+    | inr n ↦ ap (λ (y : Option Man). is_man y c King) (kept_now men a o b z q ne n)
+  ]
+]
+
+pub king_stands : (men : List (Option Man)) (a : ℕ) (o : Option ℕ) (b : ℕ) (z : Man) (c : Colour) → IsNoKing men a o b z c
+    → king_square (gone_to men a o b z) c ≡ king_square men c
+unfolding king_square squares
+king_stands men a o b z c i = search (rules, king_now)

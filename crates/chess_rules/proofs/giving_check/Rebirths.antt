@@ -1,0 +1,268 @@
+-- A man who is reborn gives his own king no check, but as a grasshopper's hurdle.
+use Rattle.std.proofs.Common.{◌≡◌, ℕ, ◌-◌, ◌<◌, Bool, true, false, ◌&&◌, ◌==◌, not, List, [], ◌∷◌, length, Option, Some, None, is_some, refl, sym, ap, ◌∙◌, arith, inl, inr}
+use Rattle.std.specs.Int.{bit_at}
+use Rattle.std.specs.List.{list_all, list_any, range_with_len}
+use Rattle.std.proofs.lemmas.Bool.{and_from, and_parts, cases_Bool, cond-false, cond-true, false_from_ne_true, false≢true, not-true, or_cases, or_left, or_right}
+use Rattle.chess_core.specs.Position.{AtMostOneKing, Position, is_man, is_side, king_square, man_on, other, same_colour, same_kind, with_man, without_man}
+use Rattle.chess_core.specs.Squares.{is_square, squares}
+use Rattle.chess_core.specs.Steps.{along, diagonal_steps, knight_steps, queen_steps, straight_steps}
+use Rattle.chess_core.specs.WellFormed.{IsWellFormed}
+use Rattle.chess_core.specs.ties.Words.{word}
+use Rattle.chess_core.proofs.Words.{squares_same}
+use Rattle.chess_core.specs.declared.man.Colour.{Colour}
+use Rattle.chess_core.specs.declared.man.Kind.{Kind}
+use Rattle.chess_core.specs.declared.man.Kind.TheVariants.{King, Queen, Rook, Bishop, Knight, Pawn, Grasshopper, Nightrider}
+use Rattle.chess_core.specs.declared.man.Man.{Man}
+use Rattle.chess_core.specs.declared.man.Move.{Move}
+use Rattle.chess_core.specs.declared.step.Step.{Step}
+use Rattle.chess_core.proofs.Men.{is_man-without}
+use Rattle.chess_core.proofs.Ranges.{some_square_false, some_square_true}
+use Rattle.chess_rules.specs.Attacks.{attacked, check_of, in_check, paralysed, strikes}
+use Rattle.chess_rules.specs.Legal.{castles, may_castle, pseudo, pseudo_of}
+use Rattle.chess_rules.specs.Play.{after, after_by, arriving, capture_square, corner, halfway, is_castling, man_on_at, move_man, moved_men, put_at, reborn_square, without_at}
+use Rattle.chess_rules.specs.Reaches.{is_clear, is_vacant, reaches, reaches_as, reaches_of, rides}
+use Rattle.chess_rules.specs.RuleSet.{RuleSet, circe, madrasi, orthodox}
+use Rattle.chess_rules.specs.declared.checks.CheckSquares.{CheckSquares}
+use Rattle.chess_rules.specs.ties.CheckSquares.{AreCheckSquares, are_rebirths_quiet, check_squares_for, is_absent, rule_of_checks, may_check_from}
+use Rattle.chess_rules.specs.ties.Shields.{cannot_expose, may_expose, may_expose_on}
+use Rattle.chess_rules.proofs.giving_check.Checking.{no_check, other_twice}
+use Rattle.chess_rules.proofs.making_moves.Fits.{arrived}
+use Rattle.chess_rules.proofs.making_moves.Pseudo.{IsMade, made, on_board}
+use Rattle.chess_rules.proofs.attacks.Shielding.{king_is, man_there, unreborn_after}
+use Rattle.chess_rules.proofs.making_moves.Stays.{captured_enemy, captured_mortal, man_on-with_cases, moved_sound}
+use Rattle.chess_rules.proofs.Tests.{find_first}
+
+-- what holds of each holds of all, and what of one of some
+all_kept : (f g : ℕ → Bool) (ns : List ℕ) → ((n : ℕ) → f n ≡ true → g n ≡ true) → list_all f ns ≡ true → list_all g ns ≡ true
+all_kept f g [] each h = refl
+all_kept f g (n ∷ ns) each h = let both = and_parts (f n) (list_all f ns) h in and_from _ _ (each n both.0) (all_kept f g ns each both.1)
+
+any_kept : {A : Type 0} (f g : A → Bool) (xs : List A) → ((x : A) → f x ≡ true → g x ≡ true) → list_any f xs ≡ true → list_any g xs ≡ true
+any_kept f g [] each h = h
+any_kept f g (x ∷ xs) each h = elim (or_cases (f x) (list_any f xs) h) [
+  | inl y ↦ or_left (g x) _ (each x y)
+  | inr y ↦ or_right (g x) _ (any_kept f g xs each y)
+]
+
+-- no grasshopper of this colour stands there
+abbrev LacksGrasshopper : List (Option Man) → Colour → Type 0
+LacksGrasshopper men e = (s : ℕ) → is_man (man_on men s) e Grasshopper ≡ false
+
+-- once y stands on r too, lines are shut and none is opened
+module _ (men : List (Option Man)) (r : ℕ) (y : Man) where
+  was_vacant : (o : Option ℕ) → is_vacant (with_man men r y) o ≡ true → is_vacant men o ≡ true
+  was_vacant None h = h
+  was_vacant (Some q) h = elim (man_on-with_cases men r q y) [
+    | inl e ↦ absurd (false≢true (sym (ap (λ (o : Option Man). not (is_some o)) e.1) ∙ h))
+    | inr e ↦ ap (λ (o : Option Man). not (is_some o)) (sym e) ∙ h
+  ]
+
+  rode : (s t : ℕ) (d : Step) → rides (with_man men r y) s t d ≡ true → rides men s t d ≡ true
+  unfolding rides is_clear
+  rode s t d h =
+      any_kept (λ k. is_square (along s d k) t && list_all (λ i. is_vacant (with_man men r y) (along s d i)) (range_with_len 1 (k - 1)))
+      (λ k. is_square (along s d k) t && list_all (λ i. is_vacant men (along s d i)) (range_with_len 1 (k - 1))) (range_with_len 1 7)
+      (λ k here.
+      let both = and_parts (is_square (along s d k) t) _ here in
+      and_from _ _ both.0 (all_kept (λ i. is_vacant (with_man men r y) (along s d i)) (λ i. is_vacant men (along s d i)) (range_with_len 1 (k - 1))
+      (λ i. was_vacant (along s d i)) both.1)) h
+
+  rode_so : (ds : List Step) (s t : ℕ) → list_any (rides (with_man men r y) s t) ds ≡ true → list_any (rides men s t) ds ≡ true
+  rode_so ds s t h = any_kept (rides (with_man men r y) s t) (rides men s t) ds (λ d. rode s t d) h
+
+  reached : (e : Colour) (j : Kind) (s t : ℕ) → same_kind j Grasshopper ≡ false → reaches_as (with_man men r y) e j s t ≡ true → reaches_as men e j s t ≡ true
+  unfolding reaches_as
+  reached e King s t g h = h
+  reached e Queen s t g h = rode_so queen_steps s t h
+  reached e Rook s t g h = rode_so straight_steps s t h
+  reached e Bishop s t g h = rode_so diagonal_steps s t h
+  reached e Knight s t g h = h
+  reached e Pawn s t g h = h
+  reached e Grasshopper s t g h = absurd (false≢true (sym g))
+  reached e Nightrider s t g h = rode_so knight_steps s t h
+
+  -- so y gives the king of his colour no check
+  module _ (c : Colour) (own : same_colour y.colour (other c) ≡ false) (mortal : same_kind y.kind King ≡ false) (lacks : LacksGrasshopper men (other c))
+      (one : AtMostOneKing men) where
+    struck_by : (k s : ℕ) (o : Option Man) → man_on men s ≡ o → is_side o (other c) ≡ true → reaches_of (with_man men r y) o s k ≡ true
+        → strikes orthodox men k (other c) s ≡ true
+    unfolding strikes reaches paralysed
+    struck_by k s None here side h = absurd (false≢true side)
+    struck_by k s (Some z) here side h =
+        let none : is_man (Some z) (other c) Grasshopper ≡ false = ap (λ (o : Option Man). is_man o (other c) Grasshopper) (sym here) ∙ lacks s in
+        let other_kind : same_kind z.kind Grasshopper ≡ false = false_from_ne_true _ (λ g. false≢true (sym none ∙ and_from _ _ side g)) in
+        and_from _ _ (and_from _ _ (ap (λ (o : Option Man). is_side o (other c)) here ∙ side) refl)
+        (ap (λ (o : Option Man). reaches_of men o s k) here ∙ reached z.colour z.kind s k other_kind h)
+
+    struck : (k s : ℕ) → strikes circe (with_man men r y) k (other c) s ≡ true → strikes orthodox men k (other c) s ≡ true
+    unfolding strikes reaches
+    struck k s h =
+        let h1 = and_parts _ (reaches (with_man men r y) s k) h in
+        let side : is_side (man_on (with_man men r y) s) (other c) ≡ true = (and_parts _ _ h1.0).0 in
+        elim (man_on-with_cases men r s y) [
+          | inl e ↦ absurd (false≢true (sym own ∙ ap (λ (o : Option Man). is_side o (other c)) (sym e.1) ∙ side))
+          | inr e ↦ struck_by k s (man_on men s) refl (ap (λ (o : Option Man). is_side o (other c)) (sym e) ∙ side)
+              (ap (λ (o : Option Man). reaches_of (with_man men r y) o s k) (sym e) ∙ h1.1)
+        ]
+
+    king_stood : (k : ℕ) → is_man (man_on (with_man men r y) k) c King ≡ true → is_man (man_on men k) c King ≡ true
+    king_stood k h = elim (man_on-with_cases men r k y) [
+      | inl e ↦
+          let is : is_man (Some y) c King ≡ true = ap (λ (o : Option Man). is_man o c King) (sym e.1) ∙ h in
+          absurd (false≢true (sym mortal ∙ (and_parts (same_colour y.colour c) _ is).1))
+      | inr e ↦ ap (λ (o : Option Man). is_man o c King) (sym e) ∙ h
+    ]
+
+    reborn_quietly : in_check orthodox men c ≡ false → in_check circe (with_man men r y) c ≡ false
+    unfolding in_check king_square squares attacked
+    reborn_quietly safe = by (king_square (with_man men r y) c) refl where
+      by : (o : Option ℕ) → king_square (with_man men r y) c ≡ o → check_of circe (with_man men r y) o (other c) ≡ false
+      by None e = refl
+      by (Some k) e =
+          let f = find_first (λ s. is_man (man_on (with_man men r y) s) c King) 0 64 k e in
+          let inside : k < 64 = omega (arith, f.high) in
+          let at : king_square men c ≡ Some k = king_is men c k one inside (king_stood k f.here) in
+          let none : check_of orthodox men (Some k) (other c) ≡ false = ap (λ (o : Option ℕ). check_of orthodox men o (other c)) (sym at) ∙ safe in
+          some_square_false (strikes circe (with_man men r y) k (other c)) 64 (omega arith) (record {
+            fails = λ s lt. false_from_ne_true _ (λ h.
+                false≢true (sym none ∙ some_square_true (strikes orthodox men k (other c)) s lt (struck k s h)));
+          })
+
+-- rebirths apart, Circe is as orthodox chess
+pub same_check : (men : List (Option Man)) (c : Colour) → in_check circe men c ≡ in_check orthodox men c
+unfolding in_check attacked strikes paralysed
+same_check men c = by (king_square men c) where
+  by : (o : Option ℕ) → check_of circe men o (other c) ≡ check_of orthodox men o (other c)
+  by None = refl
+  by (Some k) = refl
+
+same_castles : (p : Position) (x : Man) (m : Move) → castles circe p x m ≡ castles orthodox p x m
+unfolding castles may_castle paralysed
+same_castles p x m =
+    rw (same_check p.men x.colour, same_check (with_man (without_man p.men m.from) (halfway m) x) x.colour) refl
+
+pub pseudo_so : (p : Position) (m : Move) → pseudo circe p m ≡ true → pseudo orthodox p m ≡ true
+unfolding pseudo paralysed
+pseudo_so p m h = sym (by (man_on p.men m.from)) ∙ h where
+  by : (o : Option Man) → pseudo_of circe p o m ≡ pseudo_of orthodox p o m
+  by None = refl
+  by (Some x) = rw (same_castles p x m) refl
+
+-- nobody becomes a grasshopper but by promotion
+lacks_without : (men : List (Option Man)) (a : ℕ) (e : Colour) → LacksGrasshopper men e → LacksGrasshopper (without_man men a) e
+lacks_without men a e none = λ s. false_from_ne_true _ (λ h. false≢true (sym (none s) ∙ is_man-without men a s e Grasshopper h))
+
+lacks_without_at : (men : List (Option Man)) (o : Option ℕ) (e : Colour) → LacksGrasshopper men e → LacksGrasshopper (without_at men o) e
+lacks_without_at men None e none = none
+lacks_without_at men (Some a) e none = lacks_without men a e none
+
+lacks_with : (men : List (Option Man)) (b : ℕ) (z : Man) (e : Colour) → LacksGrasshopper men e → is_man (Some z) e Grasshopper ≡ false
+    → LacksGrasshopper (with_man men b z) e
+lacks_with men b z e none other_man = λ s. elim (man_on-with_cases men b s z) [
+  | inl t ↦ ap (λ (o : Option Man). is_man o e Grasshopper) t.1 ∙ other_man
+  | inr t ↦ ap (λ (o : Option Man). is_man o e Grasshopper) t ∙ none s
+]
+
+lacks_moved : (men : List (Option Man)) (a b : ℕ) (o : Option Man) (e : Colour) → man_on men a ≡ o → LacksGrasshopper men e
+    → LacksGrasshopper (move_man men a b o) e
+lacks_moved men a b None e here none = none
+lacks_moved men a b (Some z) e here none =
+    lacks_with (without_man men a) b z e (lacks_without men a e none) (ap (λ (o : Option Man). is_man o e Grasshopper) (sym here) ∙ none a)
+
+moved_lacks : (p : Position) (x : Man) (m : Move) (e : Colour) → man_on p.men m.from ≡ Some x → m.promo ≡ None → LacksGrasshopper p.men e
+    → LacksGrasshopper (moved_men p x m) e
+unfolding moved_men
+moved_lacks p x m e here unpromoted none =
+    let comes : is_man (Some (arriving x m.promo)) e Grasshopper ≡ false = ap (λ (r : Option Kind). is_man (Some (arriving x r)) e Grasshopper) unpromoted
+    ∙ ap (λ (o : Option Man). is_man o e Grasshopper) (sym here) ∙ none m.from in
+    let arrived_lacks : LacksGrasshopper (arrived p x m) e =
+    lacks_with (without_at (without_man p.men m.from) (capture_square p x m)) m.to (arriving x m.promo) e
+    (lacks_without_at (without_man p.men m.from) (capture_square p x m) e (lacks_without p.men m.from e none)) comes in
+    elim (cases_Bool (is_castling x m)) [
+      | inl castles ↦ rw castles (lacks_moved (arrived p x m) (corner m) (halfway m) (man_on (arrived p x m) (corner m)) e refl arrived_lacks)
+      | inr no_castles ↦ rw no_castles arrived_lacks
+    ]
+
+absent_lacks : (men : List (Option Man)) (e : Colour) → length men ≡ 64 → is_absent men (record { colour = e; kind = Grasshopper }) ≡ true
+    → LacksGrasshopper men e
+absent_lacks men e size absent = λ s. false_from_ne_true _ (λ h.
+    let z = man_there (man_on men s) e Grasshopper h in
+    false≢true (sym (not-true _ absent) ∙ some_square_true (λ q. is_man (man_on men q) e Grasshopper) s (on_board men s z.0 size z.1) h))
+
+pub after_is : (rule : RuleSet) (p : Position) (x : Man) (m : Move) → man_on p.men m.from ≡ Some x
+    → (after rule p m).men ≡ put_at (moved_men p x m) (reborn_square rule p x m) (man_on_at p.men (capture_square p x m))
+unfolding after after_by
+after_is rule p x m here = rw here refl
+
+-- where the mover has no grasshopper, a move that gives no check in orthodox chess gives none in Circe, promotions apart
+pub rebirth_gives_no_check : (p : Position) (x : Man) (m : Move) → IsWellFormed p → pseudo circe p m ≡ true → man_on p.men m.from ≡ Some x → m.promo ≡ None
+    → is_absent p.men (record { colour = p.turn; kind = Grasshopper }) ≡ true → in_check orthodox (after orthodox p m).men (other p.turn) ≡ false
+    → in_check circe (after circe p m).men (other p.turn) ≡ false
+rebirth_gives_no_check p x m well may here unpromoted absent safe =
+    ap (λ (men : List (Option Man)). in_check circe men (other p.turn)) (after_is circe p x m here)
+    ∙ by (reborn_square circe p x m) (man_on_at p.men (capture_square p x m)) refl where
+      is : IsMade circe p x m
+      is = made circe p m x may here
+
+      before : in_check orthodox (moved_men p x m) (other p.turn) ≡ false
+      before =
+          ap (λ (men : List (Option Man)). in_check orthodox men (other p.turn)) (sym (unreborn_after orthodox p x m here (λ e. absurd (false≢true e)))) ∙ safe
+
+      lacks : LacksGrasshopper (moved_men p x m) p.turn
+      lacks = moved_lacks p x m p.turn here unpromoted (absent_lacks p.men p.turn well.size absent)
+
+      by : (o : Option ℕ) (w : Option Man) → man_on_at p.men (capture_square p x m) ≡ w → in_check circe (put_at (moved_men p x m) o w) (other p.turn) ≡ false
+      by None w who = same_check (moved_men p x m) (other p.turn) ∙ before
+      by (Some r) None who = same_check (moved_men p x m) (other p.turn) ∙ before
+      by (Some r) (Some y) who =
+          reborn_quietly (moved_men p x m) r y (other p.turn)
+          (ap (same_colour y.colour) (other_twice p.turn) ∙ captured_enemy circe p x m y well is who) (captured_mortal circe p x m y well is who)
+          (λ s. ap (λ (e : Colour). is_man (man_on (moved_men p x m) s) e Grasshopper) (other_twice p.turn) ∙ lacks s)
+          (moved_sound circe p x m well is).kings before
+
+-- the shields are the same under all rules
+pub shields_alike : (q r : RuleSet) (men : List (Option Man)) (c : Colour) → word (may_expose q men c) ≡ word (may_expose r men c)
+unfolding may_expose
+shields_alike q r men c = squares_same (may_expose q men c) (may_expose r men c) (λ s b. by (king_square men c) s) where
+  by : (o : Option ℕ) (s : ℕ) → may_expose_on q men o c s ≡ may_expose_on r men o c s
+  by None s = refl
+  by (Some k) s = refl
+
+pub check_squares_alike : (q r : RuleSet) (men : List (Option Man)) (c : Colour) (s : CheckSquares) → AreCheckSquares q men c s → AreCheckSquares r men c s
+check_squares_alike q r men c s a = record {
+  shield_squares = a.shield_squares ∙ shields_alike q r men c;
+  straight = a.straight;
+  diagonal = a.diagonal;
+  knight = a.knight;
+  pawn = a.pawn;
+  grasshopper = a.grasshopper;
+  nightrider = a.nightrider;
+}
+
+pub quiet_parts : (rule : RuleSet) (men : List (Option Man)) (e : Colour) → are_rebirths_quiet rule men e ≡ true
+    → (rule ≡ circe) × (is_absent men (record { colour = e; kind = Grasshopper }) ≡ true)
+unfolding are_rebirths_quiet
+quiet_parts orthodox men e h = absurd (false≢true h)
+quiet_parts circe men e h = (refl, h)
+quiet_parts madrasi men e h = absurd (false≢true h)
+
+-- a move that gives no check by the rules of checks gives none
+pub no_check_by_rebirth : (rule : RuleSet) (p : Position) (x : Man) (m : Move) (s : CheckSquares) (y : Man) (w t : ℕ) → IsWellFormed p → pseudo rule p m ≡ true
+    → man_on p.men m.from ≡ Some x → AreCheckSquares rule p.men (other p.turn) s → y ≡ arriving x m.promo → w ≡ check_squares_for s y.kind → t ≡ m.to → t < 64
+    → (bit_at w t == 1) ≡ false → (same_kind y.kind King ≡ true → may_check_from p.men (other p.turn) y t ≡ false) → m.promo ≡ None
+    → cannot_expose (rule_of_checks rule p.men p.turn) p (other p.turn) m ≡ true → in_check rule (after rule p m).men (other p.turn) ≡ false
+no_check_by_rebirth rule p x m s y w t well may here a is h same small off apart unpromoted cover = elim (cases_Bool (are_rebirths_quiet rule p.men p.turn)) [
+  | inl quiet ↦
+      let parts = quiet_parts rule p.men p.turn quiet in
+      let may_so : pseudo circe p m ≡ true = ap (λ (r : RuleSet). pseudo r p m) (sym parts.0) ∙ may in
+      let cover_so : cannot_expose orthodox p (other p.turn) m ≡ true =
+      ap (λ (r : RuleSet). cannot_expose r p (other p.turn) m) (sym (cond-true (are_rebirths_quiet rule p.men p.turn) _ _ quiet)) ∙ cover in
+      ap (λ (r : RuleSet). in_check r (after r p m).men (other p.turn)) parts.0
+      ∙ rebirth_gives_no_check p x m well may_so here unpromoted parts.1
+      (no_check orthodox p x m s y w t well (pseudo_so p m may_so) here (check_squares_alike rule orthodox p.men (other p.turn) s a) is h same small off
+      apart unpromoted cover_so)
+  | inr loud ↦
+      let cover_so : cannot_expose rule p (other p.turn) m ≡ true =
+      ap (λ (r : RuleSet). cannot_expose r p (other p.turn) m) (sym (cond-false (are_rebirths_quiet rule p.men p.turn) _ _ loud)) ∙ cover in
+      no_check rule p x m s y w t well may here a is h same small off apart unpromoted cover_so
+]

@@ -1,0 +1,9 @@
+-- The legal moves in order, and how they are found.
+pub mod Targeting
+pub mod Members
+pub mod Places
+pub mod Walks
+pub mod Arrivals
+pub mod Calls
+pub mod Between
+pub mod Triples

@@ -1,0 +1,280 @@
+-- The words of the squares to which a man may go.
+use Rattle.std.proofs.Common.{◌≡◌, ℕ, ◌+◌, ◌*◌, ◌/◌, ◌%◌, ◌<◌, Bool, false, true, not, ◌&&◌, ◌||◌, ◌==◌, List, Option, Some, None, is_some, find, refl, sym, ap, ◌∙◌, arith, inl, inr, rules}
+use Rattle.std.specs.Int.{bit_at, bit_not, w64}
+use Rattle.std.specs.Int.Bits.{bit_and, bit_or}
+use Rattle.std.specs.List.{list_any, range_with_len}
+use Rattle.std.proofs.lemmas.Bool.{agree_below_at, and_from, and_left, and_parts, cases_Bool, cond-false, cond-true, eqb-true, or_cases, or_left, or_right}
+use Rattle.chess_core.specs.Castling.{has_unmoved}
+use Rattle.chess_core.specs.Position.{Position, is_man, is_side, man_on, may_promote, other, same_colour, same_kind}
+use Rattle.chess_core.specs.Squares.{is_square, rank_of}
+use Rattle.chess_core.specs.Steps.{along, queen_steps}
+use Rattle.chess_core.specs.ties.Words.{side_of, squares_of, word}
+use Rattle.chess_core.specs.declared.man.Colour.{Colour}
+use Rattle.chess_core.specs.declared.man.Colour.TheVariants.{Black, White}
+use Rattle.chess_core.specs.declared.man.Kind.{Kind}
+use Rattle.chess_core.specs.declared.man.Kind.TheVariants.{King, Pawn}
+use Rattle.chess_core.specs.declared.man.Man.{Man}
+use Rattle.chess_core.specs.declared.man.Move.{Move}
+use Rattle.chess_core.proofs.Words.{squares_both, squares_either, squares_not, squares_same}
+use Rattle.chess_rules.specs.Attacks.{paralysed}
+use Rattle.chess_rules.specs.Legal.{forward, goes, is_arrival_free, is_promotion_right, pseudo, second_rank}
+use Rattle.chess_core.specs.WellFormed.{is_vacant_at}
+use Rattle.chess_rules.specs.ties.Lines.{is_advance}
+use Rattle.chess_rules.specs.Reaches.{leaps, reaches, reaches_as}
+use Rattle.chess_rules.specs.RuleSet.{RuleSet}
+use Rattle.chess_rules.specs.ties.Targets.{IsAimed, arrives, is_arrival, is_arrival_of, may_go, pawn_goes, steps_to}
+use Rattle.chess_rules.proofs.Bits.{word_empty, word_has}
+use Rattle.chess_rules.proofs.making_moves.Pseudo.{king_is_no_pawn}
+use Rattle.chess_rules.proofs.listing_moves.Targeting.{false_by}
+use Rattle.chess_rules.proofs.Tests.{IsFirst, find_no, same_Bool}
+
+-- no man of the colour and no king
+free_of : (a c : Colour) (k : Kind) → not (same_colour a c || (same_colour a (other c) && same_kind k King)) ≡ (not (same_colour a c) && not (same_kind k King))
+free_of White White k = refl
+free_of White Black k = refl
+free_of Black White k = refl
+free_of Black Black k = refl
+
+free_on : (o : Option Man) (c : Colour) → not (is_side o c || is_man o (other c) King) ≡ is_arrival_free c o
+free_on None c = refl
+free_on (Some y) c = free_of y.colour c y.kind
+
+pub free_word : (men : List (Option Man)) (c : Colour) (a b : ℕ) → a ≡ side_of men c → b ≡ squares_of men (other c) King
+    → bit_not w64 (bit_or a b) ≡ word (λ t. is_arrival_free c (man_on men t))
+unfolding side_of squares_of
+free_word men c a b h i =
+    (λ j. bit_not w64 (bit_or (h j) (i j)))
+    ∙ (λ j. bit_not w64 (squares_either (λ t. is_side (man_on men t) c) (λ t. is_man (man_on men t) (other c) King) j))
+    ∙ squares_not (λ t. is_side (man_on men t) c || is_man (man_on men t) (other c) King)
+    ∙ squares_same _ _ (λ t q. free_on (man_on men t) c)
+
+-- a king that has moved doesn't castle
+pub castling_none : (u : Bool) (x : Man) (s : ℕ) → u ≡ false → 0 ≡ word (λ t. u && steps_to x s t)
+castling_none u x s h = word_empty (λ t. u && steps_to x s t) (λ t b. and_left u _ h)
+
+-- one square ahead, and the square halfway to the one behind it
+one_near : (c : Colour) (s t : ℕ) → s < 64 → t < 64 → is_square (along s (forward c) 1) t ≡ (is_advance c s t && list_any (leaps s t) queen_steps)
+one_near c s t p q = by (64 * s + t) (omega (arith, p, q)) (omega (arith, q)) (omega (arith, q))
+  where
+    table : (c : Colour) (k : ℕ) → k < 4096 → is_square (along (k / 64) (forward c) 1) (k % 64)
+        ≡ (is_advance c (k / 64) (k % 64) && list_any (leaps (k / 64) (k % 64)) queen_steps)
+    table White k lt = unfold along leaps in agree_below_at (λ n. is_square (along (n / 64) (forward White) 1) (n % 64))
+        (λ n. is_advance White (n / 64) (n % 64) && list_any (leaps (n / 64) (n % 64)) queen_steps) 4096 k refl lt
+    table Black k lt = unfold along leaps in agree_below_at (λ n. is_square (along (n / 64) (forward Black) 1) (n % 64))
+        (λ n. is_advance Black (n / 64) (n % 64) && list_any (leaps (n / 64) (n % 64)) queen_steps) 4096 k refl lt
+
+    by : (k : ℕ) → k < 4096 → k / 64 ≡ s → k % 64 ≡ t → is_square (along s (forward c) 1) t ≡ (is_advance c s t && list_any (leaps s t) queen_steps)
+    by k lt a b = rw (← a, ← b) (table c k lt)
+
+implied : (a b : Bool) → (not a || b) ≡ true → a ≡ true → b ≡ true
+implied true b h e = h
+implied false b h e = cc
+
+half_one : (c : Colour) (s t : ℕ) → s < 64 → t < 64 → is_square (along s (forward c) 2) t ≡ true → is_square (along s (forward c) 1) ((s + t) / 2) ≡ true
+half_one c s t p q = by (64 * s + t) (omega (arith, p, q)) (omega (arith, q)) (omega (arith, q))
+  where
+    table : (c : Colour) (k : ℕ) → k < 4096 → (not (is_square (along (k / 64) (forward c) 2) (k % 64))
+        || is_square (along (k / 64) (forward c) 1) ((k / 64 + k % 64) / 2)) ≡ true
+    table White k lt = unfold along in agree_below_at (λ n. not (is_square (along (n / 64) (forward White) 2) (n % 64))
+        || is_square (along (n / 64) (forward White) 1) ((n / 64 + n % 64) / 2)) (λ n. true) 4096 k refl lt
+    table Black k lt = unfold along in agree_below_at (λ n. not (is_square (along (n / 64) (forward Black) 2) (n % 64))
+        || is_square (along (n / 64) (forward Black) 1) ((n / 64 + n % 64) / 2)) (λ n. true) 4096 k refl lt
+
+    by : (k : ℕ) → k < 4096 → k / 64 ≡ s → k % 64 ≡ t → is_square (along s (forward c) 2) t ≡ true → is_square (along s (forward c) 1) ((s + t) / 2) ≡ true
+    by k lt a b = rw (← a, ← b) (implied _ _ (table c k lt))
+
+one_is : (o : Option ℕ) (t u : ℕ) → is_square o t ≡ true → is_square o u ≡ true → t ≡ u
+one_is None t u h i = cc
+one_is (Some s) t u h i = sym (eqb-true s t h) ∙ eqb-true s u i
+
+-- the squares to which a pawn steps: `a` one and two ahead, `o` with men, `k` next to it
+module _ (p : Position) (x : Man) (s : ℕ) (small : s < 64) (a o k : ℕ) (advances : a ≡ word (is_advance x.colour s))
+    (occupied : o ≡ word (λ t. is_some (man_on p.men t))) (near : k ≡ word (λ t. list_any (leaps s t) queen_steps)) where
+  abbrev ahead : ℕ → Bool
+  ahead t = is_advance x.colour s t && not (is_some (man_on p.men t))
+
+  abbrev next : ℕ → Bool
+  next t = ahead t && list_any (leaps s t) queen_steps
+
+  ahead_word : bit_and a (bit_not w64 o) ≡ word ahead
+  ahead_word = search (rules, squares_both, squares_not)
+
+  next_word : bit_and (bit_and a (bit_not w64 o)) k ≡ word next
+  next_word = (λ j. bit_and (ahead_word j) (near j)) ∙ squares_both ahead (λ t. list_any (leaps s t) queen_steps)
+
+  next_of : (t : ℕ) → t < 64 → is_square (along s (forward x.colour) 1) t ≡ true → not (is_some (man_on p.men t)) ≡ true → next t ≡ true
+  next_of t lt one free = search (rules, and_from, and_parts, one_near)
+
+  one_of : (t : ℕ) → t < 64 → next t ≡ true → is_square (along s (forward x.colour) 1) t ≡ true
+  one_of t lt h = search (rules, and_from, and_parts, one_near)
+
+  half_small : (t : ℕ) → t < 64 → (s + t) / 2 < 64
+  half_small t lt = omega (arith, lt, small)
+
+  pub goes-blocked : find (λ q. bit_at (bit_and (bit_and a (bit_not w64 o)) k) q == 1) (range_with_len 0 64) ≡ None → 0 ≡ word (pawn_goes p x s)
+  goes-blocked none = word_empty (pawn_goes p x s) (λ t lt. false_by (pawn_goes p x s t) (λ y.
+      let parts = and_parts (is_vacant_at p.men t) (is_square (along s (forward x.colour) 1) t
+      || (rank_of s == second_rank x.colour && is_square (along s (forward x.colour) 2) t && is_vacant_at p.men ((s + t) / 2))) y in
+      elim (or_cases (is_square (along s (forward x.colour) 1) t) _ parts.1) [
+        | inl one ↦ blocked t lt one parts.0
+        | inr two ↦
+            let two1 = and_parts _ _ two in
+            let two2 = and_parts _ _ two1.0 in
+            blocked ((s + t) / 2) (half_small t lt) (half_one x.colour s t small lt two2.1) two1.1
+      ]))
+    where
+      blocked : (t : ℕ) → t < 64 → is_square (along s (forward x.colour) 1) t ≡ true → not (is_some (man_on p.men t)) ≡ true → ⊥
+      blocked t lt one free =
+          let off : next t ≡ false = sym (word_has next (bit_and (bit_and a (bit_not w64 o)) k) t next_word lt)
+          ∙ find_no (λ q. bit_at (bit_and (bit_and a (bit_not w64 o)) k) q == 1) 0 64 t none (omega arith) (omega (arith, lt)) in
+          let on : next t ≡ true = next_of t lt one free in
+          cc
+
+  pub goes-twice : (u : ℕ) → IsFirst (λ q. bit_at (bit_and (bit_and a (bit_not w64 o)) k) q == 1) 0 64 u → (rank_of s == second_rank x.colour) ≡ true
+      → bit_and a (bit_not w64 o) ≡ word (pawn_goes p x s)
+  goes-twice u first second = ahead_word ∙ squares_same ahead (pawn_goes p x s) (λ t lt. same_Bool (ahead t) (pawn_goes p x s t) (onto t lt) (back t))
+    where
+      u_small : u < 64
+      u_small = omega (arith, first.high)
+
+      on : next u ≡ true
+      on = sym (word_has next (bit_and (bit_and a (bit_not w64 o)) k) u next_word u_small) ∙ first.here
+
+      onto : (t : ℕ) → t < 64 → ahead t ≡ true → pawn_goes p x s t ≡ true
+      onto t lt h =
+          let n = and_parts (is_advance x.colour s t) (not (is_some (man_on p.men t))) h in
+          and_from _ _ n.1 (elim (or_cases (is_square (along s (forward x.colour) 1) t) (is_square (along s (forward x.colour) 2) t) n.0) [
+            | inl one ↦ or_left (is_square (along s (forward x.colour) 1) t)
+                (rank_of s == second_rank x.colour && is_square (along s (forward x.colour) 2) t && is_vacant_at p.men ((s + t) / 2)) one
+            | inr two ↦
+                let same : (s + t) / 2 ≡ u = one_is (along s (forward x.colour) 1) ((s + t) / 2) u (half_one x.colour s t small lt two) (one_of u u_small on) in
+                let free : not (is_some (man_on p.men u)) ≡ true = (and_parts (is_advance x.colour s u) _ (and_parts (ahead u) _ on).0).1 in
+                let between : is_vacant_at p.men ((s + t) / 2) ≡ true = rw same free in
+                or_right (is_square (along s (forward x.colour) 1) t) _ (and_from _ _ (and_from _ _ second two) between)
+          ])
+
+      back : (t : ℕ) → pawn_goes p x s t ≡ true → ahead t ≡ true
+      back t h =
+          let parts = and_parts (is_vacant_at p.men t) (is_square (along s (forward x.colour) 1) t
+          || (rank_of s == second_rank x.colour && is_square (along s (forward x.colour) 2) t && is_vacant_at p.men ((s + t) / 2))) h in
+          and_from _ _ (elim (or_cases (is_square (along s (forward x.colour) 1) t) _ parts.1) [
+            | inl one ↦ or_left (is_square (along s (forward x.colour) 1) t) (is_square (along s (forward x.colour) 2) t) one
+            | inr two ↦ or_right (is_square (along s (forward x.colour) 1) t) _ (and_parts _ _ (and_parts _ _ two).0).1
+          ]) parts.0
+
+  pub goes-once : (rank_of s == second_rank x.colour) ≡ false → bit_and (bit_and a (bit_not w64 o)) k ≡ word (pawn_goes p x s)
+  goes-once none = next_word ∙ squares_same next (pawn_goes p x s) (λ t lt. same_Bool (next t) (pawn_goes p x s t) (onto t lt) (back t lt))
+    where
+      onto : (t : ℕ) → t < 64 → next t ≡ true → pawn_goes p x s t ≡ true
+      onto t lt h = and_from _ _ (and_parts (is_advance x.colour s t) _ (and_parts (ahead t) _ h).0).1 (or_left _ _ (one_of t lt h))
+
+      back : (t : ℕ) → t < 64 → pawn_goes p x s t ≡ true → next t ≡ true
+      back t lt h =
+          let parts = and_parts (is_vacant_at p.men t) (is_square (along s (forward x.colour) 1) t
+          || (rank_of s == second_rank x.colour && is_square (along s (forward x.colour) 2) t && is_vacant_at p.men ((s + t) / 2))) h in
+          elim (or_cases (is_square (along s (forward x.colour) 1) t) _ parts.1) [
+            | inl one ↦ next_of t lt one parts.0
+            | inr two ↦ absurd (let yea : (rank_of s == second_rank x.colour) ≡ true = (and_parts _ _ (and_parts _ _ two).0).0 in cc)
+          ]
+
+-- the squares to which a man goes
+pub pawn_ways : (p : Position) (x : Man) (s r o y g : ℕ) → same_kind x.kind Pawn ≡ true → r ≡ word (λ t. reaches_as p.men x.colour x.kind s t)
+    → o ≡ word (λ t. is_some (man_on p.men t)) → y ≡ word (λ t. is_square p.crossed t) → g ≡ word (pawn_goes p x s)
+    → bit_or (bit_and r (bit_or o y)) g ≡ word (may_go p x s)
+unfolding may_go
+pawn_ways p x s r o y g pawn hr ho hy hg =
+    (λ j. bit_or (bit_and (hr j) (bit_or (ho j) (hy j))) (hg j))
+    ∙ (λ j. bit_or (bit_and (word (λ t. reaches_as p.men x.colour x.kind s t)) (squares_either (λ t. is_some (man_on p.men t)) (λ t. is_square p.crossed t) j))
+    (word (pawn_goes p x s)))
+    ∙ (λ j. bit_or (squares_both (λ t. reaches_as p.men x.colour x.kind s t) (λ t. is_some (man_on p.men t) || is_square p.crossed t) j)
+    (word (pawn_goes p x s)))
+    ∙ squares_either (λ t. reaches_as p.men x.colour x.kind s t && (is_some (man_on p.men t) || is_square p.crossed t)) (pawn_goes p x s)
+    ∙ squares_same _ _ (λ t b. sym (cond-true (same_kind x.kind Pawn) _ _ pawn))
+
+pub other_ways : (p : Position) (x : Man) (s r g : ℕ) → same_kind x.kind Pawn ≡ false → r ≡ word (λ t. reaches_as p.men x.colour x.kind s t)
+    → g ≡ word (λ t. has_unmoved p.unmoved s && steps_to x s t) → bit_or r g ≡ word (may_go p x s)
+unfolding may_go
+other_ways p x s r g none hr hg = search (rules, cond-false, squares_either, squares_same)
+
+-- the squares to which the man on a square may go
+pub arrivals_nobody : (rule : RuleSet) (p : Position) (s : ℕ) → man_on p.men s ≡ None → 0 ≡ word (is_arrival rule p s)
+unfolding is_arrival
+arrivals_nobody rule p s h = word_empty (is_arrival rule p s) (λ t b. ap (λ o. is_arrival_of rule p o s t) h)
+
+pub arrivals_other : (rule : RuleSet) (p : Position) (x : Man) (s : ℕ) → man_on p.men s ≡ Some x → same_colour x.colour p.turn ≡ false
+    → 0 ≡ word (is_arrival rule p s)
+unfolding is_arrival
+arrivals_other rule p x s here h = word_empty (is_arrival rule p s) (λ t b. rw (here, h) refl)
+
+pub arrivals_paralysed : (rule : RuleSet) (p : Position) (x : Man) (s : ℕ) → man_on p.men s ≡ Some x → same_colour x.colour p.turn ≡ true
+    → paralysed rule p.men s ≡ true → 0 ≡ word (is_arrival rule p s)
+unfolding is_arrival
+arrivals_paralysed rule p x s here mine h = word_empty (is_arrival rule p s) (λ t b. rw (here, mine, h) refl)
+
+pub arrivals_some : (rule : RuleSet) (p : Position) (x : Man) (s f g : ℕ) → man_on p.men s ≡ Some x → same_colour x.colour p.turn ≡ true
+    → paralysed rule p.men s ≡ false → f ≡ word (λ t. is_arrival_free p.turn (man_on p.men t)) → g ≡ word (may_go p x s)
+    → bit_and f g ≡ word (is_arrival rule p s)
+unfolding is_arrival
+arrivals_some rule p x s f g here mine free hf hg = search (rules, squares_both, squares_same)
+
+-- a move that goes where its man may go
+pub may_go_aimed : (rule : RuleSet) (p : Position) (x : Man) (m : Move) → man_on p.men m.from ≡ Some x → is_arrival rule p m.from m.to ≡ true
+    → may_go p x m.from m.to ≡ true
+unfolding is_arrival
+may_go_aimed rule p x m here h = search (rules, and_parts)
+
+goes_as_pawn : (rule : RuleSet) (p : Position) (x : Man) (m : Move) → man_on p.men m.from ≡ Some x → same_kind x.kind Pawn ≡ true
+    → may_go p x m.from m.to ≡ true → goes rule p x m ≡ true
+unfolding may_go reaches
+goes_as_pawn rule p x m here pawn h = search (rules, and_from, and_parts, cond-true, or_cases, or_left, or_right)
+
+pub no_steps : (x : Man) (s t : ℕ) (a u : Bool) → same_kind x.kind Pawn ≡ false → same_kind x.kind King ≡ false → (a || (u && steps_to x s t)) ≡ true → a ≡ true
+unfolding steps_to
+no_steps x s t a u none piece h = search (rules, and_parts, cond-false, or_cases)
+
+goes_as_piece : (rule : RuleSet) (p : Position) (x : Man) (m : Move) → man_on p.men m.from ≡ Some x → same_kind x.kind Pawn ≡ false
+    → same_kind x.kind King ≡ false → may_go p x m.from m.to ≡ true → goes rule p x m ≡ true
+unfolding may_go reaches
+goes_as_piece rule p x m here none piece h = search (rules, cond-false, no_steps, or_left)
+
+-- a king that doesn't stand unmoved reaches where he goes
+goes_as_king : (rule : RuleSet) (p : Position) (x : Man) (m : Move) → man_on p.men m.from ≡ Some x → same_kind x.kind King ≡ true
+    → has_unmoved p.unmoved m.from ≡ false
+    → may_go p x m.from m.to ≡ true → goes rule p x m ≡ true
+unfolding may_go reaches
+goes_as_king rule p x m here king moved h = search (rules, and_parts, cond-false, king_is_no_pawn, or_cases, or_left)
+
+pub goes_on : (rule : RuleSet) (p : Position) (x : Man) (m : Move) → man_on p.men m.from ≡ Some x → may_go p x m.from m.to ≡ true
+    → (same_kind x.kind King && has_unmoved p.unmoved m.from) ≡ false → true ≡ goes rule p x m
+goes_on rule p x m here h free = search (rules, cases_Bool, goes_as_king, goes_as_pawn, goes_as_piece)
+
+last_two : (a b c : Bool) → a ≡ true → (a && b && c) ≡ (b && c)
+last_two a b c h = rw h refl
+
+-- of such a move, promotion and way are left to be tested
+left_to_test : (rule : RuleSet) (p : Position) (x : Man) (m : Move) → man_on p.men m.from ≡ Some x → is_arrival rule p m.from m.to ≡ true
+    → pseudo rule p m ≡ (is_promotion_right p x m m.promo && goes rule p x m)
+unfolding is_arrival pseudo
+left_to_test rule p x m here h = search (rules, and_parts, last_two)
+
+middle : (a b c : Bool) → a ≡ true → c ≡ true → ((a && b) && c) ≡ b
+middle true true true h i = refl
+middle true false c h i = refl
+middle false b c h i = cc
+middle true true false h i = cc
+
+pub aimed_promotion : (rule : RuleSet) (p : Position) (m : Move) (k : Kind) → IsAimed rule p m → m.promo ≡ Some k → may_promote p k ≡ pseudo rule p m
+aimed_promotion rule p m k a e =
+    let named : arrives a.man m.to ≡ true = sym a.promotion ∙ ap (λ (o : Option Kind). is_some o) e in
+    let pawn : same_kind a.man.kind Pawn ≡ true = (and_parts _ _ named).0 in
+    let way : goes rule p a.man m ≡ true = goes_as_pawn rule p a.man m a.here pawn (may_go_aimed rule p a.man m a.here a.arrival) in
+    sym (left_to_test rule p a.man m a.here a.arrival ∙ ap (λ (o : Option Kind). is_promotion_right p a.man m o && goes rule p a.man m) e
+    ∙ middle (arrives a.man m.to) (may_promote p k) (goes rule p a.man m) named way)
+
+pub aimed_plain : (rule : RuleSet) (p : Position) (m : Move) (x : Man) → IsAimed rule p m → m.promo ≡ None → man_on p.men m.from ≡ Some x
+    → goes rule p x m ≡ pseudo rule p m
+aimed_plain rule p m x a e here =
+    let same : a.man ≡ x = let both : Some a.man ≡ Some x = sym a.here ∙ here in cc in
+    let unnamed : arrives x m.to ≡ false = rw (← same) (sym a.promotion ∙ ap (λ (o : Option Kind). is_some o) e) in
+    sym (left_to_test rule p x m here a.arrival ∙ ap (λ (o : Option Kind). is_promotion_right p x m o && goes rule p x m) e
+    ∙ ap (λ (b : Bool). not b && goes rule p x m) unnamed)

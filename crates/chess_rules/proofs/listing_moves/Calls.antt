@@ -1,0 +1,53 @@
+-- The calls of `next` over one position.
+use Rattle.std.proofs.Common.{◌≡◌, ℕ, zero, suc, ◌+◌, List, [], ◌∷◌, Option, Some, None, MatchOption, true, drop, refl, sym, ap, ◌∙◌, rules}
+use Rattle.std.proofs.lemmas.Bool.{and_parts}
+use Rattle.std.specs.List.{slice_get}
+use Rattle.chess_core.specs.Position.{Position}
+use Rattle.chess_core.specs.declared.man.Move.{Move}
+use Rattle.chess_rules.specs.RuleSet.{RuleSet}
+use Rattle.chess_rules.specs.Legal.{legal, moves, pseudo}
+use Rattle.chess_rules.specs.ties.Places.{moves_behind, place_of}
+use Rattle.chess_rules.proofs.listing_moves.Places.{moves_behind-end}
+
+drop_none : (l : List Move) (n : ℕ) → drop n l ≡ [] → drop (suc n) l ≡ []
+drop_none [] n h = refl
+drop_none (x ∷ l) zero h = cc
+drop_none (x ∷ l) (suc n) h = drop_none l n h
+
+drop_some : (l : List Move) (n : ℕ) (m : Move) (r : List Move) → drop n l ≡ (m ∷ r) → drop (suc n) l ≡ r
+drop_some [] zero m r h = cc
+drop_some [] (suc n) m r h = cc
+drop_some (x ∷ l) zero m r h = cc
+drop_some (x ∷ l) (suc n) m r h = drop_some l n m r h
+
+get_none : (l : List Move) (n : ℕ) → drop n l ≡ [] → slice_get l n ≡ None
+get_none [] n h = refl
+get_none (x ∷ l) zero h = cc
+get_none (x ∷ l) (suc n) h = get_none l n h
+
+get_some : (l : List Move) (n : ℕ) (m : Move) (r : List Move) → drop n l ≡ (m ∷ r) → slice_get l n ≡ Some m
+get_some [] zero m r h = cc
+get_some [] (suc n) m r h = cc
+get_some (x ∷ l) zero m r h = let e : x ≡ m = cc in ap (λ (y : Move). Some y) e
+get_some (x ∷ l) (suc n) m r h = get_some l n m r h
+
+-- what one call says, by its clauses `rest` and `place`
+pub step_on : (rule : RuleSet) (p : Position) (n place next : ℕ) (o : Option Move) → moves_behind rule p place ≡ drop n (moves rule p) → next ≡ place_of o
+    → MatchOption o (moves_behind rule p place ≡ []) (λ m. moves_behind rule p place ≡ (m ∷ moves_behind rule p next))
+    → moves_behind rule p next ≡ drop (n + 1) (moves rule p)
+unfolding place_of
+step_on rule p n place next None at e rest = search (rules, drop_none, moves_behind-end)
+step_on rule p n place next (Some m) at e rest = search (rules, drop_some)
+
+pub answer_is : (rule : RuleSet) (p : Position) (n place next : ℕ) (o : Option Move) → moves_behind rule p place ≡ drop n (moves rule p)
+    → MatchOption o (moves_behind rule p place ≡ []) (λ m. moves_behind rule p place ≡ (m ∷ moves_behind rule p next)) → o ≡ slice_get (moves rule p) n
+answer_is rule p n place next None at rest = sym (get_none (moves rule p) n (sym at ∙ rest))
+answer_is rule p n place next (Some m) at rest = sym (get_some (moves rule p) n m (moves_behind rule p next) (sym at ∙ rest))
+
+-- a legal move may be made
+pub pseudo-from_legal : (rule : RuleSet) (p : Position) (m : Move) → legal rule p m ≡ true → pseudo rule p m ≡ true
+unfolding legal
+pseudo-from_legal rule p m h = (and_parts _ _ h).0
+
+-- for a caller that plays what `next` gives
+pub ruleset playing = (pseudo-from_legal)

@@ -1,0 +1,215 @@
+-- Where a man may go, and no move is missed by going from one such square to the next.
+use Rattle.std.proofs.Common.{◌≡◌, ℕ, ◌+◌, ◌-◌, ◌*◌, ◌/◌, ◌%◌, ◌<◌, ◌≤◌, Bool, true, false, ◌==◌, List, Option, Some, None, is_some, find, refl, sym, ap, ◌∙◌, arith, inl, inr, rules}
+use Rattle.std.specs.Int.{bit_at, bit_not, w64}
+use Rattle.std.specs.List.{range_with_len}
+use Rattle.std.proofs.lemmas.Bool.{agree_below_at, and_from, and_parts, cases_Bool, cases_eq, cond-true, cond-false, or_left, or_right}
+use Rattle.chess_core.specs.Position.{Position, is_side, man_on, same_colour, same_kind}
+use Rattle.chess_core.specs.Squares.{file_of, is_square, rank_of, square_at}
+use Rattle.chess_core.specs.Steps.{along}
+use Rattle.chess_core.specs.ties.Words.{word}
+use Rattle.chess_core.specs.declared.man.Colour.{Colour}
+use Rattle.chess_core.specs.declared.man.Colour.TheVariants.{White, Black}
+use Rattle.chess_core.specs.declared.man.Kind.{Kind}
+use Rattle.chess_core.specs.declared.man.Kind.TheVariants.{King, Queen, Rook, Bishop, Knight, Pawn, Grasshopper, Nightrider}
+use Rattle.chess_core.specs.declared.man.Man.{Man}
+use Rattle.chess_core.specs.declared.man.Move.{Move}
+use Rattle.chess_core.proofs.Words.{squares_same}
+use Rattle.chess_rules.specs.Legal.{castles, goes, is_promotion_right, may_castle, pseudo, pseudo_of}
+use Rattle.chess_rules.specs.ties.Lines.{is_advance, is_aside}
+use Rattle.chess_rules.specs.ties.Places.{IsBarrenFrom, IsNamed, promotion_at}
+use Rattle.chess_rules.specs.Play.{is_castling}
+use Rattle.chess_rules.specs.Reaches.{reaches, reaches_as}
+use Rattle.chess_rules.specs.RuleSet.{RuleSet}
+use Rattle.chess_rules.specs.ties.Targets.{arrives, is_arrival, may_go, steps_to}
+use Rattle.chess_rules.proofs.Bits.{word_empty}
+use Rattle.chess_rules.proofs.making_moves.Pseudo.{made}
+use Rattle.chess_rules.proofs.Tests.{IsFirst, find_no}
+
+-- the words of a pawn's steps, of a king's in castling, and of the others
+pub pawn_word : (x : Man) (s n : ℕ) → same_kind x.kind Pawn ≡ true → n ≡ word (is_advance x.colour s) → n ≡ word (steps_to x s)
+unfolding steps_to
+pawn_word x s n pawn h = h ∙ squares_same _ _ (λ t b. sym (cond-true (same_kind x.kind Pawn) _ _ pawn))
+
+pub king_word : (x : Man) (s n : ℕ) → same_kind x.kind Pawn ≡ false → same_kind x.kind King ≡ true → n ≡ word (is_aside s) → n ≡ word (steps_to x s)
+unfolding steps_to
+king_word x s n none king h = search (rules, cond-false, cond-true, squares_same)
+
+pub other_word : (x : Man) (s : ℕ) → same_kind x.kind Pawn ≡ false → same_kind x.kind King ≡ false → 0 ≡ word (steps_to x s)
+unfolding steps_to
+other_word x s none king = search (rules, cond-false, word_empty)
+
+-- the square on a square's file and rank
+square_of : (f r t : ℕ) → t < 64 → f ≡ file_of t → r ≡ rank_of t → is_square (square_at f r) t ≡ true
+square_of f r t p e h = search rules
+
+pub castling_steps : (x : Man) (m : Move) → m.to < 64 → is_castling x m ≡ true → steps_to x m.from m.to ≡ true
+unfolding steps_to along
+castling_steps x m small h = search rules
+
+reaches_man : (men : List (Option Man)) (x : Man) (s t : ℕ) → man_on men s ≡ Some x → reaches men s t ≡ true → reaches_as men x.colour x.kind s t ≡ true
+unfolding reaches
+reaches_man men x s t here h = rw here at h
+
+-- a move goes where its man may go
+may_go_of : (rule : RuleSet) (p : Position) (x : Man) (m : Move) → m.to < 64 → man_on p.men m.from ≡ Some x → goes rule p x m ≡ true
+    → may_go p x m.from m.to ≡ true
+unfolding may_go castles may_castle
+may_go_of rule p x m small here h = search (rules, and_from, and_parts, castling_steps, cond-false, cond-true, or_left, or_right, reaches_man)
+
+arrival_of : (rule : RuleSet) (p : Position) (x : Man) (m : Move) → m.to < 64 → man_on p.men m.from ≡ Some x → pseudo_of rule p (Some x) m ≡ true
+    → is_arrival rule p m.from m.to ≡ true
+unfolding is_arrival
+arrival_of rule p x m small here h = search (rules, and_from, and_parts, may_go_of)
+
+arrival_by : (rule : RuleSet) (p : Position) (m : Move) (o : Option Man) → m.to < 64 → man_on p.men m.from ≡ o → pseudo_of rule p o m ≡ true
+    → is_arrival rule p m.from m.to ≡ true
+arrival_by rule p m None small here h = cc
+arrival_by rule p m (Some x) small here h = arrival_of rule p x m small here h
+
+pub arrival_needed : (rule : RuleSet) (p : Position) (m : Move) → m.to < 64 → pseudo rule p m ≡ true → is_arrival rule p m.from m.to ≡ true
+unfolding pseudo
+arrival_needed rule p m small h = arrival_by rule p m (man_on p.men m.from) small refl h
+
+pub false_by : (b : Bool) → (b ≡ true → ⊥) → b ≡ false
+false_by true h = absurd (h refl)
+false_by false h = refl
+
+-- a promotion is named exactly on the last rank
+promoted : (p : Position) (x : Man) (m : Move) (o : Option Kind) → is_promotion_right p x m o ≡ true → o ≡ None → arrives x m.to ≡ false
+promoted p x m None h e = search (rules, cases_Bool)
+promoted p x m (Some k) h e = cc
+
+pub unpromoted : (p : Position) (x : Man) (m : Move) (o : Option Kind) (k : Kind) → is_promotion_right p x m o ≡ true → o ≡ Some k → arrives x m.to ≡ true
+unpromoted p x m None k h e = cc
+unpromoted p x m (Some j) k h e = (and_parts _ _ h).0
+
+no_promotion_here : (rule : RuleSet) (p : Position) (x : Man) (m : Move) (k : Kind) → man_on p.men m.from ≡ Some x → m.promo ≡ Some k → arrives x m.to ≡ false
+    → pseudo rule p m ≡ false
+no_promotion_here rule p x m k here e h =
+    false_by (pseudo rule p m) (λ y. let t = unpromoted p x m m.promo k (made rule p m x y here).promotion e in cc)
+
+promotion_missing : (rule : RuleSet) (p : Position) (x : Man) (m : Move) → man_on p.men m.from ≡ Some x → m.promo ≡ None → arrives x m.to ≡ true
+    → pseudo rule p m ≡ false
+promotion_missing rule p x m here e h =
+    false_by (pseudo rule p m) (λ y. let t = promoted p x m m.promo (made rule p m x y here).promotion e in cc)
+
+-- without a man of the side to move on the origin there is no move
+pub nobody_moves : (rule : RuleSet) (p : Position) (m : Move) → man_on p.men m.from ≡ None → pseudo rule p m ≡ false
+unfolding pseudo
+nobody_moves rule p m h = ap (λ o. pseudo_of rule p o m) h
+
+pub own_moves : (p : Position) (rule : RuleSet) (m : Move) (o : Option Man) → man_on p.men m.from ≡ o → is_side o p.turn ≡ false → pseudo rule p m ≡ false
+own_moves p rule m None e h = nobody_moves rule p m e
+own_moves p rule m (Some x) e h =
+    false_by (pseudo rule p m) (λ y. let c : x.colour ≡ p.turn = (made rule p m x y e).mine in let t : same_colour p.turn p.turn ≡ false = rw c at h in
+    let u = same p.turn in cc) where
+      same : (c : Colour) → same_colour c c ≡ true
+      same White = refl
+      same Black = refl
+
+-- stretches of one origin
+pub from-empty : (p : Position) (s z a : ℕ) → IsBarrenFrom p s z a a
+from-empty p s z a = record { fails = λ rule k lo hi on. absurd (omega (arith, lo, hi)) }
+
+pub from-nobody : (p : Position) (s z a b : ℕ) → man_on p.men s ≡ None → IsBarrenFrom p s z a b
+from-nobody p s z a b h = search (rules, nobody_moves)
+
+pub from-join : (p : Position) (s z a b c : ℕ) → IsBarrenFrom p s z a b → IsBarrenFrom p s z b c → IsBarrenFrom p s z a c
+from-join p s z a b c x y = search rules
+
+-- no square of the word lies between
+pub from-missed : (p : Position) (s a b w : ℕ) → ((t : ℕ) → a / 7 ≤ t → t < (b + 6) / 7 → (bit_at w t == 1) ≡ false) → IsBarrenFrom p s w a b
+from-missed p s a b w none = search rules
+
+some_promotion : (n : ℕ) → 1 ≤ n → n < 7 → (k : Kind) × (promotion_at n ≡ Some k)
+some_promotion n lo hi = elim (cases_eq n 1) [
+  | inl e ↦ (Queen, rw e refl)
+  | inr n1 ↦ elim (cases_eq n 2) [
+    | inl e ↦ (Rook, rw e refl)
+    | inr n2 ↦ elim (cases_eq n 3) [
+      | inl e ↦ (Bishop, rw e refl)
+      | inr n3 ↦ elim (cases_eq n 4) [
+        | inl e ↦ (Knight, rw e refl)
+        | inr n4 ↦ elim (cases_eq n 5) [
+          | inl e ↦ (Grasshopper, rw e refl)
+          | inr n5 ↦ let e : n ≡ 6 = omega arith in (Nightrider, rw e refl)
+        ]
+      ]
+    ]
+  ]
+]
+
+-- on another rank than the last there is no promotion
+pub from-unpromoted : (p : Position) (x : Man) (s z t a : ℕ) → man_on p.men s ≡ Some x → arrives x t ≡ false → 7 * t < a → IsBarrenFrom p s z a (7 * t + 7)
+from-unpromoted p x s z t a here h lt = record {
+  fails = λ rule k lo hi on.
+      let to : k / 7 ≡ t = omega arith in
+      let some = some_promotion (k % 7) (omega arith) (omega arith) in
+      no_promotion_here rule p x (record { from = s; to = k / 7; promo = promotion_at (k % 7) }) some.0 here some.1 (rw to h);
+}
+
+-- on the last there is one
+pub from-promoted : (p : Position) (x : Man) (s z t : ℕ) → man_on p.men s ≡ Some x → arrives x t ≡ true → IsBarrenFrom p s z (7 * t) (7 * t + 1)
+from-promoted p x s z t here h = record {
+  fails = λ rule k lo hi on.
+      let to : k / 7 ≡ t = omega arith in
+      let first : k % 7 ≡ 0 = omega arith in
+      promotion_missing rule p x (record { from = s; to = k / 7; promo = promotion_at (k % 7) }) here (rw first refl) (rw to h);
+}
+
+-- up to the first target
+pub from-target : (p : Position) (s start at t w : ℕ) → IsBarrenFrom p s w start at → IsFirst (λ q. bit_at w q == 1) (at / 7) (64 - at / 7) t
+    → IsBarrenFrom p s w start (7 * t)
+from-target p s start at t w past f = search rules
+
+-- up to the end, where there is none
+pub from-none : (p : Position) (s start at w : ℕ) → IsBarrenFrom p s w start at → find (λ q. bit_at w q == 1) (range_with_len (at / 7) (64 - at / 7)) ≡ None
+    → IsBarrenFrom p s w start 448
+from-none p s start at w past none =
+    from-join p s w start at 448 past (from-missed p s at 448 w (λ q lo hi. find_no (λ q. bit_at w q == 1) (at / 7) (64 - at / 7) q none lo (omega arith)))
+
+no_pawn_promotes : (x : Man) (t : ℕ) → same_kind x.kind Pawn ≡ false → arrives x t ≡ false
+no_pawn_promotes x t h = rw h refl
+
+-- a man that is no pawn has no other triple to a square than that without a promotion
+from-plain : (p : Position) (x : Man) (s a w : ℕ) → man_on p.men s ≡ Some x → same_kind x.kind Pawn ≡ false → IsBarrenFrom p s w a (7 * ((a + 6) / 7))
+from-plain p x s a w here h = elim (cases_eq (a % 7) 0) [
+  | inl e ↦ let at : 7 * ((a + 6) / 7) ≡ a = omega (arith, e) in rw at (from-empty p s w a)
+  | inr ne ↦
+      let at : 7 * ((a + 6) / 7) ≡ 7 * (a / 7) + 7 = omega (arith, ne) in
+      rw at (from-unpromoted p x s w (a / 7) a here (no_pawn_promotes x (a / 7) h) (omega (arith, ne)))
+]
+
+pub plain-target : (p : Position) (x : Man) (s start t w : ℕ) → man_on p.men s ≡ Some x → same_kind x.kind Pawn ≡ false
+    → IsFirst (λ q. bit_at w q == 1) ((start + 6) / 7) (64 - (start + 6) / 7) t
+    → IsBarrenFrom p s w start (7 * t)
+plain-target p x s start t w here h f =
+    let at : 7 * ((start + 6) / 7) / 7 ≡ (start + 6) / 7 = omega arith in
+    from-target p s start (7 * ((start + 6) / 7)) t w (from-plain p x s start w here h) (rw at f)
+
+pub plain-none : (p : Position) (x : Man) (s start w : ℕ) → man_on p.men s ≡ Some x → same_kind x.kind Pawn ≡ false
+    → find (λ q. bit_at w q == 1) (range_with_len ((start + 6) / 7) (64 - (start + 6) / 7)) ≡ None
+    → IsBarrenFrom p s w start 448
+plain-none p x s start w here h none =
+    let at : 7 * ((start + 6) / 7) / 7 ≡ (start + 6) / 7 = omega arith in
+    from-none p s start (7 * ((start + 6) / 7)) w (from-plain p x s start w here h) (rw at none)
+
+-- the triple that is found
+pub named_at : (p : Position) (x : Man) (s t n w : ℕ) → man_on p.men s ≡ Some x → (bit_at w t == 1) ≡ true → n / 7 ≡ t
+    → is_some (promotion_at (n % 7)) ≡ arrives x t → IsNamed p s w n
+named_at p x s t n w here set at named = record { man = x; here = here; inside = rw at set; promotion = rw at named }
+
+pub some_named : (n : ℕ) → 1 ≤ n → n < 7 → is_some (promotion_at n) ≡ true
+some_named n lo hi = let k = some_promotion n lo hi in rw k.1 refl
+
+pub none_named : (n : ℕ) → n ≡ 0 → is_some (promotion_at n) ≡ false
+none_named n e = rw e refl
+
+pub plain-named : (p : Position) (x : Man) (s t w : ℕ) → man_on p.men s ≡ Some x → same_kind x.kind Pawn ≡ false → (bit_at w t == 1) ≡ true
+    → IsNamed p s w (7 * t)
+plain-named p x s t w here h set =
+    let zero : 7 * t % 7 ≡ 0 = omega arith in
+    named_at p x s t (7 * t) w here set (omega arith) (none_named (7 * t % 7) zero ∙ sym (no_pawn_promotes x t h))
+
+pub every_square_on : (t : ℕ) → t < 64 → (bit_at (bit_not w64 0) t == 1) ≡ true
+every_square_on t lt = agree_below_at (λ n. bit_at (bit_not w64 0) n == 1) (λ _. true) 64 t refl lt

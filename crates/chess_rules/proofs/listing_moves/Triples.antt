@@ -1,0 +1,181 @@
+-- The triples: which moves they are, in which order they stand, and that each legal move is one of them.
+use Rattle.std.proofs.Common.{◌≡◌, ℕ, zero, suc, ◌+◌, ◌-◌, ◌*◌, ◌<◌, Bool, true, List, [], ◌∷◌, length, map, Option, Some, None, ◌⊎◌, ◌↔◌, inl, inr, refl, ap, arith, rules}
+use Rattle.std.specs.List.{AllPairs, Contains, flat_map, list_any, range_with_len}
+use Rattle.std.proofs.lemmas.Bool.{and_parts, cases_lt, false≢true, or_cases}
+use Rattle.std.proofs.lemmas.List.{get_or_past}
+use Rattle.chess_core.specs.MoveOrder.{promotion_place, triple_number}
+use Rattle.chess_core.specs.Position.{Position, man_on, may_promote}
+use Rattle.chess_core.specs.Squares.{is_square, squares}
+use Rattle.chess_core.specs.Steps.{along, diagonal_steps, knight_steps, pawn_captures, queen_steps, straight_steps}
+use Rattle.chess_core.specs.declared.man.Colour.{Colour}
+use Rattle.chess_core.specs.declared.man.Kind.{Kind}
+use Rattle.chess_core.specs.declared.man.Kind.TheVariants.{King, Queen, Rook, Bishop, Knight, Pawn, Grasshopper, Nightrider}
+use Rattle.chess_core.specs.declared.man.Man.{Man}
+use Rattle.chess_core.specs.declared.man.Move.{Move}
+use Rattle.chess_core.specs.declared.step.Step.{Step}
+use Rattle.chess_core.proofs.Boards.{along-is}
+use Rattle.chess_rules.specs.Legal.{castles, is_nil, is_promotion_right, may_castle, promotions, pseudo, triples}
+use Rattle.chess_rules.specs.ties.Places.{triple_at}
+use Rattle.chess_rules.specs.Reaches.{hops, leaps, reaches, reaches_as, reaches_of, rides}
+use Rattle.chess_rules.specs.RuleSet.{RuleSet}
+use Rattle.chess_rules.proofs.listing_moves.Members.{first_in, none_in_nil, from_flat_map, from_map, from_range, in_flat_map, in_map, in_range, pairs_map, pairs_nil, pairs_of}
+use Rattle.chess_rules.proofs.listing_moves.Places.{triples_numbered}
+use Rattle.chess_rules.proofs.making_moves.Pseudo.{IsMade, made, pawn_goes, ways}
+use Rattle.chess_rules.proofs.making_moves.Stays.{maker}
+
+pub in_triples : (m : Move) → m.from < 64 → m.to < 64 → Contains promotions m.promo → Contains triples m
+unfolding triples squares
+in_triples m a b c =
+    in_flat_map (λ s. flat_map (λ t. map (λ r. record { from = s; to = t; promo = r }) promotions) (range_with_len 0 64)) (range_with_len 0 64) m.from m
+    (in_range 0 64 m.from (omega arith) (omega (arith, a)))
+    (in_flat_map (λ t. map (λ r. record { from = m.from; to = t; promo = r }) promotions) (range_with_len 0 64) m.to m
+    (in_range 0 64 m.to (omega arith) (omega (arith, b)))
+    (in_map (λ r. record { from = m.from; to = m.to; promo = r }) promotions m.promo c))
+
+pub from_triples : (m : Move) → Contains triples m → (m.from < 64) × (m.to < 64) × Contains promotions m.promo
+unfolding triples squares
+from_triples m c =
+    let a = from_flat_map (λ s. flat_map (λ t. map (λ r. record { from = s; to = t; promo = r }) promotions) (range_with_len 0 64)) (range_with_len 0 64) m c in
+    let b = from_flat_map (λ t. map (λ r. record { from = a.0; to = t; promo = r }) promotions) (range_with_len 0 64) m a.2 in
+    let r = from_map (λ r. record { from = a.0; to = b.0; promo = r }) promotions m b.2 in
+    let origin : a.0 ≡ m.from = ap (λ (n : Move). n.from) r.2 in
+    let arrival : b.0 ≡ m.to = ap (λ (n : Move). n.to) r.2 in
+    let promotion : r.0 ≡ m.promo = ap (λ (n : Move). n.promo) r.2 in
+    let f = from_range 0 64 a.0 a.1 in
+    let t = from_range 0 64 b.0 b.1 in
+    (omega (arith, f, origin), omega (arith, t, arrival), rw promotion at r.1)
+
+-- the numbers of the triples rise
+next_rises : (n : ℕ) → n < 28671 → triple_number (triple_at n) < triple_number (triple_at (n + 1))
+unfolding triple_at
+next_rises n less = search rules
+
+later_rises : (d n : ℕ) → n + suc d < 28672 → triple_number (triple_at n) < triple_number (triple_at (n + suc d))
+later_rises zero n less = let e : n + 1 ≡ n + suc zero = omega arith in rw (← e) (next_rises n (omega (arith, less)))
+later_rises (suc d) n less =
+    let a : triple_number (triple_at n) < triple_number (triple_at (n + suc d)) = later_rises d n (omega (arith, less)) in
+    let b : triple_number (triple_at (n + suc d)) < triple_number (triple_at (n + suc d + 1)) = next_rises (n + suc d) (omega (arith, less)) in
+    let e : n + suc (suc d) ≡ n + suc d + 1 = omega arith in
+    rw e (omega (arith, a, b))
+
+-- the numbers of a range rise
+range_rises : (a n : ℕ) → AllPairs (λ j k. (j < k) × (k < a + n)) (range_with_len a n)
+range_rises a zero = pairs_nil (λ j k. (j < k) × (k < a + 0))
+range_rises a (suc n) =
+    let e : a + 1 + n ≡ a + suc n = omega arith in
+    pairs_of (λ j k. (j < k) × (k < a + suc n)) a (range_with_len (a + 1) n)
+    (λ k c. let w = from_range (a + 1) n k c in (omega (arith, w), omega (arith, w)))
+    (rw e at (range_rises (a + 1) n))
+
+pub triples_rise : AllPairs (λ m n. triple_number m < triple_number n) triples
+triples_rise =
+    rw triples_numbered (pairs_map (λ j k. (j < k) × (k < 0 + 28672)) (λ m n. triple_number m < triple_number n) triple_at (range_with_len 0 28672)
+    (λ j k w. let e : j + suc (k - j - 1) ≡ k = omega (arith, w) in rw e at (later_rises (k - j - 1) j (omega (arith, w))))
+    (range_rises 0 28672))
+
+-- Each move that may be made goes from a square to a square, with one of the promotions or none.
+
+some_passes : {X Q : Type 0} (test : X → Bool) (xs : List X) → ((x : X) → test x ≡ true → Q) → list_any test xs ≡ true → Q
+some_passes test [] give h = absurd (false≢true h)
+some_passes test (x ∷ xs) give h = elim (or_cases (test x) (list_any test xs) h) [
+  | inl here ↦ give x here
+  | inr r ↦ some_passes test xs give r
+]
+
+on_board : (s : ℕ) (d : Step) (k t : ℕ) → is_square (along s d k) t ≡ true → t < 64
+on_board s d k t h = (along-is s d k t h).small
+
+leap_on_board : (s t : ℕ) (d : Step) → leaps s t d ≡ true → t < 64
+unfolding leaps
+leap_on_board s t d h = on_board s d 1 t h
+
+ride_on_board : (men : List (Option Man)) (s t : ℕ) (d : Step) → rides men s t d ≡ true → t < 64
+unfolding rides
+ride_on_board men s t d h = search (rules, on_board, some_passes)
+
+hop_on_board : (men : List (Option Man)) (s t : ℕ) (d : Step) → hops men s t d ≡ true → t < 64
+unfolding hops
+hop_on_board men s t d h = search (rules, on_board, some_passes)
+
+reach_as_on_board : (men : List (Option Man)) (c : Colour) (k : Kind) (s t : ℕ) → reaches_as men c k s t ≡ true → t < 64
+unfolding reaches_as
+reach_as_on_board men c King s t h = some_passes (leaps s t) queen_steps (λ d. leap_on_board s t d) h
+reach_as_on_board men c Queen s t h = some_passes (rides men s t) queen_steps (λ d. ride_on_board men s t d) h
+reach_as_on_board men c Rook s t h = some_passes (rides men s t) straight_steps (λ d. ride_on_board men s t d) h
+reach_as_on_board men c Bishop s t h = some_passes (rides men s t) diagonal_steps (λ d. ride_on_board men s t d) h
+reach_as_on_board men c Knight s t h = some_passes (leaps s t) knight_steps (λ d. leap_on_board s t d) h
+reach_as_on_board men c Pawn s t h = some_passes (leaps s t) (pawn_captures c) (λ d. leap_on_board s t d) h
+reach_as_on_board men c Grasshopper s t h = some_passes (hops men s t) queen_steps (λ d. hop_on_board men s t d) h
+reach_as_on_board men c Nightrider s t h = some_passes (rides men s t) knight_steps (λ d. ride_on_board men s t d) h
+
+reach_of_on_board : (men : List (Option Man)) (o : Option Man) (s t : ℕ) → reaches_of men o s t ≡ true → t < 64
+reach_of_on_board men None s t h = absurd (false≢true h)
+reach_of_on_board men (Some x) s t h = reach_as_on_board men x.colour x.kind s t h
+
+reach_on_board : (men : List (Option Man)) (s t : ℕ) → reaches men s t ≡ true → t < 64
+unfolding reaches
+reach_on_board men s t h = reach_of_on_board men (man_on men s) s t h
+
+-- a man stands on the board
+stands_on_board : (p : Position) (x : Man) (s : ℕ) → length p.men ≡ 64 → man_on p.men s ≡ Some x → s < 64
+stands_on_board p x s size here = search (rules, cases_lt, get_or_past)
+
+castling_on_board : (rule : RuleSet) (p : Position) (x : Man) (m : Move) → m.from < 64 → castles rule p x m ≡ true → m.to < 64
+unfolding castles may_castle
+castling_on_board rule p x m from h = search rules
+
+arrival_on_board : (rule : RuleSet) (p : Position) (x : Man) (m : Move) → m.from < 64 → IsMade rule p x m → m.to < 64
+arrival_on_board rule p x m from made = search (rules, castling_on_board, pawn_goes, reach_on_board, ways)
+
+may_be_promoted : (p : Position) (k : Kind) → may_promote p k ≡ true → Contains promotions (Some k)
+may_be_promoted p King h = absurd (false≢true h)
+may_be_promoted p Queen h = (1, omega arith, refl)
+may_be_promoted p Rook h = (2, omega arith, refl)
+may_be_promoted p Bishop h = (3, omega arith, refl)
+may_be_promoted p Knight h = (4, omega arith, refl)
+may_be_promoted p Pawn h = absurd (false≢true h)
+may_be_promoted p Grasshopper h = (5, omega arith, refl)
+may_be_promoted p Nightrider h = (6, omega arith, refl)
+
+promotion_is_one : (p : Position) (x : Man) (m : Move) (r : Option Kind) → is_promotion_right p x m r ≡ true → Contains promotions r
+promotion_is_one p x m None h = (0, omega arith, refl)
+promotion_is_one p x m (Some k) h = may_be_promoted p k (and_parts _ _ h).1
+
+pub made_is_triple : (rule : RuleSet) (p : Position) (m : Move) → length p.men ≡ 64 → pseudo rule p m ≡ true
+    → (m.from < 64) × (m.to < 64) × Contains promotions m.promo
+made_is_triple rule p m size h =
+    let x = maker rule p m h in
+    let by = made rule p m x.0 h x.1 in
+    let from = stands_on_board p x.0 m.from size x.1 in
+    (from, arrival_on_board rule p x.0 m from by, promotion_is_one p x.0 m m.promo by.promotion)
+
+-- The order by parts: arrivals below 64 and promotions below 9.
+
+place_small : (r : Option Kind) → promotion_place r < 9
+place_small None = omega arith
+place_small (Some King) = omega arith
+place_small (Some k) = omega arith
+
+parts_of : (a b c d e f : ℕ) → b < 64 → e < 64 → c < 9 → f < 9 → (a * 64 + b) * 9 + c < (d * 64 + e) * 9 + f
+    → (a < d) ⊎ ((a ≡ d) × ((b < e) ⊎ ((b ≡ e) × (c < f))))
+parts_of a b c d e f b64 e64 c9 f9 less = search rules
+
+of_parts : (a b c d e f : ℕ) → b < 64 → e < 64 → c < 9 → f < 9 → (a < d) ⊎ ((a ≡ d) × ((b < e) ⊎ ((b ≡ e) × (c < f))))
+    → (a * 64 + b) * 9 + c < (d * 64 + e) * 9 + f
+of_parts a b c d e f b64 e64 c9 f9 (inl low) = omega (arith, b64, c9, low)
+of_parts a b c d e f b64 e64 c9 f9 (inr (same, inl low)) = omega (arith, c9, same, low)
+of_parts a b c d e f b64 e64 c9 f9 (inr (same, inr (alike, low))) = omega (arith, same, alike, low)
+
+pub by_parts : (m n : Move) → m.to < 64 → n.to < 64
+    → (triple_number m < triple_number n) ↔ ((m.from < n.from)
+    ⊎ ((m.from ≡ n.from) × ((m.to < n.to) ⊎ ((m.to ≡ n.to) × (promotion_place m.promo < promotion_place n.promo)))))
+by_parts m n a b = search rules
+
+-- a list without elements
+pub nothing_in : (ms : List Move) → is_nil ms ≡ true → (m : Move) → Contains ms m → ⊥
+nothing_in [] h m c = none_in_nil m c
+nothing_in (x ∷ ms) h m c = false≢true h
+
+pub nil_where_nothing : (ms : List Move) → ((m : Move) → Contains ms m → ⊥) → is_nil ms ≡ true
+nil_where_nothing [] h = refl
+nil_where_nothing (x ∷ ms) h = absurd (h x (first_in x ms))

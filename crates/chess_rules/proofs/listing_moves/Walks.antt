@@ -1,0 +1,141 @@
+-- No move is missed by walking from candidate to candidate.
+use Rattle.std.proofs.Common.{◌≡◌, ℕ, ◌+◌, ◌-◌, ◌*◌, ◌/◌, ◌%◌, ◌<◌, ◌≤◌, Bool, true, false, ◌==◌, not, None, find, refl, subst, sym, ap, ◌∙◌, arith, inl, inr, rules}
+use Rattle.std.specs.Int.{bit_at}
+use Rattle.std.specs.Int.Bits.{bit_and}
+use Rattle.std.specs.List.{range_with_len}
+use Rattle.std.proofs.lemmas.Bool.{and_right, cases_Bool, cases_lt, eqb-true, eq-eqb}
+use Rattle.std.proofs.lemmas.Nat.Bits.{bit_at_and, bit_at-lt, bit_at-zero}
+use Rattle.chess_core.specs.Position.{Position, is_side, man_on}
+use Rattle.chess_core.specs.ties.Words.{side_of, word}
+use Rattle.chess_core.specs.declared.man.Move.{Move}
+use Rattle.chess_rules.specs.ties.CheckSquares.{AreCheckOrigins, AreCheckTargets}
+use Rattle.chess_rules.specs.ties.Evasions.{AreEvasionsFrom}
+use Rattle.chess_rules.specs.Legal.{legal, pseudo}
+use Rattle.chess_rules.specs.ties.Places.{HaveNone, IsBarrenFrom, IsNamed, mates, promotion_at, triple_at}
+use Rattle.chess_rules.specs.RuleSet.{RuleSet}
+use Rattle.chess_rules.specs.ties.Targets.{AreCandidates, AreOrigins, IsAimed, is_arrival}
+use Rattle.chess_rules.proofs.Bits.{word_has}
+use Rattle.chess_rules.proofs.giving_check.Mating.{no_mate_quietly}
+use Rattle.chess_rules.proofs.listing_moves.Targeting.{arrival_needed, false_by, own_moves}
+use Rattle.chess_rules.proofs.Tests.{IsFirst, find_no}
+
+-- squares of two words
+pub on_first : (a b i : ℕ) → (bit_at (bit_and a b) i == 1) ≡ true → (bit_at a i == 1) ≡ true
+on_first a b i h = search (rules, bit_at-lt, bit_at_and, eq-eqb, eqb-true)
+
+pub off_second : (a b i : ℕ) → (bit_at (bit_and a b) i == 1) ≡ false → (bit_at a i == 1) ≡ true → (bit_at b i == 1) ≡ false
+off_second a b i h on = search (rules, bit_at_and, eq-eqb, eqb-true, false_by)
+
+pub off_zero : (i : ℕ) → (bit_at 0 i == 1) ≡ false
+off_zero i = rw (bit_at-zero i) refl
+
+module _ (rule : RuleSet) (p : Position) (test : Move → Bool) (needs : (m : Move) → pseudo rule p m ≡ false → test m ≡ false) where
+  -- the candidates of one origin
+  pub candidates : (s a w : ℕ) → a ≡ word (is_arrival rule p s)
+      → ((m : Move) → m.from ≡ s → m.to < 64 → pseudo rule p m ≡ true → (bit_at w m.to == 1) ≡ false → test m ≡ false)
+      → AreCandidates rule p test s (bit_and a w)
+  candidates s a w arrivals h = search (rules, arrival_needed, cases_Bool, off_second, on_first, word_has)
+
+  pub no_candidates : (s w : ℕ) → w ≡ 0 → ((m : Move) → m.from ≡ s → m.to < 64 → pseudo rule p m ≡ true → (bit_at w m.to == 1) ≡ false → test m ≡ false)
+      → AreCandidates rule p test s 0
+  no_candidates s w zero h = search (rules, cases_Bool, off_zero)
+
+  -- stretches of triples of which none passes the test
+  pub none-empty : (a : ℕ) → HaveNone test a a
+  none-empty a = record { fails = λ k lo hi. absurd (omega (arith, lo, hi)) }
+
+  pub none-join : (a b c : ℕ) → HaveNone test a b → HaveNone test b c → HaveNone test a c
+  none-join a b c x y = search (rules, cases_lt)
+
+  pub none-less : (a b c : ℕ) → b ≤ c → HaveNone test a c → HaveNone test a b
+  none-less a b c le x = record { fails = λ k lo hi. x.fails k lo (omega (arith, hi, le)) }
+
+  pub none-one : (a : ℕ) → test (triple_at a) ≡ false → HaveNone test a (a + 1)
+  none-one a h = record { fails = λ k lo hi. let e : k ≡ a = omega (arith, lo, hi) in rw e h }
+
+  none-move : (s w : ℕ) (m : Move) → AreCandidates rule p test s w → m.from ≡ s → m.to < 64 → ((bit_at w m.to == 1) ≡ true → pseudo rule p m ≡ false)
+      → test m ≡ false
+  none-move s w m are at small h = search (rules, cases_Bool)
+
+  none-from : (s w a b : ℕ) → b ≤ 448 → AreCandidates rule p test s w → IsBarrenFrom p s w a b → HaveNone test (448 * s + a) (448 * s + b)
+  unfolding triple_at
+  none-from s w a b le are h = record {
+    fails = λ k lo hi.
+        let from : k / 448 ≡ s = omega (arith, lo, hi, le) in
+        let to : k / 7 % 64 ≡ (k - 448 * s) / 7 = omega (arith, lo, hi, le) in
+        let promo : k % 7 ≡ (k - 448 * s) % 7 = omega (arith, lo, hi, le) in
+        rw (from, to, promo) (none-move s w (record { from = s; to = (k - 448 * s) / 7; promo = promotion_at ((k - 448 * s) % 7) }) are refl
+        (omega (arith, hi, le)) (h.fails rule (k - 448 * s) (omega (arith, lo)) (omega (arith, lo, hi))));
+  }
+
+  -- the squares of the side to move are all its origins
+  pub own-origins : (o : ℕ) → o ≡ side_of p.men p.turn → AreOrigins test o
+  unfolding side_of
+  own-origins o h = record {
+    elsewhere = λ m inside small off.
+        needs m (own_moves p rule m (man_on p.men m.from) refl (sym (word_has (λ s. is_side (man_on p.men s) p.turn) o m.from h inside) ∙ off));
+  }
+
+  -- none of the squares from the first one on and before the next origin is in the word
+  none-missed : (a b o : ℕ) → AreOrigins test o → b ≤ 28672 → ((s : ℕ) → a / 448 ≤ s → s < (b + 447) / 448 → (bit_at o s == 1) ≡ false)
+      → HaveNone test a b
+  unfolding triple_at
+  none-missed a b o h le none = record {
+    fails = λ k lo hi.
+        h.elsewhere (record { from = k / 448; to = k / 7 % 64; promo = promotion_at (k % 7) }) (omega (arith, hi, le)) (omega arith)
+        (none (k / 448) (omega (arith, lo)) (omega (arith, hi)));
+  }
+
+  -- up to a triple of the next origin
+  pub none-origin : (start number s a o w : ℕ) → AreOrigins test o → HaveNone test start number
+      → IsFirst (λ q. bit_at o q == 1) (number / 448) (64 - number / 448) s → a ≤ 448 → AreCandidates rule p test s w → IsBarrenFrom p s w (number - 448 * s) a
+      → HaveNone test start (448 * s + a)
+  none-origin start number s a o w h past f le are here = elim (cases_lt (448 * s) number) [
+    | inl lt ↦
+        let e : 448 * s + (number - 448 * s) ≡ number = omega (arith, lt) in
+        none-join start number (448 * s + a) past (subst (λ n. HaveNone test n (448 * s + a)) e (none-from s w (number - 448 * s) a le are here))
+    | inr ge ↦
+        let e : 448 * s + (number - 448 * s) ≡ 448 * s = omega (arith, ge) in
+        none-join start (448 * s) (448 * s + a)
+        (none-join start number (448 * s) past (none-missed number (448 * s) o h (omega (arith, f.high, f.low)) (λ q lo hi. f.before q lo (omega (arith, hi)))))
+        (subst (λ n. HaveNone test n (448 * s + a)) e (none-from s w (number - 448 * s) a le are here))
+  ]
+
+  -- up to the end, where there is none
+  pub none-end : (start number o : ℕ) → AreOrigins test o → HaveNone test start number
+      → find (λ q. bit_at o q == 1) (range_with_len (number / 448) (64 - number / 448)) ≡ None → HaveNone test start 28672
+  none-end start number o h past none =
+      none-join start number 28672 past (none-missed number 28672 o h (omega arith)
+      (λ q lo hi. find_no (λ q. bit_at o q == 1) (number / 448) (64 - number / 448) q none lo (omega (arith, hi))))
+
+-- the triple that is found
+pub aimed_from : (rule : RuleSet) (p : Position) (test : Move → Bool) (s w a : ℕ) → a < 448 → AreCandidates rule p test s w → IsNamed p s w a
+    → IsAimed rule p (triple_at (448 * s + a))
+unfolding triple_at
+aimed_from rule p test s w a lt are named =
+    let from : (448 * s + a) / 448 ≡ s = omega (arith, lt) in
+    let to : (448 * s + a) / 7 % 64 ≡ a / 7 = omega (arith, lt) in
+    let promo : (448 * s + a) % 7 ≡ a % 7 = omega (arith, lt) in
+    rw (from, to, promo) (record {
+      man = named.man;
+      here = named.here;
+      arrival = are.inside (a / 7) (omega (arith, lt)) named.inside;
+      promotion =
+          named.promotion;
+    })
+
+-- a move to no square that ends a check isn't legal, and one to no square that gives check doesn't mate
+pub evasions_elsewhere : (rule : RuleSet) (p : Position) (s w : ℕ) → AreEvasionsFrom rule p s w → (m : Move) → m.from ≡ s → m.to < 64 → pseudo rule p m ≡ true
+    → (bit_at w m.to == 1) ≡ false → legal rule p m ≡ false
+unfolding legal
+evasions_elsewhere rule p s w h m at small may off = and_right (pseudo rule p m) _ (ap not (h.elsewhere m at small may off))
+
+pub checks_elsewhere : (rule : RuleSet) (p : Position) (s w : ℕ) → AreCheckTargets rule p s w → (m : Move) → m.from ≡ s → m.to < 64 → pseudo rule p m ≡ true
+    → (bit_at w m.to == 1) ≡ false → mates rule p m ≡ false
+checks_elsewhere rule p s w h m at small may off = sym (no_mate_quietly rule p m (λ lawful. h.elsewhere m at small lawful off))
+
+-- a move from no square from which one may give check doesn't mate
+pub mating_origins : (rule : RuleSet) (p : Position) (w : ℕ) → AreCheckOrigins rule p w → AreOrigins (mates rule p) w
+mating_origins rule p w h = record {
+  elsewhere = λ m inside small off. sym (no_mate_quietly rule p m (λ lawful. h.elsewhere m inside small lawful off));
+}

@@ -1,0 +1,193 @@
+-- A move that may be made can be made on the board.
+use Rattle.std.proofs.Common.{◌≡◌, ◌≢◌, ℕ, ◌<◌, true, false, ◌&&◌, List, Option, Some, None, is_some, IsSome, refl, rules, sym, ap, ◌∙◌, arith, inl, inr}
+use Rattle.std.proofs.lemmas.Bool.{and_from, and_parts, cases_Bool, cond-true, cond-false, eqb-true, eq-eqb, not-true, false_from_ne_true}
+use Rattle.chess_core.specs.Squares.{file_of, rank_of, is_square, square_at}
+use Rattle.chess_core.specs.Position.{HasNoKing, Position, is_man, man_on, may_promote, same_colour, same_kind, with_man, without_man}
+use Rattle.chess_core.specs.WellFormed.{IsWellFormed, is_crossed_right, was_passed}
+use Rattle.chess_core.specs.declared.man.Man.{Man}
+use Rattle.chess_core.specs.declared.man.Move.{Move}
+use Rattle.chess_core.specs.declared.man.Colour.{Colour}
+use Rattle.chess_core.specs.declared.man.Colour.TheVariants.{White, Black}
+use Rattle.chess_core.specs.declared.man.Kind.{Kind}
+use Rattle.chess_core.specs.declared.man.Kind.TheVariants.{King, Rook, Pawn}
+use Rattle.chess_core.proofs.Boards.{IsAt, square_at-is}
+use Rattle.chess_core.proofs.Men.{is_man-without, man_on-without_none, man_on-without_other}
+use Rattle.std.specs.List.{list_any}
+use Rattle.chess_core.specs.Steps.{queen_steps}
+use Rattle.chess_rules.specs.Reaches.{leaps, reaches, reaches_as}
+use Rattle.chess_rules.specs.RuleSet.{RuleSet}
+use Rattle.chess_rules.specs.Play.{arriving, capture_square, corner, halfway, is_castling, is_diagonal, without_at}
+use Rattle.chess_rules.specs.ties.Playing.{CanCastle, CanMove}
+use Rattle.chess_rules.specs.Legal.{is_promotion_right}
+use Rattle.chess_rules.proofs.making_moves.Castles.{no_king_left, same_colour_self}
+use Rattle.chess_rules.proofs.making_moves.Plays.{stays_empty}
+use Rattle.chess_rules.proofs.making_moves.Pseudo.{IsCastle, IsMade, IsPawnTake, king_castles, king_is_no_pawn, made, on_board, pawn_goes, pawn_reaches, ways}
+use Rattle.chess_rules.proofs.rays.Tables.{king_step_is_no_castling}
+
+-- an enemy stands on the square of capture, not on the origin, and is no king
+pub record IsTaken (p : Position) (m : Move) (s : ℕ) : Type 0 where
+  pub man : Man
+  pub there : man_on p.men s ≡ Some man
+  pub apart : s ≢ m.from
+  pub mortal : same_kind man.kind King ≡ false
+  pub enemy : same_colour man.colour p.turn ≡ false
+
+-- an enemy on the arrival
+taken_there : (rule : RuleSet) (p : Position) (x : Man) (m : Move) → IsMade rule p x m → is_some (man_on p.men m.to) ≡ true → IsTaken p m m.to
+taken_there rule p x m made e = search rules
+
+pub is_square-some : (o : Option ℕ) (t : ℕ) → is_square o t ≡ true → o ≡ Some t
+is_square-some None t h = cc
+is_square-some (Some s) t h = ap (λ (k : ℕ). Some k) (eqb-true s t h)
+
+is_man-some : (o : Option Man) (c : Colour) (k : Kind) → is_man o c k ≡ true
+    → (y : Man) × ((o ≡ Some y) × ((same_colour y.colour c ≡ true) × (same_kind y.kind k ≡ true)))
+is_man-some None c k h = cc
+is_man-some (Some y) c k h = (y, (refl, and_parts _ _ h))
+
+pub pawn_is_no_king : (k : Kind) → same_kind k Pawn ≡ true → same_kind k King ≡ false
+pawn_is_no_king Pawn h = refl
+pawn_is_no_king k h = cc
+
+other_colours : (x y : Man) (c d : Colour) → x.colour ≡ c → same_colour y.colour d ≡ true → same_colour c d ≡ false → (o : Option Man) → o ≡ Some x
+    → o ≡ Some y → ⊥
+other_colours x y c d a b ne o e f = search rules
+
+-- en passant: behind the crossed square stands the pawn that passed it
+taken_passing : (c : Colour) (p : Position) (x : Man) (m : Move) (s : ℕ) → p.turn ≡ c → x.colour ≡ c → man_on p.men m.from ≡ Some x → IsPawnTake c m.from m.to
+    → was_passed p.men c m.to ≡ true → IsAt (file_of m.to) (rank_of m.from) s → IsTaken p m s
+taken_passing White p x m s turn mine here take passed at = search (rules, and_parts, eqb-true, is_man-some, other_colours, pawn_is_no_king)
+taken_passing Black p x m s turn mine here take passed at = search (rules, and_parts, eqb-true, is_man-some, other_colours, pawn_is_no_king)
+
+-- a pawn that leaves its file captures
+pub diagonal_takes : (rule : RuleSet) (p : Position) (x : Man) (m : Move) → IsMade rule p x m → same_kind x.kind Pawn ≡ true → is_diagonal m ≡ true
+    → IsPawnTake x.colour m.from m.to
+diagonal_takes rule p x m made pawn diagonal = search (rules, pawn_goes, pawn_reaches, ways)
+
+-- the man that is captured
+pub taken : (rule : RuleSet) (p : Position) (x : Man) (m : Move) (s : ℕ) → IsWellFormed p → IsMade rule p x m → capture_square p x m ≡ Some s → IsTaken p m s
+unfolding capture_square is_crossed_right
+taken rule p x m s well made h = elim (cases_Bool (is_some (man_on p.men m.to))) [
+  | inl e ↦
+      let c : Some m.to ≡ Some s = sym (cond-true (is_some (man_on p.men m.to)) _ _ e) ∙ h in
+      let is : m.to ≡ s = cc in
+      rw (← is) (taken_there rule p x m made e)
+  | inr e ↦
+      let h1 = sym (cond-false (is_some (man_on p.men m.to)) _ _ e) ∙ h in
+      elim (cases_Bool (same_kind x.kind Pawn && is_diagonal m && is_square p.crossed m.to)) [
+        | inl q ↦
+            let h2 : square_at (file_of m.to) (rank_of m.from) ≡ Some s =
+            sym (cond-true (same_kind x.kind Pawn && is_diagonal m && is_square p.crossed m.to) _ _ q) ∙ h1 in
+            let q1 = and_parts _ _ q in
+            let q2 = and_parts _ _ q1.0 in
+            let crossed : p.crossed ≡ Some m.to = is_square-some p.crossed m.to q1.1 in
+            let right : is_crossed_right p.men p.turn (Some m.to) ≡ true = ap (λ (o : Option ℕ). is_crossed_right p.men p.turn o) (sym crossed)
+            ∙ well.crossed in
+            let passed : was_passed p.men x.colour m.to ≡ true = ap (λ (c : Colour). was_passed p.men c m.to) made.mine ∙ right in
+            let at : IsAt (file_of m.to) (rank_of m.from) s = square_at-is _ _ s (rw h2 (eq-eqb s s refl)) in
+            taken_passing x.colour p x m s (sym made.mine) refl made.here (diagonal_takes rule p x m made q2.0 q2.1) passed at
+        | inr q ↦
+            let h2 : None ≡ Some s = sym (cond-false (same_kind x.kind Pawn && is_diagonal m && is_square p.crossed m.to) _ _ q) ∙ h1 in
+            cc
+      ]
+]
+
+promoted_no_king : (p : Position) (k : Kind) → may_promote p k ≡ true → same_kind k King ≡ false
+promoted_no_king p King h = cc
+promoted_no_king p Pawn h = cc
+promoted_no_king p k h = refl
+
+-- a king that arrives is the king that went
+pub arriving_king : (p : Position) (x : Man) (m : Move) (r : Option Kind) → is_promotion_right p x m r ≡ true → same_kind (arriving x r).kind King ≡ true
+    → arriving x r ≡ x
+arriving_king p x m None right king = refl
+arriving_king p x m (Some k) right king = search (rules, and_parts, promoted_no_king)
+
+without_at-no_king : (men : List (Option Man)) (o : Option ℕ) (c : Colour) → HasNoKing men c → HasNoKing (without_at men o) c
+without_at-no_king men None c none = none
+without_at-no_king men (Some s) c none = search (rules, false_from_ne_true, is_man-without)
+
+-- what isn't taken off stands
+pub man_on-without_at : (men : List (Option Man)) (o : Option ℕ) (t : ℕ) → ((s : ℕ) → o ≡ Some s → t ≢ s) → man_on (without_at men o) t ≡ man_on men t
+man_on-without_at men None t ne = refl
+man_on-without_at men (Some s) t ne = man_on-without_other men s t (ne s refl)
+
+some-is_some : (men : List (Option Man)) (s : ℕ) (y : Man) → man_on men s ≡ Some y → IsSome (man_on men s)
+some-is_some men s y e = rw e (search rules)
+
+-- a man that goes where nobody stood captures nothing but en passant
+pub no_capture : (p : Position) (x : Man) (m : Move) → man_on p.men m.to ≡ None → same_kind x.kind Pawn && is_diagonal m ≡ false → capture_square p x m ≡ None
+unfolding capture_square
+no_capture p x m empty straight = search rules
+
+-- the arrival is the square of capture, or nobody stood there
+pub capture_of_piece : (p : Position) (x : Man) (m : Move) (s : ℕ) → same_kind x.kind Pawn ≡ false → capture_square p x m ≡ Some s → s ≡ m.to
+unfolding capture_square
+capture_of_piece p x m s piece h = search rules
+
+-- the men once the man has arrived
+abbrev pub arrived : Position → Man → Move → List (Option Man)
+arrived p x m = with_man (without_at (without_man p.men m.from) (capture_square p x m)) m.to (arriving x m.promo)
+
+pub kind_is_king : (k : Kind) → same_kind k King ≡ true → k ≡ King
+kind_is_king King h = refl
+kind_is_king k h = cc
+
+-- a king's step isn't castling
+pub king_no_step : (p : Position) (x : Man) (m : Move) → IsWellFormed p → man_on p.men m.from ≡ Some x → is_castling x m ≡ true → same_kind x.kind King ≡ true
+    → reaches p.men m.from m.to ≡ true → ⊥
+unfolding reaches reaches_as
+king_no_step p x m well here castling king h =
+    let k : x.kind ≡ King = kind_is_king x.kind king in
+    let steps : list_any (leaps m.from m.to) queen_steps ≡ true = rw (here, k) at h in
+    let c1 = and_parts _ _ castling in
+    let c2 = and_parts _ _ c1.0 in
+    let from : m.from < 64 = on_board p.men m.from x well.size here in
+    let rank : rank_of m.from ≡ rank_of m.to = eqb-true _ _ c2.1 in
+    let to : m.to < 64 = omega arith in
+    let table = not-true _ (king_step_is_no_castling m.from m.to from to) in
+    let all = and_from _ _ (and_from _ _ steps c2.1) c1.1 in
+    cc
+
+-- a king that castles goes neither by a step nor as a pawn
+pub castle_of : (rule : RuleSet) (p : Position) (x : Man) (m : Move) → IsWellFormed p → IsMade rule p x m → is_castling x m ≡ true
+    → (same_kind x.kind Pawn ≡ false) × IsCastle p m
+castle_of rule p x m well made castling = search (rules, king_castles, king_is_no_pawn, king_no_step, ways)
+
+-- elsewhere than on origin, square of capture and arrival nothing changes
+pub arrived_other : (p : Position) (x : Man) (m : Move) (t : ℕ) → t ≢ m.from → ((s : ℕ) → capture_square p x m ≡ Some s → t ≢ s) → t ≢ m.to
+    → man_on (arrived p x m) t ≡ man_on p.men t
+arrived_other p x m t n1 n2 n3 = search (rules, man_on-without_at, man_on-without_other)
+
+arrived_none : (p : Position) (x : Man) (m : Move) (t : ℕ) → man_on p.men t ≡ None → t ≢ m.to → man_on (arrived p x m) t ≡ None
+arrived_none p x m t none ne = search (rules, man_on-without_none, stays_empty)
+
+-- the corner isn't touched before the rook goes
+pub corner_stays : (p : Position) (x : Man) (m : Move) → same_kind x.kind Pawn ≡ false → IsCastle p m
+    → man_on (arrived p x m) (corner m) ≡ man_on p.men (corner m)
+corner_stays p x m piece castle =
+    let off : corner m ≢ m.to = λ e. elim castle.far [ inl f ↦ omega arith | inr f ↦ omega arith ] in
+    arrived_other p x m (corner m) (λ e. elim castle.far [ inl f ↦ omega arith | inr f ↦ omega arith ])
+    (λ s cap e. off (e ∙ capture_of_piece p x m s piece cap)) off
+
+rook_is_no_king : (k : Kind) → same_kind k Rook ≡ true → same_kind k King ≡ false
+rook_is_no_king Rook h = refl
+rook_is_no_king k h = cc
+
+can_castle : (rule : RuleSet) (p : Position) (x : Man) (m : Move) → IsWellFormed p → IsMade rule p x m → is_castling x m ≡ true
+    → CanCastle (arrived p x m) (corner m) (halfway m)
+can_castle rule p x m well made castling = search (rules, arrived_none, castle_of, corner_stays, man_on-without_none, rook_is_no_king)
+
+pub can_move : (rule : RuleSet) (p : Position) (x : Man) (m : Move) → IsWellFormed p → IsMade rule p x m → CanMove p x m
+can_move rule p x m well made = record {
+  here = made.here;
+  taken = λ s h.
+      let t = taken rule p x m s well made h in
+      some-is_some (without_man p.men m.from) s t.man (man_on-without_other p.men m.from s t.apart ∙ t.there);
+  one_king = λ king.
+      let same : arriving x m.promo ≡ x = arriving_king p x m m.promo made.promotion king in
+      let k : same_kind x.kind King ≡ true = ap (λ (y : Man). same_kind y.kind King) (sym same) ∙ king in
+      let none : HasNoKing (without_man p.men m.from) x.colour = no_king_left p.men m.from x well.kings made.here (same_colour_self x k) in
+      rw same (without_at-no_king (without_man p.men m.from) (capture_square p x m) x.colour none);
+  rook = can_castle rule p x m well made;
+}

@@ -1,0 +1,136 @@
+-- What a move that may be made is made of, check to the mover apart.
+use Rattle.std.proofs.Common.{◌≡◌, ◌≢◌, ℕ, ◌+◌, ◌<◌, true, false, nat_lt, List, Option, Some, None, length, refl, inl, inr, ◌⊎◌, rules}
+use Rattle.std.proofs.lemmas.Bool.{and_parts, or_cases, cases_lt, cond-true, cond-false, eqb-true, lt-ltb, le-ltb}
+use Rattle.std.proofs.lemmas.List.{get_or_past}
+use Rattle.std.specs.List.{list_any}
+use Rattle.chess_core.specs.Squares.{file_of, rank_of, is_square}
+use Rattle.chess_core.specs.Steps.{along, pawn_captures}
+use Rattle.chess_core.specs.Position.{Position, man_on, same_kind}
+use Rattle.chess_core.specs.WellFormed.{IsWellFormed, is_home}
+use Rattle.chess_core.specs.declared.man.Man.{Man}
+use Rattle.chess_core.specs.declared.man.Move.{Move}
+use Rattle.chess_core.specs.declared.man.Colour.{Colour}
+use Rattle.chess_core.specs.declared.man.Colour.TheVariants.{White, Black}
+use Rattle.chess_core.specs.declared.man.Kind.{Kind}
+use Rattle.chess_core.specs.declared.man.Kind.TheVariants.{King, Rook, Pawn}
+use Rattle.chess_core.proofs.Boards.{along-is}
+use Rattle.chess_core.proofs.Castlings.{is_home-none, is_home-square}
+use Rattle.chess_core.proofs.Men.{same_colour-true}
+use Rattle.chess_rules.specs.RuleSet.{RuleSet}
+use Rattle.chess_rules.specs.Reaches.{leaps, reaches, reaches_as}
+use Rattle.chess_rules.specs.Play.{corner, halfway}
+use Rattle.chess_rules.specs.Legal.{castles, forward, goes, is_arrival_free, is_promotion_right, may_castle, pawn_steps, pawn_takes, pseudo, second_rank}
+use Rattle.chess_rules.proofs.making_moves.Castles.{no_man}
+
+-- the parts of the definition
+pub record IsMade (rule : RuleSet) (p : Position) (x : Man) (m : Move) : Type 0 where
+  pub here : man_on p.men m.from ≡ Some x
+  pub mine : x.colour ≡ p.turn
+  pub arrival : is_arrival_free p.turn (man_on p.men m.to) ≡ true
+  pub promotion : is_promotion_right p x m m.promo ≡ true
+  pub goes : goes rule p x m ≡ true
+
+pub made : (rule : RuleSet) (p : Position) (m : Move) (x : Man) → pseudo rule p m ≡ true → man_on p.men m.from ≡ Some x → IsMade rule p x m
+unfolding pseudo
+made rule p m x h here = search (rules, and_parts, same_colour-true)
+
+-- the ways of a pawn and of the others
+abbrev pub IsPawnWay : Position → Man → Move → Type 0
+IsPawnWay p x m = (same_kind x.kind Pawn ≡ true) × ((pawn_takes p m ≡ true) ⊎ (pawn_steps p x m ≡ true))
+
+abbrev pub IsPieceWay : RuleSet → Position → Man → Move → Type 0
+IsPieceWay rule p x m = (same_kind x.kind Pawn ≡ false) × ((reaches p.men m.from m.to ≡ true) ⊎ (castles rule p x m ≡ true))
+
+pub ways : (rule : RuleSet) (p : Position) (x : Man) (m : Move) → goes rule p x m ≡ true → IsPawnWay p x m ⊎ IsPieceWay rule p x m
+ways rule p x m h = search rules
+
+pub kind_is_pawn : (k : Kind) → same_kind k Pawn ≡ true → k ≡ Pawn
+kind_is_pawn Pawn h = refl
+kind_is_pawn k h = cc
+
+pub king_is_no_pawn : (k : Kind) → same_kind k King ≡ true → same_kind k Pawn ≡ false
+king_is_no_pawn King h = refl
+king_is_no_pawn k h = cc
+
+-- a square with a man is one of the 64
+pub on_board : (men : List (Option Man)) (s : ℕ) (x : Man) → length men ≡ 64 → man_on men s ≡ Some x → s < 64
+on_board men s x size here = search (rules, cases_lt, get_or_past)
+
+-- so many ranks forward
+abbrev pub Advances : Colour → ℕ → ℕ → ℕ → Type 0
+Advances White s t n = rank_of t ≡ rank_of s + n
+Advances Black s t n = rank_of s ≡ rank_of t + n
+
+-- a pawn's capturing step
+pub record IsPawnTake (c : Colour) (s t : ℕ) : Type 0 where
+  pub advances : Advances c s t 1
+  pub aside : file_of s ≢ file_of t
+  pub small : t < 64
+
+pawn_leaps : (c : Colour) (s t : ℕ) → list_any (leaps s t) (pawn_captures c) ≡ true → IsPawnTake c s t
+unfolding leaps
+pawn_leaps White s t h = search (rules, along-is, or_cases)
+pawn_leaps Black s t h = search (rules, along-is, or_cases)
+
+pub pawn_reaches : (men : List (Option Man)) (x : Man) (s t : ℕ) → man_on men s ≡ Some x → same_kind x.kind Pawn ≡ true → reaches men s t ≡ true
+    → IsPawnTake x.colour s t
+unfolding reaches reaches_as
+pawn_reaches men x s t here pawn h =
+    let k : x.kind ≡ Pawn = kind_is_pawn x.kind pawn in
+    pawn_leaps x.colour s t (rw (here, k) at h)
+
+-- a pawn's step, or two of them
+pub record IsPawnStep (p : Position) (x : Man) (m : Move) : Type 0 where
+  pub empty : man_on p.men m.to ≡ None
+  pub small : m.to < 64
+  pub ahead : file_of m.from ≡ file_of m.to
+  pub way : Advances x.colour m.from m.to 1 ⊎ ((rank_of m.from ≡ second_rank x.colour) × (Advances x.colour m.from m.to 2 × (man_on p.men (halfway m) ≡ None)))
+
+pub record IsAhead (c : Colour) (s t n : ℕ) : Type 0 where
+  pub advances : Advances c s t n
+  pub file : file_of s ≡ file_of t
+  pub small : t < 64
+
+ahead_one : (c : Colour) (s t : ℕ) → is_square (along s (forward c) 1) t ≡ true → IsAhead c s t 1
+ahead_one White s t h = search (rules, along-is)
+ahead_one Black s t h = search (rules, along-is)
+
+ahead_two : (c : Colour) (s t : ℕ) → is_square (along s (forward c) 2) t ≡ true → IsAhead c s t 2
+ahead_two White s t h = search (rules, along-is)
+ahead_two Black s t h = search (rules, along-is)
+
+pub pawn_goes : (p : Position) (x : Man) (m : Move) → pawn_steps p x m ≡ true → IsPawnStep p x m
+pawn_goes p x m h =
+    let h1 = and_parts _ _ h in
+    elim (or_cases _ _ h1.1) [
+      | inl e ↦
+          let i = ahead_one x.colour m.from m.to e in
+          record { empty = no_man p.men m.to h1.0; small = i.small; ahead = i.file; way = inl i.advances }
+      | inr e ↦
+          let h2 = and_parts _ _ e in
+          let h3 = and_parts _ _ h2.0 in
+          let i = ahead_two x.colour m.from m.to h3.1 in
+          record { empty = no_man p.men m.to h1.0; small = i.small; ahead = i.file; way = inr (eqb-true _ _ h3.0, (i.advances, no_man p.men (halfway m) h2.1)) }
+    ]
+
+-- a king and a rook that castle
+pub record IsCastle (p : Position) (m : Move) : Type 0 where
+  pub from : (m.from ≡ 4) ⊎ (m.from ≡ 60)
+  pub far : ((m.to ≡ m.from + 2) × ((corner m ≡ m.from + 3) × (halfway m ≡ m.from + 1)))
+      ⊎ ((m.to + 2 ≡ m.from) × ((corner m + 4 ≡ m.from) × (halfway m + 1 ≡ m.from)))
+  pub between : man_on p.men (halfway m) ≡ None
+  pub rook : (z : Man) → man_on p.men (corner m) ≡ Some z → same_kind z.kind Rook ≡ true
+  pub stands : man_on p.men (corner m) ≡ None → ⊥
+
+king_from : (x : Man) (s : ℕ) → same_kind x.kind King ≡ true → is_home (Some x) s ≡ true → (s ≡ 4) ⊎ (s ≡ 60)
+king_from x s king h = search (rules, is_home-square)
+
+-- on a corner at home stands a rook
+rook_on : (o : Option Man) (s : ℕ) → s ≢ 4 → s ≢ 60 → is_home o s ≡ true → (z : Man) → o ≡ Some z → same_kind z.kind Rook ≡ true
+rook_on o s n4 n60 h z e = search (rules, is_home-square)
+
+pub king_castles : (rule : RuleSet) (p : Position) (x : Man) (m : Move) → IsWellFormed p → man_on p.men m.from ≡ Some x → castles rule p x m ≡ true
+    → IsCastle p m
+unfolding castles may_castle
+king_castles rule p x m well here h =
+    search (rules, and_parts, cond-false, cond-true, eqb-true, is_home-none, king_from, le-ltb, lt-ltb, nat_lt, or_cases, rook_on)

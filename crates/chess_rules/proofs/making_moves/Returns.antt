@@ -1,0 +1,244 @@
+-- The position before a move, found again.
+use Rattle.std.proofs.Common.{◌≡◌, ℕ, ◌<◌, true, List, Option, Some, None, IsSome, length, refl, sym, ap, ◌∙◌, arith, inl, inr, rules}
+use Rattle.std.proofs.lemmas.Bool.{and_parts, cases_Bool}
+use Rattle.std.proofs.lemmas.List.{length-set}
+use Rattle.chess_core.specs.Squares.{is_square}
+use Rattle.chess_core.specs.Position.{Position, man_on, with_man, without_man}
+use Rattle.chess_core.specs.WellFormed.{IsWellFormed, is_crossed_right}
+use Rattle.chess_core.specs.declared.man.Man.{Man}
+use Rattle.chess_core.specs.declared.man.Move.{Move}
+use Rattle.chess_core.specs.declared.man.Kind.{Kind}
+use Rattle.chess_core.proofs.Men.{man_on-with_same, man_on-without_other, man_on-without_same}
+use Rattle.chess_rules.specs.RuleSet.{RuleSet}
+use Rattle.chess_rules.specs.Loss.{Loss}
+use Rattle.chess_rules.proofs.making_moves.Pseudo.{made}
+use Rattle.chess_rules.specs.Legal.{is_promotion_right, pseudo}
+use Rattle.chess_rules.specs.Play.{after, after_by, arriving, capture_square, corner, halfway, is_castling, loss_by, undo_of, man_on_at, moved_men, put_at, reborn_square, without_at}
+use Rattle.chess_rules.specs.ties.Playing.{CanCastle}
+use Rattle.chess_rules.specs.ties.Undoing.{CanReturn, before_by, leaving, returned_men, returns_to, uncastled_men}
+use Rattle.chess_rules.proofs.making_moves.Back.{lift_after_place, place_after_lift, unborn, uncastled}
+use Rattle.chess_rules.proofs.making_moves.Castles.{no_king_left, same_colour_self}
+use Rattle.chess_rules.proofs.making_moves.Fits.{IsTaken, arrived, can_move, castle_of, corner_stays, taken}
+use Rattle.chess_rules.proofs.making_moves.Plays.{capture_clears}
+use Rattle.chess_rules.proofs.making_moves.Pseudo.{IsCastle, IsMade, kind_is_pawn}
+use Rattle.chess_rules.proofs.making_moves.Stays.{captured_mortal, move_man_other, moved_sound, reborn_is, rebirth_small}
+
+-- the men once origin and square of capture are cleared
+abbrev cleared : Position → Man → Move → List (Option Man)
+cleared p x m = without_at (without_man p.men m.from) (capture_square p x m)
+
+length-without_at : (men : List (Option Man)) (o : Option ℕ) → length (without_at men o) ≡ length men
+length-without_at men None = refl
+length-without_at men (Some s) = length-set men s None
+
+arrived_there : (p : Position) (x : Man) (m : Move) → length p.men ≡ 64 → m.to < 64 → man_on (arrived p x m) m.to ≡ Some (arriving x m.promo)
+arrived_there p x m size small = search rules
+
+moved_there : (rule : RuleSet) (p : Position) (x : Man) (m : Move) → IsWellFormed p → IsMade rule p x m → m.to < 64
+    → man_on (moved_men p x m) m.to ≡ Some (arriving x m.promo)
+unfolding moved_men
+moved_there rule p x m well made small = elim (cases_Bool (is_castling x m)) [
+  | inl e ↦
+      let c = castle_of rule p x m well made e in
+      rw e (move_man_other (arrived p x m) (corner m) (halfway m) (man_on (arrived p x m) (corner m)) m.to
+      (λ q. elim c.1.far [ inl f ↦ omega arith | inr f ↦ omega arith ]) (λ q. elim c.1.far [ inl f ↦ omega arith | inr f ↦ omega arith ])
+      ∙ arrived_there p x m well.size small)
+  | inr e ↦ rw e (arrived_there p x m well.size small)
+]
+
+-- a promoted man was a pawn
+leaving_arriving : (p : Position) (x : Man) (m : Move) (r : Option Kind) → is_promotion_right p x m r ≡ true → leaving (arriving x r) r ≡ x
+leaving_arriving p x m None h = refl
+leaving_arriving p x m (Some k) h = search (rules, and_parts, kind_is_pawn)
+
+-- the rook that castles
+rook_stands : (p : Position) (m : Move) → IsCastle p m → (z : Man) × (man_on p.men (corner m) ≡ Some z)
+rook_stands p m castle = search rules
+
+uncastles : (rule : RuleSet) (p : Position) (x : Man) (m : Move) → IsWellFormed p → IsMade rule p x m → uncastled_men (moved_men p x m) x m ≡ arrived p x m
+unfolding moved_men uncastled_men
+uncastles rule p x m well made = elim (cases_Bool (is_castling x m)) [
+  | inl e ↦
+      let c = castle_of rule p x m well made e in
+      let can : CanCastle (arrived p x m) (corner m) (halfway m) = (can_move rule p x m well made).rook e in
+      let z = rook_stands p m c.1 in
+      let there : man_on (arrived p x m) (corner m) ≡ Some z.0 = corner_stays p x m c.0 c.1 ∙ z.1 in
+      let a = length-without_at (without_man p.men m.from) (capture_square p x m) in
+      let b = length-set p.men m.from None in
+      let d = length-set (cleared p x m) m.to (Some (arriving x m.promo)) in
+      let f = length-set (arrived p x m) (corner m) None in
+      let size : length p.men ≡ 64 = well.size in
+      let in_board : halfway m < length (without_man (arrived p x m) (corner m)) = elim c.1.from [
+        | inl
+            g ↦ elim c.1.far [ inl h ↦ omega arith | inr h ↦ omega arith ]
+        | inr g ↦ elim c.1.far [ inl h ↦ omega arith | inr h ↦ omega arith ]
+      ] in
+      let mid : man_on (with_man (without_man (arrived p x m) (corner m)) (halfway m) z.0) (halfway m)
+      ≡ Some z.0 = man_on-with_same (without_man (arrived p x m) (corner m)) (halfway m) z.0 in_board in
+      rw (e, there, mid) (uncastled (arrived p x m) (corner m) (halfway m) z.0 there can.free)
+  | inr e ↦ rw e refl
+]
+
+crossed_vacant : (p : Position) (m : Move) → IsWellFormed p → is_square p.crossed m.to ≡ true → man_on p.men m.to ≡ None
+unfolding is_crossed_right
+crossed_vacant p m well h = search rules
+
+returns_some : (p : Position) (x : Man) (m : Move) (s : ℕ) (w : Man) → IsWellFormed p → capture_square p x m ≡ Some s
+    → returns_to x m p.crossed (Some w) ≡ Some s
+unfolding capture_square
+returns_some p x m s w well h = search (rules, crossed_vacant)
+
+returns_there : (rule : RuleSet) (p : Position) (x : Man) (m : Move) → IsWellFormed p → IsMade rule p x m
+    → returns_to x m p.crossed (man_on_at p.men (capture_square p x m)) ≡ capture_square p x m
+returns_there rule p x m well made = by (capture_square p x m) refl where
+  by : (o : Option ℕ) → capture_square p x m ≡ o → returns_to x m p.crossed (man_on_at p.men o) ≡ o
+  by None e = refl
+  by (Some s) e = let t = taken rule p x m s well made e in rw t.there (returns_some p x m s t.man well e)
+
+-- the captured man is back
+returned : (rule : RuleSet) (p : Position) (x : Man) (m : Move) (u : Loss) → IsWellFormed p → IsMade rule p x m → u ≡ loss_by rule p x m
+    → returned_men (moved_men p x m) x m u ≡ without_man p.men m.from
+unfolding returned_men loss_by
+returned rule p x m u well made lost =
+    let back : put_at (cleared p x m) (capture_square p x m) (man_on_at p.men (capture_square p x m))
+    ≡ without_man p.men m.from = recapture (capture_square p x m) (λ s e. taken rule p x m s well made e) in
+    rw (
+      lost,
+      uncastles rule p x m well made,
+      lift_after_place (cleared p x m) m.to (arriving x m.promo) (capture_clears p x m),
+      returns_there rule p x m well
+          made,
+    ) back where
+      recapture : (o : Option ℕ) → ((s : ℕ) → o ≡ Some s → IsTaken p m s)
+          → put_at (without_at (without_man p.men m.from) o) o (man_on_at p.men o) ≡ without_man p.men m.from
+      recapture None t = refl
+      recapture (Some s) t =
+          let k = t s refl in
+          let there : man_on (without_man p.men m.from) s ≡ Some k.man = man_on-without_other p.men m.from s k.apart ∙ k.there in
+          rw k.there (place_after_lift (without_man p.men m.from) s k.man there)
+
+some_there : (o : Option Man) (y : Man) → o ≡ Some y → IsSome o
+some_there o y e = rw e (search rules)
+
+castle_back : (rule : RuleSet) (p : Position) (x : Man) (m : Move) → IsWellFormed p → IsMade rule p x m → is_castling x m ≡ true
+    → CanCastle (moved_men p x m) (halfway m) (corner m)
+unfolding moved_men
+castle_back rule p x m well made e =
+    search (
+      rules,
+      arrived,
+      can_move,
+      castle_of,
+      corner_stays,
+      length-set,
+      length-without_at,
+      lift_after_place,
+      man_on-with_same,
+      man_on-without_same,
+      rook_stands,
+    )
+
+pub can_return : (rule : RuleSet) (p : Position) (x : Man) (m : Move) (u : Loss) → IsWellFormed p → IsMade rule p x m → m.to < 64 → u ≡ loss_by rule p x m
+    → CanReturn (moved_men p x m) x m u
+unfolding loss_by
+can_return rule p x m u well made small lost =
+    search (
+      rules,
+      arrived_there,
+      capture_clears,
+      captured_mortal,
+      castle_back,
+      lift_after_place,
+      man_on-without_same,
+      no_king_left,
+      returned,
+      returns_there,
+      same_colour_self,
+      some_there,
+      uncastles,
+    )
+
+-- the men before the rebirth
+pub unreborn : (rule : RuleSet) (p : Position) (x : Man) (m : Move)
+    → without_at (put_at (moved_men p x m) (reborn_square rule p x m) (man_on_at p.men (capture_square p x m))) (reborn_square rule p x m) ≡ moved_men p x m
+unreborn rule p x m = unborn (moved_men p x m) (reborn_square rule p x m) (man_on_at p.men (capture_square p x m))
+    (λ s e. let b = reborn_is rule p x m s e in (b.empty, rw b.who refl))
+
+-- the man that goes back
+pub goes_back : (rule : RuleSet) (p : Position) (x : Man) (m : Move) → IsMade rule p x m → leaving (arriving x m.promo) m.promo ≡ x
+goes_back rule p x m made = leaving_arriving p x m m.promo made.promotion
+
+pub moved_arrival : (rule : RuleSet) (p : Position) (x : Man) (m : Move) → IsWellFormed p → IsMade rule p x m → m.to < 64
+    → man_on (moved_men p x m) m.to ≡ Some (arriving x m.promo)
+moved_arrival rule p x m well made small = moved_there rule p x m well made small
+
+pub before_is : (rule : RuleSet) (p : Position) (x : Man) (m : Move) (u : Loss) → IsWellFormed p → IsMade rule p x m → u ≡ loss_by rule p x m
+    → before_by (record (after_by rule p x m) { men = moved_men p x m }) x m u ≡ p
+unfolding before_by after_by loss_by
+before_is rule p x m u well made lost = search (rules, place_after_lift, returned)
+
+-- a reborn man stands on his square
+pub reborn_stands : (rule : RuleSet) (p : Position) (x : Man) (m : Move) (s : ℕ) → IsWellFormed p → IsMade rule p x m → reborn_square rule p x m ≡ Some s
+    → IsSome (man_on (put_at (moved_men p x m) (reborn_square rule p x m) (man_on_at p.men (capture_square p x m))) s)
+reborn_stands rule p x m s well made e =
+    let b = reborn_is rule p x m s e in
+    let size = (moved_sound rule p x m well made).size in
+    let small : s < 64 = rebirth_small b.man.colour b.man.kind b.square s b.home in
+    rw (e, b.who) (some_there _ b.man (man_on-with_same (moved_men p x m) s b.man (omega arith)))
+
+after_is : (rule : RuleSet) (p : Position) (x : Man) (m : Move) → man_on p.men m.from ≡ Some x → after rule p m ≡ after_by rule p x m
+unfolding after
+after_is rule p x m here = rw here refl
+
+-- a reborn man can be taken off
+pub can_take_off : (rule : RuleSet) (q p : Position) (x : Man) (m : Move) (u : Loss) (s : ℕ) → man_on p.men m.from ≡ Some x → IsWellFormed p
+    → pseudo rule p m ≡ true → q ≡ after rule p m → u ≡ loss_by rule p x m → u.rebirth ≡ Some s → IsSome (man_on q.men s)
+unfolding loss_by after_by
+can_take_off rule q p x m u s here well may now lost e =
+    let made_is = made rule p m x may here in
+    let at : reborn_square rule p x m ≡ Some s = ap (λ (v : Loss). v.rebirth) (sym lost) ∙ e in
+    let men : q.men ≡ put_at (moved_men p x m) (reborn_square rule p x m) (man_on_at p.men (capture_square p x m)) = ap (λ (v : Position). v.men)
+    (now ∙ after_is rule p x m here) in
+    rw men (reborn_stands rule p x m s well made_is at)
+
+-- the board when the reborn man is off
+off_is : (rule : RuleSet) (q q2 p : Position) (x : Man) (m : Move) (u : Loss) → man_on p.men m.from ≡ Some x → q ≡ after rule p m → u ≡ loss_by rule p x m
+    → q2 ≡ record q { men = without_at q.men u.rebirth } → q2 ≡ record (after_by rule p x m) { men = moved_men p x m }
+unfolding loss_by after_by
+off_is rule q q2 p x m u here now lost off =
+    let q_is = now ∙ after_is rule p x m here in
+    rw (off, q_is, lost) (ap (λ (l : List (Option Man)). record (after_by rule p x m) { men = l }) (unreborn rule p x m))
+
+-- the man found on the arrival, and what taking the move back then needs and gives
+pub record GoesBack (q2 p : Position) (z : Man) (m : Move) (u : Loss) : Type 0 where
+  pub can : CanReturn q2.men z m u
+  pub gives : before_by q2 z m u ≡ p
+
+pub restores : (rule : RuleSet) (q q2 p : Position) (x y z : Man) (m : Move) (u : Loss) → man_on p.men m.from ≡ Some x → IsWellFormed p → pseudo rule p m ≡ true
+    → m.to < 64 → q ≡ after rule p m → u ≡ loss_by rule p x m → q2 ≡ record q { men = without_at q.men u.rebirth } → man_on q2.men m.to ≡ Some y
+    → z ≡ leaving y m.promo → GoesBack q2 p z m u
+restores rule q q2 p x y z m u here well may small now lost off there leaves =
+    let made_is = made rule p m x may here in
+    let q2_is = off_is rule q q2 p x m u here now lost off in
+    let men : q2.men ≡ moved_men p x m = ap (λ (v : Position). v.men) q2_is in
+    let arrival : Some y ≡ Some (arriving x m.promo) = sym there ∙ (rw men (moved_arrival rule p x m well made_is small)) in
+    let y_is : y ≡ arriving x m.promo = cc in
+    let z_is : z ≡ x = leaves ∙ ap (λ (w : Man). leaving w m.promo) y_is ∙ goes_back rule p x m made_is in
+    record {
+      can = rw (men, z_is) (can_return rule p x m u well made_is small lost);
+      gives = rw (q2_is, z_is) (before_is rule p x m u well made_is lost);
+    }
+
+-- a man stands on the arrival
+pub arrival_taken : (rule : RuleSet) (q q2 p : Position) (x : Man) (m : Move) (u : Loss) → man_on p.men m.from ≡ Some x → IsWellFormed p
+    → pseudo rule p m ≡ true → m.to < 64 → q ≡ after rule p m → u ≡ loss_by rule p x m → q2 ≡ record q { men = without_at q.men u.rebirth }
+    → man_on q2.men m.to ≡ None → ⊥
+arrival_taken rule q q2 p x m u here well may small now lost off none =
+    let made_is = made rule p m x may here in
+    let men : q2.men ≡ moved_men p x m = ap (λ (v : Position). v.men) (off_is rule q q2 p x m u here now lost off) in
+    let there : man_on q2.men m.to ≡ Some (arriving x m.promo) = rw men (moved_arrival rule p x m well made_is small) in
+    cc
+
+pub undo_is : (rule : RuleSet) (p : Position) (x : Man) (m : Move) → man_on p.men m.from ≡ Some x → undo_of rule p m ≡ loss_by rule p x m
+unfolding undo_of
+undo_is rule p x m here = rw here refl

@@ -1,0 +1,373 @@
+-- A well-formed position stays well formed.
+use Rattle.std.proofs.Common.{◌≡◌, ◌≢◌, ℕ, ◌+◌, ◌<◌, ◌≤◌, Bool, true, false, ◌&&◌, ◌||◌, eqb, if◌then◌else◌, List, Option, Some, None, length, refl, sym, ap, ◌∙◌, arith, inl, inr, ◌⊎◌, rules}
+use Rattle.std.proofs.lemmas.Bool.{and_from, and_parts, or_cases, cases_Bool, cases_eq, cases_lt, cond-true, cond-false, eqb-true, eq-eqb, ne_eqb, not-true}
+use Rattle.std.proofs.lemmas.List.{length-set, set_past}
+use Rattle.chess_core.specs.Squares.{file_of, rank_of, square_at}
+use Rattle.chess_core.specs.Castling.{has_unmoved, without_unmoved}
+use Rattle.chess_core.specs.Position.{AtMostOneKing, HasNoKing, Position, is_man, man_on, may_promote, other, same_colour, same_kind, with_man, without_man}
+use Rattle.chess_core.specs.WellFormed.{IsWellFormed, is_crossed_right, is_home, is_pawn_inside, is_vacant_at, was_passed}
+use Rattle.chess_core.specs.declared.man.Man.{Man}
+use Rattle.chess_core.specs.declared.man.Move.{Move}
+use Rattle.chess_core.specs.declared.man.Unmoved.{Unmoved}
+use Rattle.chess_core.specs.declared.man.Colour.{Colour}
+use Rattle.chess_core.specs.declared.man.Colour.TheVariants.{White, Black}
+use Rattle.chess_core.specs.declared.man.Kind.{Kind}
+use Rattle.chess_core.specs.declared.man.Kind.TheVariants.{King, Queen, Rook, Bishop, Knight, Pawn, Grasshopper, Nightrider}
+use Rattle.chess_core.proofs.Boards.{IsAt, square_at-is}
+use Rattle.chess_core.proofs.Castlings.{has_unmoved-mark_other, has_unmoved-parts, is_home-none}
+use Rattle.chess_core.proofs.Men.{AtMostOneKing-without, man_on-with_other, man_on-with_same, man_on-without_none, man_on-without_other, man_on-without_same}
+use Rattle.chess_rules.specs.RuleSet.{RuleSet, is_circe}
+use Rattle.chess_rules.specs.Play.{after, after_by, arriving, by_shade, capture_square, corner, halfway, if_empty, is_castling, is_double_step, man_on_at, move_man, moved_men, put_at, rebirth, reborn_at, reborn_square, unmoved_after, unmoved_with_rook, unmoved_without_at, without_at}
+use Rattle.chess_rules.specs.ties.Playing.{CanCastle}
+use Rattle.chess_rules.specs.Legal.{is_promotion_right, last_rank, pseudo, second_rank}
+use Rattle.chess_rules.proofs.making_moves.Fits.{arrived, arrived_other, can_move, castle_of, corner_stays, no_capture, pawn_is_no_king, taken}
+use Rattle.chess_rules.proofs.making_moves.Plays.{none_from_is_some}
+use Rattle.chess_rules.proofs.making_moves.Pseudo.{Advances, IsMade, kind_is_pawn, made, pawn_goes, pawn_reaches, ways}
+
+-- the men of a well-formed position
+pub record IsSound (men : List (Option Man)) : Type 0 where
+  pub size : length men ≡ 64
+  pub kings : AtMostOneKing men
+  pub pawns : (s : ℕ) → is_pawn_inside (man_on men s) s ≡ true
+
+-- on a square after a man was put on another or the same
+pub man_on-with_cases : (men : List (Option Man)) (s t : ℕ) (y : Man)
+    → ((t ≡ s) × (man_on (with_man men s y) t ≡ Some y)) ⊎ (man_on (with_man men s y) t ≡ man_on men t)
+man_on-with_cases men s t y = elim (cases_eq t s) [
+  | inl same ↦ elim (cases_lt s (length men)) [
+    | inl lt ↦ inl (same, rw same (man_on-with_same men s y lt))
+    | inr ge ↦ inr (ap (λ (l : List (Option Man)). man_on l t) (set_past men s (Some y) ge))
+  ]
+  | inr ne ↦ inr (man_on-with_other men s t y ne)
+]
+
+IsSound-without : (men : List (Option Man)) (s : ℕ) → IsSound men → IsSound (without_man men s)
+IsSound-without men s sound = record {
+  size = length-set men s None ∙ sound.size;
+  kings = AtMostOneKing-without men s sound.kings;
+  pawns = λ t. elim (cases_eq t s) [
+    | inl same ↦ let e : man_on (without_man men s) t ≡ None = rw same (man_on-without_same men s) in rw e refl
+    | inr ne ↦ rw (man_on-without_other men s t ne) (sound.pawns t)
+  ];
+}
+
+IsSound-without_at : (men : List (Option Man)) (o : Option ℕ) → IsSound men → IsSound (without_at men o)
+IsSound-without_at men None sound = sound
+IsSound-without_at men (Some s) sound = IsSound-without men s sound
+
+IsSound-with : (men : List (Option Man)) (s : ℕ) (y : Man) → IsSound men → is_pawn_inside (Some y) s ≡ true
+    → (same_kind y.kind King ≡ true → HasNoKing men y.colour) → IsSound (with_man men s y)
+IsSound-with men s y sound inside king = search (rules, man_on-with_cases)
+
+-- another man than a pawn may stand anywhere
+other_inside : (y : Man) (s : ℕ) → same_kind y.kind Pawn ≡ false → is_pawn_inside (Some y) s ≡ true
+other_inside y s h = cond-false (same_kind y.kind Pawn) _ _ h
+
+pawn_inside : (y : Man) (s : ℕ) → 2 ≤ rank_of s → rank_of s ≤ 7 → is_pawn_inside (Some y) s ≡ true
+pawn_inside y s low high = search rules
+
+-- and a pawn that stands somewhere stands there
+pawn_ranks : (y : Man) (s : ℕ) → same_kind y.kind Pawn ≡ true → is_pawn_inside (Some y) s ≡ true → (2 ≤ rank_of s) × (rank_of s ≤ 7)
+pawn_ranks y s pawn h = search rules
+
+-- a pawn's way from a rank inside to one that isn't the last
+onward : (c : Colour) (s t n : ℕ) → 2 ≤ rank_of s → rank_of s ≤ 7 → t < 64 → Advances c s t n → 1 ≤ n → eqb (rank_of t) (last_rank c) ≡ false
+    → (2 ≤ rank_of t) × (rank_of t ≤ 7)
+onward White s t n low high small adv one last = search (rules, cases_eq, eq-eqb)
+onward Black s t n low high small adv one last = search (rules, cases_eq, eq-eqb)
+
+promoted_no_pawn : (p : Position) (k : Kind) → may_promote p k ≡ true → same_kind k Pawn ≡ false
+promoted_no_pawn p King h = cc
+promoted_no_pawn p Pawn h = cc
+promoted_no_pawn p k h = refl
+
+and_false_right : (a b : Bool) → a ≡ true → (a && b) ≡ false → b ≡ false
+and_false_right true b h e = e
+and_false_right false b h e = cc
+
+-- the man that arrives stands where he may
+arriving_inside : (rule : RuleSet) (p : Position) (x : Man) (m : Move) (r : Option Kind) → IsWellFormed p → IsMade rule p x m
+    → is_promotion_right p x m r ≡ true → is_pawn_inside (Some (arriving x r)) m.to ≡ true
+arriving_inside rule p x m (Some k) well made right = search (rules, and_parts, other_inside, promoted_no_pawn)
+arriving_inside rule p x m None well made right =
+    search (rules, and_false_right, and_parts, cases_Bool, not-true, onward, other_inside, pawn_goes, pawn_inside, pawn_ranks, pawn_reaches, ways)
+
+rook_is_no_pawn : (k : Kind) → same_kind k Rook ≡ true → same_kind k Pawn ≡ false
+rook_is_no_pawn Rook h = refl
+rook_is_no_pawn k h = cc
+
+arrived_sound : (rule : RuleSet) (p : Position) (x : Man) (m : Move) → IsWellFormed p → IsMade rule p x m → IsSound (arrived p x m)
+arrived_sound rule p x m well made =
+    let sound : IsSound p.men = record { size = well.size; kings = well.kings; pawns = well.pawns } in
+    IsSound-with (without_at (without_man p.men m.from) (capture_square p x m)) m.to (arriving x m.promo)
+    (IsSound-without_at (without_man p.men m.from) (capture_square p x m) (IsSound-without p.men m.from sound))
+    (arriving_inside rule p x m m.promo well made made.promotion) (can_move rule p x m well made).one_king
+
+-- the men once a rook has gone to the square between
+castled_sound : (men : List (Option Man)) (a b : ℕ) (o : Option Man) → IsSound men
+    → ((z : Man) → o ≡ Some z → (same_kind z.kind King ≡ false) × (same_kind z.kind Pawn ≡ false)) → IsSound (move_man men a b o)
+castled_sound men a b None sound rook = sound
+castled_sound men a b (Some z) sound rook = search (rules, IsSound-with, IsSound-without, other_inside)
+
+pub moved_sound : (rule : RuleSet) (p : Position) (x : Man) (m : Move) → IsWellFormed p → IsMade rule p x m → IsSound (moved_men p x m)
+unfolding moved_men
+moved_sound rule p x m well made =
+    let sound = arrived_sound rule p x m well made in
+    elim (cases_Bool (is_castling x m)) [
+      | inl e ↦
+          let can : CanCastle (arrived p x m) (corner m) (halfway m) = (can_move rule p x m well made).rook e in
+          let c = castle_of rule p x m well made e in
+          rw e (castled_sound (arrived p x m) (corner m) (halfway m) (man_on (arrived p x m) (corner m)) sound
+          (λ z h. (can.no_king z h, rook_is_no_pawn z.kind (c.1.rook z (sym (corner_stays p x m c.0 c.1) ∙ h)))))
+      | inr e ↦ rw e sound
+    ]
+
+-- where and who is reborn
+pub record IsReborn (circe : Bool) (men : List (Option Man)) (o : Option Man) (c : Option ℕ) (r : ℕ) : Type 0 where
+  pub man : Man
+  pub square : ℕ
+  pub who : o ≡ Some man
+  pub where_taken : c ≡ Some square
+  pub home : rebirth man.colour man.kind square ≡ Some r
+  pub empty : man_on men r ≡ None
+
+if_empty-parts : (men : List (Option Man)) (o : Option ℕ) (r : ℕ) → if_empty men o ≡ Some r → (o ≡ Some r) × (man_on men r ≡ None)
+if_empty-parts men None r h = cc
+if_empty-parts men (Some s) r h = search (rules, cases_Bool, cond-false, cond-true, none_from_is_some)
+
+reborn_parts : (circe : Bool) (men : List (Option Man)) (o : Option Man) (c : Option ℕ) (r : ℕ) → reborn_at circe men o c ≡ Some r → IsReborn circe men o c r
+reborn_parts circe men None c r h = cc
+reborn_parts circe men (Some y) None r h = cc
+reborn_parts true men (Some y) (Some s) r h = search (rules, if_empty-parts)
+reborn_parts false men (Some y) (Some s) r h = cc
+
+-- a pawn is reborn on rank 2 or 7
+pawn_reborn : (c : Colour) (s r : ℕ) → rebirth c Pawn s ≡ Some r → (2 ≤ rank_of r) × (rank_of r ≤ 7)
+unfolding rebirth
+pawn_reborn White s r h = let i : IsAt (file_of s) 2 r = square_at-is _ _ r (rw h (eq-eqb r r refl)) in (omega arith, omega arith)
+pawn_reborn Black s r h = let i : IsAt (file_of s) 7 r = square_at-is _ _ r (rw h (eq-eqb r r refl)) in (omega arith, omega arith)
+
+reborn_inside : (y : Man) (s r : ℕ) → rebirth y.colour y.kind s ≡ Some r → is_pawn_inside (Some y) r ≡ true
+reborn_inside y s r h = search (rules, kind_is_pawn, other_inside, pawn_inside, pawn_reborn)
+
+-- a rook is reborn on a corner of its side
+rook_reborn : (y : Man) (c : Colour) (s r : ℕ) → is_man (Some y) c Rook ≡ true → rebirth c Rook s ≡ Some r → is_home (Some y) r ≡ true
+unfolding rebirth is_home
+rook_reborn y White s r is h = search (rules, cases_Bool)
+rook_reborn y Black s r is h = search (rules, cases_Bool)
+
+kind_is_rook : (k : Kind) → same_kind k Rook ≡ true → k ≡ Rook
+kind_is_rook Rook h = refl
+kind_is_rook k h = cc
+
+pub colour_self : (c : Colour) → same_colour c c ≡ true
+colour_self White = refl
+colour_self Black = refl
+
+reborn_rook_home : (y : Man) (s r : ℕ) → same_kind y.kind Rook ≡ true → rebirth y.colour y.kind s ≡ Some r → is_home (Some y) r ≡ true
+reborn_rook_home y s r rook h =
+    let k : y.kind ≡ Rook = kind_is_rook y.kind rook in
+    rook_reborn y y.colour s r (and_from _ _ (colour_self y.colour) rook) (rw k at h)
+
+-- the men once a man is reborn
+reborn_sound : (men : List (Option Man)) (o : Option ℕ) (y : Option Man) → IsSound men
+    → ((r : ℕ) (z : Man) → o ≡ Some r → y ≡ Some z → (is_pawn_inside (Some z) r ≡ true) × (same_kind z.kind King ≡ false)) → IsSound (put_at men o y)
+reborn_sound men None y sound h = sound
+reborn_sound men (Some r) None sound h = sound
+reborn_sound men (Some r) (Some z) sound h = search (rules, IsSound-with)
+
+pub captured_there : (men : List (Option Man)) (c : Option ℕ) (z : Man) → man_on_at men c ≡ Some z → (s : ℕ) × ((c ≡ Some s) × (man_on men s ≡ Some z))
+captured_there men None z h = cc
+captured_there men (Some s) z h = (s, (refl, h))
+
+-- the man that was captured is no king
+pub captured_mortal : (rule : RuleSet) (p : Position) (x : Man) (m : Move) (z : Man) → IsWellFormed p → IsMade rule p x m
+    → man_on_at p.men (capture_square p x m) ≡ Some z → same_kind z.kind King ≡ false
+captured_mortal rule p x m z well made h =
+    let c = captured_there p.men (capture_square p x m) z h in
+    let t = taken rule p x m c.0 well made c.1.0 in
+    let e : Some t.man ≡ Some z = sym t.there ∙ c.1.1 in
+    let man : t.man ≡ z = cc in
+    ap (λ (y : Man). same_kind y.kind King) (sym man) ∙ t.mortal
+
+-- and an enemy
+pub captured_enemy : (rule : RuleSet) (p : Position) (x : Man) (m : Move) (z : Man) → IsWellFormed p → IsMade rule p x m
+    → man_on_at p.men (capture_square p x m) ≡ Some z → same_colour z.colour p.turn ≡ false
+captured_enemy rule p x m z well made h =
+    let c = captured_there p.men (capture_square p x m) z h in
+    let t = taken rule p x m c.0 well made c.1.0 in
+    let e : Some t.man ≡ Some z = sym t.there ∙ c.1.1 in
+    let man : t.man ≡ z = cc in
+    ap (λ (y : Man). same_colour y.colour p.turn) (sym man) ∙ t.enemy
+
+-- the reborn man, where there is one
+pub reborn_is : (rule : RuleSet) (p : Position) (x : Man) (m : Move) (r : ℕ) → reborn_square rule p x m ≡ Some r
+    → IsReborn (is_circe rule) (moved_men p x m) (man_on_at p.men (capture_square p x m)) (capture_square p x m) r
+unfolding reborn_square
+reborn_is rule p x m r h = search (rules, reborn_parts)
+
+pub after_sound : (rule : RuleSet) (p : Position) (x : Man) (m : Move) → IsWellFormed p → IsMade rule p x m
+    → IsSound (put_at (moved_men p x m) (reborn_square rule p x m) (man_on_at p.men (capture_square p x m)))
+after_sound rule p x m well made =
+    reborn_sound (moved_men p x m) (reborn_square rule p x m) (man_on_at p.men (capture_square p x m)) (moved_sound rule p x m well made) (λ r z at who.
+    let b = reborn_is rule p x m r at in
+    let e : Some b.man ≡ Some z = sym b.who ∙ who in
+    let man : b.man ≡ z = cc in
+    (ap (λ (y : Man). is_pawn_inside (Some y) r) (sym man) ∙ reborn_inside b.man b.square r b.home, captured_mortal rule p x m z well made who))
+
+-- a set of unmoved squares each of which has its man
+abbrev AreHome : Unmoved → List (Option Man) → Type 0
+AreHome u men = (s : ℕ) → has_unmoved u s ≡ true → is_home (man_on men s) s ≡ true
+
+-- the set before a rook is reborn
+abbrev stayed : Position → Man → Move → Unmoved
+stayed p x m =
+    let u = unmoved_without_at (without_unmoved (without_unmoved p.unmoved m.from) m.to) (capture_square p x m) in
+    if is_castling x m then without_unmoved u (corner m) else u
+
+record IsLeft (p : Position) (x : Man) (m : Move) (t : ℕ) : Type 0 where
+  pub from : t ≢ m.from
+  pub to : t ≢ m.to
+  pub capture : (s : ℕ) → capture_square p x m ≡ Some s → t ≢ s
+  pub unmoved : has_unmoved p.unmoved t ≡ true
+
+is_left : (p : Position) (x : Man) (m : Move) (t : ℕ) → has_unmoved
+    (unmoved_without_at (without_unmoved (without_unmoved p.unmoved m.from) m.to) (capture_square p x m)) t ≡ true → IsLeft p x m t
+is_left p x m t h = search (rules, has_unmoved-parts)
+
+home_stays : (p : Position) (x : Man) (m : Move) (t : ℕ) → IsWellFormed p → IsLeft p x m t → is_home (man_on (arrived p x m) t) t ≡ true
+home_stays p x m t well left = rw (arrived_other p x m t left.from left.capture left.to) (well.homes t left.unmoved)
+
+-- elsewhere than on the two squares of the rook nothing changes
+pub move_man_other : (men : List (Option Man)) (a b : ℕ) (o : Option Man) (t : ℕ) → t ≢ a → t ≢ b → man_on (move_man men a b o) t ≡ man_on men t
+move_man_other men a b None t na nb = refl
+move_man_other men a b (Some y) t na nb = man_on-with_other (without_man men a) b t y nb ∙ man_on-without_other men a t na
+
+moved_home : (rule : RuleSet) (p : Position) (x : Man) (m : Move) → IsWellFormed p → IsMade rule p x m → AreHome (stayed p x m) (moved_men p x m)
+unfolding moved_men
+moved_home rule p x m well made = λ t h. elim (cases_Bool (is_castling x m)) [
+  | inl e ↦
+      let c = castle_of rule p x m well made e in
+      let h1 : has_unmoved (without_unmoved (unmoved_without_at (without_unmoved (without_unmoved p.unmoved m.from) m.to) (capture_square p x m)) (corner m)) t
+      ≡ true = rw e at h in
+      let parts = has_unmoved-parts (unmoved_without_at (without_unmoved (without_unmoved p.unmoved m.from) m.to) (capture_square p x m)) (corner m) t h1 in
+      let left = is_left p x m t parts.1 in
+      let off : t ≢ halfway m = λ same.
+      let home : is_home (man_on p.men t) t ≡ true = well.homes t left.unmoved in
+      let none : man_on p.men t ≡ None = rw same c.1.between in
+      is_home-none t (rw none at home) in
+      rw e (rw (move_man_other (arrived p x m) (corner m) (halfway m) (man_on (arrived p x m) (corner m)) t parts.0 off) (home_stays p x m t well left))
+  | inr e ↦
+      let h1 : has_unmoved (unmoved_without_at (without_unmoved (without_unmoved p.unmoved m.from) m.to) (capture_square p x m)) t ≡ true = rw e at h in
+      rw e (home_stays p x m t well (is_left p x m t h1))
+]
+
+-- a reborn man stands on no unmoved square but as a rook
+reborn_home : (u : Unmoved) (men : List (Option Man)) (o : Option ℕ) (y : Option Man) → length men ≡ 64 → AreHome u men
+    → ((r : ℕ) → o ≡ Some r → (man_on men r ≡ None) × ((r < 64) × ((z : Man) × ((y ≡ Some z) × (same_kind z.kind Rook ≡ true → is_home (Some z) r ≡ true)))))
+    → AreHome (unmoved_with_rook u o y) (put_at men o y)
+reborn_home u men None y size homes h = homes
+reborn_home u men (Some r) None size homes h = λ t e. let bad = (h r refl).1.1.1.0 in cc
+reborn_home u men (Some r) (Some z) size homes h =
+    search (rules, cases_Bool, cases_eq, has_unmoved-mark_other, is_home-none, man_on-with_other, man_on-with_same)
+
+shade_small : (s a b r : ℕ) → a < 64 → b < 64 → by_shade s a b ≡ Some r → r < 64
+shade_small s a b r la lb h = search rules
+
+at_small : (f k r : ℕ) → square_at f k ≡ Some r → r < 64
+at_small f k r h = let i : IsAt f k r = square_at-is f k r (rw h (eq-eqb r r refl)) in i.small
+
+pub rebirth_small : (c : Colour) (k : Kind) (s r : ℕ) → rebirth c k s ≡ Some r → r < 64
+unfolding rebirth
+rebirth_small White King s r h = cc
+rebirth_small Black King s r h = cc
+rebirth_small White Queen s r h = let e : 3 ≡ r = cc in omega arith
+rebirth_small Black Queen s r h = let e : 59 ≡ r = cc in omega arith
+rebirth_small White Rook s r h = shade_small s 7 0 r (omega arith) (omega arith) h
+rebirth_small Black Rook s r h = shade_small s 56 63 r (omega arith) (omega arith) h
+rebirth_small White Bishop s r h = shade_small s 5 2 r (omega arith) (omega arith) h
+rebirth_small Black Bishop s r h = shade_small s 58 61 r (omega arith) (omega arith) h
+rebirth_small White Knight s r h = shade_small s 1 6 r (omega arith) (omega arith) h
+rebirth_small Black Knight s r h = shade_small s 62 57 r (omega arith) (omega arith) h
+rebirth_small White Pawn s r h = at_small (file_of s) 2 r h
+rebirth_small Black Pawn s r h = at_small (file_of s) 7 r h
+rebirth_small White Grasshopper s r h = at_small (file_of s) 8 r h
+rebirth_small Black Grasshopper s r h = at_small (file_of s) 1 r h
+rebirth_small White Nightrider s r h = at_small (file_of s) 8 r h
+rebirth_small Black Nightrider s r h = at_small (file_of s) 1 r h
+
+pub after_home : (rule : RuleSet) (p : Position) (x : Man) (m : Move) → IsWellFormed p → IsMade rule p x m
+    → AreHome (unmoved_after rule p x m) (put_at (moved_men p x m) (reborn_square rule p x m) (man_on_at p.men (capture_square p x m)))
+unfolding unmoved_after
+after_home rule p x m well made =
+    reborn_home (stayed p x m) (moved_men p x m) (reborn_square rule p x m) (man_on_at p.men (capture_square p x m)) (moved_sound rule p x m well made).size
+    (moved_home rule p x m well made) (λ r at.
+    let b = reborn_is rule p x m r at in
+    (b.empty, (rebirth_small b.man.colour b.man.kind b.square r b.home, (b.man, (b.who, λ rook. reborn_rook_home b.man b.square r rook b.home)))))
+
+-- a double step leaves the pawn behind the square that it passed
+vacant : (men : List (Option Man)) (s : ℕ) → man_on men s ≡ None → is_vacant_at men s ≡ true
+vacant men s h = rw h refl
+
+double_passed : (c : Colour) (p : Position) (x : Man) (m : Move) → length p.men ≡ 64 → x.colour ≡ c → same_kind x.kind Pawn ≡ true → m.to < 64
+    → file_of m.from ≡ file_of m.to → rank_of m.from ≡ second_rank c → Advances c m.from m.to 2 → man_on p.men (halfway m) ≡ None
+    → was_passed (with_man (without_man p.men m.from) m.to x) (other c) (halfway m) ≡ true
+double_passed White p x m size mine pawn small file second adv empty =
+    search (rules, and_from, eq-eqb, length-set, man_on-with_other, man_on-with_same, man_on-without_none, man_on-without_same, vacant)
+double_passed Black p x m size mine pawn small file second adv empty =
+    search (rules, and_from, eq-eqb, length-set, man_on-with_other, man_on-with_same, man_on-without_none, man_on-without_same, vacant)
+
+-- a move that captures nothing and doesn't castle
+plain_men : (rule : RuleSet) (p : Position) (x : Man) (m : Move) → capture_square p x m ≡ None → is_castling x m ≡ false
+    → put_at (moved_men p x m) (reborn_square rule p x m) (man_on_at p.men (capture_square p x m))
+    ≡ with_man (without_man p.men m.from) m.to (arriving x m.promo)
+unfolding moved_men reborn_square
+plain_men rule p x m none plain = rw (none, plain) refl
+
+-- not on the last rank no promotion is named
+no_promotion : (p : Position) (x : Man) (m : Move) (r : Option Kind) → is_promotion_right p x m r ≡ true → eqb (rank_of m.to) (last_rank x.colour) ≡ false
+    → arriving x r ≡ x
+no_promotion p x m None right off = refl
+no_promotion p x m (Some k) right off = search (rules, and_parts)
+
+two_on : (c : Colour) (s t : ℕ) → rank_of s ≡ second_rank c → Advances c s t 2 → eqb (rank_of t) (last_rank c) ≡ false
+two_on White s t second adv = ne_eqb _ _ (λ e. omega arith)
+two_on Black s t second adv = ne_eqb _ _ (λ e. omega arith)
+
+one_or_two : (c : Colour) (s t n : ℕ) → Advances c s t n → n ≡ 1 → (eqb (rank_of s + 2) (rank_of t) || eqb (rank_of t + 2) (rank_of s)) ≡ true → ⊥
+one_or_two White s t n adv one h = search (rules, eqb-true, or_cases)
+one_or_two Black s t n adv one h = search (rules, eqb-true, or_cases)
+
+double_right : (rule : RuleSet) (p : Position) (x : Man) (m : Move) → IsWellFormed p → IsMade rule p x m → is_double_step x m ≡ true
+    → was_passed (put_at (moved_men p x m) (reborn_square rule p x m) (man_on_at p.men (capture_square p x m))) (other p.turn) (halfway m) ≡ true
+double_right rule p x m well made double =
+    search (rules, double_passed, no_capture, no_promotion, one_or_two, pawn_goes, pawn_is_no_king, pawn_reaches, plain_men, two_on, ways)
+
+after_crossed : (rule : RuleSet) (p : Position) (x : Man) (m : Move) → IsWellFormed p → IsMade rule p x m
+    → is_crossed_right (after_by rule p x m).men (after_by rule p x m).turn (after_by rule p x m).crossed ≡ true
+unfolding after_by is_crossed_right
+after_crossed rule p x m well made = search (rules, double_right)
+
+pub after_by_well : (rule : RuleSet) (p : Position) (x : Man) (m : Move) → IsWellFormed p → IsMade rule p x m → IsWellFormed (after_by rule p x m)
+unfolding after_by
+after_by_well rule p x m well made =
+    let sound = after_sound rule p x m well made in
+    record {
+      size = sound.size;
+      kings = sound.kings;
+      pawns = sound.pawns;
+      homes = after_home rule p x m well made;
+      crossed = after_crossed rule p x m well made;
+    }
+
+-- some man makes the move
+pub maker : (rule : RuleSet) (p : Position) (m : Move) → pseudo rule p m ≡ true → (x : Man) × (man_on p.men m.from ≡ Some x)
+unfolding pseudo
+maker rule p m h = search rules
+
+-- a move that may be made leaves a well-formed position
+pub after_well_formed : (rule : RuleSet) (p : Position) (m : Move) → IsWellFormed p → pseudo rule p m ≡ true → IsWellFormed (after rule p m)
+unfolding after
+after_well_formed rule p m well h =
+    let x = maker rule p m h in
+    rw x.1 (after_by_well rule p x.0 m well (made rule p m x.0 h x.1))

@@ -1,0 +1,15 @@
+-- Lines of squares: rides, hops, leaps, and the words of their squares.
+pub mod HopWords
+pub mod Ends
+pub mod Hops
+pub mod Ahead
+pub mod Computed
+pub mod Stopping
+pub mod Firsts
+pub mod Joining
+pub mod Flips
+pub mod Landing
+pub mod Tables
+pub mod Parting
+pub mod Riding
+pub mod OpenBoard

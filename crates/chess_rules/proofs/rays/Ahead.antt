@@ -1,0 +1,130 @@
+-- Squares one after another on a line.
+use Rattle.std.proofs.Common.{◌≡◌, ℕ, ◌+◌, ◌-◌, ◌*◌, ◌<◌, ◌≤◌, true, false, ◌&&◌, refl, sym, ap, ◌∙◌, arith, inl, inr, Some, rules}
+use Rattle.std.proofs.Math.Nat.{add-mul, mul-add}
+use Rattle.std.proofs.lemmas.Bool.{and_from, cases_lt, leb-true}
+use Rattle.chess_core.specs.Squares.{is_on_board, file_of, rank_of}
+use Rattle.chess_core.specs.Steps.{along, step_by}
+use Rattle.chess_core.specs.declared.step.Step.{Step}
+use Rattle.chess_rules.specs.ties.Lines.{place, rises, step_of}
+use Rattle.chess_rules.specs.declared.lines.Direction.{Direction}
+use Rattle.chess_rules.specs.declared.lines.Direction.TheVariants.{East, West, North, South, NorthEast, SouthEast, NorthWest, SouthWest, NorthNorthEast, SouthSouthEast, NorthNorthWest, SouthSouthWest, EastNorthEast, EastSouthEast, WestNorthWest, WestSouthWest}
+use Rattle.chess_rules.proofs.rays.Ends.{Placed, cond-on, on_board, placed_from}
+
+further : (f j i r l : ℕ) → 1 ≤ f + j * r - j * l → f + j * r - j * l + i * r - i * l ≡ f + (j + i) * r - (j + i) * l
+further f j i r l on = search rules
+
+-- j steps and then i steps
+pub onward : (s b : ℕ) (d : Step) (j i : ℕ) → along s d j ≡ Some b → along b d i ≡ along s d (j + i)
+unfolding along
+onward s b d j i h = search (rules, placed_from)
+
+-- between two files or ranks of the board lie others of it
+within : (f k i r l : ℕ) → 1 ≤ f → f ≤ 8 → i ≤ k → 1 ≤ f + k * r - k * l → f + k * r - k * l ≤ 8 → (1 ≤ f + i * r - i * l) × (f + i * r - i * l ≤ 8)
+within f k i r l a b le low high = elim (cases_lt r l) [
+  | inl lt ↦
+      let e : ℕ = l - r in
+      let el : r + (l - r) ≡ l = omega arith in
+      let x : k * l ≡ k * r + k * (l - r) = ap (λ n. k * n) (sym el) ∙ mul-add k r (l - r) in
+      let y : i * l ≡ i * r + i * (l - r) = ap (λ n. i * n) (sym el) ∙ mul-add i r (l - r) in
+      let z : k * (l - r) ≡ i * (l - r) + (k - i) * (l - r) = let t : k ≡ i + (k - i) = omega arith in ap (λ n. n * (l - r)) t ∙ add-mul i (k - i) (l - r) in
+      (omega arith, omega arith)
+  | inr ge ↦
+      let er : l + (r - l) ≡ r = omega arith in
+      let x : k * r ≡ k * l + k * (r - l) = ap (λ n. k * n) (sym er) ∙ mul-add k l (r - l) in
+      let y : i * r ≡ i * l + i * (r - l) = ap (λ n. i * n) (sym er) ∙ mul-add i l (r - l) in
+      let z : k * (r - l) ≡ i * (r - l) + (k - i) * (r - l) = let t : k ≡ i + (k - i) = omega arith in ap (λ n. n * (r - l)) t ∙ add-mul i (k - i) (r - l) in
+      (omega arith, omega arith)
+]
+
+-- a square before t on its line
+pub record Passed (s : ℕ) (d : Step) (i q : ℕ) : Type 0 where
+  pub at : along s d i ≡ Some q
+  pub small : q < 64
+
+pub passes : (s t : ℕ) (d : Step) (k i : ℕ) → s < 64 → i ≤ k → along s d k ≡ Some t → (q : ℕ) × Passed s d i q
+unfolding along
+passes s t d k i p le h =
+    let e : Placed (file_of s + k * d.right - k * d.left) (rank_of s + k * d.up - k * d.down) t = placed_from _ _ t h in
+    let f = within (file_of s) k i d.right d.left (omega arith) (omega arith) le e.f_low e.f_high in
+    let r = within (rank_of s) k i d.up d.down (omega arith) (omega arith) le e.r_low e.r_high in
+    let ff : ℕ = file_of s + i * d.right - i * d.left in
+    let rr : ℕ = rank_of s + i * d.up - i * d.down in (
+      8 * (rr - 1) + (ff - 1),
+      record {
+        at = cond-on (is_on_board ff && is_on_board rr) (8 * (rr - 1) + (ff - 1)) (8 * (rr - 1) + (ff - 1))
+            (and_from _ _ (on_board ff f.0 f.1) (on_board rr r.0 r.1)) refl;
+        small = omega (arith, f.0, f.1, r.0, r.1);
+      },
+    )
+
+-- the number of the square that lies k steps on
+number_at : (s q : ℕ) (d : Step) (k : ℕ) → along s d k ≡ Some q → (q + k * (d.left + 8 * d.down) ≡ s + k * (d.right + 8 * d.up)) × (q < 64)
+unfolding along
+number_at s q d k h = search rules
+
+-- e more for each step
+apart : (j k e : ℕ) → j < k → 0 < e → j * e < k * e
+apart j k e lt some = search rules
+
+over : (j a b : ℕ) → a < b → j * b ≡ j * a + j * (b - a)
+over j a b lt = let e : b ≡ a + (b - a) = omega arith in ap (λ n. j * n) e ∙ mul-add j a (b - a)
+
+grows : (s p q j k a b : ℕ) → p + j * a ≡ s + j * b → q + k * a ≡ s + k * b → j < k → a < b → p < q
+grows s p q j k a b h i lt up =
+    let x : j * b ≡ j * a + j * (b - a) = over j a b up in
+    let y : k * b ≡ k * a + k * (b - a) = over k a b up in
+    let z : j * (b - a) < k * (b - a) = apart j k (b - a) lt (omega arith) in
+    omega arith
+
+shrinks : (s p q j k a b : ℕ) → p + j * a ≡ s + j * b → q + k * a ≡ s + k * b → j < k → b < a → q < p
+shrinks s p q j k a b h i lt down =
+    let x : j * a ≡ j * b + j * (a - b) = over j b a down in
+    let y : k * a ≡ k * b + k * (a - b) = over k b a down in
+    let z : j * (a - b) < k * (a - b) = apart j k (a - b) lt (omega arith) in
+    omega arith
+
+-- a line passes its squares in order
+pub record Ordered (d : Step) : Type 0 where
+  pub in_order : (s j k b t : ℕ) → along s d j ≡ Some b → along s d k ≡ Some t → j < k → place d b < place d t
+
+rising : (d : Step) → rises d ≡ true → Ordered d
+unfolding rises
+rising d up = record {
+  in_order = λ s j k b t h i lt.
+      let x = number_at s b d j h in
+      let y = number_at s t d k i in
+      let less : b < t = grows s b t j k (d.left + 8 * d.down) (d.right + 8 * d.up) x.0 y.0 lt
+      (omega (arith, leb-true (d.left + 8 * d.down + 1) (d.right + 8 * d.up) up)) in
+      rw up less;
+}
+
+falling : (d : Step) → rises d ≡ false → d.right + 8 * d.up < d.left + 8 * d.down → Ordered d
+unfolding rises
+falling d non down = record {
+  in_order = λ s j k b t h i lt.
+      let x = number_at s b d j h in
+      let y = number_at s t d k i in
+      let less : t < b = shrinks s b t j k (d.left + 8 * d.down) (d.right + 8 * d.up) x.0 y.0 lt down in
+      let small : b < 64 = x.1 in
+      let far : 63 - b < 63 - t = omega arith in
+      rw non far;
+}
+
+pub ordered : (x : Direction) → Ordered (step_of x)
+unfolding rises
+ordered East = rising (step_by 1 0 0 0) refl
+ordered West = falling (step_by 0 1 0 0) refl (omega arith)
+ordered North = rising (step_by 0 0 1 0) refl
+ordered South = falling (step_by 0 0 0 1) refl (omega arith)
+ordered NorthEast = rising (step_by 1 0 1 0) refl
+ordered SouthEast = falling (step_by 1 0 0 1) refl (omega arith)
+ordered NorthWest = rising (step_by 0 1 1 0) refl
+ordered SouthWest = falling (step_by 0 1 0 1) refl (omega arith)
+ordered NorthNorthEast = rising (step_by 1 0 2 0) refl
+ordered SouthSouthEast = falling (step_by 1 0 0 2) refl (omega arith)
+ordered NorthNorthWest = rising (step_by 0 1 2 0) refl
+ordered SouthSouthWest = falling (step_by 0 1 0 2) refl (omega arith)
+ordered EastNorthEast = rising (step_by 2 0 1 0) refl
+ordered EastSouthEast = falling (step_by 2 0 0 1) refl (omega arith)
+ordered WestNorthWest = rising (step_by 0 2 1 0) refl
+ordered WestSouthWest = falling (step_by 0 2 0 1) refl (omega arith)

@@ -1,0 +1,85 @@
+-- Lists of steps that hold each step with its opposite.
+use Rattle.std.proofs.Common.{◌≡◌, ℕ, ◌<◌, Bool, true, ◌&&◌, ◌==◌, List, [], ◌∷◌, refl, sym, ap, ◌∙◌, Option, inl, inr, rules}
+use Rattle.std.specs.List.{list_all, list_any}
+use Rattle.std.proofs.lemmas.Bool.{and_parts, eqb-true, or_cases, or_left, or_right}
+use Rattle.chess_core.specs.Steps.{straight_steps, diagonal_steps, queen_steps, knight_steps, pawn_captures}
+use Rattle.chess_core.specs.Position.{other}
+use Rattle.chess_core.specs.declared.man.Colour.{Colour}
+use Rattle.chess_core.specs.declared.man.Colour.TheVariants.{White, Black}
+use Rattle.chess_core.specs.declared.step.Step.{Step}
+use Rattle.chess_core.specs.declared.man.Man.{Man}
+use Rattle.chess_rules.specs.Reaches.{rides, leaps, hops}
+use Rattle.chess_rules.specs.ties.Outward.{hopped_from}
+use Rattle.chess_rules.proofs.rays.Ends.{back, rides-back, returns_to}
+use Rattle.chess_rules.proofs.Tests.{same_Bool}
+use Rattle.chess_rules.proofs.rays.Hops.{hops-back}
+
+-- equality of steps as a test
+abbrev pub same_step : Step → Step → Bool
+same_step a b = (a.right == b.right && a.left == b.left) && (a.up == b.up && a.down == b.down)
+
+step_is : (a b : Step) → same_step a b ≡ true → a ≡ b
+step_is a b h = search (rules, and_parts, eqb-true)
+
+-- each step of the first list has its opposite in the second
+abbrev pub opposed : List Step → List Step → Bool
+opposed xs ds = list_all (λ d. list_any (same_step (back d)) ds) xs
+
+held : (q : Step → Bool) (ds : List Step) (d : Step) → list_any (same_step d) ds ≡ true → q d ≡ true → list_any q ds ≡ true
+held q [] d h y = h
+held q (x ∷ ds) d h y = elim (or_cases (same_step d x) (list_any (same_step d) ds) h) [
+  | inl e ↦ or_left (q x) _ (ap q (sym (step_is d x e)) ∙ y)
+  | inr r ↦ or_right (q x) _ (held q ds d r y)
+]
+
+across : (p q : Step → Bool) (xs ds : List Step) → ((d : Step) → p d ≡ true → q (back d) ≡ true) → opposed xs ds ≡ true → list_any p xs ≡ true
+    → list_any q ds ≡ true
+across p q [] ds h o y = let empty : list_any p [] ≡ true = y in cc
+across p q (x ∷ xs) ds h o y =
+    let parts = and_parts (list_any (same_step (back x)) ds) (opposed xs ds) o in
+    elim (or_cases (p x) (list_any p xs) y) [ inl e ↦ held q ds (back x) parts.0 (h x e) | inr r ↦ across p q xs ds h parts.1 r ]
+
+pub flip : (xs ds : List Step) (p q : Step → Bool) → opposed xs ds ≡ true → opposed ds xs ≡ true → ((d : Step) → p d ≡ q (back d))
+    → list_any p xs ≡ list_any q ds
+flip xs ds p q there here h = search (rules, across, back, same_Bool)
+
+-- lines looked at backward
+pub backward : (ds : List Step) (p : Step → Bool) → opposed ds ds ≡ true → list_any (λ d. p (back d)) ds ≡ list_any p ds
+backward ds p o = flip ds ds (λ d. p (back d)) p o o (λ d. refl)
+
+pub rides_turned : (ds : List Step) (men : List (Option Man)) (s t : ℕ) → opposed ds ds ≡ true → s < 64 → t < 64
+    → list_any (rides men s t) ds ≡ list_any (rides men t s) ds
+rides_turned ds men s t o p q = flip ds ds (rides men s t) (rides men t s) o o (λ d. rides-back men s t d p q)
+
+leaps_turned : (xs ds : List Step) (s t : ℕ) → opposed xs ds ≡ true → opposed ds xs ≡ true → s < 64 → t < 64
+    → list_any (leaps s t) xs ≡ list_any (leaps t s) ds
+unfolding leaps
+leaps_turned xs ds s t there here p q = search (rules, back, flip, returns_to, same_Bool)
+
+pub queen_rides-back : (men : List (Option Man)) (s t : ℕ) → s < 64 → t < 64 → list_any (rides men s t) queen_steps ≡ list_any (rides men t s) queen_steps
+queen_rides-back men s t = rides_turned queen_steps men s t refl
+
+pub straight-back : (men : List (Option Man)) (s t : ℕ) → s < 64 → t < 64
+    → list_any (rides men s t) straight_steps ≡ list_any (rides men t s) straight_steps
+straight-back men s t = rides_turned straight_steps men s t refl
+
+pub diagonal-back : (men : List (Option Man)) (s t : ℕ) → s < 64 → t < 64
+    → list_any (rides men s t) diagonal_steps ≡ list_any (rides men t s) diagonal_steps
+diagonal-back men s t = rides_turned diagonal_steps men s t refl
+
+pub nightrider-back : (men : List (Option Man)) (s t : ℕ) → s < 64 → t < 64 → list_any (rides men s t) knight_steps ≡ list_any (rides men t s) knight_steps
+nightrider-back men s t = rides_turned knight_steps men s t refl
+
+pub knight-back : (s t : ℕ) → s < 64 → t < 64 → list_any (leaps s t) knight_steps ≡ list_any (leaps t s) knight_steps
+knight-back s t = leaps_turned knight_steps knight_steps s t refl refl
+
+pub king-back : (s t : ℕ) → s < 64 → t < 64 → list_any (leaps s t) queen_steps ≡ list_any (leaps t s) queen_steps
+king-back s t = leaps_turned queen_steps queen_steps s t refl refl
+
+-- a pawn captures back as one of the other colour
+pub pawn-back : (c : Colour) (s t : ℕ) → s < 64 → t < 64 → list_any (leaps s t) (pawn_captures c) ≡ list_any (leaps t s) (pawn_captures (other c))
+pawn-back White s t = leaps_turned (pawn_captures White) (pawn_captures Black) s t refl refl
+pawn-back Black s t = leaps_turned (pawn_captures Black) (pawn_captures White) s t refl refl
+
+pub grasshopper-back : (men : List (Option Man)) (s t : ℕ) → s < 64 → t < 64 → list_any (hops men s t) queen_steps ≡ list_any (hopped_from men t s) queen_steps
+grasshopper-back men s t p q = search (rules, flip, hops-back)

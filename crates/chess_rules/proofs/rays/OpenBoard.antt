@@ -1,0 +1,81 @@
+-- Where a man goes, he might go on an empty board.
+use Rattle.std.proofs.Common.{◌≡◌, ℕ, ◌<◌, Bool, true, false, ◌&&◌, ◌||◌, ◌==◌, List, Option, refl, sym, ◌∙◌, inl, inr, rules}
+use Rattle.std.specs.Int.{bit_at}
+use Rattle.std.specs.Int.Bits.{bit_or}
+use Rattle.std.specs.List.{list_any}
+use Rattle.std.proofs.lemmas.List.Folds.{list_any-append}
+use Rattle.std.proofs.lemmas.Bool.{and_parts, cond-false, cond-true, false≢true, or_cases, true_from_ne_false}
+use Rattle.chess_core.specs.Position.{Position, same_kind}
+use Rattle.chess_core.specs.Steps.{diagonal_steps, knight_steps, pawn_captures, queen_steps, straight_steps}
+use Rattle.chess_core.specs.ties.Words.{word}
+use Rattle.chess_core.specs.declared.man.Kind.{Kind}
+use Rattle.chess_core.specs.declared.man.Kind.TheVariants.{Bishop, King, Knight, Pawn, Queen, Rook}
+use Rattle.chess_core.specs.declared.man.Man.{Man}
+use Rattle.chess_rules.specs.Reaches.{leaps, reaches_as, rides}
+use Rattle.chess_rules.specs.ties.Lines.{is_advance, is_on_some}
+use Rattle.chess_rules.specs.ties.Targets.{may_go, steps_to}
+use Rattle.chess_rules.proofs.listing_moves.Arrivals.{no_steps}
+use Rattle.chess_rules.proofs.Bits.{word_has}
+use Rattle.chess_rules.proofs.giving_check.CheckTargets.{off_left, off_right}
+use Rattle.chess_rules.proofs.attacks.Shielding.{goes_on}
+
+-- a square of either word is one of both together
+pub on_left : (a b i : ℕ) → (bit_at a i == 1) ≡ true → (bit_at (bit_or a b) i == 1) ≡ true
+on_left a b i h = true_from_ne_false _ (λ e. let off = off_left a b i e in cc)
+
+pub on_right : (a b i : ℕ) → (bit_at b i == 1) ≡ true → (bit_at (bit_or a b) i == 1) ≡ true
+on_right a b i h = true_from_ne_false _ (λ e. let off = off_right a b i e in cc)
+
+-- a piece that is no king reaches where it goes
+pub reached : (p : Position) (x : Man) (s t : ℕ) → same_kind x.kind Pawn ≡ false → same_kind x.kind King ≡ false → may_go p x s t ≡ true
+    → reaches_as p.men x.colour x.kind s t ≡ true
+unfolding may_go
+reached p x s t none piece h = search (rules, cond-false, no_steps)
+
+rides_on : (men : List (Option Man)) (s t : ℕ) (ds : List _) → list_any (rides men s t) ds ≡ true → is_on_some ds s t ≡ true
+unfolding is_on_some
+rides_on men s t ds h = goes_on men s t ds h
+
+-- a pawn steps one square or two
+pub advances : (v one two rank free : Bool) → (v && (one || (rank && two && free))) ≡ true → (one || two) ≡ true
+advances true true two rank free h = refl
+advances true false two true free h = (and_parts two free h).0
+advances true false two false free h = absurd (false≢true h)
+advances false one two rank free h = absurd (false≢true h)
+
+module _ (p : Position) (x : Man) (s t : ℕ) (small : t < 64) (h : may_go p x s t ≡ true) where
+  -- a piece of this kind reaches t
+  as_piece : (k : Kind) → x.kind ≡ k → same_kind k Pawn ≡ false → same_kind k King ≡ false → reaches_as p.men x.colour k s t ≡ true
+  as_piece k kind none piece = rw kind at (reached p x s t (rw kind none) (rw kind piece) h)
+
+  pub rook_lines : (l : ℕ) → x.kind ≡ Rook → l ≡ word (is_on_some straight_steps s) → (bit_at l t == 1) ≡ true
+  unfolding reaches_as
+  rook_lines l kind lines = word_has (is_on_some straight_steps s) l t lines small ∙ rides_on p.men s t straight_steps (as_piece Rook kind refl refl)
+
+  pub bishop_lines : (l : ℕ) → x.kind ≡ Bishop → l ≡ word (is_on_some diagonal_steps s) → (bit_at l t == 1) ≡ true
+  unfolding reaches_as
+  bishop_lines l kind lines = word_has (is_on_some diagonal_steps s) l t lines small ∙ rides_on p.men s t diagonal_steps (as_piece Bishop kind refl refl)
+
+  pub queen_lines : (l d : ℕ) → x.kind ≡ Queen → l ≡ word (is_on_some straight_steps s) → d ≡ word (is_on_some diagonal_steps s)
+      → (bit_at (bit_or l d) t == 1) ≡ true
+  unfolding reaches_as
+  queen_lines l d kind lines slants =
+      elim (or_cases _ _ (sym (list_any-append (rides p.men s t) straight_steps diagonal_steps) ∙ as_piece Queen kind refl refl)) [
+        | inl y ↦ on_left l d t (word_has (is_on_some straight_steps s) l t lines small ∙ rides_on p.men s t straight_steps y)
+        | inr y ↦ on_right l d t (word_has (is_on_some diagonal_steps s) d t slants small ∙ rides_on p.men s t diagonal_steps y)
+      ]
+
+  pub knight_squares : (l : ℕ) → x.kind ≡ Knight → l ≡ word (λ q. list_any (leaps s q) knight_steps) → (bit_at l t == 1) ≡ true
+  unfolding reaches_as
+  knight_squares l kind squares = word_has (λ q. list_any (leaps s q) knight_steps) l t squares small ∙ as_piece Knight kind refl refl
+
+  pub pawn_squares : (l a : ℕ) → x.kind ≡ Pawn → l ≡ word (λ q. list_any (leaps s q) (pawn_captures x.colour)) → a ≡ word (is_advance x.colour s)
+      → (bit_at (bit_or l a) t == 1) ≡ true
+  unfolding may_go reaches_as
+  pawn_squares l a kind squares steps = search (rules, advances, and_parts, cond-true, on_left, on_right, or_cases, word_has)
+
+  -- a king's leaps, and where he castles
+  pub king_squares : (l a : ℕ) → x.kind ≡ King → l ≡ word (λ q. list_any (leaps s q) queen_steps) → a ≡ word (steps_to x s)
+      → (bit_at (bit_or l a) t == 1) ≡ true
+  unfolding may_go reaches_as
+  king_squares l a kind squares steps = search (rules, and_parts, cond-false, on_left, on_right, or_cases, word_has)

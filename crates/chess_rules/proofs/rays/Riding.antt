@@ -1,0 +1,101 @@
+-- The words of the squares that shut lines.
+use Rattle.std.proofs.Common.{◌≡◌, ℕ, ◌+◌, ◌-◌, ◌<◌, ◌≤◌, Bool, false, ◌&&◌, ◌||◌, ◌==◌, List, Option, refl, sym, ap, ◌∙◌, arith, inl, inr, rules}
+use Rattle.std.specs.Int.{bit_at}
+use Rattle.std.specs.Int.Bits.{bit_and, bit_or}
+use Rattle.std.specs.List.{list_any, range_with_len}
+use Rattle.std.proofs.lemmas.Bool.{and_left, and_right, cases_Bool, cases_eq, cases_lt, or_left, or_right}
+use Rattle.std.proofs.lemmas.Nat.Bits.{bit_at-zero}
+use Rattle.chess_core.specs.Position.{is_man, man_on}
+use Rattle.chess_core.specs.Squares.{some_square, squares}
+use Rattle.chess_core.specs.ties.Words.{squares_of, word}
+use Rattle.chess_core.specs.declared.man.Colour.{Colour}
+use Rattle.chess_core.specs.declared.man.Kind.{Kind}
+use Rattle.chess_core.specs.declared.man.Kind.TheVariants.{Queen}
+use Rattle.chess_core.specs.declared.man.Man.{Man}
+use Rattle.chess_core.specs.declared.step.Step.{Step}
+use Rattle.chess_core.proofs.Ranges.{any_range_false, any_range_true, some_square_false}
+use Rattle.chess_core.proofs.Words.{squares_both, squares_either, squares_same}
+use Rattle.chess_rules.specs.ties.Lines.{is_on_some}
+use Rattle.chess_rules.specs.Reaches.{rides}
+use Rattle.chess_rules.specs.ties.Shields.{is_behind, is_shut}
+use Rattle.chess_rules.proofs.attacks.Attacking.{some_square_same}
+use Rattle.chess_rules.proofs.Bits.{word_empty, word_has}
+use Rattle.chess_rules.proofs.Tests.{IsFirst, any_range_cases}
+
+-- some number passes up to q, if some does below n, or q itself, and those between don't
+upto : (p : ℕ → Bool) (n q : ℕ) → n ≤ q → ((j : ℕ) → n ≤ j → j < q → p j ≡ false)
+    → (list_any p (range_with_len 0 n) || p q) ≡ list_any p (range_with_len 0 (q + 1))
+upto p n q le none = elim (any_range_cases p 0 n) [
+  | inl w ↦
+      or_left (list_any p (range_with_len 0 n)) _ (any_range_true p 0 n w.0 w.1 w.2 w.3)
+      ∙ sym (any_range_true p 0 (q + 1) w.0 w.1 (omega (arith, w.2, le)) w.3)
+  | inr below ↦ elim (cases_Bool (p q)) [
+    | inl y ↦ or_right (list_any p (range_with_len 0 n)) (p q) y ∙ sym (any_range_true p 0 (q + 1) q (omega arith) (omega arith) y)
+    | inr no_more ↦
+        (λ j. any_range_false p 0 n below j || no_more j)
+        ∙ sym (any_range_false p 0 (q + 1) (λ k lo hi. elim (cases_lt k n) [
+          | inl lt ↦ below k lo (omega (arith, lt))
+          | inr ge ↦ elim (cases_eq k q) [ inl e ↦ ap p e ∙ no_more | inr ne ↦ none k ge (omega (arith, hi, ne)) ]
+        ]))
+  ]
+]
+
+none_more : (p : ℕ → Bool) (n m : ℕ) → n ≤ m → ((j : ℕ) → n ≤ j → j < m → p j ≡ false) → list_any p (range_with_len 0 n) ≡ list_any p (range_with_len 0 m)
+none_more p n m le none = elim (any_range_cases p 0 n) [
+  | inl w ↦ any_range_true p 0 n w.0 w.1 w.2 w.3 ∙ sym (any_range_true p 0 m w.0 w.1 (omega (arith, w.2, le)) w.3)
+  | inr below ↦
+      any_range_false p 0 n below
+      ∙ sym (any_range_false p 0 m (λ k lo hi. elim (cases_lt k n) [ inl lt ↦ below k lo (omega (arith, lt)) | inr ge ↦ none k ge (omega (arith, hi)) ]))
+]
+
+-- the squares to which one of the riders below a number gets
+abbrev pub ridden_below : List (Option Man) → List Step → ℕ → ℕ → ℕ → Bool
+ridden_below men ds w n s = list_any (λ q. bit_at w q == 1 && list_any (rides men q s) ds) (range_with_len 0 n)
+
+pub ridden_more : (men : List (Option Man)) (ds : List Step) (w n q r v : ℕ) → r ≡ word (ridden_below men ds w n) → v ≡ word (λ s. list_any (rides men q s) ds)
+    → IsFirst (λ s. bit_at w s == 1) n (64 - n) q
+    → bit_or r v ≡ word (ridden_below men ds w (q + 1))
+ridden_more men ds w n q r v h i first =
+    (λ j. bit_or (h j) (i j)) ∙ squares_either (ridden_below men ds w n) (λ s. list_any (rides men q s) ds)
+    ∙ squares_same (λ s. ridden_below men ds w n s || list_any (rides men q s) ds) (ridden_below men ds w (q + 1)) (λ s small.
+    ap (λ (b : Bool). ridden_below men ds w n s || (b && list_any (rides men q s) ds)) (sym first.here)
+    ∙ upto (λ q. bit_at w q == 1 && list_any (rides men q s) ds) n q first.low (λ j lo hi. and_left (bit_at w j == 1) _ (first.before j lo hi)))
+
+pub ridden_none : (men : List (Option Man)) (ds : List Step) (w : ℕ) → 0 ≡ word (ridden_below men ds w 0)
+ridden_none men ds w = word_empty (ridden_below men ds w 0) (λ s small. refl)
+
+pub ridden_all : (men : List (Option Man)) (ds : List Step) (w n r : ℕ) → n ≤ 64 → r ≡ word (ridden_below men ds w n)
+    → ((j : ℕ) → n ≤ j → j < 64 → (bit_at w j == 1) ≡ false) → r ≡ word (λ s. some_square (λ q. bit_at w q == 1 && list_any (rides men q s) ds))
+unfolding some_square squares
+ridden_all men ds w n r le h none =
+    h ∙ squares_same (ridden_below men ds w n) (λ s. list_any (λ q. bit_at w q == 1 && list_any (rides men q s) ds) (range_with_len 0 64)) (λ s small.
+    none_more (λ q. bit_at w q == 1 && list_any (rides men q s) ds) n 64 le (λ j lo hi. and_left (bit_at w j == 1) _ (none j lo hi)))
+
+-- the riders on the lines of a square
+abbrev pub is_rider : List (Option Man) → Colour → Kind → List Step → ℕ → ℕ → Bool
+is_rider men e j ds k q = (is_man (man_on men q) e j || is_man (man_on men q) e Queen) && is_on_some ds k q
+
+pub riders_are : (men : List (Option Man)) (e : Colour) (j : Kind) (ds : List Step) (k r l : ℕ) → r ≡ bit_or (squares_of men e j) (squares_of men e Queen)
+    → l ≡ word (is_on_some ds k) → bit_and r l ≡ word (is_rider men e j ds k)
+unfolding squares_of
+riders_are men e j ds k r l h g = search (rules, squares_both, squares_either)
+
+pub none_shut : (men : List (Option Man)) (e : Colour) (j : Kind) (ds : List Step) (k w : ℕ) → w ≡ word (is_rider men e j ds k) → w ≡ 0
+    → 0 ≡ word (is_shut men e j ds k)
+unfolding is_shut is_behind
+none_shut men e j ds k w h zero =
+    word_empty (is_shut men e j ds k) (λ s small. and_right (list_any (rides men k s) ds) _
+    (some_square_false (is_behind men e j ds k s) 64 (omega arith) (record {
+      fails = λ q lt. and_left (is_rider men e j ds k q) _ (sym (word_has (is_rider men e j ds k) w q h lt) ∙ ap (λ (n : ℕ). bit_at n q == 1) zero
+          ∙ ap (λ (n : ℕ). n == 1) (bit_at-zero q));
+    })))
+
+pub shut_are : (men : List (Option Man)) (e : Colour) (j : Kind) (ds : List Step) (k w n r : ℕ) → w ≡ word (is_rider men e j ds k)
+    → n ≡ word (λ t. list_any (rides men k t) ds) → r ≡ word (λ s. some_square (λ q. bit_at w q == 1 && list_any (rides men q s) ds))
+    → bit_and n r ≡ word (is_shut men e j ds k)
+unfolding is_shut is_behind
+shut_are men e j ds k w n r h i g =
+    (λ y. bit_and (i y) (g y)) ∙ squares_both (λ t. list_any (rides men k t) ds) (λ s. some_square (λ q. bit_at w q == 1 && list_any (rides men q s) ds))
+    ∙ squares_same _ (is_shut men e j ds k) (λ s small. ap (λ (b : Bool). list_any (rides men k s) ds && b)
+    (some_square_same (λ q. bit_at w q == 1 && list_any (rides men q s) ds) (is_behind men e j ds k s)
+    (λ q lt. ap (λ (b : Bool). b && list_any (rides men q s) ds) (word_has (is_rider men e j ds k) w q h lt))))

@@ -1,0 +1,154 @@
+-- A ride: the line as far as the first man on it.
+use Rattle.std.proofs.Common.{◌≡◌, ℕ, ◌+◌, ◌-◌, ◌<◌, ◌≤◌, Bool, true, false, ◌&&◌, not, List, Option, Some, is_some, refl, sym, ap, ◌∙◌, arith, inl, inr}
+use Rattle.std.specs.Int.{bit_at, bit_not, w64}
+use Rattle.std.specs.Int.Bits.{bit_and}
+use Rattle.std.proofs.lemmas.Bool.{and_from, and_left, cases_Bool, cases_eq, cases_lt, eq-eqb, eqb-true, false≢true}
+use Rattle.chess_core.specs.Squares.{is_square}
+use Rattle.chess_core.specs.Steps.{along}
+use Rattle.chess_core.specs.Position.{man_on}
+use Rattle.chess_core.specs.ties.Words.{word}
+use Rattle.chess_core.specs.declared.man.Man.{Man}
+use Rattle.chess_core.specs.declared.step.Step.{Step}
+use Rattle.chess_core.proofs.Ranges.{any_range_true, any_range_false, all_range_true, all_range_false}
+use Rattle.chess_core.proofs.Words.{squares_both, squares_not, squares_same}
+use Rattle.chess_rules.specs.ties.Lines.{IsStop, is_ahead, place, place_by, ray, rises}
+use Rattle.chess_rules.specs.Reaches.{is_clear, is_vacant, rides}
+use Rattle.chess_rules.proofs.rays.Ahead.{Ordered, onward, passes}
+use Rattle.chess_rules.proofs.Bits.{word_has}
+use Rattle.chess_rules.proofs.rays.Ends.{square_is, stays}
+use Rattle.chess_rules.proofs.Tests.{any_range_cases, first_of_and, second_of_and}
+
+-- b is the first square ahead of s with a man on it, or a square behind which no line goes on
+pub record Stops (men : List (Option Man)) (s : ℕ) (d : Step) (b : ℕ) : Type 0 where
+  pub small : b < 64
+  pub first : (q : ℕ) → q < 64 → is_ahead s d q ≡ true → is_some (man_on men q) ≡ true → place d b ≤ place d q
+  pub here : place d b < 63 → (is_ahead s d b && is_some (man_on men b)) ≡ true
+
+pub marked : (test : ℕ → Bool) (w q : ℕ) → w ≡ word test → q < 64 → test q ≡ true → bit_at w q ≡ 1
+marked test w q h b e = eqb-true _ _ (word_has test w q h b ∙ e)
+
+pub passes_test : (test : ℕ → Bool) (w q : ℕ) → w ≡ word test → q < 64 → bit_at w q ≡ 1 → test q ≡ true
+passes_test test w q h b e = sym (word_has test w q h b) ∙ eq-eqb _ 1 e
+
+-- the men ahead of s
+pub ahead_men : (men : List (Option Man)) (s : ℕ) (d : Step) (r o : ℕ) → r ≡ ray s d → o ≡ word (λ q. is_some (man_on men q))
+    → bit_and r o ≡ word (λ q. is_ahead s d q && is_some (man_on men q))
+unfolding ray
+ahead_men men s d r o h i = (λ j. bit_and (h j) (i j)) ∙ squares_both (is_ahead s d) (λ q. is_some (man_on men q))
+
+pub stops : (men : List (Option Man)) (s : ℕ) (d : Step) (r o b : ℕ) → r ≡ ray s d → o ≡ word (λ q. is_some (man_on men q)) → IsStop d (bit_and r o) b
+    → Stops men s d b
+stops men s d r o b h i stop =
+    let w : bit_and r o ≡ word (λ q. is_ahead s d q && is_some (man_on men q)) = ahead_men men s d r o h i in
+    record {
+      small = stop.small;
+      first = λ q p ahead man. stop.first q p (marked (λ q. is_ahead s d q && is_some (man_on men q)) (bit_and r o) q w p (and_from _ _ ahead man));
+      here = λ lt. passes_test (λ q. is_ahead s d q && is_some (man_on men q)) (bit_and r o) b w stop.small (stop.here lt);
+    }
+
+pub place_le : (up : Bool) (t : ℕ) → t < 64 → place_by up t ≤ 63
+place_le true t p = omega arith
+place_le false t p = omega arith
+
+-- how many steps on
+pub record Steps (s : ℕ) (d : Step) (t k : ℕ) : Type 0 where
+  pub low : 1 ≤ k
+  pub high : k < 8
+  pub at : along s d k ≡ Some t
+
+pub steps_on : (s : ℕ) (d : Step) (t : ℕ) → is_ahead s d t ≡ true → (k : ℕ) × Steps s d t k
+unfolding is_ahead
+steps_on s d t h = elim (any_range_cases (λ k. is_square (along s d k) t) 1 7) [
+  | inl w ↦ (w.0, record { low = w.1; high = omega (arith, w.2); at = square_is _ t w.3 })
+  | inr none ↦ absurd (false≢true (sym (any_range_false (λ k. is_square (along s d k) t) 1 7 none) ∙ h))
+]
+
+pub ahead_at : (s : ℕ) (d : Step) (t k : ℕ) → 1 ≤ k → k < 8 → along s d k ≡ Some t → is_ahead s d t ≡ true
+unfolding is_ahead
+ahead_at s d t k lo hi at = any_range_true (λ k. is_square (along s d k) t) 1 7 k lo (omega arith) (rw at (eq-eqb t t refl))
+
+occupied_not_vacant : (men : List (Option Man)) (o : Option ℕ) (q : ℕ) → o ≡ Some q → is_some (man_on men q) ≡ true → is_vacant men o ≡ false
+occupied_not_vacant men o q at man = rw at (ap not man)
+
+-- what lies ahead of the stop isn't reached
+blocked : (men : List (Option Man)) (s : ℕ) (d : Step) (b t k : ℕ) → Ordered d → Stops men s d b → t < 64 → along s d k ≡ Some t → is_ahead b d t ≡ true
+    → is_clear men s d (k - 1) ≡ false
+unfolding is_clear
+blocked men s d b t k line stop p at behind =
+    let on = steps_on b d t behind in
+    let past : place d b < place d t = line.in_order b 0 on.0 b t (stays b d stop.small) on.1.at (omega (arith, on.1.low)) in
+    let end : place d t ≤ 63 = place_le (rises d) t p in
+    let here : (is_ahead s d b && is_some (man_on men b)) ≡ true = stop.here (omega arith) in
+    let to = steps_on s d b (first_of_and _ _ here) in
+    let sooner : to.0 < k = elim (cases_lt to.0 k) [
+      | inl lt ↦ lt
+      | inr ge ↦ elim (cases_eq k to.0) [
+        | inl e ↦ absurd (let same : Some b ≡ Some t = sym to.1.at ∙ ap (along s d) (sym e) ∙ at in let n : b ≡ t = cc in
+            let m : place d b ≡ place d t = ap (place d) n in omega arith)
+        | inr ne ↦ absurd (let other : place d t < place d b = line.in_order s k to.0 t b at to.1.at (omega arith) in omega arith)
+      ]
+    ] in
+    all_range_false (λ i. is_vacant men (along s d i)) 1 (k - 1) to.0 to.1.low (omega arith)
+    (occupied_not_vacant men (along s d to.0) b to.1.at (second_of_and (is_ahead s d b) _ here))
+
+-- up to the stop the line is empty
+nobody : (men : List (Option Man)) (s : ℕ) (d : Step) (b t k i q : ℕ) → Ordered d → Stops men s d b → t < 64 → 1 ≤ i → i < k → k < 8 → along s d k ≡ Some t
+    → along s d i ≡ Some q → q < 64 → is_ahead b d t ≡ false → is_some (man_on men q) ≡ true → ⊥
+nobody men s d b t k i q line stop p lo lt hi at here small not_behind man =
+    let le : place d b ≤ place d q = stop.first q small (ahead_at s d q i lo (omega arith) here) man in
+    let past : place d q < place d t = line.in_order s i k q t here at lt in
+    let end : place d t ≤ 63 = place_le (rises d) t p in
+    let to = steps_on s d b (first_of_and _ _ (stop.here (omega arith))) in
+    let sooner : to.0 ≤ i = elim (cases_lt i to.0) [
+      | inl more ↦ absurd (let other : place d q < place d b = line.in_order s i to.0 q b here to.1.at more in omega arith)
+      | inr ge ↦ ge
+    ] in
+    let e : to.0 + (k - to.0) ≡ k = omega arith in
+    let on : along b d (k - to.0) ≡ Some t = onward s b d to.0 (k - to.0) to.1.at ∙ ap (along s d) e ∙ at in
+    false≢true (sym not_behind ∙ ahead_at b d t (k - to.0) (omega arith) (omega arith) on)
+
+open_to : (men : List (Option Man)) (s : ℕ) (d : Step) (b t k : ℕ) → Ordered d → Stops men s d b → s < 64 → t < 64 → k < 8 → along s d k ≡ Some t
+    → is_ahead b d t ≡ false → is_clear men s d (k - 1) ≡ true
+unfolding is_clear
+open_to men s d b t k line stop p q hi at free =
+    all_range_true (λ i. is_vacant men (along s d i)) 1 (k - 1) (λ i lo lt.
+    let w = passes s t d k i p (omega arith) at in
+    elim (cases_Bool (is_some (man_on men w.0))) [
+      | inl man ↦ absurd (nobody men s d b t k i w.0 line stop q lo (omega arith) hi at w.1.at w.1.small free man)
+      | inr none ↦ rw w.1.at (ap not none)
+    ])
+
+-- a ride gets to what is ahead and not ahead of the stop
+ridden : (men : List (Option Man)) (s : ℕ) (d : Step) (b t : ℕ) → Ordered d → Stops men s d b → s < 64 → t < 64
+    → (is_ahead s d t && not (is_ahead b d t)) ≡ rides men s t d
+unfolding rides
+ridden men s d b t line stop p q = elim (cases_Bool (is_ahead s d t)) [
+  | inl y ↦ elim (cases_Bool (is_ahead b d t)) [
+    | inl behind ↦
+        rw (y, behind)
+        (sym (any_range_false (λ k. is_square (along s d k) t && is_clear men s d (k - 1)) 1 7 (λ k lo hi. elim (cases_Bool (is_square (along s d k) t)) [
+          | inl at ↦ rw at (blocked men s d b t k line stop q (square_is _ t at) behind)
+          | inr off ↦ and_left _ _ off
+        ])))
+    | inr free ↦
+        let on = steps_on s d t y in
+        rw (y, free)
+        (sym (any_range_true (λ k. is_square (along s d k) t && is_clear men s d (k - 1)) 1 7 on.0 on.1.low (omega (arith, on.1.high))
+        (and_from _ _ (rw on.1.at (eq-eqb t t refl)) (open_to men s d b t on.0 line stop p q on.1.high on.1.at free))))
+  ]
+  | inr n ↦
+      rw n
+      (sym (any_range_false (λ k. is_square (along s d k) t && is_clear men s d (k - 1)) 1 7 (λ k lo hi. elim (cases_Bool (is_square (along s d k) t)) [
+        | inl at ↦ absurd (false≢true (sym n ∙ ahead_at s d t k lo (omega arith) (square_is _ t at)))
+        | inr off ↦ and_left _ _ off
+      ])))
+]
+
+pub ride_is : (men : List (Option Man)) (s : ℕ) (d : Step) (r o b n : ℕ) → Ordered d → s < 64 → r ≡ ray s d → o ≡ word (λ q. is_some (man_on men q))
+    → IsStop d (bit_and r o) b → n ≡ ray b d → bit_and r (bit_not w64 n) ≡ word (λ t. rides men s t d)
+unfolding ray
+ride_is men s d r o b n line p h i stop k =
+    (λ j. bit_and (h j) (bit_not w64 (k j)))
+    ∙ (λ j. bit_and (word (is_ahead s d)) (squares_not (is_ahead b d) j))
+    ∙ squares_both (is_ahead s d) (λ t. not (is_ahead b d t))
+    ∙ squares_same _ _ (λ t q. ridden men s d b t line (stops men s d r o b h i stop) p q)
