@@ -1,0 +1,347 @@
+-- What the moves still to come say of paths, turns and counts: the next move, and those passed over.
+use Rattle.pop_input.specs.declared.stipulation.Goal.TheVariants.{Mate}
+use Rattle.chess_rules.specs.Play.{after as played}
+use Rattle.chess_rules.specs.Legal.{moves as legal_moves}
+use Rattle.std.proofs.Common.{◌≡◌, ℕ, zero, suc, ◌+◌, ◌-◌, ◌<◌, ◌≤◌, Bool, true, false, ◌||◌, eqb, cond, List, [], ◌∷◌, ◌++◌, length, filter, map, refl, sym, ◌∙◌, ap, append_assoc, arith, subst, ◌⊎◌, inl, inr}
+use Rattle.std.proofs.lemmas.List.{map-append}
+use Rattle.std.proofs.lemmas.Bool.{cond-true, cond-false}
+use Rattle.std.proofs.lemmas.List.Sums.{sum_by-append, sum_by-cons}
+use Rattle.std.specs.List.{sum_by}
+use Rattle.chess_core.specs.Position.{Position}
+use Rattle.chess_core.specs.Triple.{Triple}
+use Rattle.chess_rules.specs.Legal.{is_goal}
+use Rattle.chess_rules.specs.Loss.{Loss}
+use Rattle.chess_rules.specs.ties.Places.{is_mating, moves_behind}
+use Rattle.chess_rules.specs.RuleSet.{RuleSet}
+use Rattle.pop_solve.specs.Chess.{chess}
+use Rattle.pop_solve.proofs.Boards.{behind_start}
+use Rattle.pop_solve.specs.ties.Counts.{smallest_tree, walk_count}
+use Rattle.pop_solve.specs.ties.Values.{seeks, value}
+use Rattle.pop_solve.specs.ties.Frames.{Frame, position, opened, steps, steps_behind, walk_behind, to_open}
+use Rattle.pop_solve.specs.ties.Walk.{follows, gives, goes_on, shown, path, GoesTo, to_come, turns, IsCounted, IsWhites, seeks_last, Steps, fewest_for, fewest_left, fewest_walked}
+use Rattle.pop_solve.specs.declared.plan.Plan.{Plan}
+use Rattle.pop_solve.proofs.Tests.{moved}
+use Rattle.pop_input.specs.Stipulations.{is_help}
+use Rattle.pop_solve.specs.Aims.{battle_of}
+use Rattle.pop_solve.proofs.GoingOn.{cases, no_zero, goes_on-help, follows-help}
+
+-- where the first move counts nothing if it fails a test, all that fail it at the head of a list count nothing
+passed-over : {A : Type 0} (f : List Triple → A) (test : Triple → Bool) → ((m : Triple) (ms : List Triple) → test m ≡ false → f (m ∷ ms) ≡ f ms)
+    → (over ms : List Triple) → filter test over ≡ [] → f (over ++ ms) ≡ f ms
+passed-over f test skip [] ms none = refl
+passed-over f test skip (m ∷ over) ms none = elim (cases (test m)) [
+  | inl fails ↦ skip m (over ++ ms) fails ∙ passed-over f test skip over ms (sym (cond-false (test m) _ _ fails) ∙ none)
+  | inr passes ↦ absurd (let bad : m ∷ filter test over ≡ [] = sym (cond-true (test m) _ _ passes) ∙ none in cc)
+]
+
+-- a path, where it is given
+abbrev pub given_path : Bool → List Triple → List (List Triple)
+given_path b L = cond b (L ∷ []) []
+
+map-path : (L : List Triple) (m : Triple) (xs : List (List Triple))
+    → map (λ line. L ++ line) (map (λ line. m ∷ line) xs) ≡ map (λ line. (L ++ m ∷ []) ++ line) xs
+map-path L m [] = refl
+map-path L m (x ∷ xs) = rw (append_assoc L (m ∷ []) x, map-path L m xs)
+
+-- the paths by a move and by the others, seen from the path before them
+turn : (b : Bool) (L : List Triple) (m : Triple) (xs ys rest : List (List Triple))
+    → map (λ line. L ++ line) ((given_path b (m ∷ []) ++ map (λ line. m ∷ line) xs) ++ ys) ++ rest ≡ given_path b (L ++ m ∷ [])
+    ++ (map (λ line. (L ++ m ∷ []) ++ line) xs ++ (map (λ line. L ++ line) ys ++ rest))
+turn true L m xs ys rest =
+    rw (map-append (λ line. L ++ line) (map (λ line. m ∷ line) xs) ys, map-path L m xs)
+    (ap (λ zs. (L ++ m ∷ []) ∷ zs) (append_assoc (map (λ line. (L ++ m ∷ []) ++ line) xs) (map (λ line. L ++ line) ys) rest))
+turn false L m xs ys rest =
+    rw (map-append (λ line. L ++ line) (map (λ line. m ∷ line) xs) ys, map-path L m xs)
+    (append_assoc (map (λ line. (L ++ m ∷ []) ++ line) xs) (map (λ line. L ++ line) ys) rest)
+
+module _ (rule : RuleSet) (plan : Plan) where
+  -- the paths by the next move, and by the others
+  shown-next : (root : Bool) (k t : ℕ) (P : Position) (m : Triple) (ms : List Triple)
+      → shown plan (chess plan.goal rule) root (suc k) (suc t) P (m ∷ ms) ≡ cond (follows plan (chess plan.goal rule) root t (played rule P m))
+      (given_path (gives plan (chess plan.goal rule) t (played rule P m)) (m ∷ []) ++ map (λ line. m ∷ line)
+      (shown plan (chess plan.goal rule) false k (goes_on plan (chess plan.goal rule) t (played rule P m)) (played rule P m)
+      (legal_moves rule (played rule P m)))) [] ++ shown plan (chess plan.goal rule) root (suc k) (suc t) P ms
+  unfolding shown
+  shown-next root k t P m ms = refl
+
+  shown-none : (root : Bool) (k left : ℕ) (P : Position) (ms : List Triple) → (left ≡ 0) ⊎ (ms ≡ []) → shown plan (chess plan.goal rule) root k left P ms ≡ []
+  unfolding shown
+  shown-none root zero left P ms e = refl
+  shown-none root (suc k) zero P ms e = refl
+  shown-none root (suc k) (suc t) P ms (inl e) = cc
+  shown-none root (suc k) (suc t) P ms (inr e) = rw e refl
+
+  -- the positions to be tried for the next move, and for the others
+  fewest-next : (root : Bool) (k t : ℕ) (P : Position) (m : Triple) (ms : List Triple)
+      → fewest_walked plan (chess plan.goal rule) root (suc k) (suc t) P (m ∷ ms)
+      ≡ (fewest_for plan (chess plan.goal rule) root t (played rule P m) + cond (follows plan (chess plan.goal rule) root t (played rule P m))
+      (fewest_walked plan (chess plan.goal rule) false k (goes_on plan (chess plan.goal rule) t (played rule P m)) (played rule P m)
+      (legal_moves rule (played rule P m))) 0)
+      + fewest_walked plan (chess plan.goal rule) root (suc k) (suc t) P ms
+  unfolding fewest_walked
+  fewest-next root k t P m ms =
+      sum_by-cons (λ m. let q = played rule P m in
+      fewest_for plan (chess plan.goal rule) root t q
+      + cond (follows plan (chess plan.goal rule) root t q)
+      (fewest_walked plan (chess plan.goal rule) false k (goes_on plan (chess plan.goal rule) t q) q (legal_moves rule q)) 0) m ms
+
+  fewest-none : (root : Bool) (k left : ℕ) (P : Position) (ms : List Triple) → (left ≡ 0) ⊎ (ms ≡ [])
+      → fewest_walked plan (chess plan.goal rule) root k left P ms ≡ 0
+  unfolding fewest_walked
+  fewest-none root zero left P ms e = refl
+  fewest-none root (suc k) zero P ms e = refl
+  fewest-none root (suc k) (suc t) P ms (inl e) = cc
+  fewest-none root (suc k) (suc t) P ms (inr e) = rw e refl
+
+  steps-start : (k : ℕ) (q : Position) → steps rule k q ≡ 1 + steps_behind rule k q 0
+  unfolding steps steps_behind
+  steps-start zero q = refl
+  steps-start (suc k) q = rw (behind_start rule q) refl
+
+  steps_behind-next : (k : ℕ) (P : Position) (place next : ℕ) (m : Triple) → moves_behind rule P place ≡ m ∷ moves_behind rule P next
+      → steps_behind rule (suc k) P place ≡ (1 + steps rule k (played rule P m)) + steps_behind rule (suc k) P next
+  unfolding steps_behind
+  steps_behind-next k P place next m e = rw e (sum_by-cons (λ x. 1 + steps rule k (played rule P x)) m (moves_behind rule P next))
+
+  walk_behind-next : (k : ℕ) (P : Position) (place next : ℕ) (m : Triple) → moves_behind rule P place ≡ m ∷ moves_behind rule P next
+      → walk_behind rule (suc k) P place ≡ walk_count (legal_moves rule) (played rule) k (played rule P m) + walk_behind rule (suc k) P next
+  unfolding walk_behind
+  walk_behind-next k P place next m e = rw e (sum_by-cons (λ x. walk_count (legal_moves rule) (played rule) k (played rule P x)) m (moves_behind rule P next))
+
+  pub walk_behind-none : (k : ℕ) (P : Position) (place : ℕ) → (k ≡ 0) ⊎ (moves_behind rule P place ≡ []) → walk_behind rule k P place ≡ 0
+  unfolding walk_behind
+  walk_behind-none zero P place e = refl
+  walk_behind-none (suc k) P place (inl e) = cc
+  walk_behind-none (suc k) P place (inr e) = rw e refl
+
+  -- a frame counts where it has half-moves below it
+  abbrev pub one : ℕ → ℕ
+  one zero = 0
+  one (suc k) = 1
+
+  pub walk_count-start : (k : ℕ) (q : Position) → walk_count (legal_moves rule) (played rule) k q ≡ one k + walk_behind rule k q 0
+  unfolding walk_count walk_behind
+  walk_count-start zero q = refl
+  walk_count-start (suc k) q = rw (behind_start rule q) refl
+
+  module _ (h : ℕ) (p : Position) (f : Frame) (next : ℕ) (m : Triple) (below : List Frame) (k t : ℕ) (fuel : h - length below ≡ suc k)
+      (left : f.left ≡ suc t) (e : moves_behind rule (position rule p (f ∷ below)) f.place ≡ m ∷ moves_behind rule (position rule p (f ∷ below)) next) where
+    -- the position after the move
+    abbrev q : Position
+    q = played rule (position rule p (f ∷ below)) m
+
+    abbrev root : Bool
+    root = eqb (length below) 0
+
+    -- a move that is not followed is passed over
+    pub come-pass : follows plan (chess plan.goal rule) root t q ≡ false → to_come rule plan h p (f ∷ below) ≡ to_come rule plan h p (moved f next ∷ below)
+    unfolding to_come position path
+    come-pass b = rw (fuel, left, e, shown-next root k t (position rule p (f ∷ below)) m (moves_behind rule (position rule p (f ∷ below)) next), b) refl
+
+    -- a move that is followed: its path, where that is given, and what stands below it
+    pub come-enter : (undo : Loss) → follows plan (chess plan.goal rule) root t q ≡ true
+        → to_come rule plan h p (f ∷ below) ≡ given_path (gives plan (chess plan.goal rule) t q)
+        (path (opened m undo (goes_on plan (chess plan.goal rule) t q) ∷ (moved f next ∷ below))) ++ to_come rule plan h p
+        (opened m undo (goes_on plan (chess plan.goal rule) t q) ∷ (moved f next ∷ below))
+    unfolding to_come position path
+    come-enter undo b =
+        let less : h - suc (length below) ≡ k = omega arith in
+        let P = position rule p (f ∷ below) in
+        rw (fuel, less, left, e, shown-next root k t P m (moves_behind rule P next), b, behind_start rule q, no_zero (length below))
+        (turn (gives plan (chess plan.goal rule) t q) (path (f ∷ below)) m
+        (shown plan (chess plan.goal rule) false k (goes_on plan (chess plan.goal rule) t q) q (legal_moves rule q))
+        (shown plan (chess plan.goal rule) root (suc k) (suc t) P (moves_behind rule P next)) (to_come rule plan h p below))
+
+    pub tries-pass : follows plan (chess plan.goal rule) root t q ≡ false
+        → fewest_left rule plan h p (f ∷ below) ≡ fewest_for plan (chess plan.goal rule) root t q + fewest_left rule plan h p (moved f next ∷ below)
+    unfolding fewest_left position
+    tries-pass b =
+        let P = position rule p (f ∷ below) in
+        let n = fewest-next root k t P m (moves_behind rule P next) in
+        rw (fuel, left, e) (omega (arith, rw b at n))
+
+    pub tries-enter : (undo : Loss) → follows plan (chess plan.goal rule) root t q ≡ true → fewest_left rule plan h p (f ∷ below)
+        ≡ fewest_for plan (chess plan.goal rule) root t q + fewest_left rule plan h p
+        (opened m undo (goes_on plan (chess plan.goal rule) t q) ∷ (moved f next ∷ below))
+    unfolding fewest_left position
+    tries-enter undo b =
+        let less : h - suc (length below) ≡ k = omega arith in
+        let P = position rule p (f ∷ below) in
+        let n = fewest-next root k t P m (moves_behind rule P next) in
+        rw (fuel, less, left, e, behind_start rule q, no_zero (length below)) (omega (arith, rw b at n))
+
+    pub turns-pass : turns rule h p (moved f next ∷ below) < turns rule h p (f ∷ below)
+    unfolding turns position
+    turns-pass = rw (fuel, steps_behind-next k (position rule p (f ∷ below)) f.place next m e) (omega arith)
+
+    pub turns-enter : (undo : Loss) (tried : ℕ) → turns rule h p (opened m undo tried ∷ (moved f next ∷ below)) < turns rule h p (f ∷ below)
+    unfolding turns position
+    turns-enter undo tried =
+        let less : h - suc (length below) ≡ k = omega arith in
+        rw (fuel, less, steps_behind-next k (position rule p (f ∷ below)) f.place next m e, steps-start k q) (omega arith)
+
+    pub open-next : to_open rule p (f ∷ below) ≡ walk_count (legal_moves rule) (played rule) t q + to_open rule p (moved f next ∷ below)
+    unfolding to_open position
+    open-next = rw (left, walk_behind-next t (position rule p (f ∷ below)) f.place next m e) (omega arith)
+
+    pub open-enter : (undo : Loss) (tried : ℕ)
+        → to_open rule p (opened m undo tried ∷ (moved f next ∷ below)) ≡ walk_behind rule tried q 0 + to_open rule p (moved f next ∷ below)
+    unfolding to_open position
+    open-enter undo tried = refl
+
+  pub come-close : (h : ℕ) (p : Position) (f : Frame) (below : List Frame) → (f.left ≡ 0) ⊎ (moves_behind rule (position rule p (f ∷ below)) f.place ≡ [])
+      → to_come rule plan h p (f ∷ below) ≡ to_come rule plan h p below
+  unfolding to_come
+  come-close h p f below e = rw (shown-none (eqb (length below) 0) (h - length below) f.left (position rule p (f ∷ below)) _ e) refl
+
+  pub tries-close : (h : ℕ) (p : Position) (f : Frame) (below : List Frame) → (f.left ≡ 0) ⊎ (moves_behind rule (position rule p (f ∷ below)) f.place ≡ [])
+      → fewest_left rule plan h p (f ∷ below) ≡ fewest_left rule plan h p below
+  unfolding fewest_left
+  tries-close h p f below e = omega (arith, fewest-none (eqb (length below) 0) (h - length below) f.left (position rule p (f ∷ below)) _ e)
+
+  pub turns-close : (h : ℕ) (p : Position) (f : Frame) (below : List Frame) → turns rule h p below < turns rule h p (f ∷ below)
+  unfolding turns
+  turns-close h p f below = omega arith
+
+  pub open-close : (p : Position) (f : Frame) (below : List Frame) → (f.left ≡ 0) ⊎ (moves_behind rule (position rule p (f ∷ below)) f.place ≡ [])
+      → to_open rule p (f ∷ below) ≡ to_open rule p below
+  unfolding to_open
+  open-close p f below e = omega (arith, walk_behind-none f.left (position rule p (f ∷ below)) f.place e)
+
+  -- moves passed over that don't mate at the last half-move, by a side that seeks mate
+  module _ (h : ℕ) (p : Position) (f : Frame) (below : List Frame) (rest : List Triple)
+      (g : GoesTo rule plan f.left (position rule p (f ∷ below)) f.place rest) where
+    abbrev P : Position
+    P = position rule p (f ∷ below)
+
+    abbrev deepest : Bool
+    deepest = eqb (length below) 0
+
+    abbrev room : ℕ
+    room = h - length below
+
+    abbrev later : List Frame
+    later = moved f g.mid ∷ below
+
+    ends : (low : Bool) (fuel k : ℕ) (m : Triple) (q : Position) (qs ms : List Triple)
+        → map (λ line. m ∷ line) (shown plan (chess plan.goal rule) false k 0 q qs) ++ shown plan (chess plan.goal rule) low (suc fuel) 1 P ms ≡ shown plan
+        (chess plan.goal rule) low (suc fuel) 1 P ms
+    unfolding shown
+    ends low fuel zero m q qs ms = refl
+    ends low fuel (suc k) m q qs ms = refl
+
+    gives-last : (q : Position) → is_help plan.form ≡ true → plan.goal ≡ Mate → is_goal rule q ≡ false → gives plan (chess plan.goal rule) 0 q ≡ false
+    unfolding gives
+    gives-last q a for misses = rw (a, for, misses) refl
+
+    -- in direct play a move that doesn't mate isn't followed, and tries nothing
+    seeks-one : (a b : Bool) → (a || b) ≡ true → a ≡ false → b ≡ true
+    seeks-one true b e n = absurd cc
+    seeks-one false b e n = e
+
+    follows-last : (low : Bool) (q : Position) → is_help plan.form ≡ false → seeks (battle_of plan.form) 1 ≡ true → plan.goal ≡ Mate → is_goal rule q ≡ false
+        → follows plan (chess plan.goal rule) low 0 q ≡ false
+    unfolding follows value
+    follows-last true q a white for misses = rw (a, for, misses) refl
+    follows-last false q a white for misses = rw (a, white, for, misses) refl
+
+    fewest_for-last : (low : Bool) (q : Position) → is_help plan.form ≡ false → seeks (battle_of plan.form) 1 ≡ true
+        → fewest_for plan (chess plan.goal rule) low 0 q ≡ 0
+    unfolding smallest_tree
+    fewest_for-last true q a white = rw a refl
+    fewest_for-last false q a white = rw (a, white) refl
+
+    skipped : (low : Bool) (fuel : ℕ) → seeks_last plan ≡ true → plan.goal ≡ Mate → (m : Triple) (ms : List Triple) → is_mating rule P m ≡ false
+        → shown plan (chess plan.goal rule) low fuel 1 P (m ∷ ms) ≡ shown plan (chess plan.goal rule) low fuel 1 P ms
+    unfolding shown
+    skipped low zero last for m ms misses = refl
+    skipped low (suc fuel) last for m ms misses =
+        let q = played rule P m in
+        shown-next low fuel 0 P m ms ∙ (elim (cases (is_help plan.form)) [
+          | inl a ↦ rw (follows-last low q a (seeks-one _ _ last a) for misses) refl
+          | inr a ↦ rw (follows-help plan (chess plan.goal rule) low 0 q a, gives-last q a for misses, goes_on-help plan (chess plan.goal rule) 0 q a)
+              (ends low fuel fuel m q (legal_moves rule q) ms)
+        ])
+
+    fewest-skipped : (low : Bool) (fuel : ℕ) → seeks_last plan ≡ true → plan.goal ≡ Mate → is_help plan.form ≡ false
+        → (m : Triple) (ms : List Triple) → is_mating rule P m ≡ false
+        → fewest_walked plan (chess plan.goal rule) low fuel 1 P (m ∷ ms) ≡ fewest_walked plan (chess plan.goal rule) low fuel 1 P ms
+    unfolding fewest_walked
+    fewest-skipped low zero last for a m ms misses = refl
+    fewest-skipped low (suc fuel) last for a m ms misses =
+        let q = played rule P m in
+        let white = seeks-one _ _ last a in
+        fewest-next low fuel 0 P m ms ∙ (rw (fewest_for-last low q a white, follows-last low q a white for misses) (omega arith))
+
+    come-skip : to_come rule plan h p (f ∷ below) ≡ to_come rule plan h p later
+    unfolding to_come position path
+    come-skip = elim g.none [
+      | inl e ↦ rw (g.passed, e) refl
+      | inr e ↦
+          let s = passed-over (shown plan (chess plan.goal rule) deepest room 1 P) (is_mating rule P)
+          (skipped deepest room e.0 e.1) g.over (moves_behind rule P g.mid) e.3 in
+          rw (g.passed, e.2, s) refl
+    ]
+
+    fewer : (k : ℕ) → steps_behind rule k P g.mid ≤ steps_behind rule k P f.place
+    unfolding steps_behind
+    fewer zero = omega arith
+    fewer (suc k) =
+        let s = sum_by-append (λ m. 1 + steps rule k (played rule P m)) g.over (moves_behind rule P g.mid) in
+        rw g.passed (omega (arith, s))
+
+    turns-skip : turns rule h p later ≤ turns rule h p (f ∷ below)
+    unfolding turns position
+    turns-skip = let s = fewer (h - length below) in omega (arith, s)
+
+    same : (k : ℕ) → moves_behind rule P f.place ≡ moves_behind rule P g.mid → walk_behind rule k P f.place ≡ walk_behind rule k P g.mid
+    unfolding walk_behind
+    same zero e = refl
+    same (suc k) e = rw e refl
+
+    none_of : (ms : List Triple) → sum_by (λ m. walk_count (legal_moves rule) (played rule) 0 (played rule P m)) ms ≡ 0
+    unfolding walk_count
+    none_of [] = refl
+    none_of (m ∷ ms) = sum_by-cons (λ m. walk_count (legal_moves rule) (played rule) 0 (played rule P m)) m ms ∙ omega (arith, none_of ms)
+
+    nothing : (k place : ℕ) → k ≡ 1 → walk_behind rule k P place ≡ 0
+    unfolding walk_behind
+    nothing zero place e = cc
+    nothing (suc zero) place e = none_of (moves_behind rule P place)
+    nothing (suc (suc k)) place e = absurd (omega (arith, e))
+
+    open-skip : to_open rule p (f ∷ below) ≡ to_open rule p later
+    unfolding to_open position
+    open-skip = elim g.none [
+      | inl e ↦ let s : walk_behind rule f.left P f.place ≡ walk_behind rule f.left P g.mid = same f.left
+          (g.passed ∙ ap (λ l. l ++ moves_behind rule P g.mid) e) in omega (arith, s)
+      | inr e ↦ omega (arith, nothing f.left f.place e.2, nothing f.left g.mid e.2)
+    ]
+
+    tries-skip : is_help plan.form ≡ false → fewest_left rule plan h p (f ∷ below) ≡ fewest_left rule plan h p later
+    unfolding fewest_left position
+    tries-skip a = elim g.none [
+      | inl e ↦ rw (g.passed, e) refl
+      | inr e ↦
+          let s = passed-over (fewest_walked plan (chess plan.goal rule) deepest room 1 P) (is_mating rule P)
+          (fewest-skipped deepest room e.0 e.1 a) g.over (moves_behind rule P g.mid) e.3 in
+          rw (g.passed, e.2, s) refl
+    ]
+
+    pub steps-skip : (new : List Frame) (board : Position) (before after : ℕ) (given : Bool) → Steps rule plan h p later new board before after given
+        → Steps rule plan h p (f ∷ below) new board before after given
+    unfolding IsWhites
+    steps-skip new board before after given s = record {
+      walking = s.walking;
+      come = come-skip ∙ s.come;
+      deep = s.deep;
+      ended = s.ended;
+      falls = omega (arith, s.falls, turns-skip);
+      opens = record {
+        whites = λ a b w. s.opens.whites a b w;
+        most = λ a b w. omega (arith, s.opens.most a b w, open-skip);
+        helped = λ a. omega (arith, s.opens.helped a, open-skip);
+        counted = λ a walk c. s.opens.counted a walk (let T : ℕ → Type 0 = λ n. IsCounted walk before n in subst T open-skip c);
+      };
+      tries = record { grows = s.tries.grows; fewest = λ a. omega (arith, s.tries.fewest a, tries-skip a) };
+    }
