@@ -1,7 +1,6 @@
 -- How many half-moves a line goes on below a move, and what is reached where it ends.
 use Rattle.pop_solve.specs.declared.aim.Battle.{Battle}
-use Rattle.pop_solve.specs.declared.aim.Battle.TheVariants.{Direct, Selfmate}
-use Rattle.std.proofs.Common.{◌≡◌, ℕ, zero, suc, ◌+◌, ◌-◌, ◌*◌, ◌/◌, ◌%◌, ◌<◌, ◌≤◌, Bool, true, false, not, ◌&&◌, ◌||◌, eqb, cond, refl, arith, ◌⊎◌, inl, inr}
+use Rattle.std.proofs.Common.{rules, ◌≡◌, ℕ, zero, suc, ◌+◌, ◌-◌, ◌*◌, ◌/◌, ◌%◌, ◌<◌, ◌≤◌, Bool, true, false, not, ◌&&◌, ◌||◌, eqb, cond, refl, arith, ◌⊎◌}
 use Rattle.std.proofs.lemmas.Bool.Decides.{nat_tests}
 use Rattle.pop_solve.specs.Game.{Game}
 use Rattle.pop_solve.specs.ties.Values.{seeks, value}
@@ -12,8 +11,7 @@ use Rattle.pop_input.specs.Stipulations.{is_help}
 use Rattle.pop_solve.specs.Aims.{battle_of}
 
 pub cases : (b : Bool) → (b ≡ false) ⊎ (b ≡ true)
-cases false = inl refl
-cases true = inr refl
+cases b = search rules
 
 pub no_zero : (k : ℕ) → eqb (suc k) 0 ≡ false
 no_zero k = grind (arith, nat_tests)
@@ -38,11 +36,7 @@ module _ {P M : Type 0} (game : Game P M) where
 
   pub length_most : (battle : Battle) (t : ℕ) (q : P) (z s goal : Bool) → eqb t 0 ≡ z → seeks battle t ≡ s
       → cond (z || goal) 0 (cond s (first_from battle game q ((t - fewest battle) / 2) (fewest battle)) t) ≤ t
-  length_most battle t q true s goal e u = omega arith
-  length_most battle t q false s true e u = omega arith
-  length_most battle t q false false false e u = omega arith
-  length_most Selfmate t q false true false e u = let two = even_two t u e in first_from-most Selfmate q ((t - 2) / 2) 2 t (omega (arith, two))
-  length_most Direct t q false true false e u = let one = some_one t e in first_from-most Direct q ((t - 1) / 2) 1 t (omega (arith, one))
+  length_most battle t q z s goal e u = search (rules, even_two, first_from-most, some_one)
 
   open_length-most : (battle : Battle) (t : ℕ) (q : P) → open_length battle game t q ≤ t
   unfolding open_length
@@ -50,12 +44,7 @@ module _ {P M : Type 0} (game : Game P M) where
 
   pub goes_on-most : (plan : Plan) (t : ℕ) (q : P) → goes_on plan game t q ≤ t
   unfolding goes_on
-  goes_on-most plan t q = most (is_help plan.form) (not (varies plan) && seeks (battle_of plan.form) (t + 1)) _ (open_length-most (battle_of plan.form) t q)
-    where
-      most : (help keys : Bool) (n : ℕ) → n ≤ t → cond help t (cond keys 0 n) ≤ t
-      most true keys n e = omega arith
-      most false true n e = omega arith
-      most false false n e = e
+  goes_on-most plan t q = search (rules, open_length-most)
 
 module _ {P M : Type 0} (game : Game P M) where
   -- a line goes on with no half-move only where none is left or the goal is reached
@@ -69,43 +58,29 @@ module _ {P M : Type 0} (game : Game P M) where
       ]
 
   fewest-some : (battle : Battle) → 0 < fewest battle
-  fewest-some Direct = omega arith
-  fewest-some Selfmate = omega arith
+  fewest-some battle = search rules
 
   length_none : (battle : Battle) (t n : ℕ) (q : P) (z s goal : Bool) → eqb t 0 ≡ z
       → cond (z || goal) 0 (cond s (first_from battle game q n (fewest battle)) t) ≡ 0 → (t ≡ 0) ⊎ (goal ≡ true)
-  length_none battle t n q true s goal e l = inl (grind (arith, nat_tests, e))
-  length_none battle t n q false s true e l = inr refl
-  length_none battle t n q false true false e l = absurd (omega (arith, l, first_from-some battle q n (fewest battle) (fewest-some battle)))
-  length_none battle t n q false false false e l = inl l
+  length_none battle t n q z s goal e l = search (rules, fewest-some, first_from-some, nat_tests)
 
   goes_on-none : (plan : Plan) (t : ℕ) (q : P) → is_help plan.form ≡ false → varies plan ≡ true → goes_on plan game t q ≡ 0
       → (t ≡ 0) ⊎ (game.goal q ≡ true)
   unfolding goes_on open_length
-  goes_on-none plan t q a shown l = length_none (battle_of plan.form) t _ q _ _ (game.goal q) refl (rw (a, shown) at l)
+  goes_on-none plan t q a shown l = search (rules, length_none)
 
   followed-last : (plan : Plan) (root : Bool) (q : P) → is_help plan.form ≡ false → seeks (battle_of plan.form) 1 ≡ true
       → follows plan game root 0 q ≡ true → game.goal q ≡ true
   unfolding follows value
-  followed-last plan true q a white f = rw a at f
-  followed-last plan false q a white f = rw (a, white) at f
+  followed-last plan root q a white f = search rules
 
   parts : (a b c d : Bool) → (a && (b && (not c && d))) ≡ true → (a ≡ true) × (b ≡ true) × (c ≡ false) × (d ≡ true)
-  parts true true false true e = (refl, refl, refl, refl)
-  parts true true false false e = absurd cc
-  parts true true true d e = absurd cc
-  parts true false c d e = absurd cc
-  parts false b c d e = absurd cc
+  parts a b c d e = search rules
 
   -- where a variation ends that is followed, the goal is reached
   pub ended-reached : (plan : Plan) (root : Bool) (t : ℕ) (q : P) → follows plan game root t q ≡ true
       → ends_variation plan (goes_on plan game t q) ≡ true → game.goal q ≡ true
-  ended-reached plan root t q f e =
-      let x = parts (eqb (goes_on plan game t q) 0) (varies plan) (is_help plan.form) (seeks (battle_of plan.form) 1) e in
-      elim (goes_on-none plan t q x.2 x.1 (grind (arith, nat_tests, x.0))) [
-        | inl last ↦ followed-last plan root q x.2 x.3 (rw last at f)
-        | inr reached ↦ reached
-      ]
+  ended-reached plan root t q f e = search (rules, followed-last, goes_on-none, nat_tests, parts)
 
 pub goes_on-help : {P M : Type 0} (plan : Plan) (game : Game P M) (t : ℕ) (q : P) → is_help plan.form ≡ true → goes_on plan game t q ≡ t
 unfolding goes_on

@@ -2,7 +2,7 @@
 use Rattle.pop_solve.specs.declared.aim.Battle.{Battle}
 use Rattle.chess_rules.specs.Play.{after as played}
 use Rattle.chess_rules.specs.Legal.{moves as legal_moves}
-use Rattle.std.proofs.Common.{◌≡◌, ℕ, zero, suc, ◌+◌, ◌-◌, ◌<◌, ◌≤◌, ◌^◌, min, Bool, true, false, ◌&&◌, ◌||◌, eqb, List, [], ◌∷◌, length, Option, IfSome, refl, sym, ◌∙◌, ap, arith, subst, ◌⊎◌, inl, inr}
+use Rattle.std.proofs.Common.{rules, ◌≡◌, ℕ, suc, ◌+◌, ◌-◌, ◌<◌, ◌≤◌, ◌^◌, min, Bool, true, false, eqb, List, [], ◌∷◌, length, Option, IfSome, refl, ◌∙◌, ap, arith, subst, ◌⊎◌, inl, inr}
 use Rattle.chess_core.specs.Position.{Position}
 use Rattle.chess_core.specs.Triple.{Triple}
 use Rattle.chess_rules.proofs.listing_moves.Calls.{pseudo-from_legal}
@@ -32,20 +32,18 @@ module _ (rule : RuleSet) (plan : Plan) where
   -- what the place of the top frame leaves as it is
   IsLinked-moved : (p : Position) (f : Frame) (place : ℕ) (below : List Frame) → IsLinked rule p (f ∷ below) → IsLinked rule p (moved f place ∷ below)
   unfolding IsLinked
-  IsLinked-moved p f place [] l = tt
-  IsLinked-moved p f place (g ∷ below) l = l
+  IsLinked-moved p f place below l = search rules
 
   position-moved : (p : Position) (f : Frame) (place : ℕ) (below : List Frame) → position rule p (moved f place ∷ below) ≡ position rule p (f ∷ below)
   unfolding position
-  position-moved p f place [] = refl
-  position-moved p f place (g ∷ below) = refl
+  position-moved p f place below = search rules
 
 -- what undoes the top frame
 module _ (rule : RuleSet) (h : ℕ) (p : Position) where
   CameFrom-top : (f g : Frame) (below : List Frame) (board : Position) → IsWalking rule h p (f ∷ (g ∷ below)) board
       → CameFromAt rule f board (position rule p (g ∷ below))
   unfolding IsLinked position
-  CameFrom-top f g below board r = record { sound = r.linked.0; legal = r.linked.1; led = r.board_at; undone = r.linked.2 }
+  CameFrom-top f g below board r = search rules
 
   pub CameFrom-deep : (f : Frame) (below : List Frame) (board : Position) → IsWalking rule h p (f ∷ below) board → 0 < length below → CameFrom rule f board
   CameFrom-deep f [] board r deep = absurd (omega (arith, deep))
@@ -54,11 +52,7 @@ module _ (rule : RuleSet) (h : ℕ) (p : Position) where
   pub walking-close : (f : Frame) (below : List Frame) (board after : Position) → IsWalking rule h p (f ∷ below) board → (length below ≡ 0 → after ≡ board)
       → ((q : Position) → 0 < length below → CameFromAt rule f board q → after ≡ q) → IsWalking rule h p below after
   unfolding IsLinked IsRoomy AreKnown position
-  walking-close f [] board after r lowest before =
-      record { linked = tt; roomy = tt; known = tt; sound = rw (lowest refl) r.sound; board_at = lowest refl ∙ r.board_at }
-  walking-close f (g ∷ below) board after r lowest before =
-      let back = before _ (omega arith) (CameFrom-top f g below board r) in
-      record { linked = r.linked.3; roomy = r.roomy.1; known = r.known.1; sound = rw back r.linked.0; board_at = back }
+  walking-close f below board after r lowest before = search (rules, CameFrom-top)
 
   pub top_room : (f : Frame) (below : List Frame) (board : Position) → IsWalking rule h p (f ∷ below) board → f.left + length below ≤ h
   unfolding IsRoomy
@@ -66,28 +60,18 @@ module _ (rule : RuleSet) (h : ℕ) (p : Position) where
 
   known-moved : (f : Frame) (place : ℕ) (below : List Frame) → AreKnown rule p (f ∷ below) → AreKnown rule p (moved f place ∷ below)
   unfolding AreKnown position
-  known-moved f place [] k = k
-  known-moved f place (g ∷ below) k = k
+  known-moved f place below k = search rules
 
   -- the top frame learns something of its position
   pub walking-learned : (f : Frame) (known : Option LegalPlace) (below : List Frame) (board : Position) → IsWalking rule h p (f ∷ below) board
       → IfSome known (IsPlaceIn rule board) → IsWalking rule h p (learned f known ∷ below) board
   unfolding IsLinked IsRoomy AreKnown position
-  walking-learned f known [] board r w = record { linked = tt; roomy = r.roomy; known = (rw (← r.board_at) w, tt); sound = r.sound; board_at = r.board_at }
-  walking-learned f known (g ∷ below) board r w =
-      record { linked = r.linked; roomy = r.roomy; known = (rw (← r.board_at) w, r.known.1); sound = r.sound; board_at = r.board_at }
+  walking-learned f known below board r w = search rules
 
   walking-moved : (plan : Plan) (f : Frame) (next : ℕ) (below : List Frame) (board after : Position) → IsWalking rule h p (f ∷ below) board → after ≡ board
       → IsWalking rule h p (moved f next ∷ below) after
   unfolding IsRoomy
-  walking-moved plan f next below board after r e =
-      record {
-        linked = IsLinked-moved rule plan p f next below r.linked;
-        roomy = r.roomy;
-        known = known-moved f next below r.known;
-        sound = rw e r.sound;
-        board_at = e ∙ r.board_at ∙ sym (position-moved rule plan p f next below);
-      }
+  walking-moved plan f next below board after r e = search (rules, IsLinked-moved, known-moved, position-moved)
 
   walking-enter : (plan : Plan) (f : Frame) (next : ℕ) (m : Triple) (tried : ℕ) (below : List Frame) (board after : Position)
       → IsWalking rule h p (f ∷ below) board → tried < f.left → legal rule board m ≡ true → after ≡ played rule board m
@@ -107,22 +91,11 @@ module _ (rule : RuleSet) (h : ℕ) (p : Position) where
 -- where keys alone are shown
 whites-cut : (battle : Battle) (f : Frame) (below : List Frame) → IsWhites battle (f ∷ below) ≡ true → IsWhites battle below ≡ true
 unfolding IsWhites
-whites-cut battle f below e = second (eqb f.left 0 || seeks battle f.left) _ e
-  where
-    second : (a b : Bool) → (a && b) ≡ true → b ≡ true
-    second true b e = e
-    second false b e = absurd cc
+whites-cut battle f below e = search rules
 
 whites-top : (battle : Battle) (f : Frame) (below : List Frame) (t : ℕ) → f.left ≡ suc t → IsWhites battle (f ∷ below) ≡ true → seeks battle (t + 1) ≡ true
 unfolding IsWhites
-whites-top battle f below t left e =
-    let n : t + 1 ≡ f.left = omega (arith, left) in
-    rw n (first (eqb f.left 0) (seeks battle f.left) _ (rw left (no_zero t)) e)
-  where
-    first : (z s b : Bool) → z ≡ false → ((z || s) && b) ≡ true → s ≡ true
-    first true s b n e = absurd cc
-    first false true b n e = refl
-    first false false b n e = absurd cc
+whites-top battle f below t left e = search (rules, no_zero)
 
 whites-moved : (battle : Battle) (f : Frame) (place : ℕ) (below : List Frame) → IsWhites battle (f ∷ below) ≡ true
     → IsWhites battle (moved f place ∷ below) ≡ true
@@ -136,17 +109,11 @@ whites-none battle m undo tried below z e = rw z e
 
 pub counted_by : (rule : RuleSet) (plan : Plan) (t walk opened opened2 before after : ℕ) → before ≡ one rule plan t + after
     → (0 < t → opened2 ≡ min (opened + 1) (2 ^ 64 - 1)) → (t ≡ 0 → opened2 ≡ opened) → IsCounted walk opened before → IsCounted walk opened2 after
-counted_by rule plan zero walk opened opened2 before after e more same c =
-    let s : opened2 ≡ opened = same refl in
-    record { within = omega (arith, c.within); counts = omega (arith, c.within, c.counts) }
-counted_by rule plan (suc k) walk opened opened2 before after e more same c =
-    let s : opened2 ≡ min (opened + 1) (2 ^ 64 - 1) = more (omega arith) in
-    record { within = omega (arith, c.within); counts = omega (arith, c.within, c.counts) }
+counted_by rule plan t walk opened opened2 before after e more same c = search rules
 
 pub opened-most : (rule : RuleSet) (plan : Plan) (t opened opened2 : ℕ) → (0 < t → opened2 ≡ min (opened + 1) (2 ^ 64 - 1)) → (t ≡ 0 → opened2 ≡ opened)
     → opened2 ≤ opened + one rule plan t
-opened-most rule plan zero opened opened2 more same = let s : opened2 ≡ opened = same refl in omega (arith, s)
-opened-most rule plan (suc t) opened opened2 more same = let s : opened2 ≡ min (opened + 1) (2 ^ 64 - 1) = more (omega arith) in omega (arith, s)
+opened-most rule plan t opened opened2 more same = search rules
 
 -- the outcomes of a step, for frames listed from the top down
 module _ (rule : RuleSet) (plan : Plan) (h : ℕ) (p : Position) (f : Frame) (below : List Frame) (board : Position)
@@ -323,23 +290,4 @@ pub steps-learned : (rule : RuleSet) (plan : Plan) (h : ℕ) (p : Position) (f :
     (after : Position) (opened opened2 : ℕ) (given : Bool) → Steps rule plan h p (learned f known ∷ below) new after opened opened2 given
     → Steps rule plan h p (f ∷ below) new after opened opened2 given
 unfolding to_come path position turns to_open fewest_left IsWhites
-steps-learned rule plan h p f known [] new after opened opened2 given s =
-    record {
-      walking = s.walking;
-      come = s.come;
-      deep = s.deep;
-      ended = s.ended;
-      falls = s.falls;
-      opens = record { whites = s.opens.whites; most = s.opens.most; helped = s.opens.helped; counted = s.opens.counted };
-      tries = record { grows = s.tries.grows; fewest = s.tries.fewest };
-    }
-steps-learned rule plan h p f known (g ∷ below) new after opened opened2 given s =
-    record {
-      walking = s.walking;
-      come = s.come;
-      deep = s.deep;
-      ended = s.ended;
-      falls = s.falls;
-      opens = record { whites = s.opens.whites; most = s.opens.most; helped = s.opens.helped; counted = s.opens.counted };
-      tries = record { grows = s.tries.grows; fewest = s.tries.fewest };
-    }
+steps-learned rule plan h p f known below new after opened opened2 given s = search rules

@@ -2,7 +2,7 @@
 use Rattle.pop_input.specs.declared.stipulation.Goal.TheVariants.{Mate}
 use Rattle.chess_rules.specs.Play.{after as played}
 use Rattle.chess_rules.specs.Legal.{moves as legal_moves}
-use Rattle.std.proofs.Common.{◌≡◌, ℕ, zero, suc, ◌+◌, ◌-◌, ◌<◌, ◌≤◌, Bool, true, false, ◌||◌, eqb, cond, List, [], ◌∷◌, ◌++◌, length, filter, map, refl, sym, ◌∙◌, ap, append_assoc, arith, subst, ◌⊎◌, inl, inr}
+use Rattle.std.proofs.Common.{rules, ◌≡◌, ℕ, zero, suc, ◌+◌, ◌-◌, ◌<◌, ◌≤◌, Bool, true, false, ◌||◌, eqb, cond, List, [], ◌∷◌, ◌++◌, length, filter, map, refl, sym, ◌∙◌, append_assoc, arith, ◌⊎◌, inl, inr}
 use Rattle.std.proofs.lemmas.List.{map-append}
 use Rattle.std.proofs.lemmas.Bool.{cond-true, cond-false}
 use Rattle.std.proofs.lemmas.List.Sums.{sum_by-append, sum_by-cons}
@@ -18,7 +18,7 @@ use Rattle.pop_solve.proofs.Boards.{behind_start}
 use Rattle.pop_solve.specs.ties.Counts.{smallest_tree, walk_count}
 use Rattle.pop_solve.specs.ties.Values.{seeks, value}
 use Rattle.pop_solve.specs.ties.Frames.{Frame, position, opened, steps, steps_behind, walk_behind, to_open}
-use Rattle.pop_solve.specs.ties.Walk.{follows, gives, goes_on, shown, path, GoesTo, to_come, turns, IsCounted, IsWhites, seeks_last, Steps, fewest_for, fewest_left, fewest_walked}
+use Rattle.pop_solve.specs.ties.Walk.{follows, gives, goes_on, shown, path, GoesTo, to_come, turns, IsWhites, seeks_last, Steps, fewest_for, fewest_left, fewest_walked}
 use Rattle.pop_solve.specs.declared.plan.Plan.{Plan}
 use Rattle.pop_solve.proofs.Tests.{moved}
 use Rattle.pop_input.specs.Stipulations.{is_help}
@@ -47,12 +47,7 @@ map-path L m (x ∷ xs) = rw (append_assoc L (m ∷ []) x, map-path L m xs)
 turn : (b : Bool) (L : List Triple) (m : Triple) (xs ys rest : List (List Triple))
     → map (λ line. L ++ line) ((given_path b (m ∷ []) ++ map (λ line. m ∷ line) xs) ++ ys) ++ rest ≡ given_path b (L ++ m ∷ [])
     ++ (map (λ line. (L ++ m ∷ []) ++ line) xs ++ (map (λ line. L ++ line) ys ++ rest))
-turn true L m xs ys rest =
-    rw (map-append (λ line. L ++ line) (map (λ line. m ∷ line) xs) ys, map-path L m xs)
-    (ap (λ zs. (L ++ m ∷ []) ∷ zs) (append_assoc (map (λ line. (L ++ m ∷ []) ++ line) xs) (map (λ line. L ++ line) ys) rest))
-turn false L m xs ys rest =
-    rw (map-append (λ line. L ++ line) (map (λ line. m ∷ line) xs) ys, map-path L m xs)
-    (append_assoc (map (λ line. (L ++ m ∷ []) ++ line) xs) (map (λ line. L ++ line) ys) rest)
+turn b L m xs ys rest = search (rules, append_assoc, map-append, map-path)
 
 module _ (rule : RuleSet) (plan : Plan) where
   -- the paths by the next move, and by the others
@@ -66,10 +61,7 @@ module _ (rule : RuleSet) (plan : Plan) where
 
   shown-none : (root : Bool) (k left : ℕ) (P : Position) (ms : List Triple) → (left ≡ 0) ⊎ (ms ≡ []) → shown plan (chess plan.goal rule) root k left P ms ≡ []
   unfolding shown
-  shown-none root zero left P ms e = refl
-  shown-none root (suc k) zero P ms e = refl
-  shown-none root (suc k) (suc t) P ms (inl e) = cc
-  shown-none root (suc k) (suc t) P ms (inr e) = rw e refl
+  shown-none root k left P ms e = search rules
 
   -- the positions to be tried for the next move, and for the others
   fewest-next : (root : Bool) (k t : ℕ) (P : Position) (m : Triple) (ms : List Triple)
@@ -79,24 +71,16 @@ module _ (rule : RuleSet) (plan : Plan) where
       (legal_moves rule (played rule P m))) 0)
       + fewest_walked plan (chess plan.goal rule) root (suc k) (suc t) P ms
   unfolding fewest_walked
-  fewest-next root k t P m ms =
-      sum_by-cons (λ m. let q = played rule P m in
-      fewest_for plan (chess plan.goal rule) root t q
-      + cond (follows plan (chess plan.goal rule) root t q)
-      (fewest_walked plan (chess plan.goal rule) false k (goes_on plan (chess plan.goal rule) t q) q (legal_moves rule q)) 0) m ms
+  fewest-next root k t P m ms = search (rules, sum_by-cons)
 
   fewest-none : (root : Bool) (k left : ℕ) (P : Position) (ms : List Triple) → (left ≡ 0) ⊎ (ms ≡ [])
       → fewest_walked plan (chess plan.goal rule) root k left P ms ≡ 0
   unfolding fewest_walked
-  fewest-none root zero left P ms e = refl
-  fewest-none root (suc k) zero P ms e = refl
-  fewest-none root (suc k) (suc t) P ms (inl e) = cc
-  fewest-none root (suc k) (suc t) P ms (inr e) = rw e refl
+  fewest-none root k left P ms e = search rules
 
   steps-start : (k : ℕ) (q : Position) → steps rule k q ≡ 1 + steps_behind rule k q 0
   unfolding steps steps_behind
-  steps-start zero q = refl
-  steps-start (suc k) q = rw (behind_start rule q) refl
+  steps-start k q = search (rules, behind_start)
 
   steps_behind-next : (k : ℕ) (P : Position) (place next : ℕ) (m : Triple) → moves_behind rule P place ≡ m ∷ moves_behind rule P next
       → steps_behind rule (suc k) P place ≡ (1 + steps rule k (played rule P m)) + steps_behind rule (suc k) P next
@@ -110,9 +94,7 @@ module _ (rule : RuleSet) (plan : Plan) where
 
   pub walk_behind-none : (k : ℕ) (P : Position) (place : ℕ) → (k ≡ 0) ⊎ (moves_behind rule P place ≡ []) → walk_behind rule k P place ≡ 0
   unfolding walk_behind
-  walk_behind-none zero P place e = refl
-  walk_behind-none (suc k) P place (inl e) = cc
-  walk_behind-none (suc k) P place (inr e) = rw e refl
+  walk_behind-none k P place e = search rules
 
   -- a frame counts where it has half-moves below it
   abbrev pub one : ℕ → ℕ
@@ -121,8 +103,7 @@ module _ (rule : RuleSet) (plan : Plan) where
 
   pub walk_count-start : (k : ℕ) (q : Position) → walk_count (legal_moves rule) (played rule) k q ≡ one k + walk_behind rule k q 0
   unfolding walk_count walk_behind
-  walk_count-start zero q = refl
-  walk_count-start (suc k) q = rw (behind_start rule q) refl
+  walk_count-start k q = search (rules, behind_start)
 
   module _ (h : ℕ) (p : Position) (f : Frame) (next : ℕ) (m : Triple) (below : List Frame) (k t : ℕ) (fuel : h - length below ≡ suc k)
       (left : f.left ≡ suc t) (e : moves_behind rule (position rule p (f ∷ below)) f.place ≡ m ∷ moves_behind rule (position rule p (f ∷ below)) next) where
@@ -136,7 +117,7 @@ module _ (rule : RuleSet) (plan : Plan) where
     -- a move that is not followed is passed over
     pub come-pass : follows plan (chess plan.goal rule) root t q ≡ false → to_come rule plan h p (f ∷ below) ≡ to_come rule plan h p (moved f next ∷ below)
     unfolding to_come position path
-    come-pass b = rw (fuel, left, e, shown-next root k t (position rule p (f ∷ below)) m (moves_behind rule (position rule p (f ∷ below)) next), b) refl
+    come-pass b = search (rules, shown-next)
 
     -- a move that is followed: its path, where that is given, and what stands below it
     pub come-enter : (undo : Loss) → follows plan (chess plan.goal rule) root t q ≡ true
@@ -155,20 +136,13 @@ module _ (rule : RuleSet) (plan : Plan) where
     pub tries-pass : follows plan (chess plan.goal rule) root t q ≡ false
         → fewest_left rule plan h p (f ∷ below) ≡ fewest_for plan (chess plan.goal rule) root t q + fewest_left rule plan h p (moved f next ∷ below)
     unfolding fewest_left position
-    tries-pass b =
-        let P = position rule p (f ∷ below) in
-        let n = fewest-next root k t P m (moves_behind rule P next) in
-        rw (fuel, left, e) (omega (arith, rw b at n))
+    tries-pass b = search (rules, fewest-next)
 
     pub tries-enter : (undo : Loss) → follows plan (chess plan.goal rule) root t q ≡ true → fewest_left rule plan h p (f ∷ below)
         ≡ fewest_for plan (chess plan.goal rule) root t q + fewest_left rule plan h p
         (opened m undo (goes_on plan (chess plan.goal rule) t q) ∷ (moved f next ∷ below))
     unfolding fewest_left position
-    tries-enter undo b =
-        let less : h - suc (length below) ≡ k = omega arith in
-        let P = position rule p (f ∷ below) in
-        let n = fewest-next root k t P m (moves_behind rule P next) in
-        rw (fuel, less, left, e, behind_start rule q, no_zero (length below)) (omega (arith, rw b at n))
+    tries-enter undo b = search (rules, behind_start, fewest-next, no_zero)
 
     pub turns-pass : turns rule h p (moved f next ∷ below) < turns rule h p (f ∷ below)
     unfolding turns position
@@ -192,12 +166,12 @@ module _ (rule : RuleSet) (plan : Plan) where
   pub come-close : (h : ℕ) (p : Position) (f : Frame) (below : List Frame) → (f.left ≡ 0) ⊎ (moves_behind rule (position rule p (f ∷ below)) f.place ≡ [])
       → to_come rule plan h p (f ∷ below) ≡ to_come rule plan h p below
   unfolding to_come
-  come-close h p f below e = rw (shown-none (eqb (length below) 0) (h - length below) f.left (position rule p (f ∷ below)) _ e) refl
+  come-close h p f below e = search (rules, shown-none)
 
   pub tries-close : (h : ℕ) (p : Position) (f : Frame) (below : List Frame) → (f.left ≡ 0) ⊎ (moves_behind rule (position rule p (f ∷ below)) f.place ≡ [])
       → fewest_left rule plan h p (f ∷ below) ≡ fewest_left rule plan h p below
   unfolding fewest_left
-  tries-close h p f below e = omega (arith, fewest-none (eqb (length below) 0) (h - length below) f.left (position rule p (f ∷ below)) _ e)
+  tries-close h p f below e = search (rules, fewest-none)
 
   pub turns-close : (h : ℕ) (p : Position) (f : Frame) (below : List Frame) → turns rule h p below < turns rule h p (f ∷ below)
   unfolding turns
@@ -227,8 +201,7 @@ module _ (rule : RuleSet) (plan : Plan) where
         → map (λ line. m ∷ line) (shown plan (chess plan.goal rule) false k 0 q qs) ++ shown plan (chess plan.goal rule) low (suc fuel) 1 P ms ≡ shown plan
         (chess plan.goal rule) low (suc fuel) 1 P ms
     unfolding shown
-    ends low fuel zero m q qs ms = refl
-    ends low fuel (suc k) m q qs ms = refl
+    ends low fuel k m q qs ms = search rules
 
     gives-last : (q : Position) → is_help plan.form ≡ true → plan.goal ≡ Mate → is_goal rule q ≡ false → gives plan (chess plan.goal rule) 0 q ≡ false
     unfolding gives
@@ -236,42 +209,28 @@ module _ (rule : RuleSet) (plan : Plan) where
 
     -- in direct play a move that doesn't mate isn't followed, and tries nothing
     seeks-one : (a b : Bool) → (a || b) ≡ true → a ≡ false → b ≡ true
-    seeks-one true b e n = absurd cc
-    seeks-one false b e n = e
+    seeks-one a b e n = search rules
 
     follows-last : (low : Bool) (q : Position) → is_help plan.form ≡ false → seeks (battle_of plan.form) 1 ≡ true → plan.goal ≡ Mate → is_goal rule q ≡ false
         → follows plan (chess plan.goal rule) low 0 q ≡ false
     unfolding follows value
-    follows-last true q a white for misses = rw (a, for, misses) refl
-    follows-last false q a white for misses = rw (a, white, for, misses) refl
+    follows-last low q a white for misses = search rules
 
     fewest_for-last : (low : Bool) (q : Position) → is_help plan.form ≡ false → seeks (battle_of plan.form) 1 ≡ true
         → fewest_for plan (chess plan.goal rule) low 0 q ≡ 0
     unfolding smallest_tree
-    fewest_for-last true q a white = rw a refl
-    fewest_for-last false q a white = rw (a, white) refl
+    fewest_for-last low q a white = search rules
 
     skipped : (low : Bool) (fuel : ℕ) → seeks_last plan ≡ true → plan.goal ≡ Mate → (m : Triple) (ms : List Triple) → is_mating rule P m ≡ false
         → shown plan (chess plan.goal rule) low fuel 1 P (m ∷ ms) ≡ shown plan (chess plan.goal rule) low fuel 1 P ms
     unfolding shown
-    skipped low zero last for m ms misses = refl
-    skipped low (suc fuel) last for m ms misses =
-        let q = played rule P m in
-        shown-next low fuel 0 P m ms ∙ (elim (cases (is_help plan.form)) [
-          | inl a ↦ rw (follows-last low q a (seeks-one _ _ last a) for misses) refl
-          | inr a ↦ rw (follows-help plan (chess plan.goal rule) low 0 q a, gives-last q a for misses, goes_on-help plan (chess plan.goal rule) 0 q a)
-              (ends low fuel fuel m q (legal_moves rule q) ms)
-        ])
+    skipped low fuel last for m ms misses = search (rules, cases, ends, follows-help, follows-last, gives-last, goes_on-help, seeks-one, shown-next)
 
     fewest-skipped : (low : Bool) (fuel : ℕ) → seeks_last plan ≡ true → plan.goal ≡ Mate → is_help plan.form ≡ false
         → (m : Triple) (ms : List Triple) → is_mating rule P m ≡ false
         → fewest_walked plan (chess plan.goal rule) low fuel 1 P (m ∷ ms) ≡ fewest_walked plan (chess plan.goal rule) low fuel 1 P ms
     unfolding fewest_walked
-    fewest-skipped low zero last for a m ms misses = refl
-    fewest-skipped low (suc fuel) last for a m ms misses =
-        let q = played rule P m in
-        let white = seeks-one _ _ last a in
-        fewest-next low fuel 0 P m ms ∙ (rw (fewest_for-last low q a white, follows-last low q a white for misses) (omega arith))
+    fewest-skipped low fuel last for a m ms misses = search (rules, fewest-next, fewest_for-last, follows-last, seeks-one)
 
     come-skip : to_come rule plan h p (f ∷ below) ≡ to_come rule plan h p later
     unfolding to_come position path
@@ -285,10 +244,7 @@ module _ (rule : RuleSet) (plan : Plan) where
 
     fewer : (k : ℕ) → steps_behind rule k P g.mid ≤ steps_behind rule k P f.place
     unfolding steps_behind
-    fewer zero = omega arith
-    fewer (suc k) =
-        let s = sum_by-append (λ m. 1 + steps rule k (played rule P m)) g.over (moves_behind rule P g.mid) in
-        rw g.passed (omega (arith, s))
+    fewer k = search (rules, sum_by-append)
 
     turns-skip : turns rule h p later ≤ turns rule h p (f ∷ below)
     unfolding turns position
@@ -296,8 +252,7 @@ module _ (rule : RuleSet) (plan : Plan) where
 
     same : (k : ℕ) → moves_behind rule P f.place ≡ moves_behind rule P g.mid → walk_behind rule k P f.place ≡ walk_behind rule k P g.mid
     unfolding walk_behind
-    same zero e = refl
-    same (suc k) e = rw e refl
+    same k e = search rules
 
     none_of : (ms : List Triple) → sum_by (λ m. walk_count (legal_moves rule) (played rule) 0 (played rule P m)) ms ≡ 0
     unfolding walk_count
@@ -312,11 +267,7 @@ module _ (rule : RuleSet) (plan : Plan) where
 
     open-skip : to_open rule p (f ∷ below) ≡ to_open rule p later
     unfolding to_open position
-    open-skip = elim g.none [
-      | inl e ↦ let s : walk_behind rule f.left P f.place ≡ walk_behind rule f.left P g.mid = same f.left
-          (g.passed ∙ ap (λ l. l ++ moves_behind rule P g.mid) e) in omega (arith, s)
-      | inr e ↦ omega (arith, nothing f.left f.place e.2, nothing f.left g.mid e.2)
-    ]
+    open-skip = search (rules, nothing, same)
 
     tries-skip : is_help plan.form ≡ false → fewest_left rule plan h p (f ∷ below) ≡ fewest_left rule plan h p later
     unfolding fewest_left position
@@ -331,17 +282,4 @@ module _ (rule : RuleSet) (plan : Plan) where
     pub steps-skip : (new : List Frame) (board : Position) (before after : ℕ) (given : Bool) → Steps rule plan h p later new board before after given
         → Steps rule plan h p (f ∷ below) new board before after given
     unfolding IsWhites
-    steps-skip new board before after given s = record {
-      walking = s.walking;
-      come = come-skip ∙ s.come;
-      deep = s.deep;
-      ended = s.ended;
-      falls = omega (arith, s.falls, turns-skip);
-      opens = record {
-        whites = λ a b w. s.opens.whites a b w;
-        most = λ a b w. omega (arith, s.opens.most a b w, open-skip);
-        helped = λ a. omega (arith, s.opens.helped a, open-skip);
-        counted = λ a walk c. s.opens.counted a walk (let T : ℕ → Type 0 = λ n. IsCounted walk before n in subst T open-skip c);
-      };
-      tries = record { grows = s.tries.grows; fewest = λ a. omega (arith, s.tries.fewest a, tries-skip a) };
-    }
+    steps-skip new board before after given s = search (rules, come-skip, open-skip, tries-skip, turns-skip)

@@ -2,7 +2,7 @@
 use Rattle.pop_input.specs.declared.stipulation.Goal.TheVariants.{Mate}
 use Rattle.chess_rules.specs.Play.{after as played}
 use Rattle.chess_rules.specs.Legal.{moves as legal_moves}
-use Rattle.std.proofs.Common.{◌≡◌, ℕ, zero, suc, ◌+◌, ◌-◌, ◌<◌, ◌≤◌, ◌^◌, min, Bool, true, false, eqb, List, [], ◌∷◌, ◌++◌, length, reverse, Option, Some, None, IfSome, MatchOption, refl, sym, ◌∙◌, ap, arith, subst, ◌⊎◌, inl, inr}
+use Rattle.std.proofs.Common.{rules, ◌≡◌, ℕ, suc, ◌+◌, ◌-◌, ◌<◌, ◌≤◌, ◌^◌, min, Bool, true, false, eqb, List, [], ◌∷◌, ◌++◌, length, reverse, Option, Some, None, IfSome, MatchOption, refl, sym, ◌∙◌, ap, arith, subst, ◌⊎◌, inl, inr}
 use Rattle.std.proofs.lemmas.List.{reverse-append, length-reverse}
 use Rattle.chess_core.specs.Position.{Position}
 use Rattle.chess_core.specs.Triple.{Triple}
@@ -42,10 +42,7 @@ module _ (rule : RuleSet) (plan : Plan) (h : ℕ) (top : Frame) (old new : List 
   depth_is = length-reverse new
 
   walking_top : (p board now : Position) → IsWalking rule h p (reverse old) board → now ≡ board → IsWalking rule h p (top ∷ reverse new) now
-  walking_top p board now r e =
-      let T : List Frame → Type 0 = λ fs. IsWalking rule h p fs board in
-      let s = subst T (popped old new top taken) r in
-      record { linked = s.linked; roomy = s.roomy; known = s.known; sound = rw e s.sound; board_at = e ∙ s.board_at }
+  walking_top p board now r e = search (rules, popped)
 
   pub close_asks : (p board now : Position) (depth : ℕ) → IsWalking rule h p (reverse old) board → now ≡ board → depth ≡ length new → 0 < depth
       → CameFrom rule top now
@@ -114,7 +111,7 @@ module _ (rule : RuleSet) (plan : Plan) (h : ℕ) (top : Frame) (old new : List 
 -- a frame is closed, whatever is walked
 module _ (rule : RuleSet) (h : ℕ) (top : Frame) (old new : List Frame) (taken : old ≡ new ++ top ∷ []) where
   walking_popped : (p board : Position) → IsWalking rule h p (reverse old) board → IsWalking rule h p (top ∷ reverse new) board
-  walking_popped p board r = let T : List Frame → Type 0 = λ fs. IsWalking rule h p fs board in subst T (popped old new top taken) r
+  walking_popped p board r = search (rules, popped)
 
   pub back_asks : (p board : Position) (depth : ℕ) → IsWalking rule h p (reverse old) board → depth ≡ length new → 0 < depth → CameFrom rule top board
   back_asks p board depth r d deep = CameFrom-deep rule h p top (reverse new) board (walking_popped p board r) (omega (arith, length-reverse new, d, deep))
@@ -141,8 +138,7 @@ module _ (rule : RuleSet) (plan : Plan) (left : ℕ) (p : Position) (place next 
 
   pub next_any : (o : Option Triple) → 0 < left
       → MatchOption o (moves_behind rule p place ≡ []) (λ m. (moves_behind rule p place ≡ m ∷ moves_behind rule p next) × (legal rule p m ≡ true)) → Next o
-  next_any None some e = inr (record { mid = place; over = []; passed = refl; none = inl refl; here = e })
-  next_any (Some m) some e = (some, record { mid = place; over = []; passed = refl; none = inl refl; here = e.0 }, e.1)
+  next_any o some e = search rules
 
   append_none : (xs : List Triple) → xs ≡ xs ++ []
   append_none [] = refl
@@ -168,13 +164,11 @@ module _ (rule : RuleSet) (plan : Plan) (left : ℕ) (p : Position) (place next 
 pub value-mated : (rule : RuleSet) (plan : Plan) (left : ℕ) (q : Position) → is_for_mate plan.goal ≡ true → left + 1 ≡ 1 → is_goal rule q ≡ true
     → true ≡ value (battle_of plan.form) (chess plan.goal rule) left q
 unfolding value
-value-mated rule plan zero q for last mated = rw (for_mate plan.goal for, mated) refl
-value-mated rule plan (suc left) q for last mated = absurd (omega (arith, last))
+value-mated rule plan left q for last mated = search (rules, for_mate)
 
 pub tried-mated : (rule : RuleSet) (plan : Plan) (left count : ℕ) (q : Position) → left + 1 ≡ 1
     → HasCounted count count (smallest_tree (battle_of plan.form) (chess plan.goal rule) left q)
 unfolding smallest_tree
-tried-mated rule plan zero count q last = omega arith
-tried-mated rule plan (suc left) count q last = absurd (omega (arith, last))
+tried-mated rule plan left count q last = search rules
 
 pub ruleset mated = (value-mated, tried-mated)
