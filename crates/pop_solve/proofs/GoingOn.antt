@@ -1,6 +1,6 @@
 -- How many half-moves a line goes on below a move, and what is reached where it ends.
 use Rattle.pop_solve.specs.declared.aim.Battle.{Battle}
-use Rattle.std.proofs.Common.{rules, ◌≡◌, ℕ, zero, suc, ◌+◌, ◌-◌, ◌*◌, ◌/◌, ◌%◌, ◌<◌, ◌≤◌, Bool, true, false, not, ◌&&◌, ◌||◌, eqb, cond, refl, arith, ◌⊎◌}
+use Rattle.std.proofs.Common.{rules, ◌≡◌, ℕ, zero, suc, ◌+◌, ◌-◌, ◌*◌, ◌/◌, ◌<◌, ◌≤◌, Bool, true, false, ◌||◌, eqb, cond, refl, arith, ◌⊎◌}
 use Rattle.std.proofs.lemmas.Bool.Decides.{nat_tests}
 use Rattle.pop_solve.specs.Game.{Game}
 use Rattle.pop_solve.specs.ties.Values.{seeks, value}
@@ -21,22 +21,11 @@ module _ {P M : Type 0} (game : Game P M) where
   first_from-most : (battle : Battle) (q : P) (n a t : ℕ) → a + 2 * n ≤ t → first_from battle game q n a ≤ t
   unfolding first_from
   first_from-most battle q zero a t h = omega (arith, h)
-  first_from-most battle q (suc n) a t h = elim
-      (value battle game a q) as (λ b. cond b a (first_from battle game q n (a + 2)) ≤ t) [
-        | true ↦ omega (arith, h)
-        | false ↦ first_from-most battle q n
-            (a + 2) t (omega (arith, h))
-      ]
-
-  even_two : (t : ℕ) → eqb (t % 2) 0 ≡ true → eqb t 0 ≡ false → 2 ≤ t
-  even_two t e n = grind (arith, nat_tests)
-
-  some_one : (t : ℕ) → eqb t 0 ≡ false → 1 ≤ t
-  some_one t n = grind (arith, nat_tests)
+  first_from-most battle q (suc n) a t h = search (rules, first_from-most battle q n)
 
   pub length_most : (battle : Battle) (t : ℕ) (q : P) (z s goal : Bool) → eqb t 0 ≡ z → seeks battle t ≡ s
       → cond (z || goal) 0 (cond s (first_from battle game q ((t - fewest battle) / 2) (fewest battle)) t) ≤ t
-  length_most battle t q z s goal e u = search (rules, even_two, first_from-most, some_one)
+  length_most battle t q z s goal e u = search (rules, first_from-most, nat_tests)
 
   open_length-most : (battle : Battle) (t : ℕ) (q : P) → open_length battle game t q ≤ t
   unfolding open_length
@@ -51,18 +40,11 @@ module _ {P M : Type 0} (game : Game P M) where
   first_from-some : (battle : Battle) (q : P) (n a : ℕ) → 0 < a → 0 < first_from battle game q n a
   unfolding first_from
   first_from-some battle q zero a some = some
-  first_from-some battle q (suc n) a some = elim
-      (value battle game a q) as (λ b. 0 < cond b a (first_from battle game q n (a + 2))) [
-        | true ↦ some
-        | false ↦ first_from-some battle q n (a + 2) (omega arith)
-      ]
-
-  fewest-some : (battle : Battle) → 0 < fewest battle
-  fewest-some battle = search rules
+  first_from-some battle q (suc n) a some = search (rules, first_from-some battle q n)
 
   length_none : (battle : Battle) (t n : ℕ) (q : P) (z s goal : Bool) → eqb t 0 ≡ z
       → cond (z || goal) 0 (cond s (first_from battle game q n (fewest battle)) t) ≡ 0 → (t ≡ 0) ⊎ (goal ≡ true)
-  length_none battle t n q z s goal e l = search (rules, fewest-some, first_from-some, nat_tests)
+  length_none battle t n q z s goal e l = search (rules, first_from-some, nat_tests)
 
   goes_on-none : (plan : Plan) (t : ℕ) (q : P) → is_help plan.form ≡ false → varies plan ≡ true → goes_on plan game t q ≡ 0
       → (t ≡ 0) ⊎ (game.goal q ≡ true)
@@ -74,13 +56,10 @@ module _ {P M : Type 0} (game : Game P M) where
   unfolding follows value
   followed-last plan root q a white f = search rules
 
-  parts : (a b c d : Bool) → (a && (b && (not c && d))) ≡ true → (a ≡ true) × (b ≡ true) × (c ≡ false) × (d ≡ true)
-  parts a b c d e = search rules
-
   -- where a variation ends that is followed, the goal is reached
   pub ended-reached : (plan : Plan) (root : Bool) (t : ℕ) (q : P) → follows plan game root t q ≡ true
       → ends_variation plan (goes_on plan game t q) ≡ true → game.goal q ≡ true
-  ended-reached plan root t q f e = search (rules, followed-last, goes_on-none, nat_tests, parts)
+  ended-reached plan root t q f e = search (rules, followed-last, goes_on-none, nat_tests)
 
 pub goes_on-help : {P M : Type 0} (plan : Plan) (game : Game P M) (t : ℕ) (q : P) → is_help plan.form ≡ true → goes_on plan game t q ≡ t
 unfolding goes_on

@@ -2,7 +2,7 @@
 use Rattle.pop_solve.specs.declared.aim.Battle.{Battle}
 use Rattle.chess_rules.specs.Play.{after as played}
 use Rattle.chess_rules.specs.Legal.{moves as legal_moves}
-use Rattle.std.proofs.Common.{rules, ◌≡◌, ℕ, suc, ◌+◌, ◌-◌, ◌<◌, ◌≤◌, ◌^◌, min, Bool, true, false, eqb, List, [], ◌∷◌, length, Option, IfSome, refl, ◌∙◌, ap, arith, subst, ◌⊎◌, inl, inr}
+use Rattle.std.proofs.Common.{rules, ◌≡◌, ℕ, suc, ◌+◌, ◌-◌, ◌<◌, ◌≤◌, ◌^◌, min, Bool, true, false, eqb, List, [], ◌∷◌, length, Option, IfSome, refl, ◌∙◌, ap, arith, ◌⊎◌, inl, inr}
 use Rattle.chess_core.specs.Position.{Position}
 use Rattle.chess_core.specs.Triple.{Triple}
 use Rattle.chess_rules.proofs.listing_moves.Calls.{pseudo-from_legal}
@@ -24,9 +24,6 @@ use Rattle.pop_input.specs.Stipulations.{is_help}
 use Rattle.pop_solve.specs.Aims.{battle_of}
 use Rattle.pop_solve.proofs.GoingOn.{no_zero, goes_on-help, follows-help, goes_on-keys, goes_on-most, ended-reached}
 use Rattle.pop_solve.proofs.ToCome.{one, walk_count-start, walk_behind-none, come-pass, come-enter, tries-pass, tries-enter, turns-pass, turns-enter, open-next, open-enter, come-close, tries-close, turns-close, open-close, steps-skip}
-
-both : (b : Bool) → b ≡ true → b ≡ false → ⊥
-both b t f = cc
 
 module _ (rule : RuleSet) (plan : Plan) where
   -- what the place of the top frame leaves as it is
@@ -129,12 +126,7 @@ module _ (rule : RuleSet) (plan : Plan) (h : ℕ) (p : Position) (f : Frame) (be
         deep = λ g. absurd cc;
         ended = λ g. absurd cc;
         falls = turns-close rule plan h p f below;
-        opens = record {
-          whites = λ a b w. whites-cut (battle_of plan.form) f below w;
-          most = λ a b w. omega (arith, o);
-          helped = λ a. omega (arith, o);
-          counted = λ a walk c. (let T : ℕ → Type 0 = λ n. IsCounted walk count n in subst T o c);
-        };
+        opens = search (rules, o, whites-cut);
         tries = record { grows = omega arith; fewest = λ a. omega (arith, tries-close rule plan h p f below here) };
       }
 
@@ -164,26 +156,13 @@ module _ (rule : RuleSet) (plan : Plan) (h : ℕ) (p : Position) (f : Frame) (be
           falls = turns-pass rule plan h p f next m below _ t fuel left here;
           opens = record {
             whites = λ a c w. whites-moved (battle_of plan.form) f next below w;
-            most = λ a c w. omega (
-              arith,
-              o,
-              ap (walk_count (legal_moves rule) (played rule) t) after_here,
-              keys a c
-                  (whites-top (battle_of plan.form) f below t left w),
-            );
-            helped = λ a. absurd (both _ (follows-help plan (chess plan.goal rule) (eqb (length below) 0) t (played rule board m) a) b);
-            counted = λ a walk c. absurd (both _ (follows-help plan (chess plan.goal rule) (eqb (length below) 0) t (played rule board m) a) b);
+            most = search (rules, o, after_here, whites-top);
+            helped = search (rules, follows-help);
+            counted = search (rules, follows-help);
           };
           tries = record {
             grows = omega (arith, tried);
-            fewest = λ a. omega (
-              arith,
-              tried,
-              ap
-                  (fewest_for plan (chess plan.goal rule) (eqb (length below) 0) t) after_here,
-              tries-pass rule plan h p f next m below _ t fuel left here
-                  (rw (← after_here) b),
-            );
+            fewest = search (rules, tried, after_here, tries-pass rule plan h p f next m below _ t fuel left here);
           };
         }
 
@@ -202,6 +181,10 @@ module _ (rule : RuleSet) (plan : Plan) (h : ℕ) (p : Position) (f : Frame) (be
         let q = played rule (position rule p (f ∷ below)) m in
         let tried = goes_on plan (chess plan.goal rule) t (played rule board m) in
         let n = open-enter rule plan h p f next m below _ t fuel left here u tried in
+        let helped : is_help plan.form ≡ true → to_open rule p (f ∷ below) ≡ one rule plan t + to_open rule p (opened_frame m u tried ∷ (moved f next ∷ below)) =
+        λ a.
+        let w : walk_behind rule tried q 0 ≡ walk_behind rule t q 0 = ap (λ x. walk_behind rule x q 0) (goes_on-help plan (chess plan.goal rule) t _ a) in
+        omega (arith, o, n, w, walk_count-start rule plan t q) in
         record {
           walking = walking-enter rule h p plan f next m tried below board after r
               (omega (arith, left, goes_on-most (chess plan.goal rule) plan t (played rule board m))) lawful at;
@@ -210,29 +193,10 @@ module _ (rule : RuleSet) (plan : Plan) (h : ℕ) (p : Position) (f : Frame) (be
           ended = λ g e. rw at (ended-reached (chess plan.goal rule) plan (eqb (length below) 0) t (played rule board m) b e);
           falls = turns-enter rule plan h p f next m below _ t fuel left here u tried;
           opens = record {
-            whites = λ a c w. whites-none (battle_of plan.form) m u tried _
-                (goes_on-keys plan (chess plan.goal rule) t _ a c (whites-top (battle_of plan.form) f below t left w))
-                (whites-moved (battle_of plan.form) f next below w);
-            most = λ a c w.
-                let z : tried ≡ 0 = goes_on-keys plan (chess plan.goal rule) t _ a c (whites-top (battle_of plan.form) f below t left w) in
-                let none : walk_behind rule tried q 0 ≡ 0 = walk_behind-none rule plan tried q 0 (inl z) in
-                omega (
-                  arith,
-                  o,
-                  n,
-                  none,
-                  ap (walk_count (legal_moves rule) (played rule) t) after_here,
-                  keys a c
-                      (whites-top (battle_of plan.form) f below t left w),
-                );
-            helped = λ a.
-                let z : tried ≡ t = goes_on-help plan (chess plan.goal rule) t _ a in
-                let w : walk_behind rule tried q 0 ≡ walk_behind rule t q 0 = ap (λ x. walk_behind rule x q 0) z in
-                omega (arith, o, n, w, walk_count-start rule plan t q, opened-most rule plan t opened opened2 (more a) (same a));
-            counted = λ a walk c.
-                let z : tried ≡ t = goes_on-help plan (chess plan.goal rule) t _ a in
-                let w : walk_behind rule tried q 0 ≡ walk_behind rule t q 0 = ap (λ x. walk_behind rule x q 0) z in
-                counted_by rule plan t walk opened opened2 _ _ (omega (arith, o, n, w, walk_count-start rule plan t q)) (more a) (same a) c;
+            whites = search (rules, whites-none, goes_on-keys, whites-top, whites-moved);
+            most = search (rules, o, n, walk_behind-none, goes_on-keys, whites-top, after_here);
+            helped = λ a. omega (arith, helped a, opened-most rule plan t opened opened2 (more a) (same a));
+            counted = λ a walk c. counted_by rule plan t walk opened opened2 _ _ (helped a) (more a) (same a) c;
           };
           tries = record {
             grows = omega (arith, tried_for);
@@ -257,10 +221,6 @@ module _ (rule : RuleSet) (plan : Plan) (h : ℕ) (p : Position) (f : Frame) (be
 
   module _ (next : ℕ) (m : Triple) (t : ℕ) (left : f.left ≡ suc t)
       (g : GoesTo rule plan f.left (position rule p (f ∷ below)) f.place (m ∷ moves_behind rule (position rule p (f ∷ below)) next)) where
-    skips : (new : List Frame) (after : Position) (opened opened2 : ℕ) (given : Bool)
-        → Steps rule plan h p (moved f g.mid ∷ below) new after opened opened2 given → Steps rule plan h p (f ∷ below) new after opened opened2 given
-    skips new after opened opened2 given s = steps-skip rule plan h p f below _ g new after opened opened2 given s
-
     pub skips-pass : (after : Position) (opened opened2 : ℕ) → follows plan (chess plan.goal rule) (eqb (length below) 0) t (played rule board m) ≡ false
         → after ≡ board
         → (is_help plan.form ≡ false → varies plan ≡ false → seeks (battle_of plan.form) (t + 1) ≡ true → opened2 ≤ opened + walk_count (legal_moves rule)
@@ -268,7 +228,7 @@ module _ (rule : RuleSet) (plan : Plan) (h : ℕ) (p : Position) (f : Frame) (be
         (fewest_for plan (chess plan.goal rule) (eqb (length below) 0) t (played rule board m)) → Steps rule plan h p (f ∷ below)
         (moved f next ∷ below) after opened opened2 false
     skips-pass after opened opened2 b at keys tried =
-        skips _ after opened opened2 false
+        steps-skip rule plan h p f below _ g _ after opened opened2 false
         (steps-pass rule plan h p (moved f g.mid) below board (passed_to g.mid) next m t left (rw r.board_at g.here) after opened opened2 b at keys tried)
 
     pub skips-enter : (after : Position) (opened opened2 : ℕ) → legal rule board m ≡ true
@@ -281,7 +241,7 @@ module _ (rule : RuleSet) (plan : Plan) (h : ℕ) (p : Position) (f : Frame) (be
         (goes_on plan (chess plan.goal rule) t (played rule board m)) ∷ (moved f next ∷ below)) after opened opened2
         (gives plan (chess plan.goal rule) t (played rule board m))
     skips-enter after opened opened2 lawful b at more same keys tried =
-        skips _ after opened opened2 _
+        steps-skip rule plan h p f below _ g _ after opened opened2 _
         (steps-enter rule plan h p (moved f g.mid) below board (passed_to g.mid) next m t left
         (rw r.board_at g.here) after opened opened2 lawful b at more same keys tried)
 

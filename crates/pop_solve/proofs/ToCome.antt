@@ -2,9 +2,8 @@
 use Rattle.pop_input.specs.declared.stipulation.Goal.TheVariants.{Mate}
 use Rattle.chess_rules.specs.Play.{after as played}
 use Rattle.chess_rules.specs.Legal.{moves as legal_moves}
-use Rattle.std.proofs.Common.{rules, ◌≡◌, ℕ, zero, suc, ◌+◌, ◌-◌, ◌<◌, ◌≤◌, Bool, true, false, ◌||◌, eqb, cond, List, [], ◌∷◌, ◌++◌, length, filter, map, refl, sym, ◌∙◌, append_assoc, arith, ◌⊎◌, inl, inr}
+use Rattle.std.proofs.Common.{rules, ◌≡◌, ℕ, zero, suc, ◌+◌, ◌-◌, ◌<◌, ◌≤◌, Bool, true, false, eqb, cond, List, [], ◌∷◌, ◌++◌, length, filter, map, refl, ◌∙◌, ap, append_assoc, arith, ◌⊎◌, inl, inr}
 use Rattle.std.proofs.lemmas.List.{map-append}
-use Rattle.std.proofs.lemmas.Bool.{cond-true, cond-false}
 use Rattle.std.proofs.lemmas.List.Sums.{sum_by-append, sum_by-cons}
 use Rattle.std.specs.List.{sum_by}
 use Rattle.chess_core.specs.Position.{Position}
@@ -29,10 +28,7 @@ use Rattle.pop_solve.proofs.GoingOn.{cases, no_zero, goes_on-help, follows-help}
 passed-over : {A : Type 0} (f : List Triple → A) (test : Triple → Bool) → ((m : Triple) (ms : List Triple) → test m ≡ false → f (m ∷ ms) ≡ f ms)
     → (over ms : List Triple) → filter test over ≡ [] → f (over ++ ms) ≡ f ms
 passed-over f test skip [] ms none = refl
-passed-over f test skip (m ∷ over) ms none = elim (cases (test m)) [
-  | inl fails ↦ skip m (over ++ ms) fails ∙ passed-over f test skip over ms (sym (cond-false (test m) _ _ fails) ∙ none)
-  | inr passes ↦ absurd (let bad : m ∷ filter test over ≡ [] = sym (cond-true (test m) _ _ passes) ∙ none in cc)
-]
+passed-over f test skip (m ∷ over) ms none = search (rules, cases (test m), skip m (over ++ ms), passed-over f test skip over ms)
 
 -- a path, where it is given
 abbrev pub given_path : Bool → List Triple → List (List Triple)
@@ -208,9 +204,6 @@ module _ (rule : RuleSet) (plan : Plan) where
     gives-last q a for misses = rw (a, for, misses) refl
 
     -- in direct play a move that doesn't mate isn't followed, and tries nothing
-    seeks-one : (a b : Bool) → (a || b) ≡ true → a ≡ false → b ≡ true
-    seeks-one a b e n = search rules
-
     follows-last : (low : Bool) (q : Position) → is_help plan.form ≡ false → seeks (battle_of plan.form) 1 ≡ true → plan.goal ≡ Mate → is_goal rule q ≡ false
         → follows plan (chess plan.goal rule) low 0 q ≡ false
     unfolding follows value
@@ -224,23 +217,29 @@ module _ (rule : RuleSet) (plan : Plan) where
     skipped : (low : Bool) (fuel : ℕ) → seeks_last plan ≡ true → plan.goal ≡ Mate → (m : Triple) (ms : List Triple) → is_mating rule P m ≡ false
         → shown plan (chess plan.goal rule) low fuel 1 P (m ∷ ms) ≡ shown plan (chess plan.goal rule) low fuel 1 P ms
     unfolding shown
-    skipped low fuel last for m ms misses = search (rules, cases, ends, follows-help, follows-last, gives-last, goes_on-help, seeks-one, shown-next)
+    skipped low fuel last for m ms misses = search (rules, cases, ends, follows-help, follows-last, gives-last, goes_on-help, shown-next)
 
     fewest-skipped : (low : Bool) (fuel : ℕ) → seeks_last plan ≡ true → plan.goal ≡ Mate → is_help plan.form ≡ false
         → (m : Triple) (ms : List Triple) → is_mating rule P m ≡ false
         → fewest_walked plan (chess plan.goal rule) low fuel 1 P (m ∷ ms) ≡ fewest_walked plan (chess plan.goal rule) low fuel 1 P ms
     unfolding fewest_walked
-    fewest-skipped low fuel last for a m ms misses = search (rules, fewest-next, fewest_for-last, follows-last, seeks-one)
+    fewest-skipped low fuel last for a m ms misses = search (rules, fewest-next, fewest_for-last, follows-last)
+
+    -- what such moves count nothing in is the same from the later place on
+    same-later : {A : Type 0} (F : ℕ → List Triple → A)
+        → (seeks_last plan ≡ true → plan.goal ≡ Mate → (m : Triple) (ms : List Triple) → is_mating rule P m ≡ false → F 1 (m ∷ ms) ≡ F 1 ms)
+        → F f.left (moves_behind rule P f.place) ≡ F f.left (moves_behind rule P g.mid)
+    unfolding position
+    same-later F skip = elim g.none [
+      | inl e ↦ rw (g.passed, e) refl
+      | inr e ↦ rw (g.passed, e.2) (passed-over (F 1) (is_mating rule P) (skip e.0 e.1) g.over (moves_behind rule P g.mid) e.3)
+    ]
 
     come-skip : to_come rule plan h p (f ∷ below) ≡ to_come rule plan h p later
     unfolding to_come position path
-    come-skip = elim g.none [
-      | inl e ↦ rw (g.passed, e) refl
-      | inr e ↦
-          let s = passed-over (shown plan (chess plan.goal rule) deepest room 1 P) (is_mating rule P)
-          (skipped deepest room e.0 e.1) g.over (moves_behind rule P g.mid) e.3 in
-          rw (g.passed, e.2, s) refl
-    ]
+    come-skip =
+        ap (λ lines. map (λ line. path (f ∷ below) ++ line) lines ++ to_come rule plan h p below)
+        (same-later (λ n ms. shown plan (chess plan.goal rule) deepest room n P ms) (skipped deepest room))
 
     fewer : (k : ℕ) → steps_behind rule k P g.mid ≤ steps_behind rule k P f.place
     unfolding steps_behind
@@ -261,9 +260,7 @@ module _ (rule : RuleSet) (plan : Plan) where
 
     nothing : (k place : ℕ) → k ≡ 1 → walk_behind rule k P place ≡ 0
     unfolding walk_behind
-    nothing zero place e = cc
-    nothing (suc zero) place e = none_of (moves_behind rule P place)
-    nothing (suc (suc k)) place e = absurd (omega (arith, e))
+    nothing k place e = rw e (none_of (moves_behind rule P place))
 
     open-skip : to_open rule p (f ∷ below) ≡ to_open rule p later
     unfolding to_open position
@@ -271,13 +268,9 @@ module _ (rule : RuleSet) (plan : Plan) where
 
     tries-skip : is_help plan.form ≡ false → fewest_left rule plan h p (f ∷ below) ≡ fewest_left rule plan h p later
     unfolding fewest_left position
-    tries-skip a = elim g.none [
-      | inl e ↦ rw (g.passed, e) refl
-      | inr e ↦
-          let s = passed-over (fewest_walked plan (chess plan.goal rule) deepest room 1 P) (is_mating rule P)
-          (fewest-skipped deepest room e.0 e.1 a) g.over (moves_behind rule P g.mid) e.3 in
-          rw (g.passed, e.2, s) refl
-    ]
+    tries-skip a =
+        ap (λ n. n + fewest_left rule plan h p below)
+        (same-later (λ n ms. fewest_walked plan (chess plan.goal rule) deepest room n P ms) (λ last for. fewest-skipped deepest room last for a))
 
     pub steps-skip : (new : List Frame) (board : Position) (before after : ℕ) (given : Bool) → Steps rule plan h p later new board before after given
         → Steps rule plan h p (f ∷ below) new board before after given

@@ -3,7 +3,7 @@ use Rattle.pop_input.specs.declared.stipulation.Goal.TheVariants.{Mate}
 use Rattle.chess_rules.specs.Play.{after as played}
 use Rattle.chess_rules.specs.Legal.{moves as legal_moves}
 use Rattle.std.proofs.Common.{rules, ◌≡◌, ℕ, suc, ◌+◌, ◌-◌, ◌<◌, ◌≤◌, ◌^◌, min, Bool, true, false, eqb, List, [], ◌∷◌, ◌++◌, length, reverse, Option, Some, None, IfSome, MatchOption, refl, sym, ◌∙◌, ap, arith, subst, ◌⊎◌, inl, inr}
-use Rattle.std.proofs.lemmas.List.{reverse-append, length-reverse}
+use Rattle.std.proofs.lemmas.List.{append-nil, reverse-append, length-reverse}
 use Rattle.chess_core.specs.Position.{Position}
 use Rattle.chess_core.specs.Triple.{Triple}
 use Rattle.chess_rules.proofs.listing_moves.Places.{moves_behind-end}
@@ -32,9 +32,6 @@ reverse-push xs x = reverse-append xs (x ∷ [])
 
 pub popped : (old new : List Frame) (x : Frame) → old ≡ new ++ x ∷ [] → reverse old ≡ x ∷ reverse new
 popped old new x e = ap reverse e ∙ reverse-push new x
-
-zero_test : (d n : ℕ) → d ≡ n → eqb d 0 ≡ eqb n 0
-zero_test d n e = ap (λ x. eqb x 0) e
 
 -- the same outcomes, for frames listed from the bottom up, as the code holds them
 module _ (rule : RuleSet) (plan : Plan) (h : ℕ) (top : Frame) (old new : List Frame) (taken : old ≡ new ++ top ∷ []) where
@@ -89,7 +86,7 @@ module _ (rule : RuleSet) (plan : Plan) (h : ℕ) (top : Frame) (old new : List 
     enter_steps root given after opened opened2 flag passes enters more none keys tried p r =
         let left : top.left ≡ suc behind = omega (arith, some.0) in
         let r2 = walking-learned rule h p top known (reverse new) now (walking_top p board now r at) (rw at within) in
-        let flag2 : eqb (length (reverse new)) 0 ≡ root = zero_test _ _ (depth_is ∙ sym d) ∙ sym flag in
+        let flag2 : eqb (length (reverse new)) 0 ≡ root = ap (λ x. eqb x 0) (depth_is ∙ sym d) ∙ sym flag in
         let lawful : legal rule now m ≡ true = rw at some.2 in
         let T : Position → Type 0 = λ b. GoesTo rule plan top.left b top.place (m ∷ moves_behind rule b place) in
         let next = subst T (sym at ∙ r2.board_at) some.1 in
@@ -140,10 +137,6 @@ module _ (rule : RuleSet) (plan : Plan) (left : ℕ) (p : Position) (place next 
       → MatchOption o (moves_behind rule p place ≡ []) (λ m. (moves_behind rule p place ≡ m ∷ moves_behind rule p next) × (legal rule p m ≡ true)) → Next o
   next_any o some e = search rules
 
-  append_none : (xs : List Triple) → xs ≡ xs ++ []
-  append_none [] = refl
-  append_none (x ∷ xs) = ap (λ l. x ∷ l) (append_none xs)
-
   pub next_mating : (o : Option Triple) → plan.goal ≡ Mate → seeks_last plan ≡ true → left ≡ 1
       → MatchOption o (mates_behind rule p place ≡ []) (λ m. IsNextMate rule p place next m × (legal rule p m ≡ true)) → Next o
   unfolding mates_behind
@@ -152,13 +145,11 @@ module _ (rule : RuleSet) (plan : Plan) (left : ℕ) (p : Position) (place next 
       inr (record {
         mid = 28672;
         over = moves_behind rule p place;
-        passed = append_none (moves_behind rule p place)
-            ∙ ap (λ l. moves_behind rule p place ++ l) (sym behind);
+        passed = search (rules, append-nil, behind);
         none = inr (last, for, single, e);
         here = behind;
       })
-  next_mating (Some m) for last single e =
-      (omega (arith, single), record { mid = next - 1; over = e.0.over; passed = e.0.passed; none = inr (last, for, single, e.0.none); here = e.0.here }, e.1)
+  next_mating (Some m) for last single e = search rules
 
 -- after a mating last half-move the value is known, and nothing has to be tried for it
 pub value-mated : (rule : RuleSet) (plan : Plan) (left : ℕ) (q : Position) → is_for_mate plan.goal ≡ true → left + 1 ≡ 1 → is_goal rule q ≡ true
