@@ -6,6 +6,9 @@ pub mod Tests
 pub mod Battles
 pub mod Lengths
 pub mod Least
+pub mod GoingOn
+pub mod ToCome
+pub mod Outcomes
 pub mod Walking
 pub mod Paths
 pub mod Trees

@@ -22,7 +22,9 @@ use Rattle.pop_solve.specs.declared.phases.Stage.TheVariants.{Before, Barred, Wi
 use Rattle.pop_solve.specs.declared.plan.Plan.{Plan}
 use Rattle.pop_solve.proofs.Boards.{behind_start}
 use Rattle.pop_solve.proofs.Sound.{some_way}
-use Rattle.pop_solve.proofs.Walking.{counted_by, no_zero, one, opened-most, walk_count-start}
+use Rattle.pop_solve.proofs.GoingOn.{no_zero}
+use Rattle.pop_solve.proofs.ToCome.{one, walk_count-start}
+use Rattle.pop_solve.proofs.Outcomes.{counted_by, opened-most}
 use Rattle.pop_solve.specs.ties.Plans.{plan_of, varies}
 
 -- one part of a walk after another

@@ -13,7 +13,8 @@ use Rattle.pop_solve.specs.ties.Frames.{Frame, position, IsLinked, CameFrom, Cam
 use Rattle.pop_solve.specs.ties.Walk.{ends_variation, IsEnded, path, IsWalking}
 use Rattle.pop_solve.specs.declared.plan.Plan.{Plan}
 use Rattle.pop_solve.specs.Events.{shown_along, shown_last}
-use Rattle.pop_solve.proofs.Walking.{popped, CameFrom-deep, walking-close}
+use Rattle.pop_solve.proofs.Outcomes.{CameFrom-deep, walking-close}
+use Rattle.pop_solve.proofs.Walking.{popped}
 
 pub length-path : (f : Frame) (below : List Frame) → length (path (f ∷ below)) ≡ length below
 unfolding path

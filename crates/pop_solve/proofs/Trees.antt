@@ -13,7 +13,7 @@ use Rattle.pop_solve.specs.ties.Walk.{fewest, first_from, open_length, follows, 
 use Rattle.pop_solve.specs.declared.plan.Plan.{Plan}
 use Rattle.pop_solve.proofs.Battles.{value-lost, value-self_lost}
 use Rattle.pop_solve.proofs.Lengths.{length-more}
-use Rattle.pop_solve.proofs.Walking.{length_most, goes_on-keys}
+use Rattle.pop_solve.proofs.GoingOn.{length_most, goes_on-keys}
 use Rattle.pop_solve.proofs.Least.{least-direct, least-selfmate}
 use Rattle.pop_solve.specs.ties.Plans.{varies}
 use Rattle.pop_input.specs.Stipulations.{is_help}

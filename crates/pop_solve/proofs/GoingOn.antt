@@ -1,0 +1,75 @@
+-- How many half-moves a line goes on below a move, and what is reached where it ends.
+use Rattle.pop_solve.specs.declared.aim.Battle.{Battle}
+use Rattle.std.proofs.Common.{rules, ◌≡◌, ℕ, zero, suc, ◌+◌, ◌-◌, ◌*◌, ◌/◌, ◌<◌, ◌≤◌, Bool, true, false, ◌||◌, eqb, cond, refl, arith, ◌⊎◌}
+use Rattle.std.proofs.lemmas.Bool.Decides.{nat_tests}
+use Rattle.pop_solve.specs.Game.{Game}
+use Rattle.pop_solve.specs.ties.Values.{seeks, value}
+use Rattle.pop_solve.specs.ties.Walk.{fewest, first_from, open_length, follows, goes_on, ends_variation}
+use Rattle.pop_solve.specs.declared.plan.Plan.{Plan}
+use Rattle.pop_solve.specs.ties.Plans.{varies}
+use Rattle.pop_input.specs.Stipulations.{is_help}
+use Rattle.pop_solve.specs.Aims.{battle_of}
+
+pub cases : (b : Bool) → (b ≡ false) ⊎ (b ≡ true)
+cases b = search rules
+
+pub no_zero : (k : ℕ) → eqb (suc k) 0 ≡ false
+no_zero k = grind (arith, nat_tests)
+
+module _ {P M : Type 0} (game : Game P M) where
+  -- the number of half-moves with which the next frame is opened is at most what is left
+  first_from-most : (battle : Battle) (q : P) (n a t : ℕ) → a + 2 * n ≤ t → first_from battle game q n a ≤ t
+  unfolding first_from
+  first_from-most battle q zero a t h = omega (arith, h)
+  first_from-most battle q (suc n) a t h = search (rules, first_from-most battle q n)
+
+  pub length_most : (battle : Battle) (t : ℕ) (q : P) (z s goal : Bool) → eqb t 0 ≡ z → seeks battle t ≡ s
+      → cond (z || goal) 0 (cond s (first_from battle game q ((t - fewest battle) / 2) (fewest battle)) t) ≤ t
+  length_most battle t q z s goal e u = search (rules, first_from-most, nat_tests)
+
+  open_length-most : (battle : Battle) (t : ℕ) (q : P) → open_length battle game t q ≤ t
+  unfolding open_length
+  open_length-most battle t q = length_most battle t q (eqb t 0) (seeks battle t) (game.goal q) refl refl
+
+  pub goes_on-most : (plan : Plan) (t : ℕ) (q : P) → goes_on plan game t q ≤ t
+  unfolding goes_on
+  goes_on-most plan t q = search (rules, open_length-most)
+
+module _ {P M : Type 0} (game : Game P M) where
+  -- a line goes on with no half-move only where none is left or the goal is reached
+  first_from-some : (battle : Battle) (q : P) (n a : ℕ) → 0 < a → 0 < first_from battle game q n a
+  unfolding first_from
+  first_from-some battle q zero a some = some
+  first_from-some battle q (suc n) a some = search (rules, first_from-some battle q n)
+
+  length_none : (battle : Battle) (t n : ℕ) (q : P) (z s goal : Bool) → eqb t 0 ≡ z
+      → cond (z || goal) 0 (cond s (first_from battle game q n (fewest battle)) t) ≡ 0 → (t ≡ 0) ⊎ (goal ≡ true)
+  length_none battle t n q z s goal e l = search (rules, first_from-some, nat_tests)
+
+  goes_on-none : (plan : Plan) (t : ℕ) (q : P) → is_help plan.form ≡ false → varies plan ≡ true → goes_on plan game t q ≡ 0
+      → (t ≡ 0) ⊎ (game.goal q ≡ true)
+  unfolding goes_on open_length
+  goes_on-none plan t q a shown l = search (rules, length_none)
+
+  followed-last : (plan : Plan) (root : Bool) (q : P) → is_help plan.form ≡ false → seeks (battle_of plan.form) 1 ≡ true
+      → follows plan game root 0 q ≡ true → game.goal q ≡ true
+  unfolding follows value
+  followed-last plan root q a white f = search rules
+
+  -- where a variation ends that is followed, the goal is reached
+  pub ended-reached : (plan : Plan) (root : Bool) (t : ℕ) (q : P) → follows plan game root t q ≡ true
+      → ends_variation plan (goes_on plan game t q) ≡ true → game.goal q ≡ true
+  ended-reached plan root t q f e = search (rules, followed-last, goes_on-none, nat_tests)
+
+pub goes_on-help : {P M : Type 0} (plan : Plan) (game : Game P M) (t : ℕ) (q : P) → is_help plan.form ≡ true → goes_on plan game t q ≡ t
+unfolding goes_on
+goes_on-help plan game t q a = rw a refl
+
+pub follows-help : {P M : Type 0} (plan : Plan) (game : Game P M) (root : Bool) (t : ℕ) (q : P) → is_help plan.form ≡ true → follows plan game root t q ≡ true
+unfolding follows
+follows-help plan game root t q a = rw a refl
+
+pub goes_on-keys : {P M : Type 0} (plan : Plan) (game : Game P M) (t : ℕ) (q : P) → is_help plan.form ≡ false → varies plan ≡ false
+    → seeks (battle_of plan.form) (t + 1) ≡ true → goes_on plan game t q ≡ 0
+unfolding goes_on
+goes_on-keys plan game t q a b c = rw (a, b, c) refl

@@ -1,0 +1,253 @@
+-- The outcomes of a step, for frames listed from the top down.
+use Rattle.pop_solve.specs.declared.aim.Battle.{Battle}
+use Rattle.chess_rules.specs.Play.{after as played}
+use Rattle.chess_rules.specs.Legal.{moves as legal_moves}
+use Rattle.std.proofs.Common.{rules, ◌≡◌, ℕ, suc, ◌+◌, ◌-◌, ◌<◌, ◌≤◌, ◌^◌, min, Bool, true, false, eqb, List, [], ◌∷◌, length, Option, IfSome, refl, ◌∙◌, ap, arith, ◌⊎◌, inl, inr}
+use Rattle.chess_core.specs.Position.{Position}
+use Rattle.chess_core.specs.Triple.{Triple}
+use Rattle.chess_rules.proofs.listing_moves.Calls.{pseudo-from_legal}
+use Rattle.chess_rules.proofs.making_moves.Stays.{after_well_formed}
+use Rattle.chess_rules.specs.Legal.{legal}
+use Rattle.chess_rules.specs.Loss.{Loss}
+use Rattle.chess_rules.specs.ties.Places.{IsPlaceIn, LegalPlace, moves_behind}
+use Rattle.chess_rules.specs.Play.{undo_of}
+use Rattle.chess_rules.specs.RuleSet.{RuleSet}
+use Rattle.pop_solve.specs.Chess.{chess}
+use Rattle.pop_solve.specs.ties.Counts.{HasCounted, walk_count}
+use Rattle.pop_solve.specs.ties.Values.{seeks}
+use Rattle.pop_solve.specs.ties.Frames.{AreKnown, Frame, position, IsLinked, CameFromAt, CameFrom, opened, opened as opened_frame, walk_behind, to_open}
+use Rattle.pop_solve.specs.ties.Walk.{follows, gives, goes_on, path, GoesTo, to_come, IsRoomy, IsWalking, turns, IsCounted, IsWhites, Steps, fewest_for, fewest_left}
+use Rattle.pop_solve.specs.declared.plan.Plan.{Plan}
+use Rattle.pop_solve.proofs.Tests.{learned, moved}
+use Rattle.pop_solve.specs.ties.Plans.{varies}
+use Rattle.pop_input.specs.Stipulations.{is_help}
+use Rattle.pop_solve.specs.Aims.{battle_of}
+use Rattle.pop_solve.proofs.GoingOn.{no_zero, goes_on-help, follows-help, goes_on-keys, goes_on-most, ended-reached}
+use Rattle.pop_solve.proofs.ToCome.{one, walk_count-start, walk_behind-none, come-pass, come-enter, tries-pass, tries-enter, turns-pass, turns-enter, open-next, open-enter, come-close, tries-close, turns-close, open-close, steps-skip}
+
+module _ (rule : RuleSet) (plan : Plan) where
+  -- what the place of the top frame leaves as it is
+  IsLinked-moved : (p : Position) (f : Frame) (place : ℕ) (below : List Frame) → IsLinked rule p (f ∷ below) → IsLinked rule p (moved f place ∷ below)
+  unfolding IsLinked
+  IsLinked-moved p f place below l = search rules
+
+  position-moved : (p : Position) (f : Frame) (place : ℕ) (below : List Frame) → position rule p (moved f place ∷ below) ≡ position rule p (f ∷ below)
+  unfolding position
+  position-moved p f place below = search rules
+
+-- what undoes the top frame
+module _ (rule : RuleSet) (h : ℕ) (p : Position) where
+  CameFrom-top : (f g : Frame) (below : List Frame) (board : Position) → IsWalking rule h p (f ∷ (g ∷ below)) board
+      → CameFromAt rule f board (position rule p (g ∷ below))
+  unfolding IsLinked position
+  CameFrom-top f g below board r = search rules
+
+  pub CameFrom-deep : (f : Frame) (below : List Frame) (board : Position) → IsWalking rule h p (f ∷ below) board → 0 < length below → CameFrom rule f board
+  CameFrom-deep f [] board r deep = absurd (omega (arith, deep))
+  CameFrom-deep f (g ∷ below) board r deep = (position rule p (g ∷ below), CameFrom-top f g below board r)
+
+  pub walking-close : (f : Frame) (below : List Frame) (board after : Position) → IsWalking rule h p (f ∷ below) board → (length below ≡ 0 → after ≡ board)
+      → ((q : Position) → 0 < length below → CameFromAt rule f board q → after ≡ q) → IsWalking rule h p below after
+  unfolding IsLinked IsRoomy AreKnown position
+  walking-close f below board after r lowest before = search (rules, CameFrom-top)
+
+  pub top_room : (f : Frame) (below : List Frame) (board : Position) → IsWalking rule h p (f ∷ below) board → f.left + length below ≤ h
+  unfolding IsRoomy
+  top_room f below board r = r.roomy.0
+
+  known-moved : (f : Frame) (place : ℕ) (below : List Frame) → AreKnown rule p (f ∷ below) → AreKnown rule p (moved f place ∷ below)
+  unfolding AreKnown position
+  known-moved f place below k = search rules
+
+  -- the top frame learns something of its position
+  pub walking-learned : (f : Frame) (known : Option LegalPlace) (below : List Frame) (board : Position) → IsWalking rule h p (f ∷ below) board
+      → IfSome known (IsPlaceIn rule board) → IsWalking rule h p (learned f known ∷ below) board
+  unfolding IsLinked IsRoomy AreKnown position
+  walking-learned f known below board r w = search rules
+
+  walking-moved : (plan : Plan) (f : Frame) (next : ℕ) (below : List Frame) (board after : Position) → IsWalking rule h p (f ∷ below) board → after ≡ board
+      → IsWalking rule h p (moved f next ∷ below) after
+  unfolding IsRoomy
+  walking-moved plan f next below board after r e = search (rules, IsLinked-moved, known-moved, position-moved)
+
+  walking-enter : (plan : Plan) (f : Frame) (next : ℕ) (m : Triple) (tried : ℕ) (below : List Frame) (board after : Position)
+      → IsWalking rule h p (f ∷ below) board → tried < f.left → legal rule board m ≡ true → after ≡ played rule board m
+      → IsWalking rule h p (opened m (undo_of rule board m) tried ∷ (moved f next ∷ below)) after
+  unfolding IsLinked IsRoomy AreKnown position
+  walking-enter plan f next m tried below board after r less lawful e =
+      let s = walking-moved plan f next below board board r refl in
+      let at : board ≡ position rule p (moved f next ∷ below) = s.board_at in
+      record {
+        linked = (rw (← at) s.sound, rw (← at) lawful, ap (λ b. undo_of rule b m) at, s.linked);
+        roomy = (omega (arith, less, r.roomy.0), s.roomy);
+        known = (tt, s.known);
+        sound = rw e (after_well_formed rule board m r.sound (pseudo-from_legal rule board m lawful));
+        board_at = e ∙ ap (λ b. played rule b m) at;
+      }
+
+-- where keys alone are shown
+whites-cut : (battle : Battle) (f : Frame) (below : List Frame) → IsWhites battle (f ∷ below) ≡ true → IsWhites battle below ≡ true
+unfolding IsWhites
+whites-cut battle f below e = search rules
+
+whites-top : (battle : Battle) (f : Frame) (below : List Frame) (t : ℕ) → f.left ≡ suc t → IsWhites battle (f ∷ below) ≡ true → seeks battle (t + 1) ≡ true
+unfolding IsWhites
+whites-top battle f below t left e = search (rules, no_zero)
+
+whites-moved : (battle : Battle) (f : Frame) (place : ℕ) (below : List Frame) → IsWhites battle (f ∷ below) ≡ true
+    → IsWhites battle (moved f place ∷ below) ≡ true
+unfolding IsWhites
+whites-moved battle f place below e = e
+
+whites-none : (battle : Battle) (m : Triple) (undo : Loss) (tried : ℕ) (below : List Frame) → tried ≡ 0 → IsWhites battle below ≡ true
+    → IsWhites battle (opened m undo tried ∷ below) ≡ true
+unfolding IsWhites
+whites-none battle m undo tried below z e = rw z e
+
+pub counted_by : (rule : RuleSet) (plan : Plan) (t walk opened opened2 before after : ℕ) → before ≡ one rule plan t + after
+    → (0 < t → opened2 ≡ min (opened + 1) (2 ^ 64 - 1)) → (t ≡ 0 → opened2 ≡ opened) → IsCounted walk opened before → IsCounted walk opened2 after
+counted_by rule plan t walk opened opened2 before after e more same c = search rules
+
+pub opened-most : (rule : RuleSet) (plan : Plan) (t opened opened2 : ℕ) → (0 < t → opened2 ≡ min (opened + 1) (2 ^ 64 - 1)) → (t ≡ 0 → opened2 ≡ opened)
+    → opened2 ≤ opened + one rule plan t
+opened-most rule plan t opened opened2 more same = search rules
+
+-- the outcomes of a step, for frames listed from the top down
+module _ (rule : RuleSet) (plan : Plan) (h : ℕ) (p : Position) (f : Frame) (below : List Frame) (board : Position)
+    (r : IsWalking rule h p (f ∷ below) board) where
+  pub steps-close : (after : Position) (count : ℕ) → (f.left ≡ 0) ⊎ (moves_behind rule board f.place ≡ []) → (length below ≡ 0 → after ≡ board)
+      → ((q : Position) → 0 < length below → CameFromAt rule f board q → after ≡ q) → Steps rule plan h p (f ∷ below) below after count count false
+  steps-close after count e lowest before =
+      let here : (f.left ≡ 0) ⊎ (moves_behind rule (position rule p (f ∷ below)) f.place ≡ []) = rw (← r.board_at) e in
+      let o = open-close rule plan p f below here in
+      record {
+        walking = walking-close rule h p f below board after r lowest before;
+        come = come-close rule plan h p f below here;
+        deep = λ g. absurd cc;
+        ended = λ g. absurd cc;
+        falls = turns-close rule plan h p f below;
+        opens = search (rules, o, whites-cut);
+        tries = record { grows = omega arith; fewest = λ a. omega (arith, tries-close rule plan h p f below here) };
+      }
+
+  module _ (next : ℕ) (m : Triple) (t : ℕ) (left : f.left ≡ suc t) (e : moves_behind rule board f.place ≡ m ∷ moves_behind rule board next) where
+    here : moves_behind rule (position rule p (f ∷ below)) f.place ≡ m ∷ moves_behind rule (position rule p (f ∷ below)) next
+    here = rw (← r.board_at) e
+
+    after_here : played rule board m ≡ played rule (position rule p (f ∷ below)) m
+    after_here = ap (λ b. played rule b m) r.board_at
+
+    fuel : h - length below ≡ suc (h - length below - 1)
+    fuel = omega (arith, top_room rule h p f below board r, left)
+
+    pub steps-pass : (after : Position) (opened opened2 : ℕ) → follows plan (chess plan.goal rule) (eqb (length below) 0) t (played rule board m) ≡ false
+        → after ≡ board
+        → (is_help plan.form ≡ false → varies plan ≡ false → seeks (battle_of plan.form) (t + 1) ≡ true → opened2 ≤ opened + walk_count (legal_moves rule)
+        (played rule) t (played rule board m)) → HasCounted opened opened2
+        (fewest_for plan (chess plan.goal rule) (eqb (length below) 0) t (played rule board m)) → Steps rule plan h p (f ∷ below)
+        (moved f next ∷ below) after opened opened2 false
+    steps-pass after opened opened2 b at keys tried =
+        let o = open-next rule plan h p f next m below _ t fuel left here in
+        record {
+          walking = walking-moved rule h p plan f next below board after r at;
+          come = come-pass rule plan h p f next m below _ t fuel left here (rw (← after_here) b);
+          deep = λ g. absurd cc;
+          ended = λ g. absurd cc;
+          falls = turns-pass rule plan h p f next m below _ t fuel left here;
+          opens = record {
+            whites = λ a c w. whites-moved (battle_of plan.form) f next below w;
+            most = search (rules, o, after_here, whites-top);
+            helped = search (rules, follows-help);
+            counted = search (rules, follows-help);
+          };
+          tries = record {
+            grows = omega (arith, tried);
+            fewest = search (rules, tried, after_here, tries-pass rule plan h p f next m below _ t fuel left here);
+          };
+        }
+
+    pub steps-enter : (after : Position) (opened opened2 : ℕ) → legal rule board m ≡ true
+        → follows plan (chess plan.goal rule) (eqb (length below) 0) t (played rule board m) ≡ true → after ≡ played rule board m
+        → (is_help plan.form ≡ true → 0 < t → opened2 ≡ min (opened + 1) (2 ^ 64 - 1)) → (is_help plan.form ≡ true → t ≡ 0 → opened2 ≡ opened)
+        → (is_help plan.form ≡ false → varies plan ≡ false → seeks (battle_of plan.form) (t + 1) ≡ true → opened2 ≤ opened + walk_count (legal_moves rule)
+        (played rule) t (played rule board m)) → HasCounted opened opened2
+        (fewest_for plan (chess plan.goal rule) (eqb (length below) 0) t (played rule board m)) → Steps rule plan h p (f ∷ below)
+        (opened_frame m (undo_of rule board m)
+        (goes_on plan (chess plan.goal rule) t (played rule board m)) ∷ (moved f next ∷ below)) after opened opened2
+        (gives plan (chess plan.goal rule) t (played rule board m))
+    steps-enter after opened opened2 lawful b at more same keys tried_for =
+        let o = open-next rule plan h p f next m below _ t fuel left here in
+        let u = undo_of rule board m in
+        let q = played rule (position rule p (f ∷ below)) m in
+        let tried = goes_on plan (chess plan.goal rule) t (played rule board m) in
+        let n = open-enter rule plan h p f next m below _ t fuel left here u tried in
+        let helped : is_help plan.form ≡ true → to_open rule p (f ∷ below) ≡ one rule plan t + to_open rule p (opened_frame m u tried ∷ (moved f next ∷ below)) =
+        λ a.
+        let w : walk_behind rule tried q 0 ≡ walk_behind rule t q 0 = ap (λ x. walk_behind rule x q 0) (goes_on-help plan (chess plan.goal rule) t _ a) in
+        omega (arith, o, n, w, walk_count-start rule plan t q) in
+        record {
+          walking = walking-enter rule h p plan f next m tried below board after r
+              (omega (arith, left, goes_on-most (chess plan.goal rule) plan t (played rule board m))) lawful at;
+          come = rw after_here (come-enter rule plan h p f next m below _ t fuel left here u (rw (← after_here) b));
+          deep = λ g. omega arith;
+          ended = λ g e. rw at (ended-reached (chess plan.goal rule) plan (eqb (length below) 0) t (played rule board m) b e);
+          falls = turns-enter rule plan h p f next m below _ t fuel left here u tried;
+          opens = record {
+            whites = search (rules, whites-none, goes_on-keys, whites-top, whites-moved);
+            most = search (rules, o, n, walk_behind-none, goes_on-keys, whites-top, after_here);
+            helped = λ a. omega (arith, helped a, opened-most rule plan t opened opened2 (more a) (same a));
+            counted = λ a walk c. counted_by rule plan t walk opened opened2 _ _ (helped a) (more a) (same a) c;
+          };
+          tries = record {
+            grows = omega (arith, tried_for);
+            fewest = λ a. rw after_here
+                (omega (arith, rw after_here at tried_for, tries-enter rule plan h p f next m below _ t fuel left here u (rw (← after_here) b)));
+          };
+        }
+
+-- the same once moves that don't count have been passed over
+module _ (rule : RuleSet) (plan : Plan) (h : ℕ) (p : Position) (f : Frame) (below : List Frame) (board : Position)
+    (r : IsWalking rule h p (f ∷ below) board) where
+  passed_to : (mid : ℕ) → IsWalking rule h p (moved f mid ∷ below) board
+  passed_to mid = walking-moved rule h p plan f mid below board board r refl
+
+  pub skips-close : (after : Position) (count : ℕ) → (f.left ≡ 0) ⊎ GoesTo rule plan f.left (position rule p (f ∷ below)) f.place []
+      → (length below ≡ 0 → after ≡ board) → ((q : Position) → 0 < length below → CameFromAt rule f board q → after ≡ q)
+      → Steps rule plan h p (f ∷ below) below after count count false
+  skips-close after count (inl e) lowest before = steps-close rule plan h p f below board r after count (inl e) lowest before
+  skips-close after count (inr g) lowest before =
+      steps-skip rule plan h p f below [] g below after count count false
+      (steps-close rule plan h p (moved f g.mid) below board (passed_to g.mid) after count (inr (rw r.board_at g.here)) lowest before)
+
+  module _ (next : ℕ) (m : Triple) (t : ℕ) (left : f.left ≡ suc t)
+      (g : GoesTo rule plan f.left (position rule p (f ∷ below)) f.place (m ∷ moves_behind rule (position rule p (f ∷ below)) next)) where
+    pub skips-pass : (after : Position) (opened opened2 : ℕ) → follows plan (chess plan.goal rule) (eqb (length below) 0) t (played rule board m) ≡ false
+        → after ≡ board
+        → (is_help plan.form ≡ false → varies plan ≡ false → seeks (battle_of plan.form) (t + 1) ≡ true → opened2 ≤ opened + walk_count (legal_moves rule)
+        (played rule) t (played rule board m)) → HasCounted opened opened2
+        (fewest_for plan (chess plan.goal rule) (eqb (length below) 0) t (played rule board m)) → Steps rule plan h p (f ∷ below)
+        (moved f next ∷ below) after opened opened2 false
+    skips-pass after opened opened2 b at keys tried =
+        steps-skip rule plan h p f below _ g _ after opened opened2 false
+        (steps-pass rule plan h p (moved f g.mid) below board (passed_to g.mid) next m t left (rw r.board_at g.here) after opened opened2 b at keys tried)
+
+    pub skips-enter : (after : Position) (opened opened2 : ℕ) → legal rule board m ≡ true
+        → follows plan (chess plan.goal rule) (eqb (length below) 0) t (played rule board m) ≡ true → after ≡ played rule board m
+        → (is_help plan.form ≡ true → 0 < t → opened2 ≡ min (opened + 1) (2 ^ 64 - 1)) → (is_help plan.form ≡ true → t ≡ 0 → opened2 ≡ opened)
+        → (is_help plan.form ≡ false → varies plan ≡ false → seeks (battle_of plan.form) (t + 1) ≡ true → opened2 ≤ opened + walk_count (legal_moves rule)
+        (played rule) t (played rule board m)) → HasCounted opened opened2
+        (fewest_for plan (chess plan.goal rule) (eqb (length below) 0) t (played rule board m)) → Steps rule plan h p (f ∷ below)
+        (opened_frame m (undo_of rule board m)
+        (goes_on plan (chess plan.goal rule) t (played rule board m)) ∷ (moved f next ∷ below)) after opened opened2
+        (gives plan (chess plan.goal rule) t (played rule board m))
+    skips-enter after opened opened2 lawful b at more same keys tried =
+        steps-skip rule plan h p f below _ g _ after opened opened2 _
+        (steps-enter rule plan h p (moved f g.mid) below board (passed_to g.mid) next m t left
+        (rw r.board_at g.here) after opened opened2 lawful b at more same keys tried)
+
+-- what the top frame knows changes nothing of what is to come
+pub steps-learned : (rule : RuleSet) (plan : Plan) (h : ℕ) (p : Position) (f : Frame) (known : Option LegalPlace) (below new : List Frame)
+    (after : Position) (opened opened2 : ℕ) (given : Bool) → Steps rule plan h p (learned f known ∷ below) new after opened opened2 given
+    → Steps rule plan h p (f ∷ below) new after opened opened2 given
+unfolding to_come path position turns to_open fewest_left IsWhites
+steps-learned rule plan h p f known below new after opened opened2 given s = search rules
