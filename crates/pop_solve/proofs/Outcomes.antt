@@ -181,7 +181,8 @@ module _ (rule : RuleSet) (plan : Plan) (h : ℕ) (p : Position) (f : Frame) (be
         let q = played rule (position rule p (f ∷ below)) m in
         let tried = goes_on plan (chess plan.goal rule) t (played rule board m) in
         let n = open-enter rule plan h p f next m below _ t fuel left here u tried in
-        let helped : is_help plan.form ≡ true → to_open rule p (f ∷ below) ≡ one rule plan t + to_open rule p (opened_frame m u tried ∷ (moved f next ∷ below)) =
+        let helped : is_help plan.form ≡ true
+        → to_open rule p (f ∷ below) ≡ one rule plan t + to_open rule p (opened_frame m u tried ∷ (moved f next ∷ below)) =
         λ a.
         let w : walk_behind rule tried q 0 ≡ walk_behind rule t q 0 = ap (λ x. walk_behind rule x q 0) (goes_on-help plan (chess plan.goal rule) t _ a) in
         omega (arith, o, n, w, walk_count-start rule plan t q) in
