@@ -1,5 +1,5 @@
 -- The words kept beside the men keep step with them.
-use Rattle.std.proofs.Common.{◌≡◌, ℕ, ◌*◌, ◌%◌, ◌^◌, ◌<◌, true, false, ◌&&◌, cond, List, length, map, get_or, set, refl, sym, ap, ◌∙◌, inl, inr, Option, Some, None}
+use Rattle.std.proofs.Common.{◌≡◌, ℕ, ◌*◌, ◌%◌, ◌^◌, ◌<◌, true, false, ◌&&◌, cond, List, length, map, get_or, set, refl, sym, ap, ◌∙◌, Option, Some, None, rules}
 use Rattle.std.specs.Int.{bit_not, w64}
 use Rattle.std.specs.Int.Bits.{bit_and, bit_or}
 use Rattle.std.proofs.lemmas.Bool.{cases_Bool, cond-true, cond-false, eqb-true, eq-eqb}
@@ -59,12 +59,7 @@ set_by_kind f Nightrider v = refl
 
 replace_kind : {X : Type 0} (f g : Kind → X) (k : Kind) (v : X) → v ≡ g k → ((j : Kind) → same_kind k j ≡ false → f j ≡ g j)
     → set (map f kinds) (kind_number k) v ≡ map g kinds
-replace_kind {X} f g k v e h =
-    let at : (j : Kind) → cond (same_kind k j) v (f j) ≡ g j = λ j. elim (cases_Bool (same_kind k j)) [
-      | inl y ↦ cond-true (same_kind k j) v (f j) y ∙ e ∙ ap g (same_kind-is k j y)
-      | inr n ↦ cond-false (same_kind k j) v (f j) n ∙ h j n
-    ] in
-    set_by_kind f k v ∙ (λ i. map (λ j. at j i) kinds)
+replace_kind {X} f g k v e h = search (rules, cases_Bool, cond-true, same_kind-is, cond-false, set_by_kind)
 
 pub get_by_colour : {X : Type 0} (f : Colour → X) (c : Colour) (d : X) → get_or (map f colours) (colour_number c) d ≡ f c
 get_by_colour f White d = refl
@@ -76,12 +71,7 @@ set_by_colour f Black v = refl
 
 replace_colour : {X : Type 0} (f g : Colour → X) (c : Colour) (v : X) → v ≡ g c → ((j : Colour) → same_colour c j ≡ false → f j ≡ g j)
     → set (map f colours) (colour_number c) v ≡ map g colours
-replace_colour {X} f g c v e h =
-    let at : (j : Colour) → cond (same_colour c j) v (f j) ≡ g j = λ j. elim (cases_Bool (same_colour c j)) [
-      | inl y ↦ cond-true (same_colour c j) v (f j) y ∙ e ∙ ap g (same_colour-true c j y)
-      | inr n ↦ cond-false (same_colour c j) v (f j) n ∙ h j n
-    ] in
-    set_by_colour f c v ∙ (λ i. map (λ j. at j i) colours)
+replace_colour {X} f g c v e h = search (rules, cases_Bool, cond-true, same_colour-true, cond-false, set_by_colour)
 
 -- ---- a man is put on an empty square
 
@@ -90,21 +80,7 @@ pub placed : (men : List (Option Man)) (ks ss : List ℕ) (s : ℕ) (x : Man) �
     (set ss (colour_number x.colour) (bit_or (get_or ss (colour_number x.colour) 0) (1 * 2 ^ s % 2 ^ 64)))
 unfolding kind_words side_words
 placed men ks ss s x is l p empty =
-    let fk : Kind → ℕ = λ k. word_of (λ y. is_kind y k) men in
-    let fc : Colour → ℕ = λ c. word_of (λ y. is_side y c) men in
-    record {
-      kinds_are =
-          ap (λ ns. set ns (kind_number x.kind) (bit_or (get_or ns (kind_number x.kind) 0) (1 * 2 ^ s % 2 ^ 64))) is.kinds_are
-          ∙ replace_kind fk (λ k. word_of (λ y. is_kind y k) (set men s (Some x))) x.kind _
-          (ap (λ n. bit_or n (1 * 2 ^ s % 2 ^ 64)) (get_by_kind fk x.kind 0) ∙ word_with (λ y. is_kind y x.kind) men s (Some x) l p (same_kind-refl x.kind))
-          (λ j h. sym (word_same (λ y. is_kind y j) men s (Some x) None (ap (λ y. is_kind y j) empty ∙ sym h)));
-      sides_are =
-          ap (λ ns. set ns (colour_number x.colour) (bit_or (get_or ns (colour_number x.colour) 0) (1 * 2 ^ s % 2 ^ 64))) is.sides_are
-          ∙ replace_colour fc (λ c. word_of (λ y. is_side y c) (set men s (Some x))) x.colour _
-          (ap (λ n. bit_or n (1 * 2 ^ s % 2 ^ 64)) (get_by_colour fc x.colour 0)
-          ∙ word_with (λ y. is_side y x.colour) men s (Some x) l p (same_colour-refl x.colour))
-          (λ j h. sym (word_same (λ y. is_side y j) men s (Some x) None (ap (λ y. is_side y j) empty ∙ sym h)));
-    }
+    search (rules, replace_kind, get_by_kind, word_with, same_kind-refl, word_same, replace_colour, get_by_colour, same_colour-refl)
 
 -- ---- a man is taken off
 
@@ -112,21 +88,7 @@ pub lifted : (men : List (Option Man)) (ks ss : List ℕ) (s : ℕ) (x : Man) �
     → IsInStep (set men s None) (set ks (kind_number x.kind) (bit_and (get_or ks (kind_number x.kind) 0) (bit_not w64 (1 * 2 ^ s % 2 ^ 64))))
     (set ss (colour_number x.colour) (bit_and (get_or ss (colour_number x.colour) 0) (bit_not w64 (1 * 2 ^ s % 2 ^ 64))))
 unfolding kind_words side_words
-lifted men ks ss s x is l p held =
-    let fk : Kind → ℕ = λ k. word_of (λ y. is_kind y k) men in
-    let fc : Colour → ℕ = λ c. word_of (λ y. is_side y c) men in
-    record {
-      kinds_are =
-          ap (λ ns. set ns (kind_number x.kind) (bit_and (get_or ns (kind_number x.kind) 0) (bit_not w64 (1 * 2 ^ s % 2 ^ 64)))) is.kinds_are
-          ∙ replace_kind fk (λ k. word_of (λ y. is_kind y k) (set men s None)) x.kind _
-          (ap (λ n. bit_and n (bit_not w64 (1 * 2 ^ s % 2 ^ 64))) (get_by_kind fk x.kind 0) ∙ word_without (λ y. is_kind y x.kind) men s None l p refl)
-          (λ j h. sym (word_same (λ y. is_kind y j) men s None None (ap (λ y. is_kind y j) held ∙ h)));
-      sides_are =
-          ap (λ ns. set ns (colour_number x.colour) (bit_and (get_or ns (colour_number x.colour) 0) (bit_not w64 (1 * 2 ^ s % 2 ^ 64)))) is.sides_are
-          ∙ replace_colour fc (λ c. word_of (λ y. is_side y c) (set men s None)) x.colour _
-          (ap (λ n. bit_and n (bit_not w64 (1 * 2 ^ s % 2 ^ 64))) (get_by_colour fc x.colour 0) ∙ word_without (λ y. is_side y x.colour) men s None l p refl)
-          (λ j h. sym (word_same (λ y. is_side y j) men s None None (ap (λ y. is_side y j) held ∙ h)));
-    }
+lifted men ks ss s x is l p held = search (rules, replace_kind, get_by_kind, word_without, word_same, replace_colour, get_by_colour)
 
 -- ---- what is read
 

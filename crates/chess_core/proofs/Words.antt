@@ -1,5 +1,5 @@
 -- Laws of words: their bits, one bit set or cleared, two words joined.
-use Rattle.std.proofs.Common.{◌≡◌, ℕ, eqb, zero, suc, ◌+◌, ◌-◌, ◌*◌, ◌/◌, ◌%◌, ◌^◌, ◌<◌, min, max, Bool, true, false, ◌&&◌, ◌||◌, not, List, [], ◌∷◌, length, get_or, set, refl, sym, ap, ◌∙◌, subst, arith, inl, inr}
+use Rattle.std.proofs.Common.{◌≡◌, ℕ, eqb, zero, suc, ◌+◌, ◌-◌, ◌*◌, ◌/◌, ◌%◌, ◌^◌, ◌<◌, min, max, Bool, true, false, ◌&&◌, ◌||◌, not, List, [], ◌∷◌, length, get_or, set, refl, sym, ap, ◌∙◌, subst, arith, inl, inr, rules}
 use Rattle.std.specs.Int.{bit_at, bit_not, w64, trailing_zeros}
 use Rattle.std.specs.Int.Bits.{bit_and, bit_or}
 use Rattle.std.proofs.lemmas.Bool.{cases_eq, eq-eqb, ne_eqb}
@@ -127,14 +127,10 @@ either false true = refl
 either false false = refl
 
 pub squares_either : (p q : ℕ → Bool) → bit_or (word p) (word q) ≡ word (λ s. p s || q s)
-squares_either p q =
-    square_word (λ s. p s || q s) _ (or_lt 64 _ _ (square_word_small p) (square_word_small q))
-    (λ s b. bit_at_or (word p) (word q) s ∙ (λ j. max (square_bit p s b j) (square_bit q s b j)) ∙ either (p s) (q s))
+squares_either p q = search (rules, square_word, or_lt, square_word_small, bit_at_or, square_bit, either)
 
 pub squares_both : (p q : ℕ → Bool) → bit_and (word p) (word q) ≡ word (λ s. p s && q s)
-squares_both p q =
-    square_word (λ s. p s && q s) _ (omega (arith, and_le_l (word p) (word q), square_word_small p))
-    (λ s b. bit_at_and (word p) (word q) s ∙ (λ j. min (square_bit p s b j) (square_bit q s b j)) ∙ both (p s) (q s))
+squares_both p q = search (rules, square_word, and_le_l, square_word_small, bit_at_and, square_bit, both)
 
 -- a word is 0 where no square passes
 pub bit_false : (b : Bool) → bit_of b ≡ 0 → b ≡ false

@@ -1,21 +1,9 @@
-use Rattle.std.proofs.Common.{◌≡◌, ◌<◌, ◌∙◌, ◌*◌, ◌%◌, ◌^◌, ap, false}
-use Rattle.std.specs.Int.{bit_not, w64}
-use Rattle.std.specs.Int.Bits.{bit_and}
-use Rattle.chess_core.specs.Castling.{has_unmoved, mark_unmoved}
-use Rattle.chess_core.specs.ties.Words.{word}
+use Rattle.std.proofs.Common.{rules}
 use Rattle.chess_core.proofs.Castlings.{without_word, word_in_step, word_read}
 use Rattle.chess_core.proofs.man.Unmoved.without.Goals as goal
 
 pub invariant_of-result : goal.invariant_of-result
-invariant_of-result c =
-    let w : c.self.inside.squares ≡ word (has_unmoved c.args.self) = c.self.invariant ∙ ap (λ u. word (has_unmoved u)) c.self.view_is in
-    let small : c.args.square < 64 = rw c.index.ensures.value at c.index.ensures.small in
-    rw c.index.ensures.value (word_in_step (mark_unmoved c.args.self c.args.square false) _
-    (ap (λ n. bit_and n (bit_not w64 (1 * 2 ^ c.args.square % 2 ^ 64))) w ∙ without_word c.args.self c.args.square small))
+invariant_of-result c = search (rules, word_in_step, without_word)
 
 pub returns : goal.returns
-returns c =
-    let w : c.self.inside.squares ≡ word (has_unmoved c.args.self) = c.self.invariant ∙ ap (λ u. word (has_unmoved u)) c.self.view_is in
-    let small : c.args.square < 64 = rw c.index.ensures.value at c.index.ensures.small in
-    rw c.index.ensures.value (word_read (mark_unmoved c.args.self c.args.square false) _
-    (ap (λ n. bit_and n (bit_not w64 (1 * 2 ^ c.args.square % 2 ^ 64))) w ∙ without_word c.args.self c.args.square small))
+returns c = search (rules, word_read, without_word)
