@@ -2,18 +2,20 @@
 use Rattle.pop_input.specs.declared.stipulation.Goal.{Goal}
 use Rattle.chess_rules.specs.Legal.{legal}
 use Rattle.chess_rules.specs.Play.{after as played}
-use Rattle.std.proofs.Common.{◌≡◌, ℕ, zero, suc, ◌+◌, ◌-◌, ◌<◌, ◌≤◌, Bool, List, [], ◌∷◌, ◌++◌, length, take, drop, get_or, reverse, true, refl, sym, ◌∙◌, ap, subst, arith, length-append, length-take}
+use Rattle.std.proofs.Common.{◌≡◌, ℕ, zero, suc, ◌+◌, ◌-◌, ◌<◌, ◌≤◌, cond, rules, List, [], ◌∷◌, ◌++◌, length, take, drop, get_or, reverse, true, refl, sym, ◌∙◌, ap, subst, arith, length-append, length-take}
 use Rattle.std.proofs.lemmas.List.{length-reverse, reverse-append, take_all, take_more, take-append-drop}
 use Rattle.chess_core.specs.Position.{Position}
 use Rattle.chess_core.specs.Triple.{Triple}
 use Rattle.chess_rules.specs.RuleSet.{RuleSet}
 use Rattle.pop_solve.specs.Chess.{chess, show}
 use Rattle.pop_solve.specs.Game.{reach}
-use Rattle.pop_solve.specs.ties.Frames.{Frame, position, IsLinked, CameFrom, CameFromAt, top_left}
+use Rattle.pop_solve.specs.ties.Frames.{Frame, position, IsLinked, CameFrom, CameFromAt}
 use Rattle.pop_solve.specs.ties.Walk.{ends_variation, IsEnded, path, IsWalking}
 use Rattle.pop_solve.specs.declared.plan.Plan.{Plan}
 use Rattle.pop_solve.specs.Events.{shown_along, shown_last}
 use Rattle.pop_solve.proofs.Outcomes.{CameFrom-deep, walking-close}
+use Rattle.pop_solve.specs.declared.chess.Reached.{Reached}
+use Rattle.pop_solve.specs.declared.chess.Reached.TheVariants.{Perhaps, Surely}
 use Rattle.pop_solve.proofs.Walking.{popped}
 
 pub length-path : (f : Frame) (below : List Frame) → length (path (f ∷ below)) ≡ length below
@@ -121,10 +123,9 @@ module _ (rule : RuleSet) where
     forth-again h p board after r s = ap (λ b. played rule b f.by) s.board_at ∙ sym (r.board_at ∙ forth-position p)
 
     pub forth-ended : (plan : Plan) (h : ℕ) (p board after : Position) → IsWalking rule h p (reverse upper) board
-        → IsWalking rule h p (reverse lower) after → IsEnded rule plan (reverse upper) board → (b : Bool) → b ≡ ends_variation plan f.left → b ≡ true
-        → (chess plan.goal rule).goal (played rule after f.by) ≡ true
-    forth-ended plan h p board after r s ended b e here =
-        rw (forth-again h p board after r s) (ended (ap (λ fs. ends_variation plan (top_left fs)) stacked ∙ sym e ∙ here))
+        → IsWalking rule h p (reverse lower) after → IsEnded rule plan (reverse upper) board → (b : Reached)
+        → b ≡ cond (ends_variation plan f.left) Surely Perhaps → b ≡ Surely → (chess plan.goal rule).goal (played rule after f.by) ≡ true
+    forth-ended plan h p board after r s ended b e here = search (rules, forth-again, stacked)
 
     pub forth-along : (goal : Goal) (p : Position)
         → shown_along goal rule p (path (reverse upper)) ≡ shown_along goal rule p (path (reverse lower)) ++ show goal rule

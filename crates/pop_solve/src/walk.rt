@@ -10,7 +10,8 @@ ghost use Rattle.chess_rules.specs.Play.{undo_of};
 ghost use Rattle.arrayvec.specs.ArrayVec.{array_vec_len};
 ghost use Rattle.pop_input.specs.Stipulations.{is_help};
 ghost use Rattle.pop_solve.specs.Aims.{battle_of};
-ghost use Rattle.pop_solve.specs.ties.Plans.{varies};
+ghost use Rattle.pop_solve.specs.ties.Calls.{Evaluates, Restores};
+ghost use Rattle.pop_solve.specs.ties.Plans.{aim_of, varies};
 ghost use Rattle.pop_solve.specs.ties.Frames.{CameFrom, CameFromAt, opened as opened_frame};
 ghost use Rattle.pop_solve.specs.Chess.{chess};
 ghost use Rattle.pop_solve.specs.ties.Marks.{is_for_mate};
@@ -54,9 +55,8 @@ fn least_length<R: Rules, const N: usize>(
     requires room { array_vec_len frames.old + left ≤ N }
     ensures least { result ≡ first_from aim.battle (chess aim.goal R.rule) board.old
         ((left - fewest_of aim.battle) / 2) (fewest_of aim.battle) }
-    ensures board { board.new ≡ board.old }
-    ensures frames { frames.new.items ≡ frames.old.items }
-    ensures grows { HasCounted opened.old opened.new 0 }
+    ensures rest { Restores board.old board.new frames.old.items frames.new.items opened.old
+        opened.new }
 {
     let mut tried = fewest(aim.battle);
     while left >= 2 && tried <= left - 2 {
@@ -81,9 +81,8 @@ fn length_shown<R: Rules, const N: usize>(
     requires well_formed { IsWellFormed board.old }
     requires room { array_vec_len frames.old + left ≤ N }
     ensures length { result ≡ open_length aim.battle (chess aim.goal R.rule) left board.old }
-    ensures board { board.new ≡ board.old }
-    ensures frames { frames.new.items ≡ frames.old.items }
-    ensures grows { HasCounted opened.old opened.new 0 }
+    ensures rest { Restores board.old board.new frames.old.items frames.new.items opened.old
+        opened.new }
 {
     if left == 0 || reaches_goal::<R>(aim.goal, board) {
         return 0;
@@ -107,12 +106,11 @@ fn length_below<R: Rules, const N: usize>(
     requires well_formed { IsWellFormed board.old }
     requires room { array_vec_len frames.old + left ≤ N }
     ensures length { result ≡ goes_on plan (chess plan.goal R.rule) left board.old }
-    ensures board { board.new ≡ board.old }
-    ensures frames { frames.new.items ≡ frames.old.items }
+    ensures rest { Restores board.old board.new frames.old.items frames.new.items opened.old
+        opened.new }
     ensures opened { is_help plan.form ≡ true → opened.new ≡ opened.old }
     ensures keys_alone { IsTrue (not (varies plan) && seeks (battle_of plan.form) (left + 1))
         → opened.new ≡ opened.old }
-    ensures grows { HasCounted opened.old opened.new 0 }
 {
     if plan.form.is_help() {
         return left;
@@ -161,13 +159,8 @@ fn value_after<R: Rules, const N: usize>(
     requires well_formed { IsWellFormed board.old }
     requires room { array_vec_len frames.old + left ≤ N }
     requires mated { IsMatedAtLast R.rule plan left board.old }
-    ensures value { result ≡ value (battle_of plan.form) (chess plan.goal R.rule) left board.old }
-    ensures board { board.new ≡ board.old }
-    ensures frames { frames.new.items ≡ frames.old.items }
-    ensures opened { opened.new ≤ opened.old
-        + walk_count (legal_moves R.rule) (played R.rule) left board.old }
-    ensures tried { HasCounted opened.old opened.new
-        (smallest_tree (battle_of plan.form) (chess plan.goal R.rule) left board.old) }
+    ensures { Evaluates R.rule (aim_of plan) left board.old board.new frames.old.items
+        frames.new.items opened.old opened.new result }
 {
     if ends_with_mate(plan, left + 1) {
         return true;

@@ -1,0 +1,38 @@
+-- What the calls of a search leave of what they were handed.
+use Rattle.chess_core.specs.Position.{Position}
+use Rattle.chess_core.specs.Triple.{Triple}
+use Rattle.chess_rules.specs.Legal.{legal, moves as legal_moves}
+use Rattle.chess_rules.specs.Play.{after as played}
+use Rattle.chess_rules.specs.RuleSet.{RuleSet}
+use Rattle.chess_rules.specs.ties.Places.{IsPlaceIn, LegalPlace}
+use Rattle.pop_solve.specs.Chess.{chess}
+use Rattle.pop_solve.specs.declared.aim.Aim.{Aim}
+use Rattle.pop_solve.specs.ties.Counts.{HasCounted, smallest_tree, walk_count}
+use Rattle.pop_solve.specs.ties.Frames.{Frame}
+use Rattle.pop_solve.specs.ties.Values.{value}
+use Rattle.std.specs.Prelude.{◌≡◌, ◌+◌, ◌≤◌, ℕ, Bool, true, List, [], ◌∷◌, Option, MatchOption}
+
+-- the first of some moves of p was looked for, which are `untried` before the call and `left` behind the move found: the
+-- board stands on p as before, and what is known is still of its moves
+pub record Finds (rule : RuleSet) (p board : Position) (known : LegalPlace) (found : Option Triple)
+    (untried left : List Triple) : Type 0 where
+  pub unchanged : board ≡ p
+  pub within : IsPlaceIn rule p known
+  pub next : MatchOption found (untried ≡ [])
+      (λ m. (untried ≡ m ∷ left) × (legal rule p m ≡ true))
+
+-- board and frames are as they were, and the count of opened frames hasn't fallen
+pub record Restores (p now : Position) (old new : List Frame) (before after : ℕ) : Type 0 where
+  pub board : now ≡ p
+  pub frames : new ≡ old
+  pub grows : HasCounted before after 0
+
+-- v is the value of p with `left` half-moves left: board and frames are as they were, no more frames were opened than the
+-- moves allow, and no fewer than a smallest tree has positions
+pub record Evaluates (rule : RuleSet) (aim : Aim) (left : ℕ) (p now : Position)
+    (old new : List Frame) (before after : ℕ) (v : Bool) : Type 0 where
+  pub value : v ≡ value aim.battle (chess aim.goal rule) left p
+  pub board : now ≡ p
+  pub frames : new ≡ old
+  pub opened : after ≤ before + walk_count (legal_moves rule) (played rule) left p
+  pub tried : HasCounted before after (smallest_tree aim.battle (chess aim.goal rule) left p)
