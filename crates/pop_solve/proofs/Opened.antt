@@ -270,16 +270,6 @@ module _ (rule : RuleSet) (problem : Posed) where
     fewest = λ h u. omega arith;
   }
 
-  pub opens-behind : (stage : Stage) (frames : List Frame) (count : ℕ) (left : List Step) → OpensOn rule problem stage stage frames frames count count left
-  opens-behind stage frames count left = record {
-    narrow = λ n. n;
-    most = λ n. omega arith;
-    counted = λ h u walk
-        c. c;
-    grows = omega arith;
-    fewest = λ h u. omega arith;
-  }
-
   -- a search that has opened nothing
   pub opened-start : (frames : List Frame) (opened : ℕ) → opened ≡ 0 → IsOpened rule problem (Before (first_phase problem)) frames opened
   unfolding rest_open rest_fewest IsNarrow

@@ -133,10 +133,6 @@ module _ (rule : RuleSet) (plan : Plan) (left : ℕ) (p : Position) (place next 
       MatchOption o ((left ≡ 0) ⊎ GoesTo rule plan left p place [])
       (λ m. (0 < left) × GoesTo rule plan left p place (m ∷ moves_behind rule p next) × (legal rule p m ≡ true))
 
-  pub next_any : (o : Option Triple) → 0 < left
-      → MatchOption o (moves_behind rule p place ≡ []) (λ m. (moves_behind rule p place ≡ m ∷ moves_behind rule p next) × (legal rule p m ≡ true)) → Next o
-  next_any o some e = search rules
-
   pub next_mating : (o : Option Triple) → plan.goal ≡ Mate → seeks_last plan ≡ true → left ≡ 1
       → MatchOption o (mates_behind rule p place ≡ []) (λ m. IsNextMate rule p place next m × (legal rule p m ≡ true)) → Next o
   unfolding mates_behind

@@ -1,21 +1,21 @@
 //! The tests of battle play.
 ghost use Rattle.chess_rules.specs.Play.{after as played};
 ghost use Rattle.chess_rules.specs.Legal.{moves as legal_moves};
-ghost use Rattle.std.specs.Prelude.{◌≡◌, ◌+◌, ◌<◌, ◌≤◌, ◌%◌, ℕ, List, [], ◌∷◌, ◌++◌, filter, length, reverse, IfSome, IfNone, IsTrue, true, false, Bool, Option, Some, None, not, if◌then◌else◌, MatchOption, MatchBool, ◌⊎◌, ◌&&◌, ◌||◌, ◌==◌, ◌-◌, ◌^◌, min};
+ghost use Rattle.std.specs.Prelude.{◌≡◌, ◌+◌, ◌<◌, ◌≤◌, ◌%◌, [], ◌∷◌, ◌++◌, filter, IfSome, IfNone, true, false, Option, Some, None, not, MatchOption, MatchBool, ◌⊎◌, ◌&&◌, ◌==◌, ◌-◌};
 ghost use Rattle.chess_core.specs.Position.{Position};
 ghost use Rattle.chess_core.specs.WellFormed.{IsWellFormed};
 ghost use Rattle.chess_rules.specs.Legal.{legal};
 ghost use Rattle.chess_rules.specs.ties.Places.{IsPlaceIn, moves_behind, place_of};
 ghost use Rattle.chess_rules.specs.Play.{undo_of};
 ghost use Rattle.arrayvec.specs.ArrayVec.{array_vec_len};
-ghost use Rattle.pop_solve.specs.ties.Frames.{IsTesting, IsOpenedOn, CameFrom, CameFromAt, Turns, Ends, tests, tested, top_left, ahead, all_of, belongs, comes_early, here, later, stretches_behind};
+ghost use Rattle.pop_solve.specs.ties.Frames.{IsTesting, IsOpenedOn, CameFrom, CameFromAt, Turns, Ends, tests, top_left, ahead, all_of, belongs, comes_early, here, later, stretches_behind};
 ghost use Rattle.pop_solve.specs.Chess.{chess};
 ghost use Rattle.pop_solve.specs.ties.Calls.{Evaluates, Finds};
 ghost use Rattle.pop_solve.specs.ties.Marks.{is_for_mate};
 ghost use Rattle.pop_input.specs.declared.stipulation.Goal.TheVariants.{Mate};
 ghost use Rattle.pop_solve.specs.Game.{can_move as has_move};
 ghost use Rattle.pop_solve.specs.ties.Counts.{HasCounted, smallest_tree, walk_count};
-ghost use Rattle.pop_solve.specs.ties.Values.{seeks, join, joined, value};
+ghost use Rattle.pop_solve.specs.ties.Values.{seeks, joined, value};
 
 use crate::aim::{Aim, Battle};
 use crate::chess::{

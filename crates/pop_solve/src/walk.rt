@@ -1,7 +1,7 @@
 //! The walk over the moves of a phase, on frames.
 ghost use Rattle.chess_rules.specs.Play.{after as played};
 ghost use Rattle.chess_rules.specs.Legal.{moves as legal_moves};
-ghost use Rattle.std.specs.Prelude.{◌≡◌, ◌↔◌, ◌+◌, ◌<◌, ◌≤◌, ◌/◌, ℕ, List, [], ◌∷◌, ◌++◌, length, reverse, IsTrue, true, false, if◌then◌else◌, IfSome, MatchOption, ◌⊎◌, not, ◌&&◌, ◌||◌, ◌==◌, ◌-◌, ◌^◌, min};
+ghost use Rattle.std.specs.Prelude.{◌≡◌, ◌↔◌, ◌+◌, ◌<◌, ◌≤◌, ◌/◌, [], ◌∷◌, ◌++◌, length, reverse, IsTrue, true, false, IfSome, MatchOption, ◌⊎◌, not, ◌&&◌, ◌||◌, ◌==◌, ◌-◌, ◌^◌, min};
 ghost use Rattle.chess_core.specs.Position.{Position};
 ghost use Rattle.chess_core.specs.WellFormed.{IsWellFormed};
 ghost use Rattle.chess_rules.specs.Legal.{legal};
@@ -15,7 +15,7 @@ ghost use Rattle.pop_solve.specs.ties.Plans.{aim_of, varies};
 ghost use Rattle.pop_solve.specs.ties.Frames.{CameFrom, CameFromAt, opened as opened_frame};
 ghost use Rattle.pop_solve.specs.Chess.{chess};
 ghost use Rattle.pop_solve.specs.ties.Marks.{is_for_mate};
-ghost use Rattle.pop_solve.specs.ties.Counts.{HasCounted, smallest_tree, walk_count};
+ghost use Rattle.pop_solve.specs.ties.Counts.{HasCounted, walk_count};
 ghost use Rattle.pop_solve.specs.ties.Values.{seeks, value};
 ghost use Rattle.pop_solve.specs.ties.Walk.{fewest as fewest_of, fewest_for, first_from, open_length, follows as is_followed, gives as is_given, goes_on, GoesTo, IsMatedAtLast, IsWalking, seeks_last, Steps};
 
