@@ -2,7 +2,7 @@
 use Rattle.chess_rules.specs.Play.{after as played}
 use Rattle.chess_rules.specs.Legal.{moves as legal_moves}
 use Rattle.pop_solve.specs.declared.aim.Aim.{Aim}
-use Rattle.std.proofs.Common.{◌≡◌, ℕ, suc, ◌+◌, ◌-◌, ◌<◌, ◌≤◌, ◌^◌, min, Bool, true, false, not, ◌&&◌, ◌||◌, cond, Option, Some, None, List, [], ◌∷◌, ◌++◌, length, take, drop, reverse, refl, sym, ◌∙◌, ap, arith, subst, ◌⊎◌, inl, inr, MatchOption, IfNone, IfSome, rules}
+use Rattle.std.proofs.Common.{◌≡◌, ℕ, suc, ◌+◌, ◌-◌, ◌<◌, ◌≤◌, ◌^◌, min, Bool, true, not, ◌&&◌, ◌||◌, cond, Option, Some, None, List, [], ◌∷◌, ◌++◌, length, take, drop, reverse, refl, sym, ◌∙◌, ap, arith, subst, ◌⊎◌, inl, inr, MatchOption, IfNone, IfSome, rules}
 use Rattle.std.proofs.lemmas.List.{reverse-append, length-reverse, length-drop, length-append, drop-append-le, take-append-le, take_all}
 use Rattle.std.proofs.lemmas.Bool.{cases_lt}
 use Rattle.std.proofs.lemmas.List.Sums.{sum_by-cons}
@@ -41,14 +41,8 @@ passed f place s known = record f { place = place; stretch = s; known = known }
 join-decided : (s rest : Bool) → join s s rest ≡ s
 join-decided s rest = search rules
 
-join-undecided : (s rest : Bool) → join s (not s) rest ≡ rest
-join-undecided s rest = search rules
-
 decides-self : (s : Bool) → decides s s ≡ true
 decides-self s = search rules
-
-decides-not : (s : Bool) → decides s (not s) ≡ false
-decides-not s = search rules
 
 -- the moves of a frame that is opened are all its position's moves, in another order
 module _ (rule : RuleSet) (q : Position) (o : Order) where

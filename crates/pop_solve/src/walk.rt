@@ -10,14 +10,13 @@ ghost use Rattle.chess_rules.specs.Play.{undo_of};
 ghost use Rattle.arrayvec.specs.ArrayVec.{array_vec_len};
 ghost use Rattle.pop_input.specs.Stipulations.{is_help};
 ghost use Rattle.pop_solve.specs.Aims.{battle_of};
-ghost use Rattle.pop_solve.specs.ties.Calls.{Evaluates, Restores};
+ghost use Rattle.pop_solve.specs.ties.Calls.{Counts, Evaluates, Restores};
 ghost use Rattle.pop_solve.specs.ties.Plans.{aim_of, varies};
 ghost use Rattle.pop_solve.specs.ties.Frames.{CameFrom, CameFromAt, opened as opened_frame};
 ghost use Rattle.pop_solve.specs.Chess.{chess};
 ghost use Rattle.pop_solve.specs.ties.Marks.{is_for_mate};
-ghost use Rattle.pop_solve.specs.ties.Counts.{HasCounted, walk_count};
 ghost use Rattle.pop_solve.specs.ties.Values.{seeks, value};
-ghost use Rattle.pop_solve.specs.ties.Walk.{fewest as fewest_of, fewest_for, first_from, open_length, follows as is_followed, gives as is_given, goes_on, GoesTo, IsMatedAtLast, IsWalking, seeks_last, Steps};
+ghost use Rattle.pop_solve.specs.ties.Walk.{fewest as fewest_of, first_from, open_length, follows as is_followed, gives as is_given, goes_on, GoesTo, IsMatedAtLast, IsWalking, seeks_last, Steps};
 
 use crate::aim::{Aim, Battle};
 use crate::chess::{is_for_mate, next_mate, next_move, reaches_goal, retract};
@@ -221,15 +220,8 @@ fn enter<R: Rules, const N: usize>(
         × (board.new ≡ played R.rule board.old by)
         × (frames.new.items ≡ frames.old.items ++ opened_frame by (undo_of R.rule board.old by)
         (goes_on plan (chess plan.goal R.rule) left (played R.rule board.old by)) ∷ []) }
-    ensures more { is_help plan.form ≡ true → 0 < left
-        → opened.new ≡ min (opened.old + 1) (2 ^ 64 - 1) }
-    ensures none { is_help plan.form ≡ true → left ≡ 0 → opened.new ≡ opened.old }
-    ensures keys { is_help plan.form ≡ false → varies plan ≡ false
-        → seeks (battle_of plan.form) (left + 1) ≡ true
-        → opened.new ≤ opened.old
-        + walk_count (legal_moves R.rule) (played R.rule) left (played R.rule board.old by) }
-    ensures tries { HasCounted opened.old opened.new
-        (fewest_for plan (chess plan.goal R.rule) root left (played R.rule board.old by)) }
+    ensures counts { Counts R.rule plan root left (played R.rule board.old by) opened.old
+        opened.new }
 {
     let undo = R::play(board, by);
     let tested = is_tested(plan, root, left + 1);

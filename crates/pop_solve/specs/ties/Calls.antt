@@ -9,8 +9,13 @@ use Rattle.pop_solve.specs.Chess.{chess}
 use Rattle.pop_solve.specs.declared.aim.Aim.{Aim}
 use Rattle.pop_solve.specs.ties.Counts.{HasCounted, smallest_tree, walk_count}
 use Rattle.pop_solve.specs.ties.Frames.{Frame}
-use Rattle.pop_solve.specs.ties.Values.{value}
-use Rattle.std.specs.Prelude.{◌≡◌, ◌+◌, ◌≤◌, ℕ, Bool, true, List, [], ◌∷◌, Option, MatchOption}
+use Rattle.pop_input.specs.Stipulations.{is_help}
+use Rattle.pop_solve.specs.Aims.{battle_of}
+use Rattle.pop_solve.specs.declared.plan.Plan.{Plan}
+use Rattle.pop_solve.specs.ties.Plans.{varies}
+use Rattle.pop_solve.specs.ties.Walk.{fewest_for}
+use Rattle.pop_solve.specs.ties.Values.{seeks, value}
+use Rattle.std.specs.Prelude.{◌≡◌, ◌+◌, ◌-◌, ◌^◌, ◌<◌, ◌≤◌, min, ℕ, Bool, false, true, List, [], ◌∷◌, Option, MatchOption}
 
 -- the first of some moves of p was looked for, which are `untried` before the call and `left` behind the move found: the
 -- board stands on p as before, and what is known is still of its moves
@@ -36,3 +41,15 @@ pub record Evaluates (rule : RuleSet) (aim : Aim) (left : ℕ) (p now : Position
   pub frames : new ≡ old
   pub opened : after ≤ before + walk_count (legal_moves rule) (played rule) left p
   pub tried : HasCounted before after (smallest_tree aim.battle (chess aim.goal rule) left p)
+
+-- what a move to q has counted, with `left` half-moves left there: in help play the frame that is opened, where moves are
+-- tried from it; where keys alone are shown no more than the moves allow; and in a battle no fewer positions than have to be
+-- tried
+pub record Counts (rule : RuleSet) (plan : Plan) (root : Bool) (left : ℕ) (q : Position)
+    (before after : ℕ) : Type 0 where
+  pub more : is_help plan.form ≡ true → 0 < left → after ≡ min (before + 1) (2 ^ 64 - 1)
+  pub none : is_help plan.form ≡ true → left ≡ 0 → after ≡ before
+  pub keys : is_help plan.form ≡ false → varies plan ≡ false
+      → seeks (battle_of plan.form) (left + 1) ≡ true
+      → after ≤ before + walk_count (legal_moves rule) (played rule) left q
+  pub tries : HasCounted before after (fewest_for plan (chess plan.goal rule) root left q)

@@ -54,5 +54,5 @@ returns g c = record {
       let taken = rw (← c.top.view_is) at c.in-Some.ensures.items in
       walking.enter_steps g.R.Rules.rule c.args.plan c.args.half_moves _ _ _ taken _ _ _ _ _ _ _ _ c.next_of.ensures.unchanged c.len-depth.ensures.value
       c.in-Some-next_of.ensures.next c.next_of.ensures.within c.push.ensures.items _ _ _ _ _ refl c.enter.ensures.passes c.enter.ensures.enters
-      c.enter.ensures.more c.enter.ensures.none c.enter.ensures.keys c.enter.ensures.tries;
+      c.enter.ensures.counts;
 }
