@@ -3,7 +3,7 @@ use Rattle.pop_solve.specs.declared.aim.Battle.{Battle}
 use Rattle.pop_solve.specs.declared.aim.Battle.TheVariants.{Direct, Selfmate}
 use Rattle.pop_solve.specs.Aims.{battle_of}
 use Rattle.chess_rules.specs.Legal.{moves as legal_moves}
-use Rattle.std.proofs.Common.{◌≡◌, ℕ, zero, suc, ◌+◌, ◌-◌, ◌*◌, ◌≤◌, Bool, true, false, ◌&&◌, eqb, cond, List, [], ◌∷◌, ◌++◌, length, map, take, refl, sym, ◌∙◌, ap, arith, rules}
+use Rattle.std.proofs.Common.{◌≡◌, ℕ, zero, suc, ◌+◌, ◌-◌, ◌*◌, ◌≤◌, Bool, true, false, cond, List, [], ◌∷◌, ◌++◌, length, map, take, refl, sym, ◌∙◌, ap, arith, rules}
 use Rattle.std.specs.List.{flat_map, filter, list_all}
 use Rattle.std.proofs.lemmas.Bool.Decides.{nat_tests}
 use Rattle.pop_solve.specs.declared.event.Phase.{Phase}
@@ -25,7 +25,7 @@ use Rattle.pop_input.specs.declared.stipulation.Form.{Form}
 use Rattle.pop_input.specs.declared.stipulation.Form.TheVariants.{Direct}
 use Rattle.pop_solve.specs.declared.plan.Plan.{Plan}
 use Rattle.pop_solve.proofs.Battles.{value-wins, value-self_wins}
-use Rattle.pop_solve.proofs.Trees.{flat-filter, shown-zero, shown-help, halves, keeps-value, halves-seek, seeks-step, flip, unflip, beneath, as_nodes, by_test, below-key, below-set}
+use Rattle.pop_solve.proofs.Trees.{flat-filter, shown-zero, shown-help, halves, keeps-value, half-some, halves-seek, seeks-step, flip, unflip, beneath, as_nodes, by_test, below-key, below-set}
 use Rattle.pop_solve.proofs.Kept.{keep-nil, started-nil, to_come-root}
 use Rattle.pop_solve.specs.ties.Plans.{shows_variations, tree_shown, plan_of, varies}
 
@@ -54,24 +54,17 @@ abbrev some : {M : Type 0} → List M → Bool
 some [] = false
 some (x ∷ xs) = true
 
-both : (a b : Bool) → (a && b) ≡ true → (a ≡ true) × (b ≡ true)
-both a b e = search rules
-
 module _ {M : Type 0} where
   over-kept : (n : ℕ) (m : M) (ys rest : List (List M)) → list_all some ys ≡ true
       → keep false n (map (λ path. m ∷ path) ys ++ rest) ≡ map (λ path. m ∷ path) ys ++ keep false n rest
   unfolding keep
   over-kept n m [] rest a = search rules
-  over-kept n m ([] ∷ ys) rest a = search rules
-  over-kept zero m ((y ∷ z) ∷ ys) rest a = search (rules, nat_tests, over-kept zero m ys rest a)
-  over-kept (suc n) m ((y ∷ z) ∷ ys) rest a = search (rules, nat_tests, over-kept (suc n) m ys rest a)
+  over-kept n m (y ∷ ys) rest a = search (rules, nat_tests, over-kept n m ys rest)
 
   over-begun : (n : ℕ) (m : M) (ys rest : List (List M)) → list_all some ys ≡ true → started false n (map (λ path. m ∷ path) ys ++ rest) ≡ started false n rest
   unfolding started
   over-begun n m [] rest a = refl
-  over-begun n m ([] ∷ ys) rest a = absurd cc
-  over-begun zero m ((y ∷ z) ∷ ys) rest a = let e : eqb (length (m ∷ (y ∷ z))) 1 ≡ false = grind (arith, nat_tests) in rw e (over-begun zero m ys rest a)
-  over-begun (suc n) m ((y ∷ z) ∷ ys) rest a = let e : eqb (length (m ∷ (y ∷ z))) 1 ≡ false = grind (arith, nat_tests) in rw e (over-begun (suc n) m ys rest a)
+  over-begun n m (y ∷ ys) rest a = search (rules, nat_tests, over-begun n m ys rest)
 
   nodes-kept : (X : M → List (List M)) → ((m : M) → list_all some (X m) ≡ true) → (n : ℕ) (ms : List M)
       → keep false n (flat_map (λ m. node m (X m)) ms) ≡ flat_map (λ solution. solution) (take n (map (λ m. node m (X m)) ms))
@@ -91,7 +84,7 @@ module _ {M : Type 0} where
 
   all-append : (xs ys : List (List M)) → list_all some xs ≡ true → list_all some ys ≡ true → list_all some (xs ++ ys) ≡ true
   all-append [] ys a b = b
-  all-append (x ∷ xs) ys a b = let c = both (some x) (list_all some xs) a in rw c.0 (all-append xs ys c.1 b)
+  all-append (x ∷ xs) ys a b = search (rules, all-append xs ys)
 
   all-over : (m : M) (xs : List (List M)) → list_all some (map (λ path. m ∷ path) xs) ≡ true
   all-over m [] = refl
@@ -150,21 +143,11 @@ module _ {P M : Type 0} (game : Game P M) (plan : Plan) (battle : is_help plan.f
   set-most : (battle : Battle) (n h : ℕ) → suc h ≡ halves battle n - 1 → h ≤ 2 * n
   set-most battle n h e = search rules
 
-  set-some : (battle : Battle) (n h : ℕ) → suc h ≡ halves battle n - 1 → (k : ℕ) × (n ≡ suc k)
-  set-some Selfmate zero h e = absurd (omega (arith, e))
-  set-some Direct zero h e = absurd (omega (arith, e))
-  set-some battle (suc k) h e = (k, refl)
-
-  key-some : (battle : Battle) (n h : ℕ) → suc h ≡ halves battle n → (k : ℕ) × (n ≡ suc k)
-  key-some Selfmate zero h e = absurd (omega (arith, e))
-  key-some Direct zero h e = absurd (omega (arith, e))
-  key-some battle (suc k) h e = (k, refl)
-
   -- the play: the tree
   pub tree-cut : (n h max : ℕ) (p : P) → suc h ≡ halves (battle_of plan.form) n
       → IsCutInto false max (shown plan game true (suc h) (suc h) p (game.moves p)) (tree (battle_of plan.form) game (varies plan) n (suc h) p)
   tree-cut n h max p e =
-      let k = key-some (battle_of plan.form) n h e in
+      let k = half-some game (battle_of plan.form) n (omega (arith, e)) in
       let e2 : suc h ≡ halves (battle_of plan.form) (suc k.0) = e ∙ ap (halves (battle_of plan.form)) k.1 in
       let l : halves (battle_of plan.form) (suc k.0) - 1 ≡ h = omega (arith, e2) in
       let one : suc h - 1 ≡ h = omega arith in
@@ -179,7 +162,7 @@ module _ {P M : Type 0} (game : Game P M) (plan : Plan) (battle : is_help plan.f
       → IsCutInto false max (shown plan game true (suc h) (suc h) p (game.moves p)) (set_tree (battle_of plan.form) game (varies plan) n (suc h) p)
   unfolding set_tree
   set-cut n h max p e =
-      let k = set-some (battle_of plan.form) n h e in
+      let k = half-some game (battle_of plan.form) n (omega (arith, e)) in
       let e2 : suc h + 1 ≡ halves (battle_of plan.form) (suc k.0) = omega (arith, e, ap (halves (battle_of plan.form)) k.1) in
       let s : seeks (battle_of plan.form) (suc h + 1) ≡ true = rw e2 (halves-seek game (battle_of plan.form) k.0) in
       let s1 : seeks (battle_of plan.form) (suc h) ≡ false = flip game _ (sym (seeks-step game (battle_of plan.form) (suc h)) ∙ s) in

@@ -108,10 +108,9 @@ module _ {P M : Type 0} (game : Game P M) where
       let m : first_from Direct game q n 1 ≡ first_from Direct game q k.0 1 = length-more Direct game q k.0 n 1 (rw b v) (omega (arith, k.1, most)) in
       rw a (sym m ∙ omega (arith, least-direct game q n))
 
-  half-some : (battle : Battle) (k l : ℕ) → suc l ≡ halves battle k → (j : ℕ) × (k ≡ suc j)
-  half-some Selfmate zero l e = absurd (omega (arith, e))
-  half-some Direct zero l e = absurd (omega (arith, e))
-  half-some battle (suc j) l e = (j, refl)
+  pub half-some : (battle : Battle) (k : ℕ) → 0 < halves battle k → (j : ℕ) × (k ≡ suc j)
+  half-some Selfmate k some = (k - 1, omega (arith, some))
+  half-some Direct k some = (k - 1, omega (arith, some))
 
   -- the value of Black's position holds after each of his moves
   value-black : (battle : Battle) (t : ℕ) (q : P) → game.goal q ≡ false → seeks battle (suc t) ≡ false → value battle game (suc t) q ≡ true
@@ -202,7 +201,7 @@ module _ {P M : Type 0} (game : Game P M) where
               (battle_of plan.form),
         ))
         go (suc l) e h =
-            let j = half-some (battle_of plan.form) _ l h in
+            let j = half-some (battle_of plan.form) (least (battle_of plan.form) game n q) (omega (arith, h)) in
             let h2 : suc l ≡ halves (battle_of plan.form) (suc j.0) = h ∙ ap (halves (battle_of plan.form)) j.1 in
             let n2 : l + 1 ≡ halves (battle_of plan.form) (suc j.0) = omega (arith, h2) in
             let l2 : halves (battle_of plan.form) (suc j.0) - 1 ≡ l = omega (arith, h2) in
