@@ -63,7 +63,7 @@ module _ (rule : RuleSet) (h : ℕ) (p : Position) where
   unfolding IsLinked IsRoomy AreKnown position
   walking-learned f known below board r w = search rules
 
-  walking-moved : (plan : Plan) (f : Frame) (next : ℕ) (below : List Frame) (board after : Position) → IsWalking rule h p (f ∷ below) board → after ≡ board
+  pub walking-moved : (plan : Plan) (f : Frame) (next : ℕ) (below : List Frame) (board after : Position) → IsWalking rule h p (f ∷ below) board → after ≡ board
       → IsWalking rule h p (moved f next ∷ below) after
   unfolding IsRoomy
   walking-moved plan f next below board after r e = search (rules, IsLinked-moved, known-moved, position-moved)
@@ -199,40 +199,17 @@ module _ (rule : RuleSet) (plan : Plan) (h : ℕ) (p : Position) (f : Frame) (be
           };
         }
 
--- the same once moves that don't count have been passed over
+-- a frame is closed once moves that don't count have been passed over
 module _ (rule : RuleSet) (plan : Plan) (h : ℕ) (p : Position) (f : Frame) (below : List Frame) (board : Position)
     (r : IsWalking rule h p (f ∷ below) board) where
-  passed_to : (mid : ℕ) → IsWalking rule h p (moved f mid ∷ below) board
-  passed_to mid = walking-moved rule h p plan f mid below board board r refl
-
   pub skips-close : (after : Position) (count : ℕ) → (f.left ≡ 0) ⊎ GoesTo rule plan f.left (position rule p (f ∷ below)) f.place []
       → (length below ≡ 0 → after ≡ board) → ((q : Position) → 0 < length below → CameFromAt rule f board q → after ≡ q)
       → Steps rule plan h p (f ∷ below) below after count count false
   skips-close after count (inl e) lowest before = steps-close rule plan h p f below board r after count (inl e) lowest before
   skips-close after count (inr g) lowest before =
       steps-skip rule plan h p f below [] g below after count count false
-      (steps-close rule plan h p (moved f g.mid) below board (passed_to g.mid) after count (inr (rw r.board_at g.here)) lowest before)
-
-  module _ (next : ℕ) (m : Triple) (t : ℕ) (left : f.left ≡ suc t)
-      (g : GoesTo rule plan f.left (position rule p (f ∷ below)) f.place (m ∷ moves_behind rule (position rule p (f ∷ below)) next)) where
-    pub skips-pass : (after : Position) (opened opened2 : ℕ) → follows plan (chess plan.goal rule) (eqb (length below) 0) t (played rule board m) ≡ false
-        → after ≡ board
-        → Counts rule plan (eqb (length below) 0) t (played rule board m) opened opened2 → Steps rule plan h p (f ∷ below)
-        (moved f next ∷ below) after opened opened2 false
-    skips-pass after opened opened2 b at x =
-        steps-skip rule plan h p f below _ g _ after opened opened2 false
-        (steps-pass rule plan h p (moved f g.mid) below board (passed_to g.mid) next m t left (rw r.board_at g.here) after opened opened2 b at x)
-
-    pub skips-enter : (after : Position) (opened opened2 : ℕ) → legal rule board m ≡ true
-        → follows plan (chess plan.goal rule) (eqb (length below) 0) t (played rule board m) ≡ true → after ≡ played rule board m
-        → Counts rule plan (eqb (length below) 0) t (played rule board m) opened opened2 → Steps rule plan h p (f ∷ below)
-        (opened_frame m (undo_of rule board m)
-        (goes_on plan (chess plan.goal rule) t (played rule board m)) ∷ (moved f next ∷ below)) after opened opened2
-        (gives plan (chess plan.goal rule) t (played rule board m))
-    skips-enter after opened opened2 lawful b at x =
-        steps-skip rule plan h p f below _ g _ after opened opened2 _
-        (steps-enter rule plan h p (moved f g.mid) below board (passed_to g.mid) next m t left
-        (rw r.board_at g.here) after opened opened2 lawful b at x)
+      (steps-close rule plan h p (moved f g.mid) below board (walking-moved rule h p plan f g.mid below board board r refl) after count
+      (inr (rw r.board_at g.here)) lowest before)
 
 -- what the top frame knows changes nothing of what is to come
 pub steps-learned : (rule : RuleSet) (plan : Plan) (h : ℕ) (p : Position) (f : Frame) (known : Option LegalPlace) (below new : List Frame)

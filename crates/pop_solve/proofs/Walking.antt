@@ -22,7 +22,8 @@ use Rattle.pop_solve.proofs.Tests.{learned, moved}
 use Rattle.pop_solve.specs.ties.Marks.{is_for_mate}
 use Rattle.pop_solve.specs.Aims.{battle_of}
 use Rattle.pop_solve.proofs.GoingOn.{cases}
-use Rattle.pop_solve.proofs.Outcomes.{CameFrom-deep, walking-close, walking-learned, top_room, steps-learned, skips-close, skips-pass, skips-enter}
+use Rattle.pop_solve.proofs.Outcomes.{CameFrom-deep, walking-close, walking-learned, top_room, steps-learned, skips-close, steps-pass, steps-enter, walking-moved}
+use Rattle.pop_solve.proofs.ToCome.{steps-skip}
 
 -- a push, and the frames before a frame was taken off, seen from the top
 pub reverse-push : (xs : List Frame) (x : Frame) → reverse (xs ++ x ∷ []) ≡ x ∷ reverse xs
@@ -80,24 +81,29 @@ module _ (rule : RuleSet) (plan : Plan) (h : ℕ) (top : Frame) (old new : List 
         → (p : Position) → IsWalking rule h p (reverse old) board → Steps rule plan h p (reverse old) (reverse last) after opened opened2 given
     enter_steps root given after opened opened2 flag passes enters counts p r =
         let left : top.left ≡ suc behind = omega (arith, some.0) in
+        let f = learned top known in
         let r2 = walking-learned rule h p top known (reverse new) now (walking_top p board now r at) (rw at within) in
         let flag2 : eqb (length (reverse new)) 0 ≡ root = ap (λ x. eqb x 0) (depth_is ∙ sym d) ∙ sym flag in
         let lawful : legal rule now m ≡ true = rw at some.2 in
         let T : Position → Type 0 = λ b. GoesTo rule plan top.left b top.place (m ∷ moves_behind rule b place) in
-        let next = subst T (sym at ∙ r2.board_at) some.1 in
+        let g = subst T (sym at ∙ r2.board_at) some.1 in
+        let r3 = walking-moved rule h p plan f g.mid (reverse new) now now r2 refl in
+        let here : moves_behind rule now g.mid ≡ m ∷ moves_behind rule now place = rw r2.board_at g.here in
         elim (cases (follows plan (chess plan.goal rule) root behind arrived)) [
           | inl passed ↦
               let x = passes passed in
               rw (popped old new top taken, x.2, mid_is, x.0)
               (steps-learned rule plan h p top known (reverse new) _ after opened opened2 false
-              (skips-pass rule plan h p (learned top known) (reverse new) now r2 place m behind left next after opened opened2
-              (rw flag2 passed) x.1 (rw flag2 counts)))
+              (steps-skip rule plan h p f (reverse new) _ g _ after opened opened2 false
+              (steps-pass rule plan h p (moved f g.mid) (reverse new) now r3 place m behind left here after opened opened2
+              (rw flag2 passed) x.1 (rw flag2 counts))))
           | inr entered ↦
               let x = enters entered in
               rw (popped old new top taken, x.2, reverse-push mid, mid_is, x.0)
               (steps-learned rule plan h p top known (reverse new) _ after opened opened2 _
-              (skips-enter rule plan h p (learned top known) (reverse new) now r2 place m behind left next after opened opened2 lawful
-              (rw flag2 entered) x.1 (rw flag2 counts)))
+              (steps-skip rule plan h p f (reverse new) _ g _ after opened opened2 _
+              (steps-enter rule plan h p (moved f g.mid) (reverse new) now r3 place m behind left here after opened opened2 lawful
+              (rw flag2 entered) x.1 (rw flag2 counts))))
         ]
 
 -- a frame is closed, whatever is walked
