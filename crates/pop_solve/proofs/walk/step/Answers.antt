@@ -1,17 +1,14 @@
-use Rattle.std.proofs.Common.{◌≡◌, ap, refl, arith, rules}
+use Rattle.std.proofs.Common.{◌≡◌, ap, refl, rules}
 use Rattle.pop_solve.specs.ties.Frames.{Frame}
 use Rattle.pop_solve.proofs.Walking as walking
 use Rattle.pop_solve.proofs.walk.step.Goals as goal
 
 pub step_back-requires : goal.step_back-requires
-step_back-requires g c = λ deep.
-    walking.close_asks g.R.Rules.rule c.args.plan c.args.half_moves _ _ _ c.in-Some.ensures.items _ _ _ _ c.requires.walking.1 c.next_of.ensures.unchanged
-    c.len-depth.ensures.value deep
+step_back-requires g c =
+    search (rules, walking.close_asks, c.in-Some.ensures.items, c.requires.walking.1, c.next_of.ensures.unchanged, c.len-depth.ensures.value)
 
 pub next_of-requires : goal.next_of-requires
-next_of-requires g c =
-    let taken = rw (← c.top.view_is) at c.in-Some.ensures.items in
-    record { well_formed = c.requires.well_formed; known = walking.top_known g.R.Rules.rule c.args.plan c.args.half_moves _ _ _ taken _ _ c.requires.walking.1 }
+next_of-requires g c = search (rules, walking.top_known)
 
 pub returns-in_default-next_of : goal.returns-in_default-next_of
 returns-in_default-next_of g c = record {
@@ -23,30 +20,10 @@ returns-in_default-next_of g c = record {
 }
 
 pub push-requires : goal.push-requires
-push-requires g c =
-    let taken = rw (← c.top.view_is) at c.in-Some.ensures.items in
-    let room = walking.room_left g.R.Rules.rule c.args.plan c.args.half_moves _ _ _ taken _ _ c.requires.walking.1 in
-    (search rules, omega (arith, room, c.in-Some-next_of.ensures.next.0, c.requires.room))
+push-requires g c = search (rules, walking.room_left)
 
 pub enter-requires : goal.enter-requires
-enter-requires g c =
-    let taken = rw (← c.top.view_is) at c.in-Some.ensures.items in
-    let room = walking.room_left g.R.Rules.rule c.args.plan c.args.half_moves _ _ _ taken _ _ c.requires.walking.1 in (
-      search rules,
-      (
-        search rules,
-        (
-          rw c.next_of.ensures.unchanged c.requires.well_formed,
-          (
-            omega (arith, room, c.in-Some-next_of.ensures.next.0, c.requires.room, c.push.ensures.len),
-            (
-              rw c.next_of.ensures.unchanged c.in-Some-next_of.ensures.next.2,
-              rw c.next_of.ensures.unchanged c.in-Some-next_of.ensures.mated,
-            ),
-          ),
-        ),
-      ),
-    )
+enter-requires g c = search (rules, walking.room_left)
 
 pub returns : goal.returns
 returns g c = record {
