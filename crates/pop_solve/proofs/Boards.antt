@@ -106,3 +106,5 @@ module _ (goal : Goal) (rule : RuleSet) (p : Position) where
   pub unreached : can_move (chess goal rule) p ≡ true → is_reached goal rule p ≡ false
   unfolding is_goal is_stalemate
   unreached e = search rules
+
+pub ruleset settling = (for_mate, mate-value, walk_count-some)

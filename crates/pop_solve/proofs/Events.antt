@@ -216,3 +216,7 @@ module _ (rule : RuleSet) (problem : Posed) where
   pub next-board : (event : Option Event) (old new : List Step) (board : Position) (depth : ℕ) → Given event old new board depth
       → MatchOption (slice_get old 0) (board ≡ start problem) (λ step. StandsOn rule problem step board depth)
   next-board event old new board depth x = search rules
+
+pub ruleset frames_in_use = (depth-most)
+
+pub ruleset next_event = (next-event, next-left, next-board)

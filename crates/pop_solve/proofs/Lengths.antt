@@ -39,3 +39,5 @@ module _ {P M : Type 0} (battle : Battle) (game : Game P M) (q : P) where
   length-more (suc n) (suc k) a e h =
       let z : a + (suc n + suc n) ≡ (a + 2) + (n + n) = omega arith in
       ap (cond (value battle game a q) a) (length-more n k (a + 2) (rw z at e) (omega (arith, h)))
+
+pub ruleset least_lengths = (length-found, length-next, length-last)

@@ -221,3 +221,5 @@ module _ (rule : RuleSet) (problem : Posed) where
       some [] y ys e = cc
       some (x ∷ xs) y ys e = cc
   fewest-none Behind frames e = refl
+
+pub ruleset all_opened = (rest-none, fewest-none)

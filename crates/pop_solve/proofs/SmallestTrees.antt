@@ -69,3 +69,5 @@ module _ {P M : Type 0} (battle : Battle) (game : Game P M) where
       (sum_by (λ m. smallest_tree battle game 0 (game.after p m)) (game.moves p)) (game.moves p) in
       omega (arith, s, l, nothing p (game.moves p))
   tree-one (suc (suc t)) p e = absurd (omega (arith, e))
+
+pub ruleset shortest = (tree-zero, tree-one)

@@ -58,3 +58,7 @@ module _ {P M : Type 0} (battle : Battle) (game : Game P M) where
       stuck true s c b ms h k = refl
       stuck false true c b ms h k = rw k refl
       stuck false false c b ms h k = rw h refl
+
+pub ruleset last_half_move = (value-mates, value-forced)
+
+pub ruleset free_moves = (value-free)

@@ -60,6 +60,7 @@ fn value_without_move<R: Rules>(goal: Goal, left: usize, board: &Board) -> bool
 
 /// The value of a position with one half-move left, where mate is the goal: White mates, or Black must. The move that
 /// mates is remembered for the next such position, until one has none.
+#[tactic(auto, using(crate::proofs::Values::last_half_move))]
 fn last_value<R: Rules>(battle: Battle, board: &mut Board, killers: &mut Killers<R>) -> bool
     requires well_formed { IsWellFormed board.old }
     ensures unchanged { board.new ≡ board.old }
@@ -77,6 +78,7 @@ fn last_value<R: Rules>(battle: Battle, board: &mut Board, killers: &mut Killers
 
 /// The value of a position, where it is known without a frame; else what is known of its moves, if they were looked for.
 /// The last half-move needs no frame where mate is the goal, and is counted as one.
+#[tactic(auto, using(crate::proofs::Boards::settling, crate::proofs::SmallestTrees::shortest, crate::proofs::Values::free_moves))]
 fn settled<R: Rules>(
     aim: Aim,
     left: usize,

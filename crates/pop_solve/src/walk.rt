@@ -42,6 +42,7 @@ fn fewest(battle: Battle) -> usize
 }
 
 /// The least number of half-moves, by rising lengths, with which White to move reaches his aim; the last, `left`, untried.
+#[tactic(auto, using(crate::proofs::Lengths::least_lengths))]
 fn least_length<R: Rules, const N: usize>(
     aim: Aim,
     left: usize,

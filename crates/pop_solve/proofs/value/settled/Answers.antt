@@ -1,5 +1,5 @@
 use Rattle.std.proofs.Common.{rules, ◌<◌, sym, ◌∙◌, arith}
-use Rattle.pop_solve.proofs.Boards.{for_mate, mate-value, unreached, walk_count-some}
+use Rattle.pop_solve.proofs.Boards.{unreached}
 use Rattle.pop_solve.proofs.SmallestTrees as trees
 use Rattle.pop_solve.proofs.Values as values
 use Rattle.pop_solve.specs.Chess.{chess}
@@ -8,26 +8,11 @@ use Rattle.pop_solve.proofs.value.settled.Goals as goal
 pub returns-then-left-eq0-clause-value : goal.returns-then-left-eq0-clause-value
 returns-then-left-eq0-clause-value g c = c.reaches_goal.ensures.reached ∙ sym (values.value-last _ _ _ _ c.if-left-eq0.true)
 
-pub returns-then-left-eq1-clause-value : goal.returns-then-left-eq1-clause-value
-returns-then-left-eq1-clause-value g c = search (rules, mate-value, for_mate)
-
-pub returns-then-left-eq1-clause-opened : goal.returns-then-left-eq1-clause-opened
-returns-then-left-eq1-clause-opened g c = search (rules, walk_count-some)
-
-pub returns-then-left-eq0-clause-tried : goal.returns-then-left-eq0-clause-tried
-returns-then-left-eq0-clause-tried g c = search (rules, trees.tree-zero)
-
-pub returns-then-left-eq1-clause-tried : goal.returns-then-left-eq1-clause-tried
-returns-then-left-eq1-clause-tried g c = search (rules, trees.tree-one)
-
 pub returns-else-is_some-clause-tried : goal.returns-else-is_some-clause-tried
 returns-else-is_some-clause-tried g c =
     let stuck = sym (c.first_look.ensures.moves c.args.aim.goal) ∙ sym c.if-is_some.ensures in
     let none = trees.tree-none c.args.aim.battle (chess c.args.aim.goal g.R.Rules.rule) c.args.left c.args.board.now stuck in
     omega (arith, none)
-
-pub returns-then-is_free-clause-value : goal.returns-then-is_free-clause-value
-returns-then-is_free-clause-value g c = search (rules, values.value-free)
 
 pub value_without_move-requires : goal.value_without_move-requires
 value_without_move-requires g c = search (rules, c.first_look.ensures.unchanged, c.first_look.ensures.moves, c.if-is_some.ensures)
