@@ -160,3 +160,5 @@ unfolding smallest_tree
 tried-mated rule plan left count q last = search rules
 
 pub ruleset mated = (value-mated, tried-mated)
+
+pub ruleset top_frame = (top_known, room_left)

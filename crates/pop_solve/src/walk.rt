@@ -287,6 +287,7 @@ pub(crate) fn step_back<R: Rules>(depth: usize, top: Frame<R>, board: &mut Board
 
 /// One step of the walk: the next move of the top frame is played, or the frame is closed. Answers whether the path
 /// to the new top frame is given.
+#[tactic(auto, using(crate::proofs::Walking::top_frame))]
 pub(crate) fn step<R: Rules, const N: usize>(
     plan: Plan,
     half_moves: usize,

@@ -7,9 +7,6 @@ pub step_back-requires : goal.step_back-requires
 step_back-requires g c =
     search (rules, walking.close_asks, c.in-Some.ensures.items, c.requires.walking.1, c.next_of.ensures.unchanged, c.len-depth.ensures.value)
 
-pub next_of-requires : goal.next_of-requires
-next_of-requires g c = search (rules, walking.top_known)
-
 pub returns-in_default-next_of : goal.returns-in_default-next_of
 returns-in_default-next_of g c = record {
   steps = λ p r.
@@ -18,12 +15,6 @@ returns-in_default-next_of g c = record {
       walking.close_steps g.R.Rules.rule c.args.plan c.args.half_moves _ _ _ c.in-Some.ensures.items _ _ _ _ _ _ r c.next_of.ensures.unchanged
       c.len-depth.ensures.value (rw (left, place) at c.in_default-next_of.ensures.next) c.step_back.ensures.lowest c.step_back.ensures.before;
 }
-
-pub push-requires : goal.push-requires
-push-requires g c = search (rules, walking.room_left)
-
-pub enter-requires : goal.enter-requires
-enter-requires g c = search (rules, walking.room_left)
 
 pub returns : goal.returns
 returns g c = record {
