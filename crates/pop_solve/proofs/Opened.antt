@@ -104,7 +104,8 @@ module _ (rule : RuleSet) (problem : Posed) where
     pub opens-begun : (old : List Frame) (count count2 : ℕ) (left : List Step) → (0 < f.left → count2 ≡ min (count + 1) (2 ^ 64 - 1))
         → (f.left ≡ 0 → count2 ≡ count) → OpensOn rule problem (Before phase) (Within phase 0) old (f ∷ []) count count2 left
     unfolding rest_open rest_fewest IsNarrow
-    opens-begun old count count2 left more same = search (rules, from-open, opened-most, counted_by, root-counted, from-fewest, whites-root, white-starts, some_way)
+    opens-begun old count count2 left more same =
+        search (rules, from-open, opened-most, counted_by, root-counted, from-fewest, whites-root, white-starts, some_way)
 
   -- within a phase
   module _ (phase : Phase) (count : ℕ) (old new : List Frame) (before after : ℕ)

@@ -67,7 +67,21 @@ module _ (rule : RuleSet) (p : Position) (k : ℕ) where
   none_behind = pass_all 28672 k (k + 28672) refl (λ i lo hi h. omega (arith, lo, h)) ∙ (rw (moves_behind-end rule p (k + 28672) (omega arith)) refl)
 
   here_alone : filter (is_at k) (moves_behind rule p (k - 1)) ≡ moves_between rule p (k - 1) k
-  here_alone = search (rules, cases_lt, cases_Bool, between-past, moves_behind-end, between-here, moves_behind-here, between-skip, moves_behind-skip, between-none, none_behind, place_of_triple)
+  here_alone =
+      search (
+        rules,
+        cases_lt,
+        cases_Bool,
+        between-past,
+        moves_behind-end,
+        between-here,
+        moves_behind-here,
+        between-skip,
+        moves_behind-skip,
+        between-none,
+        none_behind,
+        place_of_triple,
+      )
 
   one_place : moves_between rule p (k - 1) k ≡ filter (is_at k) (legal_moves rule p)
   one_place =
