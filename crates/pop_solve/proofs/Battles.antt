@@ -1,16 +1,9 @@
 -- The value by half-moves is what the battle definitions say.
 use Rattle.pop_solve.specs.declared.aim.Battle.{Battle}
 use Rattle.pop_solve.specs.declared.aim.Battle.TheVariants.{Direct, Selfmate}
-use Rattle.std.proofs.Common.{◌≡◌, ℕ, zero, suc, ◌*◌, ◌-◌, ◌%◌, Bool, true, false, ◌&&◌, ◌||◌, refl, ◌∙◌, ap, arith}
-use Rattle.std.specs.Prelude.{◌==◌}
+use Rattle.std.proofs.Common.{◌≡◌, ℕ, zero, suc, ◌*◌, ◌%◌, Bool, false, ◌&&◌, ◌||◌, refl, ◌∙◌, ap, arith, rules}
 use Rattle.pop_solve.specs.Game.{Game, can_move, some_move, every_move, lost, wins, self_wins, self_lost}
 use Rattle.pop_solve.specs.ties.Values.{value}
-
-even-is : (t : ℕ) → t % 2 ≡ 0 → (t % 2 == 0) ≡ true
-even-is t e = rw e refl
-
-odd-is : (t : ℕ) → t % 2 ≡ 1 → (t % 2 == 0) ≡ false
-odd-is t e = rw e refl
 
 module _ {P M : Type 0} (game : Game P M) where
   -- direct play: White needs one good move at an odd number of half-moves
@@ -49,8 +42,7 @@ module _ {P M : Type 0} (game : Game P M) where
   self-odd t p e = rw e refl
 
   or-false : (b : Bool) → b ≡ (b || false)
-  or-false true = refl
-  or-false false = refl
+  or-false b = search rules
 
   pub value-self_wins : (k : ℕ) (r : P) → value Selfmate game (2 * k) r ≡ (game.goal r || self_wins game k r)
   unfolding self_wins
@@ -63,6 +55,4 @@ module _ {P M : Type 0} (game : Game P M) where
 
   pub value-self_lost : (k : ℕ) (q : P) → value Selfmate game (suc (2 * k)) q ≡ self_lost game (suc k) q
   unfolding self_lost
-  value-self_lost k q =
-      let e : suc k - 1 ≡ k = omega arith in
-      self-odd (2 * k) q (omega arith) ∙ rw e (ap (λ test. can_move game q && every_move game test q) (λ i x. value-self_wins k x i))
+  value-self_lost k q = search (rules, self-odd, value-self_wins)

@@ -1,12 +1,11 @@
 -- What the calls of the rules say in the words of the search.
 use Rattle.pop_input.specs.declared.stipulation.Goal.{Goal}
-use Rattle.pop_input.specs.declared.stipulation.Goal.TheVariants.{Mate, Stalemate}
-use Rattle.std.proofs.Common.{◌≡◌, ℕ, zero, suc, ◌-◌, ◌<◌, ◌≤◌, Bool, true, false, ◌||◌, ◌&&◌, cond, not, eqb, List, [], ◌∷◌, ◌++◌, length, filter, Option, Some, None, is_some, MatchOption, refl, sym, ap, ◌∙◌, arith}
+use Rattle.pop_input.specs.declared.stipulation.Goal.TheVariants.{Mate}
+use Rattle.std.proofs.Common.{◌≡◌, ℕ, ◌-◌, ◌<◌, ◌≤◌, Bool, true, false, not, eqb, List, [], ◌∷◌, ◌++◌, length, filter, Option, Some, None, is_some, MatchOption, refl, sym, ap, ◌∙◌, arith, rules}
 use Rattle.std.proofs.lemmas.Bool.Decides.{nat_tests}
 use Rattle.std.specs.List.{list_any}
 use Rattle.chess_core.specs.Position.{Position}
 use Rattle.chess_core.specs.Triple.{Triple}
-use Rattle.chess_rules.specs.Attacks.{in_check}
 use Rattle.chess_rules.specs.Legal.{is_goal, is_nil, is_stalemate, legal, moves}
 use Rattle.chess_rules.specs.ties.Places.{is_mating, mates_behind, mates_between, moves_behind, moves_between}
 use Rattle.chess_rules.proofs.listing_moves.Between.{cut_mates, cut_moves}
@@ -19,8 +18,7 @@ use Rattle.pop_solve.specs.ties.Values.{value}
 use Rattle.pop_solve.specs.declared.aim.Battle.{Battle}
 
 is_nil-length : (ms : List Triple) → not (is_nil ms) ≡ not (eqb (length ms) 0)
-is_nil-length [] = refl
-is_nil-length (m ∷ ms) = grind (arith, nat_tests)
+is_nil-length ms = search rules
 
 pub can_move-is : (goal : Goal) (rule : RuleSet) (p : Position) → not (is_nil (moves rule p)) ≡ can_move (chess goal rule) p
 can_move-is goal rule p = is_nil-length (moves rule p)
@@ -33,8 +31,7 @@ behind_start rule p = refl
 pub ruleset some_move = (can_move-is)
 
 pub for_mate : (goal : Goal) → is_for_mate goal ≡ true → goal ≡ Mate
-for_mate Mate e = refl
-for_mate Stalemate e = absurd cc
+for_mate goal e = search rules
 
 -- what is said of mates, with one half-move left, holds where mate is the goal
 pub mate-value : (rule : RuleSet) (battle : Battle) (goal : Goal) (left : ℕ) (p : Position) (v : Bool) → goal ≡ Mate → left ≡ 1
@@ -44,13 +41,8 @@ mate-value rule battle goal left p v for one e = rw (for, one) e
 -- a mate says that there is one, wherever it was looked for
 module _ (rule : RuleSet) (p : Position) where
   any_mating : (ms : List Triple) → list_any (is_mating rule p) ms ≡ not (is_nil (filter (is_mating rule p) ms))
-  any_mating [] = refl
-  any_mating (m ∷ ms) = elim
-      (is_mating rule p m) as (λ b. (b || list_any (is_mating rule p) ms)
-      ≡ not (is_nil (cond b (m ∷ filter (is_mating rule p) ms) (filter (is_mating rule p) ms)))) [
-        | true ↦ refl
-        | false ↦ any_mating ms
-      ]
+  any_mating [] = search rules
+  any_mating (m ∷ ms) = search (rules, any_mating ms)
 
   some_mates : (b : ℕ) → some_good (chess Mate rule) (is_goal rule) p ≡ not (is_nil (mates_between rule p 0 b ++ mates_behind rule p b))
   unfolding mates_behind
@@ -85,8 +77,7 @@ module _ (rule : RuleSet) (p : Position) where
 -- with a half-move left there is something to walk
 pub walk_count-some : {P M : Type 0} (moves : P → List M) (after : P → M → P) (left : ℕ) (p : P) → 0 < left → 1 ≤ walk_count moves after left p
 unfolding walk_count
-walk_count-some moves after zero p some = absurd (omega (arith, some))
-walk_count-some moves after (suc t) p some = omega arith
+walk_count-some moves after left p some = search rules
 
 -- a move that is found says that there is one, wherever it was looked for
 module _ (goal : Goal) (rule : RuleSet) (p : Position) where
@@ -109,19 +100,11 @@ module _ (goal : Goal) (rule : RuleSet) (p : Position) where
   pub has_first : (place next : ℕ) (o : Option Triple) → place ≡ 0
       → MatchOption o (moves_behind rule p place ≡ []) (λ m. (moves_behind rule p place ≡ m ∷ moves_behind rule p next) × (legal rule p m ≡ true))
       → is_some o ≡ can_move (chess goal rule) p
-  has_first place next None at found = rw (sym (behind_start rule p) ∙ (rw at at found)) refl
-  has_first place next (Some m) at found = sym (some-then (moves rule p) m _ (sym (behind_start rule p) ∙ (rw at at found.0)))
+  has_first place next o at found = search (rules, behind_start, some-then)
 
   -- where there is a move the goal isn't reached
   pub unreached : can_move (chess goal rule) p ≡ true → is_reached goal rule p ≡ false
   unfolding is_goal is_stalemate
-  unreached e = by goal (can_move-is goal rule p ∙ e)
-    where
-      pair : (c n : Bool) → not n ≡ true → (c && n) ≡ false
-      pair true true h = absurd cc
-      pair true false h = refl
-      pair false n h = refl
+  unreached e = search rules
 
-      by : (goal : Goal) → not (is_nil (moves rule p)) ≡ true → is_reached goal rule p ≡ false
-      by Mate h = pair (in_check rule p.men p.turn) (is_nil (moves rule p)) h
-      by Stalemate h = pair (not (in_check rule p.men p.turn)) (is_nil (moves rule p)) h
+pub ruleset settling = (for_mate, mate-value, walk_count-some)

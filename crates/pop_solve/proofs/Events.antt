@@ -1,6 +1,5 @@
 -- What a call gives.
-use Rattle.chess_rules.specs.Play.{after as played}
-use Rattle.std.proofs.Common.{option_map, slice_get, ◌≡◌, ℕ, zero, suc, ◌+◌, ◌-◌, ◌≤◌, Bool, true, false, ◌||◌, eqb, cond, List, [], ◌∷◌, length, map, take, drop, reverse, refl, sym, ◌∙◌, ap, append_assoc, arith, ◌^◌, min, Option, Some, None, MatchOption, is_some}
+use Rattle.std.proofs.Common.{option_map, slice_get, ◌≡◌, ℕ, zero, suc, ◌+◌, ◌-◌, ◌≤◌, true, false, ◌||◌, eqb, cond, List, [], ◌∷◌, length, take, drop, reverse, refl, append_assoc, arith, ◌^◌, min, Option, None, MatchOption, is_some, rules}
 use Rattle.std.specs.List.{flat_map}
 use Rattle.std.proofs.lemmas.Bool.Decides.{nat_tests}
 use Rattle.std.proofs.lemmas.List.{length-reverse}
@@ -15,7 +14,6 @@ use Rattle.pop_solve.specs.declared.event.Phase.TheVariants.{Set, Play}
 use Rattle.pop_input.specs.Stipulations.{is_help, half_moves}
 use Rattle.pop_solve.proofs.Sound.{in_range}
 use Rattle.pop_solve.specs.ties.Frames.{AreKnown, Frame, position, IsLinked}
-use Rattle.pop_solve.specs.Game.{reach}
 use Rattle.pop_solve.specs.ties.Walk.{path, IsWalking, IsRoomy}
 use Rattle.pop_solve.specs.Events.{Step, start, is_set, opening, line, tree_node, total, step_of, event_of, phase_start, phase_half_moves, phase_half, shown_along, shown_last, steps_from, phase_steps, is_barred, counted, solutions, events}
 use Rattle.pop_solve.specs.ties.Seen.{StandsOn}
@@ -47,9 +45,7 @@ pub node-event : (problem : Posed) (phase : Phase) (frames : List Frame) (half d
     → half ≡ phase_half problem phase → depth + 2 ≡ length frames → (rule : RuleSet)
     → shown ≡ shown_last problem.stipulation.goal rule (phase_start problem phase) (path (reverse frames))
     → Node depth (half + depth) shown ≡ event_of rule problem (step_of problem phase (path (reverse frames)))
-node-event problem phase frames half depth shown help h e rule s =
-    let l : length (path (reverse frames)) - 1 ≡ depth = omega (arith, path-length (reverse frames), length-reverse frames, e) in
-    rw (step-battle problem phase (path (reverse frames)) help, l, h, s) refl
+node-event problem phase frames half depth shown help h e rule s = search (rules, path-length, length-reverse, step-battle)
 
 pub room-length : (h : ℕ) (fs : List Frame) → IsRoomy h fs → length fs ≤ h + 1
 unfolding IsRoomy
@@ -60,19 +56,7 @@ room-length h (f ∷ below) s = omega (arith, s.0)
 module _ (rule : RuleSet) (problem : Posed) (phase : Phase) (h : ℕ) (frames : List Frame) (board : Position)
     (r : IsWalking rule h (phase_start problem phase) (reverse frames) board) (deep : 2 ≤ length frames) where
   pub stands_at : StandsOn rule problem (step_of problem phase (path (reverse frames))) board (length frames)
-  stands_at = go (is_help problem.stipulation.form)
-    where
-      here : (board ≡ reach (played rule) (phase_start problem phase) (path (reverse frames))) × (length frames ≡ length (path (reverse frames)) + 1)
-      here = (
-        r.board_at ∙ reach-path problem.stipulation.goal rule (phase_start problem phase) (reverse frames),
-        omega
-            (arith, path-length (reverse frames), length-reverse frames, deep),
-      )
-
-      go : (help : Bool)
-          → StandsOn rule problem (cond help (line phase (path (reverse frames))) (tree_node phase (path (reverse frames)))) board (length frames)
-      go true = here
-      go false = here
+  stands_at = search (rules, reach-path, path-length, length-reverse)
 
   pub shallow : h ≤ 32 → length frames ≤ 33
   shallow least = omega (arith, room-length h (reverse frames) r.roomy, length-reverse frames)
@@ -86,19 +70,14 @@ module _ (rule : RuleSet) (problem : Posed) (phase : Phase) (count : ℕ) (old n
   pub left-given : (next : ℕ) → next ≡ count + more
       → left_of rule problem (Within phase count) old ≡ step_of problem phase (path new) ∷ left_of rule problem (Within phase next) new
   unfolding left_of
-  left-given next e =
-      let n : problem.max_solutions - count - more ≡ problem.max_solutions - next = omega (arith, e, most) in
-      let s : count + started (is_help problem.stipulation.form) (problem.max_solutions - count) (phase_paths rule problem phase old) ≡ next + started
-      (is_help problem.stipulation.form) (problem.max_solutions - next) (phase_paths rule problem phase new) = rw (w.starts refl, n) (omega (arith, e)) in
-      rw (w.come refl, s, n) refl
+  left-given next e = search rules
 
 -- none is given: the total is left
 pub left-ended : (rule : RuleSet) (problem : Posed) (phase : Phase) (count : ℕ) (old new : List Frame) (board : Position)
     → Walks rule (plan_of problem) (phase_half_moves problem phase) (phase_start problem phase) (problem.max_solutions - count) old new board false
     → left_of rule problem (Within phase count) old ≡ total count (eqb count problem.max_solutions) ∷ cond (is_set phase) (steps_from rule problem Play) []
 unfolding left_of
-left-ended rule problem phase count old new board w =
-    let n : count + 0 ≡ count = omega arith in rw (w.ended refl, w.none refl, n) refl
+left-ended rule problem phase count old new board w = search rules
 
 pub within-limit : (rule : RuleSet) (problem : Posed) (phase : Phase) (count : ℕ) (frames : List Frame) (board : Position)
     → IsStanding rule problem (Within phase count) frames board → count ≤ problem.max_solutions
@@ -116,9 +95,7 @@ module _ (rule : RuleSet) (problem : Posed) (phase : Phase) (count : ℕ) (old :
   deep-given = omega (arith, w.deep refl, length-reverse frames)
 
   begins-given : (is_help problem.stipulation.form || eqb (length frames) 2) ≡ begins (is_help problem.stipulation.form) (path (reverse frames))
-  begins-given =
-      let l : length frames - 1 ≡ length (path (reverse frames)) = omega (arith, path-length (reverse frames), length-reverse frames) in
-      ap (λ b. is_help problem.stipulation.form || b) (two_one (length frames) deep-given ∙ ap (λ n. eqb n 1) l)
+  begins-given = search (rules, path-length, length-reverse, two_one, deep-given)
 
   pub room-given : cond (is_help problem.stipulation.form || eqb (length frames) 2) 1 0 ≤ problem.max_solutions - count
   room-given = rw begins-given (w.within refl)
@@ -127,12 +104,7 @@ module _ (rule : RuleSet) (problem : Posed) (phase : Phase) (count : ℕ) (old :
       → event ≡ event_of rule problem (step_of problem phase (path (reverse frames)))
       → Gives rule problem (left_of rule problem (Within phase count) old) (left_of rule problem (Within phase next) (reverse frames)) event board
       (length frames)
-  gives-here next event n e = record {
-    step = step_of problem phase (path (reverse frames));
-    left = left-given rule problem phase count old (reverse frames) board most w next (n ∙ ap (λ b. count + cond b 1 0) begins-given);
-    event_is = e;
-    stands = stands_at rule problem phase (phase_half_moves problem phase) frames board w.walking deep-given;
-  }
+  gives-here next event n e = search (rules, left-given, begins-given, stands_at, deep-given)
 
   stands-here : (next : ℕ) → next ≡ count + cond (is_help problem.stipulation.form || eqb (length frames) 2) 1 0
       → IsStanding rule problem (Within phase next) (reverse frames) board
@@ -161,14 +133,12 @@ module _ (rule : RuleSet) (problem : Posed) (phase : Phase) (count : ℕ) (old :
 behind-left : (rule : RuleSet) (problem : Posed) (phase : Phase) (frames : List Frame)
     → left_of rule problem (cond (is_set phase) (Before Play) Behind) frames ≡ cond (is_set phase) (steps_from rule problem Play) []
 unfolding left_of
-behind-left rule problem Set frames = refl
-behind-left rule problem Play frames = refl
+behind-left rule problem phase frames = search rules
 
 behind-standing : (rule : RuleSet) (problem : Posed) (phase : Phase) (board : Position) → board ≡ start problem
     → IsStanding rule problem (cond (is_set phase) (Before Play) Behind) [] board
 unfolding IsStanding
-behind-standing rule problem Set board e = (refl, e)
-behind-standing rule problem Play board e = (refl, e)
+behind-standing rule problem phase board e = search rules
 
 module _ (rule : RuleSet) (problem : Posed) (phase : Phase) (stage : Stage) (new : List Frame) (board : Position)
     (at : stage ≡ cond (is_set phase) (Before Play) Behind) (none : new ≡ []) where
@@ -176,13 +146,7 @@ module _ (rule : RuleSet) (problem : Posed) (phase : Phase) (stage : Stage) (new
       → Walks rule (plan_of problem) (phase_half_moves problem phase) (phase_start problem phase) (problem.max_solutions - count) old mid now false
       → Gives rule problem (left_of rule problem (Within phase count) old) (left_of rule problem stage (reverse new))
       (Total count (eqb count problem.max_solutions)) board depth
-  gives-ended count depth old mid now w = record {
-    step = total count (eqb count problem.max_solutions);
-    left = left-ended rule problem phase count old mid now w ∙ ap (λ s. total count (eqb count problem.max_solutions) ∷ s)
-        (sym (ap (λ s. left_of rule problem s (reverse new)) at ∙ behind-left rule problem phase (reverse new)));
-    event_is = refl;
-    stands = tt;
-  }
+  gives-ended count depth old mid now w = search (rules, left-ended, behind-left)
 
   pub standing-ended : board ≡ start problem → IsStanding rule problem stage (reverse new) board
   standing-ended e = rw (at, none) (behind-standing rule problem phase board e)
@@ -191,8 +155,7 @@ module _ (rule : RuleSet) (problem : Posed) (phase : Phase) (stage : Stage) (new
 pub left-barred : (rule : RuleSet) (problem : Posed) (phase : Phase) (frames : List Frame) → is_barred rule problem phase ≡ true
     → left_of rule problem (Before phase) frames ≡ opening phase ∷ left_of rule problem Barred frames
 unfolding left_of phase_steps
-left-barred rule problem Set frames e = rw e refl
-left-barred rule problem Play frames e = absurd cc
+left-barred rule problem phase frames e = search rules
 
 -- a phase begins
 pub left-begun : (rule : RuleSet) (problem : Posed) (phase : Phase) (old new : List Frame) → is_barred rule problem phase ≡ false
@@ -201,51 +164,18 @@ pub left-begun : (rule : RuleSet) (problem : Posed) (phase : Phase) (old new : L
     (phase_paths rule problem phase new) ≡ counted rule problem phase → left_of rule problem (Before phase) old ≡ opening phase ∷ left_of rule problem
     (Within phase 0) new
 unfolding left_of phase_steps
-left-begun rule problem Set old new e kept begun =
-    let n : problem.max_solutions - 0 ≡ problem.max_solutions = omega arith in
-    let z : 0 + counted rule problem Set ≡ counted rule problem Set = omega arith in
-    rw (e, n, kept, begun, z)
-    (ap (λ xs. opening Set ∷ xs)
-    (append_assoc (map (step_of problem Set) (flat_map (λ solution. solution) (take problem.max_solutions (solutions rule problem Set)))) _ _))
-left-begun rule problem Play old new e kept begun =
-    let n : problem.max_solutions - 0 ≡ problem.max_solutions = omega arith in
-    let z : 0 + counted rule problem Play ≡ counted rule problem Play = omega arith in
-    rw (n, kept, begun, z) refl
+left-begun rule problem phase old new e kept begun = search (rules, append_assoc)
 
 pub standing-begun : (rule : RuleSet) (problem : Posed) (phase : Phase) (f : Frame) (board : Position) → f.left ≡ phase_half_moves problem phase
     → f.known ≡ None → board ≡ phase_start problem phase → IsWellFormed board → IsStanding rule problem (Within phase 0) (f ∷ []) board
 unfolding IsStanding IsLinked IsRoomy AreKnown position
-standing-begun rule problem phase f board l none e sound = (
-  record {
-    linked = tt;
-    roomy = (
-      omega
-          (arith, l),
-      tt,
-    );
-    known = (rw none tt, tt);
-    sound = sound;
-    board_at = e;
-  },
-  omega arith,
-)
+standing-begun rule problem phase f board l none e sound = search rules
 
 -- the frames in use
 pub depth-most : (rule : RuleSet) (problem : Posed) (stage : Stage) (frames : List Frame) (board : Position)
     → IsStanding rule problem stage (reverse frames) board → length frames ≤ half_moves problem.stipulation + 1
 unfolding IsStanding
-depth-most rule problem (Before phase) frames board s = omega (arith, ap length s.0, length-reverse frames)
-depth-most rule problem Barred frames board s = omega (arith, ap length s.0, length-reverse frames)
-depth-most rule problem Behind frames board s = omega (arith, ap length s.0, length-reverse frames)
-depth-most rule problem (Within phase count) frames board s =
-    omega (arith, rooms (reverse frames) (phase_half_moves problem phase) s.0.roomy, phase-most problem phase, length-reverse frames)
-  where
-    rooms : (fs : List Frame) (h : ℕ) → IsRoomy h fs → length fs ≤ h + 1
-    rooms fs h r = room-length h fs r
-
-    phase-most : (problem : Posed) (phase : Phase) → phase_half_moves problem phase ≤ half_moves problem.stipulation
-    phase-most problem Set = omega arith
-    phase-most problem Play = omega arith
+depth-most rule problem stage frames board s = search (rules, length-reverse, room-length)
 
 -- the steps still to come after a call
 drop-next : {A : Type 0} (k : ℕ) (xs : List A) (y : A) (ys : List A) → y ∷ ys ≡ drop k xs → ys ≡ drop (suc k) xs
@@ -256,32 +186,20 @@ drop-next (suc k) (x ∷ xs) y ys e = drop-next k xs y ys e
 
 pub given-next : (rule : RuleSet) (problem : Posed) (old new : List Step) (step : Step) (given given2 : ℕ) → old ≡ step ∷ new
     → given2 ≡ min (given + 1) (2 ^ 64 - 1) → IsGiven rule problem old given → IsGiven rule problem new given2
-given-next rule problem old new step given given2 e more g =
-    let n = length (events rule problem) in
-    let l : length old ≡ length new + 1 = omega (arith, ap length e) in
-    let k : n - length new ≡ suc (n - length old) = omega (arith, l, g.within) in
-    record {
-      within = omega (arith, l, g.within);
-      ending = rw k (drop-next (n - length old) (events rule problem) step new (sym e ∙ g.ending));
-      counts = omega (arith, more, l, g.within, g.counts);
-    }
+given-next rule problem old new step given given2 e more g = search (rules, drop-next)
 
 pub given-all : (rule : RuleSet) (problem : Posed) → IsGiven rule problem (events rule problem) 0
-given-all rule problem =
-    let z : length (events rule problem) - length (events rule problem) ≡ 0 = omega arith in
-    record { within = omega arith; ending = rw z refl; counts = omega arith }
+given-all rule problem = search rules
 
 pub given-event : (rule : RuleSet) (problem : Posed) (event : Option Event) (old new : List Step) (board : Position) (depth given given2 : ℕ)
     → is_some event ≡ true → MatchOption event ((old ≡ []) × (board ≡ start problem) × (new ≡ [])) (λ e. Gives rule problem old new e board depth)
     → given2 ≡ min (given + 1) (2 ^ 64 - 1) → IsGiven rule problem old given → IsGiven rule problem new given2
-given-event rule problem None old new board depth given given2 some x more g = absurd cc
-given-event rule problem (Some e) old new board depth given given2 some x more g = given-next rule problem old new x.step given given2 x.left more g
+given-event rule problem event old new board depth given given2 some x more g = search (rules, given-next)
 
 pub given-none : (rule : RuleSet) (problem : Posed) (event : Option Event) (old new : List Step) (board : Position) (depth given : ℕ)
     → is_some event ≡ false → MatchOption event ((old ≡ []) × (board ≡ start problem) × (new ≡ [])) (λ e. Gives rule problem old new e board depth)
     → IsGiven rule problem old given → IsGiven rule problem new given
-given-none rule problem None old new board depth given none x g = let e : old ≡ new = x.0 ∙ sym x.2 in rw (← e) g
-given-none rule problem (Some e) old new board depth given none x g = absurd cc
+given-none rule problem event old new board depth given none x g = search rules
 
 -- what a call answers, and where it leaves the search
 module _ (rule : RuleSet) (problem : Posed) where
@@ -290,14 +208,15 @@ module _ (rule : RuleSet) (problem : Posed) where
 
   pub next-event : (event : Option Event) (old new : List Step) (board : Position) (depth : ℕ) → Given event old new board depth
       → event ≡ option_map (event_of rule problem) (slice_get old 0)
-  next-event None old new board depth x = rw x.0 refl
-  next-event (Some e) old new board depth x = rw (x.left, x.event_is) refl
+  next-event event old new board depth x = search rules
 
   pub next-left : (event : Option Event) (old new : List Step) (board : Position) (depth : ℕ) → Given event old new board depth → new ≡ drop 1 old
-  next-left None old new board depth x = rw (x.0, x.2) refl
-  next-left (Some e) old new board depth x = rw x.left refl
+  next-left event old new board depth x = search rules
 
   pub next-board : (event : Option Event) (old new : List Step) (board : Position) (depth : ℕ) → Given event old new board depth
       → MatchOption (slice_get old 0) (board ≡ start problem) (λ step. StandsOn rule problem step board depth)
-  next-board None old new board depth x = rw x.0 x.1
-  next-board (Some e) old new board depth x = rw x.left x.stands
+  next-board event old new board depth x = search rules
+
+pub ruleset frames_in_use = (depth-most)
+
+pub ruleset next_event = (next-event, next-left, next-board)

@@ -1,15 +1,14 @@
 -- The first solutions of a phase, by the paths that begin them.
-use Rattle.std.proofs.Common.{◌≡◌, ℕ, zero, suc, ◌+◌, ◌-◌, ◌<◌, ◌≤◌, Bool, true, false, ◌&&◌, ◌||◌, eqb, cond, List, [], ◌∷◌, ◌++◌, length, map, refl, sym, ◌∙◌, ap, subst, arith, inl, inr}
+use Rattle.std.proofs.Common.{◌≡◌, ℕ, zero, suc, ◌+◌, ◌-◌, ◌<◌, ◌≤◌, Bool, true, false, ◌&&◌, ◌||◌, eqb, cond, List, [], ◌∷◌, ◌++◌, length, map, refl, ◌∙◌, ap, arith, inr, rules}
 use Rattle.std.proofs.lemmas.List.{append-nil}
 use Rattle.std.proofs.lemmas.Bool.Decides.{nat_tests}
 use Rattle.chess_core.specs.Position.{Position}
-use Rattle.chess_core.specs.Triple.{Triple}
 use Rattle.chess_rules.specs.ties.Places.{moves_behind}
 use Rattle.chess_rules.specs.RuleSet.{RuleSet}
 use Rattle.pop_solve.specs.Chess.{chess}
 use Rattle.pop_solve.specs.Game.{Game}
 use Rattle.pop_solve.specs.ties.Frames.{Frame, position}
-use Rattle.pop_solve.specs.ties.Walk.{follows, gives, shown, path, to_come, IsWalking, Steps}
+use Rattle.pop_solve.specs.ties.Walk.{gives, shown, path, to_come, IsWalking, Steps}
 use Rattle.pop_solve.specs.ties.Phases.{begins, keep, started, Walks}
 use Rattle.pop_solve.specs.declared.plan.Plan.{Plan}
 use Rattle.pop_solve.proofs.Paths.{path-length}
@@ -17,30 +16,22 @@ use Rattle.pop_input.specs.Stipulations.{is_help}
 
 pub started-nil : (M : Type 0) (help : Bool) (n : ℕ) → started {M = M} help n [] ≡ 0
 unfolding started
-started-nil M help zero = refl
-started-nil M help (suc n) = refl
+started-nil M help n = search rules
 
 module _ {M : Type 0} where
   pub keep-nil : (help : Bool) (n : ℕ) → keep {M = M} help n [] ≡ []
   unfolding keep
-  keep-nil help zero = refl
-  keep-nil help (suc n) = refl
+  keep-nil help n = search rules
 
   pub keep-next : (help : Bool) (n : ℕ) (x : List M) (xs : List (List M)) (b : Bool) → begins help x ≡ b → (b ≡ true → 0 < n)
       → keep help n (x ∷ xs) ≡ x ∷ keep help (n - cond b 1 0) xs
   unfolding keep
-  keep-next help zero x xs true e some = absurd (omega (arith, some refl))
-  keep-next help zero x xs false e some = rw e refl
-  keep-next help (suc n) x xs true e some = let z : suc n - 1 ≡ n = omega arith in rw (e, z) refl
-  keep-next help (suc n) x xs false e some = let z : suc n - 0 ≡ suc n = omega arith in rw (e, z) refl
+  keep-next help n x xs b e some = search rules
 
   pub started-next : (help : Bool) (n : ℕ) (x : List M) (xs : List (List M)) (b : Bool) → begins help x ≡ b → (b ≡ true → 0 < n)
       → started help n (x ∷ xs) ≡ cond b 1 0 + started help (n - cond b 1 0) xs
   unfolding started
-  started-next help zero x xs true e some = absurd (omega (arith, some refl))
-  started-next help zero x xs false e some = rw e (omega arith)
-  started-next help (suc n) x xs true e some = let z : suc n - 1 ≡ n = omega arith in rw (e, z) refl
-  started-next help (suc n) x xs false e some = let z : suc n - 0 ≡ suc n = omega arith in rw (e, z) (omega arith)
+  started-next help n x xs b e some = search rules
 
   -- where every path begins a solution, none is kept with none to begin
   pub keep-help : (xs : List (List M)) → keep true 0 xs ≡ []
@@ -68,29 +59,17 @@ module _ {P M : Type 0} (plan : Plan) (game : Game P M) (battle : is_help plan.f
 
   keep-shown : (root : Bool) (k left : ℕ) (p : P) (ms : List M) → keep false 0 (shown plan game root k left p ms) ≡ []
   unfolding shown keep
-  keep-shown root zero left p ms = keep-nil false 0
-  keep-shown root (suc k) zero p ms = keep-nil false 0
-  keep-shown root (suc k) (suc t) p [] = keep-nil false 0
-  keep-shown root (suc k) (suc t) p (m ∷ ms) =
-      rw (gives-battle t (game.after p m)) (split (follows plan game root t (game.after p m)) _ (keep-shown root (suc k) (suc t) p ms))
-    where
-      split : (b : Bool) (xs : List (List M)) → keep false 0 (shown plan game root (suc k) (suc t) p ms) ≡ []
-          → keep false 0 (cond b ((m ∷ []) ∷ xs) [] ++ shown plan game root (suc k) (suc t) p ms) ≡ []
-      split true xs e = refl
-      split false xs e = e
+  keep-shown root zero left p ms = search (rules, keep-nil)
+  keep-shown root (suc k) zero p ms = search (rules, keep-nil)
+  keep-shown root (suc k) (suc t) p [] = search (rules, keep-nil)
+  keep-shown root (suc k) (suc t) p (m ∷ ms) = search (rules, gives-battle, keep-shown root (suc k) (suc t) p ms)
 
   started-shown : (root : Bool) (k left : ℕ) (p : P) (ms : List M) → started false 0 (shown plan game root k left p ms) ≡ 0
   unfolding shown started
-  started-shown root zero left p ms = started-nil M false 0
-  started-shown root (suc k) zero p ms = started-nil M false 0
-  started-shown root (suc k) (suc t) p [] = started-nil M false 0
-  started-shown root (suc k) (suc t) p (m ∷ ms) =
-      rw (gives-battle t (game.after p m)) (split (follows plan game root t (game.after p m)) _ (started-shown root (suc k) (suc t) p ms))
-    where
-      split : (b : Bool) (xs : List (List M)) → started false 0 (shown plan game root (suc k) (suc t) p ms) ≡ 0
-          → started false 0 (cond b ((m ∷ []) ∷ xs) [] ++ shown plan game root (suc k) (suc t) p ms) ≡ 0
-      split true xs e = refl
-      split false xs e = e
+  started-shown root zero left p ms = search (rules, started-nil)
+  started-shown root (suc k) zero p ms = search (rules, started-nil)
+  started-shown root (suc k) (suc t) p [] = search (rules, started-nil)
+  started-shown root (suc k) (suc t) p (m ∷ ms) = search (rules, gives-battle, started-shown root (suc k) (suc t) p ms)
 
 one_frame : (frames : List Frame) → eqb (length frames) 1 ≡ true → (f : Frame) × (frames ≡ f ∷ [])
 one_frame [] e = absurd (grind (arith, nat_tests))
@@ -109,15 +88,7 @@ module _ (rule : RuleSet) (plan : Plan) (h : ℕ) (p : Position) where
   -- with none to begin, and none on the way
   full : (frames : List Frame) → (is_help plan.form || eqb (length frames) 1) ≡ true
       → (keep (is_help plan.form) 0 (to_come rule plan h p frames) ≡ []) × (started (is_help plan.form) 0 (to_come rule plan h p frames) ≡ 0)
-  full frames e = go (is_help plan.form) refl e
-    where
-      go : (help : Bool) → is_help plan.form ≡ help → (help || eqb (length frames) 1) ≡ true
-          → (keep help 0 (to_come rule plan h p frames) ≡ []) × (started help 0 (to_come rule plan h p frames) ≡ 0)
-      go true b e = (keep-help _, started-help _)
-      go false b e =
-          let one = one_frame frames e in
-          rw (one.1, to_come-root one.0)
-          (keep-shown plan (chess plan.goal rule) b true (h - 0) one.0.left p _, started-shown plan (chess plan.goal rule) b true (h - 0) one.0.left p _)
+  full frames e = search (rules, keep-help, started-help, one_frame, to_come-root, keep-shown, started-shown)
 
   none : (frames : List Frame) → length frames ≡ 0 → to_come rule plan h p frames ≡ []
   unfolding to_come
@@ -126,21 +97,10 @@ module _ (rule : RuleSet) (plan : Plan) (h : ℕ) (p : Position) where
 
   module _ (old mid : List Frame) (same : to_come rule plan h p old ≡ to_come rule plan h p mid) where
     pub walks_none : (limit : ℕ) (board : Position) → IsWalking rule h p mid board → length mid ≡ 0 → Walks rule plan h p limit old mid board false
-    walks_none limit board r e = record {
-      walking = r;
-      come = λ g. absurd cc;
-      starts = λ g. absurd cc;
-      within = λ g. absurd cc;
-      deep = λ g. absurd cc;
-      closed = λ g. absurd cc;
-      ended = λ g. rw (same, none mid e) (keep-nil (is_help plan.form) limit);
-      over = λ g. inl (no_frame mid e);
-      none = λ g. rw (same, none mid e) (started-nil Triple (is_help plan.form) limit);
-    }
+    walks_none limit board r e = search (rules, none, keep-nil, no_frame, started-nil)
 
     both_true : (a b : Bool) → (a && b) ≡ true → (a ≡ true) × (b ≡ true)
-    both_true true b e = (refl, e)
-    both_true false b e = absurd cc
+    both_true a b e = search rules
 
     pub walks_full : (limit : ℕ) (board : Position) → IsWalking rule h p mid board → (eqb limit 0 && (is_help plan.form || eqb (length mid) 1)) ≡ true
         → Walks rule plan h p limit old mid board false
@@ -160,29 +120,12 @@ module _ (rule : RuleSet) (plan : Plan) (h : ℕ) (p : Position) where
         }
 
     room : (n : ℕ) (b : Bool) → (eqb n 0 && b) ≡ false → b ≡ true → 0 < n
-    room zero b e t = absurd cc
-    room (suc n) b e t = omega arith
+    room n b e t = search rules
 
     most_one : (b : Bool) (n : ℕ) → (b ≡ true → 0 < n) → cond b 1 0 ≤ n
-    most_one true n e = omega (arith, e refl)
-    most_one false n e = omega arith
+    most_one b n e = search rules
 
     pub walks_given : (limit : ℕ) (new : List Frame) (board : Position) (before after : ℕ) (given : Bool)
         → Steps rule plan h p mid new board before after given → given ≡ true → 0 < length mid
         → (eqb limit 0 && (is_help plan.form || eqb (length mid) 1)) ≡ false → Walks rule plan h p limit old new board true
-    walks_given limit new board before after given made is some e =
-        let s : Steps rule plan h p mid new board before after true = (let T : Bool
-        → Type 0 = λ x. Steps rule plan h p mid new board before after x in subst T is made) in
-        let l : length (path new) ≡ length mid = omega (arith, path-length new, s.deep refl) in
-        let b : (is_help plan.form || eqb (length mid) 1) ≡ begins (is_help plan.form) (path new) = ap (λ n. is_help plan.form || eqb n 1) (sym l) in
-        let r : begins (is_help plan.form) (path new) ≡ true → 0 < limit = room limit _ (rw b at e) in record {
-          walking = s.walking;
-          come = λ g. rw (same, s.come) (keep-next (is_help plan.form) limit (path new) _ _ refl r);
-          starts = λ g. rw (same, s.come) (started-next (is_help plan.form) limit (path new) _ _ refl r);
-          within = λ g. most_one _ limit r;
-          deep = λ g. omega (arith, s.deep refl, some);
-          closed = λ g. s.ended refl;
-          ended = λ g. absurd cc;
-          over = λ g. absurd cc;
-          none = λ g. absurd cc;
-        }
+    walks_given limit new board before after given made is some e = search (rules, path-length, room, keep-next, started-next, most_one, none)

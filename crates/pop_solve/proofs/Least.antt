@@ -1,6 +1,6 @@
 -- The least length by half-moves is the least number of moves.
 use Rattle.pop_solve.specs.declared.aim.Battle.TheVariants.{Direct, Selfmate}
-use Rattle.std.proofs.Common.{◌≡◌, ℕ, zero, suc, ◌+◌, ◌*◌, Bool, true, false, not, ◌||◌, cond, refl, ◌∙◌, ap, arith, add-one}
+use Rattle.std.proofs.Common.{◌≡◌, ℕ, zero, suc, ◌+◌, ◌*◌, Bool, false, ◌||◌, cond, refl, ◌∙◌, ap, arith, rules}
 use Rattle.std.specs.List.{position_or_len, range_with_len}
 use Rattle.pop_solve.specs.Game.{Game, wins, self_wins}
 use Rattle.pop_solve.specs.ties.Values.{value}
@@ -15,31 +15,19 @@ first_number test (suc n) a = cond (test a) a (first_number test n (a + 1))
 
 first_number-is : (test : ℕ → Bool) (n a : ℕ) → a + position_or_len test (range_with_len a n) ≡ first_number test n a
 unfolding first_number
-first_number-is test zero a = omega arith
-first_number-is test (suc n) a =
-    elim (test a) as (λ b. a + cond (not b) (1 + position_or_len test (range_with_len (a + 1) n)) 0 ≡ cond b a (first_number test n (a + 1)))
-    [ true ↦ omega arith | false ↦ omega (arith, first_number-is test n (a + 1)) ]
+first_number-is test zero a = search rules
+first_number-is test (suc n) a = search (rules, first_number, first_number-is test n (a + 1))
 
 first_number-shift : (test : ℕ → Bool) (n k : ℕ) → first_number (λ i. test (suc i)) n k + 1 ≡ first_number test n (k + 1)
 unfolding first_number
-first_number-shift test zero k = refl
-first_number-shift test (suc n) k = rw (add-one k) (split (test (suc k)) _ _ (first_number-shift test n (suc k)))
-  where
-    split : (b : Bool) (x y : ℕ) → x + 1 ≡ y → cond b k x + 1 ≡ cond b (suc k) y
-    split true x y e = add-one k
-    split false x y e = e
+first_number-shift test zero k = search rules
+first_number-shift test (suc n) k = search (rules, first_number-shift test n (suc k))
 
 module _ {P M : Type 0} (game : Game P M) (q : P) where
   by_twos : (n k : ℕ) → first_from Direct game q n (suc (2 * k)) ≡ suc (2 * (first_number (λ i. wins game (suc i) q) n k))
   unfolding first_from first_number
-  by_twos zero k = refl
-  by_twos (suc n) k =
-      let two : suc (2 * k) + 2 ≡ suc (2 * (k + 1)) = omega arith in
-      rw (value-wins game k q, two, by_twos n (k + 1)) (join (wins game (suc k) q) k _)
-    where
-      join : (b : Bool) (x y : ℕ) → cond b (suc (2 * x)) (suc (2 * y)) ≡ suc (2 * (cond b x y))
-      join true x y = refl
-      join false x y = refl
+  by_twos zero k = search rules
+  by_twos (suc n) k = search (rules, value-wins, by_twos n (k + 1))
 
   zero_loses : (n : ℕ) → first_number (λ k. wins game k q) (suc n) 0 ≡ first_number (λ k. wins game k q) n (0 + 1)
   unfolding first_number wins
@@ -61,14 +49,8 @@ module _ {P M : Type 0} (game : Game P M) (q : P) where
 
     by_twos_self : (n k : ℕ) → first_from Selfmate game q n (2 * k) ≡ 2 * (first_number (λ i. self_wins game i q) n k)
     unfolding first_from first_number
-    by_twos_self zero k = refl
-    by_twos_self (suc n) k =
-        let two : 2 * k + 2 ≡ 2 * (k + 1) = omega arith in
-        rw (value-self k, two, by_twos_self n (k + 1)) (join (self_wins game k q) k _)
-      where
-        join : (b : Bool) (x y : ℕ) → cond b (2 * x) (2 * y) ≡ 2 * (cond b x y)
-        join true x y = refl
-        join false x y = refl
+    by_twos_self zero k = search rules
+    by_twos_self (suc n) k = search (rules, value-self, by_twos_self n (k + 1))
 
     zero_loses_self : (n : ℕ) → first_number (λ k. self_wins game k q) (suc n) 0 ≡ first_number (λ k. self_wins game k q) n (0 + 1)
     unfolding first_number self_wins

@@ -1,6 +1,6 @@
 -- Rising lengths.
 use Rattle.pop_solve.specs.declared.aim.Battle.{Battle}
-use Rattle.std.proofs.Common.{◌≡◌, ℕ, zero, suc, ◌+◌, ◌-◌, ◌/◌, ◌<◌, ◌≤◌, true, false, cond, refl, sym, ap, arith}
+use Rattle.std.proofs.Common.{◌≡◌, ℕ, zero, suc, ◌+◌, ◌-◌, ◌/◌, ◌<◌, ◌≤◌, true, false, cond, refl, sym, ap, arith, rules}
 use Rattle.pop_solve.specs.Game.{Game}
 use Rattle.pop_solve.specs.ties.Values.{value}
 use Rattle.pop_solve.specs.ties.Walk.{first_from}
@@ -8,8 +8,7 @@ use Rattle.pop_solve.specs.ties.Walk.{first_from}
 module _ {P M : Type 0} (battle : Battle) (game : Game P M) (q : P) where
   found : (n a : ℕ) → value battle game a q ≡ true → first_from battle game q n a ≡ a
   unfolding first_from
-  found zero a e = refl
-  found (suc n) a e = rw e refl
+  found n a e = search rules
 
   next : (n a : ℕ) → value battle game a q ≡ false → first_from battle game q (suc n) a ≡ first_from battle game q n (a + 2)
   unfolding first_from
@@ -40,3 +39,5 @@ module _ {P M : Type 0} (battle : Battle) (game : Game P M) (q : P) where
   length-more (suc n) (suc k) a e h =
       let z : a + (suc n + suc n) ≡ (a + 2) + (n + n) = omega arith in
       ap (cond (value battle game a q) a) (length-more n k (a + 2) (rw z at e) (omega (arith, h)))
+
+pub ruleset least_lengths = (length-found, length-next, length-last)

@@ -1,5 +1,5 @@
 -- One more move never harms.
-use Rattle.std.proofs.Common.{◌≡◌, ℕ, zero, suc, ◌+◌, ◌-◌, ◌≤◌, ◌<◌, Bool, true, false, not, ◌&&◌, ◌||◌, List, [], ◌∷◌, length, get_or, inl, inr, refl, sym, ap, ◌∙◌, arith}
+use Rattle.std.proofs.Common.{◌≡◌, ℕ, zero, suc, ◌+◌, ◌-◌, ◌≤◌, ◌<◌, Bool, true, false, not, ◌&&◌, ◌||◌, List, [], ◌∷◌, length, get_or, inl, inr, refl, sym, ap, ◌∙◌, arith, rules}
 use Rattle.std.specs.List.{list_any, list_all, position_or_len, range_with_len}
 use Rattle.std.proofs.lemmas.Bool.{and_from, and_parts, or_cases, or_left, or_right, cases_lt}
 use Rattle.std.proofs.lemmas.List.FromFn.{get_or-range_with_len, length-range_with_len}
@@ -21,12 +21,10 @@ module _ {X : Type 0} (f g : X → Bool) (weaker : (x : X) → f x ≡ true → 
       and_from (g x) (list_all g xs) (weaker x both.0) (all_weaker xs both.1)
 
 or_weaker : (a b c : Bool) → (b ≡ true → c ≡ true) → (a || b) ≡ true → (a || c) ≡ true
-or_weaker true b c w h = refl
-or_weaker false b c w h = w h
+or_weaker a b c w h = search rules
 
 and_weaker : (a b c : Bool) → (b ≡ true → c ≡ true) → (a && b) ≡ true → (a && c) ≡ true
-and_weaker true b c w h = w h
-and_weaker false b c w h = h
+and_weaker a b c w h = search rules
 
 module _ {P M : Type 0} (game : Game P M) where
   some_weaker : (f g : P → Bool) → ((q : P) → f q ≡ true → g q ≡ true) → (p : P) → some_move game f p ≡ true → some_move game g p ≡ true
@@ -45,15 +43,12 @@ module _ {P M : Type 0} (game : Game P M) where
 
   pub wins-more : (k : ℕ) (p : P) → wins game k p ≡ true → wins game (suc k) p ≡ true
   unfolding wins
-  wins-more zero p h = absurd cc
-  wins-more (suc k) p h = some_weaker (lost game k) (lost game (suc k)) (λ r. lost-more k r) p h
+  wins-more k p h = search (rules, some_weaker, lost-more)
 
   -- after Black's move White wins, or Black has reached the goal
   won-more : (f g : P → Bool) → ((r : P) → f r ≡ true → g r ≡ true) → (q : P)
       → (can_move game q && every_move game (λ r. game.goal r || f r) q) ≡ true → (can_move game q && every_move game (λ r. game.goal r || g r) q) ≡ true
-  won-more f g w q h =
-      and_weaker (can_move game q) _ _
-      (every_weaker (λ r. game.goal r || f r) (λ r. game.goal r || g r) (λ r. or_weaker (game.goal r) (f r) (g r) (w r)) q) h
+  won-more f g w q h = search (rules, and_weaker, every_weaker, or_weaker)
 
   pub self_wins-more : (k : ℕ) (p : P) → self_wins game k p ≡ true → self_wins game (suc k) p ≡ true
   unfolding self_wins

@@ -1,5 +1,5 @@
 -- The paths of trees.
-use Rattle.std.proofs.Common.{◌≡◌, ◌≢◌, ℕ, zero, suc, ◌-◌, Bool, true, false, cond, List, [], ◌∷◌, ◌++◌, map, ◌⊎◌, ◌↔◌, inl, inr, refl, sym, ◌∙◌, ap, subst}
+use Rattle.std.proofs.Common.{◌≡◌, ◌≢◌, ℕ, zero, suc, ◌-◌, Bool, true, false, cond, List, [], ◌∷◌, ◌++◌, map, ◌⊎◌, ◌↔◌, inl, inr, refl, sym, ◌∙◌, ap, subst, rules}
 use Rattle.std.specs.List.{AllPairs, Contains, filter, flat_map, list_any}
 use Rattle.std.proofs.lemmas.Bool.{false≢true, or_cases, or_left, or_right}
 use Rattle.std.proofs.lemmas.List.Kept.{AllPairs-filter}
@@ -111,13 +111,11 @@ module _ {M : Type 0} where
           across m n less a b x y = rw (← x.1, ← y.1) (inl less)
 
 either_way : {A : Type 0} (Q : A → Type 0) (b : Bool) (x y : A) → Q x → Q y → Q (cond b x y)
-either_way Q true x y here other = here
-either_way Q false x y here other = other
+either_way Q b x y here other = search rules
 
 -- a list, unless the goal is reached
 pub in_unless : {X : Type 0} (g : Bool) (xs : List X) (x : X) → Contains (cond g [] xs) x ↔ ((g ≡ false) × Contains xs x)
-in_unless true xs x = (λ c. absurd (none_in_nil x c), λ w. absurd (false≢true (sym w.0)))
-in_unless false xs x = (λ c. (refl, c), λ w. w.1)
+in_unless g xs x = search rules
 
 module _ {M : Type 0} where
   nil_not_empty : HasNoEmpty {M = M} []
@@ -127,16 +125,14 @@ module _ {M : Type 0} where
   nil_has_beginnings x xs ys c = absurd (none_in_nil ((x ∷ xs) ++ ys) c)
 
   unless_not_empty : (g : Bool) (paths : List (List M)) → HasNoEmpty paths → HasNoEmpty (cond g [] paths)
-  unless_not_empty true paths h = nil_not_empty
-  unless_not_empty false paths h = h
+  unless_not_empty g paths h = search rules
 
   unless_has_beginnings : (g : Bool) (paths : List (List M)) → HasBeginnings paths → HasBeginnings (cond g [] paths)
   unless_has_beginnings true paths h = nil_has_beginnings
   unless_has_beginnings false paths h = h
 
   unless_stands : (R : List M → List M → Type 0) (g : Bool) (paths : List (List M)) → AllPairs R paths → AllPairs R (cond g [] paths)
-  unless_stands R true paths h = pairs_nil R
-  unless_stands R false paths h = h
+  unless_stands R g paths h = search rules
 
   -- single moves
   singles_not_empty : (ms : List M) → HasNoEmpty (map (λ m. m ∷ []) ms)
@@ -293,8 +289,7 @@ module _ {M : Type 0} (f : M → List (List M)) (g : Bool) (ms : List M) (m : M)
   )
 
   deeper : (x : M) (path : List M) → (x ∷ path ≡ []) ⊎ Contains (f m) (x ∷ path) → Contains (f m) (x ∷ path)
-  deeper x path (inl none) = absurd cc
-  deeper x path (inr b) = b
+  deeper x path e = search rules
 
   pub deeper_unless : (x : M) (path : List M)
       → Contains (cond g [] (flat_map (λ m. node m (f m)) ms)) (m ∷ (x ∷ path)) ↔ ((g ≡ false) × Contains ms m × Contains (f m) (x ∷ path))

@@ -1,18 +1,16 @@
 -- How many frames a search opens.
 use Rattle.pop_solve.specs.declared.aim.Battle.{Battle}
 use Rattle.pop_solve.specs.Aims.{battle_of}
-use Rattle.std.proofs.Common.{◌≡◌, ℕ, zero, suc, ◌+◌, ◌-◌, ◌*◌, ◌%◌, ◌<◌, ◌≤◌, ◌^◌, min, Bool, true, false, not, ◌&&◌, ◌||◌, eqb, cond, List, [], ◌∷◌, ◌++◌, drop, refl, ◌∙◌, ap, arith, ◌⊎◌, inl, inr}
-use Rattle.std.proofs.lemmas.Bool.Decides.{nat_tests}
+use Rattle.std.proofs.Common.{◌≡◌, ℕ, zero, suc, ◌+◌, ◌-◌, ◌<◌, ◌≤◌, ◌^◌, min, Bool, true, false, not, ◌&&◌, eqb, cond, List, [], ◌∷◌, ◌++◌, drop, refl, arith, ◌⊎◌, inl, inr, rules}
 use Rattle.chess_core.specs.Position.{Position}
 use Rattle.chess_rules.specs.RuleSet.{RuleSet}
 use Rattle.pop_input.specs.Posed.{Posed, IsSound}
-use Rattle.pop_input.specs.Stipulations.{is_help, half_moves, half_moves_of}
+use Rattle.pop_input.specs.Stipulations.{is_help, half_moves_of}
 use Rattle.pop_input.specs.declared.stipulation.Form.{Form}
-use Rattle.pop_input.specs.declared.stipulation.Form.TheVariants.{Direct, SelfMate, Help, HelpHalf}
 use Rattle.pop_solve.specs.declared.event.Phase.{Phase}
 use Rattle.pop_solve.specs.declared.event.Phase.TheVariants.{Set, Play}
-use Rattle.pop_solve.specs.Events.{Step, total, first_phase, is_set, is_barred, events, phase_start, phase_half_moves, phase_steps}
-use Rattle.pop_solve.specs.ties.Seen.{fewest_from, is_stop, is_unstopped, phase_fewest, phase_walk, walk_from, whole_walk}
+use Rattle.pop_solve.specs.Events.{Step, total, first_phase, is_set, is_barred, phase_start, phase_half_moves, phase_steps}
+use Rattle.pop_solve.specs.ties.Seen.{fewest_from, is_stop, is_unstopped, phase_fewest, phase_walk, walk_from}
 use Rattle.pop_solve.specs.ties.Frames.{Frame, position, to_open}
 use Rattle.pop_solve.specs.ties.Phases.{left_of, rest_fewest, rest_open, IsKeys, IsNarrow, IsGiven, IsOpened, OpensOn}
 use Rattle.pop_solve.specs.ties.Values.{seeks}
@@ -22,7 +20,6 @@ use Rattle.pop_solve.specs.declared.phases.Stage.TheVariants.{Before, Barred, Wi
 use Rattle.pop_solve.specs.declared.plan.Plan.{Plan}
 use Rattle.pop_solve.proofs.Boards.{behind_start}
 use Rattle.pop_solve.proofs.Sound.{some_way}
-use Rattle.pop_solve.proofs.GoingOn.{no_zero}
 use Rattle.pop_solve.proofs.ToCome.{one, walk_count-start}
 use Rattle.pop_solve.proofs.Outcomes.{counted_by, opened-most}
 use Rattle.pop_solve.specs.ties.Plans.{plan_of, varies}
@@ -33,55 +30,37 @@ module _ (rule : RuleSet) (plan : Plan) (p : Position) where
   opens-none frames count = record { whites = λ a b w. w; most = λ a b w. omega arith; helped = λ a. omega arith; counted = λ a walk c. c }
 
   pub opens-then : (old mid new : List Frame) (a b c : ℕ) → Opens rule plan p old mid a b → Opens rule plan p mid new b c → Opens rule plan p old new a c
-  opens-then old mid new a b c x y = record {
-    whites = λ h v w. y.whites h v (x.whites h v w);
-    most = λ h v w. omega (arith, x.most h v w, y.most h v (x.whites h v w));
-    helped = λ h. omega (arith, x.helped h, y.helped h);
-    counted = λ h walk k. y.counted h walk (x.counted h walk k);
-  }
+  opens-then old mid new a b c x y = search rules
 
   pub tries-none : (h : ℕ) (frames : List Frame) (count : ℕ) → Tries rule plan h p frames frames count count
   tries-none h frames count = record { grows = omega arith; fewest = λ a. omega arith }
 
   pub tries-then : (h : ℕ) (old mid new : List Frame) (a b c : ℕ) → Tries rule plan h p old mid a b → Tries rule plan h p mid new b c
       → Tries rule plan h p old new a c
-  tries-then h old mid new a b c x y = record {
-    grows = omega (arith, x.grows, y.grows);
-    fewest = λ e. omega (arith, x.fewest e, y.fewest e);
-  }
+  tries-then h old mid new a b c x y = search rules
 
 -- the root of a phase counts where half-moves are tried from it
 root-counted : (n count count2 : ℕ) → (0 < n → count2 ≡ min (count + 1) (2 ^ 64 - 1)) → (n ≡ 0 → count2 ≡ count)
     → min (count + cond (eqb n 0) 0 1) (2 ^ 64 - 1) ≤ count2
-root-counted zero count count2 more same = omega (arith, same refl)
-root-counted (suc k) count count2 more same = rw (no_zero k) (omega (arith, more (omega arith)))
+root-counted n count count2 more same = search rules
 
 less_none : (n : ℕ) → n - 0 ≡ n
 less_none n = omega arith
 
 -- what is opened in a later phase, counted apart
 counted-apart : (walk later opened rest : ℕ) → IsCounted walk opened (rest + later) → IsCounted (walk - later) opened rest
-counted-apart walk later opened rest c =
-    record { within = omega (arith, c.within); counts = omega (arith, c.within, c.counts) }
+counted-apart walk later opened rest c = search rules
 
 counted-along : (walk later opened rest : ℕ) → later ≤ walk → IsCounted (walk - later) opened rest → IsCounted walk opened (rest + later)
-counted-along walk later opened rest l c =
-    record { within = omega (arith, l, c.within); counts = omega (arith, l, c.within, c.counts) }
+counted-along walk later opened rest l c = search rules
 
 -- White is to move in the first position of a battle
 white-starts : (form : Form) (n : ℕ) → is_help form ≡ false → 1 ≤ half_moves_of form n → seeks (battle_of form) (half_moves_of form n) ≡ true
-white-starts Direct n e some = let m : (2 * n - 1) % 2 ≡ 1 = omega (arith, some) in rw m refl
-white-starts SelfMate n e some = let m : 2 * n % 2 ≡ 0 = omega arith in rw m refl
-white-starts Help n e some = absurd cc
-white-starts HelpHalf n e some = absurd cc
+white-starts form n e some = search rules
 
 whites-root : (battle : Battle) (f : Frame) → seeks battle f.left ≡ true → IsWhites battle (f ∷ []) ≡ true
 unfolding IsWhites
-whites-root battle f e = rw e (or_true (eqb f.left 0))
-  where
-    or_true : (b : Bool) → ((b || true) && true) ≡ true
-    or_true true = refl
-    or_true false = refl
+whites-root battle f e = search rules
 
 module _ (rule : RuleSet) (problem : Posed) where
   -- the frames of the phases behind one
@@ -98,18 +77,7 @@ module _ (rule : RuleSet) (problem : Posed) where
   pub opens-barred : (phase : Phase) (old new : List Frame) (count : ℕ) (left : List Step) → is_barred rule problem phase ≡ true
       → OpensOn rule problem (Before phase) Barred old new count count left
   unfolding rest_open rest_fewest IsNarrow
-  opens-barred Set old new count left e = record {
-    narrow = λ n. narrowed n;
-    most = λ n. rw e (omega arith);
-    counted = λ h u walk c. (let z : 0 + phase_walk rule problem Play ≡ phase_walk rule problem Play = omega arith in rw (e, z) at c);
-    grows = omega arith;
-    fewest = λ h u. rw e (omega arith);
-  }
-    where
-      narrowed : (is_help problem.stipulation.form ≡ true) ⊎ IsKeys problem Set → is_help problem.stipulation.form ≡ true
-      narrowed (inl h) = h
-      narrowed (inr k) = let f : true ≡ false = k.play in absurd cc
-  opens-barred Play old new count left e = absurd cc
+  opens-barred phase old new count left e = search rules
 
   -- a phase begins: its root is opened
   module _ (sound : IsSound problem) (phase : Phase) (f : Frame) (left_is : f.left ≡ phase_half_moves problem phase) (place_is : f.place ≡ 0)
@@ -122,12 +90,7 @@ module _ (rule : RuleSet) (problem : Posed) where
     root-open = rw (possible, place_is, ← left_is) (omega (arith, walk_count-start rule plan f.left (phase_start problem phase)))
 
     from-open : walk_from rule problem phase ≡ one rule plan f.left + (to_open rule (phase_start problem phase) (f ∷ []) + later phase)
-    from-open = go phase root-open
-      where
-        go : (b : Phase) → phase_walk rule problem b ≡ one rule plan f.left + to_open rule (phase_start problem phase) (f ∷ [])
-            → walk_from rule problem b ≡ one rule plan f.left + (to_open rule (phase_start problem phase) (f ∷ []) + later b)
-        go Set e = rw e (omega arith)
-        go Play e = omega (arith, e)
+    from-open = search (rules, root-open, one)
 
     root-fewest : phase_fewest rule problem phase ≡ cond (eqb f.left 0) 0 1 + fewest_left rule plan (phase_half_moves problem phase)
         (phase_start problem phase) (f ∷ [])
@@ -136,37 +99,13 @@ module _ (rule : RuleSet) (problem : Posed) where
 
     from-fewest : fewest_from rule problem phase ≡ cond
         (eqb f.left 0) 0 1 + (fewest_left rule plan (phase_half_moves problem phase) (phase_start problem phase) (f ∷ []) + later_fewest phase)
-    from-fewest = go phase root-fewest
-      where
-        go : (b : Phase)
-            → phase_fewest rule problem b ≡ cond (eqb f.left 0) 0 1 + fewest_left rule plan (phase_half_moves problem phase) (phase_start problem phase)
-            (f ∷ []) → fewest_from rule problem b ≡ cond
-            (eqb f.left 0) 0 1 + (fewest_left rule plan (phase_half_moves problem phase) (phase_start problem phase) (f ∷ []) + later_fewest b)
-        go Set e = rw e (omega arith)
-        go Play e = omega (arith, e)
+    from-fewest = search (rules, root-fewest)
 
     pub opens-begun : (old : List Frame) (count count2 : ℕ) (left : List Step) → (0 < f.left → count2 ≡ min (count + 1) (2 ^ 64 - 1))
         → (f.left ≡ 0 → count2 ≡ count) → OpensOn rule problem (Before phase) (Within phase 0) old (f ∷ []) count count2 left
     unfolding rest_open rest_fewest IsNarrow
-    opens-begun old count count2 left more same = record {
-      narrow = λ n. narrowed n;
-      most = λ n. omega (arith, from-open, opened-most rule plan f.left count count2 more same);
-      counted = λ h u walk c. counted_by rule plan f.left walk count count2 _ _ from-open more same c;
-      grows = omega (arith, root-counted f.left count count2 more same);
-      fewest = λ h u. omega (arith, root-counted f.left count count2 more same, from-fewest);
-    }
-      where
-        narrowed : (is_help problem.stipulation.form ≡ true) ⊎ IsKeys problem phase
-            → (is_help problem.stipulation.form ≡ true) ⊎ (IsKeys problem phase × (IsWhites (battle_of problem.stipulation.form) (f ∷ []) ≡ true))
-        narrowed (inl h) = inl h
-        narrowed (inr k) =
-            let l : f.left ≡ half_moves problem.stipulation = left_is
-            ∙ ap (λ b. cond b (half_moves problem.stipulation - 1) (half_moves problem.stipulation)) k.play in
-            inr (
-              k,
-              whites-root (battle_of problem.stipulation.form) f
-                  (rw l (white-starts problem.stipulation.form problem.stipulation.n k.battle (some_way problem sound))),
-            )
+    opens-begun old count count2 left more same =
+        search (rules, from-open, opened-most, counted_by, root-counted, from-fewest, whites-root, white-starts, some_way)
 
   -- within a phase
   module _ (phase : Phase) (count : ℕ) (old new : List Frame) (before after : ℕ)
@@ -174,50 +113,29 @@ module _ (rule : RuleSet) (problem : Posed) where
       (y : Tries rule (plan_of problem) (phase_half_moves problem phase) (phase_start problem phase) old new before after) where
     walked-most : (is_help problem.stipulation.form ≡ true) ⊎ (IsKeys problem phase × (IsWhites (battle_of problem.stipulation.form) old ≡ true))
         → after + to_open rule (phase_start problem phase) new ≤ before + to_open rule (phase_start problem phase) old
-    walked-most (inl h) = x.helped h
-    walked-most (inr k) = x.most k.0.battle (keys-alone k.0.keys) k.1
+    walked-most e = search rules
 
     walked-counted : is_help problem.stipulation.form ≡ true → (walk : ℕ)
         → IsCounted walk before (to_open rule (phase_start problem phase) old + later phase)
         → IsCounted walk after (to_open rule (phase_start problem phase) new + later phase)
-    walked-counted h walk c =
-        counted-along walk (later phase) after _ (omega (arith, c.within)) (x.counted h (walk - later phase) (counted-apart walk (later phase) before _ c))
+    walked-counted h walk c = search (rules, counted-along, counted-apart)
 
     pub opens-given : (next : ℕ) (left : List Step) (last : List Frame) → last ≡ new
         → OpensOn rule problem (Within phase count) (Within phase next) old last before after left
     unfolding rest_open rest_fewest IsNarrow
-    opens-given next left last kept = rw kept record {
-      narrow = λ n. narrowed n;
-      most = λ n. omega (arith, walked-most n);
-      counted = λ h u walk c. walked-counted h walk c;
-      grows = y.grows;
-      fewest = λ h u. omega (arith, y.fewest h);
-    }
-      where
-        narrowed : (is_help problem.stipulation.form ≡ true) ⊎ (IsKeys problem phase × (IsWhites (battle_of problem.stipulation.form) old ≡ true))
-            → (is_help problem.stipulation.form ≡ true) ⊎ (IsKeys problem phase × (IsWhites (battle_of problem.stipulation.form) new ≡ true))
-        narrowed (inl h) = inl h
-        narrowed (inr k) = inr (k.0, x.whites k.0.battle (keys-alone k.0.keys) k.1)
+    opens-given next left last kept = search (rules, walked-most, walked-counted, keys-alone)
 
     -- its end: where no phase is stopped, nothing is left to open
     nothing_open : (left : List Step) → is_unstopped (total count (eqb count problem.max_solutions) ∷ left) ≡ true → count ≤ problem.max_solutions
         → (new ≡ []) ⊎ (problem.max_solutions - count ≡ 0) → to_open rule (phase_start problem phase) new ≡ 0
     unfolding to_open
-    nothing_open left u most (inl none) = rw none refl
-    nothing_open left u most (inr full) =
-        let e : count ≡ problem.max_solutions = omega (arith, full, most) in
-        let t : eqb count problem.max_solutions ≡ true = grind (arith, nat_tests, e) in
-        let f : false ≡ true = rw t at u in absurd cc
+    nothing_open left u most e = search rules
 
     nothing_fewest : (left : List Step) → is_unstopped (total count (eqb count problem.max_solutions) ∷ left) ≡ true → count ≤ problem.max_solutions
         → (new ≡ []) ⊎ (problem.max_solutions - count ≡ 0)
         → fewest_left rule (plan_of problem) (phase_half_moves problem phase) (phase_start problem phase) new ≡ 0
     unfolding fewest_left
-    nothing_fewest left u most (inl none) = rw none refl
-    nothing_fewest left u most (inr full) =
-        let e : count ≡ problem.max_solutions = omega (arith, full, most) in
-        let t : eqb count problem.max_solutions ≡ true = grind (arith, nat_tests, e) in
-        let f : false ≡ true = rw t at u in absurd cc
+    nothing_fewest left u most e = search rules
 
     pub opens-ended : (stage : Stage) (last : List Frame) (left : List Step) → stage ≡ cond (is_set phase) (Before Play) Behind
         → count ≤ problem.max_solutions → (new ≡ []) ⊎ (problem.max_solutions - count ≡ 0)
@@ -255,47 +173,17 @@ module _ (rule : RuleSet) (problem : Posed) where
       → OpensOn rule problem old new frames last before after left → is_help problem.stipulation.form ≡ true → is_unstopped left ≡ true
       → IsCounted walk before (rest_open rule problem old frames) → 0 < before → walk - rest_open rule problem new last ≤ again
       → after ≡ before + again → after < 2 ^ 64 → ⊥
-  no_second_walk old new frames last before after again walk left x h u c some whole sum fits =
-      let is = x.counted h u walk c in absurd (omega (arith, is.counts, some, whole, sum, fits))
+  no_second_walk old new frames last before after again walk left x h u c some whole sum fits = search rules
 
   -- before the play where set play isn't possible, and behind all
   pub opens-play : (frames : List Frame) (count : ℕ) (left : List Step) → OpensOn rule problem Barred (Before Play) frames frames count count left
   unfolding rest_open rest_fewest IsNarrow
-  opens-play frames count left = record {
-    narrow = λ h. inl h;
-    most = λ n. omega arith;
-    counted = λ h u walk
-        c. c;
-    grows = omega arith;
-    fewest = λ h u. omega arith;
-  }
-
-  pub opens-behind : (stage : Stage) (frames : List Frame) (count : ℕ) (left : List Step) → OpensOn rule problem stage stage frames frames count count left
-  opens-behind stage frames count left = record {
-    narrow = λ n. n;
-    most = λ n. omega arith;
-    counted = λ h u walk
-        c. c;
-    grows = omega arith;
-    fewest = λ h u. omega arith;
-  }
+  opens-play frames count left = search rules
 
   -- a search that has opened nothing
   pub opened-start : (frames : List Frame) (opened : ℕ) → opened ≡ 0 → IsOpened rule problem (Before (first_phase problem)) frames opened
   unfolding rest_open rest_fewest IsNarrow
-  opened-start frames opened none = rw none record {
-    narrow = λ w. narrowed (is_help problem.stipulation.form) problem.variation problem.set_play refl refl refl w;
-    most = λ w. omega arith;
-    counted = λ h u. record { within = omega arith; counts = omega arith };
-    fewest = λ h u. omega arith;
-  }
-    where
-      narrowed : (h v s : Bool) → is_help problem.stipulation.form ≡ h → problem.variation ≡ v → problem.set_play ≡ s → (h || (not v && not s)) ≡ true
-          → (is_help problem.stipulation.form ≡ true) ⊎ IsKeys problem (first_phase problem)
-      narrowed true v s a b c w = inl a
-      narrowed false true s a b c w = absurd cc
-      narrowed false false true a b c w = absurd cc
-      narrowed false false false a b c w = inr (record { battle = a; keys = b; play = ap (λ b. is_set (cond b Set Play)) c })
+  opened-start frames opened none = search rules
 
   all-drop : (k : ℕ) (xs : List Step) → is_unstopped xs ≡ true → is_unstopped (drop k xs) ≡ true
   all-drop zero xs e = e
@@ -308,12 +196,7 @@ module _ (rule : RuleSet) (problem : Posed) where
 
   pub opened-on : (old new : Stage) (frames last : List Frame) (before after given : ℕ) (left : List Step) → IsGiven rule problem left given
       → OpensOn rule problem old new frames last before after left → IsOpened rule problem old frames before → IsOpened rule problem new last after
-  opened-on old new frames last before after given left g x o = record {
-    narrow = λ w. x.narrow (o.narrow w);
-    most = λ w. omega (arith, x.most (o.narrow w), o.most w);
-    counted = λ h u. x.counted h (rw g.ending (all-drop _ (events rule problem) u)) (whole_walk rule problem) (o.counted h u);
-    fewest = λ h u. omega (arith, o.fewest h u, x.fewest h (rw g.ending (all-drop _ (events rule problem) u)));
-  }
+  opened-on old new frames last before after given left g x o = search (rules, all-drop)
 
   -- at the end nothing is to be opened
   pub rest-none : (stage : Stage) (frames : List Frame) → left_of rule problem stage frames ≡ [] → rest_open rule problem stage frames ≡ 0
@@ -339,3 +222,5 @@ module _ (rule : RuleSet) (problem : Posed) where
       some [] y ys e = cc
       some (x ∷ xs) y ys e = cc
   fewest-none Behind frames e = refl
+
+pub ruleset all_opened = (rest-none, fewest-none)

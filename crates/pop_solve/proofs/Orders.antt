@@ -11,7 +11,7 @@ use Rattle.chess_rules.proofs.listing_moves.Places.{moves_behind-end, moves_behi
 use Rattle.chess_rules.specs.Legal.{moves as legal_moves}
 use Rattle.chess_rules.specs.RuleSet.{RuleSet}
 use Rattle.chess_rules.specs.ties.Places.{moves_behind, moves_between}
-use Rattle.pop_solve.specs.declared.frame.Stretch.TheVariants.{Killer, Earlier, Aimed, Others}
+use Rattle.pop_solve.specs.declared.frame.Stretch.TheVariants.{Killer, Earlier, Others}
 use Rattle.pop_solve.specs.declared.frame.Early.TheVariants.{NoMoves}
 use Rattle.pop_solve.proofs.Boards.{behind_start}
 use Rattle.pop_solve.specs.ties.Frames.{Order, ahead, all_of, belongs, comes_early, here, is_at, later}
@@ -28,9 +28,8 @@ module _ {M C : Type 0} (step : M → C → C) (g : List M → C) (cons : (x : M
     (swap : (x y : M) (c : C) → step x (step y c) ≡ step y (step x c)) where
   -- an element may come first
   to_front : (x : M) (xs ys : List M) → g (xs ++ x ∷ ys) ≡ step x (g (xs ++ ys))
-  to_front x [] ys = cons x ys
-  to_front x (y ∷ xs) ys =
-      cons y (xs ++ x ∷ ys) ∙ ap (step y) (to_front x xs ys) ∙ swap y x (g (xs ++ ys)) ∙ ap (step x) (sym (cons y (xs ++ ys)))
+  to_front x [] ys = search rules
+  to_front x (y ∷ xs) ys = search (rules, to_front x xs ys)
 
   same_behind : (xs ys zs : List M) → g ys ≡ g zs → g (xs ++ ys) ≡ g (xs ++ zs)
   same_behind [] ys zs e = e
@@ -45,19 +44,8 @@ module _ {M C : Type 0} (step : M → C → C) (g : List M → C) (cons : (x : M
       ∙ to_front x ws (xs ++ (ys ++ zs))
 
   same_parted : (a b c : M → Bool) (ms : List M) → g (parted a b c ms) ≡ g ms
-  same_parted a b c [] = refl
-  same_parted a b c (m ∷ ms) = at (a m) (b m) (c m) ∙ ap (step m) (same_parted a b c ms) ∙ sym (cons m ms)
-    where
-      front : Bool → (M → Bool) → List M
-      front has test = cond has (m ∷ filter test ms) (filter test ms)
-
-      at : (x y z : Bool) → g (front x a ++ (front (not x && y) (λ m. not (a m) && b m)
-          ++ (front (not x && (not y && z)) (λ m. not (a m) && (not (b m) && c m))
-          ++ front (not x && (not y && not z)) (λ m. not (a m) && (not (b m) && not (c m)))))) ≡ step m (g (parted a b c ms))
-      at true y z = cons m (parted a b c ms)
-      at false true z = to_front m (filter a ms) _
-      at false false true = past_two m (filter a ms) _ _
-      at false false false = past_three m (filter a ms) _ _ _
+  same_parted a b c [] = search rules
+  same_parted a b c (m ∷ ms) = search (rules, to_front, past_two, past_three, same_parted a b c ms)
 
 filter-none : (f : Triple → Bool) (none : (m : Triple) → f m ≡ false) → (ms : List Triple) → filter f ms ≡ []
 filter-none f none [] = refl
@@ -79,26 +67,21 @@ module _ (rule : RuleSet) (p : Position) (k : ℕ) where
   none_behind = pass_all 28672 k (k + 28672) refl (λ i lo hi h. omega (arith, lo, h)) ∙ (rw (moves_behind-end rule p (k + 28672) (omega arith)) refl)
 
   here_alone : filter (is_at k) (moves_behind rule p (k - 1)) ≡ moves_between rule p (k - 1) k
-  here_alone = elim (cases_lt 0 k) [
-    | inl some ↦
-        let e : k - 1 + 1 ≡ k = omega (arith, some) in
-        search (
-          rules,
-          cases_lt,
-          cases_Bool,
-          between-past,
-          moves_behind-end,
-          between-here,
-          moves_behind-here,
-          between-skip,
-          moves_behind-skip,
-          between-none,
-          none_behind,
-          place_of_triple,
-          e,
-        )
-    | inr none ↦ (let e : k - 1 ≡ k = omega (arith, none) in rw e (none_behind ∙ sym (between-none rule p k k (omega arith))))
-  ]
+  here_alone =
+      search (
+        rules,
+        cases_lt,
+        cases_Bool,
+        between-past,
+        moves_behind-end,
+        between-here,
+        moves_behind-here,
+        between-skip,
+        moves_behind-skip,
+        between-none,
+        none_behind,
+        place_of_triple,
+      )
 
   one_place : moves_between rule p (k - 1) k ≡ filter (is_at k) (legal_moves rule p)
   one_place =
@@ -113,22 +96,17 @@ module _ (rule : RuleSet) (p : Position) (order : Order) where
   pub before_earlier : (place : ℕ) → place ≡ order.earlier - 1 → eqb order.earlier order.killer ≡ false
       → here rule p order Earlier place ≡ all_of rule p order Earlier
   unfolding here belongs
-  before_earlier place at other =
-      rw at (one_place rule p order.earlier
-      ∙ sym (filter_agree (belongs p order Earlier) (is_at order.earlier) (λ m. grind (arith, nat_tests, other)) (legal_moves rule p)))
+  before_earlier place at other = search (rules, one_place, filter_agree, nat_tests)
 
   pub behind_earlier : (place : ℕ) → place ≡ order.earlier → eqb order.earlier order.killer ≡ true
       → here rule p order Earlier place ≡ all_of rule p order Earlier
   unfolding here belongs
-  behind_earlier place at same =
-      rw at (between-none rule p order.earlier order.earlier (omega arith)
-      ∙ sym (filter-none (belongs p order Earlier) (λ m. grind (arith, nat_tests, same)) (legal_moves rule p)))
+  behind_earlier place at same = search (rules, between-none, filter-none, nat_tests)
 
   -- the stretches behind one
   pub later_aimed : order.early ≡ NoMoves → later rule p order Earlier ≡ all_of rule p order Others ++ later rule p order Others
   unfolding later belongs
-  later_aimed none =
-      rw (filter-none (belongs p order Aimed) (λ m. rw none (grind arith)) (legal_moves rule p)) (sym (append-nil (all_of rule p order Others)))
+  later_aimed none = search (rules, filter-none, append-nil)
 
   -- to a frame that is opened all moves are left, in another order
   pub same_start : {C : Type 0} (step : Triple → C → C) (g : List Triple → C) → ((m : Triple) (ms : List Triple) → g (m ∷ ms) ≡ step m (g ms))

@@ -1,7 +1,6 @@
 -- The outcomes of a step, for frames listed from the top down.
 use Rattle.pop_solve.specs.declared.aim.Battle.{Battle}
 use Rattle.chess_rules.specs.Play.{after as played}
-use Rattle.chess_rules.specs.Legal.{moves as legal_moves}
 use Rattle.std.proofs.Common.{rules, ◌≡◌, ℕ, suc, ◌+◌, ◌-◌, ◌<◌, ◌≤◌, ◌^◌, min, Bool, true, false, eqb, List, [], ◌∷◌, length, Option, IfSome, refl, ◌∙◌, ap, arith, ◌⊎◌, inl, inr}
 use Rattle.chess_core.specs.Position.{Position}
 use Rattle.chess_core.specs.Triple.{Triple}
@@ -13,13 +12,12 @@ use Rattle.chess_rules.specs.ties.Places.{IsPlaceIn, LegalPlace, moves_behind}
 use Rattle.chess_rules.specs.Play.{undo_of}
 use Rattle.chess_rules.specs.RuleSet.{RuleSet}
 use Rattle.pop_solve.specs.Chess.{chess}
-use Rattle.pop_solve.specs.ties.Counts.{HasCounted, walk_count}
 use Rattle.pop_solve.specs.ties.Values.{seeks}
 use Rattle.pop_solve.specs.ties.Frames.{AreKnown, Frame, position, IsLinked, CameFromAt, CameFrom, opened, opened as opened_frame, walk_behind, to_open}
-use Rattle.pop_solve.specs.ties.Walk.{follows, gives, goes_on, path, GoesTo, to_come, IsRoomy, IsWalking, turns, IsCounted, IsWhites, Steps, fewest_for, fewest_left}
+use Rattle.pop_solve.specs.ties.Calls.{Counts}
+use Rattle.pop_solve.specs.ties.Walk.{follows, gives, goes_on, path, GoesTo, to_come, IsRoomy, IsWalking, turns, IsCounted, IsWhites, Steps, fewest_left}
 use Rattle.pop_solve.specs.declared.plan.Plan.{Plan}
 use Rattle.pop_solve.proofs.Tests.{learned, moved}
-use Rattle.pop_solve.specs.ties.Plans.{varies}
 use Rattle.pop_input.specs.Stipulations.{is_help}
 use Rattle.pop_solve.specs.Aims.{battle_of}
 use Rattle.pop_solve.proofs.GoingOn.{no_zero, goes_on-help, follows-help, goes_on-keys, goes_on-most, ended-reached}
@@ -65,7 +63,7 @@ module _ (rule : RuleSet) (h : ℕ) (p : Position) where
   unfolding IsLinked IsRoomy AreKnown position
   walking-learned f known below board r w = search rules
 
-  walking-moved : (plan : Plan) (f : Frame) (next : ℕ) (below : List Frame) (board after : Position) → IsWalking rule h p (f ∷ below) board → after ≡ board
+  pub walking-moved : (plan : Plan) (f : Frame) (next : ℕ) (below : List Frame) (board after : Position) → IsWalking rule h p (f ∷ below) board → after ≡ board
       → IsWalking rule h p (moved f next ∷ below) after
   unfolding IsRoomy
   walking-moved plan f next below board after r e = search (rules, IsLinked-moved, known-moved, position-moved)
@@ -142,11 +140,9 @@ module _ (rule : RuleSet) (plan : Plan) (h : ℕ) (p : Position) (f : Frame) (be
 
     pub steps-pass : (after : Position) (opened opened2 : ℕ) → follows plan (chess plan.goal rule) (eqb (length below) 0) t (played rule board m) ≡ false
         → after ≡ board
-        → (is_help plan.form ≡ false → varies plan ≡ false → seeks (battle_of plan.form) (t + 1) ≡ true → opened2 ≤ opened + walk_count (legal_moves rule)
-        (played rule) t (played rule board m)) → HasCounted opened opened2
-        (fewest_for plan (chess plan.goal rule) (eqb (length below) 0) t (played rule board m)) → Steps rule plan h p (f ∷ below)
+        → Counts rule plan (eqb (length below) 0) t (played rule board m) opened opened2 → Steps rule plan h p (f ∷ below)
         (moved f next ∷ below) after opened opened2 false
-    steps-pass after opened opened2 b at keys tried =
+    steps-pass after opened opened2 b at x =
         let o = open-next rule plan h p f next m below _ t fuel left here in
         record {
           walking = walking-moved rule h p plan f next below board after r at;
@@ -156,26 +152,23 @@ module _ (rule : RuleSet) (plan : Plan) (h : ℕ) (p : Position) (f : Frame) (be
           falls = turns-pass rule plan h p f next m below _ t fuel left here;
           opens = record {
             whites = λ a c w. whites-moved (battle_of plan.form) f next below w;
-            most = search (rules, o, after_here, whites-top);
+            most = search (rules, x.keys, o, after_here, whites-top);
             helped = search (rules, follows-help);
             counted = search (rules, follows-help);
           };
           tries = record {
-            grows = omega (arith, tried);
-            fewest = search (rules, tried, after_here, tries-pass rule plan h p f next m below _ t fuel left here);
+            grows = omega (arith, x.tries);
+            fewest = search (rules, x.tries, after_here, tries-pass rule plan h p f next m below _ t fuel left here);
           };
         }
 
     pub steps-enter : (after : Position) (opened opened2 : ℕ) → legal rule board m ≡ true
         → follows plan (chess plan.goal rule) (eqb (length below) 0) t (played rule board m) ≡ true → after ≡ played rule board m
-        → (is_help plan.form ≡ true → 0 < t → opened2 ≡ min (opened + 1) (2 ^ 64 - 1)) → (is_help plan.form ≡ true → t ≡ 0 → opened2 ≡ opened)
-        → (is_help plan.form ≡ false → varies plan ≡ false → seeks (battle_of plan.form) (t + 1) ≡ true → opened2 ≤ opened + walk_count (legal_moves rule)
-        (played rule) t (played rule board m)) → HasCounted opened opened2
-        (fewest_for plan (chess plan.goal rule) (eqb (length below) 0) t (played rule board m)) → Steps rule plan h p (f ∷ below)
+        → Counts rule plan (eqb (length below) 0) t (played rule board m) opened opened2 → Steps rule plan h p (f ∷ below)
         (opened_frame m (undo_of rule board m)
         (goes_on plan (chess plan.goal rule) t (played rule board m)) ∷ (moved f next ∷ below)) after opened opened2
         (gives plan (chess plan.goal rule) t (played rule board m))
-    steps-enter after opened opened2 lawful b at more same keys tried_for =
+    steps-enter after opened opened2 lawful b at x =
         let o = open-next rule plan h p f next m below _ t fuel left here in
         let u = undo_of rule board m in
         let q = played rule (position rule p (f ∷ below)) m in
@@ -195,56 +188,28 @@ module _ (rule : RuleSet) (plan : Plan) (h : ℕ) (p : Position) (f : Frame) (be
           falls = turns-enter rule plan h p f next m below _ t fuel left here u tried;
           opens = record {
             whites = search (rules, whites-none, goes_on-keys, whites-top, whites-moved);
-            most = search (rules, o, n, walk_behind-none, goes_on-keys, whites-top, after_here);
-            helped = λ a. omega (arith, helped a, opened-most rule plan t opened opened2 (more a) (same a));
-            counted = λ a walk c. counted_by rule plan t walk opened opened2 _ _ (helped a) (more a) (same a) c;
+            most = search (rules, x.keys, o, n, walk_behind-none, goes_on-keys, whites-top, after_here);
+            helped = λ a. omega (arith, helped a, opened-most rule plan t opened opened2 (x.more a) (x.none a));
+            counted = λ a walk c. counted_by rule plan t walk opened opened2 _ _ (helped a) (x.more a) (x.none a) c;
           };
           tries = record {
-            grows = omega (arith, tried_for);
+            grows = omega (arith, x.tries);
             fewest = λ a. rw after_here
-                (omega (arith, rw after_here at tried_for, tries-enter rule plan h p f next m below _ t fuel left here u (rw (← after_here) b)));
+                (omega (arith, rw after_here at x.tries, tries-enter rule plan h p f next m below _ t fuel left here u (rw (← after_here) b)));
           };
         }
 
--- the same once moves that don't count have been passed over
+-- a frame is closed once moves that don't count have been passed over
 module _ (rule : RuleSet) (plan : Plan) (h : ℕ) (p : Position) (f : Frame) (below : List Frame) (board : Position)
     (r : IsWalking rule h p (f ∷ below) board) where
-  passed_to : (mid : ℕ) → IsWalking rule h p (moved f mid ∷ below) board
-  passed_to mid = walking-moved rule h p plan f mid below board board r refl
-
   pub skips-close : (after : Position) (count : ℕ) → (f.left ≡ 0) ⊎ GoesTo rule plan f.left (position rule p (f ∷ below)) f.place []
       → (length below ≡ 0 → after ≡ board) → ((q : Position) → 0 < length below → CameFromAt rule f board q → after ≡ q)
       → Steps rule plan h p (f ∷ below) below after count count false
   skips-close after count (inl e) lowest before = steps-close rule plan h p f below board r after count (inl e) lowest before
   skips-close after count (inr g) lowest before =
       steps-skip rule plan h p f below [] g below after count count false
-      (steps-close rule plan h p (moved f g.mid) below board (passed_to g.mid) after count (inr (rw r.board_at g.here)) lowest before)
-
-  module _ (next : ℕ) (m : Triple) (t : ℕ) (left : f.left ≡ suc t)
-      (g : GoesTo rule plan f.left (position rule p (f ∷ below)) f.place (m ∷ moves_behind rule (position rule p (f ∷ below)) next)) where
-    pub skips-pass : (after : Position) (opened opened2 : ℕ) → follows plan (chess plan.goal rule) (eqb (length below) 0) t (played rule board m) ≡ false
-        → after ≡ board
-        → (is_help plan.form ≡ false → varies plan ≡ false → seeks (battle_of plan.form) (t + 1) ≡ true → opened2 ≤ opened + walk_count (legal_moves rule)
-        (played rule) t (played rule board m)) → HasCounted opened opened2
-        (fewest_for plan (chess plan.goal rule) (eqb (length below) 0) t (played rule board m)) → Steps rule plan h p (f ∷ below)
-        (moved f next ∷ below) after opened opened2 false
-    skips-pass after opened opened2 b at keys tried =
-        steps-skip rule plan h p f below _ g _ after opened opened2 false
-        (steps-pass rule plan h p (moved f g.mid) below board (passed_to g.mid) next m t left (rw r.board_at g.here) after opened opened2 b at keys tried)
-
-    pub skips-enter : (after : Position) (opened opened2 : ℕ) → legal rule board m ≡ true
-        → follows plan (chess plan.goal rule) (eqb (length below) 0) t (played rule board m) ≡ true → after ≡ played rule board m
-        → (is_help plan.form ≡ true → 0 < t → opened2 ≡ min (opened + 1) (2 ^ 64 - 1)) → (is_help plan.form ≡ true → t ≡ 0 → opened2 ≡ opened)
-        → (is_help plan.form ≡ false → varies plan ≡ false → seeks (battle_of plan.form) (t + 1) ≡ true → opened2 ≤ opened + walk_count (legal_moves rule)
-        (played rule) t (played rule board m)) → HasCounted opened opened2
-        (fewest_for plan (chess plan.goal rule) (eqb (length below) 0) t (played rule board m)) → Steps rule plan h p (f ∷ below)
-        (opened_frame m (undo_of rule board m)
-        (goes_on plan (chess plan.goal rule) t (played rule board m)) ∷ (moved f next ∷ below)) after opened opened2
-        (gives plan (chess plan.goal rule) t (played rule board m))
-    skips-enter after opened opened2 lawful b at more same keys tried =
-        steps-skip rule plan h p f below _ g _ after opened opened2 _
-        (steps-enter rule plan h p (moved f g.mid) below board (passed_to g.mid) next m t left
-        (rw r.board_at g.here) after opened opened2 lawful b at more same keys tried)
+      (steps-close rule plan h p (moved f g.mid) below board (walking-moved rule h p plan f g.mid below board board r refl) after count
+      (inr (rw r.board_at g.here)) lowest before)
 
 -- what the top frame knows changes nothing of what is to come
 pub steps-learned : (rule : RuleSet) (plan : Plan) (h : ℕ) (p : Position) (f : Frame) (known : Option LegalPlace) (below new : List Frame)

@@ -2,18 +2,20 @@
 use Rattle.pop_input.specs.declared.stipulation.Goal.{Goal}
 use Rattle.chess_rules.specs.Legal.{legal}
 use Rattle.chess_rules.specs.Play.{after as played}
-use Rattle.std.proofs.Common.{◌≡◌, ℕ, zero, suc, ◌+◌, ◌-◌, ◌<◌, ◌≤◌, Bool, List, [], ◌∷◌, ◌++◌, length, take, drop, get_or, reverse, true, refl, sym, ◌∙◌, ap, subst, arith, length-append, length-take}
+use Rattle.std.proofs.Common.{◌≡◌, ℕ, ◌+◌, ◌-◌, ◌<◌, ◌≤◌, cond, rules, List, [], ◌∷◌, ◌++◌, length, take, drop, get_or, reverse, true, refl, sym, ◌∙◌, ap, subst, arith, length-append, length-take}
 use Rattle.std.proofs.lemmas.List.{length-reverse, reverse-append, take_all, take_more, take-append-drop}
 use Rattle.chess_core.specs.Position.{Position}
 use Rattle.chess_core.specs.Triple.{Triple}
 use Rattle.chess_rules.specs.RuleSet.{RuleSet}
 use Rattle.pop_solve.specs.Chess.{chess, show}
 use Rattle.pop_solve.specs.Game.{reach}
-use Rattle.pop_solve.specs.ties.Frames.{Frame, position, IsLinked, CameFrom, CameFromAt, top_left}
+use Rattle.pop_solve.specs.ties.Frames.{Frame, position, IsLinked, CameFrom, CameFromAt}
 use Rattle.pop_solve.specs.ties.Walk.{ends_variation, IsEnded, path, IsWalking}
 use Rattle.pop_solve.specs.declared.plan.Plan.{Plan}
 use Rattle.pop_solve.specs.Events.{shown_along, shown_last}
 use Rattle.pop_solve.proofs.Outcomes.{CameFrom-deep, walking-close}
+use Rattle.pop_solve.specs.declared.chess.Reached.{Reached}
+use Rattle.pop_solve.specs.declared.chess.Reached.TheVariants.{Perhaps, Surely}
 use Rattle.pop_solve.proofs.Walking.{popped}
 
 pub length-path : (f : Frame) (below : List Frame) → length (path (f ∷ below)) ≡ length below
@@ -44,21 +46,18 @@ module _ (goal : Goal) (rule : RuleSet) where
   -- the path leads to the position
   pub reach-path : (p : Position) (frames : List Frame) → position rule p frames ≡ reach (played rule) p (path frames)
   unfolding position path
-  reach-path p [] = refl
-  reach-path p (f ∷ []) = refl
-  reach-path p (f ∷ (g ∷ below)) =
-      ap (λ q. played rule q f.by) (reach-path p (g ∷ below)) ∙ sym (reach-append p (path (g ∷ below)) f.by)
+  reach-path p [] = search rules
+  reach-path p (f ∷ []) = search rules
+  reach-path p (f ∷ (g ∷ below)) = search (rules, reach-append, reach-path p (g ∷ below))
 
   -- a move more
   path-more : (p : Position) (f : Frame) (fs : List Frame) → 0 < length fs → path (f ∷ fs) ≡ path fs ++ f.by ∷ []
   unfolding path
-  path-more p f [] some = absurd (omega (arith, some))
-  path-more p f (g ∷ below) some = refl
+  path-more p f fs some = search rules
 
   pub along-more : (p : Position) (f : Frame) (fs : List Frame) → 0 < length fs
       → shown_along goal rule p (path (f ∷ fs)) ≡ shown_along goal rule p (path fs) ++ show goal rule (position rule p fs) f.by ∷ []
-  along-more p f fs some =
-      rw (path-more p f fs some, along-append p (path fs) f.by, reach-path p fs) refl
+  along-more p f fs some = search (rules, path-more, along-append, reach-path)
 
   pub last-more : (p : Position) (f : Frame) (fs : List Frame) → 0 < length fs
       → shown_last goal rule p (path (f ∷ fs)) ≡ show goal rule (position rule p fs) f.by
@@ -67,13 +66,11 @@ module _ (goal : Goal) (rule : RuleSet) where
 module _ (rule : RuleSet) where
   pub position-more : (p : Position) (f : Frame) (fs : List Frame) → 0 < length fs → position rule p (f ∷ fs) ≡ played rule (position rule p fs) f.by
   unfolding position
-  position-more p f [] some = absurd (omega (arith, some))
-  position-more p f (g ∷ below) some = refl
+  position-more p f fs some = search rules
 
   linked-legal : (p : Position) (f : Frame) (fs : List Frame) → 0 < length fs → IsLinked rule p (f ∷ fs) → legal rule (position rule p fs) f.by ≡ true
   unfolding IsLinked
-  linked-legal p f [] some l = absurd (omega (arith, some))
-  linked-legal p f (g ∷ below) some l = l.1
+  linked-legal p f fs some l = search rules
 
   linked-cut : (p : Position) (xs ys : List Frame) → IsLinked rule p (xs ++ ys) → IsLinked rule p ys
   unfolding IsLinked
@@ -121,10 +118,9 @@ module _ (rule : RuleSet) where
     forth-again h p board after r s = ap (λ b. played rule b f.by) s.board_at ∙ sym (r.board_at ∙ forth-position p)
 
     pub forth-ended : (plan : Plan) (h : ℕ) (p board after : Position) → IsWalking rule h p (reverse upper) board
-        → IsWalking rule h p (reverse lower) after → IsEnded rule plan (reverse upper) board → (b : Bool) → b ≡ ends_variation plan f.left → b ≡ true
-        → (chess plan.goal rule).goal (played rule after f.by) ≡ true
-    forth-ended plan h p board after r s ended b e here =
-        rw (forth-again h p board after r s) (ended (ap (λ fs. ends_variation plan (top_left fs)) stacked ∙ sym e ∙ here))
+        → IsWalking rule h p (reverse lower) after → IsEnded rule plan (reverse upper) board → (b : Reached)
+        → b ≡ cond (ends_variation plan f.left) Surely Perhaps → b ≡ Surely → (chess plan.goal rule).goal (played rule after f.by) ≡ true
+    forth-ended plan h p board after r s ended b e here = search (rules, forth-again, stacked)
 
     pub forth-along : (goal : Goal) (p : Position)
         → shown_along goal rule p (path (reverse upper)) ≡ shown_along goal rule p (path (reverse lower)) ++ show goal rule
@@ -142,17 +138,11 @@ module _ (rule : RuleSet) where
   one-position p (f ∷ (g ∷ below)) few = absurd (omega (arith, few))
 
   pub first-position : (p : Position) (frames : List Frame) (k : ℕ) → k ≤ 1 → position rule p (reverse (take k frames)) ≡ p
-  first-position p frames k few = one-position p (reverse (take k frames)) (omega (arith, length-reverse (take k frames), length-take-most k frames, few))
-    where
-      length-take-most : (n : ℕ) (fs : List Frame) → length (take n fs) ≤ n
-      length-take-most zero fs = omega arith
-      length-take-most (suc n) [] = omega arith
-      length-take-most (suc n) (f ∷ fs) = omega (arith, length-take-most n fs)
+  first-position p frames k few = search (rules, one-position, length-reverse)
 
   pub first-path : (goal : Goal) (p : Position) (frames : List Frame) → shown_along goal rule p (path (reverse (take 1 frames))) ≡ []
   unfolding path
-  first-path goal p [] = refl
-  first-path goal p (f ∷ frames) = refl
+  first-path goal p frames = search rules
 
 -- the frame at k stands above the first k
 pub cut-at : (frames : List Frame) (n k : ℕ) (f : Frame) → n ≡ k + 1 → f ≡ get_or frames k f → k < length frames → take n frames ≡ take k frames ++ f ∷ []

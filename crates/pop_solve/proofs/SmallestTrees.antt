@@ -1,6 +1,6 @@
 -- The smallest trees that decide a position.
 use Rattle.pop_solve.specs.declared.aim.Battle.{Battle}
-use Rattle.std.proofs.Common.{◌≡◌, ℕ, zero, suc, ◌+◌, ◌≤◌, min, Bool, true, false, cond, List, [], ◌∷◌, refl, arith}
+use Rattle.std.proofs.Common.{◌≡◌, ℕ, zero, suc, ◌+◌, ◌≤◌, min, Bool, true, false, cond, List, [], ◌∷◌, arith, rules}
 use Rattle.std.proofs.lemmas.List.Sums.{sum_by-cons}
 use Rattle.std.specs.List.{sum_by}
 use Rattle.pop_solve.specs.Game.{Game, can_move}
@@ -9,19 +9,13 @@ use Rattle.pop_solve.specs.ties.Counts.{decided_by, least_of, smallest_below, sm
 module _ {M : Type 0} (test : M → Bool) (f : M → ℕ) where
   least-most : (n : ℕ) (ms : List M) → least_of test f n ms ≤ n
   unfolding least_of
-  least-most n [] = omega arith
-  least-most n (m ∷ ms) =
-      let l = least-most n ms in
-      elim (test m) as (λ b. cond b (min (f m) (least_of test f n ms)) (least_of test f n ms) ≤ n) [ true ↦ omega (arith, l) | false ↦ l ]
+  least-most n [] = search rules
+  least-most n (m ∷ ms) = search (rules, least-most n ms)
 
   least-plus : (k a n : ℕ) (ms : List M) → n ≡ k + a → least_of test f n ms ≤ k + least_of test f a ms
   unfolding least_of
-  least-plus k a n [] e = omega (arith, e)
-  least-plus k a n (m ∷ ms) e =
-      let l = least-plus k a n ms e in
-      elim (test m) as (λ b. cond b (min (f m) (least_of test f n ms)) (least_of test f n ms) ≤ k + cond b (min (f m) (least_of test f a ms))
-      (least_of test f a ms))
-      [ true ↦ omega (arith, l) | false ↦ l ]
+  least-plus k a n [] e = search rules
+  least-plus k a n (m ∷ ms) e = search (rules, least-plus k a n ms e)
 
   -- that of all moves, or of one that passes the test
   abbrev below : List M → ℕ
@@ -47,32 +41,24 @@ module _ {P M : Type 0} (battle : Battle) (game : Game P M) where
   -- none below no moves
   pub trees-end : (t : ℕ) (p : P) → smallest_below battle game t p [] ≡ 0
   unfolding smallest_below least_of
-  trees-end zero p = refl
-  trees-end (suc t) p = refl
+  trees-end t p = search rules
 
   pub trees-start : (t : ℕ) (p : P) → smallest_tree battle game t p ≤ 1 + smallest_below battle game t p (game.moves p)
   unfolding smallest_tree smallest_below
-  trees-start zero p = omega arith
-  trees-start (suc t) p =
-      let n = smallest_below battle game (suc t) p (game.moves p) in
-      elim (can_move game p) as (λ b. cond b (1 + n) 0 ≤ 1 + n) [ true ↦ omega arith | false ↦ omega arith ]
+  trees-start t p = search rules
 
   -- where no move is left, and with one half-move left
   pub tree-none : (t : ℕ) (p : P) → can_move game p ≡ false → smallest_tree battle game t p ≡ 0
   unfolding smallest_tree
-  tree-none zero p e = refl
-  tree-none (suc t) p e = rw e refl
+  tree-none t p e = search rules
 
   pub tree-zero : (t : ℕ) (p : P) → t ≡ 0 → smallest_tree battle game t p ≡ 0
   unfolding smallest_tree
-  tree-zero zero p e = refl
-  tree-zero (suc t) p e = cc
+  tree-zero t p e = search rules
 
   nothing : (p : P) (ms : List M) → sum_by (λ m. smallest_tree battle game 0 (game.after p m)) ms ≡ 0
-  nothing p [] = refl
-  nothing p (m ∷ ms) =
-      let s = sum_by-cons (λ m. smallest_tree battle game 0 (game.after p m)) m ms in
-      omega (arith, s, tree-zero 0 (game.after p m) refl, nothing p ms)
+  nothing p [] = search rules
+  nothing p (m ∷ ms) = search (rules, sum_by-cons, tree-zero, nothing p ms)
 
   pub tree-one : (t : ℕ) (p : P) → t ≡ 1 → smallest_tree battle game t p ≤ 1
   unfolding smallest_below
@@ -83,3 +69,5 @@ module _ {P M : Type 0} (battle : Battle) (game : Game P M) where
       (sum_by (λ m. smallest_tree battle game 0 (game.after p m)) (game.moves p)) (game.moves p) in
       omega (arith, s, l, nothing p (game.moves p))
   tree-one (suc (suc t)) p e = absurd (omega (arith, e))
+
+pub ruleset shortest = (tree-zero, tree-one)

@@ -3,7 +3,7 @@ use Rattle.pop_solve.specs.declared.aim.Battle.{Battle}
 use Rattle.pop_solve.specs.declared.aim.Battle.TheVariants.{Direct, Selfmate}
 use Rattle.pop_solve.specs.Aims.{battle_of}
 use Rattle.chess_rules.specs.Legal.{moves as legal_moves}
-use Rattle.std.proofs.Common.{◌≡◌, ℕ, zero, suc, ◌+◌, ◌-◌, ◌*◌, ◌≤◌, Bool, true, false, ◌&&◌, eqb, cond, List, [], ◌∷◌, ◌++◌, length, map, take, refl, sym, ◌∙◌, ap, arith}
+use Rattle.std.proofs.Common.{◌≡◌, ℕ, zero, suc, ◌+◌, ◌-◌, ◌*◌, ◌≤◌, Bool, true, false, cond, List, [], ◌∷◌, ◌++◌, length, map, take, refl, sym, ◌∙◌, ap, arith, rules}
 use Rattle.std.specs.List.{flat_map, filter, list_all}
 use Rattle.std.proofs.lemmas.Bool.Decides.{nat_tests}
 use Rattle.pop_solve.specs.declared.event.Phase.{Phase}
@@ -18,14 +18,14 @@ use Rattle.pop_input.specs.Stipulations.{is_help, half_moves_of}
 use Rattle.pop_solve.proofs.Sound.{some_way}
 use Rattle.pop_solve.specs.ties.Frames.{Frame}
 use Rattle.pop_solve.specs.Tree.{node, keeps, tree, set_shows, set_tree}
-use Rattle.pop_solve.specs.ties.Walk.{follows, gives, goes_on, shown}
+use Rattle.pop_solve.specs.ties.Walk.{goes_on, shown}
 use Rattle.pop_solve.specs.Events.{is_set, solutions, phase_start, phase_half_moves}
 use Rattle.pop_solve.specs.ties.Phases.{keep, started, phase_paths}
 use Rattle.pop_input.specs.declared.stipulation.Form.{Form}
-use Rattle.pop_input.specs.declared.stipulation.Form.TheVariants.{Direct, SelfMate, Help, HelpHalf}
+use Rattle.pop_input.specs.declared.stipulation.Form.TheVariants.{Direct}
 use Rattle.pop_solve.specs.declared.plan.Plan.{Plan}
 use Rattle.pop_solve.proofs.Battles.{value-wins, value-self_wins}
-use Rattle.pop_solve.proofs.Trees.{flat-filter, shown-zero, shown-help, halves, keeps-value, halves-seek, seeks-step, flip, unflip, beneath, as_nodes, by_test, below-key, below-set}
+use Rattle.pop_solve.proofs.Trees.{flat-filter, shown-zero, shown-help, halves, keeps-value, half-some, halves-seek, seeks-step, flip, unflip, beneath, as_nodes, by_test, below-key, below-set}
 use Rattle.pop_solve.proofs.Kept.{keep-nil, started-nil, to_come-root}
 use Rattle.pop_solve.specs.ties.Plans.{shows_variations, tree_shown, plan_of, varies}
 
@@ -54,37 +54,25 @@ abbrev some : {M : Type 0} → List M → Bool
 some [] = false
 some (x ∷ xs) = true
 
-both : (a b : Bool) → (a && b) ≡ true → (a ≡ true) × (b ≡ true)
-both true b e = (refl, e)
-both false b e = absurd cc
-
 module _ {M : Type 0} where
   over-kept : (n : ℕ) (m : M) (ys rest : List (List M)) → list_all some ys ≡ true
       → keep false n (map (λ path. m ∷ path) ys ++ rest) ≡ map (λ path. m ∷ path) ys ++ keep false n rest
   unfolding keep
-  over-kept n m [] rest a = refl
-  over-kept n m ([] ∷ ys) rest a = absurd cc
-  over-kept zero m ((y ∷ z) ∷ ys) rest a = let e : eqb (length (m ∷ (y ∷ z))) 1 ≡ false = grind (arith, nat_tests) in rw e
-      (ap (λ xs. (m ∷ (y ∷ z)) ∷ xs) (over-kept zero m ys rest a))
-  over-kept (suc n) m ((y ∷ z) ∷ ys) rest a = let e : eqb (length (m ∷ (y ∷ z))) 1 ≡ false = grind (arith, nat_tests) in rw e
-      (ap (λ xs. (m ∷ (y ∷ z)) ∷ xs) (over-kept (suc n) m ys rest a))
+  over-kept n m [] rest a = search rules
+  over-kept n m (y ∷ ys) rest a = search (rules, nat_tests, over-kept n m ys rest)
 
   over-begun : (n : ℕ) (m : M) (ys rest : List (List M)) → list_all some ys ≡ true → started false n (map (λ path. m ∷ path) ys ++ rest) ≡ started false n rest
   unfolding started
   over-begun n m [] rest a = refl
-  over-begun n m ([] ∷ ys) rest a = absurd cc
-  over-begun zero m ((y ∷ z) ∷ ys) rest a = let e : eqb (length (m ∷ (y ∷ z))) 1 ≡ false = grind (arith, nat_tests) in rw e (over-begun zero m ys rest a)
-  over-begun (suc n) m ((y ∷ z) ∷ ys) rest a = let e : eqb (length (m ∷ (y ∷ z))) 1 ≡ false = grind (arith, nat_tests) in rw e (over-begun (suc n) m ys rest a)
+  over-begun n m (y ∷ ys) rest a = search (rules, nat_tests, over-begun n m ys rest)
 
   nodes-kept : (X : M → List (List M)) → ((m : M) → list_all some (X m) ≡ true) → (n : ℕ) (ms : List M)
       → keep false n (flat_map (λ m. node m (X m)) ms) ≡ flat_map (λ solution. solution) (take n (map (λ m. node m (X m)) ms))
   unfolding keep
-  nodes-kept X full zero [] = refl
-  nodes-kept X full zero (m ∷ ms) = refl
-  nodes-kept X full (suc n) [] = refl
-  nodes-kept X full (suc n) (m ∷ ms) =
-      ap (λ ys. (m ∷ []) ∷ ys) (over-kept n m (X m) (flat_map (λ x. node x (X x)) ms) (full m) ∙ ap (λ ys. map (λ path. m ∷ path) (X m) ++ ys)
-      (nodes-kept X full n ms))
+  nodes-kept X full zero [] = search rules
+  nodes-kept X full zero (m ∷ ms) = search rules
+  nodes-kept X full (suc n) [] = search rules
+  nodes-kept X full (suc n) (m ∷ ms) = search (rules, over-kept, nodes-kept X full n ms)
 
   nodes-begun : (X : M → List (List M)) → ((m : M) → list_all some (X m) ≡ true) → (n : ℕ) (ms : List M)
       → started false n (flat_map (λ m. node m (X m)) ms) ≡ length (take n (map (λ m. node m (X m)) ms))
@@ -96,7 +84,7 @@ module _ {M : Type 0} where
 
   all-append : (xs ys : List (List M)) → list_all some xs ≡ true → list_all some ys ≡ true → list_all some (xs ++ ys) ≡ true
   all-append [] ys a b = b
-  all-append (x ∷ xs) ys a b = let c = both (some x) (list_all some xs) a in rw c.0 (all-append xs ys c.1 b)
+  all-append (x ∷ xs) ys a b = search (rules, all-append xs ys)
 
   all-over : (m : M) (xs : List (List M)) → list_all some (map (λ path. m ∷ path) xs) ≡ true
   all-over m [] = refl
@@ -104,38 +92,17 @@ module _ {M : Type 0} where
 
   map-filter : {B : Type 0} (test other : M → Bool) (F G : M → B) (xs : List M) → ((x : M) → test x ≡ other x) → ((x : M) → test x ≡ true → F x ≡ G x)
       → map F (filter test xs) ≡ map G (filter other xs)
-  map-filter test other F G [] s e = refl
-  map-filter test other F G (x ∷ xs) s e = rw (← s x) (split (test x) refl (map-filter test other F G xs s e))
-    where
-      split : (b : Bool) → test x ≡ b → map F (filter test xs) ≡ map G (filter other xs)
-          → map F (cond b (x ∷ filter test xs) (filter test xs)) ≡ map G (cond b (x ∷ filter other xs) (filter other xs))
-      split true t h = rw (e x t, h) refl
-      split false t h = h
+  map-filter test other F G [] s e = search rules
+  map-filter test other F G (x ∷ xs) s e = search (rules, map-filter test other F G xs s e)
 
 module _ {P M : Type 0} (game : Game P M) (plan : Plan) where
   -- no path that the walk gives is empty
   shown-full : (root : Bool) (k left : ℕ) (p : P) (ms : List M) → list_all some (shown plan game root k left p ms) ≡ true
   unfolding shown
-  shown-full root zero left p ms = refl
-  shown-full root (suc k) zero p ms = refl
-  shown-full root (suc k) (suc t) p [] = refl
-  shown-full root (suc k) (suc t) p (m ∷ ms) =
-      split (follows plan game root t (game.after p m)) (gives plan game t (game.after p m)) (shown-full root (suc k) (suc t) p ms)
-    where
-      split : (f g : Bool) → list_all some (shown plan game root (suc k) (suc t) p ms) ≡ true
-          → list_all some (cond f
-          (cond g ((m ∷ []) ∷ []) [] ++ map (λ path. m ∷ path)
-          (shown plan game false k (goes_on plan game t (game.after p m)) (game.after p m) (game.moves (game.after p m)))) [] ++ shown plan game root
-          (suc k) (suc t) p ms) ≡ true
-      split true true h = all-append
-          (map (λ path. m ∷ path) (shown plan game false k (goes_on plan game t (game.after p m)) (game.after p m) (game.moves (game.after p m))))
-          (shown plan game root (suc k) (suc t) p ms)
-          (all-over m (shown plan game false k (goes_on plan game t (game.after p m)) (game.after p m) (game.moves (game.after p m)))) h
-      split true false h = all-append
-          (map (λ path. m ∷ path) (shown plan game false k (goes_on plan game t (game.after p m)) (game.after p m) (game.moves (game.after p m))))
-          (shown plan game root (suc k) (suc t) p ms)
-          (all-over m (shown plan game false k (goes_on plan game t (game.after p m)) (game.after p m) (game.moves (game.after p m)))) h
-      split false g h = h
+  shown-full root zero left p ms = search rules
+  shown-full root (suc k) zero p ms = search rules
+  shown-full root (suc k) (suc t) p [] = search rules
+  shown-full root (suc k) (suc t) p (m ∷ ms) = search (rules, all-append, all-over, shown-full root (suc k) (suc t) p ms)
 
   -- the root in battle play: its moves that pass the test, each with what stands below it
   root-cut : (battle : is_help plan.form ≡ false) (h n : ℕ) (p : P) (other : M → Bool) (G : M → List (List M))
@@ -159,10 +126,7 @@ module _ {P M : Type 0} (game : Game P M) (plan : Plan) where
 
 -- half-moves of a battle
 halves-form : (form : Form) (n : ℕ) → is_help form ≡ false → half_moves_of form n ≡ halves (battle_of form) n
-halves-form Direct n e = refl
-halves-form SelfMate n e = refl
-halves-form Help n e = absurd cc
-halves-form HelpHalf n e = absurd cc
+halves-form form n e = search rules
 
 module _ {P M : Type 0} (game : Game P M) (plan : Plan) (battle : is_help plan.form ≡ false) where
   set_value : (battle : Battle) (n h : ℕ) (r : P) → suc h ≡ halves battle n - 1 → value battle game h r ≡ set_shows battle game n r
@@ -174,28 +138,16 @@ module _ {P M : Type 0} (game : Game P M) (plan : Plan) (battle : is_help plan.f
       let k : h ≡ 2 * (n - 1) = omega (arith, e) in rw k (value-self_wins game (n - 1) r)
 
   halves-most : (battle : Battle) (n h : ℕ) → suc h ≡ halves battle n → suc h ≤ 2 * n
-  halves-most Selfmate n h e = omega (arith, e)
-  halves-most Direct n h e = omega (arith, e)
+  halves-most battle n h e = search rules
 
   set-most : (battle : Battle) (n h : ℕ) → suc h ≡ halves battle n - 1 → h ≤ 2 * n
-  set-most Selfmate n h e = omega (arith, e)
-  set-most Direct n h e = omega (arith, e)
-
-  set-some : (battle : Battle) (n h : ℕ) → suc h ≡ halves battle n - 1 → (k : ℕ) × (n ≡ suc k)
-  set-some Selfmate zero h e = absurd (omega (arith, e))
-  set-some Direct zero h e = absurd (omega (arith, e))
-  set-some battle (suc k) h e = (k, refl)
-
-  key-some : (battle : Battle) (n h : ℕ) → suc h ≡ halves battle n → (k : ℕ) × (n ≡ suc k)
-  key-some Selfmate zero h e = absurd (omega (arith, e))
-  key-some Direct zero h e = absurd (omega (arith, e))
-  key-some battle (suc k) h e = (k, refl)
+  set-most battle n h e = search rules
 
   -- the play: the tree
   pub tree-cut : (n h max : ℕ) (p : P) → suc h ≡ halves (battle_of plan.form) n
       → IsCutInto false max (shown plan game true (suc h) (suc h) p (game.moves p)) (tree (battle_of plan.form) game (varies plan) n (suc h) p)
   tree-cut n h max p e =
-      let k = key-some (battle_of plan.form) n h e in
+      let k = half-some game (battle_of plan.form) n (omega (arith, e)) in
       let e2 : suc h ≡ halves (battle_of plan.form) (suc k.0) = e ∙ ap (halves (battle_of plan.form)) k.1 in
       let l : halves (battle_of plan.form) (suc k.0) - 1 ≡ h = omega (arith, e2) in
       let one : suc h - 1 ≡ h = omega arith in
@@ -210,7 +162,7 @@ module _ {P M : Type 0} (game : Game P M) (plan : Plan) (battle : is_help plan.f
       → IsCutInto false max (shown plan game true (suc h) (suc h) p (game.moves p)) (set_tree (battle_of plan.form) game (varies plan) n (suc h) p)
   unfolding set_tree
   set-cut n h max p e =
-      let k = set-some (battle_of plan.form) n h e in
+      let k = half-some game (battle_of plan.form) n (omega (arith, e)) in
       let e2 : suc h + 1 ≡ halves (battle_of plan.form) (suc k.0) = omega (arith, e, ap (halves (battle_of plan.form)) k.1) in
       let s : seeks (battle_of plan.form) (suc h + 1) ≡ true = rw e2 (halves-seek game (battle_of plan.form) k.0) in
       let s1 : seeks (battle_of plan.form) (suc h) ≡ false = flip game _ (sym (seeks-step game (battle_of plan.form) (suc h)) ∙ s) in
@@ -222,19 +174,10 @@ module _ {P M : Type 0} (game : Game P M) (plan : Plan) (battle : is_help plan.f
 
 -- a phase of no half-moves
 none-cut : {M : Type 0} (help : Bool) (n : ℕ) → IsCutInto {M = M} help n [] []
-none-cut {M = M} help n = record { kept = keep-nil help n ∙ none n; begun = started-nil M help n ∙ zero_of n }
-  where
-    none : (n : ℕ) → [] ≡ flat_map {X = List (List M)} {A = List M} (λ solution. solution) (take n [])
-    none zero = refl
-    none (suc n) = refl
-
-    zero_of : (n : ℕ) → 0 ≡ length {A = List (List M)} (take n [])
-    zero_of zero = refl
-    zero_of (suc n) = refl
+none-cut {M = M} help n = search (rules, keep-nil, started-nil)
 
 shown-varied : (variation : Bool) → shows_variations (tree_shown variation) ≡ variation
-shown-varied true = refl
-shown-varied false = refl
+shown-varied variation = search rules
 
 module _ (rule : RuleSet) (problem : Posed) (stated : IsSound problem) where
   abbrev plan : Plan

@@ -1,29 +1,19 @@
 -- What a sound problem's play rests on.
-use Rattle.std.proofs.Common.{◌≡◌, ℕ, ◌≤◌, true, None, nat_le, refl, arith}
-use Rattle.std.proofs.lemmas.Bool.Decides.{nat_tests}
-use Rattle.std.proofs.lemmas.Bool.{and_parts}
+use Rattle.std.proofs.Common.{◌≡◌, ℕ, ◌≤◌, true, None, refl, rules}
 use Rattle.chess_core.specs.Position.{Position, other}
 use Rattle.chess_core.specs.WellFormed.{IsWellFormed, is_crossed_right}
 use Rattle.pop_input.specs.Posed.{Posed, IsSound}
 use Rattle.pop_input.specs.Stipulations.{half_moves, half_moves_of, may_have}
 use Rattle.pop_input.specs.declared.stipulation.Form.{Form}
-use Rattle.pop_input.specs.declared.stipulation.Form.TheVariants.{Direct, SelfMate, Help, HelpHalf}
 use Rattle.pop_solve.specs.declared.event.Phase.{Phase}
-use Rattle.pop_solve.specs.declared.event.Phase.TheVariants.{Set, Play}
 use Rattle.pop_solve.specs.Chess.{set_start}
-use Rattle.pop_solve.specs.Events.{start, phase_start}
+use Rattle.pop_solve.specs.Events.{phase_start}
 
 halves-some : (form : Form) (n : ℕ) → may_have form n ≡ true → 1 ≤ half_moves_of form n
-halves-some Direct n e = let a = (and_parts (nat_le 1 n) (nat_le n 16) e).0 in grind (arith, nat_tests, a)
-halves-some SelfMate n e = let a = (and_parts (nat_le 1 n) (nat_le n 16) e).0 in grind (arith, nat_tests, a)
-halves-some Help n e = let a = (and_parts (nat_le 1 n) (nat_le n 16) e).0 in grind (arith, nat_tests, a)
-halves-some HelpHalf n e = omega arith
+halves-some form n e = search rules
 
 halves-most : (form : Form) (n : ℕ) → may_have form n ≡ true → half_moves_of form n ≤ 32
-halves-most Direct n e = let a = (and_parts (nat_le 1 n) (nat_le n 16) e).1 in grind (arith, nat_tests, a)
-halves-most SelfMate n e = let a = (and_parts (nat_le 1 n) (nat_le n 16) e).1 in grind (arith, nat_tests, a)
-halves-most Help n e = let a = (and_parts (nat_le 1 n) (nat_le n 16) e).1 in grind (arith, nat_tests, a)
-halves-most HelpHalf n e = grind (arith, nat_tests, e)
+halves-most form n e = search rules
 
 -- a problem has 1 to 32 half-moves
 pub some_way : (problem : Posed) → IsSound problem → 1 ≤ half_moves problem.stipulation
@@ -41,5 +31,4 @@ set_sound : (p : Position) → IsWellFormed p → IsWellFormed (set_start p)
 set_sound p w = record { size = w.size; kings = w.kings; pawns = w.pawns; homes = w.homes; crossed = nothing_crossed p }
 
 pub start_sound : (problem : Posed) → IsSound problem → (phase : Phase) → IsWellFormed (phase_start problem phase)
-start_sound problem s Set = set_sound (start problem) s.well_formed
-start_sound problem s Play = s.well_formed
+start_sound problem s phase = search (rules, set_sound)

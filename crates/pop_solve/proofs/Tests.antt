@@ -2,7 +2,7 @@
 use Rattle.chess_rules.specs.Play.{after as played}
 use Rattle.chess_rules.specs.Legal.{moves as legal_moves}
 use Rattle.pop_solve.specs.declared.aim.Aim.{Aim}
-use Rattle.std.proofs.Common.{◌≡◌, ℕ, zero, suc, ◌+◌, ◌-◌, ◌<◌, ◌≤◌, ◌^◌, min, Bool, true, false, not, ◌&&◌, ◌||◌, cond, Option, Some, None, List, [], ◌∷◌, ◌++◌, length, take, drop, reverse, refl, sym, ◌∙◌, ap, arith, subst, ◌⊎◌, inl, inr, MatchOption, IfNone, IfSome}
+use Rattle.std.proofs.Common.{◌≡◌, ℕ, suc, ◌+◌, ◌-◌, ◌<◌, ◌≤◌, ◌^◌, min, Bool, true, not, ◌&&◌, ◌||◌, cond, Option, Some, None, List, [], ◌∷◌, ◌++◌, length, take, drop, reverse, refl, sym, ◌∙◌, ap, arith, subst, ◌⊎◌, inl, inr, MatchOption, IfNone, IfSome, rules}
 use Rattle.std.proofs.lemmas.List.{reverse-append, length-reverse, length-drop, length-append, drop-append-le, take-append-le, take_all}
 use Rattle.std.proofs.lemmas.Bool.{cases_lt}
 use Rattle.std.proofs.lemmas.List.Sums.{sum_by-cons}
@@ -21,9 +21,9 @@ use Rattle.pop_solve.specs.Chess.{chess}
 use Rattle.pop_solve.proofs.Orders.{same_start}
 use Rattle.pop_solve.specs.declared.frame.Stretch.{Stretch}
 use Rattle.pop_solve.specs.declared.frame.Stretch.TheVariants.{Killer}
-use Rattle.pop_solve.specs.ties.Counts.{HasCounted, decided_by, least_of, smallest_below, smallest_tree, walk_count}
+use Rattle.pop_solve.specs.ties.Counts.{HasCounted, least_of, smallest_below, smallest_tree, walk_count}
 use Rattle.pop_solve.specs.ties.Values.{decides, seeks, join, value, joined}
-use Rattle.pop_solve.specs.ties.Frames.{Frame, position, AreKnown, IsLinked, IsCut, IsOpenedOn, IsTesting, deliver, pending, steps, steps_among, work, CameFromAt, CameFrom, tests, Turns, Ends, tested, top_left, walk_among, to_test, to_try, to_try_with, ahead, unordered, untried, Order}
+use Rattle.pop_solve.specs.ties.Frames.{Frame, position, AreKnown, IsLinked, IsCut, IsOpenedOn, IsTesting, deliver, pending, steps, steps_among, work, CameFromAt, CameFrom, tests, Turns, Ends, tested, top_left, walk_among, to_test, to_try, to_try_with, ahead, untried, Order}
 use Rattle.pop_solve.proofs.SmallestTrees.{trees-next, trees-end, trees-start}
 
 -- the frame with its place moved on
@@ -39,20 +39,10 @@ abbrev pub passed : Frame → ℕ → Stretch → Option LegalPlace → Frame
 passed f place s known = record f { place = place; stretch = s; known = known }
 
 join-decided : (s rest : Bool) → join s s rest ≡ s
-join-decided true rest = refl
-join-decided false rest = refl
-
-join-undecided : (s rest : Bool) → join s (not s) rest ≡ rest
-join-undecided true rest = refl
-join-undecided false rest = refl
+join-decided s rest = search rules
 
 decides-self : (s : Bool) → decides s s ≡ true
-decides-self true = refl
-decides-self false = refl
-
-decides-not : (s : Bool) → decides s (not s) ≡ false
-decides-not true = refl
-decides-not false = refl
+decides-self s = search rules
 
 -- the moves of a frame that is opened are all its position's moves, in another order
 module _ (rule : RuleSet) (q : Position) (o : Order) where
@@ -80,30 +70,16 @@ module _ (rule : RuleSet) (aim : Aim) where
 
   rest-none : (left : ℕ) (P : Position) (ms : List Triple) → 0 < left → ms ≡ [] → rest left P ms ≡ not (seeks aim.battle left)
   unfolding joined
-  rest-none zero P ms some e = absurd (omega (arith, some))
-  rest-none (suc t) P ms some e = rw e (none (seeks aim.battle (suc t)))
-    where
-      none : (s : Bool) → cond s false true ≡ not s
-      none true = refl
-      none false = refl
+  rest-none left P ms some e = search rules
 
   rest-next : (t : ℕ) (P : Position) (ms more : List Triple) (m : Triple) → ms ≡ m ∷ more
       → rest (suc t) P ms ≡ join (seeks aim.battle (suc t)) (value aim.battle (chess aim.goal rule) t (played rule P m)) (rest (suc t) P more)
   unfolding joined
-  rest-next t P ms more m e = rw e (split (seeks aim.battle (suc t)) _ _ _)
-    where
-      split : (s v a b : Bool) → cond s (v || a) (v && b) ≡ join s v (cond s a b)
-      split true v a b = refl
-      split false v a b = refl
+  rest-next t P ms more m e = search rules
 
   rest-start : (t : ℕ) (q : Position) (o : Order) → rest t q (first rule q o) ≡ rest t q (legal_moves rule q)
   unfolding joined
-  rest-start zero q o = refl
-  rest-start (suc t) q o = rw (
-    any-start rule q o (λ m. value aim.battle (chess aim.goal rule) t (played rule q m)),
-    all-start rule q o (λ m. value aim.battle
-        (chess aim.goal rule) t (played rule q m)),
-  ) refl
+  rest-start t q o = search (rules, any-start, all-start)
 
   -- a frame that its last answer decides, and one that it doesn't
   pub pending-decided : (p : Position) (f : Frame) (below : List Frame) (answer : Option Bool) → answer ≡ Some (seeks aim.battle f.left)
@@ -116,13 +92,11 @@ module _ (rule : RuleSet) (aim : Aim) where
       → pending rule aim p (f ∷ below) answer ≡ deliver rule aim p below
       (rest f.left (position rule p (f ∷ below)) (untried rule (position rule p (f ∷ below)) f))
   unfolding pending deliver
-  pending-undecided p f below answer (inl e) = rw e refl
-  pending-undecided p f below answer (inr e) = rw (e, join-undecided) refl
+  pending-undecided p f below answer e = search rules
 
   pub deliver-some : (p : Position) (below : List Frame) (v : Bool) → 0 < length below → deliver rule aim p below v ≡ pending rule aim p below (Some v)
   unfolding pending
-  deliver-some p [] v some = absurd (omega (arith, some))
-  deliver-some p (g ∷ below) v some = refl
+  deliver-some p below v some = search rules
 
   pub deliver-none : (p : Position) (below : List Frame) (v : Bool) → length below ≡ 0 → deliver rule aim p below v ≡ v
   unfolding deliver
@@ -135,12 +109,7 @@ module _ (rule : RuleSet) (aim : Aim) where
 
   same-fewest : (t : ℕ) (q : Position) (o : Order) → fewest t q (first rule q o) ≡ fewest t q (legal_moves rule q)
   unfolding smallest_below
-  same-fewest zero q o = refl
-  same-fewest (suc t) q o = rw (
-    sum-start rule q o (λ m. smallest_tree aim.battle (chess aim.goal rule) t (played rule q m)),
-    least-start rule q o (decided_by aim.battle (chess aim.goal rule) t q)
-        (λ m. smallest_tree aim.battle (chess aim.goal rule) t (played rule q m)),
-  ) refl
+  same-fewest t q o = search (rules, sum-start, least-start)
 
   fewest-start : (t : ℕ) (q : Position) (o : Order) → smallest_tree aim.battle (chess aim.goal rule) t q ≤ 1 + fewest t q (first rule q o)
   fewest-start t q o = rw (same-fewest t q o) (trees-start aim.battle (chess aim.goal rule) t q)
@@ -155,13 +124,11 @@ module _ (rule : RuleSet) (aim : Aim) where
       (untried rule (position rule p (f ∷ below)) f) + to_try_with rule aim p below
       (rest f.left (position rule p (f ∷ below)) (untried rule (position rule p (f ∷ below)) f))
   unfolding to_try to_try_with
-  try-undecided p f below answer (inl e) = rw e refl
-  try-undecided p f below answer (inr e) = rw (e, decides-not (seeks aim.battle f.left), join-undecided) refl
+  try-undecided p f below answer e = search rules
 
   pub try-some : (p : Position) (below : List Frame) (v : Bool) → 0 < length below → to_try_with rule aim p below v ≡ to_try rule aim p below (Some v)
   unfolding to_try
-  try-some p [] v some = absurd (omega (arith, some))
-  try-some p (g ∷ below) v some = refl
+  try-some p below v some = search rules
 
   pub try-none : (p : Position) (below : List Frame) (v : Bool) → length below ≡ 0 → to_try_with rule aim p below v ≡ 0
   unfolding to_try_with
@@ -170,8 +137,7 @@ module _ (rule : RuleSet) (aim : Aim) where
 
   steps-start : (t : ℕ) (q : Position) (o : Order) → steps rule t q ≡ 1 + steps_among rule t q (first rule q o)
   unfolding steps steps_among
-  steps-start zero q o = refl
-  steps-start (suc t) q o = rw (sum-start rule q o (λ m. 1 + steps rule t (played rule q m))) refl
+  steps-start t q o = search (rules, sum-start)
 
   steps-next : (t : ℕ) (P : Position) (ms more : List Triple) (m : Triple) → ms ≡ m ∷ more
       → steps_among rule (suc t) P ms ≡ (1 + steps rule t (played rule P m)) + steps_among rule (suc t) P more
@@ -181,60 +147,59 @@ module _ (rule : RuleSet) (aim : Aim) where
   walk_count-start : (t : ℕ) (q : Position) (o : Order) → 0 < t
       → walk_count (legal_moves rule) (played rule) t q ≡ 1 + walk_among rule t q (first rule q o)
   unfolding walk_count walk_among
-  walk_count-start zero q o some = absurd (omega (arith, some))
-  walk_count-start (suc t) q o some = rw (sum-start rule q o (λ m. walk_count (legal_moves rule) (played rule) t (played rule q m))) refl
+  walk_count-start t q o some = search (rules, sum-start)
 
   walk-next : (t : ℕ) (P : Position) (ms more : List Triple) (m : Triple) → ms ≡ m ∷ more
       → walk_among rule (suc t) P ms ≡ walk_count (legal_moves rule) (played rule) t (played rule P m) + walk_among rule (suc t) P more
   unfolding walk_among
   walk-next t P ms more m e = rw e (sum_by-cons (λ x. walk_count (legal_moves rule) (played rule) t (played rule P x)) m more)
 
-  module _ (p : Position) (f : Frame) (below : List Frame) (next : ℕ) (s : Stretch) (m : Triple) (undo : Loss) (k : Order) (t : ℕ) (kn kq : Option LegalPlace)
-      (left : f.left ≡ suc t) (e : untried rule (position rule p (f ∷ below)) f ≡ m ∷ ahead rule (position rule p (f ∷ below)) f.order s next) where
+  module _ (p : Position) (f : Frame) (below : List Frame) (next : ℕ) (s : Stretch) (m : Triple) (t : ℕ) (kn : Option LegalPlace) (left : f.left ≡ suc t)
+      (e : untried rule (position rule p (f ∷ below)) f ≡ m ∷ ahead rule (position rule p (f ∷ below)) f.order s next) where
     abbrev P : Position
     P = position rule p (f ∷ below)
 
     -- the value of the position after the move decides with the moves still untried
-    pub deliver-next : deliver rule aim p below (rest f.left P (untried rule P f)) ≡ deliver rule aim p (passed f next s kn ∷ below)
+    deliver-next : deliver rule aim p below (rest f.left P (untried rule P f)) ≡ deliver rule aim p (passed f next s kn ∷ below)
         (value aim.battle (chess aim.goal rule) t (played rule P m))
     unfolding deliver position
-    deliver-next = rw (left, rest-next t P (untried rule P f) (ahead rule P f.order s next) m e) refl
+    deliver-next = search (rules, rest-next)
 
-    pub deliver-open : (v : Bool) → v ≡ joined aim.battle (chess aim.goal rule) t (played rule P m) (legal_moves rule (played rule P m))
-        → deliver rule aim p (passed f next s kn ∷ below) v ≡ pending rule aim p (tested k m undo t kq ∷ (passed f next s kn ∷ below)) None
-    unfolding pending position
-    deliver-open v d = rw (d, sym (rest-start t (played rule P m) k)) refl
-
-    pub try-next : fewest f.left P (untried rule P f) + to_try_with rule aim p below (rest f.left P (untried rule P f))
+    try-next : fewest f.left P (untried rule P f) + to_try_with rule aim p below (rest f.left P (untried rule P f))
         ≤ smallest_tree aim.battle (chess aim.goal rule) t (played rule P m) + to_try_with rule aim p (passed f next s kn ∷ below)
         (value aim.battle (chess aim.goal rule) t (played rule P m))
     unfolding to_try_with position
-    try-next =
-        let n = trees-next aim.battle (chess aim.goal rule) t P m (ahead rule P f.order s next) in
-        rw (left, rest-next t P (untried rule P f) (ahead rule P f.order s next) m e, e) (omega (arith, n))
+    try-next = search (rules, trees-next, rest-next)
 
-    pub try-open : (v : Bool) → v ≡ joined aim.battle (chess aim.goal rule) t (played rule P m) (legal_moves rule (played rule P m))
-        → smallest_tree aim.battle (chess aim.goal rule) t (played rule P m) + to_try_with rule aim p (passed f next s kn ∷ below) v ≤ 1 + to_try rule aim p
-        (tested k m undo t kq ∷ (passed f next s kn ∷ below)) None
-    unfolding to_try position
-    try-open v d = let n = fewest-start t (played rule P m) k in rw (d, sym (rest-start t (played rule P m) k)) (omega (arith, n))
-
-    pub work-settled : work rule p (passed f next s kn ∷ below) < work rule p (f ∷ below)
+    work-settled : work rule p (passed f next s kn ∷ below) < work rule p (f ∷ below)
     unfolding work position
     work-settled = rw (left, steps-next t P (untried rule P f) (ahead rule P f.order s next) m e) (omega arith)
 
-    pub work-open : work rule p (tested k m undo t kq ∷ (passed f next s kn ∷ below)) < work rule p (f ∷ below)
-    unfolding work position
-    work-open = rw (left, steps-next t P (untried rule P f) (ahead rule P f.order s next) m e, steps-start t (played rule P m) k) (omega arith)
-
-    pub open-settled : walk_count (legal_moves rule) (played rule) t (played rule P m) + to_test rule p (passed f next s kn ∷ below) ≤ to_test rule p
+    open-settled : walk_count (legal_moves rule) (played rule) t (played rule P m) + to_test rule p (passed f next s kn ∷ below) ≤ to_test rule p
         (f ∷ below)
     unfolding to_test position
     open-settled = rw (left, walk-next t P (untried rule P f) (ahead rule P f.order s next) m e) (omega arith)
 
-    pub open-open : 0 < t → 1 + to_test rule p (tested k m undo t kq ∷ (passed f next s kn ∷ below)) ≤ to_test rule p (f ∷ below)
-    unfolding to_test position
-    open-open some = rw (left, walk-next t P (untried rule P f) (ahead rule P f.order s next) m e, walk_count-start t (played rule P m) k some) (omega arith)
+    module _ (undo : Loss) (k : Order) (kq : Option LegalPlace) where
+      deliver-open : (v : Bool) → v ≡ joined aim.battle (chess aim.goal rule) t (played rule P m) (legal_moves rule (played rule P m))
+          → deliver rule aim p (passed f next s kn ∷ below) v ≡ pending rule aim p (tested k m undo t kq ∷ (passed f next s kn ∷ below)) None
+      unfolding pending position
+      deliver-open v d = search (rules, rest-start)
+
+      try-open : (v : Bool) → v ≡ joined aim.battle (chess aim.goal rule) t (played rule P m) (legal_moves rule (played rule P m))
+          → smallest_tree aim.battle (chess aim.goal rule) t (played rule P m) + to_try_with rule aim p (passed f next s kn ∷ below) v ≤ 1 + to_try rule aim p
+          (tested k m undo t kq ∷ (passed f next s kn ∷ below)) None
+      unfolding to_try position
+      try-open v d = let n = fewest-start t (played rule P m) k in rw (d, sym (rest-start t (played rule P m) k)) (omega (arith, n))
+
+      work-open : work rule p (tested k m undo t kq ∷ (passed f next s kn ∷ below)) < work rule p (f ∷ below)
+      unfolding work position
+      work-open = rw (left, steps-next t P (untried rule P f) (ahead rule P f.order s next) m e, steps-start t (played rule P m) k) (omega arith)
+
+      open-open : 0 < t → 1 + to_test rule p (tested k m undo t kq ∷ (passed f next s kn ∷ below)) ≤ to_test rule p (f ∷ below)
+      unfolding to_test position
+      open-open some = rw (left, walk-next t P (untried rule P f) (ahead rule P f.order s next) m e, walk_count-start t (played rule P m) k some)
+          (omega arith)
 
   pub open-close : (p : Position) (f : Frame) (below : List Frame) → to_test rule p below ≤ to_test rule p (f ∷ below)
   unfolding to_test
@@ -247,8 +212,7 @@ module _ (rule : RuleSet) (aim : Aim) where
 module _ (rule : RuleSet) (p : Position) where
   cut-top : (f : Frame) (below : List Frame) → IsCut (f ∷ below) → 0 < f.left
   unfolding IsCut
-  cut-top f [] c = c
-  cut-top f (g ∷ below) c = c.0
+  cut-top f below c = search rules
 
   pub top_cut : (f : Frame) (below : List Frame) (board : Position) → IsTesting rule p (f ∷ below) board → 0 < f.left
   top_cut f below board r = cut-top f below r.cut
@@ -266,27 +230,20 @@ module _ (rule : RuleSet) (p : Position) where
   pub testing-close : (f : Frame) (below : List Frame) (board after : Position) → IsTesting rule p (f ∷ below) board → 0 < length below
       → ((q : Position) → CameFromAt rule f board q → after ≡ q) → IsTesting rule p below after
   unfolding IsLinked IsCut AreKnown position
-  testing-close f [] board after r deep before = absurd (omega (arith, deep))
-  testing-close f (g ∷ below) board after r deep before =
-      let back = before _ (CameFrom-top f g below board r) in
-      record { linked = r.linked.3; cut = r.cut.2; known = r.known.1; sound = rw back r.linked.0; board_at = back }
+  testing-close f below board after r deep before = search rules
 
   pub room-close : (f : Frame) (below : List Frame) (board : Position) → IsTesting rule p (f ∷ below) board → 0 < length below → f.left + 1 ≡ top_left below
   unfolding IsCut
-  room-close f [] board r deep = absurd (omega (arith, deep))
-  room-close f (g ∷ below) board r deep = r.cut.1
+  room-close f below board r deep = search rules
 
   pub lowest-back : (f : Frame) (below : List Frame) (board : Position) → IsTesting rule p (f ∷ below) board → length below ≡ 0 → board ≡ p
   unfolding position
-  lowest-back f [] board r none = r.board_at
-  lowest-back f (g ∷ below) board r none = absurd (omega (arith, none))
+  lowest-back f below board r none = search rules
 
   pub testing-settled : (f : Frame) (next : ℕ) (s : Stretch) (kn : Option LegalPlace) (below : List Frame) (board : Position)
       → IsTesting rule p (f ∷ below) board → IfSome kn (IsPlaceIn rule board) → IsTesting rule p (passed f next s kn ∷ below) board
   unfolding IsLinked IsCut AreKnown position
-  testing-settled f next s kn [] board r w = record { linked = tt; cut = r.cut; known = (rw (← r.board_at) w, tt); sound = r.sound; board_at = r.board_at }
-  testing-settled f next s kn (g ∷ below) board r w =
-      record { linked = r.linked; cut = r.cut; known = (rw (← r.board_at) w, r.known.1); sound = r.sound; board_at = r.board_at }
+  testing-settled f next s kn below board r w = search rules
 
   pub testing-open : (f : Frame) (next : ℕ) (s : Stretch) (m : Triple) (k : Order) (t : ℕ) (kn kq : Option LegalPlace) (below : List Frame) (board : Position)
       → IsTesting rule p (f ∷ below) board → legal rule board m ≡ true → 0 < t → f.left ≡ suc t → IfSome kn (IsPlaceIn rule board)
@@ -364,13 +321,7 @@ module _ (rule : RuleSet) (aim : Aim) (floor : ℕ) (top : Frame) (old new : Lis
 
     pub close_room : (p : Position) (N : ℕ) → IsTesting rule p (tests floor old) board → top_left (tests floor old) + length old ≤ N + 1
         → IfNone result (top_left (tests floor new) + length new ≤ N + 1)
-    close_room p N r room = elim (cases_lt floor depth) [
-      | inl deep ↦
-          rw (above deep).0 (let c = room-close rule p top (tests floor new) board (testing_top p board r) (omega (arith, length-tests floor new, d)) in
-          let t : top_left (tests floor old) ≡ top.left = ap top_left popped in
-          omega (arith, c, t, len, room))
-      | inr low ↦ rw (lowest low).0 tt
-    ]
+    close_room p N r room = search (rules, cases_lt, room-close, testing_top, length-tests, popped, len)
 
   module _ (place : ℕ) (s : Stretch) (kn : Option LegalPlace) (m : Triple) (board after : Position) (N : ℕ) (was : Option Bool) (last : List Frame)
       (some : 0 < top.left) (open_yet : (was ≡ None) ⊎ (was ≡ Some (not (seeks aim.battle top.left))))
@@ -399,116 +350,75 @@ module _ (rule : RuleSet) (aim : Aim) (floor : ℕ) (top : Frame) (old new : Lis
     base_mid : take floor (new ++ passed top place s kn ∷ []) ≡ take floor old
     base_mid = take-append-le floor new (passed top place s kn ∷ []) low_new ∙ base_new
 
+    opened_last : (d : Descends None)
+        → tests floor last ≡ tested d.3.order m (undo_of rule board m) (top.left - 1) d.3.known ∷ (passed top place s kn ∷ tests floor new)
+    opened_last d = search (rules, tests-push, low_mid, mid_is)
+
+    settled_last : (v : Bool) → Descends (Some v) → tests floor last ≡ passed top place s kn ∷ tests floor new
+    settled_last v d = search (rules, mid_is)
+
+    module _ (p : Position) (r : IsTesting rule p (tests floor old) board) where
+      at : board ≡ position rule p (top ∷ tests floor new)
+      at = (testing_top p board r).board_at
+
+      here : untried rule (position rule p (top ∷ tests floor new)) top ≡ m ∷ ahead rule (position rule p (top ∷ tests floor new)) top.order s place
+      here = rw (← at) next
+
+      descend_testing : (is : Option Bool) → Descends is → IsTesting rule p (tests floor last) after
+      descend_testing None d = rw (opened_last d, d.2)
+          (testing-open rule p top place s m d.3.order _ kn d.3.known _ board (testing_top p board r) lawful d.0 left_is within d.3.within)
+      descend_testing (Some v) d = rw (settled_last v d, d.1) (testing-settled rule p top place s kn _ board (testing_top p board r) within)
+
+      descend_same : (is : Option Bool) → Descends is → pending rule aim p (tests floor old) was ≡ pending rule aim p (tests floor last) is
+      descend_same None d = rw (opened_last d, popped)
+          (pending-undecided rule aim p top (tests floor new) was open_yet ∙ deliver-next rule aim p top _ place s m _ kn left_is here
+          ∙ deliver-open rule aim p top _ place s m _ kn left_is here _ d.3.order d.3.known _ (rw (← at) d.1))
+      descend_same (Some v) d = rw (settled_last v d, popped)
+          (pending-undecided rule aim p top (tests floor new) was open_yet ∙ deliver-next rule aim p top _ place s m _ kn left_is here
+          ∙ ap (deliver rule aim p _) (rw (← at) (sym d.0)) ∙ deliver-some rule aim p _ v (omega arith))
+
+      descend_falls : (is : Option Bool) → Descends is → work rule p (tests floor last) < work rule p (tests floor old)
+      descend_falls None d = rw (opened_last d, popped) (search (rules, here, work-open, left_is))
+      descend_falls (Some v) d = rw (settled_last v d, popped) (search (rules, here, work-settled, left_is))
+
+      descend_counted : (is : Option Bool) → Descends is → (before count : ℕ)
+          → MatchOption is (count ≤ before + 1) (λ _. count ≤ before + walk_count (legal_moves rule) (played rule) (top.left - 1) (played rule board m))
+          → count + to_test rule p (tests floor last) ≤ before + to_test rule p (tests floor old)
+      descend_counted None d before count o = rw (opened_last d, popped) (search (rules, at, here, open-open, left_is))
+      descend_counted (Some v) d before count o = rw (settled_last v d, popped) (search (rules, at, here, open-settled, left_is))
+
+      descend_tried : (is : Option Bool) → Descends is → (before count : ℕ)
+          → MatchOption is (HasCounted before count 1) (λ _. HasCounted before count
+          (smallest_tree aim.battle (chess aim.goal rule) (top.left - 1) (played rule board m)))
+          → min (before + to_try rule aim p (tests floor old) was) (2 ^ 64 - 1) ≤ count + to_try rule aim p (tests floor last) is
+      descend_tried None d before count tries = rw (opened_last d, popped) (search (rules, at, here, try-undecided, try-next, try-open, left_is))
+      descend_tried (Some v) d before count tries = rw (settled_last v d, popped)
+          (let n = try-next rule aim p top (tests floor new) place s m _ kn left_is here in
+          search (rules, n, at, try-undecided rule aim p top (tests floor new) was open_yet, try-some))
+
+    descend_above : (is : Option Bool) → Descends is → floor < length last
+    descend_above is d = search (rules, low_new, length-append)
+
+    descend_base : (is : Option Bool) → Descends is → take floor last ≡ take floor old
+    descend_base is d = search (rules, low_new, low_mid, take-append-le, base_mid)
+
     pub descend_turns : (is : Option Bool) → Descends is → (before count : ℕ)
         → MatchOption is (count ≤ before + 1) (λ _. count ≤ before + walk_count (legal_moves rule) (played rule) (top.left - 1) (played rule board m))
         → MatchOption is (HasCounted before count 1) (λ _. HasCounted before count
         (smallest_tree aim.battle (chess aim.goal rule) (top.left - 1) (played rule board m)))
         → (p : Position) → IsTesting rule p (tests floor old) board → Turns rule aim floor p old last was is after before count
-    descend_turns None d before count o tries p r =
-        let at : board ≡ position rule p (top ∷ tests floor new) = (testing_top p board r).board_at in
-        let here : untried rule (position rule p (top ∷ tests floor new)) top ≡ m ∷ ahead rule
-        (position rule p (top ∷ tests floor new)) top.order s place = rw (← at) next in
-        let last_is : tests floor last ≡ tested d.3.order m (undo_of rule board m) (top.left - 1) d.3.known ∷ (passed top place s kn ∷ tests floor new) = ap
-        (tests floor) d.3.added ∙ tests-push floor (new ++ passed top place s kn ∷ []) _ low_mid
-        ∙ ap (λ fs. tested d.3.order m (undo_of rule board m) (top.left - 1) d.3.known ∷ fs) mid_is in
-        record {
-          testing = rw (last_is, d.2)
-              (testing-open rule p top place s m d.3.order (top.left - 1) kn d.3.known (tests floor new) board
-              (testing_top p board r) lawful d.0 left_is within d.3.within);
-          same = ap (λ fs. pending rule aim p fs was) popped
-              ∙ pending-undecided rule aim p top (tests floor new) was open_yet
-              ∙ deliver-next rule aim p top (tests floor new) place s m (undo_of rule board m) d.3.order (top.left - 1) kn d.3.known left_is here
-              ∙ deliver-open rule aim p top (tests floor new) place s m (undo_of rule board m) d.3.order (top.left - 1) kn d.3.known left_is here _
-              (rw (← at) d.1)
-              ∙ ap (λ fs. pending rule aim p fs None) (sym last_is);
-          falls = rw (last_is, popped)
-              (work-open rule aim p top (tests floor new) place s m (undo_of rule board m) d.3.order (top.left - 1) kn d.3.known left_is here);
-          above = omega (
-            arith,
-            ap length d.3.added,
-            length-append (new ++ passed top place s kn ∷ [])
-                (tested d.3.order m (undo_of rule board m) (top.left - 1) d.3.known ∷ []),
-            low_mid,
-          );
-          base = ap (take floor) d.3.added ∙ take-append-le floor (new ++ passed top place s kn ∷ []) _ low_mid ∙ base_mid;
-          counted = rw (last_is, popped)
-              (omega (
-                arith,
-                o,
-                open-open rule aim p top (tests floor new) place s m (undo_of rule board m) d.3.order (top.left - 1) kn d.3.known left_is here d.0,
-              ));
-          tried =
-              let n = try-next rule aim p top (tests floor new) place s m (undo_of rule board m) d.3.order (top.left - 1) kn d.3.known left_is here in
-              let v = value aim.battle (chess aim.goal rule) (top.left - 1) (played rule (position rule p (top ∷ tests floor new)) m) in
-              let t = try-open rule aim p top (tests floor new) place s m (undo_of rule board m) d.3.order (top.left - 1) kn d.3.known left_is here v
-              (rw (← at) d.1) in
-              rw (last_is, popped) (omega (arith, tries, try-undecided rule aim p top (tests floor new) was open_yet, n, t));
-        }
-    descend_turns (Some v) d before count o tries p r =
-        let at : board ≡ position rule p (top ∷ tests floor new) = (testing_top p board r).board_at in
-        let here : untried rule (position rule p (top ∷ tests floor new)) top ≡ m ∷ ahead rule
-        (position rule p (top ∷ tests floor new)) top.order s place = rw (← at) next in
-        let last_is : tests floor last ≡ passed top place s kn ∷ tests floor new = ap (tests floor) d.2 ∙ mid_is in
-        record {
-          testing = rw (last_is, d.1) (testing-settled rule p top place s kn (tests floor new) board (testing_top p board r) within);
-          same = ap (λ fs. pending rule aim p fs was) popped
-              ∙ pending-undecided rule aim p top (tests floor new) was open_yet
-              ∙ deliver-next rule aim p top (tests floor new) place s m (undo_of rule board m) unordered (top.left - 1) kn None left_is here
-              ∙ ap (deliver rule aim p (passed top place s kn ∷ tests floor new)) (rw (← at) (sym d.0))
-              ∙ deliver-some rule aim p (passed top place s kn ∷ tests floor new) v (omega arith)
-              ∙ ap (λ fs. pending rule aim p fs (Some v)) (sym last_is);
-          falls = rw (last_is, popped)
-              (work-settled rule aim p top (tests floor new) place s m (undo_of rule board m) unordered (top.left - 1) kn None left_is here);
-          above = omega (arith, ap length d.2, length-append new (passed top place s kn ∷ []), low_new);
-          base = ap (take floor) d.2 ∙ base_mid;
-          counted = rw (last_is, popped)
-              (omega (
-                arith,
-                o,
-                ap (λ b. walk_count (legal_moves rule) (played rule) (top.left - 1) (played rule b m)) at,
-                open-settled rule aim p top
-                    (tests floor new) place s m (undo_of rule board m) unordered (top.left - 1) kn None left_is here,
-              ));
-          tried =
-              let n = try-next rule aim p top (tests floor new) place s m (undo_of rule board m) unordered (top.left - 1) kn None left_is here in
-              let e : v ≡ value aim.battle (chess aim.goal rule) (top.left - 1) (played rule (position rule p (top ∷ tests floor new)) m) = rw (← at) d.0 in
-              let t = try-some rule aim p (passed top place s kn ∷ tests floor new) v (omega arith) in
-              rw (last_is, popped) (omega (
-                arith,
-                tries,
-                ap (λ b. smallest_tree aim.battle (chess aim.goal rule) (top.left - 1) (played rule b m)) at,
-                try-undecided rule aim p top
-                    (tests floor new) was open_yet,
-                n,
-                ap (to_try_with rule aim p (passed top place s kn ∷ tests floor new)) e,
-                t,
-              ));
-        }
+    descend_turns is d before count o tries p r = record {
+      testing = descend_testing p r is d;
+      same = descend_same p r is d;
+      falls = descend_falls p r is d;
+      above = descend_above is d;
+      base = descend_base is d;
+      counted = descend_counted p r is d before count o;
+      tried = descend_tried p r is d before count tries;
+    }
 
     pub descend_room : (is : Option Bool) → Descends is → top_left (tests floor old) + length old ≤ N + 1 → top_left (tests floor last) + length last ≤ N + 1
-    descend_room None d room =
-        let last_is : tests floor last ≡ tested d.3.order m (undo_of rule board m) (top.left - 1) d.3.known ∷ (passed top place s kn ∷ tests floor new) = ap
-        (tests floor) d.3.added ∙ tests-push floor (new ++ passed top place s kn ∷ []) _ low_mid
-        ∙ ap (λ fs. tested d.3.order m (undo_of rule board m) (top.left - 1) d.3.known ∷ fs) mid_is in
-        let t : top_left (tests floor old) ≡ top.left = ap top_left popped in
-        let u : top_left (tests floor last) ≡ top.left - 1 = ap top_left last_is in
-        omega (
-          arith,
-          t,
-          u,
-          room,
-          len,
-          some,
-          ap length d.3.added,
-          length-append (new ++ passed top place s kn ∷ [])
-              (tested d.3.order m (undo_of rule board m) (top.left - 1) d.3.known ∷ []),
-          length-append new (passed top place s kn ∷ []),
-        )
-    descend_room (Some v) d room =
-        let last_is : tests floor last ≡ passed top place s kn ∷ tests floor new = ap (tests floor) d.2 ∙ mid_is in
-        let t : top_left (tests floor old) ≡ top.left = ap top_left popped in
-        let u : top_left (tests floor last) ≡ top.left = ap top_left last_is in
-        omega (arith, t, u, room, len, ap length d.2, length-append new (passed top place s kn ∷ []))
+    descend_room is d room = search (rules, tests-push, low_mid, mid_is, popped, len, length-append)
 
   -- what the top frame asks of the calls
   pub top_some : (p board : Position) → IsTesting rule p (tests floor old) board → 0 < top.left
@@ -598,14 +508,4 @@ module _ (rule : RuleSet) (aim : Aim) where
       (before count most fewest : ℕ) → IsUnderway rule aim floor p N v under old was board before most fewest
       → Turns rule aim floor p old new was is after before count → top_left (tests floor new) + length new ≤ N + 1
       → IsUnderway rule aim floor p N v under new is after count most fewest
-  goes_on floor p N v under old new was is board after before count most fewest u t room =
-      record {
-        counted = omega (arith, t.counted, u.counted);
-        tried = omega (arith, t.tried, u.tried);
-        testing = t.testing;
-        same = sym t.same
-            ∙ u.same;
-        above = t.above;
-        room = room;
-        base = t.base ∙ u.base;
-      }
+  goes_on floor p N v under old new was is board after before count most fewest u t room = search rules

@@ -1,12 +1,12 @@
 -- What the walk shows is the tree that the definitions name.
 use Rattle.pop_solve.specs.declared.aim.Battle.{Battle}
 use Rattle.pop_solve.specs.declared.aim.Battle.TheVariants.{Direct, Selfmate}
-use Rattle.std.proofs.Common.{◌≡◌, ℕ, zero, suc, ◌+◌, ◌-◌, ◌*◌, ◌/◌, ◌%◌, ◌<◌, ◌≤◌, Bool, true, false, not, ◌&&◌, ◌||◌, eqb, cond, List, [], ◌∷◌, ◌++◌, map, refl, sym, ◌∙◌, ap, arith}
+use Rattle.std.proofs.Common.{◌≡◌, ℕ, zero, suc, ◌+◌, ◌-◌, ◌*◌, ◌/◌, ◌%◌, ◌<◌, ◌≤◌, Bool, true, false, not, ◌&&◌, ◌||◌, eqb, cond, List, [], ◌∷◌, ◌++◌, map, refl, sym, ◌∙◌, ap, arith, rules}
 use Rattle.std.specs.List.{flat_map, filter, list_all}
 use Rattle.std.proofs.lemmas.List.{append-nil}
 use Rattle.std.proofs.lemmas.List.Concat.{flat_map_single}
 use Rattle.std.proofs.lemmas.Bool.Decides.{nat_tests}
-use Rattle.pop_solve.specs.Game.{Game, can_move, every_move, lines_to_goal}
+use Rattle.pop_solve.specs.Game.{Game, every_move, lines_to_goal}
 use Rattle.pop_solve.specs.ties.Values.{seeks, value}
 use Rattle.pop_solve.specs.Tree.{node, keeps, least, best, below, answers}
 use Rattle.pop_solve.specs.ties.Walk.{fewest, first_from, open_length, follows, gives, goes_on, shown}
@@ -44,19 +44,13 @@ module _ {A B : Type 0} where
   -- by those that pass it
   pub flat-filter : (test other : A → Bool) (F G : A → List B) (xs : List A) → ((x : A) → test x ≡ other x) → ((x : A) → test x ≡ true → F x ≡ G x)
       → flat_map (λ x. cond (test x) (F x) []) xs ≡ flat_map G (filter other xs)
-  flat-filter test other F G [] s e = refl
-  flat-filter test other F G (x ∷ xs) s e =
-      rw (flat-filter test other F G xs s e, ← s x) (split (test x) refl)
-    where
-      split : (b : Bool) → test x ≡ b → cond b (F x) [] ++ flat_map G (filter other xs) ≡ flat_map G (cond b (x ∷ filter other xs) (filter other xs))
-      split true t = ap (λ ys. ys ++ flat_map G (filter other xs)) (e x t)
-      split false t = refl
+  flat-filter test other F G [] s e = search rules
+  flat-filter test other F G (x ∷ xs) s e = search (rules, flat-filter test other F G xs s e)
 
 module _ {P M : Type 0} (game : Game P M) where
   pub shown-zero : (plan : Plan) (root : Bool) (k : ℕ) (p : P) (ms : List M) → shown plan game root k 0 p ms ≡ []
   unfolding shown
-  shown-zero plan root zero p ms = refl
-  shown-zero plan root (suc k) p ms = refl
+  shown-zero plan root k p ms = search rules
 
   -- help play
   module _ (plan : Plan) (help : is_help plan.form ≡ true) where
@@ -64,8 +58,7 @@ module _ {P M : Type 0} (game : Game P M) where
     by_move : (tested b : Bool) (m : M) (xs ys : List (List M)) → cond b ([] ∷ []) [] ++ xs ≡ ys
         → cond (is_help plan.form || tested) (cond (not (is_help plan.form) || b) ((m ∷ []) ∷ []) [] ++ map (λ line. m ∷ line) xs) []
         ≡ map (λ line. m ∷ line) ys
-    by_move tested true m xs ys e = rw help (ap (map (λ line. m ∷ line)) e)
-    by_move tested false m xs ys e = rw help (ap (map (λ line. m ∷ line)) e)
+    by_move tested b m xs ys e = search rules
 
     goes_on-whole : (t : ℕ) (q : P) → goes_on plan game t q ≡ t
     unfolding goes_on
@@ -86,14 +79,7 @@ module _ {P M : Type 0} (game : Game P M) where
 
   -- battle play: parities
   pub seeks-step : (battle : Battle) (t : ℕ) → seeks battle (t + 1) ≡ not (seeks battle t)
-  seeks-step Selfmate t = parity (t % 2) (t + 1) refl
-    where
-      parity : (r n : ℕ) → t % 2 ≡ r → eqb ((t + 1) % 2) 0 ≡ not (eqb (t % 2) 0)
-      parity r n e = grind (arith, nat_tests)
-  seeks-step Direct t = parity (t % 2) (t + 1) refl
-    where
-      parity : (r n : ℕ) → t % 2 ≡ r → eqb ((t + 1) % 2) 1 ≡ not (eqb (t % 2) 1)
-      parity r n e = grind (arith, nat_tests)
+  seeks-step battle t = search rules
 
   seeks-halves : (battle : Battle) (t : ℕ) → seeks battle t ≡ true → 0 < t → (k : ℕ) × (t ≡ halves battle (suc k))
   seeks-halves Selfmate t s some = let e : t % 2 ≡ 0 = grind (arith, nat_tests) in (t / 2 - 1, omega (arith, e, some))
@@ -122,58 +108,37 @@ module _ {P M : Type 0} (game : Game P M) where
       let m : first_from Direct game q n 1 ≡ first_from Direct game q k.0 1 = length-more Direct game q k.0 n 1 (rw b v) (omega (arith, k.1, most)) in
       rw a (sym m ∙ omega (arith, least-direct game q n))
 
-  half-some : (battle : Battle) (k l : ℕ) → suc l ≡ halves battle k → (j : ℕ) × (k ≡ suc j)
-  half-some Selfmate zero l e = absurd (omega (arith, e))
-  half-some Direct zero l e = absurd (omega (arith, e))
-  half-some battle (suc j) l e = (j, refl)
+  pub half-some : (battle : Battle) (k : ℕ) → 0 < halves battle k → (j : ℕ) × (k ≡ suc j)
+  half-some Selfmate k some = (k - 1, omega (arith, some))
+  half-some Direct k some = (k - 1, omega (arith, some))
 
   -- the value of Black's position holds after each of his moves
   value-black : (battle : Battle) (t : ℕ) (q : P) → game.goal q ≡ false → seeks battle (suc t) ≡ false → value battle game (suc t) q ≡ true
       → every_move game (value battle game t) q ≡ true
   unfolding value
-  value-black battle t q g s v = last (eqb (suc t % 2) 0) (game.goal q) (seeks battle (suc t)) _ (can_move game q) _ g s v
-    where
-      last : (e g s a c b : Bool) → g ≡ false → s ≡ false → ((e && g) || cond s a (c && b)) ≡ true → b ≡ true
-      last true false false a true b x y v = v
-      last true false false a false b x y v = absurd cc
-      last false false false a true b x y v = v
-      last false false false a false b x y v = absurd cc
-      last e true s a c b x y v = absurd cc
-      last e false true a c b x y v = absurd cc
+  value-black battle t q g s v = search rules
 
   -- nothing stands below the goal
   nothing : (n k : ℕ) (q : P) → game.goal q ≡ true → (battle : Battle) (s : Bool) → cond s (answers battle game n k q) (below battle game n k q) ≡ []
   unfolding answers below
-  nothing n zero q g battle true = refl
-  nothing n zero q g battle false = refl
-  nothing n (suc k) q g battle true = rw g refl
-  nothing n (suc k) q g battle false = rw g refl
+  nothing n k q g battle s = search rules
 
   first_from-least : (battle : Battle) (q : P) (n a : ℕ) → a ≤ first_from battle game q n a
   unfolding first_from
-  first_from-least battle q zero a = omega arith
-  first_from-least battle q (suc n) a = elim
-      (value battle game a q) as (λ b. a ≤ cond b a (first_from battle game q n (a + 2))) [
-        | true ↦ omega arith
-        | false ↦ omega
-            (arith, first_from-least battle q n (a + 2))
-      ]
+  first_from-least battle q zero a = search rules
+  first_from-least battle q (suc n) a = search (rules, first_from-least battle q n (a + 2))
 
   fewest-some : (battle : Battle) → 1 ≤ fewest battle
-  fewest-some Selfmate = omega arith
-  fewest-some Direct = omega arith
+  fewest-some battle = search rules
 
   pub halves-seek : (battle : Battle) (k : ℕ) → seeks battle (halves battle (suc k)) ≡ true
-  halves-seek Selfmate k = let e : 2 * suc k % 2 ≡ 0 = omega arith in rw e refl
-  halves-seek Direct k = let e : (2 * suc k - 1) % 2 ≡ 1 = omega arith in rw e refl
+  halves-seek battle k = search rules
 
   pub flip : (b : Bool) → not b ≡ true → b ≡ false
-  flip true e = absurd cc
-  flip false e = refl
+  flip b e = search rules
 
   pub unflip : (b : Bool) → not b ≡ false → b ≡ true
-  unflip true e = refl
-  unflip false e = absurd cc
+  unflip b e = search rules
 
   value-end-zero : (battle : Battle) (q : P) → value battle game 0 q ≡ game.goal q
   unfolding value
@@ -203,9 +168,7 @@ module _ {P M : Type 0} (game : Game P M) where
         → shown plan game root (suc k) (suc t) p ms
         ≡ flat_map (λ m. cond (follows plan game root t (game.after p m)) (node m (beneath k t (game.after p m))) []) ms
     unfolding shown
-    as_nodes root k t p ms =
-        flat-same _ _ ms (λ m. ap (λ b. cond (follows plan game root t (game.after p m))
-        (cond b ((m ∷ []) ∷ []) [] ++ map (λ line. m ∷ line) (beneath k t (game.after p m))) []) (given_always t (game.after p m)))
+    as_nodes root k t p ms = search (rules, flat-same, given_always)
 
     -- the moves of White in his least length, over anything
     white : (n k t : ℕ) (q : P) (G : M → List (List M)) → seeks (battle_of plan.form) t ≡ true → 0 < t → t ≤ 2 * n → t ≤ suc k → game.goal q ≡ false
@@ -238,7 +201,7 @@ module _ {P M : Type 0} (game : Game P M) where
               (battle_of plan.form),
         ))
         go (suc l) e h =
-            let j = half-some (battle_of plan.form) _ l h in
+            let j = half-some (battle_of plan.form) (least (battle_of plan.form) game n q) (omega (arith, h)) in
             let h2 : suc l ≡ halves (battle_of plan.form) (suc j.0) = h ∙ ap (halves (battle_of plan.form)) j.1 in
             let n2 : l + 1 ≡ halves (battle_of plan.form) (suc j.0) = omega (arith, h2) in
             let l2 : halves (battle_of plan.form) (suc j.0) - 1 ≡ l = omega (arith, h2) in
@@ -253,13 +216,7 @@ module _ {P M : Type 0} (game : Game P M) where
 
     open-goal : (k : ℕ) (q : P) → game.goal q ≡ true → shown plan game false k (open_length (battle_of plan.form) game k q) q (game.moves q) ≡ []
     unfolding open_length
-    open-goal k q g =
-        let none : (eqb k 0 || game.goal q) ≡ true = rw g (or_true (eqb k 0)) in
-        rw none (shown-zero plan false k q (game.moves q))
-      where
-        or_true : (b : Bool) → (b || true) ≡ true
-        or_true true = refl
-        or_true false = refl
+    open-goal k q g = search (rules, shown-zero)
 
     clash : {b : Bool} → b ≡ false → b ≡ true → ⊥
     clash f t = cc
@@ -275,24 +232,13 @@ module _ {P M : Type 0} (game : Game P M) where
 
       tie-goal : (n k t : ℕ) (q : P) → game.goal q ≡ true → Tie n k t q
       unfolding open_length
-      tie-goal n k t q g =
-          let none : (eqb t 0 || game.goal q) ≡ true = rw g (or_true (eqb t 0)) in
-          rw none (shown-zero plan false k q (game.moves q) ∙ sym (nothing n k q g (battle_of plan.form) (seeks (battle_of plan.form) t)))
-        where
-          or_true : (b : Bool) → (b || true) ≡ true
-          or_true true = refl
-          or_true false = refl
+      tie-goal n k t q g = search (rules, shown-zero, nothing)
 
       tie-white : (n k t : ℕ) (q : P) → ((l : ℕ) (r : P) → value (battle_of plan.form) game l r ≡ true → l ≤ k → l ≤ 2 * n → Tie n k l r)
           → value (battle_of plan.form) game (suc t) q ≡ true → suc t ≤ suc k → suc t ≤ 2 * n → game.goal q ≡ false
           → seeks (battle_of plan.form) (suc t) ≡ true → Tie n (suc k) (suc t) q
       unfolding answers
-      tie-white n k t q ih v room most g s =
-          rw (s, g) (white n k (suc t) q _ s (omega arith) most room g v
-          (λ l m s2 less v2.
-          let b : seeks (battle_of plan.form) l ≡ false = flip _ (sym (seeks-step (battle_of plan.form) l) ∙ s2) in
-          ap (node m) (beneath-is k l (game.after q m) ∙ ih l (game.after q m) v2 (omega (arith, less, room)) (omega (arith, less, most))
-          ∙ ap (λ x. cond x (answers (battle_of plan.form) game n k (game.after q m)) (below (battle_of plan.form) game n k (game.after q m))) b)))
+      tie-white n k t q ih v room most g s = search (rules, white, flip, seeks-step, beneath-is)
 
       tie-black : (n k t : ℕ) (q : P) → ((l : ℕ) (r : P) → value (battle_of plan.form) game l r ≡ true → l ≤ k → l ≤ 2 * n → Tie n k l r)
           → value (battle_of plan.form) game (suc t) q ≡ true → suc t ≤ suc k → suc t ≤ 2 * n → game.goal q ≡ false
@@ -329,17 +275,12 @@ module _ {P M : Type 0} (game : Game P M) where
 
     -- where no variations are shown, nothing stands below a move of White
     beneath-none : (k t : ℕ) (q : P) → varies plan ≡ false → seeks (battle_of plan.form) (t + 1) ≡ true → beneath k t q ≡ []
-    beneath-none k t q v s = ap (λ x. shown plan game false k x q (game.moves q)) (goes_on-keys plan game t q battle v s) ∙ shown-zero plan false k q
-        (game.moves q)
+    beneath-none k t q v s = search (rules, goes_on-keys, shown-zero)
 
     beneath-set : (k t : ℕ) (q : P) → seeks (battle_of plan.form) (t + 1) ≡ false
         → beneath k t q ≡ shown plan game false k (open_length (battle_of plan.form) game t q) q (game.moves q)
     unfolding goes_on
-    beneath-set k t q s = rw (battle, s, off (varies plan)) refl
-      where
-        off : (v : Bool) → (not v && false) ≡ false
-        off true = refl
-        off false = refl
+    beneath-set k t q s = search rules
 
     -- below a key
     pub below-key : (n h : ℕ) (q : P) → seeks (battle_of plan.form) (suc h) ≡ true → suc h ≤ 2 * n → value (battle_of plan.form) game h q ≡ true

@@ -1,7 +1,7 @@
 -- The value of a position by what its tests say.
 use Rattle.pop_solve.specs.declared.aim.Battle.{Battle}
 use Rattle.pop_solve.specs.declared.aim.Battle.TheVariants.{Direct, Selfmate}
-use Rattle.std.proofs.Common.{◌≡◌, ℕ, zero, suc, ◌%◌, ◌<◌, Bool, true, false, ◌&&◌, ◌||◌, cond, not, List, [], ◌∷◌, length, refl, arith}
+use Rattle.std.proofs.Common.{◌≡◌, ℕ, zero, suc, ◌%◌, ◌<◌, Bool, true, false, ◌&&◌, ◌||◌, cond, not, List, [], ◌∷◌, length, refl, arith, rules}
 use Rattle.std.proofs.lemmas.Bool.Decides.{nat_tests}
 use Rattle.std.specs.List.{list_any}
 use Rattle.std.specs.Prelude.{◌==◌}
@@ -10,24 +10,17 @@ use Rattle.pop_solve.specs.ties.Values.{seeks, value, joined}
 
 module _ {P M : Type 0} (battle : Battle) (game : Game P M) where
   cases : (e s c a b : Bool) → e ≡ false → (s || c) ≡ true → (e || cond s a (c && b)) ≡ cond s a b
-  cases e true c a b h k = rw h refl
-  cases e false c a b h k = rw (h, k) refl
+  cases e s c a b h k = search rules
 
   pub value-last : (t : ℕ) (p : P) → t ≡ 0 → value battle game t p ≡ game.goal p
   unfolding value
-  value-last zero p z = refl
-  value-last (suc t) p z = absurd (omega (arith, z))
+  value-last t p z = search rules
 
   pub both : (a b : Bool) → (a && b) ≡ true → (a ≡ true) × (b ≡ true)
-  both true true e = (refl, refl)
-  both true false e = absurd cc
-  both false b e = absurd cc
+  both a b e = search rules
 
   odd-only : (t : ℕ) (g : Bool) → (t % 2 == 1) ≡ true → (t % 2 == 0 && g) ≡ false
-  odd-only t g e = rw (odd (t % 2) e) refl
-    where
-      odd : (n : ℕ) → (n == 1) ≡ true → (n == 0) ≡ false
-      odd n e = grind (arith, nat_tests, e)
+  odd-only t g e = search rules
 
   -- the last half-move
   pub value-mates : (p : P) → battle ≡ Direct → value battle game 1 p ≡ some_move game game.goal p
@@ -41,26 +34,15 @@ module _ {P M : Type 0} (battle : Battle) (game : Game P M) where
   value-joined : (t : ℕ) (p : P) → 0 < t → (t % 2 == 0 && game.goal p) ≡ false → (seeks battle t || can_move game p) ≡ true
       → value battle game t p ≡ joined battle game t p (game.moves p)
   unfolding value joined
-  value-joined zero p some e k = absurd (omega (arith, some))
-  value-joined (suc t) p some e k = cases _ (seeks battle (suc t)) _ _ _ e k
+  value-joined t p some e k = search rules
 
   -- White with a half-move that nothing ends before
   pub value-free : (t : ℕ) (p : P) → 0 < t → (t % 2 == 1 && seeks battle t) ≡ true → value battle game t p ≡ joined battle game t p (game.moves p)
-  value-free t p some e =
-      let b = both (t % 2 == 1) (seeks battle t) e in
-      value-joined t p some (odd-only t (game.goal p) b.0) (rw b.1 refl)
+  value-free t p some e = search (rules, both, value-joined, odd-only)
 
   -- with a move, and the goal not reached
   pub value-open : (t : ℕ) (p : P) → 0 < t → can_move game p ≡ true → game.goal p ≡ false → value battle game t p ≡ joined battle game t p (game.moves p)
-  value-open t p some k e = value-joined t p some (rw e (and_false (t % 2 == 0))) (rw k (or_true (seeks battle t)))
-    where
-      and_false : (b : Bool) → (b && false) ≡ false
-      and_false true = refl
-      and_false false = refl
-
-      or_true : (b : Bool) → (b || true) ≡ true
-      or_true true = refl
-      or_true false = refl
+  value-open t p some k e = search (rules, value-joined)
 
   -- without a move
   pub value-stuck : (t : ℕ) (p : P) → 0 < t → can_move game p ≡ false → value battle game t p ≡ (t % 2 == 0 && game.goal p)
@@ -76,3 +58,7 @@ module _ {P M : Type 0} (battle : Battle) (game : Game P M) where
       stuck true s c b ms h k = refl
       stuck false true c b ms h k = rw k refl
       stuck false false c b ms h k = rw h refl
+
+pub ruleset last_half_move = (value-mates, value-forced)
+
+pub ruleset free_moves = (value-free)

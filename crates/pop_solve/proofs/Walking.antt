@@ -1,8 +1,7 @@
 -- The outcomes of a step for frames listed from the bottom up, as the code holds them, and what its calls hand on.
 use Rattle.pop_input.specs.declared.stipulation.Goal.TheVariants.{Mate}
 use Rattle.chess_rules.specs.Play.{after as played}
-use Rattle.chess_rules.specs.Legal.{moves as legal_moves}
-use Rattle.std.proofs.Common.{rules, ◌≡◌, ℕ, suc, ◌+◌, ◌-◌, ◌<◌, ◌≤◌, ◌^◌, min, Bool, true, false, eqb, List, [], ◌∷◌, ◌++◌, length, reverse, Option, Some, None, IfSome, MatchOption, refl, sym, ◌∙◌, ap, arith, subst, ◌⊎◌, inl, inr}
+use Rattle.std.proofs.Common.{rules, ◌≡◌, ℕ, suc, ◌+◌, ◌-◌, ◌<◌, ◌≤◌, Bool, true, false, eqb, List, [], ◌∷◌, ◌++◌, length, reverse, Option, Some, None, IfSome, MatchOption, refl, sym, ◌∙◌, ap, arith, subst, ◌⊎◌, inl, inr}
 use Rattle.std.proofs.lemmas.List.{append-nil, reverse-append, length-reverse}
 use Rattle.chess_core.specs.Position.{Position}
 use Rattle.chess_core.specs.Triple.{Triple}
@@ -13,18 +12,18 @@ use Rattle.chess_rules.specs.Play.{undo_of}
 use Rattle.chess_rules.specs.RuleSet.{RuleSet}
 use Rattle.pop_solve.specs.Chess.{chess}
 use Rattle.pop_solve.proofs.Boards.{for_mate}
-use Rattle.pop_solve.specs.ties.Counts.{HasCounted, smallest_tree, walk_count}
-use Rattle.pop_solve.specs.ties.Values.{seeks, value}
+use Rattle.pop_solve.specs.ties.Counts.{HasCounted, smallest_tree}
+use Rattle.pop_solve.specs.ties.Calls.{Counts}
+use Rattle.pop_solve.specs.ties.Values.{value}
 use Rattle.pop_solve.specs.ties.Frames.{AreKnown, Frame, position, CameFromAt, CameFrom, opened as opened_frame}
-use Rattle.pop_solve.specs.ties.Walk.{follows, gives, goes_on, GoesTo, IsWalking, seeks_last, Steps, fewest_for}
+use Rattle.pop_solve.specs.ties.Walk.{follows, gives, goes_on, GoesTo, IsWalking, seeks_last, Steps}
 use Rattle.pop_solve.specs.declared.plan.Plan.{Plan}
 use Rattle.pop_solve.proofs.Tests.{learned, moved}
 use Rattle.pop_solve.specs.ties.Marks.{is_for_mate}
-use Rattle.pop_solve.specs.ties.Plans.{varies}
-use Rattle.pop_input.specs.Stipulations.{is_help}
 use Rattle.pop_solve.specs.Aims.{battle_of}
 use Rattle.pop_solve.proofs.GoingOn.{cases}
-use Rattle.pop_solve.proofs.Outcomes.{CameFrom-deep, walking-close, walking-learned, top_room, steps-learned, skips-close, skips-pass, skips-enter}
+use Rattle.pop_solve.proofs.Outcomes.{CameFrom-deep, walking-close, walking-learned, top_room, steps-learned, skips-close, steps-pass, steps-enter, walking-moved}
+use Rattle.pop_solve.proofs.ToCome.{steps-skip}
 
 -- a push, and the frames before a frame was taken off, seen from the top
 pub reverse-push : (xs : List Frame) (x : Frame) → reverse (xs ++ x ∷ []) ≡ x ∷ reverse xs
@@ -78,31 +77,33 @@ module _ (rule : RuleSet) (plan : Plan) (h : ℕ) (top : Frame) (old new : List 
         → (follows plan (chess plan.goal rule) root behind arrived ≡ false → (given ≡ false) × (after ≡ now) × (last ≡ mid))
         → (follows plan (chess plan.goal rule) root behind arrived ≡ true → (given ≡ gives plan (chess plan.goal rule) behind arrived) × (after ≡ arrived)
         × (last ≡ mid ++ opened_frame m (undo_of rule now m) (goes_on plan (chess plan.goal rule) behind arrived) ∷ []))
-        → (is_help plan.form ≡ true → 0 < behind → opened2 ≡ min (opened + 1) (2 ^ 64 - 1)) → (is_help plan.form ≡ true → behind ≡ 0 → opened2 ≡ opened)
-        → (is_help plan.form ≡ false → varies plan ≡ false → seeks (battle_of plan.form) (behind + 1) ≡ true → opened2 ≤ opened + walk_count
-        (legal_moves rule) (played rule) behind arrived)
-        → HasCounted opened opened2 (fewest_for plan (chess plan.goal rule) root behind arrived)
+        → Counts rule plan root behind arrived opened opened2
         → (p : Position) → IsWalking rule h p (reverse old) board → Steps rule plan h p (reverse old) (reverse last) after opened opened2 given
-    enter_steps root given after opened opened2 flag passes enters more none keys tried p r =
+    enter_steps root given after opened opened2 flag passes enters counts p r =
         let left : top.left ≡ suc behind = omega (arith, some.0) in
+        let f = learned top known in
         let r2 = walking-learned rule h p top known (reverse new) now (walking_top p board now r at) (rw at within) in
         let flag2 : eqb (length (reverse new)) 0 ≡ root = ap (λ x. eqb x 0) (depth_is ∙ sym d) ∙ sym flag in
         let lawful : legal rule now m ≡ true = rw at some.2 in
         let T : Position → Type 0 = λ b. GoesTo rule plan top.left b top.place (m ∷ moves_behind rule b place) in
-        let next = subst T (sym at ∙ r2.board_at) some.1 in
+        let g = subst T (sym at ∙ r2.board_at) some.1 in
+        let r3 = walking-moved rule h p plan f g.mid (reverse new) now now r2 refl in
+        let here : moves_behind rule now g.mid ≡ m ∷ moves_behind rule now place = rw r2.board_at g.here in
         elim (cases (follows plan (chess plan.goal rule) root behind arrived)) [
           | inl passed ↦
               let x = passes passed in
               rw (popped old new top taken, x.2, mid_is, x.0)
               (steps-learned rule plan h p top known (reverse new) _ after opened opened2 false
-              (skips-pass rule plan h p (learned top known) (reverse new) now r2 place m behind left next after opened opened2
-              (rw flag2 passed) x.1 keys (rw flag2 tried)))
+              (steps-skip rule plan h p f (reverse new) _ g _ after opened opened2 false
+              (steps-pass rule plan h p (moved f g.mid) (reverse new) now r3 place m behind left here after opened opened2
+              (rw flag2 passed) x.1 (rw flag2 counts))))
           | inr entered ↦
               let x = enters entered in
               rw (popped old new top taken, x.2, reverse-push mid, mid_is, x.0)
               (steps-learned rule plan h p top known (reverse new) _ after opened opened2 _
-              (skips-enter rule plan h p (learned top known) (reverse new) now r2 place m behind left next after opened opened2 lawful
-              (rw flag2 entered) x.1 more none keys (rw flag2 tried)))
+              (steps-skip rule plan h p f (reverse new) _ g _ after opened opened2 _
+              (steps-enter rule plan h p (moved f g.mid) (reverse new) now r3 place m behind left here after opened opened2 lawful
+              (rw flag2 entered) x.1 (rw flag2 counts))))
         ]
 
 -- a frame is closed, whatever is walked
@@ -133,10 +134,6 @@ module _ (rule : RuleSet) (plan : Plan) (left : ℕ) (p : Position) (place next 
       MatchOption o ((left ≡ 0) ⊎ GoesTo rule plan left p place [])
       (λ m. (0 < left) × GoesTo rule plan left p place (m ∷ moves_behind rule p next) × (legal rule p m ≡ true))
 
-  pub next_any : (o : Option Triple) → 0 < left
-      → MatchOption o (moves_behind rule p place ≡ []) (λ m. (moves_behind rule p place ≡ m ∷ moves_behind rule p next) × (legal rule p m ≡ true)) → Next o
-  next_any o some e = search rules
-
   pub next_mating : (o : Option Triple) → plan.goal ≡ Mate → seeks_last plan ≡ true → left ≡ 1
       → MatchOption o (mates_behind rule p place ≡ []) (λ m. IsNextMate rule p place next m × (legal rule p m ≡ true)) → Next o
   unfolding mates_behind
@@ -163,3 +160,5 @@ unfolding smallest_tree
 tried-mated rule plan left count q last = search rules
 
 pub ruleset mated = (value-mated, tried-mated)
+
+pub ruleset top_frame = (top_known, room_left)

@@ -1,5 +1,5 @@
 //! What the search does on the board.
-ghost use Rattle.std.specs.Prelude.{◌≡◌, ◌∷◌, [], ◌&&◌, IfSome, MatchOption, is_some, false, not, true};
+ghost use Rattle.std.specs.Prelude.{◌≡◌, ◌∷◌, [], ◌&&◌, IfSome, MatchOption, is_some, false, true};
 ghost use Rattle.chess_core.specs.Diagrams.{position_of};
 ghost use Rattle.chess_core.specs.Position.{Position};
 ghost use Rattle.chess_core.specs.WellFormed.{IsWellFormed};
@@ -8,8 +8,10 @@ ghost use Rattle.chess_rules.specs.Legal.{legal};
 ghost use Rattle.chess_rules.specs.ties.Places.{IsNextMate, IsPlaceIn, mates_behind, moves_behind, moves_between, place_of};
 ghost use Rattle.pop_input.specs.declared.stipulation.Goal.{Goal};
 ghost use Rattle.pop_input.specs.declared.stipulation.Goal.TheVariants.{Mate};
+ghost use Rattle.pop_solve.specs.ties.Calls.{Finds};
 ghost use Rattle.pop_solve.specs.Chess.{castling_side, chess, is_impossible, mark_of, reborn, set_start, shown_of};
 ghost use Rattle.pop_solve.specs.ties.Marks.{is_for_mate};
+ghost use Rattle.pop_solve.specs.declared.chess.Reached.TheVariants.{Surely};
 ghost use Rattle.pop_solve.specs.ties.Frames.{CameBy};
 ghost use Rattle.pop_solve.specs.Game.{can_move as has_move, every_move, some_move};
 
@@ -48,12 +50,9 @@ pub(crate) fn moves_at<R: Rules>(
 pub(crate) fn next_behind<R: Rules>(moves: &mut LegalMoves<R>, board: &mut Board) -> Option<Move>
     requires well_formed { IsWellFormed board.old }
     requires known { IsPlaceIn R.rule board.old moves.old }
-    ensures unchanged { board.new ≡ board.old }
-    ensures within { IsPlaceIn R.rule board.old moves.new }
-    ensures next { MatchOption result (moves_behind R.rule board.old moves.old.place ≡ [])
-        (λ m. (moves_behind R.rule board.old moves.old.place
-        ≡ m ∷ moves_behind R.rule board.old moves.new.place)
-        × (legal R.rule board.old m ≡ true)) }
+    ensures found { Finds R.rule board.old board.new moves.new result
+        (moves_behind R.rule board.old moves.old.place)
+        (moves_behind R.rule board.old moves.new.place) }
     ensures place { moves.new.place ≡ place_of result }
 {
     moves.next(board)
@@ -89,12 +88,9 @@ pub(crate) fn next_until<R: Rules>(
 ) -> Option<Move>
     requires well_formed { IsWellFormed board.old }
     requires known { IsPlaceIn R.rule board.old moves.old }
-    ensures unchanged { board.new ≡ board.old }
-    ensures within { IsPlaceIn R.rule board.old moves.new }
-    ensures next { MatchOption result (moves_between R.rule board.old moves.old.place end ≡ [])
-        (λ m. (moves_between R.rule board.old moves.old.place end
-        ≡ m ∷ moves_between R.rule board.old moves.new.place end)
-        × (legal R.rule board.old m ≡ true)) }
+    ensures { Finds R.rule board.old board.new moves.new result
+        (moves_between R.rule board.old moves.old.place end)
+        (moves_between R.rule board.old moves.new.place end) }
 {
     moves.next_until(end, board)
 }
@@ -191,20 +187,25 @@ pub(crate) fn mark_of<R: Rules>(goal: Goal, board: &mut Board) -> Mark
     }
 }
 
+/// What is known of the goal in a position.
+#[derive(Clone, Copy)]
+pub(crate) enum Reached {
+    Surely,
+    Perhaps,
+}
+
 /// The same where it may be known already that the goal is reached.
 #[tactic(auto, unfolding(crate::specs::Chess::mark_of, chess_rules::specs::Legal::is_goal, chess_rules::specs::Legal::is_stalemate))]
-pub(crate) fn mark_after<R: Rules>(goal: Goal, reached: bool, board: &mut Board) -> Mark
+pub(crate) fn mark_after<R: Rules>(goal: Goal, reached: Reached, board: &mut Board) -> Mark
     requires well_formed { IsWellFormed board.old }
-    requires reached { reached ≡ true → (chess goal R.rule).goal board.old ≡ true }
+    requires reached { reached ≡ Surely → (chess goal R.rule).goal board.old ≡ true }
     ensures unchanged { board.new ≡ board.old }
     ensures mark { result ≡ mark_of goal R.rule board.old }
 {
-    if !reached {
-        return mark_of::<R>(goal, board);
-    }
-    match goal {
-        Goal::Mate => Mark::Mate,
-        Goal::Stalemate => Mark::Stalemate,
+    match (reached, goal) {
+        (Reached::Perhaps, _) => mark_of::<R>(goal, board),
+        (Reached::Surely, Goal::Mate) => Mark::Mate,
+        (Reached::Surely, Goal::Stalemate) => Mark::Stalemate,
     }
 }
 

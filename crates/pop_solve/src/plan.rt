@@ -1,6 +1,5 @@
 //! What is walked.
 ghost use Rattle.std.specs.Prelude.{◌≡◌};
-ghost use Rattle.pop_solve.specs.Aims.{battle_of};
 ghost use Rattle.pop_solve.specs.ties.Plans.{aim_of, plan_of, shows_variations, tree_shown};
 
 use crate::aim::{Aim, Battle};

@@ -8,10 +8,11 @@ ghost use Rattle.pop_solve.specs.Chess.{chess, show};
 ghost use Rattle.pop_solve.specs.Events.{shown_along, shown_last};
 ghost use Rattle.pop_solve.specs.ties.Frames.{CameFrom, CameFromAt};
 ghost use Rattle.pop_solve.specs.ties.Walk.{ends_variation, IsEnded, IsWalking, path};
-ghost use Rattle.std.specs.Prelude.{◌≡◌, ◌≤◌, ℕ, length, reverse, true};
+ghost use Rattle.pop_solve.specs.declared.chess.Reached.TheVariants.{Perhaps, Surely};
+ghost use Rattle.std.specs.Prelude.{◌≡◌, ◌≤◌, ℕ, if◌then◌else◌, length, reverse, true};
 
 use crate::aim::Battle;
-use crate::chess::{mark_after, retract, shown_of};
+use crate::chess::{Reached, mark_after, retract, shown_of};
 use crate::frame::Frame;
 use crate::plan::Plan;
 use crate::shown::Shown;
@@ -29,22 +30,27 @@ fn take_back<R: Rules>(frame: &Frame<R>, board: &mut Board)
     retract::<R>(board, frame.by, frame.undo);
 }
 
-/// Whether a variation ends at the frame: in direct play with variations, where the goal is reached.
-fn ends_variation<R: Rules>(plan: Plan, frame: &Frame<R>) -> bool
-    ensures { result ≡ ends_variation plan frame.now.left }
+/// What is known of the goal at the frame: in direct play with variations it is reached where a variation ends.
+fn reached_at<R: Rules>(plan: Plan, frame: &Frame<R>) -> Reached
+    ensures { result ≡ if ends_variation plan frame.now.left then Surely else Perhaps }
 {
-    frame.left == 0
+    if frame.left == 0
         && plan.tree.has_variations()
         && !plan.form.is_help()
         && seeking(Battle::of(plan.form), 1)
+    {
+        Reached::Surely
+    } else {
+        Reached::Perhaps
+    }
 }
 
 /// Plays the move of a frame again, and answers it as it is shown. It may be known that it reaches the goal.
 #[tactic(auto, using(chess_rules::proofs::listing_moves::Calls::playing), unfolding(crate::specs::Chess::show))]
-fn play_shown<R: Rules>(goal: Goal, reached: bool, frame: &Frame<R>, board: &mut Board) -> Shown
+fn play_shown<R: Rules>(goal: Goal, reached: Reached, frame: &Frame<R>, board: &mut Board) -> Shown
     requires well_formed { IsWellFormed board.old }
     requires legal { legal R.rule board.old frame.now.by ≡ true }
-    requires reached { reached ≡ true
+    requires reached { reached ≡ Surely
         → (chess goal R.rule).goal (played R.rule board.old frame.now.by) ≡ true }
     ensures shown { result ≡ show goal R.rule board.old frame.now.by }
     ensures after { board.new ≡ played R.rule board.old frame.now.by }
@@ -89,7 +95,7 @@ pub(crate) fn line<R: Rules>(
     take_all_back::<R>(frames, board);
     let mut line = ArrayVec::new();
     for k in 1..frames.len() {
-        line.push(play_shown::<R>(goal, false, &frames[k], board));
+        line.push(play_shown::<R>(goal, Reached::Perhaps, &frames[k], board));
     }
     line
 }
@@ -105,7 +111,7 @@ pub(crate) fn last_shown<R: Rules>(plan: Plan, frames: &[Frame<R>], board: &mut 
         → result ≡ shown_last plan.goal R.rule p (path (reverse frames.now)) }
 {
     let top = &frames[frames.len() - 1];
-    let reached = ends_variation::<R>(plan, top);
+    let reached = reached_at::<R>(plan, top);
     take_back::<R>(top, board);
     play_shown::<R>(plan.goal, reached, top, board)
 }

@@ -1,20 +1,21 @@
 //! The tests of battle play.
 ghost use Rattle.chess_rules.specs.Play.{after as played};
 ghost use Rattle.chess_rules.specs.Legal.{moves as legal_moves};
-ghost use Rattle.std.specs.Prelude.{◌≡◌, ◌+◌, ◌<◌, ◌≤◌, ◌%◌, ℕ, List, [], ◌∷◌, ◌++◌, filter, length, reverse, IfSome, IfNone, IsTrue, true, false, Bool, Option, Some, None, not, if◌then◌else◌, MatchOption, MatchBool, ◌⊎◌, ◌&&◌, ◌||◌, ◌==◌, ◌-◌, ◌^◌, min};
+ghost use Rattle.std.specs.Prelude.{◌≡◌, ◌+◌, ◌<◌, ◌≤◌, ◌%◌, [], ◌∷◌, ◌++◌, filter, IfSome, IfNone, true, false, Option, Some, None, not, MatchOption, MatchBool, ◌⊎◌, ◌&&◌, ◌==◌, ◌-◌};
 ghost use Rattle.chess_core.specs.Position.{Position};
 ghost use Rattle.chess_core.specs.WellFormed.{IsWellFormed};
 ghost use Rattle.chess_rules.specs.Legal.{legal};
 ghost use Rattle.chess_rules.specs.ties.Places.{IsPlaceIn, moves_behind, place_of};
 ghost use Rattle.chess_rules.specs.Play.{undo_of};
 ghost use Rattle.arrayvec.specs.ArrayVec.{array_vec_len};
-ghost use Rattle.pop_solve.specs.ties.Frames.{IsTesting, IsOpenedOn, CameFrom, CameFromAt, Turns, Ends, tests, tested, top_left, ahead, all_of, belongs, comes_early, here, later, stretches_behind};
+ghost use Rattle.pop_solve.specs.ties.Frames.{IsTesting, IsOpenedOn, CameFrom, CameFromAt, Turns, Ends, tests, top_left, ahead, all_of, belongs, comes_early, here, later, stretches_behind};
 ghost use Rattle.pop_solve.specs.Chess.{chess};
+ghost use Rattle.pop_solve.specs.ties.Calls.{Evaluates, Finds};
 ghost use Rattle.pop_solve.specs.ties.Marks.{is_for_mate};
 ghost use Rattle.pop_input.specs.declared.stipulation.Goal.TheVariants.{Mate};
 ghost use Rattle.pop_solve.specs.Game.{can_move as has_move};
 ghost use Rattle.pop_solve.specs.ties.Counts.{HasCounted, smallest_tree, walk_count};
-ghost use Rattle.pop_solve.specs.ties.Values.{seeks, join, joined, value};
+ghost use Rattle.pop_solve.specs.ties.Values.{seeks, joined, value};
 
 use crate::aim::{Aim, Battle};
 use crate::chess::{
@@ -59,6 +60,7 @@ fn value_without_move<R: Rules>(goal: Goal, left: usize, board: &Board) -> bool
 
 /// The value of a position with one half-move left, where mate is the goal: White mates, or Black must. The move that
 /// mates is remembered for the next such position, until one has none.
+#[tactic(auto, using(crate::proofs::Values::last_half_move))]
 fn last_value<R: Rules>(battle: Battle, board: &mut Board, killers: &mut Killers<R>) -> bool
     requires well_formed { IsWellFormed board.old }
     ensures unchanged { board.new ≡ board.old }
@@ -76,6 +78,7 @@ fn last_value<R: Rules>(battle: Battle, board: &mut Board, killers: &mut Killers
 
 /// The value of a position, where it is known without a frame; else what is known of its moves, if they were looked for.
 /// The last half-move needs no frame where mate is the goal, and is counted as one.
+#[tactic(auto, using(crate::proofs::Boards::settling, crate::proofs::SmallestTrees::shortest, crate::proofs::Values::free_moves))]
 fn settled<R: Rules>(
     aim: Aim,
     left: usize,
@@ -190,16 +193,10 @@ fn next_of_stretch<R: Rules>(
 ) -> Option<Move>
     requires well_formed { IsWellFormed board.old }
     requires known { IsPlaceIn R.rule board.old moves.old }
-    ensures unchanged { board.new ≡ board.old }
-    ensures within { IsPlaceIn R.rule board.old moves.new }
-    ensures next { MatchOption result
-        (filter (belongs board.old order stretch) (moves_behind R.rule board.old moves.old.place)
-        ≡ [])
-        (λ m. (filter (belongs board.old order stretch) (moves_behind R.rule board.old
-        moves.old.place)
-        ≡ m ∷ filter (belongs board.old order stretch) (moves_behind R.rule board.old
-        moves.new.place))
-        × (legal R.rule board.old m ≡ true)) }
+    ensures { Finds R.rule board.old board.new moves.new result
+        (filter (belongs board.old order stretch) (moves_behind R.rule board.old moves.old.place))
+        (filter (belongs board.old order stretch)
+        (moves_behind R.rule board.old moves.new.place)) }
 {
     while let Some(by) = next_behind::<R>(moves, board) {
         if belongs::<R>(order, stretch, moves.place(), &by, board) {
@@ -219,12 +216,9 @@ fn next_here<R: Rules>(
 ) -> Option<Move>
     requires well_formed { IsWellFormed board.old }
     requires known { IsPlaceIn R.rule board.old moves.old }
-    ensures unchanged { board.new ≡ board.old }
-    ensures within { IsPlaceIn R.rule board.old moves.new }
-    ensures next { MatchOption result (here R.rule board.old order stretch moves.old.place ≡ [])
-        (λ m. (here R.rule board.old order stretch moves.old.place
-        ≡ m ∷ here R.rule board.old order stretch moves.new.place)
-        × (legal R.rule board.old m ≡ true)) }
+    ensures { Finds R.rule board.old board.new moves.new result
+        (here R.rule board.old order stretch moves.old.place)
+        (here R.rule board.old order stretch moves.new.place) }
 {
     match stretch {
         Stretch::Killer => next_until::<R>(moves, order.killer, board),
@@ -270,13 +264,9 @@ fn next_tried<R: Rules>(
 ) -> Option<Move>
     requires well_formed { IsWellFormed board.old }
     requires known { IsPlaceIn R.rule board.old moves.old }
-    ensures unchanged { board.new ≡ board.old }
-    ensures within { IsPlaceIn R.rule board.old moves.new }
-    ensures next { MatchOption result
-        (ahead R.rule board.old order stretch.old moves.old.place ≡ [])
-        (λ m. (ahead R.rule board.old order stretch.old moves.old.place
-        ≡ m ∷ ahead R.rule board.old order stretch.new moves.new.place)
-        × (legal R.rule board.old m ≡ true)) }
+    ensures { Finds R.rule board.old board.new moves.new result
+        (ahead R.rule board.old order stretch.old moves.old.place)
+        (ahead R.rule board.old order stretch.new moves.new.place) }
 {
     loop {
         if let Some(by) = next_here::<R>(order, *stretch, moves, board) {
@@ -441,13 +431,8 @@ pub(crate) fn value_of<R: Rules, const N: usize>(
 ) -> bool
     requires well_formed { IsWellFormed board.old }
     requires room { array_vec_len frames.old + left ≤ N }
-    ensures value { result ≡ value aim.battle (chess aim.goal R.rule) left board.old }
-    ensures board { board.new ≡ board.old }
-    ensures frames { frames.new.items ≡ frames.old.items }
-    ensures opened { opened.new ≤ opened.old
-        + walk_count (legal_moves R.rule) (played R.rule) left board.old }
-    ensures tried { HasCounted opened.old opened.new
-        (smallest_tree aim.battle (chess aim.goal R.rule) left board.old) }
+    ensures { Evaluates R.rule aim left board.old board.new frames.old.items frames.new.items
+        opened.old opened.new result }
 {
     let mut known = None;
     if let Some(v) = settled::<R>(aim, left, killers, board, &mut known, opened) {

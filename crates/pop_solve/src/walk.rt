@@ -1,7 +1,7 @@
 //! The walk over the moves of a phase, on frames.
 ghost use Rattle.chess_rules.specs.Play.{after as played};
 ghost use Rattle.chess_rules.specs.Legal.{moves as legal_moves};
-ghost use Rattle.std.specs.Prelude.{◌≡◌, ◌↔◌, ◌+◌, ◌<◌, ◌≤◌, ◌/◌, ℕ, List, [], ◌∷◌, ◌++◌, length, reverse, IsTrue, true, false, if◌then◌else◌, IfSome, MatchOption, ◌⊎◌, not, ◌&&◌, ◌||◌, ◌==◌, ◌-◌, ◌^◌, min};
+ghost use Rattle.std.specs.Prelude.{◌≡◌, ◌↔◌, ◌+◌, ◌<◌, ◌≤◌, ◌/◌, [], ◌∷◌, ◌++◌, length, reverse, IsTrue, true, false, IfSome, MatchOption, ◌⊎◌, not, ◌&&◌, ◌||◌, ◌==◌, ◌-◌, ◌^◌, min};
 ghost use Rattle.chess_core.specs.Position.{Position};
 ghost use Rattle.chess_core.specs.WellFormed.{IsWellFormed};
 ghost use Rattle.chess_rules.specs.Legal.{legal};
@@ -10,13 +10,13 @@ ghost use Rattle.chess_rules.specs.Play.{undo_of};
 ghost use Rattle.arrayvec.specs.ArrayVec.{array_vec_len};
 ghost use Rattle.pop_input.specs.Stipulations.{is_help};
 ghost use Rattle.pop_solve.specs.Aims.{battle_of};
-ghost use Rattle.pop_solve.specs.ties.Plans.{varies};
+ghost use Rattle.pop_solve.specs.ties.Calls.{Counts, Evaluates, Restores};
+ghost use Rattle.pop_solve.specs.ties.Plans.{aim_of, varies};
 ghost use Rattle.pop_solve.specs.ties.Frames.{CameFrom, CameFromAt, opened as opened_frame};
 ghost use Rattle.pop_solve.specs.Chess.{chess};
 ghost use Rattle.pop_solve.specs.ties.Marks.{is_for_mate};
-ghost use Rattle.pop_solve.specs.ties.Counts.{HasCounted, smallest_tree, walk_count};
 ghost use Rattle.pop_solve.specs.ties.Values.{seeks, value};
-ghost use Rattle.pop_solve.specs.ties.Walk.{fewest as fewest_of, fewest_for, first_from, open_length, follows as is_followed, gives as is_given, goes_on, GoesTo, IsMatedAtLast, IsWalking, seeks_last, Steps};
+ghost use Rattle.pop_solve.specs.ties.Walk.{fewest as fewest_of, first_from, open_length, follows as is_followed, gives as is_given, goes_on, GoesTo, IsMatedAtLast, IsWalking, seeks_last, Steps};
 
 use crate::aim::{Aim, Battle};
 use crate::chess::{is_for_mate, next_mate, next_move, reaches_goal, retract};
@@ -42,6 +42,7 @@ fn fewest(battle: Battle) -> usize
 }
 
 /// The least number of half-moves, by rising lengths, with which White to move reaches his aim; the last, `left`, untried.
+#[tactic(auto, using(crate::proofs::Lengths::least_lengths))]
 fn least_length<R: Rules, const N: usize>(
     aim: Aim,
     left: usize,
@@ -54,9 +55,8 @@ fn least_length<R: Rules, const N: usize>(
     requires room { array_vec_len frames.old + left ≤ N }
     ensures least { result ≡ first_from aim.battle (chess aim.goal R.rule) board.old
         ((left - fewest_of aim.battle) / 2) (fewest_of aim.battle) }
-    ensures board { board.new ≡ board.old }
-    ensures frames { frames.new.items ≡ frames.old.items }
-    ensures grows { HasCounted opened.old opened.new 0 }
+    ensures rest { Restores board.old board.new frames.old.items frames.new.items opened.old
+        opened.new }
 {
     let mut tried = fewest(aim.battle);
     while left >= 2 && tried <= left - 2 {
@@ -81,9 +81,8 @@ fn length_shown<R: Rules, const N: usize>(
     requires well_formed { IsWellFormed board.old }
     requires room { array_vec_len frames.old + left ≤ N }
     ensures length { result ≡ open_length aim.battle (chess aim.goal R.rule) left board.old }
-    ensures board { board.new ≡ board.old }
-    ensures frames { frames.new.items ≡ frames.old.items }
-    ensures grows { HasCounted opened.old opened.new 0 }
+    ensures rest { Restores board.old board.new frames.old.items frames.new.items opened.old
+        opened.new }
 {
     if left == 0 || reaches_goal::<R>(aim.goal, board) {
         return 0;
@@ -107,12 +106,11 @@ fn length_below<R: Rules, const N: usize>(
     requires well_formed { IsWellFormed board.old }
     requires room { array_vec_len frames.old + left ≤ N }
     ensures length { result ≡ goes_on plan (chess plan.goal R.rule) left board.old }
-    ensures board { board.new ≡ board.old }
-    ensures frames { frames.new.items ≡ frames.old.items }
+    ensures rest { Restores board.old board.new frames.old.items frames.new.items opened.old
+        opened.new }
     ensures opened { is_help plan.form ≡ true → opened.new ≡ opened.old }
     ensures keys_alone { IsTrue (not (varies plan) && seeks (battle_of plan.form) (left + 1))
         → opened.new ≡ opened.old }
-    ensures grows { HasCounted opened.old opened.new 0 }
 {
     if plan.form.is_help() {
         return left;
@@ -161,13 +159,8 @@ fn value_after<R: Rules, const N: usize>(
     requires well_formed { IsWellFormed board.old }
     requires room { array_vec_len frames.old + left ≤ N }
     requires mated { IsMatedAtLast R.rule plan left board.old }
-    ensures value { result ≡ value (battle_of plan.form) (chess plan.goal R.rule) left board.old }
-    ensures board { board.new ≡ board.old }
-    ensures frames { frames.new.items ≡ frames.old.items }
-    ensures opened { opened.new ≤ opened.old
-        + walk_count (legal_moves R.rule) (played R.rule) left board.old }
-    ensures tried { HasCounted opened.old opened.new
-        (smallest_tree (battle_of plan.form) (chess plan.goal R.rule) left board.old) }
+    ensures { Evaluates R.rule (aim_of plan) left board.old board.new frames.old.items
+        frames.new.items opened.old opened.new result }
 {
     if ends_with_mate(plan, left + 1) {
         return true;
@@ -228,15 +221,8 @@ fn enter<R: Rules, const N: usize>(
         × (board.new ≡ played R.rule board.old by)
         × (frames.new.items ≡ frames.old.items ++ opened_frame by (undo_of R.rule board.old by)
         (goes_on plan (chess plan.goal R.rule) left (played R.rule board.old by)) ∷ []) }
-    ensures more { is_help plan.form ≡ true → 0 < left
-        → opened.new ≡ min (opened.old + 1) (2 ^ 64 - 1) }
-    ensures none { is_help plan.form ≡ true → left ≡ 0 → opened.new ≡ opened.old }
-    ensures keys { is_help plan.form ≡ false → varies plan ≡ false
-        → seeks (battle_of plan.form) (left + 1) ≡ true
-        → opened.new ≤ opened.old
-        + walk_count (legal_moves R.rule) (played R.rule) left (played R.rule board.old by) }
-    ensures tries { HasCounted opened.old opened.new
-        (fewest_for plan (chess plan.goal R.rule) root left (played R.rule board.old by)) }
+    ensures counts { Counts R.rule plan root left (played R.rule board.old by) opened.old
+        opened.new }
 {
     let undo = R::play(board, by);
     let tested = is_tested(plan, root, left + 1);
@@ -301,6 +287,7 @@ pub(crate) fn step_back<R: Rules>(depth: usize, top: Frame<R>, board: &mut Board
 
 /// One step of the walk: the next move of the top frame is played, or the frame is closed. Answers whether the path
 /// to the new top frame is given.
+#[tactic(auto, using(crate::proofs::Walking::top_frame))]
 pub(crate) fn step<R: Rules, const N: usize>(
     plan: Plan,
     half_moves: usize,

@@ -11,9 +11,9 @@ returns-then-is_some-clause-moves g c = λ goal.
 pub returns-then-is_some-2-clause-moves : goal.returns-then-is_some-2-clause-moves
 returns-then-is_some-2-clause-moves g c = λ goal.
     c.if-is_some-2.ensures ∙ has_first goal g.R.Rules.rule c.args.board.now _ _ c.next_behind.result
-    (ap (λ (v : LegalPlace). v.place) c.go_to-2.ensures ∙ c.start.ensures) (rw c.next_until.ensures.unchanged at c.next_behind.ensures.next)
+    (ap (λ (v : LegalPlace). v.place) c.go_to-2.ensures ∙ c.start.ensures) (rw c.next_until.ensures.unchanged at c.next_behind.ensures.found.next)
 
 pub returns-clause-moves : goal.returns-clause-moves
 returns-clause-moves g c = λ goal.
     c.if-is_some-2.ensures ∙ has_first goal g.R.Rules.rule c.args.board.now _ _ c.next_behind.result
-    (ap (λ (v : LegalPlace). v.place) c.go_to-2.ensures ∙ c.start.ensures) (rw c.next_until.ensures.unchanged at c.next_behind.ensures.next)
+    (ap (λ (v : LegalPlace). v.place) c.go_to-2.ensures ∙ c.start.ensures) (rw c.next_until.ensures.unchanged at c.next_behind.ensures.found.next)

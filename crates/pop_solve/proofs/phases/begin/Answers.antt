@@ -1,4 +1,4 @@
-use Rattle.std.proofs.Common.{◌≡◌, refl, not, Bool, true, false}
+use Rattle.std.proofs.Common.{rules, ◌≡◌, refl, not, Bool, true, false}
 use Rattle.pop_solve.specs.ties.Phases.{IsStanding}
 use Rattle.pop_solve.proofs.Walking as walking
 use Rattle.pop_solve.proofs.Events as events
@@ -17,8 +17,7 @@ open_yet true r e f = cc
 open_yet false r e f = refl
 
 pub returns-then-not-set_up-clause-left : goal.returns-then-not-set_up-clause-left
-returns-then-not-set_up-clause-left g c =
-    events.left-barred g.R.Rules.rule c.args.problem.now c.args.phase _ (barred _ _ c.set_up.ensures.possible c.if-not-set_up.true)
+returns-then-not-set_up-clause-left g c = search (rules, events.left-barred, barred)
 
 pub returns-clause-standing : goal.returns-clause-standing
 unfolding IsStanding
@@ -30,15 +29,10 @@ returns-clause-standing g c =
 
 pub returns-clause-left : goal.returns-clause-left
 unfolding IsStanding
-returns-clause-left g c =
-    let cut = solved.root-solutions g.R.Rules.rule c.args.problem.now c.requires.sound c.args.phase _ c.phase_half_moves-left.ensures
-    (rw c.start.ensures (behind_start g.R.Rules.rule _)) in
-    rw (c.push-2.ensures.items, walking.reverse-push, c.requires.standing.0)
-    (events.left-begun g.R.Rules.rule c.args.problem.now c.args.phase _ _ (open_yet _ _ c.set_up.ensures.possible c.if-not-set_up.false) cut.kept cut.begun)
+returns-clause-left g c = search (rules, solved.root-solutions, behind_start, walking.reverse-push, events.left-begun, open_yet)
 
 pub returns-then-not-set_up-clause-opens : goal.returns-then-not-set_up-clause-opens
-returns-then-not-set_up-clause-opens g c =
-    opened.opens-barred g.R.Rules.rule c.args.problem.now c.args.phase _ _ _ _ (barred _ _ c.set_up.ensures.possible c.if-not-set_up.true)
+returns-then-not-set_up-clause-opens g c = search (rules, opened.opens-barred, barred)
 
 pub returns-clause-opens : goal.returns-clause-opens
 unfolding IsStanding

@@ -1,4 +1,4 @@
-use Rattle.std.proofs.Common.{arith}
+use Rattle.std.proofs.Common.{rules}
 use Rattle.pop_solve.proofs.Walking as walking
 use Rattle.pop_solve.proofs.phases.close_all.Goals as goal
 
@@ -13,5 +13,4 @@ loop-top-preserved g c = λ p r.
     (c.loop-top.invariant p r) c.len.ensures.value c.step_back.ensures.lowest c.step_back.ensures.before
 
 pub returns-clause-back : goal.returns-clause-back
-returns-clause-back g c = λ p r.
-    walking.walking_back g.R.Rules.rule c.args.half_moves p _ c.loop-top.frames.items (c.loop-top.invariant p r) (grind arith)
+returns-clause-back g c = search (rules, walking.walking_back)

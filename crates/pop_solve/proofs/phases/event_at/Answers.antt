@@ -1,4 +1,4 @@
-use Rattle.std.proofs.Common.{◌≡◌, ◌+◌, ◌-◌, ◌∙◌, ap, length, sym, arith}
+use Rattle.std.proofs.Common.{rules, ◌≡◌, ◌+◌, ◌-◌, ◌∙◌, ap, length, sym, arith}
 use Rattle.pop_input.specs.Stipulations.{is_help}
 use Rattle.pop_solve.specs.declared.plan.Plan.{Plan}
 use Rattle.pop_solve.specs.Events.{phase_start}
@@ -6,12 +6,7 @@ use Rattle.pop_solve.proofs.Events as events
 use Rattle.pop_solve.proofs.phases.event_at.Goals as goal
 
 pub returns-then-is_help-clause-event : goal.returns-then-is_help-clause-event
-returns-then-is_help-clause-event g c =
-    let w = c.requires.walking in
-    events.line-event c.args.problem.now c.args.phase _ _ _
-    (ap (λ (plan : Plan). is_help plan.form) (sym c.of-plan.ensures) ∙ sym c.is_help.ensures
-    ∙ c.if-is_help.true) c.phase_half-half.ensures g.R.Rules.rule
-    (rw c.of-plan.ensures at c.line.ensures.line w.0 (phase_start c.args.problem.now c.args.phase) w.1)
+returns-then-is_help-clause-event g c = search (rules, events.line-event)
 
 pub last_shown-requires-clause-ended : goal.last_shown-requires-clause-ended
 last_shown-requires-clause-ended g c = rw c.of-plan.ensures c.requires.ended

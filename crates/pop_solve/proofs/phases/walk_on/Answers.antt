@@ -1,4 +1,4 @@
-use Rattle.std.proofs.Common.{◌≡◌, ◌<◌, ◌∙◌, refl, sym, arith, length}
+use Rattle.std.proofs.Common.{rules, ◌≡◌, ◌<◌, ◌∙◌, refl, sym, arith, length}
 use Rattle.std.proofs.lemmas.List.{length-reverse}
 use Rattle.std.proofs.lemmas.Bool.Decides.{nat_tests}
 use Rattle.pop_solve.proofs.Kept as kept
@@ -9,13 +9,7 @@ pub loop-frames-init : goal.loop-frames-init
 loop-frames-init g c = (rw c.phase_half_moves-half_moves.ensures c.requires.walking, refl, opened.opens-none _ _ _ _ _, opened.tries-none _ _ _ _ _ _)
 
 pub loop-frames-preserved : goal.loop-frames-preserved
-loop-frames-preserved g c =
-    let s = c.step.ensures.steps _ c.loop-frames.invariant.0 in (
-      s.walking,
-      c.loop-frames.invariant.1 ∙ (rw c.if-step.false at s.come),
-      opened.opens-then _ _ _ _ _ _ _ _ _ c.loop-frames.invariant.2 s.opens,
-      opened.tries-then _ _ _ _ _ _ _ _ _ _ c.loop-frames.invariant.3 s.tries,
-    )
+loop-frames-preserved g c = search (rules, opened.opens-then, opened.tries-then)
 
 pub returns-then-step : goal.returns-then-step
 returns-then-step g c =

@@ -30,7 +30,7 @@ play_shown-requires-clause-reached g c =
     let cut = paths.cut-last c.args.frames.now (length c.args.frames.now - 1) c.index-frames-frames.result (omega arith) c.index-frames-frames.is in
     let some = paths.some-taken c.args.frames.now (length c.args.frames.now - 1) (omega arith) (omega arith) in
     let r = paths.back-walking g.R.Rules.rule _ _ _ cut some _ _ _ _ w.2 c.take_back.ensures.before in
-    paths.forth-ended g.R.Rules.rule _ _ _ cut some c.args.plan _ _ _ _ w.2 r c.requires.ended _ c.ends_variation-reached.ensures
+    paths.forth-ended g.R.Rules.rule _ _ _ cut some c.args.plan _ _ _ _ w.2 r c.requires.ended _ c.reached_at-reached.ensures
 
 pub returns-clause-unchanged : goal.returns-clause-unchanged
 returns-clause-unchanged g c =

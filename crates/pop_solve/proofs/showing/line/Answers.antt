@@ -1,4 +1,4 @@
-use Rattle.std.proofs.Common.{◌+◌, refl, sym, ◌∙◌, ap, reverse, arith}
+use Rattle.std.proofs.Common.{rules, ◌+◌, refl, sym, ◌∙◌, ap, reverse, arith}
 use Rattle.std.proofs.lemmas.List.{take_all}
 use Rattle.chess_rules.specs.Play.{after as played}
 use Rattle.pop_solve.specs.ties.Frames.{position}
@@ -6,14 +6,8 @@ use Rattle.pop_solve.proofs.Paths as paths
 use Rattle.pop_solve.proofs.showing.line.Goals as goal
 
 pub loop-k-init : goal.loop-k-init
-loop-k-init g c = (
-  λ h p w. (
-    c.new-line.ensures ∙ sym (paths.first-path g.R.Rules.rule c.args.goal p c.args.frames.now),
-    c.take_all_back.ensures.start h p w ∙ sym (paths.first-position g.R.Rules.rule p c.args.frames.now 1 (omega arith)),
-  ),
-  c.take_all_back.ensures.well_formed,
-  rw c.new-line.ensures refl,
-)
+loop-k-init g c =
+    search (rules, paths.first-path, paths.first-position, c.new-line.ensures, c.take_all_back.ensures.start, c.take_all_back.ensures.well_formed)
 
 pub play_shown-requires-clause-legal : goal.play_shown-requires-clause-legal
 play_shown-requires-clause-legal g c =

@@ -1,17 +1,10 @@
-use Rattle.std.proofs.Common.{◌-◌, List, reverse, sym, ◌∙◌, subst, arith}
+use Rattle.std.proofs.Common.{rules, ◌-◌, arith}
 use Rattle.std.proofs.lemmas.List.{take_all}
-use Rattle.pop_solve.specs.ties.Frames.{Frame}
-use Rattle.pop_solve.specs.ties.Walk.{IsWalking}
 use Rattle.pop_solve.proofs.Paths as paths
 use Rattle.pop_solve.proofs.showing.take_all_back.Goals as goal
 
 pub loop-k-init : goal.loop-k-init
-loop-k-init g c = (
-  λ h p w.
-      let T : List Frame → Type 0 = λ fs. IsWalking g.R.Rules.rule h p (reverse fs) c.args.board.now in
-      subst T (sym (take_all _ c.args.frames.now (omega arith))) w,
-  omega arith,
-)
+loop-k-init g c = search (rules, take_all)
 
 pub take_back-requires : goal.take_back-requires
 take_back-requires g c =
@@ -29,9 +22,7 @@ loop-k-preserved g c = (
 )
 
 pub returns-clause-start : goal.returns-clause-start
-returns-clause-start g c = λ h p w.
-    let r = c.loop-k.invariant.0 h p w in
-    r.board_at ∙ paths.first-position g.R.Rules.rule p c.args.frames.now c.loop-k.k (omega arith)
+returns-clause-start g c = search (rules, paths.first-position)
 
 pub returns-clause-well_formed : goal.returns-clause-well_formed
 returns-clause-well_formed g c =

@@ -5,8 +5,8 @@ use Rattle.pop_solve.proofs.Tests as test
 use Rattle.pop_solve.proofs.value.turn.Goals as goal
 
 pub close-requires : goal.close-requires
-close-requires g c = λ deep.
-    test.close_asks g.R.Rules.rule c.args.aim _ _ _ _ c.in-Some.ensures.items c.requires.above _ _ _ c.len-depth.ensures.value c.requires.testing.1 deep
+close-requires g c =
+    search (rules, test.close_asks, c.in-Some.ensures.items, c.requires.above, c.len-depth.ensures.value, c.requires.testing.1)
 
 pub returns-then-decided-clause-room : goal.returns-then-decided-clause-room
 returns-then-decided-clause-room g c =
@@ -24,9 +24,7 @@ returns-then-decided-clause-next g c = λ p r.
     (rw seek (test.decided_left g.R.Rules.rule c.args.aim _ _ _ _ c.in-Some.ensures.items c.requires.above p _ s))
 
 pub moves_at-moves-requires : goal.moves_at-moves-requires
-moves_at-moves-requires g c =
-    let taken = rw (← c.top.view_is) at c.in-Some.ensures.items in
-    record { known = test.top_known g.R.Rules.rule c.args.aim _ _ _ _ taken c.requires.above _ _ c.requires.testing.1 }
+moves_at-moves-requires g c = search (rules, test.top_known)
 
 pub close-requires-in_default-next_tried : goal.close-requires-in_default-next_tried
 close-requires-in_default-next_tried g c = λ deep.

@@ -1,17 +1,11 @@
-use Rattle.std.proofs.Common.{◌≡◌, ap, refl, arith, rules}
+use Rattle.std.proofs.Common.{◌≡◌, ap, refl, rules}
 use Rattle.pop_solve.specs.ties.Frames.{Frame}
 use Rattle.pop_solve.proofs.Walking as walking
 use Rattle.pop_solve.proofs.walk.step.Goals as goal
 
 pub step_back-requires : goal.step_back-requires
-step_back-requires g c = λ deep.
-    walking.close_asks g.R.Rules.rule c.args.plan c.args.half_moves _ _ _ c.in-Some.ensures.items _ _ _ _ c.requires.walking.1 c.next_of.ensures.unchanged
-    c.len-depth.ensures.value deep
-
-pub next_of-requires : goal.next_of-requires
-next_of-requires g c =
-    let taken = rw (← c.top.view_is) at c.in-Some.ensures.items in
-    record { well_formed = c.requires.well_formed; known = walking.top_known g.R.Rules.rule c.args.plan c.args.half_moves _ _ _ taken _ _ c.requires.walking.1 }
+step_back-requires g c =
+    search (rules, walking.close_asks, c.in-Some.ensures.items, c.requires.walking.1, c.next_of.ensures.unchanged, c.len-depth.ensures.value)
 
 pub returns-in_default-next_of : goal.returns-in_default-next_of
 returns-in_default-next_of g c = record {
@@ -22,37 +16,11 @@ returns-in_default-next_of g c = record {
       c.len-depth.ensures.value (rw (left, place) at c.in_default-next_of.ensures.next) c.step_back.ensures.lowest c.step_back.ensures.before;
 }
 
-pub push-requires : goal.push-requires
-push-requires g c =
-    let taken = rw (← c.top.view_is) at c.in-Some.ensures.items in
-    let room = walking.room_left g.R.Rules.rule c.args.plan c.args.half_moves _ _ _ taken _ _ c.requires.walking.1 in
-    (search rules, omega (arith, room, c.in-Some-next_of.ensures.next.0, c.requires.room))
-
-pub enter-requires : goal.enter-requires
-enter-requires g c =
-    let taken = rw (← c.top.view_is) at c.in-Some.ensures.items in
-    let room = walking.room_left g.R.Rules.rule c.args.plan c.args.half_moves _ _ _ taken _ _ c.requires.walking.1 in (
-      search rules,
-      (
-        search rules,
-        (
-          rw c.next_of.ensures.unchanged c.requires.well_formed,
-          (
-            omega (arith, room, c.in-Some-next_of.ensures.next.0, c.requires.room, c.push.ensures.len),
-            (
-              rw c.next_of.ensures.unchanged c.in-Some-next_of.ensures.next.2,
-              rw c.next_of.ensures.unchanged c.in-Some-next_of.ensures.mated,
-            ),
-          ),
-        ),
-      ),
-    )
-
 pub returns : goal.returns
 returns g c = record {
   steps =
       let taken = rw (← c.top.view_is) at c.in-Some.ensures.items in
       walking.enter_steps g.R.Rules.rule c.args.plan c.args.half_moves _ _ _ taken _ _ _ _ _ _ _ _ c.next_of.ensures.unchanged c.len-depth.ensures.value
       c.in-Some-next_of.ensures.next c.next_of.ensures.within c.push.ensures.items _ _ _ _ _ refl c.enter.ensures.passes c.enter.ensures.enters
-      c.enter.ensures.more c.enter.ensures.none c.enter.ensures.keys c.enter.ensures.tries;
+      c.enter.ensures.counts;
 }

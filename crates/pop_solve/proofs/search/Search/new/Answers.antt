@@ -1,5 +1,4 @@
-use Rattle.std.proofs.Common.{◌∙◌, ap, refl, rules}
-use Rattle.chess_core.specs.Diagrams.{position_of}
+use Rattle.std.proofs.Common.{ap, rules}
 use Rattle.pop_solve.specs.Events.{steps_from}
 use Rattle.pop_solve.specs.ties.Phases.{IsStanding, left_of}
 use Rattle.pop_solve.proofs.Events.{given-all}
@@ -8,13 +7,7 @@ use Rattle.pop_solve.proofs.search.Search.new.Goals as goal
 
 pub invariant_of-result : goal.invariant_of-result
 unfolding IsStanding left_of
-invariant_of-result g c = (
-  c.diagram.ensures.sound,
-  c.requires.room,
-  rw c.new.ensures (refl, c.of.ensures ∙ ap position_of c.diagram.ensures.diagram),
-  rw c.first_phase.ensures (given-all g.R.Rules.rule c.args.problem.now),
-  rw c.first_phase.ensures (opened-start g.R.Rules.rule c.args.problem.now _ _ (search rules)),
-)
+invariant_of-result g c = search (rules, given-all, opened-start)
 
 pub returns-clause-left : goal.returns-clause-left
 unfolding left_of

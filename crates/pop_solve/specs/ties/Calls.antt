@@ -1,0 +1,55 @@
+-- What the calls of a search leave of what they were handed.
+use Rattle.chess_core.specs.Position.{Position}
+use Rattle.chess_core.specs.Triple.{Triple}
+use Rattle.chess_rules.specs.Legal.{legal, moves as legal_moves}
+use Rattle.chess_rules.specs.Play.{after as played}
+use Rattle.chess_rules.specs.RuleSet.{RuleSet}
+use Rattle.chess_rules.specs.ties.Places.{IsPlaceIn, LegalPlace}
+use Rattle.pop_solve.specs.Chess.{chess}
+use Rattle.pop_solve.specs.declared.aim.Aim.{Aim}
+use Rattle.pop_solve.specs.ties.Counts.{HasCounted, smallest_tree, walk_count}
+use Rattle.pop_solve.specs.ties.Frames.{Frame}
+use Rattle.pop_input.specs.Stipulations.{is_help}
+use Rattle.pop_solve.specs.Aims.{battle_of}
+use Rattle.pop_solve.specs.declared.plan.Plan.{Plan}
+use Rattle.pop_solve.specs.ties.Plans.{varies}
+use Rattle.pop_solve.specs.ties.Walk.{fewest_for}
+use Rattle.pop_solve.specs.ties.Values.{seeks, value}
+use Rattle.std.specs.Prelude.{◌≡◌, ◌+◌, ◌-◌, ◌^◌, ◌<◌, ◌≤◌, min, ℕ, Bool, false, true, List, [], ◌∷◌, Option, MatchOption}
+
+-- the first of some moves of p was looked for, which are `untried` before the call and `left` behind the move found: the
+-- board stands on p as before, and what is known is still of its moves
+pub record Finds (rule : RuleSet) (p board : Position) (known : LegalPlace) (found : Option Triple)
+    (untried left : List Triple) : Type 0 where
+  pub unchanged : board ≡ p
+  pub within : IsPlaceIn rule p known
+  pub next : MatchOption found (untried ≡ [])
+      (λ m. (untried ≡ m ∷ left) × (legal rule p m ≡ true))
+
+-- board and frames are as they were, and the count of opened frames hasn't fallen
+pub record Restores (p now : Position) (old new : List Frame) (before after : ℕ) : Type 0 where
+  pub board : now ≡ p
+  pub frames : new ≡ old
+  pub grows : HasCounted before after 0
+
+-- v is the value of p with `left` half-moves left: board and frames are as they were, no more frames were opened than the
+-- moves allow, and no fewer than a smallest tree has positions
+pub record Evaluates (rule : RuleSet) (aim : Aim) (left : ℕ) (p now : Position)
+    (old new : List Frame) (before after : ℕ) (v : Bool) : Type 0 where
+  pub value : v ≡ value aim.battle (chess aim.goal rule) left p
+  pub board : now ≡ p
+  pub frames : new ≡ old
+  pub opened : after ≤ before + walk_count (legal_moves rule) (played rule) left p
+  pub tried : HasCounted before after (smallest_tree aim.battle (chess aim.goal rule) left p)
+
+-- what a move to q has counted, with `left` half-moves left there: in help play the frame that is opened, where moves are
+-- tried from it; where keys alone are shown no more than the moves allow; and in a battle no fewer positions than have to be
+-- tried
+pub record Counts (rule : RuleSet) (plan : Plan) (root : Bool) (left : ℕ) (q : Position)
+    (before after : ℕ) : Type 0 where
+  pub more : is_help plan.form ≡ true → 0 < left → after ≡ min (before + 1) (2 ^ 64 - 1)
+  pub none : is_help plan.form ≡ true → left ≡ 0 → after ≡ before
+  pub keys : is_help plan.form ≡ false → varies plan ≡ false
+      → seeks (battle_of plan.form) (left + 1) ≡ true
+      → after ≤ before + walk_count (legal_moves rule) (played rule) left q
+  pub tries : HasCounted before after (fewest_for plan (chess plan.goal rule) root left q)
