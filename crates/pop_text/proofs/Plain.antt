@@ -9,7 +9,7 @@ use Rattle.std.proofs.lemmas.List.Folds.{list_all-append}
 use Rattle.pop_text.specs.Words.{Input, Word, is_cut, is_gap, is_in_word, is_line_end, is_short_form, is_text_word, limit, tokens_from}
 use Rattle.pop_text.specs.ties.Reading.{Reading, Uses}
 use Rattle.pop_text.specs.ties.Left.{Takes, among}
-use Rattle.pop_text.specs.ties.Plain.{IsPlain, RunsOut, Skips, is_named, is_plain}
+use Rattle.pop_text.specs.ties.Plain.{ArePlain, IsPlain, RunsOut, Skips, is_named, is_plain}
 use Rattle.pop_text.proofs.WordLaws.{all_parts, line_lines, run_tokens, solid_line, RunEnds, with_gap}
 use Rattle.pop_text.proofs.Using.{keeps_bytes}
 use Rattle.pop_text.proofs.Excluded.{gap_or_word}
@@ -108,12 +108,6 @@ module _ (bytes gap word : List ℕ) (some : 0 < length word) (blank : list_all 
 
 -- A step over a view: a gap of g bytes behind the first k, and a run of r.
 
-pub record Step (view : List ℕ) (k ends : ℕ) : Type 0 where
-  pub within : k ≤ length view
-  pub plain : IsPlain (take k view)
-  pub over : RunsOut (take k view) (drop k view)
-  pub lines : ends ≡ count_by is_line_end (take k view)
-
 runs_out : (bytes behind : List ℕ) → 0 < length behind → is_gap (get_or behind 0 0) ≡ true → RunsOut bytes behind
 runs_out bytes [] some is = absurd (omega arith)
 runs_out bytes (b ∷ behind) some is = inr is
@@ -145,7 +139,7 @@ module _ (view left behind : List ℕ) (k g r lines more : ℕ) (at_left : left 
   less = omega (arith, short, fits)
 
   pub step_more : list_all is_gap (take g left) ≡ true → list_all is_in_word (take r behind) ≡ true → (r < length behind → is_gap (get_or behind r 0) ≡ true)
-      → is_named (take r behind) ≡ false → more ≡ count_by is_line_end (take g left) → Step view k lines → Step view (k + (g + r)) (lines + more)
+      → is_named (take r behind) ≡ false → more ≡ count_by is_line_end (take g left) → ArePlain view k lines → ArePlain view (k + (g + r)) (lines + more)
   step_more blank solid over plain are s =
       let size : length (take r behind) ≡ r = omega (arith, length-take r behind, fits) in record {
         within = let at = s.within in omega (arith, at, ap length at_left, length-drop k view, ap length at_behind, length-drop g left, few, fits);

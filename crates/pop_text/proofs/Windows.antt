@@ -4,7 +4,7 @@ use Rattle.std.specs.List.{list_all}
 use Rattle.std.proofs.lemmas.Bool.{cases_Bool, le-ltb}
 use Rattle.std.proofs.lemmas.List.{append-nil, take-append-drop, drop-take, drop-drop, drop_more, length-take-le, take-take}
 use Rattle.pop_text.specs.Words.{is_in_line, is_line_end, limit}
-use Rattle.pop_text.specs.ties.Reading.{IsFront, Reading, Uses}
+use Rattle.pop_text.specs.ties.Reading.{IsFront, IsView, Leads, Reading, Uses}
 use Rattle.pop_text.specs.ties.Runs.{Peeks}
 use Rattle.pop_text.specs.ties.Texts.{with_byte}
 use Rattle.pop_text.specs.declared.scanner.End.{End}
@@ -70,41 +70,38 @@ pub record IsWithin (now : Reading) (view : List ℕ) (count : ℕ) : Type 0 whe
   pub few : count ≤ length now.window
   pub room : now.used + count ≤ limit
 
-module _ (now : Reading) (view : List ℕ) (count : ℕ) (within : now.used ≤ limit) (is : view ≡ take (limit - now.used) now.window)
-    (few : count ≤ length view) where
-  pub view_within : IsWithin now view count
-  view_within =
-      let size : length view ≤ limit - now.used = omega (arith, ap length is, length-take (limit - now.used) now.window) in
-      record {
-        front = ap (take count) is ∙ take-take count (limit - now.used) now.window (omega (arith, size));
-        few = omega (arith, ap length is, length-take (limit - now.used) now.window);
-        room = omega (arith, size);
-      }
+module _ {now : Reading} {view : List ℕ} {count : ℕ} (is : IsView now view) (few : count ≤ length view) where
+  size : length view ≤ limit - now.used
+  size = omega (arith, ap length is.bytes, length-take (limit - now.used) now.window)
 
-  first_byte : (b : ℕ) (rest : List ℕ) → now.window ≡ b ∷ rest → now.used < limit → view ≡ b ∷ take (limit - now.used - 1) rest
-  first_byte b rest at room =
-      let one : limit - now.used ≡ suc (limit - now.used - 1) = omega arith in
-      is ∙ ap (λ n. take n now.window) one ∙ ap (take (suc (limit - now.used - 1))) at
+  pub view_within : IsWithin now view count
+  view_within = record {
+    front = ap (take count) is.bytes ∙ take-take count (limit - now.used) now.window (omega (arith, size));
+    few = omega (arith, ap length is.bytes, length-take (limit - now.used) now.window);
+    room = omega (arith, size, is.within);
+  }
 
   -- some stand there, where the window's first byte passes a test
   pub view_some : (test : ℕ → Bool) → ((b : ℕ) (rest : List ℕ) → view ≡ b ∷ rest → test b ≡ true → 0 < count) → (b : ℕ) (rest : List ℕ) → now.window ≡ b ∷ rest
       → test b ≡ true → now.used < limit → 0 < count
-  view_some test some b rest at passes room = some b (take (limit - now.used - 1) rest) (first_byte b rest at room) passes
+  view_some test some b rest at passes room =
+      let one : limit - now.used ≡ suc (limit - now.used - 1) = omega arith in
+      some b (take (limit - now.used - 1) rest) (is.bytes ∙ ap (λ n. take n now.window) one ∙ ap (take (suc (limit - now.used - 1))) at) passes
 
-  pub front_is : (test : ℕ → Bool) → ((bytes : List ℕ) → list_all test bytes ≡ true → list_all is_in_line bytes ≡ true) → list_all test (take count view) ≡ true
-      → ((b : ℕ) (rest : List ℕ) → view ≡ b ∷ rest → test b ≡ true → 0 < count) → IsFront test now (take count view)
-  front_is test plain all some =
-      let long : length (take count view) ≡ count = length-take-le count view few in
-      let v = view_within in
-      let front : take (length (take count view)) now.window ≡ take count view = ap (λ n. take n now.window) long ∙ sym v.front in
-      record {
-        front = front;
-        flat = sym (ap (count_by is_line_end) front ∙ line_lines (take count view) (plain (take count view) all));
-        within = omega (arith, long, v.few);
-        room = omega (arith, long, v.room);
-        all = all;
-        some = λ b rest at passes room. let h = view_some test some b rest at passes room in omega (arith, long, h);
-      }
+pub front_is : {now : Reading} {view : List ℕ} {count : ℕ} (test : ℕ → Bool) → IsView now view → Leads test view count
+    → ((bytes : List ℕ) → list_all test bytes ≡ true → list_all is_in_line bytes ≡ true) → IsFront test now (take count view)
+front_is {now} {view} {count} test is p plain =
+    let long : length (take count view) ≡ count = length-take-le count view p.within in
+    let v = view_within is p.within in
+    let front : take (length (take count view)) now.window ≡ take count view = ap (λ n. take n now.window) long ∙ sym v.front in
+    record {
+      front = front;
+      flat = sym (ap (count_by is_line_end) front ∙ line_lines (take count view) (plain (take count view) p.all));
+      within = omega (arith, long, v.few);
+      room = omega (arith, long, v.room);
+      all = p.all;
+      some = λ b rest at passes room. let h = view_some is p.within test p.some b rest at passes room in omega (arith, long, h);
+    }
 
 -- bytes before the first line end
 pub plain_front : (view : List ℕ) (count : ℕ) → count ≤ length view → ((k : ℕ) → k < count → (slice_index view k == 10) ≡ true → ⊥)

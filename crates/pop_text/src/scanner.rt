@@ -3,9 +3,9 @@ ghost use Rattle.std.specs.Prelude.{◌≡◌, ◌<◌, ◌+◌, ◌-◌, ◌^�
 ghost use Rattle.pop_text.specs.Bytes.{greatest};
 ghost use Rattle.std.specs.List.{list_all};
 ghost use Rattle.pop_text.specs.Words.{limit, is_gap, is_in_line, is_in_word, is_line_end};
-ghost use Rattle.pop_text.specs.ties.Reading.{beginning, Asks, IsFront, Uses, UsesAll, IsSeen, failures_after};
+ghost use Rattle.pop_text.specs.ties.Reading.{beginning, AreFirst, IsView, Leads, Asks, IsFront, Uses, UsesAll, IsSeen, failures_after};
 ghost use Rattle.pop_text.specs.ties.Runs.{Peeks, RunsTo, Sticks, UsesLine, UsesWord};
-ghost use Rattle.pop_text.specs.ties.Plain.{IsPlain, RunsOut, Skips, is_named, is_named_front};
+ghost use Rattle.pop_text.specs.ties.Plain.{ArePlain, Skips, is_named, is_named_front};
 ghost use Rattle.pop_text.specs.ties.Left.{NextWord, RestOfLine, found_by, found_of};
 ghost use Rattle.pop_text.specs.declared.read_fault.ReadFault.{ReadFault};
 
@@ -179,8 +179,7 @@ impl Scanner {
     // The bytes of the window that belong to the input.
     #[tactic(auto, unfolding(crate::specs::Words::limit))]
     fn view(&self) -> &[u8]
-        ensures bytes { result.now ≡ take (limit - self.now.used) self.now.window }
-        ensures within { self.now.used ≤ limit }
+        ensures { IsView self.now result.now }
     {
         let window = &self.cells[self.start..self.stop];
         let reach = window.len().min(self.room());
@@ -402,9 +401,7 @@ struct Front {
 // How many blanks and line ends stand first: the near ones, and where they are many whole blocks behind them.
 #[inline(always)]
 fn gap_front(view: &[u8]) -> Front
-    ensures within { result.count ≤ length view.now }
-    ensures all { list_all is_gap (take result.count view.now) ≡ true }
-    ensures lines { result.line_ends ≡ count_by is_line_end (take result.count view.now) }
+    ensures first { AreFirst is_gap view.now result.count result.line_ends }
     ensures some { (b : ℕ) → (rest : List ℕ) → view.now ≡ b ∷ rest → is_gap b ≡ true
         → 0 < result.count }
 {
@@ -431,12 +428,9 @@ fn both(near: Front, far: Front) -> Front
 
 // How many of the near bytes are blanks and line ends that stand first.
 fn near_gap(view: &[u8]) -> Front
-    ensures within { result.count ≤ length view.now }
-    ensures all { list_all is_gap (take result.count view.now) ≡ true }
-    ensures lines { result.line_ends ≡ count_by is_line_end (take result.count view.now) }
+    ensures first { AreFirst is_gap view.now result.count result.line_ends }
     ensures some { (b : ℕ) → (rest : List ℕ) → view.now ≡ b ∷ rest → is_gap b ≡ true
         → 0 < result.count }
-    ensures few { result.line_ends ≤ result.count }
 {
     let mut line_ends = 0;
     'gap: for (count, &byte) in view.iter().enumerate() {
@@ -456,10 +450,7 @@ fn near_gap(view: &[u8]) -> Front
 // How many bytes the whole blocks of blanks and line ends have that stand first.
 #[inline(never)]
 fn gap_blocks(view: &[u8]) -> Front
-    ensures within { result.count ≤ length view.now }
-    ensures all { list_all is_gap (take result.count view.now) ≡ true }
-    ensures lines { result.line_ends ≡ count_by is_line_end (take result.count view.now) }
-    ensures few { result.line_ends ≤ result.count }
+    ensures { AreFirst is_gap view.now result.count result.line_ends }
 {
     let mut blocks = Front {
         count: 0,
@@ -504,10 +495,7 @@ fn line_ends_in(block: &[u8]) -> u8
 
 // How many bytes of a run stand before the first blank or line end, where it is long already or not.
 fn run_length(view: &[u8], is_long: bool) -> usize
-    ensures within { result ≤ length view.now }
-    ensures all { list_all is_in_word (take result view.now) ≡ true }
-    ensures some { (b : ℕ) → (rest : List ℕ) → view.now ≡ b ∷ rest → is_in_word b ≡ true
-        → 0 < result }
+    ensures { Leads is_in_word view.now result }
 {
     if is_long {
         far_run(view)
@@ -518,10 +506,7 @@ fn run_length(view: &[u8], is_long: bool) -> usize
 
 // How many bytes stand before the first blank or line end.
 fn run_front(view: &[u8]) -> usize
-    ensures within { result ≤ length view.now }
-    ensures all { list_all is_in_word (take result view.now) ≡ true }
-    ensures some { (b : ℕ) → (rest : List ℕ) → view.now ≡ b ∷ rest → is_in_word b ≡ true
-        → 0 < result }
+    ensures front { Leads is_in_word view.now result }
     ensures over { result < length view.now → is_gap (slice_index view.now result) ≡ true }
 {
     'run: for (count, &byte) in view.iter().enumerate() {
@@ -535,10 +520,7 @@ fn run_front(view: &[u8]) -> usize
 // The same, counted by whole blocks, and behind them byte by byte.
 #[inline(never)]
 fn far_run(view: &[u8]) -> usize
-    ensures within { result ≤ length view.now }
-    ensures all { list_all is_in_word (take result view.now) ≡ true }
-    ensures some { (b : ℕ) → (rest : List ℕ) → view.now ≡ b ∷ rest → is_in_word b ≡ true
-        → 0 < result }
+    ensures { Leads is_in_word view.now result }
 {
     let whole = run_blocks(view);
     whole + run_front(&view[whole..])
@@ -572,10 +554,7 @@ fn are_in_run(block: &[u8]) -> bool
 
 // How many bytes the plain words have that stand first, with the gaps before them. Behind each stands a gap.
 fn plain_front(view: &[u8]) -> Front
-    ensures within { result.count ≤ length view.now }
-    ensures plain { IsPlain (take result.count view.now) }
-    ensures over { RunsOut (take result.count view.now) (drop result.count view.now) }
-    ensures lines { result.line_ends ≡ count_by is_line_end (take result.count view.now) }
+    ensures { ArePlain view.now result.count result.line_ends }
 {
     let mut plain = Front {
         count: 0,
@@ -636,10 +615,7 @@ fn is_front(a: u8, b: u8, c: u8) -> bool
 
 // How many bytes stand before the first line end.
 fn line_front(view: &[u8]) -> usize
-    ensures within { result ≤ length view.now }
-    ensures all { list_all is_in_line (take result view.now) ≡ true }
-    ensures some { (b : ℕ) → (rest : List ℕ) → view.now ≡ b ∷ rest → is_in_line b ≡ true
-        → 0 < result }
+    ensures { Leads is_in_line view.now result }
 {
     match memchr(b'\n', view) {
         Some(count) => count,

@@ -1,21 +1,7 @@
-use Rattle.std.proofs.Common.{◌≡◌, ◌+◌, ◌-◌, ◌∙◌, arith, sym, ap, take, drop}
-use Rattle.std.specs.Prelude.{slice_range}
-use Rattle.pop_text.specs.Words.{is_gap, is_line_end}
-use Rattle.pop_text.proofs.Fronts.{all_both, count_both}
+use Rattle.std.proofs.Common.{◌∙◌, sym}
+use Rattle.pop_text.proofs.Fronts.{first_block}
 use Rattle.pop_text.proofs.scanner.gap_blocks.Goals as goal
 
 pub whole-preserved : goal.whole-preserved
-whole-preserved c =
-    let i = c.whole.invariant in
-    let view = c.args.view.now in
-    let count = c.whole.blocks.count in
-    let block = slice_range view count (count + 32) in
-    let size : (count + 32) - count ≡ 32 = omega arith in
-    let is : block ≡ take 32 (drop count view) = ap (λ n. take n (drop count view)) size in
-    let room = c.whole-test.true in
-    record {
-      within = omega (arith, i.within, room);
-      all = all_both is_gap view block count 32 is i.all (sym c.are_in_gap.ensures ∙ c.if-not-are_in_gap.false);
-      lines = count_both is_line_end view block count 32 is c.whole.blocks.line_ends c.line_ends_in.result i.lines c.line_ends_in.ensures.value;
-      few = omega (arith, i.few, c.line_ends_in.ensures.few);
-    }
+whole-preserved c = first_block c.whole.invariant c.whole-test.true (sym c.are_in_gap.ensures ∙ c.if-not-are_in_gap.false) c.line_ends_in.ensures.value
+    c.line_ends_in.ensures.few

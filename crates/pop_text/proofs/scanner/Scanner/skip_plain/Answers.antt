@@ -8,7 +8,7 @@ use Rattle.pop_text.proofs.scanner.Scanner.skip_plain.Goals as goal
 pub advance-requires : goal.advance-requires
 advance-requires c =
     let plain = c.plain_front-plain.ensures in
-    let v = view_within c.args.self.now _ _ c.view.ensures.within c.view.ensures.bytes plain.within in
+    let v = view_within c.view.ensures plain.within in
     record { waits = v.few; room = v.room; lines = plain.lines ∙ ap (count_by is_line_end) v.front }
 
 pub returns : goal.returns
@@ -18,7 +18,7 @@ returns c =
     let new = c.advance.new.self in
     let view = c.view.result.now in
     let count = c.plain_front-plain.result.count in
-    let v = view_within old view count c.view.ensures.within c.view.ensures.bytes plain.within in
+    let v = view_within c.view.ensures plain.within in
     let room = v.room in
     let left : limit - old.used - count ≡ limit - new.used = omega (arith, c.advance.ensures.used) in
     let behind = behind_view view old.window (limit - old.used) count c.view.ensures.bytes (omega (arith, room)) in
