@@ -51,9 +51,7 @@ pub block_more : (first : Bool) (done : List Token) (line : ℕ) (text : List �
     → block_fault first (done ++ Word line text ∷ []) ≡ or_else (block_fault first done) (at_line line (fault_of (has_begun first done) (said first done) text))
 block_more false done line text = fault_more [] done line text
 block_more true [] line text = or_none (at_line line (fault_of false (state_of []) text))
-block_more true (Word l t ∷ done) line text =
-    let one = at_line l (fault_of false (state_of []) t) in
-    ap (or_else one) (fault_more [] done line text) ∙ sym (or_later one (first_fault [] done) (word_fault (words_before [] done) line text))
+block_more true (Word l t ∷ done) line text = grind (arith, fault_more, or_later)
 block_more true (TextLine l k t ∷ done) line text = block_more true done line text
 
 pub block_line : (first : Bool) (done : List Token) (line : ℕ) (keyword text : List ℕ)

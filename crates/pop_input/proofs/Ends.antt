@@ -10,7 +10,7 @@ use Rattle.pop_input.specs.Names.{command_of}
 use Rattle.pop_input.specs.Names.{or_else}
 use Rattle.pop_input.specs.Blocks.{has_begun, inside, block_fault, Entry, Faulty as FaultyEntry, Sound as SoundEntry, entry_of, problem_of, closed_entry, entries_by, entries_of, tail_fault, more_entries}
 use Rattle.pop_input.specs.ties.Tokens.{CutsOff, TakesPart, TakesNothing}
-use Rattle.pop_input.specs.ties.Closings.{Closes, closing_fault, ended_by, ended_item, cut_fault, last_of}
+use Rattle.pop_input.specs.ties.Closings.{Closes, ReadsWord, closing_fault, ended_by, ended_item, cut_fault, last_of, told_of_cut}
 use Rattle.pop_input.specs.Ends.{end_fault_in, posed_of}
 use Rattle.pop_input.specs.ties.Standing.{Standing, entries_at, entries_left, Reads, NextItem, next_behind}
 use Rattle.pop_input.specs.declared.block.Block.{Block}
@@ -25,7 +25,7 @@ use Rattle.pop_input.specs.declared.reader.Next.{Next}
 use Rattle.pop_input.specs.declared.reader.Next.TheVariants.{First, Later, Nothing}
 use Rattle.pop_input.proofs.Taking.{takes_then}
 use Rattle.pop_input.proofs.Blocks.{said, next_entries, last_entries, ended_entries}
-use Rattle.pop_input.proofs.Items.{BlockSoFar, Tells, or_first, ReadsWord, word_read, takes_more}
+use Rattle.pop_input.proofs.Items.{BlockSoFar, Tells, or_first, word_read, takes_more}
 use Rattle.pop_input.specs.declared.fault_kind.FaultKind.{FaultKind}
 use Rattle.pop_input.specs.declared.fault_kind.FaultKind.TheVariants.{InputTooLong, DeviceFailed}
 use Rattle.pop_input.specs.FaultKinds.{at_line, fault_at}
@@ -93,7 +93,7 @@ module _ (first : Bool) (old new : Standing) (had left : Option (List ℕ)) (sta
     closed_item NoItem last c next reads = absurd c
 
   module _ (mid : Reading) (met : Option (List ℕ)) (block next : Block) (b : BlockSoFar first old.at mid had met block) (line : ℕ) (text : List ℕ)
-      (t : TakesPart mid new.at met left (Word line text)) (r : ReadsWord first old.at mid new.at had met left block next b line text) where
+      (t : TakesPart mid new.at met left (Word line text)) (r : ReadsWord block next line text) where
     abbrev full : List Part
     full = b.done ++ Word line text ∷ []
 
@@ -102,7 +102,7 @@ module _ (first : Bool) (old new : Standing) (had left : Option (List ℕ)) (sta
 
     closed_reads : (item : Item) (last : Last) → Closes next line last item → new.next ≡ next_behind last
         → Reads old new had left (closed_entry (block_fault first full) line (inside first full) ∷ []) → NextItem old new had left item
-    closed_reads item last c is reads = let w = word_read first old.at mid new.at had met left block next b line text r in
+    closed_reads item last c is reads = let w = word_read first old.at mid new.at had met left block next b line text r.fault (λ none. r) in
         closed_item next full line w.0 w.1 item last c is reads
 
     next_closes : (item : Item) → Closes next line No item → command_of text ≡ Some NextProblem → new.next ≡ Later → NextItem old new had left item
@@ -166,7 +166,7 @@ module _ (first : Bool) (old new : Standing) (had left : Option (List ℕ)) (sta
       later,
     )
 
-    pub cut_with_fault : (fault : Fault) (cut : ReadFault) → block.fault ≡ Some fault → CutsOff mid new.at met left cut → new.next ≡ Later
+    cut_with_fault : (fault : Fault) (cut : ReadFault) → block.fault ≡ Some fault → CutsOff mid new.at met left cut → new.next ≡ Later
         → NextItem old new had left (FaultyItem fault No)
     cut_with_fault fault (TooLong line) is t later = absurd t
     cut_with_fault fault (PastLimit line) is t later = fault_then_cut fault Long is t.0 t.1 refl later
@@ -184,8 +184,13 @@ module _ (first : Bool) (old new : Standing) (had left : Option (List ℕ)) (sta
       nothing,
     )
 
-    pub cut_without_fault : (cut : ReadFault) → block.fault ≡ None → CutsOff mid new.at met left cut → new.next ≡ Nothing
+    cut_without_fault : (cut : ReadFault) → block.fault ≡ None → CutsOff mid new.at met left cut → new.next ≡ Nothing
         → NextItem old new had left (FaultyItem (cut_fault cut) Yes)
     cut_without_fault (TooLong line) is t nothing = absurd t
     cut_without_fault (PastLimit line) is t nothing = cut_alone InputTooLong line Long is t.0 t.1 t.2 long_tail nothing
     cut_without_fault (Device line) is t nothing = cut_alone DeviceFailed line Failing is t.0.0 t.0.1 t.0.2 failing_tail nothing
+
+    pub cut_read : (f : Option Fault) (cut : ReadFault) → block.fault ≡ f → CutsOff mid new.at met left cut → new.next ≡ next_behind (told_of_cut f cut).1
+        → NextItem old new had left (FaultyItem (told_of_cut f cut).0 (told_of_cut f cut).1)
+    cut_read None cut is t behind = cut_without_fault cut is t behind
+    cut_read (Some fault) cut is t behind = cut_with_fault fault cut is t behind

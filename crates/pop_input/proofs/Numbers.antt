@@ -1,9 +1,8 @@
 -- The numbers of faults.
 use Rattle.std.proofs.Common.{◌≡◌, ◌≤◌, ℕ, List, [], ◌∷◌, Option, None, Some, Bool, true, false, not, ◌&&◌, arith, if◌then◌else◌, subst, is_some}
-use Rattle.chess_core.specs.Position.{man_on, other, same_kind, with_man}
-use Rattle.chess_core.specs.WellFormed.{is_crossed_right, is_pawn_inside}
+use Rattle.chess_core.specs.Position.{man_on, same_kind, with_man}
+use Rattle.chess_core.specs.WellFormed.{is_pawn_inside}
 use Rattle.chess_core.specs.declared.man.Kind.TheVariants.{King}
-use Rattle.chess_rules.specs.Attacks.{in_check}
 use Rattle.chess_core.specs.declared.man.Man.{Man}
 use Rattle.chess_core.specs.declared.man.Colour.{Colour}
 use Rattle.chess_core.specs.declared.man.Kind.{Kind}
@@ -11,16 +10,14 @@ use Rattle.pop_text.specs.Words.{Token, Word, TextLine, End as AtEnd}
 use Rattle.pop_text.specs.ties.Reading.{Reading}
 use Rattle.pop_text.specs.declared.read_fault.ReadFault.{ReadFault}
 use Rattle.pop_text.specs.declared.read_fault.ReadFault.TheVariants.{TooLong, InputTooLong as PastLimit, Device}
-use Rattle.chess_core.specs.Diagrams.{has_men, stands}
-use Rattle.pop_input.specs.Names.{command_of, colour_of, kind_of, or_else}
+use Rattle.chess_core.specs.Diagrams.{stands}
+use Rattle.pop_input.specs.Names.{or_else}
 use Rattle.pop_input.specs.Values.{squares_of}
-use Rattle.pop_input.specs.State.{State, state_of, role_of}
+use Rattle.pop_input.specs.State.{State, state_of}
 use Rattle.pop_input.specs.WordFaults.{fault_if, barred_fault, control_fault, man_fault, men_fault, put_fault, letter_fault, pieces_fault, stipulation_fault, condition_fault, role_fault, begin_fault, fault_of}
-use Rattle.pop_input.specs.Ends.{end_fault_in, setup_of, stated_fault}
-use Rattle.pop_input.specs.Posed.{rule_of}
-use Rattle.pop_input.specs.Stipulations.{has_king_to_mate}
+use Rattle.pop_input.specs.Ends.{end_fault_in, stated_fault}
 use Rattle.pop_input.specs.Blocks.{first_fault, block_fault, tail_fault}
-use Rattle.pop_input.specs.ties.Closings.{Closes, closing_fault, cut_fault, ended_by, ended_item}
+use Rattle.pop_input.specs.ties.Closings.{Closes, cut_fault, ended_by, ended_item, told_of_cut}
 use Rattle.pop_input.specs.ties.Standing.{IsNumbered}
 use Rattle.pop_input.specs.ties.Tokens.{CutsOff}
 use Rattle.pop_input.specs.declared.block.Block.{Block}
@@ -29,7 +26,7 @@ use Rattle.pop_input.specs.declared.item.Fault.{Fault}
 use Rattle.pop_input.specs.declared.item.Item.{Item}
 use Rattle.pop_input.specs.declared.item.Item.TheVariants.{Sound, Faulty, End}
 use Rattle.pop_input.specs.declared.item.Last.{Last}
-use Rattle.pop_input.specs.declared.item.Last.TheVariants.{Yes}
+use Rattle.pop_input.specs.declared.item.Last.TheVariants.{Yes, No}
 use Rattle.pop_input.specs.declared.names.Command.{Command}
 use Rattle.pop_input.specs.declared.names.Command.TheVariants.{Begin, Enter, Next, Last as EndProblem}
 use Rattle.pop_input.specs.declared.names.Section.TheVariants.{Pieces, Stipulation as Stipulations, Condition as Conditions, Options}
@@ -37,7 +34,7 @@ use Rattle.pop_input.specs.declared.place.Role.{Role}
 use Rattle.pop_input.specs.declared.place.Role.TheVariants.{Limit, CrossedSquare, BarredSquares, Control, Within}
 use Rattle.pop_input.specs.declared.stipulation.Stipulation.{Stipulation}
 use Rattle.pop_input.specs.declared.fault_kind.FaultKind.{FaultKind}
-use Rattle.pop_input.specs.declared.fault_kind.FaultKind.TheVariants.{WordMisplaced, WordTooLong, SquareTaken, PawnOnOuterRank, SecondKing, BadStipulation, SecondStipulation, NoMen, SecondCondition, BadLimit, SquareMissing, EnPassantImpossible, NoneCastlesThere, KingMissing, WaitingSideInCheck}
+use Rattle.pop_input.specs.declared.fault_kind.FaultKind.TheVariants.{WordMisplaced, SquareTaken, PawnOnOuterRank, SecondKing, BadStipulation, SecondStipulation, NoMen, BadLimit, SquareMissing, EnPassantImpossible, NoneCastlesThere, KingMissing, WaitingSideInCheck}
 use Rattle.pop_input.specs.FaultKinds.{at_line, fault_at, number_of}
 
 -- no fault, or one of a word or of the end of its block
@@ -87,16 +84,14 @@ letter_small state (Some of) text = small_if _ (Some WordMisplaced) _ (omega ari
 
 pieces_small : (state : State) (text : List ℕ) → IsSmall (pieces_fault state text)
 pieces_small state [] = tt
-pieces_small state (letter ∷ text) = small_if (is_some (colour_of (letter ∷ text))) None (letter_fault state (kind_of letter) text) tt
-    (letter_small state (kind_of letter) text)
+pieces_small state (letter ∷ text) = grind (arith, small_if, letter_small)
 
 stipulation_small : (given : Option Stipulation) (text : List ℕ) → IsSmall (stipulation_fault given text)
 stipulation_small None text = small_if _ (Some BadStipulation) None (omega arith, omega arith) tt
 stipulation_small (Some given) text = small_if _ (Some SecondStipulation) (Some WordMisplaced) (omega arith, omega arith) (omega arith, omega arith)
 
 condition_small : (given : Option Condition) (text : List ℕ) → IsSmall (condition_fault given text)
-condition_small given text = small_if _ (Some WordMisplaced) _ (omega arith, omega arith)
-    (small_if (is_some given) (Some SecondCondition) None (omega arith, omega arith) tt)
+condition_small given text = grind (arith, small_if)
 
 role_small : (state : State) (role : Role) (text : List ℕ) → IsSmall (role_fault state role text)
 role_small state Limit text = small_if _ (Some BadLimit) None (omega arith, omega arith) tt
@@ -117,9 +112,7 @@ begin_small (Some EndProblem) = (omega arith, omega arith)
 begin_small None = (omega arith, omega arith)
 
 word_small : (begun : Bool) (state : State) (text : List ℕ) → IsSmall (fault_of begun state text)
-word_small begun state text = small_if _ (Some WordTooLong) _ (omega arith, omega arith)
-    (small_if begun (role_fault state (role_of state.place text) text) (begin_fault (command_of text)) (role_small state (role_of state.place text) text)
-    (begin_small (command_of text)))
+word_small begun state text = grind (arith, small_if, role_small, begin_small)
 
 four_small : (a b c d : Bool) → IsSmall (if not a then Some NoMen
     else (if not b then Some EnPassantImpossible else (if not c then Some KingMissing else (if d then Some WaitingSideInCheck else None))))
@@ -130,10 +123,7 @@ four_small true true true d = small_if d (Some WaitingSideInCheck) None (omega a
 
 setup_small : (state : State) (of : Option Stipulation) → IsSmall (stated_fault state of)
 setup_small state None = (omega arith, omega arith)
-setup_small state (Some stipulation) =
-    let setup = setup_of state stipulation.form in
-    four_small (has_men setup.men) (is_crossed_right setup.men setup.turn setup.crossed) (has_king_to_mate stipulation setup.men)
-    (in_check (rule_of state.condition) setup.men (other setup.turn))
+setup_small state (Some stipulation) = grind (arith, four_small)
 
 end_small : (state : State) → IsSmall (end_fault_in state)
 unfolding end_fault_in
@@ -164,18 +154,13 @@ first_small before (TextLine line keyword text ∷ tokens) = first_small before 
 pub block_small : (first : Bool) (tokens : List Token) → SmallFault (block_fault first tokens)
 block_small false tokens = first_small [] tokens
 block_small true [] = tt
-block_small true (Word line text ∷ tokens) =
-    let fault = fault_of false (state_of []) text in
-    fault_else (at_line line fault) (first_fault [] tokens) (small_at line fault (word_small false (state_of []) text)) (first_small [] tokens)
+block_small true (Word line text ∷ tokens) = grind (arith, fault_else, small_at, word_small, first_small)
 block_small true (TextLine line keyword text ∷ tokens) = block_small true tokens
 
 -- Items.
 
 pub small_item : (place : Reading) (fault : Fault) (last : Last) → SmallFault (Some fault) → IsNumbered place (Faulty fault last)
-small_item place fault last p =
-    let low = p.0 in
-    let high = p.1 in
-    (low, omega (arith, high), λ is. absurd (omega (arith, high, is)))
+small_item place fault last p = grind arith
 
 closing_item : (place : Reading) (f : Option Fault) (fault : Fault) (last : Last) → SmallFault f → f ≡ Some fault → IsNumbered place (Faulty fault last)
 closing_item place f fault last p is = small_item place fault last (subst SmallFault is p)
@@ -183,9 +168,7 @@ closing_item place f fault last p is = small_item place fault last (subst SmallF
 pub closed_numbered : (place : Reading) (block : Block) (line : ℕ) (last : Last) (item : Item) → Closes block line last item → SmallFault block.fault
     → IsNumbered place item
 closed_numbered place block line last (Sound problem answered) c p = tt
-closed_numbered place block line last (Faulty fault answered) c p =
-    closing_item place (closing_fault block line) fault answered
-    (fault_else block.fault (at_line line (end_fault_in block.draft)) p (small_at line (end_fault_in block.draft) (end_small block.draft))) c.0
+closed_numbered place block line last (Faulty fault answered) c p = grind (arith, closing_item, fault_else, small_at, end_small)
 closed_numbered place block line last End c p = absurd c
 
 ended_small : (f : Option Fault) (begun : Bool) (line : ℕ) → SmallFault f → SmallFault (Some (ended_by f (fault_at (tail_fault begun AtEnd) line)))
@@ -194,11 +177,15 @@ ended_small None true line p = (omega arith, omega arith)
 ended_small None false line p = (omega arith, omega arith)
 
 pub ended_numbered : (place : Reading) (block : Block) (line : ℕ) → SmallFault block.fault → IsNumbered place (ended_item block line)
-ended_numbered place block line p = small_item place (ended_by block.fault (fault_at (tail_fault block.begun AtEnd) line)) Yes
-    (ended_small block.fault block.begun line p)
+ended_numbered place block line p = grind (arith, small_item, ended_small)
 
-pub cut_numbered : (old new : Reading) (had left : Option (List ℕ)) (cut : ReadFault) → CutsOff old new had left cut
+cut_numbered : (old new : Reading) (had left : Option (List ℕ)) (cut : ReadFault) → CutsOff old new had left cut
     → IsNumbered new (Faulty (cut_fault cut) Yes)
 cut_numbered old new had left (TooLong line) t = absurd t
 cut_numbered old new had left (PastLimit line) t = (omega arith, omega arith, λ is. absurd (omega (arith, is)))
 cut_numbered old new had left (Device line) t = (omega arith, omega arith, λ is. t.1)
+
+pub cut_told : (old new : Reading) (had left : Option (List ℕ)) (f : Option Fault) (cut : ReadFault) → CutsOff old new had left cut → SmallFault f
+    → IsNumbered new (Faulty (told_of_cut f cut).0 (told_of_cut f cut).1)
+cut_told old new had left None cut t p = cut_numbered old new had left cut t
+cut_told old new had left (Some fault) cut t p = small_item new fault No p

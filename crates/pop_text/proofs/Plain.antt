@@ -194,7 +194,7 @@ pub behind_view : (view window : List ℕ) (room k : ℕ) → view ≡ take room
 behind_view view window room k is few = let parts : room ≡ k + (room - k) = omega arith in ap (drop k) (is ∙ ap (λ n. take n window) parts)
     ∙ drop-take k (room - k) window
 
-takes_none : (place : Reading) (had : Option (List ℕ)) → Takes (among place) (among place) had had []
+pub takes_none : (place : Reading) (had : Option (List ℕ)) → Takes (among place) (among place) had had []
 takes_none place had = record { bytes = []; amount = omega arith; taken = keeps_bytes had; follows = λ rest may. may; begin = λ rest may. refl }
 
 pub skips_none : (place : Reading) → Skips place place
