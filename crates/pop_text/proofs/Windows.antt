@@ -1,5 +1,5 @@
 -- The window: bytes that wait between two places of an array.
-use Rattle.std.proofs.Common.{◌≡◌, ◌<◌, ◌≤◌, ℕ, zero, suc, ◌+◌, ◌-◌, List, [], ◌∷◌, ◌++◌, length, length-take, length-drop, take, drop, slice_range, slice_index, Option, Some, Ok, Bool, true, ◌==◌, refl, sym, ◌∙◌, ap, arith, inl, inr, get_or, count_by, cond}
+use Rattle.std.proofs.Common.{◌≡◌, ◌<◌, ◌≤◌, ℕ, zero, suc, ◌+◌, ◌-◌, List, [], ◌∷◌, length, length-take, length-drop, take, drop, slice_range, slice_index, Option, Some, Ok, Bool, true, ◌==◌, refl, sym, ◌∙◌, ap, arith, inl, inr, get_or, count_by}
 use Rattle.std.specs.List.{list_all}
 use Rattle.std.proofs.lemmas.Bool.{cases_Bool, le-ltb}
 use Rattle.std.proofs.lemmas.List.{append-nil, take-append-drop, drop-take, drop-drop, drop_more, length-take-le, take-take}
@@ -17,9 +17,7 @@ window_length cells start stop within = omega (arith, length-take (stop - start)
 -- its first byte
 window_front : (cells : List ℕ) (start stop : ℕ) → start < stop → stop ≤ length cells
     → slice_range cells start stop ≡ get_or cells start 0 ∷ slice_range cells (start + 1) stop
-window_front cells start stop some within =
-    let one : stop - start ≡ suc (stop - (start + 1)) = omega arith in
-    rw (drop_more cells start 0 (omega arith), one) refl
+window_front cells start stop some within = grind (arith, drop_more)
 
 -- and what stands behind others
 window_drop : (cells : List ℕ) (start stop count : ℕ) → start + count ≤ stop
@@ -33,14 +31,7 @@ window_drop cells start stop count within =
 front_used : (old new : Reading) (had : Option (List ℕ)) (count : ℕ) → count ≤ length old.window → new.window ≡ drop count old.window
     → new.used ≡ old.used + count → new.line ≡ old.line + count_by is_line_end (take count old.window) → new.end ≡ old.end
     → Uses old new had had (take count old.window)
-front_used old new had count within window used line end = record {
-  taken = [];
-  consumed = keeps_bytes had;
-  unread = append-nil old.window ∙ sym (take-append-drop count old.window) ∙ ap (λ w. take count old.window ++ w) (sym window);
-  used = omega (arith, used, length-take-le count old.window within);
-  line = line;
-  still = inr (refl, end);
-}
+front_used old new had count within window used line end = grind (arith, keeps_bytes, append-nil, take-append-drop, length-take-le)
 
 module _ (cells : List ℕ) (start stop : ℕ) (within : stop ≤ length cells) where
   abbrev reading : ℕ → ℕ → ℕ → End → Reading
@@ -84,9 +75,7 @@ module _ {now : Reading} {view : List ℕ} {count : ℕ} (is : IsView now view) 
   -- some stand there, where the window's first byte passes a test
   pub view_some : (test : ℕ → Bool) → ((b : ℕ) (rest : List ℕ) → view ≡ b ∷ rest → test b ≡ true → 0 < count) → (b : ℕ) (rest : List ℕ) → now.window ≡ b ∷ rest
       → test b ≡ true → now.used < limit → 0 < count
-  view_some test some b rest at passes room =
-      let one : limit - now.used ≡ suc (limit - now.used - 1) = omega arith in
-      some b (take (limit - now.used - 1) rest) (is.bytes ∙ ap (λ n. take n now.window) one ∙ ap (take (suc (limit - now.used - 1))) at) passes
+  view_some test some b rest at passes room = grind arith
 
 pub front_is : {now : Reading} {view : List ℕ} {count : ℕ} (test : ℕ → Bool) → IsView now view → Leads test view count
     → ((bytes : List ℕ) → list_all test bytes ≡ true → list_all is_in_line bytes ≡ true) → IsFront test now (take count view)
@@ -118,5 +107,4 @@ plain_all view none = plain_front view (length view) (omega arith) none
 
 -- a full text takes no more
 pub full_stays : (kept : List ℕ) (byte : ℕ) → length kept ≡ 200 → with_byte 200 kept byte ≡ kept
-full_stays [] byte full = absurd (omega (arith, full))
-full_stays (b ∷ kept) byte full = ap (λ t. cond t ((b ∷ kept) ++ byte ∷ []) (b ∷ kept)) (le-ltb (length (b ∷ kept)) 200 (omega (arith, full)))
+full_stays kept byte full = grind (arith, le-ltb)
