@@ -7,8 +7,7 @@ use Rattle.pop_text.specs.ties.Left.{put_before}
 use Rattle.pop_text.specs.Words.{Input, Tail, Token, is_cut, is_line_end, lines_tokens, runs_of, tokens_of, words_by, words_from}
 
 onto_both : (x : ℕ) (ls ms : List (List ℕ)) → 0 < length ls → onto_first x (ls ++ ms) ≡ onto_first x ls ++ ms
-onto_both x [] ms some = absurd (omega (arith, some))
-onto_both x (l ∷ ls) ms some = refl
+onto_both x ls ms some = grind arith
 
 -- the lines of both sides of a line end
 split_both : (xs ys : List ℕ) → slice_split is_line_end (xs ++ 10 ∷ ys) ≡ slice_split is_line_end xs ++ slice_split is_line_end ys

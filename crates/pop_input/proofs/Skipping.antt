@@ -9,7 +9,7 @@ use Rattle.pop_text.specs.ties.Plain.{Skips, is_named, is_plain}
 use Rattle.pop_text.specs.ties.Reading.{Reading}
 use Rattle.pop_text.specs.ties.Left.{among}
 use Rattle.pop_text.proofs.Plain.{plain_no_closing}
-use Rattle.pop_input.specs.Names.{closes, command_of, or_else, section_of}
+use Rattle.pop_input.specs.Names.{closes, command_of, or_else}
 use Rattle.pop_input.specs.Blocks.{block_fault, has_begun}
 use Rattle.pop_input.specs.WordFaults.{fault_of}
 use Rattle.pop_input.specs.declared.block.Block.{Block}
@@ -22,26 +22,21 @@ use Rattle.pop_input.proofs.Taking.{takes_then}
 use Rattle.pop_input.specs.FaultKinds.{at_line}
 
 enter_open : (section : Option Section) → closes (option_map Enter section) ≡ false
-enter_open None = refl
-enter_open (Some section) = refl
+enter_open section = grind arith
 
 no_closing : (text : List ℕ) (begins : Bool) → is_short_form (codes "beginproblem") text ≡ begins → is_named text ≡ false → closes (command_of text) ≡ false
 unfolding command_of
-no_closing text true is plain = rw is refl
-no_closing text false is plain = let p = plain_no_closing text plain in rw (is, p.0, p.1) (enter_open (section_of text))
+no_closing text begins is plain = grind (arith, plain_no_closing, enter_open)
 
 not_true : (b : Bool) → not b ≡ true → b ≡ false
-not_true false h = refl
-not_true true h = cc
+not_true b h = grind arith
 
 -- a plain word closes no block
 plain_open : (token : Part) → is_plain token ≡ true → is_open token ≡ true
-plain_open (TextLine line keyword text) h = refl
-plain_open (Word line text) h = ap not (no_closing text (is_short_form (codes "beginproblem") text) refl (not_true (is_named text) h))
+plain_open token h = grind (arith, no_closing, not_true)
 
 and_parts : (p q : Bool) → (p && q) ≡ true → (p ≡ true) × (q ≡ true)
-and_parts true q h = (refl, h)
-and_parts false q h = cc
+and_parts p q h = grind arith
 
 plain_parts : (token : Part) (tokens : List Part) → list_all is_plain (token ∷ tokens) ≡ true → (is_plain token ≡ true) × (list_all is_plain tokens ≡ true)
 plain_parts token tokens h = and_parts (is_plain token) (list_all is_plain tokens) h

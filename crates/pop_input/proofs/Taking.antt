@@ -76,6 +76,4 @@ module _ (old mid new : Reading) (had met left : Option (List ℕ)) (room : Room
 
 -- where no token is taken, the place stays within the limit
 pub none_within : (old : Spot) (new : Reading) (had left : Option (List ℕ)) (fault : ReadFault) → TakesNone old new had left fault → new.used ≤ limit
-none_within old new had left (TooLong line) none = absurd none
-none_within old new had left (InputTooLong line) none = none.3.1
-none_within old new had left (Device line) none = none.3.1
+none_within old new had left fault none = grind arith
