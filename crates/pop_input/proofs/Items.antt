@@ -16,9 +16,8 @@ use Rattle.pop_input.specs.ties.Closings.{IsNew, ReadsWord, TakesLine, last_of, 
 use Rattle.pop_input.specs.declared.block.Block.{Block}
 use Rattle.pop_input.specs.declared.item.Fault.{Fault}
 use Rattle.pop_input.specs.declared.names.Command.{Command}
-use Rattle.pop_input.specs.declared.names.Command.TheVariants.{Next as NextProblem, Last as EndProblem, Begin, Enter}
 use Rattle.pop_input.specs.declared.names.TextWord.{TextWord}
-use Rattle.pop_input.specs.declared.names.TextWord.TheVariants.{Title, Author, Origin, Remark}
+use Rattle.pop_input.specs.declared.names.TextWord.TheVariants.{Title, Author}
 use Rattle.pop_text.proofs.Plain.{takes_none}
 use Rattle.pop_input.proofs.Taking.{takes_then}
 use Rattle.pop_input.proofs.Blocks.{is_open, said, block_more, block_line, begun_word, begun_line, inside_more, inside_none, inside_first, words_more, words_line, text_more, text_line}
@@ -43,16 +42,13 @@ pub record BlockSoFar (first : Bool) (old new : Reading) (had left : Option (Lis
   pub further : block.fault ≡ None ⊎ (old.used < new.used)
 
 pub block_starts : (first : Bool) (place : Reading) (had : Option (List ℕ)) (block : Block) → IsNew first block → BlockSoFar first place place had had block
-block_starts true place had block n = grind (arith, takes_none)
-block_starts false place had block n = grind (arith, takes_none)
+block_starts first place had block n = grind (arith, takes_none)
 
 pub or_first : {A : Type 0} (a b : Option A) → or_else a b ≡ None → a ≡ None
-or_first None b h = refl
-or_first (Some x) b h = h
+or_first a b h = grind arith
 
 never : {A : Type 0} (a : Option A) (x : A) → or_else a (Some x) ≡ None → ⊥
-never None x h = cc
-never (Some y) x h = cc
+never a x h = grind arith
 
 -- a word too long is no command
 long_no_command : (text : List ℕ) → 160 < length text → command_of text ≡ None
@@ -64,17 +60,11 @@ long_fault begun state text long = rw (lt-ltb 160 (length text) long) refl
 
 title_with : (k : TextWord) (text : List ℕ) (rest : List ℕ) (had : List ℕ) (before : List ℕ) → text ≡ text_of_line rest → had ≡ before
     → text_with Title had k text ≡ text_after Title before (Some k) rest
-title_with Title text rest had before p q = p
-title_with Author text rest had before p q = q
-title_with Origin text rest had before p q = q
-title_with Remark text rest had before p q = q
+title_with k text rest had before p q = grind arith
 
 author_with : (k : TextWord) (text : List ℕ) (rest : List ℕ) (had : List ℕ) (before : List ℕ) → text ≡ text_of_line rest → had ≡ before
     → text_with Author had k text ≡ text_after Author before (Some k) rest
-author_with Title text rest had before p q = q
-author_with Author text rest had before p q = p
-author_with Origin text rest had before p q = q
-author_with Remark text rest had before p q = q
+author_with k text rest had before p q = grind arith
 
 -- Texts behind one more token.
 
@@ -82,30 +72,25 @@ title_line : (first : Bool) (done : List Part) (line : ℕ) (name rest : List �
     → begun ≡ has_begun first done → text_word_of name ≡ Some keyword → text ≡ text_of_line rest
     → had ≡ last_text Title [] (inside first done) → noted begun Title had keyword text
     ≡ last_text Title [] (inside first (done ++ TextLine line name rest ∷ []))
-title_line first done line name rest keyword text had true begun is bytes title = grind (arith, title_with, text_line, inside_more)
-title_line first done line name rest keyword text had false begun is bytes title = grind (arith, inside_none, inside_first)
+title_line first done line name rest keyword text had begun at is bytes before = grind (arith, title_with, text_line, inside_more, inside_none, inside_first)
 
 author_line : (first : Bool) (done : List Part) (line : ℕ) (name rest : List ℕ) (keyword : TextWord) (text had : List ℕ) (begun : Bool)
     → begun ≡ has_begun first done → text_word_of name ≡ Some keyword → text ≡ text_of_line rest
     → had ≡ last_text Author [] (inside first done) → noted begun Author had keyword text
     ≡ last_text Author [] (inside first (done ++ TextLine line name rest ∷ []))
-author_line first done line name rest keyword text had true begun is bytes author = grind (arith, author_with, text_line, inside_more)
-author_line first done line name rest keyword text had false begun is bytes author = grind (arith, inside_none, inside_first)
+author_line first done line name rest keyword text had begun at is bytes before = grind (arith, author_with, text_line, inside_more, inside_none, inside_first)
 
 words_inside : (first : Bool) (done : List Part) (line : ℕ) (name rest : List ℕ) (begun : Bool) → begun ≡ has_begun first done
     → said first done ≡ said first (done ++ TextLine line name rest ∷ [])
-words_inside first done line name rest true begun = grind (arith, words_line, inside_more)
-words_inside first done line name rest false begun = grind (arith, inside_none, inside_first)
+words_inside first done line name rest begun at = grind (arith, words_line, inside_more, inside_none, inside_first)
 
 text_word : (wanted : TextWord) (first : Bool) (done : List Part) (line : ℕ) (text : List ℕ) (begun : Bool) → begun ≡ has_begun first done
     → last_text wanted [] (inside first done) ≡ last_text wanted [] (inside first (done ++ Word line text ∷ []))
-text_word wanted first done line text true begun = grind (arith, text_more, inside_more)
-text_word wanted first done line text false begun = grind (arith, inside_none, inside_first)
+text_word wanted first done line text begun at = grind (arith, text_more, inside_more, inside_none, inside_first)
 
 said_word : (first : Bool) (done : List Part) (line : ℕ) (text : List ℕ) (begun : Bool) → begun ≡ has_begun first done
     → said_after begun (said first done) text ≡ said first (done ++ Word line text ∷ [])
-said_word first done line text true begun = grind (arith, words_more, inside_more)
-said_word first done line text false begun = grind (arith, inside_none, inside_first)
+said_word first done line text begun at = grind (arith, words_more, inside_more, inside_none, inside_first)
 
 module _ (first : Bool) (old mid new : Reading) (had met left : Option (List ℕ)) (block next : Block) (b : BlockSoFar first old mid had met block) where
   plain_more : (part : Part) → is_open part ≡ true → list_all is_open (b.done ++ part ∷ []) ≡ true
@@ -139,8 +124,7 @@ module _ (first : Bool) (old mid new : Reading) (had met left : Option (List ℕ
 
   fault_is : (line : ℕ) (text : List ℕ) (f : Option Fault) → block.fault ≡ f
       → or_else f (at_line line (fault_of block.begun block.draft text)) ≡ or_else f (at_line line (fault_of (has_begun first b.done) (said first b.done) text))
-  fault_is line text None is = grind arith
-  fault_is line text (Some f) is = refl
+  fault_is line text f is = grind arith
 
   module _ (line : ℕ) (text : List ℕ) (fault : next.fault ≡ or_else block.fault (at_line line (fault_of block.begun block.draft text)))
       (r : next.fault ≡ None → ReadsWord block next line text) where
@@ -168,8 +152,4 @@ module _ (first : Bool) (old mid new : Reading) (had met left : Option (List ℕ
       (λ none. absurd (never block.fault (fault_at WordTooLong line) (sym fault ∙ none))) t (ap closes (long_no_command text long))
 
 pub not_closing : (c : Option Command) → last_of c ≡ None → closes c ≡ false
-not_closing None h = refl
-not_closing (Some Begin) h = refl
-not_closing (Some (Enter section)) h = refl
-not_closing (Some NextProblem) h = cc
-not_closing (Some EndProblem) h = cc
+not_closing c h = grind arith
