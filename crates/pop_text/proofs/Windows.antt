@@ -1,7 +1,7 @@
 -- The window: bytes that wait between two places of an array.
-use Rattle.std.proofs.Common.{◌≡◌, ◌<◌, ◌≤◌, ℕ, zero, suc, ◌+◌, ◌-◌, List, [], ◌∷◌, length, length-take, length-drop, take, drop, slice_range, slice_index, Option, Some, Ok, Bool, true, ◌==◌, refl, sym, ◌∙◌, ap, arith, inl, inr, get_or, count_by}
+use Rattle.std.proofs.Common.{◌≡◌, ◌<◌, ◌≤◌, ℕ, zero, suc, ◌+◌, ◌-◌, List, [], ◌∷◌, length, length-take, length-drop, take, drop, slice_range, slice_index, Option, Some, Ok, Bool, true, ◌==◌, refl, sym, ◌∙◌, ap, arith, get_or, count_by}
 use Rattle.std.specs.List.{list_all}
-use Rattle.std.proofs.lemmas.Bool.{cases_Bool, le-ltb}
+use Rattle.std.proofs.lemmas.Bool.{le-ltb}
 use Rattle.std.proofs.lemmas.List.{append-nil, take-append-drop, drop-take, drop-drop, drop_more, length-take-le, take-take}
 use Rattle.pop_text.specs.Words.{is_in_line, is_line_end, limit}
 use Rattle.pop_text.specs.ties.Reading.{IsFront, IsView, Leads, Reading, Uses}
@@ -24,8 +24,7 @@ window_drop : (cells : List ℕ) (start stop count : ℕ) → start + count ≤ 
     → slice_range cells (start + count) stop ≡ drop count (slice_range cells start stop)
 window_drop cells start stop count within =
     let parts : stop - start ≡ count + (stop - (start + count)) = omega arith in
-    sym (ap (λ n. drop count (take n (drop start cells))) parts ∙ drop-take count (stop - (start + count)) (drop start cells)
-    ∙ ap (take (stop - (start + count))) (drop-drop count start cells))
+    grind (arith, drop-take count (stop - (start + count)) (drop start cells), drop-drop count start cells)
 
 -- bytes were used of it
 front_used : (old new : Reading) (had : Option (List ℕ)) (count : ℕ) → count ≤ length old.window → new.window ≡ drop count old.window
@@ -67,7 +66,7 @@ module _ {now : Reading} {view : List ℕ} {count : ℕ} (is : IsView now view) 
 
   pub view_within : IsWithin now view count
   view_within = record {
-    front = ap (take count) is.bytes ∙ take-take count (limit - now.used) now.window (omega (arith, size));
+    front = grind (arith, is.bytes, take-take count (limit - now.used) now.window, size);
     few = omega (arith, ap length is.bytes, length-take (limit - now.used) now.window);
     room = omega (arith, size, is.within);
   }
@@ -97,10 +96,7 @@ pub plain_front : (view : List ℕ) (count : ℕ) → count ≤ length view → 
     → list_all is_in_line (take count view) ≡ true
 plain_front view zero within none = refl
 plain_front [] (suc count) within none = absurd (omega arith)
-plain_front (b ∷ view) (suc count) within none = elim (cases_Bool (b == 10)) [
-  | inl ends ↦ absurd (none 0 (omega arith) ends)
-  | inr goes ↦ rw goes (plain_front view count (omega arith) (λ k lt. none (suc k) (omega arith)))
-]
+plain_front (b ∷ view) (suc count) within none = grind (arith, none 0, plain_front view count (omega arith) (λ k lt. none (suc k) (omega arith)))
 
 pub plain_all : (view : List ℕ) → ((k : ℕ) → k < length view → (slice_index view k == 10) ≡ true → ⊥) → list_all is_in_line (take (length view) view) ≡ true
 plain_all view none = plain_front view (length view) (omega arith) none
