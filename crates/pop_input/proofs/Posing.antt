@@ -74,11 +74,7 @@ tests_by some right king check = if not some then Some NoMen else (if not right 
     else (if not king then Some KingMissing else (if check then Some WaitingSideInCheck else None)))
 
 passed : (some right king check : Bool) → tests_by some right king check ≡ None → (king ≡ true) × (check ≡ false)
-passed false right king check h = cc
-passed true false king check h = cc
-passed true true false check h = cc
-passed true true true true h = cc
-passed true true true false h = (refl, refl)
+passed some right king check h = grind arith
 
 -- a problem whose words have no fault, nor their end
 pub sound_by : (state : State) (stipulation : Stipulation) (title author : List ℕ) → state.stipulation ≡ Some stipulation → is_stated state.stipulation ≡ true

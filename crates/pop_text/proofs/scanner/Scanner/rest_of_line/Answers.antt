@@ -1,5 +1,5 @@
-use Rattle.std.proofs.Common.{◌∙◌, ◌<◌, ◌-◌, sym, ap, arith, inl, inr, not, subst}
-use Rattle.pop_text.specs.Words.{limit, without_trailing}
+use Rattle.std.proofs.Common.{◌∙◌, sym, ap, arith, inl, inr, not, subst}
+use Rattle.pop_text.specs.Words.{without_trailing}
 use Rattle.pop_text.specs.ties.Reading.{Uses}
 use Rattle.pop_text.proofs.Lines.{kept_all, kept_of_line}
 use Rattle.pop_text.proofs.Left.{line_of, line_cut}
@@ -27,11 +27,9 @@ line-preserved g c =
 
 pub line-smaller : goal.line-smaller
 line-smaller g c =
-    let part = c.line_part-part.ensures in
     let at = rw c.in-Ok-Some.field-0-is at c.in-Ok-Some.ensures.at in
-    let some = part.some c.in-Ok-Some.byte at.0 at.1 (ap not (sym c.ends_line.ensures ∙ c.if-ends_line.false)) at.2 in
-    let fewer : limit - c.advance-in-Ok-Some-2.new.self.used < limit - c.line.self.used = grind arith in
-    fewer
+    let some = c.line_part-part.ensures.some c.in-Ok-Some.byte at.0 at.1 (ap not (sym c.ends_line.ensures ∙ c.if-ends_line.false)) at.2 in
+    omega (arith, some, c.line_part-part.ensures.room, c.advance-in-Ok-Some-2.ensures.used, c.peek.ensures.uses.used)
 
 pub returns-in-Ok-Some-clause-used : goal.returns-in-Ok-Some-clause-used
 returns-in-Ok-Some-clause-used g c =

@@ -13,12 +13,11 @@ advance-requires c =
 pub returns : goal.returns
 returns c =
     let gap = c.gap_front-gap.ensures in
-    let v = view_within c.view.ensures gap.first.within in record {
-      uses = λ had. record { bytes = _; all = subst (λ bytes. list_all is_gap bytes ≡ true) v.front gap.first.all; uses = c.advance.ensures.uses had };
-      end = c.advance.ensures.end;
-      waits = omega (arith, ap length c.advance.ensures.window, length-drop c.gap_front-gap.result.count c.args.self.now.window);
-      within = let room = v.room in omega (arith, room, c.advance.ensures.used);
-      some = λ b rest at is below.
-          let h = view_some c.view.ensures gap.first.within is_gap gap.some b rest at is below in
-          omega (arith, h, c.advance.ensures.used);
+    let v = view_within c.view.ensures gap.first.within in
+    let done = c.advance.ensures in record {
+      uses = λ had. record { bytes = _; all = subst (λ bytes. list_all is_gap bytes ≡ true) v.front gap.first.all; uses = done.uses had };
+      end = done.end;
+      waits = omega (arith, ap length done.window, length-drop c.gap_front-gap.result.count c.args.self.now.window);
+      within = omega (arith, v.room, done.used);
+      some = λ b rest at is below. omega (arith, view_some c.view.ensures gap.first.within is_gap gap.some b rest at is below, done.used);
     }
