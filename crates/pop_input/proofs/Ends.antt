@@ -1,5 +1,5 @@
 -- The item at the end of a block.
-use Rattle.std.proofs.Common.{◌≡◌, ℕ, List, [], ◌∷◌, ◌++◌, Option, None, Some, Bool, true, false, refl, sym, ◌∙◌, ap, subst}
+use Rattle.std.proofs.Common.{◌≡◌, ℕ, List, [], ◌∷◌, ◌++◌, Option, None, Some, Bool, true, false, refl, ◌∙◌, ap, subst, arith}
 use Rattle.std.proofs.lemmas.List.{append-nil}
 use Rattle.pop_text.specs.Words.{Input, Token as Part, Word, Tail, End as AtEnd, Long, Broken as Failing}
 use Rattle.pop_text.specs.ties.Reading.{Reading}
@@ -8,35 +8,27 @@ use Rattle.pop_text.specs.declared.read_fault.ReadFault.{ReadFault}
 use Rattle.pop_text.specs.declared.read_fault.ReadFault.TheVariants.{TooLong, InputTooLong as PastLimit, Device}
 use Rattle.pop_input.specs.Names.{command_of}
 use Rattle.pop_input.specs.Names.{or_else}
-use Rattle.pop_input.specs.Blocks.{has_begun, inside, block_fault, Entry, Faulty as FaultyEntry, Sound as SoundEntry, entry_of, problem_of, closed_entry, entries_by, entries_of, tail_fault, more_entries}
+use Rattle.pop_input.specs.Blocks.{has_begun, inside, block_fault, Entry, Faulty as FaultyEntry, entry_of, problem_of, closed_entry, entries_by, entries_of, tail_fault, more_entries}
 use Rattle.pop_input.specs.ties.Tokens.{CutsOff, TakesPart, TakesNothing}
-use Rattle.pop_input.specs.ties.Closings.{Closes, closing_fault, ended_by, ended_item, cut_fault, last_of}
+use Rattle.pop_input.specs.ties.Closings.{Closes, ReadsWord, closing_fault, ended_by, ended_item, cut_fault, last_of, told_of_cut}
 use Rattle.pop_input.specs.Ends.{end_fault_in, posed_of}
 use Rattle.pop_input.specs.ties.Standing.{Standing, entries_at, entries_left, Reads, NextItem, next_behind}
 use Rattle.pop_input.specs.declared.block.Block.{Block}
 use Rattle.pop_input.specs.declared.item.Item.{Item}
 use Rattle.pop_input.specs.declared.item.Fault.{Fault}
-use Rattle.pop_input.specs.declared.item.Item.TheVariants.{Sound as SoundItem, Faulty as FaultyItem, End as NoItem}
+use Rattle.pop_input.specs.declared.item.Item.TheVariants.{Faulty as FaultyItem}
 use Rattle.pop_input.specs.declared.item.Last.{Last}
 use Rattle.pop_input.specs.declared.item.Last.TheVariants.{Yes, No}
-use Rattle.pop_input.specs.declared.names.Command.TheVariants.{Next as NextProblem, Last as EndProblem, Begin, Enter}
+use Rattle.pop_input.specs.declared.names.Command.TheVariants.{Next as NextProblem, Last as EndProblem}
 use Rattle.pop_input.specs.declared.names.Command.{Command}
 use Rattle.pop_input.specs.declared.reader.Next.{Next}
 use Rattle.pop_input.specs.declared.reader.Next.TheVariants.{First, Later, Nothing}
 use Rattle.pop_input.proofs.Taking.{takes_then}
 use Rattle.pop_input.proofs.Blocks.{said, next_entries, last_entries, ended_entries}
-use Rattle.pop_input.proofs.Items.{BlockSoFar, Tells, or_first, ReadsWord, word_read, takes_more}
+use Rattle.pop_input.proofs.Items.{BlockSoFar, Tells, or_first, word_read, takes_more}
 use Rattle.pop_input.specs.declared.fault_kind.FaultKind.{FaultKind}
 use Rattle.pop_input.specs.declared.fault_kind.FaultKind.TheVariants.{InputTooLong, DeviceFailed}
 use Rattle.pop_input.specs.FaultKinds.{at_line, fault_at}
-
-long_tail : (begun : Bool) → tail_fault begun Long ≡ InputTooLong
-long_tail true = refl
-long_tail false = refl
-
-failing_tail : (begun : Bool) → tail_fault begun Failing ≡ DeviceFailed
-failing_tail true = refl
-failing_tail false = refl
 
 -- the block that is read first, or a later one
 abbrev pub block_of : Bool → Next
@@ -45,8 +37,7 @@ block_of false = Later
 
 entries_start : (first : Bool) (next : Next) (place : Reading) (rest : Input) → next ≡ block_of first
     → entries_at next place rest ≡ entries_of first (words_left None place rest)
-entries_start true next place rest is = rw is refl
-entries_start false next place rest is = rw is refl
+entries_start first next place rest is = grind arith
 
 module _ (first : Bool) (old new : Standing) (had left : Option (List ℕ)) (starts : old.next ≡ block_of first) where
   -- items of tokens that were taken
@@ -69,8 +60,7 @@ module _ (first : Bool) (old new : Standing) (had left : Option (List ℕ)) (sta
       (told : block.fault ≡ None → Tells first block full) where
     ending_by : (f : Option Fault) → block.fault ≡ f → or_else f (at_line line (end_fault_in block.draft))
         ≡ or_else f (at_line line (end_fault_in (said first full)))
-    ending_by None is = let k = told is in ap (λ s. at_line line (end_fault_in s)) k.draft
-    ending_by (Some f) is = refl
+    ending_by f is = grind (arith, told)
 
     ending_is : closing_fault block line ≡ or_else (block_fault first full) (at_line line (end_fault_in (said first full)))
     ending_is = ending_by block.fault refl ∙ ap (λ f. or_else f (at_line line (end_fault_in (said first full)))) fault
@@ -78,7 +68,7 @@ module _ (first : Bool) (old new : Standing) (had left : Option (List ℕ)) (sta
     closes_entry : (f : Option Fault) → closing_fault block line ≡ f
         → Reads old new had left (closed_entry (block_fault first full) line (inside first full) ∷ [])
         → Reads old new had left (entry_of f (problem_of (inside first full)) ∷ [])
-    closes_entry f is reads = subst (λ e. Reads old new had left (entry_of e (problem_of (inside first full)) ∷ [])) (sym ending_is ∙ is) reads
+    closes_entry f is reads = grind (arith, ending_is)
 
     problem_is : closing_fault block line ≡ None → posed_of block.draft block.title block.author ≡ problem_of (inside first full)
     problem_is none =
@@ -87,13 +77,10 @@ module _ (first : Bool) (old new : Standing) (had left : Option (List ℕ)) (sta
 
     closed_item : (item : Item) (last : Last) → Closes block line last item → new.next ≡ next_behind last
         → Reads old new had left (closed_entry (block_fault first full) line (inside first full) ∷ []) → NextItem old new had left item
-    closed_item (SoundItem problem answered) last c next reads =
-        (subst (λ p. Reads old new had left (SoundEntry p ∷ [])) (sym (c.1 ∙ problem_is c.0)) (closes_entry None c.0 reads), next ∙ ap next_behind (sym c.2))
-    closed_item (FaultyItem f answered) last c next reads = (closes_entry (Some f) c.0 reads, next ∙ ap next_behind (sym c.1))
-    closed_item NoItem last c next reads = absurd c
+    closed_item item last c next reads = grind (arith, problem_is, closes_entry)
 
   module _ (mid : Reading) (met : Option (List ℕ)) (block next : Block) (b : BlockSoFar first old.at mid had met block) (line : ℕ) (text : List ℕ)
-      (t : TakesPart mid new.at met left (Word line text)) (r : ReadsWord first old.at mid new.at had met left block next b line text) where
+      (t : TakesPart mid new.at met left (Word line text)) (r : ReadsWord block next line text) where
     abbrev full : List Part
     full = b.done ++ Word line text ∷ []
 
@@ -102,28 +89,20 @@ module _ (first : Bool) (old new : Standing) (had left : Option (List ℕ)) (sta
 
     closed_reads : (item : Item) (last : Last) → Closes next line last item → new.next ≡ next_behind last
         → Reads old new had left (closed_entry (block_fault first full) line (inside first full) ∷ []) → NextItem old new had left item
-    closed_reads item last c is reads = let w = word_read first old.at mid new.at had met left block next b line text r in
+    closed_reads item last c is reads = let w = word_read first old.at mid new.at had met left block next b line text r.fault (λ none. r) in
         closed_item next full line w.0 w.1 item last c is reads
 
     next_closes : (item : Item) → Closes next line No item → command_of text ≡ Some NextProblem → new.next ≡ Later → NextItem old new had left item
     next_closes item c is later = closed_reads item No c later (reads_by full taken _ (λ rest may.
-        next_entries first b.done line text b.plain (words_left None new.at rest) is
-        ∙ ap (λ n. closed_entry (block_fault first full) line (inside first full) ∷ entries_at n new.at rest) (sym later)))
+        grind (arith, next_entries first b.done line text b.plain (words_left None new.at rest) is, later)))
 
     last_closes : (item : Item) → Closes next line Yes item → command_of text ≡ Some EndProblem → new.next ≡ Nothing → NextItem old new had left item
     last_closes item c is over = closed_reads item Yes c over (reads_by full taken _ (λ rest may.
-        last_entries first b.done line text b.plain (words_left None new.at rest) is
-        ∙ ap (λ n. closed_entry (block_fault first full) line (inside first full) ∷ entries_at n new.at rest) (sym over)))
+        grind (arith, last_entries first b.done line text b.plain (words_left None new.at rest) is, over)))
 
     pub word_closes : (item : Item) (last : Last) (c : Option Command) → Closes next line last item → command_of text ≡ c → last_of c ≡ Some last
         → new.next ≡ next_behind last → NextItem old new had left item
-    word_closes item No (Some NextProblem) how is e behind = next_closes item how is behind
-    word_closes item Yes (Some EndProblem) how is e behind = last_closes item how is behind
-    word_closes item Yes (Some NextProblem) how is e behind = cc
-    word_closes item No (Some EndProblem) how is e behind = cc
-    word_closes item last (Some Begin) how is e behind = cc
-    word_closes item last (Some (Enter section)) how is e behind = cc
-    word_closes item last None how is e behind = cc
+    word_closes item last c how is e behind = grind (arith, next_closes, last_closes)
 
   -- Ends of the input.
 
@@ -136,22 +115,15 @@ module _ (first : Bool) (old new : Standing) (had left : Option (List ℕ)) (sta
     all_taken t = subst (λ d. Takes (among old.at) (among new.at) had left d) (append-nil b.done)
         (takes_then (among old.at) (among mid) (among new.at) had met left b.done [] b.takes t)
 
-    begun_is : block.fault ≡ None → block.begun ≡ has_begun first b.done
-    begun_is none = let k = b.told none in k.begun
-
     ended_by_fault : (f : Option Fault) (line : ℕ) → block.fault ≡ f → line ≡ new.at.line
         → entries_by f None first AtEnd new.at.line b.done ≡ FaultyEntry (ended_by f (fault_at (tail_fault block.begun AtEnd) line)) ∷ []
-    ended_by_fault (Some fault) line is here = refl
-    ended_by_fault None line is here = rw (begun_is is, here) refl
+    ended_by_fault f line is here = grind (arith, b.told)
 
     -- the input ends in a block
     pub input_ends : (line : ℕ) → TakesNothing mid new.at met left AtEnd line → new.next ≡ Nothing → NextItem old new had left (ended_item block line)
     input_ends line t over = (
       reads_by b.done (all_taken t.0) _ (λ rest may.
-          left_over AtEnd t.1 rest may
-          ∙ ap (λ f. entries_by f None first AtEnd new.at.line b.done) (sym b.fault)
-          ∙ ended_by_fault block.fault line refl t.2
-          ∙ ap (λ n. FaultyEntry (ended_by block.fault (fault_at (tail_fault block.begun AtEnd) line)) ∷ entries_at n new.at rest) (sym over)),
+          grind (arith, left_over AtEnd t.1 rest may, b.fault, ended_by_fault block.fault line refl t.2, over)),
       over,
     )
 
@@ -160,13 +132,11 @@ module _ (first : Bool) (old new : Standing) (had left : Option (List ℕ)) (sta
         → more_entries tail new.at.line ≡ entries_of false (no_words tail new.at.line) → new.next ≡ Later → NextItem old new had left (FaultyItem fault No)
     fault_then_cut fault tail is t over more later = (
       reads_by b.done (all_taken t) _ (λ rest may.
-          left_over tail over rest may
-          ∙ ap (λ f. entries_by f None first tail new.at.line b.done) (sym b.fault ∙ is)
-          ∙ ap (λ es. FaultyEntry fault ∷ es) (more ∙ ap (entries_of false) (sym (over rest may)) ∙ ap (λ n. entries_at n new.at rest) (sym later))),
+          grind (arith, left_over tail over rest may, b.fault, over rest may)),
       later,
     )
 
-    pub cut_with_fault : (fault : Fault) (cut : ReadFault) → block.fault ≡ Some fault → CutsOff mid new.at met left cut → new.next ≡ Later
+    cut_with_fault : (fault : Fault) (cut : ReadFault) → block.fault ≡ Some fault → CutsOff mid new.at met left cut → new.next ≡ Later
         → NextItem old new had left (FaultyItem fault No)
     cut_with_fault fault (TooLong line) is t later = absurd t
     cut_with_fault fault (PastLimit line) is t later = fault_then_cut fault Long is t.0 t.1 refl later
@@ -178,14 +148,17 @@ module _ (first : Bool) (old new : Standing) (had left : Option (List ℕ)) (sta
         → NextItem old new had left (FaultyItem (fault_at kind line) Yes)
     cut_alone kind line tail is t over here tails nothing = (
       reads_by b.done (all_taken t) _ (λ rest may.
-          left_over tail over rest may
-          ∙ ap (λ f. entries_by f None first tail new.at.line b.done) (sym b.fault ∙ is)
-          ∙ rw (tails (has_begun first b.done), here) (ap (λ n. FaultyEntry (fault_at kind new.at.line) ∷ entries_at n new.at rest) (sym nothing))),
+          grind (arith, left_over tail over rest may, b.fault, tails (has_begun first b.done))),
       nothing,
     )
 
-    pub cut_without_fault : (cut : ReadFault) → block.fault ≡ None → CutsOff mid new.at met left cut → new.next ≡ Nothing
+    cut_without_fault : (cut : ReadFault) → block.fault ≡ None → CutsOff mid new.at met left cut → new.next ≡ Nothing
         → NextItem old new had left (FaultyItem (cut_fault cut) Yes)
     cut_without_fault (TooLong line) is t nothing = absurd t
-    cut_without_fault (PastLimit line) is t nothing = cut_alone InputTooLong line Long is t.0 t.1 t.2 long_tail nothing
-    cut_without_fault (Device line) is t nothing = cut_alone DeviceFailed line Failing is t.0.0 t.0.1 t.0.2 failing_tail nothing
+    cut_without_fault (PastLimit line) is t nothing = cut_alone InputTooLong line Long is t.0 t.1 t.2 (λ begun. grind arith) nothing
+    cut_without_fault (Device line) is t nothing = cut_alone DeviceFailed line Failing is t.0.0 t.0.1 t.0.2 (λ begun. grind arith) nothing
+
+    pub cut_read : (f : Option Fault) (cut : ReadFault) → block.fault ≡ f → CutsOff mid new.at met left cut → new.next ≡ next_behind (told_of_cut f cut).1
+        → NextItem old new had left (FaultyItem (told_of_cut f cut).0 (told_of_cut f cut).1)
+    cut_read None cut is t behind = cut_without_fault cut is t behind
+    cut_read (Some fault) cut is t behind = cut_with_fault fault cut is t behind

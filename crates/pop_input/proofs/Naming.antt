@@ -1,5 +1,5 @@
 -- Names letter by letter.
-use Rattle.std.proofs.Common.{◌≡◌, ◌<◌, ◌≤◌, ℕ, ◌+◌, List, [], ◌∷◌, length, get_or, drop, map, true, false, refl, ◌∙◌, ap, arith}
+use Rattle.std.proofs.Common.{◌≡◌, ◌<◌, ◌≤◌, ℕ, ◌+◌, List, [], ◌∷◌, length, get_or, drop, map, true, false, refl, arith}
 use Rattle.std.specs.Prelude.{nat_eq, ◌&&◌}
 use Rattle.std.specs.Char.{to_ascii_lowercase}
 use Rattle.std.specs.List.{starts_with}
@@ -19,13 +19,11 @@ begins_step name word i in_name in_word = rw (drop_more name i 0 in_name, drop_m
 -- a letter that is the name's, or is not
 pub begins_more : (name word : List ℕ) (i : ℕ) → i < length name → i < length word → to_ascii_lowercase (get_or word i 0) ≡ get_or name i 0
     → starts_with nat_eq (drop i name) (small (drop i word)) ≡ starts_with nat_eq (drop (i + 1) name) (small (drop (i + 1) word))
-begins_more name word i in_name in_word same = begins_step name word i in_name in_word
-    ∙ ap (λ t. t && starts_with nat_eq (drop (i + 1) name) (small (drop (i + 1) word))) (eq-eqb (to_ascii_lowercase (get_or word i 0)) (get_or name i 0) same)
+begins_more name word i in_name in_word same = grind (arith, begins_step, eq-eqb)
 
 pub begins_stop : (name word : List ℕ) (i : ℕ) → i < length name → i < length word → (to_ascii_lowercase (get_or word i 0) ≡ get_or name i 0 → ⊥)
     → starts_with nat_eq (drop i name) (small (drop i word)) ≡ false
-begins_stop name word i in_name in_word other = begins_step name word i in_name in_word
-    ∙ ap (λ t. t && starts_with nat_eq (drop (i + 1) name) (small (drop (i + 1) word))) (ne_eqb (to_ascii_lowercase (get_or word i 0)) (get_or name i 0) other)
+begins_stop name word i in_name in_word other = grind (arith, begins_step, ne_eqb)
 
 begins_none : (name : List ℕ) → starts_with nat_eq name [] ≡ true
 begins_none [] = refl

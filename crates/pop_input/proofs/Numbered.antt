@@ -2,23 +2,23 @@
 use Rattle.std.proofs.Common.{ℕ, List, [], ◌∷◌, ◌++◌, Option, Bool, sym, subst}
 use Rattle.pop_text.specs.Words.{Word}
 use Rattle.pop_text.specs.ties.Reading.{Reading}
-use Rattle.pop_input.specs.ties.Closings.{Closes}
-use Rattle.pop_input.specs.ties.Standing.{Standing, IsNumbered}
+use Rattle.pop_input.specs.ties.Closings.{Closes, ReadsWord}
+use Rattle.pop_input.specs.ties.Standing.{IsNumbered}
 use Rattle.pop_input.specs.ties.Tokens.{TakesPart}
 use Rattle.pop_input.specs.declared.block.Block.{Block}
 use Rattle.pop_input.specs.declared.item.Item.{Item}
 use Rattle.pop_input.specs.declared.item.Last.{Last}
-use Rattle.pop_input.proofs.Items.{BlockSoFar, ReadsWord, word_read}
+use Rattle.pop_input.proofs.Items.{BlockSoFar, word_read}
 use Rattle.pop_input.proofs.Numbers.{SmallFault, block_small, closed_numbered}
 
 pub block_fault_small : (first : Bool) (old new : Reading) (had left : Option (List ℕ)) (block : Block) → BlockSoFar first old new had left block
     → SmallFault block.fault
 block_fault_small first old new had left block b = subst SmallFault (sym b.fault) (block_small first b.done)
 
-module _ (first : Bool) (old : Standing) (mid new : Reading) (had met left : Option (List ℕ)) (block next : Block)
-    (b : BlockSoFar first old.at mid had met block) where
+module _ (first : Bool) (old mid new : Reading) (had met left : Option (List ℕ)) (block next : Block)
+    (b : BlockSoFar first old mid had met block) where
   pub word_numbered : (line : ℕ) (text : List ℕ) → TakesPart mid new met left (Word line text)
-      → ReadsWord first old.at mid new had met left block next b line text → (item : Item) (last : Last) → Closes next line last item → IsNumbered new item
+      → ReadsWord block next line text → (item : Item) (last : Last) → Closes next line last item → IsNumbered new item
   word_numbered line text t r item last c =
-      let w = word_read first old.at mid new had met left block next b line text r in
+      let w = word_read first old mid new had met left block next b line text r.fault (λ none. r) in
       closed_numbered new next line last item c (subst SmallFault (sym w.0) (block_small first (b.done ++ Word line text ∷ [])))

@@ -1,5 +1,5 @@
 -- Squares and numbers, byte by byte.
-use Rattle.std.proofs.Common.{map, ◌≡◌, ◌≤◌, ◌<◌, ℕ, ◌+◌, ◌*◌, List, [], ◌∷◌, ◌++◌, length, drop, Option, Some, None, true, refl, sym, ap, arith, append_assoc, get_or}
+use Rattle.std.proofs.Common.{map, ◌≡◌, ◌≤◌, ◌<◌, ℕ, ◌+◌, ◌*◌, List, [], ◌∷◌, ◌++◌, length, drop, Option, Some, None, true, refl, arith, append_assoc, get_or}
 use Rattle.std.specs.List.{list_all}
 use Rattle.std.proofs.lemmas.List.{drop_more}
 use Rattle.std.proofs.Math.Seq.{drop-length}
@@ -17,8 +17,7 @@ front_none (Some squares) = refl
 
 pub front_more : (done : List ℕ) (square : ℕ) (squares : Option (List ℕ))
     → with_front done (before_squares (Some square) squares) ≡ with_front (done ++ square ∷ []) squares
-front_more done square None = refl
-front_more done square (Some squares) = ap (λ (l : List ℕ). Some l) (sym (append_assoc done (square ∷ []) squares))
+front_more done square squares = grind (arith, append_assoc)
 
 -- a word that isn't empty
 pub some_squares : (word : List ℕ) → 0 < length word → squares_of word ≡ squares_from word
@@ -35,16 +34,12 @@ pub record DigitsSoFar (text : List ℕ) (value : ℕ) : Type 0 where
 
 -- a last byte alone
 pub odd_end : (word : List ℕ) (at : ℕ) → at < length word → at + 1 ≡ length word → squares_from (drop at word) ≡ None
-odd_end word at lt e =
-    let past : drop (at + 1) word ≡ [] = rw e (drop-length word) in
-    rw (drop_more word at 0 lt, past) refl
+odd_end word at lt e = grind (arith, drop-length word, drop_more word at 0)
 
 -- two bytes that name a square
 pub pair_step : (word : List ℕ) (at square : ℕ) → at + 1 < length word → square_by (get_or word at 0) (get_or word (at + 1) 0) ≡ Some square
     → squares_from (drop at word) ≡ before_squares (Some square) (squares_from (drop (at + 2) word))
-pair_step word at square lt e =
-    let two : (at + 1) + 1 ≡ at + 2 = omega arith in
-    rw (drop_more word at 0 (omega arith), drop_more word (at + 1) 0 lt, e, two) refl
+pair_step word at square lt e = grind (arith, drop_more word at 0, drop_more word (at + 1) 0)
 
 -- a stipulation has at most six bytes
 pub long_stipulation : (word : List ℕ) → 6 < length word → None ≡ stipulation_in_small_letters (map to_ascii_lowercase word)

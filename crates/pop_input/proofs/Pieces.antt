@@ -4,11 +4,10 @@ use Rattle.std.specs.List.{onto_first, slice_split}
 use Rattle.std.proofs.lemmas.List.Splits.{length-slice_split}
 use Rattle.std.proofs.lemmas.List.Sums.{sum_by-append}
 use Rattle.pop_text.specs.ties.Left.{put_before}
-use Rattle.pop_text.specs.Words.{Input, Tail, Token, is_cut, is_line_end, lines_tokens, runs_of, tail_of, tokens_of, words_by, words_from}
+use Rattle.pop_text.specs.Words.{Input, Tail, Token, is_cut, is_line_end, lines_tokens, runs_of, tokens_of, words_by, words_from}
 
 onto_both : (x : ℕ) (ls ms : List (List ℕ)) → 0 < length ls → onto_first x (ls ++ ms) ≡ onto_first x ls ++ ms
-onto_both x [] ms some = absurd (omega (arith, some))
-onto_both x (l ∷ ls) ms some = refl
+onto_both x ls ms some = grind arith
 
 -- the lines of both sides of a line end
 split_both : (xs ys : List ℕ) → slice_split is_line_end (xs ++ 10 ∷ ys) ≡ slice_split is_line_end xs ++ slice_split is_line_end ys
@@ -73,9 +72,4 @@ words_behind n xs ys tail =
 pub words_from_behind : (room n : ℕ) (input : Input) (xs ys : List ℕ) → input.bytes ≡ xs ++ 10 ∷ ys → length xs < room
     → words_from None room n input
     ≡ put_before (tokens_at n xs) (words_from None (room - (length xs + 1)) (n + (count_by is_line_end xs + 1)) (record { bytes = ys; ending = input.ending }))
-words_from_behind room n input xs ys is less =
-    let tail = tail_of (drop (room - (length xs + 1)) ys) input.ending in
-    ap (λ bytes. words_by None n (take room bytes) (tail_of (drop room bytes) input.ending)) is
-    ∙ ap (λ bytes. words_by None n bytes (tail_of (drop room (xs ++ 10 ∷ ys)) input.ending)) (take_behind room xs ys less)
-    ∙ ap (λ bytes. words_by None n (xs ++ 10 ∷ take (room - (length xs + 1)) ys) (tail_of bytes input.ending)) (drop_behind room xs ys less)
-    ∙ words_behind n xs (take (room - (length xs + 1)) ys) tail
+words_from_behind room n input xs ys is less = grind (arith, take_behind, drop_behind, words_behind)

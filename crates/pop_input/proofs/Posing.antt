@@ -1,5 +1,5 @@
 -- The problem that words pose is sound where no test at their end fails.
-use Rattle.std.proofs.Common.{◌≡◌, ◌≤◌, ℕ, List, Option, Some, None, Bool, true, false, refl, sym, ◌∙◌, ap, arith, ◌⊎◌, inl, inr, not, ◌==◌, if◌then◌else◌}
+use Rattle.std.proofs.Common.{◌≡◌, ◌≤◌, ℕ, List, Option, Some, None, Bool, true, false, refl, arith, ◌⊎◌, not, ◌==◌, if◌then◌else◌}
 use Rattle.std.proofs.lemmas.Bool.{cases_Bool, cases_eq, and_parts, cond-true, cond-false}
 use Rattle.chess_core.specs.Castling.{has_unmoved, mark_unmoved, none_unmoved}
 use Rattle.chess_core.specs.Diagrams.{Setup, has_men, position_of}
@@ -20,32 +20,12 @@ use Rattle.pop_input.specs.declared.fault_kind.FaultKind.TheVariants.{NoMen, EnP
 
 module _ (men : List (Option Man)) (barred : Unmoved) where
   home_or : (s n : ℕ) (rest : Bool) → (if s == n then counts men barred n else rest) ≡ true → (is_home (man_on men s) s ≡ true) ⊎ (rest ≡ true)
-  home_or s n rest h = elim (cases_eq s n) [
-    | inl e ↦
-        let at : counts men barred s ≡ true = rw (e, ← cond-true (n == n) (counts men barred n) rest (grind arith)) (rw e at h) in
-        inl (and_parts (is_home (man_on men s) s) (not (has_unmoved barred s)) at).0
-    | inr ne ↦ inr (sym (cond-false (s == n) (counts men barred n) rest (grind arith)) ∙ h)
-  ]
+  home_or s n rest h = grind (arith, cases_eq, cond-true, and_parts, cond-false)
 
   -- the man that castles from it stands on each square that counts as unmoved
   pub homes : (s : ℕ) → has_unmoved (unmoved_of men barred) s ≡ true → is_home (man_on men s) s ≡ true
   unfolding has_unmoved mark_unmoved none_unmoved unmoved_of
-  homes s h = elim (home_or s 0 _ h) [
-    | inl home ↦ home
-    | inr h4 ↦ elim (home_or s 4 _ h4) [
-      | inl home ↦ home
-      | inr h7 ↦ elim (home_or s 7 _ h7) [
-        | inl home ↦ home
-        | inr h56 ↦ elim (home_or s 56 _ h56) [
-          | inl home ↦ home
-          | inr h60 ↦ elim (home_or s 60 _ h60) [
-            | inl home ↦ home
-            | inr h63 ↦ elim (home_or s 63 false h63) [ inl home ↦ home | inr bad ↦ cc ]
-          ]
-        ]
-      ]
-    ]
-  ]
+  homes s h = grind (arith, home_or)
 
 -- well formed but for the crossed square
 well_formed_by : (state : State) (form : Form) → ArePut state.men → is_crossed_right state.men (starts form) state.crossed ≡ true
@@ -62,10 +42,7 @@ well_formed_without state form setup is put none = rw is (well_formed_by state f
 -- where it isn't, the crossed square cannot be
 pub crossed_wrong : (state : State) (form : Form) → ArePut state.men → (IsWellFormed (position_of (setup_of state form)) → ⊥)
     → is_crossed_right state.men (starts form) state.crossed ≡ false
-crossed_wrong state form put ill = elim (cases_Bool (is_crossed_right state.men (starts form) state.crossed)) [
-  | inl right ↦ absurd (ill (well_formed_by state form put right))
-  | inr wrong ↦ wrong
-]
+crossed_wrong state form put ill = grind (arith, cases_Bool, well_formed_by)
 
 pub crossed_fine : (setup : Setup) → IsWellFormed (position_of setup) → is_crossed_right setup.men setup.turn setup.crossed ≡ true
 unfolding position_of
@@ -80,9 +57,7 @@ shown_men setup = refl
 module _ (state : State) (stipulation : Stipulation) (setup : Setup) (is : setup ≡ setup_of state stipulation.form) (put : ArePut state.men)
     (some : has_men setup.men ≡ true) where
   pub ill_fault : (IsWellFormed (position_of setup) → ⊥) → Some EnPassantImpossible ≡ setup_fault state stipulation setup
-  ill_fault ill =
-      let wrong : is_crossed_right setup.men setup.turn setup.crossed ≡ false = rw is (crossed_wrong state stipulation.form put (rw is at ill)) in
-      rw (some, wrong) refl
+  ill_fault ill = grind (arith, crossed_wrong)
 
   module _ (well : IsWellFormed (position_of setup)) where
     right : is_crossed_right setup.men setup.turn setup.crossed ≡ true
@@ -92,36 +67,18 @@ module _ (state : State) (stipulation : Stipulation) (setup : Setup) (is : setup
     pub position_told : (king check : Bool) → king ≡ has_king_to_mate stipulation setup.men
         → check ≡ in_check (rule_of state.condition) setup.men (other (starts stipulation.form))
         → position_fault king check ≡ setup_fault state stipulation setup
-    position_told king check k at =
-        let turn : setup.turn ≡ starts stipulation.form = ap (λ s. s.turn) is in
-        rw (some, right, ← k, turn, ← at) refl
+    position_told king check k at = grind (arith, right)
 
 abbrev tests_by : Bool → Bool → Bool → Bool → Option FaultKind
 tests_by some right king check = if not some then Some NoMen else (if not right then Some EnPassantImpossible
     else (if not king then Some KingMissing else (if check then Some WaitingSideInCheck else None)))
 
 passed : (some right king check : Bool) → tests_by some right king check ≡ None → (king ≡ true) × (check ≡ false)
-passed false right king check h = cc
-passed true false king check h = cc
-passed true true false check h = cc
-passed true true true true h = cc
-passed true true true false h = (refl, refl)
+passed some right king check h = grind arith
 
 -- a problem whose words have no fault, nor their end
 pub sound_by : (state : State) (stipulation : Stipulation) (title author : List ℕ) → state.stipulation ≡ Some stipulation → is_stated state.stipulation ≡ true
     → 1 ≤ state.limit → state.limit ≤ most_solutions
     → IsWellFormed (position_of (setup_of state stipulation.form)) → setup_fault state stipulation (setup_of state stipulation.form) ≡ None
     → IsSound (posed_by state stipulation title author)
-sound_by state stipulation title author is stated low high well none =
-    let setup = setup_of state stipulation.form in
-    let tests = passed (has_men setup.men) (is_crossed_right setup.men setup.turn setup.crossed) (has_king_to_mate stipulation setup.men)
-    (in_check (rule_of state.condition) setup.men (other setup.turn)) none in
-    record {
-      well_formed = well;
-      turn = refl;
-      range = rw is at stated;
-      some_solution = low;
-      limit = high;
-      king = tests.0;
-      quiet = tests.1;
-    }
+sound_by state stipulation title author is stated low high well none = grind (arith, passed)

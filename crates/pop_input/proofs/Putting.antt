@@ -60,11 +60,7 @@ more_put men man square put inside king = record {
 
 fits_by : (taken inside king second : Bool) → (if taken then Some SquareTaken
     else (if not inside then Some PawnOnOuterRank else fault_if (king && second) SecondKing)) ≡ None → (inside ≡ true) × (king ≡ true → second ≡ false)
-fits_by true inside king second h = cc
-fits_by false false king second h = cc
-fits_by false true false second h = (refl, λ is. cc)
-fits_by false true true true h = cc
-fits_by false true true false h = (refl, λ is. refl)
+fits_by taken inside king second h = grind arith
 
 -- a man that is put without a fault, or not put
 pub put_keeps : (r : Result (Unit {0}) Taken) (old new : Setup) (square : ℕ) (man : Man)

@@ -1,65 +1,54 @@
 -- Plain words behind a fault change nothing.
-use Rattle.std.proofs.Common.{◌≡◌, ℕ, List, [], ◌∷◌, ◌++◌, Option, None, Some, Bool, true, false, not, ◌<◌, refl, sym, ◌∙◌, ap, arith, subst, ◌⊎◌, inl, inr, append_assoc}
+use Rattle.std.proofs.Common.{◌≡◌, ℕ, List, [], ◌∷◌, ◌++◌, Option, None, Some, Bool, true, false, not, ◌<◌, refl, sym, ◌∙◌, arith, subst, ◌⊎◌, inl, inr, append_assoc}
 use Rattle.std.specs.List.{list_all}
 use Rattle.std.proofs.lemmas.List.{append-nil}
 use Rattle.std.proofs.lemmas.List.Folds.{list_all-append}
 use Rattle.std.specs.Prelude.{◌&&◌, codes, option_map}
-use Rattle.pop_text.specs.Words.{Token as Part, Word, TextLine, is_short_form}
+use Rattle.pop_text.specs.Words.{Token as Part, is_short_form}
 use Rattle.pop_text.specs.ties.Plain.{Skips, is_named, is_plain}
 use Rattle.pop_text.specs.ties.Reading.{Reading}
 use Rattle.pop_text.specs.ties.Left.{among}
 use Rattle.pop_text.proofs.Plain.{plain_no_closing}
-use Rattle.pop_input.specs.Names.{closes, command_of, or_else, section_of}
-use Rattle.pop_input.specs.Blocks.{block_fault, has_begun}
-use Rattle.pop_input.specs.WordFaults.{fault_of}
+use Rattle.pop_input.specs.Names.{closes, command_of}
+use Rattle.pop_input.specs.Blocks.{block_fault}
 use Rattle.pop_input.specs.declared.block.Block.{Block}
 use Rattle.pop_input.specs.declared.item.Fault.{Fault}
 use Rattle.pop_input.specs.declared.names.Section.{Section}
 use Rattle.pop_input.specs.declared.names.Command.TheVariants.{Enter}
-use Rattle.pop_input.proofs.Blocks.{block_more, is_open, said}
+use Rattle.pop_input.proofs.Blocks.{block_more, is_open}
 use Rattle.pop_input.proofs.Items.{BlockSoFar}
 use Rattle.pop_input.proofs.Taking.{takes_then}
-use Rattle.pop_input.specs.FaultKinds.{at_line}
 
 enter_open : (section : Option Section) → closes (option_map Enter section) ≡ false
-enter_open None = refl
-enter_open (Some section) = refl
+enter_open section = grind arith
 
 no_closing : (text : List ℕ) (begins : Bool) → is_short_form (codes "beginproblem") text ≡ begins → is_named text ≡ false → closes (command_of text) ≡ false
 unfolding command_of
-no_closing text true is plain = rw is refl
-no_closing text false is plain = let p = plain_no_closing text plain in rw (is, p.0, p.1) (enter_open (section_of text))
+no_closing text begins is plain = grind (arith, plain_no_closing, enter_open)
 
 not_true : (b : Bool) → not b ≡ true → b ≡ false
-not_true false h = refl
-not_true true h = cc
+not_true b h = grind arith
 
 -- a plain word closes no block
 plain_open : (token : Part) → is_plain token ≡ true → is_open token ≡ true
-plain_open (TextLine line keyword text) h = refl
-plain_open (Word line text) h = ap not (no_closing text (is_short_form (codes "beginproblem") text) refl (not_true (is_named text) h))
+plain_open token h = grind (arith, no_closing, not_true)
 
 and_parts : (p q : Bool) → (p && q) ≡ true → (p ≡ true) × (q ≡ true)
-and_parts true q h = (refl, h)
-and_parts false q h = cc
+and_parts p q h = grind arith
 
 plain_parts : (token : Part) (tokens : List Part) → list_all is_plain (token ∷ tokens) ≡ true → (is_plain token ≡ true) × (list_all is_plain tokens ≡ true)
-plain_parts token tokens h = and_parts (is_plain token) (list_all is_plain tokens) h
+plain_parts token tokens h = grind arith
 
 plain_all : (tokens : List Part) → list_all is_plain tokens ≡ true → list_all is_open tokens ≡ true
 plain_all [] h = refl
-plain_all (token ∷ tokens) h = let p = plain_parts token tokens h in rw (plain_open token p.0, plain_all tokens p.1) refl
+plain_all (token ∷ tokens) h = grind (arith, plain_open, plain_all tokens)
 
 -- the first fault stays
 fault_stays : (first : Bool) (fault : Fault) (done tokens : List Part) → list_all is_plain tokens ≡ true → block_fault first done ≡ Some fault
     → block_fault first (done ++ tokens) ≡ Some fault
-fault_stays first fault done [] h is = ap (block_fault first) (append-nil done) ∙ is
-fault_stays first fault done (TextLine line keyword text ∷ tokens) h is = let bad = (plain_parts (TextLine line keyword text) tokens h).0 in cc
-fault_stays first fault done (Word line text ∷ tokens) h is =
-    let p = plain_parts (Word line text) tokens h in
-    ap (block_fault first) (sym (append_assoc done (Word line text ∷ []) tokens))
-    ∙ fault_stays first fault (done ++ Word line text ∷ []) tokens p.1
-    (block_more first done line text ∙ ap (λ f. or_else f (at_line line (fault_of (has_begun first done) (said first done) text))) is)
+fault_stays first fault done [] h is = grind (arith, append-nil {A = Part})
+fault_stays first fault done (token ∷ tokens) h is =
+    grind (arith, append_assoc done (token ∷ []) tokens, block_more, fault_stays first fault (done ++ token ∷ []) tokens)
 
 module _ (first : Bool) (old mid new : Reading) (had left : Option (List ℕ)) (block : Block) (b : BlockSoFar first old mid had left block)
     (s : Skips mid new) where

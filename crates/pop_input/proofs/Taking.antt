@@ -1,22 +1,16 @@
 -- Calls that take tokens, one after another.
-use Rattle.std.proofs.Common.{◌≡◌, ◌≤◌, ℕ, List, [], ◌∷◌, ◌++◌, Option, None, Some, true, refl, ◌∙◌, ap, arith, append_assoc, length-append, subst, Ok, Err}
-use Rattle.pop_text.specs.Bytes.{Consumes}
+use Rattle.std.proofs.Common.{◌≡◌, ◌≤◌, ℕ, List, [], ◌∷◌, ◌++◌, Option, Some, true, refl, ◌∙◌, ap, arith, append_assoc, length-append, subst, Ok, Err}
 use Rattle.pop_text.specs.Words.{Input, Words, Token as Part, TextLine, is_text_word, limit}
 use Rattle.pop_text.specs.ties.Reading.{Reading}
 use Rattle.pop_text.specs.ties.Left.{after, words_left, put_before, Spot, Takes, among, behind_word, TakesWord, GoesOn, RestOfLine, TakesNone}
 use Rattle.pop_text.specs.declared.read_fault.ReadFault.{ReadFault}
 use Rattle.pop_text.specs.declared.read_fault.ReadFault.TheVariants.{TooLong, InputTooLong, Device}
 use Rattle.pop_text.specs.declared.word.Word.{Word as Room}
+use Rattle.pop_text.proofs.Using.{consumes_then}
 use Rattle.pop_input.specs.Names.{text_word_of}
 use Rattle.pop_input.specs.ties.Tokens.{NextToken}
 use Rattle.pop_input.specs.declared.names.TextWord.{TextWord}
 use Rattle.pop_input.specs.declared.token.Token.TheVariants.{Line, Cut}
-
-pub consumes_then : (a b c : Option (List ℕ)) (xs ys : List ℕ) → Consumes a b xs → Consumes b c ys → Consumes a c (xs ++ ys)
-consumes_then None b c xs ys p q = tt
-consumes_then (Some a) None c xs ys p q = absurd p
-consumes_then (Some a) (Some b) None xs ys p q = absurd q
-consumes_then (Some a) (Some b) (Some c) xs ys p q = rw (p, q, append_assoc) refl
 
 pub after_both : (xs ys : List ℕ) (rest : Input) → after (xs ++ ys) rest ≡ after xs (after ys rest)
 after_both xs ys rest = rw (append_assoc xs ys rest.bytes) refl
@@ -82,6 +76,4 @@ module _ (old mid new : Reading) (had met left : Option (List ℕ)) (room : Room
 
 -- where no token is taken, the place stays within the limit
 pub none_within : (old : Spot) (new : Reading) (had left : Option (List ℕ)) (fault : ReadFault) → TakesNone old new had left fault → new.used ≤ limit
-none_within old new had left (TooLong line) none = absurd none
-none_within old new had left (InputTooLong line) none = none.3.1
-none_within old new had left (Device line) none = none.3.1
+none_within old new had left fault none = grind arith

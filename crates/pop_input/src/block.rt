@@ -2,11 +2,9 @@
 ghost use Rattle.std.specs.Prelude.{◌≡◌, ℕ, List, [], None, Some, not, true};
 ghost use Rattle.pop_input.specs.Names.{or_else};
 ghost use Rattle.pop_input.specs.FaultKinds.{at_line, fault_at};
-ghost use Rattle.pop_input.specs.ties.Closings.{Closes, ended_item, noted, said_after};
-ghost use Rattle.pop_input.specs.State.{state_of};
+ghost use Rattle.pop_input.specs.ties.Closings.{Closes, IsNew, ReadsWord, TakesLine, ended_item, said_after};
 ghost use Rattle.pop_input.specs.WordFaults.{fault_of};
 ghost use Rattle.pop_input.specs.declared.fault_kind.FaultKind.TheVariants.{WordTooLong};
-ghost use Rattle.pop_input.specs.declared.names.TextWord.TheVariants.{Title, Author};
 
 use crate::draft::Draft;
 use crate::fault_kind::FaultKind;
@@ -33,11 +31,7 @@ pub struct Block {
 impl Block {
     /// Nothing is read yet. In the first block the problem begins with BeginProblem.
     pub(crate) fn new(first: bool) -> Block
-        ensures fault { result.fault ≡ None }
-        ensures begun { result.begun ≡ not first }
-        ensures draft { result.draft ≡ state_of [] }
-        ensures title { result.title ≡ [] }
-        ensures author { result.author ≡ [] }
+        ensures { IsNew first result }
     {
         Block {
             fault: None,
@@ -50,13 +44,7 @@ impl Block {
 
     /// Reads a word that stands in this line, unless a fault has been met.
     pub(crate) fn read(&mut self, word: &ShortWord<'_>, line: u64)
-        ensures fault { self.new.fault ≡ or_else self.old.fault
-            (at_line line (fault_of self.old.begun self.old.draft word.now)) }
-        ensures begun { self.new.fault ≡ None → self.new.begun ≡ true }
-        ensures draft { self.new.fault ≡ None
-            → self.new.draft ≡ said_after self.old.begun self.old.draft word.now }
-        ensures title { self.new.title ≡ self.old.title }
-        ensures author { self.new.author ≡ self.old.author }
+        ensures { ReadsWord self.old self.new line word.now }
     {
         if self.fault.is_none() {
             if let Some(kind) = self.take(word) {
@@ -100,13 +88,7 @@ impl Block {
 
     /// Takes a text line, which has no effect before the first problem.
     pub(crate) fn note(&mut self, keyword: TextWord, text: &Text)
-        ensures fault { self.new.fault ≡ self.old.fault }
-        ensures begun { self.new.begun ≡ self.old.begun }
-        ensures draft { self.new.draft ≡ self.old.draft }
-        ensures title { self.new.title ≡ noted self.old.begun Title self.old.title keyword
-            text.now }
-        ensures author { self.new.author
-            ≡ noted self.old.begun Author self.old.author keyword text.now }
+        ensures { TakesLine self.old self.new keyword text.now }
     {
         if self.begun {
             match keyword {

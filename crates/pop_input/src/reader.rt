@@ -7,7 +7,8 @@ ghost use Rattle.pop_text.specs.ties.Plain.{Skips};
 ghost use Rattle.pop_text.specs.declared.scanner.End.{End};
 ghost use Rattle.pop_input.specs.declared.reader.Next.{Next};
 ghost use Rattle.pop_input.specs.ties.Standing.{IsNumbered, NextItem, is_item, next_behind as behind, start, work_left};
-ghost use Rattle.pop_input.specs.ties.Closings.{cut_fault, last_of};
+ghost use Rattle.pop_input.specs.ties.Closings.{ReadsWord, cut_fault, last_of, told_of_cut};
+ghost use Rattle.pop_input.specs.Names.{command_of};
 
 use crate::block::Block;
 use crate::fault_kind::FaultKind;
@@ -100,35 +101,35 @@ impl Reader {
             match next_token(&mut self.scanner, source, &mut word, &mut text) {
                 Token::Line(keyword) => block.note(keyword, &text),
                 Token::TooLong(line) => block.read_long(line),
-                Token::Word => {
-                    let said = ShortWord::of(&word);
-                    block.read(&said, word.line);
-                    match closing_of(said.command()) {
-                        Some(last) => {
-                            self.next_block = next_behind(last);
-                            return block.closed(word.line, last);
-                        }
-                        None => skip_on(&mut self.scanner, block.fault),
+                Token::Word => match read_word(&mut block, &word) {
+                    Some(last) => {
+                        self.next_block = next_behind(last);
+                        return block.closed(word.line, last);
                     }
-                }
+                    None => skip_on(&mut self.scanner, block.fault),
+                },
                 Token::Ended(line) => {
                     self.next_block = Next::Nothing;
                     return block.ended(line);
                 }
-                // After a fault the cut is an item of its own, which the next call answers.
-                Token::Cut(cut) => match block.fault {
-                    Some(fault) => {
-                        self.next_block = Next::Later;
-                        return Item::Faulty(fault, Last::No);
-                    }
-                    None => {
-                        self.next_block = Next::Nothing;
-                        return Item::Faulty(fault_of_cut(cut), Last::Yes);
-                    }
-                },
+                Token::Cut(cut) => {
+                    let (fault, last) = told_of_cut(block.fault, cut);
+                    self.next_block = next_behind(last);
+                    return Item::Faulty(fault, last);
+                }
             }
         }
     }
+}
+
+// Reads a word in the block, and says whether it closes it: with the last item or not.
+fn read_word(block: &mut Block, word: &Word) -> Option<Last>
+    ensures read { ReadsWord block.old block.new word.now.line word.now.bytes.items }
+    ensures closes { result ≡ last_of (command_of word.now.bytes.items) }
+{
+    let said = ShortWord::of(word);
+    block.read(&said, word.line);
+    closing_of(said.command())
 }
 
 // After a fault, uses words that say nothing.
@@ -159,6 +160,16 @@ fn next_behind(last: Last) -> Next
     match last {
         Last::Yes => Next::Nothing,
         Last::No => Next::Later,
+    }
+}
+
+// What is told where the input is cut. After a fault the cut is an item of its own, which the next call answers.
+fn told_of_cut(fault: Option<Fault>, cut: ReadFault) -> (Fault, Last)
+    ensures { result ≡ told_of_cut fault cut }
+{
+    match fault {
+        Some(fault) => (fault, Last::No),
+        None => (fault_of_cut(cut), Last::Yes),
     }
 }
 

@@ -1,8 +1,8 @@
 //! Words and text lines of the source.
-ghost use Rattle.std.specs.Prelude.{◌≡◌, ◌<◌, ◌≤◌, ◌⊎◌, length};
+ghost use Rattle.std.specs.Prelude.{◌≡◌, ◌<◌, ◌≤◌, length};
 ghost use Rattle.pop_text.specs.Words.{limit};
 ghost use Rattle.pop_text.specs.Bytes.{greatest};
-ghost use Rattle.pop_text.specs.ties.Reading.{IsSeen, failures_after};
+ghost use Rattle.pop_text.specs.ties.Reading.{Asks};
 ghost use Rattle.pop_text.specs.declared.scanner.End.{End};
 ghost use Rattle.pop_input.specs.ties.Tokens.{NextToken};
 
@@ -40,11 +40,8 @@ pub(crate) fn next_token<S: Source>(
         (S.remaining source.new) word.new text.new result }
     ensures within { scanner.new.used ≤ limit }
     ensures waits { length scanner.new.window ≤ 4096 }
-    ensures seen { IsSeen scanner.old.end (S.remaining source.old)
-        → IsSeen scanner.new.end (S.remaining source.new) }
-    ensures ends { scanner.old.end ≡ End.Open ⊎ scanner.new.end ≡ scanner.old.end }
-    ensures counted { S.failures source.new
-        ≡ failures_after scanner.old.end scanner.new.end (S.failures source.old) }
+    ensures asks { Asks scanner.old.end scanner.new.end (S.remaining source.old)
+        (S.remaining source.new) (S.failures source.old) (S.failures source.new) }
 {
     match scanner.read_word(source, word) {
         Ok(Found::Nothing) => Token::Ended(scanner.line()),

@@ -1,5 +1,5 @@
 -- A text over and over.
-use Rattle.std.proofs.Common.{◌≡◌, ◌≤◌, ◌<◌, inl, inr, ℕ, zero, suc, ◌-◌, List, [], ◌∷◌, ◌++◌, length, take, drop, refl, sym, ◌∙◌, ap, arith}
+use Rattle.std.proofs.Common.{◌≡◌, ◌≤◌, ◌<◌, inl, inr, ℕ, zero, suc, ◌-◌, List, [], ◌∷◌, ◌++◌, length, take, drop, refl, ap, arith}
 use Rattle.std.proofs.lemmas.Bool.{cases_lt}
 use Rattle.std.proofs.lemmas.List.{length-take-le}
 use Rattle.std.proofs.Math.Seq.{take-append_seam}
@@ -7,16 +7,13 @@ use Rattle.pop_text.specs.ties.Trials.{cycled}
 
 -- the first bytes of the rest come first
 pub cycled_front : (text rest : List ℕ) (n k : ℕ) → k ≤ n → k ≤ length rest → cycled text rest n ≡ take k rest ++ cycled text (drop k rest) (n - k)
-cycled_front text rest n zero some few = let all : n - 0 ≡ n = omega arith in rw all refl
-cycled_front text rest zero (suc k) some few = absurd (omega arith)
+cycled_front text rest n zero some few = grind arith
+cycled_front text rest zero (suc k) some few = grind arith
 cycled_front text [] (suc n) (suc k) some few = absurd (omega arith)
-cycled_front text (b ∷ rest) (suc n) (suc k) some few =
-    let less : suc n - suc k ≡ n - k = omega arith in
-    rw less (ap (λ bytes. b ∷ bytes) (cycled_front text rest n k (omega arith) (omega arith)))
+cycled_front text (b ∷ rest) (suc n) (suc k) some few = grind (arith, cycled_front text rest n k)
 
 cycled_none : (n : ℕ) → ◌≡◌ {A = List ℕ} (cycled [] [] n) []
-cycled_none zero = refl
-cycled_none (suc n) = refl
+cycled_none n = grind arith
 
 length_zero : (rest : List ℕ) → length rest ≡ 0 → rest ≡ []
 length_zero [] h = refl
@@ -36,9 +33,7 @@ module _ (text rest back : List ℕ) (left count : ℕ) (behind : back ≡ drop 
   pub gives : (given after : List ℕ) → count ≤ left → count ≤ length rest → given ≡ take count rest
       → cycled text rest left ≡ take count (given ++ after) ++ cycled text back (left - count)
   gives given after some few is =
-      let size : length given ≡ count = ap length is ∙ length-take-le count rest few in
-      let front : take count (given ++ after) ≡ given = ap (λ n. take n (given ++ after)) (sym size) ∙ take-append_seam given after in
-      rw (front, is, behind) (cycled_front text rest left count some few)
+      grind (arith, length-take-le count rest few, take-append_seam given after, cycled_front text rest left count some few)
 
   -- no byte, where there is room, only at the end
   pub gives_none : (room : ℕ) → (0 < length rest → 0 < room → 0 < left → 0 < count) → (length rest ≡ 0 → text ≡ []) → count ≡ 0 → 0 < room
@@ -48,8 +43,5 @@ module _ (text rest back : List ℕ) (left count : ℕ) (behind : back ≡ drop 
       | inl still ↦ let bad = some more wide still in absurd (omega (arith, bad, nothing))
       | inr over ↦ let done : left - count ≡ 0 = omega (arith, over) in rw done refl
     ]
-    | inr short ↦
-        let empty : length rest ≡ 0 = omega (arith, short) in
-        let gone : back ≡ [] = behind ∙ ap (λ n. drop n rest) nothing ∙ length_zero rest empty in
-        rw (gone, none empty) (cycled_none (left - count))
+    | inr short ↦ grind (arith, length_zero rest, none, cycled_none (left - count))
   ]

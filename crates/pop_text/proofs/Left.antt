@@ -1,8 +1,7 @@
 -- What used bytes take of the words still to come.
-use Rattle.std.proofs.Common.{◌≡◌, ◌<◌, ◌≤◌, ℕ, ◌+◌, ◌-◌, suc, zero, List, [], ◌∷◌, ◌++◌, length, length-append, take, drop, Option, None, Some, Result, Bool, true, false, refl, sym, ◌∙◌, ap, arith, append_assoc, ◌⊎◌, inl, inr, count_by, subst, cond, Err, Ok}
+use Rattle.std.proofs.Common.{◌≡◌, ◌<◌, ◌≤◌, ℕ, ◌+◌, ◌-◌, List, [], ◌∷◌, ◌++◌, length, length-append, take, drop, Option, None, Some, Result, Bool, true, false, refl, ◌∙◌, ap, arith, append_assoc, inl, inr, count_by, cond, Err, Ok}
 use Rattle.std.specs.List.{list_all, starts_with}
-use Rattle.std.specs.Prelude.{nat_eq, nat_le, ◌&&◌, map, codes}
-use Rattle.std.specs.Char.{to_ascii_lowercase}
+use Rattle.std.specs.Prelude.{nat_eq, ◌&&◌}
 use Rattle.std.proofs.Math.Seq.{take-append-add, drop-append-add, take-nil, drop-nil}
 use Rattle.std.proofs.lemmas.List.{append-nil, length-map}
 use Rattle.std.proofs.lemmas.List.Sums.{sum_by-append}
@@ -12,7 +11,7 @@ use Rattle.pop_text.specs.ties.Reading.{Reading, Uses, UsesAll}
 use Rattle.pop_text.specs.ties.Runs.{Peeks, Stands, IsRunOver, UsesRun, UsesWord, UsesWhole, UsesLine}
 use Rattle.pop_text.specs.ties.Left.{after, MayFollow, words_left, Takes, among, behind_word, IsOver, TakesWord, TakesNone, GoesOn, NextWord, RestOfLine}
 use Rattle.pop_text.specs.declared.scanner.End.{End}
-use Rattle.pop_text.specs.declared.scanner.End.TheVariants.{Open, Ended, Broken}
+use Rattle.pop_text.specs.declared.scanner.End.TheVariants.{Ended, Broken}
 use Rattle.pop_text.specs.declared.read_fault.ReadFault.{ReadFault}
 use Rattle.pop_text.specs.declared.read_fault.ReadFault.TheVariants.{TooLong, InputTooLong, Device}
 use Rattle.pop_text.specs.declared.text.Text.{Text}
@@ -21,8 +20,7 @@ use Rattle.pop_text.specs.declared.word.Word.{Word as Read}
 -- A word too long is no text word.
 
 pub and_false : (x : Bool) → (x && false) ≡ false
-and_false true = refl
-and_false false = refl
+and_false x = grind arith
 
 pub longer : (name word : List ℕ) → length name < length word → starts_with nat_eq name word ≡ false
 longer [] [] less = absurd (omega arith)
@@ -32,18 +30,10 @@ longer (a ∷ name) (b ∷ word) less =
     let rest : starts_with nat_eq name word ≡ false = longer name word (omega arith) in ap (λ t. nat_eq b a && t) rest ∙ and_false (nat_eq b a)
 
 pub no_short_form : (name word : List ℕ) → length name < length word → is_short_form name word ≡ false
-no_short_form name word less =
-    let small : List ℕ = map to_ascii_lowercase word in
-    ap (λ t. nat_le 3 (length small) && t) (longer name small (omega (arith, length-map word to_ascii_lowercase))) ∙ and_false (nat_le 3 (length small))
+no_short_form name word less = grind (arith, longer, length-map, and_false)
 
 long_no_text : (word : List ℕ) → 160 < length word → is_text_word word ≡ false
-long_no_text word long =
-    rw (
-      no_short_form (codes "title") word (omega arith),
-      no_short_form (codes "author") word (omega arith),
-      no_short_form (codes "origin") word (omega arith),
-      no_short_form (codes "remark") word (omega arith),
-    ) refl
+long_no_text word long = grind (arith, no_short_form)
 
 -- Views.
 
@@ -58,10 +48,6 @@ views : (room more : ℕ) (used bytes all : List ℕ) → room ≡ length used +
     → (take room all ≡ used ++ take more bytes) × (drop room all ≡ drop more bytes)
 views room more used bytes all e f = rw (e, f) (take-append-add used bytes more, drop-append-add used bytes more)
 
-still_follows : (a b : End) (taken : List ℕ) (rest : Input) → a ≡ Open ⊎ ((taken ≡ []) × (b ≡ a)) → MayFollow b rest → MayFollow a (after taken rest)
-still_follows a b taken rest (inl opened) may = rw opened tt
-still_follows a b taken rest (inr same) may = rw same.0 (subst (λ e. MayFollow e rest) same.1 may)
-
 same_words : (ts us : List Token) (tail : Tail) (l m : ℕ) → ts ≡ us → l ≡ m
     → ◌≡◌ {A = Words} (record { tokens = ts; tail = tail; tail_line = l }) (record { tokens = us; tail = tail; tail_line = m })
 same_words ts us tail l m e f = rw (e, f) refl
@@ -75,10 +61,13 @@ module _ {old new : Reading} {had left : Option (List ℕ)} {used : List ℕ} (u
   left_is : (rest : Input) → words_left b old (after u.taken rest) ≡ words_by b old.line (used ++ view_at new rest) (tail_at new rest)
   left_is rest =
       let room : limit - old.used ≡ length used + (limit - new.used) = omega (arith, u.used, within) in
-      let whole : old.window ++ (u.taken ++ rest.bytes) ≡ used ++ (new.window ++ rest.bytes) =
-      sym (append_assoc old.window u.taken rest.bytes) ∙ ap (λ t. t ++ rest.bytes) u.unread ∙ append_assoc used new.window rest.bytes in
-      let v = views (limit - old.used) (limit - new.used) used (new.window ++ rest.bytes) (old.window ++ (u.taken ++ rest.bytes)) room whole in
-      rw (v.0, v.1) refl
+      grind (
+        arith,
+        u.unread,
+        append_assoc old.window u.taken rest.bytes,
+        append_assoc used new.window rest.bytes,
+        views (limit - old.used) (limit - new.used) used (new.window ++ rest.bytes) (old.window ++ (u.taken ++ rest.bytes)) room,
+      )
 
   -- they take the tokens that they say, whatever stands behind them
   pub takes : (tokens : List Token)
@@ -88,7 +77,7 @@ module _ {old new : Reading} {had left : Option (List ℕ)} {used : List ℕ} (u
   takes tokens say = record {
     bytes = u.taken;
     taken = u.consumed;
-    follows = λ rest may. still_follows old.end new.end u.taken rest u.still may;
+    follows = λ rest may. grind (arith, u.still);
     begin = λ rest may. left_is rest ∙ same_words _ _ (tail_at new rest) _ _ (say rest may)
         (omega (arith, u.line, count_then old.line used (view_at new rest)));
     amount = omega (arith, u.used, ap length u.unread, length-append old.window u.taken, length-append used new.window);
@@ -102,9 +91,7 @@ Stops place tail = (rest : Input) → MayFollow place.end rest → (view_at plac
 
 stops_by : (place : Reading) (end : End) (ending : Ending) → place.window ≡ [] → place.end ≡ end
     → ((rest : Input) → MayFollow end rest → rest ≡ record { bytes = []; ending = ending }) → Stops place (tail_of [] ending)
-stops_by place end ending empty is only rest may =
-    let r = only rest (subst (λ e. MayFollow e rest) is may) in
-    rw (empty, r, take-nil {A = ℕ} (limit - place.used), drop-nil {A = ℕ} (limit - place.used)) (refl, refl)
+stops_by place end ending empty is only rest may = grind (arith, take-nil, drop-nil)
 
 full_view : (n : ℕ) (window : List ℕ) (rest : Input) → n ≡ 0 → 0 < length window
     → (take n (window ++ rest.bytes) ≡ []) × (tail_of (drop n (window ++ rest.bytes)) rest.ending ≡ Long)
@@ -124,27 +111,16 @@ stops_at_fault (TooLong line) place at = absurd at
 stops_at_fault (InputTooLong line) place at = λ rest may. full_view (limit - place.used) place.window rest (omega (arith, at.1)) at.0
 stops_at_fault (Device line) place at = stops_by place Broken Failed at.0 at.1 (λ rest may. may)
 
-cut_by_fault : (fault : ReadFault) → is_cut (fault_tail fault) ≡ true
-cut_by_fault (TooLong line) = refl
-cut_by_fault (InputTooLong line) = refl
-cut_by_fault (Device line) = refl
-
 -- no word is left there
 over : (place : Reading) (tail : Tail) → Stops place tail → IsOver place tail
 over place tail stops rest may = let v = stops rest may in rw (v.0, v.1) (same_words [] [] tail _ _ refl (omega arith))
 
-more_view : (n b : ℕ) (window more : List ℕ) (rest : Input) → 0 < n → window ≡ b ∷ more → take n (window ++ rest.bytes) ≡ b ∷ take (n - 1) (more ++ rest.bytes)
-more_view zero b window more rest some w = absurd (omega arith)
-more_view (suc n) b window more rest some w = let e : suc n - 1 ≡ n = omega arith in rw (w, e) refl
-
 -- the view in which a run is over
 run_ends : (new : Reading) (rest : Input) → MayFollow new.end rest → IsRunOver new → RunEnds (is_cut (tail_at new rest)) (view_at new rest)
-run_ends new rest may (inl here) = rw (more_view (limit - new.used) here.0 new.window here.1 rest (omega (arith, here.4)) here.2) (with_gap here.3)
-run_ends new rest may (inr ended) = let v = stops_at_end new ended rest may in rw (v.0, v.1) with_view
+run_ends new rest may h = grind (arith, with_gap, stops_at_end, with_view)
 
 run_within : (new : Reading) → IsRunOver new → new.used ≤ limit
-run_within new (inl here) = omega (arith, here.4)
-run_within new (inr ended) = ended.2
+run_within new h = grind arith
 
 -- Words.
 
@@ -153,32 +129,21 @@ pub run_said : (cut : Bool) (line : ℕ) (gap run view : List ℕ) → list_all 
     → tokens_from None cut line ((gap ++ run) ++ view) ≡ run_tokens (is_text_word run) cut (line + count_by is_line_end gap) run view
 run_said cut line gap [] view blank solid some ends = absurd (omega arith)
 run_said cut line gap (b ∷ run) view blank solid some ends =
-    ap (tokens_from None cut line) (append_assoc gap (b ∷ run) view) ∙ skip_gap cut line gap ((b ∷ run) ++ view) blank
-    ∙ take_run cut (line + count_by is_line_end gap) b run view solid ends
+    grind (arith, append_assoc gap (b ∷ run) view, skip_gap cut line gap ((b ∷ run) ++ view), take_run cut (line + count_by is_line_end gap) b run view solid ends)
 
 within_fault : (fault : ReadFault) (place : Reading) → Peeks place (Err fault) → place.used ≤ limit
-within_fault (TooLong line) place at = absurd at
-within_fault (InputTooLong line) place at = omega (arith, at.1)
-within_fault (Device line) place at = at.3
+within_fault fault place at = grind arith
 
 -- a gap says nothing
 gap_takes : {old new : Reading} {had left : Option (List ℕ)} → UsesAll is_gap old new had left → new.used ≤ limit → Takes (among old) (among new) had left []
 gap_takes {old} {new} p within = takes p.uses within None None [] (λ rest may.
-    skip_gap (is_cut (tail_at new rest)) old.line p.bytes (view_at new rest) p.all
-    ∙ ap (λ n. tokens_from None (is_cut (tail_at new rest)) n (view_at new rest)) (sym p.uses.line))
+    grind (arith, skip_gap (is_cut (tail_at new rest)) old.line p.bytes (view_at new rest) p.all, p.uses.line))
 
 -- where a fault is found at the place, no word is taken and none is left
 none_left : {old new : Reading} {had left : Option (List ℕ)} (b : Option (List ℕ)) (fault : ReadFault) → Peeks new (Err fault) → old.used ≤ new.used
     → Takes (record { behind = b; at = old }) (among new) had left []
     → TakesNone (record { behind = b; at = old }) new had left fault
-none_left {new = new} b (TooLong line) at on t = absurd at
-none_left {new = new} b (InputTooLong line) at on t = (
-  t,
-  over new Long (stops_at_fault (InputTooLong line) new at),
-  at.2,
-  (on, within_fault (InputTooLong line) new at),
-)
-none_left {new = new} b (Device line) at on t = (t, over new Failing (stops_at_fault (Device line) new at), at.2, (on, at.3), at.1)
+none_left = grind (arith, over, stops_at_fault, within_fault)
 
 module _ {old new : Reading} {had left : Option (List ℕ)} {number : ℕ} (run : List ℕ) (p : UsesRun old new had left number run) where
   number_is : number ≡ new.line
@@ -190,17 +155,25 @@ module _ {old new : Reading} {had left : Option (List ℕ)} {number : ℕ} (run 
   -- a run that a fault cuts is no word
   cut_takes : (fault : ReadFault) → Peeks new (Err fault) → TakesNone (among old) new had left fault
   cut_takes fault at = none_left None fault at (omega (arith, grows)) (takes p.uses (within_fault fault new at) None None [] (λ rest may.
-      let v = stops_at_fault fault new at rest may in
-      rw (v.0, v.1, cut_by_fault fault, append-nil (p.gap ++ run))
-      (skip_gap true old.line p.gap run p.blank ∙ drop_run (old.line + count_by is_line_end p.gap) run p.solid)))
+      grind (
+        arith,
+        stops_at_fault fault new at rest may,
+        append-nil (p.gap ++ run),
+        skip_gap true old.line p.gap run p.blank,
+        drop_run (old.line + count_by is_line_end p.gap) run p.solid,
+      )))
 
   over_said : (text : Bool) → is_text_word run ≡ text → 0 < length run → IsRunOver new → (rest : Input) → MayFollow new.end rest
       → tokens_from None (is_cut (tail_at new rest)) old.line ((p.gap ++ run) ++ view_at new rest)
       ≡ run_tokens text (is_cut (tail_at new rest)) new.line run (view_at new rest)
-  over_said text is some over rest may =
-      run_said (is_cut (tail_at new rest)) old.line p.gap run (view_at new rest) p.blank p.solid some (run_ends new rest may over)
-      ∙ ap (λ t. run_tokens t (is_cut (tail_at new rest)) (old.line + count_by is_line_end p.gap) run (view_at new rest)) is
-      ∙ ap (λ n. run_tokens text (is_cut (tail_at new rest)) n run (view_at new rest)) (sym p.line ∙ number_is)
+  over_said text is some over rest may = grind (
+    arith,
+    run_said (is_cut (tail_at new rest)) old.line p.gap run (view_at new rest) p.blank p.solid some
+        (run_ends new rest may over),
+    is,
+    p.line,
+    number_is,
+  )
 
   -- one that is over is a word
   word_takes : (text : Bool) → is_text_word run ≡ text → 0 < length run → IsRunOver new → TakesWord text old new had left number run
@@ -214,12 +187,8 @@ module _ {old new : Reading} {had left : Option (List ℕ)} {number : ℕ} (run 
 pub next_of : (old new : Reading) (had left : Option (List ℕ)) (result : Result (Option Read) ReadFault) → UsesWord old new had left result → Stands new result
     → NextWord old new had left result
 next_of old new had left (Ok None) p at = (gap_takes p at.2, over new AtEnd (stops_at_end new at), (omega (arith, p.uses.used), at.2))
-next_of old new had left (Ok (Some word)) p some = (
-  word_takes word.bytes.items p.0 (is_text_word word.bytes.items) refl some p.1,
-  some,
-  goes_on
-      word.bytes.items p.0 some p.1,
-)
+next_of old new had left (Ok (Some word)) p some =
+    (word_takes word.bytes.items p.0 (is_text_word word.bytes.items) refl some p.1, some, goes_on word.bytes.items p.0 some p.1)
 next_of old new had left (Err (TooLong line)) (run, long, p, ends) at =
     let some : 0 < length run = omega (arith, long) in
     (run, long, word_takes run p false (long_no_text run long) some ends, goes_on run p some ends)
@@ -232,19 +201,14 @@ line_takes : {old new : Reading} {had left : Option (List ℕ)} (keyword line : 
     → new.used ≤ limit
     → Takes (behind_word keyword old) (among new) had left (TextLine old.line keyword line ∷ [])
 line_takes {old} {new} keyword line plain (inl u) within =
-    let one : count_by is_line_end (10 ∷ []) ≡ 1 = refl in
-    let next : old.line + 1 ≡ new.line = omega (arith, u.line, count_then old.line line (10 ∷ []), line_lines line plain, one) in
+    let next : old.line + 1 ≡ new.line = grind (arith, u.line, count_then old.line line (10 ∷ []), line_lines line plain) in
     takes u within (Some keyword) None (TextLine old.line keyword line ∷ []) (λ rest may.
-    ap (tokens_from (Some keyword) (is_cut (tail_at new rest)) old.line) (append_assoc line (10 ∷ []) (view_at new rest))
-    ∙ take_line keyword (is_cut (tail_at new rest)) old.line line (view_at new rest) plain
-    ∙ ap (λ n. TextLine old.line keyword line ∷ tokens_from None (is_cut (tail_at new rest)) n (view_at new rest)) next)
+    grind (arith, append_assoc line (10 ∷ []) (view_at new rest), take_line keyword (is_cut (tail_at new rest)) old.line line (view_at new rest) plain, next))
 line_takes {old} {new} keyword line plain (inr last) within = takes last.0 within (Some keyword) None (TextLine old.line keyword line ∷ []) (λ rest may.
-    let v = stops_at_end new (last.1, last.2, within) rest may in
-    rw (v.0, v.1, append-nil line) (take_last_line keyword false old.line line plain))
+    grind (arith, stops_at_end new (last.1, last.2, within) rest may, append-nil line, take_last_line keyword false old.line line plain))
 
 line_on : {old new : Reading} {had left : Option (List ℕ)} (line : List ℕ) → UsesWhole old new had left line → old.used ≤ new.used
-line_on line (inl u) = omega (arith, u.used)
-line_on line (inr last) = let u = last.0 in omega (arith, u.used)
+line_on line h = grind arith
 
 pub line_of : (old new : Reading) (had left : Option (List ℕ)) (keyword : List ℕ) (text : Text) → UsesLine old new had left (Ok text) → new.used ≤ limit
     → RestOfLine keyword old new had left (Ok text)
@@ -254,5 +218,4 @@ pub line_cut : {old new : Reading} {had left : Option (List ℕ)} (keyword : Lis
     → Peeks new (Err fault) → RestOfLine keyword old new had left (Err fault)
 line_cut {old} {new} keyword fault p at = none_left (Some keyword) fault at (omega (arith, p.uses.used))
     (takes p.uses (within_fault fault new at) (Some keyword) None [] (λ rest may.
-    let v = stops_at_fault fault new at rest may in
-    rw (v.0, v.1, cut_by_fault fault, append-nil p.bytes) (take_last_line keyword true old.line p.bytes p.all)))
+    grind (arith, stops_at_fault fault new at rest may, append-nil p.bytes, take_last_line keyword true old.line p.bytes p.all)))

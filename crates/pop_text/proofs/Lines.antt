@@ -1,5 +1,5 @@
 -- What is kept of a line.
-use Rattle.std.proofs.Common.{◌≡◌, ◌<◌, ◌≤◌, ℕ, suc, List, [], ◌∷◌, ◌++◌, length, length-append, length-take, take, true, false, Bool, refl, sym, ◌∙◌, ap, arith, append_assoc, ◌⊎◌, inl, inr, cond, fold}
+use Rattle.std.proofs.Common.{◌≡◌, ◌<◌, ◌≤◌, ℕ, suc, List, [], ◌∷◌, ◌++◌, length, length-append, length-take, take, Bool, refl, arith, append_assoc, ◌⊎◌, inl, inr, fold}
 use Rattle.std.proofs.lemmas.List.{append-nil, take_all, take-append-le}
 use Rattle.std.proofs.lemmas.Bool.{lt-ltb, le-ltb, cases_lt}
 use Rattle.pop_text.specs.Words.{is_blank, without_leading}
@@ -14,23 +14,16 @@ kept_of_line bytes = take 200 (without_leading bytes)
 module _ (m : ℕ) where
   kept_full : (b c : ℕ) (bytes : List ℕ) → (length (b ∷ bytes) < suc m) ⊎ (suc m ≤ length (b ∷ bytes))
       → with_byte (suc m) (take (suc m) (b ∷ bytes)) c ≡ take (suc m) ((b ∷ bytes) ++ c ∷ [])
-  kept_full b c bytes (inl room) =
-      rw (take_all m bytes (omega arith), take_all m (bytes ++ c ∷ []) (omega (arith, length-append bytes (c ∷ []))))
-      (ap (λ t. cond t ((b ∷ bytes) ++ c ∷ []) (b ∷ bytes)) (lt-ltb (length (b ∷ bytes)) (suc m) room))
-  kept_full b c bytes (inr full) =
-      let size : length (take (suc m) (b ∷ bytes)) ≡ suc m = omega (arith, length-take (suc m) (b ∷ bytes)) in
-      ap (λ t. cond t (take (suc m) (b ∷ bytes) ++ c ∷ []) (take (suc m) (b ∷ bytes))) (le-ltb (length (take (suc m) (b ∷ bytes))) (suc m) (omega arith))
-      ∙ sym (take-append-le (suc m) (b ∷ bytes) (c ∷ []) full)
+  kept_full b c bytes (inl room) = grind (arith, take_all m bytes, take_all m (bytes ++ c ∷ []), length-append bytes (c ∷ []), lt-ltb)
+  kept_full b c bytes (inr full) = grind (arith, length-take (suc m) (b ∷ bytes), le-ltb, take-append-le (suc m) (b ∷ bytes) (c ∷ []))
 
   first_kept : (c : ℕ) (t : Bool) → is_blank c ≡ t → with_byte (suc m) [] c ≡ take (suc m) (without_leading (c ∷ []))
-  first_kept c true h = rw h refl
-  first_kept c false h = let none : ◌≡◌ {A = List ℕ} (take m []) [] = take_all {A = ℕ} m [] (omega arith) in rw (h, none) refl
+  first_kept c t h = grind (arith, take_all {A = ℕ} m [])
 
   kept_by : (t : Bool) (b c : ℕ) (bytes : List ℕ) → is_blank b ≡ t
       → with_byte (suc m) (take (suc m) (without_leading bytes)) c ≡ take (suc m) (without_leading (bytes ++ c ∷ []))
       → with_byte (suc m) (take (suc m) (without_leading (b ∷ bytes))) c ≡ take (suc m) (without_leading ((b ∷ bytes) ++ c ∷ []))
-  kept_by true b c bytes h rest = rw h rest
-  kept_by false b c bytes h rest = rw h (kept_full b c bytes (cases_lt (length (b ∷ bytes)) (suc m)))
+  kept_by t b c bytes h rest = grind (arith, kept_full, cases_lt)
 
   -- one more byte of a line
   kept_more : (bytes : List ℕ) (c : ℕ) → with_byte (suc m) (take (suc m) (without_leading bytes)) c ≡ take (suc m) (without_leading (bytes ++ c ∷ []))
@@ -39,7 +32,5 @@ module _ (m : ℕ) where
 
 -- more bytes of a line
 pub kept_all : (bytes part : List ℕ) → fold (with_byte 200) (take 200 (without_leading bytes)) part ≡ take 200 (without_leading (bytes ++ part))
-kept_all bytes [] = ap (λ bs. take 200 (without_leading bs)) (sym (append-nil bytes))
-kept_all bytes (c ∷ part) =
-    ap (λ kept. fold (with_byte 200) kept part) (kept_more 199 bytes c) ∙ kept_all (bytes ++ c ∷ []) part
-    ∙ ap (λ bs. take 200 (without_leading bs)) (append_assoc bytes (c ∷ []) part)
+kept_all bytes [] = grind (arith, append-nil)
+kept_all bytes (c ∷ part) = grind (arith, kept_more 199 bytes c, kept_all (bytes ++ c ∷ []) part, append_assoc bytes (c ∷ []) part)

@@ -1,6 +1,6 @@
 -- Plain words: what skipping them takes.
-use Rattle.std.proofs.Common.{◌≡◌, ◌<◌, ◌≤◌, ℕ, zero, suc, ◌+◌, ◌-◌, List, [], ◌∷◌, ◌++◌, length, length-append, length-take, length-drop, take, drop, get_or, Option, None, Bool, true, false, refl, sym, ◌∙◌, ap, arith, append_assoc, ◌⊎◌, inl, inr, count_by, map}
-use Rattle.std.specs.Prelude.{◌&&◌, ◌||◌, ◌==◌, nat_le, codes}
+use Rattle.std.proofs.Common.{◌≡◌, ◌<◌, ◌≤◌, ℕ, zero, suc, ◌+◌, ◌-◌, List, [], ◌∷◌, ◌++◌, length, length-append, length-take, length-drop, take, drop, get_or, Option, None, Bool, true, false, refl, ◌∙◌, ap, arith, append_assoc, ◌⊎◌, inl, inr, count_by}
+use Rattle.std.specs.Prelude.{◌&&◌, ◌||◌, ◌==◌, codes}
 use Rattle.std.specs.Char.{to_ascii_lowercase}
 use Rattle.std.specs.List.{list_all}
 use Rattle.std.proofs.Math.Seq.{take-add}
@@ -9,8 +9,8 @@ use Rattle.std.proofs.lemmas.List.Folds.{list_all-append}
 use Rattle.pop_text.specs.Words.{Input, Word, is_cut, is_gap, is_in_word, is_line_end, is_short_form, is_text_word, limit, tokens_from}
 use Rattle.pop_text.specs.ties.Reading.{Reading, Uses}
 use Rattle.pop_text.specs.ties.Left.{Takes, among}
-use Rattle.pop_text.specs.ties.Plain.{IsPlain, RunsOut, Skips, is_named, is_plain}
-use Rattle.pop_text.proofs.WordLaws.{all_parts, line_lines, run_tokens, solid_line, RunEnds, with_gap}
+use Rattle.pop_text.specs.ties.Plain.{ArePlain, IsPlain, RunsOut, Skips, is_named, is_plain}
+use Rattle.pop_text.proofs.WordLaws.{all_parts, line_lines, solid_line, RunEnds, with_gap}
 use Rattle.pop_text.proofs.Using.{keeps_bytes}
 use Rattle.pop_text.proofs.Excluded.{gap_or_word}
 use Rattle.pop_text.proofs.Left.{and_false, count_then, run_said, tail_at, takes, view_at}
@@ -18,52 +18,27 @@ use Rattle.pop_text.proofs.Left.{and_false, count_then, run_said, tail_at, takes
 -- Names.
 
 and_three : (p q r s : Bool) → ((p && q) && r) ≡ false → (p && (q && (r && s))) ≡ false
-and_three false q r s h = refl
-and_three true false r s h = refl
-and_three true true false s h = refl
-and_three true true true s h = cc
+and_three p q r s h = grind arith
 
 -- a word with other first letters is no short form
 no_front : (x y z : ℕ) (name : List ℕ) (a b c : ℕ) (word : List ℕ)
     → (((to_ascii_lowercase a == x) && (to_ascii_lowercase b == y)) && (to_ascii_lowercase c == z)) ≡ false
     → is_short_form (x ∷ y ∷ z ∷ name) (a ∷ b ∷ c ∷ word) ≡ false
-no_front x y z name a b c word h =
-    ap (λ t. nat_le 3 (length (map to_ascii_lowercase (a ∷ b ∷ c ∷ word))) && t)
-    (and_three (to_ascii_lowercase a == x) (to_ascii_lowercase b == y) (to_ascii_lowercase c == z) _ h)
-    ∙ and_false (nat_le 3 (length (map to_ascii_lowercase (a ∷ b ∷ c ∷ word))))
+no_front x y z name a b c word h = grind (arith, and_three, and_false)
 
 or_parts : (p q : Bool) → (p || q) ≡ false → (p ≡ false) × (q ≡ false)
-or_parts false q h = (refl, h)
-or_parts true q h = cc
+or_parts p q h = grind arith
 
 pub plain_no_text : (word : List ℕ) → is_named word ≡ false → is_text_word word ≡ false
 plain_no_text [] h = refl
 plain_no_text (a ∷ []) h = refl
 plain_no_text (a ∷ b ∷ []) h = refl
-plain_no_text (a ∷ b ∷ c ∷ word) h =
-    let five = or_parts _ _ h in
-    let four = or_parts _ _ five.0 in
-    let three = or_parts _ _ four.0 in
-    let two = or_parts _ _ three.0 in
-    let one = or_parts _ _ two.0 in
-    rw (
-      no_front 116 105 116 (codes "le") a b c word one.0,
-      no_front 97 117 116 (codes "hor") a b c word one.1,
-      no_front 111 114 105 (codes "gin") a b c word
-          two.1,
-      no_front 114 101 109 (codes "ark") a b c word three.1,
-    ) refl
+plain_no_text (a ∷ b ∷ c ∷ word) h = grind (arith, or_parts, no_front)
 
 -- nor does it close a problem
 pub plain_no_closing : (word : List ℕ) → is_named word ≡ false → (is_short_form (codes "nextproblem") word ≡ false)
     × (is_short_form (codes "endproblem") word ≡ false)
-plain_no_closing [] h = (refl, refl)
-plain_no_closing (a ∷ []) h = (refl, refl)
-plain_no_closing (a ∷ b ∷ []) h = (refl, refl)
-plain_no_closing (a ∷ b ∷ c ∷ word) h =
-    let five = or_parts _ _ h in
-    let four = or_parts _ _ five.0 in
-    (no_front 110 101 120 (codes "tproblem") a b c word four.1, no_front 101 110 100 (codes "problem") a b c word five.1)
+plain_no_closing word h = grind (arith, or_parts, no_front)
 
 -- Words, one more.
 
@@ -86,8 +61,7 @@ module _ (bytes gap word : List ℕ) (some : 0 < length word) (blank : list_all 
   piece = gap ++ word
 
   ends_by : (cut : Bool) (behind : List ℕ) → (bytes ++ piece ≡ []) ⊎ ((c : ℕ) × (more : List ℕ) × (behind ≡ c ∷ more) × (is_gap c ≡ true)) → RunEnds cut behind
-  ends_by cut behind (inl none) = absurd (omega (arith, ap length none, length-append bytes piece, length-append gap word))
-  ends_by cut behind (inr here) = rw here.2 (with_gap here.3)
+  ends_by cut behind h = grind (arith, length-append bytes piece, length-append gap word, with_gap)
 
   lines_are : (line : ℕ) → (line + count_by is_line_end bytes) + count_by is_line_end gap ≡ line + count_by is_line_end (bytes ++ piece)
   lines_are line = omega (arith, count_then line bytes piece, count_then (line + count_by is_line_end bytes) gap word, line_lines word (solid_line word solid))
@@ -98,29 +72,24 @@ module _ (bytes gap word : List ℕ) (some : 0 < length word) (blank : list_all 
     plain = λ line. list_all-append is_plain (p.tokens line) _ ∙ rw (p.plain line, plain) refl;
     words = λ cut line behind ends.
         let next : ℕ = line + count_by is_line_end bytes in
-        ap (tokens_from None cut line) (append_assoc bytes piece behind)
-        ∙ p.words cut line (piece ++ behind) (runs_start bytes gap word rest behind blank solid some out)
-        ∙ ap (λ ts. p.tokens line ++ ts) (run_said cut next gap word behind blank solid some (ends_by cut behind ends)
-        ∙ ap (λ t. run_tokens t cut (next + count_by is_line_end gap) word behind) (plain_no_text word plain))
-        ∙ sym (append_assoc (p.tokens line) (Word (next + count_by is_line_end gap) word ∷ []) (tokens_from None cut (next + count_by is_line_end gap) behind))
-        ∙ ap (λ l. (p.tokens line ++ Word (next + count_by is_line_end gap) word ∷ []) ++ tokens_from None cut l behind) (lines_are line);
+        grind (
+          arith,
+          append_assoc bytes piece behind,
+          p.words cut line (piece ++ behind) (runs_start bytes gap word rest behind blank solid some out),
+          run_said cut next gap word behind blank solid some (ends_by cut behind ends),
+          plain_no_text word plain,
+          lines_are line,
+          append_assoc (p.tokens line) (Word (next + count_by is_line_end gap) word ∷ []) (tokens_from None cut (next + count_by is_line_end gap) behind),
+        );
   }
 
 -- A step over a view: a gap of g bytes behind the first k, and a run of r.
 
-pub record Step (view : List ℕ) (k ends : ℕ) : Type 0 where
-  pub within : k ≤ length view
-  pub plain : IsPlain (take k view)
-  pub over : RunsOut (take k view) (drop k view)
-  pub lines : ends ≡ count_by is_line_end (take k view)
-
 runs_out : (bytes behind : List ℕ) → 0 < length behind → is_gap (get_or behind 0 0) ≡ true → RunsOut bytes behind
-runs_out bytes [] some is = absurd (omega arith)
-runs_out bytes (b ∷ behind) some is = inr is
+runs_out bytes behind some is = grind arith
 
 pub none_out : (behind : List ℕ) → RunsOut [] behind
-none_out [] = refl
-none_out (b ∷ behind) = inl refl
+none_out behind = grind arith
 
 drop_first : (behind : List ℕ) (r : ℕ) → r < length behind → get_or (drop r behind) 0 0 ≡ get_or behind r 0
 drop_first behind r less = rw (drop_more behind r 0 less) refl
@@ -131,21 +100,19 @@ module _ (view left behind : List ℕ) (k g r lines more : ℕ) (at_left : left 
   word = take r behind
 
   pieces : take (k + (g + r)) view ≡ take k view ++ (take g left ++ take r behind)
-  pieces = take-add k (g + r) view ∙ ap (λ t. take k view ++ t) (ap (take (g + r)) (sym at_left) ∙ take-add g r left
-      ∙ ap (λ t. take g left ++ take r t) (sym at_behind))
+  pieces = grind (arith, take-add)
 
   rest_is : drop (k + (g + r)) view ≡ drop r behind
-  rest_is = sym (drop-drop (g + r) k view) ∙ ap (drop (g + r)) (sym at_left) ∙ sym (drop-drop r g left) ∙ ap (drop r) (sym at_behind)
+  rest_is = grind (arith, drop-drop (g + r) k view, drop-drop r g left)
 
   parts : drop k view ≡ (take g left ++ take r behind) ++ drop r behind
-  parts = sym at_left ∙ sym (take-append-drop g left) ∙ ap (λ t. take g left ++ t) (sym at_behind ∙ sym (take-append-drop r behind))
-      ∙ sym (append_assoc (take g left) (take r behind) (drop r behind))
+  parts = grind (arith, take-append-drop g left, take-append-drop r behind, append_assoc (take g left) (take r behind) (drop r behind))
 
   less : r < length behind
   less = omega (arith, short, fits)
 
   pub step_more : list_all is_gap (take g left) ≡ true → list_all is_in_word (take r behind) ≡ true → (r < length behind → is_gap (get_or behind r 0) ≡ true)
-      → is_named (take r behind) ≡ false → more ≡ count_by is_line_end (take g left) → Step view k lines → Step view (k + (g + r)) (lines + more)
+      → is_named (take r behind) ≡ false → more ≡ count_by is_line_end (take g left) → ArePlain view k lines → ArePlain view (k + (g + r)) (lines + more)
   step_more blank solid over plain are s =
       let size : length (take r behind) ≡ r = omega (arith, length-take r behind, fits) in record {
         within = let at = s.within in omega (arith, at, ap length at_left, length-drop k view, ap length at_behind, length-drop g left, few, fits);
@@ -169,7 +136,7 @@ module _ (view left behind : List ℕ) (k g r lines more : ℕ) (at_left : left 
 first_of : (n : ℕ) (xs ys out : List ℕ) (b : ℕ) → b ∷ out ≡ take n xs → (more : List ℕ) × (take n (xs ++ ys) ≡ b ∷ more)
 first_of zero xs ys out b e = cc
 first_of (suc n) [] ys out b e = cc
-first_of (suc n) (c ∷ xs) ys out b e = let is : c ≡ b = cc in (take n (xs ++ ys), ap (λ h. h ∷ take n (xs ++ ys)) is)
+first_of (suc n) (c ∷ xs) ys out b e = (take n (xs ++ ys), grind arith)
 
 ends_at : (bytes out : List ℕ) (new : Reading) (rest : Input) → RunsOut bytes out → out ≡ take (limit - new.used) new.window
     → (bytes ≡ []) ⊎ ((b : ℕ) × (more : List ℕ) × (view_at new rest ≡ b ∷ more) × (is_gap b ≡ true))
@@ -181,8 +148,7 @@ module _ (old new : Reading) (bytes out : List ℕ) (uses : (had : Option (List 
     (over : RunsOut bytes out) (is : out ≡ take (limit - new.used) new.window) (within : new.used ≤ limit) where
   skip_takes : (had : Option (List ℕ)) → Takes (among old) (among new) had had (plain.tokens old.line)
   skip_takes had = takes (uses had) within None None (plain.tokens old.line) (λ rest may.
-      plain.words (is_cut (tail_at new rest)) old.line (view_at new rest) (ends_at bytes out new rest over is)
-      ∙ ap (λ l. plain.tokens old.line ++ tokens_from None (is_cut (tail_at new rest)) l (view_at new rest)) (sym (uses had).line))
+      grind (arith, plain.words (is_cut (tail_at new rest)) old.line (view_at new rest) (ends_at bytes out new rest over is), (uses had).line))
 
   pub skips : new.end ≡ old.end → length new.window ≤ length old.window → Skips old new
   skips end waits = record {
@@ -197,10 +163,9 @@ module _ (old new : Reading) (bytes out : List ℕ) (uses : (had : Option (List 
 
 -- what stands behind the front of a view
 pub behind_view : (view window : List ℕ) (room k : ℕ) → view ≡ take room window → k ≤ room → drop k view ≡ take (room - k) (drop k window)
-behind_view view window room k is few = let parts : room ≡ k + (room - k) = omega arith in ap (drop k) (is ∙ ap (λ n. take n window) parts)
-    ∙ drop-take k (room - k) window
+behind_view view window room k is few = let parts : room ≡ k + (room - k) = omega arith in grind (arith, drop-take k (room - k) window)
 
-takes_none : (place : Reading) (had : Option (List ℕ)) → Takes (among place) (among place) had had []
+pub takes_none : (place : Reading) (had : Option (List ℕ)) → Takes (among place) (among place) had had []
 takes_none place had = record { bytes = []; amount = omega arith; taken = keeps_bytes had; follows = λ rest may. may; begin = λ rest may. refl }
 
 pub skips_none : (place : Reading) → Skips place place

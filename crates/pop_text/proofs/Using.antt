@@ -1,5 +1,5 @@
 -- Bytes used one after another.
-use Rattle.std.proofs.Common.{◌≡◌, ◌<◌, ◌≤◌, ℕ, List, [], ◌∷◌, ◌++◌, length, length-append, length-take, take, Option, None, Some, Result, Bool, true, false, refl, sym, ◌∙◌, ap, arith, append_assoc, ◌⊎◌, inl, inr, subst, cond, ◌+◌, Err, Ok}
+use Rattle.std.proofs.Common.{◌≡◌, ◌<◌, ◌≤◌, ℕ, List, [], ◌∷◌, ◌++◌, length, length-append, length-take, take, Option, Result, Bool, true, false, refl, sym, ◌∙◌, ap, arith, append_assoc, ◌⊎◌, inl, inr, subst, cond, ◌+◌, Err, Ok}
 use Rattle.std.specs.List.{list_all}
 use Rattle.std.specs.Prelude.{nat_lt}
 use Rattle.std.proofs.lemmas.List.Folds.{list_all-append}
@@ -15,34 +15,24 @@ use Rattle.pop_text.specs.ties.Left.{found_by, found_of}
 use Rattle.pop_text.specs.declared.read_fault.ReadFault.{ReadFault}
 use Rattle.pop_text.specs.declared.read_fault.ReadFault.TheVariants.{TooLong, InputTooLong, Device}
 use Rattle.pop_text.specs.declared.scanner.End.{End}
-use Rattle.pop_text.specs.declared.scanner.End.TheVariants.{Open, Ended, Broken}
+use Rattle.pop_text.specs.declared.scanner.End.TheVariants.{Open}
 use Rattle.pop_text.specs.declared.word.Word.{Word as Read}
 use Rattle.pop_text.proofs.WordLaws.{line_lines, solid_line}
 
 pub consumes_then : (a b c : Option (List ℕ)) (xs ys : List ℕ) → Consumes a b xs → Consumes b c ys → Consumes a c (xs ++ ys)
-consumes_then None b c xs ys p q = tt
-consumes_then (Some a) None c xs ys p q = absurd p
-consumes_then (Some a) (Some b) None xs ys p q = absurd q
-consumes_then (Some a) (Some b) (Some c) xs ys p q = rw (p, q, append_assoc) refl
+consumes_then a b c xs ys p q = grind (arith, append_assoc)
 
 pub keeps_bytes : (had : Option (List ℕ)) → Consumes had had []
-keeps_bytes None = tt
-keeps_bytes (Some bytes) = refl
-
-still_then : (a b c : End) (xs ys : List ℕ) → a ≡ Open ⊎ ((xs ≡ []) × (b ≡ a)) → b ≡ Open ⊎ ((ys ≡ []) × (c ≡ b)) → a ≡ Open ⊎ ((xs ++ ys ≡ []) × (c ≡ a))
-still_then a b c xs ys (inl opened) q = inl opened
-still_then a b c xs ys (inr p) (inl opened) = inl (sym p.1 ∙ opened)
-still_then a b c xs ys (inr p) (inr q) = inr (rw (p.0, q.0) refl, q.1 ∙ p.1)
+keeps_bytes had = grind arith
 
 pub uses_then : {a b c : Reading} {had mid left : Option (List ℕ)} {xs ys : List ℕ} → Uses a b had mid xs → Uses b c mid left ys → Uses a c had left (xs ++ ys)
 uses_then {a} {b} {c} {had} {mid} {left} {xs} {ys} p q = record {
   taken = p.taken ++ q.taken;
   consumed = consumes_then had mid left p.taken q.taken p.consumed q.consumed;
-  unread = sym (append_assoc a.window p.taken q.taken) ∙ ap (λ t. t ++ q.taken) p.unread ∙ append_assoc xs b.window q.taken
-      ∙ ap (λ t. xs ++ t) q.unread ∙ sym (append_assoc xs ys c.window);
+  unread = grind (arith, p.unread, q.unread, append_assoc {A = ℕ});
   used = omega (arith, p.used, q.used, length-append xs ys);
   line = omega (arith, p.line, q.line, sum_by-append (λ x. cond (is_line_end x) 1 0) xs ys);
-  still = still_then a.end b.end c.end p.taken q.taken p.still q.still;
+  still = grind (arith, p.still, q.still);
 }
 
 -- no byte was used
@@ -87,28 +77,18 @@ more_so_far part next p u all uses is = record { used = all_then (all_seen p.use
 -- Ends and failures.
 
 pub failures_same : (a : End) (m : ℕ) → failures_after a a m ≡ m
-failures_same Open m = refl
-failures_same Ended m = refl
-failures_same Broken m = refl
+failures_same a m = grind arith
 
 -- failures of two steps
 pub failures_then : (a b c : End) (n m k : ℕ) → a ≡ Open ⊎ b ≡ a → b ≡ Open ⊎ c ≡ b → m ≡ failures_after a b n → k ≡ failures_after b c m
     → k ≡ failures_after a c n
-failures_then a b c n m k (inl first) (inl then) e f = cc (failures_same b n)
-failures_then a b c n m k (inr same) (inl then) e f = cc (failures_same b n)
-failures_then a b c n m k p (inr same) e f = cc (failures_same b m)
-
-pub ends_then : (a b c : End) → a ≡ Open ⊎ b ≡ a → b ≡ Open ⊎ c ≡ b → a ≡ Open ⊎ c ≡ a
-ends_then a b c (inl first) q = inl first
-ends_then a b c (inr same) (inl then) = inl (sym same ∙ then)
-ends_then a b c (inr same) (inr more) = inr (more ∙ same)
+failures_then a b c n m k p q e f = grind (arith, failures_same)
 
 pub asks_none : (end : End) (had : Option (List ℕ)) (n : ℕ) → Asks end end had had n n
 asks_none end had n = record { seen = λ h. h; ends = inr refl; counted = sym (failures_same end n) }
 
 pub asks_then : {a b c : End} {had mid left : Option (List ℕ)} {n m k : ℕ} → Asks a b had mid n m → Asks b c mid left m k → Asks a c had left n k
-asks_then {a} {b} {c} {had} {mid} {left} {n} {m} {k} p q =
-    record { seen = λ h. q.seen (p.seen h); ends = ends_then a b c p.ends q.ends; counted = failures_then a b c n m k p.ends q.ends p.counted q.counted }
+asks_then p q = grind (arith, failures_same)
 
 -- Runs.
 
@@ -123,14 +103,7 @@ take_room kept part room is = rw (← is) (take-append-add kept part room)
 -- what the word has of a longer run, and whether it has all
 pub run_more : (run part : List ℕ) → 0 < length part → kept_of_run (take 160 run ++ part) ≡ kept_of_run (run ++ part)
 run_more run part some = elim (cases_lt 160 (length run)) [
-  | inl long ↦
-      let size : length (take 160 run) ≡ 160 = omega (arith, length-take 160 run) in
-      let front : take 160 (take 160 run ++ part) ≡ take 160 (run ++ part) =
-      take_room (take 160 run) part 0 (omega arith) ∙ append-nil (take 160 run) ∙ sym (take-append-le 160 run part (omega arith)) in
-      let whole : nat_lt (length (take 160 run ++ part)) 161 ≡ nat_lt (length (run ++ part)) 161 =
-      le-ltb (length (take 160 run ++ part)) 161 (omega (arith, size, length-append (take 160 run) part))
-      ∙ sym (le-ltb (length (run ++ part)) 161 (omega (arith, length-append run part))) in
-      rw (front, whole) refl
+  | inl long ↦ grind (arith, length-take 160 run, take_room (take 160 run) part 0, append-nil (take 160 run), take-append-le 160 run part, le-ltb, length-append)
   | inr short ↦ ap (λ r. kept_of_run (r ++ part)) (take_all 160 run short)
 ]
 
@@ -173,12 +146,7 @@ found_uses old mid new had met left word (Err (Device number)) p line (run, q, a
 -- the word has a byte where the run's first one is in no gap
 pub found_stands : (mid new : Reading) (met left : Option (List ℕ)) (word : Read) (run : Result Bool ReadFault) (b : ℕ) (rest : List ℕ)
     → RunsTo mid new met left word.bytes.items run → mid.window ≡ b ∷ rest → is_gap b ≡ false → Stands new (found_by word (found_of run word.line))
-found_stands mid new met left word (Ok true) b rest (q, over) at out =
-    let u = q.uses in first_byte b rest new u.taken word.bytes.items (ap (λ w. w ++ u.taken) (sym at) ∙ u.unread) out over
-found_stands mid new met left word (Ok false) b rest q at out = tt
-found_stands mid new met left word (Err (TooLong number)) b rest q at out = tt
-found_stands mid new met left word (Err (InputTooLong number)) b rest q at out = q.2
-found_stands mid new met left word (Err (Device number)) b rest q at out = q.2
+found_stands mid new met left word run b rest p at out = grind (arith, first_byte)
 
 -- a gap up to a fault
 pub uses_cut : (old new : Reading) (had left : Option (List ℕ)) (fault : ReadFault) → UsesAll is_gap old new had left → Peeks new (Err fault) → UsesWord old new had left (Err fault)
@@ -188,17 +156,12 @@ uses_cut old new had left fault p at =
     ([], record { solid = refl; uses = (no_run is_gap new left).uses }, at)
 
 pub fault_sticks : (fault : ReadFault) (place : Reading) → Peeks place (Err fault) → Sticks place fault
-fault_sticks (TooLong line) place at = tt
-fault_sticks (InputTooLong line) place at = at
-fault_sticks (Device line) place at = at
+fault_sticks fault place at = grind arith
 
 -- a line, and the line end at the place behind it
 pub line_ends : {old here new : Reading} {had left : Option (List ℕ)} {line : List ℕ} (b : ℕ) (rest : List ℕ) → Uses old here had left line
     → here.window ≡ b ∷ rest → is_line_end b ≡ true → Uses here new left left (take 1 here.window) → Uses old new had left (line ++ 10 ∷ [])
-line_ends {here = here} {new = new} {left = left} b rest u at ends end =
-    let ten : b ≡ 10 = eqb-true b 10 ends in
-    let front : take 1 here.window ≡ 10 ∷ [] = rw (at, ten) refl in
-    uses_then u (subst (λ bytes. Uses here new left left bytes) front end)
+line_ends = grind (arith, eqb-true, uses_then)
 
 -- a fault at a place is one at the same place
 pub still_stuck : (a b : Reading) (fault : ReadFault) → b ≡ a → Peeks a (Err fault) → Peeks b (Err fault)

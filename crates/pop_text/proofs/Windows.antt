@@ -1,10 +1,10 @@
 -- The window: bytes that wait between two places of an array.
-use Rattle.std.proofs.Common.{◌≡◌, ◌<◌, ◌≤◌, ℕ, zero, suc, ◌+◌, ◌-◌, List, [], ◌∷◌, ◌++◌, length, length-take, length-drop, take, drop, slice_range, slice_index, Option, Some, Ok, Bool, true, ◌==◌, refl, sym, ◌∙◌, ap, arith, inl, inr, get_or, count_by, cond}
+use Rattle.std.proofs.Common.{◌≡◌, ◌<◌, ◌≤◌, ℕ, zero, suc, ◌+◌, ◌-◌, List, [], ◌∷◌, length, length-take, length-drop, take, drop, slice_range, slice_index, Option, Some, Ok, Bool, true, ◌==◌, refl, sym, ◌∙◌, ap, arith, get_or, count_by}
 use Rattle.std.specs.List.{list_all}
-use Rattle.std.proofs.lemmas.Bool.{cases_Bool, le-ltb}
+use Rattle.std.proofs.lemmas.Bool.{le-ltb}
 use Rattle.std.proofs.lemmas.List.{append-nil, take-append-drop, drop-take, drop-drop, drop_more, length-take-le, take-take}
 use Rattle.pop_text.specs.Words.{is_in_line, is_line_end, limit}
-use Rattle.pop_text.specs.ties.Reading.{IsFront, Reading, Uses}
+use Rattle.pop_text.specs.ties.Reading.{IsFront, IsView, Leads, Reading, Uses}
 use Rattle.pop_text.specs.ties.Runs.{Peeks}
 use Rattle.pop_text.specs.ties.Texts.{with_byte}
 use Rattle.pop_text.specs.declared.scanner.End.{End}
@@ -17,30 +17,20 @@ window_length cells start stop within = omega (arith, length-take (stop - start)
 -- its first byte
 window_front : (cells : List ℕ) (start stop : ℕ) → start < stop → stop ≤ length cells
     → slice_range cells start stop ≡ get_or cells start 0 ∷ slice_range cells (start + 1) stop
-window_front cells start stop some within =
-    let one : stop - start ≡ suc (stop - (start + 1)) = omega arith in
-    rw (drop_more cells start 0 (omega arith), one) refl
+window_front cells start stop some within = grind (arith, drop_more)
 
 -- and what stands behind others
 window_drop : (cells : List ℕ) (start stop count : ℕ) → start + count ≤ stop
     → slice_range cells (start + count) stop ≡ drop count (slice_range cells start stop)
 window_drop cells start stop count within =
     let parts : stop - start ≡ count + (stop - (start + count)) = omega arith in
-    sym (ap (λ n. drop count (take n (drop start cells))) parts ∙ drop-take count (stop - (start + count)) (drop start cells)
-    ∙ ap (take (stop - (start + count))) (drop-drop count start cells))
+    grind (arith, drop-take count (stop - (start + count)) (drop start cells), drop-drop count start cells)
 
 -- bytes were used of it
 front_used : (old new : Reading) (had : Option (List ℕ)) (count : ℕ) → count ≤ length old.window → new.window ≡ drop count old.window
     → new.used ≡ old.used + count → new.line ≡ old.line + count_by is_line_end (take count old.window) → new.end ≡ old.end
     → Uses old new had had (take count old.window)
-front_used old new had count within window used line end = record {
-  taken = [];
-  consumed = keeps_bytes had;
-  unread = append-nil old.window ∙ sym (take-append-drop count old.window) ∙ ap (λ w. take count old.window ++ w) (sym window);
-  used = omega (arith, used, length-take-le count old.window within);
-  line = line;
-  still = inr (refl, end);
-}
+front_used old new had count within window used line end = grind (arith, keeps_bytes, append-nil, take-append-drop, length-take-le)
 
 module _ (cells : List ℕ) (start stop : ℕ) (within : stop ≤ length cells) where
   abbrev reading : ℕ → ℕ → ℕ → End → Reading
@@ -70,56 +60,47 @@ pub record IsWithin (now : Reading) (view : List ℕ) (count : ℕ) : Type 0 whe
   pub few : count ≤ length now.window
   pub room : now.used + count ≤ limit
 
-module _ (now : Reading) (view : List ℕ) (count : ℕ) (within : now.used ≤ limit) (is : view ≡ take (limit - now.used) now.window)
-    (few : count ≤ length view) where
-  pub view_within : IsWithin now view count
-  view_within =
-      let size : length view ≤ limit - now.used = omega (arith, ap length is, length-take (limit - now.used) now.window) in
-      record {
-        front = ap (take count) is ∙ take-take count (limit - now.used) now.window (omega (arith, size));
-        few = omega (arith, ap length is, length-take (limit - now.used) now.window);
-        room = omega (arith, size);
-      }
+module _ {now : Reading} {view : List ℕ} {count : ℕ} (is : IsView now view) (few : count ≤ length view) where
+  size : length view ≤ limit - now.used
+  size = omega (arith, ap length is.bytes, length-take (limit - now.used) now.window)
 
-  first_byte : (b : ℕ) (rest : List ℕ) → now.window ≡ b ∷ rest → now.used < limit → view ≡ b ∷ take (limit - now.used - 1) rest
-  first_byte b rest at room =
-      let one : limit - now.used ≡ suc (limit - now.used - 1) = omega arith in
-      is ∙ ap (λ n. take n now.window) one ∙ ap (take (suc (limit - now.used - 1))) at
+  pub view_within : IsWithin now view count
+  view_within = record {
+    front = grind (arith, is.bytes, take-take count (limit - now.used) now.window, size);
+    few = omega (arith, ap length is.bytes, length-take (limit - now.used) now.window);
+    room = omega (arith, size, is.within);
+  }
 
   -- some stand there, where the window's first byte passes a test
   pub view_some : (test : ℕ → Bool) → ((b : ℕ) (rest : List ℕ) → view ≡ b ∷ rest → test b ≡ true → 0 < count) → (b : ℕ) (rest : List ℕ) → now.window ≡ b ∷ rest
       → test b ≡ true → now.used < limit → 0 < count
-  view_some test some b rest at passes room = some b (take (limit - now.used - 1) rest) (first_byte b rest at room) passes
+  view_some test some b rest at passes room = grind arith
 
-  pub front_is : (test : ℕ → Bool) → ((bytes : List ℕ) → list_all test bytes ≡ true → list_all is_in_line bytes ≡ true) → list_all test (take count view) ≡ true
-      → ((b : ℕ) (rest : List ℕ) → view ≡ b ∷ rest → test b ≡ true → 0 < count) → IsFront test now (take count view)
-  front_is test plain all some =
-      let long : length (take count view) ≡ count = length-take-le count view few in
-      let v = view_within in
-      let front : take (length (take count view)) now.window ≡ take count view = ap (λ n. take n now.window) long ∙ sym v.front in
-      record {
-        front = front;
-        flat = sym (ap (count_by is_line_end) front ∙ line_lines (take count view) (plain (take count view) all));
-        within = omega (arith, long, v.few);
-        room = omega (arith, long, v.room);
-        all = all;
-        some = λ b rest at passes room. let h = view_some test some b rest at passes room in omega (arith, long, h);
-      }
+pub front_is : {now : Reading} {view : List ℕ} {count : ℕ} (test : ℕ → Bool) → IsView now view → Leads test view count
+    → ((bytes : List ℕ) → list_all test bytes ≡ true → list_all is_in_line bytes ≡ true) → IsFront test now (take count view)
+front_is {now} {view} {count} test is p plain =
+    let long : length (take count view) ≡ count = length-take-le count view p.within in
+    let v = view_within is p.within in
+    let front : take (length (take count view)) now.window ≡ take count view = ap (λ n. take n now.window) long ∙ sym v.front in
+    record {
+      front = front;
+      flat = sym (ap (count_by is_line_end) front ∙ line_lines (take count view) (plain (take count view) p.all));
+      within = omega (arith, long, v.few);
+      room = omega (arith, long, v.room);
+      all = p.all;
+      some = λ b rest at passes room. let h = view_some is p.within test p.some b rest at passes room in omega (arith, long, h);
+    }
 
 -- bytes before the first line end
 pub plain_front : (view : List ℕ) (count : ℕ) → count ≤ length view → ((k : ℕ) → k < count → (slice_index view k == 10) ≡ true → ⊥)
     → list_all is_in_line (take count view) ≡ true
 plain_front view zero within none = refl
 plain_front [] (suc count) within none = absurd (omega arith)
-plain_front (b ∷ view) (suc count) within none = elim (cases_Bool (b == 10)) [
-  | inl ends ↦ absurd (none 0 (omega arith) ends)
-  | inr goes ↦ rw goes (plain_front view count (omega arith) (λ k lt. none (suc k) (omega arith)))
-]
+plain_front (b ∷ view) (suc count) within none = grind (arith, none 0, plain_front view count (omega arith) (λ k lt. none (suc k) (omega arith)))
 
 pub plain_all : (view : List ℕ) → ((k : ℕ) → k < length view → (slice_index view k == 10) ≡ true → ⊥) → list_all is_in_line (take (length view) view) ≡ true
 plain_all view none = plain_front view (length view) (omega arith) none
 
 -- a full text takes no more
 pub full_stays : (kept : List ℕ) (byte : ℕ) → length kept ≡ 200 → with_byte 200 kept byte ≡ kept
-full_stays [] byte full = absurd (omega (arith, full))
-full_stays (b ∷ kept) byte full = ap (λ t. cond t ((b ∷ kept) ++ byte ∷ []) (b ∷ kept)) (le-ltb (length (b ∷ kept)) 200 (omega (arith, full)))
+full_stays kept byte full = grind (arith, le-ltb)

@@ -1,5 +1,5 @@
 -- What stands first in the words of a view.
-use Rattle.std.proofs.Common.{◌≡◌, ℕ, ◌+◌, ◌⊎◌, ◌&&◌, ◌||◌, List, [], ◌∷◌, ◌++◌, Bool, true, false, not, refl, sym, ◌∙◌, ap, inl, inr, count_by, None, Some, cond, arith, if◌then◌else◌}
+use Rattle.std.proofs.Common.{◌≡◌, ℕ, ◌+◌, ◌⊎◌, ◌&&◌, List, [], ◌∷◌, ◌++◌, Bool, true, false, refl, sym, ◌∙◌, ap, inl, inr, count_by, None, Some, cond, arith, if◌then◌else◌}
 use Rattle.std.specs.List.{slice_split, onto_first, list_all}
 use Rattle.std.proofs.lemmas.List.{append-nil}
 use Rattle.std.proofs.lemmas.List.Sums.{sum_by-append}
@@ -8,50 +8,31 @@ use Rattle.pop_text.specs.Words.{Token, Word, TextLine, is_blank, is_line_end, i
 -- Lines of a view.
 
 blank_parts : (cut : Bool) (n b : ℕ) (parts : List (List ℕ)) → is_blank b ≡ true → lines_tokens cut n (onto_first b parts) ≡ lines_tokens cut n parts
-blank_parts cut n b [] h = rw h refl
-blank_parts cut n b (l ∷ []) h = rw h refl
-blank_parts cut n b (l ∷ m ∷ ls) h = rw h refl
+blank_parts cut n b parts h = grind arith
 
 -- a blank says nothing
 skip_blank : (cut : Bool) (n b : ℕ) (view : List ℕ) → is_blank b ≡ true → is_line_end b ≡ false
     → tokens_from None cut n (b ∷ view) ≡ tokens_from None cut n view
 skip_blank cut n b view h e = rw e (blank_parts cut n b (slice_split is_line_end view) h)
 
-empty_line : (cut : Bool) (n : ℕ) (parts : List (List ℕ)) → lines_tokens cut n ([] ∷ parts) ≡ lines_tokens cut (n + 1) parts
-empty_line cut n [] = refl
-empty_line cut n (l ∷ ls) = refl
-
 -- a line end begins the next line
 skip_line_end : (cut : Bool) (n b : ℕ) (view : List ℕ) → is_line_end b ≡ true → tokens_from None cut n (b ∷ view) ≡ tokens_from None cut (n + 1) view
-skip_line_end cut n b view h = rw h (empty_line cut n (slice_split is_line_end view))
-
-either : (a b : Bool) → (a || b) ≡ true → (a ≡ true) ⊎ ((b ≡ true) × (a ≡ false))
-either true b h = inl refl
-either false b h = inr (h, refl)
-
-neither : (a b : Bool) → not (a || b) ≡ true → (a ≡ false) × (b ≡ false)
-neither true b h = cc
-neither false true h = cc
-neither false false h = (refl, refl)
+skip_line_end cut n b view h = grind arith
 
 -- a byte of a gap is a line end or a blank
 gap_byte : (b : ℕ) → is_gap b ≡ true → (is_line_end b ≡ true) ⊎ ((is_blank b ≡ true) × (is_line_end b ≡ false))
-gap_byte b h = either (is_line_end b) (is_blank b) h
+gap_byte b h = grind arith
 
 -- a byte of a word is neither
 word_byte : (b : ℕ) → is_in_word b ≡ true → (is_line_end b ≡ false) × (is_blank b ≡ false)
-word_byte b h = neither (is_line_end b) (is_blank b) h
+word_byte b h = grind arith
 
 pub all_parts : (test : ℕ → Bool) (b : ℕ) (bytes : List ℕ) → list_all test (b ∷ bytes) ≡ true → (test b ≡ true) × (list_all test bytes ≡ true)
 all_parts test b bytes h = grind arith
 
 skip_one : (cut : Bool) (n b : ℕ) (view : List ℕ) → is_gap b ≡ true
     → tokens_from None cut n (b ∷ view) ≡ tokens_from None cut (n + cond (is_line_end b) 1 0) view
-skip_one cut n b view h = elim (gap_byte b h) [
-  | inl is ↦ rw (ap (λ t. n + cond t 1 0) is) (skip_line_end cut n b view is)
-  | inr plain ↦ skip_blank cut n b view plain.0 plain.1 ∙ ap (λ m. tokens_from None cut m view)
-      (let same : n ≡ n + 0 = omega arith in same ∙ ap (λ t. n + cond t 1 0) (sym plain.1))
-]
+skip_one cut n b view h = grind (arith, gap_byte, skip_line_end, skip_blank)
 
 -- a gap only counts lines
 pub skip_gap : (cut : Bool) (n : ℕ) (gap view : List ℕ) → list_all is_gap gap ≡ true
@@ -59,9 +40,9 @@ pub skip_gap : (cut : Bool) (n : ℕ) (gap view : List ℕ) → list_all is_gap 
 skip_gap cut n [] view h = ap (λ m. tokens_from None cut m view) (omega arith)
 skip_gap cut n (b ∷ gap) view h =
     let p = all_parts is_gap b gap h in
+    let sum : count_by is_line_end (b ∷ gap) ≡ (0 + cond (is_line_end b) 1 0) + count_by is_line_end gap = sum_by-append (λ x. cond (is_line_end x) 1 0) (b ∷ []) gap in
     skip_one cut n b (gap ++ view) p.0 ∙ skip_gap cut (n + cond (is_line_end b) 1 0) gap view p.1
-    ∙ ap (λ m. tokens_from None cut m view) (let sum : count_by is_line_end (b ∷ gap)
-    ≡ (0 + cond (is_line_end b) 1 0) + count_by is_line_end gap = sum_by-append (λ x. cond (is_line_end x) 1 0) (b ∷ []) gap in omega (arith, sum))
+    ∙ ap (λ m. tokens_from None cut m view) (omega (arith, sum))
 
 -- Runs of a line.
 
@@ -75,12 +56,9 @@ run_step b c line p q = rw (p, q) refl
 
 -- the first run of a line
 runs_front : (b : ℕ) (run line : List ℕ) → list_all is_in_word (b ∷ run) ≡ true → Apart line → runs_of ((b ∷ run) ++ line) ≡ (b ∷ run, line) ∷ runs_of line
-runs_front b [] [] h nothing = rw (word_byte b (all_parts is_in_word b [] h).0).1 refl
-runs_front b [] (c ∷ line) h (blank is) = rw ((word_byte b (all_parts is_in_word b [] h).0).1, is) refl
-runs_front b (c ∷ run) line h apart =
-    let p = all_parts is_in_word b (c ∷ run) h in
-    let q = all_parts is_in_word c run p.1 in
-    run_step b c (run ++ line) (word_byte b p.0).1 (word_byte c q.0).1 ∙ ap (onto_run b) (runs_front c run line p.1 apart)
+runs_front b [] [] h nothing = grind (arith, word_byte)
+runs_front b [] (c ∷ line) h (blank is) = grind (arith, word_byte)
+runs_front b (c ∷ run) line h apart = grind (arith, word_byte, run_step, runs_front c run line)
 
 -- Words.
 
@@ -97,24 +75,17 @@ no_line_end b h = grind arith
 line_parts : (line view : List ℕ) (l : List ℕ) (ls : List (List ℕ)) → list_all is_in_line line ≡ true → slice_split is_line_end view ≡ l ∷ ls
     → slice_split is_line_end (line ++ view) ≡ (line ++ l) ∷ ls
 line_parts [] view l ls h e = e
-line_parts (b ∷ line) view l ls h e =
-    let p = all_parts is_in_line b line h in
-    rw (no_line_end b p.0, line_parts line view l ls p.1 e) refl
+line_parts (b ∷ line) view l ls h e = grind (arith, line_parts line view l ls)
 
 -- and none of them ends a line
 pub line_lines : (line : List ℕ) → list_all is_in_line line ≡ true → count_by is_line_end line ≡ 0
 line_lines [] h = refl
-line_lines (b ∷ line) h =
-    let p = all_parts is_in_line b line h in
-    let one : ◌≡◌ {A = ℕ} (cond (is_line_end b) 1 0) 0 = ap (λ t. cond t 1 0) (no_line_end b p.0) in
-    let sum : count_by is_line_end (b ∷ line) ≡ (0 + cond (is_line_end b) 1 0)
-    + count_by is_line_end line = sum_by-append (λ x. cond (is_line_end x) 1 0) (b ∷ []) line in
-    omega (arith, sum, one, line_lines line p.1)
+line_lines (b ∷ line) h = grind (arith, line_lines line)
 
 -- a run's bytes are bytes of a line
 pub solid_line : (run : List ℕ) → list_all is_in_word run ≡ true → list_all is_in_line run ≡ true
 solid_line [] h = refl
-solid_line (b ∷ run) h = let p = all_parts is_in_word b run h in rw (ap not (word_byte b p.0).0, solid_line run p.1) refl
+solid_line (b ∷ run) h = grind (arith, word_byte, solid_line run)
 
 -- the tokens from a run on
 abbrev pub run_tokens : Bool → Bool → ℕ → List ℕ → List ℕ → List Token
@@ -133,31 +104,14 @@ first_of : (cut : Bool) (n b : ℕ) (run line : List ℕ) → list_all is_in_wor
     → tokens_of cut n (runs_of ((b ∷ run) ++ line)) ≡ first_tokens (is_text_word (b ∷ run)) cut n (b ∷ run) line
 first_of cut n b run line h apart = ap (tokens_of cut n) (runs_front b run line h apart)
 
-end_by : (text : Bool) (n : ℕ) (run : List ℕ) → first_tokens text false n run [] ≡ run_lines text false n run ([] ∷ [])
-end_by true n run = refl
-end_by false n run = refl
-
-line_by : (text cut : Bool) (n : ℕ) (run line m : List ℕ) (ms : List (List ℕ))
-    → first_tokens text false n run line ++ lines_tokens cut (n + 1) (m ∷ ms) ≡ run_lines text cut n run (line ∷ m ∷ ms)
-line_by true cut n run line m ms = refl
-line_by false cut n run line m ms = refl
-
-blank_by : (text cut : Bool) (n : ℕ) (run : List ℕ) (c : ℕ) (line : List ℕ)
-    → first_tokens text cut n run (c ∷ line) ≡ run_lines text cut n run ((c ∷ line) ∷ [])
-blank_by true true n run c line = refl
-blank_by true false n run c line = refl
-blank_by false true n run c line = refl
-blank_by false false n run c line = refl
-
 run_parts : (cut : Bool) (n b : ℕ) (run l : List ℕ) (ls : List (List ℕ)) → list_all is_in_word (b ∷ run) ≡ true → Over cut (l ∷ ls)
     → lines_tokens cut n (((b ∷ run) ++ l) ∷ ls) ≡ run_lines (is_text_word (b ∷ run)) cut n (b ∷ run) (l ∷ ls)
-run_parts false n b run [] [] h at_end = first_of false n b run [] h nothing ∙ end_by (is_text_word (b ∷ run)) n (b ∷ run)
+run_parts false n b run [] [] h at_end = first_of false n b run [] h nothing ∙ grind arith
 run_parts true n b run [] [] h over = elim over [ ]
-run_parts cut n b run [] (m ∷ ms) h at_line_end = ap (λ ts. ts ++ lines_tokens cut (n + 1) (m ∷ ms)) (first_of false n b run [] h nothing)
-    ∙ line_by (is_text_word (b ∷ run)) cut n (b ∷ run) [] m ms
-run_parts cut n b run (c ∷ l) [] h (at_blank is) = first_of cut n b run (c ∷ l) h (blank is) ∙ blank_by (is_text_word (b ∷ run)) cut n (b ∷ run) c l
-run_parts cut n b run (c ∷ l) (m ∷ ms) h (at_blank is) = ap (λ ts. ts ++ lines_tokens cut (n + 1) (m ∷ ms)) (first_of false n b run (c ∷ l) h (blank is))
-    ∙ line_by (is_text_word (b ∷ run)) cut n (b ∷ run) (c ∷ l) m ms
+run_parts cut n b run [] (m ∷ ms) h at_line_end = ap (λ ts. ts ++ lines_tokens cut (n + 1) (m ∷ ms)) (first_of false n b run [] h nothing) ∙ grind arith
+run_parts cut n b run (c ∷ l) [] h (at_blank is) = first_of cut n b run (c ∷ l) h (blank is) ∙ grind arith
+run_parts cut n b run (c ∷ l) (m ∷ ms) h (at_blank is) =
+    ap (λ ts. ts ++ lines_tokens cut (n + 1) (m ∷ ms)) (first_of false n b run (c ∷ l) h (blank is)) ∙ grind arith
 
 -- a view in which a run just ended
 pub data RunEnds : Bool → List ℕ → Type 0 where
@@ -194,27 +148,21 @@ parts_of cut (b ∷ view) (with_gap h) =
 
 run_tokens_are : (text cut : Bool) (n : ℕ) (run view l : List ℕ) (ls : List (List ℕ)) → slice_split is_line_end view ≡ l ∷ ls
     → run_lines text cut n run (l ∷ ls) ≡ run_tokens text cut n run view
-run_tokens_are true cut n run view l ls e = rw e refl
-run_tokens_are false cut n run view l ls e = rw e refl
+run_tokens_are text cut n run view l ls e = grind arith
 
 -- a run that is over is the first token, or the text word behind which the next one begins
 pub take_run : (cut : Bool) (n b : ℕ) (run view : List ℕ) → list_all is_in_word (b ∷ run) ≡ true → RunEnds cut view
     → tokens_from None cut n ((b ∷ run) ++ view) ≡ run_tokens (is_text_word (b ∷ run)) cut n (b ∷ run) view
 take_run cut n b run view h ends =
     let p = parts_of cut view ends in
-    ap (lines_tokens cut n) (line_parts (b ∷ run) view p.first p.others (solid_line (b ∷ run) h) p.are) ∙ run_parts cut n b run p.first p.others h p.over
-    ∙ run_tokens_are (is_text_word (b ∷ run)) cut n (b ∷ run) view p.first p.others p.are
-
-cut_by : (text : Bool) (n : ℕ) (run : List ℕ) → first_tokens text true n run [] ≡ []
-cut_by true n run = refl
-cut_by false n run = refl
+    grind (arith, line_parts (b ∷ run) view p.first p.others, solid_line (b ∷ run), p.are, run_parts cut n b run p.first p.others h p.over, run_tokens_are)
 
 -- a run that the end of the view cuts is no token
 pub drop_run : (n : ℕ) (run : List ℕ) → list_all is_in_word run ≡ true → tokens_from None true n run ≡ []
 drop_run n [] h = refl
 drop_run n (b ∷ run) h =
     ap (tokens_from None true n) (sym (append-nil (b ∷ run))) ∙ ap (lines_tokens true n) (line_parts (b ∷ run) [] [] [] (solid_line (b ∷ run) h) refl)
-    ∙ first_of true n b run [] h nothing ∙ cut_by (is_text_word (b ∷ run)) n (b ∷ run)
+    ∙ first_of true n b run [] h nothing ∙ grind arith
 
 -- Text lines.
 
@@ -228,5 +176,4 @@ take_line keyword cut n line view h =
 -- one that the end of the view ends is the last, where nothing is cut, and otherwise no token
 pub take_last_line : (keyword : List ℕ) (cut : Bool) (n : ℕ) (line : List ℕ) → list_all is_in_line line ≡ true
     → tokens_from (Some keyword) cut n line ≡ (if cut then [] else TextLine n keyword line ∷ [])
-take_last_line keyword cut n line h = ap (tokens_from (Some keyword) cut n) (sym (append-nil line))
-    ∙ ap (text_lines keyword cut n) (line_parts line [] [] [] h refl) ∙ ap (λ l. if cut then [] else TextLine n keyword l ∷ []) (append-nil line)
+take_last_line keyword cut n line h = grind (arith, append-nil, line_parts line [] [] [])

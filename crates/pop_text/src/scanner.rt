@@ -3,18 +3,18 @@ ghost use Rattle.std.specs.Prelude.{◌≡◌, ◌<◌, ◌+◌, ◌-◌, ◌^�
 ghost use Rattle.pop_text.specs.Bytes.{greatest};
 ghost use Rattle.std.specs.List.{list_all};
 ghost use Rattle.pop_text.specs.Words.{limit, is_gap, is_in_line, is_in_word, is_line_end};
-ghost use Rattle.pop_text.specs.ties.Reading.{beginning, Asks, IsFront, Uses, UsesAll, IsSeen, failures_after};
+ghost use Rattle.pop_text.specs.ties.Reading.{beginning, AreFirst, IsView, Leads, Asks, IsFront, Uses, UsesAll, IsSeen, failures_after};
 ghost use Rattle.pop_text.specs.ties.Runs.{Peeks, RunsTo, Sticks, UsesLine, UsesWord};
-ghost use Rattle.pop_text.specs.ties.Plain.{IsPlain, RunsOut, Skips, is_named, is_named_front};
+ghost use Rattle.pop_text.specs.ties.Plain.{ArePlain, Skips, is_named, is_named_front};
 ghost use Rattle.pop_text.specs.ties.Left.{NextWord, RestOfLine, found_by, found_of};
 ghost use Rattle.pop_text.specs.declared.read_fault.ReadFault.{ReadFault};
 
+use crate::front::{gap_front, in_gap, line_front, plain_front, run_length};
 use crate::read_fault::ReadFault;
 use crate::source::Source;
 use crate::text::{Text, keep_all};
 use crate::word::Word;
 use arrayvec::ArrayVec;
-use memchr::memchr;
 use std::marker::Model;
 
 // The most bytes that are read of an input.
@@ -22,12 +22,6 @@ const LIMIT: u32 = 1 << 30;
 
 // The most bytes that wait.
 const WINDOW: usize = 4096;
-
-// The bytes of a gap that are looked at one by one, before blocks are.
-const NEAR: usize = 4;
-
-// The bytes of a gap or a run that are looked at together.
-const BLOCK: usize = 32;
 
 /// How the input ends, as far as that is known.
 #[derive(Clone, Copy, Debug, PartialEq, Eq)]
@@ -179,8 +173,7 @@ impl Scanner {
     // The bytes of the window that belong to the input.
     #[tactic(auto, unfolding(crate::specs::Words::limit))]
     fn view(&self) -> &[u8]
-        ensures bytes { result.now ≡ take (limit - self.now.used) self.now.window }
-        ensures within { self.now.used ≤ limit }
+        ensures { IsView self.now result.now }
     {
         let window = &self.cells[self.start..self.stop];
         let reach = window.len().min(self.room());
@@ -392,261 +385,6 @@ fn line_behind(line: u64, line_ends: usize) -> u64
     line + line_ends as u64
 }
 
-// How many bytes, and how many of them are line ends.
-#[derive(Clone, Copy)]
-struct Front {
-    count: usize,
-    line_ends: usize,
-}
-
-// How many blanks and line ends stand first: the near ones, and where they are many whole blocks behind them.
-#[inline(always)]
-fn gap_front(view: &[u8]) -> Front
-    ensures within { result.count ≤ length view.now }
-    ensures all { list_all is_gap (take result.count view.now) ≡ true }
-    ensures lines { result.line_ends ≡ count_by is_line_end (take result.count view.now) }
-    ensures some { (b : ℕ) → (rest : List ℕ) → view.now ≡ b ∷ rest → is_gap b ≡ true
-        → 0 < result.count }
-{
-    let near = near_gap(view);
-    if near.count < NEAR {
-        return near;
-    }
-    let far = gap_blocks(&view[near.count..]);
-    both(near, far)
-}
-
-// So many bytes and those behind them.
-fn both(near: Front, far: Front) -> Front
-    requires bytes { near.count + far.count < 2 ^ 63 }
-    requires line_ends { near.line_ends + far.line_ends < 2 ^ 63 }
-    ensures count { result.count ≡ near.count + far.count }
-    ensures line_ends { result.line_ends ≡ near.line_ends + far.line_ends }
-{
-    Front {
-        count: near.count + far.count,
-        line_ends: near.line_ends + far.line_ends,
-    }
-}
-
-// How many of the near bytes are blanks and line ends that stand first.
-fn near_gap(view: &[u8]) -> Front
-    ensures within { result.count ≤ length view.now }
-    ensures all { list_all is_gap (take result.count view.now) ≡ true }
-    ensures lines { result.line_ends ≡ count_by is_line_end (take result.count view.now) }
-    ensures some { (b : ℕ) → (rest : List ℕ) → view.now ≡ b ∷ rest → is_gap b ≡ true
-        → 0 < result.count }
-    ensures few { result.line_ends ≤ result.count }
-{
-    let mut line_ends = 0;
-    'gap: for (count, &byte) in view.iter().enumerate() {
-        if count == NEAR || !in_gap(byte) {
-            return Front { count, line_ends };
-        }
-        if byte == b'\n' {
-            line_ends += 1;
-        }
-    }
-    Front {
-        count: view.len(),
-        line_ends,
-    }
-}
-
-// How many bytes the whole blocks of blanks and line ends have that stand first.
-#[inline(never)]
-fn gap_blocks(view: &[u8]) -> Front
-    ensures within { result.count ≤ length view.now }
-    ensures all { list_all is_gap (take result.count view.now) ≡ true }
-    ensures lines { result.line_ends ≡ count_by is_line_end (take result.count view.now) }
-    ensures few { result.line_ends ≤ result.count }
-{
-    let mut blocks = Front {
-        count: 0,
-        line_ends: 0,
-    };
-    'whole: while view.len() - blocks.count >= BLOCK {
-        let block = &view[blocks.count..blocks.count + BLOCK];
-        if !are_in_gap(block) {
-            return blocks;
-        }
-        blocks.count += BLOCK;
-        blocks.line_ends += line_ends_in(block) as usize;
-    }
-    blocks
-}
-
-// Whether all bytes are blanks or line ends: none ends the loop, so that many are looked at together.
-fn are_in_gap(block: &[u8]) -> bool
-    ensures { result ≡ list_all is_gap block.now }
-{
-    let mut all = true;
-    'block: for &byte in block {
-        all &= in_gap_of_block(byte);
-    }
-    all
-}
-
-// How many of the bytes are line ends.
-fn line_ends_in(block: &[u8]) -> u8
-    requires { length block.now < 256 }
-    ensures value { result ≡ count_by is_line_end block.now }
-    ensures few { result ≤ length block.now }
-{
-    let mut ends = 0;
-    'block: for &byte in block {
-        if byte == b'\n' {
-            ends += 1;
-        }
-    }
-    ends
-}
-
-// How many bytes of a run stand before the first blank or line end, where it is long already or not.
-fn run_length(view: &[u8], is_long: bool) -> usize
-    ensures within { result ≤ length view.now }
-    ensures all { list_all is_in_word (take result view.now) ≡ true }
-    ensures some { (b : ℕ) → (rest : List ℕ) → view.now ≡ b ∷ rest → is_in_word b ≡ true
-        → 0 < result }
-{
-    if is_long {
-        far_run(view)
-    } else {
-        run_front(view)
-    }
-}
-
-// How many bytes stand before the first blank or line end.
-fn run_front(view: &[u8]) -> usize
-    ensures within { result ≤ length view.now }
-    ensures all { list_all is_in_word (take result view.now) ≡ true }
-    ensures some { (b : ℕ) → (rest : List ℕ) → view.now ≡ b ∷ rest → is_in_word b ≡ true
-        → 0 < result }
-    ensures over { result < length view.now → is_gap (slice_index view.now result) ≡ true }
-{
-    'run: for (count, &byte) in view.iter().enumerate() {
-        if in_gap(byte) {
-            return count;
-        }
-    }
-    view.len()
-}
-
-// The same, counted by whole blocks, and behind them byte by byte.
-#[inline(never)]
-fn far_run(view: &[u8]) -> usize
-    ensures within { result ≤ length view.now }
-    ensures all { list_all is_in_word (take result view.now) ≡ true }
-    ensures some { (b : ℕ) → (rest : List ℕ) → view.now ≡ b ∷ rest → is_in_word b ≡ true
-        → 0 < result }
-{
-    let whole = run_blocks(view);
-    whole + run_front(&view[whole..])
-}
-
-// How many bytes the whole blocks without a blank or line end have that stand first.
-fn run_blocks(view: &[u8]) -> usize
-    ensures within { result ≤ length view.now }
-    ensures all { list_all is_in_word (take result view.now) ≡ true }
-{
-    let mut count = 0;
-    'whole: while view.len() - count >= BLOCK {
-        if !are_in_run(&view[count..count + BLOCK]) {
-            return count;
-        }
-        count += BLOCK;
-    }
-    count
-}
-
-// Whether no byte is a blank or line end: none ends the loop, so that many are looked at together.
-fn are_in_run(block: &[u8]) -> bool
-    ensures { result ≡ list_all is_in_word block.now }
-{
-    let mut all = true;
-    'block: for &byte in block {
-        all &= !in_gap_of_block(byte);
-    }
-    all
-}
-
-// How many bytes the plain words have that stand first, with the gaps before them. Behind each stands a gap.
-fn plain_front(view: &[u8]) -> Front
-    ensures within { result.count ≤ length view.now }
-    ensures plain { IsPlain (take result.count view.now) }
-    ensures over { RunsOut (take result.count view.now) (drop result.count view.now) }
-    ensures lines { result.line_ends ≡ count_by is_line_end (take result.count view.now) }
-{
-    let mut plain = Front {
-        count: 0,
-        line_ends: 0,
-    };
-    'words: while plain.count < view.len() {
-        let left = &view[plain.count..];
-        let gap = gap_front(left);
-        let behind = &left[gap.count..];
-        let run = run_front(behind);
-        if !says_nothing(behind, run) {
-            return plain;
-        }
-        let more = Front {
-            count: gap.count + run,
-            line_ends: gap.line_ends,
-        };
-        plain = both(plain, more);
-    }
-    plain
-}
-
-// Whether so many bytes are a word that says nothing in skipped text: it ends within the view, and isn't named.
-fn says_nothing(view: &[u8], count: usize) -> bool
-    requires { count ≤ length view.now }
-    ensures some { result ≡ true → 0 < count }
-    ensures whole { result ≡ true → count < length view.now }
-    ensures plain { result ≡ true → is_named (take count view.now) ≡ false }
-{
-    count > 0 && count < view.len() && !is_named(&view[..count])
-}
-
-// Whether the word begins like a text word or a closing word.
-fn is_named(word: &[u8]) -> bool
-    ensures { result ≡ is_named word.now }
-{
-    match word {
-        [a, b, c, ..] => is_front(
-            a.to_ascii_lowercase(),
-            b.to_ascii_lowercase(),
-            c.to_ascii_lowercase(),
-        ),
-        _ => false,
-    }
-}
-
-// Whether a text word or a closing word begins with these small letters.
-fn is_front(a: u8, b: u8, c: u8) -> bool
-    ensures { result ≡ is_named_front a b c }
-{
-    (a == b't' && b == b'i' && c == b't')
-        || (a == b'a' && b == b'u' && c == b't')
-        || (a == b'o' && b == b'r' && c == b'i')
-        || (a == b'r' && b == b'e' && c == b'm')
-        || (a == b'n' && b == b'e' && c == b'x')
-        || (a == b'e' && b == b'n' && c == b'd')
-}
-
-// How many bytes stand before the first line end.
-fn line_front(view: &[u8]) -> usize
-    ensures within { result ≤ length view.now }
-    ensures all { list_all is_in_line (take result view.now) ≡ true }
-    ensures some { (b : ℕ) → (rest : List ℕ) → view.now ≡ b ∷ rest → is_in_line b ≡ true
-        → 0 < result }
-{
-    match memchr(b'\n', view) {
-        Some(count) => count,
-        None => view.len(),
-    }
-}
-
 // Keeps bytes of a run as far as there is room, and says whether there is room for all.
 fn keep_run(word: &mut ArrayVec<u8, 160>, part: &[u8]) -> bool
     ensures kept { word.new.items ≡ take 160 (word.old.items ++ part.now) }
@@ -676,17 +414,4 @@ fn ends_line(byte: u8) -> bool
     ensures { result ≡ is_line_end byte }
 {
     byte == b'\n'
-}
-
-fn in_gap(byte: u8) -> bool
-    ensures { result ≡ is_gap byte }
-{
-    matches!(byte, 9..=13 | 32)
-}
-
-// The same without a branch, for bytes that are looked at together.
-fn in_gap_of_block(byte: u8) -> bool
-    ensures { result ≡ is_gap byte }
-{
-    (byte == b' ') | ((byte >= 9) & (byte <= 13))
 }

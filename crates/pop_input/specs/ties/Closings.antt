@@ -7,8 +7,9 @@ use Rattle.pop_text.specs.declared.read_fault.ReadFault.{ReadFault}
 use Rattle.pop_text.specs.declared.read_fault.ReadFault.TheVariants.{TooLong, InputTooLong as PastLimit, Device}
 use Rattle.pop_input.specs.Names.{or_else}
 use Rattle.pop_input.specs.Blocks.{tail_fault}
+use Rattle.pop_input.specs.WordFaults.{fault_of}
 use Rattle.pop_input.specs.Ends.{end_fault_in, posed_of}
-use Rattle.pop_input.specs.State.{State, state_after}
+use Rattle.pop_input.specs.State.{State, state_after, state_of}
 use Rattle.pop_input.specs.declared.block.Block.{Block}
 use Rattle.pop_input.specs.declared.item.Fault.{Fault}
 use Rattle.pop_input.specs.declared.item.Item.{Item}
@@ -19,7 +20,7 @@ use Rattle.pop_input.specs.declared.names.Command.{Command}
 use Rattle.pop_input.specs.declared.names.Command.TheVariants.{Next as NextProblem, Last as EndProblem, Begin, Enter}
 use Rattle.pop_input.specs.declared.names.TextWord.{TextWord}
 use Rattle.pop_input.specs.declared.names.TextWord.TheVariants.{Title, Author}
-use Rattle.std.specs.Prelude.{List}
+use Rattle.std.specs.Prelude.{List, [], not}
 
 -- what is said with one more word: the first one of the input says nothing
 abbrev pub said_after : Bool → State → List ℕ → State
@@ -36,6 +37,30 @@ text_with _ old _ text = old
 abbrev pub noted : Bool → TextWord → List ℕ → TextWord → List ℕ → List ℕ
 noted true wanted old keyword text = text_with wanted old keyword text
 noted false wanted old keyword text = old
+
+-- nothing of a block is read yet
+pub record IsNew (first : Bool) (block : Block) : Type 0 where
+  pub fault : block.fault ≡ None
+  pub begun : block.begun ≡ not first
+  pub draft : block.draft ≡ state_of []
+  pub title : block.title ≡ []
+  pub author : block.author ≡ []
+
+-- a block read a word in this line: what it knows then, where that is no fault
+pub record ReadsWord (old new : Block) (line : ℕ) (text : List ℕ) : Type 0 where
+  pub fault : new.fault ≡ or_else old.fault (at_line line (fault_of old.begun old.draft text))
+  pub begun : new.fault ≡ None → new.begun ≡ true
+  pub draft : new.fault ≡ None → new.draft ≡ said_after old.begun old.draft text
+  pub title : new.title ≡ old.title
+  pub author : new.author ≡ old.author
+
+-- a block took a text line
+pub record TakesLine (old new : Block) (keyword : TextWord) (text : List ℕ) : Type 0 where
+  pub fault : new.fault ≡ old.fault
+  pub begun : new.begun ≡ old.begun
+  pub draft : new.draft ≡ old.draft
+  pub title : new.title ≡ noted old.begun Title old.title keyword text
+  pub author : new.author ≡ noted old.begun Author old.author keyword text
 
 -- the fault of a block that a word in this line closes
 abbrev pub closing_fault : Block → ℕ → Option Fault
@@ -72,6 +97,11 @@ abbrev pub cut_fault : ReadFault → Fault
 cut_fault (TooLong line) = fault_at InputTooLong line
 cut_fault (PastLimit line) = fault_at InputTooLong line
 cut_fault (Device line) = fault_at DeviceFailed line
+
+-- what is told of an input that is cut in a block with this fault or none: behind a fault the cut is an item of its own
+abbrev pub told_of_cut : Option Fault → ReadFault → Fault × Last
+told_of_cut (Some fault) cut = (fault, No)
+told_of_cut None cut = (cut_fault cut, Yes)
 
 -- whether the item of a block that such a word closes is the last
 abbrev pub last_of : Option Command → Option Last

@@ -1,5 +1,5 @@
 -- Words that say nothing in skipped text: those that begin like no text word and no word that closes a problem (own).
-use Rattle.std.specs.Prelude.{◌≡◌, ◌≤◌, ℕ, ◌+◌, ◌==◌, ◌&&◌, ◌||◌, not, List, [], ◌∷◌, ◌++◌, length, count_by, Option, None, Bool, true, false, ◌⊎◌}
+use Rattle.std.specs.Prelude.{◌≡◌, ◌≤◌, ℕ, ◌+◌, ◌==◌, ◌&&◌, ◌||◌, not, List, [], ◌∷◌, ◌++◌, length, count_by, take, drop, Option, None, Bool, true, false, ◌⊎◌}
 use Rattle.std.specs.List.{list_all}
 use Rattle.std.specs.Char.{to_ascii_lowercase}
 use Rattle.pop_text.specs.Words.{Token, Word, TextLine, is_gap, is_line_end, limit, tokens_from}
@@ -39,6 +39,13 @@ pub record IsPlain (bytes : List ℕ) : Type 0 where
       → (bytes ≡ []) ⊎ ((b : ℕ) × (more : List ℕ) × (behind ≡ b ∷ more) × (is_gap b ≡ true))
       → tokens_from None cut line (bytes ++ behind) ≡ tokens line
       ++ tokens_from None cut (line + count_by is_line_end bytes) behind
+
+-- so many bytes stand first in the view and are plain words, and so many of them are line ends
+pub record ArePlain (view : List ℕ) (count line_ends : ℕ) : Type 0 where
+  pub within : count ≤ length view
+  pub plain : IsPlain (take count view)
+  pub over : RunsOut (take count view) (drop count view)
+  pub lines : line_ends ≡ count_by is_line_end (take count view)
 
 -- plain words of the window were used
 pub record Skips (old new : Reading) : Type 0 where

@@ -1,5 +1,5 @@
 -- What a scanner has read and not used (own).
-use Rattle.std.specs.Prelude.{◌≡◌, ◌≤◌, ◌<◌, ℕ, ◌+◌, List, [], ◌∷◌, ◌++◌, take, length, count_by, Option, Bool, true, ◌⊎◌}
+use Rattle.std.specs.Prelude.{◌≡◌, ◌≤◌, ◌<◌, ℕ, ◌+◌, ◌-◌, List, [], ◌∷◌, ◌++◌, take, length, count_by, Option, Bool, true, ◌⊎◌}
 use Rattle.std.specs.List.{list_all}
 use Rattle.pop_text.specs.Words.{is_line_end, limit}
 use Rattle.pop_text.specs.Bytes.{Consumes, IsAtEnd}
@@ -31,6 +31,24 @@ pub record UsesAll (test : ℕ → Bool) (old new : Reading) (had left : Option 
   pub bytes : List ℕ
   pub all : list_all test bytes ≡ true
   pub uses : Uses old new had left bytes
+
+-- So many bytes stand first in the view and pass the test, and so many of them are line ends.
+pub record AreFirst (test : ℕ → Bool) (view : List ℕ) (count line_ends : ℕ) : Type 0 where
+  pub within : count ≤ length view
+  pub all : list_all test (take count view) ≡ true
+  pub lines : line_ends ≡ count_by is_line_end (take count view)
+  pub few : line_ends ≤ count
+
+-- So many bytes stand first in the view and pass the test: one at least where the first one passes.
+pub record Leads (test : ℕ → Bool) (view : List ℕ) (count : ℕ) : Type 0 where
+  pub within : count ≤ length view
+  pub all : list_all test (take count view) ≡ true
+  pub some : (b : ℕ) → (rest : List ℕ) → view ≡ b ∷ rest → test b ≡ true → 0 < count
+
+-- the bytes of the window that belong to the input
+pub record IsView (now : Reading) (view : List ℕ) : Type 0 where
+  pub bytes : view ≡ take (limit - now.used) now.window
+  pub within : now.used ≤ limit
 
 -- The part is the front of the window, belongs to the input, passes the test and ends no line. It has a byte where the window's first one passes.
 pub record IsFront (test : ℕ → Bool) (now : Reading) (part : List ℕ) : Type 0 where

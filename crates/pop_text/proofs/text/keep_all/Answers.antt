@@ -1,4 +1,4 @@
-use Rattle.std.proofs.Common.{◌≡◌, ◌∙◌, sym, ap, get_or, length}
+use Rattle.std.proofs.Common.{arith, ◌≡◌, sym, length}
 use Rattle.std.proofs.lemmas.Bool.{eqb-true}
 use Rattle.std.proofs.lemmas.List.Folds.{fold_stuck}
 use Rattle.pop_text.specs.ties.Texts.{with_byte}
@@ -8,7 +8,5 @@ use Rattle.pop_text.proofs.text.keep_all.Goals as goal
 pub returns-then-is_full : goal.returns-then-is_full
 returns-then-is_full c =
     let full : length c.bytes.kept.items ≡ 200 = eqb-true _ _ (sym c.if-is_full.ensures.value) in
-    let byte = get_or c.args.bytes.now c.bytes.byte-index 0 in
     fold_stuck (with_byte 200) c.bytes.kept.items (λ b. full_stays c.bytes.kept.items b full) c.args.kept.now.items c.args.bytes.now c.bytes.byte-index 0
-    c.bytes-test.true
-    (ap (λ k. with_byte 200 k byte) (sym c.bytes.invariant) ∙ full_stays c.bytes.kept.items byte full)
+    c.bytes-test.true (grind (arith, full_stays, c.bytes.invariant))

@@ -3,6 +3,4 @@ use Rattle.pop_text.proofs.Windows.{front_is}
 use Rattle.pop_text.proofs.scanner.Scanner.line_part.Goals as goal
 
 pub returns : goal.returns
-returns c =
-    front_is c.args.self.now c.view-view.result.now c.line_front.result c.view-view.ensures.within c.view-view.ensures.bytes c.line_front.ensures.within
-    is_in_line (λ bytes plain. plain) c.line_front.ensures.all c.line_front.ensures.some
+returns c = front_is is_in_line c.view-view.ensures c.line_front.ensures (λ bytes plain. plain)

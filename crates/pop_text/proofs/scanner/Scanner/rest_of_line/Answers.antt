@@ -1,5 +1,5 @@
-use Rattle.std.proofs.Common.{refl, ◌∙◌, ◌<◌, ◌-◌, sym, ap, arith, inl, inr, not, subst}
-use Rattle.pop_text.specs.Words.{is_in_line, limit, without_trailing}
+use Rattle.std.proofs.Common.{◌∙◌, sym, ap, arith, inl, inr, not, subst}
+use Rattle.pop_text.specs.Words.{without_trailing}
 use Rattle.pop_text.specs.ties.Reading.{Uses}
 use Rattle.pop_text.proofs.Lines.{kept_all, kept_of_line}
 use Rattle.pop_text.proofs.Left.{line_of, line_cut}
@@ -7,11 +7,7 @@ use Rattle.pop_text.proofs.Using.{asks_none, asks_then, more_so_far, none_so_far
 use Rattle.pop_text.proofs.scanner.Scanner.rest_of_line.Goals as goal
 
 pub line-init : goal.line-init
-line-init g c = record {
-  line = rw c.new-kept.ensures (none_so_far is_in_line kept_of_line c.args.self.now (g.S.Source.remaining c.args.source.now));
-  stuck = λ fault at. refl;
-  asks = asks_none c.args.self.now.end (g.S.Source.remaining c.args.source.now) (g.S.Source.failures c.args.source.now);
-}
+line-init g c = grind (arith, none_so_far, kept_of_line, asks_none)
 
 pub line-preserved : goal.line-preserved
 line-preserved g c =
@@ -31,12 +27,9 @@ line-preserved g c =
 
 pub line-smaller : goal.line-smaller
 line-smaller g c =
-    let part = c.line_part-part.ensures in
     let at = rw c.in-Ok-Some.field-0-is at c.in-Ok-Some.ensures.at in
-    let some = part.some c.in-Ok-Some.byte at.0 at.1 (ap not (sym c.ends_line.ensures ∙ c.if-ends_line.false)) at.2 in
-    let fewer : limit - c.advance-in-Ok-Some-2.new.self.used < limit - c.line.self.used = omega
-    (arith, some, part.room, c.advance-in-Ok-Some-2.ensures.used, c.peek.ensures.uses.used) in
-    fewer
+    let some = c.line_part-part.ensures.some c.in-Ok-Some.byte at.0 at.1 (ap not (sym c.ends_line.ensures ∙ c.if-ends_line.false)) at.2 in
+    omega (arith, some, c.line_part-part.ensures.room, c.advance-in-Ok-Some-2.ensures.used, c.peek.ensures.uses.used)
 
 pub returns-in-Ok-Some-clause-used : goal.returns-in-Ok-Some-clause-used
 returns-in-Ok-Some-clause-used g c =

@@ -1,5 +1,4 @@
-use Rattle.std.proofs.Common.{◌-◌, ◌<◌, ◌∙◌, arith, sym}
-use Rattle.pop_text.specs.Words.{limit}
+use Rattle.std.proofs.Common.{◌∙◌, arith, sym}
 use Rattle.pop_text.proofs.Using.{all_then, all_seen, asks_then, still_stuck}
 use Rattle.pop_text.proofs.scanner.Scanner.skip_gap.Goals as goal
 
@@ -17,5 +16,4 @@ pub gap-smaller : goal.gap-smaller
 gap-smaller g c =
     let at = rw c.in-Ok-Some.field-0-is at c.in-Ok-Some.ensures.at in
     let some = c.skip_part.ensures.some c.in-Ok-Some.byte at.0 at.1 (sym c.in_gap.ensures ∙ c.if-in_gap.true) at.2 in
-    let fewer : limit - c.skip_part.new.self.used < limit - c.gap.self.used = omega (arith, some, c.skip_part.ensures.within, c.peek.ensures.uses.used) in
-    fewer
+    omega (arith, some, c.skip_part.ensures.within, c.peek.ensures.uses.used)

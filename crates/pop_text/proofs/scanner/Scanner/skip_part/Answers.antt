@@ -1,4 +1,4 @@
-use Rattle.std.proofs.Common.{◌≡◌, true, ◌∙◌, ap, arith, count_by, length, length-drop, subst}
+use Rattle.std.proofs.Common.{◌≡◌, ◌∙◌, arith, ap, length, length-drop, count_by, subst, true}
 use Rattle.std.specs.List.{list_all}
 use Rattle.pop_text.specs.Words.{is_gap, is_line_end}
 use Rattle.pop_text.proofs.Windows.{view_some, view_within}
@@ -6,19 +6,18 @@ use Rattle.pop_text.proofs.scanner.Scanner.skip_part.Goals as goal
 
 pub advance-requires : goal.advance-requires
 advance-requires c =
-    let gap = c.gap_front-gap.ensures in
-    let v = view_within c.args.self.now _ _ c.view.ensures.within c.view.ensures.bytes gap.within in
+    let gap = c.gap_front-gap.ensures.first in
+    let v = view_within c.view.ensures gap.within in
     record { waits = v.few; room = v.room; lines = gap.lines ∙ ap (count_by is_line_end) v.front }
 
 pub returns : goal.returns
 returns c =
     let gap = c.gap_front-gap.ensures in
-    let v = view_within c.args.self.now _ _ c.view.ensures.within c.view.ensures.bytes gap.within in record {
-      uses = λ had. record { bytes = _; all = subst (λ bytes. list_all is_gap bytes ≡ true) v.front gap.all; uses = c.advance.ensures.uses had };
-      end = c.advance.ensures.end;
-      waits = omega (arith, ap length c.advance.ensures.window, length-drop c.gap_front-gap.result.count c.args.self.now.window);
-      within = let room = v.room in omega (arith, room, c.advance.ensures.used);
-      some = λ b rest at is below.
-          let h = view_some c.args.self.now _ _ c.view.ensures.within c.view.ensures.bytes gap.within is_gap gap.some b rest at is below in
-          omega (arith, h, c.advance.ensures.used);
+    let v = view_within c.view.ensures gap.first.within in
+    let done = c.advance.ensures in record {
+      uses = λ had. record { bytes = _; all = subst (λ bytes. list_all is_gap bytes ≡ true) v.front gap.first.all; uses = done.uses had };
+      end = done.end;
+      waits = omega (arith, ap length done.window, length-drop c.gap_front-gap.result.count c.args.self.now.window);
+      within = omega (arith, v.room, done.used);
+      some = λ b rest at is below. omega (arith, view_some c.view.ensures gap.first.within is_gap gap.some b rest at is below, done.used);
     }

@@ -1,4 +1,4 @@
-use Rattle.std.proofs.Common.{◌∙◌, ◌≡◌, ◌-◌, ap, arith, count_by, drop, length, length-drop, subst, sym, take}
+use Rattle.std.proofs.Common.{◌∙◌, ◌-◌, ap, arith, count_by, length, length-drop, subst, sym}
 use Rattle.pop_text.specs.Words.{is_line_end, limit}
 use Rattle.pop_text.specs.ties.Reading.{Uses}
 use Rattle.pop_text.proofs.Plain.{behind_view, skips}
@@ -8,21 +8,17 @@ use Rattle.pop_text.proofs.scanner.Scanner.skip_plain.Goals as goal
 pub advance-requires : goal.advance-requires
 advance-requires c =
     let plain = c.plain_front-plain.ensures in
-    let v = view_within c.args.self.now _ _ c.view.ensures.within c.view.ensures.bytes plain.within in
+    let v = view_within c.view.ensures plain.within in
     record { waits = v.few; room = v.room; lines = plain.lines ∙ ap (count_by is_line_end) v.front }
 
 pub returns : goal.returns
 returns c =
     let plain = c.plain_front-plain.ensures in
     let old = c.args.self.now in
-    let new = c.advance.new.self in
-    let view = c.view.result.now in
+    let done = c.advance.ensures in
     let count = c.plain_front-plain.result.count in
-    let v = view_within old view count c.view.ensures.within c.view.ensures.bytes plain.within in
-    let room = v.room in
-    let left : limit - old.used - count ≡ limit - new.used = omega (arith, c.advance.ensures.used) in
-    let behind = behind_view view old.window (limit - old.used) count c.view.ensures.bytes (omega (arith, room)) in
-    skips old new (take count view) (drop count view) (λ had. subst (λ bytes. Uses old new had had bytes) (sym v.front) (c.advance.ensures.uses had))
-    plain.plain plain.over
-    (behind ∙ ap (λ n. take n (drop count old.window)) left ∙ ap (take (limit - new.used)) (sym c.advance.ensures.window))
-    (omega (arith, room, c.advance.ensures.used)) c.advance.ensures.end (omega (arith, ap length c.advance.ensures.window, length-drop count old.window))
+    let v = view_within c.view.ensures plain.within in
+    let behind = behind_view c.view.result.now old.window (limit - old.used) count c.view.ensures.bytes (omega (arith, v.room)) in
+    skips old c.advance.new.self _ _ (λ had. subst (λ bytes. Uses old c.advance.new.self had had bytes) (sym v.front) (done.uses had)) plain.plain plain.over
+    (grind (arith, behind, done.window, done.used)) (omega (arith, v.room, done.used)) done.end
+    (omega (arith, ap length done.window, length-drop count old.window))

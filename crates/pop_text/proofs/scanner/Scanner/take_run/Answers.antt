@@ -1,6 +1,6 @@
-use Rattle.std.proofs.Common.{◌++◌, ◌≡◌, ◌∙◌, ◌-◌, ◌<◌, sym, subst, true, not, ap, arith, inl, inr}
+use Rattle.std.proofs.Common.{◌++◌, ◌≡◌, ◌∙◌, sym, subst, true, not, ap, arith, inl, inr}
 use Rattle.std.proofs.lemmas.Result.{err_from_is_err_and}
-use Rattle.pop_text.specs.Words.{is_in_word, limit}
+use Rattle.pop_text.specs.Words.{is_in_word}
 use Rattle.pop_text.specs.ties.Reading.{Uses}
 use Rattle.pop_text.proofs.Using.{asks_none, asks_then, kept_of_run, more_so_far, none_so_far, run_more, run_over, seen_so_far}
 use Rattle.pop_text.proofs.scanner.Scanner.take_run.Goals as goal
@@ -30,12 +30,9 @@ run-preserved g c =
 
 pub run-smaller : goal.run-smaller
 run-smaller g c =
-    let part = c.run_part-part.ensures in
     let here = rw c.in-Some.is at c.in_ok-byte.ensures.at in
-    let out : is_in_word c.in-Some.byte ≡ true = ap not (sym c.in_gap.ensures ∙ c.if-not-in_gap.true) in
-    let some = part.some c.in-Some.byte here.0 here.1 out here.2 in
-    let fewer : limit - c.advance.new.self.used < limit - c.run.self.used = omega (arith, some, part.room, c.advance.ensures.used, c.peek.ensures.uses.used) in
-    fewer
+    let some = c.run_part-part.ensures.some c.in-Some.byte here.0 here.1 (ap not (sym c.in_gap.ensures ∙ c.if-not-in_gap.true)) here.2 in
+    omega (arith, some, c.run_part-part.ensures.room, c.advance.ensures.used, c.peek.ensures.uses.used)
 
 pub returns-in_err-byte-clause-run : goal.returns-in_err-byte-clause-run
 returns-in_err-byte-clause-run g c =

@@ -1,0 +1,11 @@
+use Rattle.std.proofs.Common.{◌-◌, length}
+use Rattle.pop_text.specs.Words.{is_gap}
+use Rattle.pop_text.specs.ties.Reading.{AreFirst}
+use Rattle.pop_text.proofs.front.gap_blocks.Given as goal
+
+-- only blanks and line ends so far
+abbrev pub invariant-whole : goal.invariant-whole
+invariant-whole l = AreFirst is_gap l.view l.blocks.count l.blocks.line_ends
+
+abbrev pub decreases-whole : goal.decreases-whole
+decreases-whole l = length l.view - l.blocks.count

@@ -1,0 +1,7 @@
+use Rattle.pop_text.specs.Words.{is_gap}
+use Rattle.pop_text.specs.ties.Reading.{AreFirst}
+use Rattle.pop_text.proofs.front.near_gap.Given as goal
+
+-- only blanks and line ends so far
+abbrev pub invariant-gap : goal.invariant-gap
+invariant-gap l = AreFirst is_gap l.view l.count l.line_ends

@@ -1,0 +1,10 @@
+use Rattle.std.proofs.Common.{◌-◌, length}
+use Rattle.pop_text.specs.ties.Plain.{ArePlain}
+use Rattle.pop_text.proofs.front.plain_front.Given as goal
+
+-- plain words so far
+abbrev pub invariant-words : goal.invariant-words
+invariant-words l = ArePlain l.view l.plain.count l.plain.line_ends
+
+abbrev pub decreases-words : goal.decreases-words
+decreases-words l = length l.view - l.plain.count
