@@ -7,7 +7,7 @@ use Rattle.std.proofs.lemmas.Bool.{false≢true}
 use Rattle.std.proofs.lemmas.List.Folds.{list_any-append}
 use Rattle.chess_core.specs.Position.{is_man, is_side, man_on, other, same_kind}
 use Rattle.chess_core.specs.Squares.{some_square}
-use Rattle.chess_core.specs.Steps.{diagonal_steps, knight_steps, pawn_captures, queen_steps, straight_steps}
+use Rattle.chess_core.specs.Steps.{diagonal_steps, queen_steps, straight_steps}
 use Rattle.chess_core.specs.ties.Words.{squares_of, word}
 use Rattle.chess_core.specs.declared.man.Colour.{Colour}
 use Rattle.chess_core.specs.declared.man.Kind.{Kind}
@@ -22,7 +22,7 @@ use Rattle.chess_rules.specs.Attacks.{attacked, faces, faces_its_like, paralysed
 use Rattle.chess_rules.specs.ties.Lines.{is_ahead, is_on_some}
 use Rattle.chess_rules.specs.ties.Outward.{hopped_from, is_met}
 use Rattle.chess_rules.specs.ties.Shields.{is_reached}
-use Rattle.chess_rules.specs.Reaches.{leaps, reaches, reaches_as, reaches_of, rides}
+use Rattle.chess_rules.specs.Reaches.{reaches, reaches_as, reaches_of, rides}
 use Rattle.chess_rules.specs.RuleSet.{RuleSet}
 use Rattle.chess_rules.proofs.Bits.{not_zero, word_empty, word_has}
 use Rattle.chess_rules.proofs.rays.Flips.{diagonal-back, grasshopper-back, king-back, knight-back, nightrider-back, pawn-back, queen_rides-back, straight-back}
@@ -37,47 +37,28 @@ some_square_same p q h = elim (any_range_cases p 0 64) [
       ∙ sym (some_square_false q 64 (omega arith) (record { fails = λ s b. sym (h s b) ∙ none s (omega arith) b }))
 ]
 
--- the squares from which each kind comes
-pub comes_king : (men : List (Option Man)) (c : Colour) (t : ℕ) → t < 64 → word (λ s. list_any (leaps t s) queen_steps) ≡ word (λ s. reaches_as men c King s t)
+-- the squares from which a man comes: those to which one of the other colour goes, but for a grasshopper
+turned : (men : List (Option Man)) (c : Colour) (j : Kind) (s t : ℕ) → (j ≡ Grasshopper → ⊥) → s < 64 → t < 64
+    → reaches_as men (other c) j t s ≡ reaches_as men c j s t
 unfolding reaches_as
-comes_king men c t q = squares_same _ _ (λ s p. king-back t s q p)
+turned men c King s t piece p q = king-back t s q p
+turned men c Queen s t piece p q = queen_rides-back men t s q p
+turned men c Rook s t piece p q = straight-back men t s q p
+turned men c Bishop s t piece p q = diagonal-back men t s q p
+turned men c Knight s t piece p q = knight-back t s q p
+turned men c Pawn s t piece p q = sym (pawn-back c s t p q)
+turned men c Grasshopper s t piece p q = absurd (piece refl)
+turned men c Nightrider s t piece p q = nightrider-back men t s q p
 
-pub comes_queen : (men : List (Option Man)) (c : Colour) (t : ℕ) → t < 64
-    → word (λ s. list_any (rides men t s) queen_steps) ≡ word (λ s. reaches_as men c Queen s t)
-unfolding reaches_as
-comes_queen men c t q = squares_same _ _ (λ s p. queen_rides-back men t s q p)
-
-pub comes_rook : (men : List (Option Man)) (c : Colour) (t : ℕ) → t < 64
-    → word (λ s. list_any (rides men t s) straight_steps) ≡ word (λ s. reaches_as men c Rook s t)
-unfolding reaches_as
-comes_rook men c t q = squares_same _ _ (λ s p. straight-back men t s q p)
-
-pub comes_bishop : (men : List (Option Man)) (c : Colour) (t : ℕ) → t < 64
-    → word (λ s. list_any (rides men t s) diagonal_steps) ≡ word (λ s. reaches_as men c Bishop s t)
-unfolding reaches_as
-comes_bishop men c t q = squares_same _ _ (λ s p. diagonal-back men t s q p)
-
-pub comes_knight : (men : List (Option Man)) (c : Colour) (t : ℕ) → t < 64
-    → word (λ s. list_any (leaps t s) knight_steps) ≡ word (λ s. reaches_as men c Knight s t)
-unfolding reaches_as
-comes_knight men c t q = squares_same _ _ (λ s p. knight-back t s q p)
-
--- where e is the other side
-pub comes_pawn : (men : List (Option Man)) (c e : Colour) (t w : ℕ) → t < 64 → w ≡ word (λ s. list_any (leaps t s) (pawn_captures e)) → e ≡ other c
-    → w ≡ word (λ s. reaches_as men c Pawn s t)
-unfolding reaches_as
-comes_pawn men c e t w q h other_side =
-    h ∙ ap (λ d. word (λ s. list_any (leaps t s) (pawn_captures d))) other_side ∙ squares_same _ _ (λ s p. sym (pawn-back c s t p q))
+pub comes_back : (men : List (Option Man)) (c e : Colour) (j : Kind) (t w : ℕ) → (j ≡ Grasshopper → ⊥) → t < 64 → e ≡ other c
+    → w ≡ word (reaches_as men e j t) → w ≡ word (λ s. reaches_as men c j s t)
+comes_back men c e j t w piece q enemy h =
+    h ∙ ap (λ (d : Colour). word (reaches_as men d j t)) enemy ∙ squares_same _ _ (λ s p. turned men c j s t piece p q)
 
 pub comes_grasshopper : (men : List (Option Man)) (c : Colour) (t : ℕ) → t < 64
     → word (λ s. list_any (hopped_from men t s) queen_steps) ≡ word (λ s. reaches_as men c Grasshopper s t)
 unfolding reaches_as
 comes_grasshopper men c t q = squares_same _ _ (λ s p. sym (grasshopper-back men s t p q))
-
-pub comes_nightrider : (men : List (Option Man)) (c : Colour) (t : ℕ) → t < 64
-    → word (λ s. list_any (rides men t s) knight_steps) ≡ word (λ s. reaches_as men c Nightrider s t)
-unfolding reaches_as
-comes_nightrider men c t q = squares_same _ _ (λ s p. nightrider-back men t s q p)
 
 -- a man of this colour and kind goes as such men go
 reaches_of_man : (men : List (Option Man)) (o : Option Man) (c : Colour) (k : Kind) (s t : ℕ) → is_man o c k ≡ true

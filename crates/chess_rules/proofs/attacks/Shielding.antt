@@ -198,15 +198,15 @@ stood men after a b z i = record { occupied = λ o h off. by o h off } where
       ap is_some (i.others q y.0 y.1 (λ e. false≢true (sym off ∙ eq-eqb q b e)))
 
 -- what keeps a king on k from being uncovered
-pub record IsCovered (rule : RuleSet) (men : List (Option Man)) (c : Colour) (a k : ℕ) : Type 0 where
+pub record IsCovered (men : List (Option Man)) (c : Colour) (a k : ℕ) : Type 0 where
   pub safe : is_reached men k (other c) ≡ false
   pub apart : (k == a) ≡ false
   pub straight : is_shut men (other c) Rook straight_steps k a ≡ false
   pub diagonal : is_shut men (other c) Bishop diagonal_steps k a ≡ false
   pub unlined : is_on_fairy_line men (other c) k a ≡ false
 
-pub covered_parts : (rule : RuleSet) (men : List (Option Man)) (c : Colour) (a k : ℕ) → may_expose_on rule men (Some k) c a ≡ false → IsCovered rule men c a k
-covered_parts rule men c a k h =
+pub covered_parts : (men : List (Option Man)) (c : Colour) (a k : ℕ) → may_expose_on men (Some k) c a ≡ false → IsCovered men c a k
+covered_parts men c a k h =
     let h0 = or_parts (is_reached men k (other c) || k == a || is_shut men (other c) Rook straight_steps k a || is_shut men (other c) Bishop diagonal_steps k a)
     (is_on_fairy_line men (other c) k a) h in
     let h1 = or_parts (is_reached men k (other c) || k == a || is_shut men (other c) Rook straight_steps k a)
@@ -233,13 +233,13 @@ rider_there men e s y j there side h =
     ∙ (λ i. (side i && same_kind y.kind j) || (side i && same_kind y.kind Queen)) ∙ h
 
 -- a man that reaches the king now and hasn't moved reached it before
-checks_before : (rule : RuleSet) (men after : List (Option Man)) (a b : ℕ) (z : Man) (c : Colour) (k s : ℕ) (o : Option Man) → man_on after s ≡ o
-    → IsShift men after a b z → IsCovered rule men c a k → is_on_fairy_line men (other c) k b ≡ false → s < 64 → k < 64 → s ≢ b → is_side o (other c) ≡ true
+checks_before : (men after : List (Option Man)) (a b : ℕ) (z : Man) (c : Colour) (k s : ℕ) (o : Option Man) → man_on after s ≡ o
+    → IsShift men after a b z → IsCovered men c a k → is_on_fairy_line men (other c) k b ≡ false → s < 64 → k < 64 → s ≢ b → is_side o (other c) ≡ true
     → reaches after s k ≡ true
     → (is_side (man_on men s) (other c) && reaches men s k) ≡ true
 unfolding reaches
-checks_before rule men after a b z c k s None at i g f p q ne side h = cc
-checks_before rule men after a b z c k s (Some y) at i g f p q ne side h =
+checks_before men after a b z c k s None at i g f p q ne side h = cc
+checks_before men after a b z c k s (Some y) at i g f p q ne side h =
     let there : man_on men s ≡ Some y = i.others s y at ne in
     let now : reaches_as after y.colour y.kind s k ≡ true = rw at at h in
     let of : (j : Kind) → same_kind y.kind j ≡ true → is_man (man_on men s) (other c) j ≡ true =
@@ -290,21 +290,21 @@ diagonal_rider men e Grasshopper a k h r = cc
 diagonal_rider men e Nightrider a k h r = cc
 
 -- no man reached the king from its origin
-attacked_from : (rule : RuleSet) (men : List (Option Man)) (c : Colour) (a k : ℕ) (z : Man) → IsCovered rule men c a k → a < 64 → man_on men a ≡ Some z
+attacked_from : (men : List (Option Man)) (c : Colour) (a k : ℕ) (z : Man) → IsCovered men c a k → a < 64 → man_on men a ≡ Some z
     → same_colour z.colour (other c) ≡ true → reaches_as men z.colour z.kind a k ≡ true → ⊥
 unfolding is_reached reaches
-attacked_from rule men c a k z g small here side h =
+attacked_from men c a k z g small here side h =
     let mine : is_side (man_on men a) (other c) ≡ true = rw here side in
     let then : reaches men a k ≡ true = rw here h in
     let yes : some_square (λ s. is_side (man_on men s) (other c) && reaches men s k) ≡ true =
     some_square_true (λ s. is_side (man_on men s) (other c) && reaches men s k) a small (and_from _ _ mine then) in
     false≢true (sym g.safe ∙ yes)
 
-arrival_strikes : (rule : RuleSet) (men after : List (Option Man)) (a b : ℕ) (z : Man) (c : Colour) (k : ℕ) (o : Option Man) → man_on after b ≡ o
-    → IsShift men after a b z → IsCovered rule men c a k → IsQuiet men c a b k z → b < 64 → k < 64 → is_side o (other c) ≡ true → reaches after b k ≡ true → ⊥
+arrival_strikes : (men after : List (Option Man)) (a b : ℕ) (z : Man) (c : Colour) (k : ℕ) (o : Option Man) → man_on after b ≡ o
+    → IsShift men after a b z → IsCovered men c a k → IsQuiet men c a b k z → b < 64 → k < 64 → is_side o (other c) ≡ true → reaches after b k ≡ true → ⊥
 unfolding reaches
-arrival_strikes rule men after a b z c k None at i g l p q side h = cc
-arrival_strikes rule men after a b z c k (Some y) at i g l p q side h =
+arrival_strikes men after a b z c k None at i g l p q side h = cc
+arrival_strikes men after a b z c k (Some y) at i g l p q side h =
     let is : y ≡ z = i.arrived y at in
     let mine : same_colour z.colour (other c) ≡ true = ap (λ (x : Man). same_colour x.colour (other c)) (sym is) ∙ side in
     let now : reaches_as after y.colour y.kind b k ≡ true = rw at at h in
@@ -315,9 +315,9 @@ arrival_strikes rule men after a b z c k (Some y) at i g l p q side h =
     λ j is. ap (λ (o : Option Man). is_man o (other c) j) here.0 ∙ and_from _ _ mine is in
     let left = fairy_parts men (other c) k a g.unlined in
     let none : NoneShut men after a k b z.kind = record {
-      straight = λ h on both. attacked_from rule men c a k z g here.1 here.0 mine
+      straight = λ h on both. attacked_from men c a k z g here.1 here.0 mine
           (straight_rider men z.colour z.kind a k h (straight-back men a k here.1 q ∙ both.0));
-      diagonal = λ h on both. attacked_from rule men c a k z g here.1 here.0 mine
+      diagonal = λ h on both. attacked_from men c a k z g here.1 here.0 mine
           (diagonal_rider men z.colour z.kind a k h (diagonal-back men a k here.1 q ∙ both.0));
       hopped = λ is h. hopper_comes men after (other c) a k b (frees men after a b z i) (stood men after a b z i) p here.1 (of Grasshopper is) left.0 h;
       ridden = λ is h. nightrider_comes men after (other c) a k b (frees men after a b z i) p here.1 (of Nightrider is) left.1 h;
@@ -327,10 +327,10 @@ arrival_strikes rule men after a b z c k (Some y) at i g l p q side h =
     cc
 
 -- no enemy reaches the king
-pub unreached : (rule : RuleSet) (men after : List (Option Man)) (a b : ℕ) (z : Man) (c : Colour) (k : ℕ) → IsShift men after a b z → IsCovered rule men c a k
+pub unreached : (men after : List (Option Man)) (a b : ℕ) (z : Man) (c : Colour) (k : ℕ) → IsShift men after a b z → IsCovered men c a k
     → is_on_fairy_line men (other c) k b ≡ false → IsQuiet men c a b k z → k < 64 → is_reached after k (other c) ≡ false
 unfolding is_reached
-unreached rule men after a b z c k i g f l q =
+unreached men after a b z c k i g f l q =
     some_square_false (λ s. is_side (man_on after s) (other c) && reaches after s k) 64 (omega arith) (record {
       fails = λ s p. false_from_ne_true _ (λ h.
           let h1 = and_parts (is_side (man_on after s) (other c)) (reaches after s k) h in
@@ -339,11 +339,11 @@ unreached rule men after a b z c k i g f l q =
                 let small : b < 64 = omega arith in
                 let side : is_side (man_on after b) (other c) ≡ true = ap (λ (n : ℕ). is_side (man_on after n) (other c)) (sym e) ∙ h1.0 in
                 let hit : reaches after b k ≡ true = ap (λ (n : ℕ). reaches after n k) (sym e) ∙ h1.1 in
-                arrival_strikes rule men after a b z c k (man_on after b) refl i g l small q side hit
+                arrival_strikes men after a b z c k (man_on after b) refl i g l small q side hit
             | inr ne ↦
                 let yes : some_square (λ s. is_side (man_on men s) (other c) && reaches men s k) ≡ true =
                 some_square_true (λ s. is_side (man_on men s) (other c) && reaches men s k) s p
-                (checks_before rule men after a b z c k s (man_on after s) refl i g f p q ne h1.0 h1.1) in
+                (checks_before men after a b z c k s (man_on after s) refl i g f p q ne h1.0 h1.1) in
                 let no = g.safe in
                 cc
           ]);
@@ -373,17 +373,17 @@ man_there None c j h = cc
 man_there (Some y) c j h = (y, refl)
 
 -- what is asked of a shift, so that the king of colour c isn't in check after it
-pub record IsHarmless (rule : RuleSet) (men : List (Option Man)) (c : Colour) (a b : ℕ) (z : Man) : Type 0 where
+pub record IsHarmless (men : List (Option Man)) (c : Colour) (a b : ℕ) (z : Man) : Type 0 where
   pub one : AtMostOneKing men
   pub king : is_man (Some z) c King ≡ true → king_square men c ≡ Some a
-  pub cannot_expose : may_expose rule men c a ≡ false
+  pub cannot_expose : may_expose men c a ≡ false
   pub aside : may_stand_between men c b ≡ false
   pub quiet : (k : ℕ) → king_square men c ≡ Some k → IsQuiet men c a b k z
 
-king_stays : (rule : RuleSet) (men after : List (Option Man)) (a b : ℕ) (z : Man) (c : Colour) (k : ℕ) → IsShift men after a b z → IsHarmless rule men c a b z
+king_stays : (men after : List (Option Man)) (a b : ℕ) (z : Man) (c : Colour) (k : ℕ) → IsShift men after a b z → IsHarmless men c a b z
     → k < 64 → is_man (man_on after k) c King ≡ true → king_square men c ≡ Some k
 unfolding may_expose
-king_stays rule men after a b z c k i g small h =
+king_stays men after a b z c k i g small h =
     let y = man_there (man_on after k) c King h in
     let is : is_man (Some y.0) c King ≡ true = rw y.1 at h in
     elim (cases_eq k b) [
@@ -391,8 +391,8 @@ king_stays rule men after a b z c k i g small h =
           let came : man_on after b ≡ Some y.0 = ap (λ (n : ℕ). man_on after n) (sym e) ∙ y.1 in
           let same : y.0 ≡ z = i.arrived y.0 came in
           let was : king_square men c ≡ Some a = g.king (ap (λ (x : Man). is_man (Some x) c King) (sym same) ∙ is) in
-          let no : may_expose_on rule men (Some a) c a ≡ false = rw was at g.cannot_expose in
-          let apart : (a == a) ≡ false = (covered_parts rule men c a a no).apart in
+          let no : may_expose_on men (Some a) c a ≡ false = rw was at g.cannot_expose in
+          let apart : (a == a) ≡ false = (covered_parts men c a a no).apart in
           let yes : (a == a) ≡ true = eq-eqb a a refl in
           cc
       | inr ne ↦
@@ -400,7 +400,7 @@ king_stays rule men after a b z c k i g small h =
           king_is men c k g.one small (rw there is)
     ]
 
-pub stays_safe : (rule : RuleSet) (men after : List (Option Man)) (a b : ℕ) (z : Man) (c : Colour) → IsShift men after a b z → IsHarmless rule men c a b z
+pub stays_safe : (rule : RuleSet) (men after : List (Option Man)) (a b : ℕ) (z : Man) (c : Colour) → IsShift men after a b z → IsHarmless men c a b z
     → in_check rule after c ≡ false
 unfolding in_check king_square squares may_expose may_stand_between
 stays_safe rule men after a b z c i g = by (king_square after c) refl where
@@ -409,10 +409,10 @@ stays_safe rule men after a b z c i g = by (king_square after c) refl where
   by (Some k) e =
       let f = find_first (λ s. is_man (man_on after s) c King) 0 64 k e in
       let small : k < 64 = omega (arith, f.high) in
-      let at : king_square men c ≡ Some k = king_stays rule men after a b z c k i g small f.here in
-      let no : may_expose_on rule men (Some k) c a ≡ false = ap (λ (o : Option ℕ). may_expose_on rule men o c a) (sym at) ∙ g.cannot_expose in
+      let at : king_square men c ≡ Some k = king_stays men after a b z c k i g small f.here in
+      let no : may_expose_on men (Some k) c a ≡ false = ap (λ (o : Option ℕ). may_expose_on men o c a) (sym at) ∙ g.cannot_expose in
       let off : is_on_fairy_line_to men (Some k) c b ≡ false = ap (λ (o : Option ℕ). is_on_fairy_line_to men o c b) (sym at) ∙ g.aside in
-      not_attacked rule after (other c) k (unreached rule men after a b z c k i (covered_parts rule men c a k no) off (g.quiet k at) small)
+      not_attacked rule after (other c) k (unreached men after a b z c k i (covered_parts men c a k no) off (g.quiet k at) small)
 
 -- nobody is reborn where nobody is captured, or without Circe
 none_reborn : (men : List (Option Man)) (o : Option Man) (s : ℕ) → reborn_at false men o (Some s) ≡ None
@@ -517,7 +517,7 @@ king_came p x m c well here right h =
     king_is p.men c m.from well.kings (on_board p.men m.from x well.size here) (rw here is)
 
 plain_safe : (rule : RuleSet) (p : Position) (x : Man) (m : Move) (c : Colour) → IsWellFormed p → IsMade rule p x m → m.to < 64 → IsPlain rule p x m
-    → may_expose rule p.men c m.from ≡ false → may_stand_between p.men c m.to ≡ false
+    → may_expose p.men c m.from ≡ false → may_stand_between p.men c m.to ≡ false
     → ((k : ℕ) → king_square p.men c ≡ Some k → IsQuiet p.men c m.from m.to k (arriving x m.promo))
     → in_check rule (after rule p m).men c ≡ false
 plain_safe rule p x m c well is small plain cannot_expose aside quiet =
@@ -534,7 +534,7 @@ other_differs White = refl
 other_differs Black = refl
 
 pub record CannotExpose (rule : RuleSet) (p : Position) (x : Man) (c : Colour) (m : Move) : Type 0 where
-  pub origin : may_expose rule p.men c m.from ≡ false
+  pub origin : may_expose p.men c m.from ≡ false
   pub aside : may_stand_between p.men c m.to ≡ false
   pub plain : IsPlain rule p x m
 
@@ -542,8 +542,8 @@ cannot_expose_parts : (rule : RuleSet) (p : Position) (x : Man) (c : Colour) (m 
     → CannotExpose rule p x c m
 unfolding cannot_expose
 cannot_expose_parts rule p x c m here h =
-    let h0 : (not (may_expose rule p.men c m.from) && (not (may_stand_between p.men c m.to) && is_plain rule p x m)) ≡ true = rw here at h in
-    let h1 = and_parts (not (may_expose rule p.men c m.from)) _ h0 in
+    let h0 : (not (may_expose p.men c m.from) && (not (may_stand_between p.men c m.to) && is_plain rule p x m)) ≡ true = rw here at h in
+    let h1 = and_parts (not (may_expose p.men c m.from)) _ h0 in
     let h2 = and_parts (not (may_stand_between p.men c m.to)) (is_plain rule p x m) h1.1 in
     record { origin = not-true _ h1.0; aside = not-true _ h2.0; plain = plain_parts rule p x m h2.1 }
 
@@ -598,42 +598,42 @@ pub every_square : (test : ℕ → Bool) → ((s : ℕ) → s < 64 → test s �
 every_square test h = ap (bit_not w64) (word_empty (λ s. false) (λ s b. refl)) ∙ squares_not (λ s. false) ∙ squares_same (λ s. true) test (λ s b. sym (h s b))
 
 -- the word of the squares from which a move may uncover a king
-pub shield_squares_none : (rule : RuleSet) (men : List (Option Man)) (c : Colour) → king_square men c ≡ None → 0 ≡ word (may_expose rule men c)
+pub shield_squares_none : (men : List (Option Man)) (c : Colour) → king_square men c ≡ None → 0 ≡ word (may_expose men c)
 unfolding may_expose
-shield_squares_none rule men c h = word_empty (may_expose rule men c) (λ s b. ap (λ (o : Option ℕ). may_expose_on rule men o c s) h)
+shield_squares_none men c h = word_empty (may_expose men c) (λ s b. ap (λ (o : Option ℕ). may_expose_on men o c s) h)
 
-pub shield_squares_all : (rule : RuleSet) (men : List (Option Man)) (c : Colour) (k : ℕ) → king_square men c ≡ Some k → is_reached men k (other c) ≡ true
-    → bit_not w64 0 ≡ word (may_expose rule men c)
+pub shield_squares_all : (men : List (Option Man)) (c : Colour) (k : ℕ) → king_square men c ≡ Some k → is_reached men k (other c) ≡ true
+    → bit_not w64 0 ≡ word (may_expose men c)
 unfolding may_expose
-shield_squares_all rule men c k at reached =
-    every_square (may_expose rule men c) (λ s b. ap (λ (o : Option ℕ). may_expose_on rule men o c s) at
+shield_squares_all men c k at reached =
+    every_square (may_expose men c) (λ s b. ap (λ (o : Option ℕ). may_expose_on men o c s) at
     ∙ or_left _ _ (or_left _ _ (or_left _ _ (or_left _ _ reached))))
 
-pub shield_squares_some : (rule : RuleSet) (men : List (Option Man)) (c : Colour) (k w n : ℕ) → king_square men c ≡ Some k → is_reached men k (other c) ≡ false
+pub shield_squares_some : (men : List (Option Man)) (c : Colour) (k w n : ℕ) → king_square men c ≡ Some k → is_reached men k (other c) ≡ false
     → w ≡ bit_or (bit_or (word (is_square (Some k))) (word (is_shut men (other c) Rook straight_steps k)))
     (word (is_shut men (other c) Bishop diagonal_steps k))
-    → n ≡ word (may_stand_between men c) → bit_or w n ≡ word (may_expose rule men c)
+    → n ≡ word (may_stand_between men c) → bit_or w n ≡ word (may_expose men c)
 unfolding may_expose may_stand_between
-shield_squares_some rule men c k w n at unreached h i =
+shield_squares_some men c k w n at unreached h i =
     let rook : ℕ → Bool = is_shut men (other c) Rook straight_steps k in
     let bishop : ℕ → Bool = is_shut men (other c) Bishop diagonal_steps k in
     (λ j. bit_or (h j) (i j))
     ∙ (λ j. bit_or (bit_or (squares_either (λ t. is_square (Some k) t) rook j) (word bishop)) (word (may_stand_between men c)))
     ∙ (λ j. bit_or (squares_either (λ t. is_square (Some k) t || rook t) bishop j) (word (may_stand_between men c)))
     ∙ squares_either (λ t. (is_square (Some k) t || rook t) || bishop t) (may_stand_between men c)
-    ∙ squares_same _ (may_expose rule men c)
+    ∙ squares_same _ (may_expose men c)
     (λ s b. ap (λ (o : Option ℕ). ((k == s || rook s) || bishop s) || is_on_fairy_line_to men o c s) at
-    ∙ sym (ap (λ (o : Option ℕ). may_expose_on rule men o c s) at
+    ∙ sym (ap (λ (o : Option ℕ). may_expose_on men o c s) at
     ∙ ap (λ (x : Bool). x || k == s || rook s || bishop s || is_on_fairy_line men (other c) k s) unreached))
 
 -- whether a move can't uncover a king, told by that word
 pub cannot_expose_is : (rule : RuleSet) (p : Position) (x : Man) (c : Colour) (m : Move) (w s : ℕ) (b : Bool) → man_on p.men m.from ≡ Some x
-    → w ≡ word (may_expose rule p.men c) → s ≡ m.from → s < 64 → b ≡ (bit_at w s == 1)
+    → w ≡ word (may_expose p.men c) → s ≡ m.from → s < 64 → b ≡ (bit_at w s == 1)
     → (not b && (not (may_stand_between p.men c m.to) && is_plain rule p x m)) ≡ cannot_expose rule p c m
 unfolding cannot_expose
 cannot_expose_is rule p x c m w s b here h same small e =
     rw here (ap (λ (u : Bool). not u && (not (may_stand_between p.men c m.to) && is_plain rule p x m))
-    (e ∙ word_has (may_expose rule p.men c) w s h small ∙ ap (may_expose rule p.men c) same))
+    (e ∙ word_has (may_expose p.men c) w s h small ∙ ap (may_expose p.men c) same))
 
 pub cannot_expose_nobody : (rule : RuleSet) (p : Position) (c : Colour) (m : Move) → man_on p.men m.from ≡ None → false ≡ cannot_expose rule p c m
 unfolding cannot_expose

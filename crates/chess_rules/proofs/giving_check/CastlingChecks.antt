@@ -401,13 +401,13 @@ module _ (rule : RuleSet) (p : Position) (x : Man) (m : Move) (well : IsWellForm
       (omega (arith, small.2, stepped_size, length-set stepped (corner m) None))
 
   -- what is asked, so that castling gives no check to the king of colour c
-  module _ (c : Colour) (enemy_of : same_colour x.colour c ≡ false) (covered : may_expose rule p.men c m.from ≡ false)
+  module _ (c : Colour) (enemy_of : same_colour x.colour c ≡ false) (covered : may_expose p.men c m.from ≡ false)
       (aside : may_stand_between p.men c m.to ≡ false) (king_off : may_check_from p.men c x m.to ≡ false)
       (rook_off : may_check_from p.men c (enemy c Rook) (halfway m) ≡ false) where
     module _ (k : ℕ) (at : king_square p.men c ≡ Some k) (stands : is_man (man_on p.men k) c King ≡ true) (inside : k < 64) where
-      parts : IsCovered rule p.men c m.from k
+      parts : IsCovered p.men c m.from k
       unfolding may_expose
-      parts = covered_parts rule p.men c m.from k (ap (λ (o : Option ℕ). may_expose_on rule p.men o c m.from) (sym at) ∙ covered)
+      parts = covered_parts p.men c m.from k (ap (λ (o : Option ℕ). may_expose_on p.men o c m.from) (sym at) ∙ covered)
 
       off_lines : (t : ℕ) → may_stand_between p.men c t ≡ false → is_on_fairy_line p.men (other c) k t ≡ false
       unfolding may_stand_between
@@ -422,7 +422,7 @@ module _ (rule : RuleSet) (p : Position) (x : Man) (m : Move) (well : IsWellForm
       -- once the king has stepped, no man reaches the other king
       king_steps : is_reached stepped k (other c) ≡ false
       king_steps =
-          unreached rule p.men stepped m.from m.to x c k king_shift parts (off_lines m.to aside) (record {
+          unreached p.men stepped m.from m.to x c k king_shift parts (off_lines m.to aside) (record {
             quiet = λ mine. from_there x m.to king_off;
             stood = λ mine. (is.here, small.0);
           }) inside

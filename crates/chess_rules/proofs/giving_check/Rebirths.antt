@@ -7,8 +7,6 @@ use Rattle.chess_core.specs.Position.{AtMostOneKing, Position, is_man, is_side, 
 use Rattle.chess_core.specs.Squares.{is_square, squares}
 use Rattle.chess_core.specs.Steps.{along, diagonal_steps, knight_steps, queen_steps, straight_steps}
 use Rattle.chess_core.specs.WellFormed.{IsWellFormed}
-use Rattle.chess_core.specs.ties.Words.{word}
-use Rattle.chess_core.proofs.Words.{squares_same}
 use Rattle.chess_core.specs.declared.man.Colour.{Colour}
 use Rattle.chess_core.specs.declared.man.Kind.{Kind}
 use Rattle.chess_core.specs.declared.man.Kind.TheVariants.{King, Queen, Rook, Bishop, Knight, Pawn, Grasshopper, Nightrider}
@@ -24,7 +22,7 @@ use Rattle.chess_rules.specs.Reaches.{is_clear, is_vacant, reaches, reaches_as, 
 use Rattle.chess_rules.specs.RuleSet.{RuleSet, circe, madrasi, orthodox}
 use Rattle.chess_rules.specs.declared.checks.CheckSquares.{CheckSquares}
 use Rattle.chess_rules.specs.ties.CheckSquares.{AreCheckSquares, are_rebirths_quiet, check_squares_for, is_absent, rule_of_checks, may_check_from}
-use Rattle.chess_rules.specs.ties.Shields.{cannot_expose, may_expose, may_expose_on}
+use Rattle.chess_rules.specs.ties.Shields.{cannot_expose}
 use Rattle.chess_rules.proofs.giving_check.Checking.{no_check, other_twice}
 use Rattle.chess_rules.proofs.making_moves.Fits.{arrived}
 use Rattle.chess_rules.proofs.making_moves.Pseudo.{IsMade, made, on_board}
@@ -220,25 +218,6 @@ rebirth_gives_no_check p x m well may here unpromoted absent safe =
           (λ s. ap (λ (e : Colour). is_man (man_on (moved_men p x m) s) e Grasshopper) (other_twice p.turn) ∙ lacks s)
           (moved_sound circe p x m well is).kings before
 
--- the shields are the same under all rules
-pub shields_alike : (q r : RuleSet) (men : List (Option Man)) (c : Colour) → word (may_expose q men c) ≡ word (may_expose r men c)
-unfolding may_expose
-shields_alike q r men c = squares_same (may_expose q men c) (may_expose r men c) (λ s b. by (king_square men c) s) where
-  by : (o : Option ℕ) (s : ℕ) → may_expose_on q men o c s ≡ may_expose_on r men o c s
-  by None s = refl
-  by (Some k) s = refl
-
-pub check_squares_alike : (q r : RuleSet) (men : List (Option Man)) (c : Colour) (s : CheckSquares) → AreCheckSquares q men c s → AreCheckSquares r men c s
-check_squares_alike q r men c s a = record {
-  shield_squares = a.shield_squares ∙ shields_alike q r men c;
-  straight = a.straight;
-  diagonal = a.diagonal;
-  knight = a.knight;
-  pawn = a.pawn;
-  grasshopper = a.grasshopper;
-  nightrider = a.nightrider;
-}
-
 pub quiet_parts : (rule : RuleSet) (men : List (Option Man)) (e : Colour) → are_rebirths_quiet rule men e ≡ true
     → (rule ≡ circe) × (is_absent men (record { colour = e; kind = Grasshopper }) ≡ true)
 unfolding are_rebirths_quiet
@@ -248,7 +227,7 @@ quiet_parts madrasi men e h = absurd (false≢true h)
 
 -- a move that gives no check by the rules of checks gives none
 pub no_check_by_rebirth : (rule : RuleSet) (p : Position) (x : Man) (m : Move) (s : CheckSquares) (y : Man) (w t : ℕ) → IsWellFormed p → pseudo rule p m ≡ true
-    → man_on p.men m.from ≡ Some x → AreCheckSquares rule p.men (other p.turn) s → y ≡ arriving x m.promo → w ≡ check_squares_for s y.kind → t ≡ m.to → t < 64
+    → man_on p.men m.from ≡ Some x → AreCheckSquares p.men (other p.turn) s → y ≡ arriving x m.promo → w ≡ check_squares_for s y.kind → t ≡ m.to → t < 64
     → (bit_at w t == 1) ≡ false → (same_kind y.kind King ≡ true → may_check_from p.men (other p.turn) y t ≡ false) → m.promo ≡ None
     → cannot_expose (rule_of_checks rule p.men p.turn) p (other p.turn) m ≡ true → in_check rule (after rule p m).men (other p.turn) ≡ false
 no_check_by_rebirth rule p x m s y w t well may here a is h same small off apart unpromoted cover = elim (cases_Bool (are_rebirths_quiet rule p.men p.turn)) [
@@ -259,7 +238,7 @@ no_check_by_rebirth rule p x m s y w t well may here a is h same small off apart
       ap (λ (r : RuleSet). cannot_expose r p (other p.turn) m) (sym (cond-true (are_rebirths_quiet rule p.men p.turn) _ _ quiet)) ∙ cover in
       ap (λ (r : RuleSet). in_check r (after r p m).men (other p.turn)) parts.0
       ∙ rebirth_gives_no_check p x m well may_so here unpromoted parts.1
-      (no_check orthodox p x m s y w t well (pseudo_so p m may_so) here (check_squares_alike rule orthodox p.men (other p.turn) s a) is h same small off
+      (no_check orthodox p x m s y w t well (pseudo_so p m may_so) here a is h same small off
       apart unpromoted cover_so)
   | inr loud ↦
       let cover_so : cannot_expose rule p (other p.turn) m ≡ true =
