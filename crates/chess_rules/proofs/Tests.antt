@@ -1,5 +1,5 @@
 -- Tests joined, and tests over ranges of numbers.
-use Rattle.std.proofs.Common.{◌≡◌, ℕ, zero, suc, ◌+◌, ◌<◌, ◌≤◌, Bool, true, false, ◌&&◌, ◌||◌, ◌==◌, refl, sym, arith, ◌⊎◌, inl, inr, ◌∙◌, ◌-◌, Some, None, find, List, [], ◌∷◌, rules}
+use Rattle.std.proofs.Common.{◌≡◌, ℕ, zero, suc, ◌+◌, ◌<◌, ◌≤◌, Bool, true, false, ◌&&◌, ◌||◌, ◌==◌, not, refl, sym, arith, ◌⊎◌, inl, inr, ◌∙◌, ◌-◌, Some, None, find, List, [], ◌∷◌, rules}
 use Rattle.std.specs.List.{range_with_len, list_all, list_any}
 use Rattle.std.proofs.lemmas.Bool.{and_from, and_left, and_parts, cases_eq, cases_lt, cases_Bool, cond-true, cond-false, false≢true, or_cases, or_left, or_right}
 use Rattle.chess_core.proofs.Ranges.{NoneBelow}
@@ -18,6 +18,10 @@ all_at p a (suc n) k h lo hi = elim (cases_eq k a) [
   | inl e ↦ rw e (first_of_and (p a) _ h)
   | inr ne ↦ all_at p (a + 1) n k (second_of_and (p a) _ h) (omega arith) (omega arith)
 ]
+
+pub implied : (a b : Bool) → (not a || b) ≡ true → a ≡ true → b ≡ true
+implied true b h e = h
+implied false b h e = absurd (false≢true e)
 
 pub same_Bool : (a b : Bool) → (a ≡ true → b ≡ true) → (b ≡ true → a ≡ true) → a ≡ b
 same_Bool true b f g = sym (f refl)

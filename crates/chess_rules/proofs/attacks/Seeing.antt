@@ -16,8 +16,8 @@ use Rattle.chess_core.proofs.Words.{squares_both, squares_either, squares_not, s
 use Rattle.chess_rules.specs.Play.{without_at}
 use Rattle.chess_rules.specs.ties.Sight.{AreSeen, sight_after}
 use Rattle.chess_rules.proofs.making_moves.Plays.{stays_empty}
-use Rattle.chess_rules.proofs.attacks.Shielding.{every_square}
 use Rattle.chess_rules.proofs.Tests.{differs}
+use Rattle.chess_rules.proofs.Bits.{every_square}
 
 pub and_true : (a : Bool) → (a && true) ≡ a
 and_true true = refl

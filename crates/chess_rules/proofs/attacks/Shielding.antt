@@ -1,5 +1,5 @@
 -- A plain move from a square that a queen on the king's doesn't see opens no line to the king.
-use Rattle.std.proofs.Common.{◌≡◌, ◌≢◌, ℕ, ◌-◌, ◌<◌, Bool, true, false, ◌&&◌, ◌||◌, ◌==◌, not, List, [], ◌∷◌, Option, Some, None, is_some, refl, sym, ap, ◌∙◌, arith, inl, inr, rules}
+use Rattle.std.proofs.Common.{◌≡◌, ◌≢◌, ℕ, ◌-◌, ◌<◌, Bool, true, false, ◌&&◌, ◌||◌, ◌==◌, not, List, [], ◌∷◌, length, Option, Some, None, is_some, refl, sym, ap, ◌∙◌, arith, inl, inr, rules}
 use Rattle.std.specs.Int.{bit_at, bit_not, w64}
 use Rattle.std.specs.Int.Bits.{bit_or}
 use Rattle.std.specs.List.{list_any, range_with_len}
@@ -33,9 +33,9 @@ use Rattle.chess_rules.specs.declared.lines.Direction.TheVariants.{East, West, N
 use Rattle.chess_rules.specs.declared.shields.RiderLines.{RiderLines}
 use Rattle.chess_rules.specs.declared.shields.RiderLines.TheVariants.{Straight, Diagonal}
 use Rattle.chess_rules.proofs.rays.Ends.{square_is}
-use Rattle.chess_rules.proofs.Bits.{not_zero, word_empty, word_has}
+use Rattle.chess_rules.proofs.Bits.{not_zero, word_empty, word_has, every_square}
 use Rattle.chess_rules.proofs.attacks.FairyLines.{Holds, WasThere, fairy_parts, hopper_before, nightrider_before, once, ride_kept}
-use Rattle.chess_rules.proofs.making_moves.Fits.{arrived, arrived_other, arriving_king}
+use Rattle.chess_rules.proofs.making_moves.Fits.{arrived, arrived_other, arriving_king, is_square-some}
 use Rattle.chess_rules.proofs.rays.Flips.{backward, opposed, rides_turned}
 use Rattle.chess_rules.proofs.rays.Parting.{Frees, line_open}
 use Rattle.chess_rules.proofs.making_moves.Plays.{none_from_is_some, stays_empty}
@@ -43,12 +43,29 @@ use Rattle.chess_rules.proofs.making_moves.Pseudo.{IsMade, made, on_board}
 use Rattle.chess_rules.proofs.making_moves.Returns.{moved_arrival}
 use Rattle.chess_rules.proofs.making_moves.Stays.{maker}
 use Rattle.chess_rules.proofs.Tests.{any_kept, differs, find_first, first_of_and}
+use Rattle.chess_rules.proofs.attacks.Seeing.{gone_to, kept_now, left_now, neither, there_now}
 
 -- the man on a is gone, z has come to b, and nothing else has changed
 pub record IsShift (men after : List (Option Man)) (a b : ℕ) (z : Man) : Type 0 where
   pub vacated : (q : ℕ) → man_on after q ≡ None → q ≢ a → man_on men q ≡ None
   pub others : (q : ℕ) (y : Man) → man_on after q ≡ Some y → q ≢ b → man_on men q ≡ Some y
   pub arrived : (y : Man) → man_on after b ≡ Some y → y ≡ z
+
+pub gone_shift : (men : List (Option Man)) (a : ℕ) (o : Option ℕ) (b : ℕ) (z : Man) → b < length men → ((s : ℕ) → is_square o s ≡ true → s ≡ b)
+    → IsShift men (gone_to men a o b z) a b z
+gone_shift men a o b z small taken =
+    let there : man_on (gone_to men a o b z) b ≡ Some z = there_now men a o b z small in
+    record {
+      vacated = λ q none off. elim (cases_eq q b) [
+        | inl e ↦ absurd (let bad : None ≡ Some z = sym none ∙ ap (man_on (gone_to men a o b z)) e ∙ there in cc)
+        | inr ne ↦ sym (kept_now men a o b z q ne (neither _ _ (differs a q (λ e. off (sym e))) (false_from_ne_true _ (λ y. ne (taken q y))))) ∙ none
+      ];
+      others = λ q y at ne. elim (cases_Bool (is_square (Some a) q || is_square o q)) [
+        | inl gone ↦ absurd (let bad : None ≡ Some y = sym (left_now men a o b z q ne gone) ∙ at in cc)
+        | inr kept ↦ sym (kept_now men a o b z q ne kept) ∙ at
+      ];
+      arrived = λ y at. let e : Some z ≡ Some y = sym there ∙ at in cc;
+    }
 
 -- where a rider gets, a line goes
 ahead_of : (men : List (Option Man)) (k s : ℕ) (d : Step) → rides men k s d ≡ true → is_ahead k d s ≡ true
@@ -384,24 +401,8 @@ men_after rule p x m here plain = simple_after rule p x m here plain.castling pl
 pub arrived_shift : (rule : RuleSet) (p : Position) (x : Man) (m : Move) → IsWellFormed p → IsMade rule p x m → m.to < 64 → IsPlain rule p x m
     → IsShift p.men (arrived p x m) m.from m.to (arriving x m.promo)
 arrived_shift rule p x m well is small plain =
-    let there : man_on (arrived p x m) m.to ≡ Some (arriving x m.promo) =
-    ap (λ (l : List (Option Man)). man_on l m.to) (sym (moved_plainly p x m plain.castling)) ∙ moved_arrival rule p x m well is small in
-    record {
-      vacated = λ q none off. elim (cases_eq q m.to) [
-        | inl e ↦ let bad : None ≡ Some (arriving x m.promo) = sym none ∙ ap (λ (n : ℕ). man_on (arrived p x m) n) e ∙ there in cc
-        | inr ne ↦ sym (arrived_other p x m q off (λ s cap e. ne (e ∙ captures_there p x m s plain.crossed cap)) ne) ∙ none
-      ];
-      others = λ q y at ne. elim (cases_eq q m.from) [
-        | inl e ↦
-            let gone : man_on (without_man p.men m.from) q ≡ None = rw e (man_on-without_same p.men m.from) in
-            let none : man_on (arrived p x m) q ≡ None = man_on-with_other (without_at (without_man p.men m.from) (capture_square p x m)) m.to q
-            (arriving x m.promo) ne ∙ stays_empty (without_man p.men m.from) (capture_square p x m) q gone in
-            let bad : None ≡ Some y = sym none ∙ at in
-            cc
-        | inr off ↦ sym (arrived_other p x m q off (λ s cap e. ne (e ∙ captures_there p x m s plain.crossed cap)) ne) ∙ at
-      ];
-      arrived = λ y at. let e : Some (arriving x m.promo) ≡ Some y = sym there ∙ at in cc;
-    }
+    gone_shift p.men m.from (capture_square p x m) m.to (arriving x m.promo) (omega (arith, small, well.size))
+    (λ s at. captures_there p x m s plain.crossed (is_square-some (capture_square p x m) s at))
 
 -- a king that arrives left its own square
 king_came : (p : Position) (x : Man) (m : Move) (c : Colour) → IsWellFormed p → man_on p.men m.from ≡ Some x → is_promotion_right p x m m.promo ≡ true
@@ -487,10 +488,6 @@ some_nightrider men c w n h none i =
     ∙ ap (λ k. not (k == 0)) (sym h ∙ none) in
     ap (λ k. not (k == 0)) i ∙ not_zero (λ s. is_man (man_on men s) c Nightrider)
     ∙ sym (ap (λ (b : Bool). b || some_square (λ s. is_man (man_on men s) c Nightrider)) no)
-
--- all squares
-pub every_square : (test : ℕ → Bool) → ((s : ℕ) → s < 64 → test s ≡ true) → bit_not w64 0 ≡ word test
-every_square test h = ap (bit_not w64) (word_empty (λ s. false) (λ s b. refl)) ∙ squares_not (λ s. false) ∙ squares_same (λ s. true) test (λ s b. sym (h s b))
 
 -- the word of the squares from which a move may uncover a king
 pub shield_squares_none : (men : List (Option Man)) (c : Colour) → king_square men c ≡ None → 0 ≡ word (may_expose men c)

@@ -33,7 +33,7 @@ use Rattle.chess_rules.specs.declared.checks.CheckSquares.{CheckSquares}
 use Rattle.chess_rules.specs.declared.lines.Direction.{Direction}
 use Rattle.chess_rules.specs.declared.lines.Direction.TheVariants.{East, West, North, South, NorthEast, SouthEast, NorthWest, SouthWest}
 use Rattle.chess_rules.proofs.rays.Ahead.{onward, passes}
-use Rattle.chess_rules.proofs.Bits.{word_has}
+use Rattle.chess_rules.proofs.Bits.{word_has, off_left, off_right}
 use Rattle.chess_rules.proofs.making_moves.Castles.{no_man}
 use Rattle.chess_rules.proofs.rays.Ends.{back, returns_to, square_is}
 use Rattle.chess_rules.proofs.attacks.FairyLines.{Holds, IsBeside, IsNoHurdle, hop_kept, knight_directions, queen_directions, ride_kept}
@@ -42,10 +42,11 @@ use Rattle.chess_rules.proofs.rays.Parting.{Frees}
 use Rattle.chess_rules.proofs.attacks.Exposing.{king_stays_king}
 use Rattle.chess_rules.specs.declared.shields.RiderLines.TheVariants.{Straight}
 use Rattle.chess_rules.proofs.making_moves.Pseudo.{IsCastle, IsMade, king_is_no_pawn, ways}
-use Rattle.chess_rules.proofs.attacks.Shielding.{IsCovered, IsShift, covered_parts, frees, goes_on, king_is, man_there, not_attacked, line_before, not_parted, stood, unreached, unreborn_after}
+use Rattle.chess_rules.proofs.attacks.Shielding.{IsCovered, IsShift, covered_parts, frees, goes_on, gone_shift, king_is, man_there, not_attacked, line_before, not_parted, stood, unreached, unreborn_after}
 use Rattle.chess_rules.proofs.listing_moves.Targeting.{castling_steps, false_by}
-use Rattle.chess_rules.proofs.Tests.{all_at, any_kept, find_first}
+use Rattle.chess_rules.proofs.Tests.{all_at, any_kept, find_first, implied}
 use Rattle.chess_rules.proofs.listing_moves.Walks.{off_second}
+use Rattle.chess_rules.proofs.giving_check.Approaches.{bit_down, bit_up}
 
 -- the corners of the board: no line goes through one
 abbrev is_corner : ℕ → Bool
@@ -98,10 +99,6 @@ unfolding along
 half_alone East h lt = agree_below_at (λ h. not (is_half h) || is_beside_alone h (step_of East)) (λ h. true) 64 h refl lt
 half_alone x h lt = agree_below_at (λ h. not (is_half h) || is_beside_alone h (step_of x)) (λ h. true) 64 h refl lt
 
-implied_by : (a b : Bool) → (not a || b) ≡ true → a ≡ true → b ≡ true
-implied_by true b h e = h
-implied_by false b h e = absurd (false≢true e)
-
 -- who stands halfway is a hurdle before none but the squares beside him
 half_no_hurdle : (x : Direction) (h s k : ℕ) → is_half h ≡ true → h < 64 → s < 64 → k ≢ h + 1 → k ≢ h - 1 → IsNoHurdle h s k (step_of x)
 half_no_hurdle x h s k half inside small ne1 ne2 = λ n at low le. false_from_ne_true _ (λ y.
@@ -110,7 +107,7 @@ half_no_hurdle x h s k half inside small ne1 ne2 = λ n at low le. false_from_ne
     let on : along h (step_of x) 1 ≡ Some k = onward s h (step_of x) (n - 1) 1 here ∙ ap (along s (step_of x)) rest ∙ at in
     let came : along h (back (step_of x)) (n - 1) ≡ Some s = square_is _ s (returns_to s h (step_of x) (n - 1) small y) in
     let before = passes h s (back (step_of x)) (n - 1) 1 inside (omega arith) came in
-    let alone = implied_by (is_half h) (is_beside_alone h (step_of x)) (half_alone x h inside) half in
+    let alone = implied (is_half h) (is_beside_alone h (step_of x)) (half_alone x h inside) half in
     elim (or_cases _ (is_square (along h (step_of x) 1) (h - 1)) alone) [
       | inl e ↦ elim (or_cases _ (is_square (along h (step_of x) 1) (h + 1)) e) [
         | inl f ↦ elim (or_cases (not (is_some (along h (back (step_of x)) 1))) (not (is_some (along h (step_of x) 1))) f) [
@@ -146,25 +143,6 @@ module _ (men after : List (Option Man)) (b s k : ℕ) (free : Frees after men b
       any_kept (λ x. hops after s k (step_of x)) (λ x. hops men s k (step_of x)) queen_directions
       (λ x hop. hop_kept men after b t s k (step_of x) free holds (corner_beside x b s k edge inside small) (none x) hop) h
 
--- a man goes from a to b
-shift_of : (men : List (Option Man)) (a b : ℕ) (z : Man) → b < length men → IsShift men (with_man (without_man men a) b z) a b z
-shift_of men a b z lt =
-    let size : length (without_man men a) ≡ length men = length-set men a None in
-    let there : man_on (with_man (without_man men a) b z) b ≡ Some z = man_on-with_same (without_man men a) b z (omega arith) in
-    record {
-      vacated = λ q none off. elim (cases_eq q b) [
-        | inl e ↦ let bad : None ≡ Some z = sym none ∙ ap (man_on (with_man (without_man men a) b z)) e ∙ there in absurd (cc)
-        | inr ne ↦ sym (man_on-without_other men a q off) ∙ sym (man_on-with_other (without_man men a) b q z ne) ∙ none
-      ];
-      others = λ q y at ne.
-          let before : man_on (without_man men a) q ≡ Some y = sym (man_on-with_other (without_man men a) b q z ne) ∙ at in
-          elim (cases_eq q a) [
-            | inl e ↦ let bad : None ≡ Some y = sym (man_on-without_same men a) ∙ ap (man_on (without_man men a)) (sym e) ∙ before in absurd (cc)
-            | inr off ↦ sym (man_on-without_other men a q off) ∙ before
-          ];
-      arrived = λ y at. let e : Some z ≡ Some y = sym there ∙ at in cc;
-    }
-
 -- king and rook castle: a king on a goes to t, the rook from c to h
 abbrev CastlingSquares : ℕ → ℕ → ℕ → ℕ → Type 0
 CastlingSquares a t c h =
@@ -180,20 +158,16 @@ record IsWay (men : List (Option Man)) (a t c h : ℕ) : Type 0 where
   pub beside : (k : ℕ) → k ≢ a → k ≢ t → (k ≢ h + 1) × (k ≢ h - 1)
   pub lined : (k : ℕ) → k < 64 → k ≢ c → is_on_some straight_steps k h ≡ true → is_on_some straight_steps k a ≡ true → is_on_some straight_steps k c ≡ true
 
-implied : (a b c d : Bool) → (not (a && b) || c || d) ≡ true → a ≡ true → b ≡ true → c ≡ false → d ≡ true
-implied true true false d h p q r = h
-implied true false c d h p q r = absurd (false≢true q)
-implied false b c d h p q r = absurd (false≢true p)
-implied true true true d h p q r = absurd (false≢true (sym r))
-
 abbrev is_lined_up : ℕ → ℕ → ℕ → ℕ → Bool
-is_lined_up a c h k = not (is_on_some straight_steps k h && is_on_some straight_steps k a) || k == c || is_on_some straight_steps k c
+is_lined_up a c h k = not (is_on_some straight_steps k h && is_on_some straight_steps k a) || (k == c || is_on_some straight_steps k c)
 
 lined_up : (a c h k : ℕ) → is_lined_up a c h k ≡ true → k ≢ c → is_on_some straight_steps k h ≡ true → is_on_some straight_steps k a ≡ true
     → is_on_some straight_steps k c ≡ true
 lined_up a c h k y ne p q =
-    implied (is_on_some straight_steps k h) (is_on_some straight_steps k a) (k == c) (is_on_some straight_steps k c) y p q
-    (false_from_ne_true _ (λ e. ne (eqb-true k c e)))
+    elim (or_cases (k == c) (is_on_some straight_steps k c) (implied (is_on_some straight_steps k h && is_on_some straight_steps k a) _ y (and_from _ _ p q))) [
+      | inl e ↦ absurd (ne (eqb-true k c e))
+      | inr lined ↦ lined
+    ]
 
 -- what hangs on the squares alone
 abbrev is_place : ℕ → ℕ → ℕ → Bool
@@ -348,10 +322,10 @@ module _ (rule : RuleSet) (p : Position) (x : Man) (m : Move) (well : IsWellForm
   stepped_size = length-set (without_man p.men m.from) m.to (Some x) ∙ length-set p.men m.from None ∙ well.size
 
   king_shift : IsShift p.men stepped m.from m.to x
-  king_shift = shift_of p.men m.from m.to x (omega (arith, small.1, well.size))
+  king_shift = gone_shift p.men m.from None m.to x (omega (arith, small.1, well.size)) (λ s at. absurd (false≢true at))
 
   rook_shift : IsShift stepped castled (corner m) (halfway m) rook.0
-  rook_shift = shift_of stepped (corner m) (halfway m) rook.0 (omega (arith, small.2, stepped_size))
+  rook_shift = gone_shift stepped (corner m) None (halfway m) rook.0 (omega (arith, small.2, stepped_size)) (λ s at. absurd (false≢true at))
 
   rook_there : man_on castled (halfway m) ≡ Some rook.0
   rook_there =
@@ -481,40 +455,22 @@ castling_aside x m small h =
     sym (cond-false (same_kind x.kind Pawn) _ _ (king_is_no_pawn x.kind king) ∙ cond-true (same_kind x.kind King) _ _ king)
     ∙ castling_steps x m small h
 
-half_below : (w : ℕ) → (w * 2 ^ 1 % 2 ^ 64) / 2 ≡ w % 2 ^ 63
-half_below w = omega arith
-
-bit_below : (w i : ℕ) → i < 63 → bit_at (w % 2 ^ 63) i ≡ bit_at w i
-bit_below w i lt =
-    let parts : w / 2 ^ 63 * 2 ^ 63 + w % 2 ^ 63 ≡ w = omega arith in
-    sym (bit_at_cat_low (w / 2 ^ 63) 63 (w % 2 ^ 63) i lt) ∙ ap (λ n. bit_at n i) parts
-
-shifted_up : (w i : ℕ) → i < 63 → bit_at (w * 2 ^ 1 % 2 ^ 64) (suc i) ≡ bit_at w i
-shifted_up w i lt = bit_at-suc (w * 2 ^ 1 % 2 ^ 64) i ∙ ap (λ n. bit_at n i) (half_below w) ∙ bit_below w i lt
-
-shifted_down : (w i : ℕ) → bit_at (w / 2 ^ 1) i ≡ bit_at w (suc i)
-shifted_down w i = sym (bit_at-suc w i)
-
 two_aside : (s t : ℕ) → is_aside s t ≡ true → (t ≡ s + 2) ⊎ (s ≡ t + 2)
 two_aside s t h = search (rules, along-is, or_cases)
-
-off_either : (a b i : ℕ) → (bit_at (bit_or a b) i == 1) ≡ false → ((bit_at a i == 1) ≡ false) × ((bit_at b i == 1) ≡ false)
-off_either a b i h = search (rules, bit_at-lt, bit_at_or, eq-eqb, eqb-true, false_by)
 
 crossed_aside : (w s a t : ℕ) → s < 64 → a ≡ word (is_aside s) → t < 64 → is_aside s t ≡ true
     → (bit_at (bit_and a (bit_or (w * 2 ^ 1 % 2 ^ 64) (w / 2 ^ 1))) t == 1) ≡ false → (bit_at w ((s + t) / 2) == 1) ≡ false
 crossed_aside w s a t small are lt aside off =
     let on : (bit_at a t == 1) ≡ true = word_has (is_aside s) a t are lt ∙ aside in
-    let both = off_either (w * 2 ^ 1 % 2 ^ 64) (w / 2 ^ 1) t (off_second a (bit_or (w * 2 ^ 1 % 2 ^ 64) (w / 2 ^ 1)) t off on) in
+    let up : ℕ = w * 2 ^ 1 % 2 ^ 64 in
+    let off_both : (bit_at (bit_or up (w / 2 ^ 1)) t == 1) ≡ false = off_second a (bit_or up (w / 2 ^ 1)) t off on in
     elim (two_aside s t aside) [
       | inl e ↦
-          let next : t ≡ suc (s + 1) = omega arith in
-          let half : (s + t) / 2 ≡ s + 1 = omega arith in
-          ap (λ n. bit_at w n == 1) half ∙ ap (λ n. n == 1) (sym (shifted_up w (s + 1) (omega arith)))
-          ∙ ap (λ n. bit_at (w * 2 ^ 1 % 2 ^ 64) n == 1) (sym next) ∙ both.0
+          let half : (s + t) / 2 ≡ t - 1 = omega arith in
+          ap (λ n. bit_at w n == 1) half ∙ ap (λ n. n == 1) (sym (bit_up w 1 t (omega arith) lt)) ∙ off_left up (w / 2 ^ 1) t off_both
       | inr e ↦
-          let half : (s + t) / 2 ≡ suc t = omega arith in
-          ap (λ n. bit_at w n == 1) half ∙ ap (λ n. n == 1) (sym (shifted_down w t)) ∙ both.1
+          let half : (s + t) / 2 ≡ 1 + t = omega arith in
+          ap (λ n. bit_at w n == 1) half ∙ ap (λ n. n == 1) (sym (bit_down w 1 t)) ∙ off_right up (w / 2 ^ 1) t off_both
     ]
 
 pub castling_targets_are : (v : CheckSquares) (s a : ℕ) → s < 64 → a ≡ word (is_aside s)

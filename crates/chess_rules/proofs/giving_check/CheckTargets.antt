@@ -24,7 +24,7 @@ use Rattle.chess_rules.specs.RuleSet.{RuleSet, circe, is_circe, orthodox}
 use Rattle.chess_rules.specs.ties.Targets.{arrives, is_arrival, may_go}
 use Rattle.chess_rules.proofs.listing_moves.Arrivals.{may_go_aimed}
 use Rattle.chess_rules.specs.ties.Lines.{is_aside}
-use Rattle.chess_rules.proofs.Bits.{word_has}
+use Rattle.chess_rules.proofs.Bits.{word_has, off_left, off_right}
 use Rattle.chess_rules.proofs.listing_moves.Calls.{pseudo-from_legal}
 use Rattle.chess_rules.proofs.giving_check.CastlingChecks.{castling_aside, castling_gives_no_check}
 use Rattle.chess_rules.proofs.giving_check.Checking.{no_check}
@@ -34,19 +34,9 @@ use Rattle.chess_rules.proofs.giving_check.Rebirths.{pseudo_so, quiet_parts, reb
 use Rattle.chess_rules.proofs.attacks.Shielding.{other_differs}
 use Rattle.chess_rules.proofs.listing_moves.Walks.{off_second}
 use Rattle.chess_rules.proofs.listing_moves.Targeting.{arrival_needed, every_square_on, false_by, nobody_moves, unpromoted}
-
--- a square off both words is off each
-pub off_left : (a b i : ℕ) → (bit_at (bit_or a b) i == 1) ≡ false → (bit_at a i == 1) ≡ false
-off_left a b i h = search (rules, bit_at-lt, bit_at_or, eq-eqb, eqb-true, false_by)
-
-pub off_right : (a b i : ℕ) → (bit_at (bit_or a b) i == 1) ≡ false → (bit_at b i == 1) ≡ false
-off_right a b i h = search (rules, bit_at-lt, bit_at_or, eq-eqb, eqb-true, false_by)
+use Rattle.chess_rules.proofs.Tests.{implied}
 
 -- a pawn's last rank is in the word of both
-implied : (a b : Bool) → (not a || b) ≡ true → a ≡ true → b ≡ true
-implied true b h e = h
-implied false b h e = cc
-
 last_rank_on : (c : Colour) (t : ℕ) → t < 64 → (rank_of t == last_rank c) ≡ true → (bit_at 18374686479671623935 t == 1) ≡ true
 last_rank_on c t lt = implied (rank_of t == last_rank c) _ (agreed c) where
   agreed : (c : Colour) → (not (rank_of t == last_rank c) || bit_at 18374686479671623935 t == 1) ≡ true

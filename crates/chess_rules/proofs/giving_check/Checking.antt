@@ -23,8 +23,8 @@ use Rattle.chess_rules.specs.Legal.{pseudo}
 use Rattle.chess_rules.specs.Play.{after, arriving}
 use Rattle.chess_rules.specs.Reaches.{reaches_as, rides}
 use Rattle.chess_rules.specs.RuleSet.{RuleSet}
-use Rattle.chess_rules.proofs.Bits.{not_zero, word_empty, word_has}
-use Rattle.chess_rules.proofs.attacks.Shielding.{arriving_colour, every_square, gives_no_check}
+use Rattle.chess_rules.proofs.Bits.{not_zero, word_empty, word_has, every_square}
+use Rattle.chess_rules.proofs.attacks.Shielding.{arriving_colour, gives_no_check}
 use Rattle.chess_rules.proofs.making_moves.Pseudo.{made}
 
 pub check_squares_of_none : (men : List (Option Man)) (c : Colour) (j : Kind) → king_square men c ≡ None → 0 ≡ word (may_check_from men c (enemy c j))
