@@ -3,7 +3,7 @@ use Rattle.std.proofs.Common.{◌∷◌, ◌≡◌, ℕ, ◌<◌, Bool, true, fa
 use Rattle.std.specs.Int.{bit_at}
 use Rattle.std.specs.Int.Bits.{bit_or, bit_and}
 use Rattle.std.specs.List.{list_any}
-use Rattle.std.proofs.lemmas.Bool.{false≢true}
+use Rattle.std.proofs.lemmas.Bool.{and_left, false≢true}
 use Rattle.std.proofs.lemmas.List.Folds.{list_any-append}
 use Rattle.chess_core.specs.Position.{is_man, is_side, man_on, other, same_kind}
 use Rattle.chess_core.specs.Squares.{some_square}
@@ -67,8 +67,7 @@ reaches_of_man men None c k s t h = absurd (false≢true h)
 reaches_of_man men (Some x) c k s t h = search (rules, first_of_and, same_colour-true, same_kind-is, second_of_and)
 
 only_then : (a b c : Bool) → (a ≡ true → b ≡ c) → (a && b) ≡ (a && c)
-only_then true b c h = h refl
-only_then false b c h = refl
+only_then a b c p = grind arith
 
 pub reached : (men : List (Option Man)) (c : Colour) (k : Kind) (t w n : ℕ) → w ≡ squares_of men c k → n ≡ word (λ s. reaches_as men c k s t)
     → bit_and w n ≡ word (λ s. is_man (man_on men s) c k && reaches men s t)
@@ -78,10 +77,6 @@ reached men c k t w n h r =
     ∙ squares_same _ _ (λ s b. only_then (is_man (man_on men s) c k) (reaches_as men c k s t) (reaches men s t)
     (λ h. sym (reaches_of_man men (man_on men s) c k s t h)))
 
-fails_first : (a b : Bool) → a ≡ false → (a && b) ≡ false
-fails_first true b h = absurd (cc)
-fails_first false b h = refl
-
 -- a word that is 0 has no square
 word_lacks : (test : ℕ → Bool) → word test ≡ 0 → (s : ℕ) → s < 64 → test s ≡ false
 word_lacks test h s b = sym (word_has test (word test) s refl b) ∙ word_has (λ s. false) (word test) s (h ∙ word_empty (λ s. false) (λ s b. refl)) b
@@ -90,7 +85,7 @@ pub reached_none : (men : List (Option Man)) (c : Colour) (k : Kind) (t w : ℕ)
     → 0 ≡ word (λ s. is_man (man_on men s) c k && reaches men s t)
 unfolding squares_of
 reached_none men c k t w h z =
-    word_empty _ (λ s b. fails_first (is_man (man_on men s) c k) (reaches men s t) (word_lacks (λ s. is_man (man_on men s) c k) (sym h ∙ z) s b))
+    word_empty _ (λ s b. and_left (is_man (man_on men s) c k) (reaches men s t) (word_lacks (λ s. is_man (man_on men s) c k) (sym h ∙ z) s b))
 
 -- the men that ride along lines, and the others
 abbrev pub others : List Kind
@@ -99,24 +94,10 @@ others = King ∷ Knight ∷ Pawn ∷ Grasshopper ∷ Nightrider ∷ []
 by_lines : (b : Bool) (k : Kind) (r s d : Bool) → (k ≡ Rook → r ≡ s) → (k ≡ Bishop → r ≡ d) → (k ≡ Queen → r ≡ (s || d))
     → (((((b && same_kind k Rook) || (b && same_kind k Queen)) && s) || (((b && same_kind k Bishop) || (b && same_kind k Queen)) && d))
     || list_any (λ j. (b && same_kind k j) && r) others) ≡ (b && r)
-by_lines false k r s d rook bishop queen = refl
-by_lines true King true s d rook bishop queen = refl
-by_lines true King false s d rook bishop queen = refl
-by_lines true Knight true s d rook bishop queen = refl
-by_lines true Knight false s d rook bishop queen = refl
-by_lines true Pawn true s d rook bishop queen = refl
-by_lines true Pawn false s d rook bishop queen = refl
-by_lines true Grasshopper true s d rook bishop queen = refl
-by_lines true Grasshopper false s d rook bishop queen = refl
-by_lines true Nightrider true s d rook bishop queen = refl
-by_lines true Nightrider false s d rook bishop queen = refl
-by_lines true Rook r true d rook bishop queen = sym (rook refl)
-by_lines true Rook r false d rook bishop queen = sym (rook refl)
-by_lines true Bishop r s true rook bishop queen = sym (bishop refl)
-by_lines true Bishop r s false rook bishop queen = sym (bishop refl)
-by_lines true Queen r true d rook bishop queen = sym (queen refl)
-by_lines true Queen r false true rook bishop queen = sym (queen refl)
-by_lines true Queen r false false rook bishop queen = sym (queen refl)
+by_lines b Rook r s d rook bishop queen = let e : r ≡ s = rook refl in grind arith
+by_lines b Bishop r s d rook bishop queen = let e : r ≡ d = bishop refl in grind arith
+by_lines b Queen r s d rook bishop queen = let e : r ≡ (s || d) = queen refl in grind arith
+by_lines b k r s d rook bishop queen = grind arith
 
 rook_reaches : (men : List (Option Man)) (c : Colour) (k : Kind) (s t : ℕ) → s < 64 → t < 64 → k ≡ Rook
     → reaches_as men c k s t ≡ list_any (rides men t s) straight_steps
@@ -153,8 +134,7 @@ unfolding rides is_ahead
 rides_ahead men t s d h = search rules
 
 neither : (a b c d : Bool) → (a || b) ≡ false → (a ≡ false → c ≡ false) → (b ≡ false → d ≡ false) → (c || d) ≡ false
-neither true b c d h f g = absurd (false≢true (sym h))
-neither false b c d h f g = rw (f refl) (g h)
+neither a b c d p q h = grind arith
 
 rides_some : (men : List (Option Man)) (t s : ℕ) (ds : List Step) → is_on_some ds t s ≡ false → list_any (rides men t s) ds ≡ false
 unfolding is_on_some
@@ -163,8 +143,7 @@ rides_some men t s (d ∷ ds) h = neither (is_ahead t d s) (list_any (λ d. is_a
     (rides_ahead men t s d) (rides_some men t s ds)
 
 apart : (m l r : Bool) → (m && l) ≡ false → (l ≡ false → r ≡ false) → (m && r) ≡ false
-apart true l r h f = f h
-apart false l r h f = refl
+apart m l r p q = grind arith
 
 pub met_none : (men : List (Option Man)) (c : Colour) (k : Kind) (t m n l : ℕ) (ds : List Step) → m ≡ squares_of men c k → n ≡ squares_of men c Queen
     → l ≡ word (is_on_some ds t) → bit_and (bit_or m n) l ≡ 0
@@ -183,13 +162,7 @@ abbrev pub comer : List (Option Man) → Colour → ℕ → Kind → ℕ → Boo
 comer men c t k s = is_man (man_on men s) c k && reaches men s t
 
 one_by_one : (x a b c d e : Bool) → ((((x || a) || b) || c) || (d || e)) ≡ (x || (a || (b || (c || (d || (e || false))))))
-one_by_one true a b c d e = refl
-one_by_one false true b c d e = refl
-one_by_one false false true c d e = refl
-one_by_one false false false true d e = refl
-one_by_one false false false false true e = refl
-one_by_one false false false false false true = refl
-one_by_one false false false false false false = refl
+one_by_one x a b c d e = grind arith
 
 pub attackers_are : (men : List (Option Man)) (c : Colour) (t r b k n p f : ℕ) → t < 64
     → r ≡ word (is_met men c Rook straight_steps t)
@@ -224,11 +197,7 @@ pub fairy_none : (men : List (Option Man)) (c : Colour) (t g f : ℕ) → g ≡ 
 fairy_none men c t g f hg hf zg zf = fairy_are men c t 0 0 (reached_none men c Grasshopper t g hg zg) (reached_none men c Nightrider t f hf zf)
 
 last_two : (a b c : Bool) → ((a && b) && c) ≡ ((a && c) && b)
-last_two true true true = refl
-last_two true true false = refl
-last_two true false true = refl
-last_two true false false = refl
-last_two false b c = refl
+last_two a b c = grind arith
 
 -- attack by the men that reach the square and aren't paralysed
 pub attacked_by : (rule : RuleSet) (men : List (Option Man)) (t w : ℕ) (c : Colour) → w ≡ word (λ s. is_side (man_on men s) c && reaches men s t)

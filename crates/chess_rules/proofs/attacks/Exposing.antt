@@ -38,9 +38,7 @@ pub record IsSimple (rule : RuleSet) (p : Position) (x : Man) (m : Move) : Type 
   pub rebirth : is_circe rule ≡ true → capture_square p x m ≡ None
 
 none_there : (b : Bool) (o : Option ℕ) → (b && is_some o) ≡ false → b ≡ true → o ≡ None
-none_there b None h e = refl
-none_there true (Some s) h e = absurd (false≢true (sym h))
-none_there false (Some s) h e = absurd (false≢true e)
+none_there b o p q = grind arith
 
 pub simple_parts : (rule : RuleSet) (p : Position) (x : Man) (m : Move) → is_simple rule x m (is_some (capture_square p x m)) ≡ true → IsSimple rule p x m
 simple_parts rule p x m h =
@@ -157,26 +155,13 @@ no_king_exposed rule p x m well may small here simple king =
 
 -- the men of either side after the move
 own_elsewhere : (mine o a k b : Bool) → o ≡ false → a ≡ false → b ≡ false → (((mine && not o) && not a) || (k && b)) ≡ mine
-own_elsewhere true false false true false p q r = refl
-own_elsewhere true false false false false p q r = refl
-own_elsewhere false false false true false p q r = refl
-own_elsewhere false false false false false p q r = refl
-own_elsewhere mine true a k b p q r = absurd (false≢true (sym p))
-own_elsewhere mine false true k b p q r = absurd (false≢true (sym q))
-own_elsewhere mine false false k true p q r = absurd (false≢true (sym r))
+own_elsewhere mine o a k b p q h = grind arith
 
 own_gone : (mine o a k b : Bool) → (a || o) ≡ true → b ≡ false → (((mine && not o) && not a) || (k && b)) ≡ false
-own_gone true true true k b p q = rw q (and_right k false refl)
-own_gone true true false k b p q = rw q (and_right k false refl)
-own_gone true false true k b p q = rw q (and_right k false refl)
-own_gone false o a k b p q = rw q (and_right k false refl)
-own_gone mine false false k b p q = absurd (false≢true p)
+own_gone mine o a k b p q = grind arith
 
 own_there : (mine o a k b : Bool) → mine ≡ false → b ≡ true → (((mine && not o) && not a) || (k && b)) ≡ k
-own_there true o a k b p q = absurd (false≢true (sym p))
-own_there false o a true true p q = refl
-own_there false o a false true p q = refl
-own_there false o a k false p q = absurd (false≢true q)
+own_there mine o a k b p q = grind arith
 
 free_of_own : (c : Colour) (k : Kind) (o : Option Man) → is_arrival_free c o ≡ true → is_man o c k ≡ false
 free_of_own c k None h = refl

@@ -172,10 +172,7 @@ passed test k w r d h i =
     (λ j. not (bit_and (i j) (h j) == 0)) ∙ ap (λ n. not (n == 0)) (squares_both (is_ahead k d) test) ∙ not_zero (λ q. is_ahead k d q && test q)
     ∙ some_square_same _ _ (λ q b. swapped (is_ahead k d q) (test q)) where
       swapped : (a b : Bool) → (a && b) ≡ (b && a)
-      swapped true true = refl
-      swapped true false = refl
-      swapped false true = refl
-      swapped false false = refl
+      swapped a b = grind arith
 
 pub line_passes : (test : ℕ → Bool) (k w r : ℕ) (d : Step) → w ≡ word test → r ≡ ray k d → (bit_and r w == 0) ≡ false
     → r ≡ word (λ t. is_ahead k d t && some_square (λ q. test q && is_ahead k d q))
@@ -183,8 +180,7 @@ unfolding ray
 line_passes test k w r d h i some =
     i ∙ squares_same _ _ (λ t b. sym (ap (λ (y : Bool). is_ahead k d t && y) (sym (passed test k w r d h i) ∙ ap not some) ∙ and_true (is_ahead k d t))) where
       and_true : (a : Bool) → (a && true) ≡ a
-      and_true true = refl
-      and_true false = refl
+      and_true a = grind arith
 
 pub line_misses : (test : ℕ → Bool) (k w r : ℕ) (d : Step) → w ≡ word test → r ≡ ray k d → (bit_and r w == 0) ≡ true
     → 0 ≡ word (λ t. is_ahead k d t && some_square (λ q. test q && is_ahead k d q))

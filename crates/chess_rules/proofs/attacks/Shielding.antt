@@ -3,7 +3,7 @@ use Rattle.std.proofs.Common.{◌≡◌, ◌≢◌, ℕ, ◌-◌, ◌<◌, Bool,
 use Rattle.std.specs.Int.{bit_at, bit_not, w64}
 use Rattle.std.specs.Int.Bits.{bit_or}
 use Rattle.std.specs.List.{list_any, range_with_len}
-use Rattle.std.proofs.lemmas.Bool.{and_from, and_parts, and_right, cases_Bool, cases_eq, cond-false, cond-true, eq-eqb, false_from_ne_true, false≢true, not-true, or_cases, or_left, or_parts, or_right}
+use Rattle.std.proofs.lemmas.Bool.{and_from, and_parts, and_right, cases_Bool, cases_eq, cond-false, cond-true, eq-eqb, false_from_ne_true, false≢true, not-true, or_cases, or_from, or_left, or_parts, or_right}
 use Rattle.std.proofs.lemmas.List.Folds.{list_any-append}
 use Rattle.chess_core.specs.Position.{AtMostOneKing, Position, is_man, is_side, king_square, man_on, other, same_colour, same_kind, without_man}
 use Rattle.chess_core.specs.Squares.{is_square, squares, some_square}
@@ -43,7 +43,7 @@ use Rattle.chess_rules.proofs.making_moves.Pseudo.{IsMade, made, on_board}
 use Rattle.chess_rules.proofs.making_moves.Returns.{moved_arrival}
 use Rattle.chess_rules.proofs.making_moves.Stays.{maker}
 use Rattle.chess_rules.proofs.Tests.{any_kept, differs, find_first, first_of_and}
-use Rattle.chess_rules.proofs.attacks.Seeing.{gone_to, kept_now, left_now, neither, there_now}
+use Rattle.chess_rules.proofs.attacks.Seeing.{gone_to, kept_now, left_now, there_now}
 
 -- the man on a is gone, z has come to b, and nothing else has changed
 pub record IsShift (men after : List (Option Man)) (a b : ℕ) (z : Man) : Type 0 where
@@ -58,7 +58,7 @@ gone_shift men a o b z small taken =
     record {
       vacated = λ q none off. elim (cases_eq q b) [
         | inl e ↦ absurd (let bad : None ≡ Some z = sym none ∙ ap (man_on (gone_to men a o b z)) e ∙ there in cc)
-        | inr ne ↦ sym (kept_now men a o b z q ne (neither _ _ (differs a q (λ e. off (sym e))) (false_from_ne_true _ (λ y. ne (taken q y))))) ∙ none
+        | inr ne ↦ sym (kept_now men a o b z q ne (or_from _ _ (differs a q (λ e. off (sym e))) (false_from_ne_true _ (λ y. ne (taken q y))))) ∙ none
       ];
       others = λ q y at ne. elim (cases_Bool (is_square (Some a) q || is_square o q)) [
         | inl gone ↦ absurd (let bad : None ≡ Some y = sym (left_now men a o b z q ne gone) ∙ at in cc)
@@ -362,8 +362,7 @@ pub record IsPlain (rule : RuleSet) (p : Position) (x : Man) (m : Move) : Type 0
   pub rebirth : is_circe rule ≡ true → capture_square p x m ≡ None
 
 first_off : (a b : Bool) → (a && b) ≡ false → a ≡ true → b ≡ false
-first_off true b h e = h
-first_off false b h e = cc
+first_off a b p q = grind arith
 
 pub plain_parts : (rule : RuleSet) (p : Position) (x : Man) (m : Move) → is_plain rule p x m ≡ true → IsPlain rule p x m
 unfolding is_plain

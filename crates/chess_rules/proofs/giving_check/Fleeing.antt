@@ -141,10 +141,7 @@ arrived_free : (c : Colour) (z : Man) → same_colour z.colour (other c) ≡ fal
 arrived_free c z side king = and_from (not (same_colour z.colour (other c))) _ (ap not side) (ap not king)
 
 unless : (i p q m : Bool) → ((i && (p && q)) || m) ≡ false → p ≡ true → q ≡ true → (i ≡ false) × (m ≡ false)
-unless true true true m h x y = absurd (false≢true (sym h))
-unless true true false m h x y = absurd (false≢true y)
-unless true false q m h x y = absurd (false≢true x)
-unless false p q m h x y = (refl, h)
+unless i p q m h w y = grind arith
 
 closed_words : (p : Position) (a : ℕ) (o : Option ℕ) (c : Colour) (w n : ℕ) → w ≡ side_of p.men (other c) → n ≡ squares_of p.men c King → (l : ℕ)
     → l ≡ bit_and (bit_not w64 (word (is_square o))) (bit_not w64 (word (is_square (Some a))))
@@ -237,9 +234,7 @@ reaches_alike_of men others None s t a = refl
 reaches_alike_of men others (Some y) s t a = reaches_alike men others y.colour y.kind s t a
 
 no_strike : (a p r : Bool) → (a && r) ≡ false → ((a && p) && r) ≡ false
-no_strike true true r h = h
-no_strike true false r h = refl
-no_strike false p r h = refl
+no_strike a p r q = grind arith
 
 zero_false : (test : ℕ → Bool) (s : ℕ) → 0 ≡ word test → s < 64 → test s ≡ false
 zero_false test s h small = sym (word_has test 0 s h small) ∙ ap (λ (n : ℕ). n == 1) (bit_at-zero s)
