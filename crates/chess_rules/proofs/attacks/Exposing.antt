@@ -41,12 +41,7 @@ none_there : (b : Bool) (o : Option ℕ) → (b && is_some o) ≡ false → b �
 none_there b o p q = grind arith
 
 pub simple_parts : (rule : RuleSet) (p : Position) (x : Man) (m : Move) → is_simple rule x m (is_some (capture_square p x m)) ≡ true → IsSimple rule p x m
-simple_parts rule p x m h =
-    let h1 = and_parts (not (is_castling x m)) (not (is_circe rule && is_some (capture_square p x m))) h in
-    record {
-      castling = not-true _ h1.0;
-      rebirth = λ circe. none_there (is_circe rule) (capture_square p x m) (not-true _ h1.1) circe;
-    }
+simple_parts rule p x m h = grind (arith, and_parts, not-true, none_there)
 
 -- the arriving man in a word by kind
 pub arrives_as : (x : Man) (m : Move) (k : Kind) (w : ℕ) → w ≡ word (is_square (Some m.to)) → same_kind (arriving x m.promo).kind k ≡ true
@@ -214,24 +209,11 @@ others_on rule p x m s well is small side = elim (cases_eq s m.to) [
 own_words : (rule : RuleSet) (p : Position) (x : Man) (m : Move) (k : Kind) → IsWellFormed p → IsMade rule p x m → m.to < 64
     → own_after p.men (sight_after p.men m.from (capture_square p x m) m.to) x m k ≡ squares_of (arrived p x m) x.colour k
 unfolding squares_of
-own_words rule p x m k well is small =
-    let mine : ℕ → Bool = λ s. is_man (man_on p.men s) x.colour k in
-    let stands : ℕ → Bool = λ s. not (is_square (capture_square p x m) s) in
-    let stays : ℕ → Bool = λ s. not (is_square (Some m.from) s) in
-    (λ j. bit_or (bit_and (bit_and (word mine) (squares_not (is_square (capture_square p x m)) j)) (squares_not (is_square (Some m.from)) j))
-    (word (is_arriving_as x m k)))
-    ∙ (λ j. bit_or (bit_and (squares_both mine stands j) (word stays)) (word (is_arriving_as x m k)))
-    ∙ (λ j. bit_or (squares_both (λ s. mine s && stands s) stays j) (word (is_arriving_as x m k)))
-    ∙ squares_either (λ s. (mine s && stands s) && stays s) (is_arriving_as x m k)
-    ∙ squares_same _ _ (λ s b. own_on rule p x m k s well is small)
+own_words rule p x m k well is small = search (rules, squares_not, squares_both, squares_either, squares_same, own_on)
 
 are_arrived : (rule : RuleSet) (p : Position) (x : Man) (m : Move) → IsWellFormed p → IsMade rule p x m → m.to < 64
     → AreArrived p.men (arrived p x m) x m (sight_after p.men m.from (capture_square p x m) m.to)
-are_arrived rule p x m well is small = record {
-  occupied = (seen_after p.men m.from (capture_square p x m) m.to (arriving x m.promo) p.turn (goes_capturing rule p x m well is small)).occupied;
-  own = λ k. own_words rule p x m k well is small;
-  others = λ s side. others_on rule p x m s well is small side;
-}
+are_arrived rule p x m well is small = search (rules, seen_after, goes_capturing, own_words, others_on)
 
 pub exposed_is : (rule : RuleSet) (p : Position) (x : Man) (m : Move) (k w : ℕ) (b : Bool) → IsWellFormed p → pseudo rule p m ≡ true → m.to < 64
     → man_on p.men m.from ≡ Some x → is_simple rule x m (is_some (capture_square p x m)) ≡ true → king_after p x m ≡ Some k

@@ -168,11 +168,7 @@ fairy_parts men e k t h = or_parts (list_any (is_lined men e Grasshopper k t) qu
 -- the words of such lines
 passed : (test : ℕ → Bool) (k w r : ℕ) (d : Step) → w ≡ word test → r ≡ ray k d → not (bit_and r w == 0) ≡ some_square (λ q. test q && is_ahead k d q)
 unfolding ray
-passed test k w r d h i =
-    (λ j. not (bit_and (i j) (h j) == 0)) ∙ ap (λ n. not (n == 0)) (squares_both (is_ahead k d) test) ∙ not_zero (λ q. is_ahead k d q && test q)
-    ∙ some_square_same _ _ (λ q b. swapped (is_ahead k d q) (test q)) where
-      swapped : (a b : Bool) → (a && b) ≡ (b && a)
-      swapped a b = grind arith
+passed test k w r d h i = grind (arith, squares_both, not_zero, some_square_same)
 
 pub line_passes : (test : ℕ → Bool) (k w r : ℕ) (d : Step) → w ≡ word test → r ≡ ray k d → (bit_and r w == 0) ≡ false
     → r ≡ word (λ t. is_ahead k d t && some_square (λ q. test q && is_ahead k d q))

@@ -53,19 +53,7 @@ pub record IsShift (men after : List (Option Man)) (a b : ℕ) (z : Man) : Type 
 
 pub gone_shift : (men : List (Option Man)) (a : ℕ) (o : Option ℕ) (b : ℕ) (z : Man) → b < length men → ((s : ℕ) → is_square o s ≡ true → s ≡ b)
     → IsShift men (gone_to men a o b z) a b z
-gone_shift men a o b z small taken =
-    let there : man_on (gone_to men a o b z) b ≡ Some z = there_now men a o b z small in
-    record {
-      vacated = λ q none off. elim (cases_eq q b) [
-        | inl e ↦ absurd (let bad : None ≡ Some z = sym none ∙ ap (man_on (gone_to men a o b z)) e ∙ there in cc)
-        | inr ne ↦ sym (kept_now men a o b z q ne (or_from _ _ (differs a q (λ e. off (sym e))) (false_from_ne_true _ (λ y. ne (taken q y))))) ∙ none
-      ];
-      others = λ q y at ne. elim (cases_Bool (is_square (Some a) q || is_square o q)) [
-        | inl gone ↦ absurd (let bad : None ≡ Some y = sym (left_now men a o b z q ne gone) ∙ at in cc)
-        | inr kept ↦ sym (kept_now men a o b z q ne kept) ∙ at
-      ];
-      arrived = λ y at. let e : Some z ≡ Some y = sym there ∙ at in cc;
-    }
+gone_shift men a o b z small taken = grind (arith, gone_to, there_now, kept_now, left_now, cases_Bool)
 
 -- where a rider gets, a line goes
 ahead_of : (men : List (Option Man)) (k s : ℕ) (d : Step) → rides men k s d ≡ true → is_ahead k d s ≡ true
@@ -157,14 +145,7 @@ module _ (men after : List (Option Man)) (a b : ℕ) (z : Man) (i : IsShift men 
 
   -- what stands now stood before, the arrival apart
   pub stood : Holds after men b
-  stood = record { occupied = λ o h off. by o h off } where
-    stood_one : (q : ℕ) (y : Option Man) → man_on after q ≡ y → is_some y ≡ true → is_square (Some q) b ≡ false → is_some (man_on men q) ≡ true
-    stood_one q None at h off = absurd (false≢true h)
-    stood_one q (Some y) at h off = ap is_some (i.others q y at (λ e. false≢true (sym off ∙ eq-eqb q b e)))
-
-    by : (o : Option ℕ) → is_occupied after o ≡ true → is_square o b ≡ false → is_occupied men o ≡ true
-    by None h off = absurd (false≢true h)
-    by (Some q) h off = stood_one q (man_on after q) refl h off
+  stood = grind (arith, false≢true, eq-eqb)
 
   -- what rides to a now, where a is empty, rode there before
   rode : (xs : List Direction) (k : ℕ) → list_any (λ x. rides after k a (step_of x)) xs ≡ true → list_any (λ x. rides men k a (step_of x)) xs ≡ true
@@ -179,12 +160,7 @@ module _ (men after : List (Option Man)) (a b : ℕ) (z : Man) (i : IsShift men 
       → (is_on_some (steps_along l) k s ≡ true → IsParted men a k s (steps_along l) → ⊥)
       → list_any (rides after s k) (steps_along l) ≡ true → list_any (rides men s k) (steps_along l) ≡ true
   unfolding is_on_some
-  line_before l k s p q never h =
-      let o = opposed_along l in
-      let line : list_any (rides after k s) (steps_along l) ≡ true = rides_turned (steps_along l) after k s o q p ∙ h in
-      rides_turned (steps_along l) men s k o p q
-      ∙ line_open after men a k s (steps_along l) frees line (λ x y. never (goes_on after k s (steps_along l) line)
-      (rode_there l k x, rode_there l s (sym (backward (steps_along l) (rides after s a) o) ∙ y)))
+  line_before l k s p q never h = grind (arith, opposed_along, rides_turned, line_open, frees, goes_on, rode_there, backward)
 
   -- a man that reaches k now, where it stands, reached it before, had it stood there
   reaches_before : (e : Colour) (k s : ℕ) (j : Kind) → s < 64 → k < 64 → NoneShut men after a k s j → reaches_as after e j s k ≡ true
@@ -340,14 +316,7 @@ nobody_reborn true men before (Some s) h = let bad : Some s ≡ None = h refl in
 -- a plain move captures on its arrival alone
 captures_there : (p : Position) (x : Man) (m : Move) (s : ℕ) → is_square p.crossed m.to ≡ false → capture_square p x m ≡ Some s → s ≡ m.to
 unfolding capture_square
-captures_there p x m s off h = elim (cases_Bool (is_some (man_on p.men m.to))) [
-  | inl e ↦ let c : Some m.to ≡ Some s = sym (cond-true (is_some (man_on p.men m.to)) _ _ e) ∙ h in cc
-  | inr e ↦
-      let h1 = sym (cond-false (is_some (man_on p.men m.to)) _ _ e) ∙ h in
-      let h2 : None ≡ Some s = sym (cond-false (same_kind x.kind Pawn && is_diagonal m && is_square p.crossed m.to) _ _
-      (and_right (same_kind x.kind Pawn && is_diagonal m) _ off)) ∙ h1 in
-      cc
-]
+captures_there p x m s off h = grind (arith, cases_Bool, cond-true, cond-false, and_right)
 
 captures_nobody : (p : Position) (x : Man) (m : Move) → is_square p.crossed m.to ≡ false → is_some (man_on p.men m.to) ≡ false → capture_square p x m ≡ None
 unfolding capture_square
@@ -366,15 +335,7 @@ first_off a b p q = grind arith
 
 pub plain_parts : (rule : RuleSet) (p : Position) (x : Man) (m : Move) → is_plain rule p x m ≡ true → IsPlain rule p x m
 unfolding is_plain
-plain_parts rule p x m h =
-    let h1 = and_parts (not (is_castling x m) && not (is_square p.crossed m.to)) (not (is_circe rule && is_some (man_on p.men m.to))) h in
-    let h2 = and_parts (not (is_castling x m)) (not (is_square p.crossed m.to)) h1.0 in
-    let off : is_square p.crossed m.to ≡ false = not-true _ h2.1 in
-    record {
-      castling = not-true _ h2.0;
-      crossed = off;
-      rebirth = λ circe. captures_nobody p x m off (first_off (is_circe rule) (is_some (man_on p.men m.to)) (not-true _ h1.1) circe);
-    }
+plain_parts rule p x m h = grind (arith, and_parts, not-true, captures_nobody, first_off)
 
 pub moved_plainly : (p : Position) (x : Man) (m : Move) → is_castling x m ≡ false → moved_men p x m ≡ arrived p x m
 unfolding moved_men
@@ -436,11 +397,7 @@ pub record CannotExpose (rule : RuleSet) (p : Position) (x : Man) (c : Colour) (
 cannot_expose_parts : (rule : RuleSet) (p : Position) (x : Man) (c : Colour) (m : Move) → man_on p.men m.from ≡ Some x → cannot_expose rule p c m ≡ true
     → CannotExpose rule p x c m
 unfolding cannot_expose
-cannot_expose_parts rule p x c m here h =
-    let h0 : (not (may_expose p.men c m.from) && (not (may_stand_between p.men c m.to) && is_plain rule p x m)) ≡ true = rw here at h in
-    let h1 = and_parts (not (may_expose p.men c m.from)) _ h0 in
-    let h2 = and_parts (not (may_stand_between p.men c m.to)) (is_plain rule p x m) h1.1 in
-    record { origin = not-true _ h1.0; aside = not-true _ h2.0; plain = plain_parts rule p x m h2.1 }
+cannot_expose_parts rule p x c m here h = grind (arith, and_parts, not-true, plain_parts)
 
 -- such a move doesn't leave its mover in check
 pub cannot_expose_own : (rule : RuleSet) (p : Position) (m : Move) → IsWellFormed p → pseudo rule p m ≡ true → m.to < 64 → cannot_expose rule p p.turn m ≡ true
@@ -482,11 +439,7 @@ some_grasshopper men c w h some =
 pub some_nightrider : (men : List (Option Man)) (c : Colour) (w n : ℕ) → w ≡ squares_of men c Grasshopper → w ≡ 0 → n ≡ squares_of men c Nightrider
     → not (n == 0) ≡ has_fairy men c
 unfolding has_fairy squares_of
-some_nightrider men c w n h none i =
-    let no : some_square (λ s. is_man (man_on men s) c Grasshopper) ≡ false = sym (not_zero (λ s. is_man (man_on men s) c Grasshopper))
-    ∙ ap (λ k. not (k == 0)) (sym h ∙ none) in
-    ap (λ k. not (k == 0)) i ∙ not_zero (λ s. is_man (man_on men s) c Nightrider)
-    ∙ sym (ap (λ (b : Bool). b || some_square (λ s. is_man (man_on men s) c Nightrider)) no)
+some_nightrider men c w n h none i = grind (arith, not_zero)
 
 -- the word of the squares from which a move may uncover a king
 pub shield_squares_none : (men : List (Option Man)) (c : Colour) → king_square men c ≡ None → 0 ≡ word (may_expose men c)

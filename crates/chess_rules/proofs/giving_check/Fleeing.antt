@@ -326,15 +326,7 @@ king_is_able rule men x k here king =
 
 may_step : (rule : RuleSet) (q : Position) (x : Man) (k t : ℕ) → IsKingStep rule q x k t → pseudo rule q (step_to k t) ≡ true
 unfolding pseudo
-may_step rule q x k t i =
-    let way = open_parts rule q.men q.turn k t i.near in
-    let piece : same_kind x.kind Pawn ≡ false = king_is_no_pawn x.kind i.king in
-    let able : not (paralysed rule q.men k) ≡ true = ap not (king_is_able rule q.men x k i.here i.king) in
-    let right : is_promotion_right q x (step_to k t) None ≡ true = ap not (and_left (same_kind x.kind Pawn) _ piece) in
-    let gone : goes rule q x (step_to k t) ≡ true = cond-false (same_kind x.kind Pawn) _ _ piece
-    ∙ or_left (reaches q.men k t) _ (steps_there q.men x q.turn k t i.here i.mine i.king way.reached) in
-    ap (λ (o : Option Man). pseudo_of rule q o (step_to k t)) i.here
-    ∙ and_from _ _ (and_from _ _ (and_from _ _ (and_from _ _ i.mine able) way.free) right) gone
+may_step rule q x k t i = grind (arith, open_parts, king_is_no_pawn, king_is_able, and_left, cond-false, or_left, steps_there, and_from)
 
 simple_step : (rule : RuleSet) (q : Position) (x : Man) (k t : ℕ) → IsKingStep rule q x k t → IsSimple rule q x (step_to k t)
 simple_step rule q x k t i =
