@@ -70,6 +70,7 @@ pub(crate) fn check_squares_of(board: &Board, colour: Colour, kind: Kind) -> u64
 }
 
 // The squares from which a move may give check to the colour's king.
+#[inline(always)]
 pub(crate) fn check_squares(board: &Board, colour: Colour) -> CheckSquares
     ensures { AreCheckSquares board.now.men colour result }
 {

@@ -1,13 +1,13 @@
 -- Attack looked for outward from the square.
-use Rattle.std.proofs.Common.{◌∷◌, ◌≡◌, ℕ, ◌<◌, Bool, true, false, ◌&&◌, ◌||◌, ◌==◌, not, List, [], refl, sym, ap, ◌∙◌, arith, inl, inr, Option, Some, None, rules}
+use Rattle.std.proofs.Common.{◌∷◌, ◌≡◌, ℕ, ◌-◌, ◌<◌, Bool, true, false, ◌&&◌, ◌||◌, ◌==◌, not, List, [], refl, sym, ap, ◌∙◌, arith, inl, inr, Option, Some, None, rules}
 use Rattle.std.specs.Int.{bit_at}
 use Rattle.std.specs.Int.Bits.{bit_or, bit_and}
-use Rattle.std.specs.List.{list_any}
-use Rattle.std.proofs.lemmas.Bool.{and_left, false≢true}
+use Rattle.std.specs.List.{list_any, range_with_len}
+use Rattle.std.proofs.lemmas.Bool.{and_left, false_from_ne_true, false≢true}
 use Rattle.std.proofs.lemmas.List.Folds.{list_any-append}
 use Rattle.chess_core.specs.Position.{is_man, is_side, man_on, other, same_kind}
-use Rattle.chess_core.specs.Squares.{some_square}
-use Rattle.chess_core.specs.Steps.{diagonal_steps, queen_steps, straight_steps}
+use Rattle.chess_core.specs.Squares.{is_square, some_square}
+use Rattle.chess_core.specs.Steps.{along, diagonal_steps, queen_steps, straight_steps}
 use Rattle.chess_core.specs.ties.Words.{squares_of, word}
 use Rattle.chess_core.specs.declared.man.Colour.{Colour}
 use Rattle.chess_core.specs.declared.man.Kind.{Kind}
@@ -22,11 +22,11 @@ use Rattle.chess_rules.specs.Attacks.{attacked, faces, faces_its_like, paralysed
 use Rattle.chess_rules.specs.ties.Lines.{is_ahead, is_on_some}
 use Rattle.chess_rules.specs.ties.Outward.{hopped_from, is_met}
 use Rattle.chess_rules.specs.ties.Shields.{is_reached}
-use Rattle.chess_rules.specs.Reaches.{reaches, reaches_as, reaches_of, rides}
+use Rattle.chess_rules.specs.Reaches.{is_clear, reaches, reaches_as, reaches_of, rides}
 use Rattle.chess_rules.specs.RuleSet.{RuleSet}
 use Rattle.chess_rules.proofs.Bits.{not_zero, word_empty, word_has}
 use Rattle.chess_rules.proofs.rays.Flips.{diagonal-back, grasshopper-back, king-back, knight-back, nightrider-back, pawn-back, queen_rides-back, straight-back}
-use Rattle.chess_rules.proofs.Tests.{any_range_cases, first_of_and, second_of_and}
+use Rattle.chess_rules.proofs.Tests.{any_range_cases, first_of_and, second_of_and, any_kept}
 
 -- tests that agree on the squares
 pub some_square_same : (p q : ℕ → Bool) → ((s : ℕ) → s < 64 → p s ≡ q s) → some_square p ≡ some_square q
@@ -128,19 +128,18 @@ pub met : (men : List (Option Man)) (c : Colour) (k : Kind) (t m n w : ℕ) (ds 
 unfolding squares_of is_met
 met men c k t m n w ds h i j = search (rules, squares_both, squares_either)
 
--- a rider gets to squares ahead alone
-rides_ahead : (men : List (Option Man)) (t s : ℕ) (d : Step) → is_ahead t d s ≡ false → rides men t s d ≡ false
+-- where a rider gets, a line goes
+ahead_of : (men : List (Option Man)) (k s : ℕ) (d : Step) → rides men k s d ≡ true → is_ahead k d s ≡ true
 unfolding rides is_ahead
-rides_ahead men t s d h = search rules
+ahead_of men k s d h = any_kept (λ n. is_square (along k d n) s && is_clear men k d (n - 1)) (λ n. is_square (along k d n) s) (range_with_len 1 7)
+    (λ n. first_of_and (is_square (along k d n) s) (is_clear men k d (n - 1))) h
 
-neither : (a b c d : Bool) → (a || b) ≡ false → (a ≡ false → c ≡ false) → (b ≡ false → d ≡ false) → (c || d) ≡ false
-neither a b c d p q h = grind arith
+pub goes_on : (men : List (Option Man)) (k s : ℕ) (ds : List Step) → list_any (rides men k s) ds ≡ true → list_any (λ d. is_ahead k d s) ds ≡ true
+goes_on men k s ds h = any_kept (rides men k s) (λ d. is_ahead k d s) ds (λ d. ahead_of men k s d) h
 
 rides_some : (men : List (Option Man)) (t s : ℕ) (ds : List Step) → is_on_some ds t s ≡ false → list_any (rides men t s) ds ≡ false
 unfolding is_on_some
-rides_some men t s [] h = refl
-rides_some men t s (d ∷ ds) h = neither (is_ahead t d s) (list_any (λ d. is_ahead t d s) ds) (rides men t s d) (list_any (rides men t s) ds) h
-    (rides_ahead men t s d) (rides_some men t s ds)
+rides_some men t s ds h = false_from_ne_true _ (λ y. false≢true (sym h ∙ goes_on men t s ds y))
 
 apart : (m l r : Bool) → (m && l) ≡ false → (l ≡ false → r ≡ false) → (m && r) ≡ false
 apart m l r p q = grind arith

@@ -30,7 +30,6 @@ use Rattle.chess_rules.proofs.Tests.{differs}
 use Rattle.chess_core.proofs.Men.{same_colour-true}
 use Rattle.chess_core.proofs.Words.{squares_both, squares_either, squares_not, squares_same}
 use Rattle.std.specs.Int.{bit_at}
-use Rattle.std.specs.Int.Bits.{bit_and, bit_or}
 
 -- the parts of a simple move
 pub record IsSimple (rule : RuleSet) (p : Position) (x : Man) (m : Move) : Type 0 where

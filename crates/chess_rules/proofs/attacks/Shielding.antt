@@ -1,13 +1,13 @@
 -- A plain move from a square that a queen on the king's doesn't see opens no line to the king.
-use Rattle.std.proofs.Common.{◌≡◌, ◌≢◌, ℕ, ◌-◌, ◌<◌, Bool, true, false, ◌&&◌, ◌||◌, ◌==◌, not, List, [], ◌∷◌, length, Option, Some, None, is_some, refl, sym, ap, ◌∙◌, arith, inl, inr, rules}
+use Rattle.std.proofs.Common.{◌≡◌, ◌≢◌, ℕ, ◌<◌, Bool, true, false, ◌&&◌, ◌||◌, ◌==◌, not, List, [], ◌∷◌, length, Option, Some, None, is_some, refl, sym, ap, ◌∙◌, arith, inl, inr, rules}
 use Rattle.std.specs.Int.{bit_at, bit_not, w64}
 use Rattle.std.specs.Int.Bits.{bit_or}
-use Rattle.std.specs.List.{list_any, range_with_len}
-use Rattle.std.proofs.lemmas.Bool.{and_from, and_parts, and_right, cases_Bool, cases_eq, cond-false, cond-true, eq-eqb, false_from_ne_true, false≢true, not-true, or_cases, or_from, or_left, or_parts, or_right}
+use Rattle.std.specs.List.{list_any}
+use Rattle.std.proofs.lemmas.Bool.{and_from, and_parts, and_right, cases_Bool, cases_eq, cond-false, cond-true, eq-eqb, false_from_ne_true, false≢true, not-true, or_cases, or_left, or_parts, or_right}
 use Rattle.std.proofs.lemmas.List.Folds.{list_any-append}
-use Rattle.chess_core.specs.Position.{AtMostOneKing, Position, is_man, is_side, king_square, man_on, other, same_colour, same_kind, without_man}
-use Rattle.chess_core.specs.Squares.{is_square, squares, some_square}
-use Rattle.chess_core.specs.Steps.{along, diagonal_steps, knight_steps, queen_steps, straight_steps}
+use Rattle.chess_core.specs.Position.{AtMostOneKing, Position, is_man, is_side, king_square, man_on, other, same_colour, same_kind}
+use Rattle.chess_core.specs.Squares.{is_square, squares}
+use Rattle.chess_core.specs.Steps.{diagonal_steps, knight_steps, queen_steps, straight_steps}
 use Rattle.chess_core.specs.WellFormed.{IsWellFormed}
 use Rattle.chess_core.specs.ties.Words.{squares_of, word}
 use Rattle.chess_core.specs.declared.man.Colour.{Colour}
@@ -17,16 +17,15 @@ use Rattle.chess_core.specs.declared.man.Kind.TheVariants.{King, Queen, Rook, Bi
 use Rattle.chess_core.specs.declared.man.Man.{Man}
 use Rattle.chess_core.specs.declared.man.Move.{Move}
 use Rattle.chess_core.specs.declared.step.Step.{Step}
-use Rattle.chess_core.proofs.Men.{man_on-with_other, man_on-without_same}
 use Rattle.chess_core.proofs.Ranges.{find_square_some, some_square_false, some_square_true}
-use Rattle.chess_core.proofs.Words.{squares_either, squares_not, squares_same}
+use Rattle.chess_core.proofs.Words.{squares_either, squares_same}
 use Rattle.chess_rules.specs.Attacks.{attacked, check_of, in_check, paralysed, strikes}
 use Rattle.chess_rules.specs.ties.CheckSquares.{is_absent, may_check_from, may_check_from_on}
 use Rattle.chess_rules.specs.ties.Shields.{cannot_expose, rider_along, steps_along, has_fairy, is_behind, is_on_fairy_line, is_on_fairy_line_to, is_reached, is_shut, is_plain, may_expose, may_expose_on, may_stand_between}
 use Rattle.chess_rules.specs.Legal.{is_promotion_right, pseudo}
-use Rattle.chess_rules.specs.Play.{after, after_by, arriving, capture_square, is_castling, is_diagonal, man_on_at, moved_men, put_at, reborn_at, reborn_square, without_at}
-use Rattle.chess_rules.specs.ties.Lines.{is_ahead, is_on_some, step_of}
-use Rattle.chess_rules.specs.Reaches.{hops, is_clear, is_occupied, is_vacant, reaches, reaches_as, rides}
+use Rattle.chess_rules.specs.Play.{after, after_by, arriving, capture_square, is_castling, is_diagonal, man_on_at, moved_men, put_at, reborn_at, reborn_square}
+use Rattle.chess_rules.specs.ties.Lines.{is_on_some, step_of}
+use Rattle.chess_rules.specs.Reaches.{hops, is_vacant, reaches, reaches_as, rides}
 use Rattle.chess_rules.specs.RuleSet.{RuleSet, is_circe}
 use Rattle.chess_rules.specs.declared.lines.Direction.{Direction}
 use Rattle.chess_rules.specs.declared.lines.Direction.TheVariants.{East, West, North, South, NorthEast, SouthEast, NorthWest, SouthWest}
@@ -35,15 +34,15 @@ use Rattle.chess_rules.specs.declared.shields.RiderLines.TheVariants.{Straight, 
 use Rattle.chess_rules.proofs.rays.Ends.{square_is}
 use Rattle.chess_rules.proofs.Bits.{not_zero, word_empty, word_has, every_square}
 use Rattle.chess_rules.proofs.attacks.FairyLines.{Holds, WasThere, fairy_parts, hopper_before, nightrider_before, once, ride_kept}
-use Rattle.chess_rules.proofs.making_moves.Fits.{arrived, arrived_other, arriving_king, is_square-some}
+use Rattle.chess_rules.proofs.making_moves.Fits.{arrived, arriving_king, is_square-some}
 use Rattle.chess_rules.proofs.rays.Flips.{backward, opposed, rides_turned}
 use Rattle.chess_rules.proofs.rays.Parting.{Frees, line_open}
-use Rattle.chess_rules.proofs.making_moves.Plays.{none_from_is_some, stays_empty}
+use Rattle.chess_rules.proofs.making_moves.Plays.{none_from_is_some}
 use Rattle.chess_rules.proofs.making_moves.Pseudo.{IsMade, made, on_board}
-use Rattle.chess_rules.proofs.making_moves.Returns.{moved_arrival}
 use Rattle.chess_rules.proofs.making_moves.Stays.{maker}
-use Rattle.chess_rules.proofs.Tests.{any_kept, differs, find_first, first_of_and}
+use Rattle.chess_rules.proofs.Tests.{any_kept, differs, find_first}
 use Rattle.chess_rules.proofs.attacks.Seeing.{gone_to, kept_now, left_now, there_now}
+use Rattle.chess_rules.proofs.attacks.Attacking.{goes_on}
 
 -- the man on a is gone, z has come to b, and nothing else has changed
 pub record IsShift (men after : List (Option Man)) (a b : ℕ) (z : Man) : Type 0 where
@@ -54,15 +53,6 @@ pub record IsShift (men after : List (Option Man)) (a b : ℕ) (z : Man) : Type 
 pub gone_shift : (men : List (Option Man)) (a : ℕ) (o : Option ℕ) (b : ℕ) (z : Man) → b < length men → ((s : ℕ) → is_square o s ≡ true → s ≡ b)
     → IsShift men (gone_to men a o b z) a b z
 gone_shift men a o b z small taken = grind (arith, gone_to, there_now, kept_now, left_now, cases_Bool)
-
--- where a rider gets, a line goes
-ahead_of : (men : List (Option Man)) (k s : ℕ) (d : Step) → rides men k s d ≡ true → is_ahead k d s ≡ true
-unfolding rides is_ahead
-ahead_of men k s d h = any_kept (λ n. is_square (along k d n) s && is_clear men k d (n - 1)) (λ n. is_square (along k d n) s) (range_with_len 1 7)
-    (λ n. first_of_and (is_square (along k d n) s) (is_clear men k d (n - 1))) h
-
-pub goes_on : (men : List (Option Man)) (k s : ℕ) (ds : List Step) → list_any (rides men k s) ds ≡ true → list_any (λ d. is_ahead k d s) ds ≡ true
-goes_on men k s ds h = any_kept (rides men k s) (λ d. is_ahead k d s) ds (λ d. ahead_of men k s d) h
 
 -- a square that shuts a line between k and s is the first man's from both
 abbrev IsParted : List (Option Man) → ℕ → ℕ → ℕ → List Step → Type 0

@@ -1,7 +1,7 @@
 -- The men once a man has made a move and the enemy king a step, and what an attack then sees.
-use Rattle.std.proofs.Common.{◌≡◌, ◌≢◌, ℕ, ◌<◌, Bool, true, false, ◌&&◌, ◌||◌, ◌==◌, not, List, length, Option, Some, None, is_some, refl, sym, ap, ◌∙◌, inl, inr, rules, arith}
+use Rattle.std.proofs.Common.{◌≡◌, ◌≢◌, ℕ, ◌<◌, Bool, true, false, ◌&&◌, ◌||◌, ◌==◌, not, List, length, Option, Some, None, is_some, sym, ap, ◌∙◌, inl, inr, rules, arith}
 use Rattle.std.specs.Int.Bits.{bit_or}
-use Rattle.std.proofs.lemmas.Bool.{and_left, and_right, cases_Bool, cases_eq, eq-eqb, eqb-true, false_from_ne_true, false≢true, or_from, or_left}
+use Rattle.std.proofs.lemmas.Bool.{and_left, and_right, cases_Bool, cases_eq, eq-eqb, eqb-true, false_from_ne_true, or_from, or_left}
 use Rattle.std.proofs.lemmas.List.{length-set}
 use Rattle.chess_core.specs.Position.{is_man, is_side, man_on, same_colour, same_kind, without_man}
 use Rattle.chess_core.specs.Squares.{is_square}

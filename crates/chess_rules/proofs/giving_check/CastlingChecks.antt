@@ -1,11 +1,10 @@
 -- Castling that uncovers no king gives check by its rook alone.
-use Rattle.std.proofs.Common.{◌≡◌, ◌≢◌, ℕ, ◌+◌, ◌-◌, ◌*◌, ◌/◌, ◌%◌, ◌^◌, ◌<◌, ◌≤◌, suc, Bool, true, false, ◌&&◌, ◌||◌, ◌==◌, not, List, [], ◌∷◌, length, Option, Some, None, is_some, refl, sym, ap, ◌∙◌, arith, inl, inr, ◌⊎◌, rules}
+use Rattle.std.proofs.Common.{◌≡◌, ◌≢◌, ℕ, ◌+◌, ◌-◌, ◌*◌, ◌/◌, ◌%◌, ◌^◌, ◌<◌, ◌≤◌, Bool, true, false, ◌&&◌, ◌||◌, ◌==◌, not, List, [], ◌∷◌, length, Option, Some, None, is_some, refl, sym, ap, ◌∙◌, arith, inl, inr, ◌⊎◌, rules}
 use Rattle.std.specs.Int.{bit_at}
 use Rattle.std.specs.Int.Bits.{bit_and, bit_or}
 use Rattle.std.specs.List.{list_all, list_any, range_with_len}
 use Rattle.std.proofs.lemmas.Bool.{agree_below, agree_below_at, and_from, and_left, and_parts, cond-false, cond-true, cases_eq, eq-eqb, eqb-true, false_from_ne_true, false≢true, or_cases, or_left, or_parts}
 use Rattle.std.proofs.lemmas.List.{length-set}
-use Rattle.std.proofs.lemmas.Nat.Bits.{bit_at-lt, bit_at-suc, bit_at_cat_low, bit_at_or}
 use Rattle.chess_core.specs.ties.Words.{word}
 use Rattle.chess_core.proofs.Boards.{along-is}
 use Rattle.chess_core.specs.Position.{Position, is_man, is_side, king_square, man_on, other, same_colour, same_kind, with_man, without_man}
@@ -18,13 +17,13 @@ use Rattle.chess_core.specs.declared.man.Kind.TheVariants.{King, Queen, Rook, Bi
 use Rattle.chess_core.specs.declared.man.Man.{Man}
 use Rattle.chess_core.specs.declared.man.Move.{Move}
 use Rattle.chess_core.specs.declared.step.Step.{Step}
-use Rattle.chess_core.proofs.Men.{man_on-with_other, man_on-with_same, man_on-without_other, man_on-without_same}
+use Rattle.chess_core.proofs.Men.{man_on-with_same}
 use Rattle.chess_core.proofs.Ranges.{some_square_false, some_square_true}
 use Rattle.chess_rules.specs.Attacks.{check_of, in_check}
 use Rattle.chess_rules.specs.ties.CheckSquares.{AreCastlingTargets, enemy, is_absent, may_check_from, may_check_from_on}
 use Rattle.chess_rules.specs.Legal.{castles, may_castle, squares_between}
 use Rattle.chess_rules.specs.ties.Lines.{is_ahead, is_aside, is_on_some, step_of}
-use Rattle.chess_rules.specs.Play.{after, arriving, capture_square, corner, halfway, is_castling, is_diagonal, move_man, moved_men, without_at}
+use Rattle.chess_rules.specs.Play.{after, arriving, capture_square, corner, halfway, is_castling, is_diagonal, moved_men, without_at}
 use Rattle.chess_rules.specs.Reaches.{hops, is_clear, reaches, reaches_as, rides}
 use Rattle.chess_rules.specs.RuleSet.{RuleSet}
 use Rattle.chess_rules.specs.ties.Targets.{steps_to}
@@ -42,11 +41,12 @@ use Rattle.chess_rules.proofs.rays.Parting.{Frees}
 use Rattle.chess_rules.proofs.attacks.Exposing.{king_stays_king}
 use Rattle.chess_rules.specs.declared.shields.RiderLines.TheVariants.{Straight}
 use Rattle.chess_rules.proofs.making_moves.Pseudo.{IsCastle, IsMade, king_is_no_pawn, ways}
-use Rattle.chess_rules.proofs.attacks.Shielding.{IsCovered, IsShift, covered_parts, frees, goes_on, gone_shift, king_is, man_there, not_attacked, line_before, not_parted, stood, unreached, unreborn_after}
-use Rattle.chess_rules.proofs.listing_moves.Targeting.{castling_steps, false_by}
+use Rattle.chess_rules.proofs.attacks.Shielding.{IsCovered, IsShift, covered_parts, frees, gone_shift, king_is, man_there, not_attacked, line_before, not_parted, stood, unreached, unreborn_after}
+use Rattle.chess_rules.proofs.listing_moves.Targeting.{castling_steps}
 use Rattle.chess_rules.proofs.Tests.{all_at, any_kept, find_first, implied}
 use Rattle.chess_rules.proofs.listing_moves.Walks.{off_second}
 use Rattle.chess_rules.proofs.giving_check.Approaches.{bit_down, bit_up}
+use Rattle.chess_rules.proofs.attacks.Attacking.{goes_on}
 
 -- the corners of the board: no line goes through one
 abbrev is_corner : ℕ → Bool
@@ -163,11 +163,7 @@ is_lined_up a c h k = not (is_on_some straight_steps k h && is_on_some straight_
 
 lined_up : (a c h k : ℕ) → is_lined_up a c h k ≡ true → k ≢ c → is_on_some straight_steps k h ≡ true → is_on_some straight_steps k a ≡ true
     → is_on_some straight_steps k c ≡ true
-lined_up a c h k y ne p q =
-    elim (or_cases (k == c) (is_on_some straight_steps k c) (implied (is_on_some straight_steps k h && is_on_some straight_steps k a) _ y (and_from _ _ p q))) [
-      | inl e ↦ absurd (ne (eqb-true k c e))
-      | inr lined ↦ lined
-    ]
+lined_up a c h k y ne p q = grind (arith, or_cases, implied, and_from, eqb-true)
 
 -- what hangs on the squares alone
 abbrev is_place : ℕ → ℕ → ℕ → Bool
@@ -272,11 +268,7 @@ module _ (rule : RuleSet) (p : Position) (x : Man) (m : Move) (well : IsWellForm
 
   all_empty : list_all (is_vacant_at p.men) (squares_between m.from (corner m)) ≡ true
   unfolding castles may_castle
-  all_empty =
-      let may = (and_parts _ _ castles_so).0 in
-      let unchecked = (and_parts _ _ may).0 in
-      let unparalysed = (and_parts _ _ unchecked).0 in
-      (and_parts _ _ unparalysed).1
+  all_empty = grind (arith, and_parts, castles_so)
 
   on : CastlingSquares m.from m.to (corner m) (halfway m)
   on = (castle.1.from, castle.1.far)
@@ -309,11 +301,7 @@ module _ (rule : RuleSet) (p : Position) (x : Man) (m : Move) (well : IsWellForm
 
   moved_is : moved_men p x m ≡ castled
   unfolding moved_men
-  moved_is =
-      let there : man_on (arrived p x m) (corner m) ≡ Some rook.0 = corner_stays p x m castle.0 castle.1 ∙ rook.1 in
-      cond-true (is_castling x m) _ _ castling
-      ∙ (λ i. move_man (arrived p x m) (corner m) (halfway m) (there i))
-      ∙ ap (λ (men : List (Option Man)). with_man (without_man men (corner m)) (halfway m) rook.0) arrived_is
+  moved_is = grind (arith, arrived, rook, corner_stays, castle, cond-true, arrived_is)
 
   after_is : (after rule p m).men ≡ castled
   after_is = unreborn_after rule p x m is.here (λ circe. nobody) ∙ moved_is
@@ -410,15 +398,7 @@ module _ (rule : RuleSet) (p : Position) (x : Man) (m : Move) (well : IsWellForm
 
       castled_unreached : is_reached castled k (other c) ≡ false
       unfolding is_reached
-      castled_unreached =
-          some_square_false (λ s. is_side (man_on castled s) (other c) && reaches castled s k) 64 (omega arith) (record {
-            fails = λ s lt. false_from_ne_true _ (λ h.
-                let h1 = and_parts (is_side (man_on castled s) (other c)) (reaches castled s k) h in
-                elim (cases_eq s (halfway m)) [
-                  | inl e ↦ rook_strikes (ap (λ n. is_side (man_on castled n) (other c)) (sym e) ∙ h1.0) (ap (λ n. reaches castled n k) (sym e) ∙ h1.1)
-                  | inr ne ↦ others_strike s (man_on castled s) refl lt ne h1.0 h1.1
-                ]);
-          })
+      castled_unreached = grind (arith, some_square_false, false_from_ne_true, and_parts, cases_eq, rook_strikes, others_strike)
 
     -- the king of colour c stands where he stood
     king_stood : (k : ℕ) → is_man (man_on castled k) c King ≡ true → is_man (man_on p.men k) c King ≡ true

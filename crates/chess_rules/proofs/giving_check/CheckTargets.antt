@@ -1,9 +1,8 @@
 -- A move that goes to no square from which its man may give check gives none.
-use Rattle.std.proofs.Common.{◌≡◌, ℕ, ◌+◌, ◌/◌, ◌<◌, Bool, true, false, ◌||◌, ◌==◌, not, Option, Some, None, is_some, refl, sym, ap, ◌∙◌, arith, inl, inr, rules}
+use Rattle.std.proofs.Common.{◌≡◌, ℕ, ◌+◌, ◌/◌, ◌<◌, true, false, ◌||◌, ◌==◌, not, Option, Some, None, is_some, refl, sym, ap, ◌∙◌, arith, inl, inr, rules}
 use Rattle.std.specs.Int.{bit_at, bit_not, w64}
 use Rattle.std.specs.Int.Bits.{bit_and, bit_or}
-use Rattle.std.proofs.lemmas.Bool.{agree_below_at, and_left, and_parts, and_right, cases_Bool, eq-eqb, eqb-true, false≢true}
-use Rattle.std.proofs.lemmas.Nat.Bits.{bit_at_or, bit_at-lt}
+use Rattle.std.proofs.lemmas.Bool.{agree_below_at, and_left, and_parts, and_right, cases_Bool, false≢true}
 use Rattle.chess_core.specs.Position.{Position, man_on, other, same_colour, same_kind}
 use Rattle.chess_core.specs.Squares.{is_square, rank_of}
 use Rattle.chess_core.specs.WellFormed.{IsWellFormed}

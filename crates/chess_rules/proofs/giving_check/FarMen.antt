@@ -1,10 +1,10 @@
 -- Men who couldn't come to a check square give no check.
-use Rattle.std.proofs.Common.{◌≡◌, ℕ, zero, suc, ◌-◌, ◌^◌, ◌<◌, true, false, ◌==◌, Option, Some, None, max, min, ap, refl, subst, sym, ◌∙◌, arith, inl, inr}
+use Rattle.std.proofs.Common.{◌≡◌, ℕ, zero, suc, ◌-◌, ◌^◌, ◌<◌, true, false, ◌==◌, Option, Some, None, min, ap, refl, subst, sym, ◌∙◌, arith}
 use Rattle.std.specs.Int.{bit_at, bit_not, w64}
 use Rattle.std.specs.Int.Bits.{bit_and, bit_or}
 use Rattle.std.proofs.lemmas.Bool.{and_parts, cases_Bool, eq-eqb, eqb-true, false≢true}
 use Rattle.std.proofs.lemmas.Nat.Bits.{bit_at_and, bit_at_not, bit_at_or, bit_at-lt}
-use Rattle.chess_core.specs.Position.{Position, is_man, is_side, man_on, same_colour, same_kind}
+use Rattle.chess_core.specs.Position.{Position, is_man, man_on, same_colour, same_kind}
 use Rattle.chess_core.specs.Squares.{is_square}
 use Rattle.chess_core.specs.ties.Words.{side_of, squares_of, word}
 use Rattle.chess_core.specs.declared.man.Colour.{Colour}

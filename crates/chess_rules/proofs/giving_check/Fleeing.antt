@@ -20,7 +20,7 @@ use Rattle.chess_core.proofs.Ranges.{any_range_false, some_square_false, some_sq
 use Rattle.chess_core.proofs.Words.{squares_both, squares_either, squares_not}
 use Rattle.chess_rules.specs.Attacks.{attacked, is_faced, paralysed, strikes}
 use Rattle.chess_rules.specs.ties.Flights.{AreOpen, IsSeenFrom, has_flight, is_flight, is_flight_from, is_open, sight_lifted, sight_with}
-use Rattle.chess_rules.specs.Legal.{goes, is_promotion_right, is_arrival_free, is_goal, is_nil, legal, moves, pseudo, pseudo_of}
+use Rattle.chess_rules.specs.Legal.{is_arrival_free, is_goal, is_nil, legal, moves, pseudo}
 use Rattle.chess_rules.specs.ties.Lines.{occupied_squares}
 use Rattle.chess_rules.specs.ties.Places.{mates, moves_behind, triple_at}
 use Rattle.chess_rules.specs.Play.{after, arriving, capture_square}
@@ -36,7 +36,7 @@ use Rattle.chess_rules.proofs.giving_check.Mating.{turn_after}
 use Rattle.chess_rules.proofs.listing_moves.Places.{moves_behind-here, moves_behind-skip, moves_behind-start}
 use Rattle.chess_rules.proofs.making_moves.Plays.{none_from_is_some}
 use Rattle.chess_rules.proofs.making_moves.Pseudo.{IsMade, king_is_no_pawn, made}
-use Rattle.chess_rules.proofs.attacks.Seeing.{IsNoKing, gone_to, is_occupied_after, kept_now, king_stands, left_now, occupied_now, there_now}
+use Rattle.chess_rules.proofs.attacks.Seeing.{gone_to, is_occupied_after, kept_now, king_stands, left_now, occupied_now, there_now}
 use Rattle.chess_rules.proofs.attacks.Shielding.{arriving_colour, man_there, other_differs, simple_after}
 use Rattle.chess_rules.proofs.attacks.StayingInCheck.{king_there}
 use Rattle.chess_rules.proofs.making_moves.Stays.{after_well_formed}

@@ -1,15 +1,15 @@
 -- A man who is reborn gives his own king no check, but as a grasshopper's hurdle.
-use Rattle.std.proofs.Common.{◌≡◌, ℕ, ◌-◌, ◌<◌, Bool, true, false, ◌&&◌, ◌==◌, not, List, [], ◌∷◌, length, Option, Some, None, is_some, refl, sym, ap, ◌∙◌, arith, inl, inr}
+use Rattle.std.proofs.Common.{◌≡◌, ℕ, ◌-◌, ◌<◌, true, false, ◌&&◌, ◌==◌, not, List, length, Option, Some, None, is_some, refl, sym, ap, ◌∙◌, arith, inl, inr}
 use Rattle.std.specs.Int.{bit_at}
 use Rattle.std.specs.List.{list_all, list_any, range_with_len}
-use Rattle.std.proofs.lemmas.Bool.{and_from, and_parts, cases_Bool, cond-false, cond-true, false_from_ne_true, false≢true, not-true, or_cases, or_left, or_right}
+use Rattle.std.proofs.lemmas.Bool.{and_from, and_parts, cases_Bool, cond-false, cond-true, false_from_ne_true, false≢true, not-true}
 use Rattle.chess_core.specs.Position.{AtMostOneKing, Position, is_man, is_side, king_square, man_on, other, same_colour, same_kind, with_man, without_man}
 use Rattle.chess_core.specs.Squares.{is_square, squares}
 use Rattle.chess_core.specs.Steps.{along, diagonal_steps, knight_steps, queen_steps, straight_steps}
 use Rattle.chess_core.specs.WellFormed.{IsWellFormed}
 use Rattle.chess_core.specs.declared.man.Colour.{Colour}
 use Rattle.chess_core.specs.declared.man.Kind.{Kind}
-use Rattle.chess_core.specs.declared.man.Kind.TheVariants.{King, Queen, Rook, Bishop, Knight, Pawn, Grasshopper, Nightrider}
+use Rattle.chess_core.specs.declared.man.Kind.TheVariants.{King, Queen, Rook, Bishop, Grasshopper, Nightrider}
 use Rattle.chess_core.specs.declared.man.Man.{Man}
 use Rattle.chess_core.specs.declared.man.Move.{Move}
 use Rattle.chess_core.specs.declared.step.Step.{Step}
@@ -28,19 +28,7 @@ use Rattle.chess_rules.proofs.making_moves.Fits.{arrived}
 use Rattle.chess_rules.proofs.making_moves.Pseudo.{IsMade, made, on_board}
 use Rattle.chess_rules.proofs.attacks.Shielding.{king_is, man_there, unreborn_after}
 use Rattle.chess_rules.proofs.making_moves.Stays.{captured_enemy, captured_mortal, man_on-with_cases, moved_sound}
-use Rattle.chess_rules.proofs.Tests.{find_first}
-
--- what holds of each holds of all, and what of one of some
-all_kept : (f g : ℕ → Bool) (ns : List ℕ) → ((n : ℕ) → f n ≡ true → g n ≡ true) → list_all f ns ≡ true → list_all g ns ≡ true
-all_kept f g [] each h = refl
-all_kept f g (n ∷ ns) each h = let both = and_parts (f n) (list_all f ns) h in and_from _ _ (each n both.0) (all_kept f g ns each both.1)
-
-any_kept : {A : Type 0} (f g : A → Bool) (xs : List A) → ((x : A) → f x ≡ true → g x ≡ true) → list_any f xs ≡ true → list_any g xs ≡ true
-any_kept f g [] each h = h
-any_kept f g (x ∷ xs) each h = elim (or_cases (f x) (list_any f xs) h) [
-  | inl y ↦ or_left (g x) _ (each x y)
-  | inr y ↦ or_right (g x) _ (any_kept f g xs each y)
-]
+use Rattle.chess_rules.proofs.Tests.{find_first, all_kept, any_kept}
 
 -- no grasshopper of this colour stands there
 abbrev LacksGrasshopper : List (Option Man) → Colour → Type 0
@@ -70,14 +58,12 @@ module _ (men : List (Option Man)) (r : ℕ) (y : Man) where
 
   reached : (e : Colour) (j : Kind) (s t : ℕ) → same_kind j Grasshopper ≡ false → reaches_as (with_man men r y) e j s t ≡ true → reaches_as men e j s t ≡ true
   unfolding reaches_as
-  reached e King s t g h = h
   reached e Queen s t g h = rode_so queen_steps s t h
   reached e Rook s t g h = rode_so straight_steps s t h
   reached e Bishop s t g h = rode_so diagonal_steps s t h
-  reached e Knight s t g h = h
-  reached e Pawn s t g h = h
   reached e Grasshopper s t g h = absurd (false≢true (sym g))
   reached e Nightrider s t g h = rode_so knight_steps s t h
+  reached e j s t g h = h
 
   -- so y gives the king of his colour no check
   module _ (c : Colour) (own : same_colour y.colour (other c) ≡ false) (mortal : same_kind y.kind King ≡ false) (lacks : LacksGrasshopper men (other c))
@@ -94,14 +80,7 @@ module _ (men : List (Option Man)) (r : ℕ) (y : Man) where
 
     struck : (k s : ℕ) → strikes circe (with_man men r y) k (other c) s ≡ true → strikes orthodox men k (other c) s ≡ true
     unfolding strikes reaches
-    struck k s h =
-        let h1 = and_parts _ (reaches (with_man men r y) s k) h in
-        let side : is_side (man_on (with_man men r y) s) (other c) ≡ true = (and_parts _ _ h1.0).0 in
-        elim (man_on-with_cases men r s y) [
-          | inl e ↦ absurd (false≢true (sym own ∙ ap (λ (o : Option Man). is_side o (other c)) (sym e.1) ∙ side))
-          | inr e ↦ struck_by k s (man_on men s) refl (ap (λ (o : Option Man). is_side o (other c)) (sym e) ∙ side)
-              (ap (λ (o : Option Man). reaches_of (with_man men r y) o s k) (sym e) ∙ h1.1)
-        ]
+    struck k s h = grind (arith, and_parts, man_on-with_cases, false≢true, struck_by)
 
     king_stood : (k : ℕ) → is_man (man_on (with_man men r y) k) c King ≡ true → is_man (man_on men k) c King ≡ true
     king_stood k h = elim (man_on-with_cases men r k y) [
