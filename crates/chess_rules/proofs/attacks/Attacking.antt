@@ -50,9 +50,9 @@ turned men c Pawn s t piece p q = sym (pawn-back c s t p q)
 turned men c Grasshopper s t piece p q = absurd (piece refl)
 turned men c Nightrider s t piece p q = nightrider-back men t s q p
 
-pub comes_back : (men : List (Option Man)) (c e : Colour) (j : Kind) (t w : ℕ) → (j ≡ Grasshopper → ⊥) → t < 64 → e ≡ other c
-    → w ≡ word (reaches_as men e j t) → w ≡ word (λ s. reaches_as men c j s t)
-comes_back men c e j t w piece q enemy h =
+pub comes_back : (men : List (Option Man)) (c e : Colour) (j : Kind) (t w : ℕ) → (j ≡ Grasshopper → ⊥) → t < 64 → w ≡ word (reaches_as men e j t)
+    → e ≡ other c → w ≡ word (λ s. reaches_as men c j s t)
+comes_back men c e j t w piece q h enemy =
     h ∙ ap (λ (d : Colour). word (reaches_as men d j t)) enemy ∙ squares_same _ _ (λ s p. turned men c j s t piece p q)
 
 pub comes_grasshopper : (men : List (Option Man)) (c : Colour) (t : ℕ) → t < 64

@@ -206,10 +206,7 @@ no_line men e k t h =
 
 pub no_fairy_line : (men : List (Option Man)) (c : Colour) → has_fairy men (other c) ≡ false → 0 ≡ word (may_stand_between men c)
 unfolding may_stand_between
-no_fairy_line men c h = word_empty _ (λ t b. by (king_square men c) t) where
-  by : (o : Option ℕ) (t : ℕ) → is_on_fairy_line_to men o c t ≡ false
-  by None t = refl
-  by (Some k) t = no_line men (other c) k t h
+no_fairy_line men c h = search (rules, no_line, word_empty)
 
 pub no_king_lined : (men : List (Option Man)) (c : Colour) → king_square men c ≡ None → 0 ≡ word (may_stand_between men c)
 unfolding may_stand_between

@@ -23,7 +23,7 @@ use Rattle.chess_rules.specs.Attacks.{attacked, check_of, in_check, paralysed, s
 use Rattle.chess_rules.specs.ties.CheckSquares.{is_absent, may_check_from, may_check_from_on}
 use Rattle.chess_rules.specs.ties.Shields.{cannot_expose, rider_along, steps_along, has_fairy, is_behind, is_on_fairy_line, is_on_fairy_line_to, is_reached, is_shut, is_plain, may_expose, may_expose_on, may_stand_between}
 use Rattle.chess_rules.specs.Legal.{is_promotion_right, pseudo}
-use Rattle.chess_rules.specs.Play.{after, after_by, arriving, capture_square, is_castling, is_diagonal, man_on_at, moved_men, put_at, reborn_at, reborn_square}
+use Rattle.chess_rules.specs.Play.{after, after_by, arriving, capture_square, is_castling, is_diagonal, man_on_at, moved_men, reborn_at, reborn_square}
 use Rattle.chess_rules.specs.ties.Lines.{is_on_some, step_of}
 use Rattle.chess_rules.specs.Reaches.{hops, is_vacant, reaches, reaches_as, rides}
 use Rattle.chess_rules.specs.RuleSet.{RuleSet, is_circe}
@@ -335,10 +335,7 @@ moved_plainly p x m h = rw h refl
 pub unreborn_after : (rule : RuleSet) (p : Position) (x : Man) (m : Move) → man_on p.men m.from ≡ Some x → (is_circe rule ≡ true → capture_square p x m ≡ None)
     → (after rule p m).men ≡ moved_men p x m
 unfolding after after_by reborn_square
-unreborn_after rule p x m here rebirth =
-    let nobody : reborn_at (is_circe rule) (moved_men p x m) (man_on_at p.men (capture_square p x m)) (capture_square p x m) ≡ None =
-    nobody_reborn (is_circe rule) (moved_men p x m) p.men (capture_square p x m) rebirth in
-    rw here (ap (λ (o : Option ℕ). put_at (moved_men p x m) o (man_on_at p.men (capture_square p x m))) nobody)
+unreborn_after rule p x m here rebirth = search (rules, nobody_reborn)
 
 -- and nobody castles
 pub simple_after : (rule : RuleSet) (p : Position) (x : Man) (m : Move) → man_on p.men m.from ≡ Some x → is_castling x m ≡ false
@@ -366,10 +363,7 @@ plain_safe : (rule : RuleSet) (p : Position) (x : Man) (m : Move) (c : Colour) �
     → may_expose p.men c m.from ≡ false → may_stand_between p.men c m.to ≡ false
     → ((k : ℕ) → king_square p.men c ≡ Some k → IsQuiet p.men c m.from m.to k (arriving x m.promo))
     → in_check rule (after rule p m).men c ≡ false
-plain_safe rule p x m c well is small plain cannot_expose aside quiet =
-    ap (λ (l : List (Option Man)). in_check rule l c) (men_after rule p x m is.here plain)
-    ∙ stays_safe rule p.men (arrived p x m) m.from m.to (arriving x m.promo) c (arrived_shift rule p x m well is small plain)
-    (record { one = well.kings; king = king_came p x m c well is.here is.promotion; cannot_expose = cannot_expose; aside = aside; quiet = quiet })
+plain_safe rule p x m c well is small plain cannot_expose aside quiet = search (rules, men_after, stays_safe, arrived, arrived_shift, king_came)
 
 pub arriving_colour : (x : Man) (r : Option Kind) → (arriving x r).colour ≡ x.colour
 arriving_colour x None = refl

@@ -9,5 +9,5 @@ returns-in-Grasshopper c = λ men held.
 
 pub returns-in_default : goal.returns-in_default
 returns-in_default c = λ men held.
-    comes_back men c.args.colour c.other.result c.args.kind c.args.to c.reach_over.result c.in_default.not-Grasshopper
-    (rw c.index-small.ensures.value at c.index-small.ensures.small) (search rules) (c.reach_over.ensures men held)
+    comes_back men c.args.colour _ c.args.kind c.args.to _ c.in_default.not-Grasshopper (rw c.index-small.ensures.value at c.index-small.ensures.small)
+    (c.reach_over.ensures men held) (search rules)
