@@ -1,17 +1,17 @@
 -- Bits of words: the first from a place on, one alone, and words that are not 0.
 use Rattle.std.proofs.Common.{◌≡◌, ℕ, zero, suc, ◌-◌, ◌*◌, ◌%◌, ◌^◌, ◌<◌, ◌≤◌, Bool, true, false, ◌==◌, not, refl, sym, ap, ◌∙◌, arith, ◌⊎◌, inl, inr, Some, None, find, rules}
-use Rattle.std.specs.Int.{bit_at, w64, trailing_zeros}
-use Rattle.std.specs.Int.Bits.{bit_and}
+use Rattle.std.specs.Int.{bit_at, bit_not, w64, trailing_zeros}
+use Rattle.std.specs.Int.Bits.{bit_and, bit_or}
 use Rattle.std.specs.List.{range_with_len}
-use Rattle.std.proofs.lemmas.Bool.{cases_lt, eq-eqb}
-use Rattle.std.proofs.lemmas.Nat.Bits.{bit_at_and, bit_at-zero, bit_at_mask_inside, bit_at_mask_below, bit_at-trailing_zeros, ones_shl, bit_at-lt}
+use Rattle.std.proofs.lemmas.Bool.{cases_lt, eq-eqb, eqb-true, false_from_ne_true, true_from_ne_false}
+use Rattle.std.proofs.lemmas.Nat.Bits.{bit_at_and, bit_at_or, bit_at-zero, bit_at_mask_inside, bit_at_mask_below, bit_at-trailing_zeros, ones_shl, bit_at-lt}
 use Rattle.std.proofs.lemmas.Nat.{one_shl}
 use Rattle.std.proofs.lemmas.Nat.Bits.{bit_at-pow_same, bit_at-pow_other}
 use Rattle.std.proofs.lemmas.Bool.{cases_eq}
 use Rattle.chess_core.specs.Squares.{is_square, some_square}
 use Rattle.chess_core.specs.ties.Words.{bit_of, word}
 use Rattle.chess_core.proofs.Ranges.{find_range_some, find_range_none}
-use Rattle.chess_core.proofs.Words.{square_bit, square_word, squares_none, squares_some}
+use Rattle.chess_core.proofs.Words.{square_bit, square_word, squares_none, squares_not, squares_same, squares_some}
 use Rattle.chess_rules.proofs.Tests.{differs}
 
 abbrev pub from_on : ℕ → ℕ → ℕ
@@ -82,3 +82,21 @@ word_only s p =
 -- a bit of a word says whether the square passes
 pub word_has : (test : ℕ → Bool) (w s : ℕ) → w ≡ word test → s < 64 → (bit_at w s == 1) ≡ test s
 word_has test w s h b = ap (λ n. bit_at n s == 1) h ∙ ap (λ n. n == 1) (square_bit test s b) ∙ is_bit (test s)
+
+-- all squares
+pub every_square : (test : ℕ → Bool) → ((s : ℕ) → s < 64 → test s ≡ true) → bit_not w64 0 ≡ word test
+every_square test h = ap (bit_not w64) (word_empty (λ s. false) (λ s b. refl)) ∙ squares_not (λ s. false) ∙ squares_same (λ s. true) test (λ s b. sym (h s b))
+
+-- a square off both words is off each
+pub off_left : (a b i : ℕ) → (bit_at (bit_or a b) i == 1) ≡ false → (bit_at a i == 1) ≡ false
+off_left a b i h = search (rules, bit_at-lt, bit_at_or, eq-eqb, eqb-true, false_from_ne_true)
+
+pub off_right : (a b i : ℕ) → (bit_at (bit_or a b) i == 1) ≡ false → (bit_at b i == 1) ≡ false
+off_right a b i h = search (rules, bit_at-lt, bit_at_or, eq-eqb, eqb-true, false_from_ne_true)
+
+-- a square of either word is one of both together
+pub on_left : (a b i : ℕ) → (bit_at a i == 1) ≡ true → (bit_at (bit_or a b) i == 1) ≡ true
+on_left a b i h = true_from_ne_false _ (λ e. let off = off_left a b i e in cc)
+
+pub on_right : (a b i : ℕ) → (bit_at b i == 1) ≡ true → (bit_at (bit_or a b) i == 1) ≡ true
+on_right a b i h = true_from_ne_false _ (λ e. let off = off_right a b i e in cc)

@@ -80,7 +80,7 @@ crossed_square_may_give_check w are = true_from_ne_false _ (λ e. false≢true
 
 -- and no man that leaves e5 opens a line
 pub no_pawn_checks_from_there : (may_check_from opening_capture.men Black (enemy Black Pawn) d6 ≡ false)
-    × (may_expose orthodox opening_capture.men Black e5 ≡ false)
+    × (may_expose opening_capture.men Black e5 ≡ false)
 unfolding may_check_from may_expose is_reached is_on_fairy_line is_ahead is_shut is_behind check_after_a_move
 no_pawn_checks_from_there = (refl, refl)
 
@@ -306,7 +306,7 @@ lines_to_a_king = tt
 abbrev hurdle_comes : Position
 hurdle_comes = position (on White King a1 ∷ on White Rook h2 ∷ on Black King h8 ∷ on Black Grasshopper a8 ∷ []) White
 
-pub arriving_man_is_a_hurdle : (may_expose orthodox hurdle_comes.men White h2 ≡ false) × (may_stand_between hurdle_comes.men White h2 ≡ false)
+pub arriving_man_is_a_hurdle : (may_expose hurdle_comes.men White h2 ≡ false) × (may_stand_between hurdle_comes.men White h2 ≡ false)
     × (may_stand_between hurdle_comes.men White a2 ≡ true) × (cannot_expose orthodox hurdle_comes White (go h2 a2) ≡ false)
     × (pseudo orthodox hurdle_comes (go h2 a2) ≡ true) × (in_check orthodox hurdle_comes.men White ≡ false)
     × (in_check orthodox (after orthodox hurdle_comes (go h2 a2)).men White ≡ true)
@@ -318,7 +318,7 @@ abbrev hurdle_goes : Position
 hurdle_goes = position (on White King a1 ∷ on White Rook a2 ∷ on White Knight a4 ∷ on Black King h8 ∷ on Black Grasshopper a8 ∷ []) White
 
 pub leaving_man_opens_a_hop : (is_shut hurdle_goes.men Black Rook straight_steps a1 a4 ≡ false)
-    × (may_stand_between hurdle_goes.men Black a4 ≡ false) × (may_expose orthodox hurdle_goes.men White a4 ≡ true)
+    × (may_stand_between hurdle_goes.men Black a4 ≡ false) × (may_expose hurdle_goes.men White a4 ≡ true)
     × (pseudo orthodox hurdle_goes (go a4 b6) ≡ true) × (in_check orthodox hurdle_goes.men White ≡ false)
     × (in_check orthodox (after orthodox hurdle_goes (go a4 b6)).men White ≡ true)
 unfolding lines_to_a_king check_after_a_move

@@ -1,7 +1,7 @@
 -- Tests joined, and tests over ranges of numbers.
-use Rattle.std.proofs.Common.{◌≡◌, ℕ, zero, suc, ◌+◌, ◌<◌, ◌≤◌, Bool, true, false, ◌&&◌, ◌||◌, ◌==◌, refl, sym, arith, ◌⊎◌, inl, inr, ◌∙◌, ◌-◌, Some, None, find, rules}
+use Rattle.std.proofs.Common.{◌≡◌, ℕ, zero, suc, ◌+◌, ◌<◌, ◌≤◌, Bool, true, false, ◌&&◌, ◌||◌, ◌==◌, not, refl, sym, arith, ◌⊎◌, inl, inr, ◌∙◌, ◌-◌, Some, None, find, List, [], ◌∷◌, rules}
 use Rattle.std.specs.List.{range_with_len, list_all, list_any}
-use Rattle.std.proofs.lemmas.Bool.{and_left, cases_eq, cases_lt, cases_Bool, cond-true, cond-false, false≢true}
+use Rattle.std.proofs.lemmas.Bool.{and_from, and_left, and_parts, cases_eq, cases_lt, cases_Bool, cond-true, cond-false, false≢true, or_cases, or_left, or_right}
 use Rattle.chess_core.proofs.Ranges.{NoneBelow}
 
 pub first_of_and : (a b : Bool) → (a && b) ≡ true → a ≡ true
@@ -19,10 +19,23 @@ all_at p a (suc n) k h lo hi = elim (cases_eq k a) [
   | inr ne ↦ all_at p (a + 1) n k (second_of_and (p a) _ h) (omega arith) (omega arith)
 ]
 
+pub implied : (a b : Bool) → (not a || b) ≡ true → a ≡ true → b ≡ true
+implied true b h e = h
+implied false b h e = absurd (false≢true e)
+
 pub same_Bool : (a b : Bool) → (a ≡ true → b ≡ true) → (b ≡ true → a ≡ true) → a ≡ b
 same_Bool true b f g = sym (f refl)
 same_Bool false true f g = g refl
 same_Bool false false f g = refl
+
+-- what holds of each holds of all, and what of one of some
+pub all_kept : {A : Type 0} (f g : A → Bool) (xs : List A) → ((x : A) → f x ≡ true → g x ≡ true) → list_all f xs ≡ true → list_all g xs ≡ true
+all_kept f g [] each h = refl
+all_kept f g (x ∷ xs) each h = search (rules, each, all_kept f g xs each, and_parts, and_from)
+
+pub any_kept : {A : Type 0} (f g : A → Bool) (xs : List A) → ((x : A) → f x ≡ true → g x ≡ true) → list_any f xs ≡ true → list_any g xs ≡ true
+any_kept f g [] each h = h
+any_kept f g (x ∷ xs) each h = search (rules, each, any_kept f g xs each, or_cases, or_left, or_right)
 
 pub differs : (a b : ℕ) → (a ≡ b → ⊥) → (a == b) ≡ false
 differs a b ne = search rules

@@ -70,11 +70,12 @@ pub(crate) fn check_squares_of(board: &Board, colour: Colour, kind: Kind) -> u64
 }
 
 // The squares from which a move may give check to the colour's king.
-pub(crate) fn check_squares<R: Rules>(board: &Board, colour: Colour) -> CheckSquares
-    ensures { AreCheckSquares R.rule board.now.men colour result }
+#[inline(always)]
+pub(crate) fn check_squares(board: &Board, colour: Colour) -> CheckSquares
+    ensures { AreCheckSquares board.now.men colour result }
 {
     CheckSquares {
-        shield_squares: shield_squares::<R>(board, colour),
+        shield_squares: shield_squares(board, colour),
         straight: check_squares_of(board, colour, Kind::Rook),
         diagonal: check_squares_of(board, colour, Kind::Bishop),
         knight: check_squares_of(board, colour, Kind::Knight),
@@ -142,24 +143,50 @@ fn castling_targets(squares: &CheckSquares, from: Square) -> u64
     squares_aside(from) & (checked_from << 1 | checked_from >> 1)
 }
 
-// The squares to which the man on `from` promotes or castles, and perhaps more.
-fn special_targets(squares: &CheckSquares, man: Man, from: Square) -> u64
-    ensures promotes { same_kind man.kind Pawn ≡ true → result ≡ 18374686479671623935 }
-    ensures castles { same_kind man.kind King ≡ true → AreCastlingTargets squares.now from result }
+// The squares to which a man of this kind promotes, or castles if he is a king on `king`, and perhaps more.
+#[inline(always)]
+fn special_targets(squares: &CheckSquares, kind: Kind, king: Option<Square>) -> u64
+    ensures promotes { same_kind kind Pawn ≡ true → result ≡ 18374686479671623935 }
+    ensures castles { (s : ℕ) → king ≡ Some s → same_kind kind King ≡ true
+        → AreCastlingTargets squares.now s result }
 {
-    if man.kind.is(Kind::Pawn) {
-        LAST_RANKS
-    } else if man.kind.is(Kind::King) {
-        castling_targets(squares, from)
-    } else {
-        0
+    match king {
+        Some(from) if kind.is(Kind::King) => castling_targets(squares, from),
+        _ if kind.is(Kind::Pawn) => LAST_RANKS,
+        _ => 0,
     }
+}
+
+// The squares to which a man of this kind must go to give check by a legal move, from any square that is no
+// shield square; a king from his own, `king`. `lines` are those to the enemy's king with a fairy man on them.
+#[inline(always)]
+pub(crate) fn targets_off_shields<R: Rules>(
+    board: &Board,
+    squares: &CheckSquares,
+    kind: Kind,
+    king: Option<Square>,
+    lines: u64,
+) -> u64
+    requires well_formed { IsWellFormed board.now }
+    requires squares { AreCheckSquares board.now.men (other board.now.turn) squares.now }
+    requires lines { lines ≡ word (may_stand_between board.now.men (other board.now.turn)) }
+    ensures { (s : ℕ) (x : Man) → s < 64 → man_on board.now.men s ≡ Some x → x.kind ≡ kind
+        → (same_kind kind King ≡ true → king ≡ Some s)
+        → (bit_at squares.now.shield_squares s == 1) ≡ false
+        → AreCheckTargets R.rule board.now s result }
+{
+    let checked_from = check_squares_for(squares, kind);
+    checked_from
+        | only(board.crossed())
+        | special_targets(squares, kind, king)
+        | checking_rebirths::<R>(board)
+        | lines
 }
 
 // The squares to which this man must go from here to give check by a legal move.
 fn check_targets<R: Rules>(board: &Board, squares: &CheckSquares, man: Man, from: Square) -> u64
     requires well_formed { IsWellFormed board.now }
-    requires squares { AreCheckSquares R.rule board.now.men (other board.now.turn) squares.now }
+    requires squares { AreCheckSquares board.now.men (other board.now.turn) squares.now }
     requires here { man_on board.now.men from ≡ Some man }
     ensures { AreCheckTargets R.rule board.now from result }
 {
@@ -168,50 +195,30 @@ fn check_targets<R: Rules>(board: &Board, squares: &CheckSquares, man: Man, from
     if contains(squares.shield_squares, from) {
         return !0;
     }
-    let checked_from = check_squares_for(squares, man.kind);
-    checked_from
-        | only(board.crossed())
-        | special_targets(squares, man, from)
-        | checking_rebirths::<R>(board)
-        | fairy_lines(board, board.turn().other())
+    let lines = fairy_lines(board, board.turn().other());
+    targets_off_shields::<R>(board, squares, man.kind, Some(from), lines)
 }
 
-// Those of them to which he might go, were the others gone.
-#[inline(always)]
-pub(crate) fn near_targets_of<R: Rules>(
-    board: &Board,
-    squares: &CheckSquares,
-    man: Man,
-    from: Square,
-) -> u64
-    requires well_formed { IsWellFormed board.now }
-    requires squares { AreCheckSquares R.rule board.now.men (other board.now.turn) squares.now }
-    requires here { man_on board.now.men from ≡ Some man }
-    ensures { AreCheckTargets R.rule board.now from result }
-{
-    open_targets(man, from) & check_targets::<R>(board, squares, man, from)
-}
-
-// The same for the man on the square, if one stands there.
+// Those of them to which the man on the square, if one stands there, might go, were the others gone.
 pub(crate) fn near_check_targets<R: Rules>(
     board: &Board,
     squares: &CheckSquares,
     from: Square,
 ) -> u64
     requires well_formed { IsWellFormed board.now }
-    requires squares { AreCheckSquares R.rule board.now.men (other board.now.turn) squares.now }
+    requires squares { AreCheckSquares board.now.men (other board.now.turn) squares.now }
     ensures { AreCheckTargets R.rule board.now from result }
 {
     let Some(man) = board.man_at(from) else {
         return 0;
     };
-    near_targets_of::<R>(board, squares, man, from)
+    open_targets(man, from) & check_targets::<R>(board, squares, man, from)
 }
 
 // Whether the move may expose the enemy's king, by the man that leaves its square or by one that is
 // captured, castled or reborn.
 fn may_discover<R: Rules>(board: &Board, squares: &CheckSquares, m: &Move) -> bool
-    requires { AreCheckSquares R.rule board.now.men (other board.now.turn) squares.now }
+    requires { AreCheckSquares board.now.men (other board.now.turn) squares.now }
     ensures { result ≡ not (cannot_expose (rule_of_checks R.rule board.now.men board.now.turn)
         board.now (other board.now.turn) m.now) }
 {
@@ -233,7 +240,7 @@ fn keeps_its_kind(m: &Move) -> bool
 pub(crate) fn may_check<R: Rules>(board: &Board, squares: &CheckSquares, m: &Move) -> bool
     requires well_formed { IsWellFormed board.now }
     requires pseudo { pseudo R.rule board.now m.now ≡ true }
-    requires squares { AreCheckSquares R.rule board.now.men (other board.now.turn) squares.now }
+    requires squares { AreCheckSquares board.now.men (other board.now.turn) squares.now }
     ensures { result ≡ false → legal R.rule board.now m.now ≡ true
         → in_check R.rule (after R.rule board.now m.now).men (other board.now.turn) ≡ false }
 {
@@ -256,61 +263,4 @@ impl CheckSquares {
     {
         self.shield_squares
     }
-}
-
-// The squares to which a pawn promotes, and perhaps more; none for another man.
-fn promotion_squares(kind: Kind) -> u64
-    ensures pawns { same_kind kind Pawn ≡ true → result ≡ 18374686479671623935 }
-    ensures others { same_kind kind Pawn ≡ false → result ≡ 0 }
-{
-    if kind.is(Kind::Pawn) { LAST_RANKS } else { 0 }
-}
-
-// The squares to which the mover's men of this kind, no kings, must go to give check from a square that
-// isn't a shield square. `lines` are those to the king with a fairy man on them.
-#[inline(always)]
-pub(crate) fn targets_of_kind<R: Rules>(
-    board: &Board,
-    squares: &CheckSquares,
-    kind: Kind,
-    lines: u64,
-) -> u64
-    requires well_formed { IsWellFormed board.now }
-    requires squares { AreCheckSquares R.rule board.now.men (other board.now.turn) squares.now }
-    requires lines { lines ≡ word (may_stand_between board.now.men (other board.now.turn)) }
-    requires no_king { same_kind kind King ≡ false }
-    ensures { (s : ℕ) → s < 64 → man_on board.now.men s ≡ Some (own_man board.now kind)
-        → (bit_at squares.now.shield_squares s == 1) ≡ false
-        → AreCheckTargets R.rule board.now s result }
-{
-    let passed = only(board.crossed());
-    let reborn = checking_rebirths::<R>(board);
-    check_squares_for(squares, kind) | passed | promotion_squares(kind) | reborn | lines
-}
-
-// The squares to which the mover's king must go from here to give check, castling among his moves, where
-// his square is no shield square. He himself gives none from anywhere. `lines` as above.
-#[inline(always)]
-pub(crate) fn targets_of_king<R: Rules>(
-    board: &Board,
-    squares: &CheckSquares,
-    from: Square,
-    lines: u64,
-) -> u64
-    requires well_formed { IsWellFormed board.now }
-    requires squares { AreCheckSquares R.rule board.now.men (other board.now.turn) squares.now }
-    requires lines { lines ≡ word (may_stand_between board.now.men (other board.now.turn)) }
-    requires here { man_on board.now.men from ≡ Some (own_man board.now King) }
-    requires unshielding { (bit_at squares.now.shield_squares from == 1) ≡ false }
-    ensures { AreCheckTargets R.rule board.now from result }
-{
-    let king = Man {
-        colour: board.turn(),
-        kind: Kind::King,
-    };
-    // For the proof: a square's number is below 64.
-    let _small = from.index();
-    let passed = only(board.crossed());
-    let reborn = checking_rebirths::<R>(board);
-    passed | special_targets(squares, king, from) | reborn | lines
 }

@@ -116,7 +116,7 @@ pub(crate) fn is_safe<R: Rules>(
 ) -> bool
     requires well_formed { IsWellFormed board.old }
     requires pseudo { pseudo R.rule board.old m ≡ true }
-    requires squares { squares ≡ word (may_expose R.rule board.old.men board.old.turn) }
+    requires squares { squares ≡ word (may_expose board.old.men board.old.turn) }
     requires evasion_squares { AreEvasions R.rule board.old.men board.old.turn evasion_squares }
     ensures answer { result ≡ not (in_check R.rule (after R.rule board.old m).men board.old.turn) }
     ensures board { board.new ≡ board.old }

@@ -22,7 +22,7 @@ pub fn every_move_mates<R: Rules>(board: &mut Board) -> bool
         && list_all (is_mating R.rule board.old) (moves R.rule board.old)) }
     ensures board { board.new ≡ board.old }
 {
-    let squares = check_squares::<R>(board, board.turn().other());
+    let squares = check_squares(board, board.turn().other());
     let moves = LegalMoves::<R>::of(board);
     if has_quiet_move::<R>(board, &squares, moves) {
         return false;
@@ -37,7 +37,7 @@ fn has_quiet_move<R: Rules>(
     mut moves: LegalMoves<R>,
 ) -> bool
     requires well_formed { IsWellFormed board.old }
-    requires squares { AreCheckSquares R.rule board.old.men (other board.old.turn) squares.now }
+    requires squares { AreCheckSquares board.old.men (other board.old.turn) squares.now }
     requires place { IsPlaceIn R.rule board.old moves }
     ensures quiet { result ≡ true
         → list_all (is_mating R.rule board.old) (moves_behind R.rule board.old moves.place)
@@ -57,7 +57,7 @@ fn has_quiet_move<R: Rules>(
 fn is_quiet<R: Rules>(board: &Board, squares: &CheckSquares, m: &Move) -> bool
     requires well_formed { IsWellFormed board.now }
     requires legal { legal R.rule board.now m.now ≡ true }
-    requires squares { AreCheckSquares R.rule board.now.men (other board.now.turn) squares.now }
+    requires squares { AreCheckSquares board.now.men (other board.now.turn) squares.now }
     ensures { result ≡ true → is_mating R.rule board.now m.now ≡ false }
 {
     !may_check::<R>(board, squares, m)

@@ -59,7 +59,7 @@ impl<R: Rules> LegalMoves<R> {
         ensures start { result.place ≡ 0 }
         ensures place { IsPlaceIn R.rule board.now result }
     {
-        let squares = shield_squares::<R>(board, board.turn());
+        let squares = shield_squares(board, board.turn());
         LegalMoves {
             passed: 0,
             shield_squares: squares,
@@ -162,7 +162,7 @@ pub(crate) fn next_legal<R: Rules>(
     end: u16,
 ) -> u16
     requires well_formed { IsWellFormed board.old }
-    requires squares { squares ≡ word (may_expose R.rule board.old.men board.old.turn) }
+    requires squares { squares ≡ word (may_expose board.old.men board.old.turn) }
     requires evasion_squares { AreEvasions R.rule board.old.men board.old.turn evasion_squares }
     requires kept { AreKept R.rule board.old (legal R.rule board.old) kept.old }
     requires end { end ≤ 28672 }
@@ -197,7 +197,7 @@ impl Sought for Known {
 
     ghost test = { legal };
 
-    ghost fits = { λ s rule p. (s.shield_squares ≡ word (may_expose rule p.men p.turn))
+    ghost fits = { λ s rule p. (s.shield_squares ≡ word (may_expose p.men p.turn))
         × AreEvasions rule p.men p.turn s.evasion_squares };
 
     fn origins<R: Rules>(&self, board: &Board) -> u64 {

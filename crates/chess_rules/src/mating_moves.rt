@@ -55,7 +55,7 @@ impl<R: Rules> MatingMoves<R> {
     {
         MatingMoves {
             passed: 0,
-            checks: check_squares::<R>(board, board.turn().other()),
+            checks: check_squares(board, board.turn().other()),
             targets: Kept {
                 origin: None,
                 squares: 0,
@@ -144,7 +144,7 @@ pub(crate) fn next_mating<R: Rules>(
     end: u16,
 ) -> u16
     requires well_formed { IsWellFormed board.old }
-    requires squares { AreCheckSquares R.rule board.old.men (other board.old.turn) squares.now }
+    requires squares { AreCheckSquares board.old.men (other board.old.turn) squares.now }
     requires kept { AreKept R.rule board.old (mates R.rule board.old) kept.old }
     requires end { end ≤ 28672 }
     ensures low { result < end → start ≤ result }
@@ -165,7 +165,7 @@ impl Sought for CheckSquares {
 
     ghost test = { mates };
 
-    ghost fits = { λ s rule p. AreCheckSquares rule p.men (other p.turn) s };
+    ghost fits = { λ s rule p. AreCheckSquares p.men (other p.turn) s };
 
     fn origins<R: Rules>(&self, board: &Board) -> u64 {
         mating_origins::<R>(board, self)
@@ -185,7 +185,7 @@ impl Sought for CheckSquares {
 // The squares from which a move may mate, and perhaps more: those from which one may give check.
 fn mating_origins<R: Rules>(board: &Board, squares: &CheckSquares) -> u64
     requires well_formed { IsWellFormed board.now }
-    requires squares { AreCheckSquares R.rule board.now.men (other board.now.turn) squares.now }
+    requires squares { AreCheckSquares board.now.men (other board.now.turn) squares.now }
     ensures { AreOrigins (mates R.rule board.now) result }
 {
     check_origins::<R>(board, squares)
@@ -194,7 +194,7 @@ fn mating_origins<R: Rules>(board: &Board, squares: &CheckSquares) -> u64
 // The squares to which the man on `from` may go with check, and perhaps more.
 fn candidates<R: Rules>(board: &Board, squares: &CheckSquares, from: Square) -> u64
     requires well_formed { IsWellFormed board.now }
-    requires squares { AreCheckSquares R.rule board.now.men (other board.now.turn) squares.now }
+    requires squares { AreCheckSquares board.now.men (other board.now.turn) squares.now }
     ensures { AreCandidates R.rule board.now (mates R.rule board.now) from result }
 {
     let word = near_check_targets::<R>(board, squares, from);
@@ -208,7 +208,7 @@ fn candidates<R: Rules>(board: &Board, squares: &CheckSquares, from: Square) -> 
 fn is_mating<R: Rules>(board: &mut Board, squares: &CheckSquares, m: Move) -> bool
     requires well_formed { IsWellFormed board.old }
     requires aimed { IsAimed R.rule board.old m }
-    requires squares { AreCheckSquares R.rule board.old.men (other board.old.turn) squares.now }
+    requires squares { AreCheckSquares board.old.men (other board.old.turn) squares.now }
     ensures answer { result ≡ mates R.rule board.old m }
     ensures board { board.new ≡ board.old }
 {

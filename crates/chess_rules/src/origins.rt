@@ -8,7 +8,7 @@ ghost use Rattle.chess_core.specs.declared.man.Kind.TheVariants.{King};
 ghost use Rattle.chess_rules.specs.ties.CheckSquares.{AreCheckOrigins, AreCheckSquares, AreCheckTargets, own_man};
 ghost use Rattle.chess_rules.specs.ties.Shields.{may_stand_between};
 
-use crate::checks::{CheckSquares, are_all_near, targets_of_kind, targets_of_king};
+use crate::checks::{CheckSquares, are_all_near, targets_off_shields};
 use crate::open_board::{open_targets, pawns_before};
 use crate::rules::Rules;
 use crate::shields::fairy_lines;
@@ -33,12 +33,12 @@ fn men_off_shields(board: &Board, squares: &CheckSquares, kind: Kind) -> u64
 #[inline(always)]
 fn far_pawns<R: Rules>(board: &Board, squares: &CheckSquares, lines: u64) -> u64
     requires well_formed { IsWellFormed board.now }
-    requires squares { AreCheckSquares R.rule board.now.men (other board.now.turn) squares.now }
+    requires squares { AreCheckSquares board.now.men (other board.now.turn) squares.now }
     requires lines { lines ≡ word (may_stand_between board.now.men (other board.now.turn)) }
     ensures { (s : ℕ) → s < 64 → (bit_at result s == 1) ≡ true
         → AreCheckTargets R.rule board.now s 0 }
 {
-    let targets = targets_of_kind::<R>(board, squares, Kind::Pawn, lines);
+    let targets = targets_off_shields::<R>(board, squares, Kind::Pawn, None, lines);
     men_off_shields(board, squares, Kind::Pawn) & !pawns_before(board.turn(), targets)
 }
 
@@ -58,7 +58,7 @@ fn is_far<R: Rules>(board: &Board, man: Man, from: Square, targets: u64) -> bool
 #[inline(always)]
 fn far_men<R: Rules>(board: &Board, squares: &CheckSquares, kind: Kind, lines: u64) -> u64
     requires well_formed { IsWellFormed board.now }
-    requires squares { AreCheckSquares R.rule board.now.men (other board.now.turn) squares.now }
+    requires squares { AreCheckSquares board.now.men (other board.now.turn) squares.now }
     requires lines { lines ≡ word (may_stand_between board.now.men (other board.now.turn)) }
     requires no_king { same_kind kind King ≡ false }
     ensures { (s : ℕ) → s < 64 → (bit_at result s == 1) ≡ true
@@ -72,7 +72,7 @@ fn far_men<R: Rules>(board: &Board, squares: &CheckSquares, kind: Kind, lines: u
     if men == 0 {
         return 0;
     }
-    let targets = targets_of_kind::<R>(board, squares, kind, lines);
+    let targets = targets_off_shields::<R>(board, squares, kind, None, lines);
     let mut far = 0u64;
     let mut number = 0u8;
     while let Some(from) = next_bit(men, number) {
@@ -89,7 +89,7 @@ fn far_men<R: Rules>(board: &Board, squares: &CheckSquares, kind: Kind, lines: u
 #[inline(always)]
 fn far_king<R: Rules>(board: &Board, squares: &CheckSquares, lines: u64) -> u64
     requires well_formed { IsWellFormed board.now }
-    requires squares { AreCheckSquares R.rule board.now.men (other board.now.turn) squares.now }
+    requires squares { AreCheckSquares board.now.men (other board.now.turn) squares.now }
     requires lines { lines ≡ word (may_stand_between board.now.men (other board.now.turn)) }
     ensures { (s : ℕ) → s < 64 → (bit_at result s == 1) ≡ true
         → AreCheckTargets R.rule board.now s 0 }
@@ -101,12 +101,8 @@ fn far_king<R: Rules>(board: &Board, squares: &CheckSquares, lines: u64) -> u64
         colour: board.turn(),
         kind: Kind::King,
     };
-    if !is_far::<R>(
-        board,
-        king,
-        from,
-        targets_of_king::<R>(board, squares, from, lines),
-    ) {
+    let targets = targets_off_shields::<R>(board, squares, Kind::King, Some(from), lines);
+    if !is_far::<R>(board, king, from, targets) {
         return 0;
     }
     only(Some(from))
@@ -122,7 +118,7 @@ fn own_squares(board: &Board) -> u64
 // The squares of the mover's men, those apart who couldn't come to a check square on an empty board.
 pub(crate) fn check_origins<R: Rules>(board: &Board, squares: &CheckSquares) -> u64
     requires well_formed { IsWellFormed board.now }
-    requires squares { AreCheckSquares R.rule board.now.men (other board.now.turn) squares.now }
+    requires squares { AreCheckSquares board.now.men (other board.now.turn) squares.now }
     ensures { AreCheckOrigins R.rule board.now result }
 {
     let own = own_squares(board);

@@ -14,11 +14,10 @@ ghost use Rattle.chess_rules.specs.Reaches.{reaches, reaches_as};
 ghost use Rattle.chess_core.specs.Steps.{diagonal_steps, straight_steps};
 ghost use Rattle.chess_core.specs.declared.man.Kind.TheVariants.{Bishop, Grasshopper, Nightrider, Rook};
 
-use crate::leaps::{king_leaps, knight_leaps, pawn_leaps};
 use crate::lines::{
-    diagonal_lines, diagonal_rides, knight_rides, queen_hops_back, queen_rides, straight_lines,
-    straight_rides,
+    diagonal_lines, diagonal_rides, queen_hops_back, straight_lines, straight_rides,
 };
+use crate::reach::reach_over;
 use crate::rules::Rules;
 use crate::sight::{Sight, sight_now, squares_seen};
 use crate::words::next_bit;
@@ -26,7 +25,8 @@ use chess_core::board::Board;
 use chess_core::man::{Colour, Kind};
 use chess_core::square::Square;
 
-// The squares from which a man of this colour and kind could go to `to` if an enemy stood there.
+// The squares from which a man of this colour and kind could go to `to` if an enemy stood there: those to which
+// one of the other colour could from there, but for a grasshopper.
 pub(crate) fn comes_as(occupied: u64, colour: Colour, kind: Kind, to: Square) -> u64
     ensures { (men : List (Option Man)) → occupied ≡ occupied_squares men
         → result ≡ word (λ s. reaches_as men colour kind s to) }
@@ -34,14 +34,8 @@ pub(crate) fn comes_as(occupied: u64, colour: Colour, kind: Kind, to: Square) ->
     // For the proof: a square's number is below 64.
     let _small = to.index();
     match kind {
-        Kind::King => king_leaps(to),
-        Kind::Queen => queen_rides(occupied, to),
-        Kind::Rook => straight_rides(occupied, to),
-        Kind::Bishop => diagonal_rides(occupied, to),
-        Kind::Knight => knight_leaps(to),
-        Kind::Pawn => pawn_leaps(colour.other(), to),
         Kind::Grasshopper => queen_hops_back(occupied, to),
-        Kind::Nightrider => knight_rides(occupied, to),
+        _ => reach_over(occupied, colour.other(), kind, to),
     }
 }
 

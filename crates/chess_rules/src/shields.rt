@@ -157,8 +157,8 @@ fn shields_of(board: &Board, colour: Colour, king: Square) -> u64
 }
 
 // The squares from which a move may expose the colour's king.
-pub(crate) fn shield_squares<R: Rules>(board: &Board, colour: Colour) -> u64
-    ensures { result ≡ word (may_expose R.rule board.now.men colour) }
+pub(crate) fn shield_squares(board: &Board, colour: Colour) -> u64
+    ensures { result ≡ word (may_expose board.now.men colour) }
 {
     let Some(king) = board.king_of(colour) else {
         return 0;
@@ -194,7 +194,7 @@ fn stands_aside<R: Rules>(board: &Board, man: Man, colour: Colour, m: &Move) -> 
 // Whether the move can't expose the colour's king; `squares` are those from which one may.
 #[inline(always)]
 pub(crate) fn cannot_expose<R: Rules>(board: &Board, colour: Colour, squares: u64, m: &Move) -> bool
-    requires { squares ≡ word (may_expose R.rule board.now.men colour) }
+    requires { squares ≡ word (may_expose board.now.men colour) }
     ensures { result ≡ cannot_expose R.rule board.now colour m.now }
 {
     // For the proof: a square's number is below 64.

@@ -1,13 +1,13 @@
 -- Attack looked for outward from the square.
-use Rattle.std.proofs.Common.{◌∷◌, ◌≡◌, ℕ, ◌<◌, Bool, true, false, ◌&&◌, ◌||◌, ◌==◌, not, List, [], refl, sym, ap, ◌∙◌, arith, inl, inr, Option, Some, None, rules}
+use Rattle.std.proofs.Common.{◌∷◌, ◌≡◌, ℕ, ◌-◌, ◌<◌, Bool, true, false, ◌&&◌, ◌||◌, ◌==◌, not, List, [], refl, sym, ap, ◌∙◌, arith, inl, inr, Option, Some, None, rules}
 use Rattle.std.specs.Int.{bit_at}
 use Rattle.std.specs.Int.Bits.{bit_or, bit_and}
-use Rattle.std.specs.List.{list_any}
-use Rattle.std.proofs.lemmas.Bool.{false≢true}
+use Rattle.std.specs.List.{list_any, range_with_len}
+use Rattle.std.proofs.lemmas.Bool.{and_left, false_from_ne_true, false≢true}
 use Rattle.std.proofs.lemmas.List.Folds.{list_any-append}
 use Rattle.chess_core.specs.Position.{is_man, is_side, man_on, other, same_kind}
-use Rattle.chess_core.specs.Squares.{some_square}
-use Rattle.chess_core.specs.Steps.{diagonal_steps, knight_steps, pawn_captures, queen_steps, straight_steps}
+use Rattle.chess_core.specs.Squares.{is_square, some_square}
+use Rattle.chess_core.specs.Steps.{along, diagonal_steps, queen_steps, straight_steps}
 use Rattle.chess_core.specs.ties.Words.{squares_of, word}
 use Rattle.chess_core.specs.declared.man.Colour.{Colour}
 use Rattle.chess_core.specs.declared.man.Kind.{Kind}
@@ -22,11 +22,11 @@ use Rattle.chess_rules.specs.Attacks.{attacked, faces, faces_its_like, paralysed
 use Rattle.chess_rules.specs.ties.Lines.{is_ahead, is_on_some}
 use Rattle.chess_rules.specs.ties.Outward.{hopped_from, is_met}
 use Rattle.chess_rules.specs.ties.Shields.{is_reached}
-use Rattle.chess_rules.specs.Reaches.{leaps, reaches, reaches_as, reaches_of, rides}
+use Rattle.chess_rules.specs.Reaches.{is_clear, reaches, reaches_as, reaches_of, rides}
 use Rattle.chess_rules.specs.RuleSet.{RuleSet}
 use Rattle.chess_rules.proofs.Bits.{not_zero, word_empty, word_has}
 use Rattle.chess_rules.proofs.rays.Flips.{diagonal-back, grasshopper-back, king-back, knight-back, nightrider-back, pawn-back, queen_rides-back, straight-back}
-use Rattle.chess_rules.proofs.Tests.{any_range_cases, first_of_and, second_of_and}
+use Rattle.chess_rules.proofs.Tests.{any_range_cases, first_of_and, second_of_and, any_kept}
 
 -- tests that agree on the squares
 pub some_square_same : (p q : ℕ → Bool) → ((s : ℕ) → s < 64 → p s ≡ q s) → some_square p ≡ some_square q
@@ -37,47 +37,28 @@ some_square_same p q h = elim (any_range_cases p 0 64) [
       ∙ sym (some_square_false q 64 (omega arith) (record { fails = λ s b. sym (h s b) ∙ none s (omega arith) b }))
 ]
 
--- the squares from which each kind comes
-pub comes_king : (men : List (Option Man)) (c : Colour) (t : ℕ) → t < 64 → word (λ s. list_any (leaps t s) queen_steps) ≡ word (λ s. reaches_as men c King s t)
+-- the squares from which a man comes: those to which one of the other colour goes, but for a grasshopper
+turned : (men : List (Option Man)) (c : Colour) (j : Kind) (s t : ℕ) → (j ≡ Grasshopper → ⊥) → s < 64 → t < 64
+    → reaches_as men (other c) j t s ≡ reaches_as men c j s t
 unfolding reaches_as
-comes_king men c t q = squares_same _ _ (λ s p. king-back t s q p)
+turned men c King s t piece p q = king-back t s q p
+turned men c Queen s t piece p q = queen_rides-back men t s q p
+turned men c Rook s t piece p q = straight-back men t s q p
+turned men c Bishop s t piece p q = diagonal-back men t s q p
+turned men c Knight s t piece p q = knight-back t s q p
+turned men c Pawn s t piece p q = sym (pawn-back c s t p q)
+turned men c Grasshopper s t piece p q = absurd (piece refl)
+turned men c Nightrider s t piece p q = nightrider-back men t s q p
 
-pub comes_queen : (men : List (Option Man)) (c : Colour) (t : ℕ) → t < 64
-    → word (λ s. list_any (rides men t s) queen_steps) ≡ word (λ s. reaches_as men c Queen s t)
-unfolding reaches_as
-comes_queen men c t q = squares_same _ _ (λ s p. queen_rides-back men t s q p)
-
-pub comes_rook : (men : List (Option Man)) (c : Colour) (t : ℕ) → t < 64
-    → word (λ s. list_any (rides men t s) straight_steps) ≡ word (λ s. reaches_as men c Rook s t)
-unfolding reaches_as
-comes_rook men c t q = squares_same _ _ (λ s p. straight-back men t s q p)
-
-pub comes_bishop : (men : List (Option Man)) (c : Colour) (t : ℕ) → t < 64
-    → word (λ s. list_any (rides men t s) diagonal_steps) ≡ word (λ s. reaches_as men c Bishop s t)
-unfolding reaches_as
-comes_bishop men c t q = squares_same _ _ (λ s p. diagonal-back men t s q p)
-
-pub comes_knight : (men : List (Option Man)) (c : Colour) (t : ℕ) → t < 64
-    → word (λ s. list_any (leaps t s) knight_steps) ≡ word (λ s. reaches_as men c Knight s t)
-unfolding reaches_as
-comes_knight men c t q = squares_same _ _ (λ s p. knight-back t s q p)
-
--- where e is the other side
-pub comes_pawn : (men : List (Option Man)) (c e : Colour) (t w : ℕ) → t < 64 → w ≡ word (λ s. list_any (leaps t s) (pawn_captures e)) → e ≡ other c
-    → w ≡ word (λ s. reaches_as men c Pawn s t)
-unfolding reaches_as
-comes_pawn men c e t w q h other_side =
-    h ∙ ap (λ d. word (λ s. list_any (leaps t s) (pawn_captures d))) other_side ∙ squares_same _ _ (λ s p. sym (pawn-back c s t p q))
+pub comes_back : (men : List (Option Man)) (c e : Colour) (j : Kind) (t w : ℕ) → (j ≡ Grasshopper → ⊥) → t < 64 → w ≡ word (reaches_as men e j t)
+    → e ≡ other c → w ≡ word (λ s. reaches_as men c j s t)
+comes_back men c e j t w piece q h enemy =
+    h ∙ ap (λ (d : Colour). word (reaches_as men d j t)) enemy ∙ squares_same _ _ (λ s p. turned men c j s t piece p q)
 
 pub comes_grasshopper : (men : List (Option Man)) (c : Colour) (t : ℕ) → t < 64
     → word (λ s. list_any (hopped_from men t s) queen_steps) ≡ word (λ s. reaches_as men c Grasshopper s t)
 unfolding reaches_as
 comes_grasshopper men c t q = squares_same _ _ (λ s p. sym (grasshopper-back men s t p q))
-
-pub comes_nightrider : (men : List (Option Man)) (c : Colour) (t : ℕ) → t < 64
-    → word (λ s. list_any (rides men t s) knight_steps) ≡ word (λ s. reaches_as men c Nightrider s t)
-unfolding reaches_as
-comes_nightrider men c t q = squares_same _ _ (λ s p. nightrider-back men t s q p)
 
 -- a man of this colour and kind goes as such men go
 reaches_of_man : (men : List (Option Man)) (o : Option Man) (c : Colour) (k : Kind) (s t : ℕ) → is_man o c k ≡ true
@@ -86,8 +67,7 @@ reaches_of_man men None c k s t h = absurd (false≢true h)
 reaches_of_man men (Some x) c k s t h = search (rules, first_of_and, same_colour-true, same_kind-is, second_of_and)
 
 only_then : (a b c : Bool) → (a ≡ true → b ≡ c) → (a && b) ≡ (a && c)
-only_then true b c h = h refl
-only_then false b c h = refl
+only_then a b c p = grind arith
 
 pub reached : (men : List (Option Man)) (c : Colour) (k : Kind) (t w n : ℕ) → w ≡ squares_of men c k → n ≡ word (λ s. reaches_as men c k s t)
     → bit_and w n ≡ word (λ s. is_man (man_on men s) c k && reaches men s t)
@@ -97,10 +77,6 @@ reached men c k t w n h r =
     ∙ squares_same _ _ (λ s b. only_then (is_man (man_on men s) c k) (reaches_as men c k s t) (reaches men s t)
     (λ h. sym (reaches_of_man men (man_on men s) c k s t h)))
 
-fails_first : (a b : Bool) → a ≡ false → (a && b) ≡ false
-fails_first true b h = absurd (cc)
-fails_first false b h = refl
-
 -- a word that is 0 has no square
 word_lacks : (test : ℕ → Bool) → word test ≡ 0 → (s : ℕ) → s < 64 → test s ≡ false
 word_lacks test h s b = sym (word_has test (word test) s refl b) ∙ word_has (λ s. false) (word test) s (h ∙ word_empty (λ s. false) (λ s b. refl)) b
@@ -109,7 +85,7 @@ pub reached_none : (men : List (Option Man)) (c : Colour) (k : Kind) (t w : ℕ)
     → 0 ≡ word (λ s. is_man (man_on men s) c k && reaches men s t)
 unfolding squares_of
 reached_none men c k t w h z =
-    word_empty _ (λ s b. fails_first (is_man (man_on men s) c k) (reaches men s t) (word_lacks (λ s. is_man (man_on men s) c k) (sym h ∙ z) s b))
+    word_empty _ (λ s b. and_left (is_man (man_on men s) c k) (reaches men s t) (word_lacks (λ s. is_man (man_on men s) c k) (sym h ∙ z) s b))
 
 -- the men that ride along lines, and the others
 abbrev pub others : List Kind
@@ -118,24 +94,10 @@ others = King ∷ Knight ∷ Pawn ∷ Grasshopper ∷ Nightrider ∷ []
 by_lines : (b : Bool) (k : Kind) (r s d : Bool) → (k ≡ Rook → r ≡ s) → (k ≡ Bishop → r ≡ d) → (k ≡ Queen → r ≡ (s || d))
     → (((((b && same_kind k Rook) || (b && same_kind k Queen)) && s) || (((b && same_kind k Bishop) || (b && same_kind k Queen)) && d))
     || list_any (λ j. (b && same_kind k j) && r) others) ≡ (b && r)
-by_lines false k r s d rook bishop queen = refl
-by_lines true King true s d rook bishop queen = refl
-by_lines true King false s d rook bishop queen = refl
-by_lines true Knight true s d rook bishop queen = refl
-by_lines true Knight false s d rook bishop queen = refl
-by_lines true Pawn true s d rook bishop queen = refl
-by_lines true Pawn false s d rook bishop queen = refl
-by_lines true Grasshopper true s d rook bishop queen = refl
-by_lines true Grasshopper false s d rook bishop queen = refl
-by_lines true Nightrider true s d rook bishop queen = refl
-by_lines true Nightrider false s d rook bishop queen = refl
-by_lines true Rook r true d rook bishop queen = sym (rook refl)
-by_lines true Rook r false d rook bishop queen = sym (rook refl)
-by_lines true Bishop r s true rook bishop queen = sym (bishop refl)
-by_lines true Bishop r s false rook bishop queen = sym (bishop refl)
-by_lines true Queen r true d rook bishop queen = sym (queen refl)
-by_lines true Queen r false true rook bishop queen = sym (queen refl)
-by_lines true Queen r false false rook bishop queen = sym (queen refl)
+by_lines b Rook r s d rook bishop queen = let e : r ≡ s = rook refl in grind arith
+by_lines b Bishop r s d rook bishop queen = let e : r ≡ d = bishop refl in grind arith
+by_lines b Queen r s d rook bishop queen = let e : r ≡ (s || d) = queen refl in grind arith
+by_lines b k r s d rook bishop queen = grind arith
 
 rook_reaches : (men : List (Option Man)) (c : Colour) (k : Kind) (s t : ℕ) → s < 64 → t < 64 → k ≡ Rook
     → reaches_as men c k s t ≡ list_any (rides men t s) straight_steps
@@ -166,24 +128,21 @@ pub met : (men : List (Option Man)) (c : Colour) (k : Kind) (t m n w : ℕ) (ds 
 unfolding squares_of is_met
 met men c k t m n w ds h i j = search (rules, squares_both, squares_either)
 
--- a rider gets to squares ahead alone
-rides_ahead : (men : List (Option Man)) (t s : ℕ) (d : Step) → is_ahead t d s ≡ false → rides men t s d ≡ false
+-- where a rider gets, a line goes
+ahead_of : (men : List (Option Man)) (k s : ℕ) (d : Step) → rides men k s d ≡ true → is_ahead k d s ≡ true
 unfolding rides is_ahead
-rides_ahead men t s d h = search rules
+ahead_of men k s d h = any_kept (λ n. is_square (along k d n) s && is_clear men k d (n - 1)) (λ n. is_square (along k d n) s) (range_with_len 1 7)
+    (λ n. first_of_and (is_square (along k d n) s) (is_clear men k d (n - 1))) h
 
-neither : (a b c d : Bool) → (a || b) ≡ false → (a ≡ false → c ≡ false) → (b ≡ false → d ≡ false) → (c || d) ≡ false
-neither true b c d h f g = absurd (false≢true (sym h))
-neither false b c d h f g = rw (f refl) (g h)
+pub goes_on : (men : List (Option Man)) (k s : ℕ) (ds : List Step) → list_any (rides men k s) ds ≡ true → list_any (λ d. is_ahead k d s) ds ≡ true
+goes_on men k s ds h = any_kept (rides men k s) (λ d. is_ahead k d s) ds (λ d. ahead_of men k s d) h
 
 rides_some : (men : List (Option Man)) (t s : ℕ) (ds : List Step) → is_on_some ds t s ≡ false → list_any (rides men t s) ds ≡ false
 unfolding is_on_some
-rides_some men t s [] h = refl
-rides_some men t s (d ∷ ds) h = neither (is_ahead t d s) (list_any (λ d. is_ahead t d s) ds) (rides men t s d) (list_any (rides men t s) ds) h
-    (rides_ahead men t s d) (rides_some men t s ds)
+rides_some men t s ds h = false_from_ne_true _ (λ y. false≢true (sym h ∙ goes_on men t s ds y))
 
 apart : (m l r : Bool) → (m && l) ≡ false → (l ≡ false → r ≡ false) → (m && r) ≡ false
-apart true l r h f = f h
-apart false l r h f = refl
+apart m l r p q = grind arith
 
 pub met_none : (men : List (Option Man)) (c : Colour) (k : Kind) (t m n l : ℕ) (ds : List Step) → m ≡ squares_of men c k → n ≡ squares_of men c Queen
     → l ≡ word (is_on_some ds t) → bit_and (bit_or m n) l ≡ 0
@@ -202,13 +161,7 @@ abbrev pub comer : List (Option Man) → Colour → ℕ → Kind → ℕ → Boo
 comer men c t k s = is_man (man_on men s) c k && reaches men s t
 
 one_by_one : (x a b c d e : Bool) → ((((x || a) || b) || c) || (d || e)) ≡ (x || (a || (b || (c || (d || (e || false))))))
-one_by_one true a b c d e = refl
-one_by_one false true b c d e = refl
-one_by_one false false true c d e = refl
-one_by_one false false false true d e = refl
-one_by_one false false false false true e = refl
-one_by_one false false false false false true = refl
-one_by_one false false false false false false = refl
+one_by_one x a b c d e = grind arith
 
 pub attackers_are : (men : List (Option Man)) (c : Colour) (t r b k n p f : ℕ) → t < 64
     → r ≡ word (is_met men c Rook straight_steps t)
@@ -243,11 +196,7 @@ pub fairy_none : (men : List (Option Man)) (c : Colour) (t g f : ℕ) → g ≡ 
 fairy_none men c t g f hg hf zg zf = fairy_are men c t 0 0 (reached_none men c Grasshopper t g hg zg) (reached_none men c Nightrider t f hf zf)
 
 last_two : (a b c : Bool) → ((a && b) && c) ≡ ((a && c) && b)
-last_two true true true = refl
-last_two true true false = refl
-last_two true false true = refl
-last_two true false false = refl
-last_two false b c = refl
+last_two a b c = grind arith
 
 -- attack by the men that reach the square and aren't paralysed
 pub attacked_by : (rule : RuleSet) (men : List (Option Man)) (t w : ℕ) (c : Colour) → w ≡ word (λ s. is_side (man_on men s) c && reaches men s t)

@@ -15,9 +15,10 @@ use Rattle.chess_rules.specs.ties.Evasions.{AreEvasionsFrom, AreEvasions}
 use Rattle.chess_rules.specs.Legal.{pseudo}
 use Rattle.chess_rules.specs.Play.{after, is_castling}
 use Rattle.chess_rules.specs.RuleSet.{RuleSet, is_circe}
-use Rattle.chess_rules.proofs.giving_check.CheckTargets.{off_left, off_right, plain_elsewhere}
+use Rattle.chess_rules.proofs.giving_check.CheckTargets.{plain_elsewhere}
 use Rattle.chess_rules.proofs.attacks.StayingInCheck.{check_unmet}
 use Rattle.chess_rules.proofs.listing_moves.Targeting.{every_square_on, false_by, nobody_moves}
+use Rattle.chess_rules.proofs.Bits.{off_left, off_right}
 
 pub evasions_from_nobody : (rule : RuleSet) (p : Position) (f w : ℕ) → man_on p.men f ≡ None → AreEvasionsFrom rule p f w
 evasions_from_nobody rule p f w none = search (rules, nobody_moves)

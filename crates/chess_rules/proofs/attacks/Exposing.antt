@@ -30,7 +30,6 @@ use Rattle.chess_rules.proofs.Tests.{differs}
 use Rattle.chess_core.proofs.Men.{same_colour-true}
 use Rattle.chess_core.proofs.Words.{squares_both, squares_either, squares_not, squares_same}
 use Rattle.std.specs.Int.{bit_at}
-use Rattle.std.specs.Int.Bits.{bit_and, bit_or}
 
 -- the parts of a simple move
 pub record IsSimple (rule : RuleSet) (p : Position) (x : Man) (m : Move) : Type 0 where
@@ -38,17 +37,10 @@ pub record IsSimple (rule : RuleSet) (p : Position) (x : Man) (m : Move) : Type 
   pub rebirth : is_circe rule ≡ true → capture_square p x m ≡ None
 
 none_there : (b : Bool) (o : Option ℕ) → (b && is_some o) ≡ false → b ≡ true → o ≡ None
-none_there b None h e = refl
-none_there true (Some s) h e = absurd (false≢true (sym h))
-none_there false (Some s) h e = absurd (false≢true e)
+none_there b o p q = grind arith
 
 pub simple_parts : (rule : RuleSet) (p : Position) (x : Man) (m : Move) → is_simple rule x m (is_some (capture_square p x m)) ≡ true → IsSimple rule p x m
-simple_parts rule p x m h =
-    let h1 = and_parts (not (is_castling x m)) (not (is_circe rule && is_some (capture_square p x m))) h in
-    record {
-      castling = not-true _ h1.0;
-      rebirth = λ circe. none_there (is_circe rule) (capture_square p x m) (not-true _ h1.1) circe;
-    }
+simple_parts rule p x m h = grind (arith, and_parts, not-true, none_there)
 
 -- the arriving man in a word by kind
 pub arrives_as : (x : Man) (m : Move) (k : Kind) (w : ℕ) → w ≡ word (is_square (Some m.to)) → same_kind (arriving x m.promo).kind k ≡ true
@@ -157,26 +149,13 @@ no_king_exposed rule p x m well may small here simple king =
 
 -- the men of either side after the move
 own_elsewhere : (mine o a k b : Bool) → o ≡ false → a ≡ false → b ≡ false → (((mine && not o) && not a) || (k && b)) ≡ mine
-own_elsewhere true false false true false p q r = refl
-own_elsewhere true false false false false p q r = refl
-own_elsewhere false false false true false p q r = refl
-own_elsewhere false false false false false p q r = refl
-own_elsewhere mine true a k b p q r = absurd (false≢true (sym p))
-own_elsewhere mine false true k b p q r = absurd (false≢true (sym q))
-own_elsewhere mine false false k true p q r = absurd (false≢true (sym r))
+own_elsewhere mine o a k b p q h = grind arith
 
 own_gone : (mine o a k b : Bool) → (a || o) ≡ true → b ≡ false → (((mine && not o) && not a) || (k && b)) ≡ false
-own_gone true true true k b p q = rw q (and_right k false refl)
-own_gone true true false k b p q = rw q (and_right k false refl)
-own_gone true false true k b p q = rw q (and_right k false refl)
-own_gone false o a k b p q = rw q (and_right k false refl)
-own_gone mine false false k b p q = absurd (false≢true p)
+own_gone mine o a k b p q = grind arith
 
 own_there : (mine o a k b : Bool) → mine ≡ false → b ≡ true → (((mine && not o) && not a) || (k && b)) ≡ k
-own_there true o a k b p q = absurd (false≢true (sym p))
-own_there false o a true true p q = refl
-own_there false o a false true p q = refl
-own_there false o a k false p q = absurd (false≢true q)
+own_there mine o a k b p q = grind arith
 
 free_of_own : (c : Colour) (k : Kind) (o : Option Man) → is_arrival_free c o ≡ true → is_man o c k ≡ false
 free_of_own c k None h = refl
@@ -229,24 +208,11 @@ others_on rule p x m s well is small side = elim (cases_eq s m.to) [
 own_words : (rule : RuleSet) (p : Position) (x : Man) (m : Move) (k : Kind) → IsWellFormed p → IsMade rule p x m → m.to < 64
     → own_after p.men (sight_after p.men m.from (capture_square p x m) m.to) x m k ≡ squares_of (arrived p x m) x.colour k
 unfolding squares_of
-own_words rule p x m k well is small =
-    let mine : ℕ → Bool = λ s. is_man (man_on p.men s) x.colour k in
-    let stands : ℕ → Bool = λ s. not (is_square (capture_square p x m) s) in
-    let stays : ℕ → Bool = λ s. not (is_square (Some m.from) s) in
-    (λ j. bit_or (bit_and (bit_and (word mine) (squares_not (is_square (capture_square p x m)) j)) (squares_not (is_square (Some m.from)) j))
-    (word (is_arriving_as x m k)))
-    ∙ (λ j. bit_or (bit_and (squares_both mine stands j) (word stays)) (word (is_arriving_as x m k)))
-    ∙ (λ j. bit_or (squares_both (λ s. mine s && stands s) stays j) (word (is_arriving_as x m k)))
-    ∙ squares_either (λ s. (mine s && stands s) && stays s) (is_arriving_as x m k)
-    ∙ squares_same _ _ (λ s b. own_on rule p x m k s well is small)
+own_words rule p x m k well is small = search (rules, squares_not, squares_both, squares_either, squares_same, own_on)
 
 are_arrived : (rule : RuleSet) (p : Position) (x : Man) (m : Move) → IsWellFormed p → IsMade rule p x m → m.to < 64
     → AreArrived p.men (arrived p x m) x m (sight_after p.men m.from (capture_square p x m) m.to)
-are_arrived rule p x m well is small = record {
-  occupied = (seen_after p.men m.from (capture_square p x m) m.to (arriving x m.promo) p.turn (goes_capturing rule p x m well is small)).occupied;
-  own = λ k. own_words rule p x m k well is small;
-  others = λ s side. others_on rule p x m s well is small side;
-}
+are_arrived rule p x m well is small = search (rules, seen_after, goes_capturing, own_words, others_on)
 
 pub exposed_is : (rule : RuleSet) (p : Position) (x : Man) (m : Move) (k w : ℕ) (b : Bool) → IsWellFormed p → pseudo rule p m ≡ true → m.to < 64
     → man_on p.men m.from ≡ Some x → is_simple rule x m (is_some (capture_square p x m)) ≡ true → king_after p x m ≡ Some k

@@ -1,5 +1,5 @@
 -- Lines of grasshoppers and nightriders to a square: what stands elsewhere changes nothing on them.
-use Rattle.std.proofs.Common.{◌≡◌, ℕ, ◌-◌, ◌<◌, ◌≤◌, Bool, true, false, ◌&&◌, ◌||◌, ◌==◌, not, List, [], ◌∷◌, Option, Some, None, refl, sym, ap, ◌∙◌, arith, inl, inr}
+use Rattle.std.proofs.Common.{◌≡◌, ℕ, ◌⊎◌, ◌-◌, ◌<◌, ◌≤◌, Bool, true, false, ◌&&◌, ◌||◌, ◌==◌, not, List, [], ◌∷◌, Option, Some, None, refl, sym, ap, ◌∙◌, arith, inl, inr, rules}
 use Rattle.std.specs.Int.Bits.{bit_and, bit_or}
 use Rattle.std.specs.List.{list_any}
 use Rattle.std.proofs.lemmas.Bool.{and_from, and_left, and_right, eq-eqb, false_from_ne_true, false≢true, or_cases, or_left, or_parts, or_right}
@@ -19,7 +19,7 @@ use Rattle.chess_rules.specs.declared.lines.Direction.{Direction}
 use Rattle.chess_rules.specs.declared.lines.Direction.TheVariants.{East, West, North, South, NorthEast, SouthEast, NorthWest, SouthWest, NorthNorthEast, SouthSouthEast, NorthNorthWest, SouthSouthWest, EastNorthEast, EastSouthEast, WestNorthWest, WestSouthWest}
 use Rattle.chess_rules.specs.ties.Lines.{is_ahead, place, ray, step_of}
 use Rattle.chess_rules.specs.ties.Shields.{has_fairy, is_lined, is_on_fairy_line, is_on_fairy_line_to, may_stand_between}
-use Rattle.chess_rules.proofs.rays.Ahead.{Ordered, ordered}
+use Rattle.chess_rules.proofs.rays.Ahead.{ordered}
 use Rattle.chess_rules.proofs.attacks.Attacking.{some_square_same}
 use Rattle.chess_rules.proofs.Bits.{not_zero, word_empty}
 use Rattle.chess_rules.proofs.rays.Ends.{back, between, square_is, stays}
@@ -48,9 +48,6 @@ IsBeside a s k d = (n i : ℕ) → along s d n ≡ Some k → 1 ≤ i → i < n 
 -- nor does it pass a right before k, where a hurdle would be
 abbrev pub IsNoHurdle : ℕ → ℕ → ℕ → Step → Type 0
 IsNoHurdle a s k d = (n : ℕ) → along s d n ≡ Some k → 2 ≤ n → n ≤ 7 → is_square (along s d (n - 1)) a ≡ false
-
-no_hurdle : (a s k : ℕ) (d : Step) → IsBeside a s k d → IsNoHurdle a s k d
-no_hurdle a s k d beside = λ n at low le. beside n (n - 1) at (omega arith) (omega arith) le
 
 -- where a lies off the line on which s lies
 off_line : (a s k : ℕ) (d : Step) → s < 64 → (is_ahead k (back d) s ≡ true → is_ahead k (back d) a ≡ false) → IsBeside a s k d
@@ -102,96 +99,66 @@ hop_kept men after a b s k d i o beside none_there h =
           (λ n. is_square (along s d n) k && is_occupied after (along s d (n - 1)) && is_clear after s d (n - 2)) 2 6 none) ∙ h))
     ]
 
--- lists of directions
-abbrev pub steps_of : List Direction → List Step
-steps_of [] = []
-steps_of (x ∷ xs) = step_of x ∷ steps_of xs
-
-any_kept : (xs : List Direction) (f g u v : Step → Bool)
-    → ((x : Direction) → u (step_of x) ≡ false → v (step_of x) ≡ false → f (step_of x) ≡ true → g (step_of x) ≡ true)
-    → list_any u (steps_of xs) ≡ false → list_any v (steps_of xs) ≡ false → list_any f (steps_of xs) ≡ true → list_any g (steps_of xs) ≡ true
-any_kept [] f g u v each p q h = h
-any_kept (x ∷ xs) f g u v each p q h =
-    let m = or_parts (u (step_of x)) (list_any u (steps_of xs)) p in
-    let n = or_parts (v (step_of x)) (list_any v (steps_of xs)) q in
-    elim (or_cases (f (step_of x)) (list_any f (steps_of xs)) h) [
-      | inl y ↦ or_left (g (step_of x)) _ (each x m.0 n.0 y)
-      | inr y ↦ or_right (g (step_of x)) _ (any_kept xs f g u v each m.1 n.1 y)
-    ]
-
 abbrev pub queen_directions : List Direction
 queen_directions = East ∷ West ∷ North ∷ South ∷ NorthEast ∷ SouthEast ∷ NorthWest ∷ SouthWest ∷ []
 
 abbrev pub knight_directions : List Direction
 knight_directions = NorthNorthEast ∷ SouthSouthEast ∷ NorthNorthWest ∷ SouthSouthWest ∷ EastNorthEast ∷ EastSouthEast ∷ WestNorthWest ∷ WestSouthWest ∷ []
 
--- a square that isn't lined with a man of the kind lies on no line with him
-unlined : (men : List (Option Man)) (e : Colour) (j : Kind) (k s t : ℕ) (d : Step) → is_lined men e j k t d ≡ false → s < 64
-    → is_man (man_on men s) e j ≡ true → is_ahead k d s ≡ true → is_ahead k d t ≡ false
-unlined men e j k s t d off small man ahead =
-    false_from_ne_true _ (λ y. false≢true (sym off
-    ∙ and_from _ _ y (some_square_true (λ q. is_man (man_on men q) e j && is_ahead k d q) s small (and_from _ _ man ahead))))
+any_off : (xs : List Direction) (f g u v : Direction → Bool) → ((x : Direction) → u x ≡ false → v x ≡ false → f x ≡ true → g x ≡ true)
+    → list_any u xs ≡ false → list_any v xs ≡ false → list_any f xs ≡ true → list_any g xs ≡ true
+any_off [] f g u v each p q h = h
+any_off (x ∷ xs) f g u v each p q h = search (rules, each, any_off xs f g u v each, or_cases, or_left, or_parts, or_right)
 
-beside_lined : (men : List (Option Man)) (e : Colour) (j : Kind) (k s t : ℕ) (d : Step) → is_lined men e j k t (back d) ≡ false → s < 64
-    → is_man (man_on men s) e j ≡ true → IsBeside t s k d
-beside_lined men e j k s t d off small man = off_line t s k d small (unlined men e j k s t (back d) off small man)
+-- a line doesn't come back to a square
+pub once : (k i n t : ℕ) (x : Direction) → i < n → along k (step_of x) i ≡ Some t → along k (step_of x) n ≡ Some t → ⊥
+once k i n t x lt here there =
+    let less : place (step_of x) t < place (step_of x) t = (ordered x).in_order k i n t t here there lt in
+    absurd (omega arith)
 
-self_unlined : (men : List (Option Man)) (e : Colour) (j : Kind) (k a : ℕ) (d : Step) → is_lined men e j k a d ≡ false → a < 64
-    → is_man (man_on men a) e j ≡ true → is_ahead k d a ≡ false
-self_unlined men e j k a d off small man = false_from_ne_true _ (λ y. false≢true (sym (unlined men e j k a a d off small man y) ∙ y))
+-- a man of kind j and colour e stood on s, or has come from a to b, which is s
+abbrev pub WasThere : List (Option Man) → Colour → Kind → ℕ → ℕ → ℕ → Type 0
+WasThere men e j a b s = (is_man (man_on men s) e j ≡ true) ⊎ ((s ≡ b) × (a < 64) × (is_man (man_on men a) e j ≡ true))
 
--- a line doesn't come back to its start
-not_again : (s i : ℕ) (d : Step) → Ordered d → s < 64 → 1 ≤ i → is_square (along s d i) s ≡ false
-not_again s i d o small low = false_from_ne_true _ (λ y.
-    let less : place d s < place d s = o.in_order s 0 i s s (stays s d small) (square_is _ s y) (omega arith) in
-    absurd (omega arith))
+module _ (men after : List (Option Man)) (e : Colour) (a b k s : ℕ) (i : Frees after men a) (small : s < 64) where
+  -- a square that isn't lined with such a man lies on no line with him
+  unlined : (j : Kind) (q t : ℕ) (d : Step) → is_lined men e j k t d ≡ false → q < 64 → is_man (man_on men q) e j ≡ true → is_ahead k d q ≡ true
+      → is_ahead k d t ≡ false
+  unlined j q t d off inside man ahead =
+      false_from_ne_true _ (λ y. false≢true (sym off
+      ∙ and_from _ _ y (some_square_true (λ q. is_man (man_on men q) e j && is_ahead k d q) q inside (and_from _ _ man ahead))))
 
--- a grasshopper that stands where it stood hops as it hopped
-pub hopper_stays : (men after : List (Option Man)) (e : Colour) (a b k s : ℕ) → Frees after men a → Holds after men b → s < 64
-    → is_man (man_on men s) e Grasshopper ≡ true → list_any (is_lined men e Grasshopper k a) queen_steps ≡ false
-    → list_any (is_lined men e Grasshopper k b) queen_steps ≡ false
-    → list_any (hops after s k) queen_steps ≡ true → list_any (hops men s k) queen_steps ≡ true
-hopper_stays men after e a b k s i o small man p q h =
-    any_kept queen_directions (hops after s k) (hops men s k) (λ d. is_lined men e Grasshopper k a (back d)) (λ d. is_lined men e Grasshopper k b (back d))
-    (λ x u v hop. hop_kept men after a b s k (step_of x) i o (beside_lined men e Grasshopper k s a (step_of x) u small man)
-    (no_hurdle b s k (step_of x) (beside_lined men e Grasshopper k s b (step_of x) v small man)) hop)
-    (backward queen_steps (is_lined men e Grasshopper k a) refl ∙ p)
-    (backward queen_steps (is_lined men e Grasshopper k b) refl ∙ q) h
+  beside : (j : Kind) (d : Step) → WasThere men e j a b s → is_lined men e j k a (back d) ≡ false → IsBeside a s k d
+  beside j d was off = elim was [
+    | inl man ↦ off_line a s k d small (unlined j s a (back d) off small man)
+    | inr w ↦ off_line a s k d small (λ y. false_from_ne_true _ (λ z. false≢true (sym (unlined j a a (back d) off w.1 w.2 z) ∙ z)))
+  ]
 
--- one that has come from a hops as it would have hopped
-pub hopper_comes : (men after : List (Option Man)) (e : Colour) (a k s : ℕ) → Frees after men a → Holds after men s → s < 64 → a < 64
-    → is_man (man_on men a) e Grasshopper ≡ true → list_any (is_lined men e Grasshopper k a) queen_steps ≡ false
-    → list_any (hops after s k) queen_steps ≡ true → list_any (hops men s k) queen_steps ≡ true
-hopper_comes men after e a k s i o small low man p h =
-    let off : list_any (λ d. is_lined men e Grasshopper k a (back d)) queen_steps ≡ false =
-    backward queen_steps (is_lined men e Grasshopper k a) refl ∙ p in
-    any_kept queen_directions (hops after s k) (hops men s k) (λ d. is_lined men e Grasshopper k a (back d)) (λ d. is_lined men e Grasshopper k a (back d))
-    (λ x u v hop. hop_kept men after a s s k (step_of x) i o
-    (off_line a s k (step_of x) small (λ y. self_unlined men e Grasshopper k a (back (step_of x)) u low man))
-    (λ n at low le. not_again s (n - 1) (step_of x) (ordered x) small (omega arith)) hop)
-    off off h
+  no_hurdle : (x : Direction) → WasThere men e Grasshopper a b s → is_lined men e Grasshopper k b (back (step_of x)) ≡ false → IsNoHurdle b s k (step_of x)
+  no_hurdle x was off = elim was [
+    | inl man ↦ λ n at low le.
+        off_line b s k (step_of x) small (unlined Grasshopper s b (back (step_of x)) off small man) n (n - 1) at (omega arith) (omega arith) le
+    | inr w ↦ λ n at low le. false_from_ne_true _ (λ y.
+        once s 0 (n - 1) s x (omega arith) (stays s (step_of x) small) (square_is _ s (ap (is_square (along s (step_of x) (n - 1))) w.0 ∙ y)))
+  ]
 
--- and so for nightriders
-pub nightrider_stays : (men after : List (Option Man)) (e : Colour) (a k s : ℕ) → Frees after men a → s < 64
-    → is_man (man_on men s) e Nightrider ≡ true → list_any (is_lined men e Nightrider k a) knight_steps ≡ false
-    → list_any (rides after s k) knight_steps ≡ true → list_any (rides men s k) knight_steps ≡ true
-nightrider_stays men after e a k s i small man p h =
-    let off : list_any (λ d. is_lined men e Nightrider k a (back d)) knight_steps ≡ false =
-    backward knight_steps (is_lined men e Nightrider k a) refl ∙ p in
-    any_kept knight_directions (rides after s k) (rides men s k) (λ d. is_lined men e Nightrider k a (back d)) (λ d. is_lined men e Nightrider k a (back d))
-    (λ x u v ride. ride_kept men after a s k (step_of x) i (beside_lined men e Nightrider k s a (step_of x) u small man) ride)
-    off off h
+  -- a grasshopper that stands where it stood hops as it hopped, and one that has come from a as it would have hopped
+  pub hopper_before : Holds after men b → WasThere men e Grasshopper a b s → list_any (is_lined men e Grasshopper k a) queen_steps ≡ false
+      → list_any (is_lined men e Grasshopper k b) queen_steps ≡ false → list_any (hops after s k) queen_steps ≡ true → list_any (hops men s k) queen_steps ≡ true
+  hopper_before o was p q h =
+      any_off queen_directions (λ x. hops after s k (step_of x)) (λ x. hops men s k (step_of x)) (λ x. is_lined men e Grasshopper k a (back (step_of x)))
+      (λ x. is_lined men e Grasshopper k b (back (step_of x)))
+      (λ x u v hop. hop_kept men after a b s k (step_of x) i o (beside Grasshopper (step_of x) was u) (no_hurdle x was v) hop)
+      (backward queen_steps (is_lined men e Grasshopper k a) refl ∙ p) (backward queen_steps (is_lined men e Grasshopper k b) refl ∙ q) h
 
-pub nightrider_comes : (men after : List (Option Man)) (e : Colour) (a k s : ℕ) → Frees after men a → s < 64 → a < 64
-    → is_man (man_on men a) e Nightrider ≡ true → list_any (is_lined men e Nightrider k a) knight_steps ≡ false
-    → list_any (rides after s k) knight_steps ≡ true → list_any (rides men s k) knight_steps ≡ true
-nightrider_comes men after e a k s i small low man p h =
-    let off : list_any (λ d. is_lined men e Nightrider k a (back d)) knight_steps ≡ false =
-    backward knight_steps (is_lined men e Nightrider k a) refl ∙ p in
-    any_kept knight_directions (rides after s k) (rides men s k) (λ d. is_lined men e Nightrider k a (back d)) (λ d. is_lined men e Nightrider k a (back d))
-    (λ x u v ride. ride_kept men after a s k (step_of x) i
-    (off_line a s k (step_of x) small (λ y. self_unlined men e Nightrider k a (back (step_of x)) u low man)) ride)
-    off off h
+  -- and so for nightriders
+  pub nightrider_before : WasThere men e Nightrider a b s → list_any (is_lined men e Nightrider k a) knight_steps ≡ false
+      → list_any (rides after s k) knight_steps ≡ true → list_any (rides men s k) knight_steps ≡ true
+  nightrider_before was p h =
+      let off = backward knight_steps (is_lined men e Nightrider k a) refl ∙ p in
+      let lined : Direction → Bool = λ x. is_lined men e Nightrider k a (back (step_of x)) in
+      any_off knight_directions (λ x. rides after s k (step_of x)) (λ x. rides men s k (step_of x)) lined lined
+      (λ x u v ride. ride_kept men after a s k (step_of x) i (beside Nightrider (step_of x) was u) ride) off off h
 
 pub fairy_parts : (men : List (Option Man)) (e : Colour) (k t : ℕ) → is_on_fairy_line men e k t ≡ false
     → (list_any (is_lined men e Grasshopper k t) queen_steps ≡ false) × (list_any (is_lined men e Nightrider k t) knight_steps ≡ false)
@@ -201,14 +168,7 @@ fairy_parts men e k t h = or_parts (list_any (is_lined men e Grasshopper k t) qu
 -- the words of such lines
 passed : (test : ℕ → Bool) (k w r : ℕ) (d : Step) → w ≡ word test → r ≡ ray k d → not (bit_and r w == 0) ≡ some_square (λ q. test q && is_ahead k d q)
 unfolding ray
-passed test k w r d h i =
-    (λ j. not (bit_and (i j) (h j) == 0)) ∙ ap (λ n. not (n == 0)) (squares_both (is_ahead k d) test) ∙ not_zero (λ q. is_ahead k d q && test q)
-    ∙ some_square_same _ _ (λ q b. swapped (is_ahead k d q) (test q)) where
-      swapped : (a b : Bool) → (a && b) ≡ (b && a)
-      swapped true true = refl
-      swapped true false = refl
-      swapped false true = refl
-      swapped false false = refl
+passed test k w r d h i = grind (arith, squares_both, not_zero, some_square_same)
 
 pub line_passes : (test : ℕ → Bool) (k w r : ℕ) (d : Step) → w ≡ word test → r ≡ ray k d → (bit_and r w == 0) ≡ false
     → r ≡ word (λ t. is_ahead k d t && some_square (λ q. test q && is_ahead k d q))
@@ -216,8 +176,7 @@ unfolding ray
 line_passes test k w r d h i some =
     i ∙ squares_same _ _ (λ t b. sym (ap (λ (y : Bool). is_ahead k d t && y) (sym (passed test k w r d h i) ∙ ap not some) ∙ and_true (is_ahead k d t))) where
       and_true : (a : Bool) → (a && true) ≡ a
-      and_true true = refl
-      and_true false = refl
+      and_true a = grind arith
 
 pub line_misses : (test : ℕ → Bool) (k w r : ℕ) (d : Step) → w ≡ word test → r ≡ ray k d → (bit_and r w == 0) ≡ true
     → 0 ≡ word (λ t. is_ahead k d t && some_square (λ q. test q && is_ahead k d q))
@@ -247,10 +206,7 @@ no_line men e k t h =
 
 pub no_fairy_line : (men : List (Option Man)) (c : Colour) → has_fairy men (other c) ≡ false → 0 ≡ word (may_stand_between men c)
 unfolding may_stand_between
-no_fairy_line men c h = word_empty _ (λ t b. by (king_square men c) t) where
-  by : (o : Option ℕ) (t : ℕ) → is_on_fairy_line_to men o c t ≡ false
-  by None t = refl
-  by (Some k) t = no_line men (other c) k t h
+no_fairy_line men c h = search (rules, no_line, word_empty)
 
 pub no_king_lined : (men : List (Option Man)) (c : Colour) → king_square men c ≡ None → 0 ≡ word (may_stand_between men c)
 unfolding may_stand_between

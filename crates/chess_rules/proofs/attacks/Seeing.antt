@@ -1,8 +1,8 @@
 -- The men that an attack sees once a move is made.
-use Rattle.std.proofs.Common.{◌≡◌, ◌≢◌, ℕ, ◌<◌, Bool, true, false, ◌&&◌, ◌||◌, not, List, length, Option, Some, None, is_some, refl, sym, ap, ◌∙◌, inl, inr, rules}
+use Rattle.std.proofs.Common.{◌≡◌, ◌≢◌, ℕ, ◌<◌, Bool, true, false, ◌&&◌, ◌||◌, not, List, length, Option, Some, None, is_some, refl, sym, ap, ◌∙◌, inl, inr, rules, arith}
 use Rattle.std.specs.Int.{bit_not, w64}
 use Rattle.std.specs.Int.Bits.{bit_and}
-use Rattle.std.proofs.lemmas.Bool.{and_left, and_right, cases_Bool, cases_eq, eq-eqb, eqb-true, false≢true, or_cases, or_left, or_parts, or_right}
+use Rattle.std.proofs.lemmas.Bool.{and_left, and_right, cases_Bool, cases_eq, eq-eqb, eqb-true, false≢true, or_cases, or_from, or_left, or_parts, or_right}
 use Rattle.std.proofs.lemmas.List.{length-set}
 use Rattle.chess_core.specs.Position.{is_man, is_side, king_square, man_on, other, same_colour, same_kind, with_man, without_man}
 use Rattle.chess_core.specs.Squares.{is_square, squares}
@@ -16,20 +16,15 @@ use Rattle.chess_core.proofs.Words.{squares_both, squares_either, squares_not, s
 use Rattle.chess_rules.specs.Play.{without_at}
 use Rattle.chess_rules.specs.ties.Sight.{AreSeen, sight_after}
 use Rattle.chess_rules.proofs.making_moves.Plays.{stays_empty}
-use Rattle.chess_rules.proofs.attacks.Shielding.{every_square}
 use Rattle.chess_rules.proofs.Tests.{differs}
+use Rattle.chess_rules.proofs.Bits.{every_square}
 
 pub and_true : (a : Bool) → (a && true) ≡ a
-and_true true = refl
-and_true false = refl
+and_true a = grind arith
 
 -- a man stands on s once the man on a is gone, that on o too, and one has come to b
 abbrev pub is_occupied_after : List (Option Man) → ℕ → Option ℕ → ℕ → ℕ → Bool
 is_occupied_after men a o b s = (is_some (man_on men s) && not (is_square (Some a) s || is_square o s)) || is_square (Some b) s
-
-pub neither : (a b : Bool) → a ≡ false → b ≡ false → (a || b) ≡ false
-neither true b p q = absurd (false≢true (sym p))
-neither false b p q = q
 
 -- all men of the board
 pub seen_now : (men : List (Option Man)) (c : Colour) (k : Kind) → bit_and (squares_of men c k) (bit_not w64 0) ≡ squares_of men c k
@@ -76,18 +71,10 @@ pub kept_now : (men : List (Option Man)) (a : ℕ) (o : Option ℕ) (b : ℕ) (z
 kept_now men a o b z q ne h = search (rules, kept_at, man_on-with_other, or_parts)
 
 is_gone : (h l t : Bool) → l ≡ true → t ≡ false → ((h && not l) || t) ≡ false
-is_gone true true false p q = refl
-is_gone false true false p q = refl
-is_gone h false t p q = absurd (false≢true p)
-is_gone true true true p q = absurd (false≢true (sym q))
-is_gone false true true p q = absurd (false≢true (sym q))
+is_gone h l t p q = grind arith
 
 is_kept : (h l t : Bool) → l ≡ false → t ≡ false → ((h && not l) || t) ≡ h
-is_kept true false false p q = refl
-is_kept false false false p q = refl
-is_kept h true t p q = absurd (false≢true (sym p))
-is_kept true false true p q = refl
-is_kept false false true p q = absurd (false≢true (sym q))
+is_kept h l t p q = grind arith
 
 pub occupied_now : (men : List (Option Man)) (a : ℕ) (o : Option ℕ) (b : ℕ) (z : Man) (q : ℕ) → b < length men
     → is_occupied_after men a o b q ≡ is_some (man_on (gone_to men a o b z) q)
@@ -131,7 +118,7 @@ enemy_now men a o b z c k q i = elim (cases_eq q b) [
           ∙ no_man (man_on men a) (other c) k i.own in
           and_left (is_man (man_on men q) (other c) k) (not (is_square o q)) mine ∙ sym (rw left refl)
       | inr off ↦
-          let kept : man_on (gone_to men a o b z) q ≡ man_on men q = kept_now men a o b z q ne (neither (is_square (Some a) q) (is_square o q) off n) in
+          let kept : man_on (gone_to men a o b z) q ≡ man_on men q = kept_now men a o b z q ne (or_from (is_square (Some a) q) (is_square o q) off n) in
           ap (λ (x : Bool). is_man (man_on men q) (other c) k && not x) n ∙ and_true (is_man (man_on men q) (other c) k)
           ∙ sym (ap (λ (y : Option Man). is_man y (other c) k) kept)
     ]

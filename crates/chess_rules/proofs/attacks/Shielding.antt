@@ -1,43 +1,48 @@
 -- A plain move from a square that a queen on the king's doesn't see opens no line to the king.
-use Rattle.std.proofs.Common.{◌≡◌, ◌≢◌, ℕ, zero, suc, ◌-◌, ◌<◌, ◌≤◌, Bool, true, false, ◌&&◌, ◌||◌, ◌==◌, not, List, [], ◌∷◌, Option, Some, None, is_some, refl, sym, ap, ◌∙◌, arith, inl, inr}
+use Rattle.std.proofs.Common.{◌≡◌, ◌≢◌, ℕ, ◌<◌, Bool, true, false, ◌&&◌, ◌||◌, ◌==◌, not, List, [], ◌∷◌, length, Option, Some, None, is_some, refl, sym, ap, ◌∙◌, arith, inl, inr, rules}
 use Rattle.std.specs.Int.{bit_at, bit_not, w64}
 use Rattle.std.specs.Int.Bits.{bit_or}
-use Rattle.std.specs.List.{list_all, list_any, range_with_len}
+use Rattle.std.specs.List.{list_any}
 use Rattle.std.proofs.lemmas.Bool.{and_from, and_parts, and_right, cases_Bool, cases_eq, cond-false, cond-true, eq-eqb, false_from_ne_true, false≢true, not-true, or_cases, or_left, or_parts, or_right}
 use Rattle.std.proofs.lemmas.List.Folds.{list_any-append}
-use Rattle.chess_core.specs.Position.{AtMostOneKing, Position, is_man, is_side, king_square, man_on, other, same_colour, same_kind, without_man}
-use Rattle.chess_core.specs.Squares.{is_square, squares, some_square}
-use Rattle.chess_core.specs.Steps.{along, diagonal_steps, knight_steps, queen_steps, straight_steps}
+use Rattle.chess_core.specs.Position.{AtMostOneKing, Position, is_man, is_side, king_square, man_on, other, same_colour, same_kind}
+use Rattle.chess_core.specs.Squares.{is_square, squares}
+use Rattle.chess_core.specs.Steps.{diagonal_steps, knight_steps, queen_steps, straight_steps}
 use Rattle.chess_core.specs.WellFormed.{IsWellFormed}
 use Rattle.chess_core.specs.ties.Words.{squares_of, word}
 use Rattle.chess_core.specs.declared.man.Colour.{Colour}
 use Rattle.chess_core.specs.declared.man.Colour.TheVariants.{White, Black}
 use Rattle.chess_core.specs.declared.man.Kind.{Kind}
-use Rattle.chess_core.specs.declared.man.Kind.TheVariants.{King, Queen, Rook, Bishop, Knight, Pawn, Grasshopper, Nightrider}
+use Rattle.chess_core.specs.declared.man.Kind.TheVariants.{King, Queen, Rook, Bishop, Pawn, Grasshopper, Nightrider}
 use Rattle.chess_core.specs.declared.man.Man.{Man}
 use Rattle.chess_core.specs.declared.man.Move.{Move}
 use Rattle.chess_core.specs.declared.step.Step.{Step}
-use Rattle.chess_core.proofs.Men.{man_on-with_other, man_on-without_same}
-use Rattle.chess_core.proofs.Ranges.{all_range_true, any_range_false, any_range_true, find_square_some, some_square_false, some_square_true}
-use Rattle.chess_core.proofs.Words.{squares_either, squares_not, squares_same}
+use Rattle.chess_core.proofs.Ranges.{find_square_some, some_square_false, some_square_true}
+use Rattle.chess_core.proofs.Words.{squares_either, squares_same}
 use Rattle.chess_rules.specs.Attacks.{attacked, check_of, in_check, paralysed, strikes}
 use Rattle.chess_rules.specs.ties.CheckSquares.{is_absent, may_check_from, may_check_from_on}
-use Rattle.chess_rules.specs.ties.Shields.{cannot_expose, has_fairy, is_behind, is_on_fairy_line, is_on_fairy_line_to, is_reached, is_shut, is_plain, may_expose, may_expose_on, may_stand_between}
+use Rattle.chess_rules.specs.ties.Shields.{cannot_expose, rider_along, steps_along, has_fairy, is_behind, is_on_fairy_line, is_on_fairy_line_to, is_reached, is_shut, is_plain, may_expose, may_expose_on, may_stand_between}
 use Rattle.chess_rules.specs.Legal.{is_promotion_right, pseudo}
-use Rattle.chess_rules.specs.Play.{after, after_by, arriving, capture_square, is_castling, is_diagonal, man_on_at, moved_men, put_at, reborn_at, reborn_square, without_at}
-use Rattle.chess_rules.specs.ties.Lines.{is_ahead, is_on_some}
-use Rattle.chess_rules.specs.Reaches.{hops, is_clear, is_occupied, is_vacant, reaches, reaches_as, rides}
+use Rattle.chess_rules.specs.Play.{after, after_by, arriving, capture_square, is_castling, is_diagonal, man_on_at, moved_men, reborn_at, reborn_square}
+use Rattle.chess_rules.specs.ties.Lines.{is_on_some, step_of}
+use Rattle.chess_rules.specs.Reaches.{hops, is_vacant, reaches, reaches_as, rides}
 use Rattle.chess_rules.specs.RuleSet.{RuleSet, is_circe}
-use Rattle.chess_rules.proofs.Bits.{not_zero, word_empty, word_has}
-use Rattle.chess_rules.proofs.attacks.FairyLines.{Holds, fairy_parts, hopper_comes, hopper_stays, nightrider_comes, nightrider_stays}
-use Rattle.chess_rules.proofs.making_moves.Fits.{arrived, arrived_other, arriving_king}
-use Rattle.chess_rules.proofs.rays.Flips.{backward, diagonal-back, straight-back}
+use Rattle.chess_rules.specs.declared.lines.Direction.{Direction}
+use Rattle.chess_rules.specs.declared.lines.Direction.TheVariants.{East, West, North, South, NorthEast, SouthEast, NorthWest, SouthWest}
+use Rattle.chess_rules.specs.declared.shields.RiderLines.{RiderLines}
+use Rattle.chess_rules.specs.declared.shields.RiderLines.TheVariants.{Straight, Diagonal}
+use Rattle.chess_rules.proofs.rays.Ends.{square_is}
+use Rattle.chess_rules.proofs.Bits.{not_zero, word_empty, word_has, every_square}
+use Rattle.chess_rules.proofs.attacks.FairyLines.{Holds, WasThere, fairy_parts, hopper_before, nightrider_before, once, ride_kept}
+use Rattle.chess_rules.proofs.making_moves.Fits.{arrived, arriving_king, is_square-some}
+use Rattle.chess_rules.proofs.rays.Flips.{backward, opposed, rides_turned}
 use Rattle.chess_rules.proofs.rays.Parting.{Frees, line_open}
-use Rattle.chess_rules.proofs.making_moves.Plays.{none_from_is_some, stays_empty}
+use Rattle.chess_rules.proofs.making_moves.Plays.{none_from_is_some}
 use Rattle.chess_rules.proofs.making_moves.Pseudo.{IsMade, made, on_board}
-use Rattle.chess_rules.proofs.making_moves.Returns.{moved_arrival}
 use Rattle.chess_rules.proofs.making_moves.Stays.{maker}
-use Rattle.chess_rules.proofs.Tests.{all_at, any_range_cases, differs, find_first, first_of_and, second_of_and}
+use Rattle.chess_rules.proofs.Tests.{any_kept, differs, find_first}
+use Rattle.chess_rules.proofs.attacks.Seeing.{gone_to, kept_now, left_now, there_now}
+use Rattle.chess_rules.proofs.attacks.Attacking.{goes_on}
 
 -- the man on a is gone, z has come to b, and nothing else has changed
 pub record IsShift (men after : List (Option Man)) (a b : ℕ) (z : Man) : Type 0 where
@@ -45,175 +50,52 @@ pub record IsShift (men after : List (Option Man)) (a b : ℕ) (z : Man) : Type 
   pub others : (q : ℕ) (y : Man) → man_on after q ≡ Some y → q ≢ b → man_on men q ≡ Some y
   pub arrived : (y : Man) → man_on after b ≡ Some y → y ≡ z
 
-stays_vacant : (men after : List (Option Man)) (a b : ℕ) (z : Man) (o : Option ℕ) → IsShift men after a b z → is_vacant after o ≡ true → is_square o a ≡ false
-    → is_vacant men o ≡ true
-stays_vacant men after a b z None i h ne = h
-stays_vacant men after a b z (Some q) i h ne =
-    let none : man_on after q ≡ None = none_from_is_some (man_on after q) (not-true _ h) in
-    let free : man_on men q ≡ None = i.vacated q none (λ e. let y : (q == a) ≡ true = eq-eqb q a e in cc) in
-    rw free refl
-
--- squares that are empty now were empty before, as far as the queen's line from k doesn't end on a
-clear_before : (men after : List (Option Man)) (a b : ℕ) (z : Man) (k : ℕ) (d : Step) (n j : ℕ) → IsShift men after a b z → n ≤ 6 → is_clear after k d n ≡ true
-    → rides men k a d ≡ false → j ≤ n → is_clear men k d j ≡ true
-unfolding is_clear rides
-clear_before men after a b z k d n zero i le clear ne lt = refl
-clear_before men after a b z k d n (suc j) i le clear ne lt =
-    let before : list_all (λ q. is_vacant men (along k d q)) (range_with_len 1 j) ≡ true = clear_before men after a b z k d n j i le clear ne (omega arith) in
-    let here : is_vacant after (along k d (suc j)) ≡ true = all_at (λ q. is_vacant after (along k d q)) 1 n (suc j) clear (omega arith) (omega arith) in
-    let one : suc j - 1 ≡ j = omega arith in
-    let off : is_square (along k d (suc j)) a ≡ false = false_from_ne_true _ (λ y.
-    let ride : rides men k a d ≡ true =
-    any_range_true (λ q. is_square (along k d q) a && is_clear men k d (q - 1)) 1 7 (suc j) (omega arith) (omega arith)
-    (and_from _ _ y (ap (λ n. list_all (λ q. is_vacant men (along k d q)) (range_with_len 1 n)) one ∙ before)) in
-    cc) in
-    let last : is_vacant men (along k d (suc j)) ≡ true = stays_vacant men after a b z (along k d (suc j)) i here off in
-    all_range_true (λ q. is_vacant men (along k d q)) 1 (suc j) (λ q lo hi. elim (cases_eq q (suc j)) [
-      | inl e ↦ rw e last
-      | inr other ↦ all_at (λ q. is_vacant men (along k d q)) 1 j q before lo (omega arith)
-    ])
-
-ride_before : (men after : List (Option Man)) (a b : ℕ) (z : Man) (k t : ℕ) (d : Step) → IsShift men after a b z → rides men k a d ≡ false
-    → rides after k t d ≡ true → rides men k t d ≡ true
-unfolding rides
-ride_before men after a b z k t d i ne h = elim (any_range_cases (λ q. is_square (along k d q) t && is_clear after k d (q - 1)) 1 7) [
-  | inl w ↦
-      any_range_true (λ q. is_square (along k d q) t && is_clear men k d (q - 1)) 1 7 w.0 w.1 (omega (arith, w.2))
-      (and_from _ _ (first_of_and _ _ w.3) (clear_before men after a b z k d (w.0 - 1) (w.0 - 1) i (omega (arith, w.2))
-      (second_of_and (is_square (along k d w.0) t) _ w.3) ne (omega arith)))
-  | inr none ↦
-      let bad : list_any (λ q. is_square (along k d q) t && is_clear after k d (q - 1)) (range_with_len 1 7) ≡ false =
-      any_range_false (λ q. is_square (along k d q) t && is_clear after k d (q - 1)) 1 7 none in
-      cc
-]
-
-rides_before : (men after : List (Option Man)) (a b : ℕ) (z : Man) (k t : ℕ) (ds : List Step) → IsShift men after a b z → list_any (rides men k a) ds ≡ false
-    → list_any (rides after k t) ds ≡ true → list_any (rides men k t) ds ≡ true
-rides_before men after a b z k t [] i ne h = h
-rides_before men after a b z k t (d ∷ ds) i ne h =
-    let n = or_parts (rides men k a d) (list_any (rides men k a) ds) ne in
-    elim (or_cases (rides after k t d) (list_any (rides after k t) ds) h) [
-      | inl y ↦ or_left (rides men k t d) _ (ride_before men after a b z k t d i n.0 y)
-      | inr y ↦ or_right (rides men k t d) _ (rides_before men after a b z k t ds i n.1 y)
-    ]
-
-pub frees : (men after : List (Option Man)) (a b : ℕ) (z : Man) → IsShift men after a b z → Frees after men a
-frees men after a b z i = record { vacant = λ o free off. stays_vacant men after a b z o i free off }
-
--- where a rider gets, a line goes
-ahead_of : (men : List (Option Man)) (k s : ℕ) (d : Step) → rides men k s d ≡ true → is_ahead k d s ≡ true
-unfolding rides is_ahead
-ahead_of men k s d h = elim (any_range_cases (λ n. is_square (along k d n) s && is_clear men k d (n - 1)) 1 7) [
-  | inl w ↦ any_range_true (λ n. is_square (along k d n) s) 1 7 w.0 w.1 w.2 (first_of_and _ _ w.3)
-  | inr none ↦ absurd (false≢true (sym (any_range_false (λ n. is_square (along k d n) s && is_clear men k d (n - 1)) 1 7 none) ∙ h))
-]
-
-pub goes_on : (men : List (Option Man)) (k s : ℕ) (ds : List Step) → list_any (rides men k s) ds ≡ true → list_any (λ d. is_ahead k d s) ds ≡ true
-goes_on men k s [] h = h
-goes_on men k s (d ∷ ds) h = elim (or_cases (rides men k s d) (list_any (rides men k s) ds) h) [
-  | inl y ↦ or_left (is_ahead k d s) _ (ahead_of men k s d y)
-  | inr y ↦ or_right (is_ahead k d s) _ (goes_on men k s ds y)
-]
-
--- what rides to a now, where a is empty, rode there before
-rode_there : (men after : List (Option Man)) (a b : ℕ) (z : Man) (k : ℕ) (ds : List Step) → IsShift men after a b z → list_any (rides after k a) ds ≡ true
-    → list_any (rides men k a) ds ≡ true
-rode_there men after a b z k ds i h = elim (cases_Bool (list_any (rides men k a) ds)) [
-  | inl y ↦ y
-  | inr n ↦ rides_before men after a b z k a ds i n h
-]
+pub gone_shift : (men : List (Option Man)) (a : ℕ) (o : Option ℕ) (b : ℕ) (z : Man) → b < length men → ((s : ℕ) → is_square o s ≡ true → s ≡ b)
+    → IsShift men (gone_to men a o b z) a b z
+gone_shift men a o b z small taken = grind (arith, gone_to, there_now, kept_now, left_now, cases_Bool)
 
 -- a square that shuts a line between k and s is the first man's from both
 abbrev IsParted : List (Option Man) → ℕ → ℕ → ℕ → List Step → Type 0
 IsParted men a k s ds = (list_any (rides men k a) ds ≡ true) × (list_any (rides men s a) ds ≡ true)
 
-pub straight_before : (men after : List (Option Man)) (a b : ℕ) (z : Man) (k s : ℕ) → IsShift men after a b z → s < 64 → k < 64
-    → (is_on_some straight_steps k s ≡ true → IsParted men a k s straight_steps → ⊥)
-    → list_any (rides after s k) straight_steps ≡ true → list_any (rides men s k) straight_steps ≡ true
-unfolding is_on_some
-straight_before men after a b z k s i p q never h =
-    let line : list_any (rides after k s) straight_steps ≡ true = sym (straight-back after s k p q) ∙ h in
-    straight-back men s k p q
-    ∙ line_open after men a k s straight_steps (frees men after a b z i) line
-    (λ x y. never (goes_on after k s straight_steps line) (
-      rode_there men after a b z k straight_steps i x,
-      rode_there men after a b z s straight_steps i
-          (sym (backward straight_steps (rides after s a) refl) ∙ y),
-    ))
+opposed_along : (l : RiderLines) → opposed (steps_along l) (steps_along l) ≡ true
+opposed_along Straight = refl
+opposed_along Diagonal = refl
 
-diagonal_before : (men after : List (Option Man)) (a b : ℕ) (z : Man) (k s : ℕ) → IsShift men after a b z → s < 64 → k < 64
-    → (is_on_some diagonal_steps k s ≡ true → IsParted men a k s diagonal_steps → ⊥)
-    → list_any (rides after s k) diagonal_steps ≡ true → list_any (rides men s k) diagonal_steps ≡ true
-unfolding is_on_some
-diagonal_before men after a b z k s i p q never h =
-    let line : list_any (rides after k s) diagonal_steps ≡ true = sym (diagonal-back after s k p q) ∙ h in
-    diagonal-back men s k p q
-    ∙ line_open after men a k s diagonal_steps (frees men after a b z i) line
-    (λ x y. never (goes_on after k s diagonal_steps line) (
-      rode_there men after a b z k diagonal_steps i x,
-      rode_there men after a b z s diagonal_steps i
-          (sym (backward diagonal_steps (rides after s a) refl) ∙ y),
-    ))
+-- a rider that a line leads to reaches along it
+rider_reaches : (men : List (Option Man)) (e : Colour) (l : RiderLines) (j : Kind) (s k : ℕ) → (same_kind j (rider_along l) || same_kind j Queen) ≡ true
+    → list_any (rides men s k) (steps_along l) ≡ true → reaches_as men e j s k ≡ true
+unfolding reaches_as
+rider_reaches men e Straight Rook s k h r = r
+rider_reaches men e Diagonal Bishop s k h r = r
+rider_reaches men e Straight Queen s k h r = list_any-append (rides men s k) straight_steps diagonal_steps ∙ or_left _ _ r
+rider_reaches men e Diagonal Queen s k h r =
+    list_any-append (rides men s k) straight_steps diagonal_steps ∙ or_right (list_any (rides men s k) straight_steps) _ r
+rider_reaches men e Straight j s k h r = absurd (cc)
+rider_reaches men e Diagonal j s k h r = absurd (cc)
 
 -- a doesn't shut a line along which a man of kind j on s would ride to k, and a fairy man there goes to k as before
-pub record NoneShut (men after : List (Option Man)) (a k s : ℕ) (j : Kind) : Type 0 where
-  pub straight : (same_kind j Rook || same_kind j Queen) ≡ true → is_on_some straight_steps k s ≡ true → IsParted men a k s straight_steps → ⊥
-  pub diagonal : (same_kind j Bishop || same_kind j Queen) ≡ true → is_on_some diagonal_steps k s ≡ true → IsParted men a k s diagonal_steps → ⊥
+record NoneShut (men after : List (Option Man)) (a k s : ℕ) (j : Kind) : Type 0 where
+  pub lines : (l : RiderLines) → (same_kind j (rider_along l) || same_kind j Queen) ≡ true → is_on_some (steps_along l) k s ≡ true
+      → IsParted men a k s (steps_along l) → ⊥
   pub hopped : same_kind j Grasshopper ≡ true → list_any (hops after s k) queen_steps ≡ true → list_any (hops men s k) queen_steps ≡ true
   pub ridden : same_kind j Nightrider ≡ true → list_any (rides after s k) knight_steps ≡ true → list_any (rides men s k) knight_steps ≡ true
 
--- a man that reaches k now, where it stands, reached it before, had it stood there
-reaches_before : (men after : List (Option Man)) (a b : ℕ) (z : Man) (e : Colour) (k s : ℕ) (j : Kind) → IsShift men after a b z → s < 64 → k < 64
-    → NoneShut men after a k s j → reaches_as after e j s k ≡ true → reaches_as men e j s k ≡ true
-unfolding reaches_as
-reaches_before men after a b z e k s King i p q n h = h
-reaches_before men after a b z e k s Queen i p q n h =
-    elim (or_cases (list_any (rides after s k) straight_steps) (list_any (rides after s k) diagonal_steps)
-    (sym (list_any-append (rides after s k) straight_steps diagonal_steps) ∙ h)) [
-      | inl y ↦
-          let was : list_any (rides men s k) straight_steps ≡ true = straight_before men after a b z k s i p q (n.straight refl) y in
-          list_any-append (rides men s k) straight_steps diagonal_steps ∙ or_left _ _ was
-      | inr y ↦
-          let was : list_any (rides men s k) diagonal_steps ≡ true = diagonal_before men after a b z k s i p q (n.diagonal refl) y in
-          list_any-append (rides men s k) straight_steps diagonal_steps ∙ or_right (list_any (rides men s k) straight_steps) _ was
-    ]
-reaches_before men after a b z e k s Rook i p q n h = straight_before men after a b z k s i p q (n.straight refl) h
-reaches_before men after a b z e k s Bishop i p q n h = diagonal_before men after a b z k s i p q (n.diagonal refl) h
-reaches_before men after a b z e k s Knight i p q n h = h
-reaches_before men after a b z e k s Pawn i p q n h = h
-reaches_before men after a b z e k s Grasshopper i p q n h = n.hopped refl h
-reaches_before men after a b z e k s Nightrider i p q n h = n.ridden refl h
-
--- what stands now stood before, the arrival apart
-someone : (o : Option Man) → is_some o ≡ true → (y : Man) × (o ≡ Some y)
-someone None h = absurd (false≢true h)
-someone (Some y) h = (y, refl)
-
-pub stood : (men after : List (Option Man)) (a b : ℕ) (z : Man) → IsShift men after a b z → Holds after men b
-stood men after a b z i = record { occupied = λ o h off. by o h off } where
-  by : (o : Option ℕ) → is_occupied after o ≡ true → is_square o b ≡ false → is_occupied men o ≡ true
-  by None h off = absurd (false≢true h)
-  by (Some q) h off =
-      let y = someone (man_on after q) h in
-      ap is_some (i.others q y.0 y.1 (λ e. false≢true (sym off ∙ eq-eqb q b e)))
-
 -- what keeps a king on k from being uncovered
-pub record IsCovered (rule : RuleSet) (men : List (Option Man)) (c : Colour) (a k : ℕ) : Type 0 where
+pub record IsCovered (men : List (Option Man)) (c : Colour) (a k : ℕ) : Type 0 where
   pub safe : is_reached men k (other c) ≡ false
   pub apart : (k == a) ≡ false
   pub straight : is_shut men (other c) Rook straight_steps k a ≡ false
   pub diagonal : is_shut men (other c) Bishop diagonal_steps k a ≡ false
   pub unlined : is_on_fairy_line men (other c) k a ≡ false
 
-pub covered_parts : (rule : RuleSet) (men : List (Option Man)) (c : Colour) (a k : ℕ) → may_expose_on rule men (Some k) c a ≡ false → IsCovered rule men c a k
-covered_parts rule men c a k h =
-    let h0 = or_parts (is_reached men k (other c) || k == a || is_shut men (other c) Rook straight_steps k a || is_shut men (other c) Bishop diagonal_steps k a)
-    (is_on_fairy_line men (other c) k a) h in
-    let h1 = or_parts (is_reached men k (other c) || k == a || is_shut men (other c) Rook straight_steps k a)
-    (is_shut men (other c) Bishop diagonal_steps k a) h0.0 in
-    let h2 = or_parts (is_reached men k (other c) || k == a) (is_shut men (other c) Rook straight_steps k a) h1.0 in
-    let h3 = or_parts (is_reached men k (other c)) (k == a) h2.0 in
-    record { safe = h3.0; apart = h3.1; straight = h2.1; diagonal = h1.1; unlined = h0.1 }
+pub covered_parts : (men : List (Option Man)) (c : Colour) (a k : ℕ) → may_expose_on men (Some k) c a ≡ false → IsCovered men c a k
+covered_parts men c a k h = search (rules, or_parts)
+
+shut : (men : List (Option Man)) (c : Colour) (a k : ℕ) (l : RiderLines) → IsCovered men c a k
+    → is_shut men (other c) (rider_along l) (steps_along l) k a ≡ false
+shut men c a k Straight g = g.straight
+shut men c a k Diagonal g = g.diagonal
 
 -- what keeps one square from shutting a line to a man that stands on another
 pub not_parted : (men : List (Option Man)) (a k s : ℕ) (e : Colour) (j : Kind) (ds : List Step) → is_shut men e j ds k a ≡ false
@@ -221,133 +103,141 @@ pub not_parted : (men : List (Option Man)) (a k s : ℕ) (e : Colour) (j : Kind)
     → (list_any (rides men k a) ds ≡ true) × (list_any (rides men s a) ds ≡ true) → ⊥
 unfolding is_shut is_behind
 not_parted men a k s e j ds shut rider small on both =
-    let there : some_square (is_behind men e j ds k a) ≡ true =
-    some_square_true (is_behind men e j ds k a) s small (and_from _ _ (and_from _ _ rider on) both.1) in
-    let bad : (list_any (rides men k a) ds && some_square (is_behind men e j ds k a)) ≡ true = and_from _ _ both.0 there in
-    false≢true (sym shut ∙ bad)
+    let there = some_square_true (is_behind men e j ds k a) s small (and_from _ _ (and_from _ _ rider on) both.1) in
+    false≢true (sym shut ∙ and_from _ _ both.0 there)
 
-rider_there : (men : List (Option Man)) (e : Colour) (s : ℕ) (y : Man) (j : Kind) → man_on men s ≡ Some y → same_colour y.colour e ≡ true
-    → (same_kind y.kind j || same_kind y.kind Queen) ≡ true → (is_man (man_on men s) e j || is_man (man_on men s) e Queen) ≡ true
-rider_there men e s y j there side h =
-    ap (λ (o : Option Man). is_man o e j || is_man o e Queen) there
-    ∙ (λ i. (side i && same_kind y.kind j) || (side i && same_kind y.kind Queen)) ∙ h
-
--- a man that reaches the king now and hasn't moved reached it before
-checks_before : (rule : RuleSet) (men after : List (Option Man)) (a b : ℕ) (z : Man) (c : Colour) (k s : ℕ) (o : Option Man) → man_on after s ≡ o
-    → IsShift men after a b z → IsCovered rule men c a k → is_on_fairy_line men (other c) k b ≡ false → s < 64 → k < 64 → s ≢ b → is_side o (other c) ≡ true
-    → reaches after s k ≡ true
-    → (is_side (man_on men s) (other c) && reaches men s k) ≡ true
-unfolding reaches
-checks_before rule men after a b z c k s None at i g f p q ne side h = cc
-checks_before rule men after a b z c k s (Some y) at i g f p q ne side h =
-    let there : man_on men s ≡ Some y = i.others s y at ne in
-    let now : reaches_as after y.colour y.kind s k ≡ true = rw at at h in
-    let of : (j : Kind) → same_kind y.kind j ≡ true → is_man (man_on men s) (other c) j ≡ true =
-    λ j is. ap (λ (o : Option Man). is_man o (other c) j) there ∙ and_from _ _ side is in
-    let left = fairy_parts men (other c) k a g.unlined in
-    let come = fairy_parts men (other c) k b f in
-    let rider : (j : Kind) → (same_kind y.kind j || same_kind y.kind Queen) ≡ true
-    → (is_man (man_on men s) (other c) j || is_man (man_on men s) (other c) Queen) ≡ true = λ j h. rider_there men (other c) s y j there side h in
-    let none : NoneShut men after a k s y.kind = record {
-      straight = λ h on both. not_parted men a k s (other c) Rook straight_steps g.straight (rider Rook h) p on both;
-      diagonal = λ h on both. not_parted men a k s (other c) Bishop diagonal_steps g.diagonal (rider Bishop h) p on both;
-      hopped = λ is h. hopper_stays men after (other c) a b k s (frees men after a b z i) (stood men after a b z i) p (of Grasshopper is) left.0 come.0 h;
-      ridden = λ is h. nightrider_stays men after (other c) a k s (frees men after a b z i) p (of Nightrider is) left.1 h;
-    } in
-    let was : reaches_as men y.colour y.kind s k ≡ true = reaches_before men after a b z y.colour k s y.kind i p q none now in
-    let mine : is_side (man_on men s) (other c) ≡ true = rw there side in
-    let then : reaches men s k ≡ true = rw there was in
-    and_from _ _ mine then
-
--- and the one that has moved is no enemy, or doesn't reach the king
+-- the man that has moved is no enemy, or doesn't reach the king
 pub record IsQuiet (men : List (Option Man)) (c : Colour) (a b k : ℕ) (z : Man) : Type 0 where
   pub quiet : same_colour z.colour (other c) ≡ true → reaches_as men z.colour z.kind b k ≡ false
   pub stood : same_colour z.colour (other c) ≡ true → (man_on men a ≡ Some z) × (a < 64)
 
--- a rider on a that a line leads to reaches along it
-straight_rider : (men : List (Option Man)) (e : Colour) (j : Kind) (a k : ℕ) → (same_kind j Rook || same_kind j Queen) ≡ true
-    → list_any (rides men a k) straight_steps ≡ true → reaches_as men e j a k ≡ true
-unfolding reaches_as
-straight_rider men e Rook a k h r = r
-straight_rider men e Queen a k h r = list_any-append (rides men a k) straight_steps diagonal_steps ∙ or_left _ _ r
-straight_rider men e King a k h r = cc
-straight_rider men e Bishop a k h r = cc
-straight_rider men e Knight a k h r = cc
-straight_rider men e Pawn a k h r = cc
-straight_rider men e Grasshopper a k h r = cc
-straight_rider men e Nightrider a k h r = cc
+pub man_there : (o : Option Man) (c : Colour) (j : Kind) → is_man o c j ≡ true → (y : Man) × (o ≡ Some y)
+man_there None c j h = cc
+man_there (Some y) c j h = (y, refl)
 
-diagonal_rider : (men : List (Option Man)) (e : Colour) (j : Kind) (a k : ℕ) → (same_kind j Bishop || same_kind j Queen) ≡ true
-    → list_any (rides men a k) diagonal_steps ≡ true → reaches_as men e j a k ≡ true
-unfolding reaches_as
-diagonal_rider men e Bishop a k h r = r
-diagonal_rider men e Queen a k h r = list_any-append (rides men a k) straight_steps diagonal_steps ∙ or_right (list_any (rides men a k) straight_steps) _ r
-diagonal_rider men e King a k h r = cc
-diagonal_rider men e Rook a k h r = cc
-diagonal_rider men e Knight a k h r = cc
-diagonal_rider men e Pawn a k h r = cc
-diagonal_rider men e Grasshopper a k h r = cc
-diagonal_rider men e Nightrider a k h r = cc
-
--- no man reached the king from its origin
-attacked_from : (rule : RuleSet) (men : List (Option Man)) (c : Colour) (a k : ℕ) (z : Man) → IsCovered rule men c a k → a < 64 → man_on men a ≡ Some z
-    → same_colour z.colour (other c) ≡ true → reaches_as men z.colour z.kind a k ≡ true → ⊥
-unfolding is_reached reaches
-attacked_from rule men c a k z g small here side h =
-    let mine : is_side (man_on men a) (other c) ≡ true = rw here side in
-    let then : reaches men a k ≡ true = rw here h in
-    let yes : some_square (λ s. is_side (man_on men s) (other c) && reaches men s k) ≡ true =
-    some_square_true (λ s. is_side (man_on men s) (other c) && reaches men s k) a small (and_from _ _ mine then) in
-    false≢true (sym g.safe ∙ yes)
-
-arrival_strikes : (rule : RuleSet) (men after : List (Option Man)) (a b : ℕ) (z : Man) (c : Colour) (k : ℕ) (o : Option Man) → man_on after b ≡ o
-    → IsShift men after a b z → IsCovered rule men c a k → IsQuiet men c a b k z → b < 64 → k < 64 → is_side o (other c) ≡ true → reaches after b k ≡ true → ⊥
-unfolding reaches
-arrival_strikes rule men after a b z c k None at i g l p q side h = cc
-arrival_strikes rule men after a b z c k (Some y) at i g l p q side h =
-    let is : y ≡ z = i.arrived y at in
-    let mine : same_colour z.colour (other c) ≡ true = ap (λ (x : Man). same_colour x.colour (other c)) (sym is) ∙ side in
-    let now : reaches_as after y.colour y.kind b k ≡ true = rw at at h in
-    let came : reaches_as after z.colour z.kind b k ≡ true = ap (λ (x : Man). reaches_as after x.colour x.kind b k) (sym is) ∙ now in
-    let n = l.quiet mine in
-    let here = l.stood mine in
-    let of : (j : Kind) → same_kind z.kind j ≡ true → is_man (man_on men a) (other c) j ≡ true =
-    λ j is. ap (λ (o : Option Man). is_man o (other c) j) here.0 ∙ and_from _ _ mine is in
-    let left = fairy_parts men (other c) k a g.unlined in
-    let none : NoneShut men after a k b z.kind = record {
-      straight = λ h on both. attacked_from rule men c a k z g here.1 here.0 mine
-          (straight_rider men z.colour z.kind a k h (straight-back men a k here.1 q ∙ both.0));
-      diagonal = λ h on both. attacked_from rule men c a k z g here.1 here.0 mine
-          (diagonal_rider men z.colour z.kind a k h (diagonal-back men a k here.1 q ∙ both.0));
-      hopped = λ is h. hopper_comes men after (other c) a k b (frees men after a b z i) (stood men after a b z i) p here.1 (of Grasshopper is) left.0 h;
-      ridden = λ is h. nightrider_comes men after (other c) a k b (frees men after a b z i) p here.1 (of Nightrider is) left.1 h;
-    } in
-    let was : reaches_as men z.colour z.kind b k ≡ true = reaches_before men after a b z z.colour k b z.kind i p q none came in
-    let no = n in
-    cc
-
--- no enemy reaches the king
-pub unreached : (rule : RuleSet) (men after : List (Option Man)) (a b : ℕ) (z : Man) (c : Colour) (k : ℕ) → IsShift men after a b z → IsCovered rule men c a k
-    → is_on_fairy_line men (other c) k b ≡ false → IsQuiet men c a b k z → k < 64 → is_reached after k (other c) ≡ false
-unfolding is_reached
-unreached rule men after a b z c k i g f l q =
-    some_square_false (λ s. is_side (man_on after s) (other c) && reaches after s k) 64 (omega arith) (record {
-      fails = λ s p. false_from_ne_true _ (λ h.
-          let h1 = and_parts (is_side (man_on after s) (other c)) (reaches after s k) h in
-          elim (cases_eq s b) [
-            | inl e ↦
-                let small : b < 64 = omega arith in
-                let side : is_side (man_on after b) (other c) ≡ true = ap (λ (n : ℕ). is_side (man_on after n) (other c)) (sym e) ∙ h1.0 in
-                let hit : reaches after b k ≡ true = ap (λ (n : ℕ). reaches after n k) (sym e) ∙ h1.1 in
-                arrival_strikes rule men after a b z c k (man_on after b) refl i g l small q side hit
-            | inr ne ↦
-                let yes : some_square (λ s. is_side (man_on men s) (other c) && reaches men s k) ≡ true =
-                some_square_true (λ s. is_side (man_on men s) (other c) && reaches men s k) s p
-                (checks_before rule men after a b z c k s (man_on after s) refl i g f p q ne h1.0 h1.1) in
-                let no = g.safe in
-                cc
-          ]);
+-- the square of a king is its side's
+pub king_is : (men : List (Option Man)) (c : Colour) (k : ℕ) → AtMostOneKing men → k < 64 → is_man (man_on men k) c King ≡ true → king_square men c ≡ Some k
+unfolding king_square
+king_is men c k one small h =
+    find_square_some (λ s. is_man (man_on men s) c King) k small h (record {
+      fails = λ j lt. false_from_ne_true _ (λ y. let e : j ≡ k = one.same c j k y h in omega arith);
     })
+
+module _ (men after : List (Option Man)) (a b : ℕ) (z : Man) (i : IsShift men after a b z) where
+  stays_vacant : (o : Option ℕ) → is_vacant after o ≡ true → is_square o a ≡ false → is_vacant men o ≡ true
+  stays_vacant None h ne = h
+  stays_vacant (Some q) h ne =
+      let free : man_on men q ≡ None = i.vacated q (none_from_is_some (man_on after q) (not-true _ h)) (λ e. let y : (q == a) ≡ true = eq-eqb q a e in cc) in
+      rw free refl
+
+  pub frees : Frees after men a
+  frees = record { vacant = stays_vacant }
+
+  -- what stands now stood before, the arrival apart
+  pub stood : Holds after men b
+  stood = grind (arith, false≢true, eq-eqb)
+
+  -- what rides to a now, where a is empty, rode there before
+  rode : (xs : List Direction) (k : ℕ) → list_any (λ x. rides after k a (step_of x)) xs ≡ true → list_any (λ x. rides men k a (step_of x)) xs ≡ true
+  rode xs k h = any_kept (λ x. rides after k a (step_of x)) (λ x. rides men k a (step_of x)) xs
+      (λ x ride. ride_kept men after a k a (step_of x) frees (λ n q at low lt le. false_from_ne_true _ (λ y. once k q n a x lt (square_is _ a y) at)) ride) h
+
+  rode_there : (l : RiderLines) (k : ℕ) → list_any (rides after k a) (steps_along l) ≡ true → list_any (rides men k a) (steps_along l) ≡ true
+  rode_there Straight k h = rode (East ∷ West ∷ North ∷ South ∷ []) k h
+  rode_there Diagonal k h = rode (NorthEast ∷ SouthEast ∷ NorthWest ∷ SouthWest ∷ []) k h
+
+  pub line_before : (l : RiderLines) (k s : ℕ) → s < 64 → k < 64
+      → (is_on_some (steps_along l) k s ≡ true → IsParted men a k s (steps_along l) → ⊥)
+      → list_any (rides after s k) (steps_along l) ≡ true → list_any (rides men s k) (steps_along l) ≡ true
+  unfolding is_on_some
+  line_before l k s p q never h = grind (arith, opposed_along, rides_turned, line_open, frees, goes_on, rode_there, backward)
+
+  -- a man that reaches k now, where it stands, reached it before, had it stood there
+  reaches_before : (e : Colour) (k s : ℕ) (j : Kind) → s < 64 → k < 64 → NoneShut men after a k s j → reaches_as after e j s k ≡ true
+      → reaches_as men e j s k ≡ true
+  unfolding reaches_as
+  reaches_before e k s Queen p q n h =
+      elim (or_cases (list_any (rides after s k) straight_steps) (list_any (rides after s k) diagonal_steps)
+      (sym (list_any-append (rides after s k) straight_steps diagonal_steps) ∙ h)) [
+        | inl y ↦ rider_reaches men e Straight Queen s k refl (line_before Straight k s p q (n.lines Straight refl) y)
+        | inr y ↦ rider_reaches men e Diagonal Queen s k refl (line_before Diagonal k s p q (n.lines Diagonal refl) y)
+      ]
+  reaches_before e k s Rook p q n h = line_before Straight k s p q (n.lines Straight refl) h
+  reaches_before e k s Bishop p q n h = line_before Diagonal k s p q (n.lines Diagonal refl) h
+  reaches_before e k s Grasshopper p q n h = n.hopped refl h
+  reaches_before e k s Nightrider p q n h = n.ridden refl h
+  reaches_before e k s j p q n h = h
+
+  module _ (c : Colour) (k : ℕ) (g : IsCovered men c a k) (q : k < 64) (f : is_on_fairy_line men (other c) k b ≡ false) where
+    -- a fairy man of the enemy's among those that are looked at
+    unshut : (s : ℕ) (j : Kind) → s < 64
+        → ((l : RiderLines) → (same_kind j (rider_along l) || same_kind j Queen) ≡ true → is_on_some (steps_along l) k s ≡ true
+        → IsParted men a k s (steps_along l) → ⊥)
+        → ((d : Kind) → same_kind j d ≡ true → WasThere men (other c) d a b s) → NoneShut men after a k s j
+    unshut s j p lines was =
+        let left = fairy_parts men (other c) k a g.unlined in
+        let come = fairy_parts men (other c) k b f in
+        record {
+          lines = lines;
+          hopped = λ is h. hopper_before men after (other c) a b k s frees p stood (was Grasshopper is) left.0 come.0 h;
+          ridden = λ is h. nightrider_before men after (other c) a b k s frees p (was Nightrider is) left.1 h;
+        }
+
+    -- a man that reaches the king now and hasn't moved reached it before
+    checks_before : (s : ℕ) (o : Option Man) → man_on after s ≡ o → s < 64 → s ≢ b → is_side o (other c) ≡ true → reaches after s k ≡ true
+        → (is_side (man_on men s) (other c) && reaches men s k) ≡ true
+    unfolding reaches
+    checks_before s None at p ne side h = cc
+    checks_before s (Some y) at p ne side h =
+        let there : man_on men s ≡ Some y = i.others s y at ne in
+        let of : (j : Kind) → same_kind y.kind j ≡ true → is_man (man_on men s) (other c) j ≡ true =
+        λ j is. ap (λ (o : Option Man). is_man o (other c) j) there ∙ and_from _ _ side is in
+        let rider : (j : Kind) → (same_kind y.kind j || same_kind y.kind Queen) ≡ true
+        → (is_man (man_on men s) (other c) j || is_man (man_on men s) (other c) Queen) ≡ true = λ j h.
+        ap (λ (o : Option Man). is_man o (other c) j || is_man o (other c) Queen) there
+        ∙ (λ i. (side i && same_kind y.kind j) || (side i && same_kind y.kind Queen)) ∙ h in
+        let none = unshut s y.kind p (λ l h on both. not_parted men a k s (other c) (rider_along l) (steps_along l) (shut men c a k l g) (rider (rider_along l) h)
+        p on both) (λ d is. inl (of d is)) in
+        let mine : is_side (man_on men s) (other c) ≡ true = rw there side in
+        let then : reaches men s k ≡ true = rw there (reaches_before y.colour k s y.kind p q none (rw at at h)) in
+        and_from _ _ mine then
+
+    -- no man reached the king from its origin
+    attacked_from : a < 64 → man_on men a ≡ Some z → same_colour z.colour (other c) ≡ true → reaches_as men z.colour z.kind a k ≡ true → ⊥
+    unfolding is_reached reaches
+    attacked_from small here side h =
+        let mine : is_side (man_on men a) (other c) ≡ true = rw here side in
+        let then : reaches men a k ≡ true = rw here h in
+        false≢true (sym g.safe ∙ some_square_true (λ s. is_side (man_on men s) (other c) && reaches men s k) a small (and_from _ _ mine then))
+
+    arrival_strikes : (o : Option Man) → man_on after b ≡ o → IsQuiet men c a b k z → b < 64 → is_side o (other c) ≡ true → reaches after b k ≡ true → ⊥
+    unfolding reaches
+    arrival_strikes None at l p side h = cc
+    arrival_strikes (Some y) at l p side h =
+        let is : y ≡ z = i.arrived y at in
+        let mine : same_colour z.colour (other c) ≡ true = ap (λ (x : Man). same_colour x.colour (other c)) (sym is) ∙ side in
+        let now : reaches_as after y.colour y.kind b k ≡ true = rw at at h in
+        let here = l.stood mine in
+        let none = unshut b z.kind p (λ d h on both. attacked_from here.1 here.0 mine
+        (rider_reaches men z.colour d z.kind a k h (rides_turned (steps_along d) men a k (opposed_along d) here.1 q ∙ both.0)))
+        (λ d is. inr (refl, here.1, ap (λ (o : Option Man). is_man o (other c) d) here.0 ∙ and_from _ _ mine is)) in
+        false≢true (sym (l.quiet mine)
+        ∙ reaches_before z.colour k b z.kind p q none (ap (λ (x : Man). reaches_as after x.colour x.kind b k) (sym is) ∙ now))
+
+    -- no enemy reaches the king
+    pub unreached : IsQuiet men c a b k z → is_reached after k (other c) ≡ false
+    unfolding is_reached
+    unreached l =
+        some_square_false (λ s. is_side (man_on after s) (other c) && reaches after s k) 64 (omega arith) (record {
+          fails = λ s p. false_from_ne_true _ (λ h.
+              let h1 = and_parts (is_side (man_on after s) (other c)) (reaches after s k) h in
+              elim (cases_eq s b) [
+                | inl e ↦ arrival_strikes (man_on after b) refl l (omega arith) (ap (λ (n : ℕ). is_side (man_on after n) (other c)) (sym e) ∙ h1.0)
+                    (ap (λ (n : ℕ). reaches after n k) (sym e) ∙ h1.1)
+                | inr ne ↦ false≢true (sym g.safe ∙ some_square_true (λ s. is_side (man_on men s) (other c) && reaches men s k) s p
+                    (checks_before s (man_on after s) refl p ne h1.0 h1.1))
+              ]);
+        })
 
 -- so none attacks him
 pub not_attacked : (rule : RuleSet) (men : List (Option Man)) (e : Colour) (k : ℕ) → is_reached men k e ≡ false → attacked rule men k e ≡ false
@@ -360,30 +250,18 @@ not_attacked rule men e k h =
           false≢true (sym h ∙ some_square_true (λ s. is_side (man_on men s) e && reaches men s k) s p (and_from _ _ y2.0 y1.1)));
     })
 
--- the square of a king is its side's
-pub king_is : (men : List (Option Man)) (c : Colour) (k : ℕ) → AtMostOneKing men → k < 64 → is_man (man_on men k) c King ≡ true → king_square men c ≡ Some k
-unfolding king_square
-king_is men c k one small h =
-    find_square_some (λ s. is_man (man_on men s) c King) k small h (record {
-      fails = λ j lt. false_from_ne_true _ (λ y. let e : j ≡ k = one.same c j k y h in omega arith);
-    })
-
-pub man_there : (o : Option Man) (c : Colour) (j : Kind) → is_man o c j ≡ true → (y : Man) × (o ≡ Some y)
-man_there None c j h = cc
-man_there (Some y) c j h = (y, refl)
-
 -- what is asked of a shift, so that the king of colour c isn't in check after it
-pub record IsHarmless (rule : RuleSet) (men : List (Option Man)) (c : Colour) (a b : ℕ) (z : Man) : Type 0 where
+pub record IsHarmless (men : List (Option Man)) (c : Colour) (a b : ℕ) (z : Man) : Type 0 where
   pub one : AtMostOneKing men
   pub king : is_man (Some z) c King ≡ true → king_square men c ≡ Some a
-  pub cannot_expose : may_expose rule men c a ≡ false
+  pub cannot_expose : may_expose men c a ≡ false
   pub aside : may_stand_between men c b ≡ false
   pub quiet : (k : ℕ) → king_square men c ≡ Some k → IsQuiet men c a b k z
 
-king_stays : (rule : RuleSet) (men after : List (Option Man)) (a b : ℕ) (z : Man) (c : Colour) (k : ℕ) → IsShift men after a b z → IsHarmless rule men c a b z
+king_stays : (men after : List (Option Man)) (a b : ℕ) (z : Man) (c : Colour) (k : ℕ) → IsShift men after a b z → IsHarmless men c a b z
     → k < 64 → is_man (man_on after k) c King ≡ true → king_square men c ≡ Some k
 unfolding may_expose
-king_stays rule men after a b z c k i g small h =
+king_stays men after a b z c k i g small h =
     let y = man_there (man_on after k) c King h in
     let is : is_man (Some y.0) c King ≡ true = rw y.1 at h in
     elim (cases_eq k b) [
@@ -391,8 +269,8 @@ king_stays rule men after a b z c k i g small h =
           let came : man_on after b ≡ Some y.0 = ap (λ (n : ℕ). man_on after n) (sym e) ∙ y.1 in
           let same : y.0 ≡ z = i.arrived y.0 came in
           let was : king_square men c ≡ Some a = g.king (ap (λ (x : Man). is_man (Some x) c King) (sym same) ∙ is) in
-          let no : may_expose_on rule men (Some a) c a ≡ false = rw was at g.cannot_expose in
-          let apart : (a == a) ≡ false = (covered_parts rule men c a a no).apart in
+          let no : may_expose_on men (Some a) c a ≡ false = rw was at g.cannot_expose in
+          let apart : (a == a) ≡ false = (covered_parts men c a a no).apart in
           let yes : (a == a) ≡ true = eq-eqb a a refl in
           cc
       | inr ne ↦
@@ -400,7 +278,7 @@ king_stays rule men after a b z c k i g small h =
           king_is men c k g.one small (rw there is)
     ]
 
-pub stays_safe : (rule : RuleSet) (men after : List (Option Man)) (a b : ℕ) (z : Man) (c : Colour) → IsShift men after a b z → IsHarmless rule men c a b z
+pub stays_safe : (rule : RuleSet) (men after : List (Option Man)) (a b : ℕ) (z : Man) (c : Colour) → IsShift men after a b z → IsHarmless men c a b z
     → in_check rule after c ≡ false
 unfolding in_check king_square squares may_expose may_stand_between
 stays_safe rule men after a b z c i g = by (king_square after c) refl where
@@ -409,10 +287,10 @@ stays_safe rule men after a b z c i g = by (king_square after c) refl where
   by (Some k) e =
       let f = find_first (λ s. is_man (man_on after s) c King) 0 64 k e in
       let small : k < 64 = omega (arith, f.high) in
-      let at : king_square men c ≡ Some k = king_stays rule men after a b z c k i g small f.here in
-      let no : may_expose_on rule men (Some k) c a ≡ false = ap (λ (o : Option ℕ). may_expose_on rule men o c a) (sym at) ∙ g.cannot_expose in
+      let at : king_square men c ≡ Some k = king_stays men after a b z c k i g small f.here in
+      let no : may_expose_on men (Some k) c a ≡ false = ap (λ (o : Option ℕ). may_expose_on men o c a) (sym at) ∙ g.cannot_expose in
       let off : is_on_fairy_line_to men (Some k) c b ≡ false = ap (λ (o : Option ℕ). is_on_fairy_line_to men o c b) (sym at) ∙ g.aside in
-      not_attacked rule after (other c) k (unreached rule men after a b z c k i (covered_parts rule men c a k no) off (g.quiet k at) small)
+      not_attacked rule after (other c) k (unreached men after a b z i c k (covered_parts men c a k no) small off (g.quiet k at))
 
 -- nobody is reborn where nobody is captured, or without Circe
 none_reborn : (men : List (Option Man)) (o : Option Man) (s : ℕ) → reborn_at false men o (Some s) ≡ None
@@ -428,14 +306,7 @@ nobody_reborn true men before (Some s) h = let bad : Some s ≡ None = h refl in
 -- a plain move captures on its arrival alone
 captures_there : (p : Position) (x : Man) (m : Move) (s : ℕ) → is_square p.crossed m.to ≡ false → capture_square p x m ≡ Some s → s ≡ m.to
 unfolding capture_square
-captures_there p x m s off h = elim (cases_Bool (is_some (man_on p.men m.to))) [
-  | inl e ↦ let c : Some m.to ≡ Some s = sym (cond-true (is_some (man_on p.men m.to)) _ _ e) ∙ h in cc
-  | inr e ↦
-      let h1 = sym (cond-false (is_some (man_on p.men m.to)) _ _ e) ∙ h in
-      let h2 : None ≡ Some s = sym (cond-false (same_kind x.kind Pawn && is_diagonal m && is_square p.crossed m.to) _ _
-      (and_right (same_kind x.kind Pawn && is_diagonal m) _ off)) ∙ h1 in
-      cc
-]
+captures_there p x m s off h = grind (arith, cases_Bool, cond-true, cond-false, and_right)
 
 captures_nobody : (p : Position) (x : Man) (m : Move) → is_square p.crossed m.to ≡ false → is_some (man_on p.men m.to) ≡ false → capture_square p x m ≡ None
 unfolding capture_square
@@ -450,20 +321,11 @@ pub record IsPlain (rule : RuleSet) (p : Position) (x : Man) (m : Move) : Type 0
   pub rebirth : is_circe rule ≡ true → capture_square p x m ≡ None
 
 first_off : (a b : Bool) → (a && b) ≡ false → a ≡ true → b ≡ false
-first_off true b h e = h
-first_off false b h e = cc
+first_off a b p q = grind arith
 
 pub plain_parts : (rule : RuleSet) (p : Position) (x : Man) (m : Move) → is_plain rule p x m ≡ true → IsPlain rule p x m
 unfolding is_plain
-plain_parts rule p x m h =
-    let h1 = and_parts (not (is_castling x m) && not (is_square p.crossed m.to)) (not (is_circe rule && is_some (man_on p.men m.to))) h in
-    let h2 = and_parts (not (is_castling x m)) (not (is_square p.crossed m.to)) h1.0 in
-    let off : is_square p.crossed m.to ≡ false = not-true _ h2.1 in
-    record {
-      castling = not-true _ h2.0;
-      crossed = off;
-      rebirth = λ circe. captures_nobody p x m off (first_off (is_circe rule) (is_some (man_on p.men m.to)) (not-true _ h1.1) circe);
-    }
+plain_parts rule p x m h = grind (arith, and_parts, not-true, captures_nobody, first_off)
 
 pub moved_plainly : (p : Position) (x : Man) (m : Move) → is_castling x m ≡ false → moved_men p x m ≡ arrived p x m
 unfolding moved_men
@@ -473,10 +335,7 @@ moved_plainly p x m h = rw h refl
 pub unreborn_after : (rule : RuleSet) (p : Position) (x : Man) (m : Move) → man_on p.men m.from ≡ Some x → (is_circe rule ≡ true → capture_square p x m ≡ None)
     → (after rule p m).men ≡ moved_men p x m
 unfolding after after_by reborn_square
-unreborn_after rule p x m here rebirth =
-    let nobody : reborn_at (is_circe rule) (moved_men p x m) (man_on_at p.men (capture_square p x m)) (capture_square p x m) ≡ None =
-    nobody_reborn (is_circe rule) (moved_men p x m) p.men (capture_square p x m) rebirth in
-    rw here (ap (λ (o : Option ℕ). put_at (moved_men p x m) o (man_on_at p.men (capture_square p x m))) nobody)
+unreborn_after rule p x m here rebirth = search (rules, nobody_reborn)
 
 -- and nobody castles
 pub simple_after : (rule : RuleSet) (p : Position) (x : Man) (m : Move) → man_on p.men m.from ≡ Some x → is_castling x m ≡ false
@@ -489,24 +348,8 @@ men_after rule p x m here plain = simple_after rule p x m here plain.castling pl
 pub arrived_shift : (rule : RuleSet) (p : Position) (x : Man) (m : Move) → IsWellFormed p → IsMade rule p x m → m.to < 64 → IsPlain rule p x m
     → IsShift p.men (arrived p x m) m.from m.to (arriving x m.promo)
 arrived_shift rule p x m well is small plain =
-    let there : man_on (arrived p x m) m.to ≡ Some (arriving x m.promo) =
-    ap (λ (l : List (Option Man)). man_on l m.to) (sym (moved_plainly p x m plain.castling)) ∙ moved_arrival rule p x m well is small in
-    record {
-      vacated = λ q none off. elim (cases_eq q m.to) [
-        | inl e ↦ let bad : None ≡ Some (arriving x m.promo) = sym none ∙ ap (λ (n : ℕ). man_on (arrived p x m) n) e ∙ there in cc
-        | inr ne ↦ sym (arrived_other p x m q off (λ s cap e. ne (e ∙ captures_there p x m s plain.crossed cap)) ne) ∙ none
-      ];
-      others = λ q y at ne. elim (cases_eq q m.from) [
-        | inl e ↦
-            let gone : man_on (without_man p.men m.from) q ≡ None = rw e (man_on-without_same p.men m.from) in
-            let none : man_on (arrived p x m) q ≡ None = man_on-with_other (without_at (without_man p.men m.from) (capture_square p x m)) m.to q
-            (arriving x m.promo) ne ∙ stays_empty (without_man p.men m.from) (capture_square p x m) q gone in
-            let bad : None ≡ Some y = sym none ∙ at in
-            cc
-        | inr off ↦ sym (arrived_other p x m q off (λ s cap e. ne (e ∙ captures_there p x m s plain.crossed cap)) ne) ∙ at
-      ];
-      arrived = λ y at. let e : Some (arriving x m.promo) ≡ Some y = sym there ∙ at in cc;
-    }
+    gone_shift p.men m.from (capture_square p x m) m.to (arriving x m.promo) (omega (arith, small, well.size))
+    (λ s at. captures_there p x m s plain.crossed (is_square-some (capture_square p x m) s at))
 
 -- a king that arrives left its own square
 king_came : (p : Position) (x : Man) (m : Move) (c : Colour) → IsWellFormed p → man_on p.men m.from ≡ Some x → is_promotion_right p x m m.promo ≡ true
@@ -517,13 +360,10 @@ king_came p x m c well here right h =
     king_is p.men c m.from well.kings (on_board p.men m.from x well.size here) (rw here is)
 
 plain_safe : (rule : RuleSet) (p : Position) (x : Man) (m : Move) (c : Colour) → IsWellFormed p → IsMade rule p x m → m.to < 64 → IsPlain rule p x m
-    → may_expose rule p.men c m.from ≡ false → may_stand_between p.men c m.to ≡ false
+    → may_expose p.men c m.from ≡ false → may_stand_between p.men c m.to ≡ false
     → ((k : ℕ) → king_square p.men c ≡ Some k → IsQuiet p.men c m.from m.to k (arriving x m.promo))
     → in_check rule (after rule p m).men c ≡ false
-plain_safe rule p x m c well is small plain cannot_expose aside quiet =
-    ap (λ (l : List (Option Man)). in_check rule l c) (men_after rule p x m is.here plain)
-    ∙ stays_safe rule p.men (arrived p x m) m.from m.to (arriving x m.promo) c (arrived_shift rule p x m well is small plain)
-    (record { one = well.kings; king = king_came p x m c well is.here is.promotion; cannot_expose = cannot_expose; aside = aside; quiet = quiet })
+plain_safe rule p x m c well is small plain cannot_expose aside quiet = search (rules, men_after, stays_safe, arrived, arrived_shift, king_came)
 
 pub arriving_colour : (x : Man) (r : Option Kind) → (arriving x r).colour ≡ x.colour
 arriving_colour x None = refl
@@ -534,18 +374,14 @@ other_differs White = refl
 other_differs Black = refl
 
 pub record CannotExpose (rule : RuleSet) (p : Position) (x : Man) (c : Colour) (m : Move) : Type 0 where
-  pub origin : may_expose rule p.men c m.from ≡ false
+  pub origin : may_expose p.men c m.from ≡ false
   pub aside : may_stand_between p.men c m.to ≡ false
   pub plain : IsPlain rule p x m
 
 cannot_expose_parts : (rule : RuleSet) (p : Position) (x : Man) (c : Colour) (m : Move) → man_on p.men m.from ≡ Some x → cannot_expose rule p c m ≡ true
     → CannotExpose rule p x c m
 unfolding cannot_expose
-cannot_expose_parts rule p x c m here h =
-    let h0 : (not (may_expose rule p.men c m.from) && (not (may_stand_between p.men c m.to) && is_plain rule p x m)) ≡ true = rw here at h in
-    let h1 = and_parts (not (may_expose rule p.men c m.from)) _ h0 in
-    let h2 = and_parts (not (may_stand_between p.men c m.to)) (is_plain rule p x m) h1.1 in
-    record { origin = not-true _ h1.0; aside = not-true _ h2.0; plain = plain_parts rule p x m h2.1 }
+cannot_expose_parts rule p x c m here h = grind (arith, and_parts, not-true, plain_parts)
 
 -- such a move doesn't leave its mover in check
 pub cannot_expose_own : (rule : RuleSet) (p : Position) (m : Move) → IsWellFormed p → pseudo rule p m ≡ true → m.to < 64 → cannot_expose rule p p.turn m ≡ true
@@ -587,53 +423,45 @@ some_grasshopper men c w h some =
 pub some_nightrider : (men : List (Option Man)) (c : Colour) (w n : ℕ) → w ≡ squares_of men c Grasshopper → w ≡ 0 → n ≡ squares_of men c Nightrider
     → not (n == 0) ≡ has_fairy men c
 unfolding has_fairy squares_of
-some_nightrider men c w n h none i =
-    let no : some_square (λ s. is_man (man_on men s) c Grasshopper) ≡ false = sym (not_zero (λ s. is_man (man_on men s) c Grasshopper))
-    ∙ ap (λ k. not (k == 0)) (sym h ∙ none) in
-    ap (λ k. not (k == 0)) i ∙ not_zero (λ s. is_man (man_on men s) c Nightrider)
-    ∙ sym (ap (λ (b : Bool). b || some_square (λ s. is_man (man_on men s) c Nightrider)) no)
-
--- all squares
-pub every_square : (test : ℕ → Bool) → ((s : ℕ) → s < 64 → test s ≡ true) → bit_not w64 0 ≡ word test
-every_square test h = ap (bit_not w64) (word_empty (λ s. false) (λ s b. refl)) ∙ squares_not (λ s. false) ∙ squares_same (λ s. true) test (λ s b. sym (h s b))
+some_nightrider men c w n h none i = grind (arith, not_zero)
 
 -- the word of the squares from which a move may uncover a king
-pub shield_squares_none : (rule : RuleSet) (men : List (Option Man)) (c : Colour) → king_square men c ≡ None → 0 ≡ word (may_expose rule men c)
+pub shield_squares_none : (men : List (Option Man)) (c : Colour) → king_square men c ≡ None → 0 ≡ word (may_expose men c)
 unfolding may_expose
-shield_squares_none rule men c h = word_empty (may_expose rule men c) (λ s b. ap (λ (o : Option ℕ). may_expose_on rule men o c s) h)
+shield_squares_none men c h = word_empty (may_expose men c) (λ s b. ap (λ (o : Option ℕ). may_expose_on men o c s) h)
 
-pub shield_squares_all : (rule : RuleSet) (men : List (Option Man)) (c : Colour) (k : ℕ) → king_square men c ≡ Some k → is_reached men k (other c) ≡ true
-    → bit_not w64 0 ≡ word (may_expose rule men c)
+pub shield_squares_all : (men : List (Option Man)) (c : Colour) (k : ℕ) → king_square men c ≡ Some k → is_reached men k (other c) ≡ true
+    → bit_not w64 0 ≡ word (may_expose men c)
 unfolding may_expose
-shield_squares_all rule men c k at reached =
-    every_square (may_expose rule men c) (λ s b. ap (λ (o : Option ℕ). may_expose_on rule men o c s) at
+shield_squares_all men c k at reached =
+    every_square (may_expose men c) (λ s b. ap (λ (o : Option ℕ). may_expose_on men o c s) at
     ∙ or_left _ _ (or_left _ _ (or_left _ _ (or_left _ _ reached))))
 
-pub shield_squares_some : (rule : RuleSet) (men : List (Option Man)) (c : Colour) (k w n : ℕ) → king_square men c ≡ Some k → is_reached men k (other c) ≡ false
+pub shield_squares_some : (men : List (Option Man)) (c : Colour) (k w n : ℕ) → king_square men c ≡ Some k → is_reached men k (other c) ≡ false
     → w ≡ bit_or (bit_or (word (is_square (Some k))) (word (is_shut men (other c) Rook straight_steps k)))
     (word (is_shut men (other c) Bishop diagonal_steps k))
-    → n ≡ word (may_stand_between men c) → bit_or w n ≡ word (may_expose rule men c)
+    → n ≡ word (may_stand_between men c) → bit_or w n ≡ word (may_expose men c)
 unfolding may_expose may_stand_between
-shield_squares_some rule men c k w n at unreached h i =
+shield_squares_some men c k w n at unreached h i =
     let rook : ℕ → Bool = is_shut men (other c) Rook straight_steps k in
     let bishop : ℕ → Bool = is_shut men (other c) Bishop diagonal_steps k in
     (λ j. bit_or (h j) (i j))
     ∙ (λ j. bit_or (bit_or (squares_either (λ t. is_square (Some k) t) rook j) (word bishop)) (word (may_stand_between men c)))
     ∙ (λ j. bit_or (squares_either (λ t. is_square (Some k) t || rook t) bishop j) (word (may_stand_between men c)))
     ∙ squares_either (λ t. (is_square (Some k) t || rook t) || bishop t) (may_stand_between men c)
-    ∙ squares_same _ (may_expose rule men c)
+    ∙ squares_same _ (may_expose men c)
     (λ s b. ap (λ (o : Option ℕ). ((k == s || rook s) || bishop s) || is_on_fairy_line_to men o c s) at
-    ∙ sym (ap (λ (o : Option ℕ). may_expose_on rule men o c s) at
+    ∙ sym (ap (λ (o : Option ℕ). may_expose_on men o c s) at
     ∙ ap (λ (x : Bool). x || k == s || rook s || bishop s || is_on_fairy_line men (other c) k s) unreached))
 
 -- whether a move can't uncover a king, told by that word
 pub cannot_expose_is : (rule : RuleSet) (p : Position) (x : Man) (c : Colour) (m : Move) (w s : ℕ) (b : Bool) → man_on p.men m.from ≡ Some x
-    → w ≡ word (may_expose rule p.men c) → s ≡ m.from → s < 64 → b ≡ (bit_at w s == 1)
+    → w ≡ word (may_expose p.men c) → s ≡ m.from → s < 64 → b ≡ (bit_at w s == 1)
     → (not b && (not (may_stand_between p.men c m.to) && is_plain rule p x m)) ≡ cannot_expose rule p c m
 unfolding cannot_expose
 cannot_expose_is rule p x c m w s b here h same small e =
     rw here (ap (λ (u : Bool). not u && (not (may_stand_between p.men c m.to) && is_plain rule p x m))
-    (e ∙ word_has (may_expose rule p.men c) w s h small ∙ ap (may_expose rule p.men c) same))
+    (e ∙ word_has (may_expose p.men c) w s h small ∙ ap (may_expose p.men c) same))
 
 pub cannot_expose_nobody : (rule : RuleSet) (p : Position) (c : Colour) (m : Move) → man_on p.men m.from ≡ None → false ≡ cannot_expose rule p c m
 unfolding cannot_expose

@@ -25,8 +25,8 @@ use Rattle.chess_rules.specs.Legal.{is_arrival_free, pseudo}
 use Rattle.chess_rules.specs.Play.{after, arriving}
 use Rattle.chess_rules.specs.Reaches.{is_vacant, reaches, reaches_as, rides}
 use Rattle.chess_rules.specs.RuleSet.{RuleSet, is_madrasi}
-use Rattle.chess_rules.proofs.Bits.{word_has}
-use Rattle.chess_rules.proofs.attacks.Shielding.{IsPlain, IsShift, arrived_shift, every_square, king_is, man_there, men_after, other_differs, plain_parts}
+use Rattle.chess_rules.proofs.Bits.{word_has, every_square}
+use Rattle.chess_rules.proofs.attacks.Shielding.{IsPlain, IsShift, arrived_shift, king_is, man_there, men_after, other_differs, plain_parts}
 use Rattle.chess_rules.proofs.making_moves.Fits.{arrived}
 use Rattle.chess_rules.proofs.rays.Flips.{backward, opposed, rides_turned}
 use Rattle.chess_rules.proofs.rays.Parting.{line_open}

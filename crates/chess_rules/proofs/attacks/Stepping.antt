@@ -1,7 +1,7 @@
 -- The men once a man has made a move and the enemy king a step, and what an attack then sees.
-use Rattle.std.proofs.Common.{◌≡◌, ◌≢◌, ℕ, ◌<◌, Bool, true, false, ◌&&◌, ◌||◌, ◌==◌, not, List, length, Option, Some, None, is_some, refl, sym, ap, ◌∙◌, inl, inr, rules}
+use Rattle.std.proofs.Common.{◌≡◌, ◌≢◌, ℕ, ◌<◌, Bool, true, false, ◌&&◌, ◌||◌, ◌==◌, not, List, length, Option, Some, None, is_some, sym, ap, ◌∙◌, inl, inr, rules, arith}
 use Rattle.std.specs.Int.Bits.{bit_or}
-use Rattle.std.proofs.lemmas.Bool.{and_left, and_right, cases_Bool, cases_eq, eq-eqb, eqb-true, false_from_ne_true, false≢true, or_left}
+use Rattle.std.proofs.lemmas.Bool.{and_left, and_right, cases_Bool, cases_eq, eq-eqb, eqb-true, false_from_ne_true, or_from, or_left}
 use Rattle.std.proofs.lemmas.List.{length-set}
 use Rattle.chess_core.specs.Position.{is_man, is_side, man_on, same_colour, same_kind, without_man}
 use Rattle.chess_core.specs.Squares.{is_square}
@@ -15,7 +15,7 @@ use Rattle.chess_rules.specs.ties.Flights.{sight_lifted, sight_with}
 use Rattle.chess_rules.specs.ties.Lines.{occupied_squares}
 use Rattle.chess_rules.specs.ties.Sight.{AreSeen}
 use Rattle.chess_rules.proofs.rays.Landing.{StandAlike}
-use Rattle.chess_rules.proofs.attacks.Seeing.{gone_to, is_occupied_after, kept_now, left_now, length-without_at, neither, no_man, occupied_now, occupied_words, there_now}
+use Rattle.chess_rules.proofs.attacks.Seeing.{gone_to, is_occupied_after, kept_now, left_now, length-without_at, no_man, occupied_now, occupied_words, there_now}
 use Rattle.chess_rules.proofs.Tests.{differs}
 
 -- the men once z has come from a to b and the man on o is gone, and then x from k to t and the man on u is gone
@@ -50,7 +50,7 @@ on_left men a o b z k u t x q ne y = left_now (gone_to men a o b z) k u t x q ne
 on_others : (men : List (Option Man)) (a : ℕ) (o : Option ℕ) (b : ℕ) (z : Man) (k : ℕ) (u : Option ℕ) (t : ℕ) (x : Man) (q : ℕ)
     → ((s : ℕ) → is_square u s ≡ true → s ≡ t) → q ≢ t → (k == q) ≡ false
     → man_on (stepped men a o b z k u t x) q ≡ man_on (gone_to men a o b z) q
-on_others men a o b z k u t x q h ne off = search (rules, gone_to, kept_now, neither, taken_nowhere)
+on_others men a o b z k u t x q h ne off = search (rules, gone_to, kept_now, or_from, taken_nowhere)
 
 pub stands_arrived : (men : List (Option Man)) (a : ℕ) (o : Option ℕ) (b : ℕ) (z : Man) (k : ℕ) (u : Option ℕ) (t : ℕ) (x : Man) (q : ℕ) → b < length men
     → ((s : ℕ) → is_square u s ≡ true → s ≡ t) → q ≡ b → q ≢ t → b ≢ k
@@ -59,10 +59,7 @@ stands_arrived men a o b z k u t x q arrival h e ne off = search (rules, gone_to
 
 -- the squares on which men stand
 without_taken : (h i j e : Bool) → (j ≡ true → e ≡ true) → ((h && not i) || e) ≡ ((h && not (i || j)) || e)
-without_taken h true j e f = refl
-without_taken h false false e f = refl
-without_taken true false true e f = sym (f refl)
-without_taken false false true e f = refl
+without_taken h i j e p = grind arith
 
 pub stands : (men : List (Option Man)) (a : ℕ) (o : Option ℕ) (b : ℕ) (z : Man) (k : ℕ) (u : Option ℕ) (t : ℕ) (x : Man) (q : ℕ) → b < length men
     → t < length men → ((s : ℕ) → is_square u s ≡ true → s ≡ t)
@@ -108,25 +105,14 @@ pub same_elsewhere : (men : List (Option Man)) (a : ℕ) (o : Option ℕ) (b : �
 same_elsewhere men a o b z y k u t x q flight h off = search (rules, man_on-with_other, on_flight, on_left, on_others)
 
 -- the men of the attack: the one that moved apart
-first_out : (i p q r : Bool) → i ≡ false → (i && ((p && q) && r)) ≡ false
-first_out i p q r h = and_left i _ h
-
 last_out : (i p q r : Bool) → r ≡ false → (i && ((p && q) && r)) ≡ false
-last_out i p q false h = and_right i _ (and_right (p && q) false refl)
-last_out i p q true h = absurd (false≢true (sym h))
+last_out i p q r h = grind arith
 
 gone_out : (i o e r : Bool) → (e || o) ≡ true → (i && ((not o && not e) && r)) ≡ false
-gone_out true true e r h = refl
-gone_out true false true r h = refl
-gone_out false o e r h = refl
-gone_out true false false r h = absurd (false≢true h)
+gone_out i o e r p = grind arith
 
 all_in : (i o e r : Bool) → (e || o) ≡ false → r ≡ true → (i && ((not o && not e) && r)) ≡ i
-all_in true false false true h q = refl
-all_in false o e r h q = refl
-all_in true true false r h q = absurd (false≢true (sym h))
-all_in true o true r h q = absurd (false≢true (sym h))
-all_in true false false false h q = absurd (false≢true q)
+all_in i o e r p q = grind arith
 
 attacker_stands : (men : List (Option Man)) (a : ℕ) (o : Option ℕ) (b k : ℕ) (u : Option ℕ) (t : ℕ) (x : Man) (c : Colour) (j : Kind) (q : ℕ)
     → IsStep men a o b k u t x c
@@ -138,7 +124,7 @@ attacker_stands men a o b k u t x c j q i = elim (cases_eq q t) [
   | inr ne ↦ elim (cases_Bool (k == q)) [
     | inl y ↦
         let none : is_man (man_on men q) c j ≡ false = ap (λ (s : ℕ). is_man (man_on men s) c j) (sym (eqb-true k q y)) ∙ no_man (man_on men k) c j i.lifted in
-        first_out (is_man (man_on men q) c j) (not (is_square o q)) (not (a == q)) (not (t == q)) none
+        and_left (is_man (man_on men q) c j) _ none
         ∙ sym (ap (λ (y : Option Man). is_man y c j) (on_left men a o b x k u t x q ne y))
     | inr n ↦ ours ne n ∙ sym (ap (λ (y : Option Man). is_man y c j) (on_others men a o b x k u t x q i.taken ne n))
   ]
@@ -148,7 +134,7 @@ attacker_stands men a o b k u t x c j q i = elim (cases_eq q t) [
   ours ne n = elim (cases_eq q b) [
     | inl e ↦
         let none : is_man (man_on men q) c j ≡ false = ap (λ (s : ℕ). is_man (man_on men s) c j) e ∙ no_man (man_on men b) c j i.entered in
-        first_out (is_man (man_on men q) c j) (not (is_square o q)) (not (a == q)) (not (t == q)) none
+        and_left (is_man (man_on men q) c j) _ none
         ∙ sym (ap (λ (y : Option Man). is_man y c j) (ap (man_on (gone_to men a o b x)) e ∙ there_now men a o b x i.arrival)
         ∙ and_left (same_colour x.colour c) (same_kind x.kind j) i.king)
     | inr off ↦ elim (cases_Bool (is_square (Some a) q || is_square o q)) [

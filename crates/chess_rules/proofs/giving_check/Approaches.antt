@@ -1,5 +1,5 @@
 -- From where pawns come to a square: so many squares before it, or behind it.
-use Rattle.std.proofs.Common.{◌≡◌, ℕ, ◌+◌, ◌-◌, ◌*◌, ◌/◌, ◌%◌, ◌^◌, ◌<◌, ◌≤◌, Bool, true, false, not, ◌||◌, ◌==◌, refl, sym, ap, ◌∙◌, arith, inl, inr, rules}
+use Rattle.std.proofs.Common.{◌≡◌, ℕ, ◌+◌, ◌-◌, ◌*◌, ◌/◌, ◌%◌, ◌^◌, ◌<◌, ◌≤◌, Bool, true, not, ◌||◌, ◌==◌, refl, sym, ap, ◌∙◌, arith, inl, inr, rules}
 use Rattle.std.specs.Int.{bit_at}
 use Rattle.std.specs.Int.Bits.{bit_or}
 use Rattle.std.specs.List.{list_any}
@@ -16,13 +16,15 @@ use Rattle.chess_rules.specs.Reaches.{leaps, reaches_as}
 use Rattle.chess_rules.specs.ties.CheckSquares.{AreApproaches}
 use Rattle.chess_rules.specs.ties.Lines.{is_advance}
 use Rattle.chess_rules.specs.ties.Targets.{may_go}
-use Rattle.chess_rules.proofs.rays.OpenBoard.{advances, on_left, on_right}
+use Rattle.chess_rules.proofs.rays.OpenBoard.{advances}
+use Rattle.chess_rules.proofs.Tests.{implied}
+use Rattle.chess_rules.proofs.Bits.{on_left, on_right}
 
 -- a word moved down or up by k squares
-bit_down : (w k s : ℕ) → bit_at (w / 2 ^ k) s ≡ bit_at w (k + s)
+pub bit_down : (w k s : ℕ) → bit_at (w / 2 ^ k) s ≡ bit_at w (k + s)
 bit_down w k s = ap (λ x. x % 2) (shr-shr w k s)
 
-bit_up : (w k s : ℕ) → k ≤ s → s < 64 → bit_at (w * 2 ^ k % 2 ^ 64) s ≡ bit_at w (s - k)
+pub bit_up : (w k s : ℕ) → k ≤ s → s < 64 → bit_at (w * 2 ^ k % 2 ^ 64) s ≡ bit_at w (s - k)
 bit_up w k s from small =
     let all = w * 2 ^ k in
     let parts : all / 2 ^ 64 * 2 ^ 64 + all % 2 ^ 64 ≡ all = omega (arith, div-add-mod all (2 ^ 64)) in
@@ -50,10 +52,6 @@ on_either u v a b i f g h = elim (or_cases u v h) [
   | inl y ↦ on_left a b i (f y)
   | inr y ↦ on_right a b i (g y)
 ]
-
-implied : (a b : Bool) → (not a || b) ≡ true → a ≡ true → b ≡ true
-implied true b h e = h
-implied false b h e = cc
 
 -- where a pawn might go on an empty board
 abbrev pawn_way : Colour → ℕ → ℕ → Bool

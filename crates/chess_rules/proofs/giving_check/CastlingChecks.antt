@@ -1,11 +1,10 @@
 -- Castling that uncovers no king gives check by its rook alone.
-use Rattle.std.proofs.Common.{◌≡◌, ◌≢◌, ℕ, ◌+◌, ◌-◌, ◌*◌, ◌/◌, ◌%◌, ◌^◌, ◌<◌, ◌≤◌, suc, Bool, true, false, ◌&&◌, ◌||◌, ◌==◌, not, List, [], ◌∷◌, length, Option, Some, None, is_some, refl, sym, ap, ◌∙◌, arith, inl, inr, ◌⊎◌, rules}
+use Rattle.std.proofs.Common.{◌≡◌, ◌≢◌, ℕ, ◌+◌, ◌-◌, ◌*◌, ◌/◌, ◌%◌, ◌^◌, ◌<◌, ◌≤◌, Bool, true, false, ◌&&◌, ◌||◌, ◌==◌, not, List, [], ◌∷◌, length, Option, Some, None, is_some, refl, sym, ap, ◌∙◌, arith, inl, inr, ◌⊎◌, rules}
 use Rattle.std.specs.Int.{bit_at}
 use Rattle.std.specs.Int.Bits.{bit_and, bit_or}
 use Rattle.std.specs.List.{list_all, list_any, range_with_len}
-use Rattle.std.proofs.lemmas.Bool.{agree_below_at, and_from, and_left, and_parts, cond-false, cond-true, cases_eq, eq-eqb, eqb-true, false_from_ne_true, false≢true, or_cases, or_left, or_parts, or_right}
+use Rattle.std.proofs.lemmas.Bool.{agree_below, agree_below_at, and_from, and_left, and_parts, cond-false, cond-true, cases_eq, eq-eqb, eqb-true, false_from_ne_true, false≢true, or_cases, or_left, or_parts}
 use Rattle.std.proofs.lemmas.List.{length-set}
-use Rattle.std.proofs.lemmas.Nat.Bits.{bit_at-lt, bit_at-suc, bit_at_cat_low, bit_at_or}
 use Rattle.chess_core.specs.ties.Words.{word}
 use Rattle.chess_core.proofs.Boards.{along-is}
 use Rattle.chess_core.specs.Position.{Position, is_man, is_side, king_square, man_on, other, same_colour, same_kind, with_man, without_man}
@@ -14,17 +13,17 @@ use Rattle.chess_core.specs.Steps.{along, queen_steps, straight_steps}
 use Rattle.chess_core.specs.WellFormed.{IsWellFormed, is_vacant_at}
 use Rattle.chess_core.specs.declared.man.Colour.{Colour}
 use Rattle.chess_core.specs.declared.man.Kind.{Kind}
-use Rattle.chess_core.specs.declared.man.Kind.TheVariants.{King, Queen, Rook, Bishop, Knight, Pawn, Grasshopper, Nightrider}
+use Rattle.chess_core.specs.declared.man.Kind.TheVariants.{King, Queen, Rook, Bishop, Pawn, Grasshopper, Nightrider}
 use Rattle.chess_core.specs.declared.man.Man.{Man}
 use Rattle.chess_core.specs.declared.man.Move.{Move}
 use Rattle.chess_core.specs.declared.step.Step.{Step}
-use Rattle.chess_core.proofs.Men.{man_on-with_other, man_on-with_same, man_on-without_other, man_on-without_same}
+use Rattle.chess_core.proofs.Men.{man_on-with_same}
 use Rattle.chess_core.proofs.Ranges.{some_square_false, some_square_true}
 use Rattle.chess_rules.specs.Attacks.{check_of, in_check}
 use Rattle.chess_rules.specs.ties.CheckSquares.{AreCastlingTargets, enemy, is_absent, may_check_from, may_check_from_on}
-use Rattle.chess_rules.specs.Legal.{castles, is_promotion_right, may_castle, squares_between}
+use Rattle.chess_rules.specs.Legal.{castles, may_castle, squares_between}
 use Rattle.chess_rules.specs.ties.Lines.{is_ahead, is_aside, is_on_some, step_of}
-use Rattle.chess_rules.specs.Play.{after, arriving, capture_square, corner, halfway, is_castling, is_diagonal, move_man, moved_men, without_at}
+use Rattle.chess_rules.specs.Play.{after, arriving, capture_square, corner, halfway, is_castling, is_diagonal, moved_men, without_at}
 use Rattle.chess_rules.specs.Reaches.{hops, is_clear, reaches, reaches_as, rides}
 use Rattle.chess_rules.specs.RuleSet.{RuleSet}
 use Rattle.chess_rules.specs.ties.Targets.{steps_to}
@@ -33,17 +32,21 @@ use Rattle.chess_rules.specs.declared.checks.CheckSquares.{CheckSquares}
 use Rattle.chess_rules.specs.declared.lines.Direction.{Direction}
 use Rattle.chess_rules.specs.declared.lines.Direction.TheVariants.{East, West, North, South, NorthEast, SouthEast, NorthWest, SouthWest}
 use Rattle.chess_rules.proofs.rays.Ahead.{onward, passes}
-use Rattle.chess_rules.proofs.Bits.{word_has}
+use Rattle.chess_rules.proofs.Bits.{word_has, off_left, off_right}
 use Rattle.chess_rules.proofs.making_moves.Castles.{no_man}
 use Rattle.chess_rules.proofs.rays.Ends.{back, returns_to, square_is}
-use Rattle.chess_rules.proofs.attacks.FairyLines.{Holds, IsBeside, IsNoHurdle, hop_kept, knight_directions, queen_directions, ride_kept, steps_of}
+use Rattle.chess_rules.proofs.attacks.FairyLines.{Holds, IsBeside, IsNoHurdle, hop_kept, knight_directions, queen_directions, ride_kept}
 use Rattle.chess_rules.proofs.making_moves.Fits.{arrived, castle_of, corner_stays, king_no_step, no_capture}
 use Rattle.chess_rules.proofs.rays.Parting.{Frees}
+use Rattle.chess_rules.proofs.attacks.Exposing.{king_stays_king}
+use Rattle.chess_rules.specs.declared.shields.RiderLines.TheVariants.{Straight}
 use Rattle.chess_rules.proofs.making_moves.Pseudo.{IsCastle, IsMade, king_is_no_pawn, ways}
-use Rattle.chess_rules.proofs.attacks.Shielding.{IsCovered, IsShift, covered_parts, frees, goes_on, king_is, man_there, not_attacked, not_parted, stood, straight_before, unreached, unreborn_after}
-use Rattle.chess_rules.proofs.listing_moves.Targeting.{castling_steps, false_by}
-use Rattle.chess_rules.proofs.Tests.{all_at, find_first}
+use Rattle.chess_rules.proofs.attacks.Shielding.{IsCovered, IsShift, covered_parts, frees, gone_shift, king_is, man_there, not_attacked, line_before, not_parted, stood, unreached, unreborn_after}
+use Rattle.chess_rules.proofs.listing_moves.Targeting.{castling_steps}
+use Rattle.chess_rules.proofs.Tests.{all_at, any_kept, find_first, implied}
 use Rattle.chess_rules.proofs.listing_moves.Walks.{off_second}
+use Rattle.chess_rules.proofs.giving_check.Approaches.{bit_down, bit_up}
+use Rattle.chess_rules.proofs.attacks.Attacking.{goes_on}
 
 -- the corners of the board: no line goes through one
 abbrev is_corner : ℕ → Bool
@@ -54,18 +57,18 @@ abbrev is_end : ℕ → Step → Bool
 is_end s d = list_all (λ n. not (is_some (along s d n))) (range_with_len 1 7)
 
 -- from a corner no line goes both ways
-corner_ends : (x : Direction) (b : ℕ) → b < 64 → (not (is_corner b) || is_end b (step_of x) || is_end b (back (step_of x))) ≡ true
+abbrev is_end_of : Step → ℕ → Bool
+is_end_of d b = not (is_corner b) || is_end b d || is_end b (back d)
+
+corner_ends : (x : Direction) (b : ℕ) → b < 64 → is_end_of (step_of x) b ≡ true
 unfolding along
-corner_ends East b lt =
-    agree_below_at (λ b. not (is_corner b) || is_end b (step_of East) || is_end b (back (step_of East))) (λ b. true) 64 b refl lt
-corner_ends x b lt =
-    agree_below_at (λ b. not (is_corner b) || is_end b (step_of x) || is_end b (back (step_of x))) (λ b. true) 64 b refl lt
+corner_ends East b lt = agree_below_at (is_end_of (step_of East)) (λ b. true) 64 b refl lt
+corner_ends x b lt = agree_below_at (is_end_of (step_of x)) (λ b. true) 64 b refl lt
 
 end_none : (s : ℕ) (d : Step) (n t : ℕ) → is_end s d ≡ true → 1 ≤ n → n ≤ 7 → along s d n ≡ Some t → ⊥
 end_none s d n t h low le at =
     let none : not (is_some (along s d n)) ≡ true = all_at (λ n. not (is_some (along s d n))) 1 7 n h low (omega arith) in
-    let some : is_some (along s d n) ≡ true = ap is_some at in
-    false≢true (sym (ap not some) ∙ none)
+    false≢true (sym (ap (λ (o : Option ℕ). not (is_some o)) at) ∙ none)
 
 -- so a man in a corner stands between no two squares
 corner_beside : (x : Direction) (b s k : ℕ) → is_corner b ≡ true → b < 64 → s < 64 → IsBeside b s k (step_of x)
@@ -96,10 +99,6 @@ unfolding along
 half_alone East h lt = agree_below_at (λ h. not (is_half h) || is_beside_alone h (step_of East)) (λ h. true) 64 h refl lt
 half_alone x h lt = agree_below_at (λ h. not (is_half h) || is_beside_alone h (step_of x)) (λ h. true) 64 h refl lt
 
-implied_by : (a b : Bool) → (not a || b) ≡ true → a ≡ true → b ≡ true
-implied_by true b h e = h
-implied_by false b h e = absurd (false≢true e)
-
 -- who stands halfway is a hurdle before none but the squares beside him
 half_no_hurdle : (x : Direction) (h s k : ℕ) → is_half h ≡ true → h < 64 → s < 64 → k ≢ h + 1 → k ≢ h - 1 → IsNoHurdle h s k (step_of x)
 half_no_hurdle x h s k half inside small ne1 ne2 = λ n at low le. false_from_ne_true _ (λ y.
@@ -108,7 +107,7 @@ half_no_hurdle x h s k half inside small ne1 ne2 = λ n at low le. false_from_ne
     let on : along h (step_of x) 1 ≡ Some k = onward s h (step_of x) (n - 1) 1 here ∙ ap (along s (step_of x)) rest ∙ at in
     let came : along h (back (step_of x)) (n - 1) ≡ Some s = square_is _ s (returns_to s h (step_of x) (n - 1) small y) in
     let before = passes h s (back (step_of x)) (n - 1) 1 inside (omega arith) came in
-    let alone = implied_by (is_half h) (is_beside_alone h (step_of x)) (half_alone x h inside) half in
+    let alone = implied (is_half h) (is_beside_alone h (step_of x)) (half_alone x h inside) half in
     elim (or_cases _ (is_square (along h (step_of x) 1) (h - 1)) alone) [
       | inl e ↦ elim (or_cases _ (is_square (along h (step_of x) 1) (h + 1)) e) [
         | inl f ↦ elim (or_cases (not (is_some (along h (back (step_of x)) 1))) (not (is_some (along h (step_of x) 1))) f) [
@@ -120,59 +119,29 @@ half_no_hurdle x h s k half inside small ne1 ne2 = λ n at low le. false_from_ne
       | inr e ↦ ne2 (eqb-true k (h - 1) (sym (ap (λ o. is_square o (h - 1)) on) ∙ e))
     ])
 
--- each test of a direction that holds now held before
-any_of : (xs : List Direction) (f g : Step → Bool) → ((x : Direction) → f (step_of x) ≡ true → g (step_of x) ≡ true)
-    → list_any f (steps_of xs) ≡ true → list_any g (steps_of xs) ≡ true
-any_of [] f g each h = h
-any_of (x ∷ xs) f g each h = elim (or_cases (f (step_of x)) (list_any f (steps_of xs)) h) [
-  | inl y ↦ or_left (g (step_of x)) _ (each x y)
-  | inr y ↦ or_right (g (step_of x)) _ (any_of xs f g each y)
-]
-
 -- when a man has left a corner, riders get where they got
 module _ (men after : List (Option Man)) (b s k : ℕ) (free : Frees after men b) (edge : is_corner b ≡ true) (inside : b < 64) (small : s < 64) where
-  rode : (xs : List Direction) → list_any (rides after s k) (steps_of xs) ≡ true → list_any (rides men s k) (steps_of xs) ≡ true
-  rode xs h = any_of xs (rides after s k) (rides men s k)
+  rode : (xs : List Direction) → list_any (λ x. rides after s k (step_of x)) xs ≡ true → list_any (λ x. rides men s k (step_of x)) xs ≡ true
+  rode xs h = any_kept (λ x. rides after s k (step_of x)) (λ x. rides men s k (step_of x)) xs
       (λ x ride. ride_kept men after b s k (step_of x) free (corner_beside x b s k edge inside small) ride) h
 
   reached : (e : Colour) (j : Kind)
       → (same_kind j Grasshopper ≡ true → list_any (hops after s k) queen_steps ≡ true → list_any (hops men s k) queen_steps ≡ true)
       → reaches_as after e j s k ≡ true → reaches_as men e j s k ≡ true
   unfolding reaches_as
-  reached e King hop h = h
   reached e Queen hop h = rode queen_directions h
   reached e Rook hop h = rode (East ∷ West ∷ North ∷ South ∷ []) h
   reached e Bishop hop h = rode (NorthEast ∷ SouthEast ∷ NorthWest ∷ SouthWest ∷ []) h
-  reached e Knight hop h = h
-  reached e Pawn hop h = h
   reached e Grasshopper hop h = hop refl h
   reached e Nightrider hop h = rode knight_directions h
+  reached e j hop h = h
 
   -- and grasshoppers too, if the man went to no square right before k
   hopped : (t : ℕ) → Holds after men t → ((x : Direction) → IsNoHurdle t s k (step_of x))
       → list_any (hops after s k) queen_steps ≡ true → list_any (hops men s k) queen_steps ≡ true
   hopped t holds none h =
-      any_of queen_directions (hops after s k) (hops men s k)
+      any_kept (λ x. hops after s k (step_of x)) (λ x. hops men s k (step_of x)) queen_directions
       (λ x hop. hop_kept men after b t s k (step_of x) free holds (corner_beside x b s k edge inside small) (none x) hop) h
-
--- a man goes from a to b
-shift_of : (men : List (Option Man)) (a b : ℕ) (z : Man) → b < length men → IsShift men (with_man (without_man men a) b z) a b z
-shift_of men a b z lt =
-    let size : length (without_man men a) ≡ length men = length-set men a None in
-    let there : man_on (with_man (without_man men a) b z) b ≡ Some z = man_on-with_same (without_man men a) b z (omega arith) in
-    record {
-      vacated = λ q none off. elim (cases_eq q b) [
-        | inl e ↦ let bad : None ≡ Some z = sym none ∙ ap (man_on (with_man (without_man men a) b z)) e ∙ there in absurd (cc)
-        | inr ne ↦ sym (man_on-without_other men a q off) ∙ sym (man_on-with_other (without_man men a) b q z ne) ∙ none
-      ];
-      others = λ q y at ne.
-          let before : man_on (without_man men a) q ≡ Some y = sym (man_on-with_other (without_man men a) b q z ne) ∙ at in
-          elim (cases_eq q a) [
-            | inl e ↦ let bad : None ≡ Some y = sym (man_on-without_same men a) ∙ ap (man_on (without_man men a)) (sym e) ∙ before in absurd (cc)
-            | inr off ↦ sym (man_on-without_other men a q off) ∙ before
-          ];
-      arrived = λ y at. let e : Some z ≡ Some y = sym there ∙ at in cc;
-    }
 
 -- king and rook castle: a king on a goes to t, the rook from c to h
 abbrev CastlingSquares : ℕ → ℕ → ℕ → ℕ → Type 0
@@ -189,118 +158,82 @@ record IsWay (men : List (Option Man)) (a t c h : ℕ) : Type 0 where
   pub beside : (k : ℕ) → k ≢ a → k ≢ t → (k ≢ h + 1) × (k ≢ h - 1)
   pub lined : (k : ℕ) → k < 64 → k ≢ c → is_on_some straight_steps k h ≡ true → is_on_some straight_steps k a ≡ true → is_on_some straight_steps k c ≡ true
 
-implied : (a b c d : Bool) → (not (a && b) || c || d) ≡ true → a ≡ true → b ≡ true → c ≡ false → d ≡ true
-implied true true false d h p q r = h
-implied true false c d h p q r = absurd (false≢true q)
-implied false b c d h p q r = absurd (false≢true p)
-implied true true true d h p q r = absurd (false≢true (sym r))
-
 abbrev is_lined_up : ℕ → ℕ → ℕ → ℕ → Bool
-is_lined_up a c h k = not (is_on_some straight_steps k h && is_on_some straight_steps k a) || k == c || is_on_some straight_steps k c
+is_lined_up a c h k = not (is_on_some straight_steps k h && is_on_some straight_steps k a) || (k == c || is_on_some straight_steps k c)
 
 lined_up : (a c h k : ℕ) → is_lined_up a c h k ≡ true → k ≢ c → is_on_some straight_steps k h ≡ true → is_on_some straight_steps k a ≡ true
     → is_on_some straight_steps k c ≡ true
-lined_up a c h k y ne p q =
-    implied (is_on_some straight_steps k h) (is_on_some straight_steps k a) (k == c) (is_on_some straight_steps k c) y p q
-    (false_from_ne_true _ (λ e. ne (eqb-true k c e)))
+lined_up a c h k y ne p q = grind (arith, or_cases, implied, and_from, eqb-true)
+
+-- what hangs on the squares alone
+abbrev is_place : ℕ → ℕ → ℕ → Bool
+is_place a c h = (is_corner c && is_half h) && agree_below (is_lined_up a c h) (λ k. true) 64
+
+is_way : (men : List (Option Man)) (a t c h : ℕ) → is_place a c h ≡ true → c < 64 → ((k : ℕ) → k ≢ a → k ≢ t → (k ≢ h + 1) × (k ≢ h - 1))
+    → man_on men t ≡ None → list_any (rides men c a) straight_steps ≡ true → IsWay men a t c h
+is_way men a t c h place inside beside empty ride =
+    let parts = and_parts (is_corner c && is_half h) (agree_below (is_lined_up a c h) (λ k. true) 64) place in
+    let ends = and_parts (is_corner c) (is_half h) parts.0 in
+    record {
+      empty = empty;
+      ride = ride;
+      edge = ends.0;
+      inside = inside;
+      half = ends.1;
+      beside = beside;
+      lined = λ k lt. lined_up a c h k (agree_below_at (is_lined_up a c h) (λ k. true) 64 k parts.1 lt);
+    }
 
 white_short : (men : List (Option Man)) → list_all (is_vacant_at men) (squares_between 4 7) ≡ true → IsWay men 4 6 7 5
 unfolding rides is_clear along is_on_some is_ahead
 white_short men v =
     let v5 = and_parts (is_vacant_at men 5) _ v in
     let e5 : man_on men 5 ≡ None = no_man men 5 v5.0 in
-    let v6 = and_parts (is_vacant_at men 6) _ v5.1 in
-    let e6 : man_on men 6 ≡ None = no_man men 6 v6.0 in
-    record {
-      empty = e6;
-      ride = rw (e5, e6) refl;
-      edge = refl;
-      inside = omega arith;
-      half = refl;
-      beside = λ k p q. (q, p);
-      lined = λ k lt. lined_up 4 7 5 k (agree_below_at (is_lined_up 4 7 5) (λ k. true) 64 k refl lt);
-    }
+    let e6 : man_on men 6 ≡ None = no_man men 6 (and_parts (is_vacant_at men 6) _ v5.1).0 in
+    is_way men 4 6 7 5 refl (omega arith) (λ k p q. (q, p)) e6 (rw (e5, e6) refl)
 
 white_long : (men : List (Option Man)) → list_all (is_vacant_at men) (squares_between 4 0) ≡ true → IsWay men 4 2 0 3
 unfolding rides is_clear along is_on_some is_ahead
 white_long men v =
     let v1 = and_parts (is_vacant_at men 1) _ v in
-    let e1 : man_on men 1 ≡ None = no_man men 1 v1.0 in
     let v2 = and_parts (is_vacant_at men 2) _ v1.1 in
+    let e1 : man_on men 1 ≡ None = no_man men 1 v1.0 in
     let e2 : man_on men 2 ≡ None = no_man men 2 v2.0 in
-    let v3 = and_parts (is_vacant_at men 3) _ v2.1 in
-    let e3 : man_on men 3 ≡ None = no_man men 3 v3.0 in
-    record {
-      empty = e2;
-      ride = rw (e1, e2, e3) refl;
-      edge = refl;
-      inside = omega arith;
-      half = refl;
-      beside = λ k p q. (p, q);
-      lined = λ k lt. lined_up 4 0 3 k (agree_below_at (is_lined_up 4 0 3) (λ k. true) 64 k refl lt);
-    }
+    let e3 : man_on men 3 ≡ None = no_man men 3 (and_parts (is_vacant_at men 3) _ v2.1).0 in
+    is_way men 4 2 0 3 refl (omega arith) (λ k p q. (p, q)) e2 (rw (e1, e2, e3) refl)
 
 black_short : (men : List (Option Man)) → list_all (is_vacant_at men) (squares_between 60 63) ≡ true → IsWay men 60 62 63 61
 unfolding rides is_clear along is_on_some is_ahead
 black_short men v =
     let v61 = and_parts (is_vacant_at men 61) _ v in
     let e61 : man_on men 61 ≡ None = no_man men 61 v61.0 in
-    let v62 = and_parts (is_vacant_at men 62) _ v61.1 in
-    let e62 : man_on men 62 ≡ None = no_man men 62 v62.0 in
-    record {
-      empty = e62;
-      ride = rw (e61, e62) refl;
-      edge = refl;
-      inside = omega arith;
-      half = refl;
-      beside = λ k p q. (q, p);
-      lined = λ k lt. lined_up 60 63 61 k (agree_below_at (is_lined_up 60 63 61) (λ k. true) 64 k refl lt);
-    }
+    let e62 : man_on men 62 ≡ None = no_man men 62 (and_parts (is_vacant_at men 62) _ v61.1).0 in
+    is_way men 60 62 63 61 refl (omega arith) (λ k p q. (q, p)) e62 (rw (e61, e62) refl)
 
 black_long : (men : List (Option Man)) → list_all (is_vacant_at men) (squares_between 60 56) ≡ true → IsWay men 60 58 56 59
 unfolding rides is_clear along is_on_some is_ahead
 black_long men v =
     let v57 = and_parts (is_vacant_at men 57) _ v in
-    let e57 : man_on men 57 ≡ None = no_man men 57 v57.0 in
     let v58 = and_parts (is_vacant_at men 58) _ v57.1 in
+    let e57 : man_on men 57 ≡ None = no_man men 57 v57.0 in
     let e58 : man_on men 58 ≡ None = no_man men 58 v58.0 in
-    let v59 = and_parts (is_vacant_at men 59) _ v58.1 in
-    let e59 : man_on men 59 ≡ None = no_man men 59 v59.0 in
-    record {
-      empty = e58;
-      ride = rw (e57, e58, e59) refl;
-      edge = refl;
-      inside = omega arith;
-      half = refl;
-      beside = λ k p q. (p, q);
-      lined = λ k lt. lined_up 60 56 59 k (agree_below_at (is_lined_up 60 56 59) (λ k. true) 64 k refl lt);
-    }
+    let e59 : man_on men 59 ≡ None = no_man men 59 (and_parts (is_vacant_at men 59) _ v58.1).0 in
+    is_way men 60 58 56 59 refl (omega arith) (λ k p q. (p, q)) e58 (rw (e57, e58, e59) refl)
+
+at_squares : (men : List (Option Man)) (a t c h i u d j : ℕ) → a ≡ i → t ≡ u → c ≡ d → h ≡ j
+    → (list_all (is_vacant_at men) (squares_between i d) ≡ true → IsWay men i u d j) → list_all (is_vacant_at men) (squares_between a c) ≡ true
+    → IsWay men a t c h
+at_squares men a t c h i u d j from to rook half f v = rw (from, to, rook, half) (f (rw (from, rook) at v))
 
 way : (men : List (Option Man)) (a t c h : ℕ) → CastlingSquares a t c h → list_all (is_vacant_at men) (squares_between a c) ≡ true → IsWay men a t c h
 way men a t c h s v = elim s.0 [
   | inl e ↦ elim s.1 [
-    | inl f ↦
-        let et : t ≡ 6 = omega arith in
-        let ec : c ≡ 7 = omega arith in
-        let eh : h ≡ 5 = omega arith in
-        rw (e, et, ec, eh) (white_short men (rw (e, ec) at v))
-    | inr f ↦
-        let et : t ≡ 2 = omega arith in
-        let ec : c ≡ 0 = omega arith in
-        let eh : h ≡ 3 = omega arith in
-        rw (e, et, ec, eh) (white_long men (rw (e, ec) at v))
+    | inl f ↦ at_squares men a t c h 4 6 7 5 e (omega arith) (omega arith) (omega arith) (white_short men) v
+    | inr f ↦ at_squares men a t c h 4 2 0 3 e (omega arith) (omega arith) (omega arith) (white_long men) v
   ]
   | inr e ↦ elim s.1 [
-    | inl f ↦
-        let et : t ≡ 62 = omega arith in
-        let ec : c ≡ 63 = omega arith in
-        let eh : h ≡ 61 = omega arith in
-        rw (e, et, ec, eh) (black_short men (rw (e, ec) at v))
-    | inr f ↦
-        let et : t ≡ 58 = omega arith in
-        let ec : c ≡ 56 = omega arith in
-        let eh : h ≡ 59 = omega arith in
-        rw (e, et, ec, eh) (black_long men (rw (e, ec) at v))
+    | inl f ↦ at_squares men a t c h 60 62 63 61 e (omega arith) (omega arith) (omega arith) (black_short men) v
+    | inr f ↦ at_squares men a t c h 60 58 56 59 e (omega arith) (omega arith) (omega arith) (black_long men) v
   ]
 ]
 
@@ -319,11 +252,6 @@ kind_is_rook : (j : Kind) → same_kind j Rook ≡ true → j ≡ Rook
 kind_is_rook Rook h = refl
 kind_is_rook j h = cc
 
--- a king isn't promoted
-king_arrives : (p : Position) (x : Man) (m : Move) (o : Option Kind) → same_kind x.kind Pawn ≡ false → is_promotion_right p x m o ≡ true → arriving x o ≡ x
-king_arrives p x m None piece h = refl
-king_arrives p x m (Some k) piece h = absurd (false≢true (sym piece ∙ (and_parts _ _ (and_parts _ _ h).0).0))
-
 -- what castling changes: the king steps, and then the rook
 module _ (rule : RuleSet) (p : Position) (x : Man) (m : Move) (well : IsWellFormed p) (is : IsMade rule p x m) (castling : is_castling x m ≡ true) where
   king : same_kind x.kind King ≡ true
@@ -340,11 +268,7 @@ module _ (rule : RuleSet) (p : Position) (x : Man) (m : Move) (well : IsWellForm
 
   all_empty : list_all (is_vacant_at p.men) (squares_between m.from (corner m)) ≡ true
   unfolding castles may_castle
-  all_empty =
-      let may = (and_parts _ _ castles_so).0 in
-      let unchecked = (and_parts _ _ may).0 in
-      let unparalysed = (and_parts _ _ unchecked).0 in
-      (and_parts _ _ unparalysed).1
+  all_empty = grind (arith, and_parts, castles_so)
 
   on : CastlingSquares m.from m.to (corner m) (halfway m)
   on = (castle.1.from, castle.1.far)
@@ -372,16 +296,12 @@ module _ (rule : RuleSet) (p : Position) (x : Man) (m : Move) (well : IsWellForm
 
   arrived_is : arrived p x m ≡ stepped
   arrived_is =
-      let same : arriving x m.promo ≡ x = king_arrives p x m m.promo castle.0 is.promotion in
+      let same : arriving x m.promo ≡ x = king_stays_king p x m m.promo is.promotion king in
       (λ i. with_man (without_at (without_man p.men m.from) (nobody i)) m.to (same i))
 
   moved_is : moved_men p x m ≡ castled
   unfolding moved_men
-  moved_is =
-      let there : man_on (arrived p x m) (corner m) ≡ Some rook.0 = corner_stays p x m castle.0 castle.1 ∙ rook.1 in
-      cond-true (is_castling x m) _ _ castling
-      ∙ (λ i. move_man (arrived p x m) (corner m) (halfway m) (there i))
-      ∙ ap (λ (men : List (Option Man)). with_man (without_man men (corner m)) (halfway m) rook.0) arrived_is
+  moved_is = grind (arith, arrived, rook, corner_stays, castle, cond-true, arrived_is)
 
   after_is : (after rule p m).men ≡ castled
   after_is = unreborn_after rule p x m is.here (λ circe. nobody) ∙ moved_is
@@ -390,10 +310,10 @@ module _ (rule : RuleSet) (p : Position) (x : Man) (m : Move) (well : IsWellForm
   stepped_size = length-set (without_man p.men m.from) m.to (Some x) ∙ length-set p.men m.from None ∙ well.size
 
   king_shift : IsShift p.men stepped m.from m.to x
-  king_shift = shift_of p.men m.from m.to x (omega (arith, small.1, well.size))
+  king_shift = gone_shift p.men m.from None m.to x (omega (arith, small.1, well.size)) (λ s at. absurd (false≢true at))
 
   rook_shift : IsShift stepped castled (corner m) (halfway m) rook.0
-  rook_shift = shift_of stepped (corner m) (halfway m) rook.0 (omega (arith, small.2, stepped_size))
+  rook_shift = gone_shift stepped (corner m) None (halfway m) rook.0 (omega (arith, small.2, stepped_size)) (λ s at. absurd (false≢true at))
 
   rook_there : man_on castled (halfway m) ≡ Some rook.0
   rook_there =
@@ -401,13 +321,13 @@ module _ (rule : RuleSet) (p : Position) (x : Man) (m : Move) (well : IsWellForm
       (omega (arith, small.2, stepped_size, length-set stepped (corner m) None))
 
   -- what is asked, so that castling gives no check to the king of colour c
-  module _ (c : Colour) (enemy_of : same_colour x.colour c ≡ false) (covered : may_expose rule p.men c m.from ≡ false)
+  module _ (c : Colour) (enemy_of : same_colour x.colour c ≡ false) (covered : may_expose p.men c m.from ≡ false)
       (aside : may_stand_between p.men c m.to ≡ false) (king_off : may_check_from p.men c x m.to ≡ false)
       (rook_off : may_check_from p.men c (enemy c Rook) (halfway m) ≡ false) where
     module _ (k : ℕ) (at : king_square p.men c ≡ Some k) (stands : is_man (man_on p.men k) c King ≡ true) (inside : k < 64) where
-      parts : IsCovered rule p.men c m.from k
+      parts : IsCovered p.men c m.from k
       unfolding may_expose
-      parts = covered_parts rule p.men c m.from k (ap (λ (o : Option ℕ). may_expose_on rule p.men o c m.from) (sym at) ∙ covered)
+      parts = covered_parts p.men c m.from k (ap (λ (o : Option ℕ). may_expose_on p.men o c m.from) (sym at) ∙ covered)
 
       off_lines : (t : ℕ) → may_stand_between p.men c t ≡ false → is_on_fairy_line p.men (other c) k t ≡ false
       unfolding may_stand_between
@@ -422,10 +342,10 @@ module _ (rule : RuleSet) (p : Position) (x : Man) (m : Move) (well : IsWellForm
       -- once the king has stepped, no man reaches the other king
       king_steps : is_reached stepped k (other c) ≡ false
       king_steps =
-          unreached rule p.men stepped m.from m.to x c k king_shift parts (off_lines m.to aside) (record {
+          unreached p.men stepped m.from m.to x king_shift c k parts inside (off_lines m.to aside) (record {
             quiet = λ mine. from_there x m.to king_off;
             stood = λ mine. (is.here, small.0);
-          }) inside
+          })
 
       not_corner : k ≢ corner m
       not_corner e =
@@ -453,7 +373,7 @@ module _ (rule : RuleSet) (p : Position) (x : Man) (m : Move) (well : IsWellForm
           let rider : (is_man (man_on p.men (corner m)) (other c) Rook || is_man (man_on p.men (corner m)) (other c) Queen) ≡ true =
           rw rook.1 (or_left _ _ (and_from _ _ mine rook_kind)) in
           let rode : list_any (rides p.men (halfway m) k) straight_steps ≡ true =
-          straight_before p.men stepped m.from m.to x k (halfway m) king_shift small.2 inside
+          line_before p.men stepped m.from m.to x king_shift Straight k (halfway m) small.2 inside
           (λ line both. not_parted p.men m.from k (corner m) (other c) Rook straight_steps parts.straight rider the_way.inside
           (the_way.lined k inside not_corner line (goes_on p.men k m.from straight_steps both.0)) (both.0, the_way.ride)) rides_now in
           false≢true (sym (from_there (enemy c Rook) (halfway m) rook_off) ∙ rode)
@@ -478,15 +398,7 @@ module _ (rule : RuleSet) (p : Position) (x : Man) (m : Move) (well : IsWellForm
 
       castled_unreached : is_reached castled k (other c) ≡ false
       unfolding is_reached
-      castled_unreached =
-          some_square_false (λ s. is_side (man_on castled s) (other c) && reaches castled s k) 64 (omega arith) (record {
-            fails = λ s lt. false_from_ne_true _ (λ h.
-                let h1 = and_parts (is_side (man_on castled s) (other c)) (reaches castled s k) h in
-                elim (cases_eq s (halfway m)) [
-                  | inl e ↦ rook_strikes (ap (λ n. is_side (man_on castled n) (other c)) (sym e) ∙ h1.0) (ap (λ n. reaches castled n k) (sym e) ∙ h1.1)
-                  | inr ne ↦ others_strike s (man_on castled s) refl lt ne h1.0 h1.1
-                ]);
-          })
+      castled_unreached = grind (arith, some_square_false, false_from_ne_true, and_parts, cases_eq, rook_strikes, others_strike)
 
     -- the king of colour c stands where he stood
     king_stood : (k : ℕ) → is_man (man_on castled k) c King ≡ true → is_man (man_on p.men k) c King ≡ true
@@ -523,40 +435,22 @@ castling_aside x m small h =
     sym (cond-false (same_kind x.kind Pawn) _ _ (king_is_no_pawn x.kind king) ∙ cond-true (same_kind x.kind King) _ _ king)
     ∙ castling_steps x m small h
 
-half_below : (w : ℕ) → (w * 2 ^ 1 % 2 ^ 64) / 2 ≡ w % 2 ^ 63
-half_below w = omega arith
-
-bit_below : (w i : ℕ) → i < 63 → bit_at (w % 2 ^ 63) i ≡ bit_at w i
-bit_below w i lt =
-    let parts : w / 2 ^ 63 * 2 ^ 63 + w % 2 ^ 63 ≡ w = omega arith in
-    sym (bit_at_cat_low (w / 2 ^ 63) 63 (w % 2 ^ 63) i lt) ∙ ap (λ n. bit_at n i) parts
-
-shifted_up : (w i : ℕ) → i < 63 → bit_at (w * 2 ^ 1 % 2 ^ 64) (suc i) ≡ bit_at w i
-shifted_up w i lt = bit_at-suc (w * 2 ^ 1 % 2 ^ 64) i ∙ ap (λ n. bit_at n i) (half_below w) ∙ bit_below w i lt
-
-shifted_down : (w i : ℕ) → bit_at (w / 2 ^ 1) i ≡ bit_at w (suc i)
-shifted_down w i = sym (bit_at-suc w i)
-
 two_aside : (s t : ℕ) → is_aside s t ≡ true → (t ≡ s + 2) ⊎ (s ≡ t + 2)
 two_aside s t h = search (rules, along-is, or_cases)
-
-off_either : (a b i : ℕ) → (bit_at (bit_or a b) i == 1) ≡ false → ((bit_at a i == 1) ≡ false) × ((bit_at b i == 1) ≡ false)
-off_either a b i h = search (rules, bit_at-lt, bit_at_or, eq-eqb, eqb-true, false_by)
 
 crossed_aside : (w s a t : ℕ) → s < 64 → a ≡ word (is_aside s) → t < 64 → is_aside s t ≡ true
     → (bit_at (bit_and a (bit_or (w * 2 ^ 1 % 2 ^ 64) (w / 2 ^ 1))) t == 1) ≡ false → (bit_at w ((s + t) / 2) == 1) ≡ false
 crossed_aside w s a t small are lt aside off =
     let on : (bit_at a t == 1) ≡ true = word_has (is_aside s) a t are lt ∙ aside in
-    let both = off_either (w * 2 ^ 1 % 2 ^ 64) (w / 2 ^ 1) t (off_second a (bit_or (w * 2 ^ 1 % 2 ^ 64) (w / 2 ^ 1)) t off on) in
+    let up : ℕ = w * 2 ^ 1 % 2 ^ 64 in
+    let off_both : (bit_at (bit_or up (w / 2 ^ 1)) t == 1) ≡ false = off_second a (bit_or up (w / 2 ^ 1)) t off on in
     elim (two_aside s t aside) [
       | inl e ↦
-          let next : t ≡ suc (s + 1) = omega arith in
-          let half : (s + t) / 2 ≡ s + 1 = omega arith in
-          ap (λ n. bit_at w n == 1) half ∙ ap (λ n. n == 1) (sym (shifted_up w (s + 1) (omega arith)))
-          ∙ ap (λ n. bit_at (w * 2 ^ 1 % 2 ^ 64) n == 1) (sym next) ∙ both.0
+          let half : (s + t) / 2 ≡ t - 1 = omega arith in
+          ap (λ n. bit_at w n == 1) half ∙ ap (λ n. n == 1) (sym (bit_up w 1 t (omega arith) lt)) ∙ off_left up (w / 2 ^ 1) t off_both
       | inr e ↦
-          let half : (s + t) / 2 ≡ suc t = omega arith in
-          ap (λ n. bit_at w n == 1) half ∙ ap (λ n. n == 1) (sym (shifted_down w t)) ∙ both.1
+          let half : (s + t) / 2 ≡ 1 + t = omega arith in
+          ap (λ n. bit_at w n == 1) half ∙ ap (λ n. n == 1) (sym (bit_down w 1 t)) ∙ off_right up (w / 2 ^ 1) t off_both
     ]
 
 pub castling_targets_are : (v : CheckSquares) (s a : ℕ) → s < 64 → a ≡ word (is_aside s)

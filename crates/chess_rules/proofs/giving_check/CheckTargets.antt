@@ -1,9 +1,8 @@
 -- A move that goes to no square from which its man may give check gives none.
-use Rattle.std.proofs.Common.{◌≡◌, ℕ, ◌+◌, ◌/◌, ◌<◌, Bool, true, false, ◌||◌, ◌==◌, not, Option, Some, None, is_some, refl, sym, ap, ◌∙◌, arith, inl, inr, rules}
+use Rattle.std.proofs.Common.{◌≡◌, ℕ, ◌+◌, ◌/◌, ◌<◌, true, false, ◌||◌, ◌==◌, not, Option, Some, None, is_some, refl, sym, ap, ◌∙◌, arith, inl, inr, rules}
 use Rattle.std.specs.Int.{bit_at, bit_not, w64}
 use Rattle.std.specs.Int.Bits.{bit_and, bit_or}
-use Rattle.std.proofs.lemmas.Bool.{agree_below_at, and_left, and_parts, and_right, cases_Bool, eq-eqb, eqb-true, false≢true}
-use Rattle.std.proofs.lemmas.Nat.Bits.{bit_at_or, bit_at-lt}
+use Rattle.std.proofs.lemmas.Bool.{agree_below_at, and_left, and_parts, and_right, cases_Bool, false≢true}
 use Rattle.chess_core.specs.Position.{Position, man_on, other, same_colour, same_kind}
 use Rattle.chess_core.specs.Squares.{is_square, rank_of}
 use Rattle.chess_core.specs.WellFormed.{IsWellFormed}
@@ -16,7 +15,7 @@ use Rattle.chess_core.specs.declared.man.Man.{Man}
 use Rattle.chess_core.specs.declared.man.Move.{Move}
 use Rattle.chess_rules.specs.declared.checks.CheckSquares.{CheckSquares}
 use Rattle.chess_rules.specs.Attacks.{in_check}
-use Rattle.chess_rules.specs.ties.CheckSquares.{AreCastlingTargets, AreCheckSquares, AreCheckTargets, check_squares_for, enemy, may_check_from, own_man, are_rebirths_quiet}
+use Rattle.chess_rules.specs.ties.CheckSquares.{AreCastlingTargets, AreCheckSquares, AreCheckTargets, check_squares_for, enemy, may_check_from, are_rebirths_quiet}
 use Rattle.chess_rules.specs.ties.Shields.{cannot_expose, is_plain, may_expose, may_stand_between}
 use Rattle.chess_rules.specs.Legal.{last_rank, legal, pseudo}
 use Rattle.chess_rules.specs.Play.{after, arriving, halfway, is_castling}
@@ -24,29 +23,19 @@ use Rattle.chess_rules.specs.RuleSet.{RuleSet, circe, is_circe, orthodox}
 use Rattle.chess_rules.specs.ties.Targets.{arrives, is_arrival, may_go}
 use Rattle.chess_rules.proofs.listing_moves.Arrivals.{may_go_aimed}
 use Rattle.chess_rules.specs.ties.Lines.{is_aside}
-use Rattle.chess_rules.proofs.Bits.{word_has}
+use Rattle.chess_rules.proofs.Bits.{word_has, off_left, off_right}
 use Rattle.chess_rules.proofs.listing_moves.Calls.{pseudo-from_legal}
 use Rattle.chess_rules.proofs.giving_check.CastlingChecks.{castling_aside, castling_gives_no_check}
 use Rattle.chess_rules.proofs.giving_check.Checking.{no_check}
 use Rattle.chess_rules.proofs.giving_check.KingsApart.{kings_apart}
 use Rattle.chess_rules.proofs.making_moves.Pseudo.{made}
-use Rattle.chess_rules.proofs.giving_check.Rebirths.{check_squares_alike, pseudo_so, quiet_parts, rebirth_gives_no_check}
+use Rattle.chess_rules.proofs.giving_check.Rebirths.{pseudo_so, quiet_parts, rebirth_gives_no_check}
 use Rattle.chess_rules.proofs.attacks.Shielding.{other_differs}
 use Rattle.chess_rules.proofs.listing_moves.Walks.{off_second}
 use Rattle.chess_rules.proofs.listing_moves.Targeting.{arrival_needed, every_square_on, false_by, nobody_moves, unpromoted}
-
--- a square off both words is off each
-pub off_left : (a b i : ℕ) → (bit_at (bit_or a b) i == 1) ≡ false → (bit_at a i == 1) ≡ false
-off_left a b i h = search (rules, bit_at-lt, bit_at_or, eq-eqb, eqb-true, false_by)
-
-pub off_right : (a b i : ℕ) → (bit_at (bit_or a b) i == 1) ≡ false → (bit_at b i == 1) ≡ false
-off_right a b i h = search (rules, bit_at-lt, bit_at_or, eq-eqb, eqb-true, false_by)
+use Rattle.chess_rules.proofs.Tests.{implied}
 
 -- a pawn's last rank is in the word of both
-implied : (a b : Bool) → (not a || b) ≡ true → a ≡ true → b ≡ true
-implied true b h e = h
-implied false b h e = cc
-
 last_rank_on : (c : Colour) (t : ℕ) → t < 64 → (rank_of t == last_rank c) ≡ true → (bit_at 18374686479671623935 t == 1) ≡ true
 last_rank_on c t lt = implied (rank_of t == last_rank c) _ (agreed c) where
   agreed : (c : Colour) → (not (rank_of t == last_rank c) || bit_at 18374686479671623935 t == 1) ≡ true
@@ -70,7 +59,7 @@ pub check_targets_all : (rule : RuleSet) (p : Position) (f : ℕ) → AreCheckTa
 check_targets_all rule p f = search (rules, every_square_on)
 
 module _ (rule : RuleSet) (p : Position) (x : Man) (s : CheckSquares) (f : ℕ) (well : IsWellFormed p) (here : man_on p.men f ≡ Some x)
-    (checks : AreCheckSquares rule p.men (other p.turn) s) (inside : f < 64) (covered : (bit_at s.shield_squares f == 1) ≡ false) (a b c d e : ℕ)
+    (checks : AreCheckSquares p.men (other p.turn) s) (inside : f < 64) (covered : (bit_at s.shield_squares f == 1) ≡ false) (a b c d e : ℕ)
     (checked_from : a ≡ check_squares_for s x.kind) (crossed : b ≡ word (λ t. is_square p.crossed t))
     (promotes : same_kind x.kind Pawn ≡ true → c ≡ 18374686479671623935)
     (castles : same_kind x.kind King ≡ true → AreCastlingTargets s f c)
@@ -110,8 +99,8 @@ module _ (rule : RuleSet) (p : Position) (x : Man) (s : CheckSquares) (f : ℕ) 
     arriving_apart : same_kind (arriving x m.promo).kind King ≡ true → may_check_from p.men (other p.turn) (arriving x m.promo) m.to ≡ false
     arriving_apart = rw (unnamed m.promo refl) apart
 
-    origin_stays : may_expose rule p.men (other p.turn) m.from ≡ false
-    origin_stays = rw at (sym (word_has (may_expose rule p.men (other p.turn)) s.shield_squares f checks.shield_squares inside) ∙ covered)
+    origin_stays : may_expose p.men (other p.turn) m.from ≡ false
+    origin_stays = rw at (sym (word_has (may_expose p.men (other p.turn)) s.shield_squares f checks.shield_squares inside) ∙ covered)
 
     -- a king that castles: the square halfway is none from which a rook gives check
     castled : is_castling x m ≡ true → in_check rule (after rule p m).men (other p.turn) ≡ false
@@ -143,7 +132,7 @@ module _ (rule : RuleSet) (p : Position) (x : Man) (s : CheckSquares) (f : ℕ) 
 
 -- the captures that may be followed by a rebirth among them, where that may give check
 module _ (rule : RuleSet) (p : Position) (x : Man) (s : CheckSquares) (f : ℕ) (well : IsWellFormed p) (here : man_on p.men f ≡ Some x)
-    (checks : AreCheckSquares rule p.men (other p.turn) s) (inside : f < 64) (covered : (bit_at s.shield_squares f == 1) ≡ false) (a b c d e : ℕ)
+    (checks : AreCheckSquares p.men (other p.turn) s) (inside : f < 64) (covered : (bit_at s.shield_squares f == 1) ≡ false) (a b c d e : ℕ)
     (checked_from : a ≡ check_squares_for s x.kind) (crossed : b ≡ word (λ t. is_square p.crossed t))
     (promotes : same_kind x.kind Pawn ≡ true → c ≡ 18374686479671623935)
     (castles : same_kind x.kind King ≡ true → AreCastlingTargets s f c)
@@ -156,12 +145,11 @@ module _ (rule : RuleSet) (p : Position) (x : Man) (s : CheckSquares) (f : ℕ) 
     | inl quiet ↦
         let parts = quiet_parts rule p.men p.turn quiet in
         let may_so : pseudo circe p m ≡ true = ap (λ (r : RuleSet). pseudo r p m) (sym parts.0) ∙ may in
-        let checks_so : AreCheckSquares orthodox p.men (other p.turn) s = check_squares_alike rule orthodox p.men (other p.turn) s checks in
-        let unpromoted : m.promo ≡ None = unnamed orthodox p x s f well here checks_so inside covered a b c d e checked_from crossed promotes castles
+        let unpromoted : m.promo ≡ None = unnamed orthodox p x s f well here checks inside covered a b c d e checked_from crossed promotes castles
         (λ bad. absurd (false≢true bad)) lines m at small (pseudo_so p m may_so) apart off m.promo refl in
         ap (λ (r : RuleSet). in_check r (after r p m).men (other p.turn)) parts.0
         ∙ rebirth_gives_no_check p x m well may_so (ap (man_on p.men) at ∙ here) unpromoted parts.1
-        (no_check_elsewhere orthodox p x s f well here checks_so inside covered a b c d e checked_from crossed promotes castles (λ bad. absurd (false≢true bad))
+        (no_check_elsewhere orthodox p x s f well here checks inside covered a b c d e checked_from crossed promotes castles (λ bad. absurd (false≢true bad))
         lines m at small (pseudo_so p m may_so) apart off)
     | inr loud ↦
         no_check_elsewhere rule p x s f well here checks inside covered a b c d e checked_from crossed promotes castles (reborn loud) lines m at small may
@@ -184,26 +172,3 @@ check_targets_there rule p x f o w here there are = record {
       let goes : may_go p x m.from m.to ≡ true = may_go_aimed rule p x m (ap (man_on p.men) at ∙ here) arrives_there in
       are.elsewhere m at small lawful (off_second o w m.to off (there m.to small (ap (λ s. may_go p x s m.to) (sym at) ∙ goes)));
 }
-
--- the targets of the mover's men of a kind, no kings, on a square that isn't a shield square
-pub kind_targets : (rule : RuleSet) (p : Position) (j : Kind) (s : CheckSquares) (a b c d e f : ℕ) → IsWellFormed p
-    → AreCheckSquares rule p.men (other p.turn) s → same_kind j King ≡ false → a ≡ check_squares_for s j → b ≡ word (λ t. is_square p.crossed t)
-    → (same_kind j Pawn ≡ true → c ≡ 18374686479671623935)
-    → (are_rebirths_quiet rule p.men p.turn ≡ false → is_circe rule ≡ true → d ≡ word (λ t. is_some (man_on p.men t)))
-    → e ≡ word (may_stand_between p.men (other p.turn))
-    → f < 64 → man_on p.men f ≡ Some (own_man p j) → (bit_at s.shield_squares f == 1) ≡ false
-    → AreCheckTargets rule p f (bit_or (bit_or (bit_or (bit_or a b) c) d) e)
-kind_targets rule p j s a b c d e f well checks piece checked_from crossed promotes reborn lines inside here covered =
-    check_targets_some rule p (own_man p j) s f well here checks inside covered a b c d e checked_from crossed promotes
-    (λ king. absurd (false≢true (sym piece ∙ king))) reborn lines
-
--- and of its king: there he gives no check himself
-pub king_targets : (rule : RuleSet) (p : Position) (s : CheckSquares) (b c d e f : ℕ) → IsWellFormed p → AreCheckSquares rule p.men (other p.turn) s
-    → b ≡ word (λ t. is_square p.crossed t) → AreCastlingTargets s f c
-    → (are_rebirths_quiet rule p.men p.turn ≡ false → is_circe rule ≡ true → d ≡ word (λ t. is_some (man_on p.men t)))
-    → e ≡ word (may_stand_between p.men (other p.turn))
-    → f < 64 → man_on p.men f ≡ Some (own_man p King) → (bit_at s.shield_squares f == 1) ≡ false
-    → AreCheckTargets rule p f (bit_or (bit_or (bit_or b c) d) e)
-king_targets rule p s b c d e f well checks crossed castles reborn lines inside here covered =
-    check_targets_some rule p (own_man p King) s f well here checks inside covered 0 b c d e refl crossed
-    (λ pawn. absurd (false≢true pawn)) (λ king. castles) reborn lines

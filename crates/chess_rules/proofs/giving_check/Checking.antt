@@ -23,8 +23,8 @@ use Rattle.chess_rules.specs.Legal.{pseudo}
 use Rattle.chess_rules.specs.Play.{after, arriving}
 use Rattle.chess_rules.specs.Reaches.{reaches_as, rides}
 use Rattle.chess_rules.specs.RuleSet.{RuleSet}
-use Rattle.chess_rules.proofs.Bits.{not_zero, word_empty, word_has}
-use Rattle.chess_rules.proofs.attacks.Shielding.{arriving_colour, every_square, gives_no_check}
+use Rattle.chess_rules.proofs.Bits.{not_zero, word_empty, word_has, every_square}
+use Rattle.chess_rules.proofs.attacks.Shielding.{arriving_colour, gives_no_check}
 use Rattle.chess_rules.proofs.making_moves.Pseudo.{made}
 
 pub check_squares_of_none : (men : List (Option Man)) (c : Colour) (j : Kind) → king_square men c ≡ None → 0 ≡ word (may_check_from men c (enemy c j))
@@ -69,16 +69,16 @@ queen_squares men c r b h i =
     ∙ squares_same (λ s. may_check_from men c (enemy c Rook) s || may_check_from men c (enemy c Bishop) s) (may_check_from men c (enemy c Queen))
     (λ s p. queen_on men c (king_square men c) s)
 
-squares_by_kind : (rule : RuleSet) (men : List (Option Man)) (c : Colour) (s : CheckSquares) (j : Kind) → AreCheckSquares rule men c s
+squares_by_kind : (men : List (Option Man)) (c : Colour) (s : CheckSquares) (j : Kind) → AreCheckSquares men c s
     → same_kind j King ≡ false → check_squares_for s j ≡ word (may_check_from men c (enemy c j))
-squares_by_kind rule men c s King a piece = absurd (false≢true (sym piece))
-squares_by_kind rule men c s Queen a piece = queen_squares men c s.straight s.diagonal a.straight a.diagonal
-squares_by_kind rule men c s Rook a piece = a.straight
-squares_by_kind rule men c s Bishop a piece = a.diagonal
-squares_by_kind rule men c s Knight a piece = a.knight
-squares_by_kind rule men c s Pawn a piece = a.pawn
-squares_by_kind rule men c s Grasshopper a piece = a.grasshopper
-squares_by_kind rule men c s Nightrider a piece = a.nightrider
+squares_by_kind men c s King a piece = absurd (false≢true (sym piece))
+squares_by_kind men c s Queen a piece = queen_squares men c s.straight s.diagonal a.straight a.diagonal
+squares_by_kind men c s Rook a piece = a.straight
+squares_by_kind men c s Bishop a piece = a.diagonal
+squares_by_kind men c s Knight a piece = a.knight
+squares_by_kind men c s Pawn a piece = a.pawn
+squares_by_kind men c s Grasshopper a piece = a.grasshopper
+squares_by_kind men c s Nightrider a piece = a.nightrider
 
 pub other_twice : (c : Colour) → other (other c) ≡ c
 other_twice White = refl
@@ -88,24 +88,24 @@ is_enemy : (x : Man) (c : Colour) → x.colour ≡ c → enemy (other c) x.kind 
 is_enemy x c h = ap (λ (d : Colour). record x { colour = d }) (other_twice c ∙ sym h)
 
 -- a man off the squares of his kind gives no check by standing there; of a king that has to be known
-off_check_squares : (rule : RuleSet) (men : List (Option Man)) (e : Colour) (s : CheckSquares) (y : Man) (w t : ℕ) → AreCheckSquares rule men (other e) s
+off_check_squares : (men : List (Option Man)) (e : Colour) (s : CheckSquares) (y : Man) (w t : ℕ) → AreCheckSquares men (other e) s
     → y.colour ≡ e → w ≡ check_squares_for s y.kind → t < 64 → (bit_at w t == 1) ≡ false
     → (same_kind y.kind King ≡ true → may_check_from men (other e) y t ≡ false) → may_check_from men (other e) y t ≡ false
-off_check_squares rule men e s y w t a colour h small off apart = elim (cases_Bool (same_kind y.kind King)) [
+off_check_squares men e s y w t a colour h small off apart = elim (cases_Bool (same_kind y.kind King)) [
   | inl king ↦ apart king
   | inr piece ↦
-      let word_is : w ≡ word (may_check_from men (other e) (enemy (other e) y.kind)) = h ∙ squares_by_kind rule men (other e) s y.kind a piece in
+      let word_is : w ≡ word (may_check_from men (other e) (enemy (other e) y.kind)) = h ∙ squares_by_kind men (other e) s y.kind a piece in
       ap (λ (z : Man). may_check_from men (other e) z t) (sym (is_enemy y e colour))
       ∙ sym (word_has (may_check_from men (other e) (enemy (other e) y.kind)) w t word_is small) ∙ off
 ]
 
 pub no_check : (rule : RuleSet) (p : Position) (x : Man) (m : Move) (s : CheckSquares) (y : Man) (w t : ℕ) → IsWellFormed p → pseudo rule p m ≡ true
-    → man_on p.men m.from ≡ Some x → AreCheckSquares rule p.men (other p.turn) s → y ≡ arriving x m.promo → w ≡ check_squares_for s y.kind → t ≡ m.to → t < 64
+    → man_on p.men m.from ≡ Some x → AreCheckSquares p.men (other p.turn) s → y ≡ arriving x m.promo → w ≡ check_squares_for s y.kind → t ≡ m.to → t < 64
     → (bit_at w t == 1) ≡ false → (same_kind y.kind King ≡ true → may_check_from p.men (other p.turn) y t ≡ false) → m.promo ≡ None
     → cannot_expose rule p (other p.turn) m ≡ true → in_check rule (after rule p m).men (other p.turn) ≡ false
 no_check rule p x m s y w t well may here a is h same small off apart unpromoted cover =
     let colour : y.colour ≡ p.turn = ap (λ (z : Man). z.colour) is ∙ arriving_colour x m.promo ∙ (made rule p m x may here).mine in
-    let off_there : may_check_from p.men (other p.turn) y t ≡ false = off_check_squares rule p.men p.turn s y w t a colour h small off apart in
+    let off_there : may_check_from p.men (other p.turn) y t ≡ false = off_check_squares p.men p.turn s y w t a colour h small off apart in
     let off_arriving : may_check_from p.men (other p.turn) (arriving x m.promo) t ≡ false =
     ap (λ (z : Man). may_check_from p.men (other p.turn) z t) (sym is) ∙ off_there in
     let off_arrival : may_check_from p.men (other p.turn) (arriving x m.promo) m.to ≡ false =

@@ -1,5 +1,5 @@
 -- Lists of legal moves of which one doesn't mate.
-use Rattle.std.proofs.Common.{◌≡◌, Bool, true, false, ◌&&◌, not, List, ◌∷◌, refl, sym}
+use Rattle.std.proofs.Common.{◌≡◌, Bool, true, false, ◌&&◌, not, List, ◌∷◌, refl, sym, arith}
 use Rattle.std.specs.List.{list_all}
 use Rattle.chess_core.specs.Position.{Position, other}
 use Rattle.chess_core.specs.declared.man.Move.{Move}
@@ -25,7 +25,6 @@ pub fails-here : (test : Move → Bool) (ms more : List Move) (m : Move) → ms 
 fails-here test ms more m e h = rw (e, h) refl
 
 pub none-all : (none all : Bool) → all ≡ false → false ≡ (not none && all)
-none-all true all e = refl
-none-all false all e = sym e
+none-all none all p = grind arith
 
 pub ruleset quietly = (pseudo-from_legal, quiet)

@@ -1,10 +1,10 @@
 -- Men who couldn't come to a check square give no check.
-use Rattle.std.proofs.Common.{◌≡◌, ℕ, zero, suc, ◌-◌, ◌^◌, ◌<◌, true, false, ◌==◌, Option, Some, None, max, min, ap, refl, subst, sym, ◌∙◌, arith, inl, inr}
+use Rattle.std.proofs.Common.{◌≡◌, ℕ, zero, suc, ◌-◌, ◌^◌, ◌<◌, true, false, ◌==◌, Option, Some, None, min, ap, refl, subst, sym, ◌∙◌, arith}
 use Rattle.std.specs.Int.{bit_at, bit_not, w64}
 use Rattle.std.specs.Int.Bits.{bit_and, bit_or}
 use Rattle.std.proofs.lemmas.Bool.{and_parts, cases_Bool, eq-eqb, eqb-true, false≢true}
 use Rattle.std.proofs.lemmas.Nat.Bits.{bit_at_and, bit_at_not, bit_at_or, bit_at-lt}
-use Rattle.chess_core.specs.Position.{Position, is_man, is_side, man_on, same_colour, same_kind}
+use Rattle.chess_core.specs.Position.{Position, is_man, man_on, same_colour, same_kind}
 use Rattle.chess_core.specs.Squares.{is_square}
 use Rattle.chess_core.specs.ties.Words.{side_of, squares_of, word}
 use Rattle.chess_core.specs.declared.man.Colour.{Colour}
@@ -53,11 +53,7 @@ unset (suc (suc n)) lt h = absurd (omega (arith, lt))
 
 -- a square of one of two words
 on_either : (a b i : ℕ) → (bit_at (bit_or a b) i == 1) ≡ true → (bit_at a i == 1) ≡ false → (bit_at b i == 1) ≡ true
-on_either a b i h off =
-    let both : bit_at (bit_or a b) i ≡ 1 = eqb-true _ _ h in
-    let e : bit_at (bit_or a b) i ≡ max (bit_at a i) (bit_at b i) = bit_at_or a b i in
-    let none : bit_at a i ≡ 0 = unset (bit_at a i) (bit_at-lt a i) off in
-    eq-eqb _ _ (omega (arith, both, e, none))
+on_either a b i h off = grind (arith, eqb-true, bit_at_or, unset, bit_at-lt, eq-eqb)
 
 -- a square of the first of two words, and not of the second
 pub off_denied : (a b i : ℕ) → b < 2 ^ 64 → i < 64 → (bit_at (bit_and a (bit_not w64 b)) i == 1) ≡ true → (bit_at b i == 1) ≡ false
@@ -69,12 +65,7 @@ off_denied a b i fits small on = false_by (bit_at b i == 1) (λ y.
     omega (arith, both, e, one, not_b))
 
 pub far_either : (rule : RuleSet) (p : Position) (a b : ℕ) → AreFar rule p a → AreFar rule p b → AreFar rule p (bit_or a b)
-far_either rule p a b x y = record {
-  far = λ s small on. elim (cases_Bool (bit_at a s == 1)) [
-    | inl here ↦ x.far s small here
-    | inr off ↦ y.far s small (on_either a b s on off)
-  ];
-}
+far_either rule p a b x y = grind (arith, cases_Bool, on_either)
 
 -- a man who could go to no target on an empty board
 pub far_by : (rule : RuleSet) (p : Position) (x : Man) (s o w : ℕ) → man_on p.men s ≡ Some x → AreCheckTargets rule p s w
@@ -83,11 +74,7 @@ far_by rule p x s o w here are goes none =
     subst (λ n. AreCheckTargets rule p s n) (eqb-true (bit_and o w) 0 none) (check_targets_there rule p x s o w here (goes p) are)
 
 pub far_one : (rule : RuleSet) (p : Position) (s o : ℕ) → o ≡ word (λ t. is_square (Some s) t) → AreCheckTargets rule p s 0 → AreFar rule p o
-far_one rule p s o h are = record {
-  far = λ t small on.
-      let same : s ≡ t = eqb-true _ _ (sym (word_has (λ q. is_square (Some s) q) o t h small) ∙ on) in
-      subst (λ q. AreCheckTargets rule p q 0) same are;
-}
+far_one rule p s o h are = grind (arith, eqb-true, word_has)
 
 -- a man who could come to no target from here gives no check
 far_unreached : (rule : RuleSet) (p : Position) (x : Man) (s w : ℕ) → man_on p.men s ≡ Some x → AreCheckTargets rule p s w
@@ -122,11 +109,7 @@ off_without o f i fits small off on =
 -- a move that may be made goes from a square of its side
 from_own : (rule : RuleSet) (p : Position) (o : ℕ) (m : Move) → o ≡ side_of p.men p.turn → m.from < 64 → pseudo rule p m ≡ true → (bit_at o m.from == 1) ≡ true
 unfolding side_of
-from_own rule p o m own inside may = elim (cases_Bool (bit_at o m.from == 1)) [
-  | inl y ↦ y
-  | inr off_side ↦ absurd (let idle : pseudo rule p m ≡ false =
-      own_moves p rule m (man_on p.men m.from) refl (sym (word_has (λ s. is_side (man_on p.men s) p.turn) o m.from own inside) ∙ off_side) in cc)
-]
+from_own rule p o m own inside may = grind (arith, cases_Bool, own_moves, word_has)
 
 pub check_origins_own : (rule : RuleSet) (p : Position) (o : ℕ) → o ≡ side_of p.men p.turn → AreCheckOrigins rule p o
 check_origins_own rule p o own = record {

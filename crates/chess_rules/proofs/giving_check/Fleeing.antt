@@ -20,7 +20,7 @@ use Rattle.chess_core.proofs.Ranges.{any_range_false, some_square_false, some_sq
 use Rattle.chess_core.proofs.Words.{squares_both, squares_either, squares_not}
 use Rattle.chess_rules.specs.Attacks.{attacked, is_faced, paralysed, strikes}
 use Rattle.chess_rules.specs.ties.Flights.{AreOpen, IsSeenFrom, has_flight, is_flight, is_flight_from, is_open, sight_lifted, sight_with}
-use Rattle.chess_rules.specs.Legal.{goes, is_promotion_right, is_arrival_free, is_goal, is_nil, legal, moves, pseudo, pseudo_of}
+use Rattle.chess_rules.specs.Legal.{is_arrival_free, is_goal, is_nil, legal, moves, pseudo}
 use Rattle.chess_rules.specs.ties.Lines.{occupied_squares}
 use Rattle.chess_rules.specs.ties.Places.{mates, moves_behind, triple_at}
 use Rattle.chess_rules.specs.Play.{after, arriving, capture_square}
@@ -36,7 +36,7 @@ use Rattle.chess_rules.proofs.giving_check.Mating.{turn_after}
 use Rattle.chess_rules.proofs.listing_moves.Places.{moves_behind-here, moves_behind-skip, moves_behind-start}
 use Rattle.chess_rules.proofs.making_moves.Plays.{none_from_is_some}
 use Rattle.chess_rules.proofs.making_moves.Pseudo.{IsMade, king_is_no_pawn, made}
-use Rattle.chess_rules.proofs.attacks.Seeing.{IsNoKing, gone_to, is_occupied_after, kept_now, king_stands, left_now, occupied_now, there_now}
+use Rattle.chess_rules.proofs.attacks.Seeing.{gone_to, is_occupied_after, kept_now, king_stands, left_now, occupied_now, there_now}
 use Rattle.chess_rules.proofs.attacks.Shielding.{arriving_colour, man_there, other_differs, simple_after}
 use Rattle.chess_rules.proofs.attacks.StayingInCheck.{king_there}
 use Rattle.chess_rules.proofs.making_moves.Stays.{after_well_formed}
@@ -80,10 +80,6 @@ pub no_mate_with_flight : (rule : RuleSet) (p : Position) (m : Move) → has_fli
 unfolding mates is_goal
 no_mate_with_flight rule p m h = search (rules, flight_there)
 
--- the men after the move, and the king among them
-after_seen : (rule : RuleSet) (p : Position) (m : Move) (x : Man) (k : ℕ) → IsSeenFrom rule p m x k → (after rule p m).men ≡ arrived p x m
-after_seen rule p m x k i = search (rules, simple_after)
-
 no_king_free : (c d : Colour) (o : Option Man) → is_arrival_free c o ≡ true → is_man o d King ≡ false
 no_king_free c d None h = refl
 no_king_free c d (Some y) h = search (rules, and_parts, and_right, not-true)
@@ -91,33 +87,6 @@ no_king_free c d (Some y) h = search (rules, and_parts, and_right, not-true)
 no_own_free : (c : Colour) (o : Option Man) → is_arrival_free c o ≡ true → is_side o c ≡ false
 no_own_free c None h = refl
 no_own_free c (Some y) h = not-true _ (and_parts (not (same_colour y.colour c)) (not (same_kind y.kind King)) h).0
-
-no_king_arrives : (rule : RuleSet) (p : Position) (m : Move) (x : Man) (k : ℕ) → IsSeenFrom rule p m x k → same_kind (arriving x m.promo).kind King ≡ false
-no_king_arrives rule p m x k i = false_from_ne_true _ (λ king.
-    let is : IsMade rule p x m = made rule p m x i.pseudo i.here in
-    let same : arriving x m.promo ≡ x = arriving_king p x m m.promo is.promotion king in
-    false≢true (sym i.mortal ∙ ap (λ (y : Man). same_kind y.kind King) (sym same) ∙ king))
-
-king_not_touched : (rule : RuleSet) (p : Position) (m : Move) (x : Man) (k : ℕ) → IsSeenFrom rule p m x k → m.to < 64
-    → IsNoKing p.men m.from (capture_square p x m) m.to (arriving x m.promo) (other p.turn)
-king_not_touched rule p m x k i small =
-    let is : IsMade rule p x m = made rule p m x i.pseudo i.here in
-    record {
-      small = omega (arith, small, i.well_formed.size);
-      here = ap (λ (o : Option Man). is_man o (other p.turn) King) i.here ∙ and_right (same_colour x.colour (other p.turn)) _ i.mortal;
-      comes = and_right (same_colour (arriving x m.promo).colour (other p.turn)) _ (no_king_arrives rule p m x k i);
-      arrival = no_king_free p.turn (other p.turn) (man_on p.men m.to) is.arrival;
-      captured = λ s at.
-          let t = taken rule p x m s i.well_formed is (is_square-some (capture_square p x m) s at) in
-          ap (λ (o : Option Man). is_man o (other p.turn) King) t.there ∙ and_right (same_colour t.man.colour (other p.turn)) _ t.mortal;
-    }
-
-king_seen : (rule : RuleSet) (p : Position) (m : Move) (x : Man) (k : ℕ) → IsSeenFrom rule p m x k → m.to < 64
-    → king_square (after rule p m).men (other p.turn) ≡ Some k
-king_seen rule p m x k i small =
-    ap (λ (l : List (Option Man)). king_square l (other p.turn)) (after_seen rule p m x k i)
-    ∙ king_stands p.men m.from (capture_square p x m) m.to (arriving x m.promo) (other p.turn) (king_not_touched rule p m x k i small)
-    ∙ i.king
 
 -- squares of one word that aren't in another
 on_second : (a b i : ℕ) → (bit_at (bit_and a b) i == 1) ≡ true → (bit_at b i == 1) ≡ true
@@ -141,10 +110,7 @@ arrived_free : (c : Colour) (z : Man) → same_colour z.colour (other c) ≡ fal
 arrived_free c z side king = and_from (not (same_colour z.colour (other c))) _ (ap not side) (ap not king)
 
 unless : (i p q m : Bool) → ((i && (p && q)) || m) ≡ false → p ≡ true → q ≡ true → (i ≡ false) × (m ≡ false)
-unless true true true m h x y = absurd (false≢true (sym h))
-unless true true false m h x y = absurd (false≢true y)
-unless true false q m h x y = absurd (false≢true x)
-unless false p q m h x y = (refl, h)
+unless i p q m h w y = grind arith
 
 closed_words : (p : Position) (a : ℕ) (o : Option ℕ) (c : Colour) (w n : ℕ) → w ≡ side_of p.men (other c) → n ≡ squares_of p.men c King → (l : ℕ)
     → l ≡ bit_and (bit_not w64 (word (is_square o))) (bit_not w64 (word (is_square (Some a))))
@@ -152,76 +118,97 @@ closed_words : (p : Position) (a : ℕ) (o : Option ℕ) (c : Colour) (w n : ℕ
 unfolding side_of squares_of
 closed_words p a o c w n side kings l standing = search (rules, squares_both, squares_either, squares_not)
 
-no_own_arrives : (rule : RuleSet) (p : Position) (m : Move) (x : Man) (k : ℕ) → IsSeenFrom rule p m x k
-    → same_colour (arriving x m.promo).colour (other p.turn) ≡ false
-no_own_arrives rule p m x k i =
-    ap (λ (c : Colour). same_colour c (other p.turn)) (arriving_colour x m.promo ∙ (made rule p m x i.pseudo i.here).mine) ∙ other_differs p.turn
-
 reached_near : (men : List (Option Man)) (c : Colour) (k w t : ℕ) → w ≡ word (λ t. list_any (leaps k t) queen_steps) → t < 64 → (bit_at w t == 1) ≡ true
     → reaches_as men c King k t ≡ true
 unfolding reaches_as
 reached_near men c k w t h small on = sym (word_has (λ t. list_any (leaps k t) queen_steps) w t h small) ∙ on
 
-pub open_squares : (rule : RuleSet) (p : Position) (m : Move) (x : Man) (k w l h : ℕ) → IsSeenFrom rule p m x k → m.to < 64 → is_circe rule ≡ false
-    → w ≡ word (λ t. list_any (leaps k t) queen_steps)
-    → l ≡ (sight_lifted p.men m.from (capture_square p x m) m.to k).standing
-    → h ≡ bit_or (bit_and (side_of p.men (other p.turn)) l) (squares_of p.men p.turn King)
-    → AreOpen rule (after rule p m).men (other p.turn) k (bit_and w (bit_not w64 h))
-unfolding is_open
-open_squares rule p m x k w l h i small circe near standing held =
-    let closed = held ∙ closed_words p m.from (capture_square p x m) p.turn _ _ refl refl l standing in
-    record {
-      inside = λ t lt on.
-          let reached : reaches_as (after rule p m).men (other p.turn) King k t ≡ true =
-          reached_near (after rule p m).men (other p.turn) k w t near lt (on_first w _ t on) in
-          let off = unseen_bit _ w h t closed lt on in
-          let at : (is_side (man_on p.men t) (other p.turn) && (not (is_square (capture_square p x m) t) && not (m.from == t)) || is_man (man_on p.men t)
-          p.turn King) ≡ false = sym (word_has _ h t closed lt) ∙ off in
-          let free : is_arrival_free (other p.turn) (man_on (arrived p x m) t) ≡ true = elim (cases_eq t m.to) [
-            | inl e ↦
-                let there : man_on (arrived p x m) t ≡ Some (arriving x m.promo) = ap (man_on (arrived p x m)) e
-                ∙ there_now p.men m.from (capture_square p x m) m.to (arriving x m.promo) (omega (arith, small, i.well_formed.size)) in
-                ap (is_arrival_free (other p.turn)) there ∙ arrived_free p.turn (arriving x m.promo) (no_own_arrives rule p m x k i)
-                (no_king_arrives rule p m x k i)
-            | inr ne ↦ elim (cases_Bool (is_square (Some m.from) t || is_square (capture_square p x m) t)) [
-              | inl y ↦ ap (is_arrival_free (other p.turn)) (left_now p.men m.from (capture_square p x m) m.to (arriving x m.promo) t ne y)
-              | inr y ↦
-                  let parts = or_parts (m.from == t) (is_square (capture_square p x m) t) y in
-                  let clear = unless (is_side (man_on p.men t) (other p.turn)) (not (is_square (capture_square p x m) t)) (not (m.from == t)) _ at
-                  (ap not parts.1) (ap not parts.0) in
-                  ap (is_arrival_free (other p.turn)) (kept_now p.men m.from (capture_square p x m) m.to (arriving x m.promo) t ne y)
-                  ∙ free_of p.turn (man_on p.men t) clear.0 clear.1
-            ]
-          ] in
-          and_from _ _ (and_from _ _ reached (ap (λ (l : List (Option Man)). is_arrival_free (other p.turn) (man_on l t)) (after_seen rule p m x k i) ∙ free))
-          (ap not (and_left (is_circe rule) _ circe));
-    }
+first_false : (a b : Bool) → (a && b) ≡ false → b ≡ true → a ≡ false
+first_false a b h e = grind arith
 
-pub open_squares_in_circe : (rule : RuleSet) (p : Position) (m : Move) (x : Man) (k w l : ℕ) → IsSeenFrom rule p m x k → m.to < 64
-    → w ≡ word (λ t. list_any (leaps k t) queen_steps)
-    → l ≡ (sight_lifted p.men m.from (capture_square p x m) m.to k).occupied
-    → AreOpen rule (after rule p m).men (other p.turn) k (bit_and w (bit_not w64 l))
-unfolding is_open
-open_squares_in_circe rule p m x k w l i small near occupied =
-    let held = occupied ∙ lifted_words p.men m.from (capture_square p x m) m.to k in
-    record {
-      inside = λ t lt on.
-          let reached : reaches_as (after rule p m).men (other p.turn) King k t ≡ true =
-          reached_near (after rule p m).men (other p.turn) k w t near lt (on_first w _ t on) in
-          let off : (is_occupied_after p.men m.from (capture_square p x m) m.to t && not (k == t)) ≡ false = sym (word_has _ l t held lt)
-          ∙ unseen_bit _ w l t held lt on in
-          let apart : not (k == t) ≡ true = ap not (differs k t
-          (λ e. false≢true (sym (no_step_there (after rule p m).men (other p.turn) t lt)
-          ∙ ap (λ (s : ℕ). reaches_as (after rule p m).men (other p.turn) King s t) (sym e) ∙ reached))) in
-          let nobody : man_on (arrived p x m) t ≡ None = none_from_is_some _
-          (sym (occupied_now p.men m.from (capture_square p x m) m.to (arriving x m.promo) t (omega (arith, small, i.well_formed.size)))
-          ∙ first_false (is_occupied_after p.men m.from (capture_square p x m) m.to t) _ off apart) in
-          let empty : man_on (after rule p m).men t ≡ None = ap (λ (l : List (Option Man)). man_on l t) (after_seen rule p m x k i) ∙ nobody in
-          and_from _ _ (and_from _ _ reached (ap (is_arrival_free (other p.turn)) empty)) (ap not (and_right (is_circe rule) _ (ap is_some empty)));
-    } where
-      first_false : (a b : Bool) → (a && b) ≡ false → b ≡ true → a ≡ false
-      first_false false b h e = refl
-      first_false true b h e = absurd (false≢true (sym h ∙ e))
+-- the men after the move, and the king among them
+module _ (rule : RuleSet) (p : Position) (m : Move) (x : Man) (k : ℕ) (i : IsSeenFrom rule p m x k) where
+  is_made : IsMade rule p x m
+  is_made = made rule p m x i.pseudo i.here
+
+  after_seen : (after rule p m).men ≡ arrived p x m
+  after_seen = search (rules, simple_after, is_made)
+
+  no_king_arrives : same_kind (arriving x m.promo).kind King ≡ false
+  no_king_arrives = false_from_ne_true _ (λ king.
+      false≢true (sym i.mortal ∙ ap (λ (y : Man). same_kind y.kind King) (sym (arriving_king p x m m.promo is_made.promotion king)) ∙ king))
+
+  no_own_arrives : same_colour (arriving x m.promo).colour (other p.turn) ≡ false
+  no_own_arrives = ap (λ (c : Colour). same_colour c (other p.turn)) (arriving_colour x m.promo ∙ is_made.mine) ∙ other_differs p.turn
+
+  module _ (small : m.to < 64) where
+    king_seen : king_square (after rule p m).men (other p.turn) ≡ Some k
+    king_seen =
+        ap (λ (l : List (Option Man)). king_square l (other p.turn)) after_seen
+        ∙ king_stands p.men m.from (capture_square p x m) m.to (arriving x m.promo) (other p.turn) (record {
+          small = omega (arith, small, i.well_formed.size);
+          here = ap (λ (o : Option Man). is_man o (other p.turn) King) i.here ∙ and_right (same_colour x.colour (other p.turn)) _ i.mortal;
+          comes = and_right (same_colour (arriving x m.promo).colour (other p.turn)) _ no_king_arrives;
+          arrival = no_king_free p.turn (other p.turn) (man_on p.men m.to) is_made.arrival;
+          captured = λ s at.
+              let t = taken rule p x m s i.well_formed is_made (is_square-some (capture_square p x m) s at) in
+              ap (λ (o : Option Man). is_man o (other p.turn) King) t.there ∙ and_right (same_colour t.man.colour (other p.turn)) _ t.mortal;
+        })
+        ∙ i.king
+
+    free_there : (t : ℕ) → (is_side (man_on p.men t) (other p.turn) && (not (is_square (capture_square p x m) t) && not (m.from == t))
+        || is_man (man_on p.men t) p.turn King) ≡ false → is_arrival_free (other p.turn) (man_on (arrived p x m) t) ≡ true
+    free_there t at = elim (cases_eq t m.to) [
+      | inl e ↦
+          let there : man_on (arrived p x m) t ≡ Some (arriving x m.promo) = ap (man_on (arrived p x m)) e
+          ∙ there_now p.men m.from (capture_square p x m) m.to (arriving x m.promo) (omega (arith, small, i.well_formed.size)) in
+          ap (is_arrival_free (other p.turn)) there ∙ arrived_free p.turn (arriving x m.promo) no_own_arrives no_king_arrives
+      | inr ne ↦ elim (cases_Bool (is_square (Some m.from) t || is_square (capture_square p x m) t)) [
+        | inl y ↦ ap (is_arrival_free (other p.turn)) (left_now p.men m.from (capture_square p x m) m.to (arriving x m.promo) t ne y)
+        | inr y ↦
+            let parts = or_parts (m.from == t) (is_square (capture_square p x m) t) y in
+            let clear = unless (is_side (man_on p.men t) (other p.turn)) (not (is_square (capture_square p x m) t)) (not (m.from == t)) _ at
+            (ap not parts.1) (ap not parts.0) in
+            ap (is_arrival_free (other p.turn)) (kept_now p.men m.from (capture_square p x m) m.to (arriving x m.promo) t ne y)
+            ∙ free_of p.turn (man_on p.men t) clear.0 clear.1
+      ]
+    ]
+
+    pub open_squares : (w l h : ℕ) → is_circe rule ≡ false → w ≡ word (λ t. list_any (leaps k t) queen_steps)
+        → l ≡ (sight_lifted p.men m.from (capture_square p x m) m.to k).standing
+        → h ≡ bit_or (bit_and (side_of p.men (other p.turn)) l) (squares_of p.men p.turn King)
+        → AreOpen rule (after rule p m).men (other p.turn) k (bit_and w (bit_not w64 h))
+    unfolding is_open
+    open_squares w l h circe near standing held =
+        let closed = held ∙ closed_words p m.from (capture_square p x m) p.turn _ _ refl refl l standing in
+        record {
+          inside = λ t lt on.
+              and_from _ _ (and_from _ _ (reached_near (after rule p m).men (other p.turn) k w t near lt (on_first w _ t on))
+              (ap (λ (l : List (Option Man)). is_arrival_free (other p.turn) (man_on l t)) after_seen
+              ∙ free_there t (sym (word_has _ h t closed lt) ∙ unseen_bit _ w h t closed lt on)))
+              (ap not (and_left (is_circe rule) _ circe));
+        }
+
+    pub open_squares_in_circe : (w l : ℕ) → w ≡ word (λ t. list_any (leaps k t) queen_steps)
+        → l ≡ (sight_lifted p.men m.from (capture_square p x m) m.to k).occupied
+        → AreOpen rule (after rule p m).men (other p.turn) k (bit_and w (bit_not w64 l))
+    unfolding is_open
+    open_squares_in_circe w l near occupied =
+        let held = occupied ∙ lifted_words p.men m.from (capture_square p x m) m.to k in
+        record {
+          inside = λ t lt on.
+              let reached = reached_near (after rule p m).men (other p.turn) k w t near lt (on_first w _ t on) in
+              let off : (is_occupied_after p.men m.from (capture_square p x m) m.to t && not (k == t)) ≡ false = sym (word_has _ l t held lt)
+              ∙ unseen_bit _ w l t held lt on in
+              let apart : not (k == t) ≡ true = ap not (differs k t
+              (λ e. false≢true (sym (no_step_there (after rule p m).men (other p.turn) t lt)
+              ∙ ap (λ (s : ℕ). reaches_as (after rule p m).men (other p.turn) King s t) (sym e) ∙ reached))) in
+              let nobody : man_on (arrived p x m) t ≡ None = none_from_is_some _
+              (sym (occupied_now p.men m.from (capture_square p x m) m.to (arriving x m.promo) t (omega (arith, small, i.well_formed.size)))
+              ∙ first_false (is_occupied_after p.men m.from (capture_square p x m) m.to t) _ off apart) in
+              let empty : man_on (after rule p m).men t ≡ None = ap (λ (l : List (Option Man)). man_on l t) after_seen ∙ nobody in
+              and_from _ _ (and_from _ _ reached (ap (is_arrival_free (other p.turn)) empty)) (ap not (and_right (is_circe rule) _ (ap is_some empty)));
+        }
 
 -- nobody attacks a king that has stepped there
 pub record IsSafeStep (men : List (Option Man)) (a : ℕ) (o : Option ℕ) (b : ℕ) (z : Man) (k : ℕ) (u : Option ℕ) (t : ℕ) (x : Man) (c : Colour) (r : ℕ) : Type 0
@@ -237,55 +224,51 @@ reaches_alike_of men others None s t a = refl
 reaches_alike_of men others (Some y) s t a = reaches_alike men others y.colour y.kind s t a
 
 no_strike : (a p r : Bool) → (a && r) ≡ false → ((a && p) && r) ≡ false
-no_strike true true r h = h
-no_strike true false r h = refl
-no_strike false p r h = refl
+no_strike a p r q = grind arith
 
 zero_false : (test : ℕ → Bool) (s : ℕ) → 0 ≡ word test → s < 64 → test s ≡ false
 zero_false test s h small = sym (word_has test 0 s h small) ∙ ap (λ (n : ℕ). n == 1) (bit_at-zero s)
 
-arrival_unseen : (men : List (Option Man)) (a : ℕ) (o : Option ℕ) (b : ℕ) (z : Man) (k : ℕ) (u : Option ℕ) (t : ℕ) (x : Man) (c : Colour) (r : ℕ)
-    → IsSafeStep men a o b z k u t x c r
-    → reaches_as (stepped men a o b z k u t x) z.colour z.kind b t ≡ false
-arrival_unseen men a o b z k u t x c r i =
-    let lifted : List (Option Man) = without_man (gone_to men a o b z) k in
-    reaches_alike (stepped men a o b z k u t x) lifted z.colour z.kind b t (lifted_alike men a o b z k u t x i.step.arrival i.step.flight i.step.taken)
-    ∙ sym (word_has (reaches_as lifted z.colour z.kind b) r t (i.arrived lifted (occupied_lifted men a o b z k i.step.arrival))
-    (omega (arith, i.step.flight, i.size)))
-    ∙ i.unseen
+module _ (men : List (Option Man)) (a : ℕ) (o : Option ℕ) (b : ℕ) (z : Man) (k : ℕ) (u : Option ℕ) (t : ℕ) (x : Man) (c : Colour) (r : ℕ)
+    (i : IsSafeStep men a o b z k u t x c r) where
+  abbrev now : List (Option Man)
+  now = stepped men a o b z k u t x
 
-nobody_strikes : (men : List (Option Man)) (a : ℕ) (o : Option ℕ) (b : ℕ) (z : Man) (k : ℕ) (u : Option ℕ) (t : ℕ) (x : Man) (c : Colour) (r s : ℕ)
-    → IsSafeStep men a o b z k u t x c r → s < 64
-    → (is_side (man_on (stepped men a o b z k u t x) s) c && reaches (stepped men a o b z k u t x) s t) ≡ false
-unfolding reaches
-nobody_strikes men a o b z k u t x c r s i small = elim (cases_eq s b) [
-  | inl e ↦ elim (cases_eq s t) [
-    | inl there ↦ elsewhere (λ q. there)
-    | inr off ↦
-        let here : man_on (stepped men a o b z k u t x) s ≡ Some z = stands_arrived men a o b z k u t x s i.step.arrival i.step.taken e off i.step.apart in
-        and_right (is_side (man_on (stepped men a o b z k u t x) s) c) _
-        (ap (λ (y : Option Man). reaches_of (stepped men a o b z k u t x) y s t) here
-        ∙ ap (λ (q : ℕ). reaches_as (stepped men a o b z k u t x) z.colour z.kind q t) e ∙ arrival_unseen men a o b z k u t x c r i)
+  abbrev then : List (Option Man)
+  then = stepped men a o b x k u t x
+
+  arrival_unseen : reaches_as now z.colour z.kind b t ≡ false
+  arrival_unseen =
+      let lifted : List (Option Man) = without_man (gone_to men a o b z) k in
+      reaches_alike now lifted z.colour z.kind b t (lifted_alike men a o b z k u t x i.step.arrival i.step.flight i.step.taken)
+      ∙ sym (word_has (reaches_as lifted z.colour z.kind b) r t (i.arrived lifted (occupied_lifted men a o b z k i.step.arrival))
+      (omega (arith, i.step.flight, i.size)))
+      ∙ i.unseen
+
+  elsewhere : (s : ℕ) → s < 64 → (s ≡ b → s ≡ t) → (is_side (man_on now s) c && reaches_of now (man_on now s) s t) ≡ false
+  unfolding reaches
+  elsewhere s small off =
+      ap (λ (y : Option Man). is_side y c && reaches_of now y s t) (same_elsewhere men a o b z x k u t x s i.step.flight i.step.taken off)
+      ∙ ap (λ (y : Bool). is_side (man_on then s) c && y) (reaches_alike_of now then (man_on then s) s t
+      (arrival_alike men a o b z x k u t x i.step.arrival i.step.flight i.step.taken))
+      ∙ zero_false (λ s. is_side (man_on then s) c && reaches then s t) s (i.others then (seen_stepped men a o b k u t x c i.step)) small
+
+  nobody_strikes : (s : ℕ) → s < 64 → (is_side (man_on now s) c && reaches now s t) ≡ false
+  unfolding reaches
+  nobody_strikes s small = elim (cases_eq s b) [
+    | inl e ↦ elim (cases_eq s t) [
+      | inl there ↦ elsewhere s small (λ q. there)
+      | inr off ↦
+          let here : man_on now s ≡ Some z = stands_arrived men a o b z k u t x s i.step.arrival i.step.taken e off i.step.apart in
+          and_right (is_side (man_on now s) c) _ (ap (λ (y : Option Man). reaches_of now y s t) here
+          ∙ ap (λ (q : ℕ). reaches_as now z.colour z.kind q t) e ∙ arrival_unseen)
+    ]
+    | inr ne ↦ elsewhere s small (λ e. absurd (ne e))
   ]
-  | inr ne ↦ elsewhere (λ e. absurd (ne e))
-] where
-  elsewhere : (s ≡ b → s ≡ t) → (is_side (man_on (stepped men a o b z k u t x) s) c && reaches_of (stepped men a o b z k u t x)
-      (man_on (stepped men a o b z k u t x) s) s t) ≡ false
-  elsewhere off =
-      let same : man_on (stepped men a o b z k u t x) s ≡ man_on (stepped men a o b x k u t x) s =
-      same_elsewhere men a o b z x k u t x s i.step.flight i.step.taken off in
-      let there : reaches_of (stepped men a o b z k u t x) (man_on (stepped men a o b x k u t x) s) s t ≡ reaches_of (stepped men a o b x k u t x)
-      (man_on (stepped men a o b x k u t x) s) s t = reaches_alike_of (stepped men a o b z k u t x) (stepped men a o b x k u t x)
-      (man_on (stepped men a o b x k u t x) s) s t (arrival_alike men a o b z x k u t x i.step.arrival i.step.flight i.step.taken) in
-      ap (λ (y : Option Man). is_side y c && reaches_of (stepped men a o b z k u t x) y s t) same
-      ∙ ap (λ (y : Bool). is_side (man_on (stepped men a o b x k u t x) s) c && y) there
-      ∙ zero_false (λ s. is_side (man_on (stepped men a o b x k u t x) s) c && reaches (stepped men a o b x k u t x) s t) s
-      (i.others (stepped men a o b x k u t x) (seen_stepped men a o b k u t x c i.step)) small
 
-not_attacked : (rule : RuleSet) (men : List (Option Man)) (a : ℕ) (o : Option ℕ) (b : ℕ) (z : Man) (k : ℕ) (u : Option ℕ) (t : ℕ) (x : Man) (c : Colour)
-    (r : ℕ) → IsSafeStep men a o b z k u t x c r → attacked rule (stepped men a o b z k u t x) t c ≡ false
-unfolding attacked strikes
-not_attacked rule men a o b z k u t x c r i = search (rules, no_strike, nobody_strikes, some_square_false)
+  not_attacked : (rule : RuleSet) → attacked rule now t c ≡ false
+  unfolding attacked strikes
+  not_attacked rule = search (rules, no_strike, nobody_strikes, some_square_false)
 
 -- the step itself
 other_side : (o : Option Man) (c : Colour) → is_man o (other c) King ≡ true → is_side o c ≡ false
@@ -329,35 +312,26 @@ unfolding paralysed
 king_is_able rule men x k here king =
     and_right (is_madrasi rule) _ (ap (λ (o : Option Man). is_faced men o k) here ∙ and_left (not (same_kind x.kind King)) _ (ap not king))
 
-may_step : (rule : RuleSet) (q : Position) (x : Man) (k t : ℕ) → IsKingStep rule q x k t → pseudo rule q (step_to k t) ≡ true
-unfolding pseudo
-may_step rule q x k t i =
-    let way = open_parts rule q.men q.turn k t i.near in
-    let piece : same_kind x.kind Pawn ≡ false = king_is_no_pawn x.kind i.king in
-    let able : not (paralysed rule q.men k) ≡ true = ap not (king_is_able rule q.men x k i.here i.king) in
-    let right : is_promotion_right q x (step_to k t) None ≡ true = ap not (and_left (same_kind x.kind Pawn) _ piece) in
-    let gone : goes rule q x (step_to k t) ≡ true = cond-false (same_kind x.kind Pawn) _ _ piece
-    ∙ or_left (reaches q.men k t) _ (steps_there q.men x q.turn k t i.here i.mine i.king way.reached) in
-    ap (λ (o : Option Man). pseudo_of rule q o (step_to k t)) i.here
-    ∙ and_from _ _ (and_from _ _ (and_from _ _ (and_from _ _ i.mine able) way.free) right) gone
+module _ (rule : RuleSet) (q : Position) (x : Man) (k t : ℕ) (i : IsKingStep rule q x k t) where
+  may_step : pseudo rule q (step_to k t) ≡ true
+  unfolding pseudo
+  may_step = grind (arith, open_parts, king_is_no_pawn, king_is_able, and_left, cond-false, or_left, steps_there, and_from)
 
-simple_step : (rule : RuleSet) (q : Position) (x : Man) (k t : ℕ) → IsKingStep rule q x k t → IsSimple rule q x (step_to k t)
-simple_step rule q x k t i =
-    let way = open_parts rule q.men q.turn k t i.near in
-    record {
-      castling = false_from_ne_true _ (λ y. king_no_step q x (step_to k t) i.well_formed i.here y i.king
-          (steps_there q.men x q.turn k t i.here i.mine i.king way.reached));
-      rebirth = λ circe. no_capture q x (step_to k t) (way.nobody circe) (and_left (same_kind x.kind Pawn) _ (king_is_no_pawn x.kind i.king));
-    }
+  simple_step : IsSimple rule q x (step_to k t)
+  simple_step =
+      let way = open_parts rule q.men q.turn k t i.near in
+      record {
+        castling = false_from_ne_true _ (λ y. king_no_step q x (step_to k t) i.well_formed i.here y i.king
+            (steps_there q.men x q.turn k t i.here i.mine i.king way.reached));
+        rebirth = λ circe. no_capture q x (step_to k t) (way.nobody circe) (and_left (same_kind x.kind Pawn) _ (king_is_no_pawn x.kind i.king));
+      }
 
-step_is_legal : (rule : RuleSet) (q : Position) (x : Man) (k t : ℕ) → IsKingStep rule q x k t
-    → attacked rule (arrived q x (step_to k t)) t (other q.turn) ≡ false → legal rule q (step_to k t) ≡ true
-unfolding legal
-step_is_legal rule q x k t i safe =
-    let may : pseudo rule q (step_to k t) ≡ true = may_step rule q x k t i in
-    let king : king_after q x (step_to k t) ≡ Some t = cond-true (same_kind x.kind King) _ _ i.king in
-    and_from _ _ may (ap not (check_is rule q x (step_to k t) (Some t) i.well_formed (made rule q (step_to k t) x may i.here) i.small
-    (simple_step rule q x k t i) king ∙ safe))
+  step_is_legal : attacked rule (arrived q x (step_to k t)) t (other q.turn) ≡ false → legal rule q (step_to k t) ≡ true
+  unfolding legal
+  step_is_legal safe =
+      let king : king_after q x (step_to k t) ≡ Some t = cond-true (same_kind x.kind King) _ _ i.king in
+      and_from _ _ may_step (ap not (check_is rule q x (step_to k t) (Some t) i.well_formed (made rule q (step_to k t) x may_step i.here) i.small
+      simple_step king ∙ safe))
 
 -- the king's square and the arrival
 pub record IsKingOn (men : List (Option Man)) (c : Colour) (k : ℕ) (x : Man) : Type 0 where
@@ -381,72 +355,63 @@ pub no_king_square : (men : List (Option Man)) (c d : Colour) (k b : ℕ) → ki
 no_king_square men c d k b at free e =
     false≢true (sym (no_king_free c d (man_on men b) free) ∙ ap (λ (s : ℕ). is_man (man_on men s) d King) e ∙ (king_there men d k at).1)
 
-is_step : (rule : RuleSet) (p : Position) (m : Move) (x y : Man) (k t : ℕ) → IsSeenFrom rule p m x k → m.to < 64 → t < 64
-    → IsKingOn (after rule p m).men (other p.turn) k y
-    → IsStep p.men m.from (capture_square p x m) m.to k (capture_square (after rule p m) y (step_to k t)) t y p.turn
-is_step rule p m x y k t i small there king =
-    let is : IsMade rule p x m = made rule p m x i.pseudo i.here in
-    record {
-      arrival = omega (arith, small, i.well_formed.size);
-      flight = omega (arith, there, i.well_formed.size);
-      taken = λ s at. capture_of_piece (after rule p m) y (step_to k t) s (king_is_no_pawn y.kind king.king)
-          (is_square-some (capture_square (after rule p m) y (step_to k t)) s at);
-      king = king_is_other y p.turn king.mine;
-      lifted = other_side (man_on p.men k) p.turn (king_there p.men (other p.turn) k i.king).1;
-      entered = no_own_free p.turn (man_on p.men m.to) is.arrival;
-      apart = no_king_square p.men p.turn (other p.turn) k m.to i.king is.arrival;
-    }
+module _ (rule : RuleSet) (p : Position) (m : Move) (x : Man) (k : ℕ) (i : IsSeenFrom rule p m x k) (small : m.to < 64) where
+  is_step : (y : Man) (t : ℕ) → t < 64 → IsKingOn (after rule p m).men (other p.turn) k y
+      → IsStep p.men m.from (capture_square p x m) m.to k (capture_square (after rule p m) y (step_to k t)) t y p.turn
+  is_step y t there king =
+      let free = (is_made rule p m x k i).arrival in
+      record {
+        arrival = omega (arith, small, i.well_formed.size);
+        flight = omega (arith, there, i.well_formed.size);
+        taken = λ s at. capture_of_piece (after rule p m) y (step_to k t) s (king_is_no_pawn y.kind king.king)
+            (is_square-some (capture_square (after rule p m) y (step_to k t)) s at);
+        king = king_is_other y p.turn king.mine;
+        lifted = other_side (man_on p.men k) p.turn (king_there p.men (other p.turn) k i.king).1;
+        entered = no_own_free p.turn (man_on p.men m.to) free;
+        apart = no_king_square p.men p.turn (other p.turn) k m.to i.king free;
+      }
 
-pub has_flight_to : (rule : RuleSet) (p : Position) (m : Move) (x : Man) (k n r t : ℕ) → IsSeenFrom rule p m x k → m.to < 64 → t < 64
-    → AreOpen rule (after rule p m).men (other p.turn) k n
-    → ((l : List (Option Man)) → (sight_lifted p.men m.from (capture_square p x m) m.to k).occupied ≡ occupied_squares l
-    → r ≡ word (reaches_as l (arriving x m.promo).colour (arriving x m.promo).kind m.to))
-    → (bit_at (bit_and n (bit_not w64 r)) t == 1) ≡ true
-    → ((l : List (Option Man)) → AreSeen p.men l p.turn (sight_with (sight_lifted p.men m.from (capture_square p x m) m.to k) t)
-    → 0 ≡ word (λ s. is_side (man_on l s) p.turn && reaches l s t))
-    → has_flight rule (after rule p m) ≡ true
-unfolding has_flight is_flight
-has_flight_to rule p m x k n r t i small there near arrives on others =
-    let q : Position = after rule p m in
-    let turn : (after rule p m).turn ≡ other p.turn = turn_after rule p m i.pseudo in
-    let at : king_square (after rule p m).men (other p.turn) ≡ Some k = king_seen rule p m x k i small in
-    let king = king_on (after rule p m).men (other p.turn) k at in
-    let lifted : List (Option Man) = without_man (gone_to p.men m.from (capture_square p x m) m.to (arriving x m.promo)) k in
-    let seen : r ≡ word (reaches_as lifted (arriving x m.promo).colour (arriving x m.promo).kind m.to) =
-    arrives lifted (occupied_lifted p.men m.from (capture_square p x m) m.to (arriving x m.promo) k (omega (arith, small, i.well_formed.size))) in
-    let step : IsKingStep rule (after rule p m) king.0 k t = record {
-      well_formed = after_well_formed rule p m i.well_formed i.pseudo;
-      here = king.1.here;
-      mine = ap (same_colour king.0.colour) turn ∙ king.1.mine;
-      king = king.1.king;
-      small = there;
-      near = ap (λ (c : Colour). is_open rule (after rule p m).men c k t) turn ∙ near.inside t there (on_first n (bit_not w64 r) t on);
-    } in
-    let safe : IsSafeStep p.men m.from (capture_square p x m) m.to (arriving x m.promo) k (capture_square (after rule p m) king.0 (step_to k t)) t king.0
-    p.turn r = record {
-      step = is_step rule p m x king.0 k t i small there king.1;
-      size = i.well_formed.size;
-      arrived = arrives;
-      unseen = unseen_bit _ n r t seen there on;
-      others = others;
-    } in
-    some_square_true (is_flight rule (after rule p m)) t there
-    (ap (λ (o : Option ℕ). is_flight_from rule (after rule p m) o t) (ap (king_square (after rule p m).men) turn ∙ at)
-    ∙ step_is_legal rule (after rule p m) king.0 k t step
-    (ap (λ (l : List (Option Man)). attacked rule (gone_to l k (capture_square (after rule p m) king.0 (step_to k t)) t king.0) t
-    (other (after rule p m).turn)) (after_seen rule p m x k i)
-    ∙ ap (attacked rule (stepped p.men m.from (capture_square p x m) m.to (arriving x m.promo) k (capture_square (after rule p m) king.0 (step_to k t)) t
-    king.0) t) (ap other turn ∙ other_twice p.turn)
-    ∙ not_attacked rule p.men m.from (capture_square p x m) m.to (arriving x m.promo) k (capture_square (after rule p m) king.0 (step_to k t)) t king.0 p.turn
-    r safe))
+  module _ (n r : ℕ) (near : AreOpen rule (after rule p m).men (other p.turn) k n)
+      (arrives : (l : List (Option Man)) → (sight_lifted p.men m.from (capture_square p x m) m.to k).occupied ≡ occupied_squares l
+      → r ≡ word (reaches_as l (arriving x m.promo).colour (arriving x m.promo).kind m.to)) where
+    has_flight_to : (t : ℕ) → t < 64 → (bit_at (bit_and n (bit_not w64 r)) t == 1) ≡ true
+        → ((l : List (Option Man)) → AreSeen p.men l p.turn (sight_with (sight_lifted p.men m.from (capture_square p x m) m.to k) t)
+        → 0 ≡ word (λ s. is_side (man_on l s) p.turn && reaches l s t))
+        → has_flight rule (after rule p m) ≡ true
+    unfolding has_flight is_flight
+    has_flight_to t there on others =
+        let turn : (after rule p m).turn ≡ other p.turn = turn_after rule p m i.pseudo in
+        let at : king_square (after rule p m).men (other p.turn) ≡ Some k = king_seen rule p m x k i small in
+        let king = king_on (after rule p m).men (other p.turn) k at in
+        let u : Option ℕ = capture_square (after rule p m) king.0 (step_to k t) in
+        let lifted : List (Option Man) = without_man (gone_to p.men m.from (capture_square p x m) m.to (arriving x m.promo)) k in
+        let seen : r ≡ word (reaches_as lifted (arriving x m.promo).colour (arriving x m.promo).kind m.to) =
+        arrives lifted (occupied_lifted p.men m.from (capture_square p x m) m.to (arriving x m.promo) k (omega (arith, small, i.well_formed.size))) in
+        let step : IsKingStep rule (after rule p m) king.0 k t = record {
+          well_formed = after_well_formed rule p m i.well_formed i.pseudo;
+          here = king.1.here;
+          mine = ap (same_colour king.0.colour) turn ∙ king.1.mine;
+          king = king.1.king;
+          small = there;
+          near = ap (λ (c : Colour). is_open rule (after rule p m).men c k t) turn ∙ near.inside t there (on_first n (bit_not w64 r) t on);
+        } in
+        let safe : IsSafeStep p.men m.from (capture_square p x m) m.to (arriving x m.promo) k u t king.0 p.turn r = record {
+          step = is_step king.0 t there king.1;
+          size = i.well_formed.size;
+          arrived = arrives;
+          unseen = unseen_bit _ n r t seen there on;
+          others = others;
+        } in
+        some_square_true (is_flight rule (after rule p m)) t there
+        (ap (λ (o : Option ℕ). is_flight_from rule (after rule p m) o t) (ap (king_square (after rule p m).men) turn ∙ at)
+        ∙ step_is_legal rule (after rule p m) king.0 k t step
+        (ap (λ (l : List (Option Man)). attacked rule (gone_to l k u t king.0) t (other (after rule p m).turn)) (after_seen rule p m x k i)
+        ∙ ap (attacked rule (stepped p.men m.from (capture_square p x m) m.to (arriving x m.promo) k u t king.0) t) (ap other turn ∙ other_twice p.turn)
+        ∙ not_attacked p.men m.from (capture_square p x m) m.to (arriving x m.promo) k u t king.0 p.turn r safe rule))
 
-pub has_flight_first : (rule : RuleSet) (p : Position) (m : Move) (x : Man) (k n r : ℕ) (o : Option ℕ) → IsSeenFrom rule p m x k → m.to < 64
-    → AreOpen rule (after rule p m).men (other p.turn) k n
-    → ((l : List (Option Man)) → (sight_lifted p.men m.from (capture_square p x m) m.to k).occupied ≡ occupied_squares l
-    → r ≡ word (reaches_as l (arriving x m.promo).colour (arriving x m.promo).kind m.to))
-    → IfSome o (λ t. (t < 64) × ((bit_at (bit_and n (bit_not w64 r)) t == 1) ≡ true))
-    → IfSome o (λ t. (l : List (Option Man)) → AreSeen p.men l p.turn (sight_with (sight_lifted p.men m.from (capture_square p x m) m.to k) t)
-    → 0 ≡ word (λ s. is_side (man_on l s) p.turn && reaches l s t))
-    → is_some o ≡ true → has_flight rule (after rule p m) ≡ true
-has_flight_first rule p m x k n r None i small near arrives within safe h = absurd (false≢true h)
-has_flight_first rule p m x k n r (Some t) i small near arrives within safe h = search (rules, has_flight_to)
+    pub has_flight_first : (o : Option ℕ) → IfSome o (λ t. (t < 64) × ((bit_at (bit_and n (bit_not w64 r)) t == 1) ≡ true))
+        → IfSome o (λ t. (l : List (Option Man)) → AreSeen p.men l p.turn (sight_with (sight_lifted p.men m.from (capture_square p x m) m.to k) t)
+        → 0 ≡ word (λ s. is_side (man_on l s) p.turn && reaches l s t))
+        → is_some o ≡ true → has_flight rule (after rule p m) ≡ true
+    has_flight_first None within safe h = absurd (false≢true h)
+    has_flight_first (Some t) within safe h = has_flight_to t within.0 within.1 safe

@@ -1,5 +1,5 @@
 -- A king who goes next to the other king is in check there: no legal move does so.
-use Rattle.std.proofs.Common.{◌≡◌, ◌≢◌, ℕ, ◌<◌, Bool, true, false, ◌||◌, not, List, Option, Some, None, refl, sym, ap, ◌∙◌, inl, inr}
+use Rattle.std.proofs.Common.{◌≡◌, ◌≢◌, ℕ, ◌<◌, Bool, true, false, ◌||◌, not, List, Option, Some, None, refl, sym, ap, ◌∙◌, inl, inr, arith}
 use Rattle.std.specs.List.{list_any}
 use Rattle.std.proofs.lemmas.Bool.{and_from, and_left, and_parts, cases_Bool, false_from_ne_true, false≢true, not-true}
 use Rattle.chess_core.specs.Position.{Position, is_man, is_side, king_square, man_on, other, same_colour, same_kind, without_man}
@@ -48,11 +48,7 @@ module _ (rule : RuleSet) (p : Position) (x : Man) (m : Move) (well : IsWellForm
   -- the enemy's king stands where he stood
   module _ (k : ℕ) (at : king_square p.men (other p.turn) ≡ Some k) (y : Man) (stood : IsKingOn p.men (other p.turn) k y) where
     off_from : k ≢ m.from
-    off_from e =
-        let same : Some y ≡ Some x = sym stood.here ∙ ap (man_on p.men) e ∙ is.here in
-        let one : y ≡ x = cc in
-        false≢true (sym (other_differs p.turn) ∙ ap (λ (c : Colour). same_colour c (other p.turn)) (sym is.mine)
-        ∙ ap (λ (z : Man). same_colour z.colour (other p.turn)) (sym one) ∙ stood.mine)
+    off_from e = grind (arith, false≢true, other_differs)
 
     uncaptured : (s : ℕ) → capture_square p x m ≡ Some s → k ≢ s
     uncaptured s cap e =

@@ -1,17 +1,15 @@
 -- A man who is reborn gives his own king no check, but as a grasshopper's hurdle.
-use Rattle.std.proofs.Common.{◌≡◌, ℕ, ◌-◌, ◌<◌, Bool, true, false, ◌&&◌, ◌==◌, not, List, [], ◌∷◌, length, Option, Some, None, is_some, refl, sym, ap, ◌∙◌, arith, inl, inr}
+use Rattle.std.proofs.Common.{◌≡◌, ℕ, ◌-◌, ◌<◌, true, false, ◌&&◌, ◌==◌, not, List, length, Option, Some, None, is_some, refl, sym, ap, ◌∙◌, arith, inl, inr}
 use Rattle.std.specs.Int.{bit_at}
 use Rattle.std.specs.List.{list_all, list_any, range_with_len}
-use Rattle.std.proofs.lemmas.Bool.{and_from, and_parts, cases_Bool, cond-false, cond-true, false_from_ne_true, false≢true, not-true, or_cases, or_left, or_right}
+use Rattle.std.proofs.lemmas.Bool.{and_from, and_parts, cases_Bool, cond-false, cond-true, false_from_ne_true, false≢true, not-true}
 use Rattle.chess_core.specs.Position.{AtMostOneKing, Position, is_man, is_side, king_square, man_on, other, same_colour, same_kind, with_man, without_man}
 use Rattle.chess_core.specs.Squares.{is_square, squares}
 use Rattle.chess_core.specs.Steps.{along, diagonal_steps, knight_steps, queen_steps, straight_steps}
 use Rattle.chess_core.specs.WellFormed.{IsWellFormed}
-use Rattle.chess_core.specs.ties.Words.{word}
-use Rattle.chess_core.proofs.Words.{squares_same}
 use Rattle.chess_core.specs.declared.man.Colour.{Colour}
 use Rattle.chess_core.specs.declared.man.Kind.{Kind}
-use Rattle.chess_core.specs.declared.man.Kind.TheVariants.{King, Queen, Rook, Bishop, Knight, Pawn, Grasshopper, Nightrider}
+use Rattle.chess_core.specs.declared.man.Kind.TheVariants.{King, Queen, Rook, Bishop, Grasshopper, Nightrider}
 use Rattle.chess_core.specs.declared.man.Man.{Man}
 use Rattle.chess_core.specs.declared.man.Move.{Move}
 use Rattle.chess_core.specs.declared.step.Step.{Step}
@@ -24,25 +22,13 @@ use Rattle.chess_rules.specs.Reaches.{is_clear, is_vacant, reaches, reaches_as, 
 use Rattle.chess_rules.specs.RuleSet.{RuleSet, circe, madrasi, orthodox}
 use Rattle.chess_rules.specs.declared.checks.CheckSquares.{CheckSquares}
 use Rattle.chess_rules.specs.ties.CheckSquares.{AreCheckSquares, are_rebirths_quiet, check_squares_for, is_absent, rule_of_checks, may_check_from}
-use Rattle.chess_rules.specs.ties.Shields.{cannot_expose, may_expose, may_expose_on}
+use Rattle.chess_rules.specs.ties.Shields.{cannot_expose}
 use Rattle.chess_rules.proofs.giving_check.Checking.{no_check, other_twice}
 use Rattle.chess_rules.proofs.making_moves.Fits.{arrived}
 use Rattle.chess_rules.proofs.making_moves.Pseudo.{IsMade, made, on_board}
 use Rattle.chess_rules.proofs.attacks.Shielding.{king_is, man_there, unreborn_after}
 use Rattle.chess_rules.proofs.making_moves.Stays.{captured_enemy, captured_mortal, man_on-with_cases, moved_sound}
-use Rattle.chess_rules.proofs.Tests.{find_first}
-
--- what holds of each holds of all, and what of one of some
-all_kept : (f g : ℕ → Bool) (ns : List ℕ) → ((n : ℕ) → f n ≡ true → g n ≡ true) → list_all f ns ≡ true → list_all g ns ≡ true
-all_kept f g [] each h = refl
-all_kept f g (n ∷ ns) each h = let both = and_parts (f n) (list_all f ns) h in and_from _ _ (each n both.0) (all_kept f g ns each both.1)
-
-any_kept : {A : Type 0} (f g : A → Bool) (xs : List A) → ((x : A) → f x ≡ true → g x ≡ true) → list_any f xs ≡ true → list_any g xs ≡ true
-any_kept f g [] each h = h
-any_kept f g (x ∷ xs) each h = elim (or_cases (f x) (list_any f xs) h) [
-  | inl y ↦ or_left (g x) _ (each x y)
-  | inr y ↦ or_right (g x) _ (any_kept f g xs each y)
-]
+use Rattle.chess_rules.proofs.Tests.{find_first, all_kept, any_kept}
 
 -- no grasshopper of this colour stands there
 abbrev LacksGrasshopper : List (Option Man) → Colour → Type 0
@@ -72,14 +58,12 @@ module _ (men : List (Option Man)) (r : ℕ) (y : Man) where
 
   reached : (e : Colour) (j : Kind) (s t : ℕ) → same_kind j Grasshopper ≡ false → reaches_as (with_man men r y) e j s t ≡ true → reaches_as men e j s t ≡ true
   unfolding reaches_as
-  reached e King s t g h = h
   reached e Queen s t g h = rode_so queen_steps s t h
   reached e Rook s t g h = rode_so straight_steps s t h
   reached e Bishop s t g h = rode_so diagonal_steps s t h
-  reached e Knight s t g h = h
-  reached e Pawn s t g h = h
   reached e Grasshopper s t g h = absurd (false≢true (sym g))
   reached e Nightrider s t g h = rode_so knight_steps s t h
+  reached e j s t g h = h
 
   -- so y gives the king of his colour no check
   module _ (c : Colour) (own : same_colour y.colour (other c) ≡ false) (mortal : same_kind y.kind King ≡ false) (lacks : LacksGrasshopper men (other c))
@@ -96,14 +80,7 @@ module _ (men : List (Option Man)) (r : ℕ) (y : Man) where
 
     struck : (k s : ℕ) → strikes circe (with_man men r y) k (other c) s ≡ true → strikes orthodox men k (other c) s ≡ true
     unfolding strikes reaches
-    struck k s h =
-        let h1 = and_parts _ (reaches (with_man men r y) s k) h in
-        let side : is_side (man_on (with_man men r y) s) (other c) ≡ true = (and_parts _ _ h1.0).0 in
-        elim (man_on-with_cases men r s y) [
-          | inl e ↦ absurd (false≢true (sym own ∙ ap (λ (o : Option Man). is_side o (other c)) (sym e.1) ∙ side))
-          | inr e ↦ struck_by k s (man_on men s) refl (ap (λ (o : Option Man). is_side o (other c)) (sym e) ∙ side)
-              (ap (λ (o : Option Man). reaches_of (with_man men r y) o s k) (sym e) ∙ h1.1)
-        ]
+    struck k s h = grind (arith, and_parts, man_on-with_cases, false≢true, struck_by)
 
     king_stood : (k : ℕ) → is_man (man_on (with_man men r y) k) c King ≡ true → is_man (man_on men k) c King ≡ true
     king_stood k h = elim (man_on-with_cases men r k y) [
@@ -220,25 +197,6 @@ rebirth_gives_no_check p x m well may here unpromoted absent safe =
           (λ s. ap (λ (e : Colour). is_man (man_on (moved_men p x m) s) e Grasshopper) (other_twice p.turn) ∙ lacks s)
           (moved_sound circe p x m well is).kings before
 
--- the shields are the same under all rules
-pub shields_alike : (q r : RuleSet) (men : List (Option Man)) (c : Colour) → word (may_expose q men c) ≡ word (may_expose r men c)
-unfolding may_expose
-shields_alike q r men c = squares_same (may_expose q men c) (may_expose r men c) (λ s b. by (king_square men c) s) where
-  by : (o : Option ℕ) (s : ℕ) → may_expose_on q men o c s ≡ may_expose_on r men o c s
-  by None s = refl
-  by (Some k) s = refl
-
-pub check_squares_alike : (q r : RuleSet) (men : List (Option Man)) (c : Colour) (s : CheckSquares) → AreCheckSquares q men c s → AreCheckSquares r men c s
-check_squares_alike q r men c s a = record {
-  shield_squares = a.shield_squares ∙ shields_alike q r men c;
-  straight = a.straight;
-  diagonal = a.diagonal;
-  knight = a.knight;
-  pawn = a.pawn;
-  grasshopper = a.grasshopper;
-  nightrider = a.nightrider;
-}
-
 pub quiet_parts : (rule : RuleSet) (men : List (Option Man)) (e : Colour) → are_rebirths_quiet rule men e ≡ true
     → (rule ≡ circe) × (is_absent men (record { colour = e; kind = Grasshopper }) ≡ true)
 unfolding are_rebirths_quiet
@@ -248,7 +206,7 @@ quiet_parts madrasi men e h = absurd (false≢true h)
 
 -- a move that gives no check by the rules of checks gives none
 pub no_check_by_rebirth : (rule : RuleSet) (p : Position) (x : Man) (m : Move) (s : CheckSquares) (y : Man) (w t : ℕ) → IsWellFormed p → pseudo rule p m ≡ true
-    → man_on p.men m.from ≡ Some x → AreCheckSquares rule p.men (other p.turn) s → y ≡ arriving x m.promo → w ≡ check_squares_for s y.kind → t ≡ m.to → t < 64
+    → man_on p.men m.from ≡ Some x → AreCheckSquares p.men (other p.turn) s → y ≡ arriving x m.promo → w ≡ check_squares_for s y.kind → t ≡ m.to → t < 64
     → (bit_at w t == 1) ≡ false → (same_kind y.kind King ≡ true → may_check_from p.men (other p.turn) y t ≡ false) → m.promo ≡ None
     → cannot_expose (rule_of_checks rule p.men p.turn) p (other p.turn) m ≡ true → in_check rule (after rule p m).men (other p.turn) ≡ false
 no_check_by_rebirth rule p x m s y w t well may here a is h same small off apart unpromoted cover = elim (cases_Bool (are_rebirths_quiet rule p.men p.turn)) [
@@ -259,7 +217,7 @@ no_check_by_rebirth rule p x m s y w t well may here a is h same small off apart
       ap (λ (r : RuleSet). cannot_expose r p (other p.turn) m) (sym (cond-true (are_rebirths_quiet rule p.men p.turn) _ _ quiet)) ∙ cover in
       ap (λ (r : RuleSet). in_check r (after r p m).men (other p.turn)) parts.0
       ∙ rebirth_gives_no_check p x m well may_so here unpromoted parts.1
-      (no_check orthodox p x m s y w t well (pseudo_so p m may_so) here (check_squares_alike rule orthodox p.men (other p.turn) s a) is h same small off
+      (no_check orthodox p x m s y w t well (pseudo_so p m may_so) here a is h same small off
       apart unpromoted cover_so)
   | inr loud ↦
       let cover_so : cannot_expose rule p (other p.turn) m ≡ true =

@@ -26,7 +26,7 @@ use Rattle.chess_rules.specs.ties.Targets.{IsAimed, arrives, is_arrival, is_arri
 use Rattle.chess_rules.proofs.Bits.{word_empty, word_has}
 use Rattle.chess_rules.proofs.making_moves.Pseudo.{king_is_no_pawn}
 use Rattle.chess_rules.proofs.listing_moves.Targeting.{false_by}
-use Rattle.chess_rules.proofs.Tests.{IsFirst, find_no, same_Bool}
+use Rattle.chess_rules.proofs.Tests.{IsFirst, find_no, same_Bool, implied}
 
 -- no man of the colour and no king
 free_of : (a c : Colour) (k : Kind) → not (same_colour a c || (same_colour a (other c) && same_kind k King)) ≡ (not (same_colour a c) && not (same_kind k King))
@@ -65,10 +65,6 @@ one_near c s t p q = by (64 * s + t) (omega (arith, p, q)) (omega (arith, q)) (o
 
     by : (k : ℕ) → k < 4096 → k / 64 ≡ s → k % 64 ≡ t → is_square (along s (forward c) 1) t ≡ (is_advance c s t && list_any (leaps s t) queen_steps)
     by k lt a b = rw (← a, ← b) (table c k lt)
-
-implied : (a b : Bool) → (not a || b) ≡ true → a ≡ true → b ≡ true
-implied true b h e = h
-implied false b h e = cc
 
 half_one : (c : Colour) (s t : ℕ) → s < 64 → t < 64 → is_square (along s (forward c) 2) t ≡ true → is_square (along s (forward c) 1) ((s + t) / 2) ≡ true
 half_one c s t p q = by (64 * s + t) (omega (arith, p, q)) (omega (arith, q)) (omega (arith, q))

@@ -4,7 +4,7 @@ use Rattle.std.specs.Int.{bit_at}
 use Rattle.std.specs.Int.Bits.{bit_or}
 use Rattle.std.specs.List.{list_any}
 use Rattle.std.proofs.lemmas.List.Folds.{list_any-append}
-use Rattle.std.proofs.lemmas.Bool.{and_parts, cond-false, cond-true, false≢true, or_cases, true_from_ne_false}
+use Rattle.std.proofs.lemmas.Bool.{and_parts, cond-false, cond-true, false≢true, or_cases}
 use Rattle.chess_core.specs.Position.{Position, same_kind}
 use Rattle.chess_core.specs.Steps.{diagonal_steps, knight_steps, pawn_captures, queen_steps, straight_steps}
 use Rattle.chess_core.specs.ties.Words.{word}
@@ -15,16 +15,8 @@ use Rattle.chess_rules.specs.Reaches.{leaps, reaches_as, rides}
 use Rattle.chess_rules.specs.ties.Lines.{is_advance, is_on_some}
 use Rattle.chess_rules.specs.ties.Targets.{may_go, steps_to}
 use Rattle.chess_rules.proofs.listing_moves.Arrivals.{no_steps}
-use Rattle.chess_rules.proofs.Bits.{word_has}
-use Rattle.chess_rules.proofs.giving_check.CheckTargets.{off_left, off_right}
-use Rattle.chess_rules.proofs.attacks.Shielding.{goes_on}
-
--- a square of either word is one of both together
-pub on_left : (a b i : ℕ) → (bit_at a i == 1) ≡ true → (bit_at (bit_or a b) i == 1) ≡ true
-on_left a b i h = true_from_ne_false _ (λ e. let off = off_left a b i e in cc)
-
-pub on_right : (a b i : ℕ) → (bit_at b i == 1) ≡ true → (bit_at (bit_or a b) i == 1) ≡ true
-on_right a b i h = true_from_ne_false _ (λ e. let off = off_right a b i e in cc)
+use Rattle.chess_rules.proofs.Bits.{on_left, on_right, word_has}
+use Rattle.chess_rules.proofs.attacks.Attacking.{goes_on}
 
 -- a piece that is no king reaches where it goes
 pub reached : (p : Position) (x : Man) (s t : ℕ) → same_kind x.kind Pawn ≡ false → same_kind x.kind King ≡ false → may_go p x s t ≡ true

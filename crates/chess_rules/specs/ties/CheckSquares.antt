@@ -54,9 +54,9 @@ own_man p j = record { colour = p.turn; kind = j }
 
 -- the words are those of the squares from which a move may expose the king of colour c, and from which
 -- its enemies of each kind but kings may give check to it
-pub record AreCheckSquares (rule : RuleSet) (men : List (Option Man)) (c : Colour)
+pub record AreCheckSquares (men : List (Option Man)) (c : Colour)
     (s : CheckSquares) : Type 0 where
-  pub shield_squares : s.shield_squares ≡ word (may_expose rule men c)
+  pub shield_squares : s.shield_squares ≡ word (may_expose men c)
   pub straight : s.straight ≡ word (may_check_from men c (enemy c Rook))
   pub diagonal : s.diagonal ≡ word (may_check_from men c (enemy c Bishop))
   pub knight : s.knight ≡ word (may_check_from men c (enemy c Knight))

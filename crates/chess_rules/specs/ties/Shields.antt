@@ -71,17 +71,17 @@ unfoldable pub is_shut : List (Option Man) → Colour → Kind → List Step →
 is_shut men e j ds k s = list_any (rides men k s) ds && some_square (is_behind men e j ds k s)
 
 -- the same test for the king's square, if there is a king
-abbrev pub may_expose_on : RuleSet → List (Option Man) → Option ℕ → Colour → ℕ → Bool
-may_expose_on rule men None c s = false
-may_expose_on rule men (Some k) c s =
+abbrev pub may_expose_on : List (Option Man) → Option ℕ → Colour → ℕ → Bool
+may_expose_on men None c s = false
+may_expose_on men (Some k) c s =
     is_reached men k (other c) || k == s || is_shut men (other c) Rook straight_steps k s
     || is_shut men (other c) Bishop diagonal_steps k s || is_on_fairy_line men (other c) k s
 
 -- a move from s may expose the king of colour c: an enemy reaches it, be it paralysed or not, the move is
 -- the king's own, or s shuts a line between it and an enemy rider of that line, or lies on a line to it with
 -- an enemy grasshopper or nightrider
-unfoldable pub may_expose : RuleSet → List (Option Man) → Colour → ℕ → Bool
-may_expose rule men c s = may_expose_on rule men (king_square men c) c s
+unfoldable pub may_expose : List (Option Man) → Colour → ℕ → Bool
+may_expose men c s = may_expose_on men (king_square men c) c s
 
 -- the steps of a rook's lines, or of a bishop's
 abbrev pub steps_along : RiderLines → List Step
@@ -104,7 +104,7 @@ is_plain rule p x m =
 abbrev pub cannot_expose_of : RuleSet → Position → Option Man → Colour → Move → Bool
 cannot_expose_of rule p None c m = false
 cannot_expose_of rule p (Some x) c m =
-    not (may_expose rule p.men c m.from)
+    not (may_expose p.men c m.from)
     && (not (may_stand_between p.men c m.to) && is_plain rule p x m)
 
 -- the move can't uncover the king of colour c

@@ -2,4 +2,4 @@ use Rattle.std.proofs.Common.{rules}
 use Rattle.chess_rules.proofs.checks.check_squares.Goals as goal
 
 pub returns : goal.returns
-returns g c = search rules
+returns c = search rules

@@ -1,5 +1,8 @@
-use Rattle.std.proofs.Common.{◌==◌, ◌∙◌, arith, sym}
+use Rattle.std.proofs.Common.{◌≡◌, ◌<◌, ◌==◌, ◌∙◌, Some, false, arith, sym, rules}
 use Rattle.std.specs.Int.{bit_at}
+use Rattle.chess_core.specs.Position.{man_on}
+use Rattle.chess_core.specs.declared.man.Kind.TheVariants.{King}
+use Rattle.chess_rules.specs.ties.CheckSquares.{own_man}
 use Rattle.chess_rules.proofs.giving_check.FarMen.{far_none, far_one}
 use Rattle.chess_rules.proofs.Tests.{find_first}
 use Rattle.chess_rules.proofs.origins.far_king.Goals as goal
@@ -7,15 +10,15 @@ use Rattle.chess_rules.proofs.origins.far_king.Goals as goal
 pub returns-in_default : goal.returns-in_default
 returns-in_default g c = (far_none g.R.Rules.rule c.args.board.now).far
 
-pub targets_of_king-requires-clause-here : goal.targets_of_king-requires-clause-here
-targets_of_king-requires-clause-here g c =
+pub is_far-requires-clause-targets : goal.is_far-requires-clause-targets
+is_far-requires-clause-targets g c =
     let first = find_first (λ s. bit_at c.men_off_shields.result s == 1) 0 64 c.in-Some.from (sym c.next_bit.ensures.value ∙ c.in-Some.is) in
-    c.men_off_shields.ensures.stands c.in-Some.from (omega (arith, first.high)) first.here
-
-pub targets_of_king-requires-clause-unshielding : goal.targets_of_king-requires-clause-unshielding
-targets_of_king-requires-clause-unshielding g c =
-    let first = find_first (λ s. bit_at c.men_off_shields.result s == 1) 0 64 c.in-Some.from (sym c.next_bit.ensures.value ∙ c.in-Some.is) in
-    c.men_off_shields.ensures.unshielding c.in-Some.from (omega (arith, first.high)) first.here
+    let small : c.in-Some.from < 64 = omega (arith, first.high) in
+    let stands : man_on c.args.board.now.men c.in-Some.from ≡ Some (own_man c.args.board.now King) =
+    c.men_off_shields.ensures.stands c.in-Some.from small first.here in
+    let unshielding : (bit_at c.args.squares.now.shield_squares c.in-Some.from == 1) ≡ false =
+    c.men_off_shields.ensures.unshielding c.in-Some.from small first.here in
+    search (rules, c.targets_off_shields-targets.ensures)
 
 pub is_far-requires-clause-here : goal.is_far-requires-clause-here
 is_far-requires-clause-here g c =

@@ -1,5 +1,7 @@
-use Rattle.std.proofs.Common.{◌+◌, ◌-◌, ◌<◌, ◌≤◌, ◌==◌, ◌∙◌, arith, sym}
+use Rattle.std.proofs.Common.{◌+◌, ◌-◌, ◌<◌, ◌≤◌, ◌==◌, ◌∙◌, arith, refl, sym}
 use Rattle.std.specs.Int.{bit_at}
+use Rattle.std.proofs.lemmas.Bool.{false≢true}
+use Rattle.chess_rules.specs.ties.CheckSquares.{own_man}
 use Rattle.chess_rules.proofs.giving_check.FarMen.{far_either, far_none, far_one}
 use Rattle.chess_rules.proofs.Tests.{find_first}
 use Rattle.chess_rules.proofs.origins.far_men.Goals as goal
@@ -20,7 +22,8 @@ is_far-requires-clause-targets g c =
     let first = find_first (λ s. bit_at c.men_off_shields-men.result s == 1) c.loop-from.number (64 - c.loop-from.number) c.in-Some.from
     (sym c.next_bit.ensures.value ∙ c.in-Some.is) in
     let small : c.in-Some.from < 64 = omega (arith, first.high, first.low, c.loop-from.invariant.small) in
-    c.targets_of_kind-targets.ensures c.in-Some.from small (c.men_off_shields-men.ensures.stands c.in-Some.from small first.here)
+    c.targets_off_shields-targets.ensures c.in-Some.from (own_man c.args.board.now c.args.kind) small
+    (c.men_off_shields-men.ensures.stands c.in-Some.from small first.here) refl (λ king. absurd (false≢true (sym c.requires.no_king ∙ king)))
     (c.men_off_shields-men.ensures.unshielding c.in-Some.from small first.here)
 
 pub loop-from-preserved : goal.loop-from-preserved
