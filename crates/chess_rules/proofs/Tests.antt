@@ -1,7 +1,5 @@
 -- Tests joined, and tests over ranges of numbers.
-use Rattle.std.proofs.Common.{◌≡◌, ℕ, zero, suc, ◌+◌, ◌<◌, ◌≤◌, Bool, true, false, ◌&&◌, ◌||◌, ◌==◌, refl, sym, arith, ◌⊎◌, inl, inr, ◌∙◌, ◌-◌, Some, None, find, rules}
-use Rattle.std.specs.List.{range_with_len, list_all, list_any}
-use Rattle.std.proofs.lemmas.Bool.{and_left, cases_eq, cases_lt, cases_Bool, cond-true, cond-false, false≢true}
+use Rattle.chess_rules.proofs.Basics.{◌≡◌, ℕ, zero, suc, ◌+◌, ◌<◌, ◌≤◌, Bool, true, false, ◌&&◌, ◌||◌, ◌==◌, refl, sym, arith, ◌⊎◌, inl, inr, ◌∙◌, ◌-◌, Some, None, find, rules, range_with_len, list_all, list_any, and_left, cases_eq, cases_lt, cases_Bool, cond-true, cond-false, false≢true}
 use Rattle.chess_core.proofs.Ranges.{NoneBelow}
 
 pub first_of_and : (a b : Bool) → (a && b) ≡ true → a ≡ true

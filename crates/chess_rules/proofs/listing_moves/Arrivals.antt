@@ -1,28 +1,7 @@
 -- The words of the squares to which a man may go.
-use Rattle.std.proofs.Common.{◌≡◌, ℕ, ◌+◌, ◌*◌, ◌/◌, ◌%◌, ◌<◌, Bool, false, true, not, ◌&&◌, ◌||◌, ◌==◌, List, Option, Some, None, is_some, find, refl, sym, ap, ◌∙◌, arith, inl, inr, rules}
-use Rattle.std.specs.Int.{bit_at, bit_not, w64}
-use Rattle.std.specs.Int.Bits.{bit_and, bit_or}
-use Rattle.std.specs.List.{list_any, range_with_len}
-use Rattle.std.proofs.lemmas.Bool.{agree_below_at, and_from, and_left, and_parts, cases_Bool, cond-false, cond-true, eqb-true, or_cases, or_left, or_right}
-use Rattle.chess_core.specs.Castling.{has_unmoved}
-use Rattle.chess_core.specs.Position.{Position, is_man, is_side, man_on, may_promote, other, same_colour, same_kind}
-use Rattle.chess_core.specs.Squares.{is_square, rank_of}
-use Rattle.chess_core.specs.Steps.{along, queen_steps}
-use Rattle.chess_core.specs.ties.Words.{side_of, squares_of, word}
-use Rattle.chess_core.specs.declared.man.Colour.{Colour}
-use Rattle.chess_core.specs.declared.man.Colour.TheVariants.{Black, White}
-use Rattle.chess_core.specs.declared.man.Kind.{Kind}
-use Rattle.chess_core.specs.declared.man.Kind.TheVariants.{King, Pawn}
-use Rattle.chess_core.specs.declared.man.Man.{Man}
-use Rattle.chess_core.specs.declared.man.Move.{Move}
+use Rattle.chess_rules.proofs.Basics.{◌≡◌, ℕ, ◌+◌, ◌*◌, ◌/◌, ◌%◌, ◌<◌, Bool, false, true, not, ◌&&◌, ◌||◌, ◌==◌, List, Option, Some, None, is_some, find, refl, sym, ap, ◌∙◌, arith, inl, inr, rules, bit_at, bit_not, w64, bit_and, bit_or, list_any, range_with_len, agree_below_at, and_from, and_left, and_parts, cases_Bool, cond-false, cond-true, eqb-true, or_cases, or_left, or_right}
+use Rattle.chess_rules.proofs.Chess.{has_unmoved, Position, is_man, is_side, man_on, may_promote, other, same_colour, same_kind, is_square, rank_of, along, queen_steps, side_of, squares_of, word, Colour, Black, White, Kind, King, Pawn, Man, Move, paralysed, forward, goes, is_arrival_free, is_promotion_right, pseudo, second_rank, is_vacant_at, is_advance, leaps, reaches, reaches_as, RuleSet, IsAimed, arrives, is_arrival, is_arrival_of, may_go, pawn_goes, steps_to}
 use Rattle.chess_core.proofs.Words.{squares_both, squares_either, squares_not, squares_same}
-use Rattle.chess_rules.specs.Attacks.{paralysed}
-use Rattle.chess_rules.specs.Legal.{forward, goes, is_arrival_free, is_promotion_right, pseudo, second_rank}
-use Rattle.chess_core.specs.WellFormed.{is_vacant_at}
-use Rattle.chess_rules.specs.ties.Lines.{is_advance}
-use Rattle.chess_rules.specs.Reaches.{leaps, reaches, reaches_as}
-use Rattle.chess_rules.specs.RuleSet.{RuleSet}
-use Rattle.chess_rules.specs.ties.Targets.{IsAimed, arrives, is_arrival, is_arrival_of, may_go, pawn_goes, steps_to}
 use Rattle.chess_rules.proofs.Bits.{word_empty, word_has}
 use Rattle.chess_rules.proofs.making_moves.Pseudo.{king_is_no_pawn}
 use Rattle.chess_rules.proofs.listing_moves.Targeting.{false_by}

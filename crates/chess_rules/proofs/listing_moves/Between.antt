@@ -1,13 +1,6 @@
 -- The legal moves between two places, and those that mate.
-use Rattle.std.proofs.lemmas.Bool.{cases_lt}
-use Rattle.std.proofs.lemmas.List.Elements.{filter-append}
-use Rattle.std.proofs.lemmas.List.{append_cancel_right, length-append, take-append-drop}
-use Rattle.std.proofs.Common.{◌≡◌, ℕ, zero, suc, inl, inr, ◌+◌, ◌-◌, ◌<◌, ◌≤◌, true, false, List, [], ◌∷◌, ◌++◌, filter, take, drop, length, refl, sym, ap, ◌∙◌, arith, rules}
-use Rattle.chess_core.specs.Position.{Position}
-use Rattle.chess_core.specs.declared.man.Move.{Move}
-use Rattle.chess_rules.specs.RuleSet.{RuleSet}
-use Rattle.chess_rules.specs.Legal.{legal, moves, triples}
-use Rattle.chess_rules.specs.ties.Places.{HaveNone, IsNextMate, is_mating, mates, mates_behind, mates_between, moves_behind, moves_between, triple_at}
+use Rattle.chess_rules.proofs.Basics.{cases_lt, filter-append, append_cancel_right, length-append, take-append-drop, ◌≡◌, ℕ, zero, suc, inl, inr, ◌+◌, ◌-◌, ◌<◌, ◌≤◌, true, false, List, [], ◌∷◌, ◌++◌, filter, take, drop, length, refl, sym, ap, ◌∙◌, arith, rules}
+use Rattle.chess_rules.proofs.Chess.{Position, Move, RuleSet, legal, moves, triples, HaveNone, IsNextMate, is_mating, mates, mates_behind, mates_between, moves_behind, moves_between, triple_at}
 use Rattle.chess_rules.proofs.giving_check.Mating.{mates_behind-end, mates_behind-none, mates_numbered}
 use Rattle.chess_rules.proofs.listing_moves.Places.{drop_triples, drop_triples_past, moves_behind-here}
 use Rattle.chess_rules.proofs.Tests.{first_of_and, second_of_and}

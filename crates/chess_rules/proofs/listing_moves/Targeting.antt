@@ -1,26 +1,7 @@
 -- Where a man may go, and no move is missed by going from one such square to the next.
-use Rattle.std.proofs.Common.{◌≡◌, ℕ, ◌+◌, ◌-◌, ◌*◌, ◌/◌, ◌%◌, ◌<◌, ◌≤◌, Bool, true, false, ◌==◌, List, Option, Some, None, is_some, find, refl, sym, ap, ◌∙◌, arith, inl, inr, rules}
-use Rattle.std.specs.Int.{bit_at, bit_not, w64}
-use Rattle.std.specs.List.{range_with_len}
-use Rattle.std.proofs.lemmas.Bool.{agree_below_at, and_from, and_parts, cases_Bool, cases_eq, cond-true, cond-false, or_left, or_right}
-use Rattle.chess_core.specs.Position.{Position, is_side, man_on, same_colour, same_kind}
-use Rattle.chess_core.specs.Squares.{file_of, is_square, rank_of, square_at}
-use Rattle.chess_core.specs.Steps.{along}
-use Rattle.chess_core.specs.ties.Words.{word}
-use Rattle.chess_core.specs.declared.man.Colour.{Colour}
-use Rattle.chess_core.specs.declared.man.Colour.TheVariants.{White, Black}
-use Rattle.chess_core.specs.declared.man.Kind.{Kind}
-use Rattle.chess_core.specs.declared.man.Kind.TheVariants.{King, Queen, Rook, Bishop, Knight, Pawn, Grasshopper, Nightrider}
-use Rattle.chess_core.specs.declared.man.Man.{Man}
-use Rattle.chess_core.specs.declared.man.Move.{Move}
+use Rattle.chess_rules.proofs.Basics.{◌≡◌, ℕ, ◌+◌, ◌-◌, ◌*◌, ◌/◌, ◌%◌, ◌<◌, ◌≤◌, Bool, true, false, ◌==◌, List, Option, Some, None, is_some, find, refl, sym, ap, ◌∙◌, arith, inl, inr, rules, bit_at, bit_not, w64, range_with_len, agree_below_at, and_from, and_parts, cases_Bool, cases_eq, cond-true, cond-false, or_left, or_right}
+use Rattle.chess_rules.proofs.Chess.{Position, is_side, man_on, same_colour, same_kind, file_of, is_square, rank_of, square_at, along, word, Colour, White, Black, Kind, King, Queen, Rook, Bishop, Knight, Pawn, Grasshopper, Nightrider, Man, Move, castles, goes, is_promotion_right, may_castle, pseudo, pseudo_of, is_advance, is_aside, IsBarrenFrom, IsNamed, promotion_at, is_castling, reaches, reaches_as, RuleSet, arrives, is_arrival, may_go, steps_to}
 use Rattle.chess_core.proofs.Words.{squares_same}
-use Rattle.chess_rules.specs.Legal.{castles, goes, is_promotion_right, may_castle, pseudo, pseudo_of}
-use Rattle.chess_rules.specs.ties.Lines.{is_advance, is_aside}
-use Rattle.chess_rules.specs.ties.Places.{IsBarrenFrom, IsNamed, promotion_at}
-use Rattle.chess_rules.specs.Play.{is_castling}
-use Rattle.chess_rules.specs.Reaches.{reaches, reaches_as}
-use Rattle.chess_rules.specs.RuleSet.{RuleSet}
-use Rattle.chess_rules.specs.ties.Targets.{arrives, is_arrival, may_go, steps_to}
 use Rattle.chess_rules.proofs.Bits.{word_empty}
 use Rattle.chess_rules.proofs.making_moves.Pseudo.{made}
 use Rattle.chess_rules.proofs.Tests.{IsFirst, find_no}

@@ -1,23 +1,8 @@
 -- The triples: which moves they are, in which order they stand, and that each legal move is one of them.
-use Rattle.std.proofs.Common.{◌≡◌, ℕ, zero, suc, ◌+◌, ◌-◌, ◌*◌, ◌<◌, Bool, true, List, [], ◌∷◌, length, map, Option, Some, None, ◌⊎◌, ◌↔◌, inl, inr, refl, ap, arith, rules}
-use Rattle.std.specs.List.{AllPairs, Contains, flat_map, list_any, range_with_len}
-use Rattle.std.proofs.lemmas.Bool.{and_parts, cases_lt, false≢true, or_cases}
-use Rattle.std.proofs.lemmas.List.{get_or_past}
+use Rattle.chess_rules.proofs.Basics.{◌≡◌, ℕ, zero, suc, ◌+◌, ◌-◌, ◌*◌, ◌<◌, Bool, true, List, [], ◌∷◌, length, map, Option, Some, None, ◌⊎◌, ◌↔◌, inl, inr, refl, ap, arith, rules, AllPairs, Contains, flat_map, list_any, range_with_len, and_parts, cases_lt, false≢true, or_cases, get_or_past}
+use Rattle.chess_rules.proofs.Chess.{Position, man_on, may_promote, is_square, squares, along, diagonal_steps, knight_steps, pawn_captures, queen_steps, straight_steps, Colour, Kind, King, Queen, Rook, Bishop, Knight, Pawn, Grasshopper, Nightrider, Man, Move, Step, castles, is_nil, is_promotion_right, may_castle, promotions, pseudo, triples, triple_at, hops, leaps, reaches, reaches_as, reaches_of, rides, RuleSet}
 use Rattle.chess_core.specs.MoveOrder.{promotion_place, triple_number}
-use Rattle.chess_core.specs.Position.{Position, man_on, may_promote}
-use Rattle.chess_core.specs.Squares.{is_square, squares}
-use Rattle.chess_core.specs.Steps.{along, diagonal_steps, knight_steps, pawn_captures, queen_steps, straight_steps}
-use Rattle.chess_core.specs.declared.man.Colour.{Colour}
-use Rattle.chess_core.specs.declared.man.Kind.{Kind}
-use Rattle.chess_core.specs.declared.man.Kind.TheVariants.{King, Queen, Rook, Bishop, Knight, Pawn, Grasshopper, Nightrider}
-use Rattle.chess_core.specs.declared.man.Man.{Man}
-use Rattle.chess_core.specs.declared.man.Move.{Move}
-use Rattle.chess_core.specs.declared.step.Step.{Step}
 use Rattle.chess_core.proofs.Boards.{along-is}
-use Rattle.chess_rules.specs.Legal.{castles, is_nil, is_promotion_right, may_castle, promotions, pseudo, triples}
-use Rattle.chess_rules.specs.ties.Places.{triple_at}
-use Rattle.chess_rules.specs.Reaches.{hops, leaps, reaches, reaches_as, reaches_of, rides}
-use Rattle.chess_rules.specs.RuleSet.{RuleSet}
 use Rattle.chess_rules.proofs.listing_moves.Members.{first_in, none_in_nil, from_flat_map, from_map, from_range, in_flat_map, in_map, in_range, pairs_map, pairs_nil, pairs_of}
 use Rattle.chess_rules.proofs.listing_moves.Places.{triples_numbered}
 use Rattle.chess_rules.proofs.making_moves.Pseudo.{IsMade, made, pawn_goes, ways}

@@ -1,19 +1,8 @@
 -- No move is missed by walking from candidate to candidate.
-use Rattle.std.proofs.Common.{◌≡◌, ℕ, ◌+◌, ◌-◌, ◌*◌, ◌/◌, ◌%◌, ◌<◌, ◌≤◌, Bool, true, false, ◌==◌, not, None, find, refl, subst, sym, ap, ◌∙◌, arith, inl, inr, rules}
-use Rattle.std.specs.Int.{bit_at}
-use Rattle.std.specs.Int.Bits.{bit_and}
-use Rattle.std.specs.List.{range_with_len}
-use Rattle.std.proofs.lemmas.Bool.{and_right, cases_Bool, cases_lt, eqb-true, eq-eqb}
-use Rattle.std.proofs.lemmas.Nat.Bits.{bit_at_and, bit_at-lt, bit_at-zero}
-use Rattle.chess_core.specs.Position.{Position, is_side, man_on}
-use Rattle.chess_core.specs.ties.Words.{side_of, word}
-use Rattle.chess_core.specs.declared.man.Move.{Move}
+use Rattle.chess_rules.proofs.Basics.{◌≡◌, ℕ, ◌+◌, ◌-◌, ◌*◌, ◌/◌, ◌%◌, ◌<◌, ◌≤◌, Bool, true, false, ◌==◌, not, None, find, refl, subst, sym, ap, ◌∙◌, arith, inl, inr, rules, bit_at, bit_and, range_with_len, and_right, cases_Bool, cases_lt, eqb-true, eq-eqb, bit_at_and, bit_at-lt, bit_at-zero}
+use Rattle.chess_rules.proofs.Chess.{Position, is_side, man_on, side_of, word, Move, legal, pseudo, HaveNone, IsBarrenFrom, IsNamed, mates, promotion_at, triple_at, RuleSet, AreCandidates, AreOrigins, IsAimed, is_arrival}
 use Rattle.chess_rules.specs.ties.CheckSquares.{AreCheckOrigins, AreCheckTargets}
 use Rattle.chess_rules.specs.ties.Evasions.{AreEvasionsFrom}
-use Rattle.chess_rules.specs.Legal.{legal, pseudo}
-use Rattle.chess_rules.specs.ties.Places.{HaveNone, IsBarrenFrom, IsNamed, mates, promotion_at, triple_at}
-use Rattle.chess_rules.specs.RuleSet.{RuleSet}
-use Rattle.chess_rules.specs.ties.Targets.{AreCandidates, AreOrigins, IsAimed, is_arrival}
 use Rattle.chess_rules.proofs.Bits.{word_has}
 use Rattle.chess_rules.proofs.giving_check.Mating.{no_mate_quietly}
 use Rattle.chess_rules.proofs.listing_moves.Targeting.{arrival_needed, false_by, own_moves}

@@ -1,25 +1,10 @@
 -- A well-formed position stays well formed.
-use Rattle.std.proofs.Common.{◌≡◌, ◌≢◌, ℕ, ◌+◌, ◌<◌, ◌≤◌, Bool, true, false, ◌&&◌, ◌||◌, eqb, if◌then◌else◌, List, Option, Some, None, length, refl, sym, ap, ◌∙◌, arith, inl, inr, ◌⊎◌, rules}
-use Rattle.std.proofs.lemmas.Bool.{and_from, and_parts, or_cases, cases_Bool, cases_eq, cases_lt, cond-true, cond-false, eqb-true, eq-eqb, ne_eqb, not-true}
-use Rattle.std.proofs.lemmas.List.{length-set, set_past}
-use Rattle.chess_core.specs.Squares.{file_of, rank_of, square_at}
-use Rattle.chess_core.specs.Castling.{has_unmoved, without_unmoved}
-use Rattle.chess_core.specs.Position.{AtMostOneKing, HasNoKing, Position, is_man, man_on, may_promote, other, same_colour, same_kind, with_man, without_man}
-use Rattle.chess_core.specs.WellFormed.{IsWellFormed, is_crossed_right, is_home, is_pawn_inside, is_vacant_at, was_passed}
-use Rattle.chess_core.specs.declared.man.Man.{Man}
-use Rattle.chess_core.specs.declared.man.Move.{Move}
+use Rattle.chess_rules.proofs.Basics.{◌≡◌, ◌≢◌, ℕ, ◌+◌, ◌<◌, ◌≤◌, Bool, true, false, ◌&&◌, ◌||◌, eqb, if◌then◌else◌, List, Option, Some, None, length, refl, sym, ap, ◌∙◌, arith, inl, inr, ◌⊎◌, rules, and_from, and_parts, or_cases, cases_Bool, cases_eq, cases_lt, cond-true, cond-false, eqb-true, eq-eqb, ne_eqb, not-true, length-set, set_past}
+use Rattle.chess_rules.proofs.Chess.{file_of, rank_of, square_at, has_unmoved, without_unmoved, AtMostOneKing, HasNoKing, Position, is_man, man_on, may_promote, other, same_colour, same_kind, with_man, without_man, IsWellFormed, is_crossed_right, is_home, is_pawn_inside, is_vacant_at, was_passed, Man, Move, Colour, White, Black, Kind, King, Queen, Rook, Bishop, Knight, Pawn, Grasshopper, Nightrider, RuleSet, is_circe, after, after_by, arriving, by_shade, capture_square, corner, halfway, if_empty, is_castling, is_double_step, man_on_at, move_man, moved_men, put_at, rebirth, reborn_at, reborn_square, unmoved_after, unmoved_with_rook, unmoved_without_at, without_at, CanCastle, is_promotion_right, last_rank, pseudo, second_rank}
 use Rattle.chess_core.specs.declared.man.Unmoved.{Unmoved}
-use Rattle.chess_core.specs.declared.man.Colour.{Colour}
-use Rattle.chess_core.specs.declared.man.Colour.TheVariants.{White, Black}
-use Rattle.chess_core.specs.declared.man.Kind.{Kind}
-use Rattle.chess_core.specs.declared.man.Kind.TheVariants.{King, Queen, Rook, Bishop, Knight, Pawn, Grasshopper, Nightrider}
 use Rattle.chess_core.proofs.Boards.{IsAt, square_at-is}
 use Rattle.chess_core.proofs.Castlings.{has_unmoved-mark_other, has_unmoved-parts, is_home-none}
 use Rattle.chess_core.proofs.Men.{AtMostOneKing-without, man_on-with_other, man_on-with_same, man_on-without_none, man_on-without_other, man_on-without_same}
-use Rattle.chess_rules.specs.RuleSet.{RuleSet, is_circe}
-use Rattle.chess_rules.specs.Play.{after, after_by, arriving, by_shade, capture_square, corner, halfway, if_empty, is_castling, is_double_step, man_on_at, move_man, moved_men, put_at, rebirth, reborn_at, reborn_square, unmoved_after, unmoved_with_rook, unmoved_without_at, without_at}
-use Rattle.chess_rules.specs.ties.Playing.{CanCastle}
-use Rattle.chess_rules.specs.Legal.{is_promotion_right, last_rank, pseudo, second_rank}
 use Rattle.chess_rules.proofs.making_moves.Fits.{arrived, arrived_other, can_move, castle_of, corner_stays, no_capture, pawn_is_no_king, taken}
 use Rattle.chess_rules.proofs.making_moves.Plays.{none_from_is_some}
 use Rattle.chess_rules.proofs.making_moves.Pseudo.{Advances, IsMade, kind_is_pawn, made, pawn_goes, pawn_reaches, ways}

@@ -1,14 +1,7 @@
 -- Lines looked at from their other end.
-use Rattle.std.proofs.Common.{◌≡◌, ℕ, ◌+◌, ◌-◌, ◌*◌, ◌<◌, ◌≤◌, Bool, true, false, ◌&&◌, cond, List, refl, sym, ap, ◌∙◌, arith, Option, Some, None, rules}
-use Rattle.std.specs.List.{range_with_len, list_any}
-use Rattle.std.proofs.Math.Nat.{add-mul}
-use Rattle.std.proofs.lemmas.Bool.{and_from, eq-eqb, eqb-true, false≢true, leb-true, le-leb}
-use Rattle.chess_core.specs.Squares.{is_square, is_on_board, square_at, file_of, rank_of}
-use Rattle.chess_core.specs.Steps.{along}
-use Rattle.chess_core.specs.declared.step.Step.{Step}
-use Rattle.chess_core.specs.declared.man.Man.{Man}
+use Rattle.chess_rules.proofs.Basics.{◌≡◌, ℕ, ◌+◌, ◌-◌, ◌*◌, ◌<◌, ◌≤◌, Bool, true, false, ◌&&◌, cond, List, refl, sym, ap, ◌∙◌, arith, Option, Some, None, rules, range_with_len, list_any, add-mul, and_from, eq-eqb, eqb-true, false≢true, leb-true, le-leb}
+use Rattle.chess_rules.proofs.Chess.{is_square, is_on_board, square_at, file_of, rank_of, along, Step, Man, is_vacant, is_clear, rides}
 use Rattle.chess_core.proofs.Ranges.{all_range_true}
-use Rattle.chess_rules.specs.Reaches.{is_vacant, is_clear, rides}
 use Rattle.chess_rules.proofs.Tests.{all_at, first_of_and, same_Bool, second_of_and}
 
 -- the step the other way

@@ -1,20 +1,8 @@
 -- The word of a hop.
-use Rattle.std.proofs.Common.{◌≡◌, ◌≢◌, ℕ, ◌+◌, ◌-◌, ◌^◌, ◌<◌, ◌≤◌, Bool, true, false, ◌&&◌, not, List, refl, sym, ap, ◌∙◌, arith, inl, inr, Option, Some, None, is_some, rules}
-use Rattle.std.specs.Int.{trailing_zeros, w64}
-use Rattle.std.specs.List.{list_all, list_any, range_with_len}
-use Rattle.std.proofs.lemmas.Bool.{and_from, cases_Bool, cases_eq, cases_lt, eq-eqb, false≢true, not-true}
-use Rattle.std.proofs.lemmas.Nat.Bits.{bit_at-trailing_zeros}
-use Rattle.chess_core.specs.Squares.{is_square}
-use Rattle.chess_core.specs.Steps.{along}
-use Rattle.chess_core.specs.Position.{man_on}
-use Rattle.chess_core.specs.ties.Words.{word}
-use Rattle.chess_core.specs.declared.man.Man.{Man}
-use Rattle.chess_core.specs.declared.step.Step.{Step}
+use Rattle.chess_rules.proofs.Basics.{◌≡◌, ◌≢◌, ℕ, ◌+◌, ◌-◌, ◌^◌, ◌<◌, ◌≤◌, Bool, true, false, ◌&&◌, not, List, refl, sym, ap, ◌∙◌, arith, inl, inr, Option, Some, None, is_some, rules, trailing_zeros, w64, list_all, list_any, range_with_len, and_from, cases_Bool, cases_eq, cases_lt, eq-eqb, false≢true, not-true, bit_at-trailing_zeros}
+use Rattle.chess_rules.proofs.Chess.{is_square, along, man_on, word, Man, Step, IsStop, is_ahead, place, place_by, ray, rises, step_of, hopped_from, rides_on, hops, is_clear, is_occupied, is_vacant, rides}
 use Rattle.chess_core.proofs.Ranges.{any_range_true, any_range_false, all_range_true}
 use Rattle.chess_core.proofs.Words.{square_word_small, squares_same}
-use Rattle.chess_rules.specs.ties.Lines.{IsStop, is_ahead, place, place_by, ray, rises, step_of}
-use Rattle.chess_rules.specs.ties.Outward.{hopped_from, rides_on}
-use Rattle.chess_rules.specs.Reaches.{hops, is_clear, is_occupied, is_vacant, rides}
 use Rattle.chess_rules.specs.declared.lines.Direction.{Direction}
 use Rattle.chess_rules.proofs.rays.Ahead.{Ordered, Passed, onward, ordered, passes}
 use Rattle.chess_rules.proofs.Bits.{word_empty, word_has}

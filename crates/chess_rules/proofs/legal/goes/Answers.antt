@@ -1,4 +1,4 @@
-use Rattle.std.proofs.Common.{rules}
+use Rattle.chess_rules.proofs.Basics.{rules}
 use Rattle.chess_rules.proofs.listing_moves.Arrivals.{goes_on}
 use Rattle.chess_rules.proofs.legal.goes.Goals as goal
 

@@ -1,4 +1,4 @@
-use Rattle.std.proofs.Common.{rules}
+use Rattle.chess_rules.proofs.Basics.{rules}
 use Rattle.chess_rules.proofs.listing_moves.Arrivals.{aimed_plain, aimed_promotion, may_go_aimed}
 use Rattle.chess_rules.proofs.legal.is_pseudo.Goals as goal
 

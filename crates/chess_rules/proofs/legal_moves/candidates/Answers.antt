@@ -1,4 +1,4 @@
-use Rattle.std.proofs.Common.{rules}
+use Rattle.chess_rules.proofs.Basics.{rules}
 use Rattle.chess_rules.proofs.listing_moves.Places.{not_pseudo}
 use Rattle.chess_rules.proofs.listing_moves.Walks.{candidates, evasions_elsewhere}
 use Rattle.chess_rules.proofs.legal_moves.candidates.Goals as goal

@@ -1,4 +1,4 @@
-use Rattle.std.proofs.Common.{rules}
+use Rattle.chess_rules.proofs.Basics.{rules}
 use Rattle.chess_rules.proofs.giving_check.Mating.{not_mating}
 use Rattle.chess_rules.proofs.listing_moves.Walks.{candidates, checks_elsewhere, no_candidates}
 use Rattle.chess_rules.proofs.mating_moves.candidates.Goals as goal

@@ -1,4 +1,4 @@
-use Rattle.std.proofs.Common.{rules}
+use Rattle.chess_rules.proofs.Basics.{rules}
 use Rattle.chess_rules.proofs.attacks.Attacking.{met, met_none}
 use Rattle.chess_rules.proofs.outward.straight_attackers.Goals as goal
 

@@ -1,5 +1,5 @@
-use Rattle.std.proofs.Common.{rules}
-use Rattle.chess_rules.specs.Reaches.{reaches_as}
+use Rattle.chess_rules.proofs.Basics.{rules}
+use Rattle.chess_rules.proofs.Chess.{reaches_as}
 use Rattle.chess_rules.proofs.reach.reach_over.Goals as goal
 
 pub returns-in-King : goal.returns-in-King

@@ -1,5 +1,5 @@
-use Rattle.std.proofs.Common.{rules}
-use Rattle.chess_rules.specs.Reaches.{reaches}
+use Rattle.chess_rules.proofs.Basics.{rules}
+use Rattle.chess_rules.proofs.Chess.{reaches}
 use Rattle.chess_rules.proofs.Bits.{word_has}
 use Rattle.chess_rules.proofs.reach.reaches.Goals as goal
 

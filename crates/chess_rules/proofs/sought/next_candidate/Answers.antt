@@ -1,7 +1,5 @@
-use Rattle.std.proofs.Common.{◌≡◌, ◌∙◌, ◌+◌, ◌-◌, ◌*◌, ◌/◌, ◌==◌, arith, sym}
-use Rattle.std.specs.Int.{bit_at}
-use Rattle.chess_rules.specs.ties.Places.{HaveNone, IsBarrenFrom}
-use Rattle.chess_rules.specs.ties.Targets.{AreCandidates}
+use Rattle.chess_rules.proofs.Basics.{◌≡◌, ◌∙◌, ◌+◌, ◌-◌, ◌*◌, ◌/◌, ◌==◌, arith, sym, bit_at}
+use Rattle.chess_rules.proofs.Chess.{HaveNone, IsBarrenFrom, AreCandidates}
 use Rattle.chess_rules.proofs.listing_moves.Walks.{aimed_from, none-end, none-origin}
 use Rattle.chess_rules.proofs.Tests.{find_first}
 use Rattle.chess_rules.proofs.sought.next_candidate.Goals as goal

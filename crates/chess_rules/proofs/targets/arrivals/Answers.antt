@@ -1,5 +1,5 @@
-use Rattle.std.proofs.Common.{◌≡◌, ◌∙◌, true, sym, rules}
-use Rattle.chess_core.specs.Position.{same_colour}
+use Rattle.chess_rules.proofs.Basics.{◌≡◌, ◌∙◌, true, sym, rules}
+use Rattle.chess_rules.proofs.Chess.{same_colour}
 use Rattle.chess_rules.proofs.listing_moves.Arrivals.{arrivals_nobody, arrivals_other, arrivals_paralysed, arrivals_some}
 use Rattle.chess_rules.proofs.targets.arrivals.Goals as goal
 

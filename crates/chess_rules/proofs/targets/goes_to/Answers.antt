@@ -1,4 +1,4 @@
-use Rattle.std.proofs.Common.{rules}
+use Rattle.chess_rules.proofs.Basics.{rules}
 use Rattle.chess_rules.proofs.listing_moves.Arrivals.{other_ways, pawn_ways}
 use Rattle.chess_rules.proofs.targets.goes_to.Goals as goal
 

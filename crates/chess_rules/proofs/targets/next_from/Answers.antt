@@ -1,7 +1,5 @@
-use Rattle.std.proofs.Common.{◌≡◌, ◌+◌, ◌-◌, ◌*◌, ◌/◌, ◌%◌, ◌<◌, ◌==◌, Some, sym, ◌∙◌, arith, rules}
-use Rattle.std.specs.Int.{bit_at}
-use Rattle.chess_core.specs.Position.{man_on}
-use Rattle.chess_rules.specs.ties.Places.{IsBarrenFrom}
+use Rattle.chess_rules.proofs.Basics.{◌≡◌, ◌+◌, ◌-◌, ◌*◌, ◌/◌, ◌%◌, ◌<◌, ◌==◌, Some, sym, ◌∙◌, arith, rules, bit_at}
+use Rattle.chess_rules.proofs.Chess.{man_on, IsBarrenFrom}
 use Rattle.chess_rules.proofs.listing_moves.Targeting.{from-join, from-nobody, from-none, from-promoted, from-target, from-unpromoted, named_at, none_named, some_named}
 use Rattle.chess_rules.proofs.Tests.{find_first}
 use Rattle.chess_rules.proofs.targets.next_from.Goals as goal

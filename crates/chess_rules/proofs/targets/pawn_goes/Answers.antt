@@ -1,9 +1,5 @@
-use Rattle.std.proofs.Common.{◌≡◌, ◌∙◌, ◌==◌, true, arith, sym, rules}
-use Rattle.std.specs.Int.{bit_at, bit_not, w64}
-use Rattle.std.specs.Int.Bits.{bit_and}
-use Rattle.std.proofs.lemmas.Bool.{eq-eqb}
-use Rattle.chess_core.specs.Squares.{rank_of}
-use Rattle.chess_rules.specs.Legal.{second_rank}
+use Rattle.chess_rules.proofs.Basics.{◌≡◌, ◌∙◌, ◌==◌, true, arith, sym, rules, bit_at, bit_not, w64, bit_and, eq-eqb}
+use Rattle.chess_rules.proofs.Chess.{rank_of, second_rank}
 use Rattle.chess_rules.proofs.listing_moves.Arrivals.{goes-blocked, goes-once, goes-twice}
 use Rattle.chess_rules.proofs.Tests.{differs, find_first}
 use Rattle.chess_rules.proofs.targets.pawn_goes.Goals as goal

@@ -1,4 +1,4 @@
-use Rattle.std.proofs.Common.{rules}
+use Rattle.chess_rules.proofs.Basics.{rules}
 use Rattle.chess_rules.proofs.listing_moves.Targeting.{king_word, other_word, pawn_word}
 use Rattle.chess_rules.proofs.targets.steps_to.Goals as goal
 

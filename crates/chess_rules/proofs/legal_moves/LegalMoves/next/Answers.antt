@@ -1,5 +1,5 @@
-use Rattle.std.proofs.Common.{rules}
-use Rattle.chess_rules.specs.ties.Places.{place_of}
+use Rattle.chess_rules.proofs.Basics.{rules}
+use Rattle.chess_rules.proofs.Chess.{place_of}
 use Rattle.chess_rules.proofs.listing_moves.Places.{first_behind-none, first_missing, first_numbered, place_of_triple, rest_missing, rest_numbered}
 use Rattle.chess_rules.proofs.legal_moves.LegalMoves.next.Goals as goal
 

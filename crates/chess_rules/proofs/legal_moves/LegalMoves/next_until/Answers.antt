@@ -1,4 +1,4 @@
-use Rattle.std.proofs.Common.{rules}
+use Rattle.chess_rules.proofs.Basics.{rules}
 use Rattle.chess_rules.proofs.listing_moves.Between.{until-end, until-legal}
 use Rattle.chess_rules.proofs.legal_moves.LegalMoves.next_until.Goals as goal
 

@@ -1,6 +1,4 @@
-use Rattle.std.proofs.Common.{arith, rules}
-use Rattle.std.specs.Int.{w64}
-use Rattle.std.proofs.lemmas.Nat.Bits.{bit_at_set_same}
+use Rattle.chess_rules.proofs.Basics.{arith, rules, w64, bit_at_set_same}
 use Rattle.chess_rules.proofs.rays.Firsts.{has_bit, highest_stop, lowest_stop}
 use Rattle.chess_rules.proofs.lines.Direction.first.Goals as goal
 

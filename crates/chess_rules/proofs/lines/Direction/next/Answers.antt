@@ -1,4 +1,4 @@
-use Rattle.std.proofs.Common.{rules}
+use Rattle.chess_rules.proofs.Basics.{rules}
 use Rattle.chess_rules.proofs.rays.HopWords.{next_none, next_some}
 use Rattle.chess_rules.proofs.lines.Direction.next.Goals as goal
 

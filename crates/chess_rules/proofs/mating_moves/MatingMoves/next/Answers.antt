@@ -1,5 +1,5 @@
-use Rattle.std.proofs.Common.{rules}
-use Rattle.chess_rules.specs.ties.Places.{place_of}
+use Rattle.chess_rules.proofs.Basics.{rules}
+use Rattle.chess_rules.proofs.Chess.{place_of}
 use Rattle.chess_rules.proofs.listing_moves.Between.{next_mate_numbered}
 use Rattle.chess_rules.proofs.giving_check.Mating.{legal_of_mate, mates_behind-end, mates_behind-none, mates_numbered}
 use Rattle.chess_rules.proofs.listing_moves.Places.{place_of_triple}

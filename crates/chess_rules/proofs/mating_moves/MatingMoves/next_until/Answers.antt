@@ -1,4 +1,4 @@
-use Rattle.std.proofs.Common.{rules}
+use Rattle.chess_rules.proofs.Basics.{rules}
 use Rattle.chess_rules.proofs.listing_moves.Between.{mates_between-none, mates_between-past, until-mate, until-mateless}
 use Rattle.chess_rules.proofs.giving_check.Mating.{legal_of_mate}
 use Rattle.chess_rules.proofs.mating_moves.MatingMoves.next_until.Goals as goal
