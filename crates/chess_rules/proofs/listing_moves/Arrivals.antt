@@ -6,6 +6,7 @@ use Rattle.chess_rules.proofs.Bits.{word_empty, word_has}
 use Rattle.chess_rules.proofs.making_moves.Pseudo.{king_is_no_pawn}
 use Rattle.chess_rules.proofs.listing_moves.Targeting.{false_by}
 use Rattle.chess_rules.proofs.Tests.{IsFirst, find_no, same_Bool}
+use Rattle.chess_rules.proofs.rays.Tables.{each_pair}
 
 -- no man of the colour and no king
 free_of : (a c : Colour) (k : Kind) → not (same_colour a c || (same_colour a (other c) && same_kind k King)) ≡ (not (same_colour a c) && not (same_kind k King))
@@ -33,34 +34,22 @@ castling_none u x s h = word_empty (λ t. u && steps_to x s t) (λ t b. and_left
 
 -- one square ahead, and the square halfway to the one behind it
 one_near : (c : Colour) (s t : ℕ) → s < 64 → t < 64 → is_square (along s (forward c) 1) t ≡ (is_advance c s t && list_any (leaps s t) queen_steps)
-one_near c s t p q = by (64 * s + t) (omega (arith, p, q)) (omega (arith, q)) (omega (arith, q))
-  where
-    table : (c : Colour) (k : ℕ) → k < 4096 → is_square (along (k / 64) (forward c) 1) (k % 64)
-        ≡ (is_advance c (k / 64) (k % 64) && list_any (leaps (k / 64) (k % 64)) queen_steps)
-    table White k lt = unfold along leaps in agree_below_at (λ n. is_square (along (n / 64) (forward White) 1) (n % 64))
-        (λ n. is_advance White (n / 64) (n % 64) && list_any (leaps (n / 64) (n % 64)) queen_steps) 4096 k refl lt
-    table Black k lt = unfold along leaps in agree_below_at (λ n. is_square (along (n / 64) (forward Black) 1) (n % 64))
-        (λ n. is_advance Black (n / 64) (n % 64) && list_any (leaps (n / 64) (n % 64)) queen_steps) 4096 k refl lt
-
-    by : (k : ℕ) → k < 4096 → k / 64 ≡ s → k % 64 ≡ t → is_square (along s (forward c) 1) t ≡ (is_advance c s t && list_any (leaps s t) queen_steps)
-    by k lt a b = rw (← a, ← b) (table c k lt)
+unfolding along leaps
+one_near White s t p q = each_pair (λ s t. is_square (along s (forward White) 1) t) (λ s t. is_advance White s t && list_any (leaps s t) queen_steps) s t p q refl
+one_near Black s t p q = each_pair (λ s t. is_square (along s (forward Black) 1) t) (λ s t. is_advance Black s t && list_any (leaps s t) queen_steps) s t p q refl
 
 implied : (a b : Bool) → (not a || b) ≡ true → a ≡ true → b ≡ true
 implied true b h e = h
 implied false b h e = cc
 
 half_one : (c : Colour) (s t : ℕ) → s < 64 → t < 64 → is_square (along s (forward c) 2) t ≡ true → is_square (along s (forward c) 1) ((s + t) / 2) ≡ true
-half_one c s t p q = by (64 * s + t) (omega (arith, p, q)) (omega (arith, q)) (omega (arith, q))
+half_one c s t p q = implied _ _ (table c)
   where
-    table : (c : Colour) (k : ℕ) → k < 4096 → (not (is_square (along (k / 64) (forward c) 2) (k % 64))
-        || is_square (along (k / 64) (forward c) 1) ((k / 64 + k % 64) / 2)) ≡ true
-    table White k lt = unfold along in agree_below_at (λ n. not (is_square (along (n / 64) (forward White) 2) (n % 64))
-        || is_square (along (n / 64) (forward White) 1) ((n / 64 + n % 64) / 2)) (λ n. true) 4096 k refl lt
-    table Black k lt = unfold along in agree_below_at (λ n. not (is_square (along (n / 64) (forward Black) 2) (n % 64))
-        || is_square (along (n / 64) (forward Black) 1) ((n / 64 + n % 64) / 2)) (λ n. true) 4096 k refl lt
-
-    by : (k : ℕ) → k < 4096 → k / 64 ≡ s → k % 64 ≡ t → is_square (along s (forward c) 2) t ≡ true → is_square (along s (forward c) 1) ((s + t) / 2) ≡ true
-    by k lt a b = rw (← a, ← b) (implied _ _ (table c k lt))
+    table : (c : Colour) → (not (is_square (along s (forward c) 2) t) || is_square (along s (forward c) 1) ((s + t) / 2)) ≡ true
+    table White = unfold along in each_pair (λ s t. not (is_square (along s (forward White) 2) t) || is_square (along s (forward White) 1) ((s + t) / 2))
+        (λ _ _. true) s t p q refl
+    table Black = unfold along in each_pair (λ s t. not (is_square (along s (forward Black) 2) t) || is_square (along s (forward Black) 1) ((s + t) / 2))
+        (λ _ _. true) s t p q refl
 
 one_is : (o : Option ℕ) (t u : ℕ) → is_square o t ≡ true → is_square o u ≡ true → t ≡ u
 one_is None t u h i = cc

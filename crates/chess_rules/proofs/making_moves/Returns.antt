@@ -22,10 +22,10 @@ length-without_at men (Some s) = length-set men s None
 arrived_there : (p : Position) (x : Man) (m : Move) → length p.men ≡ 64 → m.to < 64 → man_on (arrived p x m) m.to ≡ Some (arriving x m.promo)
 arrived_there p x m size small = search rules
 
-moved_there : (rule : RuleSet) (p : Position) (x : Man) (m : Move) → IsWellFormed p → IsMade rule p x m → m.to < 64
+pub moved_arrival : (rule : RuleSet) (p : Position) (x : Man) (m : Move) → IsWellFormed p → IsMade rule p x m → m.to < 64
     → man_on (moved_men p x m) m.to ≡ Some (arriving x m.promo)
 unfolding moved_men
-moved_there rule p x m well made small = elim (cases_Bool (is_castling x m)) [
+moved_arrival rule p x m well made small = elim (cases_Bool (is_castling x m)) [
   | inl e ↦
       let c = castle_of rule p x m well made e in
       rw e (move_man_other (arrived p x m) (corner m) (halfway m) (man_on (arrived p x m) (corner m)) m.to
@@ -155,10 +155,6 @@ unreborn rule p x m = unborn (moved_men p x m) (reborn_square rule p x m) (man_o
 -- the man that goes back
 pub goes_back : (rule : RuleSet) (p : Position) (x : Man) (m : Move) → IsMade rule p x m → leaving (arriving x m.promo) m.promo ≡ x
 goes_back rule p x m made = leaving_arriving p x m m.promo made.promotion
-
-pub moved_arrival : (rule : RuleSet) (p : Position) (x : Man) (m : Move) → IsWellFormed p → IsMade rule p x m → m.to < 64
-    → man_on (moved_men p x m) m.to ≡ Some (arriving x m.promo)
-moved_arrival rule p x m well made small = moved_there rule p x m well made small
 
 pub before_is : (rule : RuleSet) (p : Position) (x : Man) (m : Move) (u : Loss) → IsWellFormed p → IsMade rule p x m → u ≡ loss_by rule p x m
     → before_by (record (after_by rule p x m) { men = moved_men p x m }) x m u ≡ p

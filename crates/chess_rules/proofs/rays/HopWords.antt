@@ -9,10 +9,7 @@ use Rattle.chess_rules.proofs.Bits.{word_empty, word_has}
 use Rattle.chess_rules.proofs.rays.Computed.{eighth}
 use Rattle.chess_rules.proofs.rays.Ends.{square_is, stays}
 use Rattle.chess_rules.proofs.rays.Stopping.{Steps, Stops, ahead_at, passes_test, marked, place_le, steps_on}
-use Rattle.chess_rules.proofs.Tests.{all_at, any_range_cases, first_of_and, same_Bool, second_of_and}
-
-same_some : (a b : ℕ) → Some a ≡ Some b → a ≡ b
-same_some a b h = cc
+use Rattle.chess_rules.proofs.Tests.{all_at, any_range_cases, first_of_and, same_Bool, second_of_and, some_is}
 
 -- a number of the range that passes
 found : (p : ℕ → Bool) (a n : ℕ) → list_any p (range_with_len a n) ≡ true → (k : ℕ) × (a ≤ k) × (k < a + n) × (p k ≡ true)
@@ -160,7 +157,7 @@ next_is s x r b t p h stop ahead =
       | inl lt ↦
           let on = steps_on s (step_of x) b (passes_test (is_ahead s (step_of x)) r b h stop.small (stop.here lt)) in
           elim (cases_eq on.0 1) [
-            | inl e ↦ same_some b w.0 (sym on.1.at ∙ ap (along s (step_of x)) e ∙ w.1.at)
+            | inl e ↦ some_is b w.0 (sym on.1.at ∙ ap (along s (step_of x)) e ∙ w.1.at)
             | inr ne ↦ absurd (let more : place (step_of x) w.0 < place (step_of x) b = (ordered x).in_order s 1 on.0 w.0 b w.1.at on.1.at
                 (omega (arith, on.1.low)) in omega arith)
           ]
@@ -177,7 +174,7 @@ unfolding ray
 next_none s d r p h z = none_at (along s d 1) (λ q at. elim (cases_lt q 64) [
   | inl small ↦ (false≢true (sym (word_has (λ t. false) r q (z ∙ word_empty (λ t. false) (λ t b. refl)) small) ∙ word_has (is_ahead s d) r q h small
       ∙ ahead_at s d q 1 (omega arith) (omega arith) at))
-  | inr big ↦ (let w = passes s q d 1 1 p (omega arith) at in let e : w.0 ≡ q = same_some w.0 q (sym w.1.at ∙ at) in let f : w.0 < 64 = w.1.small in
+  | inr big ↦ (let w = passes s q d 1 1 p (omega arith) at in let e : w.0 ≡ q = some_is w.0 q (sym w.1.at ∙ at) in let f : w.0 < 64 = w.1.small in
       omega arith)
 ])
 
