@@ -4,7 +4,7 @@ use Rattle.chess_rules.proofs.Chess.{Position, is_side, man_on, same_colour, sam
 use Rattle.chess_core.proofs.Words.{squares_same}
 use Rattle.chess_rules.proofs.Bits.{word_empty}
 use Rattle.chess_rules.proofs.making_moves.Pseudo.{made}
-use Rattle.chess_rules.proofs.Tests.{IsFirst, find_no}
+use Rattle.chess_rules.proofs.Tests.{IsFirst, find_no, find_first}
 
 -- the words of a pawn's steps, of a king's in castling, and of the others
 pub pawn_word : (x : Man) (s n : ℕ) → same_kind x.kind Pawn ≡ true → n ≡ word (is_advance x.colour s) → n ≡ word (steps_to x s)
@@ -142,6 +142,12 @@ from-promoted p x s z t here h = record {
 pub from-target : (p : Position) (s start at t w : ℕ) → IsBarrenFrom p s w start at → IsFirst (λ q. bit_at w q == 1) (at / 7) (64 - at / 7) t
     → IsBarrenFrom p s w start (7 * t)
 from-target p s start at t w past f = search rules
+
+pub from-first : (p : Position) (x : Man) (s start at t w n : ℕ) → man_on p.men s ≡ Some x → IsBarrenFrom p s w start at
+    → find (λ q. bit_at w q == 1) (range_with_len (at / 7) (64 - at / 7)) ≡ Some t → arrives x t ≡ true → n ≡ 7 * t → IsBarrenFrom p s w start (n + 1)
+from-first p x s start at t w n here past found last e =
+    rw e (from-join p s w start (7 * t) (7 * t + 1) (from-target p s start at t w past (find_first (λ q. bit_at w q == 1) (at / 7) (64 - at / 7) t found))
+    (from-promoted p x s w t here last))
 
 -- up to the end, where there is none
 pub from-none : (p : Position) (s start at w : ℕ) → IsBarrenFrom p s w start at → find (λ q. bit_at w q == 1) (range_with_len (at / 7) (64 - at / 7)) ≡ None

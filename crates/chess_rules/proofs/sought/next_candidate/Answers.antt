@@ -1,5 +1,4 @@
-use Rattle.chess_rules.proofs.Basics.{◌≡◌, ◌∙◌, ◌+◌, ◌-◌, ◌*◌, ◌/◌, ◌==◌, arith, sym, bit_at}
-use Rattle.chess_rules.proofs.Chess.{HaveNone, IsBarrenFrom, AreCandidates}
+use Rattle.chess_rules.proofs.Basics.{◌≡◌, ◌∙◌, ◌-◌, ◌*◌, ◌/◌, ◌==◌, arith, sym, bit_at}
 use Rattle.chess_rules.proofs.listing_moves.Walks.{aimed_from, none-end, none-origin}
 use Rattle.chess_rules.proofs.Tests.{find_first}
 use Rattle.chess_rules.proofs.sought.next_candidate.Goals as goal
