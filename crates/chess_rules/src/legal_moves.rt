@@ -223,6 +223,7 @@ fn own_origins<R: Rules>(board: &Board) -> u64
 }
 
 // The squares to which the man on `from` may go by a legal move, and perhaps more.
+#[tactic(auto, using(crate::proofs::listing_moves::Walks::candidates, crate::proofs::listing_moves::Walks::evasions_elsewhere, crate::proofs::listing_moves::Places::not_pseudo))]
 fn candidates<R: Rules>(board: &Board, evasion_squares: u64, from: Square) -> u64
     requires well_formed { IsWellFormed board.now }
     requires evasion_squares { AreEvasions R.rule board.now.men board.now.turn evasion_squares }

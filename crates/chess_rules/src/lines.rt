@@ -86,6 +86,7 @@ impl Direction {
     }
 
     // The next square of the line, if it has one.
+    #[tactic(auto, using(crate::proofs::rays::HopWords::next_none, crate::proofs::rays::HopWords::next_some))]
     fn next(self, from: Square) -> Option<Square>
         ensures { result ≡ along from (step_of self) 1 }
     {

@@ -192,6 +192,7 @@ fn mating_origins<R: Rules>(board: &Board, squares: &CheckSquares) -> u64
 }
 
 // The squares to which the man on `from` may go with check, and perhaps more.
+#[tactic(auto, using(crate::proofs::listing_moves::Walks::candidates, crate::proofs::listing_moves::Walks::no_candidates, crate::proofs::listing_moves::Walks::checks_elsewhere, crate::proofs::giving_check::Mating::not_mating))]
 fn candidates<R: Rules>(board: &Board, squares: &CheckSquares, from: Square) -> u64
     requires well_formed { IsWellFormed board.now }
     requires squares { AreCheckSquares board.now.men (other board.now.turn) squares.now }

@@ -17,6 +17,7 @@ use chess_core::square::Square;
 // The squares to which a man of this colour and kind on `from` could go if enemies stood there (a
 // pawn captures, it doesn't step forward), whichever men stand on the occupied squares.
 #[inline(always)]
+#[tactic(auto, unfolding(crate::specs::Reaches::reaches_as))]
 pub(crate) fn reach_over(occupied: u64, colour: Colour, kind: Kind, from: Square) -> u64
     ensures { (men : List (Option Man)) → occupied ≡ occupied_squares men
         → result ≡ word (reaches_as men colour kind from) }
@@ -41,7 +42,7 @@ pub(crate) fn reach_as(board: &Board, colour: Colour, kind: Kind, from: Square) 
 }
 
 // Whether the man on `from`, if there is one, could go to `to` if an enemy stood there.
-#[tactic(auto, unfolding(crate::specs::Reaches::reaches))]
+#[tactic(auto, using(crate::proofs::Bits::word_has), unfolding(crate::specs::Reaches::reaches))]
 pub(crate) fn reaches(board: &Board, from: Square, to: Square) -> bool
     ensures { result ≡ reaches board.now.men from to }
 {

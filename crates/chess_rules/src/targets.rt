@@ -32,6 +32,7 @@ pub(crate) struct Kept {
 }
 
 // The squares one and two steps ahead of a pawn, and two files beside a king.
+#[tactic(auto, using(crate::proofs::listing_moves::Targeting::king_word, crate::proofs::listing_moves::Targeting::other_word, crate::proofs::listing_moves::Targeting::pawn_word))]
 pub(crate) fn steps_to(man: Man, from: Square) -> u64
     ensures { result ≡ word (steps_to man from) }
 {
@@ -71,6 +72,7 @@ fn castling_squares(board: &Board, man: Man, from: Square) -> u64
 }
 
 // The squares to which the man on `from` goes, whoever stands there, most tests of castling apart.
+#[tactic(auto, using(crate::proofs::listing_moves::Arrivals::other_ways, crate::proofs::listing_moves::Arrivals::pawn_ways))]
 fn goes_to(board: &Board, man: Man, from: Square) -> u64
     ensures { result ≡ word (may_go board.now man from) }
 {
