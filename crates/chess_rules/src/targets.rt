@@ -32,7 +32,7 @@ pub(crate) struct Kept {
 }
 
 // The squares one and two steps ahead of a pawn, and two files beside a king.
-#[tactic(auto, using(crate::proofs::listing_moves::Targeting::king_word, crate::proofs::listing_moves::Targeting::other_word, crate::proofs::listing_moves::Targeting::pawn_word))]
+#[tactic(auto, using(crate::proofs::listing_moves::Targeting::step_words))]
 pub(crate) fn steps_to(man: Man, from: Square) -> u64
     ensures { result ≡ word (steps_to man from) }
 {
@@ -47,6 +47,7 @@ pub(crate) fn steps_to(man: Man, from: Square) -> u64
 
 // The squares to which a pawn steps from here: the next one if it is empty, and from its second rank the
 // one behind it too.
+#[tactic(auto, using(crate::proofs::listing_moves::Arrivals::pawn_steps_are))]
 fn pawn_goes(board: &Board, man: Man, from: Square) -> u64
     ensures { result ≡ word (pawn_goes board.now man from) }
 {
@@ -91,6 +92,7 @@ fn free_squares(board: &Board, colour: Colour) -> u64
 }
 
 // The squares to which the man on `from` may go, most tests of castling apart.
+#[tactic(auto, using(crate::proofs::listing_moves::Arrivals::no_arrivals))]
 pub(crate) fn arrivals<R: Rules>(board: &Board, from: Square) -> u64
     ensures { result ≡ word (is_arrival R.rule board.now from) }
 {

@@ -5,7 +5,7 @@ use Rattle.chess_core.proofs.Words.{squares_both, squares_either, squares_not, s
 use Rattle.chess_rules.proofs.Bits.{word_empty, word_has}
 use Rattle.chess_rules.proofs.making_moves.Pseudo.{king_is_no_pawn}
 use Rattle.chess_rules.proofs.listing_moves.Targeting.{false_by}
-use Rattle.chess_rules.proofs.Tests.{IsFirst, find_no, same_Bool}
+use Rattle.chess_rules.proofs.Tests.{IsFirst, find_no, same_Bool, differs}
 use Rattle.chess_rules.proofs.rays.Tables.{each_pair}
 
 -- no man of the colour and no king
@@ -246,3 +246,12 @@ aimed_plain rule p m x a e here =
     let unnamed : arrives x m.to ≡ false = rw (← same) (sym a.promotion ∙ ap (λ (o : Option Kind). is_some o) e) in
     sym (left_to_test rule p x m here a.arrival ∙ ap (λ (o : Option Kind). is_promotion_right p x m o && goes rule p x m) e
     ∙ ap (λ (b : Bool). not b && goes rule p x m) unnamed)
+
+-- for the test of a move that is aimed
+pub ruleset aimed = (aimed_plain, aimed_promotion, may_go_aimed)
+
+-- for an origin without arrivals
+pub ruleset no_arrivals = (arrivals_nobody, arrivals_other, arrivals_paralysed)
+
+-- for the word of a pawn's steps
+pub ruleset pawn_steps_are = (differs, goes-blocked, goes-once)

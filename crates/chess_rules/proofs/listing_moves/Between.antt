@@ -2,8 +2,8 @@
 use Rattle.std.proofs.lemmas.List.{drop-drop}
 use Rattle.chess_rules.proofs.Basics.{cases_lt, filter-append, append_cancel_right, length-append, take-append-drop, ◌≡◌, ℕ, zero, suc, inl, inr, ◌+◌, ◌-◌, ◌<◌, ◌≤◌, true, false, List, [], ◌∷◌, ◌++◌, filter, take, drop, length, refl, sym, ap, ◌∙◌, arith, rules}
 use Rattle.chess_rules.proofs.Chess.{Position, Move, RuleSet, legal, moves, triples, HaveNone, IsNextMate, is_mating, mates, mates_behind, mates_between, moves_behind, moves_between, triple_at}
-use Rattle.chess_rules.proofs.giving_check.Mating.{mates_behind-end, mates_behind-none, mates_numbered}
-use Rattle.chess_rules.proofs.listing_moves.Places.{drop_triples, drop_triples_past, moves_behind-here, over}
+use Rattle.chess_rules.proofs.giving_check.Mating.{mates_behind-end, mates_behind-none, mates_numbered, legal_of_mate}
+use Rattle.chess_rules.proofs.listing_moves.Places.{drop_triples, drop_triples_past, moves_behind-here, over, place_of_triple}
 use Rattle.chess_rules.proofs.Tests.{first_of_and, second_of_and}
 
 take-none : (n : ℕ) → take {A = Move} n [] ≡ []
@@ -123,3 +123,12 @@ mates_between-none rule p a b le = rw (between-none rule p a b le) refl
 pub mates_between-past : (rule : RuleSet) (p : Position) (a b : ℕ) → 28672 ≤ a → mates_between rule p a b ≡ []
 unfolding mates_between
 mates_between-past rule p a b ge = rw (between-past rule p a b ge) refl
+
+-- for the walk up to an end
+pub ruleset until = (until-legal, until-end)
+
+-- for that over mates
+pub ruleset until_mates = (legal_of_mate, mates_between-none, mates_between-past, until-mateless)
+
+-- for the next mate
+pub ruleset next_mates = (legal_of_mate, mates_behind-end, mates_behind-none, mates_numbered, next_mate_numbered, place_of_triple)

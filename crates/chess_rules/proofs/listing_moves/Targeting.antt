@@ -200,3 +200,6 @@ plain-named p x s t w here h set =
 
 pub every_square_on : (t : ℕ) → t < 64 → (bit_at (bit_not w64 0) t == 1) ≡ true
 every_square_on t lt = agree_below_at (λ n. bit_at (bit_not w64 0) n == 1) (λ _. true) 64 t refl lt
+
+-- for the word of the steps
+pub ruleset step_words = (king_word, other_word, pawn_word)

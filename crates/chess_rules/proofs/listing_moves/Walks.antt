@@ -4,9 +4,10 @@ use Rattle.chess_rules.proofs.Chess.{Position, is_side, man_on, side_of, word, M
 use Rattle.chess_rules.specs.ties.CheckSquares.{AreCheckOrigins, AreCheckTargets}
 use Rattle.chess_rules.specs.ties.Evasions.{AreEvasionsFrom}
 use Rattle.chess_rules.proofs.Bits.{word_has}
-use Rattle.chess_rules.proofs.giving_check.Mating.{no_mate_quietly}
+use Rattle.chess_rules.proofs.giving_check.Mating.{no_mate_quietly, not_mating}
 use Rattle.chess_rules.proofs.listing_moves.Targeting.{arrival_needed, false_by, own_moves}
 use Rattle.chess_rules.proofs.Tests.{find_no, find_first}
+use Rattle.chess_rules.proofs.listing_moves.Places.{not_pseudo}
 
 -- squares of two words
 pub on_first : (a b i : ℕ) → (bit_at (bit_and a b) i == 1) ≡ true → (bit_at a i == 1) ≡ true
@@ -119,3 +120,9 @@ pub mating_origins : (rule : RuleSet) (p : Position) (w : ℕ) → AreCheckOrigi
 mating_origins rule p w h = record {
   elsewhere = λ m inside small off. sym (no_mate_quietly rule p m (λ lawful. h.elsewhere m inside small lawful off));
 }
+
+-- for the candidates of one origin
+pub ruleset legal_candidates = (candidates, evasions_elsewhere, not_pseudo)
+
+-- and for those that may mate
+pub ruleset mating_candidates = (candidates, no_candidates, checks_elsewhere, not_mating)
