@@ -1,9 +1,6 @@
 -- Bits of words: the first from a place on, one alone, and words that are not 0.
 use Rattle.chess_rules.proofs.Basics.{◌≡◌, ℕ, zero, suc, ◌-◌, ◌*◌, ◌%◌, ◌^◌, ◌<◌, ◌≤◌, Bool, true, false, ◌==◌, not, refl, sym, ap, ◌∙◌, arith, ◌⊎◌, inl, inr, Some, None, find, rules, bit_at, w64, trailing_zeros, bit_and, range_with_len, cases_lt, eq-eqb, bit_at_and, bit_at-zero, bit_at_mask_inside, bit_at_mask_below, bit_at-trailing_zeros, ones_shl, bit_at-lt, one_shl, bit_at-pow_same, bit_at-pow_other, cases_eq}
-use Rattle.chess_rules.proofs.Chess.{is_square, some_square, bit_of, word}
-use Rattle.chess_core.proofs.Ranges.{find_range_some, find_range_none}
-use Rattle.chess_core.proofs.Words.{square_bit, square_word, squares_none, squares_some}
-use Rattle.chess_rules.proofs.Tests.{differs}
+use Rattle.chess_rules.proofs.Chess.{is_square, some_square, bit_of, word, find_range_some, find_range_none, square_bit, square_word, squares_none, squares_some, differs}
 
 abbrev pub from_on : ℕ → ℕ → ℕ
 from_on word from = bit_and word ((2 ^ 64 - 1) * 2 ^ from % 2 ^ 64)

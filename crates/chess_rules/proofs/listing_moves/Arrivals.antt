@@ -1,11 +1,9 @@
 -- The words of the squares to which a man may go.
 use Rattle.chess_rules.proofs.Basics.{◌≡◌, ℕ, ◌+◌, ◌/◌, ◌<◌, Bool, false, true, not, ◌&&◌, ◌||◌, ◌==◌, List, Option, Some, None, is_some, find, refl, sym, ap, ◌∙◌, arith, inl, inr, rules, bit_at, bit_not, w64, bit_and, bit_or, list_any, range_with_len, and_from, and_left, and_parts, cases_Bool, cond-false, cond-true, eqb-true, or_cases, or_left, or_right}
-use Rattle.chess_rules.proofs.Chess.{has_unmoved, Position, is_man, is_side, man_on, may_promote, other, same_colour, same_kind, is_square, rank_of, along, queen_steps, side_of, squares_of, word, Colour, Black, White, Kind, King, Pawn, Man, Move, paralysed, forward, goes, is_arrival_free, is_promotion_right, pseudo, second_rank, is_vacant_at, is_advance, leaps, reaches, reaches_as, RuleSet, IsAimed, arrives, is_arrival, is_arrival_of, may_go, pawn_goes, steps_to}
-use Rattle.chess_core.proofs.Words.{squares_both, squares_either, squares_not, squares_same}
+use Rattle.chess_rules.proofs.Chess.{has_unmoved, Position, is_man, is_side, man_on, may_promote, other, same_colour, same_kind, is_square, rank_of, along, queen_steps, side_of, squares_of, word, Colour, Black, White, Kind, King, Pawn, Man, Move, paralysed, forward, goes, is_arrival_free, is_promotion_right, pseudo, second_rank, is_vacant_at, is_advance, leaps, reaches, reaches_as, RuleSet, IsAimed, arrives, is_arrival, is_arrival_of, may_go, pawn_goes, steps_to, squares_both, squares_either, squares_not, squares_same, IsFirst, find_no, same_Bool, differs}
 use Rattle.chess_rules.proofs.Bits.{word_empty, word_has}
 use Rattle.chess_rules.proofs.making_moves.Pseudo.{king_is_no_pawn}
 use Rattle.chess_rules.proofs.listing_moves.Targeting.{false_by}
-use Rattle.chess_rules.proofs.Tests.{IsFirst, find_no, same_Bool, differs}
 use Rattle.chess_rules.proofs.rays.Tables.{each_pair}
 
 -- no man of the colour and no king

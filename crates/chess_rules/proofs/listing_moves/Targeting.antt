@@ -1,10 +1,8 @@
 -- Where a man may go, and no move is missed by going from one such square to the next.
 use Rattle.chess_rules.proofs.Basics.{◌≡◌, ℕ, ◌+◌, ◌-◌, ◌*◌, ◌/◌, ◌%◌, ◌<◌, ◌≤◌, Bool, true, false, ◌==◌, List, Option, Some, None, is_some, find, refl, sym, ap, ◌∙◌, arith, inl, inr, rules, bit_at, bit_not, w64, range_with_len, agree_below_at, and_from, and_parts, cases_Bool, cases_eq, cond-true, cond-false, or_left, or_right}
-use Rattle.chess_rules.proofs.Chess.{Position, is_side, man_on, same_colour, same_kind, file_of, is_square, rank_of, square_at, along, word, Colour, White, Black, Kind, King, Queen, Rook, Bishop, Knight, Pawn, Grasshopper, Nightrider, Man, Move, castles, goes, is_promotion_right, may_castle, pseudo, pseudo_of, is_advance, is_aside, IsBarrenFrom, IsNamed, promotion_at, is_castling, reaches, reaches_as, RuleSet, arrives, is_arrival, may_go, steps_to}
-use Rattle.chess_core.proofs.Words.{squares_same}
+use Rattle.chess_rules.proofs.Chess.{Position, is_side, man_on, same_colour, same_kind, file_of, is_square, rank_of, square_at, along, word, Colour, White, Black, Kind, King, Pawn, Man, Move, castles, goes, is_promotion_right, may_castle, pseudo, pseudo_of, is_advance, is_aside, IsBarrenFrom, IsNamed, promotion_at, is_castling, reaches, reaches_as, RuleSet, arrives, is_arrival, may_go, steps_to, squares_same, IsFirst, find_no, find_first}
 use Rattle.chess_rules.proofs.Bits.{word_empty}
 use Rattle.chess_rules.proofs.making_moves.Pseudo.{made}
-use Rattle.chess_rules.proofs.Tests.{IsFirst, find_no, find_first}
 
 -- the words of a pawn's steps, of a king's in castling, and of the others
 pub pawn_word : (x : Man) (s n : ℕ) → same_kind x.kind Pawn ≡ true → n ≡ word (is_advance x.colour s) → n ≡ word (steps_to x s)
@@ -102,30 +100,22 @@ from-join p s z a b c x y = search rules
 pub from-missed : (p : Position) (s a b w : ℕ) → ((t : ℕ) → a / 7 ≤ t → t < (b + 6) / 7 → (bit_at w t == 1) ≡ false) → IsBarrenFrom p s w a b
 from-missed p s a b w none = search rules
 
-some_promotion : (n : ℕ) → 1 ≤ n → n < 7 → (k : Kind) × (promotion_at n ≡ Some k)
-some_promotion n lo hi = elim (cases_eq n 1) [
-  | inl e ↦ (Queen, rw e refl)
-  | inr n1 ↦ elim (cases_eq n 2) [
-    | inl e ↦ (Rook, rw e refl)
-    | inr n2 ↦ elim (cases_eq n 3) [
-      | inl e ↦ (Bishop, rw e refl)
-      | inr n3 ↦ elim (cases_eq n 4) [
-        | inl e ↦ (Knight, rw e refl)
-        | inr n4 ↦ elim (cases_eq n 5) [
-          | inl e ↦ (Grasshopper, rw e refl)
-          | inr n5 ↦ let e : n ≡ 6 = omega arith in (Nightrider, rw e refl)
-        ]
-      ]
-    ]
-  ]
-]
+pub some_named : (n : ℕ) → 1 ≤ n → n < 7 → is_some (promotion_at n) ≡ true
+some_named n lo hi =
+    let e : n - 1 + 1 ≡ n = omega arith in
+    let some : is_some (promotion_at (n - 1 + 1)) ≡ true = agree_below_at (λ j. is_some (promotion_at (j + 1))) (λ _. true) 6 (n - 1) refl (omega arith) in
+    rw e at some
+
+named_by : (o : Option Kind) → is_some o ≡ true → (k : Kind) × (o ≡ Some k)
+named_by None h = cc
+named_by (Some k) h = (k, refl)
 
 -- on another rank than the last there is no promotion
 pub from-unpromoted : (p : Position) (x : Man) (s z t a : ℕ) → man_on p.men s ≡ Some x → arrives x t ≡ false → 7 * t < a → IsBarrenFrom p s z a (7 * t + 7)
 from-unpromoted p x s z t a here h lt = record {
   fails = λ rule k lo hi on.
       let to : k / 7 ≡ t = omega arith in
-      let some = some_promotion (k % 7) (omega arith) (omega arith) in
+      let some = named_by (promotion_at (k % 7)) (some_named (k % 7) (omega arith) (omega arith)) in
       no_promotion_here rule p x (record { from = s; to = k / 7; promo = promotion_at (k % 7) }) some.0 here some.1 (rw to h);
 }
 
@@ -185,9 +175,6 @@ plain-none p x s start w here h none =
 pub named_at : (p : Position) (x : Man) (s t n w : ℕ) → man_on p.men s ≡ Some x → (bit_at w t == 1) ≡ true → n / 7 ≡ t
     → is_some (promotion_at (n % 7)) ≡ arrives x t → IsNamed p s w n
 named_at p x s t n w here set at named = record { man = x; here = here; inside = rw at set; promotion = rw at named }
-
-pub some_named : (n : ℕ) → 1 ≤ n → n < 7 → is_some (promotion_at n) ≡ true
-some_named n lo hi = let k = some_promotion n lo hi in rw k.1 refl
 
 pub none_named : (n : ℕ) → n ≡ 0 → is_some (promotion_at n) ≡ false
 none_named n e = rw e refl

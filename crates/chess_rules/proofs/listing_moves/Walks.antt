@@ -1,12 +1,11 @@
 -- No move is missed by walking from candidate to candidate.
 use Rattle.chess_rules.proofs.Basics.{◌≡◌, ℕ, ◌+◌, ◌-◌, ◌*◌, ◌/◌, ◌%◌, ◌<◌, ◌≤◌, Bool, true, false, ◌==◌, not, None, find, refl, sym, ap, ◌∙◌, arith, inl, inr, rules, bit_at, bit_and, range_with_len, and_right, cases_Bool, cases_lt, eqb-true, eq-eqb, bit_at_and, bit_at-lt, bit_at-zero, Some}
-use Rattle.chess_rules.proofs.Chess.{Position, is_side, man_on, side_of, word, Move, legal, pseudo, HaveNone, IsBarrenFrom, IsNamed, mates, promotion_at, triple_at, RuleSet, AreCandidates, AreOrigins, IsAimed, is_arrival}
+use Rattle.chess_rules.proofs.Chess.{Position, is_side, man_on, side_of, word, Move, legal, pseudo, HaveNone, IsBarrenFrom, IsNamed, mates, promotion_at, triple_at, RuleSet, AreCandidates, AreOrigins, IsAimed, is_arrival, find_no, find_first}
 use Rattle.chess_rules.specs.ties.CheckSquares.{AreCheckOrigins, AreCheckTargets}
 use Rattle.chess_rules.specs.ties.Evasions.{AreEvasionsFrom}
 use Rattle.chess_rules.proofs.Bits.{word_has}
 use Rattle.chess_rules.proofs.giving_check.Mating.{no_mate_quietly, not_mating}
 use Rattle.chess_rules.proofs.listing_moves.Targeting.{arrival_needed, false_by, own_moves}
-use Rattle.chess_rules.proofs.Tests.{find_no, find_first}
 use Rattle.chess_rules.proofs.listing_moves.Places.{not_pseudo}
 
 -- squares of two words

@@ -1,9 +1,6 @@
 -- What a move that may be made is made of, check to the mover apart.
 use Rattle.chess_rules.proofs.Basics.{◌≡◌, ◌≢◌, ℕ, ◌+◌, ◌<◌, true, false, nat_lt, List, Option, Some, None, length, refl, inl, inr, ◌⊎◌, rules, and_parts, or_cases, cases_lt, cond-true, cond-false, eqb-true, lt-ltb, le-ltb, get_or_past, list_any}
-use Rattle.chess_rules.proofs.Chess.{file_of, rank_of, is_square, along, pawn_captures, Position, man_on, same_kind, IsWellFormed, is_home, Man, Move, Colour, White, Black, Kind, King, Rook, Pawn, RuleSet, leaps, reaches, reaches_as, corner, halfway, castles, forward, goes, is_arrival_free, is_promotion_right, may_castle, pawn_steps, pawn_takes, pseudo, second_rank}
-use Rattle.chess_core.proofs.Boards.{along-is}
-use Rattle.chess_core.proofs.Castlings.{is_home-none, is_home-square}
-use Rattle.chess_core.proofs.Men.{same_colour-true}
+use Rattle.chess_rules.proofs.Chess.{file_of, rank_of, is_square, along, pawn_captures, Position, man_on, same_kind, IsWellFormed, is_home, Man, Move, Colour, White, Black, Kind, King, Rook, Pawn, RuleSet, leaps, reaches, reaches_as, corner, halfway, castles, forward, goes, is_arrival_free, is_promotion_right, may_castle, pawn_steps, pawn_takes, pseudo, second_rank, along-is, is_home-none, is_home-square, same_colour-true}
 use Rattle.chess_rules.proofs.making_moves.Castles.{no_man}
 
 -- the parts of the definition

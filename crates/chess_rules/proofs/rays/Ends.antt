@@ -1,8 +1,6 @@
 -- Lines looked at from their other end.
 use Rattle.chess_rules.proofs.Basics.{◌≡◌, ℕ, ◌+◌, ◌-◌, ◌*◌, ◌<◌, ◌≤◌, Bool, true, false, ◌&&◌, cond, List, refl, sym, ap, ◌∙◌, arith, Option, Some, None, rules, range_with_len, list_any, add-mul, and_from, eq-eqb, eqb-true, false≢true, leb-true, le-leb}
-use Rattle.chess_rules.proofs.Chess.{is_square, is_on_board, square_at, file_of, rank_of, along, Step, Man, is_vacant, is_clear, rides}
-use Rattle.chess_core.proofs.Ranges.{all_range_true}
-use Rattle.chess_rules.proofs.Tests.{all_at, first_of_and, same_Bool, second_of_and, some_is}
+use Rattle.chess_rules.proofs.Chess.{is_square, is_on_board, square_at, file_of, rank_of, along, Step, Man, is_vacant, is_clear, rides, all_range_true, all_at, first_of_and, same_Bool, second_of_and, some_is}
 
 -- the step the other way
 abbrev pub back : Step → Step

@@ -1,15 +1,12 @@
 -- The word of a hop.
 use Rattle.chess_rules.proofs.Basics.{◌≡◌, ◌≢◌, ℕ, ◌+◌, ◌-◌, ◌^◌, ◌<◌, ◌≤◌, Bool, true, false, ◌&&◌, not, List, refl, sym, ap, ◌∙◌, arith, inl, inr, Option, Some, None, is_some, rules, trailing_zeros, w64, list_all, list_any, range_with_len, and_from, cases_Bool, cases_eq, cases_lt, eq-eqb, false≢true, not-true, bit_at-trailing_zeros}
-use Rattle.chess_rules.proofs.Chess.{is_square, along, man_on, word, Man, Step, IsStop, is_ahead, place, place_by, ray, rises, step_of, hopped_from, rides_on, hops, is_clear, is_occupied, is_vacant, rides}
-use Rattle.chess_core.proofs.Ranges.{any_range_true, any_range_false, all_range_true}
-use Rattle.chess_core.proofs.Words.{square_word_small, squares_same}
+use Rattle.chess_rules.proofs.Chess.{is_square, along, man_on, word, Man, Step, IsStop, is_ahead, place, place_by, ray, rises, step_of, hopped_from, rides_on, hops, is_clear, is_occupied, is_vacant, rides, any_range_true, any_range_false, all_range_true, square_word_small, squares_same, all_at, any_range_cases, first_of_and, same_Bool, second_of_and, some_is}
 use Rattle.chess_rules.specs.declared.lines.Direction.{Direction}
 use Rattle.chess_rules.proofs.rays.Ahead.{Ordered, Passed, onward, ordered, passes}
 use Rattle.chess_rules.proofs.Bits.{word_empty, word_has}
 use Rattle.chess_rules.proofs.rays.Computed.{eighth}
 use Rattle.chess_rules.proofs.rays.Ends.{square_is, stays}
 use Rattle.chess_rules.proofs.rays.Stopping.{Steps, Stops, ahead_at, passes_test, marked, place_le, steps_on}
-use Rattle.chess_rules.proofs.Tests.{all_at, any_range_cases, first_of_and, same_Bool, second_of_and, some_is}
 
 -- a number of the range that passes
 found : (p : ℕ → Bool) (a n : ℕ) → list_any p (range_with_len a n) ≡ true → (k : ℕ) × (a ≤ k) × (k < a + n) × (p k ≡ true)

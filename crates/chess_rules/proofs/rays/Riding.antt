@@ -1,11 +1,8 @@
 -- The words of the squares that shut lines.
 use Rattle.chess_rules.proofs.Basics.{◌≡◌, ℕ, ◌+◌, ◌-◌, ◌<◌, ◌≤◌, Bool, false, ◌&&◌, ◌||◌, ◌==◌, List, Option, refl, sym, ap, ◌∙◌, arith, inl, inr, rules, bit_at, bit_and, bit_or, list_any, range_with_len, and_left, and_right, cases_Bool, cases_eq, cases_lt, or_left, or_right, bit_at-zero}
-use Rattle.chess_rules.proofs.Chess.{is_man, man_on, some_square, squares, squares_of, word, Colour, Kind, Queen, Man, Step, is_on_some, rides, is_behind, is_shut}
-use Rattle.chess_core.proofs.Ranges.{any_range_false, any_range_true, some_square_false}
-use Rattle.chess_core.proofs.Words.{squares_both, squares_either, squares_same}
+use Rattle.chess_rules.proofs.Chess.{is_man, man_on, some_square, squares, squares_of, word, Colour, Kind, Queen, Man, Step, is_on_some, rides, is_behind, is_shut, any_range_false, any_range_true, some_square_false, squares_both, squares_either, squares_same, IsFirst, any_range_cases}
 use Rattle.chess_rules.proofs.attacks.Attacking.{some_square_same}
 use Rattle.chess_rules.proofs.Bits.{word_empty, word_has}
-use Rattle.chess_rules.proofs.Tests.{IsFirst, any_range_cases}
 
 -- some number passes up to q, if some does below n, or q itself, and those between don't
 upto : (p : ℕ → Bool) (n q : ℕ) → n ≤ q → ((j : ℕ) → n ≤ j → j < q → p j ≡ false)

@@ -1,7 +1,5 @@
 use Rattle.chess_rules.proofs.Basics.{◌-◌, ◌==◌, ◌&&◌, ◌∙◌, not, sym, ap, arith, rules, bit_at, and_from, and_right}
-use Rattle.chess_rules.proofs.Chess.{paralysed}
-use Rattle.chess_core.proofs.Ranges.{some_square_false, some_square_true}
-use Rattle.chess_rules.proofs.Tests.{find_first, skipped, skipped_all}
+use Rattle.chess_rules.proofs.Chess.{paralysed, some_square_false, some_square_true, find_first, skipped, skipped_all}
 use Rattle.chess_rules.proofs.outward.some_free.Goals as goal
 
 pub returns-then-not-paralysed : goal.returns-then-not-paralysed

@@ -1,7 +1,6 @@
 use Rattle.chess_rules.proofs.Basics.{◌≡◌, ◌∙◌, ◌==◌, true, arith, sym, bit_at, bit_not, w64, bit_and, eq-eqb}
-use Rattle.chess_rules.proofs.Chess.{rank_of, second_rank}
+use Rattle.chess_rules.proofs.Chess.{rank_of, second_rank, find_first}
 use Rattle.chess_rules.proofs.listing_moves.Arrivals.{goes-twice}
-use Rattle.chess_rules.proofs.Tests.{find_first}
 use Rattle.chess_rules.proofs.targets.pawn_goes.Goals as goal
 
 pub returns-then-rank-second_rank : goal.returns-then-rank-second_rank
