@@ -66,7 +66,7 @@ pub record IsFirst (p : ℕ → Bool) (a n k : ℕ) : Type 0 where
   pub here : p k ≡ true
   pub before : (j : ℕ) → a ≤ j → j < k → p j ≡ false
 
-some_is : (a b : ℕ) → Some a ≡ Some b → a ≡ b
+pub some_is : (a b : ℕ) → Some a ≡ Some b → a ≡ b
 some_is a b h = cc
 
 pub find_first : (p : ℕ → Bool) (a n k : ℕ) → find p (range_with_len a n) ≡ Some k → IsFirst p a n k

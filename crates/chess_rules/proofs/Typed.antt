@@ -1,12 +1,6 @@
 -- Positions and moves typed in for the examples.
-use Rattle.std.proofs.Common.{ℕ, false, List, [], ◌∷◌, Option, Some, None}
-use Rattle.std.specs.List.{repeat}
-use Rattle.chess_core.specs.Castling.{none_unmoved}
-use Rattle.chess_core.specs.Position.{Position, with_man}
-use Rattle.chess_core.specs.declared.man.Colour.{Colour}
-use Rattle.chess_core.specs.declared.man.Kind.{Kind}
-use Rattle.chess_core.specs.declared.man.Man.{Man}
-use Rattle.chess_core.specs.declared.man.Move.{Move}
+use Rattle.chess_rules.proofs.Basics.{ℕ, false, List, [], ◌∷◌, Option, Some, None, repeat}
+use Rattle.chess_rules.proofs.Chess.{none_unmoved, Position, with_man, Colour, Kind, Man, Move}
 
 abbrev pub man : Colour → Kind → Man
 man c k = record { colour = c; kind = k }

@@ -89,6 +89,7 @@ impl<R: Rules> LegalMoves<R> {
     /// The first legal move of the board's position behind the place, which then stands on it. Where
     /// there is none: `None`, and the place stands behind all triples. The board is unchanged. The place
     /// must be one in the board's position.
+    #[tactic(auto, using(crate::proofs::listing_moves::Places::next_moves), unfolding(crate::specs::ties::Places::place_of))]
     pub fn next(&mut self, board: &mut Board) -> Option<Move>
         requires well_formed { IsWellFormed board.old }
         requires place { IsPlaceIn R.rule board.old self.old }
@@ -123,6 +124,7 @@ impl<R: Rules> LegalMoves<R> {
 
     /// The first legal move behind the place that doesn't lie behind `end`, on which the place then
     /// stands. The board is unchanged. The place must be one in the board's position.
+    #[tactic(auto, using(crate::proofs::listing_moves::Between::until))]
     pub fn next_until(&mut self, end: Moves<R>, board: &mut Board) -> Option<Move>
         requires well_formed { IsWellFormed board.old }
         requires place { IsPlaceIn R.rule board.old self.old }
@@ -223,6 +225,7 @@ fn own_origins<R: Rules>(board: &Board) -> u64
 }
 
 // The squares to which the man on `from` may go by a legal move, and perhaps more.
+#[tactic(auto, using(crate::proofs::listing_moves::Walks::legal_candidates))]
 fn candidates<R: Rules>(board: &Board, evasion_squares: u64, from: Square) -> u64
     requires well_formed { IsWellFormed board.now }
     requires evasion_squares { AreEvasions R.rule board.now.men board.now.turn evasion_squares }

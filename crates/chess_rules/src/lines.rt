@@ -75,6 +75,7 @@ impl Direction {
 
     // The square of the word that the line passes first; the last one of the board, behind which no
     // line goes on, where the word has none.
+    #[tactic(auto, using(crate::proofs::rays::Firsts::lowest_stop, crate::proofs::rays::Firsts::highest_stop))]
     fn first(self, word: u64) -> Square
         ensures { IsStop (step_of self) word result }
     {
@@ -86,6 +87,7 @@ impl Direction {
     }
 
     // The next square of the line, if it has one.
+    #[tactic(auto, using(crate::proofs::rays::HopWords::next_none, crate::proofs::rays::HopWords::next_some))]
     fn next(self, from: Square) -> Option<Square>
         ensures { result ≡ along from (step_of self) 1 }
     {

@@ -81,6 +81,7 @@ impl<R: Rules> MatingMoves<R> {
     /// The first legal move behind the place after which the side to move is mated; the place then stands
     /// on it. Where there is none: `None`, and the place stands behind all triples. The board is unchanged.
     /// The place must be one in the board's position.
+    #[tactic(auto, using(crate::proofs::listing_moves::Between::next_mates), unfolding(crate::specs::ties::Places::place_of))]
     pub fn next(&mut self, board: &mut Board) -> Option<Move>
         requires well_formed { IsWellFormed board.old }
         requires place { IsMatingPlaceIn R.rule board.old self.old }
@@ -110,6 +111,7 @@ impl<R: Rules> MatingMoves<R> {
 
     /// The first legal move behind the place that mates and doesn't lie behind `end`, on which the place
     /// then stands. The board is unchanged. The place must be one in the board's position.
+    #[tactic(auto, using(crate::proofs::listing_moves::Between::until_mates))]
     pub fn next_until(&mut self, end: Moves<R>, board: &mut Board) -> Option<Move>
         requires well_formed { IsWellFormed board.old }
         requires place { IsMatingPlaceIn R.rule board.old self.old }
@@ -192,6 +194,7 @@ fn mating_origins<R: Rules>(board: &Board, squares: &CheckSquares) -> u64
 }
 
 // The squares to which the man on `from` may go with check, and perhaps more.
+#[tactic(auto, using(crate::proofs::listing_moves::Walks::mating_candidates))]
 fn candidates<R: Rules>(board: &Board, squares: &CheckSquares, from: Square) -> u64
     requires well_formed { IsWellFormed board.now }
     requires squares { AreCheckSquares board.now.men (other board.now.turn) squares.now }

@@ -74,6 +74,7 @@ pub(crate) fn those_reaching(
 
 // The squares of the queens and rooks of this colour that a rider on the square gets to along its file
 // and rank. Mostly no such man stands there, and no line is looked along.
+#[tactic(auto, using(crate::proofs::attacks::Attacking::met, crate::proofs::attacks::Attacking::met_none))]
 fn straight_attackers(board: &Board, sight: Sight, square: Square, colour: Colour) -> u64
     ensures { (men : List (Option Man)) → AreSeen board.now.men men colour sight
         → result ≡ word (is_met men colour Rook straight_steps square) }
@@ -87,6 +88,7 @@ fn straight_attackers(board: &Board, sight: Sight, square: Square, colour: Colou
 }
 
 // The squares of its queens and bishops that such a rider gets to along the diagonals.
+#[tactic(auto, using(crate::proofs::attacks::Attacking::met, crate::proofs::attacks::Attacking::met_none))]
 fn diagonal_attackers(board: &Board, sight: Sight, square: Square, colour: Colour) -> u64
     ensures { (men : List (Option Man)) → AreSeen board.now.men men colour sight
         → result ≡ word (is_met men colour Bishop diagonal_steps square) }

@@ -40,7 +40,7 @@ pub(crate) fn reach_as(board: &Board, colour: Colour, kind: Kind, from: Square) 
 }
 
 // Whether the man on `from`, if there is one, could go to `to` if an enemy stood there.
-#[tactic(auto, unfolding(crate::specs::Reaches::reaches))]
+#[tactic(auto, using(crate::proofs::Bits::word_has), unfolding(crate::specs::Reaches::reaches))]
 pub(crate) fn reaches(board: &Board, from: Square, to: Square) -> bool
     ensures { result ≡ reaches board.now.men from to }
 {

@@ -32,6 +32,7 @@ pub(crate) struct Kept {
 }
 
 // The squares one and two steps ahead of a pawn, and two files beside a king.
+#[tactic(auto, using(crate::proofs::listing_moves::Targeting::step_words))]
 pub(crate) fn steps_to(man: Man, from: Square) -> u64
     ensures { result ≡ word (steps_to man from) }
 {
@@ -46,6 +47,7 @@ pub(crate) fn steps_to(man: Man, from: Square) -> u64
 
 // The squares to which a pawn steps from here: the next one if it is empty, and from its second rank the
 // one behind it too.
+#[tactic(auto, using(crate::proofs::listing_moves::Arrivals::pawn_steps_are))]
 fn pawn_goes(board: &Board, man: Man, from: Square) -> u64
     ensures { result ≡ word (pawn_goes board.now man from) }
 {
@@ -71,6 +73,7 @@ fn castling_squares(board: &Board, man: Man, from: Square) -> u64
 }
 
 // The squares to which the man on `from` goes, whoever stands there, most tests of castling apart.
+#[tactic(auto, using(crate::proofs::listing_moves::Arrivals::other_ways, crate::proofs::listing_moves::Arrivals::pawn_ways))]
 fn goes_to(board: &Board, man: Man, from: Square) -> u64
     ensures { result ≡ word (may_go board.now man from) }
 {
@@ -89,6 +92,7 @@ fn free_squares(board: &Board, colour: Colour) -> u64
 }
 
 // The squares to which the man on `from` may go, most tests of castling apart.
+#[tactic(auto, using(crate::proofs::listing_moves::Arrivals::no_arrivals))]
 pub(crate) fn arrivals<R: Rules>(board: &Board, from: Square) -> u64
     ensures { result ≡ word (is_arrival R.rule board.now from) }
 {

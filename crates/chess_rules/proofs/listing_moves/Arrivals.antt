@@ -1,32 +1,11 @@
 -- The words of the squares to which a man may go.
-use Rattle.std.proofs.Common.{◌≡◌, ℕ, ◌+◌, ◌*◌, ◌/◌, ◌%◌, ◌<◌, Bool, false, true, not, ◌&&◌, ◌||◌, ◌==◌, List, Option, Some, None, is_some, find, refl, sym, ap, ◌∙◌, arith, inl, inr, rules}
-use Rattle.std.specs.Int.{bit_at, bit_not, w64}
-use Rattle.std.specs.Int.Bits.{bit_and, bit_or}
-use Rattle.std.specs.List.{list_any, range_with_len}
-use Rattle.std.proofs.lemmas.Bool.{agree_below_at, and_from, and_left, and_parts, cases_Bool, cond-false, cond-true, eqb-true, or_cases, or_left, or_right}
-use Rattle.chess_core.specs.Castling.{has_unmoved}
-use Rattle.chess_core.specs.Position.{Position, is_man, is_side, man_on, may_promote, other, same_colour, same_kind}
-use Rattle.chess_core.specs.Squares.{is_square, rank_of}
-use Rattle.chess_core.specs.Steps.{along, queen_steps}
-use Rattle.chess_core.specs.ties.Words.{side_of, squares_of, word}
-use Rattle.chess_core.specs.declared.man.Colour.{Colour}
-use Rattle.chess_core.specs.declared.man.Colour.TheVariants.{Black, White}
-use Rattle.chess_core.specs.declared.man.Kind.{Kind}
-use Rattle.chess_core.specs.declared.man.Kind.TheVariants.{King, Pawn}
-use Rattle.chess_core.specs.declared.man.Man.{Man}
-use Rattle.chess_core.specs.declared.man.Move.{Move}
-use Rattle.chess_core.proofs.Words.{squares_both, squares_either, squares_not, squares_same}
-use Rattle.chess_rules.specs.Attacks.{paralysed}
-use Rattle.chess_rules.specs.Legal.{forward, goes, is_arrival_free, is_promotion_right, pseudo, second_rank}
-use Rattle.chess_core.specs.WellFormed.{is_vacant_at}
-use Rattle.chess_rules.specs.ties.Lines.{is_advance}
-use Rattle.chess_rules.specs.Reaches.{leaps, reaches, reaches_as}
-use Rattle.chess_rules.specs.RuleSet.{RuleSet}
-use Rattle.chess_rules.specs.ties.Targets.{IsAimed, arrives, is_arrival, is_arrival_of, may_go, pawn_goes, steps_to}
+use Rattle.chess_rules.proofs.Basics.{◌≡◌, ℕ, ◌+◌, ◌/◌, ◌<◌, Bool, false, true, not, ◌&&◌, ◌||◌, ◌==◌, List, Option, Some, None, is_some, find, refl, sym, ap, ◌∙◌, arith, inl, inr, rules, bit_at, bit_not, w64, bit_and, bit_or, list_any, range_with_len, and_from, and_left, and_parts, cases_Bool, cond-false, cond-true, eqb-true, or_cases, or_left, or_right}
+use Rattle.chess_rules.proofs.Chess.{has_unmoved, Position, is_man, is_side, man_on, may_promote, other, same_colour, same_kind, is_square, rank_of, along, queen_steps, side_of, squares_of, word, Colour, Black, White, Kind, King, Pawn, Man, Move, paralysed, forward, goes, is_arrival_free, is_promotion_right, pseudo, second_rank, is_vacant_at, is_advance, leaps, reaches, reaches_as, RuleSet, IsAimed, arrives, is_arrival, is_arrival_of, may_go, pawn_goes, steps_to, squares_both, squares_either, squares_not, squares_same, IsFirst, find_no, same_Bool, differs}
 use Rattle.chess_rules.proofs.Bits.{word_empty, word_has}
 use Rattle.chess_rules.proofs.making_moves.Pseudo.{king_is_no_pawn}
 use Rattle.chess_rules.proofs.listing_moves.Targeting.{false_by}
 use Rattle.chess_rules.proofs.Tests.{IsFirst, find_no, same_Bool, implied}
+use Rattle.chess_rules.proofs.rays.Tables.{each_pair}
 
 -- no man of the colour and no king
 free_of : (a c : Colour) (k : Kind) → not (same_colour a c || (same_colour a (other c) && same_kind k King)) ≡ (not (same_colour a c) && not (same_kind k King))
@@ -54,30 +33,18 @@ castling_none u x s h = word_empty (λ t. u && steps_to x s t) (λ t b. and_left
 
 -- one square ahead, and the square halfway to the one behind it
 one_near : (c : Colour) (s t : ℕ) → s < 64 → t < 64 → is_square (along s (forward c) 1) t ≡ (is_advance c s t && list_any (leaps s t) queen_steps)
-one_near c s t p q = by (64 * s + t) (omega (arith, p, q)) (omega (arith, q)) (omega (arith, q))
-  where
-    table : (c : Colour) (k : ℕ) → k < 4096 → is_square (along (k / 64) (forward c) 1) (k % 64)
-        ≡ (is_advance c (k / 64) (k % 64) && list_any (leaps (k / 64) (k % 64)) queen_steps)
-    table White k lt = unfold along leaps in agree_below_at (λ n. is_square (along (n / 64) (forward White) 1) (n % 64))
-        (λ n. is_advance White (n / 64) (n % 64) && list_any (leaps (n / 64) (n % 64)) queen_steps) 4096 k refl lt
-    table Black k lt = unfold along leaps in agree_below_at (λ n. is_square (along (n / 64) (forward Black) 1) (n % 64))
-        (λ n. is_advance Black (n / 64) (n % 64) && list_any (leaps (n / 64) (n % 64)) queen_steps) 4096 k refl lt
-
-    by : (k : ℕ) → k < 4096 → k / 64 ≡ s → k % 64 ≡ t → is_square (along s (forward c) 1) t ≡ (is_advance c s t && list_any (leaps s t) queen_steps)
-    by k lt a b = rw (← a, ← b) (table c k lt)
+unfolding along leaps
+one_near White s t p q = each_pair (λ s t. is_square (along s (forward White) 1) t) (λ s t. is_advance White s t && list_any (leaps s t) queen_steps) s t p q refl
+one_near Black s t p q = each_pair (λ s t. is_square (along s (forward Black) 1) t) (λ s t. is_advance Black s t && list_any (leaps s t) queen_steps) s t p q refl
 
 half_one : (c : Colour) (s t : ℕ) → s < 64 → t < 64 → is_square (along s (forward c) 2) t ≡ true → is_square (along s (forward c) 1) ((s + t) / 2) ≡ true
-half_one c s t p q = by (64 * s + t) (omega (arith, p, q)) (omega (arith, q)) (omega (arith, q))
+half_one c s t p q = implied _ _ (table c)
   where
-    table : (c : Colour) (k : ℕ) → k < 4096 → (not (is_square (along (k / 64) (forward c) 2) (k % 64))
-        || is_square (along (k / 64) (forward c) 1) ((k / 64 + k % 64) / 2)) ≡ true
-    table White k lt = unfold along in agree_below_at (λ n. not (is_square (along (n / 64) (forward White) 2) (n % 64))
-        || is_square (along (n / 64) (forward White) 1) ((n / 64 + n % 64) / 2)) (λ n. true) 4096 k refl lt
-    table Black k lt = unfold along in agree_below_at (λ n. not (is_square (along (n / 64) (forward Black) 2) (n % 64))
-        || is_square (along (n / 64) (forward Black) 1) ((n / 64 + n % 64) / 2)) (λ n. true) 4096 k refl lt
-
-    by : (k : ℕ) → k < 4096 → k / 64 ≡ s → k % 64 ≡ t → is_square (along s (forward c) 2) t ≡ true → is_square (along s (forward c) 1) ((s + t) / 2) ≡ true
-    by k lt a b = rw (← a, ← b) (implied _ _ (table c k lt))
+    table : (c : Colour) → (not (is_square (along s (forward c) 2) t) || is_square (along s (forward c) 1) ((s + t) / 2)) ≡ true
+    table White = unfold along in each_pair (λ s t. not (is_square (along s (forward White) 2) t) || is_square (along s (forward White) 1) ((s + t) / 2))
+        (λ _ _. true) s t p q refl
+    table Black = unfold along in each_pair (λ s t. not (is_square (along s (forward Black) 2) t) || is_square (along s (forward Black) 1) ((s + t) / 2))
+        (λ _ _. true) s t p q refl
 
 one_is : (o : Option ℕ) (t u : ℕ) → is_square o t ≡ true → is_square o u ≡ true → t ≡ u
 one_is None t u h i = cc
@@ -274,3 +241,12 @@ aimed_plain rule p m x a e here =
     let unnamed : arrives x m.to ≡ false = rw (← same) (sym a.promotion ∙ ap (λ (o : Option Kind). is_some o) e) in
     sym (left_to_test rule p x m here a.arrival ∙ ap (λ (o : Option Kind). is_promotion_right p x m o && goes rule p x m) e
     ∙ ap (λ (b : Bool). not b && goes rule p x m) unnamed)
+
+-- for the test of a move that is aimed
+pub ruleset aimed = (aimed_plain, aimed_promotion, may_go_aimed)
+
+-- for an origin without arrivals
+pub ruleset no_arrivals = (arrivals_nobody, arrivals_other, arrivals_paralysed)
+
+-- for the word of a pawn's steps
+pub ruleset pawn_steps_are = (differs, goes-blocked, goes-once)

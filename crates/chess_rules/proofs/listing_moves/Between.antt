@@ -1,16 +1,9 @@
 -- The legal moves between two places, and those that mate.
-use Rattle.std.proofs.lemmas.Bool.{cases_lt}
-use Rattle.std.proofs.lemmas.List.Elements.{filter-append}
-use Rattle.std.proofs.lemmas.List.{append_cancel_right, length-append, take-append-drop}
-use Rattle.std.proofs.Common.{◌≡◌, ℕ, zero, suc, inl, inr, ◌+◌, ◌-◌, ◌<◌, ◌≤◌, true, false, List, [], ◌∷◌, ◌++◌, filter, take, drop, length, refl, sym, ap, ◌∙◌, arith, rules}
-use Rattle.chess_core.specs.Position.{Position}
-use Rattle.chess_core.specs.declared.man.Move.{Move}
-use Rattle.chess_rules.specs.RuleSet.{RuleSet}
-use Rattle.chess_rules.specs.Legal.{legal, moves, triples}
-use Rattle.chess_rules.specs.ties.Places.{HaveNone, IsNextMate, is_mating, mates, mates_behind, mates_between, moves_behind, moves_between, triple_at}
-use Rattle.chess_rules.proofs.giving_check.Mating.{mates_behind-end, mates_behind-none, mates_numbered}
-use Rattle.chess_rules.proofs.listing_moves.Places.{drop_triples, drop_triples_past, moves_behind-here}
-use Rattle.chess_rules.proofs.Tests.{first_of_and, second_of_and}
+use Rattle.std.proofs.lemmas.List.{drop-drop}
+use Rattle.chess_rules.proofs.Basics.{cases_lt, filter-append, append_cancel_right, length-append, take-append-drop, ◌≡◌, ℕ, zero, suc, inl, inr, ◌+◌, ◌-◌, ◌<◌, ◌≤◌, true, false, List, [], ◌∷◌, ◌++◌, filter, take, drop, length, refl, sym, ap, ◌∙◌, arith, rules}
+use Rattle.chess_rules.proofs.Chess.{Position, Move, RuleSet, legal, moves, triples, HaveNone, IsNextMate, is_mating, mates, mates_behind, mates_between, moves_behind, moves_between, triple_at, first_of_and, second_of_and}
+use Rattle.chess_rules.proofs.giving_check.Mating.{mates_behind-end, mates_behind-none, mates_numbered, legal_of_mate}
+use Rattle.chess_rules.proofs.listing_moves.Places.{drop_triples, drop_triples_past, moves_behind-here, over, place_of_triple}
 
 take-none : (n : ℕ) → take {A = Move} n [] ≡ []
 take-none zero = refl
@@ -35,22 +28,10 @@ unfolding moves_between
 between-skip rule p a b lt h = search (rules, between-none, drop_triples)
 
 -- over a stretch without moves
-between-skips : (rule : RuleSet) (p : Position) (n a b e : ℕ) → b ≡ a + n → b ≤ 28672 → HaveNone (legal rule p) a b
-    → moves_between rule p a e ≡ moves_between rule p b e
-between-skips rule p zero a b e at le h = let same : a ≡ b = omega (arith, at) in ap (λ x. moves_between rule p x e) same
-between-skips rule p (suc n) a b e at le h =
-    between-skip rule p a e (omega (arith, at, le)) (h.fails a (omega arith) (omega (arith, at)))
-    ∙ between-skips rule p n (a + 1) b e (omega (arith, at)) le (record { fails = λ k lo hi. h.fails k (omega (arith, lo)) hi })
-
 pub between-none-legal : (rule : RuleSet) (p : Position) (a b e : ℕ) → (b < 28672 → a ≤ b) → b ≤ 28672 → HaveNone (legal rule p) a b
     → moves_between rule p a e ≡ moves_between rule p b e
-between-none-legal rule p a b e low high h = elim (cases_lt b a) [
-  | inr ge ↦ between-skips rule p (b - a) a b e (omega (arith, ge)) high h
-  | inl lt ↦ elim (cases_lt b 28672) [
-    | inl q ↦ absurd (let le : a ≤ b = low q in omega (arith, le, lt))
-    | inr past ↦ between-past rule p a e (omega (arith, past, lt)) ∙ sym (between-past rule p b e past)
-  ]
-]
+between-none-legal rule p a b e =
+    over (λ n. moves_between rule p n e) (legal rule p) (λ n lt h. between-skip rule p n e lt h) [] (λ n ge. between-past rule p n e ge) a b
 
 -- up to the first legal one, and where none is left before the end
 pub until-legal : (rule : RuleSet) (p : Position) (a n e : ℕ) → a ≤ n → n < e → n < 28672 → HaveNone (legal rule p) a n → legal rule p (triple_at n) ≡ true
@@ -62,17 +43,8 @@ pub until-end : (rule : RuleSet) (p : Position) (a n e : ℕ) → n ≤ 28672 �
     → moves_between rule p a e ≡ []
 until-end rule p a n e fits before all none = search (rules, between-none, between-none-legal, between-past)
 
-drop-nil : (k : ℕ) → drop {A = Move} k [] ≡ []
-drop-nil zero = refl
-drop-nil (suc k) = refl
-
-drop_more : (n k : ℕ) (l : List Move) → drop k (drop n l) ≡ drop (n + k) l
-drop_more zero k l = let e : 0 + k ≡ k = omega arith in rw e refl
-drop_more (suc n) k [] = drop-nil k ∙ sym (drop-nil (suc n + k))
-drop_more (suc n) k (x ∷ l) = let e : suc n + k ≡ suc (n + k) = omega arith in rw e (drop_more n k l)
-
 drop_twice : (a b : ℕ) (l : List Move) → a ≤ b → drop (b - a) (drop a l) ≡ drop b l
-drop_twice a b l le = let e : a + (b - a) ≡ b = omega (arith, le) in drop_more a (b - a) l ∙ ap (λ n. drop n l) e
+drop_twice a b l le = let e : a + (b - a) ≡ b = omega (arith, le) in drop-drop (b - a) a l ∙ ap (λ n. drop n l) e
 
 -- all moves, cut at two places
 pub cut_moves : (rule : RuleSet) (p : Position) (a b : ℕ) → a ≤ b
@@ -150,3 +122,12 @@ mates_between-none rule p a b le = rw (between-none rule p a b le) refl
 pub mates_between-past : (rule : RuleSet) (p : Position) (a b : ℕ) → 28672 ≤ a → mates_between rule p a b ≡ []
 unfolding mates_between
 mates_between-past rule p a b ge = rw (between-past rule p a b ge) refl
+
+-- for the walk up to an end
+pub ruleset until = (until-legal, until-end)
+
+-- for that over mates
+pub ruleset until_mates = (legal_of_mate, mates_between-none, mates_between-past, until-mateless)
+
+-- for the next mate
+pub ruleset next_mates = (legal_of_mate, mates_behind-end, mates_behind-none, mates_numbered, next_mate_numbered, place_of_triple)

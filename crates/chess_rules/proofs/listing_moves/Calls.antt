@@ -1,12 +1,6 @@
 -- The calls of `next` over one position.
-use Rattle.std.proofs.Common.{◌≡◌, ℕ, zero, suc, ◌+◌, List, [], ◌∷◌, Option, Some, None, MatchOption, true, drop, refl, sym, ap, ◌∙◌, rules}
-use Rattle.std.proofs.lemmas.Bool.{and_parts}
-use Rattle.std.specs.List.{slice_get}
-use Rattle.chess_core.specs.Position.{Position}
-use Rattle.chess_core.specs.declared.man.Move.{Move}
-use Rattle.chess_rules.specs.RuleSet.{RuleSet}
-use Rattle.chess_rules.specs.Legal.{legal, moves, pseudo}
-use Rattle.chess_rules.specs.ties.Places.{moves_behind, place_of}
+use Rattle.chess_rules.proofs.Basics.{◌≡◌, ℕ, zero, suc, ◌+◌, List, [], ◌∷◌, Option, Some, None, MatchOption, true, drop, refl, sym, ap, ◌∙◌, rules, and_parts, slice_get}
+use Rattle.chess_rules.proofs.Chess.{Position, Move, RuleSet, legal, moves, pseudo, moves_behind, place_of}
 use Rattle.chess_rules.proofs.listing_moves.Places.{moves_behind-end}
 
 drop_none : (l : List Move) (n : ℕ) → drop n l ≡ [] → drop (suc n) l ≡ []

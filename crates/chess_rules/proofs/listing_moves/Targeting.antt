@@ -1,29 +1,8 @@
 -- Where a man may go, and no move is missed by going from one such square to the next.
-use Rattle.std.proofs.Common.{◌≡◌, ℕ, ◌+◌, ◌-◌, ◌*◌, ◌/◌, ◌%◌, ◌<◌, ◌≤◌, Bool, true, false, ◌==◌, List, Option, Some, None, is_some, find, refl, sym, ap, ◌∙◌, arith, inl, inr, rules}
-use Rattle.std.specs.Int.{bit_at, bit_not, w64}
-use Rattle.std.specs.List.{range_with_len}
-use Rattle.std.proofs.lemmas.Bool.{agree_below_at, and_from, and_parts, cases_Bool, cases_eq, cond-true, cond-false, or_left, or_right}
-use Rattle.chess_core.specs.Position.{Position, is_side, man_on, same_colour, same_kind}
-use Rattle.chess_core.specs.Squares.{file_of, is_square, rank_of, square_at}
-use Rattle.chess_core.specs.Steps.{along}
-use Rattle.chess_core.specs.ties.Words.{word}
-use Rattle.chess_core.specs.declared.man.Colour.{Colour}
-use Rattle.chess_core.specs.declared.man.Colour.TheVariants.{White, Black}
-use Rattle.chess_core.specs.declared.man.Kind.{Kind}
-use Rattle.chess_core.specs.declared.man.Kind.TheVariants.{King, Queen, Rook, Bishop, Knight, Pawn, Grasshopper, Nightrider}
-use Rattle.chess_core.specs.declared.man.Man.{Man}
-use Rattle.chess_core.specs.declared.man.Move.{Move}
-use Rattle.chess_core.proofs.Words.{squares_same}
-use Rattle.chess_rules.specs.Legal.{castles, goes, is_promotion_right, may_castle, pseudo, pseudo_of}
-use Rattle.chess_rules.specs.ties.Lines.{is_advance, is_aside}
-use Rattle.chess_rules.specs.ties.Places.{IsBarrenFrom, IsNamed, promotion_at}
-use Rattle.chess_rules.specs.Play.{is_castling}
-use Rattle.chess_rules.specs.Reaches.{reaches, reaches_as}
-use Rattle.chess_rules.specs.RuleSet.{RuleSet}
-use Rattle.chess_rules.specs.ties.Targets.{arrives, is_arrival, may_go, steps_to}
+use Rattle.chess_rules.proofs.Basics.{◌≡◌, ℕ, ◌+◌, ◌-◌, ◌*◌, ◌/◌, ◌%◌, ◌<◌, ◌≤◌, Bool, true, false, ◌==◌, List, Option, Some, None, is_some, find, refl, sym, ap, ◌∙◌, arith, inl, inr, rules, bit_at, bit_not, w64, range_with_len, agree_below_at, and_from, and_parts, cases_Bool, cases_eq, cond-true, cond-false, or_left, or_right}
+use Rattle.chess_rules.proofs.Chess.{Position, is_side, man_on, same_colour, same_kind, file_of, is_square, rank_of, square_at, along, word, Colour, White, Black, Kind, King, Pawn, Man, Move, castles, goes, is_promotion_right, may_castle, pseudo, pseudo_of, is_advance, is_aside, IsBarrenFrom, IsNamed, promotion_at, is_castling, reaches, reaches_as, RuleSet, arrives, is_arrival, may_go, steps_to, squares_same, IsFirst, find_no, find_first}
 use Rattle.chess_rules.proofs.Bits.{word_empty}
 use Rattle.chess_rules.proofs.making_moves.Pseudo.{made}
-use Rattle.chess_rules.proofs.Tests.{IsFirst, find_no}
 
 -- the words of a pawn's steps, of a king's in castling, and of the others
 pub pawn_word : (x : Man) (s n : ℕ) → same_kind x.kind Pawn ≡ true → n ≡ word (is_advance x.colour s) → n ≡ word (steps_to x s)
@@ -121,30 +100,22 @@ from-join p s z a b c x y = search rules
 pub from-missed : (p : Position) (s a b w : ℕ) → ((t : ℕ) → a / 7 ≤ t → t < (b + 6) / 7 → (bit_at w t == 1) ≡ false) → IsBarrenFrom p s w a b
 from-missed p s a b w none = search rules
 
-some_promotion : (n : ℕ) → 1 ≤ n → n < 7 → (k : Kind) × (promotion_at n ≡ Some k)
-some_promotion n lo hi = elim (cases_eq n 1) [
-  | inl e ↦ (Queen, rw e refl)
-  | inr n1 ↦ elim (cases_eq n 2) [
-    | inl e ↦ (Rook, rw e refl)
-    | inr n2 ↦ elim (cases_eq n 3) [
-      | inl e ↦ (Bishop, rw e refl)
-      | inr n3 ↦ elim (cases_eq n 4) [
-        | inl e ↦ (Knight, rw e refl)
-        | inr n4 ↦ elim (cases_eq n 5) [
-          | inl e ↦ (Grasshopper, rw e refl)
-          | inr n5 ↦ let e : n ≡ 6 = omega arith in (Nightrider, rw e refl)
-        ]
-      ]
-    ]
-  ]
-]
+pub some_named : (n : ℕ) → 1 ≤ n → n < 7 → is_some (promotion_at n) ≡ true
+some_named n lo hi =
+    let e : n - 1 + 1 ≡ n = omega arith in
+    let some : is_some (promotion_at (n - 1 + 1)) ≡ true = agree_below_at (λ j. is_some (promotion_at (j + 1))) (λ _. true) 6 (n - 1) refl (omega arith) in
+    rw e at some
+
+named_by : (o : Option Kind) → is_some o ≡ true → (k : Kind) × (o ≡ Some k)
+named_by None h = cc
+named_by (Some k) h = (k, refl)
 
 -- on another rank than the last there is no promotion
 pub from-unpromoted : (p : Position) (x : Man) (s z t a : ℕ) → man_on p.men s ≡ Some x → arrives x t ≡ false → 7 * t < a → IsBarrenFrom p s z a (7 * t + 7)
 from-unpromoted p x s z t a here h lt = record {
   fails = λ rule k lo hi on.
       let to : k / 7 ≡ t = omega arith in
-      let some = some_promotion (k % 7) (omega arith) (omega arith) in
+      let some = named_by (promotion_at (k % 7)) (some_named (k % 7) (omega arith) (omega arith)) in
       no_promotion_here rule p x (record { from = s; to = k / 7; promo = promotion_at (k % 7) }) some.0 here some.1 (rw to h);
 }
 
@@ -161,6 +132,12 @@ from-promoted p x s z t here h = record {
 pub from-target : (p : Position) (s start at t w : ℕ) → IsBarrenFrom p s w start at → IsFirst (λ q. bit_at w q == 1) (at / 7) (64 - at / 7) t
     → IsBarrenFrom p s w start (7 * t)
 from-target p s start at t w past f = search rules
+
+pub from-first : (p : Position) (x : Man) (s start at t w n : ℕ) → man_on p.men s ≡ Some x → IsBarrenFrom p s w start at
+    → find (λ q. bit_at w q == 1) (range_with_len (at / 7) (64 - at / 7)) ≡ Some t → arrives x t ≡ true → n ≡ 7 * t → IsBarrenFrom p s w start (n + 1)
+from-first p x s start at t w n here past found last e =
+    rw e (from-join p s w start (7 * t) (7 * t + 1) (from-target p s start at t w past (find_first (λ q. bit_at w q == 1) (at / 7) (64 - at / 7) t found))
+    (from-promoted p x s w t here last))
 
 -- up to the end, where there is none
 pub from-none : (p : Position) (s start at w : ℕ) → IsBarrenFrom p s w start at → find (λ q. bit_at w q == 1) (range_with_len (at / 7) (64 - at / 7)) ≡ None
@@ -199,9 +176,6 @@ pub named_at : (p : Position) (x : Man) (s t n w : ℕ) → man_on p.men s ≡ S
     → is_some (promotion_at (n % 7)) ≡ arrives x t → IsNamed p s w n
 named_at p x s t n w here set at named = record { man = x; here = here; inside = rw at set; promotion = rw at named }
 
-pub some_named : (n : ℕ) → 1 ≤ n → n < 7 → is_some (promotion_at n) ≡ true
-some_named n lo hi = let k = some_promotion n lo hi in rw k.1 refl
-
 pub none_named : (n : ℕ) → n ≡ 0 → is_some (promotion_at n) ≡ false
 none_named n e = rw e refl
 
@@ -213,3 +187,6 @@ plain-named p x s t w here h set =
 
 pub every_square_on : (t : ℕ) → t < 64 → (bit_at (bit_not w64 0) t == 1) ≡ true
 every_square_on t lt = agree_below_at (λ n. bit_at (bit_not w64 0) n == 1) (λ _. true) 64 t refl lt
+
+-- for the word of the steps
+pub ruleset step_words = (king_word, other_word, pawn_word)

@@ -1,26 +1,10 @@
 -- The triples: which moves they are, in which order they stand, and that each legal move is one of them.
-use Rattle.std.proofs.Common.{◌≡◌, ℕ, zero, suc, ◌+◌, ◌-◌, ◌*◌, ◌<◌, Bool, true, List, [], ◌∷◌, length, map, Option, Some, None, ◌⊎◌, ◌↔◌, inl, inr, refl, ap, arith, rules}
-use Rattle.std.specs.List.{AllPairs, Contains, flat_map, list_any, range_with_len}
-use Rattle.std.proofs.lemmas.Bool.{and_parts, cases_lt, false≢true, or_cases}
-use Rattle.std.proofs.lemmas.List.{get_or_past}
+use Rattle.chess_rules.proofs.Basics.{◌≡◌, ℕ, zero, suc, ◌+◌, ◌-◌, ◌<◌, Bool, true, List, [], ◌∷◌, length, map, Option, Some, None, ◌⊎◌, ◌↔◌, inl, inr, refl, ap, arith, rules, AllPairs, Contains, flat_map, list_any, range_with_len, and_parts, false≢true, or_cases}
+use Rattle.chess_rules.proofs.Chess.{Position, man_on, may_promote, is_square, squares, along, diagonal_steps, knight_steps, pawn_captures, queen_steps, straight_steps, Colour, Kind, King, Queen, Rook, Bishop, Knight, Pawn, Grasshopper, Nightrider, Man, Move, Step, castles, is_nil, is_promotion_right, may_castle, promotions, pseudo, triples, triple_at, hops, leaps, reaches, reaches_as, reaches_of, rides, RuleSet, along-is}
 use Rattle.chess_core.specs.MoveOrder.{promotion_place, triple_number}
-use Rattle.chess_core.specs.Position.{Position, man_on, may_promote}
-use Rattle.chess_core.specs.Squares.{is_square, squares}
-use Rattle.chess_core.specs.Steps.{along, diagonal_steps, knight_steps, pawn_captures, queen_steps, straight_steps}
-use Rattle.chess_core.specs.declared.man.Colour.{Colour}
-use Rattle.chess_core.specs.declared.man.Kind.{Kind}
-use Rattle.chess_core.specs.declared.man.Kind.TheVariants.{King, Queen, Rook, Bishop, Knight, Pawn, Grasshopper, Nightrider}
-use Rattle.chess_core.specs.declared.man.Man.{Man}
-use Rattle.chess_core.specs.declared.man.Move.{Move}
-use Rattle.chess_core.specs.declared.step.Step.{Step}
-use Rattle.chess_core.proofs.Boards.{along-is}
-use Rattle.chess_rules.specs.Legal.{castles, is_nil, is_promotion_right, may_castle, promotions, pseudo, triples}
-use Rattle.chess_rules.specs.ties.Places.{triple_at}
-use Rattle.chess_rules.specs.Reaches.{hops, leaps, reaches, reaches_as, reaches_of, rides}
-use Rattle.chess_rules.specs.RuleSet.{RuleSet}
 use Rattle.chess_rules.proofs.listing_moves.Members.{first_in, none_in_nil, from_flat_map, from_map, from_range, in_flat_map, in_map, in_range, pairs_map, pairs_nil, pairs_of}
 use Rattle.chess_rules.proofs.listing_moves.Places.{triples_numbered}
-use Rattle.chess_rules.proofs.making_moves.Pseudo.{IsMade, made, pawn_goes, ways}
+use Rattle.chess_rules.proofs.making_moves.Pseudo.{IsMade, made, pawn_goes, ways, on_board}
 use Rattle.chess_rules.proofs.making_moves.Stays.{maker}
 
 pub in_triples : (m : Move) → m.from < 64 → m.to < 64 → Contains promotions m.promo → Contains triples m
@@ -82,20 +66,20 @@ some_passes test (x ∷ xs) give h = elim (or_cases (test x) (list_any test xs) 
   | inr r ↦ some_passes test xs give r
 ]
 
-on_board : (s : ℕ) (d : Step) (k t : ℕ) → is_square (along s d k) t ≡ true → t < 64
-on_board s d k t h = (along-is s d k t h).small
+stays_on_board : (s : ℕ) (d : Step) (k t : ℕ) → is_square (along s d k) t ≡ true → t < 64
+stays_on_board s d k t h = (along-is s d k t h).small
 
 leap_on_board : (s t : ℕ) (d : Step) → leaps s t d ≡ true → t < 64
 unfolding leaps
-leap_on_board s t d h = on_board s d 1 t h
+leap_on_board s t d h = stays_on_board s d 1 t h
 
 ride_on_board : (men : List (Option Man)) (s t : ℕ) (d : Step) → rides men s t d ≡ true → t < 64
 unfolding rides
-ride_on_board men s t d h = search (rules, on_board, some_passes)
+ride_on_board men s t d h = search (rules, some_passes, stays_on_board)
 
 hop_on_board : (men : List (Option Man)) (s t : ℕ) (d : Step) → hops men s t d ≡ true → t < 64
 unfolding hops
-hop_on_board men s t d h = search (rules, on_board, some_passes)
+hop_on_board men s t d h = search (rules, some_passes, stays_on_board)
 
 reach_as_on_board : (men : List (Option Man)) (c : Colour) (k : Kind) (s t : ℕ) → reaches_as men c k s t ≡ true → t < 64
 unfolding reaches_as
@@ -115,10 +99,6 @@ reach_of_on_board men (Some x) s t h = reach_as_on_board men x.colour x.kind s t
 reach_on_board : (men : List (Option Man)) (s t : ℕ) → reaches men s t ≡ true → t < 64
 unfolding reaches
 reach_on_board men s t h = reach_of_on_board men (man_on men s) s t h
-
--- a man stands on the board
-stands_on_board : (p : Position) (x : Man) (s : ℕ) → length p.men ≡ 64 → man_on p.men s ≡ Some x → s < 64
-stands_on_board p x s size here = search (rules, cases_lt, get_or_past)
 
 castling_on_board : (rule : RuleSet) (p : Position) (x : Man) (m : Move) → m.from < 64 → castles rule p x m ≡ true → m.to < 64
 unfolding castles may_castle
@@ -146,25 +126,10 @@ pub made_is_triple : (rule : RuleSet) (p : Position) (m : Move) → length p.men
 made_is_triple rule p m size h =
     let x = maker rule p m h in
     let by = made rule p m x.0 h x.1 in
-    let from = stands_on_board p x.0 m.from size x.1 in
+    let from = on_board p.men m.from x.0 size x.1 in
     (from, arrival_on_board rule p x.0 m from by, promotion_is_one p x.0 m m.promo by.promotion)
 
 -- The order by parts: arrivals below 64 and promotions below 9.
-
-place_small : (r : Option Kind) → promotion_place r < 9
-place_small None = omega arith
-place_small (Some King) = omega arith
-place_small (Some k) = omega arith
-
-parts_of : (a b c d e f : ℕ) → b < 64 → e < 64 → c < 9 → f < 9 → (a * 64 + b) * 9 + c < (d * 64 + e) * 9 + f
-    → (a < d) ⊎ ((a ≡ d) × ((b < e) ⊎ ((b ≡ e) × (c < f))))
-parts_of a b c d e f b64 e64 c9 f9 less = search rules
-
-of_parts : (a b c d e f : ℕ) → b < 64 → e < 64 → c < 9 → f < 9 → (a < d) ⊎ ((a ≡ d) × ((b < e) ⊎ ((b ≡ e) × (c < f))))
-    → (a * 64 + b) * 9 + c < (d * 64 + e) * 9 + f
-of_parts a b c d e f b64 e64 c9 f9 (inl low) = omega (arith, b64, c9, low)
-of_parts a b c d e f b64 e64 c9 f9 (inr (same, inl low)) = omega (arith, c9, same, low)
-of_parts a b c d e f b64 e64 c9 f9 (inr (same, inr (alike, low))) = omega (arith, same, alike, low)
 
 pub by_parts : (m n : Move) → m.to < 64 → n.to < 64
     → (triple_number m < triple_number n) ↔ ((m.from < n.from)

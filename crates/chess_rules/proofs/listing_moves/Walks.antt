@@ -1,23 +1,12 @@
 -- No move is missed by walking from candidate to candidate.
-use Rattle.std.proofs.Common.{◌≡◌, ℕ, ◌+◌, ◌-◌, ◌*◌, ◌/◌, ◌%◌, ◌<◌, ◌≤◌, Bool, true, false, ◌==◌, not, None, find, refl, subst, sym, ap, ◌∙◌, arith, inl, inr, rules}
-use Rattle.std.specs.Int.{bit_at}
-use Rattle.std.specs.Int.Bits.{bit_and}
-use Rattle.std.specs.List.{range_with_len}
-use Rattle.std.proofs.lemmas.Bool.{and_right, cases_Bool, cases_lt, eqb-true, eq-eqb}
-use Rattle.std.proofs.lemmas.Nat.Bits.{bit_at_and, bit_at-lt, bit_at-zero}
-use Rattle.chess_core.specs.Position.{Position, is_side, man_on}
-use Rattle.chess_core.specs.ties.Words.{side_of, word}
-use Rattle.chess_core.specs.declared.man.Move.{Move}
+use Rattle.chess_rules.proofs.Basics.{◌≡◌, ℕ, ◌+◌, ◌-◌, ◌*◌, ◌/◌, ◌%◌, ◌<◌, ◌≤◌, Bool, true, false, ◌==◌, not, None, find, refl, sym, ap, ◌∙◌, arith, inl, inr, rules, bit_at, bit_and, range_with_len, and_right, cases_Bool, cases_lt, eqb-true, eq-eqb, bit_at_and, bit_at-lt, bit_at-zero, Some}
+use Rattle.chess_rules.proofs.Chess.{Position, is_side, man_on, side_of, word, Move, legal, pseudo, HaveNone, IsBarrenFrom, IsNamed, mates, promotion_at, triple_at, RuleSet, AreCandidates, AreOrigins, IsAimed, is_arrival, find_no, find_first}
 use Rattle.chess_rules.specs.ties.CheckSquares.{AreCheckOrigins, AreCheckTargets}
 use Rattle.chess_rules.specs.ties.Evasions.{AreEvasionsFrom}
-use Rattle.chess_rules.specs.Legal.{legal, pseudo}
-use Rattle.chess_rules.specs.ties.Places.{HaveNone, IsBarrenFrom, IsNamed, mates, promotion_at, triple_at}
-use Rattle.chess_rules.specs.RuleSet.{RuleSet}
-use Rattle.chess_rules.specs.ties.Targets.{AreCandidates, AreOrigins, IsAimed, is_arrival}
 use Rattle.chess_rules.proofs.Bits.{word_has}
-use Rattle.chess_rules.proofs.giving_check.Mating.{no_mate_quietly}
+use Rattle.chess_rules.proofs.giving_check.Mating.{no_mate_quietly, not_mating}
 use Rattle.chess_rules.proofs.listing_moves.Targeting.{arrival_needed, false_by, own_moves}
-use Rattle.chess_rules.proofs.Tests.{IsFirst, find_no}
+use Rattle.chess_rules.proofs.listing_moves.Places.{not_pseudo}
 
 -- squares of two words
 pub on_first : (a b i : ℕ) → (bit_at (bit_and a b) i == 1) ≡ true → (bit_at a i == 1) ≡ true
@@ -40,18 +29,8 @@ module _ (rule : RuleSet) (p : Position) (test : Move → Bool) (needs : (m : Mo
       → AreCandidates rule p test s 0
   no_candidates s w zero h = search (rules, cases_Bool, off_zero)
 
-  -- stretches of triples of which none passes the test
-  pub none-empty : (a : ℕ) → HaveNone test a a
-  none-empty a = record { fails = λ k lo hi. absurd (omega (arith, lo, hi)) }
-
   pub none-join : (a b c : ℕ) → HaveNone test a b → HaveNone test b c → HaveNone test a c
   none-join a b c x y = search (rules, cases_lt)
-
-  pub none-less : (a b c : ℕ) → b ≤ c → HaveNone test a c → HaveNone test a b
-  none-less a b c le x = record { fails = λ k lo hi. x.fails k lo (omega (arith, hi, le)) }
-
-  pub none-one : (a : ℕ) → test (triple_at a) ≡ false → HaveNone test a (a + 1)
-  none-one a h = record { fails = λ k lo hi. let e : k ≡ a = omega (arith, lo, hi) in rw e h }
 
   none-move : (s w : ℕ) (m : Move) → AreCandidates rule p test s w → m.from ≡ s → m.to < 64 → ((bit_at w m.to == 1) ≡ true → pseudo rule p m ≡ false)
       → test m ≡ false
@@ -87,19 +66,20 @@ module _ (rule : RuleSet) (p : Position) (test : Move → Bool) (needs : (m : Mo
   }
 
   -- up to a triple of the next origin
-  pub none-origin : (start number s a o w : ℕ) → AreOrigins test o → HaveNone test start number
-      → IsFirst (λ q. bit_at o q == 1) (number / 448) (64 - number / 448) s → a ≤ 448 → AreCandidates rule p test s w → IsBarrenFrom p s w (number - 448 * s) a
-      → HaveNone test start (448 * s + a)
-  none-origin start number s a o w h past f le are here = elim (cases_lt (448 * s) number) [
-    | inl lt ↦
-        let e : 448 * s + (number - 448 * s) ≡ number = omega (arith, lt) in
-        none-join start number (448 * s + a) past (subst (λ n. HaveNone test n (448 * s + a)) e (none-from s w (number - 448 * s) a le are here))
-    | inr ge ↦
-        let e : 448 * s + (number - 448 * s) ≡ 448 * s = omega (arith, ge) in
-        none-join start (448 * s) (448 * s + a)
-        (none-join start number (448 * s) past (none-missed number (448 * s) o h (omega (arith, f.high, f.low)) (λ q lo hi. f.before q lo (omega (arith, hi)))))
-        (subst (λ n. HaveNone test n (448 * s + a)) e (none-from s w (number - 448 * s) a le are here))
-  ]
+  pub none-origin : (start number s a o w n z : ℕ) → AreOrigins test o → HaveNone test start number
+      → find (λ q. bit_at o q == 1) (range_with_len (number / 448) (64 - number / 448)) ≡ Some s → a ≤ 448 → AreCandidates rule p test s w → n ≡ 448 * s
+      → z ≡ number - n → IsBarrenFrom p s w z a → HaveNone test start (n + a)
+  none-origin start number s a o w n z h past found le are at off here =
+      let f = find_first (λ q. bit_at o q == 1) (number / 448) (64 - number / 448) s found in
+      rw at (elim (cases_lt (448 * s) number) [
+        | inl lt ↦
+            let e : 448 * s + z ≡ number = omega (arith, lt, at, off) in
+            none-join start number (448 * s + a) past (rw e at (none-from s w z a le are here))
+        | inr ge ↦
+            let e : 448 * s + z ≡ 448 * s = omega (arith, ge, at, off) in
+            let before = none-missed number (448 * s) o h (omega (arith, f.high, f.low)) (λ q lo hi. f.before q lo (omega (arith, hi))) in
+            none-join start (448 * s) (448 * s + a) (none-join start number (448 * s) past before) (rw e at (none-from s w z a le are here))
+      ])
 
   -- up to the end, where there is none
   pub none-end : (start number o : ℕ) → AreOrigins test o → HaveNone test start number
@@ -139,3 +119,9 @@ pub mating_origins : (rule : RuleSet) (p : Position) (w : ℕ) → AreCheckOrigi
 mating_origins rule p w h = record {
   elsewhere = λ m inside small off. sym (no_mate_quietly rule p m (λ lawful. h.elsewhere m inside small lawful off));
 }
+
+-- for the candidates of one origin
+pub ruleset legal_candidates = (candidates, evasions_elsewhere, not_pseudo)
+
+-- and for those that may mate
+pub ruleset mating_candidates = (candidates, no_candidates, checks_elsewhere, not_mating)

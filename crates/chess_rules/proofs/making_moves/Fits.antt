@@ -1,24 +1,6 @@
 -- A move that may be made can be made on the board.
-use Rattle.std.proofs.Common.{◌≡◌, ◌≢◌, ℕ, ◌<◌, true, false, ◌&&◌, List, Option, Some, None, is_some, IsSome, refl, rules, sym, ap, ◌∙◌, arith, inl, inr}
-use Rattle.std.proofs.lemmas.Bool.{and_from, and_parts, cases_Bool, cond-true, cond-false, eqb-true, eq-eqb, not-true, false_from_ne_true}
-use Rattle.chess_core.specs.Squares.{file_of, rank_of, is_square, square_at}
-use Rattle.chess_core.specs.Position.{HasNoKing, Position, is_man, man_on, may_promote, same_colour, same_kind, with_man, without_man}
-use Rattle.chess_core.specs.WellFormed.{IsWellFormed, is_crossed_right, was_passed}
-use Rattle.chess_core.specs.declared.man.Man.{Man}
-use Rattle.chess_core.specs.declared.man.Move.{Move}
-use Rattle.chess_core.specs.declared.man.Colour.{Colour}
-use Rattle.chess_core.specs.declared.man.Colour.TheVariants.{White, Black}
-use Rattle.chess_core.specs.declared.man.Kind.{Kind}
-use Rattle.chess_core.specs.declared.man.Kind.TheVariants.{King, Rook, Pawn}
-use Rattle.chess_core.proofs.Boards.{IsAt, square_at-is}
-use Rattle.chess_core.proofs.Men.{is_man-without, man_on-without_none, man_on-without_other}
-use Rattle.std.specs.List.{list_any}
-use Rattle.chess_core.specs.Steps.{queen_steps}
-use Rattle.chess_rules.specs.Reaches.{leaps, reaches, reaches_as}
-use Rattle.chess_rules.specs.RuleSet.{RuleSet}
-use Rattle.chess_rules.specs.Play.{arriving, capture_square, corner, halfway, is_castling, is_diagonal, without_at}
-use Rattle.chess_rules.specs.ties.Playing.{CanCastle, CanMove}
-use Rattle.chess_rules.specs.Legal.{is_promotion_right}
+use Rattle.chess_rules.proofs.Basics.{◌≡◌, ◌≢◌, ℕ, ◌<◌, true, false, ◌&&◌, List, Option, Some, None, is_some, IsSome, refl, rules, sym, ap, ◌∙◌, arith, inl, inr, and_from, and_parts, cases_Bool, cond-true, cond-false, eqb-true, eq-eqb, not-true, false_from_ne_true, list_any}
+use Rattle.chess_rules.proofs.Chess.{file_of, rank_of, is_square, square_at, HasNoKing, Position, is_man, man_on, may_promote, same_colour, same_kind, with_man, without_man, IsWellFormed, is_crossed_right, was_passed, Man, Move, Colour, White, Black, Kind, King, Rook, Pawn, queen_steps, leaps, reaches, reaches_as, RuleSet, arriving, capture_square, corner, halfway, is_castling, is_diagonal, without_at, CanCastle, CanMove, is_promotion_right, IsAt, square_at-is, is_man-without, man_on-without_none, man_on-without_other}
 use Rattle.chess_rules.proofs.making_moves.Castles.{no_king_left, same_colour_self}
 use Rattle.chess_rules.proofs.making_moves.Plays.{stays_empty}
 use Rattle.chess_rules.proofs.making_moves.Pseudo.{IsCastle, IsMade, IsPawnTake, king_castles, king_is_no_pawn, made, on_board, pawn_goes, pawn_reaches, ways}

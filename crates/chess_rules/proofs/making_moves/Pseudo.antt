@@ -1,25 +1,6 @@
 -- What a move that may be made is made of, check to the mover apart.
-use Rattle.std.proofs.Common.{◌≡◌, ◌≢◌, ℕ, ◌+◌, ◌<◌, true, false, nat_lt, List, Option, Some, None, length, refl, inl, inr, ◌⊎◌, rules}
-use Rattle.std.proofs.lemmas.Bool.{and_parts, or_cases, cases_lt, cond-true, cond-false, eqb-true, lt-ltb, le-ltb}
-use Rattle.std.proofs.lemmas.List.{get_or_past}
-use Rattle.std.specs.List.{list_any}
-use Rattle.chess_core.specs.Squares.{file_of, rank_of, is_square}
-use Rattle.chess_core.specs.Steps.{along, pawn_captures}
-use Rattle.chess_core.specs.Position.{Position, man_on, same_kind}
-use Rattle.chess_core.specs.WellFormed.{IsWellFormed, is_home}
-use Rattle.chess_core.specs.declared.man.Man.{Man}
-use Rattle.chess_core.specs.declared.man.Move.{Move}
-use Rattle.chess_core.specs.declared.man.Colour.{Colour}
-use Rattle.chess_core.specs.declared.man.Colour.TheVariants.{White, Black}
-use Rattle.chess_core.specs.declared.man.Kind.{Kind}
-use Rattle.chess_core.specs.declared.man.Kind.TheVariants.{King, Rook, Pawn}
-use Rattle.chess_core.proofs.Boards.{along-is}
-use Rattle.chess_core.proofs.Castlings.{is_home-none, is_home-square}
-use Rattle.chess_core.proofs.Men.{same_colour-true}
-use Rattle.chess_rules.specs.RuleSet.{RuleSet}
-use Rattle.chess_rules.specs.Reaches.{leaps, reaches, reaches_as}
-use Rattle.chess_rules.specs.Play.{corner, halfway}
-use Rattle.chess_rules.specs.Legal.{castles, forward, goes, is_arrival_free, is_promotion_right, may_castle, pawn_steps, pawn_takes, pseudo, second_rank}
+use Rattle.chess_rules.proofs.Basics.{◌≡◌, ◌≢◌, ℕ, ◌+◌, ◌<◌, true, false, nat_lt, List, Option, Some, None, length, refl, inl, inr, ◌⊎◌, rules, and_parts, or_cases, cases_lt, cond-true, cond-false, eqb-true, lt-ltb, le-ltb, get_or_past, list_any}
+use Rattle.chess_rules.proofs.Chess.{file_of, rank_of, is_square, along, pawn_captures, Position, man_on, same_kind, IsWellFormed, is_home, Man, Move, Colour, White, Black, Kind, King, Rook, Pawn, RuleSet, leaps, reaches, reaches_as, corner, halfway, castles, forward, goes, is_arrival_free, is_promotion_right, may_castle, pawn_steps, pawn_takes, pseudo, second_rank, along-is, is_home-none, is_home-square, same_colour-true}
 use Rattle.chess_rules.proofs.making_moves.Castles.{no_man}
 
 -- the parts of the definition

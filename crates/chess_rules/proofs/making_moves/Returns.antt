@@ -1,27 +1,14 @@
 -- The position before a move, found again.
-use Rattle.std.proofs.Common.{◌≡◌, ℕ, ◌<◌, true, List, Option, Some, None, IsSome, length, refl, sym, ap, ◌∙◌, arith, inl, inr, rules}
-use Rattle.std.proofs.lemmas.Bool.{and_parts, cases_Bool}
-use Rattle.std.proofs.lemmas.List.{length-set}
-use Rattle.chess_core.specs.Squares.{is_square}
-use Rattle.chess_core.specs.Position.{Position, man_on, with_man, without_man}
-use Rattle.chess_core.specs.WellFormed.{IsWellFormed, is_crossed_right}
-use Rattle.chess_core.specs.declared.man.Man.{Man}
-use Rattle.chess_core.specs.declared.man.Move.{Move}
-use Rattle.chess_core.specs.declared.man.Kind.{Kind}
-use Rattle.chess_core.proofs.Men.{man_on-with_same, man_on-without_other, man_on-without_same}
-use Rattle.chess_rules.specs.RuleSet.{RuleSet}
+use Rattle.chess_rules.proofs.Basics.{◌≡◌, ℕ, ◌<◌, true, List, Option, Some, None, IsSome, length, refl, sym, ap, ◌∙◌, arith, inl, inr, rules, and_parts, cases_Bool, length-set}
+use Rattle.chess_rules.proofs.Chess.{is_square, Position, man_on, with_man, without_man, IsWellFormed, is_crossed_right, Man, Move, Kind, RuleSet, is_promotion_right, pseudo, after, after_by, arriving, capture_square, corner, halfway, is_castling, loss_by, undo_of, man_on_at, moved_men, put_at, reborn_square, without_at, CanCastle, CanReturn, before_by, leaving, returned_men, returns_to, uncastled_men, man_on-with_same, man_on-without_other, man_on-without_same}
 use Rattle.chess_rules.specs.Loss.{Loss}
 use Rattle.chess_rules.proofs.making_moves.Pseudo.{made}
-use Rattle.chess_rules.specs.Legal.{is_promotion_right, pseudo}
-use Rattle.chess_rules.specs.Play.{after, after_by, arriving, capture_square, corner, halfway, is_castling, loss_by, undo_of, man_on_at, moved_men, put_at, reborn_square, without_at}
-use Rattle.chess_rules.specs.ties.Playing.{CanCastle}
-use Rattle.chess_rules.specs.ties.Undoing.{CanReturn, before_by, leaving, returned_men, returns_to, uncastled_men}
 use Rattle.chess_rules.proofs.making_moves.Back.{lift_after_place, place_after_lift, unborn, uncastled}
 use Rattle.chess_rules.proofs.making_moves.Castles.{no_king_left, same_colour_self}
 use Rattle.chess_rules.proofs.making_moves.Fits.{IsTaken, arrived, can_move, castle_of, corner_stays, taken}
 use Rattle.chess_rules.proofs.making_moves.Plays.{capture_clears}
 use Rattle.chess_rules.proofs.making_moves.Pseudo.{IsCastle, IsMade, kind_is_pawn}
-use Rattle.chess_rules.proofs.making_moves.Stays.{captured_mortal, move_man_other, moved_sound, reborn_is, rebirth_small}
+use Rattle.chess_rules.proofs.making_moves.Stays.{captured_mortal, move_man_other, moved_sound, reborn_is, rebirth_small, maker}
 
 -- the men once origin and square of capture are cleared
 abbrev cleared : Position → Man → Move → List (Option Man)
@@ -34,10 +21,10 @@ length-without_at men (Some s) = length-set men s None
 arrived_there : (p : Position) (x : Man) (m : Move) → length p.men ≡ 64 → m.to < 64 → man_on (arrived p x m) m.to ≡ Some (arriving x m.promo)
 arrived_there p x m size small = search rules
 
-moved_there : (rule : RuleSet) (p : Position) (x : Man) (m : Move) → IsWellFormed p → IsMade rule p x m → m.to < 64
+pub moved_arrival : (rule : RuleSet) (p : Position) (x : Man) (m : Move) → IsWellFormed p → IsMade rule p x m → m.to < 64
     → man_on (moved_men p x m) m.to ≡ Some (arriving x m.promo)
 unfolding moved_men
-moved_there rule p x m well made small = elim (cases_Bool (is_castling x m)) [
+moved_arrival rule p x m well made small = elim (cases_Bool (is_castling x m)) [
   | inl e ↦
       let c = castle_of rule p x m well made e in
       rw e (move_man_other (arrived p x m) (corner m) (halfway m) (man_on (arrived p x m) (corner m)) m.to
@@ -168,10 +155,6 @@ unreborn rule p x m = unborn (moved_men p x m) (reborn_square rule p x m) (man_o
 pub goes_back : (rule : RuleSet) (p : Position) (x : Man) (m : Move) → IsMade rule p x m → leaving (arriving x m.promo) m.promo ≡ x
 goes_back rule p x m made = leaving_arriving p x m m.promo made.promotion
 
-pub moved_arrival : (rule : RuleSet) (p : Position) (x : Man) (m : Move) → IsWellFormed p → IsMade rule p x m → m.to < 64
-    → man_on (moved_men p x m) m.to ≡ Some (arriving x m.promo)
-moved_arrival rule p x m well made small = moved_there rule p x m well made small
-
 pub before_is : (rule : RuleSet) (p : Position) (x : Man) (m : Move) (u : Loss) → IsWellFormed p → IsMade rule p x m → u ≡ loss_by rule p x m
     → before_by (record (after_by rule p x m) { men = moved_men p x m }) x m u ≡ p
 unfolding before_by after_by loss_by
@@ -186,20 +169,24 @@ reborn_stands rule p x m s well made e =
     let small : s < 64 = rebirth_small b.man.colour b.man.kind b.square s b.home in
     rw (e, b.who) (some_there _ b.man (man_on-with_same (moved_men p x m) s b.man (omega arith)))
 
+pub undo_is : (rule : RuleSet) (p : Position) (x : Man) (m : Move) → man_on p.men m.from ≡ Some x → undo_of rule p m ≡ loss_by rule p x m
+unfolding undo_of
+undo_is rule p x m here = rw here refl
+
 after_is : (rule : RuleSet) (p : Position) (x : Man) (m : Move) → man_on p.men m.from ≡ Some x → after rule p m ≡ after_by rule p x m
 unfolding after
 after_is rule p x m here = rw here refl
 
 -- a reborn man can be taken off
-pub can_take_off : (rule : RuleSet) (q p : Position) (x : Man) (m : Move) (u : Loss) (s : ℕ) → man_on p.men m.from ≡ Some x → IsWellFormed p
-    → pseudo rule p m ≡ true → q ≡ after rule p m → u ≡ loss_by rule p x m → u.rebirth ≡ Some s → IsSome (man_on q.men s)
+pub can_take_off : (rule : RuleSet) (q p : Position) (m : Move) (u : Loss) (s : ℕ) → IsWellFormed p → pseudo rule p m ≡ true → q ≡ after rule p m
+    → u ≡ undo_of rule p m → u.rebirth ≡ Some s → IsSome (man_on q.men s)
 unfolding loss_by after_by
-can_take_off rule q p x m u s here well may now lost e =
-    let made_is = made rule p m x may here in
-    let at : reborn_square rule p x m ≡ Some s = ap (λ (v : Loss). v.rebirth) (sym lost) ∙ e in
-    let men : q.men ≡ put_at (moved_men p x m) (reborn_square rule p x m) (man_on_at p.men (capture_square p x m)) = ap (λ (v : Position). v.men)
-    (now ∙ after_is rule p x m here) in
-    rw men (reborn_stands rule p x m s well made_is at)
+can_take_off rule q p m u s well may now was e =
+    let x = maker rule p m may in
+    let at : reborn_square rule p x.0 m ≡ Some s = ap (λ (v : Loss). v.rebirth) (sym (was ∙ undo_is rule p x.0 m x.1)) ∙ e in
+    let men : q.men ≡ put_at (moved_men p x.0 m) (reborn_square rule p x.0 m) (man_on_at p.men (capture_square p x.0 m)) = ap (λ (v : Position). v.men)
+    (now ∙ after_is rule p x.0 m x.1) in
+    rw men (reborn_stands rule p x.0 m s well (made rule p m x.0 may x.1) at)
 
 -- the board when the reborn man is off
 off_is : (rule : RuleSet) (q q2 p : Position) (x : Man) (m : Move) (u : Loss) → man_on p.men m.from ≡ Some x → q ≡ after rule p m → u ≡ loss_by rule p x m
@@ -210,35 +197,28 @@ off_is rule q q2 p x m u here now lost off =
     rw (off, q_is, lost) (ap (λ (l : List (Option Man)). record (after_by rule p x m) { men = l }) (unreborn rule p x m))
 
 -- the man found on the arrival, and what taking the move back then needs and gives
-pub record GoesBack (q2 p : Position) (z : Man) (m : Move) (u : Loss) : Type 0 where
-  pub can : CanReturn q2.men z m u
-  pub gives : before_by q2 z m u ≡ p
+pub record GoesBack (q2 p : Position) (m : Move) (u : Loss) (a : ℕ) (r : Option Kind) : Type 0 where
+  pub stands : man_on q2.men a ≡ None → ⊥
+  pub can : (y : Man) → man_on q2.men a ≡ Some y → CanReturn q2.men (leaving y r) m u
+  pub gives : (y : Man) → man_on q2.men a ≡ Some y → before_by q2 (leaving y r) m u ≡ p
 
-pub restores : (rule : RuleSet) (q q2 p : Position) (x y z : Man) (m : Move) (u : Loss) → man_on p.men m.from ≡ Some x → IsWellFormed p → pseudo rule p m ≡ true
-    → m.to < 64 → q ≡ after rule p m → u ≡ loss_by rule p x m → q2 ≡ record q { men = without_at q.men u.rebirth } → man_on q2.men m.to ≡ Some y
-    → z ≡ leaving y m.promo → GoesBack q2 p z m u
-restores rule q q2 p x y z m u here well may small now lost off there leaves =
-    let made_is = made rule p m x may here in
-    let q2_is = off_is rule q q2 p x m u here now lost off in
-    let men : q2.men ≡ moved_men p x m = ap (λ (v : Position). v.men) q2_is in
-    let arrival : Some y ≡ Some (arriving x m.promo) = sym there ∙ (rw men (moved_arrival rule p x m well made_is small)) in
-    let y_is : y ≡ arriving x m.promo = cc in
-    let z_is : z ≡ x = leaves ∙ ap (λ (w : Man). leaving w m.promo) y_is ∙ goes_back rule p x m made_is in
+pub restores : (rule : RuleSet) (q q2 p : Position) (m : Move) (u : Loss) (a : ℕ) (r : Option Kind) → IsWellFormed p → pseudo rule p m ≡ true
+    → q ≡ after rule p m → u ≡ undo_of rule p m → q2 ≡ record q { men = without_at q.men u.rebirth } → a ≡ m.to → a < 64 → r ≡ m.promo
+    → GoesBack q2 p m u a r
+restores rule q q2 p m u a r well may now was off to small promo =
+    let x = maker rule p m may in
+    let made_is = made rule p m x.0 may x.1 in
+    let lost = was ∙ undo_is rule p x.0 m x.1 in
+    let q2_is = off_is rule q q2 p x.0 m u x.1 now lost off in
+    let men : q2.men ≡ moved_men p x.0 m = ap (λ (v : Position). v.men) q2_is in
+    let in_board : m.to < 64 = omega (arith, to, small) in
+    let arrival : man_on q2.men a ≡ Some (arriving x.0 m.promo) = rw (men, to) (moved_arrival rule p x.0 m well made_is in_board) in
+    let back : (y : Man) → man_on q2.men a ≡ Some y → leaving y r ≡ x.0 = λ y there.
+    let both : Some y ≡ Some (arriving x.0 m.promo) = sym there ∙ arrival in
+    let y_is : y ≡ arriving x.0 m.promo = cc in
+    rw (promo, y_is) (goes_back rule p x.0 m made_is) in
     record {
-      can = rw (men, z_is) (can_return rule p x m u well made_is small lost);
-      gives = rw (q2_is, z_is) (before_is rule p x m u well made_is lost);
+      stands = λ none. let bad : None ≡ Some (arriving x.0 m.promo) = sym none ∙ arrival in cc;
+      can = λ y there. rw (back y there, men) (can_return rule p x.0 m u well made_is in_board lost);
+      gives = λ y there. rw (back y there, q2_is) (before_is rule p x.0 m u well made_is lost);
     }
-
--- a man stands on the arrival
-pub arrival_taken : (rule : RuleSet) (q q2 p : Position) (x : Man) (m : Move) (u : Loss) → man_on p.men m.from ≡ Some x → IsWellFormed p
-    → pseudo rule p m ≡ true → m.to < 64 → q ≡ after rule p m → u ≡ loss_by rule p x m → q2 ≡ record q { men = without_at q.men u.rebirth }
-    → man_on q2.men m.to ≡ None → ⊥
-arrival_taken rule q q2 p x m u here well may small now lost off none =
-    let made_is = made rule p m x may here in
-    let men : q2.men ≡ moved_men p x m = ap (λ (v : Position). v.men) (off_is rule q q2 p x m u here now lost off) in
-    let there : man_on q2.men m.to ≡ Some (arriving x m.promo) = rw men (moved_arrival rule p x m well made_is small) in
-    cc
-
-pub undo_is : (rule : RuleSet) (p : Position) (x : Man) (m : Move) → man_on p.men m.from ≡ Some x → undo_of rule p m ≡ loss_by rule p x m
-unfolding undo_of
-undo_is rule p x m here = rw here refl

@@ -1,25 +1,7 @@
 -- A well-formed position stays well formed.
-use Rattle.std.proofs.Common.{◌≡◌, ◌≢◌, ℕ, ◌+◌, ◌<◌, ◌≤◌, Bool, true, false, ◌&&◌, ◌||◌, eqb, if◌then◌else◌, List, Option, Some, None, length, refl, sym, ap, ◌∙◌, arith, inl, inr, ◌⊎◌, rules}
-use Rattle.std.proofs.lemmas.Bool.{and_from, and_parts, or_cases, cases_Bool, cases_eq, cases_lt, cond-true, cond-false, eqb-true, eq-eqb, ne_eqb, not-true}
-use Rattle.std.proofs.lemmas.List.{length-set, set_past}
-use Rattle.chess_core.specs.Squares.{file_of, rank_of, square_at}
-use Rattle.chess_core.specs.Castling.{has_unmoved, without_unmoved}
-use Rattle.chess_core.specs.Position.{AtMostOneKing, HasNoKing, Position, is_man, man_on, may_promote, other, same_colour, same_kind, with_man, without_man}
-use Rattle.chess_core.specs.WellFormed.{IsWellFormed, is_crossed_right, is_home, is_pawn_inside, is_vacant_at, was_passed}
-use Rattle.chess_core.specs.declared.man.Man.{Man}
-use Rattle.chess_core.specs.declared.man.Move.{Move}
+use Rattle.chess_rules.proofs.Basics.{◌≡◌, ◌≢◌, ℕ, ◌+◌, ◌<◌, ◌≤◌, Bool, true, false, ◌&&◌, ◌||◌, eqb, if◌then◌else◌, List, Option, Some, None, length, refl, sym, ap, ◌∙◌, arith, inl, inr, ◌⊎◌, rules, and_from, and_parts, or_cases, cases_Bool, cases_eq, cases_lt, cond-true, cond-false, eqb-true, eq-eqb, ne_eqb, not-true, length-set, set_past}
+use Rattle.chess_rules.proofs.Chess.{file_of, rank_of, square_at, has_unmoved, without_unmoved, AtMostOneKing, HasNoKing, Position, is_man, man_on, may_promote, other, same_colour, same_kind, with_man, without_man, IsWellFormed, is_crossed_right, is_home, is_pawn_inside, is_vacant_at, was_passed, Man, Move, Colour, White, Black, Kind, King, Queen, Rook, Bishop, Knight, Pawn, Grasshopper, Nightrider, RuleSet, is_circe, after, after_by, arriving, by_shade, capture_square, corner, halfway, if_empty, is_castling, is_double_step, man_on_at, move_man, moved_men, put_at, rebirth, reborn_at, reborn_square, unmoved_after, unmoved_with_rook, unmoved_without_at, without_at, CanCastle, is_promotion_right, last_rank, pseudo, second_rank, IsAt, square_at-is, has_unmoved-mark_other, has_unmoved-parts, is_home-none, AtMostOneKing-without, man_on-with_other, man_on-with_same, man_on-without_none, man_on-without_other, man_on-without_same}
 use Rattle.chess_core.specs.declared.man.Unmoved.{Unmoved}
-use Rattle.chess_core.specs.declared.man.Colour.{Colour}
-use Rattle.chess_core.specs.declared.man.Colour.TheVariants.{White, Black}
-use Rattle.chess_core.specs.declared.man.Kind.{Kind}
-use Rattle.chess_core.specs.declared.man.Kind.TheVariants.{King, Queen, Rook, Bishop, Knight, Pawn, Grasshopper, Nightrider}
-use Rattle.chess_core.proofs.Boards.{IsAt, square_at-is}
-use Rattle.chess_core.proofs.Castlings.{has_unmoved-mark_other, has_unmoved-parts, is_home-none}
-use Rattle.chess_core.proofs.Men.{AtMostOneKing-without, man_on-with_other, man_on-with_same, man_on-without_none, man_on-without_other, man_on-without_same}
-use Rattle.chess_rules.specs.RuleSet.{RuleSet, is_circe}
-use Rattle.chess_rules.specs.Play.{after, after_by, arriving, by_shade, capture_square, corner, halfway, if_empty, is_castling, is_double_step, man_on_at, move_man, moved_men, put_at, rebirth, reborn_at, reborn_square, unmoved_after, unmoved_with_rook, unmoved_without_at, without_at}
-use Rattle.chess_rules.specs.ties.Playing.{CanCastle}
-use Rattle.chess_rules.specs.Legal.{is_promotion_right, last_rank, pseudo, second_rank}
 use Rattle.chess_rules.proofs.making_moves.Fits.{arrived, arrived_other, can_move, castle_of, corner_stays, no_capture, pawn_is_no_king, taken}
 use Rattle.chess_rules.proofs.making_moves.Plays.{none_from_is_some}
 use Rattle.chess_rules.proofs.making_moves.Pseudo.{Advances, IsMade, kind_is_pawn, made, pawn_goes, pawn_reaches, ways}
@@ -176,29 +158,27 @@ reborn_sound men None y sound h = sound
 reborn_sound men (Some r) None sound h = sound
 reborn_sound men (Some r) (Some z) sound h = search (rules, IsSound-with)
 
-pub captured_there : (men : List (Option Man)) (c : Option ℕ) (z : Man) → man_on_at men c ≡ Some z → (s : ℕ) × ((c ≡ Some s) × (man_on men s ≡ Some z))
+captured_there : (men : List (Option Man)) (c : Option ℕ) (z : Man) → man_on_at men c ≡ Some z → (s : ℕ) × ((c ≡ Some s) × (man_on men s ≡ Some z))
 captured_there men None z h = cc
 captured_there men (Some s) z h = (s, (refl, h))
 
--- the man that was captured is no king
+-- the man that was captured is no king, and an enemy
+captured : (rule : RuleSet) (p : Position) (x : Man) (m : Move) (z : Man) → IsWellFormed p → IsMade rule p x m
+    → man_on_at p.men (capture_square p x m) ≡ Some z → (same_kind z.kind King ≡ false) × (same_colour z.colour p.turn ≡ false)
+captured rule p x m z well made h =
+    let c = captured_there p.men (capture_square p x m) z h in
+    let t = taken rule p x m c.0 well made c.1.0 in
+    let e : Some t.man ≡ Some z = sym t.there ∙ c.1.1 in
+    let man : z ≡ t.man = cc in
+    rw man (t.mortal, t.enemy)
+
 pub captured_mortal : (rule : RuleSet) (p : Position) (x : Man) (m : Move) (z : Man) → IsWellFormed p → IsMade rule p x m
     → man_on_at p.men (capture_square p x m) ≡ Some z → same_kind z.kind King ≡ false
-captured_mortal rule p x m z well made h =
-    let c = captured_there p.men (capture_square p x m) z h in
-    let t = taken rule p x m c.0 well made c.1.0 in
-    let e : Some t.man ≡ Some z = sym t.there ∙ c.1.1 in
-    let man : t.man ≡ z = cc in
-    ap (λ (y : Man). same_kind y.kind King) (sym man) ∙ t.mortal
+captured_mortal rule p x m z well made h = (captured rule p x m z well made h).0
 
--- and an enemy
 pub captured_enemy : (rule : RuleSet) (p : Position) (x : Man) (m : Move) (z : Man) → IsWellFormed p → IsMade rule p x m
     → man_on_at p.men (capture_square p x m) ≡ Some z → same_colour z.colour p.turn ≡ false
-captured_enemy rule p x m z well made h =
-    let c = captured_there p.men (capture_square p x m) z h in
-    let t = taken rule p x m c.0 well made c.1.0 in
-    let e : Some t.man ≡ Some z = sym t.there ∙ c.1.1 in
-    let man : t.man ≡ z = cc in
-    ap (λ (y : Man). same_colour y.colour p.turn) (sym man) ∙ t.enemy
+captured_enemy rule p x m z well made h = (captured rule p x m z well made h).1
 
 -- the reborn man, where there is one
 pub reborn_is : (rule : RuleSet) (p : Position) (x : Man) (m : Move) (r : ℕ) → reborn_square rule p x m ≡ Some r

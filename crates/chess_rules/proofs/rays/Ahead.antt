@@ -1,11 +1,6 @@
 -- Squares one after another on a line.
-use Rattle.std.proofs.Common.{◌≡◌, ℕ, ◌+◌, ◌-◌, ◌*◌, ◌<◌, ◌≤◌, true, false, ◌&&◌, refl, sym, ap, ◌∙◌, arith, inl, inr, Some, rules}
-use Rattle.std.proofs.Math.Nat.{add-mul, mul-add}
-use Rattle.std.proofs.lemmas.Bool.{and_from, cases_lt, leb-true}
-use Rattle.chess_core.specs.Squares.{is_on_board, file_of, rank_of}
-use Rattle.chess_core.specs.Steps.{along, step_by}
-use Rattle.chess_core.specs.declared.step.Step.{Step}
-use Rattle.chess_rules.specs.ties.Lines.{place, rises, step_of}
+use Rattle.chess_rules.proofs.Basics.{◌≡◌, ℕ, ◌+◌, ◌-◌, ◌*◌, ◌<◌, ◌≤◌, true, false, ◌&&◌, refl, sym, ap, ◌∙◌, arith, inl, inr, Some, rules, add-mul, mul-add, and_from, cases_lt, leb-true}
+use Rattle.chess_rules.proofs.Chess.{is_on_board, file_of, rank_of, along, step_by, Step, place, rises, step_of}
 use Rattle.chess_rules.specs.declared.lines.Direction.{Direction}
 use Rattle.chess_rules.specs.declared.lines.Direction.TheVariants.{East, West, North, South, NorthEast, SouthEast, NorthWest, SouthWest, NorthNorthEast, SouthSouthEast, NorthNorthWest, SouthSouthWest, EastNorthEast, EastSouthEast, WestNorthWest, WestSouthWest}
 use Rattle.chess_rules.proofs.rays.Ends.{Placed, cond-on, on_board, placed_from}

@@ -1,13 +1,6 @@
 -- The tables of lines and leaps, computed.
-use Rattle.std.proofs.Common.{◌≡◌, ℕ, ◌<◌, List, map, get_or, refl, sym, ap, Option, None, ◌∙◌, arith}
-use Rattle.std.specs.List.{list_any, range_with_len}
-use Rattle.std.proofs.lemmas.List.FromFn.{get_or-map-range_with_len}
-use Rattle.chess_core.specs.Squares.{squares}
-use Rattle.chess_core.specs.Steps.{along, diagonal_steps, knight_steps, pawn_captures, queen_steps, straight_steps}
-use Rattle.chess_core.specs.declared.man.Colour.TheVariants.{White, Black}
-use Rattle.chess_core.specs.ties.Words.{word, word_of}
-use Rattle.chess_rules.specs.ties.Lines.{direction_number, is_advance, is_ahead, is_aside, is_on_some, ray, step_of}
-use Rattle.chess_rules.specs.Reaches.{leaps}
+use Rattle.chess_rules.proofs.Basics.{◌≡◌, ℕ, ◌<◌, List, map, get_or, refl, sym, ap, Option, None, ◌∙◌, arith, list_any, range_with_len, get_or-map-range_with_len}
+use Rattle.chess_rules.proofs.Chess.{squares, along, diagonal_steps, knight_steps, pawn_captures, queen_steps, straight_steps, White, Black, word, word_of, direction_number, is_advance, is_ahead, is_aside, is_on_some, ray, step_of, leaps}
 use Rattle.chess_rules.specs.declared.geometry.TheConstants.{ASIDE, BLACK_CAPTURES, BLACK_STEPS, DIAGONAL_LINES, KNIGHT_LEAPS, NEIGHBOURS, RAYS, STRAIGHT_LINES, WHITE_CAPTURES, WHITE_STEPS}
 use Rattle.chess_rules.specs.declared.lines.Direction.{Direction}
 use Rattle.chess_rules.specs.declared.lines.Direction.TheVariants.{East}

@@ -1,15 +1,6 @@
 -- Lines looked at from their other end.
-use Rattle.std.proofs.Common.{◌≡◌, ℕ, ◌+◌, ◌-◌, ◌*◌, ◌<◌, ◌≤◌, Bool, true, false, ◌&&◌, cond, List, refl, sym, ap, ◌∙◌, arith, Option, Some, None, rules}
-use Rattle.std.specs.List.{range_with_len, list_any}
-use Rattle.std.proofs.Math.Nat.{add-mul}
-use Rattle.std.proofs.lemmas.Bool.{and_from, eq-eqb, eqb-true, false≢true, leb-true, le-leb}
-use Rattle.chess_core.specs.Squares.{is_square, is_on_board, square_at, file_of, rank_of}
-use Rattle.chess_core.specs.Steps.{along}
-use Rattle.chess_core.specs.declared.step.Step.{Step}
-use Rattle.chess_core.specs.declared.man.Man.{Man}
-use Rattle.chess_core.proofs.Ranges.{all_range_true}
-use Rattle.chess_rules.specs.Reaches.{is_vacant, is_clear, rides}
-use Rattle.chess_rules.proofs.Tests.{all_at, first_of_and, same_Bool, second_of_and}
+use Rattle.chess_rules.proofs.Basics.{◌≡◌, ℕ, ◌+◌, ◌-◌, ◌*◌, ◌<◌, ◌≤◌, Bool, true, false, ◌&&◌, cond, List, refl, sym, ap, ◌∙◌, arith, Option, Some, None, rules, range_with_len, list_any, add-mul, and_from, eq-eqb, eqb-true, false≢true, leb-true, le-leb}
+use Rattle.chess_rules.proofs.Chess.{is_square, is_on_board, square_at, file_of, rank_of, along, Step, Man, is_vacant, is_clear, rides, all_range_true, all_at, first_of_and, same_Bool, second_of_and, some_is}
 
 -- the step the other way
 abbrev pub back : Step → Step
@@ -26,9 +17,6 @@ pub record Placed (f r t : ℕ) : Type 0 where
 
 placed_at : (f r t : ℕ) → 1 ≤ f → f ≤ 8 → 1 ≤ r → r ≤ 8 → 8 * (r - 1) + (f - 1) ≡ t → Placed f r t
 placed_at f r t a b c d e = record { f_low = a; f_high = b; r_low = c; r_high = d; file = omega arith; rank = omega arith }
-
-some_is : (a b : ℕ) → Some a ≡ Some b → a ≡ b
-some_is a b h = cc
 
 placed_by : (f r t : ℕ) (b : Bool) → (is_on_board f && is_on_board r) ≡ b → cond b (Some (8 * (r - 1) + (f - 1))) None ≡ Some t → Placed f r t
 placed_by f r t true on h = search (rules, first_of_and, leb-true, placed_at, second_of_and, some_is)

@@ -1,13 +1,6 @@
 -- The square of a word that a line passes first: its lowest bit or its highest.
-use Rattle.std.proofs.Common.{◌≡◌, ℕ, suc, ◌-◌, ◌*◌, ◌%◌, ◌^◌, ◌<◌, ◌≤◌, true, false, sym, ◌∙◌, arith, inl, inr, rules}
-use Rattle.std.specs.Int.{bit_at, trailing_zeros, w64}
-use Rattle.std.specs.Int.Bits.{bit_or}
-use Rattle.std.proofs.Math.Nat.{pow-suc}
-use Rattle.std.proofs.lemmas.Bool.{cases_lt}
-use Rattle.std.proofs.lemmas.Nat.{or_lt}
-use Rattle.std.proofs.lemmas.Nat.Bits.{bit_at_above, bit_at_or, bit_at-lt, bit_at-trailing_zeros, bit_at_set_other, bit_at_set_same}
-use Rattle.chess_core.specs.declared.step.Step.{Step}
-use Rattle.chess_rules.specs.ties.Lines.{IsStop, rises}
+use Rattle.chess_rules.proofs.Basics.{◌≡◌, ℕ, suc, ◌-◌, ◌*◌, ◌%◌, ◌^◌, ◌<◌, ◌≤◌, true, false, sym, ◌∙◌, arith, inl, inr, rules, bit_at, trailing_zeros, w64, bit_or, pow-suc, cases_lt, or_lt, bit_at_above, bit_at_or, bit_at-lt, bit_at-trailing_zeros, bit_at_set_other, bit_at_set_same}
+use Rattle.chess_rules.proofs.Chess.{Step, IsStop, rises}
 
 -- a number with a bit isn't 0
 pub has_bit : (n i : ℕ) → bit_at n i ≡ 1 → 0 < n

@@ -1,17 +1,7 @@
 -- Lists of steps that hold each step with its opposite.
-use Rattle.std.proofs.Common.{◌≡◌, ℕ, ◌<◌, Bool, true, ◌&&◌, ◌==◌, List, [], ◌∷◌, refl, sym, ap, ◌∙◌, Option, inl, inr, rules}
-use Rattle.std.specs.List.{list_all, list_any}
-use Rattle.std.proofs.lemmas.Bool.{and_parts, eqb-true, or_cases, or_left, or_right}
-use Rattle.chess_core.specs.Steps.{straight_steps, diagonal_steps, queen_steps, knight_steps, pawn_captures}
-use Rattle.chess_core.specs.Position.{other}
-use Rattle.chess_core.specs.declared.man.Colour.{Colour}
-use Rattle.chess_core.specs.declared.man.Colour.TheVariants.{White, Black}
-use Rattle.chess_core.specs.declared.step.Step.{Step}
-use Rattle.chess_core.specs.declared.man.Man.{Man}
-use Rattle.chess_rules.specs.Reaches.{rides, leaps, hops}
-use Rattle.chess_rules.specs.ties.Outward.{hopped_from}
+use Rattle.chess_rules.proofs.Basics.{◌≡◌, ℕ, ◌<◌, Bool, true, ◌&&◌, ◌==◌, List, [], ◌∷◌, refl, sym, ap, ◌∙◌, Option, inl, inr, rules, list_all, list_any, and_parts, eqb-true, or_cases, or_left, or_right}
+use Rattle.chess_rules.proofs.Chess.{straight_steps, diagonal_steps, queen_steps, knight_steps, pawn_captures, other, Colour, White, Black, Step, Man, rides, leaps, hops, hopped_from, same_Bool}
 use Rattle.chess_rules.proofs.rays.Ends.{back, rides-back, returns_to}
-use Rattle.chess_rules.proofs.Tests.{same_Bool}
 use Rattle.chess_rules.proofs.rays.Hops.{hops-back}
 
 -- equality of steps as a test

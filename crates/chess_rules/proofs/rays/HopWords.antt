@@ -1,30 +1,12 @@
 -- The word of a hop.
-use Rattle.std.proofs.Common.{◌≡◌, ◌≢◌, ℕ, ◌+◌, ◌-◌, ◌^◌, ◌<◌, ◌≤◌, Bool, true, false, ◌&&◌, not, List, refl, sym, ap, ◌∙◌, arith, inl, inr, Option, Some, None, is_some, rules}
-use Rattle.std.specs.Int.{trailing_zeros, w64}
-use Rattle.std.specs.List.{list_all, list_any, range_with_len}
-use Rattle.std.proofs.lemmas.Bool.{and_from, cases_Bool, cases_eq, cases_lt, eq-eqb, false≢true, not-true}
-use Rattle.std.proofs.lemmas.Nat.Bits.{bit_at-trailing_zeros}
-use Rattle.chess_core.specs.Squares.{is_square}
-use Rattle.chess_core.specs.Steps.{along}
-use Rattle.chess_core.specs.Position.{man_on}
-use Rattle.chess_core.specs.ties.Words.{word}
-use Rattle.chess_core.specs.declared.man.Man.{Man}
-use Rattle.chess_core.specs.declared.step.Step.{Step}
-use Rattle.chess_core.proofs.Ranges.{any_range_true, any_range_false, all_range_true}
-use Rattle.chess_core.proofs.Words.{square_word_small, squares_same}
-use Rattle.chess_rules.specs.ties.Lines.{IsStop, is_ahead, place, place_by, ray, rises, step_of}
-use Rattle.chess_rules.specs.ties.Outward.{hopped_from, rides_on}
-use Rattle.chess_rules.specs.Reaches.{hops, is_clear, is_occupied, is_vacant, rides}
+use Rattle.chess_rules.proofs.Basics.{◌≡◌, ◌≢◌, ℕ, ◌+◌, ◌-◌, ◌^◌, ◌<◌, ◌≤◌, Bool, true, false, ◌&&◌, not, List, refl, sym, ap, ◌∙◌, arith, inl, inr, Option, Some, None, is_some, rules, trailing_zeros, w64, list_all, list_any, range_with_len, and_from, cases_Bool, cases_eq, cases_lt, eq-eqb, false≢true, not-true, bit_at-trailing_zeros}
+use Rattle.chess_rules.proofs.Chess.{is_square, along, man_on, word, Man, Step, IsStop, is_ahead, place, place_by, ray, rises, step_of, hopped_from, rides_on, hops, is_clear, is_occupied, is_vacant, rides, any_range_true, any_range_false, all_range_true, square_word_small, squares_same, all_at, any_range_cases, first_of_and, same_Bool, second_of_and, some_is}
 use Rattle.chess_rules.specs.declared.lines.Direction.{Direction}
 use Rattle.chess_rules.proofs.rays.Ahead.{Ordered, Passed, onward, ordered, passes}
 use Rattle.chess_rules.proofs.Bits.{word_empty, word_has}
 use Rattle.chess_rules.proofs.rays.Computed.{eighth}
 use Rattle.chess_rules.proofs.rays.Ends.{square_is, stays}
 use Rattle.chess_rules.proofs.rays.Stopping.{Steps, Stops, ahead_at, passes_test, marked, place_le, steps_on}
-use Rattle.chess_rules.proofs.Tests.{all_at, any_range_cases, first_of_and, same_Bool, second_of_and}
-
-same_some : (a b : ℕ) → Some a ≡ Some b → a ≡ b
-same_some a b h = cc
 
 -- a number of the range that passes
 found : (p : ℕ → Bool) (a n : ℕ) → list_any p (range_with_len a n) ≡ true → (k : ℕ) × (a ≤ k) × (k < a + n) × (p k ≡ true)
@@ -172,7 +154,7 @@ next_is s x r b t p h stop ahead =
       | inl lt ↦
           let on = steps_on s (step_of x) b (passes_test (is_ahead s (step_of x)) r b h stop.small (stop.here lt)) in
           elim (cases_eq on.0 1) [
-            | inl e ↦ same_some b w.0 (sym on.1.at ∙ ap (along s (step_of x)) e ∙ w.1.at)
+            | inl e ↦ some_is b w.0 (sym on.1.at ∙ ap (along s (step_of x)) e ∙ w.1.at)
             | inr ne ↦ absurd (let more : place (step_of x) w.0 < place (step_of x) b = (ordered x).in_order s 1 on.0 w.0 b w.1.at on.1.at
                 (omega (arith, on.1.low)) in omega arith)
           ]
@@ -189,7 +171,7 @@ unfolding ray
 next_none s d r p h z = none_at (along s d 1) (λ q at. elim (cases_lt q 64) [
   | inl small ↦ (false≢true (sym (word_has (λ t. false) r q (z ∙ word_empty (λ t. false) (λ t b. refl)) small) ∙ word_has (is_ahead s d) r q h small
       ∙ ahead_at s d q 1 (omega arith) (omega arith) at))
-  | inr big ↦ (let w = passes s q d 1 1 p (omega arith) at in let e : w.0 ≡ q = same_some w.0 q (sym w.1.at ∙ at) in let f : w.0 < 64 = w.1.small in
+  | inr big ↦ (let w = passes s q d 1 1 p (omega arith) at in let e : w.0 ≡ q = some_is w.0 q (sym w.1.at ∙ at) in let f : w.0 < 64 = w.1.small in
       omega arith)
 ])
 

@@ -1,15 +1,6 @@
 -- Hops seen from the square of arrival.
-use Rattle.std.proofs.Common.{◌≡◌, ℕ, ◌-◌, ◌<◌, ◌≤◌, Bool, true, false, ◌&&◌, List, refl, sym, ap, ◌∙◌, arith, inl, inr, Option, Some}
-use Rattle.std.specs.List.{range_with_len, list_any, list_all}
-use Rattle.std.proofs.lemmas.Bool.{cases_Bool}
-use Rattle.chess_core.specs.Squares.{is_square}
-use Rattle.chess_core.specs.Steps.{along}
-use Rattle.chess_core.specs.declared.step.Step.{Step}
-use Rattle.chess_core.specs.declared.man.Man.{Man}
-use Rattle.chess_core.proofs.Ranges.{all_range_true, any_range_false}
-use Rattle.chess_rules.specs.ties.Outward.{hopped_from, rides_on}
-use Rattle.chess_rules.specs.Reaches.{is_vacant, is_occupied, is_clear, hops}
-use Rattle.chess_rules.proofs.Tests.{all_at, any_range_same, same_Bool}
+use Rattle.chess_rules.proofs.Basics.{◌≡◌, ℕ, ◌-◌, ◌<◌, ◌≤◌, Bool, true, false, ◌&&◌, List, refl, sym, ap, ◌∙◌, arith, inl, inr, Option, Some, range_with_len, list_any, list_all, cases_Bool}
+use Rattle.chess_rules.proofs.Chess.{is_square, along, Step, Man, hopped_from, rides_on, is_vacant, is_occupied, is_clear, hops, all_range_true, any_range_false, all_at, any_range_same, same_Bool}
 use Rattle.chess_rules.proofs.rays.Ends.{back, between, returns_to, square_is}
 
 and_true : (a b : Bool) → (a && true && b) ≡ (a && b)

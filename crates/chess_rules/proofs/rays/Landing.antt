@@ -1,22 +1,10 @@
 -- What a man reaches doesn't depend on who stands on the square that it reaches.
-use Rattle.std.proofs.Common.{◌≡◌, ◌≢◌, ℕ, zero, suc, ◌+◌, ◌-◌, ◌<◌, ◌≤◌, Bool, false, ◌&&◌, ◌||◌, List, Option, Some, None, is_some, refl, sym, ap, ◌∙◌, arith, inl, inr, rules}
-use Rattle.std.specs.List.{list_all, list_any, range_with_len}
-use Rattle.std.proofs.lemmas.Bool.{and_left, cases_Bool, false_from_ne_true}
-use Rattle.chess_core.specs.Position.{man_on}
-use Rattle.chess_core.specs.Squares.{is_square}
-use Rattle.chess_core.specs.Steps.{along, diagonal_steps, knight_steps, queen_steps, straight_steps}
-use Rattle.chess_core.specs.declared.man.Colour.{Colour}
-use Rattle.chess_core.specs.declared.man.Kind.{Kind}
-use Rattle.chess_core.specs.declared.man.Kind.TheVariants.{King, Queen, Rook, Bishop, Grasshopper, Nightrider}
-use Rattle.chess_core.specs.declared.man.Man.{Man}
-use Rattle.chess_core.specs.declared.step.Step.{Step}
-use Rattle.chess_rules.specs.ties.Lines.{place, step_of}
-use Rattle.chess_rules.specs.Reaches.{hops, leaps, is_clear, is_occupied, reaches_as, rides}
+use Rattle.chess_rules.proofs.Basics.{◌≡◌, ◌≢◌, ℕ, zero, suc, ◌+◌, ◌-◌, ◌<◌, ◌≤◌, Bool, false, ◌&&◌, ◌||◌, List, Option, Some, None, is_some, refl, sym, ap, ◌∙◌, arith, inl, inr, rules, list_all, list_any, range_with_len, and_left, cases_Bool, false_from_ne_true}
+use Rattle.chess_rules.proofs.Chess.{man_on, is_square, along, diagonal_steps, knight_steps, queen_steps, straight_steps, Colour, Kind, King, Queen, Rook, Bishop, Grasshopper, Nightrider, Man, Step, place, step_of, hops, leaps, is_clear, is_occupied, reaches_as, rides, any_range_same}
 use Rattle.chess_rules.specs.declared.lines.Direction.{Direction}
 use Rattle.chess_rules.specs.declared.lines.Direction.TheVariants.{East, West, North, South, NorthEast, SouthEast, NorthWest, SouthWest, NorthNorthEast, SouthSouthEast, NorthNorthWest, SouthSouthWest, EastNorthEast, EastSouthEast, WestNorthWest, WestSouthWest}
 use Rattle.chess_rules.proofs.rays.Ahead.{Ordered, ordered}
 use Rattle.chess_rules.proofs.rays.Ends.{square_is, stays}
-use Rattle.chess_rules.proofs.Tests.{any_range_same}
 
 -- men stand on the same squares, t apart
 pub record StandAlike (men others : List (Option Man)) (t : ℕ) : Type 0 where

@@ -1,15 +1,7 @@
 -- A line on which one square alone may have been shut.
-use Rattle.std.proofs.Common.{◌≡◌, ℕ, ◌-◌, ◌<◌, ◌≤◌, true, false, ◌&&◌, List, [], ◌∷◌, Option, Some, ap, ◌∙◌, arith, inl, inr, rules}
-use Rattle.std.specs.List.{list_any, range_with_len}
-use Rattle.std.proofs.lemmas.Bool.{and_from, and_parts, cases_Bool, false_from_ne_true, or_cases, or_left, or_parts, or_right}
-use Rattle.chess_core.specs.Squares.{is_square}
-use Rattle.chess_core.specs.Steps.{along}
-use Rattle.chess_core.specs.declared.man.Man.{Man}
-use Rattle.chess_core.specs.declared.step.Step.{Step}
-use Rattle.chess_core.proofs.Ranges.{all_range_true, any_range_false, any_range_true}
-use Rattle.chess_rules.specs.Reaches.{is_clear, is_vacant, rides}
+use Rattle.chess_rules.proofs.Basics.{◌≡◌, ℕ, ◌-◌, ◌<◌, ◌≤◌, true, false, ◌&&◌, List, [], ◌∷◌, Option, Some, ap, ◌∙◌, arith, inl, inr, rules, list_any, range_with_len, and_from, and_parts, cases_Bool, false_from_ne_true, or_cases, or_left, or_parts, or_right}
+use Rattle.chess_rules.proofs.Chess.{is_square, along, Man, Step, is_clear, is_vacant, rides, all_range_true, any_range_false, any_range_true, all_at, any_range_cases, first_of_and, second_of_and}
 use Rattle.chess_rules.proofs.rays.Ends.{back, between, square_is}
-use Rattle.chess_rules.proofs.Tests.{all_at, any_range_cases, first_of_and, second_of_and}
 
 -- what is empty among the first men is empty among the others, b apart
 pub record Frees (men others : List (Option Man)) (b : ℕ) : Type 0 where

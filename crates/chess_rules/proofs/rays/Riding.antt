@@ -1,26 +1,8 @@
 -- The words of the squares that shut lines.
-use Rattle.std.proofs.Common.{◌≡◌, ℕ, ◌+◌, ◌-◌, ◌<◌, ◌≤◌, Bool, false, ◌&&◌, ◌||◌, ◌==◌, List, Option, refl, sym, ap, ◌∙◌, arith, inl, inr, rules}
-use Rattle.std.specs.Int.{bit_at}
-use Rattle.std.specs.Int.Bits.{bit_and, bit_or}
-use Rattle.std.specs.List.{list_any, range_with_len}
-use Rattle.std.proofs.lemmas.Bool.{and_left, and_right, cases_Bool, cases_eq, cases_lt, or_left, or_right}
-use Rattle.std.proofs.lemmas.Nat.Bits.{bit_at-zero}
-use Rattle.chess_core.specs.Position.{is_man, man_on}
-use Rattle.chess_core.specs.Squares.{some_square, squares}
-use Rattle.chess_core.specs.ties.Words.{squares_of, word}
-use Rattle.chess_core.specs.declared.man.Colour.{Colour}
-use Rattle.chess_core.specs.declared.man.Kind.{Kind}
-use Rattle.chess_core.specs.declared.man.Kind.TheVariants.{Queen}
-use Rattle.chess_core.specs.declared.man.Man.{Man}
-use Rattle.chess_core.specs.declared.step.Step.{Step}
-use Rattle.chess_core.proofs.Ranges.{any_range_false, any_range_true, some_square_false}
-use Rattle.chess_core.proofs.Words.{squares_both, squares_either, squares_same}
-use Rattle.chess_rules.specs.ties.Lines.{is_on_some}
-use Rattle.chess_rules.specs.Reaches.{rides}
-use Rattle.chess_rules.specs.ties.Shields.{is_behind, is_shut}
+use Rattle.chess_rules.proofs.Basics.{◌≡◌, ℕ, ◌+◌, ◌-◌, ◌<◌, ◌≤◌, Bool, false, ◌&&◌, ◌||◌, ◌==◌, List, Option, refl, sym, ap, ◌∙◌, arith, inl, inr, rules, bit_at, bit_and, bit_or, list_any, range_with_len, and_left, and_right, cases_Bool, cases_eq, cases_lt, or_left, or_right, bit_at-zero}
+use Rattle.chess_rules.proofs.Chess.{is_man, man_on, some_square, squares, squares_of, word, Colour, Kind, Queen, Man, Step, is_on_some, rides, is_behind, is_shut, any_range_false, any_range_true, some_square_false, squares_both, squares_either, squares_same, IsFirst, any_range_cases}
 use Rattle.chess_rules.proofs.attacks.Attacking.{some_square_same}
 use Rattle.chess_rules.proofs.Bits.{word_empty, word_has}
-use Rattle.chess_rules.proofs.Tests.{IsFirst, any_range_cases}
 
 -- some number passes up to q, if some does below n, or q itself, and those between don't
 upto : (p : ℕ → Bool) (n q : ℕ) → n ≤ q → ((j : ℕ) → n ≤ j → j < q → p j ≡ false)

@@ -1,22 +1,9 @@
 -- A ride: the line as far as the first man on it.
-use Rattle.std.proofs.Common.{◌≡◌, ℕ, ◌+◌, ◌-◌, ◌<◌, ◌≤◌, Bool, true, false, ◌&&◌, not, List, Option, Some, is_some, refl, sym, ap, ◌∙◌, arith, inl, inr}
-use Rattle.std.specs.Int.{bit_at, bit_not, w64}
-use Rattle.std.specs.Int.Bits.{bit_and}
-use Rattle.std.proofs.lemmas.Bool.{and_from, and_left, cases_Bool, cases_eq, cases_lt, eq-eqb, eqb-true, false≢true}
-use Rattle.chess_core.specs.Squares.{is_square}
-use Rattle.chess_core.specs.Steps.{along}
-use Rattle.chess_core.specs.Position.{man_on}
-use Rattle.chess_core.specs.ties.Words.{word}
-use Rattle.chess_core.specs.declared.man.Man.{Man}
-use Rattle.chess_core.specs.declared.step.Step.{Step}
-use Rattle.chess_core.proofs.Ranges.{any_range_true, any_range_false, all_range_true, all_range_false}
-use Rattle.chess_core.proofs.Words.{squares_both, squares_not, squares_same}
-use Rattle.chess_rules.specs.ties.Lines.{IsStop, is_ahead, place, place_by, ray, rises}
-use Rattle.chess_rules.specs.Reaches.{is_clear, is_vacant, rides}
+use Rattle.chess_rules.proofs.Basics.{◌≡◌, ℕ, ◌+◌, ◌-◌, ◌<◌, ◌≤◌, Bool, true, false, ◌&&◌, not, List, Option, Some, is_some, refl, sym, ap, ◌∙◌, arith, inl, inr, bit_at, bit_not, w64, bit_and, and_from, and_left, cases_Bool, cases_eq, cases_lt, eq-eqb, eqb-true, false≢true}
+use Rattle.chess_rules.proofs.Chess.{is_square, along, man_on, word, Man, Step, IsStop, is_ahead, place, place_by, ray, rises, is_clear, is_vacant, rides, any_range_true, any_range_false, all_range_true, all_range_false, squares_both, squares_not, squares_same, any_range_cases, first_of_and, second_of_and}
 use Rattle.chess_rules.proofs.rays.Ahead.{Ordered, onward, passes}
 use Rattle.chess_rules.proofs.Bits.{word_has}
 use Rattle.chess_rules.proofs.rays.Ends.{square_is, stays}
-use Rattle.chess_rules.proofs.Tests.{any_range_cases, first_of_and, second_of_and}
 
 -- b is the first square ahead of s with a man on it, or a square behind which no line goes on
 pub record Stops (men : List (Option Man)) (s : ℕ) (d : Step) (b : ℕ) : Type 0 where

@@ -1,4 +1,4 @@
-use Rattle.std.proofs.Common.{rules}
+use Rattle.chess_rules.proofs.Basics.{rules}
 use Rattle.chess_rules.proofs.giving_check.EveryMove.{none-all}
 use Rattle.chess_rules.proofs.listing_moves.Places.{moves_behind-start}
 use Rattle.chess_rules.proofs.every_move.every_move_mates.Goals as goal

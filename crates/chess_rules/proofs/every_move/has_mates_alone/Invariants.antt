@@ -1,7 +1,5 @@
-use Rattle.std.proofs.Common.{◌≡◌, ◌&&◌, ◌||◌, not, length}
-use Rattle.std.specs.List.{list_all}
-use Rattle.chess_rules.specs.Legal.{is_nil}
-use Rattle.chess_rules.specs.ties.Places.{IsPlaceIn, is_mating, moves_behind}
+use Rattle.chess_rules.proofs.Basics.{◌≡◌, ◌&&◌, ◌||◌, not, length, list_all}
+use Rattle.chess_rules.proofs.Chess.{is_nil, IsPlaceIn, is_mating, moves_behind}
 use Rattle.chess_rules.proofs.every_move.has_mates_alone.Given as goal
 
 abbrev pub invariant-loop-m : goal.invariant-loop-m

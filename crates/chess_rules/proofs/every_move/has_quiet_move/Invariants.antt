@@ -1,6 +1,5 @@
-use Rattle.std.proofs.Common.{◌≡◌, false, length}
-use Rattle.std.specs.List.{list_all}
-use Rattle.chess_rules.specs.ties.Places.{IsPlaceIn, is_mating, moves_behind}
+use Rattle.chess_rules.proofs.Basics.{◌≡◌, false, length, list_all}
+use Rattle.chess_rules.proofs.Chess.{IsPlaceIn, is_mating, moves_behind}
 use Rattle.chess_rules.proofs.every_move.has_quiet_move.Given as goal
 
 abbrev pub invariant-loop-m : goal.invariant-loop-m

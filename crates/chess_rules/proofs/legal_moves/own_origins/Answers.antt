@@ -1,4 +1,4 @@
-use Rattle.chess_rules.specs.Legal.{legal}
+use Rattle.chess_rules.proofs.Chess.{legal}
 use Rattle.chess_rules.specs.ties.Idle.{legal-idle}
 use Rattle.chess_rules.proofs.listing_moves.Walks.{own-origins}
 use Rattle.chess_rules.proofs.legal_moves.own_origins.Goals as goal

@@ -1,4 +1,4 @@
-use Rattle.std.proofs.Common.{rules}
+use Rattle.chess_rules.proofs.Basics.{rules}
 use Rattle.chess_rules.proofs.rays.Computed.{diagonal_lines_at}
 use Rattle.chess_rules.proofs.lines.diagonal_lines.Goals as goal
 

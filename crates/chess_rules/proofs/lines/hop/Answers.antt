@@ -1,5 +1,5 @@
-use Rattle.std.proofs.Common.{◌<◌}
-use Rattle.chess_rules.specs.ties.Lines.{step_of}
+use Rattle.chess_rules.proofs.Basics.{◌<◌}
+use Rattle.chess_rules.proofs.Chess.{step_of}
 use Rattle.chess_rules.proofs.rays.HopWords.{hop_is}
 use Rattle.chess_rules.proofs.rays.Stopping.{stops}
 use Rattle.chess_rules.proofs.lines.hop.Goals as goal

@@ -1,7 +1,5 @@
-use Rattle.std.proofs.Common.{◌≡◌, ◌<◌, ◌∙◌, refl, Some, None, true, false, is_some, sym}
-use Rattle.chess_core.specs.Steps.{along}
-use Rattle.chess_core.specs.Position.{man_on}
-use Rattle.chess_rules.specs.ties.Lines.{step_of}
+use Rattle.chess_rules.proofs.Basics.{◌≡◌, ◌<◌, ◌∙◌, refl, Some, None, true, false, is_some, sym}
+use Rattle.chess_rules.proofs.Chess.{along, man_on, step_of}
 use Rattle.chess_rules.proofs.Bits.{word_has}
 use Rattle.chess_rules.proofs.rays.HopWords.{hop_back_over, hop_back_none}
 use Rattle.chess_rules.proofs.lines.hop_back.Goals as goal

@@ -1,5 +1,4 @@
-use Rattle.chess_rules.specs.ties.Lines.{flat_steps, steep_steps}
-use Rattle.chess_rules.specs.Reaches.{rides}
+use Rattle.chess_rules.proofs.Chess.{flat_steps, steep_steps, rides}
 use Rattle.chess_rules.proofs.rays.Joining.{both_lists}
 use Rattle.chess_rules.proofs.lines.knight_rides.Goals as goal
 

@@ -1,11 +1,5 @@
-use Rattle.std.proofs.Common.{◌≡◌, true, ◌||◌, refl, ◌∙◌, List, Option, Some, None, is_some, rules}
-use Rattle.std.specs.Int.Bits.{bit_or}
-use Rattle.chess_core.specs.Position.{is_side, man_on, same_colour}
-use Rattle.chess_core.specs.ties.Words.{side_of, word}
-use Rattle.chess_core.specs.declared.man.Man.{Man}
-use Rattle.chess_core.specs.declared.man.Colour.{Colour}
-use Rattle.chess_core.specs.declared.man.Colour.TheVariants.{White, Black}
-use Rattle.chess_core.proofs.Words.{squares_either, squares_same}
+use Rattle.chess_rules.proofs.Basics.{◌≡◌, true, ◌||◌, refl, ◌∙◌, List, Option, Some, None, is_some, rules, bit_or}
+use Rattle.chess_rules.proofs.Chess.{is_side, man_on, same_colour, side_of, word, Man, Colour, White, Black, squares_either, squares_same}
 use Rattle.chess_rules.proofs.lines.occupied.Goals as goal
 
 of_one : (c : Colour) → (same_colour c White || same_colour c Black) ≡ true

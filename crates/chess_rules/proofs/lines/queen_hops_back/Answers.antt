@@ -1,5 +1,4 @@
-use Rattle.chess_core.specs.Steps.{diagonal_steps, straight_steps}
-use Rattle.chess_rules.specs.ties.Outward.{hopped_from}
+use Rattle.chess_rules.proofs.Chess.{diagonal_steps, straight_steps, hopped_from}
 use Rattle.chess_rules.proofs.rays.Joining.{both_lists}
 use Rattle.chess_rules.proofs.lines.queen_hops_back.Goals as goal
 

@@ -1,10 +1,6 @@
-use Rattle.std.proofs.Common.{ℕ, Bool}
-use Rattle.chess_core.specs.Position.{is_man, man_on}
-use Rattle.chess_core.specs.Steps.{diagonal_steps, straight_steps}
-use Rattle.chess_core.specs.declared.man.Kind.TheVariants.{Grasshopper}
+use Rattle.chess_rules.proofs.Basics.{ℕ, Bool}
+use Rattle.chess_rules.proofs.Chess.{is_man, man_on, diagonal_steps, straight_steps, Grasshopper, step_of, is_lined}
 use Rattle.chess_rules.specs.declared.lines.Direction.TheVariants.{East, West, North, South, NorthEast, SouthEast, NorthWest, SouthWest}
-use Rattle.chess_rules.specs.ties.Lines.{step_of}
-use Rattle.chess_rules.specs.ties.Shields.{is_lined}
 use Rattle.chess_rules.proofs.attacks.FairyLines.{man_test}
 use Rattle.chess_rules.proofs.rays.Joining.{both_lists, four}
 use Rattle.chess_rules.proofs.lines.queen_lines_with.Goals as goal

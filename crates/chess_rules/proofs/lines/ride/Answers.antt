@@ -1,5 +1,5 @@
-use Rattle.std.proofs.Common.{◌<◌}
-use Rattle.chess_rules.specs.ties.Lines.{step_of}
+use Rattle.chess_rules.proofs.Basics.{◌<◌}
+use Rattle.chess_rules.proofs.Chess.{step_of}
 use Rattle.chess_rules.proofs.rays.Ahead.{ordered}
 use Rattle.chess_rules.proofs.rays.Stopping.{ride_is}
 use Rattle.chess_rules.proofs.lines.ride.Goals as goal

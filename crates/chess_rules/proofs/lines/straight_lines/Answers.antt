@@ -1,4 +1,4 @@
-use Rattle.std.proofs.Common.{rules}
+use Rattle.chess_rules.proofs.Basics.{rules}
 use Rattle.chess_rules.proofs.rays.Computed.{straight_lines_at}
 use Rattle.chess_rules.proofs.lines.straight_lines.Goals as goal
 

@@ -1,4 +1,4 @@
-use Rattle.std.proofs.Common.{rules}
+use Rattle.chess_rules.proofs.Basics.{rules}
 use Rattle.chess_rules.proofs.giving_check.Mating.{mates_after}
 use Rattle.chess_rules.proofs.mating_moves.gives_mate.Goals as goal
 

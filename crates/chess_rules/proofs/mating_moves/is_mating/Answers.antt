@@ -1,4 +1,4 @@
-use Rattle.std.proofs.Common.{rules}
+use Rattle.chess_rules.proofs.Basics.{rules}
 use Rattle.chess_rules.proofs.giving_check.Fleeing.{no_mate_with_flight}
 use Rattle.chess_rules.proofs.giving_check.Mating.{no_mate, no_mate_quietly}
 use Rattle.chess_rules.proofs.mating_moves.is_mating.Goals as goal

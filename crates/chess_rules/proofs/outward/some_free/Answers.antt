@@ -1,9 +1,5 @@
-use Rattle.std.proofs.Common.{◌-◌, ◌==◌, ◌&&◌, ◌∙◌, not, sym, ap, arith, rules}
-use Rattle.std.specs.Int.{bit_at}
-use Rattle.std.proofs.lemmas.Bool.{and_from, and_right}
-use Rattle.chess_core.proofs.Ranges.{some_square_false, some_square_true}
-use Rattle.chess_rules.specs.Attacks.{paralysed}
-use Rattle.chess_rules.proofs.Tests.{find_first, skipped, skipped_all}
+use Rattle.chess_rules.proofs.Basics.{◌-◌, ◌==◌, ◌&&◌, ◌∙◌, not, sym, ap, arith, rules, bit_at, and_from, and_right}
+use Rattle.chess_rules.proofs.Chess.{paralysed, some_square_false, some_square_true, find_first, skipped, skipped_all}
 use Rattle.chess_rules.proofs.outward.some_free.Goals as goal
 
 pub returns-then-not-paralysed : goal.returns-then-not-paralysed

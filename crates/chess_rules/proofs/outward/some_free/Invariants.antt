@@ -1,7 +1,5 @@
-use Rattle.std.proofs.Common.{◌-◌, ◌==◌, ◌&&◌, not}
-use Rattle.std.specs.Int.{bit_at}
-use Rattle.chess_core.proofs.Ranges.{NoneBelow}
-use Rattle.chess_rules.specs.Attacks.{paralysed}
+use Rattle.chess_rules.proofs.Basics.{◌-◌, ◌==◌, ◌&&◌, not, bit_at}
+use Rattle.chess_rules.proofs.Chess.{paralysed, NoneBelow}
 use Rattle.chess_rules.proofs.outward.some_free.Given as goal
 
 abbrev pub invariant-loop-square : goal.invariant-loop-square

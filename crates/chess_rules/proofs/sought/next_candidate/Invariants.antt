@@ -1,6 +1,5 @@
-use Rattle.std.proofs.Common.{◌-◌, ◌≤◌}
-use Rattle.chess_rules.specs.ties.Places.{HaveNone}
-use Rattle.chess_rules.specs.ties.Targets.{AreKept}
+use Rattle.chess_rules.proofs.Basics.{◌-◌, ◌≤◌}
+use Rattle.chess_rules.proofs.Chess.{HaveNone, AreKept}
 use Rattle.chess_rules.proofs.sought.next_candidate.Given as goal
 
 abbrev pub invariant-loop-from : goal.invariant-loop-from

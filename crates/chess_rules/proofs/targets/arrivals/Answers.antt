@@ -1,16 +1,7 @@
-use Rattle.std.proofs.Common.{◌≡◌, ◌∙◌, true, sym, rules}
-use Rattle.chess_core.specs.Position.{same_colour}
-use Rattle.chess_rules.proofs.listing_moves.Arrivals.{arrivals_nobody, arrivals_other, arrivals_paralysed, arrivals_some}
+use Rattle.chess_rules.proofs.Basics.{◌≡◌, ◌∙◌, true, sym}
+use Rattle.chess_rules.proofs.Chess.{same_colour}
+use Rattle.chess_rules.proofs.listing_moves.Arrivals.{arrivals_some}
 use Rattle.chess_rules.proofs.targets.arrivals.Goals as goal
-
-pub returns-in_default : goal.returns-in_default
-returns-in_default g c = search (rules, arrivals_nobody)
-
-pub returns-then-not-is : goal.returns-then-not-is
-returns-then-not-is g c = search (rules, arrivals_other)
-
-pub returns-then-paralysed : goal.returns-then-paralysed
-returns-then-paralysed g c = search (rules, arrivals_paralysed)
 
 pub returns : goal.returns
 returns g c =

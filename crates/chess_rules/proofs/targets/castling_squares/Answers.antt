@@ -1,5 +1,5 @@
-use Rattle.std.proofs.Common.{◌∙◌, sym}
-use Rattle.chess_core.specs.Castling.{has_unmoved}
+use Rattle.chess_rules.proofs.Basics.{◌∙◌, sym}
+use Rattle.chess_rules.proofs.Chess.{has_unmoved}
 use Rattle.chess_rules.proofs.listing_moves.Arrivals.{castling_none}
 use Rattle.chess_rules.proofs.targets.castling_squares.Goals as goal
 

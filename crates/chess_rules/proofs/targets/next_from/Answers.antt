@@ -1,9 +1,6 @@
-use Rattle.std.proofs.Common.{◌≡◌, ◌+◌, ◌-◌, ◌*◌, ◌/◌, ◌%◌, ◌<◌, ◌==◌, Some, sym, ◌∙◌, arith, rules}
-use Rattle.std.specs.Int.{bit_at}
-use Rattle.chess_core.specs.Position.{man_on}
-use Rattle.chess_rules.specs.ties.Places.{IsBarrenFrom}
-use Rattle.chess_rules.proofs.listing_moves.Targeting.{from-join, from-nobody, from-none, from-promoted, from-target, from-unpromoted, named_at, none_named, some_named}
-use Rattle.chess_rules.proofs.Tests.{find_first}
+use Rattle.chess_rules.proofs.Basics.{◌≡◌, ◌+◌, ◌-◌, ◌*◌, ◌/◌, ◌%◌, ◌==◌, sym, ◌∙◌, arith, rules, bit_at}
+use Rattle.chess_rules.proofs.listing_moves.Targeting.{from-join, from-nobody, from-none, from-target, from-unpromoted, named_at, none_named, some_named, from-first}
+use Rattle.chess_rules.proofs.Chess.{find_first}
 use Rattle.chess_rules.proofs.targets.next_from.Goals as goal
 
 pub returns-in_default-clause-barren : goal.returns-in_default-clause-barren
@@ -11,36 +8,25 @@ returns-in_default-clause-barren c = search (rules, from-nobody)
 
 pub returns-then-at-first-clause-barren : goal.returns-then-at-first-clause-barren
 returns-then-at-first-clause-barren c =
-    let p = c.args.board.now in
-    let x = c.in-Some.man in
-    let t = c.in-Some-next_bit.to in
-    let w = c.args.word in
-    let here : man_on p.men c.args.from ≡ Some x = sym c.man_at.ensures ∙ c.in-Some.is in
-    let first = find_first (λ s. bit_at w s == 1) (c.loop-to.at / 7) (64 - c.loop-to.at / 7) t (sym c.next_bit.ensures.value ∙ c.in-Some-next_bit.is) in
-    let at : c.from-first.result * 7 ≡ 7 * t = omega (arith, c.from-first.ensures, c.index.ensures.value) in
-    let before : IsBarrenFrom p c.args.from w c.args.start (7 * t) = from-target p c.args.from c.args.start c.loop-to.at t w c.loop-to.invariant.barren first in
-    rw at (from-join p c.args.from w c.args.start (7 * t) (7 * t + 1) before
-    (from-promoted p x c.args.from w t here (sym c.arrives.ensures ∙ c.if-arrives.true)))
+    from-first c.args.board.now c.in-Some.man c.args.from c.args.start c.loop-to.at c.in-Some-next_bit.to c.args.word (c.from-first.result * 7)
+    (sym c.man_at.ensures ∙ c.in-Some.is) c.loop-to.invariant.barren (sym c.next_bit.ensures.value ∙ c.in-Some-next_bit.is)
+    (sym c.arrives.ensures ∙ c.if-arrives.true) (omega (arith, c.from-first.ensures, c.index.ensures.value))
 
 pub returns-then-at-first-2-clause-barren : goal.returns-then-at-first-2-clause-barren
 returns-then-at-first-2-clause-barren c = search (rules, find_first, from-target)
 
 pub loop-to-preserved : goal.loop-to-preserved
 loop-to-preserved c =
-    let p = c.args.board.now in
-    let x = c.in-Some.man in
     let t = c.in-Some-next_bit.to in
-    let w = c.args.word in
-    let here : man_on p.men c.args.from ≡ Some x = sym c.man_at.ensures ∙ c.in-Some.is in
     let at : c.from-first.result * 7 ≡ 7 * t = omega (arith, c.from-first.ensures, c.index.ensures.value) in
-    let small : c.from-first.result < 64 = omega (arith, c.from-first.ensures, c.index.ensures.small) in
-    let first = find_first (λ s. bit_at w s == 1) (c.loop-to.at / 7) (64 - c.loop-to.at / 7) t (sym c.next_bit.ensures.value ∙ c.in-Some-next_bit.is) in
+    let first = find_first (λ s. bit_at c.args.word s == 1) (c.loop-to.at / 7) (64 - c.loop-to.at / 7) t (sym c.next_bit.ensures.value ∙ c.in-Some-next_bit.is) in
     record {
       low = omega (arith, c.loop-to.invariant.low, first.low);
-      high = omega arith;
+      high = omega (arith, c.from-first.ensures, c.index.ensures.small);
       barren =
-          rw at (from-join p c.args.from w c.args.start c.loop-to.at (7 * t + 7) c.loop-to.invariant.barren
-          (from-unpromoted p x c.args.from w t c.loop-to.at here (sym c.arrives.ensures ∙ c.if-arrives.false) (omega arith)));
+          rw at (from-join c.args.board.now c.args.from c.args.word c.args.start c.loop-to.at (7 * t + 7) c.loop-to.invariant.barren
+          (from-unpromoted c.args.board.now c.in-Some.man c.args.from c.args.word t c.loop-to.at (sym c.man_at.ensures ∙ c.in-Some.is)
+          (sym c.arrives.ensures ∙ c.if-arrives.false) (omega arith)));
     }
 
 pub returns-clause-barren : goal.returns-clause-barren
@@ -54,12 +40,8 @@ returns-else-at-first-clause-named c lt = search (rules, find_first, named_at, s
 
 pub returns-then-at-first-2-clause-named : goal.returns-then-at-first-2-clause-named
 returns-then-at-first-2-clause-named c lt =
-    let p = c.args.board.now in
-    let x = c.in-Some.man in
     let t = c.in-Some-next_bit.to in
-    let here : man_on p.men c.args.from ≡ Some x = sym c.man_at.ensures ∙ c.in-Some.is in
-    let first = find_first (λ s. bit_at c.args.word s == 1) (c.loop-to.at / 7) (64 - c.loop-to.at / 7) t
-    (sym c.next_bit.ensures.value ∙ c.in-Some-next_bit.is) in
+    let first = find_first (λ s. bit_at c.args.word s == 1) (c.loop-to.at / 7) (64 - c.loop-to.at / 7) t (sym c.next_bit.ensures.value ∙ c.in-Some-next_bit.is) in
     let at : c.from-first.result * 7 ≡ 7 * t = omega (arith, c.from-first.ensures, c.index.ensures.value) in
-    named_at p x c.args.from t (c.from-first.result * 7) c.args.word here first.here (omega (arith, at))
+    named_at c.args.board.now c.in-Some.man c.args.from t (c.from-first.result * 7) c.args.word (sym c.man_at.ensures ∙ c.in-Some.is) first.here (omega (arith, at))
     (none_named (c.from-first.result * 7 % 7) (omega (arith, at)) ∙ sym (sym c.arrives.ensures ∙ c.if-arrives.false))

@@ -1,5 +1,5 @@
-use Rattle.std.proofs.Common.{◌-◌, ◌≤◌}
-use Rattle.chess_rules.specs.ties.Places.{IsBarrenFrom}
+use Rattle.chess_rules.proofs.Basics.{◌-◌, ◌≤◌}
+use Rattle.chess_rules.proofs.Chess.{IsBarrenFrom}
 use Rattle.chess_rules.proofs.targets.next_from.Given as goal
 
 abbrev pub invariant-loop-to : goal.invariant-loop-to

@@ -1,15 +1,7 @@
-use Rattle.std.proofs.Common.{◌≡◌, ◌∙◌, ◌==◌, true, arith, sym, rules}
-use Rattle.std.specs.Int.{bit_at, bit_not, w64}
-use Rattle.std.specs.Int.Bits.{bit_and}
-use Rattle.std.proofs.lemmas.Bool.{eq-eqb}
-use Rattle.chess_core.specs.Squares.{rank_of}
-use Rattle.chess_rules.specs.Legal.{second_rank}
-use Rattle.chess_rules.proofs.listing_moves.Arrivals.{goes-blocked, goes-once, goes-twice}
-use Rattle.chess_rules.proofs.Tests.{differs, find_first}
+use Rattle.chess_rules.proofs.Basics.{◌≡◌, ◌∙◌, ◌==◌, true, arith, sym, bit_at, bit_not, w64, bit_and, eq-eqb}
+use Rattle.chess_rules.proofs.Chess.{rank_of, second_rank, find_first}
+use Rattle.chess_rules.proofs.listing_moves.Arrivals.{goes-twice}
 use Rattle.chess_rules.proofs.targets.pawn_goes.Goals as goal
-
-pub returns-in_default : goal.returns-in_default
-returns-in_default c = search (rules, goes-blocked)
 
 pub returns-then-rank-second_rank : goal.returns-then-rank-second_rank
 returns-then-rank-second_rank c =
@@ -19,6 +11,3 @@ returns-then-rank-second_rank c =
     ≡ true = eq-eqb _ _ (sym c.rank.ensures.value ∙ c.if-rank-second_rank.true ∙ c.second_rank.ensures) in
     goes-twice c.args.board.now c.args.man c.args.from (omega arith) c.pawn_advances.result c.occupied.result c.king_leaps.result c.pawn_advances.ensures
     c.occupied.ensures c.king_leaps.ensures c.in-Some._next first second
-
-pub returns : goal.returns
-returns c = search (rules, differs, goes-once)

@@ -1,7 +1,5 @@
-use Rattle.std.proofs.Common.{arith, rules}
-use Rattle.std.specs.Int.{w64}
-use Rattle.std.proofs.lemmas.Nat.Bits.{bit_at_set_same}
-use Rattle.chess_rules.proofs.rays.Firsts.{has_bit, highest_stop, lowest_stop}
+use Rattle.chess_rules.proofs.Basics.{arith, w64, bit_at_set_same}
+use Rattle.chess_rules.proofs.rays.Firsts.{has_bit}
 use Rattle.chess_rules.proofs.lines.Direction.first.Goals as goal
 
 pub lowest-requires : goal.lowest-requires
@@ -9,9 +7,3 @@ lowest-requires c = has_bit _ 63 (bit_at_set_same w64 c.args.word 63 (omega arit
 
 pub highest-requires : goal.highest-requires
 highest-requires c = has_bit _ 0 (bit_at_set_same w64 c.args.word 0 (omega arith))
-
-pub returns-then-rises : goal.returns-then-rises
-returns-then-rises c = search (rules, lowest_stop)
-
-pub returns-else-rises : goal.returns-else-rises
-returns-else-rises c = search (rules, highest_stop)

@@ -1,4 +1,4 @@
-use Rattle.std.proofs.Common.{rules}
+use Rattle.chess_rules.proofs.Basics.{rules}
 use Rattle.chess_rules.proofs.listing_moves.Between.{between-none}
 use Rattle.chess_rules.proofs.moves.Moves.next_until.Goals as goal
 

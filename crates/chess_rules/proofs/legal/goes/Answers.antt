@@ -1,6 +1,0 @@
-use Rattle.std.proofs.Common.{rules}
-use Rattle.chess_rules.proofs.listing_moves.Arrivals.{goes_on}
-use Rattle.chess_rules.proofs.legal.goes.Goals as goal
-
-pub returns-else-is_unmoved_king-clause-answer : goal.returns-else-is_unmoved_king-clause-answer
-returns-else-is_unmoved_king-clause-answer g c = search (rules, goes_on)

@@ -1,9 +1,0 @@
-use Rattle.std.proofs.Common.{rules}
-use Rattle.chess_rules.proofs.listing_moves.Between.{until-end, until-legal}
-use Rattle.chess_rules.proofs.legal_moves.LegalMoves.next_until.Goals as goal
-
-pub returns-then-number-last-clause-rest : goal.returns-then-number-last-clause-rest
-returns-then-number-last-clause-rest g c = search (rules, until-legal)
-
-pub returns-clause-rest : goal.returns-clause-rest
-returns-clause-rest g c = search (rules, until-end)

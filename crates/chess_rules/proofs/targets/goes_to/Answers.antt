@@ -1,9 +1,0 @@
-use Rattle.std.proofs.Common.{rules}
-use Rattle.chess_rules.proofs.listing_moves.Arrivals.{other_ways, pawn_ways}
-use Rattle.chess_rules.proofs.targets.goes_to.Goals as goal
-
-pub returns-then-is : goal.returns-then-is
-returns-then-is c = search (rules, pawn_ways)
-
-pub returns : goal.returns
-returns c = search (rules, other_ways)
