@@ -51,11 +51,14 @@ filter-none : (f : Triple → Bool) (none : (m : Triple) → f m ≡ false) → 
 filter-none f none [] = refl
 filter-none f none (m ∷ ms) = rw (none m) (filter-none f none ms)
 
+-- what stands behind a place, one place after another
+ruleset places = (cases_lt, cases_Bool, moves_behind-end, moves_behind-here, moves_behind-skip, place_of_triple)
+
 -- the moves at one place
 module _ (rule : RuleSet) (p : Position) (k : ℕ) where
   -- a triple that stands elsewhere is passed
   pass : (a : ℕ) → (a + 1 ≡ k → ⊥) → filter (is_at k) (moves_behind rule p a) ≡ filter (is_at k) (moves_behind rule p (a + 1))
-  pass a other = search (rules, cases_lt, cases_Bool, moves_behind-end, moves_behind-here, moves_behind-skip, place_of_triple)
+  pass a other = search (rules, places)
 
   pass_all : (n a b : ℕ) → b ≡ a + n → ((i : ℕ) → a ≤ i → i < b → i + 1 ≡ k → ⊥)
       → filter (is_at k) (moves_behind rule p a) ≡ filter (is_at k) (moves_behind rule p b)
@@ -67,21 +70,7 @@ module _ (rule : RuleSet) (p : Position) (k : ℕ) where
   none_behind = pass_all 28672 k (k + 28672) refl (λ i lo hi h. omega (arith, lo, h)) ∙ (rw (moves_behind-end rule p (k + 28672) (omega arith)) refl)
 
   here_alone : filter (is_at k) (moves_behind rule p (k - 1)) ≡ moves_between rule p (k - 1) k
-  here_alone =
-      search (
-        rules,
-        cases_lt,
-        cases_Bool,
-        between-past,
-        moves_behind-end,
-        between-here,
-        moves_behind-here,
-        between-skip,
-        moves_behind-skip,
-        between-none,
-        none_behind,
-        place_of_triple,
-      )
+  here_alone = search (rules, places, between-past, between-here, between-skip, between-none, none_behind)
 
   one_place : moves_between rule p (k - 1) k ≡ filter (is_at k) (legal_moves rule p)
   one_place =
