@@ -111,17 +111,6 @@ is_open token = not (closes (closing_of token))
 cut_open : (c : Option Command) (token : Token) (blocks : List (List Token)) → closes c ≡ false → cut_by c token blocks ≡ onto_first token blocks
 cut_open c token blocks h = grind arith
 
--- tokens before the first block
-abbrev pub onto_block : List Token → List (List Token) → List (List Token)
-onto_block done [] = done ∷ []
-onto_block done (block ∷ blocks) = (done ++ block) ∷ blocks
-
-onto_more : (token : Token) (done : List Token) (blocks : List (List Token)) → onto_first token (onto_block done blocks) ≡ onto_block (token ∷ done) blocks
-onto_more token done blocks = grind arith
-
-open_token : (token : Token) → is_open token ≡ true → closes (closing_of token) ≡ false
-open_token token h = grind arith
-
 open_parts : (token : Token) (done : List Token) → list_all is_open (token ∷ done) ≡ true → (is_open token ≡ true) × (list_all is_open done ≡ true)
 open_parts token done h = grind arith
 
@@ -129,7 +118,7 @@ open_parts token done h = grind arith
 pub blocks_open : (done tokens : List Token) → list_all is_open done ≡ true → (b : List Token) (bs : List (List Token)) → blocks_of tokens ≡ b ∷ bs
     → blocks_of (done ++ tokens) ≡ (done ++ b) ∷ bs
 blocks_open [] tokens h b bs e = e
-blocks_open (token ∷ done) tokens h b bs e = grind (arith, open_parts, blocks_open done tokens (open_parts token done h).1 b bs e, cut_open, open_token)
+blocks_open (token ∷ done) tokens h b bs e = grind (arith, open_parts, blocks_open done tokens (open_parts token done h).1 b bs e, cut_open)
 
 -- no line closes open tokens
 pub open_line : (done : List Token) → list_all is_open done ≡ true → closing_line done ≡ None

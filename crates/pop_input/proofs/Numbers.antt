@@ -1,5 +1,5 @@
 -- The numbers of faults.
-use Rattle.std.proofs.Common.{◌≡◌, ◌≤◌, ℕ, List, [], ◌∷◌, Option, None, Some, Bool, true, false, not, ◌&&◌, arith, if◌then◌else◌, subst, is_some}
+use Rattle.std.proofs.Common.{◌≤◌, ℕ, List, [], ◌∷◌, Option, None, Some, Bool, true, false, not, ◌&&◌, arith, if◌then◌else◌, is_some}
 use Rattle.chess_core.specs.Position.{man_on, same_kind, with_man}
 use Rattle.chess_core.specs.WellFormed.{is_pawn_inside}
 use Rattle.chess_core.specs.declared.man.Kind.TheVariants.{King}
@@ -126,12 +126,9 @@ block_small true (TextLine line keyword text ∷ tokens) = block_small true toke
 pub small_item : (place : Reading) (fault : Fault) (last : Last) → SmallFault (Some fault) → IsNumbered place (Faulty fault last)
 small_item place fault last p = grind arith
 
-closing_item : (place : Reading) (f : Option Fault) (fault : Fault) (last : Last) → SmallFault f → f ≡ Some fault → IsNumbered place (Faulty fault last)
-closing_item place f fault last p is = small_item place fault last (subst SmallFault is p)
-
 pub closed_numbered : (place : Reading) (block : Block) (line : ℕ) (last : Last) (item : Item) → Closes block line last item → SmallFault block.fault
     → IsNumbered place item
-closed_numbered place block line last item c p = grind (arith, closing_item, fault_else, small_at, end_small)
+closed_numbered place block line last item c p = grind (arith, small_item, fault_else, small_at, end_small)
 
 ended_small : (f : Option Fault) (begun : Bool) (line : ℕ) → SmallFault f → SmallFault (Some (ended_by f (fault_at (tail_fault begun AtEnd) line)))
 ended_small f begun line p = grind arith

@@ -1,5 +1,5 @@
 -- The problem that words pose is sound where no test at their end fails.
-use Rattle.std.proofs.Common.{◌≡◌, ◌≤◌, ℕ, List, Option, Some, None, Bool, true, false, refl, arith, ◌⊎◌, not, ◌==◌, if◌then◌else◌}
+use Rattle.std.proofs.Common.{◌≡◌, ℕ, List, Option, Some, None, Bool, true, false, refl, arith, ◌⊎◌, ◌==◌, if◌then◌else◌}
 use Rattle.std.proofs.lemmas.Bool.{cases_Bool, cases_eq, and_parts, cond-true, cond-false}
 use Rattle.chess_core.specs.Castling.{has_unmoved, mark_unmoved, none_unmoved}
 use Rattle.chess_core.specs.Diagrams.{Setup, has_men, position_of}
@@ -8,15 +8,13 @@ use Rattle.chess_core.specs.WellFormed.{IsWellFormed, is_crossed_right, is_home}
 use Rattle.chess_core.specs.declared.man.Man.{Man}
 use Rattle.chess_core.specs.declared.man.Unmoved.{Unmoved}
 use Rattle.chess_rules.specs.Attacks.{in_check}
-use Rattle.pop_input.specs.Posed.{IsSound, rule_of}
+use Rattle.pop_input.specs.Posed.{rule_of}
 use Rattle.pop_input.specs.State.{State}
 use Rattle.pop_input.specs.Stipulations.{has_king_to_mate, starts}
-use Rattle.pop_input.specs.Ends.{position_fault, ArePut, counts, is_stated, posed_by, setup_fault, setup_of, unmoved_of}
-use Rattle.pop_input.specs.Values.{most_solutions}
+use Rattle.pop_input.specs.Ends.{position_fault, ArePut, counts, setup_fault, setup_of, unmoved_of}
 use Rattle.pop_input.specs.declared.stipulation.Form.{Form}
 use Rattle.pop_input.specs.declared.stipulation.Stipulation.{Stipulation}
-use Rattle.pop_input.specs.declared.fault_kind.FaultKind.{FaultKind}
-use Rattle.pop_input.specs.declared.fault_kind.FaultKind.TheVariants.{NoMen, EnPassantImpossible, KingMissing, WaitingSideInCheck}
+use Rattle.pop_input.specs.declared.fault_kind.FaultKind.TheVariants.{EnPassantImpossible}
 
 module _ (men : List (Option Man)) (barred : Unmoved) where
   home_or : (s n : ℕ) (rest : Bool) → (if s == n then counts men barred n else rest) ≡ true → (is_home (man_on men s) s ≡ true) ⊎ (rest ≡ true)
@@ -68,17 +66,3 @@ module _ (state : State) (stipulation : Stipulation) (setup : Setup) (is : setup
         → check ≡ in_check (rule_of state.condition) setup.men (other (starts stipulation.form))
         → position_fault king check ≡ setup_fault state stipulation setup
     position_told king check k at = grind (arith, right)
-
-abbrev tests_by : Bool → Bool → Bool → Bool → Option FaultKind
-tests_by some right king check = if not some then Some NoMen else (if not right then Some EnPassantImpossible
-    else (if not king then Some KingMissing else (if check then Some WaitingSideInCheck else None)))
-
-passed : (some right king check : Bool) → tests_by some right king check ≡ None → (king ≡ true) × (check ≡ false)
-passed some right king check h = grind arith
-
--- a problem whose words have no fault, nor their end
-pub sound_by : (state : State) (stipulation : Stipulation) (title author : List ℕ) → state.stipulation ≡ Some stipulation → is_stated state.stipulation ≡ true
-    → 1 ≤ state.limit → state.limit ≤ most_solutions
-    → IsWellFormed (position_of (setup_of state stipulation.form)) → setup_fault state stipulation (setup_of state stipulation.form) ≡ None
-    → IsSound (posed_by state stipulation title author)
-sound_by state stipulation title author is stated low high well none = grind (arith, passed)

@@ -119,9 +119,6 @@ over place tail stops rest may = let v = stops rest may in rw (v.0, v.1) (same_w
 run_ends : (new : Reading) (rest : Input) → MayFollow new.end rest → IsRunOver new → RunEnds (is_cut (tail_at new rest)) (view_at new rest)
 run_ends new rest may h = grind (arith, with_gap, stops_at_end, with_view)
 
-run_within : (new : Reading) → IsRunOver new → new.used ≤ limit
-run_within new h = grind arith
-
 -- Words.
 
 -- a gap and a run that is over say its word, or the text word behind which the next one begins
@@ -130,9 +127,6 @@ pub run_said : (cut : Bool) (line : ℕ) (gap run view : List ℕ) → list_all 
 run_said cut line gap [] view blank solid some ends = absurd (omega arith)
 run_said cut line gap (b ∷ run) view blank solid some ends =
     grind (arith, append_assoc gap (b ∷ run) view, skip_gap cut line gap ((b ∷ run) ++ view), take_run cut (line + count_by is_line_end gap) b run view solid ends)
-
-within_fault : (fault : ReadFault) (place : Reading) → Peeks place (Err fault) → place.used ≤ limit
-within_fault fault place at = grind arith
 
 -- a gap says nothing
 gap_takes : {old new : Reading} {had left : Option (List ℕ)} → UsesAll is_gap old new had left → new.used ≤ limit → Takes (among old) (among new) had left []
@@ -143,7 +137,7 @@ gap_takes {old} {new} p within = takes p.uses within None None [] (λ rest may.
 none_left : {old new : Reading} {had left : Option (List ℕ)} (b : Option (List ℕ)) (fault : ReadFault) → Peeks new (Err fault) → old.used ≤ new.used
     → Takes (record { behind = b; at = old }) (among new) had left []
     → TakesNone (record { behind = b; at = old }) new had left fault
-none_left = grind (arith, over, stops_at_fault, within_fault)
+none_left = grind (arith, over, stops_at_fault)
 
 module _ {old new : Reading} {had left : Option (List ℕ)} {number : ℕ} (run : List ℕ) (p : UsesRun old new had left number run) where
   number_is : number ≡ new.line
@@ -154,7 +148,7 @@ module _ {old new : Reading} {had left : Option (List ℕ)} {number : ℕ} (run 
 
   -- a run that a fault cuts is no word
   cut_takes : (fault : ReadFault) → Peeks new (Err fault) → TakesNone (among old) new had left fault
-  cut_takes fault at = none_left None fault at (omega (arith, grows)) (takes p.uses (within_fault fault new at) None None [] (λ rest may.
+  cut_takes fault at = none_left None fault at (omega (arith, grows)) (takes p.uses (grind arith) None None [] (λ rest may.
       grind (
         arith,
         stops_at_fault fault new at rest may,
@@ -177,11 +171,11 @@ module _ {old new : Reading} {had left : Option (List ℕ)} {number : ℕ} (run 
 
   -- one that is over is a word
   word_takes : (text : Bool) → is_text_word run ≡ text → 0 < length run → IsRunOver new → TakesWord text old new had left number run
-  word_takes true is some over = takes p.uses (run_within new over) None (Some run) [] (over_said true is some over)
-  word_takes false is some over = rw number_is (takes p.uses (run_within new over) None None (Word new.line run ∷ []) (over_said false is some over))
+  word_takes true is some over = takes p.uses (grind arith) None (Some run) [] (over_said true is some over)
+  word_takes false is some over = rw number_is (takes p.uses (grind arith) None None (Word new.line run ∷ []) (over_said false is some over))
 
   goes_on : 0 < length run → IsRunOver new → GoesOn old new
-  goes_on some over = (omega (arith, some, grows), run_within new over)
+  goes_on some over = grind (arith, grows)
 
 -- what the used bytes and the place behind them say of the next word
 pub next_of : (old new : Reading) (had left : Option (List ℕ)) (result : Result (Option Read) ReadFault) → UsesWord old new had left result → Stands new result
@@ -207,15 +201,12 @@ line_takes {old} {new} keyword line plain (inl u) within =
 line_takes {old} {new} keyword line plain (inr last) within = takes last.0 within (Some keyword) None (TextLine old.line keyword line ∷ []) (λ rest may.
     grind (arith, stops_at_end new (last.1, last.2, within) rest may, append-nil line, take_last_line keyword false old.line line plain))
 
-line_on : {old new : Reading} {had left : Option (List ℕ)} (line : List ℕ) → UsesWhole old new had left line → old.used ≤ new.used
-line_on line h = grind arith
-
 pub line_of : (old new : Reading) (had left : Option (List ℕ)) (keyword : List ℕ) (text : Text) → UsesLine old new had left (Ok text) → new.used ≤ limit
     → RestOfLine keyword old new had left (Ok text)
-line_of old new had left keyword text (line, plain, is, whole) within = (line, line_takes keyword line plain whole within, is, line_on line whole, within)
+line_of old new had left keyword text (line, plain, is, whole) within = (line, line_takes keyword line plain whole within, is, grind arith, within)
 
 pub line_cut : {old new : Reading} {had left : Option (List ℕ)} (keyword : List ℕ) (fault : ReadFault) → UsesAll is_in_line old new had left
     → Peeks new (Err fault) → RestOfLine keyword old new had left (Err fault)
 line_cut {old} {new} keyword fault p at = none_left (Some keyword) fault at (omega (arith, p.uses.used))
-    (takes p.uses (within_fault fault new at) (Some keyword) None [] (λ rest may.
+    (takes p.uses (grind arith) (Some keyword) None [] (λ rest may.
     grind (arith, stops_at_fault fault new at rest may, append-nil p.bytes, take_last_line keyword true old.line p.bytes p.all)))

@@ -126,8 +126,7 @@ gap_run number p q is = record { gap = p.bytes; blank = p.all; solid = q.solid; 
 -- a run is not empty where a byte stands that is in no gap
 first_byte : (b : ℕ) (rest : List ℕ) (new : Reading) (taken run : List ℕ) → (b ∷ rest) ++ taken ≡ run ++ new.window → is_gap b ≡ false → IsRunOver new
     → 0 < length run
-first_byte b rest new taken [] e out (inl here) = grind (arith, e, here.2, here.3, out)
-first_byte b rest new taken [] e out (inr ended) = grind (arith, e, ended.0)
+first_byte b rest new taken [] e out over = grind (arith, e, out)
 first_byte b rest new taken (c ∷ run) e out over = omega arith
 
 cut_line : {mid new : Reading} {met left : Option (List ℕ)} {run : List ℕ} (number : ℕ) → UsesSolid mid new met left run → number ≡ new.line → number ≡ mid.line

@@ -26,12 +26,6 @@ window_drop cells start stop count within =
     let parts : stop - start ≡ count + (stop - (start + count)) = omega arith in
     grind (arith, drop-take count (stop - (start + count)) (drop start cells), drop-drop count start cells)
 
--- bytes were used of it
-front_used : (old new : Reading) (had : Option (List ℕ)) (count : ℕ) → count ≤ length old.window → new.window ≡ drop count old.window
-    → new.used ≡ old.used + count → new.line ≡ old.line + count_by is_line_end (take count old.window) → new.end ≡ old.end
-    → Uses old new had had (take count old.window)
-front_used old new had count within window used line end = grind (arith, keeps_bytes, append-nil, take-append-drop, length-take-le)
-
 module _ (cells : List ℕ) (start stop : ℕ) (within : stop ≤ length cells) where
   abbrev reading : ℕ → ℕ → ℕ → End → Reading
   reading from used line end = record { window = slice_range cells from stop; used = used; line = line; end = end }
@@ -45,8 +39,7 @@ module _ (cells : List ℕ) (start stop : ℕ) (within : stop ≤ length cells) 
       → Uses (reading start used line end) (reading (start + count) (used + count) (line + lines) end) had had (take count (slice_range cells start stop))
   some_used used line count lines end had in_order few are =
       let room : start + count ≤ stop = omega (arith, window_length cells start stop within, few) in
-      front_used (reading start used line end) (reading (start + count) (used + count) (line + lines) end) had count few
-      (window_drop cells start stop count room) refl (ap (λ n. line + n) are) refl
+      grind (arith, window_drop cells start stop count room, keeps_bytes, append-nil, take-append-drop, length-take-le)
 
   pub rest_waits : (count : ℕ) → start ≤ stop → count ≤ length (slice_range cells start stop)
       → slice_range cells (start + count) stop ≡ drop count (slice_range cells start stop)

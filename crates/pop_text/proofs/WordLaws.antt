@@ -1,23 +1,16 @@
 -- What stands first in the words of a view.
 use Rattle.std.proofs.Common.{◌≡◌, ℕ, ◌+◌, ◌⊎◌, ◌&&◌, List, [], ◌∷◌, ◌++◌, Bool, true, false, refl, sym, ◌∙◌, ap, inl, inr, count_by, None, Some, cond, arith, if◌then◌else◌}
-use Rattle.std.specs.List.{slice_split, onto_first, list_all}
+use Rattle.std.specs.List.{slice_split, list_all}
 use Rattle.std.proofs.lemmas.List.{append-nil}
 use Rattle.std.proofs.lemmas.List.Sums.{sum_by-append}
 use Rattle.pop_text.specs.Words.{Token, Word, TextLine, is_blank, is_line_end, is_gap, is_in_line, is_in_word, is_text_word, runs_of, onto_run, tokens_of, lines_tokens, text_lines, tokens_from, is_line_over}
 
 -- Lines of a view.
 
-blank_parts : (cut : Bool) (n b : ℕ) (parts : List (List ℕ)) → is_blank b ≡ true → lines_tokens cut n (onto_first b parts) ≡ lines_tokens cut n parts
-blank_parts cut n b parts h = grind arith
-
 -- a blank says nothing
 skip_blank : (cut : Bool) (n b : ℕ) (view : List ℕ) → is_blank b ≡ true → is_line_end b ≡ false
     → tokens_from None cut n (b ∷ view) ≡ tokens_from None cut n view
-skip_blank cut n b view h e = rw e (blank_parts cut n b (slice_split is_line_end view) h)
-
--- a line end begins the next line
-skip_line_end : (cut : Bool) (n b : ℕ) (view : List ℕ) → is_line_end b ≡ true → tokens_from None cut n (b ∷ view) ≡ tokens_from None cut (n + 1) view
-skip_line_end cut n b view h = grind arith
+skip_blank cut n b view h e = grind arith
 
 -- a byte of a gap is a line end or a blank
 gap_byte : (b : ℕ) → is_gap b ≡ true → (is_line_end b ≡ true) ⊎ ((is_blank b ≡ true) × (is_line_end b ≡ false))
@@ -32,7 +25,7 @@ all_parts test b bytes h = grind arith
 
 skip_one : (cut : Bool) (n b : ℕ) (view : List ℕ) → is_gap b ≡ true
     → tokens_from None cut n (b ∷ view) ≡ tokens_from None cut (n + cond (is_line_end b) 1 0) view
-skip_one cut n b view h = grind (arith, gap_byte, skip_line_end, skip_blank)
+skip_one cut n b view h = grind (arith, gap_byte, skip_blank)
 
 -- a gap only counts lines
 pub skip_gap : (cut : Bool) (n : ℕ) (gap view : List ℕ) → list_all is_gap gap ≡ true
@@ -67,9 +60,6 @@ data Over : Bool → List (List ℕ) → Type 0 where
   at_end : Over false ([] ∷ [])
   at_line_end : {cut : Bool} {m : List ℕ} {ms : List (List ℕ)} → Over cut ([] ∷ m ∷ ms)
   at_blank : {cut : Bool} {c : ℕ} {l : List ℕ} {ls : List (List ℕ)} → is_blank c ≡ true → Over cut ((c ∷ l) ∷ ls)
-
-no_line_end : (b : ℕ) → is_in_line b ≡ true → is_line_end b ≡ false
-no_line_end b h = grind arith
 
 -- bytes of a line stand before the first part
 line_parts : (line view : List ℕ) (l : List ℕ) (ls : List (List ℕ)) → list_all is_in_line line ≡ true → slice_split is_line_end view ≡ l ∷ ls
