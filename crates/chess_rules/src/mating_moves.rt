@@ -185,6 +185,7 @@ impl Sought for CheckSquares {
 }
 
 // The squares from which a move may mate, and perhaps more: those from which one may give check.
+#[tactic(auto, using(crate::proofs::listing_moves::Walks::mating_origins))]
 fn mating_origins<R: Rules>(board: &Board, squares: &CheckSquares) -> u64
     requires well_formed { IsWellFormed board.now }
     requires squares { AreCheckSquares board.now.men (other board.now.turn) squares.now }
@@ -208,6 +209,7 @@ fn candidates<R: Rules>(board: &Board, squares: &CheckSquares, from: Square) -> 
 }
 
 // Whether the move is legal and mates. The board is unchanged after it.
+#[tactic(auto, using(crate::proofs::listing_moves::Between::no_mates, crate::proofs::giving_check::Fleeing::no_mate_with_flight))]
 fn is_mating<R: Rules>(board: &mut Board, squares: &CheckSquares, m: Move) -> bool
     requires well_formed { IsWellFormed board.old }
     requires aimed { IsAimed R.rule board.old m }
@@ -228,6 +230,7 @@ fn is_mating<R: Rules>(board: &mut Board, squares: &CheckSquares, m: Move) -> bo
 }
 
 // Whether the move, which may be made, is legal and mates. The board is unchanged after it.
+#[tactic(auto, using(crate::proofs::giving_check::Mating::mates_after))]
 fn gives_mate<R: Rules>(board: &mut Board, m: Move) -> bool
     requires well_formed { IsWellFormed board.old }
     requires pseudo { pseudo R.rule board.old m ≡ true }

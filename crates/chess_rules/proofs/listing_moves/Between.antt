@@ -2,7 +2,7 @@
 use Rattle.std.proofs.lemmas.List.{drop-drop}
 use Rattle.chess_rules.proofs.Basics.{cases_lt, filter-append, append_cancel_right, length-append, take-append-drop, ◌≡◌, ℕ, zero, suc, inl, inr, ◌+◌, ◌-◌, ◌<◌, ◌≤◌, true, false, List, [], ◌∷◌, ◌++◌, filter, take, drop, length, refl, sym, ap, ◌∙◌, arith, rules}
 use Rattle.chess_rules.proofs.Chess.{Position, Move, RuleSet, legal, moves, triples, HaveNone, IsNextMate, is_mating, mates, mates_behind, mates_between, moves_behind, moves_between, triple_at, first_of_and, second_of_and}
-use Rattle.chess_rules.proofs.giving_check.Mating.{mates_behind-end, mates_behind-none, mates_numbered, legal_of_mate}
+use Rattle.chess_rules.proofs.giving_check.Mating.{mates_behind-end, mates_behind-none, mates_numbered, legal_of_mate, no_mate, no_mate_quietly}
 use Rattle.chess_rules.proofs.listing_moves.Places.{drop_triples, drop_triples_past, moves_behind-here, over, place_of_triple}
 
 take-none : (n : ℕ) → take {A = Move} n [] ≡ []
@@ -131,3 +131,6 @@ pub ruleset until_mates = (legal_of_mate, mates_between-none, mates_between-past
 
 -- for the next mate
 pub ruleset next_mates = (legal_of_mate, mates_behind-end, mates_behind-none, mates_numbered, next_mate_numbered, place_of_triple)
+
+-- for a move that doesn't mate
+pub ruleset no_mates = (no_mate, no_mate_quietly)
