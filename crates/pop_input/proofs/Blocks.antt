@@ -1,18 +1,9 @@
 -- Blocks token by token.
-use Rattle.std.proofs.Common.{◌≡◌, ℕ, List, [], ◌∷◌, ◌++◌, Option, None, Some, Bool, true, false, not, refl, arith, append_assoc}
-use Rattle.std.specs.List.{list_all, onto_first}
-use Rattle.std.proofs.lemmas.List.{append-nil}
-use Rattle.pop_text.specs.Words.{Words, Token, Word, TextLine, Tail}
-use Rattle.pop_text.specs.ties.Left.{put_before, no_words}
-use Rattle.pop_input.specs.Names.{command_of, text_word_of, closes, or_else}
-use Rattle.pop_input.specs.State.{State, state_of}
-use Rattle.pop_input.specs.WordFaults.{fault_of}
-use Rattle.pop_input.specs.Blocks.{words_before, has_begun, inside, first_fault, block_fault, closing_of, cut_by, blocks_of, line_of, closing_line, closed_entry, entries_by, block_entries, entries_of, text_after, last_text}
-use Rattle.pop_input.specs.declared.item.Fault.{Fault}
-use Rattle.pop_input.specs.declared.names.Command.{Command}
+use Rattle.pop_input.proofs.Basics.{Bool, List, None, Option, Some, [], append-nil, append_assoc, arith, false, list_all, not, onto_first, refl, true, ℕ, ◌++◌, ◌∷◌, ◌≡◌}
+use Rattle.pop_input.proofs.Words.{Command, Fault, State, Tail, TextLine, TextWord, Token, Word, Words, at_line, block_fault, closed_entry, closes, command_of, entries_by, entries_of, fault_of, first_fault, has_begun, inside, last_text, or_else, put_before, state_of, text_after, text_word_of}
+use Rattle.pop_text.specs.ties.Left.{no_words}
+use Rattle.pop_input.specs.Blocks.{words_before, closing_of, cut_by, blocks_of, line_of, closing_line, block_entries}
 use Rattle.pop_input.specs.declared.names.Command.TheVariants.{Next, Last}
-use Rattle.pop_input.specs.declared.names.TextWord.{TextWord}
-use Rattle.pop_input.specs.FaultKinds.{at_line}
 
 -- One more token.
 

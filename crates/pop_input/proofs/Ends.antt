@@ -1,34 +1,24 @@
 -- The item at the end of a block.
-use Rattle.std.proofs.Common.{◌≡◌, ℕ, List, [], ◌∷◌, ◌++◌, Option, None, Some, Bool, true, false, refl, ◌∙◌, ap, subst, arith}
-use Rattle.std.proofs.lemmas.List.{append-nil}
-use Rattle.pop_text.specs.Words.{Input, Token as Part, Word, Tail, End as AtEnd, Long, Broken as Failing}
-use Rattle.pop_text.specs.ties.Reading.{Reading}
-use Rattle.pop_text.specs.ties.Left.{after, MayFollow, words_left, put_before, no_words, Takes, among, IsOver}
-use Rattle.pop_text.specs.declared.read_fault.ReadFault.{ReadFault}
-use Rattle.pop_text.specs.declared.read_fault.ReadFault.TheVariants.{TooLong, InputTooLong as PastLimit, Device}
-use Rattle.pop_input.specs.Names.{command_of}
-use Rattle.pop_input.specs.Names.{or_else}
-use Rattle.pop_input.specs.Blocks.{has_begun, inside, block_fault, Entry, Faulty as FaultyEntry, entry_of, problem_of, closed_entry, entries_by, entries_of, tail_fault, more_entries}
-use Rattle.pop_input.specs.ties.Tokens.{CutsOff, TakesPart, TakesNothing}
-use Rattle.pop_input.specs.ties.Closings.{Closes, ReadsWord, closing_fault, ended_by, ended_item, cut_fault, last_of, told_of_cut}
-use Rattle.pop_input.specs.Ends.{end_fault_in, posed_of}
-use Rattle.pop_input.specs.ties.Standing.{Standing, entries_at, entries_left, Reads, NextItem, next_behind}
-use Rattle.pop_input.specs.declared.block.Block.{Block}
-use Rattle.pop_input.specs.declared.item.Item.{Item}
-use Rattle.pop_input.specs.declared.item.Fault.{Fault}
+use Rattle.pop_input.proofs.Basics.{Bool, List, None, Option, Some, [], ap, append-nil, arith, false, refl, subst, true, ℕ, ◌++◌, ◌∙◌, ◌∷◌, ◌≡◌}
+use Rattle.pop_input.proofs.Words.{Block, Closes, Command, CutsOff, Device, Fault, FaultKind, Input, Item, Nothing, ReadFault, Reading, ReadsWord, Standing, Tail, Takes, TakesPart, TooLong, Word, Yes, after, among, at_line, block_fault, closed_entry, command_of, cut_fault, end_fault_in, ended_by, ended_item, entries_by, entries_of, fault_at, has_begun, inside, last_of, next_behind, or_else, put_before, tail_fault, told_of_cut, words_left}
+use Rattle.pop_text.specs.Words.{Token as Part, End as AtEnd, Long, Broken as Failing}
+use Rattle.pop_text.specs.ties.Left.{MayFollow, no_words, IsOver}
+use Rattle.pop_text.specs.declared.read_fault.ReadFault.TheVariants.{InputTooLong as PastLimit}
+use Rattle.pop_input.specs.Blocks.{Entry, Faulty as FaultyEntry, entry_of, problem_of, more_entries}
+use Rattle.pop_input.specs.ties.Tokens.{TakesNothing}
+use Rattle.pop_input.specs.ties.Closings.{closing_fault}
+use Rattle.pop_input.specs.Ends.{posed_of}
+use Rattle.pop_input.specs.ties.Standing.{entries_at, entries_left, Reads, NextItem}
 use Rattle.pop_input.specs.declared.item.Item.TheVariants.{Faulty as FaultyItem}
 use Rattle.pop_input.specs.declared.item.Last.{Last}
-use Rattle.pop_input.specs.declared.item.Last.TheVariants.{Yes, No}
+use Rattle.pop_input.specs.declared.item.Last.TheVariants.{No}
 use Rattle.pop_input.specs.declared.names.Command.TheVariants.{Next as NextProblem, Last as EndProblem}
-use Rattle.pop_input.specs.declared.names.Command.{Command}
 use Rattle.pop_input.specs.declared.reader.Next.{Next}
-use Rattle.pop_input.specs.declared.reader.Next.TheVariants.{First, Later, Nothing}
+use Rattle.pop_input.specs.declared.reader.Next.TheVariants.{First, Later}
 use Rattle.pop_input.proofs.Taking.{takes_then}
 use Rattle.pop_input.proofs.Blocks.{said, next_entries, last_entries, ended_entries}
 use Rattle.pop_input.proofs.Items.{BlockSoFar, Tells, or_first, word_read, takes_more}
-use Rattle.pop_input.specs.declared.fault_kind.FaultKind.{FaultKind}
 use Rattle.pop_input.specs.declared.fault_kind.FaultKind.TheVariants.{InputTooLong, DeviceFailed}
-use Rattle.pop_input.specs.FaultKinds.{at_line, fault_at}
 
 -- the block that is read first, or a later one
 abbrev pub block_of : Bool → Next

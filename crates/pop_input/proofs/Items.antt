@@ -1,28 +1,16 @@
 -- A block as far as it is read, and the item at its end.
-use Rattle.std.proofs.Common.{◌≡◌, ◌<◌, ℕ, List, [], ◌∷◌, ◌++◌, Option, None, Some, Bool, true, false, refl, sym, ◌∙◌, ap, arith, length, ◌≤◌, ◌⊎◌, inr}
-use Rattle.std.specs.List.{list_all}
+use Rattle.pop_input.proofs.Basics.{Bool, List, None, Option, Some, [], ap, arith, false, inr, length, list_all, list_all-append, refl, sym, true, ℕ, ◌++◌, ◌<◌, ◌∙◌, ◌∷◌, ◌≡◌, ◌≤◌, ◌⊎◌}
+use Rattle.pop_input.proofs.Words.{Block, Command, Fault, Reading, ReadsWord, State, Takes, TakesPart, TextLine, TextWord, Word, among, at_line, block_fault, closes, command_of, fault_at, fault_of, has_begun, inside, last_of, last_text, or_else, text_after, text_word_of}
 use Rattle.pop_text.proofs.Left.{no_short_form}
 use Rattle.std.proofs.lemmas.Bool.{lt-ltb}
-use Rattle.std.proofs.lemmas.List.Folds.{list_all-append}
-use Rattle.pop_text.specs.Words.{Token as Part, Word, TextLine, text_of_line}
-use Rattle.pop_text.specs.ties.Reading.{Reading}
-use Rattle.pop_text.specs.ties.Left.{Takes, among}
-use Rattle.pop_input.specs.Names.{command_of, section_of, text_word_of, closes, or_else}
-use Rattle.pop_input.specs.State.{State}
-use Rattle.pop_input.specs.WordFaults.{fault_of}
-use Rattle.pop_input.specs.Blocks.{has_begun, inside, block_fault, text_after, last_text}
-use Rattle.pop_input.specs.ties.Tokens.{TakesPart}
-use Rattle.pop_input.specs.ties.Closings.{IsNew, ReadsWord, TakesLine, last_of, noted, said_after, text_with}
-use Rattle.pop_input.specs.declared.block.Block.{Block}
-use Rattle.pop_input.specs.declared.item.Fault.{Fault}
-use Rattle.pop_input.specs.declared.names.Command.{Command}
-use Rattle.pop_input.specs.declared.names.TextWord.{TextWord}
+use Rattle.pop_text.specs.Words.{Token as Part, text_of_line}
+use Rattle.pop_input.specs.Names.{section_of}
+use Rattle.pop_input.specs.ties.Closings.{IsNew, TakesLine, noted, said_after, text_with}
 use Rattle.pop_input.specs.declared.names.TextWord.TheVariants.{Title, Author}
 use Rattle.pop_text.proofs.Plain.{takes_none}
 use Rattle.pop_input.proofs.Taking.{takes_then}
 use Rattle.pop_input.proofs.Blocks.{is_open, said, block_more, block_line, begun_word, begun_line, inside_more, inside_none, inside_first, words_more, words_line, text_more, text_line}
 use Rattle.pop_input.specs.declared.fault_kind.FaultKind.TheVariants.{WordTooLong}
-use Rattle.pop_input.specs.FaultKinds.{at_line, fault_at}
 
 -- what a block says of its tokens
 pub record Tells (first : Bool) (block : Block) (done : List Part) : Type 0 where

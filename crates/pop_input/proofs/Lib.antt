@@ -1,3 +1,5 @@
+pub mod Basics
+pub mod Words
 pub mod Parsing
 pub mod Putting
 pub mod Posing

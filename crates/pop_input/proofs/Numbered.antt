@@ -1,12 +1,6 @@
 -- The fault of a block that is read so far, and of the item that closes it.
-use Rattle.std.proofs.Common.{ℕ, List, [], ◌∷◌, ◌++◌, Option, Bool, sym, subst}
-use Rattle.pop_text.specs.Words.{Word}
-use Rattle.pop_text.specs.ties.Reading.{Reading}
-use Rattle.pop_input.specs.ties.Closings.{Closes, ReadsWord}
-use Rattle.pop_input.specs.ties.Standing.{IsNumbered}
-use Rattle.pop_input.specs.ties.Tokens.{TakesPart}
-use Rattle.pop_input.specs.declared.block.Block.{Block}
-use Rattle.pop_input.specs.declared.item.Item.{Item}
+use Rattle.pop_input.proofs.Basics.{Bool, List, Option, [], subst, sym, ℕ, ◌++◌, ◌∷◌}
+use Rattle.pop_input.proofs.Words.{Block, Closes, IsNumbered, Item, Reading, ReadsWord, TakesPart, Word}
 use Rattle.pop_input.specs.declared.item.Last.{Last}
 use Rattle.pop_input.proofs.Items.{BlockSoFar, word_read}
 use Rattle.pop_input.proofs.Numbers.{SmallFault, block_small, closed_numbered}

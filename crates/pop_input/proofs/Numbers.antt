@@ -1,36 +1,16 @@
 -- The numbers of faults.
-use Rattle.std.proofs.Common.{◌≤◌, ℕ, List, [], ◌∷◌, Option, None, Some, Bool, true, false, not, ◌&&◌, arith, if◌then◌else◌, is_some}
-use Rattle.chess_core.specs.Position.{man_on, same_kind, with_man}
-use Rattle.chess_core.specs.WellFormed.{is_pawn_inside}
-use Rattle.chess_core.specs.declared.man.Kind.TheVariants.{King}
-use Rattle.chess_core.specs.declared.man.Man.{Man}
-use Rattle.chess_core.specs.declared.man.Colour.{Colour}
+use Rattle.pop_input.proofs.Basics.{Bool, List, None, Option, Some, [], arith, false, if◌then◌else◌, is_some, not, true, ℕ, ◌&&◌, ◌∷◌, ◌≤◌}
+use Rattle.pop_input.proofs.Words.{Block, Closes, Colour, Command, CutsOff, EnPassantImpossible, Fault, FaultKind, IsNumbered, Item, King, Man, PawnOnOuterRank, ReadFault, Reading, SecondKing, SquareTaken, State, Stipulation, TextLine, Token, Word, Yes, at_line, block_fault, cut_fault, end_fault_in, ended_by, ended_item, fault_at, fault_if, fault_of, first_fault, is_pawn_inside, man_fault, man_on, men_fault, or_else, same_kind, stands, state_of, tail_fault, told_of_cut, with_man}
 use Rattle.chess_core.specs.declared.man.Kind.{Kind}
-use Rattle.pop_text.specs.Words.{Token, Word, TextLine, End as AtEnd}
-use Rattle.pop_text.specs.ties.Reading.{Reading}
-use Rattle.pop_text.specs.declared.read_fault.ReadFault.{ReadFault}
-use Rattle.chess_core.specs.Diagrams.{stands}
-use Rattle.pop_input.specs.Names.{or_else}
-use Rattle.pop_input.specs.State.{State, state_of}
-use Rattle.pop_input.specs.WordFaults.{fault_if, barred_fault, control_fault, man_fault, men_fault, put_fault, letter_fault, pieces_fault, stipulation_fault, condition_fault, role_fault, begin_fault, fault_of}
-use Rattle.pop_input.specs.Ends.{end_fault_in, stated_fault}
-use Rattle.pop_input.specs.Blocks.{first_fault, block_fault, tail_fault}
-use Rattle.pop_input.specs.ties.Closings.{Closes, cut_fault, ended_by, ended_item, told_of_cut}
-use Rattle.pop_input.specs.ties.Standing.{IsNumbered}
-use Rattle.pop_input.specs.ties.Tokens.{CutsOff}
-use Rattle.pop_input.specs.declared.block.Block.{Block}
+use Rattle.pop_text.specs.Words.{End as AtEnd}
+use Rattle.pop_input.specs.WordFaults.{barred_fault, control_fault, put_fault, letter_fault, pieces_fault, stipulation_fault, condition_fault, role_fault, begin_fault}
+use Rattle.pop_input.specs.Ends.{stated_fault}
 use Rattle.pop_input.specs.declared.condition.Condition.{Condition}
-use Rattle.pop_input.specs.declared.item.Fault.{Fault}
-use Rattle.pop_input.specs.declared.item.Item.{Item}
 use Rattle.pop_input.specs.declared.item.Item.TheVariants.{Faulty}
 use Rattle.pop_input.specs.declared.item.Last.{Last}
-use Rattle.pop_input.specs.declared.item.Last.TheVariants.{Yes}
-use Rattle.pop_input.specs.declared.names.Command.{Command}
 use Rattle.pop_input.specs.declared.place.Role.{Role}
-use Rattle.pop_input.specs.declared.stipulation.Stipulation.{Stipulation}
-use Rattle.pop_input.specs.declared.fault_kind.FaultKind.{FaultKind}
-use Rattle.pop_input.specs.declared.fault_kind.FaultKind.TheVariants.{SquareTaken, PawnOnOuterRank, SecondKing, NoMen, EnPassantImpossible, KingMissing, WaitingSideInCheck}
-use Rattle.pop_input.specs.FaultKinds.{at_line, fault_at, number_of}
+use Rattle.pop_input.specs.declared.fault_kind.FaultKind.TheVariants.{NoMen, KingMissing, WaitingSideInCheck}
+use Rattle.pop_input.specs.FaultKinds.{number_of}
 
 -- no fault, or one of a word or of the end of its block
 abbrev pub IsSmall : Option FaultKind → Type 0

@@ -1,10 +1,8 @@
 -- Squares and numbers, byte by byte.
-use Rattle.std.proofs.Common.{map, ◌≡◌, ◌≤◌, ◌<◌, ℕ, ◌+◌, ◌*◌, List, [], ◌∷◌, ◌++◌, length, drop, Option, Some, None, true, refl, arith, append_assoc, get_or}
-use Rattle.std.specs.List.{list_all}
-use Rattle.std.proofs.lemmas.List.{drop_more}
+use Rattle.pop_input.proofs.Basics.{List, None, Option, Some, [], append_assoc, arith, drop, drop_more, get_or, length, list_all, map, refl, to_ascii_lowercase, true, ℕ, ◌*◌, ◌++◌, ◌+◌, ◌<◌, ◌∷◌, ◌≡◌, ◌≤◌}
+use Rattle.pop_input.proofs.Words.{is_digit, squares_from, squares_of}
 use Rattle.std.proofs.Math.Seq.{drop-length}
-use Rattle.pop_input.specs.Values.{squares_from, squares_of, square_by, before_squares, is_digit, value_of, most_solutions, stipulation_in_small_letters}
-use Rattle.std.specs.Char.{to_ascii_lowercase}
+use Rattle.pop_input.specs.Values.{square_by, before_squares, value_of, most_solutions, stipulation_in_small_letters}
 
 -- squares before those of a text
 abbrev pub with_front : List ℕ → Option (List ℕ) → Option (List ℕ)

@@ -1,10 +1,11 @@
 -- The words of an input that is cut at line ends.
-use Rattle.std.proofs.Common.{◌≡◌, ℕ, zero, suc, ◌+◌, ◌-◌, ◌<◌, Bool, true, false, cond, List, [], ◌∷◌, ◌++◌, take, drop, length, count_by, None, refl, sym, ap, ◌∙◌, arith, append_assoc}
-use Rattle.std.specs.List.{onto_first, slice_split}
+use Rattle.pop_input.proofs.Basics.{Bool, List, None, [], ap, append_assoc, arith, drop, false, length, onto_first, refl, suc, sym, take, true, zero, ℕ, ◌++◌, ◌+◌, ◌-◌, ◌<◌, ◌∙◌, ◌∷◌, ◌≡◌}
+use Rattle.pop_input.proofs.Words.{Input, Tail, Token, put_before}
+use Rattle.std.proofs.Common.{cond, count_by}
+use Rattle.std.specs.List.{slice_split}
 use Rattle.std.proofs.lemmas.List.Splits.{length-slice_split}
 use Rattle.std.proofs.lemmas.List.Sums.{sum_by-append}
-use Rattle.pop_text.specs.ties.Left.{put_before}
-use Rattle.pop_text.specs.Words.{Input, Tail, Token, is_cut, is_line_end, lines_tokens, runs_of, tokens_of, words_by, words_from}
+use Rattle.pop_text.specs.Words.{is_cut, is_line_end, lines_tokens, runs_of, tokens_of, words_by, words_from}
 
 onto_both : (x : ℕ) (ls ms : List (List ℕ)) → 0 < length ls → onto_first x (ls ++ ms) ≡ onto_first x ls ++ ms
 onto_both x ls ms some = grind arith

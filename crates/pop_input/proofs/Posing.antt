@@ -1,20 +1,15 @@
 -- The problem that words pose is sound where no test at their end fails.
-use Rattle.std.proofs.Common.{◌≡◌, ℕ, List, Option, Some, None, Bool, true, false, refl, arith, ◌⊎◌, ◌==◌, if◌then◌else◌}
-use Rattle.std.proofs.lemmas.Bool.{cases_Bool, cases_eq, and_parts, cond-true, cond-false}
-use Rattle.chess_core.specs.Castling.{has_unmoved, mark_unmoved, none_unmoved}
-use Rattle.chess_core.specs.Diagrams.{Setup, has_men, position_of}
-use Rattle.chess_core.specs.Position.{man_on, other}
+use Rattle.pop_input.proofs.Basics.{Bool, List, None, Option, Some, arith, cases_Bool, cases_eq, false, if◌then◌else◌, refl, true, ℕ, ◌≡◌, ◌⊎◌}
+use Rattle.pop_input.proofs.Words.{ArePut, EnPassantImpossible, Man, Setup, State, Stipulation, counts, has_king_to_mate, in_check, man_on, mark_unmoved, none_unmoved, other, rule_of}
+use Rattle.std.proofs.Common.{◌==◌}
+use Rattle.std.proofs.lemmas.Bool.{and_parts, cond-true, cond-false}
+use Rattle.chess_core.specs.Castling.{has_unmoved}
+use Rattle.chess_core.specs.Diagrams.{has_men, position_of}
 use Rattle.chess_core.specs.WellFormed.{IsWellFormed, is_crossed_right, is_home}
-use Rattle.chess_core.specs.declared.man.Man.{Man}
 use Rattle.chess_core.specs.declared.man.Unmoved.{Unmoved}
-use Rattle.chess_rules.specs.Attacks.{in_check}
-use Rattle.pop_input.specs.Posed.{rule_of}
-use Rattle.pop_input.specs.State.{State}
-use Rattle.pop_input.specs.Stipulations.{has_king_to_mate, starts}
-use Rattle.pop_input.specs.Ends.{position_fault, ArePut, counts, setup_fault, setup_of, unmoved_of}
+use Rattle.pop_input.specs.Stipulations.{starts}
+use Rattle.pop_input.specs.Ends.{position_fault, setup_fault, setup_of, unmoved_of}
 use Rattle.pop_input.specs.declared.stipulation.Form.{Form}
-use Rattle.pop_input.specs.declared.stipulation.Stipulation.{Stipulation}
-use Rattle.pop_input.specs.declared.fault_kind.FaultKind.TheVariants.{EnPassantImpossible}
 
 module _ (men : List (Option Man)) (barred : Unmoved) where
   home_or : (s n : ℕ) (rest : Bool) → (if s == n then counts men barred n else rest) ≡ true → (is_home (man_on men s) s ≡ true) ⊎ (rest ≡ true)

@@ -1,23 +1,18 @@
 -- Men that are put without a fault.
-use Rattle.std.proofs.Common.{◌≡◌, ℕ, zero, suc, List, [], ◌∷◌, length, Option, Some, None, Bool, true, false, refl, ◌∙◌, arith, get_or, not, ◌&&◌, if◌then◌else◌, Result, Ok, Err, IsSome, inl, inr, is_some}
+use Rattle.pop_input.proofs.Basics.{Bool, Err, List, None, Ok, Option, Some, [], arith, cases_Bool, cases_eq, false, get_or, if◌then◌else◌, inl, inr, is_some, length, not, refl, suc, true, zero, ℕ, ◌&&◌, ◌∙◌, ◌∷◌, ◌≡◌}
+use Rattle.pop_input.proofs.Words.{ArePut, Colour, King, Man, PawnOnOuterRank, SecondKing, Setup, SquareTaken, fault_if, is_pawn_inside, man_fault, man_on, same_kind, stands, with_man}
+use Rattle.std.proofs.Common.{Result, IsSome}
 use Rattle.std.specs.List.{repeat}
 use Rattle.std.specs.Prelude.{MatchResult}
 use Rattle.std.proofs.lemmas.List.{length-set, set_past}
-use Rattle.std.proofs.lemmas.Bool.{cases_Bool, cases_eq, cases_lt}
+use Rattle.std.proofs.lemmas.Bool.{cases_lt}
 use Rattle.std.proofs.Math.ListN.{get_or-eq_default}
-use Rattle.chess_core.specs.Position.{HasNoKing, is_man, man_on, same_kind, with_man}
-use Rattle.chess_core.specs.WellFormed.{is_pawn_inside}
-use Rattle.chess_core.specs.Diagrams.{Setup, is_there, stands}
+use Rattle.chess_core.specs.Position.{HasNoKing, is_man}
+use Rattle.chess_core.specs.Diagrams.{is_there}
 use Rattle.chess_core.specs.declared.diagram.Taken.{Taken}
-use Rattle.chess_core.specs.declared.man.Man.{Man}
-use Rattle.chess_core.specs.declared.man.Colour.{Colour}
-use Rattle.chess_core.specs.declared.man.Kind.TheVariants.{King}
 use Rattle.chess_core.proofs.Men.{AtMostOneKing-with, man_on-with_same, man_on-with_other}
 use Rattle.chess_core.proofs.Ranges.{some_square_true}
-use Rattle.pop_input.specs.Ends.{ArePut}
 use Rattle.pop_input.specs.State.{no_men}
-use Rattle.pop_input.specs.WordFaults.{fault_if, man_fault}
-use Rattle.pop_input.specs.declared.fault_kind.FaultKind.TheVariants.{SquareTaken, PawnOnOuterRank, SecondKing}
 
 nobody : (n s : ℕ) → ◌≡◌ {A = Option Man} (get_or (repeat n (None ∷ [])) s None) None
 nobody zero s = refl

@@ -1,18 +1,10 @@
 -- Plain words behind a fault change nothing.
-use Rattle.std.proofs.Common.{◌≡◌, ℕ, List, [], ◌∷◌, ◌++◌, Option, None, Some, Bool, true, false, not, ◌<◌, refl, sym, ◌∙◌, arith, subst, ◌⊎◌, inl, inr, append_assoc}
-use Rattle.std.specs.List.{list_all}
-use Rattle.std.proofs.lemmas.List.{append-nil}
-use Rattle.std.proofs.lemmas.List.Folds.{list_all-append}
-use Rattle.std.specs.Prelude.{◌&&◌, codes, option_map}
+use Rattle.pop_input.proofs.Basics.{Bool, List, None, Option, Some, [], append-nil, append_assoc, arith, false, inl, inr, list_all, list_all-append, not, refl, subst, sym, true, ℕ, ◌&&◌, ◌++◌, ◌<◌, ◌∙◌, ◌∷◌, ◌≡◌, ◌⊎◌}
+use Rattle.pop_input.proofs.Words.{Block, Fault, Reading, among, block_fault, closes, command_of}
+use Rattle.std.specs.Prelude.{codes, option_map}
 use Rattle.pop_text.specs.Words.{Token as Part, is_short_form}
 use Rattle.pop_text.specs.ties.Plain.{Skips, is_named, is_plain}
-use Rattle.pop_text.specs.ties.Reading.{Reading}
-use Rattle.pop_text.specs.ties.Left.{among}
 use Rattle.pop_text.proofs.Plain.{plain_no_closing}
-use Rattle.pop_input.specs.Names.{closes, command_of}
-use Rattle.pop_input.specs.Blocks.{block_fault}
-use Rattle.pop_input.specs.declared.block.Block.{Block}
-use Rattle.pop_input.specs.declared.item.Fault.{Fault}
 use Rattle.pop_input.specs.declared.names.Section.{Section}
 use Rattle.pop_input.specs.declared.names.Command.TheVariants.{Enter}
 use Rattle.pop_input.proofs.Blocks.{block_more, is_open}

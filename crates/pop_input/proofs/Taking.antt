@@ -1,15 +1,13 @@
 -- Calls that take tokens, one after another.
-use Rattle.std.proofs.Common.{◌≡◌, ◌≤◌, ℕ, List, [], ◌∷◌, ◌++◌, Option, Some, true, refl, ◌∙◌, ap, arith, append_assoc, length-append, subst, Ok, Err}
-use Rattle.pop_text.specs.Words.{Input, Words, Token as Part, TextLine, is_text_word, limit}
-use Rattle.pop_text.specs.ties.Reading.{Reading}
-use Rattle.pop_text.specs.ties.Left.{after, words_left, put_before, Spot, Takes, among, behind_word, TakesWord, GoesOn, RestOfLine, TakesNone}
-use Rattle.pop_text.specs.declared.read_fault.ReadFault.{ReadFault}
-use Rattle.pop_text.specs.declared.read_fault.ReadFault.TheVariants.{TooLong, InputTooLong, Device}
+use Rattle.pop_input.proofs.Basics.{Err, List, Ok, Option, Some, [], ap, append_assoc, arith, refl, subst, true, ℕ, ◌++◌, ◌∙◌, ◌∷◌, ◌≡◌, ◌≤◌}
+use Rattle.pop_input.proofs.Words.{Device, Input, ReadFault, Reading, Takes, TextLine, TextWord, TooLong, Words, after, among, is_text_word, limit, put_before, text_word_of, words_left}
+use Rattle.std.proofs.Common.{length-append}
+use Rattle.pop_text.specs.Words.{Token as Part}
+use Rattle.pop_text.specs.ties.Left.{Spot, behind_word, TakesWord, GoesOn, RestOfLine, TakesNone}
+use Rattle.pop_text.specs.declared.read_fault.ReadFault.TheVariants.{InputTooLong}
 use Rattle.pop_text.specs.declared.word.Word.{Word as Room}
 use Rattle.pop_text.proofs.Using.{consumes_then}
-use Rattle.pop_input.specs.Names.{text_word_of}
 use Rattle.pop_input.specs.ties.Tokens.{NextToken}
-use Rattle.pop_input.specs.declared.names.TextWord.{TextWord}
 use Rattle.pop_input.specs.declared.token.Token.TheVariants.{Line, Cut}
 
 pub after_both : (xs ys : List ℕ) (rest : Input) → after (xs ++ ys) rest ≡ after xs (after ys rest)

@@ -1,9 +1,7 @@
 -- The value by half-moves is what the battle definitions say.
-use Rattle.pop_solve.specs.declared.aim.Battle.{Battle}
-use Rattle.pop_solve.specs.declared.aim.Battle.TheVariants.{Direct, Selfmate}
-use Rattle.std.proofs.Common.{◌≡◌, ℕ, zero, suc, ◌*◌, ◌%◌, Bool, false, ◌&&◌, ◌||◌, refl, ◌∙◌, ap, arith, rules}
-use Rattle.pop_solve.specs.Game.{Game, can_move, some_move, every_move, lost, wins, self_wins, self_lost}
-use Rattle.pop_solve.specs.ties.Values.{value}
+use Rattle.pop_solve.proofs.Basics.{Bool, ap, arith, false, refl, rules, suc, zero, ℕ, ◌%◌, ◌&&◌, ◌*◌, ◌||◌, ◌∙◌, ◌≡◌}
+use Rattle.pop_solve.proofs.Words.{Battle, Game, Selfmate, can_move, every_move, lost, self_lost, self_wins, some_move, value, wins}
+use Rattle.pop_solve.specs.declared.aim.Battle.TheVariants.{Direct}
 
 module _ {P M : Type 0} (game : Game P M) where
   -- direct play: White needs one good move at an odd number of half-moves

@@ -1,21 +1,11 @@
 -- What the calls of the rules say in the words of the search.
-use Rattle.pop_input.specs.declared.stipulation.Goal.{Goal}
-use Rattle.pop_input.specs.declared.stipulation.Goal.TheVariants.{Mate}
-use Rattle.std.proofs.Common.{◌≡◌, ℕ, ◌-◌, ◌<◌, ◌≤◌, Bool, true, false, not, eqb, List, [], ◌∷◌, ◌++◌, length, filter, Option, Some, None, is_some, MatchOption, refl, sym, ap, ◌∙◌, arith, rules}
-use Rattle.std.proofs.lemmas.Bool.Decides.{nat_tests}
-use Rattle.std.specs.List.{list_any}
-use Rattle.chess_core.specs.Position.{Position}
-use Rattle.chess_core.specs.Triple.{Triple}
-use Rattle.chess_rules.specs.Legal.{is_goal, is_nil, is_stalemate, legal, moves}
-use Rattle.chess_rules.specs.ties.Places.{is_mating, mates_behind, mates_between, moves_behind, moves_between}
+use Rattle.pop_solve.proofs.Basics.{Bool, List, MatchOption, None, Option, Some, [], ap, arith, eqb, false, filter, is_some, length, list_any, nat_tests, not, refl, rules, sym, true, ℕ, ◌++◌, ◌-◌, ◌<◌, ◌∙◌, ◌∷◌, ◌≡◌, ◌≤◌}
+use Rattle.pop_solve.proofs.Words.{Battle, Goal, Mate, Position, RuleSet, Triple, can_move, chess, is_for_mate, is_goal, is_mating, legal, mates_behind, moves_behind, moves_between, value, walk_count}
+use Rattle.chess_rules.specs.Legal.{is_nil, is_stalemate, moves}
+use Rattle.chess_rules.specs.ties.Places.{mates_between}
 use Rattle.chess_rules.proofs.listing_moves.Between.{cut_mates, cut_moves}
-use Rattle.chess_rules.specs.RuleSet.{RuleSet}
-use Rattle.pop_solve.specs.Chess.{chess, is_reached}
-use Rattle.pop_solve.specs.ties.Marks.{is_for_mate}
-use Rattle.pop_solve.specs.Game.{can_move, some_move as some_good}
-use Rattle.pop_solve.specs.ties.Counts.{walk_count}
-use Rattle.pop_solve.specs.ties.Values.{value}
-use Rattle.pop_solve.specs.declared.aim.Battle.{Battle}
+use Rattle.pop_solve.specs.Chess.{is_reached}
+use Rattle.pop_solve.specs.Game.{some_move as some_good}
 
 is_nil-length : (ms : List Triple) → not (is_nil ms) ≡ not (eqb (length ms) 0)
 is_nil-length ms = search rules

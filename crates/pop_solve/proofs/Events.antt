@@ -1,30 +1,16 @@
 -- What a call gives.
-use Rattle.std.proofs.Common.{option_map, slice_get, ◌≡◌, ℕ, zero, suc, ◌+◌, ◌-◌, ◌≤◌, true, false, ◌||◌, eqb, cond, List, [], ◌∷◌, length, take, drop, reverse, refl, append_assoc, arith, ◌^◌, min, Option, None, MatchOption, is_some, rules}
-use Rattle.std.specs.List.{flat_map}
-use Rattle.std.proofs.lemmas.Bool.Decides.{nat_tests}
-use Rattle.std.proofs.lemmas.List.{length-reverse}
+use Rattle.pop_solve.proofs.Basics.{List, MatchOption, None, Option, [], append_assoc, arith, cond, drop, eqb, false, flat_map, is_some, length, length-reverse, min, nat_tests, refl, reverse, rules, suc, take, true, zero, ℕ, ◌+◌, ◌-◌, ◌^◌, ◌||◌, ◌∷◌, ◌≡◌, ◌≤◌}
+use Rattle.pop_solve.proofs.Words.{AreKnown, Barred, Before, Behind, Frame, IsGiven, IsLinked, IsRoomy, IsSound, IsStanding, IsWalking, IsWellFormed, Phase, Play, Posed, Position, RuleSet, Set, Stage, Step, Triple, Walks, Within, half_moves, is_barred, is_help, is_set, keep, left_of, path, phase_half_moves, phase_paths, phase_start, phase_steps, plan_of, position, shown_along, shown_last, solutions, started, steps_from, total}
+use Rattle.std.proofs.Common.{option_map, slice_get}
 use Rattle.arrayvec.specs.ArrayVec.{ArrayVec}
-use Rattle.chess_core.specs.Position.{Position}
-use Rattle.chess_core.specs.Triple.{Triple}
-use Rattle.chess_core.specs.WellFormed.{IsWellFormed}
-use Rattle.chess_rules.specs.RuleSet.{RuleSet}
-use Rattle.pop_input.specs.Posed.{Posed, IsSound}
-use Rattle.pop_solve.specs.declared.event.Phase.{Phase}
-use Rattle.pop_solve.specs.declared.event.Phase.TheVariants.{Set, Play}
-use Rattle.pop_input.specs.Stipulations.{is_help, half_moves}
 use Rattle.pop_solve.proofs.Sound.{in_range}
-use Rattle.pop_solve.specs.ties.Frames.{AreKnown, Frame, position, IsLinked}
-use Rattle.pop_solve.specs.ties.Walk.{path, IsWalking, IsRoomy}
-use Rattle.pop_solve.specs.Events.{Step, start, is_set, opening, line, tree_node, total, step_of, event_of, phase_start, phase_half_moves, phase_half, shown_along, shown_last, steps_from, phase_steps, is_barred, counted, solutions, events}
+use Rattle.pop_solve.specs.Events.{start, opening, line, tree_node, step_of, event_of, phase_half, counted, events}
 use Rattle.pop_solve.specs.ties.Seen.{StandsOn}
-use Rattle.pop_solve.specs.ties.Phases.{begins, keep, started, left_of, IsStanding, IsGiven, Walks, Gives, phase_paths}
+use Rattle.pop_solve.specs.ties.Phases.{begins, Gives}
 use Rattle.pop_solve.specs.Shown.{Shown}
 use Rattle.pop_solve.specs.declared.event.Event.{Event}
 use Rattle.pop_solve.specs.declared.event.Event.TheVariants.{Line, Node, Total}
-use Rattle.pop_solve.specs.declared.phases.Stage.{Stage}
-use Rattle.pop_solve.specs.declared.phases.Stage.TheVariants.{Before, Barred, Within, Behind}
 use Rattle.pop_solve.proofs.Paths.{path-length, reach-path}
-use Rattle.pop_solve.specs.ties.Plans.{plan_of}
 
 step-help : (problem : Posed) (phase : Phase) (path : List Triple) → is_help problem.stipulation.form ≡ true → step_of problem phase path ≡ line phase path
 step-help problem phase path e = rw e refl

@@ -1,14 +1,7 @@
 -- How many half-moves a line goes on below a move, and what is reached where it ends.
-use Rattle.pop_solve.specs.declared.aim.Battle.{Battle}
-use Rattle.std.proofs.Common.{rules, ◌≡◌, ℕ, zero, suc, ◌+◌, ◌-◌, ◌*◌, ◌/◌, ◌<◌, ◌≤◌, Bool, true, false, ◌||◌, eqb, cond, refl, arith, ◌⊎◌}
-use Rattle.std.proofs.lemmas.Bool.Decides.{nat_tests}
-use Rattle.pop_solve.specs.Game.{Game}
-use Rattle.pop_solve.specs.ties.Values.{seeks, value}
-use Rattle.pop_solve.specs.ties.Walk.{fewest, first_from, open_length, follows, goes_on, ends_variation}
-use Rattle.pop_solve.specs.declared.plan.Plan.{Plan}
-use Rattle.pop_solve.specs.ties.Plans.{varies}
-use Rattle.pop_input.specs.Stipulations.{is_help}
-use Rattle.pop_solve.specs.Aims.{battle_of}
+use Rattle.pop_solve.proofs.Basics.{Bool, arith, cond, eqb, false, nat_tests, refl, rules, suc, true, zero, ℕ, ◌*◌, ◌+◌, ◌-◌, ◌/◌, ◌<◌, ◌||◌, ◌≡◌, ◌≤◌, ◌⊎◌}
+use Rattle.pop_solve.proofs.Words.{Battle, Game, Plan, battle_of, ends_variation, first_from, follows, is_help, open_length, seeks, value, varies}
+use Rattle.pop_solve.specs.ties.Walk.{fewest, goes_on}
 
 pub cases : (b : Bool) → (b ≡ false) ⊎ (b ≡ true)
 cases b = search rules

@@ -1,9 +1,6 @@
 -- The lists of help play.
-use Rattle.std.proofs.Common.{◌≡◌, ℕ, zero, suc, Bool, true, false, cond, List, [], ◌∷◌, map, length, inl, inr, refl, ap, arith, subst}
-use Rattle.std.specs.List.{AllPairs, Contains}
-use Rattle.std.proofs.lemmas.Bool.{false≢true}
-use Rattle.chess_rules.proofs.listing_moves.Members.{first_in, from_flat_map, from_map, in_cases, in_flat_map, in_map, none_in_nil, pairs_flat_map, pairs_map, pairs_nil, pairs_of}
-use Rattle.pop_solve.specs.Game.{Game, lines_to_goal, reach}
+use Rattle.pop_solve.proofs.Basics.{AllPairs, Bool, Contains, List, [], ap, arith, cond, false, false≢true, inl, inr, length, map, refl, subst, suc, true, zero, ℕ, ◌∷◌, ◌≡◌}
+use Rattle.pop_solve.proofs.Words.{Game, first_in, from_flat_map, from_map, in_cases, in_flat_map, in_map, lines_to_goal, none_in_nil, pairs_flat_map, pairs_map, pairs_nil, pairs_of, reach}
 use Rattle.pop_solve.proofs.theorems.Lists.{IsPlayable, StandsBefore}
 
 module _ {P M : Type 0} (game : Game P M) where

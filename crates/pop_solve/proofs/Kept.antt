@@ -1,18 +1,8 @@
 -- The first solutions of a phase, by the paths that begin them.
-use Rattle.std.proofs.Common.{◌≡◌, ℕ, zero, suc, ◌+◌, ◌-◌, ◌<◌, ◌≤◌, Bool, true, false, ◌&&◌, ◌||◌, eqb, cond, List, [], ◌∷◌, ◌++◌, length, map, refl, ◌∙◌, ap, arith, inr, rules}
-use Rattle.std.proofs.lemmas.List.{append-nil}
-use Rattle.std.proofs.lemmas.Bool.Decides.{nat_tests}
-use Rattle.chess_core.specs.Position.{Position}
-use Rattle.chess_rules.specs.ties.Places.{moves_behind}
-use Rattle.chess_rules.specs.RuleSet.{RuleSet}
-use Rattle.pop_solve.specs.Chess.{chess}
-use Rattle.pop_solve.specs.Game.{Game}
-use Rattle.pop_solve.specs.ties.Frames.{Frame, position}
-use Rattle.pop_solve.specs.ties.Walk.{gives, shown, path, to_come, IsWalking, Steps}
-use Rattle.pop_solve.specs.ties.Phases.{begins, keep, started, Walks}
-use Rattle.pop_solve.specs.declared.plan.Plan.{Plan}
+use Rattle.pop_solve.proofs.Basics.{Bool, List, [], ap, append-nil, arith, cond, eqb, false, inr, length, map, nat_tests, refl, rules, suc, true, zero, ℕ, ◌&&◌, ◌++◌, ◌+◌, ◌-◌, ◌<◌, ◌||◌, ◌∙◌, ◌∷◌, ◌≡◌, ◌≤◌}
+use Rattle.pop_solve.proofs.Words.{Frame, Game, IsWalking, Plan, Position, RuleSet, Steps, Walks, chess, gives, is_help, keep, moves_behind, path, position, shown, started, to_come}
+use Rattle.pop_solve.specs.ties.Phases.{begins}
 use Rattle.pop_solve.proofs.Paths.{path-length}
-use Rattle.pop_input.specs.Stipulations.{is_help}
 
 pub started-nil : (M : Type 0) (help : Bool) (n : ℕ) → started {M = M} help n [] ≡ 0
 unfolding started

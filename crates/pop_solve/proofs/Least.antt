@@ -1,11 +1,7 @@
 -- The least length by half-moves is the least number of moves.
-use Rattle.pop_solve.specs.declared.aim.Battle.TheVariants.{Direct, Selfmate}
-use Rattle.std.proofs.Common.{◌≡◌, ℕ, zero, suc, ◌+◌, ◌*◌, Bool, false, ◌||◌, cond, refl, ◌∙◌, ap, arith, rules}
-use Rattle.std.specs.List.{position_or_len, range_with_len}
-use Rattle.pop_solve.specs.Game.{Game, wins, self_wins}
-use Rattle.pop_solve.specs.ties.Values.{value}
-use Rattle.pop_solve.specs.ties.Walk.{first_from}
-use Rattle.pop_solve.specs.Tree.{least}
+use Rattle.pop_solve.proofs.Basics.{Bool, ap, arith, cond, false, position_or_len, range_with_len, refl, rules, suc, zero, ℕ, ◌*◌, ◌+◌, ◌||◌, ◌∙◌, ◌≡◌}
+use Rattle.pop_solve.proofs.Words.{Game, Selfmate, first_from, least, self_wins, value, wins}
+use Rattle.pop_solve.specs.declared.aim.Battle.TheVariants.{Direct}
 use Rattle.pop_solve.proofs.Battles.{value-wins, value-self_wins}
 
 -- the first number from a on that passes, or the n-th after a

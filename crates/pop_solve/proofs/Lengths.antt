@@ -1,9 +1,6 @@
 -- Rising lengths.
-use Rattle.pop_solve.specs.declared.aim.Battle.{Battle}
-use Rattle.std.proofs.Common.{◌≡◌, ℕ, zero, suc, ◌+◌, ◌-◌, ◌/◌, ◌<◌, ◌≤◌, true, false, cond, refl, sym, ap, arith, rules}
-use Rattle.pop_solve.specs.Game.{Game}
-use Rattle.pop_solve.specs.ties.Values.{value}
-use Rattle.pop_solve.specs.ties.Walk.{first_from}
+use Rattle.pop_solve.proofs.Basics.{ap, arith, cond, false, refl, rules, suc, sym, true, zero, ℕ, ◌+◌, ◌-◌, ◌/◌, ◌<◌, ◌≡◌, ◌≤◌}
+use Rattle.pop_solve.proofs.Words.{Battle, Game, first_from, value}
 
 module _ {P M : Type 0} (battle : Battle) (game : Game P M) (q : P) where
   found : (n a : ℕ) → value battle game a q ≡ true → first_from battle game q n a ≡ a

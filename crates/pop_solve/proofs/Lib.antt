@@ -1,3 +1,5 @@
+pub mod Basics
+pub mod Words
 pub mod Boards
 pub mod Values
 pub mod SmallestTrees

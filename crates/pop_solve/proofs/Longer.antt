@@ -1,10 +1,9 @@
 -- One more move never harms.
-use Rattle.std.proofs.Common.{◌≡◌, ℕ, zero, suc, ◌+◌, ◌-◌, ◌≤◌, ◌<◌, Bool, true, false, not, ◌&&◌, ◌||◌, List, [], ◌∷◌, length, get_or, inl, inr, refl, sym, ap, ◌∙◌, arith, rules}
-use Rattle.std.specs.List.{list_any, list_all, position_or_len, range_with_len}
-use Rattle.std.proofs.lemmas.Bool.{and_from, and_parts, or_cases, or_left, or_right, cases_lt}
+use Rattle.pop_solve.proofs.Basics.{Bool, List, [], ap, arith, cases_lt, false, get_or, inl, inr, length, list_all, list_any, not, or_cases, or_left, or_right, position_or_len, range_with_len, refl, rules, suc, sym, true, zero, ℕ, ◌&&◌, ◌+◌, ◌-◌, ◌<◌, ◌||◌, ◌∙◌, ◌∷◌, ◌≡◌, ◌≤◌}
+use Rattle.pop_solve.proofs.Words.{Game, can_move, every_move, lost, self_lost, self_wins, some_move, wins}
+use Rattle.std.proofs.lemmas.Bool.{and_from, and_parts}
 use Rattle.std.proofs.lemmas.List.FromFn.{get_or-range_with_len, length-range_with_len}
 use Rattle.std.proofs.lemmas.List.Sums.{fails_before_first, passes_at_first, prefix_len-le-length}
-use Rattle.pop_solve.specs.Game.{Game, can_move, some_move, every_move, lost, wins, self_wins, self_lost}
 
 module _ {X : Type 0} (f g : X → Bool) (weaker : (x : X) → f x ≡ true → g x ≡ true) where
   any_weaker : (xs : List X) → list_any f xs ≡ true → list_any g xs ≡ true

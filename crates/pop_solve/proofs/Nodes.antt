@@ -1,12 +1,10 @@
 -- The paths of trees.
-use Rattle.std.proofs.Common.{◌≡◌, ◌≢◌, ℕ, zero, suc, ◌-◌, Bool, true, false, cond, List, [], ◌∷◌, ◌++◌, map, ◌⊎◌, ◌↔◌, inl, inr, refl, sym, ◌∙◌, ap, subst, rules}
-use Rattle.std.specs.List.{AllPairs, Contains, filter, flat_map, list_any}
-use Rattle.std.proofs.lemmas.Bool.{false≢true, or_cases, or_left, or_right}
+use Rattle.pop_solve.proofs.Basics.{AllPairs, Bool, Contains, List, [], ap, cond, false, false≢true, filter, flat_map, inl, inr, list_any, map, or_cases, or_left, or_right, refl, rules, subst, suc, sym, true, zero, ℕ, ◌++◌, ◌-◌, ◌∙◌, ◌∷◌, ◌≡◌, ◌⊎◌}
+use Rattle.pop_solve.proofs.Words.{Battle, Game, answers, best, first_in, from_flat_map, from_map, in_cases, in_flat_map, in_map, keeps, least, node, none_in_nil, pairs_flat_map, pairs_map, pairs_nil, pairs_of, set_shows, set_tree, tree}
+use Rattle.std.proofs.Common.{◌≢◌, ◌↔◌}
 use Rattle.std.proofs.lemmas.List.Kept.{AllPairs-filter}
-use Rattle.chess_rules.proofs.listing_moves.Members.{first_in, from_filter, from_flat_map, from_map, in_cases, in_filter, in_flat_map, in_map, later_in, none_in_nil, pairs_flat_map, pairs_map, pairs_nil, pairs_of}
-use Rattle.pop_solve.specs.declared.aim.Battle.{Battle}
-use Rattle.pop_solve.specs.Game.{Game}
-use Rattle.pop_solve.specs.Tree.{answers, below, best, keeps, least, node, set_shows, set_tree, tree}
+use Rattle.chess_rules.proofs.listing_moves.Members.{from_filter, in_filter, later_in}
+use Rattle.pop_solve.specs.Tree.{below}
 use Rattle.pop_solve.proofs.theorems.Lists.{HasBeginnings, StandsBefore}
 
 -- some element passes a test

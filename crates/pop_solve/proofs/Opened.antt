@@ -1,28 +1,13 @@
 -- How many frames a search opens.
-use Rattle.pop_solve.specs.declared.aim.Battle.{Battle}
-use Rattle.pop_solve.specs.Aims.{battle_of}
-use Rattle.std.proofs.Common.{◌≡◌, ℕ, zero, suc, ◌+◌, ◌-◌, ◌<◌, ◌≤◌, ◌^◌, min, Bool, true, false, not, ◌&&◌, eqb, cond, List, [], ◌∷◌, ◌++◌, drop, refl, arith, ◌⊎◌, inl, inr, rules}
-use Rattle.chess_core.specs.Position.{Position}
-use Rattle.chess_rules.specs.RuleSet.{RuleSet}
-use Rattle.pop_input.specs.Posed.{Posed, IsSound}
-use Rattle.pop_input.specs.Stipulations.{is_help, half_moves_of}
-use Rattle.pop_input.specs.declared.stipulation.Form.{Form}
-use Rattle.pop_solve.specs.declared.event.Phase.{Phase}
-use Rattle.pop_solve.specs.declared.event.Phase.TheVariants.{Set, Play}
-use Rattle.pop_solve.specs.Events.{Step, total, first_phase, is_set, is_barred, phase_start, phase_half_moves, phase_steps}
+use Rattle.pop_solve.proofs.Basics.{Bool, List, [], arith, cond, drop, eqb, false, inl, inr, min, not, refl, rules, suc, true, zero, ℕ, ◌&&◌, ◌++◌, ◌+◌, ◌-◌, ◌<◌, ◌^◌, ◌∷◌, ◌≡◌, ◌≤◌, ◌⊎◌}
+use Rattle.pop_solve.proofs.Words.{Barred, Battle, Before, Behind, Form, Frame, IsCounted, IsGiven, IsSound, IsWhites, Opens, Phase, Plan, Play, Posed, Position, RuleSet, Set, Stage, Step, Tries, Within, battle_of, fewest_left, half_moves_of, is_barred, is_help, is_set, left_of, phase_half_moves, phase_start, phase_steps, plan_of, position, seeks, to_open, total, varies}
+use Rattle.pop_solve.specs.Events.{first_phase}
 use Rattle.pop_solve.specs.ties.Seen.{fewest_from, is_stop, is_unstopped, phase_fewest, phase_walk, walk_from}
-use Rattle.pop_solve.specs.ties.Frames.{Frame, position, to_open}
-use Rattle.pop_solve.specs.ties.Phases.{left_of, rest_fewest, rest_open, IsKeys, IsNarrow, IsGiven, IsOpened, OpensOn}
-use Rattle.pop_solve.specs.ties.Values.{seeks}
-use Rattle.pop_solve.specs.ties.Walk.{fewest_left, IsCounted, IsWhites, Opens, Tries}
-use Rattle.pop_solve.specs.declared.phases.Stage.{Stage}
-use Rattle.pop_solve.specs.declared.phases.Stage.TheVariants.{Before, Barred, Within, Behind}
-use Rattle.pop_solve.specs.declared.plan.Plan.{Plan}
+use Rattle.pop_solve.specs.ties.Phases.{rest_fewest, rest_open, IsKeys, IsNarrow, IsOpened, OpensOn}
 use Rattle.pop_solve.proofs.Boards.{behind_start}
 use Rattle.pop_solve.proofs.Sound.{some_way}
 use Rattle.pop_solve.proofs.ToCome.{one, walk_count-start}
 use Rattle.pop_solve.proofs.Outcomes.{counted_by, opened-most}
-use Rattle.pop_solve.specs.ties.Plans.{plan_of, varies}
 
 -- one part of a walk after another
 module _ (rule : RuleSet) (plan : Plan) (p : Position) where

@@ -1,20 +1,15 @@
 -- The moves of a position, stretch by stretch, are all its moves in another order.
-use Rattle.std.proofs.Common.{◌≡◌, ℕ, zero, suc, ◌+◌, ◌-◌, ◌<◌, ◌≤◌, Bool, true, false, not, ◌&&◌, cond, eqb, List, [], ◌∷◌, ◌++◌, filter, refl, sym, ◌∙◌, ap, arith, inl, inr, rules}
-use Rattle.std.proofs.lemmas.Bool.{cases_Bool, cases_lt}
-use Rattle.std.proofs.lemmas.Bool.Decides.{nat_tests}
-use Rattle.std.proofs.lemmas.List.{append-nil}
+use Rattle.pop_solve.proofs.Basics.{Bool, List, [], ap, append-nil, arith, cases_lt, cond, eqb, false, filter, inl, inr, nat_tests, not, refl, rules, suc, sym, true, zero, ℕ, ◌&&◌, ◌++◌, ◌+◌, ◌-◌, ◌<◌, ◌∙◌, ◌∷◌, ◌≡◌, ◌≤◌}
+use Rattle.pop_solve.proofs.Words.{Killer, Order, Position, RuleSet, Triple, ahead, belongs, moves_behind, moves_behind-end, moves_between}
+use Rattle.std.proofs.lemmas.Bool.{cases_Bool}
 use Rattle.std.proofs.lemmas.List.Elements.{filter_agree}
-use Rattle.chess_core.specs.Position.{Position}
-use Rattle.chess_core.specs.Triple.{Triple}
 use Rattle.chess_rules.proofs.listing_moves.Between.{between-here, between-none, between-past, between-skip}
-use Rattle.chess_rules.proofs.listing_moves.Places.{moves_behind-end, moves_behind-here, moves_behind-skip, place_of_triple}
+use Rattle.chess_rules.proofs.listing_moves.Places.{moves_behind-here, moves_behind-skip, place_of_triple}
 use Rattle.chess_rules.specs.Legal.{moves as legal_moves}
-use Rattle.chess_rules.specs.RuleSet.{RuleSet}
-use Rattle.chess_rules.specs.ties.Places.{moves_behind, moves_between}
-use Rattle.pop_solve.specs.declared.frame.Stretch.TheVariants.{Killer, Earlier, Others}
+use Rattle.pop_solve.specs.declared.frame.Stretch.TheVariants.{Earlier, Others}
 use Rattle.pop_solve.specs.declared.frame.Early.TheVariants.{NoMoves}
 use Rattle.pop_solve.proofs.Boards.{behind_start}
-use Rattle.pop_solve.specs.ties.Frames.{Order, ahead, all_of, belongs, comes_early, here, is_at, later}
+use Rattle.pop_solve.specs.ties.Frames.{all_of, comes_early, here, is_at, later}
 
 -- a list parted by three tests
 module _ {M : Type 0} (a b c : M → Bool) where

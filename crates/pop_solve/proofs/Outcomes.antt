@@ -1,25 +1,10 @@
 -- The outcomes of a step, for frames listed from the top down.
-use Rattle.pop_solve.specs.declared.aim.Battle.{Battle}
+use Rattle.pop_solve.proofs.Basics.{Bool, IfSome, List, Option, [], ap, arith, eqb, false, inl, inr, length, min, refl, rules, suc, true, ℕ, ◌+◌, ◌-◌, ◌<◌, ◌^◌, ◌∙◌, ◌∷◌, ◌≡◌, ◌≤◌, ◌⊎◌}
+use Rattle.pop_solve.proofs.Words.{AreKnown, Battle, CameFrom, CameFromAt, Counts, Frame, GoesTo, IsCounted, IsLinked, IsPlaceIn, IsRoomy, IsWalking, IsWhites, LegalPlace, Loss, Plan, Position, RuleSet, Steps, Triple, after_well_formed, battle_of, chess, fewest_left, follows, gives, is_help, legal, moves_behind, opened, path, position, pseudo-from_legal, seeks, to_come, to_open, turns, undo_of, walk_behind}
 use Rattle.chess_rules.specs.Play.{after as played}
-use Rattle.std.proofs.Common.{rules, ◌≡◌, ℕ, suc, ◌+◌, ◌-◌, ◌<◌, ◌≤◌, ◌^◌, min, Bool, true, false, eqb, List, [], ◌∷◌, length, Option, IfSome, refl, ◌∙◌, ap, arith, ◌⊎◌, inl, inr}
-use Rattle.chess_core.specs.Position.{Position}
-use Rattle.chess_core.specs.Triple.{Triple}
-use Rattle.chess_rules.proofs.listing_moves.Calls.{pseudo-from_legal}
-use Rattle.chess_rules.proofs.making_moves.Stays.{after_well_formed}
-use Rattle.chess_rules.specs.Legal.{legal}
-use Rattle.chess_rules.specs.Loss.{Loss}
-use Rattle.chess_rules.specs.ties.Places.{IsPlaceIn, LegalPlace, moves_behind}
-use Rattle.chess_rules.specs.Play.{undo_of}
-use Rattle.chess_rules.specs.RuleSet.{RuleSet}
-use Rattle.pop_solve.specs.Chess.{chess}
-use Rattle.pop_solve.specs.ties.Values.{seeks}
-use Rattle.pop_solve.specs.ties.Frames.{AreKnown, Frame, position, IsLinked, CameFromAt, CameFrom, opened, opened as opened_frame, walk_behind, to_open}
-use Rattle.pop_solve.specs.ties.Calls.{Counts}
-use Rattle.pop_solve.specs.ties.Walk.{follows, gives, goes_on, path, GoesTo, to_come, IsRoomy, IsWalking, turns, IsCounted, IsWhites, Steps, fewest_left}
-use Rattle.pop_solve.specs.declared.plan.Plan.{Plan}
+use Rattle.pop_solve.specs.ties.Frames.{opened as opened_frame}
+use Rattle.pop_solve.specs.ties.Walk.{goes_on}
 use Rattle.pop_solve.proofs.Tests.{learned, moved}
-use Rattle.pop_input.specs.Stipulations.{is_help}
-use Rattle.pop_solve.specs.Aims.{battle_of}
 use Rattle.pop_solve.proofs.GoingOn.{no_zero, goes_on-help, follows-help, goes_on-keys, goes_on-most, ended-reached}
 use Rattle.pop_solve.proofs.ToCome.{one, walk_count-start, walk_behind-none, come-pass, come-enter, tries-pass, tries-enter, turns-pass, turns-enter, open-next, open-enter, come-close, tries-close, turns-close, open-close, steps-skip}
 

@@ -1,18 +1,10 @@
 -- The path to the top frame, and what is shown of it.
-use Rattle.pop_input.specs.declared.stipulation.Goal.{Goal}
-use Rattle.chess_rules.specs.Legal.{legal}
+use Rattle.pop_solve.proofs.Basics.{List, [], ap, arith, cond, drop, get_or, length, length-append, length-reverse, refl, reverse, reverse-append, rules, subst, sym, take, take-append-drop, take_all, true, ℕ, ◌++◌, ◌+◌, ◌-◌, ◌<◌, ◌∙◌, ◌∷◌, ◌≡◌, ◌≤◌}
+use Rattle.pop_solve.proofs.Words.{CameFrom, CameFromAt, Frame, Goal, IsLinked, IsWalking, Plan, Position, RuleSet, Triple, chess, ends_variation, legal, path, position, reach, show, shown_along, shown_last}
 use Rattle.chess_rules.specs.Play.{after as played}
-use Rattle.std.proofs.Common.{◌≡◌, ℕ, ◌+◌, ◌-◌, ◌<◌, ◌≤◌, cond, rules, List, [], ◌∷◌, ◌++◌, length, take, drop, get_or, reverse, true, refl, sym, ◌∙◌, ap, subst, arith, length-append, length-take}
-use Rattle.std.proofs.lemmas.List.{length-reverse, reverse-append, take_all, take_more, take-append-drop}
-use Rattle.chess_core.specs.Position.{Position}
-use Rattle.chess_core.specs.Triple.{Triple}
-use Rattle.chess_rules.specs.RuleSet.{RuleSet}
-use Rattle.pop_solve.specs.Chess.{chess, show}
-use Rattle.pop_solve.specs.Game.{reach}
-use Rattle.pop_solve.specs.ties.Frames.{Frame, position, IsLinked, CameFrom, CameFromAt}
-use Rattle.pop_solve.specs.ties.Walk.{ends_variation, IsEnded, path, IsWalking}
-use Rattle.pop_solve.specs.declared.plan.Plan.{Plan}
-use Rattle.pop_solve.specs.Events.{shown_along, shown_last}
+use Rattle.std.proofs.Common.{length-take}
+use Rattle.std.proofs.lemmas.List.{take_more}
+use Rattle.pop_solve.specs.ties.Walk.{IsEnded}
 use Rattle.pop_solve.proofs.Outcomes.{CameFrom-deep, walking-close}
 use Rattle.pop_solve.specs.declared.chess.Reached.{Reached}
 use Rattle.pop_solve.specs.declared.chess.Reached.TheVariants.{Perhaps, Surely}

@@ -1,23 +1,9 @@
 -- The paths of a phase's solutions.
-use Rattle.std.proofs.Common.{◌≡◌, ℕ, ◌<◌, true, false, List, [], ◌∷◌, map, take, drop, refl, ap, arith}
-use Rattle.std.specs.List.{AllPairs, flat_map}
-use Rattle.std.proofs.lemmas.List.{take-append-drop}
+use Rattle.pop_solve.proofs.Basics.{AllPairs, List, [], ap, arith, drop, false, flat_map, map, refl, take, take-append-drop, true, ℕ, ◌<◌, ◌∷◌, ◌≡◌}
+use Rattle.pop_solve.proofs.Words.{Battle, Game, Phase, Play, Posed, Position, RuleSet, Set, Triple, battle_of, chess, help_lines, is_help, phase_half_moves, phase_start, set_tree, solutions, tree}
 use Rattle.std.proofs.lemmas.List.Concat.{flat_map-append}
 use Rattle.chess_core.specs.MoveOrder.{triple_number}
-use Rattle.chess_core.specs.Position.{Position}
-use Rattle.chess_core.specs.Triple.{Triple}
-use Rattle.chess_rules.specs.RuleSet.{RuleSet}
 use Rattle.chess_rules.proofs.listing_moves.Members.{pairs_front}
-use Rattle.pop_input.specs.Posed.{Posed}
-use Rattle.pop_input.specs.Stipulations.{is_help}
-use Rattle.pop_solve.specs.declared.aim.Battle.{Battle}
-use Rattle.pop_solve.specs.declared.event.Phase.{Phase}
-use Rattle.pop_solve.specs.declared.event.Phase.TheVariants.{Set, Play}
-use Rattle.pop_solve.specs.Aims.{battle_of}
-use Rattle.pop_solve.specs.Chess.{chess}
-use Rattle.pop_solve.specs.Events.{phase_half_moves, phase_start, solutions}
-use Rattle.pop_solve.specs.Game.{Game, help_lines}
-use Rattle.pop_solve.specs.Tree.{set_tree, tree}
 
 -- each list by itself, joined
 singles : {X : Type 0} (xs : List X) → flat_map (λ s. s) (map (λ x. x ∷ []) xs) ≡ xs

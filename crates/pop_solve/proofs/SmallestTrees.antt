@@ -1,10 +1,7 @@
 -- The smallest trees that decide a position.
-use Rattle.pop_solve.specs.declared.aim.Battle.{Battle}
-use Rattle.std.proofs.Common.{◌≡◌, ℕ, zero, suc, ◌+◌, ◌≤◌, min, Bool, true, false, cond, List, [], ◌∷◌, arith, rules}
-use Rattle.std.proofs.lemmas.List.Sums.{sum_by-cons}
-use Rattle.std.specs.List.{sum_by}
-use Rattle.pop_solve.specs.Game.{Game, can_move}
-use Rattle.pop_solve.specs.ties.Counts.{decided_by, least_of, smallest_below, smallest_tree}
+use Rattle.pop_solve.proofs.Basics.{Bool, List, [], arith, cond, false, min, rules, suc, sum_by, sum_by-cons, true, zero, ℕ, ◌+◌, ◌∷◌, ◌≡◌, ◌≤◌}
+use Rattle.pop_solve.proofs.Words.{Battle, Game, can_move, least_of, smallest_below, smallest_tree}
+use Rattle.pop_solve.specs.ties.Counts.{decided_by}
 
 module _ {M : Type 0} (test : M → Bool) (f : M → ℕ) where
   least-most : (n : ℕ) (ms : List M) → least_of test f n ms ≤ n

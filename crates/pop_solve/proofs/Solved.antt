@@ -1,33 +1,15 @@
 -- What is to come from the root frame of a phase is the phase's solutions.
-use Rattle.pop_solve.specs.declared.aim.Battle.{Battle}
-use Rattle.pop_solve.specs.declared.aim.Battle.TheVariants.{Direct, Selfmate}
-use Rattle.pop_solve.specs.Aims.{battle_of}
+use Rattle.pop_solve.proofs.Basics.{Bool, List, [], ap, arith, cond, false, filter, flat_map, length, list_all, map, nat_tests, refl, rules, suc, sym, take, true, zero, ℕ, ◌*◌, ◌++◌, ◌+◌, ◌-◌, ◌∙◌, ◌∷◌, ◌≡◌, ◌≤◌}
+use Rattle.pop_solve.proofs.Words.{Battle, Form, Frame, Game, IsSound, Phase, Plan, Play, Posed, RuleSet, Selfmate, Set, battle_of, chess, half_moves_of, help_lines, is_help, is_set, keep, keeps, moves_behind, node, phase_half_moves, phase_paths, phase_start, plan_of, seeks, set_shows, set_tree, shown, solutions, started, tree, value, varies}
+use Rattle.pop_solve.specs.declared.aim.Battle.TheVariants.{Direct}
 use Rattle.chess_rules.specs.Legal.{moves as legal_moves}
-use Rattle.std.proofs.Common.{◌≡◌, ℕ, zero, suc, ◌+◌, ◌-◌, ◌*◌, ◌≤◌, Bool, true, false, cond, List, [], ◌∷◌, ◌++◌, length, map, take, refl, sym, ◌∙◌, ap, arith, rules}
-use Rattle.std.specs.List.{flat_map, filter, list_all}
-use Rattle.std.proofs.lemmas.Bool.Decides.{nat_tests}
-use Rattle.pop_solve.specs.declared.event.Phase.{Phase}
-use Rattle.pop_solve.specs.declared.event.Phase.TheVariants.{Set, Play}
-use Rattle.pop_solve.specs.Game.{Game, help_lines}
-use Rattle.pop_solve.specs.ties.Values.{seeks, value}
-use Rattle.chess_rules.specs.ties.Places.{moves_behind}
-use Rattle.chess_rules.specs.RuleSet.{RuleSet}
-use Rattle.pop_input.specs.Posed.{Posed, IsSound}
-use Rattle.pop_solve.specs.Chess.{chess}
-use Rattle.pop_input.specs.Stipulations.{is_help, half_moves_of}
 use Rattle.pop_solve.proofs.Sound.{some_way}
-use Rattle.pop_solve.specs.ties.Frames.{Frame}
-use Rattle.pop_solve.specs.Tree.{node, keeps, tree, set_shows, set_tree}
-use Rattle.pop_solve.specs.ties.Walk.{goes_on, shown}
-use Rattle.pop_solve.specs.Events.{is_set, solutions, phase_start, phase_half_moves}
-use Rattle.pop_solve.specs.ties.Phases.{keep, started, phase_paths}
-use Rattle.pop_input.specs.declared.stipulation.Form.{Form}
+use Rattle.pop_solve.specs.ties.Walk.{goes_on}
 use Rattle.pop_input.specs.declared.stipulation.Form.TheVariants.{Direct}
-use Rattle.pop_solve.specs.declared.plan.Plan.{Plan}
 use Rattle.pop_solve.proofs.Battles.{value-wins, value-self_wins}
 use Rattle.pop_solve.proofs.Trees.{flat-filter, shown-zero, shown-help, halves, keeps-value, half-some, halves-seek, seeks-step, flip, unflip, beneath, as_nodes, by_test, below-key, below-set}
 use Rattle.pop_solve.proofs.Kept.{keep-nil, started-nil, to_come-root}
-use Rattle.pop_solve.specs.ties.Plans.{shows_variations, tree_shown, plan_of, varies}
+use Rattle.pop_solve.specs.ties.Plans.{shows_variations, tree_shown}
 
 -- what is kept of a list of paths, and the solutions begun: `sols` are its solutions
 pub record IsCutInto {M : Type 0} (help : Bool) (n : ℕ) (paths : List (List M)) (sols : List (List (List M))) : Type 0 where

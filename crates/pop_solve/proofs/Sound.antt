@@ -1,13 +1,10 @@
 -- What a sound problem's play rests on.
-use Rattle.std.proofs.Common.{◌≡◌, ℕ, ◌≤◌, true, None, refl, rules}
-use Rattle.chess_core.specs.Position.{Position, other}
-use Rattle.chess_core.specs.WellFormed.{IsWellFormed, is_crossed_right}
-use Rattle.pop_input.specs.Posed.{Posed, IsSound}
-use Rattle.pop_input.specs.Stipulations.{half_moves, half_moves_of, may_have}
-use Rattle.pop_input.specs.declared.stipulation.Form.{Form}
-use Rattle.pop_solve.specs.declared.event.Phase.{Phase}
+use Rattle.pop_solve.proofs.Basics.{None, refl, rules, true, ℕ, ◌≡◌, ◌≤◌}
+use Rattle.pop_solve.proofs.Words.{Form, IsSound, IsWellFormed, Phase, Posed, Position, half_moves, half_moves_of, phase_start}
+use Rattle.chess_core.specs.Position.{other}
+use Rattle.chess_core.specs.WellFormed.{is_crossed_right}
+use Rattle.pop_input.specs.Stipulations.{may_have}
 use Rattle.pop_solve.specs.Chess.{set_start}
-use Rattle.pop_solve.specs.Events.{phase_start}
 
 halves-some : (form : Form) (n : ℕ) → may_have form n ≡ true → 1 ≤ half_moves_of form n
 halves-some form n e = search rules

@@ -2,28 +2,14 @@
 use Rattle.chess_rules.specs.Play.{after as played}
 use Rattle.chess_rules.specs.Legal.{moves as legal_moves}
 use Rattle.pop_solve.specs.declared.aim.Aim.{Aim}
-use Rattle.std.proofs.Common.{◌≡◌, ℕ, suc, ◌+◌, ◌-◌, ◌<◌, ◌≤◌, ◌^◌, min, Bool, true, not, ◌&&◌, ◌||◌, cond, Option, Some, None, List, [], ◌∷◌, ◌++◌, length, take, drop, reverse, refl, sym, ◌∙◌, ap, arith, subst, ◌⊎◌, inl, inr, MatchOption, IfNone, IfSome, rules}
-use Rattle.std.proofs.lemmas.List.{reverse-append, length-reverse, length-drop, length-append, drop-append-le, take-append-le, take_all}
-use Rattle.std.proofs.lemmas.Bool.{cases_lt}
-use Rattle.std.proofs.lemmas.List.Sums.{sum_by-cons}
-use Rattle.std.specs.List.{list_any, list_all, sum_by}
-use Rattle.chess_core.specs.Position.{Position}
-use Rattle.chess_core.specs.Triple.{Triple}
-use Rattle.chess_core.specs.WellFormed.{IsWellFormed}
-use Rattle.chess_rules.proofs.listing_moves.Calls.{pseudo-from_legal}
-use Rattle.chess_rules.proofs.making_moves.Stays.{after_well_formed}
-use Rattle.chess_rules.specs.Legal.{legal}
-use Rattle.chess_rules.specs.Loss.{Loss}
-use Rattle.chess_rules.specs.ties.Places.{IsPlaceIn, LegalPlace}
-use Rattle.chess_rules.specs.Play.{undo_of}
-use Rattle.chess_rules.specs.RuleSet.{RuleSet}
-use Rattle.pop_solve.specs.Chess.{chess}
+use Rattle.pop_solve.proofs.Basics.{Bool, IfSome, List, MatchOption, None, Option, Some, [], ap, arith, cases_lt, cond, drop, inl, inr, length, length-append, length-reverse, list_all, list_any, min, not, refl, reverse, reverse-append, rules, subst, suc, sum_by, sum_by-cons, sym, take, take_all, true, ℕ, ◌&&◌, ◌++◌, ◌+◌, ◌-◌, ◌<◌, ◌^◌, ◌||◌, ◌∙◌, ◌∷◌, ◌≡◌, ◌≤◌, ◌⊎◌}
+use Rattle.pop_solve.proofs.Words.{AreKnown, CameFrom, CameFromAt, Frame, HasCounted, IsLinked, IsPlaceIn, IsWellFormed, Killer, LegalPlace, Loss, Order, Position, RuleSet, Triple, after_well_formed, ahead, chess, least_of, legal, position, pseudo-from_legal, seeks, smallest_below, smallest_tree, steps, tests, undo_of, untried, value, walk_count, work}
+use Rattle.std.proofs.Common.{IfNone}
+use Rattle.std.proofs.lemmas.List.{length-drop, drop-append-le, take-append-le}
 use Rattle.pop_solve.proofs.Orders.{same_start}
 use Rattle.pop_solve.specs.declared.frame.Stretch.{Stretch}
-use Rattle.pop_solve.specs.declared.frame.Stretch.TheVariants.{Killer}
-use Rattle.pop_solve.specs.ties.Counts.{HasCounted, least_of, smallest_below, smallest_tree, walk_count}
-use Rattle.pop_solve.specs.ties.Values.{decides, seeks, join, value, joined}
-use Rattle.pop_solve.specs.ties.Frames.{Frame, position, AreKnown, IsLinked, IsCut, IsOpenedOn, IsTesting, deliver, pending, steps, steps_among, work, CameFromAt, CameFrom, tests, Turns, Ends, tested, top_left, walk_among, to_test, to_try, to_try_with, ahead, untried, Order}
+use Rattle.pop_solve.specs.ties.Values.{decides, join, joined}
+use Rattle.pop_solve.specs.ties.Frames.{IsCut, IsOpenedOn, IsTesting, deliver, pending, steps_among, Turns, Ends, tested, top_left, walk_among, to_test, to_try, to_try_with}
 use Rattle.pop_solve.proofs.SmallestTrees.{trees-next, trees-end, trees-start}
 
 -- the frame with its place moved on

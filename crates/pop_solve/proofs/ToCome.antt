@@ -1,27 +1,14 @@
 -- What the moves still to come say of paths, turns and counts: the next move, and those passed over.
-use Rattle.pop_input.specs.declared.stipulation.Goal.TheVariants.{Mate}
+use Rattle.pop_solve.proofs.Basics.{Bool, List, [], ap, append_assoc, arith, cond, eqb, false, filter, inl, inr, length, map, refl, rules, suc, sum_by, sum_by-cons, true, zero, ℕ, ◌++◌, ◌+◌, ◌-◌, ◌<◌, ◌∙◌, ◌∷◌, ◌≡◌, ◌≤◌, ◌⊎◌}
+use Rattle.pop_solve.proofs.Words.{Frame, GoesTo, IsWhites, Loss, Mate, Plan, Position, RuleSet, Steps, Triple, battle_of, chess, fewest_left, follows, gives, is_goal, is_help, is_mating, moves_behind, opened, path, position, seeks, seeks_last, shown, smallest_tree, steps, to_come, to_open, turns, value, walk_behind, walk_count}
 use Rattle.chess_rules.specs.Play.{after as played}
 use Rattle.chess_rules.specs.Legal.{moves as legal_moves}
-use Rattle.std.proofs.Common.{rules, ◌≡◌, ℕ, zero, suc, ◌+◌, ◌-◌, ◌<◌, ◌≤◌, Bool, true, false, eqb, cond, List, [], ◌∷◌, ◌++◌, length, filter, map, refl, ◌∙◌, ap, append_assoc, arith, ◌⊎◌, inl, inr}
 use Rattle.std.proofs.lemmas.List.{map-append}
-use Rattle.std.proofs.lemmas.List.Sums.{sum_by-append, sum_by-cons}
-use Rattle.std.specs.List.{sum_by}
-use Rattle.chess_core.specs.Position.{Position}
-use Rattle.chess_core.specs.Triple.{Triple}
-use Rattle.chess_rules.specs.Legal.{is_goal}
-use Rattle.chess_rules.specs.Loss.{Loss}
-use Rattle.chess_rules.specs.ties.Places.{is_mating, moves_behind}
-use Rattle.chess_rules.specs.RuleSet.{RuleSet}
-use Rattle.pop_solve.specs.Chess.{chess}
+use Rattle.std.proofs.lemmas.List.Sums.{sum_by-append}
 use Rattle.pop_solve.proofs.Boards.{behind_start}
-use Rattle.pop_solve.specs.ties.Counts.{smallest_tree, walk_count}
-use Rattle.pop_solve.specs.ties.Values.{seeks, value}
-use Rattle.pop_solve.specs.ties.Frames.{Frame, position, opened, steps, steps_behind, walk_behind, to_open}
-use Rattle.pop_solve.specs.ties.Walk.{follows, gives, goes_on, shown, path, GoesTo, to_come, turns, IsWhites, seeks_last, Steps, fewest_for, fewest_left, fewest_walked}
-use Rattle.pop_solve.specs.declared.plan.Plan.{Plan}
+use Rattle.pop_solve.specs.ties.Frames.{steps_behind}
+use Rattle.pop_solve.specs.ties.Walk.{goes_on, fewest_for, fewest_walked}
 use Rattle.pop_solve.proofs.Tests.{moved}
-use Rattle.pop_input.specs.Stipulations.{is_help}
-use Rattle.pop_solve.specs.Aims.{battle_of}
 use Rattle.pop_solve.proofs.GoingOn.{cases, no_zero, goes_on-help, follows-help}
 
 -- where the first move counts nothing if it fails a test, all that fail it at the head of a list count nothing

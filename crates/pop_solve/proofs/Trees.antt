@@ -1,23 +1,14 @@
 -- What the walk shows is the tree that the definitions name.
-use Rattle.pop_solve.specs.declared.aim.Battle.{Battle}
-use Rattle.pop_solve.specs.declared.aim.Battle.TheVariants.{Direct, Selfmate}
-use Rattle.std.proofs.Common.{◌≡◌, ℕ, zero, suc, ◌+◌, ◌-◌, ◌*◌, ◌/◌, ◌%◌, ◌<◌, ◌≤◌, Bool, true, false, not, ◌&&◌, ◌||◌, eqb, cond, List, [], ◌∷◌, ◌++◌, map, refl, sym, ◌∙◌, ap, arith, rules}
-use Rattle.std.specs.List.{flat_map, filter, list_all}
-use Rattle.std.proofs.lemmas.List.{append-nil}
+use Rattle.pop_solve.proofs.Basics.{Bool, List, [], ap, append-nil, arith, cond, eqb, false, filter, flat_map, list_all, map, nat_tests, not, refl, rules, suc, sym, true, zero, ℕ, ◌%◌, ◌&&◌, ◌*◌, ◌++◌, ◌+◌, ◌-◌, ◌/◌, ◌<◌, ◌||◌, ◌∙◌, ◌∷◌, ◌≡◌, ◌≤◌}
+use Rattle.pop_solve.proofs.Words.{Battle, Game, Plan, Selfmate, answers, battle_of, best, every_move, first_from, follows, gives, is_help, keeps, least, lines_to_goal, node, open_length, seeks, shown, value, varies}
+use Rattle.pop_solve.specs.declared.aim.Battle.TheVariants.{Direct}
 use Rattle.std.proofs.lemmas.List.Concat.{flat_map_single}
-use Rattle.std.proofs.lemmas.Bool.Decides.{nat_tests}
-use Rattle.pop_solve.specs.Game.{Game, every_move, lines_to_goal}
-use Rattle.pop_solve.specs.ties.Values.{seeks, value}
-use Rattle.pop_solve.specs.Tree.{node, keeps, least, best, below, answers}
-use Rattle.pop_solve.specs.ties.Walk.{fewest, first_from, open_length, follows, gives, goes_on, shown}
-use Rattle.pop_solve.specs.declared.plan.Plan.{Plan}
+use Rattle.pop_solve.specs.Tree.{below}
+use Rattle.pop_solve.specs.ties.Walk.{fewest, goes_on}
 use Rattle.pop_solve.proofs.Battles.{value-lost, value-self_lost}
 use Rattle.pop_solve.proofs.Lengths.{length-more}
 use Rattle.pop_solve.proofs.GoingOn.{length_most, goes_on-keys}
 use Rattle.pop_solve.proofs.Least.{least-direct, least-selfmate}
-use Rattle.pop_solve.specs.ties.Plans.{varies}
-use Rattle.pop_input.specs.Stipulations.{is_help}
-use Rattle.pop_solve.specs.Aims.{battle_of}
 
 -- the half-moves of a battle of so many moves
 abbrev pub halves : Battle → ℕ → ℕ

@@ -1,12 +1,9 @@
 -- The value of a position by what its tests say.
-use Rattle.pop_solve.specs.declared.aim.Battle.{Battle}
-use Rattle.pop_solve.specs.declared.aim.Battle.TheVariants.{Direct, Selfmate}
-use Rattle.std.proofs.Common.{◌≡◌, ℕ, zero, suc, ◌%◌, ◌<◌, Bool, true, false, ◌&&◌, ◌||◌, cond, not, List, [], ◌∷◌, length, refl, arith, rules}
-use Rattle.std.proofs.lemmas.Bool.Decides.{nat_tests}
-use Rattle.std.specs.List.{list_any}
+use Rattle.pop_solve.proofs.Basics.{Bool, List, [], arith, cond, false, length, list_any, nat_tests, not, refl, rules, suc, true, zero, ℕ, ◌%◌, ◌&&◌, ◌<◌, ◌||◌, ◌∷◌, ◌≡◌}
+use Rattle.pop_solve.proofs.Words.{Battle, Game, Selfmate, can_move, every_move, seeks, some_move, value}
+use Rattle.pop_solve.specs.declared.aim.Battle.TheVariants.{Direct}
 use Rattle.std.specs.Prelude.{◌==◌}
-use Rattle.pop_solve.specs.Game.{Game, can_move, every_move, some_move}
-use Rattle.pop_solve.specs.ties.Values.{seeks, value, joined}
+use Rattle.pop_solve.specs.ties.Values.{joined}
 
 module _ {P M : Type 0} (battle : Battle) (game : Game P M) where
   cases : (e s c a b : Bool) → e ≡ false → (s || c) ≡ true → (e || cond s a (c && b)) ≡ cond s a b

@@ -1,26 +1,12 @@
 -- The outcomes of a step for frames listed from the bottom up, as the code holds them, and what its calls hand on.
-use Rattle.pop_input.specs.declared.stipulation.Goal.TheVariants.{Mate}
+use Rattle.pop_solve.proofs.Basics.{Bool, IfSome, List, MatchOption, None, Option, Some, [], ap, append-nil, arith, eqb, false, inl, inr, length, length-reverse, refl, reverse, reverse-append, rules, subst, suc, sym, true, ℕ, ◌++◌, ◌+◌, ◌-◌, ◌<◌, ◌∙◌, ◌∷◌, ◌≡◌, ◌≤◌, ◌⊎◌}
+use Rattle.pop_solve.proofs.Words.{AreKnown, CameFrom, CameFromAt, Counts, Frame, GoesTo, HasCounted, IsPlaceIn, IsWalking, LegalPlace, Mate, Plan, Position, RuleSet, Steps, Triple, battle_of, chess, follows, gives, is_for_mate, is_goal, legal, mates_behind, moves_behind, moves_behind-end, position, seeks_last, smallest_tree, undo_of, value}
 use Rattle.chess_rules.specs.Play.{after as played}
-use Rattle.std.proofs.Common.{rules, ◌≡◌, ℕ, suc, ◌+◌, ◌-◌, ◌<◌, ◌≤◌, Bool, true, false, eqb, List, [], ◌∷◌, ◌++◌, length, reverse, Option, Some, None, IfSome, MatchOption, refl, sym, ◌∙◌, ap, arith, subst, ◌⊎◌, inl, inr}
-use Rattle.std.proofs.lemmas.List.{append-nil, reverse-append, length-reverse}
-use Rattle.chess_core.specs.Position.{Position}
-use Rattle.chess_core.specs.Triple.{Triple}
-use Rattle.chess_rules.proofs.listing_moves.Places.{moves_behind-end}
-use Rattle.chess_rules.specs.Legal.{is_goal, legal}
-use Rattle.chess_rules.specs.ties.Places.{IsNextMate, IsPlaceIn, LegalPlace, mates_behind, moves_behind}
-use Rattle.chess_rules.specs.Play.{undo_of}
-use Rattle.chess_rules.specs.RuleSet.{RuleSet}
-use Rattle.pop_solve.specs.Chess.{chess}
+use Rattle.chess_rules.specs.ties.Places.{IsNextMate}
 use Rattle.pop_solve.proofs.Boards.{for_mate}
-use Rattle.pop_solve.specs.ties.Counts.{HasCounted, smallest_tree}
-use Rattle.pop_solve.specs.ties.Calls.{Counts}
-use Rattle.pop_solve.specs.ties.Values.{value}
-use Rattle.pop_solve.specs.ties.Frames.{AreKnown, Frame, position, CameFromAt, CameFrom, opened as opened_frame}
-use Rattle.pop_solve.specs.ties.Walk.{follows, gives, goes_on, GoesTo, IsWalking, seeks_last, Steps}
-use Rattle.pop_solve.specs.declared.plan.Plan.{Plan}
+use Rattle.pop_solve.specs.ties.Frames.{opened as opened_frame}
+use Rattle.pop_solve.specs.ties.Walk.{goes_on}
 use Rattle.pop_solve.proofs.Tests.{learned, moved}
-use Rattle.pop_solve.specs.ties.Marks.{is_for_mate}
-use Rattle.pop_solve.specs.Aims.{battle_of}
 use Rattle.pop_solve.proofs.GoingOn.{cases}
 use Rattle.pop_solve.proofs.Outcomes.{CameFrom-deep, walking-close, walking-learned, top_room, steps-learned, skips-close, steps-pass, steps-enter, walking-moved}
 use Rattle.pop_solve.proofs.ToCome.{steps-skip}

@@ -1,7 +1,4 @@
-use Rattle.std.proofs.Common.{◌≡◌, drop, map}
-use Rattle.std.specs.Prelude.{nat_eq}
-use Rattle.std.specs.Char.{to_ascii_lowercase}
-use Rattle.std.specs.List.{starts_with}
+use Rattle.pop_input.proofs.Basics.{drop, map, nat_eq, starts_with, to_ascii_lowercase, ◌≡◌}
 use Rattle.pop_input.proofs.names.begins.Given as goal
 
 -- what is left to compare decides

@@ -1,6 +1,5 @@
-use Rattle.std.proofs.Common.{[], ◌∙◌, sym, ap, is_some}
-use Rattle.pop_text.specs.Words.{is_text_word}
-use Rattle.pop_input.specs.Names.{text_word_of}
+use Rattle.pop_input.proofs.Basics.{[], ap, is_some, sym, ◌∙◌}
+use Rattle.pop_input.proofs.Words.{is_text_word, text_word_of}
 use Rattle.pop_input.proofs.Taking.{line_token, cut_token, none_within}
 use Rattle.pop_input.proofs.token.next_token.Goals as goal
 

@@ -1,4 +1,4 @@
-use Rattle.std.proofs.Common.{take}
+use Rattle.pop_input.proofs.Basics.{take}
 use Rattle.pop_input.proofs.Parsing.{DigitsSoFar}
 use Rattle.pop_input.proofs.values.limit_of.Given as goal
 

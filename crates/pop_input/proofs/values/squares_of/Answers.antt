@@ -1,5 +1,5 @@
-use Rattle.std.proofs.Common.{◌∙◌, ◌+◌, ◌<◌, sym, ap, arith, length, drop}
-use Rattle.pop_input.specs.Values.{squares_from}
+use Rattle.pop_input.proofs.Basics.{ap, arith, drop, length, sym, ◌+◌, ◌<◌, ◌∙◌}
+use Rattle.pop_input.proofs.Words.{squares_from}
 use Rattle.pop_input.proofs.Parsing.{with_front, odd_end, pair_step, front_more}
 use Rattle.pop_input.proofs.values.squares_of.Goals as goal
 

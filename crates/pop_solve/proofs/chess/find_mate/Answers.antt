@@ -1,4 +1,4 @@
-use Rattle.std.proofs.Common.{ap, rules}
+use Rattle.pop_solve.proofs.Basics.{ap, rules}
 use Rattle.chess_rules.specs.ties.Places.{MatingPlace}
 use Rattle.pop_solve.proofs.Boards.{mate_before, mate_behind, no_mate}
 use Rattle.pop_solve.proofs.chess.find_mate.Goals as goal

@@ -1,5 +1,5 @@
-use Rattle.std.proofs.Common.{◌∙◌, ap, sym}
-use Rattle.chess_rules.specs.ties.Places.{LegalPlace}
+use Rattle.pop_solve.proofs.Basics.{ap, sym, ◌∙◌}
+use Rattle.pop_solve.proofs.Words.{LegalPlace}
 use Rattle.pop_solve.proofs.Boards.{has_first, has_killer}
 use Rattle.pop_solve.proofs.chess.first_look.Goals as goal
 

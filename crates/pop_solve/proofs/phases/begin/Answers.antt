@@ -1,5 +1,5 @@
-use Rattle.std.proofs.Common.{rules, ◌≡◌, refl, not, Bool, true, false}
-use Rattle.pop_solve.specs.ties.Phases.{IsStanding}
+use Rattle.pop_solve.proofs.Basics.{Bool, false, not, refl, rules, true, ◌≡◌}
+use Rattle.pop_solve.proofs.Words.{IsStanding}
 use Rattle.pop_solve.proofs.Walking as walking
 use Rattle.pop_solve.proofs.Events as events
 use Rattle.pop_solve.proofs.Opened as opened

@@ -1,4 +1,4 @@
-use Rattle.std.proofs.Common.{rules}
+use Rattle.pop_solve.proofs.Basics.{rules}
 use Rattle.pop_solve.proofs.Walking as walking
 use Rattle.pop_solve.proofs.phases.close_all.Goals as goal
 

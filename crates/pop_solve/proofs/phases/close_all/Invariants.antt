@@ -1,6 +1,5 @@
-use Rattle.std.proofs.Common.{length, reverse}
-use Rattle.chess_core.specs.Position.{Position}
-use Rattle.pop_solve.specs.ties.Walk.{IsWalking}
+use Rattle.pop_solve.proofs.Basics.{length, reverse}
+use Rattle.pop_solve.proofs.Words.{IsWalking, Position}
 use Rattle.pop_solve.proofs.phases.close_all.Given as goal
 
 abbrev pub invariant-loop-top : goal.invariant-loop-top

@@ -1,7 +1,5 @@
-use Rattle.std.proofs.Common.{rules, ◌≡◌, ◌+◌, ◌-◌, ◌∙◌, ap, length, sym, arith}
-use Rattle.pop_input.specs.Stipulations.{is_help}
-use Rattle.pop_solve.specs.declared.plan.Plan.{Plan}
-use Rattle.pop_solve.specs.Events.{phase_start}
+use Rattle.pop_solve.proofs.Basics.{ap, arith, length, rules, sym, ◌+◌, ◌-◌, ◌∙◌, ◌≡◌}
+use Rattle.pop_solve.proofs.Words.{Plan, is_help, phase_start}
 use Rattle.pop_solve.proofs.Events as events
 use Rattle.pop_solve.proofs.phases.event_at.Goals as goal
 

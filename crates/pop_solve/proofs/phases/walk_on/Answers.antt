@@ -1,6 +1,4 @@
-use Rattle.std.proofs.Common.{rules, ◌≡◌, ◌<◌, ◌∙◌, refl, sym, arith, length}
-use Rattle.std.proofs.lemmas.List.{length-reverse}
-use Rattle.std.proofs.lemmas.Bool.Decides.{nat_tests}
+use Rattle.pop_solve.proofs.Basics.{arith, length, length-reverse, nat_tests, refl, rules, sym, ◌<◌, ◌∙◌, ◌≡◌}
 use Rattle.pop_solve.proofs.Kept as kept
 use Rattle.pop_solve.proofs.Opened as opened
 use Rattle.pop_solve.proofs.phases.walk_on.Goals as goal

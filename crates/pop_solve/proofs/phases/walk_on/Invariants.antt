@@ -1,6 +1,5 @@
-use Rattle.std.proofs.Common.{◌≡◌, reverse}
-use Rattle.pop_solve.specs.ties.Walk.{IsWalking, Opens, Tries, to_come, turns}
-use Rattle.pop_solve.specs.Events.{phase_start}
+use Rattle.pop_solve.proofs.Basics.{reverse, ◌≡◌}
+use Rattle.pop_solve.proofs.Words.{IsWalking, Opens, Tries, phase_start, to_come, turns}
 use Rattle.pop_solve.proofs.phases.walk_on.Given as goal
 
 abbrev pub invariant-loop-frames : goal.invariant-loop-frames

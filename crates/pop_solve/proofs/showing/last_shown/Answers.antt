@@ -1,5 +1,5 @@
-use Rattle.std.proofs.Common.{◌-◌, length, sym, ◌∙◌, ap, arith}
-use Rattle.pop_solve.specs.Chess.{show}
+use Rattle.pop_solve.proofs.Basics.{ap, arith, length, sym, ◌-◌, ◌∙◌}
+use Rattle.pop_solve.proofs.Words.{show}
 use Rattle.pop_solve.proofs.Paths as paths
 use Rattle.pop_solve.proofs.showing.last_shown.Goals as goal
 

@@ -1,7 +1,6 @@
-use Rattle.std.proofs.Common.{rules, ◌+◌, refl, sym, ◌∙◌, ap, reverse, arith}
-use Rattle.std.proofs.lemmas.List.{take_all}
+use Rattle.pop_solve.proofs.Basics.{ap, arith, refl, reverse, rules, sym, take_all, ◌+◌, ◌∙◌}
+use Rattle.pop_solve.proofs.Words.{position}
 use Rattle.chess_rules.specs.Play.{after as played}
-use Rattle.pop_solve.specs.ties.Frames.{position}
 use Rattle.pop_solve.proofs.Paths as paths
 use Rattle.pop_solve.proofs.showing.line.Goals as goal
 

@@ -1,10 +1,6 @@
-use Rattle.std.proofs.Common.{◌≡◌, ℕ, ◌+◌, reverse, take}
+use Rattle.pop_solve.proofs.Basics.{reverse, take, ℕ, ◌+◌, ◌≡◌}
+use Rattle.pop_solve.proofs.Words.{IsWalking, IsWellFormed, Position, path, position, shown_along}
 use Rattle.arrayvec.specs.ArrayVec.{array_vec_len}
-use Rattle.chess_core.specs.Position.{Position}
-use Rattle.chess_core.specs.WellFormed.{IsWellFormed}
-use Rattle.pop_solve.specs.Events.{shown_along}
-use Rattle.pop_solve.specs.ties.Frames.{position}
-use Rattle.pop_solve.specs.ties.Walk.{IsWalking, path}
 use Rattle.pop_solve.proofs.showing.line.Given as goal
 
 abbrev pub invariant-loop-k : goal.invariant-loop-k

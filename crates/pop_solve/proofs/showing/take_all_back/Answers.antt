@@ -1,5 +1,4 @@
-use Rattle.std.proofs.Common.{rules, ◌-◌, arith}
-use Rattle.std.proofs.lemmas.List.{take_all}
+use Rattle.pop_solve.proofs.Basics.{arith, rules, take_all, ◌-◌}
 use Rattle.pop_solve.proofs.Paths as paths
 use Rattle.pop_solve.proofs.showing.take_all_back.Goals as goal
 

@@ -1,6 +1,5 @@
-use Rattle.std.proofs.Common.{ℕ, ◌≤◌, length, reverse, take}
-use Rattle.chess_core.specs.Position.{Position}
-use Rattle.pop_solve.specs.ties.Walk.{IsWalking}
+use Rattle.pop_solve.proofs.Basics.{length, reverse, take, ℕ, ◌≤◌}
+use Rattle.pop_solve.proofs.Words.{IsWalking, Position}
 use Rattle.pop_solve.proofs.showing.take_all_back.Given as goal
 
 abbrev pub invariant-loop-k : goal.invariant-loop-k

@@ -1,6 +1,5 @@
-use Rattle.std.proofs.Common.{◌≡◌, filter, length}
-use Rattle.chess_rules.specs.ties.Places.{IsPlaceIn, moves_behind}
-use Rattle.pop_solve.specs.ties.Frames.{belongs}
+use Rattle.pop_solve.proofs.Basics.{filter, length, ◌≡◌}
+use Rattle.pop_solve.proofs.Words.{IsPlaceIn, belongs, moves_behind}
 use Rattle.pop_solve.proofs.value.next_of_stretch.Given as goal
 
 abbrev pub invariant-loop-by : goal.invariant-loop-by

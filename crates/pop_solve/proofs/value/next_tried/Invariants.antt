@@ -1,6 +1,6 @@
-use Rattle.std.proofs.Common.{◌≡◌}
-use Rattle.chess_rules.specs.ties.Places.{IsPlaceIn}
-use Rattle.pop_solve.specs.ties.Frames.{ahead, stretches_behind}
+use Rattle.pop_solve.proofs.Basics.{◌≡◌}
+use Rattle.pop_solve.proofs.Words.{IsPlaceIn, ahead}
+use Rattle.pop_solve.specs.ties.Frames.{stretches_behind}
 use Rattle.pop_solve.proofs.value.next_tried.Given as goal
 
 abbrev pub invariant-loop-by : goal.invariant-loop-by

@@ -1,8 +1,8 @@
-use Rattle.std.proofs.Common.{rules, ◌<◌, sym, ◌∙◌, arith}
+use Rattle.pop_solve.proofs.Basics.{arith, rules, sym, ◌<◌, ◌∙◌}
+use Rattle.pop_solve.proofs.Words.{chess}
 use Rattle.pop_solve.proofs.Boards.{unreached}
 use Rattle.pop_solve.proofs.SmallestTrees as trees
 use Rattle.pop_solve.proofs.Values as values
-use Rattle.pop_solve.specs.Chess.{chess}
 use Rattle.pop_solve.proofs.value.settled.Goals as goal
 
 pub returns-then-left-eq0-clause-value : goal.returns-then-left-eq0-clause-value

@@ -1,6 +1,5 @@
-use Rattle.std.proofs.Common.{◌≡◌, ◌⊎◌, Some, None, not, ◌∙◌, sym, ap, rules}
-use Rattle.pop_solve.specs.ties.Frames.{Frame, untried}
-use Rattle.pop_solve.specs.ties.Values.{seeks}
+use Rattle.pop_solve.proofs.Basics.{None, Some, ap, not, rules, sym, ◌∙◌, ◌≡◌, ◌⊎◌}
+use Rattle.pop_solve.proofs.Words.{Frame, seeks, untried}
 use Rattle.pop_solve.proofs.Tests as test
 use Rattle.pop_solve.proofs.value.turn.Goals as goal
 

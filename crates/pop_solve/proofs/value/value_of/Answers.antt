@@ -1,5 +1,5 @@
-use Rattle.std.proofs.Common.{ap, arith}
-use Rattle.pop_solve.specs.ties.Frames.{Order}
+use Rattle.pop_solve.proofs.Basics.{ap, arith}
+use Rattle.pop_solve.proofs.Words.{Order}
 use Rattle.pop_solve.proofs.Tests as test
 use Rattle.pop_solve.proofs.value.value_of.Goals as goal
 

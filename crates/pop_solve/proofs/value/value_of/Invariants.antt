@@ -1,10 +1,7 @@
 use Rattle.chess_rules.specs.Play.{after as played}
 use Rattle.chess_rules.specs.Legal.{moves as legal_moves}
-use Rattle.std.proofs.Common.{◌+◌}
-use Rattle.pop_solve.specs.Chess.{chess}
-use Rattle.pop_solve.specs.ties.Counts.{smallest_tree, walk_count}
-use Rattle.pop_solve.specs.ties.Frames.{work, tests}
-use Rattle.pop_solve.specs.ties.Values.{value}
+use Rattle.pop_solve.proofs.Basics.{◌+◌}
+use Rattle.pop_solve.proofs.Words.{chess, smallest_tree, tests, value, walk_count, work}
 use Rattle.pop_solve.proofs.Tests.{IsUnderway}
 use Rattle.pop_solve.proofs.value.value_of.Given as goal
 

@@ -1,7 +1,6 @@
-use Rattle.std.proofs.Common.{◌≡◌, ◌+◌, ◌-◌, ◌/◌, ◌≤◌}
-use Rattle.pop_solve.specs.Chess.{chess}
-use Rattle.pop_solve.specs.ties.Counts.{HasCounted}
-use Rattle.pop_solve.specs.ties.Walk.{fewest, first_from}
+use Rattle.pop_solve.proofs.Basics.{◌+◌, ◌-◌, ◌/◌, ◌≡◌, ◌≤◌}
+use Rattle.pop_solve.proofs.Words.{HasCounted, chess, first_from}
+use Rattle.pop_solve.specs.ties.Walk.{fewest}
 use Rattle.pop_solve.proofs.walk.least_length.Given as goal
 
 abbrev pub invariant-loop-aim : goal.invariant-loop-aim

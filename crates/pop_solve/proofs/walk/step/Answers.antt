@@ -1,5 +1,5 @@
-use Rattle.std.proofs.Common.{◌≡◌, ap, refl, rules}
-use Rattle.pop_solve.specs.ties.Frames.{Frame}
+use Rattle.pop_solve.proofs.Basics.{ap, refl, rules, ◌≡◌}
+use Rattle.pop_solve.proofs.Words.{Frame}
 use Rattle.pop_solve.proofs.Walking as walking
 use Rattle.pop_solve.proofs.walk.step.Goals as goal
 

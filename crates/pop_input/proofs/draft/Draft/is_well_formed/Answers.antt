@@ -1,5 +1,5 @@
-use Rattle.std.proofs.Common.{◌∙◌, ap, sym}
-use Rattle.pop_input.specs.Ends.{ArePut}
+use Rattle.pop_input.proofs.Basics.{ap, sym, ◌∙◌}
+use Rattle.pop_input.proofs.Words.{ArePut}
 use Rattle.pop_input.proofs.Posing.{well_formed_without}
 use Rattle.pop_input.proofs.draft.Draft.is_well_formed.Goals as goal
 

@@ -1,5 +1,5 @@
-use Rattle.std.proofs.Common.{◌≡◌, ◌∙◌, sym, ap}
-use Rattle.pop_input.specs.WordFaults.{man_fault}
+use Rattle.pop_input.proofs.Basics.{ap, sym, ◌∙◌, ◌≡◌}
+use Rattle.pop_input.proofs.Words.{man_fault}
 use Rattle.pop_input.proofs.Putting.{put_keeps}
 use Rattle.pop_input.proofs.draft.Draft.put_man.Goals as goal
 

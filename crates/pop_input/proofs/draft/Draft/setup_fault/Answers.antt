@@ -1,9 +1,6 @@
-use Rattle.std.proofs.Common.{◌≡◌, ◌∙◌, sym, ap}
-use Rattle.chess_core.specs.Position.{other}
-use Rattle.chess_rules.specs.Attacks.{in_check}
-use Rattle.pop_input.specs.Ends.{ArePut}
-use Rattle.pop_input.specs.Posed.{rule_of}
-use Rattle.pop_input.specs.Stipulations.{has_king_to_mate, starts}
+use Rattle.pop_input.proofs.Basics.{ap, sym, ◌∙◌, ◌≡◌}
+use Rattle.pop_input.proofs.Words.{ArePut, has_king_to_mate, in_check, other, rule_of}
+use Rattle.pop_input.specs.Stipulations.{starts}
 use Rattle.pop_input.proofs.Posing.{ill_fault, position_told, shown_men}
 use Rattle.pop_input.proofs.draft.Draft.setup_fault.Goals as goal
 

@@ -1,6 +1,6 @@
-use Rattle.std.proofs.Common.{◌≡◌, take, fold}
-use Rattle.chess_core.specs.Castling.{castling_squares, mark_unmoved, none_unmoved}
-use Rattle.pop_input.specs.Ends.{counts}
+use Rattle.pop_input.proofs.Basics.{fold, take, ◌≡◌}
+use Rattle.pop_input.proofs.Words.{counts, mark_unmoved, none_unmoved}
+use Rattle.chess_core.specs.Castling.{castling_squares}
 use Rattle.pop_input.proofs.draft.Draft.unmoved.Given as goal
 
 -- the castling squares so far are marked

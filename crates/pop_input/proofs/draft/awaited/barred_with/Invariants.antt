@@ -1,5 +1,4 @@
-use Rattle.std.proofs.Common.{◌≡◌, take, fold, true}
-use Rattle.std.specs.List.{list_all}
+use Rattle.pop_input.proofs.Basics.{fold, list_all, take, true, ◌≡◌}
 use Rattle.chess_core.specs.Castling.{is_castling, with_unmoved}
 use Rattle.pop_input.proofs.draft.awaited.barred_with.Given as goal
 

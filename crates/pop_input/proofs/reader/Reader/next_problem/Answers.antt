@@ -1,9 +1,6 @@
-use Rattle.std.proofs.Common.{◌≡◌, ◌∙◌, refl, sym, ap, None}
+use Rattle.pop_input.proofs.Basics.{None, ap, refl, sym, ◌∙◌, ◌≡◌}
+use Rattle.pop_input.proofs.Words.{Nothing, Standing, command_of, last_of, next_behind}
 use Rattle.pop_text.proofs.Using.{asks_none, asks_then}
-use Rattle.pop_input.specs.Names.{command_of}
-use Rattle.pop_input.specs.ties.Closings.{last_of}
-use Rattle.pop_input.specs.ties.Standing.{Standing, next_behind}
-use Rattle.pop_input.specs.declared.reader.Next.TheVariants.{Nothing}
 use Rattle.pop_input.proofs.Items.{block_starts, line_read, long_read, open_read, not_closing}
 use Rattle.pop_input.proofs.Skipping.{skip_read}
 use Rattle.pop_input.proofs.Ends.{word_closes, input_ends, cut_read}

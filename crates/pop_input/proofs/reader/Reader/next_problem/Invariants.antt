@@ -1,5 +1,5 @@
-use Rattle.std.proofs.Common.{◌≡◌, ◌-◌}
-use Rattle.pop_text.specs.Words.{limit}
+use Rattle.pop_input.proofs.Basics.{◌-◌, ◌≡◌}
+use Rattle.pop_input.proofs.Words.{limit}
 use Rattle.pop_text.specs.ties.Reading.{Asks}
 use Rattle.pop_input.proofs.Items.{BlockSoFar}
 use Rattle.pop_input.proofs.Ends.{block_of}

@@ -1,6 +1,5 @@
-use Rattle.std.proofs.Common.{ap, rules}
-use Rattle.pop_solve.specs.Events.{steps_from}
-use Rattle.pop_solve.specs.ties.Phases.{IsStanding, left_of}
+use Rattle.pop_solve.proofs.Basics.{ap, rules}
+use Rattle.pop_solve.proofs.Words.{IsStanding, left_of, steps_from}
 use Rattle.pop_solve.proofs.Events.{given-all}
 use Rattle.pop_solve.proofs.Opened.{opened-start}
 use Rattle.pop_solve.proofs.search.Search.new.Goals as goal

@@ -1,4 +1,4 @@
-use Rattle.std.proofs.Common.{◌∙◌, sym, rules}
+use Rattle.pop_solve.proofs.Basics.{rules, sym, ◌∙◌}
 use Rattle.pop_solve.proofs.Events as events
 use Rattle.pop_solve.proofs.Opened as opened
 use Rattle.pop_solve.proofs.search.Search.next.Goals as goal
