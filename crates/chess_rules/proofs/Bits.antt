@@ -1,18 +1,6 @@
 -- Bits of words: the first from a place on, one alone, and words that are not 0.
-use Rattle.std.proofs.Common.{◌≡◌, ℕ, zero, suc, ◌-◌, ◌*◌, ◌%◌, ◌^◌, ◌<◌, ◌≤◌, Bool, true, false, ◌==◌, not, refl, sym, ap, ◌∙◌, arith, ◌⊎◌, inl, inr, Some, None, find, rules}
-use Rattle.std.specs.Int.{bit_at, bit_not, w64, trailing_zeros}
-use Rattle.std.specs.Int.Bits.{bit_and, bit_or}
-use Rattle.std.specs.List.{range_with_len}
-use Rattle.std.proofs.lemmas.Bool.{cases_lt, eq-eqb, eqb-true, false_from_ne_true, true_from_ne_false}
-use Rattle.std.proofs.lemmas.Nat.Bits.{bit_at_and, bit_at_or, bit_at-zero, bit_at_mask_inside, bit_at_mask_below, bit_at-trailing_zeros, ones_shl, bit_at-lt}
-use Rattle.std.proofs.lemmas.Nat.{one_shl}
-use Rattle.std.proofs.lemmas.Nat.Bits.{bit_at-pow_same, bit_at-pow_other}
-use Rattle.std.proofs.lemmas.Bool.{cases_eq}
-use Rattle.chess_core.specs.Squares.{is_square, some_square}
-use Rattle.chess_core.specs.ties.Words.{bit_of, word}
-use Rattle.chess_core.proofs.Ranges.{find_range_some, find_range_none}
-use Rattle.chess_core.proofs.Words.{square_bit, square_word, squares_none, squares_not, squares_same, squares_some}
-use Rattle.chess_rules.proofs.Tests.{differs}
+use Rattle.chess_rules.proofs.Basics.{Bool, None, Some, ap, arith, bit_and, bit_at, bit_at-lt, bit_at-pow_other, bit_at-pow_same, bit_at-trailing_zeros, bit_at-zero, bit_at_and, bit_at_mask_below, bit_at_mask_inside, bit_at_or, bit_not, bit_or, cases_eq, cases_lt, eq-eqb, eqb-true, false, false_from_ne_true, find, inl, inr, not, one_shl, ones_shl, range_with_len, refl, rules, suc, sym, trailing_zeros, true, true_from_ne_false, w64, zero, ℕ, ◌%◌, ◌*◌, ◌-◌, ◌<◌, ◌==◌, ◌^◌, ◌∙◌, ◌≡◌, ◌≤◌, ◌⊎◌}
+use Rattle.chess_rules.proofs.Chess.{bit_of, differs, find_range_none, find_range_some, is_square, some_square, square_bit, square_word, squares_none, squares_not, squares_same, squares_some, word}
 
 abbrev pub from_on : ℕ → ℕ → ℕ
 from_on word from = bit_and word ((2 ^ 64 - 1) * 2 ^ from % 2 ^ 64)

@@ -1,45 +1,57 @@
 -- The words of chess, and the lemmas on squares and tests, that most proofs name.
 pub use Rattle.chess_core.proofs.Boards.{IsAt, along-is, square_at-is}
 pub use Rattle.chess_core.proofs.Castlings.{has_unmoved-mark_other, has_unmoved-parts, is_home-none, is_home-square}
+pub use Rattle.chess_core.proofs.Kept.{same_kind-is}
 pub use Rattle.chess_core.proofs.Men.{AtMostOneKing-without, is_man-without, man_on-with_other, man_on-with_same, man_on-without_none, man_on-without_other, man_on-without_same, same_colour-true}
 pub use Rattle.chess_core.proofs.Ranges.{NoneBelow, all_range_false, all_range_true, any_range_false, any_range_true, find_range_none, find_range_some, some_square_false, some_square_true}
 pub use Rattle.chess_core.proofs.Words.{square_bit, square_word, square_word_small, squares_both, squares_either, squares_none, squares_not, squares_same, squares_some}
-unfoldable pub use Rattle.chess_core.specs.Castling.{has_unmoved, none_unmoved}
 pub use Rattle.chess_core.specs.Castling.{without_unmoved}
+unfoldable pub use Rattle.chess_core.specs.Castling.{has_unmoved, none_unmoved}
 pub use Rattle.chess_core.specs.Position.{AtMostOneKing, HasNoKing, Position, is_man, is_side, man_on, may_promote, other, same_colour, same_kind, with_man, without_man}
+unfoldable pub use Rattle.chess_core.specs.Position.{king_square}
 pub use Rattle.chess_core.specs.Squares.{file_of, is_on_board, is_square, rank_of, square_at}
 unfoldable pub use Rattle.chess_core.specs.Squares.{some_square, squares}
-unfoldable pub use Rattle.chess_core.specs.Steps.{along}
 pub use Rattle.chess_core.specs.Steps.{diagonal_steps, knight_steps, pawn_captures, queen_steps, step_by, straight_steps}
+unfoldable pub use Rattle.chess_core.specs.Steps.{along}
 pub use Rattle.chess_core.specs.Triple.{Triple}
 pub use Rattle.chess_core.specs.WellFormed.{IsWellFormed, is_pawn_inside, is_vacant_at, was_passed}
 unfoldable pub use Rattle.chess_core.specs.WellFormed.{is_crossed_right, is_home}
-pub use Rattle.chess_core.specs.declared.man.Colour.TheVariants.{Black, White}
 pub use Rattle.chess_core.specs.declared.man.Colour.{Colour}
-pub use Rattle.chess_core.specs.declared.man.Kind.TheVariants.{Bishop, Grasshopper, King, Knight, Nightrider, Pawn, Queen, Rook}
+pub use Rattle.chess_core.specs.declared.man.Colour.TheVariants.{Black, White}
 pub use Rattle.chess_core.specs.declared.man.Kind.{Kind}
+pub use Rattle.chess_core.specs.declared.man.Kind.TheVariants.{Bishop, Grasshopper, King, Knight, Nightrider, Pawn, Queen, Rook}
 pub use Rattle.chess_core.specs.declared.man.Man.{Man}
 pub use Rattle.chess_core.specs.declared.man.Move.{Move}
 pub use Rattle.chess_core.specs.declared.step.Step.{Step}
 pub use Rattle.chess_core.specs.ties.Words.{bit_of}
 unfoldable pub use Rattle.chess_core.specs.ties.Words.{side_of, squares_of, word, word_of}
 pub use Rattle.chess_rules.proofs.Tests.{IsFirst, all_at, any_range_cases, any_range_same, differs, find_first, find_no, first_of_and, same_Bool, second_of_and, skipped, skipped_all, some_is}
-unfoldable pub use Rattle.chess_rules.specs.Attacks.{paralysed}
-unfoldable pub use Rattle.chess_rules.specs.Legal.{castles, legal, may_castle, moves, pseudo, triples}
+pub use Rattle.chess_rules.specs.Attacks.{check_of, is_faced}
+unfoldable pub use Rattle.chess_rules.specs.Attacks.{attacked, faces, faces_its_like, in_check, paralysed, strikes}
 pub use Rattle.chess_rules.specs.Legal.{forward, goes, is_arrival_free, is_nil, is_promotion_right, last_rank, pawn_steps, pawn_takes, promotions, pseudo_of, second_rank, squares_between}
-unfoldable pub use Rattle.chess_rules.specs.Play.{after, after_by, capture_square, loss_by, moved_men, rebirth, reborn_square, undo_of, unmoved_after}
+unfoldable pub use Rattle.chess_rules.specs.Legal.{castles, is_goal, legal, may_castle, moves, pseudo, triples}
 pub use Rattle.chess_rules.specs.Play.{arriving, by_shade, corner, halfway, if_empty, is_castling, is_diagonal, is_double_step, man_on_at, move_man, put_at, reborn_at, unmoved_with_rook, unmoved_without_at, without_at}
-unfoldable pub use Rattle.chess_rules.specs.Reaches.{hops, is_clear, leaps, reaches, reaches_as, rides}
+unfoldable pub use Rattle.chess_rules.specs.Play.{after, after_by, capture_square, loss_by, moved_men, rebirth, reborn_square, undo_of, unmoved_after}
 pub use Rattle.chess_rules.specs.Reaches.{is_occupied, is_vacant, reaches_of}
-pub use Rattle.chess_rules.specs.RuleSet.{RuleSet, is_circe}
-pub use Rattle.chess_rules.specs.ties.Lines.{IsStop, direction_number, flat_steps, is_advance, is_aside, place, place_by, steep_steps, step_of}
+unfoldable pub use Rattle.chess_rules.specs.Reaches.{hops, is_clear, leaps, reaches, reaches_as, rides}
+pub use Rattle.chess_rules.specs.RuleSet.{RuleSet, circe, is_circe, is_madrasi, orthodox}
+pub use Rattle.chess_rules.specs.declared.checks.CheckSquares.{CheckSquares}
+pub use Rattle.chess_rules.specs.declared.lines.Direction.{Direction}
+pub use Rattle.chess_rules.specs.declared.lines.Direction.TheVariants.{East, EastNorthEast, EastSouthEast, North, NorthEast, NorthNorthEast, NorthNorthWest, NorthWest, South, SouthEast, SouthSouthEast, SouthSouthWest, SouthWest, West, WestNorthWest, WestSouthWest}
+pub use Rattle.chess_rules.specs.declared.shields.RiderLines.TheVariants.{Straight}
+pub use Rattle.chess_rules.specs.ties.CheckSquares.{AreApproaches, AreCastlingTargets, AreCheckOrigins, AreCheckSquares, AreCheckTargets, check_squares_for, is_absent, may_check_from_on, own_man}
+unfoldable pub use Rattle.chess_rules.specs.ties.CheckSquares.{are_rebirths_quiet, may_check_from}
+pub use Rattle.chess_rules.specs.ties.Evasions.{AreEvasions, AreEvasionsFrom}
+pub use Rattle.chess_rules.specs.ties.Flights.{AreOpen, sight_lifted, sight_with}
+pub use Rattle.chess_rules.specs.ties.Lines.{IsStop, direction_number, flat_steps, is_advance, is_aside, occupied_squares, place, place_by, steep_steps, step_of}
 unfoldable pub use Rattle.chess_rules.specs.ties.Lines.{is_ahead, is_on_some, ray, rises}
 unfoldable pub use Rattle.chess_rules.specs.ties.Outward.{hopped_from, rides_on}
 pub use Rattle.chess_rules.specs.ties.Places.{HaveNone, IsBarrenFrom, IsNamed, IsNextMate, IsPlaceIn, is_mating, promotion_at}
 unfoldable pub use Rattle.chess_rules.specs.ties.Places.{first_behind, mates, mates_behind, mates_between, moves_behind, moves_between, place_of, triple_at}
 pub use Rattle.chess_rules.specs.ties.Playing.{CanCastle, CanMove}
-unfoldable pub use Rattle.chess_rules.specs.ties.Shields.{is_behind, is_shut}
-pub use Rattle.chess_rules.specs.ties.Shields.{is_lined}
+pub use Rattle.chess_rules.specs.ties.Shields.{is_fairy, is_lined, is_on_fairy_line_to, may_expose_on, rider_along, steps_along}
+unfoldable pub use Rattle.chess_rules.specs.ties.Shields.{has_fairy, is_behind, is_on_fairy_line, is_plain, is_reached, is_shut, may_expose, may_stand_between}
+pub use Rattle.chess_rules.specs.ties.Sight.{AreArrived, AreOthers, AreSeen, is_simple, king_after, sight_after}
 pub use Rattle.chess_rules.specs.ties.Targets.{AreCandidates, AreKept, AreOrigins, IsAimed, arrives, is_arrival_of, pawn_goes}
 unfoldable pub use Rattle.chess_rules.specs.ties.Targets.{is_arrival, may_go, steps_to}
 pub use Rattle.chess_rules.specs.ties.Undoing.{CanReturn, leaving, returns_to}

@@ -1,7 +1,5 @@
 -- Tests joined, and tests over ranges of numbers.
-use Rattle.std.proofs.Common.{◌≡◌, ℕ, zero, suc, ◌+◌, ◌<◌, ◌≤◌, Bool, true, false, ◌&&◌, ◌||◌, ◌==◌, not, refl, sym, arith, ◌⊎◌, inl, inr, ◌∙◌, ◌-◌, Some, None, find, List, [], ◌∷◌, rules}
-use Rattle.std.specs.List.{range_with_len, list_all, list_any}
-use Rattle.std.proofs.lemmas.Bool.{and_from, and_left, and_parts, cases_eq, cases_lt, cases_Bool, cond-true, cond-false, false≢true, or_cases, or_left, or_right}
+use Rattle.chess_rules.proofs.Basics.{Bool, List, None, Some, [], and_from, and_left, and_parts, arith, cases_Bool, cases_eq, cases_lt, cond-false, cond-true, false, false≢true, find, inl, inr, list_all, list_any, not, or_cases, or_left, or_right, range_with_len, refl, rules, suc, sym, true, zero, ℕ, ◌&&◌, ◌+◌, ◌-◌, ◌<◌, ◌==◌, ◌||◌, ◌∙◌, ◌∷◌, ◌≡◌, ◌≤◌, ◌⊎◌}
 use Rattle.chess_core.proofs.Ranges.{NoneBelow}
 
 pub first_of_and : (a b : Bool) → (a && b) ≡ true → a ≡ true

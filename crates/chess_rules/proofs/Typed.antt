@@ -1,6 +1,6 @@
 -- Positions and moves typed in for the examples.
-use Rattle.chess_rules.proofs.Basics.{ℕ, false, List, [], ◌∷◌, Option, Some, None, repeat}
-use Rattle.chess_rules.proofs.Chess.{none_unmoved, Position, with_man, Colour, Kind, Man, Move}
+use Rattle.chess_rules.proofs.Basics.{List, None, Option, Some, [], false, repeat, ℕ, ◌∷◌}
+use Rattle.chess_rules.proofs.Chess.{Colour, Kind, Man, Move, Position, none_unmoved, with_man}
 
 abbrev pub man : Colour → Kind → Man
 man c k = record { colour = c; kind = k }

@@ -60,6 +60,7 @@ pub(crate) fn evasion_squares<R: Rules>(board: &Board, colour: Colour, shield_sq
 
 // Whether the move leaves its mover in check, as far as it can be told by the squares to which a move
 // that doesn't must go.
+#[tactic(auto, using(crate::proofs::attacks::StayingInCheck::check_unmet))]
 fn leaves_check<R: Rules>(board: &Board, evasion_squares: u64, m: &Move) -> bool
     requires well_formed { IsWellFormed board.now }
     requires pseudo { pseudo R.rule board.now m.now ≡ true }
@@ -87,6 +88,7 @@ pub(crate) fn rebirth_captures<R: Rules>(board: &Board) -> u64
 
 // The squares to which the man on `from` must go to leave no check to its king: all of them where none is
 // seen. `evasion_squares` are those to which another man than the king may go that ends it.
+#[tactic(auto, using(crate::proofs::attacks::EvasionTargets::evasions_from_all, crate::proofs::attacks::EvasionTargets::evasions_from_nobody, crate::proofs::attacks::EvasionTargets::evasions_from_some))]
 pub(crate) fn evasions_from<R: Rules>(board: &Board, evasion_squares: u64, from: Square) -> u64
     requires well_formed { IsWellFormed board.now }
     requires evasion_squares { AreEvasions R.rule board.now.men board.now.turn evasion_squares }

@@ -40,6 +40,7 @@ pub(crate) fn is_simple<R: Rules>(man: Man, m: &Move, captures: bool) -> bool
 }
 
 // The arrival, where the man is of this kind once it stands there.
+#[tactic(auto, using(crate::proofs::attacks::Exposing::arrives_as, crate::proofs::attacks::Exposing::arrives_otherwise))]
 fn arrival_as(man: Man, m: &Move, kind: Kind) -> u64
     ensures { result ≡ word (is_arriving_as man m.now kind) }
 {

@@ -77,6 +77,7 @@ fn covered_squares(occupied: u64, man: Man, promo: Option<Kind>, to: Square) -> 
 
 // The squares to which the enemy king on `king` may step after a simple move, attacks apart: no man of its
 // own and no king stands there, and in Circe nobody. `sight` is that after the move, the king lifted.
+#[tactic(auto, using(crate::proofs::giving_check::Fleeing::open_squares_in_circe, crate::proofs::giving_check::Fleeing::open_squares))]
 fn open_squares<R: Rules>(board: &Board, sight: Sight, king: Square) -> u64
     ensures { (m : Move) (x : Man) → IsSeenFrom R.rule board.now m x king → m.to < 64
         → sight ≡ sight_lifted board.now.men m.from (capture_square board.now x m) m.to king

@@ -27,6 +27,7 @@ use chess_core::man::{Colour, Kind, Man, Move};
 use chess_core::square::Square;
 
 // Whether a grasshopper or a nightrider of the colour stands on the board.
+#[tactic(auto, using(crate::proofs::attacks::Shielding::some_grasshopper, crate::proofs::attacks::Shielding::some_nightrider))]
 pub(crate) fn has_fairy(board: &Board, colour: Colour) -> bool
     ensures { result ≡ has_fairy board.now.men colour }
 {

@@ -19,6 +19,7 @@ pub(crate) struct Sight {
 }
 
 // The men that stand on the board.
+#[tactic(auto, using(crate::proofs::attacks::Seeing::seen_now))]
 pub(crate) fn sight_now(board: &Board) -> Sight
     ensures { (c : Colour) → AreSeen board.now.men board.now.men c result }
 {

@@ -8,6 +8,7 @@ ghost use Rattle.chess_core.specs.ties.Words.{word};
 use chess_core::square::Square;
 
 // The word of this square alone, or of none.
+#[tactic(auto, using(crate::proofs::Bits::word_only, crate::proofs::Bits::word_empty))]
 pub(crate) fn only(square: Option<Square>) -> u64
     ensures { result ≡ word (λ t. is_square square t) }
 {

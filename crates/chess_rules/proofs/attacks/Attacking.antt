@@ -1,32 +1,10 @@
 -- Attack looked for outward from the square.
-use Rattle.std.proofs.Common.{◌∷◌, ◌≡◌, ℕ, ◌-◌, ◌<◌, Bool, true, false, ◌&&◌, ◌||◌, ◌==◌, not, List, [], refl, sym, ap, ◌∙◌, arith, inl, inr, Option, Some, None, rules}
-use Rattle.std.specs.Int.{bit_at}
-use Rattle.std.specs.Int.Bits.{bit_or, bit_and}
-use Rattle.std.specs.List.{list_any, range_with_len}
-use Rattle.std.proofs.lemmas.Bool.{and_left, false_from_ne_true, false≢true}
-use Rattle.std.proofs.lemmas.List.Folds.{list_any-append}
-use Rattle.chess_core.specs.Position.{is_man, is_side, man_on, other, same_kind}
-use Rattle.chess_core.specs.Squares.{is_square, some_square}
-use Rattle.chess_core.specs.Steps.{along, diagonal_steps, queen_steps, straight_steps}
-use Rattle.chess_core.specs.ties.Words.{squares_of, word}
-use Rattle.chess_core.specs.declared.man.Colour.{Colour}
-use Rattle.chess_core.specs.declared.man.Kind.{Kind}
-use Rattle.chess_core.specs.declared.man.Kind.TheVariants.{King, Queen, Rook, Bishop, Knight, Pawn, Grasshopper, Nightrider}
-use Rattle.chess_core.specs.declared.man.Man.{Man}
-use Rattle.chess_core.specs.declared.step.Step.{Step}
-use Rattle.chess_core.proofs.Kept.{same_kind-is}
-use Rattle.chess_core.proofs.Men.{same_colour-true}
-use Rattle.chess_core.proofs.Ranges.{some_square_true, some_square_false}
-use Rattle.chess_core.proofs.Words.{squares_both, squares_either, squares_same}
-use Rattle.chess_rules.specs.Attacks.{attacked, faces, faces_its_like, paralysed, strikes}
-use Rattle.chess_rules.specs.ties.Lines.{is_ahead, is_on_some}
-use Rattle.chess_rules.specs.ties.Outward.{hopped_from, is_met}
-use Rattle.chess_rules.specs.ties.Shields.{is_reached}
-use Rattle.chess_rules.specs.Reaches.{is_clear, reaches, reaches_as, reaches_of, rides}
-use Rattle.chess_rules.specs.RuleSet.{RuleSet}
+use Rattle.chess_rules.proofs.Basics.{Bool, List, None, Option, Some, [], and_left, ap, arith, bit_and, bit_at, bit_or, false, false_from_ne_true, false≢true, inl, inr, list_any, list_any-append, not, range_with_len, refl, rules, sym, true, ℕ, ◌&&◌, ◌-◌, ◌<◌, ◌==◌, ◌||◌, ◌∙◌, ◌∷◌, ◌≡◌}
+use Rattle.chess_rules.proofs.Chess.{Bishop, Colour, Grasshopper, Kind, King, Knight, Man, Nightrider, Pawn, Queen, Rook, RuleSet, Step, along, any_range_cases, attacked, diagonal_steps, faces, faces_its_like, first_of_and, hopped_from, is_ahead, is_clear, is_man, is_on_some, is_reached, is_side, is_square, man_on, other, paralysed, queen_steps, reaches, reaches_as, reaches_of, rides, same_colour-true, same_kind, same_kind-is, second_of_and, some_square, some_square_false, some_square_true, squares_both, squares_either, squares_of, squares_same, straight_steps, strikes, word}
+use Rattle.chess_rules.specs.ties.Outward.{is_met}
 use Rattle.chess_rules.proofs.Bits.{not_zero, word_empty, word_has}
 use Rattle.chess_rules.proofs.rays.Flips.{diagonal-back, grasshopper-back, king-back, knight-back, nightrider-back, pawn-back, queen_rides-back, straight-back}
-use Rattle.chess_rules.proofs.Tests.{any_range_cases, first_of_and, second_of_and, any_kept}
+use Rattle.chess_rules.proofs.Tests.{any_kept}
 
 -- tests that agree on the squares
 pub some_square_same : (p q : ℕ → Bool) → ((s : ℕ) → s < 64 → p s ≡ q s) → some_square p ≡ some_square q

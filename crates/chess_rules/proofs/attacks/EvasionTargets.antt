@@ -1,20 +1,6 @@
 -- A move that goes to no square at which a check is met is not legal.
-use Rattle.std.proofs.Common.{◌≡◌, ℕ, ◌<◌, true, false, ◌==◌, Some, None, is_some, refl, ap, ◌∙◌, rules}
-use Rattle.std.specs.Int.{bit_at, bit_not, w64}
-use Rattle.std.specs.Int.Bits.{bit_or}
-use Rattle.std.proofs.lemmas.Bool.{and_parts}
-use Rattle.chess_core.specs.Position.{Position, man_on, same_kind}
-use Rattle.chess_core.specs.Squares.{is_square}
-use Rattle.chess_core.specs.WellFormed.{IsWellFormed}
-use Rattle.chess_core.specs.ties.Words.{word}
-use Rattle.chess_core.specs.declared.man.Kind.TheVariants.{King}
-use Rattle.chess_core.specs.declared.man.Man.{Man}
-use Rattle.chess_core.specs.declared.man.Move.{Move}
-use Rattle.chess_rules.specs.Attacks.{in_check}
-use Rattle.chess_rules.specs.ties.Evasions.{AreEvasionsFrom, AreEvasions}
-use Rattle.chess_rules.specs.Legal.{pseudo}
-use Rattle.chess_rules.specs.Play.{after, is_castling}
-use Rattle.chess_rules.specs.RuleSet.{RuleSet, is_circe}
+use Rattle.chess_rules.proofs.Basics.{None, Some, and_parts, ap, bit_at, bit_not, bit_or, false, is_some, refl, rules, true, w64, ℕ, ◌<◌, ◌==◌, ◌∙◌, ◌≡◌}
+use Rattle.chess_rules.proofs.Chess.{AreEvasions, AreEvasionsFrom, IsWellFormed, King, Man, Move, Position, RuleSet, after, in_check, is_castling, is_circe, is_square, man_on, pseudo, same_kind, word}
 use Rattle.chess_rules.proofs.giving_check.CheckTargets.{plain_elsewhere}
 use Rattle.chess_rules.proofs.attacks.StayingInCheck.{check_unmet}
 use Rattle.chess_rules.proofs.listing_moves.Targeting.{every_square_on, false_by, nobody_moves}

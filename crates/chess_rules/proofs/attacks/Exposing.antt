@@ -1,21 +1,7 @@
 -- Whether a move leaves its mover in check, told by the men that an attack sees after it.
-use Rattle.std.proofs.Common.{◌≡◌, ℕ, ◌<◌, Bool, true, false, ◌&&◌, ◌||◌, ◌==◌, not, List, Option, Some, None, is_some, refl, sym, ap, ◌∙◌, arith, inl, inr, rules}
-use Rattle.std.proofs.lemmas.Bool.{and_from, and_left, and_parts, and_right, cases_Bool, cases_eq, cond-false, cond-true, eq-eqb, false_from_ne_true, false≢true, not-true, or_parts}
-use Rattle.chess_core.specs.Position.{Position, is_man, is_side, king_square, man_on, other, same_colour, same_kind}
-use Rattle.chess_core.specs.Squares.{is_square, some_square}
-use Rattle.chess_core.specs.WellFormed.{IsWellFormed}
-use Rattle.chess_core.specs.ties.Words.{squares_of, word}
-use Rattle.chess_core.specs.declared.man.Colour.{Colour}
-use Rattle.chess_core.specs.declared.man.Kind.{Kind}
-use Rattle.chess_core.specs.declared.man.Kind.TheVariants.{King}
-use Rattle.chess_core.specs.declared.man.Man.{Man}
-use Rattle.chess_core.specs.declared.man.Move.{Move}
-use Rattle.chess_rules.specs.Attacks.{check_of, faces, faces_its_like, in_check, is_faced, paralysed}
-use Rattle.chess_rules.specs.Legal.{is_arrival_free, is_promotion_right, pseudo}
-use Rattle.chess_rules.specs.Play.{after, arriving, capture_square, is_castling}
-use Rattle.chess_rules.specs.Reaches.{reaches}
-use Rattle.chess_rules.specs.RuleSet.{RuleSet, is_circe, is_madrasi}
-use Rattle.chess_rules.specs.ties.Sight.{AreArrived, AreOthers, AreSeen, is_arriving_as, is_simple, king_after, own_after, sight_after}
+use Rattle.chess_rules.proofs.Basics.{Bool, List, None, Option, Some, and_from, and_left, and_parts, and_right, ap, arith, bit_at, cases_Bool, cases_eq, cond-false, cond-true, eq-eqb, false, false_from_ne_true, false≢true, inl, inr, is_some, not, not-true, or_parts, refl, rules, sym, true, ℕ, ◌&&◌, ◌<◌, ◌==◌, ◌||◌, ◌∙◌, ◌≡◌}
+use Rattle.chess_rules.proofs.Chess.{AreArrived, AreOthers, AreSeen, Colour, IsWellFormed, Kind, King, Man, Move, Position, RuleSet, after, arriving, capture_square, check_of, differs, faces, faces_its_like, in_check, is_arrival_free, is_castling, is_circe, is_faced, is_madrasi, is_man, is_promotion_right, is_side, is_simple, is_square, king_after, king_square, man_on, other, paralysed, pseudo, reaches, same_colour, same_colour-true, same_kind, sight_after, some_square, squares_both, squares_either, squares_not, squares_of, squares_same, word}
+use Rattle.chess_rules.specs.ties.Sight.{is_arriving_as, own_after}
 use Rattle.chess_rules.specs.declared.sight.Sight.{Sight}
 use Rattle.chess_rules.proofs.attacks.Attacking.{attacked_by}
 use Rattle.chess_rules.proofs.Bits.{not_zero, word_empty, word_has}
@@ -26,10 +12,6 @@ use Rattle.chess_rules.proofs.attacks.Seeing.{IsCapture, IsNoKing, kept_now, kin
 use Rattle.chess_rules.proofs.attacks.Shielding.{arriving_colour, king_is, moved_plainly, other_differs, simple_after}
 use Rattle.chess_rules.proofs.making_moves.Returns.{moved_arrival}
 use Rattle.chess_rules.proofs.making_moves.Stays.{colour_self, moved_sound}
-use Rattle.chess_rules.proofs.Tests.{differs}
-use Rattle.chess_core.proofs.Men.{same_colour-true}
-use Rattle.chess_core.proofs.Words.{squares_both, squares_either, squares_not, squares_same}
-use Rattle.std.specs.Int.{bit_at}
 
 -- the parts of a simple move
 pub record IsSimple (rule : RuleSet) (p : Position) (x : Man) (m : Move) : Type 0 where

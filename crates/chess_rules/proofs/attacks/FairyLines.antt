@@ -1,31 +1,13 @@
 -- Lines of grasshoppers and nightriders to a square: what stands elsewhere changes nothing on them.
-use Rattle.std.proofs.Common.{◌≡◌, ℕ, ◌⊎◌, ◌-◌, ◌<◌, ◌≤◌, Bool, true, false, ◌&&◌, ◌||◌, ◌==◌, not, List, [], ◌∷◌, Option, Some, None, refl, sym, ap, ◌∙◌, arith, inl, inr, rules}
-use Rattle.std.specs.Int.Bits.{bit_and, bit_or}
-use Rattle.std.specs.List.{list_any}
-use Rattle.std.proofs.lemmas.Bool.{and_from, and_left, and_right, eq-eqb, false_from_ne_true, false≢true, or_cases, or_left, or_parts, or_right}
-use Rattle.chess_core.specs.Position.{is_man, king_square, man_on, other}
-use Rattle.chess_core.specs.Squares.{is_square, some_square}
-use Rattle.chess_core.specs.Steps.{along, knight_steps, queen_steps}
-use Rattle.chess_core.specs.ties.Words.{squares_of, word}
-use Rattle.chess_core.specs.declared.man.Colour.{Colour}
-use Rattle.chess_core.specs.declared.man.Kind.{Kind}
-use Rattle.chess_core.specs.declared.man.Kind.TheVariants.{Grasshopper, Nightrider}
-use Rattle.chess_core.specs.declared.man.Man.{Man}
-use Rattle.chess_core.specs.declared.step.Step.{Step}
-use Rattle.chess_core.proofs.Ranges.{all_range_true, any_range_false, any_range_true, some_square_false, some_square_true}
-use Rattle.chess_core.proofs.Words.{squares_both, squares_either, squares_same}
-use Rattle.chess_rules.specs.Reaches.{hops, is_clear, is_occupied, is_vacant, rides}
-use Rattle.chess_rules.specs.declared.lines.Direction.{Direction}
-use Rattle.chess_rules.specs.declared.lines.Direction.TheVariants.{East, West, North, South, NorthEast, SouthEast, NorthWest, SouthWest, NorthNorthEast, SouthSouthEast, NorthNorthWest, SouthSouthWest, EastNorthEast, EastSouthEast, WestNorthWest, WestSouthWest}
-use Rattle.chess_rules.specs.ties.Lines.{is_ahead, place, ray, step_of}
-use Rattle.chess_rules.specs.ties.Shields.{has_fairy, is_lined, is_on_fairy_line, is_on_fairy_line_to, may_stand_between}
+use Rattle.chess_rules.proofs.Basics.{Bool, List, None, Option, Some, [], and_from, and_left, and_right, ap, arith, bit_and, bit_or, eq-eqb, false, false_from_ne_true, false≢true, inl, inr, list_any, not, or_cases, or_left, or_parts, or_right, refl, rules, sym, true, ℕ, ◌&&◌, ◌-◌, ◌<◌, ◌==◌, ◌||◌, ◌∙◌, ◌∷◌, ◌≡◌, ◌≤◌, ◌⊎◌}
+use Rattle.chess_rules.proofs.Chess.{Colour, Direction, East, EastNorthEast, EastSouthEast, Grasshopper, Kind, Man, Nightrider, North, NorthEast, NorthNorthEast, NorthNorthWest, NorthWest, South, SouthEast, SouthSouthEast, SouthSouthWest, SouthWest, Step, West, WestNorthWest, WestSouthWest, all_at, all_range_true, along, any_range_cases, any_range_false, any_range_true, first_of_and, has_fairy, hops, is_ahead, is_clear, is_lined, is_man, is_occupied, is_on_fairy_line, is_on_fairy_line_to, is_square, is_vacant, king_square, knight_steps, man_on, may_stand_between, other, place, queen_steps, ray, rides, second_of_and, some_square, some_square_false, some_square_true}
+use Rattle.chess_rules.proofs.Chess.{squares_both, squares_either, squares_of, squares_same, step_of, word}
 use Rattle.chess_rules.proofs.rays.Ahead.{ordered}
 use Rattle.chess_rules.proofs.attacks.Attacking.{some_square_same}
 use Rattle.chess_rules.proofs.Bits.{not_zero, word_empty}
 use Rattle.chess_rules.proofs.rays.Ends.{back, between, square_is, stays}
 use Rattle.chess_rules.proofs.rays.Flips.{backward}
 use Rattle.chess_rules.proofs.rays.Parting.{Frees}
-use Rattle.chess_rules.proofs.Tests.{all_at, any_range_cases, first_of_and, second_of_and}
 
 -- what is occupied among the first men is occupied among the others, b apart
 pub record Holds (men others : List (Option Man)) (b : ℕ) : Type 0 where

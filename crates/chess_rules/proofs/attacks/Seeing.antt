@@ -1,22 +1,7 @@
 -- The men that an attack sees once a move is made.
-use Rattle.std.proofs.Common.{◌≡◌, ◌≢◌, ℕ, ◌<◌, Bool, true, false, ◌&&◌, ◌||◌, not, List, length, Option, Some, None, is_some, refl, sym, ap, ◌∙◌, inl, inr, rules, arith}
-use Rattle.std.specs.Int.{bit_not, w64}
-use Rattle.std.specs.Int.Bits.{bit_and}
-use Rattle.std.proofs.lemmas.Bool.{and_left, and_right, cases_Bool, cases_eq, eq-eqb, eqb-true, false≢true, or_cases, or_from, or_left, or_parts, or_right}
-use Rattle.std.proofs.lemmas.List.{length-set}
-use Rattle.chess_core.specs.Position.{is_man, is_side, king_square, man_on, other, same_colour, same_kind, with_man, without_man}
-use Rattle.chess_core.specs.Squares.{is_square, squares}
-use Rattle.chess_core.specs.ties.Words.{squares_of, word}
-use Rattle.chess_core.specs.declared.man.Colour.{Colour}
-use Rattle.chess_core.specs.declared.man.Kind.{Kind}
-use Rattle.chess_core.specs.declared.man.Kind.TheVariants.{King}
-use Rattle.chess_core.specs.declared.man.Man.{Man}
-use Rattle.chess_core.proofs.Men.{man_on-with_other, man_on-without_other, man_on-without_same}
-use Rattle.chess_core.proofs.Words.{squares_both, squares_either, squares_not, squares_same}
-use Rattle.chess_rules.specs.Play.{without_at}
-use Rattle.chess_rules.specs.ties.Sight.{AreSeen, sight_after}
+use Rattle.chess_rules.proofs.Basics.{Bool, List, None, Option, Some, and_left, and_right, ap, arith, bit_and, bit_not, cases_Bool, cases_eq, eq-eqb, eqb-true, false, false≢true, inl, inr, is_some, length, length-set, not, or_cases, or_from, or_left, or_parts, or_right, refl, rules, sym, true, w64, ℕ, ◌&&◌, ◌<◌, ◌||◌, ◌∙◌, ◌≡◌, ◌≢◌}
+use Rattle.chess_rules.proofs.Chess.{AreSeen, Colour, Kind, King, Man, differs, is_man, is_side, is_square, king_square, man_on, man_on-with_other, man_on-without_other, man_on-without_same, other, same_colour, same_kind, sight_after, squares, squares_both, squares_either, squares_not, squares_of, squares_same, with_man, without_at, without_man, word}
 use Rattle.chess_rules.proofs.making_moves.Plays.{stays_empty}
-use Rattle.chess_rules.proofs.Tests.{differs}
 use Rattle.chess_rules.proofs.Bits.{every_square}
 
 pub and_true : (a : Bool) → (a && true) ≡ a

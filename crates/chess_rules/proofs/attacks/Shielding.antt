@@ -1,36 +1,11 @@
 -- A plain move from a square that a queen on the king's doesn't see opens no line to the king.
-use Rattle.std.proofs.Common.{◌≡◌, ◌≢◌, ℕ, ◌<◌, Bool, true, false, ◌&&◌, ◌||◌, ◌==◌, not, List, [], ◌∷◌, length, Option, Some, None, is_some, refl, sym, ap, ◌∙◌, arith, inl, inr, rules}
-use Rattle.std.specs.Int.{bit_at, bit_not, w64}
-use Rattle.std.specs.Int.Bits.{bit_or}
-use Rattle.std.specs.List.{list_any}
-use Rattle.std.proofs.lemmas.Bool.{and_from, and_parts, and_right, cases_Bool, cases_eq, cond-false, cond-true, eq-eqb, false_from_ne_true, false≢true, not-true, or_cases, or_left, or_parts, or_right}
-use Rattle.std.proofs.lemmas.List.Folds.{list_any-append}
-use Rattle.chess_core.specs.Position.{AtMostOneKing, Position, is_man, is_side, king_square, man_on, other, same_colour, same_kind}
-use Rattle.chess_core.specs.Squares.{is_square, squares}
-use Rattle.chess_core.specs.Steps.{diagonal_steps, knight_steps, queen_steps, straight_steps}
-use Rattle.chess_core.specs.WellFormed.{IsWellFormed}
-use Rattle.chess_core.specs.ties.Words.{squares_of, word}
-use Rattle.chess_core.specs.declared.man.Colour.{Colour}
-use Rattle.chess_core.specs.declared.man.Colour.TheVariants.{White, Black}
-use Rattle.chess_core.specs.declared.man.Kind.{Kind}
-use Rattle.chess_core.specs.declared.man.Kind.TheVariants.{King, Queen, Rook, Bishop, Pawn, Grasshopper, Nightrider}
-use Rattle.chess_core.specs.declared.man.Man.{Man}
-use Rattle.chess_core.specs.declared.man.Move.{Move}
-use Rattle.chess_core.specs.declared.step.Step.{Step}
-use Rattle.chess_core.proofs.Ranges.{find_square_some, some_square_false, some_square_true}
-use Rattle.chess_core.proofs.Words.{squares_either, squares_same}
-use Rattle.chess_rules.specs.Attacks.{attacked, check_of, in_check, paralysed, strikes}
-use Rattle.chess_rules.specs.ties.CheckSquares.{is_absent, may_check_from, may_check_from_on}
-use Rattle.chess_rules.specs.ties.Shields.{cannot_expose, rider_along, steps_along, has_fairy, is_behind, is_on_fairy_line, is_on_fairy_line_to, is_reached, is_shut, is_plain, may_expose, may_expose_on, may_stand_between}
-use Rattle.chess_rules.specs.Legal.{is_promotion_right, pseudo}
-use Rattle.chess_rules.specs.Play.{after, after_by, arriving, capture_square, is_castling, is_diagonal, man_on_at, moved_men, reborn_at, reborn_square}
-use Rattle.chess_rules.specs.ties.Lines.{is_on_some, step_of}
-use Rattle.chess_rules.specs.Reaches.{hops, is_vacant, reaches, reaches_as, rides}
-use Rattle.chess_rules.specs.RuleSet.{RuleSet, is_circe}
-use Rattle.chess_rules.specs.declared.lines.Direction.{Direction}
-use Rattle.chess_rules.specs.declared.lines.Direction.TheVariants.{East, West, North, South, NorthEast, SouthEast, NorthWest, SouthWest}
+use Rattle.chess_rules.proofs.Basics.{Bool, List, None, Option, Some, [], and_from, and_parts, and_right, ap, arith, bit_at, bit_not, bit_or, cases_Bool, cases_eq, cond-false, cond-true, eq-eqb, false, false_from_ne_true, false≢true, inl, inr, is_some, length, list_any, list_any-append, not, not-true, or_cases, or_left, or_parts, or_right, refl, rules, sym, true, w64, ℕ, ◌&&◌, ◌<◌, ◌==◌, ◌||◌, ◌∙◌, ◌∷◌, ◌≡◌, ◌≢◌}
+use Rattle.chess_rules.proofs.Chess.{AtMostOneKing, Bishop, Black, Colour, Direction, East, Grasshopper, IsWellFormed, Kind, King, Man, Move, Nightrider, North, NorthEast, NorthWest, Pawn, Position, Queen, Rook, RuleSet, South, SouthEast, SouthWest, Step, Straight, West, White, after, after_by, arriving, attacked, capture_square, check_of, diagonal_steps, differs, find_first, has_fairy, hops, in_check, is_absent, is_behind, is_castling, is_circe, is_diagonal, is_man, is_on_fairy_line, is_on_fairy_line_to, is_on_some, is_plain, is_promotion_right, is_reached, is_shut, is_side, is_square, is_vacant, king_square, knight_steps, man_on, man_on_at, may_check_from}
+use Rattle.chess_rules.proofs.Chess.{may_check_from_on, may_expose, may_expose_on, may_stand_between, moved_men, other, paralysed, pseudo, queen_steps, reaches, reaches_as, reborn_at, reborn_square, rider_along, rides, same_colour, same_kind, some_square_false, some_square_true, squares, squares_either, squares_of, squares_same, step_of, steps_along, straight_steps, strikes, word}
+use Rattle.chess_core.proofs.Ranges.{find_square_some}
+use Rattle.chess_rules.specs.ties.Shields.{cannot_expose}
 use Rattle.chess_rules.specs.declared.shields.RiderLines.{RiderLines}
-use Rattle.chess_rules.specs.declared.shields.RiderLines.TheVariants.{Straight, Diagonal}
+use Rattle.chess_rules.specs.declared.shields.RiderLines.TheVariants.{Diagonal}
 use Rattle.chess_rules.proofs.rays.Ends.{square_is}
 use Rattle.chess_rules.proofs.Bits.{not_zero, word_empty, word_has, every_square}
 use Rattle.chess_rules.proofs.attacks.FairyLines.{Holds, WasThere, fairy_parts, hopper_before, nightrider_before, once, ride_kept}
@@ -40,7 +15,7 @@ use Rattle.chess_rules.proofs.rays.Parting.{Frees, line_open}
 use Rattle.chess_rules.proofs.making_moves.Plays.{none_from_is_some}
 use Rattle.chess_rules.proofs.making_moves.Pseudo.{IsMade, made, on_board}
 use Rattle.chess_rules.proofs.making_moves.Stays.{maker}
-use Rattle.chess_rules.proofs.Tests.{any_kept, differs, find_first}
+use Rattle.chess_rules.proofs.Tests.{any_kept}
 use Rattle.chess_rules.proofs.attacks.Seeing.{gone_to, kept_now, left_now, there_now}
 use Rattle.chess_rules.proofs.attacks.Attacking.{goes_on}
 

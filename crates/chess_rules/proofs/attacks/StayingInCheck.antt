@@ -1,30 +1,7 @@
 -- A check that isn't met stays.
-use Rattle.std.proofs.Common.{◌≡◌, ◌≢◌, ℕ, ◌<◌, Bool, true, false, ◌&&◌, ◌==◌, not, List, Option, Some, None, refl, subst, sym, ap, ◌∙◌, arith, rules}
-use Rattle.std.specs.Int.{bit_at, bit_not, w64}
-use Rattle.std.specs.Int.Bits.{bit_and, bit_or}
-use Rattle.std.specs.List.{list_any}
-use Rattle.std.proofs.lemmas.Bool.{and_from, and_left, and_parts, eq-eqb, false≢true, or_left, or_parts, or_right}
-use Rattle.std.proofs.lemmas.List.Folds.{list_any-append}
-use Rattle.chess_core.specs.Position.{AtMostOneKing, Position, is_man, is_side, king_square, man_on, other, same_colour, same_kind}
-use Rattle.chess_core.specs.Squares.{is_square, squares}
-use Rattle.chess_core.specs.Steps.{queen_steps}
-use Rattle.chess_core.specs.WellFormed.{IsWellFormed}
-use Rattle.chess_core.specs.ties.Words.{word}
-use Rattle.chess_core.specs.declared.man.Colour.{Colour}
-use Rattle.chess_core.specs.declared.man.Kind.{Kind}
-use Rattle.chess_core.specs.declared.man.Kind.TheVariants.{King, Queen, Rook, Bishop, Grasshopper, Nightrider}
-use Rattle.chess_core.specs.declared.man.Man.{Man}
-use Rattle.chess_core.specs.declared.man.Move.{Move}
-use Rattle.chess_core.specs.declared.step.Step.{Step}
-use Rattle.chess_core.proofs.Ranges.{some_square_true}
-use Rattle.chess_core.proofs.Words.{squares_both, squares_either}
-use Rattle.chess_rules.specs.Attacks.{attacked, check_of, in_check, paralysed, strikes}
-use Rattle.chess_rules.specs.ties.Evasions.{is_fairy_man, AreEvasions, IsNoEvasion}
-use Rattle.chess_rules.specs.ties.Shields.{is_fairy, is_plain}
-use Rattle.chess_rules.specs.Legal.{is_arrival_free, pseudo}
-use Rattle.chess_rules.specs.Play.{after, arriving}
-use Rattle.chess_rules.specs.Reaches.{is_vacant, reaches, reaches_as, rides}
-use Rattle.chess_rules.specs.RuleSet.{RuleSet, is_madrasi}
+use Rattle.chess_rules.proofs.Basics.{Bool, List, None, Option, Some, and_from, and_left, and_parts, ap, arith, bit_and, bit_at, bit_not, bit_or, eq-eqb, false, false≢true, list_any, list_any-append, not, or_left, or_parts, or_right, refl, rules, subst, sym, true, w64, ℕ, ◌&&◌, ◌<◌, ◌==◌, ◌∙◌, ◌≡◌, ◌≢◌}
+use Rattle.chess_rules.proofs.Chess.{AreEvasions, AtMostOneKing, Bishop, Colour, Grasshopper, IsWellFormed, Kind, King, Man, Move, Nightrider, Position, Queen, Rook, RuleSet, Step, after, arriving, attacked, check_of, find_first, first_of_and, in_check, is_arrival_free, is_fairy, is_madrasi, is_man, is_plain, is_side, is_square, is_vacant, king_square, man_on, other, paralysed, pseudo, queen_steps, reaches, reaches_as, rides, same_colour, same_kind, second_of_and, some_square_true, squares, squares_both, squares_either, strikes, word}
+use Rattle.chess_rules.specs.ties.Evasions.{is_fairy_man, IsNoEvasion}
 use Rattle.chess_rules.proofs.Bits.{word_has, every_square}
 use Rattle.chess_rules.proofs.attacks.Shielding.{IsPlain, IsShift, arrived_shift, king_is, man_there, men_after, other_differs, plain_parts}
 use Rattle.chess_rules.proofs.making_moves.Fits.{arrived}
@@ -32,7 +9,6 @@ use Rattle.chess_rules.proofs.rays.Flips.{backward, opposed, rides_turned}
 use Rattle.chess_rules.proofs.rays.Parting.{line_open}
 use Rattle.chess_rules.proofs.making_moves.Pseudo.{made, on_board}
 use Rattle.chess_rules.proofs.making_moves.Stays.{after_well_formed}
-use Rattle.chess_rules.proofs.Tests.{find_first, first_of_and, second_of_and}
 
 -- what stood elsewhere stands there
 keeps : (men after : List (Option Man)) (a b : ℕ) (z : Man) (q : ℕ) (y : Man) → IsShift men after a b z → man_on men q ≡ Some y → q ≢ a → q ≢ b

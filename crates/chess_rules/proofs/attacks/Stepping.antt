@@ -1,22 +1,8 @@
 -- The men once a man has made a move and the enemy king a step, and what an attack then sees.
-use Rattle.std.proofs.Common.{◌≡◌, ◌≢◌, ℕ, ◌<◌, Bool, true, false, ◌&&◌, ◌||◌, ◌==◌, not, List, length, Option, Some, None, is_some, sym, ap, ◌∙◌, inl, inr, rules, arith}
-use Rattle.std.specs.Int.Bits.{bit_or}
-use Rattle.std.proofs.lemmas.Bool.{and_left, and_right, cases_Bool, cases_eq, eq-eqb, eqb-true, false_from_ne_true, or_from, or_left}
-use Rattle.std.proofs.lemmas.List.{length-set}
-use Rattle.chess_core.specs.Position.{is_man, is_side, man_on, same_colour, same_kind, without_man}
-use Rattle.chess_core.specs.Squares.{is_square}
-use Rattle.chess_core.specs.ties.Words.{squares_of, word}
-use Rattle.chess_core.specs.declared.man.Colour.{Colour}
-use Rattle.chess_core.specs.declared.man.Kind.{Kind}
-use Rattle.chess_core.specs.declared.man.Man.{Man}
-use Rattle.chess_core.proofs.Men.{man_on-with_other, man_on-without_other, man_on-without_same}
-use Rattle.chess_core.proofs.Words.{squares_both, squares_either, squares_not, squares_same}
-use Rattle.chess_rules.specs.ties.Flights.{sight_lifted, sight_with}
-use Rattle.chess_rules.specs.ties.Lines.{occupied_squares}
-use Rattle.chess_rules.specs.ties.Sight.{AreSeen}
+use Rattle.chess_rules.proofs.Basics.{Bool, List, None, Option, Some, and_left, and_right, ap, arith, bit_or, cases_Bool, cases_eq, eq-eqb, eqb-true, false, false_from_ne_true, inl, inr, is_some, length, length-set, not, or_from, or_left, rules, sym, true, ℕ, ◌&&◌, ◌<◌, ◌==◌, ◌||◌, ◌∙◌, ◌≡◌, ◌≢◌}
+use Rattle.chess_rules.proofs.Chess.{AreSeen, Colour, Kind, Man, differs, is_man, is_side, is_square, man_on, man_on-with_other, man_on-without_other, man_on-without_same, occupied_squares, same_colour, same_kind, sight_lifted, sight_with, squares_both, squares_either, squares_not, squares_of, squares_same, without_man, word}
 use Rattle.chess_rules.proofs.rays.Landing.{StandAlike}
 use Rattle.chess_rules.proofs.attacks.Seeing.{gone_to, is_occupied_after, kept_now, left_now, length-without_at, no_man, occupied_now, occupied_words, there_now}
-use Rattle.chess_rules.proofs.Tests.{differs}
 
 -- the men once z has come from a to b and the man on o is gone, and then x from k to t and the man on u is gone
 abbrev pub stepped : List (Option Man) → ℕ → Option ℕ → ℕ → Man → ℕ → Option ℕ → ℕ → Man → List (Option Man)

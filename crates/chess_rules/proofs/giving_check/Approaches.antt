@@ -1,21 +1,9 @@
 -- From where pawns come to a square: so many squares before it, or behind it.
-use Rattle.std.proofs.Common.{◌≡◌, ℕ, ◌+◌, ◌-◌, ◌*◌, ◌/◌, ◌%◌, ◌^◌, ◌<◌, ◌≤◌, Bool, true, not, ◌||◌, ◌==◌, refl, sym, ap, ◌∙◌, arith, inl, inr, rules}
-use Rattle.std.specs.Int.{bit_at}
-use Rattle.std.specs.Int.Bits.{bit_or}
-use Rattle.std.specs.List.{list_any}
+use Rattle.chess_rules.proofs.Basics.{Bool, agree_below_at, and_parts, ap, arith, bit_at, bit_or, eqb-true, inl, inr, list_any, not, or_cases, or_left, or_right, refl, rules, sym, true, ℕ, ◌%◌, ◌*◌, ◌+◌, ◌-◌, ◌/◌, ◌<◌, ◌==◌, ◌^◌, ◌||◌, ◌∙◌, ◌≡◌, ◌≤◌}
+use Rattle.chess_rules.proofs.Chess.{AreApproaches, Black, Colour, Pawn, Position, White, along, is_advance, leaps, may_go, pawn_captures, reaches_as}
 use Rattle.std.proofs.Math.Nat.{div-add-mod}
-use Rattle.std.proofs.lemmas.Bool.{agree_below_at, and_parts, eqb-true, or_cases, or_left, or_right}
 use Rattle.std.proofs.lemmas.Nat.{pow_pos, shr-shr}
 use Rattle.std.proofs.lemmas.Nat.Bits.{bit_at_cat_high, bit_at_cat_low}
-use Rattle.chess_core.specs.Position.{Position}
-use Rattle.chess_core.specs.Steps.{along, pawn_captures}
-use Rattle.chess_core.specs.declared.man.Colour.{Colour}
-use Rattle.chess_core.specs.declared.man.Colour.TheVariants.{Black, White}
-use Rattle.chess_core.specs.declared.man.Kind.TheVariants.{Pawn}
-use Rattle.chess_rules.specs.Reaches.{leaps, reaches_as}
-use Rattle.chess_rules.specs.ties.CheckSquares.{AreApproaches}
-use Rattle.chess_rules.specs.ties.Lines.{is_advance}
-use Rattle.chess_rules.specs.ties.Targets.{may_go}
 use Rattle.chess_rules.proofs.rays.OpenBoard.{advances}
 use Rattle.chess_rules.proofs.Tests.{implied}
 use Rattle.chess_rules.proofs.Bits.{on_left, on_right}

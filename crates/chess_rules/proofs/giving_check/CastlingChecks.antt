@@ -1,36 +1,8 @@
 -- Castling that uncovers no king gives check by its rook alone.
-use Rattle.std.proofs.Common.{◌≡◌, ◌≢◌, ℕ, ◌+◌, ◌-◌, ◌*◌, ◌/◌, ◌%◌, ◌^◌, ◌<◌, ◌≤◌, Bool, true, false, ◌&&◌, ◌||◌, ◌==◌, not, List, [], ◌∷◌, length, Option, Some, None, is_some, refl, sym, ap, ◌∙◌, arith, inl, inr, ◌⊎◌, rules}
-use Rattle.std.specs.Int.{bit_at}
-use Rattle.std.specs.Int.Bits.{bit_and, bit_or}
-use Rattle.std.specs.List.{list_all, list_any, range_with_len}
-use Rattle.std.proofs.lemmas.Bool.{agree_below, agree_below_at, and_from, and_left, and_parts, cond-false, cond-true, cases_eq, eq-eqb, eqb-true, false_from_ne_true, false≢true, or_cases, or_left, or_parts}
-use Rattle.std.proofs.lemmas.List.{length-set}
-use Rattle.chess_core.specs.ties.Words.{word}
-use Rattle.chess_core.proofs.Boards.{along-is}
-use Rattle.chess_core.specs.Position.{Position, is_man, is_side, king_square, man_on, other, same_colour, same_kind, with_man, without_man}
-use Rattle.chess_core.specs.Squares.{is_square, squares}
-use Rattle.chess_core.specs.Steps.{along, queen_steps, straight_steps}
-use Rattle.chess_core.specs.WellFormed.{IsWellFormed, is_vacant_at}
-use Rattle.chess_core.specs.declared.man.Colour.{Colour}
-use Rattle.chess_core.specs.declared.man.Kind.{Kind}
-use Rattle.chess_core.specs.declared.man.Kind.TheVariants.{King, Queen, Rook, Bishop, Pawn, Grasshopper, Nightrider}
-use Rattle.chess_core.specs.declared.man.Man.{Man}
-use Rattle.chess_core.specs.declared.man.Move.{Move}
-use Rattle.chess_core.specs.declared.step.Step.{Step}
-use Rattle.chess_core.proofs.Men.{man_on-with_same}
-use Rattle.chess_core.proofs.Ranges.{some_square_false, some_square_true}
-use Rattle.chess_rules.specs.Attacks.{check_of, in_check}
-use Rattle.chess_rules.specs.ties.CheckSquares.{AreCastlingTargets, enemy, is_absent, may_check_from, may_check_from_on}
-use Rattle.chess_rules.specs.Legal.{castles, may_castle, squares_between}
-use Rattle.chess_rules.specs.ties.Lines.{is_ahead, is_aside, is_on_some, step_of}
-use Rattle.chess_rules.specs.Play.{after, arriving, capture_square, corner, halfway, is_castling, is_diagonal, moved_men, without_at}
-use Rattle.chess_rules.specs.Reaches.{hops, is_clear, reaches, reaches_as, rides}
-use Rattle.chess_rules.specs.RuleSet.{RuleSet}
-use Rattle.chess_rules.specs.ties.Targets.{steps_to}
-use Rattle.chess_rules.specs.ties.Shields.{is_on_fairy_line, is_on_fairy_line_to, is_reached, may_expose, may_expose_on, may_stand_between}
-use Rattle.chess_rules.specs.declared.checks.CheckSquares.{CheckSquares}
-use Rattle.chess_rules.specs.declared.lines.Direction.{Direction}
-use Rattle.chess_rules.specs.declared.lines.Direction.TheVariants.{East, West, North, South, NorthEast, SouthEast, NorthWest, SouthWest}
+use Rattle.chess_rules.proofs.Basics.{Bool, List, None, Option, Some, [], agree_below, agree_below_at, and_from, and_left, and_parts, ap, arith, bit_and, bit_at, bit_or, cases_eq, cond-false, cond-true, eq-eqb, eqb-true, false, false_from_ne_true, false≢true, inl, inr, is_some, length, length-set, list_all, list_any, not, or_cases, or_left, or_parts, range_with_len, refl, rules, sym, true, ℕ, ◌%◌, ◌&&◌, ◌*◌, ◌+◌, ◌-◌, ◌/◌, ◌<◌, ◌==◌, ◌^◌, ◌||◌, ◌∙◌, ◌∷◌, ◌≡◌, ◌≢◌, ◌≤◌, ◌⊎◌}
+use Rattle.chess_rules.proofs.Chess.{AreCastlingTargets, Bishop, CheckSquares, Colour, Direction, East, Grasshopper, IsWellFormed, Kind, King, Man, Move, Nightrider, North, NorthEast, NorthWest, Pawn, Position, Queen, Rook, RuleSet, South, SouthEast, SouthWest, Step, Straight, West, after, all_at, along, along-is, arriving, capture_square, castles, check_of, corner, find_first, halfway, hops, in_check, is_absent, is_ahead, is_aside, is_castling, is_clear, is_diagonal, is_man, is_on_fairy_line, is_on_fairy_line_to, is_on_some, is_reached, is_side, is_square, is_vacant_at, king_square, man_on, man_on-with_same, may_castle, may_check_from, may_check_from_on, may_expose}
+use Rattle.chess_rules.proofs.Chess.{may_expose_on, may_stand_between, moved_men, other, queen_steps, reaches, reaches_as, rides, same_colour, same_kind, some_square_false, some_square_true, squares, squares_between, step_of, steps_to, straight_steps, with_man, without_at, without_man, word}
+use Rattle.chess_rules.specs.ties.CheckSquares.{enemy}
 use Rattle.chess_rules.proofs.rays.Ahead.{onward, passes}
 use Rattle.chess_rules.proofs.Bits.{word_has, off_left, off_right}
 use Rattle.chess_rules.proofs.making_moves.Castles.{no_man}
@@ -39,11 +11,10 @@ use Rattle.chess_rules.proofs.attacks.FairyLines.{Holds, IsBeside, IsNoHurdle, h
 use Rattle.chess_rules.proofs.making_moves.Fits.{arrived, castle_of, corner_stays, king_no_step, no_capture}
 use Rattle.chess_rules.proofs.rays.Parting.{Frees}
 use Rattle.chess_rules.proofs.attacks.Exposing.{king_stays_king}
-use Rattle.chess_rules.specs.declared.shields.RiderLines.TheVariants.{Straight}
 use Rattle.chess_rules.proofs.making_moves.Pseudo.{IsCastle, IsMade, king_is_no_pawn, ways}
 use Rattle.chess_rules.proofs.attacks.Shielding.{IsCovered, IsShift, covered_parts, frees, gone_shift, king_is, man_there, not_attacked, line_before, not_parted, stood, unreached, unreborn_after}
 use Rattle.chess_rules.proofs.listing_moves.Targeting.{castling_steps}
-use Rattle.chess_rules.proofs.Tests.{all_at, any_kept, find_first, implied}
+use Rattle.chess_rules.proofs.Tests.{any_kept, implied}
 use Rattle.chess_rules.proofs.listing_moves.Walks.{off_second}
 use Rattle.chess_rules.proofs.giving_check.Approaches.{bit_down, bit_up}
 use Rattle.chess_rules.proofs.attacks.Attacking.{goes_on}

@@ -1,28 +1,9 @@
 -- A move that goes to no square from which its man may give check gives none.
-use Rattle.std.proofs.Common.{◌≡◌, ℕ, ◌+◌, ◌/◌, ◌<◌, true, false, ◌||◌, ◌==◌, not, Option, Some, None, is_some, refl, sym, ap, ◌∙◌, arith, inl, inr, rules}
-use Rattle.std.specs.Int.{bit_at, bit_not, w64}
-use Rattle.std.specs.Int.Bits.{bit_and, bit_or}
-use Rattle.std.proofs.lemmas.Bool.{agree_below_at, and_left, and_parts, and_right, cases_Bool, false≢true}
-use Rattle.chess_core.specs.Position.{Position, man_on, other, same_colour, same_kind}
-use Rattle.chess_core.specs.Squares.{is_square, rank_of}
-use Rattle.chess_core.specs.WellFormed.{IsWellFormed}
-use Rattle.chess_core.specs.ties.Words.{word}
-use Rattle.chess_core.specs.declared.man.Colour.{Colour}
-use Rattle.chess_core.specs.declared.man.Colour.TheVariants.{White, Black}
-use Rattle.chess_core.specs.declared.man.Kind.{Kind}
-use Rattle.chess_core.specs.declared.man.Kind.TheVariants.{King, Pawn, Rook}
-use Rattle.chess_core.specs.declared.man.Man.{Man}
-use Rattle.chess_core.specs.declared.man.Move.{Move}
-use Rattle.chess_rules.specs.declared.checks.CheckSquares.{CheckSquares}
-use Rattle.chess_rules.specs.Attacks.{in_check}
-use Rattle.chess_rules.specs.ties.CheckSquares.{AreCastlingTargets, AreCheckSquares, AreCheckTargets, check_squares_for, enemy, may_check_from, are_rebirths_quiet}
-use Rattle.chess_rules.specs.ties.Shields.{cannot_expose, is_plain, may_expose, may_stand_between}
-use Rattle.chess_rules.specs.Legal.{last_rank, legal, pseudo}
-use Rattle.chess_rules.specs.Play.{after, arriving, halfway, is_castling}
-use Rattle.chess_rules.specs.RuleSet.{RuleSet, circe, is_circe, orthodox}
-use Rattle.chess_rules.specs.ties.Targets.{arrives, is_arrival, may_go}
+use Rattle.chess_rules.proofs.Basics.{None, Option, Some, agree_below_at, and_left, and_parts, and_right, ap, arith, bit_and, bit_at, bit_not, bit_or, cases_Bool, false, false≢true, inl, inr, is_some, not, refl, rules, sym, true, w64, ℕ, ◌+◌, ◌/◌, ◌<◌, ◌==◌, ◌||◌, ◌∙◌, ◌≡◌}
+use Rattle.chess_rules.proofs.Chess.{AreCastlingTargets, AreCheckSquares, AreCheckTargets, Black, CheckSquares, Colour, IsWellFormed, Kind, King, Man, Move, Pawn, Position, Rook, RuleSet, White, after, are_rebirths_quiet, arrives, arriving, check_squares_for, circe, halfway, in_check, is_arrival, is_aside, is_castling, is_circe, is_plain, is_square, last_rank, legal, man_on, may_check_from, may_expose, may_go, may_stand_between, orthodox, other, pseudo, rank_of, same_colour, same_kind, word}
+use Rattle.chess_rules.specs.ties.CheckSquares.{enemy}
+use Rattle.chess_rules.specs.ties.Shields.{cannot_expose}
 use Rattle.chess_rules.proofs.listing_moves.Arrivals.{may_go_aimed}
-use Rattle.chess_rules.specs.ties.Lines.{is_aside}
 use Rattle.chess_rules.proofs.Bits.{word_has, off_left, off_right}
 use Rattle.chess_rules.proofs.listing_moves.Calls.{pseudo-from_legal}
 use Rattle.chess_rules.proofs.giving_check.CastlingChecks.{castling_aside, castling_gives_no_check}

@@ -1,28 +1,8 @@
 -- The squares from which a move may give check, by kinds.
-use Rattle.std.proofs.Common.{◌≡◌, ℕ, ◌<◌, ◌==◌, ◌&&◌, ◌||◌, Bool, true, false, not, List, Option, Some, None, refl, sym, ap, ◌∙◌, arith, inl, inr}
-use Rattle.std.specs.Int.{bit_at, bit_not, w64}
-use Rattle.std.specs.Int.Bits.{bit_or}
-use Rattle.std.proofs.lemmas.Bool.{or_left, cases_Bool, false≢true}
-use Rattle.std.proofs.lemmas.List.Folds.{list_any-append}
-use Rattle.chess_core.specs.Position.{Position, is_man, king_square, man_on, other, same_kind}
-use Rattle.chess_core.specs.Steps.{diagonal_steps, straight_steps}
-use Rattle.chess_core.specs.WellFormed.{IsWellFormed}
-use Rattle.chess_core.specs.ties.Words.{squares_of, word}
-use Rattle.chess_core.specs.declared.man.Colour.{Colour}
-use Rattle.chess_core.specs.declared.man.Colour.TheVariants.{White, Black}
-use Rattle.chess_core.specs.declared.man.Kind.{Kind}
-use Rattle.chess_core.specs.declared.man.Kind.TheVariants.{King, Queen, Rook, Bishop, Knight, Pawn, Grasshopper, Nightrider}
-use Rattle.chess_core.specs.declared.man.Man.{Man}
-use Rattle.chess_core.specs.declared.man.Move.{Move}
-use Rattle.chess_core.proofs.Words.{squares_either, squares_same}
-use Rattle.chess_rules.specs.declared.checks.CheckSquares.{CheckSquares}
-use Rattle.chess_rules.specs.Attacks.{in_check}
-use Rattle.chess_rules.specs.ties.CheckSquares.{AreCheckSquares, enemy, is_absent, may_check_from, may_check_from_on, check_squares_for}
-use Rattle.chess_rules.specs.ties.Shields.{cannot_expose, is_fairy}
-use Rattle.chess_rules.specs.Legal.{pseudo}
-use Rattle.chess_rules.specs.Play.{after, arriving}
-use Rattle.chess_rules.specs.Reaches.{reaches_as, rides}
-use Rattle.chess_rules.specs.RuleSet.{RuleSet}
+use Rattle.chess_rules.proofs.Basics.{Bool, List, None, Option, Some, ap, arith, bit_at, bit_not, bit_or, cases_Bool, false, false≢true, inl, inr, list_any-append, not, or_left, refl, sym, true, w64, ℕ, ◌&&◌, ◌<◌, ◌==◌, ◌||◌, ◌∙◌, ◌≡◌}
+use Rattle.chess_rules.proofs.Chess.{AreCheckSquares, Bishop, Black, CheckSquares, Colour, Grasshopper, IsWellFormed, Kind, King, Knight, Man, Move, Nightrider, Pawn, Position, Queen, Rook, RuleSet, White, after, arriving, check_squares_for, diagonal_steps, in_check, is_absent, is_fairy, is_man, king_square, man_on, may_check_from, may_check_from_on, other, pseudo, reaches_as, rides, same_kind, squares_either, squares_of, squares_same, straight_steps, word}
+use Rattle.chess_rules.specs.ties.CheckSquares.{enemy}
+use Rattle.chess_rules.specs.ties.Shields.{cannot_expose}
 use Rattle.chess_rules.proofs.Bits.{not_zero, word_empty, word_has, every_square}
 use Rattle.chess_rules.proofs.attacks.Shielding.{arriving_colour, gives_no_check}
 use Rattle.chess_rules.proofs.making_moves.Pseudo.{made}

@@ -1,13 +1,6 @@
 -- Lists of legal moves of which one doesn't mate.
-use Rattle.std.proofs.Common.{◌≡◌, Bool, true, false, ◌&&◌, not, List, ◌∷◌, refl, sym, arith}
-use Rattle.std.specs.List.{list_all}
-use Rattle.chess_core.specs.Position.{Position, other}
-use Rattle.chess_core.specs.declared.man.Move.{Move}
-use Rattle.chess_rules.specs.Attacks.{in_check}
-use Rattle.chess_rules.specs.Legal.{legal}
-use Rattle.chess_rules.specs.ties.Places.{is_mating, mates}
-use Rattle.chess_rules.specs.Play.{after}
-use Rattle.chess_rules.specs.RuleSet.{RuleSet}
+use Rattle.chess_rules.proofs.Basics.{Bool, List, arith, false, list_all, not, refl, sym, true, ◌&&◌, ◌∷◌, ◌≡◌}
+use Rattle.chess_rules.proofs.Chess.{Move, Position, RuleSet, after, in_check, is_mating, legal, mates, other}
 use Rattle.chess_rules.proofs.listing_moves.Calls.{pseudo-from_legal}
 use Rattle.chess_rules.proofs.giving_check.Mating.{no_mate_quietly}
 

@@ -1,22 +1,8 @@
 -- Men who couldn't come to a check square give no check.
-use Rattle.std.proofs.Common.{◌≡◌, ℕ, zero, suc, ◌-◌, ◌^◌, ◌<◌, true, false, ◌==◌, Option, Some, None, min, ap, refl, subst, sym, ◌∙◌, arith}
-use Rattle.std.specs.Int.{bit_at, bit_not, w64}
-use Rattle.std.specs.Int.Bits.{bit_and, bit_or}
-use Rattle.std.proofs.lemmas.Bool.{and_parts, cases_Bool, eq-eqb, eqb-true, false≢true}
-use Rattle.std.proofs.lemmas.Nat.Bits.{bit_at_and, bit_at_not, bit_at_or, bit_at-lt}
-use Rattle.chess_core.specs.Position.{Position, is_man, man_on, same_colour, same_kind}
-use Rattle.chess_core.specs.Squares.{is_square}
-use Rattle.chess_core.specs.ties.Words.{side_of, squares_of, word}
-use Rattle.chess_core.specs.declared.man.Colour.{Colour}
-use Rattle.chess_core.specs.declared.man.Kind.{Kind}
-use Rattle.chess_core.specs.declared.man.Man.{Man}
-use Rattle.chess_core.specs.declared.man.Move.{Move}
-use Rattle.chess_core.proofs.Kept.{same_kind-is}
-use Rattle.chess_core.proofs.Men.{same_colour-true}
-use Rattle.chess_rules.specs.Legal.{pseudo}
-use Rattle.chess_rules.specs.RuleSet.{RuleSet}
-use Rattle.chess_rules.specs.ties.CheckSquares.{AreApproaches, AreCheckOrigins, AreCheckTargets}
-use Rattle.chess_rules.specs.ties.Targets.{may_go, is_arrival}
+use Rattle.chess_rules.proofs.Basics.{None, Option, Some, and_parts, ap, arith, bit_and, bit_at, bit_at-lt, bit_at_and, bit_at_or, bit_not, bit_or, cases_Bool, eq-eqb, eqb-true, false, false≢true, refl, subst, suc, sym, true, w64, zero, ℕ, ◌-◌, ◌<◌, ◌==◌, ◌^◌, ◌∙◌, ◌≡◌}
+use Rattle.chess_rules.proofs.Chess.{AreApproaches, AreCheckOrigins, AreCheckTargets, Colour, Kind, Man, Move, Position, RuleSet, is_arrival, is_man, is_square, man_on, may_go, pseudo, same_colour, same_colour-true, same_kind, same_kind-is, side_of, squares_of, word}
+use Rattle.std.proofs.Common.{min}
+use Rattle.std.proofs.lemmas.Nat.Bits.{bit_at_not}
 use Rattle.chess_rules.proofs.listing_moves.Arrivals.{may_go_aimed}
 use Rattle.chess_rules.proofs.Bits.{word_has}
 use Rattle.chess_rules.proofs.giving_check.CheckTargets.{check_targets_there}

@@ -1,32 +1,9 @@
 -- A flight after a move, told by the men that an attack on it sees.
-use Rattle.std.proofs.Common.{◌≡◌, ◌≢◌, ℕ, zero, suc, ◌+◌, ◌*◌, ◌<◌, Bool, true, false, ◌&&◌, ◌||◌, ◌==◌, not, List, length, Option, Some, None, is_some, IfSome, refl, sym, ap, ◌∙◌, arith, inl, inr, rules}
-use Rattle.std.specs.Int.{bit_at, bit_not, w64}
-use Rattle.std.specs.Int.Bits.{bit_and, bit_or}
-use Rattle.std.specs.List.{list_any}
-use Rattle.std.proofs.lemmas.Bool.{and_from, and_left, and_parts, and_right, cases_Bool, cases_eq, cond-false, cond-true, eq-eqb, eqb-true, false_from_ne_true, false≢true, not-true, or_left, or_parts}
-use Rattle.std.proofs.lemmas.Nat.Bits.{bit_at-lt, bit_at-zero, bit_at_and}
-use Rattle.chess_core.specs.Position.{Position, is_man, is_side, king_square, man_on, other, same_colour, same_kind, without_man}
-use Rattle.chess_core.specs.Squares.{is_square, some_square, squares}
-use Rattle.chess_core.specs.WellFormed.{IsWellFormed}
-use Rattle.chess_core.specs.ties.Words.{side_of, squares_of, word}
-use Rattle.chess_core.specs.Steps.{queen_steps}
-use Rattle.chess_core.specs.declared.man.Colour.{Colour}
-use Rattle.chess_core.specs.declared.man.Colour.TheVariants.{White, Black}
-use Rattle.chess_core.specs.declared.man.Kind.TheVariants.{King, Pawn}
-use Rattle.chess_core.specs.declared.man.Man.{Man}
-use Rattle.chess_core.specs.declared.man.Move.{Move}
-use Rattle.chess_core.proofs.Men.{same_colour-true}
-use Rattle.chess_core.proofs.Ranges.{any_range_false, some_square_false, some_square_true}
-use Rattle.chess_core.proofs.Words.{squares_both, squares_either, squares_not}
-use Rattle.chess_rules.specs.Attacks.{attacked, is_faced, paralysed, strikes}
-use Rattle.chess_rules.specs.ties.Flights.{AreOpen, IsSeenFrom, has_flight, is_flight, is_flight_from, is_open, sight_lifted, sight_with}
-use Rattle.chess_rules.specs.Legal.{is_arrival_free, is_goal, is_nil, legal, moves, pseudo}
-use Rattle.chess_rules.specs.ties.Lines.{occupied_squares}
-use Rattle.chess_rules.specs.ties.Places.{mates, moves_behind, triple_at}
-use Rattle.chess_rules.specs.Play.{after, arriving, capture_square}
-use Rattle.chess_rules.specs.Reaches.{leaps, reaches, reaches_as, reaches_of}
-use Rattle.chess_rules.specs.RuleSet.{RuleSet, is_circe, is_madrasi}
-use Rattle.chess_rules.specs.ties.Sight.{AreSeen, king_after}
+use Rattle.chess_rules.proofs.Basics.{Bool, List, None, Option, Some, and_from, and_left, and_parts, and_right, ap, arith, bit_and, bit_at, bit_at-lt, bit_at-zero, bit_at_and, bit_not, bit_or, cases_Bool, cases_eq, cond-false, cond-true, eq-eqb, eqb-true, false, false_from_ne_true, false≢true, inl, inr, is_some, length, list_any, not, not-true, or_left, or_parts, refl, rules, suc, sym, true, w64, zero, ℕ, ◌&&◌, ◌*◌, ◌+◌, ◌<◌, ◌==◌, ◌||◌, ◌∙◌, ◌≡◌, ◌≢◌}
+use Rattle.chess_rules.proofs.Chess.{AreOpen, AreSeen, Black, Colour, IsWellFormed, King, Man, Move, Pawn, Position, RuleSet, White, after, any_range_cases, any_range_false, arriving, attacked, capture_square, differs, first_of_and, is_arrival_free, is_circe, is_faced, is_goal, is_madrasi, is_man, is_nil, is_side, is_square, king_after, king_square, leaps, legal, man_on, mates, moves, moves_behind, occupied_squares, other, paralysed, pseudo, queen_steps, reaches, reaches_as, reaches_of, same_colour, same_colour-true, same_kind, side_of, sight_lifted, sight_with, some_square, some_square_false, some_square_true, squares, squares_both, squares_either, squares_not}
+use Rattle.chess_rules.proofs.Chess.{squares_of, strikes, triple_at, without_man, word}
+use Rattle.std.proofs.Common.{IfSome}
+use Rattle.chess_rules.specs.ties.Flights.{IsSeenFrom, has_flight, is_flight, is_flight_from, is_open}
 use Rattle.chess_rules.proofs.Bits.{word_has}
 use Rattle.chess_rules.proofs.giving_check.Checking.{other_twice}
 use Rattle.chess_rules.proofs.attacks.Exposing.{IsSimple, check_is}
@@ -41,7 +18,6 @@ use Rattle.chess_rules.proofs.attacks.Shielding.{arriving_colour, man_there, oth
 use Rattle.chess_rules.proofs.attacks.StayingInCheck.{king_there}
 use Rattle.chess_rules.proofs.making_moves.Stays.{after_well_formed}
 use Rattle.chess_rules.proofs.attacks.Stepping.{IsStep, arrival_alike, lifted_alike, lifted_words, occupied_lifted, same_elsewhere, seen_stepped, stands_arrived, stepped}
-use Rattle.chess_rules.proofs.Tests.{any_range_cases, differs, first_of_and}
 use Rattle.chess_rules.proofs.listing_moves.Walks.{on_first}
 
 -- a legal move is one of the moves

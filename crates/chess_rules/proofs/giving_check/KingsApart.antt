@@ -1,24 +1,6 @@
 -- A king who goes next to the other king is in check there: no legal move does so.
-use Rattle.std.proofs.Common.{◌≡◌, ◌≢◌, ℕ, ◌<◌, Bool, true, false, ◌||◌, not, List, Option, Some, None, refl, sym, ap, ◌∙◌, inl, inr, arith}
-use Rattle.std.specs.List.{list_any}
-use Rattle.std.proofs.lemmas.Bool.{and_from, and_left, and_parts, cases_Bool, false_from_ne_true, false≢true, not-true}
-use Rattle.chess_core.specs.Position.{Position, is_man, is_side, king_square, man_on, other, same_colour, same_kind, without_man}
-use Rattle.chess_core.specs.Steps.{queen_steps}
-use Rattle.chess_core.specs.WellFormed.{IsWellFormed}
-use Rattle.chess_core.specs.declared.man.Colour.{Colour}
-use Rattle.chess_core.specs.declared.man.Kind.TheVariants.{King}
-use Rattle.chess_core.specs.declared.man.Man.{Man}
-use Rattle.chess_core.specs.declared.man.Move.{Move}
-use Rattle.chess_core.proofs.Men.{man_on-with_other, man_on-without_other}
-use Rattle.chess_core.proofs.Ranges.{some_square_true}
-use Rattle.chess_rules.specs.Attacks.{attacked, check_of, in_check, strikes}
-use Rattle.chess_rules.specs.Legal.{legal, pseudo}
-use Rattle.chess_rules.specs.Play.{after, capture_square, corner, halfway, is_castling, man_on_at, moved_men, put_at, reborn_square}
-use Rattle.chess_rules.specs.Reaches.{leaps, reaches_as}
-use Rattle.chess_rules.specs.RuleSet.{RuleSet}
-use Rattle.chess_rules.specs.ties.CheckSquares.{is_absent, may_check_from, may_check_from_on}
-use Rattle.chess_rules.specs.ties.Playing.{CanCastle}
-use Rattle.chess_rules.specs.ties.Shields.{is_fairy}
+use Rattle.chess_rules.proofs.Basics.{Bool, List, None, Option, Some, and_from, and_left, and_parts, ap, arith, cases_Bool, false, false_from_ne_true, false≢true, inl, inr, list_any, not, not-true, refl, sym, true, ℕ, ◌<◌, ◌||◌, ◌∙◌, ◌≡◌, ◌≢◌}
+use Rattle.chess_rules.proofs.Chess.{CanCastle, Colour, IsWellFormed, King, Man, Move, Position, RuleSet, after, attacked, capture_square, check_of, corner, halfway, in_check, is_absent, is_castling, is_fairy, is_man, is_side, king_square, leaps, legal, man_on, man_on-with_other, man_on-without_other, man_on_at, may_check_from, may_check_from_on, moved_men, other, pseudo, put_at, queen_steps, reaches_as, reborn_square, same_colour, same_kind, some_square_true, strikes, without_man}
 use Rattle.chess_rules.proofs.listing_moves.Calls.{pseudo-from_legal}
 use Rattle.chess_rules.proofs.attacks.Exposing.{king_stays_king}
 use Rattle.chess_rules.proofs.making_moves.Fits.{arrived, arrived_other, can_move, kind_is_king, taken}

@@ -1,16 +1,8 @@
 -- The moves that mate, by their numbers.
-use Rattle.std.proofs.Common.{◌≡◌, ℕ, zero, suc, ◌+◌, ◌-◌, ◌<◌, ◌≤◌, Bool, true, false, ◌&&◌, not, [], ◌∷◌, refl, sym, ap, ◌∙◌, arith, inl, inr, rules}
-use Rattle.std.proofs.lemmas.Bool.{and_left, cases_lt, cases_Bool, and_right}
-use Rattle.chess_core.specs.Position.{Position, other}
-use Rattle.chess_core.specs.declared.man.Move.{Move}
-use Rattle.chess_rules.specs.Attacks.{in_check}
-use Rattle.chess_rules.specs.Legal.{is_goal, legal, pseudo}
-use Rattle.chess_rules.specs.ties.Places.{HaveNone, mates, mates_behind, triple_at}
-use Rattle.chess_rules.specs.Play.{after, after_by}
-use Rattle.chess_rules.specs.RuleSet.{RuleSet}
+use Rattle.chess_rules.proofs.Basics.{Bool, [], and_left, and_right, ap, arith, cases_Bool, cases_lt, false, inl, inr, not, refl, rules, suc, sym, true, zero, ℕ, ◌&&◌, ◌+◌, ◌-◌, ◌<◌, ◌∙◌, ◌∷◌, ◌≡◌, ◌≤◌}
+use Rattle.chess_rules.proofs.Chess.{HaveNone, Move, Position, RuleSet, after, after_by, first_of_and, in_check, is_goal, legal, mates, mates_behind, other, pseudo, second_of_and, triple_at}
 use Rattle.chess_rules.proofs.listing_moves.Places.{moves_behind-end, moves_behind-here, moves_behind-skip, not_pseudo}
 use Rattle.chess_rules.proofs.making_moves.Stays.{maker}
-use Rattle.chess_rules.proofs.Tests.{first_of_and, second_of_and}
 use Rattle.chess_rules.proofs.listing_moves.Calls.{pseudo-from_legal}
 
 pub mates_behind-here : (rule : RuleSet) (p : Position) (n : ℕ) → n < 28672 → mates rule p (triple_at n) ≡ true

@@ -1,34 +1,16 @@
 -- A man who is reborn gives his own king no check, but as a grasshopper's hurdle.
-use Rattle.std.proofs.Common.{◌≡◌, ℕ, ◌-◌, ◌<◌, true, false, ◌&&◌, ◌==◌, not, List, length, Option, Some, None, is_some, refl, sym, ap, ◌∙◌, arith, inl, inr}
-use Rattle.std.specs.Int.{bit_at}
-use Rattle.std.specs.List.{list_all, list_any, range_with_len}
-use Rattle.std.proofs.lemmas.Bool.{and_from, and_parts, cases_Bool, cond-false, cond-true, false_from_ne_true, false≢true, not-true}
-use Rattle.chess_core.specs.Position.{AtMostOneKing, Position, is_man, is_side, king_square, man_on, other, same_colour, same_kind, with_man, without_man}
-use Rattle.chess_core.specs.Squares.{is_square, squares}
-use Rattle.chess_core.specs.Steps.{along, diagonal_steps, knight_steps, queen_steps, straight_steps}
-use Rattle.chess_core.specs.WellFormed.{IsWellFormed}
-use Rattle.chess_core.specs.declared.man.Colour.{Colour}
-use Rattle.chess_core.specs.declared.man.Kind.{Kind}
-use Rattle.chess_core.specs.declared.man.Kind.TheVariants.{King, Queen, Rook, Bishop, Grasshopper, Nightrider}
-use Rattle.chess_core.specs.declared.man.Man.{Man}
-use Rattle.chess_core.specs.declared.man.Move.{Move}
-use Rattle.chess_core.specs.declared.step.Step.{Step}
-use Rattle.chess_core.proofs.Men.{is_man-without}
-use Rattle.chess_core.proofs.Ranges.{some_square_false, some_square_true}
-use Rattle.chess_rules.specs.Attacks.{attacked, check_of, in_check, paralysed, strikes}
-use Rattle.chess_rules.specs.Legal.{castles, may_castle, pseudo, pseudo_of}
-use Rattle.chess_rules.specs.Play.{after, after_by, arriving, capture_square, corner, halfway, is_castling, man_on_at, move_man, moved_men, put_at, reborn_square, without_at}
-use Rattle.chess_rules.specs.Reaches.{is_clear, is_vacant, reaches, reaches_as, reaches_of, rides}
-use Rattle.chess_rules.specs.RuleSet.{RuleSet, circe, madrasi, orthodox}
-use Rattle.chess_rules.specs.declared.checks.CheckSquares.{CheckSquares}
-use Rattle.chess_rules.specs.ties.CheckSquares.{AreCheckSquares, are_rebirths_quiet, check_squares_for, is_absent, rule_of_checks, may_check_from}
+use Rattle.chess_rules.proofs.Basics.{List, None, Option, Some, and_from, and_parts, ap, arith, bit_at, cases_Bool, cond-false, cond-true, false, false_from_ne_true, false≢true, inl, inr, is_some, length, list_all, list_any, not, not-true, range_with_len, refl, sym, true, ℕ, ◌&&◌, ◌-◌, ◌<◌, ◌==◌, ◌∙◌, ◌≡◌}
+use Rattle.chess_rules.proofs.Chess.{AreCheckSquares, AtMostOneKing, Bishop, CheckSquares, Colour, Grasshopper, IsWellFormed, Kind, King, Man, Move, Nightrider, Position, Queen, Rook, RuleSet, Step, after, after_by, along, are_rebirths_quiet, arriving, attacked, capture_square, castles, check_of, check_squares_for, circe, corner, diagonal_steps, find_first, halfway, in_check, is_absent, is_castling, is_clear, is_man, is_man-without, is_side, is_square, is_vacant, king_square, knight_steps, man_on, man_on_at, may_castle, may_check_from, move_man, moved_men, orthodox, other, paralysed, pseudo, pseudo_of, put_at, queen_steps, reaches, reaches_as, reaches_of, reborn_square}
+use Rattle.chess_rules.proofs.Chess.{rides, same_colour, same_kind, some_square_false, some_square_true, squares, straight_steps, strikes, with_man, without_at, without_man}
+use Rattle.chess_rules.specs.RuleSet.{madrasi}
+use Rattle.chess_rules.specs.ties.CheckSquares.{rule_of_checks}
 use Rattle.chess_rules.specs.ties.Shields.{cannot_expose}
 use Rattle.chess_rules.proofs.giving_check.Checking.{no_check, other_twice}
 use Rattle.chess_rules.proofs.making_moves.Fits.{arrived}
 use Rattle.chess_rules.proofs.making_moves.Pseudo.{IsMade, made, on_board}
 use Rattle.chess_rules.proofs.attacks.Shielding.{king_is, man_there, unreborn_after}
 use Rattle.chess_rules.proofs.making_moves.Stays.{captured_enemy, captured_mortal, man_on-with_cases, moved_sound}
-use Rattle.chess_rules.proofs.Tests.{find_first, all_kept, any_kept}
+use Rattle.chess_rules.proofs.Tests.{all_kept, any_kept}
 
 -- no grasshopper of this colour stands there
 abbrev LacksGrasshopper : List (Option Man) → Colour → Type 0

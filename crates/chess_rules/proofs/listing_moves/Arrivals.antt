@@ -1,10 +1,10 @@
 -- The words of the squares to which a man may go.
-use Rattle.chess_rules.proofs.Basics.{◌≡◌, ℕ, ◌+◌, ◌/◌, ◌<◌, Bool, false, true, not, ◌&&◌, ◌||◌, ◌==◌, List, Option, Some, None, is_some, find, refl, sym, ap, ◌∙◌, arith, inl, inr, rules, bit_at, bit_not, w64, bit_and, bit_or, list_any, range_with_len, and_from, and_left, and_parts, cases_Bool, cond-false, cond-true, eqb-true, or_cases, or_left, or_right}
-use Rattle.chess_rules.proofs.Chess.{has_unmoved, Position, is_man, is_side, man_on, may_promote, other, same_colour, same_kind, is_square, rank_of, along, queen_steps, side_of, squares_of, word, Colour, Black, White, Kind, King, Pawn, Man, Move, paralysed, forward, goes, is_arrival_free, is_promotion_right, pseudo, second_rank, is_vacant_at, is_advance, leaps, reaches, reaches_as, RuleSet, IsAimed, arrives, is_arrival, is_arrival_of, may_go, pawn_goes, steps_to, squares_both, squares_either, squares_not, squares_same, IsFirst, find_no, same_Bool, differs}
+use Rattle.chess_rules.proofs.Basics.{Bool, List, None, Option, Some, and_from, and_left, and_parts, ap, arith, bit_and, bit_at, bit_not, bit_or, cases_Bool, cond-false, cond-true, eqb-true, false, find, inl, inr, is_some, list_any, not, or_cases, or_left, or_right, range_with_len, refl, rules, sym, true, w64, ℕ, ◌&&◌, ◌+◌, ◌/◌, ◌<◌, ◌==◌, ◌||◌, ◌∙◌, ◌≡◌}
+use Rattle.chess_rules.proofs.Chess.{Black, Colour, IsAimed, IsFirst, Kind, King, Man, Move, Pawn, Position, RuleSet, White, along, arrives, differs, find_no, forward, goes, has_unmoved, is_advance, is_arrival, is_arrival_free, is_arrival_of, is_man, is_promotion_right, is_side, is_square, is_vacant_at, leaps, man_on, may_go, may_promote, other, paralysed, pawn_goes, pseudo, queen_steps, rank_of, reaches, reaches_as, same_Bool, same_colour, same_kind, second_rank, side_of, squares_both, squares_either, squares_not, squares_of, squares_same, steps_to, word}
 use Rattle.chess_rules.proofs.Bits.{word_empty, word_has}
 use Rattle.chess_rules.proofs.making_moves.Pseudo.{king_is_no_pawn}
 use Rattle.chess_rules.proofs.listing_moves.Targeting.{false_by}
-use Rattle.chess_rules.proofs.Tests.{IsFirst, find_no, same_Bool, implied}
+use Rattle.chess_rules.proofs.Tests.{implied}
 use Rattle.chess_rules.proofs.rays.Tables.{each_pair}
 
 -- no man of the colour and no king

@@ -1,7 +1,7 @@
 -- The legal moves between two places, and those that mate.
 use Rattle.std.proofs.lemmas.List.{drop-drop}
-use Rattle.chess_rules.proofs.Basics.{cases_lt, filter-append, append_cancel_right, length-append, take-append-drop, ◌≡◌, ℕ, zero, suc, inl, inr, ◌+◌, ◌-◌, ◌<◌, ◌≤◌, true, false, List, [], ◌∷◌, ◌++◌, filter, take, drop, length, refl, sym, ap, ◌∙◌, arith, rules}
-use Rattle.chess_rules.proofs.Chess.{Position, Move, RuleSet, legal, moves, triples, HaveNone, IsNextMate, is_mating, mates, mates_behind, mates_between, moves_behind, moves_between, triple_at, first_of_and, second_of_and}
+use Rattle.chess_rules.proofs.Basics.{List, [], ap, append_cancel_right, arith, cases_lt, drop, false, filter, filter-append, inl, inr, length, length-append, refl, rules, suc, sym, take, take-append-drop, true, zero, ℕ, ◌++◌, ◌+◌, ◌-◌, ◌<◌, ◌∙◌, ◌∷◌, ◌≡◌, ◌≤◌}
+use Rattle.chess_rules.proofs.Chess.{HaveNone, IsNextMate, Move, Position, RuleSet, first_of_and, is_mating, legal, mates, mates_behind, mates_between, moves, moves_behind, moves_between, second_of_and, triple_at, triples}
 use Rattle.chess_rules.proofs.giving_check.Mating.{mates_behind-end, mates_behind-none, mates_numbered, legal_of_mate, no_mate, no_mate_quietly}
 use Rattle.chess_rules.proofs.listing_moves.Places.{drop_triples, drop_triples_past, moves_behind-here, over, place_of_triple}
 

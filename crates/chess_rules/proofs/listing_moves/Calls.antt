@@ -1,6 +1,6 @@
 -- The calls of `next` over one position.
-use Rattle.chess_rules.proofs.Basics.{◌≡◌, ℕ, zero, suc, ◌+◌, List, [], ◌∷◌, Option, Some, None, MatchOption, true, drop, refl, sym, ap, ◌∙◌, rules, and_parts, slice_get}
-use Rattle.chess_rules.proofs.Chess.{Position, Move, RuleSet, legal, moves, pseudo, moves_behind, place_of}
+use Rattle.chess_rules.proofs.Basics.{List, MatchOption, None, Option, Some, [], and_parts, ap, drop, refl, rules, slice_get, suc, sym, true, zero, ℕ, ◌+◌, ◌∙◌, ◌∷◌, ◌≡◌}
+use Rattle.chess_rules.proofs.Chess.{Move, Position, RuleSet, legal, moves, moves_behind, place_of, pseudo}
 use Rattle.chess_rules.proofs.listing_moves.Places.{moves_behind-end}
 
 drop_none : (l : List Move) (n : ℕ) → drop n l ≡ [] → drop (suc n) l ≡ []

@@ -1,6 +1,6 @@
 -- Where a man may go, and no move is missed by going from one such square to the next.
-use Rattle.chess_rules.proofs.Basics.{◌≡◌, ℕ, ◌+◌, ◌-◌, ◌*◌, ◌/◌, ◌%◌, ◌<◌, ◌≤◌, Bool, true, false, ◌==◌, List, Option, Some, None, is_some, find, refl, sym, ap, ◌∙◌, arith, inl, inr, rules, bit_at, bit_not, w64, range_with_len, agree_below_at, and_from, and_parts, cases_Bool, cases_eq, cond-true, cond-false, or_left, or_right}
-use Rattle.chess_rules.proofs.Chess.{Position, is_side, man_on, same_colour, same_kind, file_of, is_square, rank_of, square_at, along, word, Colour, White, Black, Kind, King, Pawn, Man, Move, castles, goes, is_promotion_right, may_castle, pseudo, pseudo_of, is_advance, is_aside, IsBarrenFrom, IsNamed, promotion_at, is_castling, reaches, reaches_as, RuleSet, arrives, is_arrival, may_go, steps_to, squares_same, IsFirst, find_no, find_first}
+use Rattle.chess_rules.proofs.Basics.{Bool, List, None, Option, Some, agree_below_at, and_from, and_parts, ap, arith, bit_at, bit_not, cases_Bool, cases_eq, cond-false, cond-true, false, find, inl, inr, is_some, or_left, or_right, range_with_len, refl, rules, sym, true, w64, ℕ, ◌%◌, ◌*◌, ◌+◌, ◌-◌, ◌/◌, ◌<◌, ◌==◌, ◌∙◌, ◌≡◌, ◌≤◌}
+use Rattle.chess_rules.proofs.Chess.{Black, Colour, IsBarrenFrom, IsFirst, IsNamed, Kind, King, Man, Move, Pawn, Position, RuleSet, White, along, arrives, castles, file_of, find_first, find_no, goes, is_advance, is_arrival, is_aside, is_castling, is_promotion_right, is_side, is_square, man_on, may_castle, may_go, promotion_at, pseudo, pseudo_of, rank_of, reaches, reaches_as, same_colour, same_kind, square_at, squares_same, steps_to, word}
 use Rattle.chess_rules.proofs.Bits.{word_empty}
 use Rattle.chess_rules.proofs.making_moves.Pseudo.{made}
 

@@ -1,8 +1,6 @@
 -- No move is missed by walking from candidate to candidate.
-use Rattle.chess_rules.proofs.Basics.{◌≡◌, ℕ, ◌+◌, ◌-◌, ◌*◌, ◌/◌, ◌%◌, ◌<◌, ◌≤◌, Bool, true, false, ◌==◌, not, None, find, refl, sym, ap, ◌∙◌, arith, inl, inr, rules, bit_at, bit_and, range_with_len, and_right, cases_Bool, cases_lt, eqb-true, eq-eqb, bit_at_and, bit_at-lt, bit_at-zero, Some}
-use Rattle.chess_rules.proofs.Chess.{Position, is_side, man_on, side_of, word, Move, legal, pseudo, HaveNone, IsBarrenFrom, IsNamed, mates, promotion_at, triple_at, RuleSet, AreCandidates, AreOrigins, IsAimed, is_arrival, find_no, find_first}
-use Rattle.chess_rules.specs.ties.CheckSquares.{AreCheckOrigins, AreCheckTargets}
-use Rattle.chess_rules.specs.ties.Evasions.{AreEvasionsFrom}
+use Rattle.chess_rules.proofs.Basics.{Bool, None, Some, and_right, ap, arith, bit_and, bit_at, bit_at-lt, bit_at-zero, bit_at_and, cases_Bool, cases_lt, eq-eqb, eqb-true, false, find, inl, inr, not, range_with_len, refl, rules, sym, true, ℕ, ◌%◌, ◌*◌, ◌+◌, ◌-◌, ◌/◌, ◌<◌, ◌==◌, ◌∙◌, ◌≡◌, ◌≤◌}
+use Rattle.chess_rules.proofs.Chess.{AreCandidates, AreCheckOrigins, AreCheckTargets, AreEvasionsFrom, AreOrigins, HaveNone, IsAimed, IsBarrenFrom, IsNamed, Move, Position, RuleSet, find_first, find_no, is_arrival, is_side, legal, man_on, mates, promotion_at, pseudo, side_of, triple_at, word}
 use Rattle.chess_rules.proofs.Bits.{word_has}
 use Rattle.chess_rules.proofs.giving_check.Mating.{no_mate_quietly, not_mating}
 use Rattle.chess_rules.proofs.listing_moves.Targeting.{arrival_needed, false_by, own_moves}

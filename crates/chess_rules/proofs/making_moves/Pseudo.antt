@@ -1,6 +1,6 @@
 -- What a move that may be made is made of, check to the mover apart.
-use Rattle.chess_rules.proofs.Basics.{◌≡◌, ◌≢◌, ℕ, ◌+◌, ◌<◌, true, false, nat_lt, List, Option, Some, None, length, refl, inl, inr, ◌⊎◌, rules, and_parts, or_cases, cases_lt, cond-true, cond-false, eqb-true, lt-ltb, le-ltb, get_or_past, list_any}
-use Rattle.chess_rules.proofs.Chess.{file_of, rank_of, is_square, along, pawn_captures, Position, man_on, same_kind, IsWellFormed, is_home, Man, Move, Colour, White, Black, Kind, King, Rook, Pawn, RuleSet, leaps, reaches, reaches_as, corner, halfway, castles, forward, goes, is_arrival_free, is_promotion_right, may_castle, pawn_steps, pawn_takes, pseudo, second_rank, along-is, is_home-none, is_home-square, same_colour-true}
+use Rattle.chess_rules.proofs.Basics.{List, None, Option, Some, and_parts, cases_lt, cond-false, cond-true, eqb-true, false, get_or_past, inl, inr, le-ltb, length, list_any, lt-ltb, nat_lt, or_cases, refl, rules, true, ℕ, ◌+◌, ◌<◌, ◌≡◌, ◌≢◌, ◌⊎◌}
+use Rattle.chess_rules.proofs.Chess.{Black, Colour, IsWellFormed, Kind, King, Man, Move, Pawn, Position, Rook, RuleSet, White, along, along-is, castles, corner, file_of, forward, goes, halfway, is_arrival_free, is_home, is_home-none, is_home-square, is_promotion_right, is_square, leaps, man_on, may_castle, pawn_captures, pawn_steps, pawn_takes, pseudo, rank_of, reaches, reaches_as, same_colour-true, same_kind, second_rank}
 use Rattle.chess_rules.proofs.making_moves.Castles.{no_man}
 
 -- the parts of the definition

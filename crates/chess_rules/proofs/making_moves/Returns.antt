@@ -1,6 +1,6 @@
 -- The position before a move, found again.
-use Rattle.chess_rules.proofs.Basics.{◌≡◌, ℕ, ◌<◌, true, List, Option, Some, None, IsSome, length, refl, sym, ap, ◌∙◌, arith, inl, inr, rules, and_parts, cases_Bool, length-set}
-use Rattle.chess_rules.proofs.Chess.{is_square, Position, man_on, with_man, without_man, IsWellFormed, is_crossed_right, Man, Move, Kind, RuleSet, is_promotion_right, pseudo, after, after_by, arriving, capture_square, corner, halfway, is_castling, loss_by, undo_of, man_on_at, moved_men, put_at, reborn_square, without_at, CanCastle, CanReturn, before_by, leaving, returned_men, returns_to, uncastled_men, man_on-with_same, man_on-without_other, man_on-without_same}
+use Rattle.chess_rules.proofs.Basics.{IsSome, List, None, Option, Some, and_parts, ap, arith, cases_Bool, inl, inr, length, length-set, refl, rules, sym, true, ℕ, ◌<◌, ◌∙◌, ◌≡◌}
+use Rattle.chess_rules.proofs.Chess.{CanCastle, CanReturn, IsWellFormed, Kind, Man, Move, Position, RuleSet, after, after_by, arriving, before_by, capture_square, corner, halfway, is_castling, is_crossed_right, is_promotion_right, is_square, leaving, loss_by, man_on, man_on-with_same, man_on-without_other, man_on-without_same, man_on_at, moved_men, pseudo, put_at, reborn_square, returned_men, returns_to, uncastled_men, undo_of, with_man, without_at, without_man}
 use Rattle.chess_rules.specs.Loss.{Loss}
 use Rattle.chess_rules.proofs.making_moves.Pseudo.{made}
 use Rattle.chess_rules.proofs.making_moves.Back.{lift_after_place, place_after_lift, unborn, uncastled}

@@ -1,8 +1,6 @@
 -- Squares one after another on a line.
-use Rattle.chess_rules.proofs.Basics.{◌≡◌, ℕ, ◌+◌, ◌-◌, ◌*◌, ◌<◌, ◌≤◌, true, false, ◌&&◌, refl, sym, ap, ◌∙◌, arith, inl, inr, Some, rules, add-mul, mul-add, and_from, cases_lt, leb-true}
-use Rattle.chess_rules.proofs.Chess.{is_on_board, file_of, rank_of, along, step_by, Step, place, rises, step_of}
-use Rattle.chess_rules.specs.declared.lines.Direction.{Direction}
-use Rattle.chess_rules.specs.declared.lines.Direction.TheVariants.{East, West, North, South, NorthEast, SouthEast, NorthWest, SouthWest, NorthNorthEast, SouthSouthEast, NorthNorthWest, SouthSouthWest, EastNorthEast, EastSouthEast, WestNorthWest, WestSouthWest}
+use Rattle.chess_rules.proofs.Basics.{Some, add-mul, and_from, ap, arith, cases_lt, false, inl, inr, leb-true, mul-add, refl, rules, sym, true, ℕ, ◌&&◌, ◌*◌, ◌+◌, ◌-◌, ◌<◌, ◌∙◌, ◌≡◌, ◌≤◌}
+use Rattle.chess_rules.proofs.Chess.{Direction, East, EastNorthEast, EastSouthEast, North, NorthEast, NorthNorthEast, NorthNorthWest, NorthWest, South, SouthEast, SouthSouthEast, SouthSouthWest, SouthWest, Step, West, WestNorthWest, WestSouthWest, along, file_of, is_on_board, place, rank_of, rises, step_by, step_of}
 use Rattle.chess_rules.proofs.rays.Ends.{Placed, cond-on, on_board, placed_from}
 
 further : (f j i r l : ℕ) → 1 ≤ f + j * r - j * l → f + j * r - j * l + i * r - i * l ≡ f + (j + i) * r - (j + i) * l

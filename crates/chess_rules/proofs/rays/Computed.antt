@@ -1,9 +1,7 @@
 -- The tables of lines and leaps, computed.
-use Rattle.chess_rules.proofs.Basics.{◌≡◌, ℕ, ◌<◌, List, map, get_or, refl, sym, ap, Option, None, ◌∙◌, arith, list_any, range_with_len, get_or-map-range_with_len}
-use Rattle.chess_rules.proofs.Chess.{squares, along, diagonal_steps, knight_steps, pawn_captures, queen_steps, straight_steps, White, Black, word, word_of, direction_number, is_advance, is_ahead, is_aside, is_on_some, ray, step_of, leaps}
+use Rattle.chess_rules.proofs.Basics.{List, None, Option, ap, arith, get_or, get_or-map-range_with_len, list_any, map, range_with_len, refl, sym, ℕ, ◌<◌, ◌∙◌, ◌≡◌}
+use Rattle.chess_rules.proofs.Chess.{Black, Direction, East, White, along, diagonal_steps, direction_number, is_advance, is_ahead, is_aside, is_on_some, knight_steps, leaps, pawn_captures, queen_steps, ray, squares, step_of, straight_steps, word, word_of}
 use Rattle.chess_rules.specs.declared.geometry.TheConstants.{ASIDE, BLACK_CAPTURES, BLACK_STEPS, DIAGONAL_LINES, KNIGHT_LEAPS, NEIGHBOURS, RAYS, STRAIGHT_LINES, WHITE_CAPTURES, WHITE_STEPS}
-use Rattle.chess_rules.specs.declared.lines.Direction.{Direction}
-use Rattle.chess_rules.specs.declared.lines.Direction.TheVariants.{East}
 
 -- a row of the table holds the lines of its direction from all squares
 row : (x : Direction) (none : List ℕ) → get_or RAYS (direction_number x) none ≡ map (λ s. ray s (step_of x)) (range_with_len 0 64)

@@ -1,6 +1,6 @@
 -- The square of a word that a line passes first: its lowest bit or its highest.
-use Rattle.chess_rules.proofs.Basics.{◌≡◌, ℕ, suc, ◌-◌, ◌*◌, ◌%◌, ◌^◌, ◌<◌, ◌≤◌, true, false, sym, ◌∙◌, arith, inl, inr, rules, bit_at, trailing_zeros, w64, bit_or, pow-suc, cases_lt, or_lt, bit_at_above, bit_at_or, bit_at-lt, bit_at-trailing_zeros, bit_at_set_other, bit_at_set_same}
-use Rattle.chess_rules.proofs.Chess.{Step, IsStop, rises}
+use Rattle.chess_rules.proofs.Basics.{arith, bit_at, bit_at-lt, bit_at-trailing_zeros, bit_at_above, bit_at_or, bit_at_set_other, bit_at_set_same, bit_or, cases_lt, false, inl, inr, or_lt, pow-suc, rules, suc, sym, trailing_zeros, true, w64, ℕ, ◌%◌, ◌*◌, ◌-◌, ◌<◌, ◌^◌, ◌∙◌, ◌≡◌, ◌≤◌}
+use Rattle.chess_rules.proofs.Chess.{IsStop, Step, rises}
 
 -- a number with a bit isn't 0
 pub has_bit : (n i : ℕ) → bit_at n i ≡ 1 → 0 < n

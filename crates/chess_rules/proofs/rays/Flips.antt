@@ -1,6 +1,6 @@
 -- Lists of steps that hold each step with its opposite.
-use Rattle.chess_rules.proofs.Basics.{◌≡◌, ℕ, ◌<◌, Bool, true, ◌&&◌, ◌==◌, List, [], ◌∷◌, refl, sym, ap, ◌∙◌, Option, inl, inr, rules, list_all, list_any, and_parts, eqb-true, or_cases, or_left, or_right}
-use Rattle.chess_rules.proofs.Chess.{straight_steps, diagonal_steps, queen_steps, knight_steps, pawn_captures, other, Colour, White, Black, Step, Man, rides, leaps, hops, hopped_from, same_Bool}
+use Rattle.chess_rules.proofs.Basics.{Bool, List, Option, [], and_parts, ap, eqb-true, inl, inr, list_all, list_any, or_cases, or_left, or_right, refl, rules, sym, true, ℕ, ◌&&◌, ◌<◌, ◌==◌, ◌∙◌, ◌∷◌, ◌≡◌}
+use Rattle.chess_rules.proofs.Chess.{Black, Colour, Man, Step, White, diagonal_steps, hopped_from, hops, knight_steps, leaps, other, pawn_captures, queen_steps, rides, same_Bool, straight_steps}
 use Rattle.chess_rules.proofs.rays.Ends.{back, rides-back, returns_to}
 use Rattle.chess_rules.proofs.rays.Hops.{hops-back}
 

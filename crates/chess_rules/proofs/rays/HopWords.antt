@@ -1,7 +1,6 @@
 -- The word of a hop.
-use Rattle.chess_rules.proofs.Basics.{◌≡◌, ◌≢◌, ℕ, ◌+◌, ◌-◌, ◌^◌, ◌<◌, ◌≤◌, Bool, true, false, ◌&&◌, not, List, refl, sym, ap, ◌∙◌, arith, inl, inr, Option, Some, None, is_some, rules, trailing_zeros, w64, list_all, list_any, range_with_len, and_from, cases_Bool, cases_eq, cases_lt, eq-eqb, false≢true, not-true, bit_at-trailing_zeros}
-use Rattle.chess_rules.proofs.Chess.{is_square, along, man_on, word, Man, Step, IsStop, is_ahead, place, place_by, ray, rises, step_of, hopped_from, rides_on, hops, is_clear, is_occupied, is_vacant, rides, any_range_true, any_range_false, all_range_true, square_word_small, squares_same, all_at, any_range_cases, first_of_and, same_Bool, second_of_and, some_is}
-use Rattle.chess_rules.specs.declared.lines.Direction.{Direction}
+use Rattle.chess_rules.proofs.Basics.{Bool, List, None, Option, Some, and_from, ap, arith, bit_at-trailing_zeros, cases_Bool, cases_eq, cases_lt, eq-eqb, false, false≢true, inl, inr, is_some, list_all, list_any, not, not-true, range_with_len, refl, rules, sym, trailing_zeros, true, w64, ℕ, ◌&&◌, ◌+◌, ◌-◌, ◌<◌, ◌^◌, ◌∙◌, ◌≡◌, ◌≢◌, ◌≤◌}
+use Rattle.chess_rules.proofs.Chess.{Direction, IsStop, Man, Step, all_at, all_range_true, along, any_range_cases, any_range_false, any_range_true, first_of_and, hopped_from, hops, is_ahead, is_clear, is_occupied, is_square, is_vacant, man_on, place, place_by, ray, rides, rides_on, rises, same_Bool, second_of_and, some_is, square_word_small, squares_same, step_of, word}
 use Rattle.chess_rules.proofs.rays.Ahead.{Ordered, Passed, onward, ordered, passes}
 use Rattle.chess_rules.proofs.Bits.{word_empty, word_has}
 use Rattle.chess_rules.proofs.rays.Computed.{eighth}

@@ -1,6 +1,6 @@
 -- Hops seen from the square of arrival.
-use Rattle.chess_rules.proofs.Basics.{◌≡◌, ℕ, ◌-◌, ◌<◌, ◌≤◌, Bool, true, false, ◌&&◌, List, refl, sym, ap, ◌∙◌, arith, inl, inr, Option, Some, range_with_len, list_any, list_all, cases_Bool}
-use Rattle.chess_rules.proofs.Chess.{is_square, along, Step, Man, hopped_from, rides_on, is_vacant, is_occupied, is_clear, hops, all_range_true, any_range_false, all_at, any_range_same, same_Bool}
+use Rattle.chess_rules.proofs.Basics.{Bool, List, Option, Some, ap, arith, cases_Bool, false, inl, inr, list_all, list_any, range_with_len, refl, sym, true, ℕ, ◌&&◌, ◌-◌, ◌<◌, ◌∙◌, ◌≡◌, ◌≤◌}
+use Rattle.chess_rules.proofs.Chess.{Man, Step, all_at, all_range_true, along, any_range_false, any_range_same, hopped_from, hops, is_clear, is_occupied, is_square, is_vacant, rides_on, same_Bool}
 use Rattle.chess_rules.proofs.rays.Ends.{back, between, returns_to, square_is}
 
 and_true : (a b : Bool) → (a && true && b) ≡ (a && b)

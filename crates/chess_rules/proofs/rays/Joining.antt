@@ -1,6 +1,6 @@
 -- Words of several lines joined.
-use Rattle.chess_rules.proofs.Basics.{◌≡◌, ℕ, Bool, true, false, ◌||◌, List, [], ◌∷◌, ◌++◌, refl, sym, ◌∙◌, bit_or, list_any, list_any-append}
-use Rattle.chess_rules.proofs.Chess.{word, Step, squares_either, squares_same}
+use Rattle.chess_rules.proofs.Basics.{Bool, List, [], bit_or, false, list_any, list_any-append, refl, sym, true, ℕ, ◌++◌, ◌||◌, ◌∙◌, ◌∷◌, ◌≡◌}
+use Rattle.chess_rules.proofs.Chess.{Step, squares_either, squares_same, word}
 
 one_by_one : (a b c d : Bool) → (((a || b) || c) || d) ≡ (a || (b || (c || (d || false))))
 one_by_one true b c d = refl

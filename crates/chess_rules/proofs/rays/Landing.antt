@@ -1,8 +1,6 @@
 -- What a man reaches doesn't depend on who stands on the square that it reaches.
-use Rattle.chess_rules.proofs.Basics.{◌≡◌, ◌≢◌, ℕ, zero, suc, ◌+◌, ◌-◌, ◌<◌, ◌≤◌, Bool, false, ◌&&◌, ◌||◌, List, Option, Some, None, is_some, refl, sym, ap, ◌∙◌, arith, inl, inr, rules, list_all, list_any, range_with_len, and_left, cases_Bool, false_from_ne_true}
-use Rattle.chess_rules.proofs.Chess.{man_on, is_square, along, diagonal_steps, knight_steps, queen_steps, straight_steps, Colour, Kind, King, Queen, Rook, Bishop, Grasshopper, Nightrider, Man, Step, place, step_of, hops, leaps, is_clear, is_occupied, reaches_as, rides, any_range_same}
-use Rattle.chess_rules.specs.declared.lines.Direction.{Direction}
-use Rattle.chess_rules.specs.declared.lines.Direction.TheVariants.{East, West, North, South, NorthEast, SouthEast, NorthWest, SouthWest, NorthNorthEast, SouthSouthEast, NorthNorthWest, SouthSouthWest, EastNorthEast, EastSouthEast, WestNorthWest, WestSouthWest}
+use Rattle.chess_rules.proofs.Basics.{Bool, List, None, Option, Some, and_left, ap, arith, cases_Bool, false, false_from_ne_true, inl, inr, is_some, list_all, list_any, range_with_len, refl, rules, suc, sym, zero, ℕ, ◌&&◌, ◌+◌, ◌-◌, ◌<◌, ◌||◌, ◌∙◌, ◌≡◌, ◌≢◌, ◌≤◌}
+use Rattle.chess_rules.proofs.Chess.{Bishop, Colour, Direction, East, EastNorthEast, EastSouthEast, Grasshopper, Kind, King, Man, Nightrider, North, NorthEast, NorthNorthEast, NorthNorthWest, NorthWest, Queen, Rook, South, SouthEast, SouthSouthEast, SouthSouthWest, SouthWest, Step, West, WestNorthWest, WestSouthWest, along, any_range_same, diagonal_steps, hops, is_clear, is_occupied, is_square, knight_steps, leaps, man_on, place, queen_steps, reaches_as, rides, step_of, straight_steps}
 use Rattle.chess_rules.proofs.rays.Ahead.{Ordered, ordered}
 use Rattle.chess_rules.proofs.rays.Ends.{square_is, stays}
 

@@ -1,19 +1,6 @@
 -- Where a man goes, he might go on an empty board.
-use Rattle.std.proofs.Common.{◌≡◌, ℕ, ◌<◌, Bool, true, false, ◌&&◌, ◌||◌, ◌==◌, List, Option, refl, sym, ◌∙◌, inl, inr, rules}
-use Rattle.std.specs.Int.{bit_at}
-use Rattle.std.specs.Int.Bits.{bit_or}
-use Rattle.std.specs.List.{list_any}
-use Rattle.std.proofs.lemmas.List.Folds.{list_any-append}
-use Rattle.std.proofs.lemmas.Bool.{and_parts, cond-false, cond-true, false≢true, or_cases}
-use Rattle.chess_core.specs.Position.{Position, same_kind}
-use Rattle.chess_core.specs.Steps.{diagonal_steps, knight_steps, pawn_captures, queen_steps, straight_steps}
-use Rattle.chess_core.specs.ties.Words.{word}
-use Rattle.chess_core.specs.declared.man.Kind.{Kind}
-use Rattle.chess_core.specs.declared.man.Kind.TheVariants.{Bishop, King, Knight, Pawn, Queen, Rook}
-use Rattle.chess_core.specs.declared.man.Man.{Man}
-use Rattle.chess_rules.specs.Reaches.{leaps, reaches_as, rides}
-use Rattle.chess_rules.specs.ties.Lines.{is_advance, is_on_some}
-use Rattle.chess_rules.specs.ties.Targets.{may_go, steps_to}
+use Rattle.chess_rules.proofs.Basics.{Bool, List, Option, and_parts, bit_at, bit_or, cond-false, cond-true, false, false≢true, inl, inr, list_any, list_any-append, or_cases, refl, rules, sym, true, ℕ, ◌&&◌, ◌<◌, ◌==◌, ◌||◌, ◌∙◌, ◌≡◌}
+use Rattle.chess_rules.proofs.Chess.{Bishop, Kind, King, Knight, Man, Pawn, Position, Queen, Rook, diagonal_steps, is_advance, is_on_some, knight_steps, leaps, may_go, pawn_captures, queen_steps, reaches_as, rides, same_kind, steps_to, straight_steps, word}
 use Rattle.chess_rules.proofs.listing_moves.Arrivals.{no_steps}
 use Rattle.chess_rules.proofs.Bits.{on_left, on_right, word_has}
 use Rattle.chess_rules.proofs.attacks.Attacking.{goes_on}

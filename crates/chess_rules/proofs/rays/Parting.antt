@@ -1,6 +1,6 @@
 -- A line on which one square alone may have been shut.
-use Rattle.chess_rules.proofs.Basics.{◌≡◌, ℕ, ◌-◌, ◌<◌, ◌≤◌, true, false, ◌&&◌, List, [], ◌∷◌, Option, Some, ap, ◌∙◌, arith, inl, inr, rules, list_any, range_with_len, and_from, and_parts, cases_Bool, false_from_ne_true, or_cases, or_left, or_parts, or_right}
-use Rattle.chess_rules.proofs.Chess.{is_square, along, Man, Step, is_clear, is_vacant, rides, all_range_true, any_range_false, any_range_true, all_at, any_range_cases, first_of_and, second_of_and}
+use Rattle.chess_rules.proofs.Basics.{List, Option, Some, [], and_from, and_parts, ap, arith, cases_Bool, false, false_from_ne_true, inl, inr, list_any, or_cases, or_left, or_parts, or_right, range_with_len, rules, true, ℕ, ◌&&◌, ◌-◌, ◌<◌, ◌∙◌, ◌∷◌, ◌≡◌, ◌≤◌}
+use Rattle.chess_rules.proofs.Chess.{Man, Step, all_at, all_range_true, along, any_range_cases, any_range_false, any_range_true, first_of_and, is_clear, is_square, is_vacant, rides, second_of_and}
 use Rattle.chess_rules.proofs.rays.Ends.{back, between, square_is}
 
 -- what is empty among the first men is empty among the others, b apart

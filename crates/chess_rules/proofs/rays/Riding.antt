@@ -1,6 +1,6 @@
 -- The words of the squares that shut lines.
-use Rattle.chess_rules.proofs.Basics.{◌≡◌, ℕ, ◌+◌, ◌-◌, ◌<◌, ◌≤◌, Bool, false, ◌&&◌, ◌||◌, ◌==◌, List, Option, refl, sym, ap, ◌∙◌, arith, inl, inr, rules, bit_at, bit_and, bit_or, list_any, range_with_len, and_left, and_right, cases_Bool, cases_eq, cases_lt, or_left, or_right, bit_at-zero}
-use Rattle.chess_rules.proofs.Chess.{is_man, man_on, some_square, squares, squares_of, word, Colour, Kind, Queen, Man, Step, is_on_some, rides, is_behind, is_shut, any_range_false, any_range_true, some_square_false, squares_both, squares_either, squares_same, IsFirst, any_range_cases}
+use Rattle.chess_rules.proofs.Basics.{Bool, List, Option, and_left, and_right, ap, arith, bit_and, bit_at, bit_at-zero, bit_or, cases_Bool, cases_eq, cases_lt, false, inl, inr, list_any, or_left, or_right, range_with_len, refl, rules, sym, ℕ, ◌&&◌, ◌+◌, ◌-◌, ◌<◌, ◌==◌, ◌||◌, ◌∙◌, ◌≡◌, ◌≤◌}
+use Rattle.chess_rules.proofs.Chess.{Colour, IsFirst, Kind, Man, Queen, Step, any_range_cases, any_range_false, any_range_true, is_behind, is_man, is_on_some, is_shut, man_on, rides, some_square, some_square_false, squares, squares_both, squares_either, squares_of, squares_same, word}
 use Rattle.chess_rules.proofs.attacks.Attacking.{some_square_same}
 use Rattle.chess_rules.proofs.Bits.{word_empty, word_has}
 

@@ -1,6 +1,6 @@
 -- A ride: the line as far as the first man on it.
-use Rattle.chess_rules.proofs.Basics.{◌≡◌, ℕ, ◌+◌, ◌-◌, ◌<◌, ◌≤◌, Bool, true, false, ◌&&◌, not, List, Option, Some, is_some, refl, sym, ap, ◌∙◌, arith, inl, inr, bit_at, bit_not, w64, bit_and, and_from, and_left, cases_Bool, cases_eq, cases_lt, eq-eqb, eqb-true, false≢true}
-use Rattle.chess_rules.proofs.Chess.{is_square, along, man_on, word, Man, Step, IsStop, is_ahead, place, place_by, ray, rises, is_clear, is_vacant, rides, any_range_true, any_range_false, all_range_true, all_range_false, squares_both, squares_not, squares_same, any_range_cases, first_of_and, second_of_and}
+use Rattle.chess_rules.proofs.Basics.{Bool, List, Option, Some, and_from, and_left, ap, arith, bit_and, bit_at, bit_not, cases_Bool, cases_eq, cases_lt, eq-eqb, eqb-true, false, false≢true, inl, inr, is_some, not, refl, sym, true, w64, ℕ, ◌&&◌, ◌+◌, ◌-◌, ◌<◌, ◌∙◌, ◌≡◌, ◌≤◌}
+use Rattle.chess_rules.proofs.Chess.{IsStop, Man, Step, all_range_false, all_range_true, along, any_range_cases, any_range_false, any_range_true, first_of_and, is_ahead, is_clear, is_square, is_vacant, man_on, place, place_by, ray, rides, rises, second_of_and, squares_both, squares_not, squares_same, word}
 use Rattle.chess_rules.proofs.rays.Ahead.{Ordered, onward, passes}
 use Rattle.chess_rules.proofs.Bits.{word_has}
 use Rattle.chess_rules.proofs.rays.Ends.{square_is, stays}

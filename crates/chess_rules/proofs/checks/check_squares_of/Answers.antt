@@ -1,5 +1,5 @@
-use Rattle.std.proofs.Common.{rules}
-use Rattle.chess_rules.specs.ties.CheckSquares.{may_check_from}
+use Rattle.chess_rules.proofs.Basics.{rules}
+use Rattle.chess_rules.proofs.Chess.{may_check_from}
 use Rattle.chess_rules.proofs.giving_check.Checking.{check_squares_of_all, check_squares_of_none, check_squares_of_some}
 use Rattle.chess_rules.proofs.checks.check_squares_of.Goals as goal
 

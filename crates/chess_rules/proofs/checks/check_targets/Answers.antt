@@ -1,4 +1,4 @@
-use Rattle.std.proofs.Common.{◌∙◌, arith, refl, sym, rules}
+use Rattle.chess_rules.proofs.Basics.{arith, refl, rules, sym, ◌∙◌}
 use Rattle.chess_rules.proofs.giving_check.CheckTargets.{check_targets_all}
 use Rattle.chess_rules.proofs.checks.check_targets.Goals as goal
 

@@ -1,4 +1,4 @@
-use Rattle.std.proofs.Common.{◌==◌, ◌&&◌, ◌∙◌, Bool, ap, sym}
+use Rattle.chess_rules.proofs.Basics.{Bool, ap, sym, ◌&&◌, ◌==◌, ◌∙◌}
 use Rattle.chess_rules.proofs.giving_check.Checking.{absent_is}
 use Rattle.chess_rules.proofs.checks.is_absent.Goals as goal
 

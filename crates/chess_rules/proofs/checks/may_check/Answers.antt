@@ -1,13 +1,9 @@
-use Rattle.std.proofs.Common.{◌≡◌, ◌<◌, ◌==◌, ◌∙◌, None, Some, false, ap, arith, sym}
-use Rattle.std.specs.Int.{bit_at}
+use Rattle.chess_rules.proofs.Basics.{None, Some, ap, arith, bit_at, false, sym, ◌<◌, ◌==◌, ◌∙◌, ◌≡◌}
+use Rattle.chess_rules.proofs.Chess.{Triple, arriving, man_on, may_check_from, other}
 use Rattle.std.proofs.lemmas.Bool.{not-false}
-use Rattle.chess_core.specs.Position.{man_on, other}
-use Rattle.chess_core.specs.Triple.{Triple}
-use Rattle.chess_rules.specs.Play.{arriving}
 use Rattle.chess_rules.proofs.giving_check.Rebirths.{no_check_by_rebirth}
 use Rattle.chess_rules.proofs.checks.may_check.Goals as goal
 use Rattle.chess_rules.proofs.giving_check.KingsApart.{kings_apart}
-use Rattle.chess_rules.specs.ties.CheckSquares.{may_check_from}
 
 pub returns-else-contains : goal.returns-else-contains
 returns-else-contains g c = λ h lawful.

@@ -1,4 +1,4 @@
-use Rattle.std.proofs.Common.{sym, ◌∙◌}
+use Rattle.chess_rules.proofs.Basics.{sym, ◌∙◌}
 use Rattle.chess_rules.proofs.giving_check.CheckTargets.{check_targets_nobody, check_targets_there}
 use Rattle.chess_rules.proofs.checks.near_check_targets.Goals as goal
 

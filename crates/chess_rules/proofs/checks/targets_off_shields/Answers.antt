@@ -1,7 +1,5 @@
-use Rattle.std.proofs.Common.{◌≡◌, true, rules}
-use Rattle.chess_core.specs.Position.{same_kind}
-use Rattle.chess_core.specs.declared.man.Kind.TheVariants.{King}
-use Rattle.chess_rules.specs.ties.CheckSquares.{AreCastlingTargets}
+use Rattle.chess_rules.proofs.Basics.{rules, true, ◌≡◌}
+use Rattle.chess_rules.proofs.Chess.{AreCastlingTargets, King, same_kind}
 use Rattle.chess_rules.proofs.giving_check.CheckTargets.{check_targets_some}
 use Rattle.chess_rules.proofs.checks.targets_off_shields.Goals as goal
 

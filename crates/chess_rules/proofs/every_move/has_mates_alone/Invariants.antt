@@ -1,5 +1,5 @@
-use Rattle.chess_rules.proofs.Basics.{◌≡◌, ◌&&◌, ◌||◌, not, length, list_all}
-use Rattle.chess_rules.proofs.Chess.{is_nil, IsPlaceIn, is_mating, moves_behind}
+use Rattle.chess_rules.proofs.Basics.{length, list_all, not, ◌&&◌, ◌||◌, ◌≡◌}
+use Rattle.chess_rules.proofs.Chess.{IsPlaceIn, is_mating, is_nil, moves_behind}
 use Rattle.chess_rules.proofs.every_move.has_mates_alone.Given as goal
 
 abbrev pub invariant-loop-m : goal.invariant-loop-m

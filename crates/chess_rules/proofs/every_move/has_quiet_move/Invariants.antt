@@ -1,4 +1,4 @@
-use Rattle.chess_rules.proofs.Basics.{◌≡◌, false, length, list_all}
+use Rattle.chess_rules.proofs.Basics.{false, length, list_all, ◌≡◌}
 use Rattle.chess_rules.proofs.Chess.{IsPlaceIn, is_mating, moves_behind}
 use Rattle.chess_rules.proofs.every_move.has_quiet_move.Given as goal
 

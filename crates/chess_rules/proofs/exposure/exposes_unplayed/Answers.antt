@@ -1,8 +1,5 @@
-use Rattle.std.proofs.Common.{◌≡◌, ◌<◌, ◌∙◌, Some, is_some, ap, arith, sym, true, rules}
-use Rattle.chess_core.specs.Position.{man_on}
-use Rattle.chess_core.specs.Triple.{Triple}
-use Rattle.chess_rules.specs.Play.{capture_square}
-use Rattle.chess_rules.specs.ties.Sight.{is_simple, king_after, sight_after}
+use Rattle.chess_rules.proofs.Basics.{Some, ap, arith, is_some, rules, sym, true, ◌<◌, ◌∙◌, ◌≡◌}
+use Rattle.chess_rules.proofs.Chess.{Triple, capture_square, is_simple, king_after, man_on, sight_after}
 use Rattle.chess_rules.proofs.attacks.Exposing.{exposed_is, no_king_exposed}
 use Rattle.chess_rules.proofs.exposure.exposes_unplayed.Goals as goal
 

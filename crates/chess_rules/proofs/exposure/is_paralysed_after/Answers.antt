@@ -1,5 +1,5 @@
-use Rattle.std.proofs.Common.{rules}
-use Rattle.chess_rules.specs.Attacks.{paralysed}
+use Rattle.chess_rules.proofs.Basics.{rules}
+use Rattle.chess_rules.proofs.Chess.{paralysed}
 use Rattle.chess_rules.proofs.attacks.Exposing.{faced_king, none_paralysed, paralysed_by}
 use Rattle.chess_rules.proofs.exposure.is_paralysed_after.Goals as goal
 

@@ -1,9 +1,6 @@
-use Rattle.std.proofs.Common.{◌-◌, ◌<◌, ◌==◌, ◌&&◌, ◌∙◌, not, sym, ap, arith}
-use Rattle.std.specs.Int.{bit_at}
-use Rattle.std.proofs.lemmas.Bool.{and_from, and_right}
-use Rattle.chess_core.proofs.Ranges.{NoneBelow-more, NoneBelow-start, some_square_false, some_square_true}
-use Rattle.chess_rules.specs.Attacks.{paralysed}
-use Rattle.chess_rules.proofs.Tests.{find_first, skipped, skipped_all}
+use Rattle.chess_rules.proofs.Basics.{and_from, and_right, ap, arith, bit_at, not, sym, ◌&&◌, ◌-◌, ◌<◌, ◌==◌, ◌∙◌}
+use Rattle.chess_rules.proofs.Chess.{find_first, paralysed, skipped, skipped_all, some_square_false, some_square_true}
+use Rattle.chess_core.proofs.Ranges.{NoneBelow-more, NoneBelow-start}
 use Rattle.chess_rules.proofs.exposure.some_free_after.Goals as goal
 
 pub loop-square-init : goal.loop-square-init

@@ -1,9 +1,5 @@
-use Rattle.std.proofs.Common.{◌-◌, ◌==◌, ◌&&◌, not, List, Option}
-use Rattle.std.specs.Int.{bit_at}
-use Rattle.chess_core.proofs.Ranges.{NoneBelow}
-use Rattle.chess_core.specs.declared.man.Man.{Man}
-use Rattle.chess_rules.specs.Attacks.{paralysed}
-use Rattle.chess_rules.specs.ties.Sight.{AreArrived, AreOthers}
+use Rattle.chess_rules.proofs.Basics.{List, Option, bit_at, not, ◌&&◌, ◌-◌, ◌==◌}
+use Rattle.chess_rules.proofs.Chess.{AreArrived, AreOthers, Man, NoneBelow, paralysed}
 use Rattle.chess_rules.proofs.exposure.some_free_after.Given as goal
 
 abbrev pub invariant-loop-square : goal.invariant-loop-square

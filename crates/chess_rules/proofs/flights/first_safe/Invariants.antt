@@ -1,4 +1,4 @@
-use Rattle.std.proofs.Common.{◌-◌, ◌≤◌}
+use Rattle.chess_rules.proofs.Basics.{◌-◌, ◌≤◌}
 use Rattle.chess_rules.proofs.flights.first_safe.Given as goal
 
 abbrev pub invariant-loop-square : goal.invariant-loop-square

@@ -1,8 +1,5 @@
-use Rattle.std.proofs.Common.{◌≡◌, ◌<◌, ◌∙◌, ap, arith, sym}
-use Rattle.chess_core.specs.Triple.{Triple}
-use Rattle.chess_rules.specs.ties.Flights.{AreOpen, sight_lifted}
-use Rattle.chess_rules.specs.Play.{after, capture_square}
-use Rattle.chess_core.specs.Position.{other}
+use Rattle.chess_rules.proofs.Basics.{ap, arith, sym, ◌<◌, ◌∙◌, ◌≡◌}
+use Rattle.chess_rules.proofs.Chess.{AreOpen, Triple, after, capture_square, other, sight_lifted}
 use Rattle.chess_rules.proofs.giving_check.Fleeing.{has_flight_first}
 use Rattle.chess_rules.proofs.flights.has_flight_from.Goals as goal
 

@@ -1,4 +1,4 @@
-use Rattle.std.proofs.Common.{rules}
+use Rattle.chess_rules.proofs.Basics.{rules}
 use Rattle.chess_rules.proofs.rays.Computed.{aside_at}
 use Rattle.chess_rules.proofs.leaps.squares_aside.Goals as goal
 

@@ -1,4 +1,4 @@
-use Rattle.chess_rules.proofs.Chess.{step_by, hops}
+use Rattle.chess_rules.proofs.Chess.{hops, step_by}
 use Rattle.chess_rules.proofs.rays.Joining.{four}
 use Rattle.chess_rules.proofs.lines.diagonal_hops.Goals as goal
 

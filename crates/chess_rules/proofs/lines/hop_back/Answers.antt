@@ -1,4 +1,4 @@
-use Rattle.chess_rules.proofs.Basics.{◌≡◌, ◌<◌, ◌∙◌, refl, Some, None, true, false, is_some, sym}
+use Rattle.chess_rules.proofs.Basics.{None, Some, false, is_some, refl, sym, true, ◌<◌, ◌∙◌, ◌≡◌}
 use Rattle.chess_rules.proofs.Chess.{along, man_on, step_of}
 use Rattle.chess_rules.proofs.Bits.{word_has}
 use Rattle.chess_rules.proofs.rays.HopWords.{hop_back_over, hop_back_none}

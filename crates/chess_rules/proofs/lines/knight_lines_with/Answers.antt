@@ -1,6 +1,5 @@
-use Rattle.chess_rules.proofs.Basics.{ℕ, Bool}
-use Rattle.chess_rules.proofs.Chess.{is_man, man_on, Nightrider, flat_steps, steep_steps, step_of, is_lined}
-use Rattle.chess_rules.specs.declared.lines.Direction.TheVariants.{NorthNorthEast, SouthSouthEast, NorthNorthWest, SouthSouthWest, EastNorthEast, EastSouthEast, WestNorthWest, WestSouthWest}
+use Rattle.chess_rules.proofs.Basics.{Bool, ℕ}
+use Rattle.chess_rules.proofs.Chess.{EastNorthEast, EastSouthEast, Nightrider, NorthNorthEast, NorthNorthWest, SouthSouthEast, SouthSouthWest, WestNorthWest, WestSouthWest, flat_steps, is_lined, is_man, man_on, steep_steps, step_of}
 use Rattle.chess_rules.proofs.attacks.FairyLines.{man_test}
 use Rattle.chess_rules.proofs.rays.Joining.{both_lists, four}
 use Rattle.chess_rules.proofs.lines.knight_lines_with.Goals as goal

@@ -1,4 +1,4 @@
-use Rattle.chess_rules.proofs.Chess.{flat_steps, steep_steps, rides}
+use Rattle.chess_rules.proofs.Chess.{flat_steps, rides, steep_steps}
 use Rattle.chess_rules.proofs.rays.Joining.{both_lists}
 use Rattle.chess_rules.proofs.lines.knight_rides.Goals as goal
 

@@ -1,5 +1,5 @@
 use Rattle.chess_rules.proofs.Basics.{refl}
-use Rattle.chess_rules.proofs.Chess.{step_of, differs}
+use Rattle.chess_rules.proofs.Chess.{differs, step_of}
 use Rattle.chess_rules.proofs.attacks.FairyLines.{line_misses, line_passes}
 use Rattle.chess_rules.proofs.lines.line_with.Goals as goal
 

@@ -1,5 +1,5 @@
-use Rattle.chess_rules.proofs.Basics.{◌≡◌, true, ◌||◌, refl, ◌∙◌, List, Option, Some, None, is_some, rules, bit_or}
-use Rattle.chess_rules.proofs.Chess.{is_side, man_on, same_colour, side_of, word, Man, Colour, White, Black, squares_either, squares_same}
+use Rattle.chess_rules.proofs.Basics.{List, None, Option, Some, bit_or, is_some, refl, rules, true, ◌||◌, ◌∙◌, ◌≡◌}
+use Rattle.chess_rules.proofs.Chess.{Black, Colour, Man, White, is_side, man_on, same_colour, side_of, squares_either, squares_same, word}
 use Rattle.chess_rules.proofs.lines.occupied.Goals as goal
 
 of_one : (c : Colour) → (same_colour c White || same_colour c Black) ≡ true

@@ -1,6 +1,5 @@
-use Rattle.chess_rules.proofs.Basics.{ℕ, Bool}
-use Rattle.chess_rules.proofs.Chess.{is_man, man_on, diagonal_steps, straight_steps, Grasshopper, step_of, is_lined}
-use Rattle.chess_rules.specs.declared.lines.Direction.TheVariants.{East, West, North, South, NorthEast, SouthEast, NorthWest, SouthWest}
+use Rattle.chess_rules.proofs.Basics.{Bool, ℕ}
+use Rattle.chess_rules.proofs.Chess.{East, Grasshopper, North, NorthEast, NorthWest, South, SouthEast, SouthWest, West, diagonal_steps, is_lined, is_man, man_on, step_of, straight_steps}
 use Rattle.chess_rules.proofs.attacks.FairyLines.{man_test}
 use Rattle.chess_rules.proofs.rays.Joining.{both_lists, four}
 use Rattle.chess_rules.proofs.lines.queen_lines_with.Goals as goal

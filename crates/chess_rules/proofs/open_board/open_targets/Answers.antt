@@ -1,4 +1,4 @@
-use Rattle.std.proofs.Common.{rules}
+use Rattle.chess_rules.proofs.Basics.{rules}
 use Rattle.chess_rules.proofs.rays.OpenBoard.{bishop_lines, king_squares, knight_squares, pawn_squares, queen_lines, rook_lines}
 use Rattle.chess_rules.proofs.listing_moves.Targeting.{every_square_on}
 use Rattle.chess_rules.proofs.open_board.open_targets.Goals as goal

@@ -1,5 +1,4 @@
-use Rattle.std.proofs.Common.{arith}
-use Rattle.std.proofs.lemmas.Nat.{or_lt}
+use Rattle.chess_rules.proofs.Basics.{arith, or_lt}
 use Rattle.chess_rules.proofs.giving_check.FarMen.{check_origins_are, check_origins_own, far_either}
 use Rattle.chess_rules.proofs.origins.check_origins.Goals as goal
 

@@ -1,10 +1,6 @@
-use Rattle.std.proofs.Common.{◌≡◌, ◌<◌, ◌==◌, ◌∙◌, Some, false, arith, sym, rules}
-use Rattle.std.specs.Int.{bit_at}
-use Rattle.chess_core.specs.Position.{man_on}
-use Rattle.chess_core.specs.declared.man.Kind.TheVariants.{King}
-use Rattle.chess_rules.specs.ties.CheckSquares.{own_man}
+use Rattle.chess_rules.proofs.Basics.{Some, arith, bit_at, false, rules, sym, ◌<◌, ◌==◌, ◌∙◌, ◌≡◌}
+use Rattle.chess_rules.proofs.Chess.{King, find_first, man_on, own_man}
 use Rattle.chess_rules.proofs.giving_check.FarMen.{far_none, far_one}
-use Rattle.chess_rules.proofs.Tests.{find_first}
 use Rattle.chess_rules.proofs.origins.far_king.Goals as goal
 
 pub returns-in_default : goal.returns-in_default

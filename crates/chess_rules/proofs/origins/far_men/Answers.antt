@@ -1,9 +1,6 @@
-use Rattle.std.proofs.Common.{◌+◌, ◌-◌, ◌<◌, ◌≤◌, ◌==◌, ◌∙◌, arith, refl, sym}
-use Rattle.std.specs.Int.{bit_at}
-use Rattle.std.proofs.lemmas.Bool.{false≢true}
-use Rattle.chess_rules.specs.ties.CheckSquares.{own_man}
+use Rattle.chess_rules.proofs.Basics.{arith, bit_at, false≢true, refl, sym, ◌+◌, ◌-◌, ◌<◌, ◌==◌, ◌∙◌, ◌≤◌}
+use Rattle.chess_rules.proofs.Chess.{find_first, own_man}
 use Rattle.chess_rules.proofs.giving_check.FarMen.{far_either, far_none, far_one}
-use Rattle.chess_rules.proofs.Tests.{find_first}
 use Rattle.chess_rules.proofs.origins.far_men.Goals as goal
 use Rattle.chess_rules.proofs.origins.far_men.Goals.{then-is_far, else-is_far}
 

@@ -1,4 +1,4 @@
-use Rattle.std.proofs.Common.{◌-◌, ◌≤◌}
+use Rattle.chess_rules.proofs.Basics.{◌-◌, ◌≤◌}
 use Rattle.chess_rules.proofs.giving_check.FarMen.{AreFar}
 use Rattle.chess_rules.proofs.origins.far_men.Given as goal
 

@@ -1,7 +1,5 @@
-use Rattle.std.proofs.Common.{arith, refl}
-use Rattle.std.proofs.lemmas.Bool.{false≢true}
-use Rattle.chess_core.specs.declared.man.Kind.TheVariants.{Pawn}
-use Rattle.chess_rules.specs.ties.CheckSquares.{own_man}
+use Rattle.chess_rules.proofs.Basics.{arith, false≢true, refl}
+use Rattle.chess_rules.proofs.Chess.{Pawn, own_man}
 use Rattle.chess_rules.proofs.giving_check.FarMen.{far_apart}
 use Rattle.chess_rules.proofs.origins.far_pawns.Goals as goal
 

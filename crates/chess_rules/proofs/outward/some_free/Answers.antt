@@ -1,5 +1,5 @@
-use Rattle.chess_rules.proofs.Basics.{◌-◌, ◌==◌, ◌&&◌, ◌∙◌, not, sym, ap, arith, rules, bit_at, and_from, and_right}
-use Rattle.chess_rules.proofs.Chess.{paralysed, some_square_false, some_square_true, find_first, skipped, skipped_all}
+use Rattle.chess_rules.proofs.Basics.{and_from, and_right, ap, arith, bit_at, not, rules, sym, ◌&&◌, ◌-◌, ◌==◌, ◌∙◌}
+use Rattle.chess_rules.proofs.Chess.{find_first, paralysed, skipped, skipped_all, some_square_false, some_square_true}
 use Rattle.chess_rules.proofs.outward.some_free.Goals as goal
 
 pub returns-then-not-paralysed : goal.returns-then-not-paralysed

@@ -1,5 +1,5 @@
-use Rattle.chess_rules.proofs.Basics.{◌-◌, ◌==◌, ◌&&◌, not, bit_at}
-use Rattle.chess_rules.proofs.Chess.{paralysed, NoneBelow}
+use Rattle.chess_rules.proofs.Basics.{bit_at, not, ◌&&◌, ◌-◌, ◌==◌}
+use Rattle.chess_rules.proofs.Chess.{NoneBelow, paralysed}
 use Rattle.chess_rules.proofs.outward.some_free.Given as goal
 
 abbrev pub invariant-loop-square : goal.invariant-loop-square

@@ -1,7 +1,5 @@
-use Rattle.std.proofs.Common.{◌≡◌, ◌<◌, ◌&&◌, ◌∙◌, Bool, Some, ap, arith, not, sym, rules}
-use Rattle.chess_core.specs.Position.{man_on}
-use Rattle.chess_core.specs.Triple.{Triple}
-use Rattle.chess_rules.specs.ties.Shields.{is_plain, may_stand_between}
+use Rattle.chess_rules.proofs.Basics.{Bool, Some, ap, arith, not, rules, sym, ◌&&◌, ◌<◌, ◌∙◌, ◌≡◌}
+use Rattle.chess_rules.proofs.Chess.{Triple, is_plain, man_on, may_stand_between}
 use Rattle.chess_rules.proofs.attacks.Shielding.{cannot_expose_is, cannot_expose_nobody}
 use Rattle.chess_rules.proofs.shields.cannot_expose.Goals as goal
 

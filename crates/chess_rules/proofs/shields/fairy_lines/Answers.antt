@@ -1,4 +1,4 @@
-use Rattle.std.proofs.Common.{◌∙◌, sym}
+use Rattle.chess_rules.proofs.Basics.{sym, ◌∙◌}
 use Rattle.chess_rules.proofs.attacks.FairyLines.{no_fairy_line}
 use Rattle.chess_rules.proofs.shields.fairy_lines.Goals as goal
 

@@ -1,8 +1,6 @@
-use Rattle.std.proofs.Common.{◌-◌, ◌==◌, ◌∙◌, arith, sym, rules}
-use Rattle.std.specs.Int.{bit_at}
-use Rattle.chess_rules.specs.ties.Shields.{steps_along}
+use Rattle.chess_rules.proofs.Basics.{arith, bit_at, rules, sym, ◌-◌, ◌==◌, ◌∙◌}
+use Rattle.chess_rules.proofs.Chess.{find_first, find_no, steps_along}
 use Rattle.chess_rules.proofs.rays.Riding.{ridden_all, ridden_more, ridden_none}
-use Rattle.chess_rules.proofs.Tests.{find_first, find_no}
 use Rattle.chess_rules.proofs.shields.ridden_squares.Goals as goal
 
 pub loop-rider-init : goal.loop-rider-init

@@ -1,8 +1,5 @@
-use Rattle.std.proofs.Common.{◌≡◌, ◌-◌, ◌≤◌, List, Option}
-use Rattle.chess_core.specs.ties.Words.{word}
-use Rattle.chess_core.specs.declared.man.Man.{Man}
-use Rattle.chess_rules.specs.ties.Lines.{occupied_squares}
-use Rattle.chess_rules.specs.ties.Shields.{steps_along}
+use Rattle.chess_rules.proofs.Basics.{List, Option, ◌-◌, ◌≡◌, ◌≤◌}
+use Rattle.chess_rules.proofs.Chess.{Man, occupied_squares, steps_along, word}
 use Rattle.chess_rules.proofs.rays.Riding.{ridden_below}
 use Rattle.chess_rules.proofs.shields.ridden_squares.Given as goal
 

@@ -1,4 +1,4 @@
-use Rattle.chess_rules.specs.ties.Shields.{rider_along, steps_along}
+use Rattle.chess_rules.proofs.Chess.{rider_along, steps_along}
 use Rattle.chess_rules.proofs.rays.Riding.{riders_are}
 use Rattle.chess_rules.proofs.shields.riders_on_lines.Goals as goal
 

@@ -1,4 +1,4 @@
-use Rattle.std.proofs.Common.{◌∙◌, sym, rules}
+use Rattle.chess_rules.proofs.Basics.{rules, sym, ◌∙◌}
 use Rattle.chess_rules.proofs.attacks.Shielding.{shield_squares_all, shield_squares_none, shield_squares_some}
 use Rattle.chess_rules.proofs.shields.shield_squares.Goals as goal
 

@@ -1,5 +1,5 @@
-use Rattle.std.proofs.Common.{rules}
-use Rattle.chess_rules.specs.ties.Shields.{rider_along, steps_along}
+use Rattle.chess_rules.proofs.Basics.{rules}
+use Rattle.chess_rules.proofs.Chess.{rider_along, steps_along}
 use Rattle.chess_rules.proofs.rays.Riding.{none_shut, shut_are}
 use Rattle.chess_rules.proofs.shields.shut_squares.Goals as goal
 

@@ -1,5 +1,5 @@
-use Rattle.std.proofs.Common.{◌≡◌, ap, rules}
-use Rattle.chess_core.specs.Triple.{Triple}
+use Rattle.chess_rules.proofs.Basics.{ap, rules, ◌≡◌}
+use Rattle.chess_rules.proofs.Chess.{Triple}
 use Rattle.chess_rules.proofs.attacks.Shielding.{stands_aside_is, stands_between}
 use Rattle.chess_rules.proofs.shields.stands_aside.Goals as goal
 

@@ -1,4 +1,4 @@
-use Rattle.std.proofs.Common.{refl}
+use Rattle.chess_rules.proofs.Basics.{refl}
 use Rattle.chess_rules.proofs.sight.sight_after.Goals as goal
 
 pub returns : goal.returns

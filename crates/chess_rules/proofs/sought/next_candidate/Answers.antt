@@ -1,6 +1,6 @@
-use Rattle.chess_rules.proofs.Basics.{◌≡◌, ◌∙◌, ◌-◌, ◌*◌, ◌/◌, ◌==◌, arith, sym, bit_at}
-use Rattle.chess_rules.proofs.listing_moves.Walks.{aimed_from, none-end, none-origin}
+use Rattle.chess_rules.proofs.Basics.{arith, bit_at, sym, ◌*◌, ◌-◌, ◌/◌, ◌==◌, ◌∙◌, ◌≡◌}
 use Rattle.chess_rules.proofs.Chess.{find_first}
+use Rattle.chess_rules.proofs.listing_moves.Walks.{aimed_from, none-end, none-origin}
 use Rattle.chess_rules.proofs.sought.next_candidate.Goals as goal
 
 pub returns-then-at-lt-PER_ORIGIN-clause-none : goal.returns-then-at-lt-PER_ORIGIN-clause-none

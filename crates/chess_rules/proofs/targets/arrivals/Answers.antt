@@ -1,4 +1,4 @@
-use Rattle.chess_rules.proofs.Basics.{◌≡◌, ◌∙◌, true, sym}
+use Rattle.chess_rules.proofs.Basics.{sym, true, ◌∙◌, ◌≡◌}
 use Rattle.chess_rules.proofs.Chess.{same_colour}
 use Rattle.chess_rules.proofs.listing_moves.Arrivals.{arrivals_some}
 use Rattle.chess_rules.proofs.targets.arrivals.Goals as goal

@@ -1,6 +1,6 @@
-use Rattle.chess_rules.proofs.Basics.{◌≡◌, ◌+◌, ◌-◌, ◌*◌, ◌/◌, ◌%◌, ◌==◌, sym, ◌∙◌, arith, rules, bit_at}
-use Rattle.chess_rules.proofs.listing_moves.Targeting.{from-join, from-nobody, from-none, from-target, from-unpromoted, named_at, none_named, some_named, from-first}
+use Rattle.chess_rules.proofs.Basics.{arith, bit_at, rules, sym, ◌%◌, ◌*◌, ◌+◌, ◌-◌, ◌/◌, ◌==◌, ◌∙◌, ◌≡◌}
 use Rattle.chess_rules.proofs.Chess.{find_first}
+use Rattle.chess_rules.proofs.listing_moves.Targeting.{from-join, from-nobody, from-none, from-target, from-unpromoted, named_at, none_named, some_named, from-first}
 use Rattle.chess_rules.proofs.targets.next_from.Goals as goal
 
 pub returns-in_default-clause-barren : goal.returns-in_default-clause-barren

@@ -1,6 +1,6 @@
-use Rattle.chess_rules.proofs.Basics.{◌≡◌, ◌+◌, ◌-◌, ◌*◌, ◌/◌, ◌==◌, sym, ◌∙◌, arith, bit_at}
-use Rattle.chess_rules.proofs.listing_moves.Targeting.{plain-named, plain-none, plain-target}
+use Rattle.chess_rules.proofs.Basics.{arith, bit_at, sym, ◌*◌, ◌+◌, ◌-◌, ◌/◌, ◌==◌, ◌∙◌, ◌≡◌}
 use Rattle.chess_rules.proofs.Chess.{find_first}
+use Rattle.chess_rules.proofs.listing_moves.Targeting.{plain-named, plain-none, plain-target}
 use Rattle.chess_rules.proofs.targets.next_unpromoted.Goals as goal
 
 pub returns-in-Some-clause-barren : goal.returns-in-Some-clause-barren

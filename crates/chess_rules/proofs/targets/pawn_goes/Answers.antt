@@ -1,5 +1,5 @@
-use Rattle.chess_rules.proofs.Basics.{◌≡◌, ◌∙◌, ◌==◌, true, arith, sym, bit_at, bit_not, w64, bit_and, eq-eqb}
-use Rattle.chess_rules.proofs.Chess.{rank_of, second_rank, find_first}
+use Rattle.chess_rules.proofs.Basics.{arith, bit_and, bit_at, bit_not, eq-eqb, sym, true, w64, ◌==◌, ◌∙◌, ◌≡◌}
+use Rattle.chess_rules.proofs.Chess.{find_first, rank_of, second_rank}
 use Rattle.chess_rules.proofs.listing_moves.Arrivals.{goes-twice}
 use Rattle.chess_rules.proofs.targets.pawn_goes.Goals as goal
 

@@ -1,4 +1,4 @@
-use Rattle.std.proofs.Common.{◌<◌, ◌-◌, ◌*◌, ◌^◌, ◌%◌, sym, ℕ, arith, rules}
+use Rattle.chess_rules.proofs.Basics.{arith, rules, sym, ℕ, ◌%◌, ◌*◌, ◌-◌, ◌<◌, ◌^◌}
 use Rattle.std.proofs.lemmas.Nat.{and_le_l}
 use Rattle.chess_rules.proofs.Bits.{from_on, next_none, next_some, next_low}
 use Rattle.chess_rules.proofs.words.next_bit.Goals as goal

@@ -1,4 +1,4 @@
-use Rattle.chess_rules.proofs.Basics.{arith, w64, bit_at_set_same}
+use Rattle.chess_rules.proofs.Basics.{arith, bit_at_set_same, w64}
 use Rattle.chess_rules.proofs.rays.Firsts.{has_bit}
 use Rattle.chess_rules.proofs.lines.Direction.first.Goals as goal
 
