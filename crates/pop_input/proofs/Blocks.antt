@@ -37,7 +37,8 @@ said first done = state_of (words_before [] (inside first done))
 pub block_more : (first : Bool) (done : List Token) (line : ℕ) (text : List ℕ)
     → block_fault first (done ++ Word line text ∷ []) ≡ or_else (block_fault first done) (at_line line (fault_of (has_begun first done) (said first done) text))
 block_more first [] line text = grind (arith, fault_more [] [] line text, or_none)
-block_more first (token ∷ done) line text = grind (arith, block_more first done line text, fault_more [] (token ∷ done) line text, fault_more [] done line text, or_later)
+block_more first (token ∷ done) line text =
+    grind (arith, block_more first done line text, fault_more [] (token ∷ done) line text, fault_more [] done line text, or_later)
 
 pub block_line : (first : Bool) (done : List Token) (line : ℕ) (keyword text : List ℕ)
     → block_fault first (done ++ TextLine line keyword text ∷ []) ≡ block_fault first done

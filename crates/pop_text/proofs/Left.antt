@@ -126,7 +126,13 @@ pub run_said : (cut : Bool) (line : ℕ) (gap run view : List ℕ) → list_all 
     → tokens_from None cut line ((gap ++ run) ++ view) ≡ run_tokens (is_text_word run) cut (line + count_by is_line_end gap) run view
 run_said cut line gap [] view blank solid some ends = absurd (omega arith)
 run_said cut line gap (b ∷ run) view blank solid some ends =
-    grind (arith, append_assoc gap (b ∷ run) view, skip_gap cut line gap ((b ∷ run) ++ view), take_run cut (line + count_by is_line_end gap) b run view solid ends)
+    grind (
+      arith,
+      append_assoc gap (b ∷ run) view,
+      skip_gap cut line gap ((b ∷ run) ++ view),
+      take_run cut (line + count_by is_line_end gap) b run view
+          solid ends,
+    )
 
 -- a gap says nothing
 gap_takes : {old new : Reading} {had left : Option (List ℕ)} → UsesAll is_gap old new had left → new.used ≤ limit → Takes (among old) (among new) had left []

@@ -103,7 +103,15 @@ take_room kept part room is = rw (← is) (take-append-add kept part room)
 -- what the word has of a longer run, and whether it has all
 pub run_more : (run part : List ℕ) → 0 < length part → kept_of_run (take 160 run ++ part) ≡ kept_of_run (run ++ part)
 run_more run part some = elim (cases_lt 160 (length run)) [
-  | inl long ↦ grind (arith, length-take 160 run, take_room (take 160 run) part 0, append-nil (take 160 run), take-append-le 160 run part, le-ltb, length-append)
+  | inl long ↦ grind (
+    arith,
+    length-take 160 run,
+    take_room (take 160 run) part 0,
+    append-nil (take 160 run),
+    take-append-le 160 run part,
+    le-ltb,
+    length-append,
+  )
   | inr short ↦ ap (λ r. kept_of_run (r ++ part)) (take_all 160 run short)
 ]
 

@@ -33,7 +33,8 @@ pub skip_gap : (cut : Bool) (n : ℕ) (gap view : List ℕ) → list_all is_gap 
 skip_gap cut n [] view h = ap (λ m. tokens_from None cut m view) (omega arith)
 skip_gap cut n (b ∷ gap) view h =
     let p = all_parts is_gap b gap h in
-    let sum : count_by is_line_end (b ∷ gap) ≡ (0 + cond (is_line_end b) 1 0) + count_by is_line_end gap = sum_by-append (λ x. cond (is_line_end x) 1 0) (b ∷ []) gap in
+    let sum : count_by is_line_end (b ∷ gap) ≡ (0 + cond (is_line_end b) 1 0) + count_by is_line_end gap =
+    sum_by-append (λ x. cond (is_line_end x) 1 0) (b ∷ []) gap in
     skip_one cut n b (gap ++ view) p.0 ∙ skip_gap cut (n + cond (is_line_end b) 1 0) gap view p.1
     ∙ ap (λ m. tokens_from None cut m view) (omega (arith, sum))
 

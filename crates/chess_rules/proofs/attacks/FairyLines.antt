@@ -126,7 +126,8 @@ module _ (men after : List (Option Man)) (e : Colour) (a b k s : ℕ) (i : Frees
 
   -- a grasshopper that stands where it stood hops as it hopped, and one that has come from a as it would have hopped
   pub hopper_before : Holds after men b → WasThere men e Grasshopper a b s → list_any (is_lined men e Grasshopper k a) queen_steps ≡ false
-      → list_any (is_lined men e Grasshopper k b) queen_steps ≡ false → list_any (hops after s k) queen_steps ≡ true → list_any (hops men s k) queen_steps ≡ true
+      → list_any (is_lined men e Grasshopper k b) queen_steps ≡ false → list_any (hops after s k) queen_steps ≡ true → list_any (hops men s k) queen_steps
+      ≡ true
   hopper_before o was p q h =
       any_off queen_directions (λ x. hops after s k (step_of x)) (λ x. hops men s k (step_of x)) (λ x. is_lined men e Grasshopper k a (back (step_of x)))
       (λ x. is_lined men e Grasshopper k b (back (step_of x)))

@@ -1,6 +1,6 @@
 -- A plain move from a square that a queen on the king's doesn't see opens no line to the king.
 use Rattle.chess_rules.proofs.Basics.{Bool, List, None, Option, Some, [], and_from, and_parts, and_right, ap, arith, bit_at, bit_not, bit_or, cases_Bool, cases_eq, cond-false, cond-true, eq-eqb, false, false_from_ne_true, false≢true, inl, inr, is_some, length, list_any, list_any-append, not, not-true, or_cases, or_left, or_parts, or_right, refl, rules, sym, true, w64, ℕ, ◌&&◌, ◌<◌, ◌==◌, ◌||◌, ◌∙◌, ◌∷◌, ◌≡◌, ◌≢◌}
-use Rattle.chess_rules.proofs.Chess.{AtMostOneKing, Bishop, Black, Colour, Direction, East, Grasshopper, IsWellFormed, Kind, King, Man, Move, Nightrider, North, NorthEast, NorthWest, Pawn, Position, Queen, Rook, RuleSet, South, SouthEast, SouthWest, Step, Straight, West, White, after, after_by, arriving, attacked, capture_square, check_of, diagonal_steps, differs, find_first, has_fairy, hops, in_check, is_absent, is_behind, is_castling, is_circe, is_diagonal, is_man, is_on_fairy_line, is_on_fairy_line_to, is_on_some, is_plain, is_promotion_right, is_reached, is_shut, is_side, is_square, is_vacant, king_square, knight_steps, man_on, man_on_at, may_check_from}
+use Rattle.chess_rules.proofs.Chess.{AtMostOneKing, Bishop, Black, Colour, Direction, East, Grasshopper, IsWellFormed, Kind, King, Man, Move, Nightrider, North, NorthEast, NorthWest, Position, Queen, Rook, RuleSet, South, SouthEast, SouthWest, Step, Straight, West, White, after, after_by, arriving, attacked, capture_square, check_of, diagonal_steps, differs, find_first, has_fairy, hops, in_check, is_absent, is_behind, is_castling, is_circe, is_man, is_on_fairy_line, is_on_fairy_line_to, is_on_some, is_plain, is_promotion_right, is_reached, is_shut, is_side, is_square, is_vacant, king_square, knight_steps, man_on, man_on_at, may_check_from}
 use Rattle.chess_rules.proofs.Chess.{may_check_from_on, may_expose, may_expose_on, may_stand_between, moved_men, other, paralysed, pseudo, queen_steps, reaches, reaches_as, reborn_at, reborn_square, rider_along, rides, same_colour, same_kind, some_square_false, some_square_true, squares, squares_either, squares_of, squares_same, step_of, steps_along, straight_steps, strikes, word}
 use Rattle.chess_core.proofs.Ranges.{find_square_some}
 use Rattle.chess_rules.specs.ties.Shields.{cannot_expose}
@@ -44,8 +44,7 @@ unfolding reaches_as
 rider_reaches men e Straight Rook s k h r = r
 rider_reaches men e Diagonal Bishop s k h r = r
 rider_reaches men e Straight Queen s k h r = list_any-append (rides men s k) straight_steps diagonal_steps ∙ or_left _ _ r
-rider_reaches men e Diagonal Queen s k h r =
-    list_any-append (rides men s k) straight_steps diagonal_steps ∙ or_right (list_any (rides men s k) straight_steps) _ r
+rider_reaches men e Diagonal Queen s k h r = search (rules, list_any-append, or_right)
 rider_reaches men e Straight j s k h r = absurd (cc)
 rider_reaches men e Diagonal j s k h r = absurd (cc)
 
@@ -77,9 +76,7 @@ pub not_parted : (men : List (Option Man)) (a k s : ℕ) (e : Colour) (j : Kind)
     → (is_man (man_on men s) e j || is_man (man_on men s) e Queen) ≡ true → s < 64 → is_on_some ds k s ≡ true
     → (list_any (rides men k a) ds ≡ true) × (list_any (rides men s a) ds ≡ true) → ⊥
 unfolding is_shut is_behind
-not_parted men a k s e j ds shut rider small on both =
-    let there = some_square_true (is_behind men e j ds k a) s small (and_from _ _ (and_from _ _ rider on) both.1) in
-    false≢true (sym shut ∙ and_from _ _ both.0 there)
+not_parted men a k s e j ds shut rider small on both = search (rules, some_square_true, and_from, false≢true, shut)
 
 -- the man that has moved is no enemy, or doesn't reach the king
 pub record IsQuiet (men : List (Option Man)) (c : Colour) (a b k : ℕ) (z : Man) : Type 0 where
@@ -101,9 +98,7 @@ king_is men c k one small h =
 module _ (men after : List (Option Man)) (a b : ℕ) (z : Man) (i : IsShift men after a b z) where
   stays_vacant : (o : Option ℕ) → is_vacant after o ≡ true → is_square o a ≡ false → is_vacant men o ≡ true
   stays_vacant None h ne = h
-  stays_vacant (Some q) h ne =
-      let free : man_on men q ≡ None = i.vacated q (none_from_is_some (man_on after q) (not-true _ h)) (λ e. let y : (q == a) ≡ true = eq-eqb q a e in cc) in
-      rw free refl
+  stays_vacant (Some q) h ne = search (rules, none_from_is_some, not-true, eq-eqb)
 
   pub frees : Frees after men a
   frees = record { vacant = stays_vacant }
@@ -114,8 +109,7 @@ module _ (men after : List (Option Man)) (a b : ℕ) (z : Man) (i : IsShift men 
 
   -- what rides to a now, where a is empty, rode there before
   rode : (xs : List Direction) (k : ℕ) → list_any (λ x. rides after k a (step_of x)) xs ≡ true → list_any (λ x. rides men k a (step_of x)) xs ≡ true
-  rode xs k h = any_kept (λ x. rides after k a (step_of x)) (λ x. rides men k a (step_of x)) xs
-      (λ x ride. ride_kept men after a k a (step_of x) frees (λ n q at low lt le. false_from_ne_true _ (λ y. once k q n a x lt (square_is _ a y) at)) ride) h
+  rode xs k h = search (rules, any_kept, ride_kept, frees, false_from_ne_true, once, square_is)
 
   rode_there : (l : RiderLines) (k : ℕ) → list_any (rides after k a) (steps_along l) ≡ true → list_any (rides men k a) (steps_along l) ≡ true
   rode_there Straight k h = rode (East ∷ West ∷ North ∷ South ∷ []) k h
@@ -165,13 +159,11 @@ module _ (men after : List (Option Man)) (a b : ℕ) (z : Man) (i : IsShift men 
     checks_before s None at p ne side h = cc
     checks_before s (Some y) at p ne side h =
         let there : man_on men s ≡ Some y = i.others s y at ne in
-        let of : (j : Kind) → same_kind y.kind j ≡ true → is_man (man_on men s) (other c) j ≡ true =
-        λ j is. ap (λ (o : Option Man). is_man o (other c) j) there ∙ and_from _ _ side is in
+        let of : (j : Kind) → same_kind y.kind j ≡ true → is_man (man_on men s) (other c) j ≡ true = search (rules, and_from) in
         let rider : (j : Kind) → (same_kind y.kind j || same_kind y.kind Queen) ≡ true
-        → (is_man (man_on men s) (other c) j || is_man (man_on men s) (other c) Queen) ≡ true = λ j h.
-        ap (λ (o : Option Man). is_man o (other c) j || is_man o (other c) Queen) there
-        ∙ (λ i. (side i && same_kind y.kind j) || (side i && same_kind y.kind Queen)) ∙ h in
-        let none = unshut s y.kind p (λ l h on both. not_parted men a k s (other c) (rider_along l) (steps_along l) (shut men c a k l g) (rider (rider_along l) h)
+        → (is_man (man_on men s) (other c) j || is_man (man_on men s) (other c) Queen) ≡ true = search rules in
+        let none =
+        unshut s y.kind p (λ l h on both. not_parted men a k s (other c) (rider_along l) (steps_along l) (shut men c a k l g) (rider (rider_along l) h)
         p on both) (λ d is. inl (of d is)) in
         let mine : is_side (man_on men s) (other c) ≡ true = rw there side in
         let then : reaches men s k ≡ true = rw there (reaches_before y.colour k s y.kind p q none (rw at at h)) in
@@ -207,10 +199,8 @@ module _ (men after : List (Option Man)) (a b : ℕ) (z : Man) (i : IsShift men 
           fails = λ s p. false_from_ne_true _ (λ h.
               let h1 = and_parts (is_side (man_on after s) (other c)) (reaches after s k) h in
               elim (cases_eq s b) [
-                | inl e ↦ arrival_strikes (man_on after b) refl l (omega arith) (ap (λ (n : ℕ). is_side (man_on after n) (other c)) (sym e) ∙ h1.0)
-                    (ap (λ (n : ℕ). reaches after n k) (sym e) ∙ h1.1)
-                | inr ne ↦ false≢true (sym g.safe ∙ some_square_true (λ s. is_side (man_on men s) (other c) && reaches men s k) s p
-                    (checks_before s (man_on after s) refl p ne h1.0 h1.1))
+                | inl e ↦ search (rules, arrival_strikes)
+                | inr ne ↦ search (rules, false≢true, some_square_true, checks_before)
               ]);
         })
 
@@ -285,9 +275,7 @@ captures_there p x m s off h = grind (arith, cases_Bool, cond-true, cond-false, 
 
 captures_nobody : (p : Position) (x : Man) (m : Move) → is_square p.crossed m.to ≡ false → is_some (man_on p.men m.to) ≡ false → capture_square p x m ≡ None
 unfolding capture_square
-captures_nobody p x m off e =
-    cond-false (is_some (man_on p.men m.to)) _ _ e
-    ∙ cond-false (same_kind x.kind Pawn && is_diagonal m && is_square p.crossed m.to) _ _ (and_right (same_kind x.kind Pawn && is_diagonal m) _ off)
+captures_nobody p x m off e = search (rules, cond-false, and_right)
 
 -- the parts of a plain move
 pub record IsPlain (rule : RuleSet) (p : Position) (x : Man) (m : Move) : Type 0 where
@@ -366,8 +354,7 @@ cannot_expose_own rule p m well may small h =
     let x : Man = w.0 in
     let is : IsMade rule p x m = made rule p m x may w.1 in
     let parts = cannot_expose_parts rule p x p.turn m w.1 h in
-    let own : same_colour (arriving x m.promo).colour (other p.turn) ≡ false =
-    ap (λ (c : Colour). same_colour c (other p.turn)) (arriving_colour x m.promo ∙ is.mine) ∙ other_differs p.turn in
+    let own : same_colour (arriving x m.promo).colour (other p.turn) ≡ false = search (rules, arriving_colour, other_differs) in
     plain_safe rule p x m p.turn well is small parts.plain parts.origin parts.aside (λ k at. record {
       quiet = λ enemy. absurd (false≢true (sym own ∙ enemy));
       stood = λ enemy. absurd (false≢true (sym own ∙ enemy));
@@ -382,8 +369,7 @@ gives_no_check rule p x m well may small here unpromoted h off =
     let parts = cannot_expose_parts rule p x (other p.turn) m here h in
     plain_safe rule p x m (other p.turn) well (made rule p m x may here) small parts.plain parts.origin parts.aside (λ k at. record {
       quiet = λ enemy.
-          let no : may_check_from_on p.men (Some k) (arriving x m.promo) m.to ≡ false =
-          ap (λ (o : Option ℕ). may_check_from_on p.men o (arriving x m.promo) m.to) (sym at) ∙ off in
+          let no : may_check_from_on p.men (Some k) (arriving x m.promo) m.to ≡ false = search rules in
           (or_parts (is_absent p.men (arriving x m.promo)) (reaches_as p.men (arriving x m.promo).colour (arriving x m.promo).kind m.to k) no).1;
       stood = λ enemy. (here ∙ ap (λ (r : Option Kind). Some (arriving x r)) (sym unpromoted), on_board p.men m.from x well.size here);
     })
@@ -391,9 +377,7 @@ gives_no_check rule p x m well may small here unpromoted h off =
 -- a fairy man by the words of the two kinds
 pub some_grasshopper : (men : List (Option Man)) (c : Colour) (w : ℕ) → w ≡ squares_of men c Grasshopper → (w ≡ 0 → ⊥) → not (w == 0) ≡ has_fairy men c
 unfolding has_fairy squares_of
-some_grasshopper men c w h some =
-    let yes : not (w == 0) ≡ true = ap not (differs w 0 some) in
-    yes ∙ sym (or_left _ _ (sym (not_zero (λ s. is_man (man_on men s) c Grasshopper)) ∙ ap (λ n. not (n == 0)) (sym h) ∙ yes))
+some_grasshopper men c w h some = search (rules, differs, or_left, not_zero)
 
 pub some_nightrider : (men : List (Option Man)) (c : Colour) (w n : ℕ) → w ≡ squares_of men c Grasshopper → w ≡ 0 → n ≡ squares_of men c Nightrider
     → not (n == 0) ≡ has_fairy men c
@@ -408,9 +392,7 @@ shield_squares_none men c h = word_empty (may_expose men c) (λ s b. ap (λ (o :
 pub shield_squares_all : (men : List (Option Man)) (c : Colour) (k : ℕ) → king_square men c ≡ Some k → is_reached men k (other c) ≡ true
     → bit_not w64 0 ≡ word (may_expose men c)
 unfolding may_expose
-shield_squares_all men c k at reached =
-    every_square (may_expose men c) (λ s b. ap (λ (o : Option ℕ). may_expose_on men o c s) at
-    ∙ or_left _ _ (or_left _ _ (or_left _ _ (or_left _ _ reached))))
+shield_squares_all men c k at reached = search (rules, every_square, or_left)
 
 pub shield_squares_some : (men : List (Option Man)) (c : Colour) (k w n : ℕ) → king_square men c ≡ Some k → is_reached men k (other c) ≡ false
     → w ≡ bit_or (bit_or (word (is_square (Some k))) (word (is_shut men (other c) Rook straight_steps k)))
@@ -434,9 +416,7 @@ pub cannot_expose_is : (rule : RuleSet) (p : Position) (x : Man) (c : Colour) (m
     → w ≡ word (may_expose p.men c) → s ≡ m.from → s < 64 → b ≡ (bit_at w s == 1)
     → (not b && (not (may_stand_between p.men c m.to) && is_plain rule p x m)) ≡ cannot_expose rule p c m
 unfolding cannot_expose
-cannot_expose_is rule p x c m w s b here h same small e =
-    rw here (ap (λ (u : Bool). not u && (not (may_stand_between p.men c m.to) && is_plain rule p x m))
-    (e ∙ word_has (may_expose p.men c) w s h small ∙ ap (may_expose p.men c) same))
+cannot_expose_is rule p x c m w s b here h same small e = search (rules, word_has)
 
 pub cannot_expose_nobody : (rule : RuleSet) (p : Position) (c : Colour) (m : Move) → man_on p.men m.from ≡ None → false ≡ cannot_expose rule p c m
 unfolding cannot_expose
@@ -450,11 +430,9 @@ between_is men c w t n b h same small e = e ∙ word_has (may_stand_between men 
 -- where he stands aside
 pub stands_aside_is : (men : List (Option Man)) (c : Colour) (w t n : ℕ) (b u r : Bool) → w ≡ word (may_stand_between men c) → t ≡ n → t < 64
     → b ≡ (bit_at w t == 1) → b ≡ false → r ≡ u → r ≡ (not (may_stand_between men c n) && u)
-stands_aside_is men c w t n b u r h same small e off plain =
-    plain ∙ ap (λ (y : Bool). not y && u) (sym off ∙ between_is men c w t n b h same small e)
+stands_aside_is men c w t n b u r h same small e off plain = search (rules, between_is)
 
 -- and where he doesn't
 pub stands_between : (men : List (Option Man)) (c : Colour) (w t n : ℕ) (b u : Bool) → w ≡ word (may_stand_between men c) → t ≡ n → t < 64
     → b ≡ (bit_at w t == 1) → b ≡ true → false ≡ (not (may_stand_between men c n) && u)
-stands_between men c w t n b u h same small e there =
-    ap (λ (y : Bool). not y && u) (sym there ∙ between_is men c w t n b h same small e)
+stands_between men c w t n b u h same small e there = search (rules, between_is)

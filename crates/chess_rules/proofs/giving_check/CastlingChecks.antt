@@ -1,7 +1,7 @@
 -- Castling that uncovers no king gives check by its rook alone.
 use Rattle.chess_rules.proofs.Basics.{Bool, List, None, Option, Some, [], agree_below, agree_below_at, and_from, and_left, and_parts, ap, arith, bit_and, bit_at, bit_or, cases_eq, cond-false, cond-true, eq-eqb, eqb-true, false, false_from_ne_true, false≢true, inl, inr, is_some, length, length-set, list_all, list_any, not, or_cases, or_left, or_parts, range_with_len, refl, rules, sym, true, ℕ, ◌%◌, ◌&&◌, ◌*◌, ◌+◌, ◌-◌, ◌/◌, ◌<◌, ◌==◌, ◌^◌, ◌||◌, ◌∙◌, ◌∷◌, ◌≡◌, ◌≢◌, ◌≤◌, ◌⊎◌}
-use Rattle.chess_rules.proofs.Chess.{AreCastlingTargets, Bishop, CheckSquares, Colour, Direction, East, Grasshopper, IsWellFormed, Kind, King, Man, Move, Nightrider, North, NorthEast, NorthWest, Pawn, Position, Queen, Rook, RuleSet, South, SouthEast, SouthWest, Step, Straight, West, after, all_at, along, along-is, arriving, capture_square, castles, check_of, corner, find_first, halfway, hops, in_check, is_absent, is_ahead, is_aside, is_castling, is_clear, is_diagonal, is_man, is_on_fairy_line, is_on_fairy_line_to, is_on_some, is_reached, is_side, is_square, is_vacant_at, king_square, man_on, man_on-with_same, may_castle, may_check_from, may_check_from_on, may_expose}
-use Rattle.chess_rules.proofs.Chess.{may_expose_on, may_stand_between, moved_men, other, queen_steps, reaches, reaches_as, rides, same_colour, same_kind, some_square_false, some_square_true, squares, squares_between, step_of, steps_to, straight_steps, with_man, without_at, without_man, word}
+use Rattle.chess_rules.proofs.Chess.{AreCastlingTargets, Bishop, CheckSquares, Colour, Direction, East, Grasshopper, IsWellFormed, Kind, King, Man, Move, Nightrider, North, NorthEast, NorthWest, Pawn, Position, Queen, Rook, RuleSet, South, SouthEast, SouthWest, Step, Straight, West, after, all_at, along, along-is, capture_square, castles, check_of, corner, find_first, halfway, hops, in_check, is_ahead, is_aside, is_castling, is_clear, is_diagonal, is_man, is_on_fairy_line, is_on_fairy_line_to, is_on_some, is_reached, is_side, is_square, is_vacant_at, king_square, man_on, man_on-with_same, may_castle, may_check_from, may_expose}
+use Rattle.chess_rules.proofs.Chess.{may_expose_on, may_stand_between, moved_men, other, queen_steps, reaches, reaches_as, rides, same_colour, same_kind, some_square_false, some_square_true, squares, squares_between, step_of, steps_to, straight_steps, with_man, without_man, word}
 use Rattle.chess_rules.specs.ties.CheckSquares.{enemy}
 use Rattle.chess_rules.proofs.rays.Ahead.{onward, passes}
 use Rattle.chess_rules.proofs.Bits.{word_has, off_left, off_right}
@@ -37,9 +37,7 @@ corner_ends East b lt = agree_below_at (is_end_of (step_of East)) (λ b. true) 6
 corner_ends x b lt = agree_below_at (is_end_of (step_of x)) (λ b. true) 64 b refl lt
 
 end_none : (s : ℕ) (d : Step) (n t : ℕ) → is_end s d ≡ true → 1 ≤ n → n ≤ 7 → along s d n ≡ Some t → ⊥
-end_none s d n t h low le at =
-    let none : not (is_some (along s d n)) ≡ true = all_at (λ n. not (is_some (along s d n))) 1 7 n h low (omega arith) in
-    false≢true (sym (ap (λ (o : Option ℕ). not (is_some o)) at) ∙ none)
+end_none s d n t h low le at = search (rules, all_at, false≢true)
 
 -- so a man in a corner stands between no two squares
 corner_beside : (x : Direction) (b s k : ℕ) → is_corner b ≡ true → b < 64 → s < 64 → IsBeside b s k (step_of x)
@@ -49,10 +47,7 @@ corner_beside x b s k h inside small = λ n i at low lt le. false_from_ne_true _
     let on : along b (step_of x) (n - i) ≡ Some k = onward s b (step_of x) i (n - i) here ∙ ap (along s (step_of x)) rest ∙ at in
     let came : along b (back (step_of x)) i ≡ Some s = square_is _ s (returns_to s b (step_of x) i small y) in
     elim (or_cases (not (is_corner b) || is_end b (step_of x)) (is_end b (back (step_of x))) (corner_ends x b inside)) [
-      | inl first ↦ elim (or_cases (not (is_corner b)) (is_end b (step_of x)) first) [
-        | inl none ↦ false≢true (sym (ap not h) ∙ none)
-        | inr e ↦ end_none b (step_of x) (n - i) k e (omega arith) (omega arith) on
-      ]
+      | inl first ↦ search (rules, or_cases, false≢true, end_none)
       | inr e ↦ end_none b (back (step_of x)) i s e low (omega arith) came
     ])
 
@@ -80,13 +75,7 @@ half_no_hurdle x h s k half inside small ne1 ne2 = λ n at low le. false_from_ne
     let before = passes h s (back (step_of x)) (n - 1) 1 inside (omega arith) came in
     let alone = implied (is_half h) (is_beside_alone h (step_of x)) (half_alone x h inside) half in
     elim (or_cases _ (is_square (along h (step_of x) 1) (h - 1)) alone) [
-      | inl e ↦ elim (or_cases _ (is_square (along h (step_of x) 1) (h + 1)) e) [
-        | inl f ↦ elim (or_cases (not (is_some (along h (back (step_of x)) 1))) (not (is_some (along h (step_of x) 1))) f) [
-          | inl g ↦ false≢true (sym (ap (λ o. not (is_some o)) before.1.at) ∙ g)
-          | inr g ↦ false≢true (sym (ap (λ o. not (is_some o)) on) ∙ g)
-        ]
-        | inr f ↦ ne1 (eqb-true k (h + 1) (sym (ap (λ o. is_square o (h + 1)) on) ∙ f))
-      ]
+      | inl e ↦ search (rules, or_cases, back, false≢true, eqb-true)
       | inr e ↦ ne2 (eqb-true k (h - 1) (sym (ap (λ o. is_square o (h - 1)) on) ∙ e))
     ])
 
@@ -210,10 +199,7 @@ way men a t c h s v = elim s.0 [
 
 -- of these squares, which are apart
 inside_of : (a t c h : ℕ) → CastlingSquares a t c h → (a < 64) × (t < 64) × (h < 64)
-inside_of a t c h s = elim s.0 [
-  | inl e ↦ elim s.1 [ inl f ↦ (omega arith, omega arith, omega arith) | inr f ↦ (omega arith, omega arith, omega arith) ]
-  | inr e ↦ elim s.1 [ inl f ↦ (omega arith, omega arith, omega arith) | inr f ↦ (omega arith, omega arith, omega arith) ]
-]
+inside_of a t c h s = search rules
 
 someone : (o : Option Man) → (o ≡ None → ⊥) → (y : Man) × (o ≡ Some y)
 someone None h = absurd (h refl)
@@ -232,10 +218,7 @@ module _ (rule : RuleSet) (p : Position) (x : Man) (m : Move) (well : IsWellForm
   castle = castle_of rule p x m well is castling
 
   castles_so : castles rule p x m ≡ true
-  castles_so = elim (ways rule p x m is.goes) [
-    | inl w ↦ absurd (false≢true (sym castle.0 ∙ w.0))
-    | inr w ↦ elim w.1 [ inl r ↦ absurd (king_no_step p x m well is.here castling king r) | inr c ↦ c ]
-  ]
+  castles_so = search (rules, ways, false≢true, castle, king_no_step, king)
 
   all_empty : list_all (is_vacant_at p.men) (squares_between m.from (corner m)) ≡ true
   unfolding castles may_castle
@@ -266,9 +249,7 @@ module _ (rule : RuleSet) (p : Position) (x : Man) (m : Move) (well : IsWellForm
   castled = with_man (without_man stepped (corner m)) (halfway m) rook.0
 
   arrived_is : arrived p x m ≡ stepped
-  arrived_is =
-      let same : arriving x m.promo ≡ x = king_stays_king p x m m.promo is.promotion king in
-      (λ i. with_man (without_at (without_man p.men m.from) (nobody i)) m.to (same i))
+  arrived_is = search (rules, king_stays_king, king, nobody)
 
   moved_is : moved_men p x m ≡ castled
   unfolding moved_men
@@ -287,9 +268,7 @@ module _ (rule : RuleSet) (p : Position) (x : Man) (m : Move) (well : IsWellForm
   rook_shift = gone_shift stepped (corner m) None (halfway m) rook.0 (omega (arith, small.2, stepped_size)) (λ s at. absurd (false≢true at))
 
   rook_there : man_on castled (halfway m) ≡ Some rook.0
-  rook_there =
-      man_on-with_same (without_man stepped (corner m)) (halfway m) rook.0
-      (omega (arith, small.2, stepped_size, length-set stepped (corner m) None))
+  rook_there = search (rules, man_on-with_same, rook, small, stepped_size, length-set)
 
   -- what is asked, so that castling gives no check to the king of colour c
   module _ (c : Colour) (enemy_of : same_colour x.colour c ≡ false) (covered : may_expose p.men c m.from ≡ false)
@@ -306,23 +285,14 @@ module _ (rule : RuleSet) (p : Position) (x : Man) (m : Move) (well : IsWellForm
 
       from_there : (y : Man) (t : ℕ) → may_check_from p.men c y t ≡ false → reaches_as p.men y.colour y.kind t k ≡ false
       unfolding may_check_from
-      from_there y t h =
-          (or_parts (is_absent p.men y) (reaches_as p.men y.colour y.kind t k)
-          (ap (λ (o : Option ℕ). may_check_from_on p.men o y t) (sym at) ∙ h)).1
+      from_there y t h = search (rules, or_parts)
 
       -- once the king has stepped, no man reaches the other king
       king_steps : is_reached stepped k (other c) ≡ false
-      king_steps =
-          unreached p.men stepped m.from m.to x king_shift c k parts inside (off_lines m.to aside) (record {
-            quiet = λ mine. from_there x m.to king_off;
-            stood = λ mine. (is.here, small.0);
-          })
+      king_steps = search (rules, unreached, king_shift, parts, off_lines, from_there, stood, small)
 
       not_corner : k ≢ corner m
-      not_corner e =
-          let other_kind : is_man (Some rook.0) c King ≡ true = ap (λ (o : Option Man). is_man o c King) (sym (ap (man_on p.men) e ∙ rook.1)) ∙ stands in
-          let none : same_kind rook.0.kind King ≡ false = ap (λ (j : Kind). same_kind j King) (kind_is_rook rook.0.kind rook_kind) in
-          false≢true (sym none ∙ (and_parts _ _ other_kind).1)
+      not_corner e = search (rules, rook, kind_is_rook, rook_kind, false≢true, and_parts)
 
       apart : (k ≢ halfway m + 1) × (k ≢ halfway m - 1)
       apart =

@@ -1,6 +1,6 @@
 -- A flight after a move, told by the men that an attack on it sees.
 use Rattle.chess_rules.proofs.Basics.{Bool, List, None, Option, Some, and_from, and_left, and_parts, and_right, ap, arith, bit_and, bit_at, bit_at-lt, bit_at-zero, bit_at_and, bit_not, bit_or, cases_Bool, cases_eq, cond-false, cond-true, eq-eqb, eqb-true, false, false_from_ne_true, false≢true, inl, inr, is_some, length, list_any, not, not-true, or_left, or_parts, refl, rules, suc, sym, true, w64, zero, ℕ, ◌&&◌, ◌*◌, ◌+◌, ◌<◌, ◌==◌, ◌||◌, ◌∙◌, ◌≡◌, ◌≢◌}
-use Rattle.chess_rules.proofs.Chess.{AreOpen, AreSeen, Black, Colour, IsWellFormed, King, Man, Move, Pawn, Position, RuleSet, White, after, any_range_cases, any_range_false, arriving, attacked, capture_square, differs, first_of_and, is_arrival_free, is_circe, is_faced, is_goal, is_madrasi, is_man, is_nil, is_side, is_square, king_after, king_square, leaps, legal, man_on, mates, moves, moves_behind, occupied_squares, other, paralysed, pseudo, queen_steps, reaches, reaches_as, reaches_of, same_colour, same_colour-true, same_kind, side_of, sight_lifted, sight_with, some_square, some_square_false, some_square_true, squares, squares_both, squares_either, squares_not}
+use Rattle.chess_rules.proofs.Chess.{AreOpen, AreSeen, Colour, IsWellFormed, King, Man, Move, Pawn, Position, RuleSet, after, any_range_cases, any_range_false, arriving, attacked, capture_square, differs, first_of_and, is_arrival_free, is_circe, is_goal, is_man, is_nil, is_side, is_square, king_after, king_square, leaps, legal, man_on, mates, moves, moves_behind, occupied_squares, other, paralysed, pseudo, queen_steps, reaches, reaches_as, reaches_of, same_colour, same_colour-true, same_kind, side_of, sight_lifted, sight_with, some_square, some_square_false, some_square_true, squares, squares_both, squares_either, squares_not}
 use Rattle.chess_rules.proofs.Chess.{squares_of, strikes, triple_at, without_man, word}
 use Rattle.std.proofs.Common.{IfSome}
 use Rattle.chess_rules.specs.ties.Flights.{IsSeenFrom, has_flight, is_flight, is_flight_from, is_open}
@@ -74,13 +74,7 @@ unseen_bit test n w t h small on = search (rules, on_second, squares_not, word_h
 -- the squares to which a king may step, attacks apart
 free_of : (c : Colour) (o : Option Man) → is_side o (other c) ≡ false → is_man o c King ≡ false → is_arrival_free (other c) o ≡ true
 free_of c None side king = refl
-free_of c (Some y) side king = by c (y.colour) refl side king where
-  by : (c e : Colour) → y.colour ≡ e → same_colour y.colour (other c) ≡ false → (same_colour y.colour c && same_kind y.kind King) ≡ false
-      → (not (same_colour y.colour (other c)) && not (same_kind y.kind King)) ≡ true
-  by White White q s h = rw q (ap not (rw q at h))
-  by Black Black q s h = rw q (ap not (rw q at h))
-  by White Black q s h = absurd (let bad : true ≡ false = rw q at s in false≢true (sym bad))
-  by Black White q s h = absurd (let bad : true ≡ false = rw q at s in false≢true (sym bad))
+free_of c (Some y) side king = search (rules, false≢true)
 
 arrived_free : (c : Colour) (z : Man) → same_colour z.colour (other c) ≡ false → same_kind z.kind King ≡ false → is_arrival_free (other c) (Some z) ≡ true
 arrived_free c z side king = and_from (not (same_colour z.colour (other c))) _ (ap not side) (ap not king)
@@ -111,8 +105,7 @@ module _ (rule : RuleSet) (p : Position) (m : Move) (x : Man) (k : ℕ) (i : IsS
   after_seen = search (rules, simple_after, is_made)
 
   no_king_arrives : same_kind (arriving x m.promo).kind King ≡ false
-  no_king_arrives = false_from_ne_true _ (λ king.
-      false≢true (sym i.mortal ∙ ap (λ (y : Man). same_kind y.kind King) (sym (arriving_king p x m m.promo is_made.promotion king)) ∙ king))
+  no_king_arrives = search (rules, false_from_ne_true, false≢true, arriving_king, is_made)
 
   no_own_arrives : same_colour (arriving x m.promo).colour (other p.turn) ≡ false
   no_own_arrives = ap (λ (c : Colour). same_colour c (other p.turn)) (arriving_colour x m.promo ∙ is_made.mine) ∙ other_differs p.turn
@@ -135,19 +128,8 @@ module _ (rule : RuleSet) (p : Position) (m : Move) (x : Man) (k : ℕ) (i : IsS
     free_there : (t : ℕ) → (is_side (man_on p.men t) (other p.turn) && (not (is_square (capture_square p x m) t) && not (m.from == t))
         || is_man (man_on p.men t) p.turn King) ≡ false → is_arrival_free (other p.turn) (man_on (arrived p x m) t) ≡ true
     free_there t at = elim (cases_eq t m.to) [
-      | inl e ↦
-          let there : man_on (arrived p x m) t ≡ Some (arriving x m.promo) = ap (man_on (arrived p x m)) e
-          ∙ there_now p.men m.from (capture_square p x m) m.to (arriving x m.promo) (omega (arith, small, i.well_formed.size)) in
-          ap (is_arrival_free (other p.turn)) there ∙ arrived_free p.turn (arriving x m.promo) no_own_arrives no_king_arrives
-      | inr ne ↦ elim (cases_Bool (is_square (Some m.from) t || is_square (capture_square p x m) t)) [
-        | inl y ↦ ap (is_arrival_free (other p.turn)) (left_now p.men m.from (capture_square p x m) m.to (arriving x m.promo) t ne y)
-        | inr y ↦
-            let parts = or_parts (m.from == t) (is_square (capture_square p x m) t) y in
-            let clear = unless (is_side (man_on p.men t) (other p.turn)) (not (is_square (capture_square p x m) t)) (not (m.from == t)) _ at
-            (ap not parts.1) (ap not parts.0) in
-            ap (is_arrival_free (other p.turn)) (kept_now p.men m.from (capture_square p x m) m.to (arriving x m.promo) t ne y)
-            ∙ free_of p.turn (man_on p.men t) clear.0 clear.1
-      ]
+      | inl e ↦ search (rules, arrived, there_now, arrived_free, no_own_arrives, no_king_arrives)
+      | inr ne ↦ search (rules, cases_Bool, left_now, or_parts, unless, kept_now, free_of)
     ]
 
     pub open_squares : (w l h : ℕ) → is_circe rule ≡ false → w ≡ word (λ t. list_any (leaps k t) queen_steps)
@@ -232,13 +214,7 @@ module _ (men : List (Option Man)) (a : ℕ) (o : Option ℕ) (b : ℕ) (z : Man
   nobody_strikes : (s : ℕ) → s < 64 → (is_side (man_on now s) c && reaches now s t) ≡ false
   unfolding reaches
   nobody_strikes s small = elim (cases_eq s b) [
-    | inl e ↦ elim (cases_eq s t) [
-      | inl there ↦ elsewhere s small (λ q. there)
-      | inr off ↦
-          let here : man_on now s ≡ Some z = stands_arrived men a o b z k u t x s i.step.arrival i.step.taken e off i.step.apart in
-          and_right (is_side (man_on now s) c) _ (ap (λ (y : Option Man). reaches_of now y s t) here
-          ∙ ap (λ (q : ℕ). reaches_as now z.colour z.kind q t) e ∙ arrival_unseen)
-    ]
+    | inl e ↦ search (rules, cases_eq, elsewhere, stands_arrived, taken, and_right, arrival_unseen)
     | inr ne ↦ elsewhere s small (λ e. absurd (ne e))
   ]
 
@@ -249,10 +225,7 @@ module _ (men : List (Option Man)) (a : ℕ) (o : Option ℕ) (b : ℕ) (z : Man
 -- the step itself
 other_side : (o : Option Man) (c : Colour) → is_man o (other c) King ≡ true → is_side o c ≡ false
 other_side None c h = refl
-other_side (Some y) c h = by c (same_colour-true y.colour (other c) (first_of_and _ _ h)) where
-  by : (e : Colour) → y.colour ≡ other e → same_colour y.colour e ≡ false
-  by White q = rw q refl
-  by Black q = rw q refl
+other_side (Some y) c h = search (rules, same_colour-true, first_of_and)
 
 pub steps_there : (men : List (Option Man)) (x : Man) (c : Colour) (k t : ℕ) → man_on men k ≡ Some x → same_colour x.colour c ≡ true
     → same_kind x.kind King ≡ true → reaches_as men c King k t ≡ true → reaches men k t ≡ true
@@ -285,8 +258,7 @@ step_to k t = record { from = k; to = t; promo = None }
 pub king_is_able : (rule : RuleSet) (men : List (Option Man)) (x : Man) (k : ℕ) → man_on men k ≡ Some x → same_kind x.kind King ≡ true
     → paralysed rule men k ≡ false
 unfolding paralysed
-king_is_able rule men x k here king =
-    and_right (is_madrasi rule) _ (ap (λ (o : Option Man). is_faced men o k) here ∙ and_left (not (same_kind x.kind King)) _ (ap not king))
+king_is_able rule men x k here king = search (rules, and_right, and_left)
 
 module _ (rule : RuleSet) (q : Position) (x : Man) (k t : ℕ) (i : IsKingStep rule q x k t) where
   may_step : pseudo rule q (step_to k t) ≡ true

@@ -1,5 +1,5 @@
 -- A man who is reborn gives his own king no check, but as a grasshopper's hurdle.
-use Rattle.chess_rules.proofs.Basics.{List, None, Option, Some, and_from, and_parts, ap, arith, bit_at, cases_Bool, cond-false, cond-true, false, false_from_ne_true, false≢true, inl, inr, is_some, length, list_all, list_any, not, not-true, range_with_len, refl, sym, true, ℕ, ◌&&◌, ◌-◌, ◌<◌, ◌==◌, ◌∙◌, ◌≡◌}
+use Rattle.chess_rules.proofs.Basics.{List, None, Option, Some, and_from, and_parts, ap, arith, bit_at, cases_Bool, cond-false, cond-true, false, false_from_ne_true, false≢true, inl, inr, is_some, length, list_all, list_any, not, not-true, range_with_len, refl, sym, true, ℕ, ◌&&◌, ◌-◌, ◌<◌, ◌==◌, ◌∙◌, ◌≡◌, rules}
 use Rattle.chess_rules.proofs.Chess.{AreCheckSquares, AtMostOneKing, Bishop, CheckSquares, Colour, Grasshopper, IsWellFormed, Kind, King, Man, Move, Nightrider, Position, Queen, Rook, RuleSet, Step, after, after_by, along, are_rebirths_quiet, arriving, attacked, capture_square, castles, check_of, check_squares_for, circe, corner, diagonal_steps, find_first, halfway, in_check, is_absent, is_castling, is_clear, is_man, is_man-without, is_side, is_square, is_vacant, king_square, knight_steps, man_on, man_on_at, may_castle, may_check_from, move_man, moved_men, orthodox, other, paralysed, pseudo, pseudo_of, put_at, queen_steps, reaches, reaches_as, reaches_of, reborn_square}
 use Rattle.chess_rules.proofs.Chess.{rides, same_colour, same_kind, some_square_false, some_square_true, squares, straight_steps, strikes, with_man, without_at, without_man}
 use Rattle.chess_rules.specs.RuleSet.{madrasi}
@@ -66,9 +66,7 @@ module _ (men : List (Option Man)) (r : ℕ) (y : Man) where
 
     king_stood : (k : ℕ) → is_man (man_on (with_man men r y) k) c King ≡ true → is_man (man_on men k) c King ≡ true
     king_stood k h = elim (man_on-with_cases men r k y) [
-      | inl e ↦
-          let is : is_man (Some y) c King ≡ true = ap (λ (o : Option Man). is_man o c King) (sym e.1) ∙ h in
-          absurd (false≢true (sym mortal ∙ (and_parts (same_colour y.colour c) _ is).1))
+      | inl e ↦ search (rules, false≢true, and_parts)
       | inr e ↦ ap (λ (o : Option Man). is_man o c King) (sym e) ∙ h
     ]
 
@@ -132,11 +130,8 @@ moved_lacks : (p : Position) (x : Man) (m : Move) (e : Colour) → man_on p.men 
     → LacksGrasshopper (moved_men p x m) e
 unfolding moved_men
 moved_lacks p x m e here unpromoted none =
-    let comes : is_man (Some (arriving x m.promo)) e Grasshopper ≡ false = ap (λ (r : Option Kind). is_man (Some (arriving x r)) e Grasshopper) unpromoted
-    ∙ ap (λ (o : Option Man). is_man o e Grasshopper) (sym here) ∙ none m.from in
-    let arrived_lacks : LacksGrasshopper (arrived p x m) e =
-    lacks_with (without_at (without_man p.men m.from) (capture_square p x m)) m.to (arriving x m.promo) e
-    (lacks_without_at (without_man p.men m.from) (capture_square p x m) e (lacks_without p.men m.from e none)) comes in
+    let comes : is_man (Some (arriving x m.promo)) e Grasshopper ≡ false = search rules in
+    let arrived_lacks : LacksGrasshopper (arrived p x m) e = search (rules, lacks_with, lacks_without_at, lacks_without) in
     elim (cases_Bool (is_castling x m)) [
       | inl castles ↦ rw castles (lacks_moved (arrived p x m) (corner m) (halfway m) (man_on (arrived p x m) (corner m)) e refl arrived_lacks)
       | inr no_castles ↦ rw no_castles arrived_lacks
@@ -192,17 +187,6 @@ pub no_check_by_rebirth : (rule : RuleSet) (p : Position) (x : Man) (m : Move) (
     → (bit_at w t == 1) ≡ false → (same_kind y.kind King ≡ true → may_check_from p.men (other p.turn) y t ≡ false) → m.promo ≡ None
     → cannot_expose (rule_of_checks rule p.men p.turn) p (other p.turn) m ≡ true → in_check rule (after rule p m).men (other p.turn) ≡ false
 no_check_by_rebirth rule p x m s y w t well may here a is h same small off apart unpromoted cover = elim (cases_Bool (are_rebirths_quiet rule p.men p.turn)) [
-  | inl quiet ↦
-      let parts = quiet_parts rule p.men p.turn quiet in
-      let may_so : pseudo circe p m ≡ true = ap (λ (r : RuleSet). pseudo r p m) (sym parts.0) ∙ may in
-      let cover_so : cannot_expose orthodox p (other p.turn) m ≡ true =
-      ap (λ (r : RuleSet). cannot_expose r p (other p.turn) m) (sym (cond-true (are_rebirths_quiet rule p.men p.turn) _ _ quiet)) ∙ cover in
-      ap (λ (r : RuleSet). in_check r (after r p m).men (other p.turn)) parts.0
-      ∙ rebirth_gives_no_check p x m well may_so here unpromoted parts.1
-      (no_check orthodox p x m s y w t well (pseudo_so p m may_so) here a is h same small off
-      apart unpromoted cover_so)
-  | inr loud ↦
-      let cover_so : cannot_expose rule p (other p.turn) m ≡ true =
-      ap (λ (r : RuleSet). cannot_expose r p (other p.turn) m) (sym (cond-false (are_rebirths_quiet rule p.men p.turn) _ _ loud)) ∙ cover in
-      no_check rule p x m s y w t well may here a is h same small off apart unpromoted cover_so
+  | inl quiet ↦ grind (arith, quiet_parts, cond-true, rebirth_gives_no_check, no_check, pseudo_so)
+  | inr loud ↦ grind (arith, cond-false, no_check)
 ]

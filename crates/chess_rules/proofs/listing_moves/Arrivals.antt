@@ -34,8 +34,10 @@ castling_none u x s h = word_empty (λ t. u && steps_to x s t) (λ t b. and_left
 -- one square ahead, and the square halfway to the one behind it
 one_near : (c : Colour) (s t : ℕ) → s < 64 → t < 64 → is_square (along s (forward c) 1) t ≡ (is_advance c s t && list_any (leaps s t) queen_steps)
 unfolding along leaps
-one_near White s t p q = each_pair (λ s t. is_square (along s (forward White) 1) t) (λ s t. is_advance White s t && list_any (leaps s t) queen_steps) s t p q refl
-one_near Black s t p q = each_pair (λ s t. is_square (along s (forward Black) 1) t) (λ s t. is_advance Black s t && list_any (leaps s t) queen_steps) s t p q refl
+one_near White s t p q =
+    each_pair (λ s t. is_square (along s (forward White) 1) t) (λ s t. is_advance White s t && list_any (leaps s t) queen_steps) s t p q refl
+one_near Black s t p q =
+    each_pair (λ s t. is_square (along s (forward Black) 1) t) (λ s t. is_advance Black s t && list_any (leaps s t) queen_steps) s t p q refl
 
 half_one : (c : Colour) (s t : ℕ) → s < 64 → t < 64 → is_square (along s (forward c) 2) t ≡ true → is_square (along s (forward c) 1) ((s + t) / 2) ≡ true
 half_one c s t p q = implied _ _ (table c)
@@ -117,13 +119,7 @@ module _ (p : Position) (x : Man) (s : ℕ) (small : s < 64) (a o k : ℕ) (adva
           ])
 
       back : (t : ℕ) → pawn_goes p x s t ≡ true → ahead t ≡ true
-      back t h =
-          let parts = and_parts (is_vacant_at p.men t) (is_square (along s (forward x.colour) 1) t
-          || (rank_of s == second_rank x.colour && is_square (along s (forward x.colour) 2) t && is_vacant_at p.men ((s + t) / 2))) h in
-          and_from _ _ (elim (or_cases (is_square (along s (forward x.colour) 1) t) _ parts.1) [
-            | inl one ↦ or_left (is_square (along s (forward x.colour) 1) t) (is_square (along s (forward x.colour) 2) t) one
-            | inr two ↦ or_right (is_square (along s (forward x.colour) 1) t) _ (and_parts _ _ (and_parts _ _ two).0).1
-          ]) parts.0
+      back t h = search (rules, and_parts, and_from, or_cases, or_left, or_right)
 
   pub goes-once : (rank_of s == second_rank x.colour) ≡ false → bit_and (bit_and a (bit_not w64 o)) k ≡ word (pawn_goes p x s)
   goes-once none = next_word ∙ squares_same next (pawn_goes p x s) (λ t lt. same_Bool (next t) (pawn_goes p x s t) (onto t lt) (back t lt))
@@ -132,13 +128,7 @@ module _ (p : Position) (x : Man) (s : ℕ) (small : s < 64) (a o k : ℕ) (adva
       onto t lt h = and_from _ _ (and_parts (is_advance x.colour s t) _ (and_parts (ahead t) _ h).0).1 (or_left _ _ (one_of t lt h))
 
       back : (t : ℕ) → t < 64 → pawn_goes p x s t ≡ true → next t ≡ true
-      back t lt h =
-          let parts = and_parts (is_vacant_at p.men t) (is_square (along s (forward x.colour) 1) t
-          || (rank_of s == second_rank x.colour && is_square (along s (forward x.colour) 2) t && is_vacant_at p.men ((s + t) / 2))) h in
-          elim (or_cases (is_square (along s (forward x.colour) 1) t) _ parts.1) [
-            | inl one ↦ next_of t lt one parts.0
-            | inr two ↦ absurd (let yea : (rank_of s == second_rank x.colour) ≡ true = (and_parts _ _ (and_parts _ _ two).0).0 in cc)
-          ]
+      back t lt h = search (rules, and_parts, or_cases, next_of)
 
 -- the squares to which a man goes
 pub pawn_ways : (p : Position) (x : Man) (s r o y g : ℕ) → same_kind x.kind Pawn ≡ true → r ≡ word (λ t. reaches_as p.men x.colour x.kind s t)

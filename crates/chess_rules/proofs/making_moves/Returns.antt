@@ -1,6 +1,6 @@
 -- The position before a move, found again.
 use Rattle.chess_rules.proofs.Basics.{IsSome, List, None, Option, Some, and_parts, ap, arith, cases_Bool, inl, inr, length, length-set, refl, rules, sym, true, ℕ, ◌<◌, ◌∙◌, ◌≡◌}
-use Rattle.chess_rules.proofs.Chess.{CanCastle, CanReturn, IsWellFormed, Kind, Man, Move, Position, RuleSet, after, after_by, arriving, before_by, capture_square, corner, halfway, is_castling, is_crossed_right, is_promotion_right, is_square, leaving, loss_by, man_on, man_on-with_same, man_on-without_other, man_on-without_same, man_on_at, moved_men, pseudo, put_at, reborn_square, returned_men, returns_to, uncastled_men, undo_of, with_man, without_at, without_man}
+use Rattle.chess_rules.proofs.Chess.{CanCastle, CanReturn, IsWellFormed, Kind, Man, Move, Position, RuleSet, after, after_by, arriving, before_by, capture_square, corner, halfway, is_castling, is_crossed_right, is_promotion_right, is_square, leaving, loss_by, man_on, man_on-with_same, man_on-without_other, man_on-without_same, man_on_at, moved_men, pseudo, put_at, reborn_square, returned_men, returns_to, uncastled_men, undo_of, without_at, without_man}
 use Rattle.chess_rules.specs.Loss.{Loss}
 use Rattle.chess_rules.proofs.making_moves.Pseudo.{made}
 use Rattle.chess_rules.proofs.making_moves.Back.{lift_after_place, place_after_lift, unborn, uncastled}
@@ -45,24 +45,7 @@ rook_stands p m castle = search rules
 uncastles : (rule : RuleSet) (p : Position) (x : Man) (m : Move) → IsWellFormed p → IsMade rule p x m → uncastled_men (moved_men p x m) x m ≡ arrived p x m
 unfolding moved_men uncastled_men
 uncastles rule p x m well made = elim (cases_Bool (is_castling x m)) [
-  | inl e ↦
-      let c = castle_of rule p x m well made e in
-      let can : CanCastle (arrived p x m) (corner m) (halfway m) = (can_move rule p x m well made).rook e in
-      let z = rook_stands p m c.1 in
-      let there : man_on (arrived p x m) (corner m) ≡ Some z.0 = corner_stays p x m c.0 c.1 ∙ z.1 in
-      let a = length-without_at (without_man p.men m.from) (capture_square p x m) in
-      let b = length-set p.men m.from None in
-      let d = length-set (cleared p x m) m.to (Some (arriving x m.promo)) in
-      let f = length-set (arrived p x m) (corner m) None in
-      let size : length p.men ≡ 64 = well.size in
-      let in_board : halfway m < length (without_man (arrived p x m) (corner m)) = elim c.1.from [
-        | inl
-            g ↦ elim c.1.far [ inl h ↦ omega arith | inr h ↦ omega arith ]
-        | inr g ↦ elim c.1.far [ inl h ↦ omega arith | inr h ↦ omega arith ]
-      ] in
-      let mid : man_on (with_man (without_man (arrived p x m) (corner m)) (halfway m) z.0) (halfway m)
-      ≡ Some z.0 = man_on-with_same (without_man (arrived p x m) (corner m)) (halfway m) z.0 in_board in
-      rw (e, there, mid) (uncastled (arrived p x m) (corner m) (halfway m) z.0 there can.free)
+  | inl e ↦ search (rules, castle_of, made, arrived, can_move, rook_stands, corner_stays, length-without_at, length-set, man_on-with_same, uncastled)
   | inr e ↦ rw e refl
 ]
 
@@ -184,8 +167,7 @@ unfolding loss_by after_by
 can_take_off rule q p m u s well may now was e =
     let x = maker rule p m may in
     let at : reborn_square rule p x.0 m ≡ Some s = ap (λ (v : Loss). v.rebirth) (sym (was ∙ undo_is rule p x.0 m x.1)) ∙ e in
-    let men : q.men ≡ put_at (moved_men p x.0 m) (reborn_square rule p x.0 m) (man_on_at p.men (capture_square p x.0 m)) = ap (λ (v : Position). v.men)
-    (now ∙ after_is rule p x.0 m x.1) in
+    let men : q.men ≡ put_at (moved_men p x.0 m) (reborn_square rule p x.0 m) (man_on_at p.men (capture_square p x.0 m)) = search (rules, after_is) in
     rw men (reborn_stands rule p x.0 m s well (made rule p m x.0 may x.1) at)
 
 -- the board when the reborn man is off

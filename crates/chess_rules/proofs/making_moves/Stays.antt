@@ -25,14 +25,7 @@ man_on-with_cases men s t y = elim (cases_eq t s) [
 ]
 
 IsSound-without : (men : List (Option Man)) (s : ℕ) → IsSound men → IsSound (without_man men s)
-IsSound-without men s sound = record {
-  size = length-set men s None ∙ sound.size;
-  kings = AtMostOneKing-without men s sound.kings;
-  pawns = λ t. elim (cases_eq t s) [
-    | inl same ↦ let e : man_on (without_man men s) t ≡ None = rw same (man_on-without_same men s) in rw e refl
-    | inr ne ↦ rw (man_on-without_other men s t ne) (sound.pawns t)
-  ];
-}
+IsSound-without men s sound = search (rules, length-set, AtMostOneKing-without, cases_eq, man_on-without_same, man_on-without_other)
 
 IsSound-without_at : (men : List (Option Man)) (o : Option ℕ) → IsSound men → IsSound (without_at men o)
 IsSound-without_at men None sound = sound

@@ -17,5 +17,6 @@ returns g c = λ h.
     c.open_squares-near.ensures m x c.requires.seen small seen in
     let promo : c.m.inside.promo ≡ m.promo = ap (λ (v : Triple). v.promo) c.m.view_is in
     has_flight_first g.R.Rules.rule p m x c.args.king c.requires.seen small c.open_squares-near.result c.covered_squares-covered.result near
-    (rw (seen, promo, to) at c.covered_squares-covered.ensures) c.first_safe.result c.first_safe.ensures.within (rw (seen, c.turn.ensures) at c.first_safe.ensures.safe)
+    (rw (seen, promo, to) at c.covered_squares-covered.ensures) c.first_safe.result c.first_safe.ensures.within
+    (rw (seen, c.turn.ensures) at c.first_safe.ensures.safe)
     (sym c.is_some.ensures ∙ h)

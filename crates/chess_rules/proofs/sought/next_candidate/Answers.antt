@@ -5,7 +5,8 @@ use Rattle.chess_rules.proofs.sought.next_candidate.Goals as goal
 
 pub returns-then-at-lt-PER_ORIGIN-clause-none : goal.returns-then-at-lt-PER_ORIGIN-clause-none
 returns-then-at-lt-PER_ORIGIN-clause-none g c =
-    none-origin g.R.Rules.rule c.args.board.now (g.S.Sought.test g.R.Rules.rule c.args.board.now) (λ m h. g.met.S.Sought.idle g.R.Rules.rule c.args.board.now m h)
+    none-origin g.R.Rules.rule c.args.board.now (g.S.Sought.test g.R.Rules.rule c.args.board.now)
+    (λ m h. g.met.S.Sought.idle g.R.Rules.rule c.args.board.now m h)
     c.args.start c.loop-from.number c.in-Some.from c.next_from-at.result c.args.origins c.keep.result.squares _ _ c.requires.origins c.loop-from.invariant.none
     (sym c.next_bit.ensures.value ∙ c.in-Some.is) c.next_from-at.ensures.high (c.keep.ensures.kept.are _ c.keep.ensures.origin)
     (omega (arith, c.from-first.ensures, c.index.ensures.value)) c.saturating_sub.ensures c.next_from-at.ensures.barren
@@ -14,7 +15,8 @@ pub returns-then-at-lt-PER_ORIGIN-clause-aimed : goal.returns-then-at-lt-PER_ORI
 returns-then-at-lt-PER_ORIGIN-clause-aimed g c lt =
     let at : c.from-first.result * 448 ≡ 448 * c.in-Some.from = omega (arith, c.from-first.ensures, c.index.ensures.value) in
     rw at (aimed_from g.R.Rules.rule c.args.board.now (g.S.Sought.test g.R.Rules.rule c.args.board.now) c.in-Some.from c.keep.result.squares
-    c.next_from-at.result c.if-at-lt-PER_ORIGIN.true (c.keep.ensures.kept.are _ c.keep.ensures.origin) (c.next_from-at.ensures.named c.if-at-lt-PER_ORIGIN.true))
+    c.next_from-at.result c.if-at-lt-PER_ORIGIN.true (c.keep.ensures.kept.are _ c.keep.ensures.origin)
+    (c.next_from-at.ensures.named c.if-at-lt-PER_ORIGIN.true))
 
 pub loop-from-preserved : goal.loop-from-preserved
 loop-from-preserved g c =

@@ -19,7 +19,8 @@ pub loop-to-preserved : goal.loop-to-preserved
 loop-to-preserved c =
     let t = c.in-Some-next_bit.to in
     let at : c.from-first.result * 7 ≡ 7 * t = omega (arith, c.from-first.ensures, c.index.ensures.value) in
-    let first = find_first (λ s. bit_at c.args.word s == 1) (c.loop-to.at / 7) (64 - c.loop-to.at / 7) t (sym c.next_bit.ensures.value ∙ c.in-Some-next_bit.is) in
+    let first =
+    find_first (λ s. bit_at c.args.word s == 1) (c.loop-to.at / 7) (64 - c.loop-to.at / 7) t (sym c.next_bit.ensures.value ∙ c.in-Some-next_bit.is) in
     record {
       low = omega (arith, c.loop-to.invariant.low, first.low);
       high = omega (arith, c.from-first.ensures, c.index.ensures.small);
@@ -41,7 +42,9 @@ returns-else-at-first-clause-named c lt = search (rules, find_first, named_at, s
 pub returns-then-at-first-2-clause-named : goal.returns-then-at-first-2-clause-named
 returns-then-at-first-2-clause-named c lt =
     let t = c.in-Some-next_bit.to in
-    let first = find_first (λ s. bit_at c.args.word s == 1) (c.loop-to.at / 7) (64 - c.loop-to.at / 7) t (sym c.next_bit.ensures.value ∙ c.in-Some-next_bit.is) in
+    let first =
+    find_first (λ s. bit_at c.args.word s == 1) (c.loop-to.at / 7) (64 - c.loop-to.at / 7) t (sym c.next_bit.ensures.value ∙ c.in-Some-next_bit.is) in
     let at : c.from-first.result * 7 ≡ 7 * t = omega (arith, c.from-first.ensures, c.index.ensures.value) in
-    named_at c.args.board.now c.in-Some.man c.args.from t (c.from-first.result * 7) c.args.word (sym c.man_at.ensures ∙ c.in-Some.is) first.here (omega (arith, at))
+    named_at c.args.board.now c.in-Some.man c.args.from t (c.from-first.result * 7) c.args.word (sym c.man_at.ensures ∙ c.in-Some.is) first.here
+    (omega (arith, at))
     (none_named (c.from-first.result * 7 % 7) (omega (arith, at)) ∙ sym (sym c.arrives.ensures ∙ c.if-arrives.false))

@@ -19,4 +19,5 @@ words-preserved c =
     (step_more view left behind c.words.plain.count c.gap_front-gap.result.count c.run_front-run.result c.words.plain.line_ends c.gap_front-gap.result.line_ends
     (take_rest view c.words.plain.count) (take_rest left c.gap_front-gap.result.count) (λ none. omega (arith, none, some)) (λ all. omega (arith, all, whole))
     c.gap_front-gap.ensures.first.within c.run_front-run.ensures.front.within
-    c.gap_front-gap.ensures.first.all c.run_front-run.ensures.front.all c.run_front-run.ensures.over (told.plain yes) c.gap_front-gap.ensures.first.lines c.words.invariant)
+    c.gap_front-gap.ensures.first.all c.run_front-run.ensures.front.all c.run_front-run.ensures.over (told.plain yes) c.gap_front-gap.ensures.first.lines
+    c.words.invariant)

@@ -54,7 +54,8 @@ pub returns-in-Some-clause-item : goal.returns-in-Some-clause-item
 returns-in-Some-clause-item g c =
     let i = c.words.invariant in
     let new : Standing = record { next = c.next_behind-self-inside.result; at = c.next_token.new.scanner } in
-    word_closes _ _ new _ _ i.starts _ _ _ _ i.block _ _ c.in-Word.ensures.token.0 c.read_word.ensures.read c.closed.result c.in-Some.last _ c.closed.ensures refl
+    word_closes _ _ new _ _ i.starts _ _ _ _ i.block _ _ c.in-Word.ensures.token.0 c.read_word.ensures.read c.closed.result c.in-Some.last _
+    c.closed.ensures refl
     (sym c.read_word.ensures.closes ∙ c.in-Some.is) c.next_behind-self-inside.ensures
 
 pub returns-in-Ended-clause-item : goal.returns-in-Ended-clause-item
