@@ -35,19 +35,15 @@ unfoldable pub use Rattle.chess_rules.specs.Play.{after, after_by, capture_squar
 pub use Rattle.chess_rules.specs.Reaches.{is_occupied, is_vacant, reaches_of}
 unfoldable pub use Rattle.chess_rules.specs.Reaches.{hops, is_clear, leaps, reaches, reaches_as, rides}
 pub use Rattle.chess_rules.specs.RuleSet.{RuleSet, circe, is_circe, is_madrasi, orthodox}
-pub use Rattle.chess_rules.specs.declared.checks.CheckSquares.{CheckSquares}
 pub use Rattle.chess_rules.specs.declared.lines.Direction.{Direction}
 pub use Rattle.chess_rules.specs.declared.lines.Direction.TheVariants.{East, EastNorthEast, EastSouthEast, North, NorthEast, NorthNorthEast, NorthNorthWest, NorthWest, South, SouthEast, SouthSouthEast, SouthSouthWest, SouthWest, West, WestNorthWest, WestSouthWest}
 pub use Rattle.chess_rules.specs.declared.shields.RiderLines.TheVariants.{Straight}
-pub use Rattle.chess_rules.specs.ties.CheckSquares.{AreApproaches, AreCastlingTargets, AreCheckOrigins, AreCheckSquares, AreCheckTargets, check_squares_for, is_absent, may_check_from_on, own_man}
-unfoldable pub use Rattle.chess_rules.specs.ties.CheckSquares.{are_rebirths_quiet, may_check_from}
 pub use Rattle.chess_rules.specs.ties.Evasions.{AreEvasions, AreEvasionsFrom}
-pub use Rattle.chess_rules.specs.ties.Flights.{AreOpen, sight_lifted, sight_with}
 pub use Rattle.chess_rules.specs.ties.Lines.{IsStop, direction_number, flat_steps, is_advance, is_aside, occupied_squares, place, place_by, steep_steps, step_of}
 unfoldable pub use Rattle.chess_rules.specs.ties.Lines.{is_ahead, is_on_some, ray, rises}
 unfoldable pub use Rattle.chess_rules.specs.ties.Outward.{hopped_from, rides_on}
-pub use Rattle.chess_rules.specs.ties.Places.{HaveNone, IsBarrenFrom, IsNamed, IsNextMate, IsPlaceIn, is_mating, promotion_at}
-unfoldable pub use Rattle.chess_rules.specs.ties.Places.{first_behind, mates, mates_behind, mates_between, moves_behind, moves_between, place_of, triple_at}
+pub use Rattle.chess_rules.specs.ties.Places.{HaveNone, IsBarrenFrom, IsNamed, IsPlaceIn, promotion_at}
+unfoldable pub use Rattle.chess_rules.specs.ties.Places.{first_behind, moves_behind, moves_between, place_of, triple_at}
 pub use Rattle.chess_rules.specs.ties.Playing.{CanCastle, CanMove}
 pub use Rattle.chess_rules.specs.ties.Shields.{is_fairy, is_lined, is_on_fairy_line_to, may_expose_on, rider_along, steps_along}
 unfoldable pub use Rattle.chess_rules.specs.ties.Shields.{has_fairy, is_behind, is_on_fairy_line, is_plain, is_reached, is_shut, may_expose, may_stand_between}

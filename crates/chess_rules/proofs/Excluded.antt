@@ -14,13 +14,12 @@ use Rattle.chess_core.specs.declared.man.Kind.TheVariants.{King, Queen, Rook, Bi
 use Rattle.chess_core.specs.declared.man.Kind.{Kind}
 use Rattle.chess_core.specs.declared.man.Man.{Man}
 use Rattle.chess_rules.specs.Attacks.{attacked, faces, faces_its_like, in_check, paralysed, strikes}
-use Rattle.chess_rules.specs.ties.CheckSquares.{AreCheckTargets, enemy, may_check_from}
 use Rattle.chess_rules.specs.ties.Evasions.{is_fairy_man, AreEvasions, AreEvasionsFrom, is_evasion}
 use Rattle.chess_rules.specs.Legal.{castles, goes, is_arrival_free, legal, may_castle, pseudo, triples}
 use Rattle.chess_rules.specs.ties.Outward.{hopped_from, is_met, rides_on}
 use Rattle.chess_rules.specs.Play.{after, after_by, capture_square, moved_men, reborn_square, rebirth, unmoved_after}
 use Rattle.chess_rules.specs.Reaches.{hops, is_clear, leaps, reaches, reaches_as, rides}
-use Rattle.chess_rules.specs.RuleSet.{RuleSet, circe, madrasi, orthodox}
+use Rattle.chess_rules.specs.RuleSet.{RuleSet, madrasi, orthodox}
 use Rattle.chess_rules.specs.ties.Shields.{cannot_expose, has_fairy, is_behind, is_plain, is_reached, is_shut, may_expose, may_stand_between, is_on_fairy_line}
 use Rattle.chess_core.specs.ties.Words.{word, word_of}
 use Rattle.chess_rules.specs.ties.Sight.{sight_after}
@@ -29,7 +28,7 @@ use Rattle.chess_rules.proofs.making_moves.Pseudo.{on_board}
 use Rattle.chess_rules.proofs.attacks.StayingInCheck.{side_there}
 use Rattle.chess_rules.specs.ties.Lines.{is_ahead, is_on_some}
 use Rattle.chess_rules.proofs.Typed.{go, man, on, position, set_up}
-use Rattle.chess_core.specs.SquareNames.{a1, b1, c1, d1, e1, g1, h1, a2, b2, h2, a3, b3, c3, d3, h3, a4, d5, e4, a5, a6, b6, d6, e5, e7, h7, a8, b8, e8, f8, g8, h8}
+use Rattle.chess_core.specs.SquareNames.{a1, b1, c1, d1, e1, g1, h1, a2, b2, h2, a3, b3, c3, d3, h3, a4, d5, e4, a5, a6, b6, d6, e5, e7, a8, b8, e8, f8, g8, h8}
 
 -- White rooks a1 and a8 see each other, and neither is faced by its like: only enemies paralyse
 abbrev own_rooks : List (Option Man)
@@ -58,46 +57,15 @@ unfolding hops is_clear along
 grasshopper_lands_behind_its_hurdle = (refl, refl)
 
 -- what these examples compute with
-check_after_a_move : Unit {0}
+unfoldable pub check_after_a_move : Unit {0}
 unfolding reaches reaches_as rides hops leaps is_clear along squares some_square king_square faces_its_like faces strikes paralysed attacked
     in_check after after_by unmoved_after moved_men capture_square reborn_square rebirth castles may_castle pseudo none_unmoved has_unmoved mark_unmoved
 check_after_a_move = tt
 
 -- White Ka1 Bb3 Pe5, Black Kg8 Pd5, which has just passed d6: the capture en passant opens the bishop's line
-abbrev opening_capture : Position
+abbrev pub opening_capture : Position
 opening_capture =
     record (position (on White King a1 ∷ on White Bishop b3 ∷ on White Pawn e5 ∷ on Black King g8 ∷ on Black Pawn d5 ∷ []) White) { crossed = Some d6 }
-
-en_passant_checks : (legal orthodox opening_capture (go e5 d6) ≡ true)
-    × (in_check orthodox (after orthodox opening_capture (go e5 d6)).men Black ≡ true)
-unfolding legal check_after_a_move
-en_passant_checks = (refl, refl)
-
--- so the squares to which the pawn must go to give check hold d6, from which a pawn gives none
-pub crossed_square_may_give_check : (w : ℕ) → AreCheckTargets orthodox opening_capture e5 w → (bit_at w d6 == 1) ≡ true
-crossed_square_may_give_check w are = true_from_ne_false _ (λ e. false≢true
-    (sym (are.elsewhere (go e5 d6) refl (omega arith) en_passant_checks.0 e) ∙ en_passant_checks.1))
-
--- and no man that leaves e5 opens a line
-pub no_pawn_checks_from_there : (may_check_from opening_capture.men Black (enemy Black Pawn) d6 ≡ false)
-    × (may_expose opening_capture.men Black e5 ≡ false)
-unfolding may_check_from may_expose is_reached is_on_fairy_line is_ahead is_shut is_behind check_after_a_move
-no_pawn_checks_from_there = (refl, refl)
-
--- Circe, White Ka1 Ga8 Rd1, Black Kh8 Sd3: the rook captures the knight, which is reborn on g8, and the grasshopper hops
--- over it to the king
-abbrev reborn_hurdle : Position
-reborn_hurdle = position (on White King a1 ∷ on White Grasshopper a8 ∷ on White Rook d1 ∷ on Black King h8 ∷ on Black Knight d3 ∷ []) White
-
-reborn_knight_checks : (legal circe reborn_hurdle (go d1 d3) ≡ true)
-    × (in_check circe (after circe reborn_hurdle (go d1 d3)).men Black ≡ true)
-unfolding legal check_after_a_move
-reborn_knight_checks = (refl, refl)
-
--- so the squares to which the rook must go to give check hold d3, from which it gives none
-pub captures_with_rebirth_may_give_check : (w : ℕ) → AreCheckTargets circe reborn_hurdle d1 w → (bit_at w d3 == 1) ≡ true
-captures_with_rebirth_may_give_check w are = true_from_ne_false _ (λ e. false≢true
-    (sym (are.elsewhere (go d1 d3) refl (omega arith) reborn_knight_checks.0 e) ∙ reborn_knight_checks.1))
 
 -- White Ke4 Pe5, Black Kh8 Pd5, which gives check and has just passed d6: the capture en passant meets the check
 abbrev passing_check : Position
@@ -334,17 +302,6 @@ pub nightriders_line_is_shut : (may_stand_between (shut_nightrider Nightrider).m
     × (in_check orthodox (after orthodox (shut_nightrider Nightrider) (go d3 e4)).men White ≡ true)
 unfolding lines_to_a_king check_after_a_move
 nightriders_line_is_shut = (refl, refl, refl, refl, refl)
-
--- Black Ka1 Pa2, a White grasshopper on h7: on a3 it gives check over the pawn, where a queen gives none, and on h1 a queen alone does
-abbrev hop_to_a_king : List (Option Man)
-hop_to_a_king = set_up (on Black King a1 ∷ on Black Pawn a2 ∷ on White Grasshopper h7 ∷ [])
-
-pub grasshopper_checks_over_a_hurdle : (may_check_from hop_to_a_king Black (enemy Black Grasshopper) a3 ≡ true)
-    × (may_check_from hop_to_a_king Black (enemy Black Queen) a3 ≡ false)
-    × (may_check_from hop_to_a_king Black (enemy Black Grasshopper) h1 ≡ false)
-    × (may_check_from hop_to_a_king Black (enemy Black Queen) h1 ≡ true)
-unfolding may_check_from check_after_a_move
-grasshopper_checks_over_a_hurdle = (refl, refl, refl, refl)
 
 -- a stretch without a move ends before a move to one of the word's squares
 ends_at : (p : Position) (s w k b : ℕ) → (bit_at w (k / 7) == 1) ≡ true

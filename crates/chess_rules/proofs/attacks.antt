@@ -4,6 +4,5 @@ pub mod Attacking
 pub mod Shielding
 pub mod Seeing
 pub mod Exposing
-pub mod Stepping
 pub mod StayingInCheck
 pub mod EvasionTargets

@@ -8,8 +8,6 @@ pub mod Stopping
 pub mod Firsts
 pub mod Joining
 pub mod Flips
-pub mod Landing
 pub mod Tables
 pub mod Parting
 pub mod Riding
-pub mod OpenBoard

@@ -1,7 +1,4 @@
-pub mod Aims
-pub mod CheckSquares
 pub mod Evasions
-pub mod Flights
 pub mod Games
 pub mod Idle
 pub mod Lines

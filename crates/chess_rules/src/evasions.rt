@@ -10,13 +10,12 @@ ghost use Rattle.chess_rules.specs.Legal.{pseudo};
 ghost use Rattle.chess_rules.specs.Play.{after};
 ghost use Rattle.chess_rules.specs.RuleSet.{is_circe};
 
-use crate::checks::is_fairy;
 use crate::exposure::exposes;
 use crate::lines::occupied;
 use crate::outward::attackers;
 use crate::reach::reach_as;
 use crate::rules::Rules;
-use crate::shields::{cannot_expose, is_plain};
+use crate::shields::{cannot_expose, is_fairy, is_plain};
 use crate::words::{contains, next_bit, only};
 use chess_core::board::Board;
 use chess_core::man::{Colour, Kind, Move};
@@ -79,8 +78,8 @@ fn leaves_check<R: Rules>(board: &Board, evasion_squares: u64, m: &Move) -> bool
     }
 }
 
-// The squares on which a man may be captured and reborn.
-pub(crate) fn rebirth_captures<R: Rules>(board: &Board) -> u64
+/// The squares on which a man may be captured and reborn.
+pub fn rebirth_captures<R: Rules>(board: &Board) -> u64
     ensures { is_circe R.rule ≡ true → result ≡ word (λ s. is_some (man_on board.now.men s)) }
 {
     if R::is_circe() { occupied(board) } else { 0 }

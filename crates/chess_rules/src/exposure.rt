@@ -32,8 +32,8 @@ fn king_after(board: &Board, man: Man, m: &Move) -> Option<Square>
     }
 }
 
-// Whether nothing more changes by the move than that this man goes and one is captured at most.
-pub(crate) fn is_simple<R: Rules>(man: Man, m: &Move, captures: bool) -> bool
+/// Whether nothing more changes by the move than that this man goes and one is captured at most.
+pub fn is_simple<R: Rules>(man: Man, m: &Move, captures: bool) -> bool
     ensures { result ≡ is_simple R.rule man m.now captures }
 {
     !is_castling(man, m) && !(R::is_circe() && captures)

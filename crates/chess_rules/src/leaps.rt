@@ -12,22 +12,22 @@ use crate::geometry::{
 use chess_core::man::Colour;
 use chess_core::square::Square;
 
-// The squares to which a king leaps from here.
-pub(crate) fn king_leaps(from: Square) -> u64
+/// The squares to which a king leaps from here.
+pub fn king_leaps(from: Square) -> u64
     ensures { result ≡ word (λ t. list_any (leaps from t) queen_steps) }
 {
     NEIGHBOURS[from.index() as usize]
 }
 
-// The squares to which a knight leaps from here.
-pub(crate) fn knight_leaps(from: Square) -> u64
+/// The squares to which a knight leaps from here.
+pub fn knight_leaps(from: Square) -> u64
     ensures { result ≡ word (λ t. list_any (leaps from t) knight_steps) }
 {
     KNIGHT_LEAPS[from.index() as usize]
 }
 
-// The squares on which a pawn of this colour captures from here.
-pub(crate) fn pawn_leaps(colour: Colour, from: Square) -> u64
+/// The squares on which a pawn of this colour captures from here.
+pub fn pawn_leaps(colour: Colour, from: Square) -> u64
     ensures { result ≡ word (λ t. list_any (leaps from t) (pawn_captures colour)) }
 {
     let index = from.index() as usize;
@@ -37,8 +37,8 @@ pub(crate) fn pawn_leaps(colour: Colour, from: Square) -> u64
     }
 }
 
-// The squares one and two ahead of a pawn of this colour.
-pub(crate) fn pawn_advances(colour: Colour, from: Square) -> u64
+/// The squares one and two ahead of a pawn of this colour.
+pub fn pawn_advances(colour: Colour, from: Square) -> u64
     ensures { result ≡ word (is_advance colour from) }
 {
     let index = from.index() as usize;
@@ -48,8 +48,8 @@ pub(crate) fn pawn_advances(colour: Colour, from: Square) -> u64
     }
 }
 
-// The squares two files to the right and to the left: where a king arrives in castling.
-pub(crate) fn squares_aside(from: Square) -> u64
+/// The squares two files to the right and to the left: where a king arrives in castling.
+pub fn squares_aside(from: Square) -> u64
     ensures { result ≡ word (is_aside from) }
 {
     ASIDE[from.index() as usize]

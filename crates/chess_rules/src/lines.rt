@@ -20,7 +20,7 @@ use chess_core::square::Square;
 
 /// A direction of a line: the queen's eight, then the knight's eight.
 #[derive(Clone, Copy)]
-pub(crate) enum Direction {
+pub enum Direction {
     East,
     West,
     North,
@@ -101,8 +101,8 @@ impl Direction {
     }
 }
 
-// The squares on which men stand.
-pub(crate) fn occupied(board: &Board) -> u64
+/// The squares on which men stand.
+pub fn occupied(board: &Board) -> u64
     ensures { result ≡ occupied_squares board.now.men }
 {
     board.side(Colour::White) | board.side(Colour::Black)
@@ -121,15 +121,15 @@ fn ride(occupied: u64, from: Square, direction: Direction) -> u64
     ray & !direction.ray(stop)
 }
 
-// The squares of the file and the rank of `from`, itself apart.
-pub(crate) fn straight_lines(from: Square) -> u64
+/// The squares of the file and the rank of `from`, itself apart.
+pub fn straight_lines(from: Square) -> u64
     ensures { result ≡ word (is_on_some straight_steps from) }
 {
     STRAIGHT_LINES[from.index() as usize]
 }
 
-// The squares of its diagonals.
-pub(crate) fn diagonal_lines(from: Square) -> u64
+/// The squares of its diagonals.
+pub fn diagonal_lines(from: Square) -> u64
     ensures { result ≡ word (is_on_some diagonal_steps from) }
 {
     DIAGONAL_LINES[from.index() as usize]

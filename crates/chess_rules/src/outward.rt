@@ -25,9 +25,9 @@ use chess_core::board::Board;
 use chess_core::man::{Colour, Kind};
 use chess_core::square::Square;
 
-// The squares from which a man of this colour and kind could go to `to` if an enemy stood there: those to which
-// one of the other colour could from there, but for a grasshopper.
-pub(crate) fn comes_as(occupied: u64, colour: Colour, kind: Kind, to: Square) -> u64
+/// The squares from which a man of this colour and kind could go to `to` if an enemy stood there: those to which
+/// one of the other colour could from there, but for a grasshopper.
+pub fn comes_as(occupied: u64, colour: Colour, kind: Kind, to: Square) -> u64
     ensures { (men : List (Option Man)) → occupied ≡ occupied_squares men
         → result ≡ word (λ s. reaches_as men colour kind s to) }
 {
@@ -133,8 +133,8 @@ fn fairy_attackers(board: &Board, sight: Sight, square: Square, colour: Colour) 
         )
 }
 
-// The squares of the men of this colour that reach the square.
-pub(crate) fn attackers_seen(board: &Board, sight: Sight, square: Square, colour: Colour) -> u64
+/// The squares of the men of this colour that reach the square.
+pub fn attackers_seen(board: &Board, sight: Sight, square: Square, colour: Colour) -> u64
     ensures { (men : List (Option Man)) → AreSeen board.now.men men colour sight
         → result ≡ word (λ s. is_side (man_on men s) colour && reaches men s square) }
 {

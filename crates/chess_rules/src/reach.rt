@@ -14,10 +14,10 @@ use chess_core::board::Board;
 use chess_core::man::{Colour, Kind};
 use chess_core::square::Square;
 
-// The squares to which a man of this colour and kind on `from` could go if enemies stood there (a
-// pawn captures, it doesn't step forward), whichever men stand on the occupied squares.
+/// The squares to which a man of this colour and kind on `from` could go if enemies stood there (a
+/// pawn captures, it doesn't step forward), whichever men stand on the occupied squares.
 #[tactic(auto, unfolding(crate::specs::Reaches::reaches_as))]
-pub(crate) fn reach_over(occupied: u64, colour: Colour, kind: Kind, from: Square) -> u64
+pub fn reach_over(occupied: u64, colour: Colour, kind: Kind, from: Square) -> u64
     ensures { (men : List (Option Man)) → occupied ≡ occupied_squares men
         → result ≡ word (reaches_as men colour kind from) }
 {

@@ -11,7 +11,7 @@ ghost use Rattle.chess_core.specs.declared.man.Kind.TheVariants.{Bishop, Queen, 
 ghost use Rattle.chess_rules.specs.ties.Lines.{is_on_some, occupied_squares};
 ghost use Rattle.chess_rules.specs.Reaches.{rides};
 ghost use Rattle.chess_core.specs.ties.Words.{squares_of, word};
-ghost use Rattle.chess_rules.specs.ties.Shields.{cannot_expose, has_fairy, is_shut, is_plain, may_expose, may_stand_between, rider_along, steps_along};
+ghost use Rattle.chess_rules.specs.ties.Shields.{cannot_expose, has_fairy, is_fairy, is_shut, is_plain, may_expose, may_stand_between, rider_along, steps_along};
 ghost use Rattle.chess_rules.specs.RuleSet.{is_circe};
 
 use crate::lines::{
@@ -26,6 +26,16 @@ use chess_core::board::Board;
 use chess_core::man::{Colour, Kind, Man, Move};
 use chess_core::square::Square;
 
+/// Whether it is a grasshopper or a nightrider.
+pub fn is_fairy(kind: Kind) -> bool
+    ensures { result ≡ is_fairy kind }
+{
+    match kind {
+        Kind::Grasshopper | Kind::Nightrider => true,
+        _ => false,
+    }
+}
+
 // Whether a grasshopper or a nightrider of the colour stands on the board.
 #[tactic(auto, using(crate::proofs::attacks::Shielding::some_grasshopper, crate::proofs::attacks::Shielding::some_nightrider))]
 pub(crate) fn has_fairy(board: &Board, colour: Colour) -> bool
@@ -34,10 +44,10 @@ pub(crate) fn has_fairy(board: &Board, colour: Colour) -> bool
     board.squares(colour, Kind::Grasshopper) != 0 || board.squares(colour, Kind::Nightrider) != 0
 }
 
-// The squares of the lines to the colour's king with a fairy man of the other colour on them: the queen's
-// lines with a grasshopper, and a nightrider's with a nightrider.
+/// The squares of the lines to the colour's king with a fairy man of the other colour on them: the queen's
+/// lines with a grasshopper, and a nightrider's with a nightrider.
 #[inline(always)]
-pub(crate) fn fairy_lines(board: &Board, colour: Colour) -> u64
+pub fn fairy_lines(board: &Board, colour: Colour) -> u64
     ensures { result ≡ word (may_stand_between board.now.men colour) }
 {
     if !has_fairy(board, colour.other()) {
@@ -61,7 +71,7 @@ fn lines_with_fairy_men(board: &Board, colour: Colour) -> u64
 
 /// The lines of a rook, or those of a bishop.
 #[derive(Clone, Copy)]
-enum RiderLines {
+pub enum RiderLines {
     Straight,
     Diagonal,
 }
@@ -157,8 +167,8 @@ fn shields_of(board: &Board, colour: Colour, king: Square) -> u64
         | shut_squares(board, enemy, king, RiderLines::Diagonal)
 }
 
-// The squares from which a move may expose the colour's king.
-pub(crate) fn shield_squares(board: &Board, colour: Colour) -> u64
+/// The squares from which a move may expose the colour's king.
+pub fn shield_squares(board: &Board, colour: Colour) -> u64
     ensures { result ≡ word (may_expose board.now.men colour) }
 {
     let Some(king) = board.king_of(colour) else {
@@ -192,9 +202,9 @@ fn stands_aside<R: Rules>(board: &Board, man: Man, colour: Colour, m: &Move) -> 
     !contains(fairy_lines(board, colour), m.to) && is_plain::<R>(board, man, m)
 }
 
-// Whether the move can't expose the colour's king; `squares` are those from which one may.
+/// Whether the move can't expose the colour's king; `squares` are those from which one may.
 #[inline(always)]
-pub(crate) fn cannot_expose<R: Rules>(board: &Board, colour: Colour, squares: u64, m: &Move) -> bool
+pub fn cannot_expose<R: Rules>(board: &Board, colour: Colour, squares: u64, m: &Move) -> bool
     requires { squares ≡ word (may_expose board.now.men colour) }
     ensures { result ≡ cannot_expose R.rule board.now colour m.now }
 {

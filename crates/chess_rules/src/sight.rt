@@ -13,9 +13,9 @@ use chess_core::square::Square;
 
 /// What an attack sees: the squares that are occupied, and those on which the board's men still stand.
 #[derive(Clone, Copy)]
-pub(crate) struct Sight {
-    pub(crate) occupied: u64,
-    pub(crate) standing: u64,
+pub struct Sight {
+    pub occupied: u64,
+    pub standing: u64,
 }
 
 // The men that stand on the board.
@@ -29,13 +29,8 @@ pub(crate) fn sight_now(board: &Board) -> Sight
     }
 }
 
-// The men once the one on the captured square is gone, and the one on the origin stands on the arrival.
-pub(crate) fn sight_after(
-    board: &Board,
-    from: Square,
-    captured: Option<Square>,
-    to: Square,
-) -> Sight
+/// The men once the one on the captured square is gone, and the one on the origin stands on the arrival.
+pub fn sight_after(board: &Board, from: Square, captured: Option<Square>, to: Square) -> Sight
     ensures { result ≡ sight_after board.now.men from captured to }
 {
     let gone = only(captured);

@@ -15,7 +15,7 @@ use chess_core::square::Square;
 
 /// What is known of a position where moves that pass a test are looked for: the test, and when the knowledge
 /// is of a position.
-pub(crate) trait Sought {
+pub trait Sought {
     ghost use Rattle.std.specs.Prelude.{Bool, ◌≡◌, true, false};
     ghost use Rattle.chess_core.specs.Position.{Position};
     ghost use Rattle.chess_core.specs.declared.man.Move.{Move};
@@ -100,9 +100,9 @@ fn next_candidate<R: Rules, S: Sought>(
     TRIPLES
 }
 
-// The number of the first move that passes from the triple numbered `start` on and before the one numbered
-// `end`; `end` where there is none. The board is unchanged.
-pub(crate) fn next_passing<R: Rules, S: Sought>(
+/// The number of the first move that passes from the triple numbered `start` on and before the one numbered
+/// `end`; `end` where there is none. The board is unchanged.
+pub fn next_passing<R: Rules, S: Sought>(
     board: &mut Board,
     sought: &S,
     kept: &mut Kept,

@@ -21,19 +21,19 @@ use chess_core::square::Square;
 // How many triples have the same origin: 64 arrivals, 7 promotions with none.
 pub(crate) const PER_ORIGIN: u16 = 448;
 
-// How many triples there are.
-pub(crate) const TRIPLES: u16 = 28672;
+/// How many triples there are.
+pub const TRIPLES: u16 = 28672;
 
 /// The candidates of one origin of a position, kept while its moves are walked.
 #[derive(Clone, Copy)]
-pub(crate) struct Kept {
-    pub(crate) origin: Option<Square>,
-    pub(crate) squares: u64,
+pub struct Kept {
+    pub origin: Option<Square>,
+    pub squares: u64,
 }
 
-// The squares one and two steps ahead of a pawn, and two files beside a king.
+/// The squares one and two steps ahead of a pawn, and two files beside a king.
 #[tactic(auto, using(crate::proofs::listing_moves::Targeting::step_words))]
-pub(crate) fn steps_to(man: Man, from: Square) -> u64
+pub fn steps_to(man: Man, from: Square) -> u64
     ensures { result ≡ word (steps_to man from) }
 {
     if man.kind.is(Kind::Pawn) {
@@ -91,9 +91,9 @@ fn free_squares(board: &Board, colour: Colour) -> u64
     !(board.side(colour) | board.squares(colour.other(), Kind::King))
 }
 
-// The squares to which the man on `from` may go, most tests of castling apart.
+/// The squares to which the man on `from` may go, most tests of castling apart.
 #[tactic(auto, using(crate::proofs::listing_moves::Arrivals::no_arrivals))]
-pub(crate) fn arrivals<R: Rules>(board: &Board, from: Square) -> u64
+pub fn arrivals<R: Rules>(board: &Board, from: Square) -> u64
     ensures { result ≡ word (is_arrival R.rule board.now from) }
 {
     let Some(man) = board.man_at(from) else {

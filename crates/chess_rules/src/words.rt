@@ -7,9 +7,9 @@ ghost use Rattle.chess_core.specs.ties.Words.{word};
 
 use chess_core::square::Square;
 
-// The word of this square alone, or of none.
+/// The word of this square alone, or of none.
 #[tactic(auto, using(crate::proofs::Bits::word_only, crate::proofs::Bits::word_empty))]
-pub(crate) fn only(square: Option<Square>) -> u64
+pub fn only(square: Option<Square>) -> u64
     ensures { result ≡ word (λ t. is_square square t) }
 {
     match square {
@@ -18,15 +18,15 @@ pub(crate) fn only(square: Option<Square>) -> u64
     }
 }
 
-// Whether the word has the square.
-pub(crate) fn contains(word: u64, square: Square) -> bool
+/// Whether the word has the square.
+pub fn contains(word: u64, square: Square) -> bool
     ensures { result ≡ (bit_at word square == 1) }
 {
     word >> square.index() & 1 == 1
 }
 
-// The first square of the word from this number on.
-pub(crate) fn next_bit(word: u64, from: u8) -> Option<Square>
+/// The first square of the word from this number on.
+pub fn next_bit(word: u64, from: u8) -> Option<Square>
     ensures value { result ≡ find (λ s. bit_at word s == 1) (range_with_len from (64 - from)) }
     ensures behind { IfSome result (λ s. from ≤ s) }
 {

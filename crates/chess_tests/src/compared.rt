@@ -6,7 +6,8 @@ use crate::plain::{MOVES, Plain, Rule};
 use crate::probe::{is_same, shows};
 use arrayvec::ArrayVec;
 use chess_core::{Board, Colour, Move, Square};
-use chess_rules::{LegalMoves, MatingMoves, Moves, Rules, has_legal_move, in_check, is_mate};
+use chess_mates::{MatingMoves, next_mate};
+use chess_rules::{LegalMoves, Moves, Rules, has_legal_move, in_check, is_mate};
 
 // What is asked of a position.
 #[derive(Clone, Copy, PartialEq, Eq, Debug)]
@@ -194,11 +195,11 @@ fn gives_mates<R: Rules>(board: &mut Board, choices: &Choices, passed: usize) ->
 {
     let mut place = place_behind::<R>(board, passed);
     for (number, choice) in choices.iter().enumerate() {
-        if number >= passed && choice.mates && place.next_mate(board) != Some(choice.by) {
+        if number >= passed && choice.mates && next_mate::<R>(&mut place, board) != Some(choice.by) {
             return false;
         }
     }
-    place.next_mate(board).is_none()
+    next_mate::<R>(&mut place, board).is_none()
 }
 
 // Whether the mates behind the first `passed` legal moves up to the one numbered `last` are given.

@@ -6,7 +6,8 @@ ghost use Rattle.chess_core.specs.WellFormed.{IsWellFormed};
 use crate::plain::{self, Plain};
 use arrayvec::ArrayVec;
 use chess_core::{Board, Colour, Diagram, Kind, Move, Square};
-use chess_rules::{MatingMoves, Moves, Rules, is_mate};
+use chess_mates::MatingMoves;
+use chess_rules::{Moves, Rules, is_mate};
 
 // Whether two boards answer every question alike.
 pub(crate) fn is_same(one: &Board, two: &Board) -> bool {

@@ -2,8 +2,9 @@
 use Rattle.pop_solve.proofs.Basics.{Bool, List, MatchOption, None, Option, Some, [], ap, arith, eqb, false, filter, is_some, length, list_any, nat_tests, not, refl, rules, sym, true, ℕ, ◌++◌, ◌-◌, ◌<◌, ◌∙◌, ◌∷◌, ◌≡◌, ◌≤◌}
 use Rattle.pop_solve.proofs.Words.{Battle, Goal, Mate, Position, RuleSet, Triple, can_move, chess, is_for_mate, is_goal, is_mating, legal, mates_behind, moves_behind, moves_between, value, walk_count}
 use Rattle.chess_rules.specs.Legal.{is_nil, is_stalemate, moves}
-use Rattle.chess_rules.specs.ties.Places.{mates_between}
-use Rattle.chess_rules.proofs.listing_moves.Between.{cut_mates, cut_moves}
+use Rattle.chess_mates.specs.ties.Mates.{mates_between}
+use Rattle.chess_mates.proofs.MatesBetween.{cut_mates}
+use Rattle.chess_rules.proofs.listing_moves.Between.{cut_moves}
 use Rattle.pop_solve.specs.Chess.{is_reached}
 use Rattle.pop_solve.specs.Game.{some_move as some_good}
 

@@ -14,7 +14,8 @@ use Rattle.pop_solve.specs.declared.event.Event.TheVariants.{Line, Node, Total}
 use Rattle.pop_solve.specs.declared.phases.Stage.TheVariants.{Barred, Before, Within}
 use Rattle.pop_solve.specs.declared.plan.Plan.{Plan}
 use Rattle.pop_input.specs.declared.stipulation.Goal.TheVariants.{Mate}
-use Rattle.chess_rules.specs.ties.Places.{is_mating, moves_behind}
+use Rattle.chess_rules.specs.ties.Places.{moves_behind}
+use Rattle.chess_mates.specs.ties.Mates.{is_mating}
 use Rattle.pop_solve.specs.ties.Walk.{GoesTo, seeks_last}
 use Rattle.pop_solve.specs.ties.Frames.{Frame}
 use Rattle.pop_solve.specs.Events.{Step, first_phase, opening, impossible, line, tree_node, total, step_of, event_of}

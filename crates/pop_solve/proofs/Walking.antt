@@ -2,7 +2,7 @@
 use Rattle.pop_solve.proofs.Basics.{Bool, IfSome, List, MatchOption, None, Option, Some, [], ap, append-nil, arith, eqb, false, inl, inr, length, length-reverse, refl, reverse, reverse-append, rules, subst, suc, sym, true, ℕ, ◌++◌, ◌+◌, ◌-◌, ◌<◌, ◌∙◌, ◌∷◌, ◌≡◌, ◌≤◌, ◌⊎◌}
 use Rattle.pop_solve.proofs.Words.{AreKnown, CameFrom, CameFromAt, Counts, Frame, GoesTo, HasCounted, IsPlaceIn, IsWalking, LegalPlace, Mate, Plan, Position, RuleSet, Steps, Triple, battle_of, chess, follows, gives, is_for_mate, is_goal, legal, mates_behind, moves_behind, moves_behind-end, position, seeks_last, smallest_tree, undo_of, value}
 use Rattle.chess_rules.specs.Play.{after as played}
-use Rattle.chess_rules.specs.ties.Places.{IsNextMate}
+use Rattle.chess_mates.specs.ties.Mates.{IsNextMate}
 use Rattle.pop_solve.proofs.Boards.{for_mate}
 use Rattle.pop_solve.specs.ties.Frames.{opened as opened_frame}
 use Rattle.pop_solve.specs.ties.Walk.{goes_on}

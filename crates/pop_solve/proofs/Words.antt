@@ -10,8 +10,10 @@ unfoldable pub use Rattle.chess_rules.specs.Legal.{is_goal, legal}
 pub use Rattle.chess_rules.specs.Loss.{Loss}
 unfoldable pub use Rattle.chess_rules.specs.Play.{undo_of}
 pub use Rattle.chess_rules.specs.RuleSet.{RuleSet}
-pub use Rattle.chess_rules.specs.ties.Places.{IsPlaceIn, LegalPlace, is_mating}
-unfoldable pub use Rattle.chess_rules.specs.ties.Places.{mates_behind, moves_behind, moves_between}
+pub use Rattle.chess_rules.specs.ties.Places.{IsPlaceIn, LegalPlace}
+pub use Rattle.chess_mates.specs.ties.Mates.{is_mating}
+unfoldable pub use Rattle.chess_rules.specs.ties.Places.{moves_behind, moves_between}
+unfoldable pub use Rattle.chess_mates.specs.ties.Mates.{mates_behind}
 pub use Rattle.pop_input.specs.Posed.{IsSound, Posed}
 pub use Rattle.pop_input.specs.Stipulations.{half_moves, half_moves_of, is_help}
 pub use Rattle.pop_input.specs.declared.stipulation.Form.{Form}

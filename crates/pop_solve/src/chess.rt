@@ -5,7 +5,8 @@ ghost use Rattle.chess_core.specs.Position.{Position};
 ghost use Rattle.chess_core.specs.WellFormed.{IsWellFormed};
 ghost use Rattle.chess_rules.specs.Attacks.{in_check};
 ghost use Rattle.chess_rules.specs.Legal.{legal};
-ghost use Rattle.chess_rules.specs.ties.Places.{IsNextMate, IsPlaceIn, mates_behind, moves_behind, moves_between, place_of};
+ghost use Rattle.chess_rules.specs.ties.Places.{IsPlaceIn, moves_behind, moves_between, place_of};
+ghost use Rattle.chess_mates.specs.ties.Mates.{IsNextMate, mates_behind};
 ghost use Rattle.pop_input.specs.declared.stipulation.Goal.{Goal};
 ghost use Rattle.pop_input.specs.declared.stipulation.Goal.TheVariants.{Mate};
 ghost use Rattle.pop_solve.specs.ties.Calls.{Finds};
@@ -20,9 +21,9 @@ use chess_core::board::Board;
 use chess_core::diagram::Diagram;
 use chess_core::man::{Man, Move};
 use chess_core::square::Square;
-use chess_rules::every_move::every_move_mates;
+use chess_mates::every_move::every_move_mates;
 use chess_rules::legal_moves::LegalMoves;
-use chess_rules::mating_moves::MatingMoves;
+use chess_mates::mating_moves::MatingMoves;
 use chess_rules::moves::{Moves, has_legal_move, is_mate, is_stalemate};
 use chess_rules::play::{Undo, is_castling};
 use chess_rules::rules::{Rules, in_check};
@@ -123,7 +124,7 @@ pub(crate) fn next_mate<R: Rules>(place: &mut Moves<R>, board: &mut Board) -> Op
         (λ m. IsNextMate R.rule board.old place.old place.new m
         × (legal R.rule board.old m ≡ true)) }
 {
-    place.next_mate(board)
+    chess_mates::mating_moves::next_mate::<R>(place, board)
 }
 
 /// The place on a legal move that mates, if there is one; the killer is looked at first, then the moves behind it.

@@ -27,7 +27,7 @@ use crate::killers::Killers;
 use arrayvec::ArrayVec;
 use chess_core::board::Board;
 use chess_core::man::Move;
-use chess_rules::aims::aims_at_king;
+use chess_mates::aims::aims_at_king;
 use chess_rules::legal_moves::LegalMoves;
 use chess_rules::moves::Moves;
 use chess_rules::rules::Rules;

@@ -1,10 +1,16 @@
 -- A move that goes to no square at which a check is met is not legal.
-use Rattle.chess_rules.proofs.Basics.{None, Some, and_parts, ap, bit_at, bit_not, bit_or, false, is_some, refl, rules, true, w64, ℕ, ◌<◌, ◌==◌, ◌∙◌, ◌≡◌}
-use Rattle.chess_rules.proofs.Chess.{AreEvasions, AreEvasionsFrom, IsWellFormed, King, Man, Move, Position, RuleSet, after, in_check, is_castling, is_circe, is_square, man_on, pseudo, same_kind, word}
-use Rattle.chess_rules.proofs.giving_check.CheckTargets.{plain_elsewhere}
+use Rattle.chess_rules.proofs.Basics.{None, Some, and_left, and_parts, and_right, ap, bit_at, cases_Bool, bit_not, bit_or, false, is_some, refl, rules, true, w64, ℕ, ◌<◌, ◌==◌, ◌∙◌, ◌≡◌}
+use Rattle.chess_rules.proofs.Chess.{AreEvasions, AreEvasionsFrom, IsWellFormed, King, Man, Move, Position, RuleSet, after, in_check, is_castling, is_circe, is_plain, is_square, man_on, pseudo, same_kind, word}
 use Rattle.chess_rules.proofs.attacks.StayingInCheck.{check_unmet}
 use Rattle.chess_rules.proofs.listing_moves.Targeting.{every_square_on, false_by, nobody_moves}
-use Rattle.chess_rules.proofs.Bits.{off_left, off_right}
+use Rattle.chess_rules.proofs.Bits.{off_left, off_right, word_has}
+
+-- a move that isn't castling, captures nobody en passant and, in Circe, nobody at all, is plain: by the words of the squares where that may be
+pub plain_elsewhere : (rule : RuleSet) (p : Position) (x : Man) (m : Move) (b d : ℕ) → m.to < 64 → is_castling x m ≡ false
+    → b ≡ word (λ t. is_square p.crossed t) → (bit_at b m.to == 1) ≡ false
+    → (is_circe rule ≡ true → d ≡ word (λ t. is_some (man_on p.men t))) → (bit_at d m.to == 1) ≡ false → is_plain rule p x m ≡ true
+unfolding is_plain
+plain_elsewhere rule p x m b d small no_castling crossed off-b reborn off-d = search (rules, and_left, and_right, cases_Bool, word_has)
 
 pub evasions_from_nobody : (rule : RuleSet) (p : Position) (f w : ℕ) → man_on p.men f ≡ None → AreEvasionsFrom rule p f w
 evasions_from_nobody rule p f w none = search (rules, nobody_moves)

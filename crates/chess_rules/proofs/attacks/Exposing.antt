@@ -5,11 +5,10 @@ use Rattle.chess_rules.specs.ties.Sight.{is_arriving_as, own_after}
 use Rattle.chess_rules.specs.declared.sight.Sight.{Sight}
 use Rattle.chess_rules.proofs.attacks.Attacking.{attacked_by}
 use Rattle.chess_rules.proofs.Bits.{not_zero, word_empty, word_has}
-use Rattle.chess_rules.proofs.giving_check.Checking.{other_twice}
 use Rattle.chess_rules.proofs.making_moves.Fits.{arrived, arriving_king, is_square-some, pawn_is_no_king, taken}
 use Rattle.chess_rules.proofs.making_moves.Pseudo.{IsMade, made}
 use Rattle.chess_rules.proofs.attacks.Seeing.{IsCapture, IsNoKing, kept_now, king_stands, left_now, seen_after, there_now}
-use Rattle.chess_rules.proofs.attacks.Shielding.{arriving_colour, king_is, moved_plainly, other_differs, simple_after}
+use Rattle.chess_rules.proofs.attacks.Shielding.{other_twice, arriving_colour, king_is, moved_plainly, other_differs, simple_after}
 use Rattle.chess_rules.proofs.making_moves.Returns.{moved_arrival}
 use Rattle.chess_rules.proofs.making_moves.Stays.{colour_self, moved_sound}
 

@@ -1,7 +1,7 @@
 -- A plain move from a square that a queen on the king's doesn't see opens no line to the king.
 use Rattle.chess_rules.proofs.Basics.{Bool, List, None, Option, Some, [], and_from, and_parts, and_right, ap, arith, bit_at, bit_not, bit_or, cases_Bool, cases_eq, cond-false, cond-true, eq-eqb, false, false_from_ne_true, false≢true, inl, inr, is_some, length, list_any, list_any-append, not, not-true, or_cases, or_left, or_parts, or_right, refl, rules, sym, true, w64, ℕ, ◌&&◌, ◌<◌, ◌==◌, ◌||◌, ◌∙◌, ◌∷◌, ◌≡◌, ◌≢◌}
-use Rattle.chess_rules.proofs.Chess.{AtMostOneKing, Bishop, Black, Colour, Direction, East, Grasshopper, IsWellFormed, Kind, King, Man, Move, Nightrider, North, NorthEast, NorthWest, Position, Queen, Rook, RuleSet, South, SouthEast, SouthWest, Step, Straight, West, White, after, after_by, arriving, attacked, capture_square, check_of, diagonal_steps, differs, find_first, has_fairy, hops, in_check, is_absent, is_behind, is_castling, is_circe, is_man, is_on_fairy_line, is_on_fairy_line_to, is_on_some, is_plain, is_promotion_right, is_reached, is_shut, is_side, is_square, is_vacant, king_square, knight_steps, man_on, man_on_at, may_check_from}
-use Rattle.chess_rules.proofs.Chess.{may_check_from_on, may_expose, may_expose_on, may_stand_between, moved_men, other, paralysed, pseudo, queen_steps, reaches, reaches_as, reborn_at, reborn_square, rider_along, rides, same_colour, same_kind, some_square_false, some_square_true, squares, squares_either, squares_of, squares_same, step_of, steps_along, straight_steps, strikes, word}
+use Rattle.chess_rules.proofs.Chess.{AtMostOneKing, Bishop, Black, Colour, Direction, East, Grasshopper, IsWellFormed, Kind, King, Man, Move, Nightrider, North, NorthEast, NorthWest, Position, Queen, Rook, RuleSet, South, SouthEast, SouthWest, Step, Straight, West, White, after, after_by, arriving, attacked, capture_square, check_of, diagonal_steps, differs, find_first, has_fairy, hops, in_check, is_behind, is_castling, is_circe, is_man, is_on_fairy_line, is_on_fairy_line_to, is_on_some, is_plain, is_promotion_right, is_reached, is_shut, is_side, is_square, is_vacant, king_square, knight_steps, man_on, man_on_at}
+use Rattle.chess_rules.proofs.Chess.{may_expose, may_expose_on, may_stand_between, moved_men, other, paralysed, pseudo, queen_steps, reaches, reaches_as, reborn_at, reborn_square, rider_along, rides, same_colour, same_kind, some_square_false, some_square_true, squares, squares_either, squares_of, squares_same, step_of, steps_along, straight_steps, strikes, word}
 use Rattle.chess_core.proofs.Ranges.{find_square_some}
 use Rattle.chess_rules.specs.ties.Shields.{cannot_expose}
 use Rattle.chess_rules.specs.declared.shields.RiderLines.{RiderLines}
@@ -322,7 +322,7 @@ king_came p x m c well here right h =
     let is : is_man (Some x) c King ≡ true = ap (λ (y : Man). is_man (Some y) c King) (sym same) ∙ h in
     king_is p.men c m.from well.kings (on_board p.men m.from x well.size here) (rw here is)
 
-plain_safe : (rule : RuleSet) (p : Position) (x : Man) (m : Move) (c : Colour) → IsWellFormed p → IsMade rule p x m → m.to < 64 → IsPlain rule p x m
+pub plain_safe : (rule : RuleSet) (p : Position) (x : Man) (m : Move) (c : Colour) → IsWellFormed p → IsMade rule p x m → m.to < 64 → IsPlain rule p x m
     → may_expose p.men c m.from ≡ false → may_stand_between p.men c m.to ≡ false
     → ((k : ℕ) → king_square p.men c ≡ Some k → IsQuiet p.men c m.from m.to k (arriving x m.promo))
     → in_check rule (after rule p m).men c ≡ false
@@ -331,6 +331,10 @@ plain_safe rule p x m c well is small plain cannot_expose aside quiet = search (
 pub arriving_colour : (x : Man) (r : Option Kind) → (arriving x r).colour ≡ x.colour
 arriving_colour x None = refl
 arriving_colour x (Some k) = refl
+
+pub other_twice : (c : Colour) → other (other c) ≡ c
+other_twice White = refl
+other_twice Black = refl
 
 pub other_differs : (c : Colour) → same_colour c (other c) ≡ false
 other_differs White = refl
@@ -341,7 +345,7 @@ pub record CannotExpose (rule : RuleSet) (p : Position) (x : Man) (c : Colour) (
   pub aside : may_stand_between p.men c m.to ≡ false
   pub plain : IsPlain rule p x m
 
-cannot_expose_parts : (rule : RuleSet) (p : Position) (x : Man) (c : Colour) (m : Move) → man_on p.men m.from ≡ Some x → cannot_expose rule p c m ≡ true
+pub cannot_expose_parts : (rule : RuleSet) (p : Position) (x : Man) (c : Colour) (m : Move) → man_on p.men m.from ≡ Some x → cannot_expose rule p c m ≡ true
     → CannotExpose rule p x c m
 unfolding cannot_expose
 cannot_expose_parts rule p x c m here h = grind (arith, and_parts, not-true, plain_parts)
@@ -358,20 +362,6 @@ cannot_expose_own rule p m well may small h =
     plain_safe rule p x m p.turn well is small parts.plain parts.origin parts.aside (λ k at. record {
       quiet = λ enemy. absurd (false≢true (sym own ∙ enemy));
       stood = λ enemy. absurd (false≢true (sym own ∙ enemy));
-    })
-
--- and, where the man that arrives doesn't strike the enemy's king, doesn't give check
-pub gives_no_check : (rule : RuleSet) (p : Position) (x : Man) (m : Move) → IsWellFormed p → pseudo rule p m ≡ true → m.to < 64 → man_on p.men m.from ≡ Some x
-    → m.promo ≡ None → cannot_expose rule p (other p.turn) m ≡ true → may_check_from p.men (other p.turn) (arriving x m.promo) m.to ≡ false
-    → in_check rule (after rule p m).men (other p.turn) ≡ false
-unfolding may_check_from
-gives_no_check rule p x m well may small here unpromoted h off =
-    let parts = cannot_expose_parts rule p x (other p.turn) m here h in
-    plain_safe rule p x m (other p.turn) well (made rule p m x may here) small parts.plain parts.origin parts.aside (λ k at. record {
-      quiet = λ enemy.
-          let no : may_check_from_on p.men (Some k) (arriving x m.promo) m.to ≡ false = search rules in
-          (or_parts (is_absent p.men (arriving x m.promo)) (reaches_as p.men (arriving x m.promo).colour (arriving x m.promo).kind m.to k) no).1;
-      stood = λ enemy. (here ∙ ap (λ (r : Option Kind). Some (arriving x r)) (sym unpromoted), on_board p.men m.from x well.size here);
     })
 
 -- a fairy man by the words of the two kinds

@@ -1,8 +1,7 @@
 -- No move is missed by walking from candidate to candidate.
 use Rattle.chess_rules.proofs.Basics.{Bool, None, Some, and_right, ap, arith, bit_and, bit_at, bit_at-lt, bit_at-zero, bit_at_and, cases_Bool, cases_lt, eq-eqb, eqb-true, false, find, inl, inr, not, range_with_len, refl, rules, sym, true, ℕ, ◌%◌, ◌*◌, ◌+◌, ◌-◌, ◌/◌, ◌<◌, ◌==◌, ◌∙◌, ◌≡◌, ◌≤◌}
-use Rattle.chess_rules.proofs.Chess.{AreCandidates, AreCheckOrigins, AreCheckTargets, AreEvasionsFrom, AreOrigins, HaveNone, IsAimed, IsBarrenFrom, IsNamed, Move, Position, RuleSet, find_first, find_no, is_arrival, is_side, legal, man_on, mates, promotion_at, pseudo, side_of, triple_at, word}
+use Rattle.chess_rules.proofs.Chess.{AreCandidates, AreEvasionsFrom, AreOrigins, HaveNone, IsAimed, IsBarrenFrom, IsNamed, Move, Position, RuleSet, find_first, find_no, is_arrival, is_side, legal, man_on, promotion_at, pseudo, side_of, triple_at, word}
 use Rattle.chess_rules.proofs.Bits.{word_has}
-use Rattle.chess_rules.proofs.giving_check.Mating.{no_mate_quietly, not_mating}
 use Rattle.chess_rules.proofs.listing_moves.Targeting.{arrival_needed, false_by, own_moves}
 use Rattle.chess_rules.proofs.listing_moves.Places.{not_pseudo}
 
@@ -102,24 +101,11 @@ aimed_from rule p test s w a lt are named =
           named.promotion;
     })
 
--- a move to no square that ends a check isn't legal, and one to no square that gives check doesn't mate
+-- a move to no square that ends a check isn't legal
 pub evasions_elsewhere : (rule : RuleSet) (p : Position) (s w : ℕ) → AreEvasionsFrom rule p s w → (m : Move) → m.from ≡ s → m.to < 64 → pseudo rule p m ≡ true
     → (bit_at w m.to == 1) ≡ false → legal rule p m ≡ false
 unfolding legal
 evasions_elsewhere rule p s w h m at small may off = and_right (pseudo rule p m) _ (ap not (h.elsewhere m at small may off))
 
-pub checks_elsewhere : (rule : RuleSet) (p : Position) (s w : ℕ) → AreCheckTargets rule p s w → (m : Move) → m.from ≡ s → m.to < 64 → pseudo rule p m ≡ true
-    → (bit_at w m.to == 1) ≡ false → mates rule p m ≡ false
-checks_elsewhere rule p s w h m at small may off = sym (no_mate_quietly rule p m (λ lawful. h.elsewhere m at small lawful off))
-
--- a move from no square from which one may give check doesn't mate
-pub mating_origins : (rule : RuleSet) (p : Position) (w : ℕ) → AreCheckOrigins rule p w → AreOrigins (mates rule p) w
-mating_origins rule p w h = record {
-  elsewhere = λ m inside small off. sym (no_mate_quietly rule p m (λ lawful. h.elsewhere m inside small lawful off));
-}
-
 -- for the candidates of one origin
 pub ruleset legal_candidates = (candidates, evasions_elsewhere, not_pseudo)
-
--- and for those that may mate
-pub ruleset mating_candidates = (candidates, no_candidates, checks_elsewhere, not_mating)

@@ -4,7 +4,6 @@ use Rattle.std.proofs.lemmas.Bool.{and_left}
 use Rattle.chess_core.specs.Position.{Position}
 use Rattle.chess_core.specs.declared.man.Move.{Move}
 use Rattle.chess_rules.specs.Legal.{legal, pseudo}
-use Rattle.chess_rules.specs.ties.Places.{mates}
 use Rattle.chess_rules.specs.RuleSet.{RuleSet}
 
 -- it isn't legal
@@ -12,9 +11,3 @@ pub legal-idle : (rule : RuleSet) (p : Position) (m : Move) → pseudo rule p m 
     → legal rule p m ≡ false
 unfolding legal
 legal-idle rule p m h = and_left _ _ h
-
--- nor does it mate
-pub mates-idle : (rule : RuleSet) (p : Position) (m : Move) → pseudo rule p m ≡ false
-    → mates rule p m ≡ false
-unfolding mates
-mates-idle rule p m h = and_left _ _ (legal-idle rule p m h)

@@ -7,7 +7,8 @@ use Rattle.std.specs.List.{flat_map, list_all, sum_by}
 use Rattle.chess_core.specs.Position.{Position}
 use Rattle.chess_core.specs.Triple.{Triple}
 use Rattle.chess_core.specs.WellFormed.{IsWellFormed}
-use Rattle.chess_rules.specs.ties.Places.{is_mating, moves_behind}
+use Rattle.chess_rules.specs.ties.Places.{moves_behind}
+use Rattle.chess_mates.specs.ties.Mates.{is_mating}
 use Rattle.chess_rules.specs.Legal.{is_goal}
 use Rattle.chess_rules.specs.RuleSet.{RuleSet}
 use Rattle.pop_input.specs.Stipulations.{is_help}

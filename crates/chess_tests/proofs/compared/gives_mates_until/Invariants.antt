@@ -1,5 +1,5 @@
 use Rattle.std.proofs.Common.{◌≡◌}
-use Rattle.chess_rules.specs.ties.Places.{IsMatingPlaceIn}
+use Rattle.chess_mates.specs.ties.Mates.{IsMatingPlaceIn}
 use Rattle.chess_tests.proofs.compared.gives_mates_until.Given as goal
 
 abbrev pub invariant-loop-number : goal.invariant-loop-number

@@ -1,5 +1,5 @@
 use Rattle.std.proofs.Common.{◌≡◌}
-use Rattle.chess_rules.specs.ties.Places.{IsMatingPlaceIn}
+use Rattle.chess_mates.specs.ties.Mates.{IsMatingPlaceIn}
 use Rattle.chess_tests.proofs.compared.gives_mating_moves.Given as goal
 
 abbrev pub invariant-loop-choice : goal.invariant-loop-choice

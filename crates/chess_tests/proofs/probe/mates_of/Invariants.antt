@@ -1,6 +1,6 @@
 use Rattle.std.proofs.Common.{◌≡◌, length}
 use Rattle.chess_core.specs.Diagrams.{position_of}
-use Rattle.chess_rules.specs.ties.Places.{IsMatingPlaceIn, mates_behind}
+use Rattle.chess_mates.specs.ties.Mates.{IsMatingPlaceIn, mates_behind}
 use Rattle.chess_tests.proofs.probe.mates_of.Given as goal
 
 abbrev pub invariant-loop-m : goal.invariant-loop-m

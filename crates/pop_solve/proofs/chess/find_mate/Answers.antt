@@ -1,5 +1,5 @@
 use Rattle.pop_solve.proofs.Basics.{ap, rules}
-use Rattle.chess_rules.specs.ties.Places.{MatingPlace}
+use Rattle.chess_mates.specs.ties.Mates.{MatingPlace}
 use Rattle.pop_solve.proofs.Boards.{mate_before, mate_behind, no_mate}
 use Rattle.pop_solve.proofs.chess.find_mate.Goals as goal
 

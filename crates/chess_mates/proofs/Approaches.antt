@@ -1,0 +1,96 @@
+-- From where pawns come to a square: so many squares before it, or behind it.
+use Rattle.chess_rules.proofs.Basics.{Bool, agree_below_at, and_parts, ap, arith, bit_at, bit_or, eqb-true, inl, inr, list_any, not, or_cases, or_left, or_right, refl, rules, sym, true, ℕ, ◌%◌, ◌*◌, ◌+◌, ◌-◌, ◌/◌, ◌<◌, ◌==◌, ◌^◌, ◌||◌, ◌∙◌, ◌≡◌, ◌≤◌}
+use Rattle.chess_mates.proofs.Chess.{AreApproaches, Black, Colour, Pawn, Position, White, along, is_advance, leaps, may_go, pawn_captures, reaches_as}
+use Rattle.std.proofs.Math.Nat.{div-add-mod}
+use Rattle.std.proofs.lemmas.Nat.{pow_pos, shr-shr}
+use Rattle.std.proofs.lemmas.Nat.Bits.{bit_at_cat_high, bit_at_cat_low}
+use Rattle.chess_mates.proofs.OpenBoard.{advances}
+use Rattle.chess_rules.proofs.Tests.{implied}
+use Rattle.chess_rules.proofs.Bits.{on_left, on_right}
+
+-- a word moved down or up by k squares
+pub bit_down : (w k s : ℕ) → bit_at (w / 2 ^ k) s ≡ bit_at w (k + s)
+bit_down w k s = ap (λ x. x % 2) (shr-shr w k s)
+
+pub bit_up : (w k s : ℕ) → k ≤ s → s < 64 → bit_at (w * 2 ^ k % 2 ^ 64) s ≡ bit_at w (s - k)
+bit_up w k s from small =
+    let all = w * 2 ^ k in
+    let parts : all / 2 ^ 64 * 2 ^ 64 + all % 2 ^ 64 ≡ all = omega (arith, div-add-mod all (2 ^ 64)) in
+    let whole : all + 0 ≡ all = omega arith in
+    sym (bit_at_cat_low (all / 2 ^ 64) 64 (all % 2 ^ 64) s small) ∙ ap (λ n. bit_at n s) (parts ∙ sym whole)
+    ∙ bit_at_cat_high w k 0 s (pow_pos k) from
+
+-- the second square is so many squares behind the first
+abbrev is_on : ℕ → ℕ → ℕ → Bool
+is_on k s t = t == k + s
+
+-- from a square so many squares before a target, or behind it, the word moved by as many
+from_below : (w k s t : ℕ) → (bit_at w t == 1) ≡ true → is_on k s t ≡ true → (bit_at (w / 2 ^ k) s == 1) ≡ true
+from_below w k s t h at = ap (λ n. n == 1) (bit_down w k s ∙ ap (bit_at w) (sym (eqb-true t (k + s) at))) ∙ h
+
+from_above : (w k s t : ℕ) → s < 64 → (bit_at w t == 1) ≡ true → is_on k t s ≡ true → (bit_at (w * 2 ^ k % 2 ^ 64) s == 1) ≡ true
+from_above w k s t small h at =
+    let e : s ≡ k + t = eqb-true s (k + t) at in
+    let back : s - k ≡ t = omega (arith, e) in
+    ap (λ n. n == 1) (bit_up w k s (omega (arith, e)) small ∙ ap (bit_at w) back) ∙ h
+
+on_either : (u v : Bool) (a b i : ℕ) → (u ≡ true → (bit_at a i == 1) ≡ true) → (v ≡ true → (bit_at b i == 1) ≡ true) → (u || v) ≡ true
+    → (bit_at (bit_or a b) i == 1) ≡ true
+on_either u v a b i f g h = elim (or_cases u v h) [
+  | inl y ↦ on_left a b i (f y)
+  | inr y ↦ on_right a b i (g y)
+]
+
+-- where a pawn might go on an empty board
+abbrev pawn_way : Colour → ℕ → ℕ → Bool
+pawn_way c s t = list_any (leaps s t) (pawn_captures c) || is_advance c s t
+
+pawn_goes_so : (p : Position) (c : Colour) (s t : ℕ) → may_go p (record { colour = c; kind = Pawn }) s t ≡ true → pawn_way c s t ≡ true
+unfolding may_go reaches_as
+pawn_goes_so p c s t h = search (rules, advances, and_parts, or_cases, or_left, or_right)
+
+-- the distances between the squares of a white pawn's moves
+abbrev pawn_distance : ℕ → ℕ → Bool
+pawn_distance s t = ((is_on 7 s t || is_on 8 s t) || is_on 9 s t) || is_on 16 s t
+
+abbrev pawn_distance_by : Colour → ℕ → ℕ → Bool
+pawn_distance_by White s t = pawn_distance s t
+pawn_distance_by Black s t = pawn_distance t s
+
+pawns_far : (c : Colour) (s t : ℕ) → s < 64 → t < 64 → pawn_way c s t ≡ true → pawn_distance_by c s t ≡ true
+pawns_far c s t p q = by (64 * s + t) (omega (arith, p, q)) (omega (arith, q)) (omega (arith, q)) where
+  table : (c : Colour) (k : ℕ) → k < 4096 → (not (pawn_way c (k / 64) (k % 64)) || pawn_distance_by c (k / 64) (k % 64)) ≡ true
+  table White k lt = unfold along leaps in
+      agree_below_at (λ n. not (pawn_way White (n / 64) (n % 64)) || pawn_distance (n / 64) (n % 64)) (λ n. true) 4096 k refl lt
+  table Black k lt = unfold along leaps in
+      agree_below_at (λ n. not (pawn_way Black (n / 64) (n % 64)) || pawn_distance (n % 64) (n / 64)) (λ n. true) 4096 k refl lt
+
+  by : (k : ℕ) → k < 4096 → k / 64 ≡ s → k % 64 ≡ t → pawn_way c s t ≡ true → pawn_distance_by c s t ≡ true
+  by k lt a b = rw (← a, ← b) (implied _ _ (table c k lt))
+
+-- the words moved by these distances
+module _ (w s t : ℕ) (small : s < 64) (on : (bit_at w t == 1) ≡ true) where
+  down : (k : ℕ) → is_on k s t ≡ true → (bit_at (w / 2 ^ k) s == 1) ≡ true
+  down k = from_below w k s t on
+
+  up : (k : ℕ) → is_on k t s ≡ true → (bit_at (w * 2 ^ k % 2 ^ 64) s == 1) ≡ true
+  up k = from_above w k s t small on
+
+  white_steps : pawn_distance s t ≡ true → (bit_at (bit_or (bit_or (bit_or (w / 2 ^ 7) (w / 2 ^ 8)) (w / 2 ^ 9)) (w / 2 ^ 16)) s == 1) ≡ true
+  white_steps = on_either _ _ _ _ s (on_either _ _ _ _ s (on_either _ _ _ _ s (down 7) (down 8)) (down 9)) (down 16)
+
+  black_steps : pawn_distance t s ≡ true
+      → (bit_at (bit_or (bit_or (bit_or (w * 2 ^ 7 % 2 ^ 64) (w * 2 ^ 8 % 2 ^ 64)) (w * 2 ^ 9 % 2 ^ 64)) (w * 2 ^ 16 % 2 ^ 64)) s == 1) ≡ true
+  black_steps = on_either _ _ _ _ s (on_either _ _ _ _ s (on_either _ _ _ _ s (up 7) (up 8)) (up 9)) (up 16)
+
+pub white_pawns_before : (w : ℕ) → AreApproaches (record { colour = White; kind = Pawn }) w
+    (bit_or (bit_or (bit_or (w / 2 ^ 7) (w / 2 ^ 8)) (w / 2 ^ 9)) (w / 2 ^ 16))
+white_pawns_before w = record {
+  approach = λ p s t small inside goes on. white_steps w s t small on (pawns_far White s t small inside (pawn_goes_so p White s t goes));
+}
+
+pub black_pawns_before : (w : ℕ) → AreApproaches (record { colour = Black; kind = Pawn }) w
+    (bit_or (bit_or (bit_or (w * 2 ^ 7 % 2 ^ 64) (w * 2 ^ 8 % 2 ^ 64)) (w * 2 ^ 9 % 2 ^ 64)) (w * 2 ^ 16 % 2 ^ 64))
+black_pawns_before w = record {
+  approach = λ p s t small inside goes on. black_steps w s t small on (pawns_far Black s t small inside (pawn_goes_so p Black s t goes));
+}

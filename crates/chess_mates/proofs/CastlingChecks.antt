@@ -1,0 +1,399 @@
+-- Castling that uncovers no king gives check by its rook alone.
+use Rattle.chess_rules.proofs.Basics.{Bool, List, None, Option, Some, [], agree_below, agree_below_at, and_from, and_left, and_parts, ap, arith, bit_and, bit_at, bit_or, cases_eq, cond-false, cond-true, eq-eqb, eqb-true, false, false_from_ne_true, false≢true, inl, inr, is_some, length, length-set, list_all, list_any, not, or_cases, or_left, or_parts, range_with_len, refl, rules, sym, true, ℕ, ◌%◌, ◌&&◌, ◌*◌, ◌+◌, ◌-◌, ◌/◌, ◌<◌, ◌==◌, ◌^◌, ◌||◌, ◌∙◌, ◌∷◌, ◌≡◌, ◌≢◌, ◌≤◌, ◌⊎◌}
+use Rattle.chess_mates.proofs.Chess.{AreCastlingTargets, Bishop, CheckSquares, Colour, Direction, East, Grasshopper, IsWellFormed, Kind, King, Man, Move, Nightrider, North, NorthEast, NorthWest, Pawn, Position, Queen, Rook, RuleSet, South, SouthEast, SouthWest, Step, Straight, West, after, all_at, along, along-is, capture_square, castles, check_of, corner, find_first, halfway, hops, in_check, is_ahead, is_aside, is_castling, is_clear, is_diagonal, is_man, is_on_fairy_line, is_on_fairy_line_to, is_on_some, is_reached, is_side, is_square, is_vacant_at, king_square, man_on, man_on-with_same, may_castle, may_check_from, may_expose}
+use Rattle.chess_mates.proofs.Chess.{may_expose_on, may_stand_between, moved_men, other, queen_steps, reaches, reaches_as, rides, same_colour, same_kind, some_square_false, some_square_true, squares, squares_between, step_of, steps_to, straight_steps, with_man, without_man, word}
+use Rattle.chess_mates.specs.ties.CheckSquares.{enemy}
+use Rattle.chess_rules.proofs.rays.Ahead.{onward, passes}
+use Rattle.chess_rules.proofs.Bits.{word_has, off_left, off_right}
+use Rattle.chess_rules.proofs.making_moves.Castles.{no_man}
+use Rattle.chess_rules.proofs.rays.Ends.{back, returns_to, square_is}
+use Rattle.chess_rules.proofs.attacks.FairyLines.{Holds, IsBeside, IsNoHurdle, hop_kept, knight_directions, queen_directions, ride_kept}
+use Rattle.chess_rules.proofs.making_moves.Fits.{arrived, castle_of, corner_stays, king_no_step, no_capture}
+use Rattle.chess_rules.proofs.rays.Parting.{Frees}
+use Rattle.chess_rules.proofs.attacks.Exposing.{king_stays_king}
+use Rattle.chess_rules.proofs.making_moves.Pseudo.{IsCastle, IsMade, king_is_no_pawn, ways}
+use Rattle.chess_rules.proofs.attacks.Shielding.{IsCovered, IsShift, covered_parts, frees, gone_shift, king_is, man_there, not_attacked, line_before, not_parted, stood, unreached, unreborn_after}
+use Rattle.chess_rules.proofs.listing_moves.Targeting.{castling_steps}
+use Rattle.chess_rules.proofs.Tests.{any_kept, implied}
+use Rattle.chess_rules.proofs.listing_moves.Walks.{off_second}
+use Rattle.chess_mates.proofs.Approaches.{bit_down, bit_up}
+use Rattle.chess_rules.proofs.attacks.Attacking.{goes_on}
+
+-- the corners of the board: no line goes through one
+abbrev is_corner : ℕ → Bool
+is_corner s = s == 0 || s == 7 || s == 56 || s == 63
+
+-- no square of the board is ahead
+abbrev is_end : ℕ → Step → Bool
+is_end s d = list_all (λ n. not (is_some (along s d n))) (range_with_len 1 7)
+
+-- from a corner no line goes both ways
+abbrev is_end_of : Step → ℕ → Bool
+is_end_of d b = not (is_corner b) || is_end b d || is_end b (back d)
+
+corner_ends : (x : Direction) (b : ℕ) → b < 64 → is_end_of (step_of x) b ≡ true
+unfolding along
+corner_ends East b lt = agree_below_at (is_end_of (step_of East)) (λ b. true) 64 b refl lt
+corner_ends x b lt = agree_below_at (is_end_of (step_of x)) (λ b. true) 64 b refl lt
+
+end_none : (s : ℕ) (d : Step) (n t : ℕ) → is_end s d ≡ true → 1 ≤ n → n ≤ 7 → along s d n ≡ Some t → ⊥
+end_none s d n t h low le at = search (rules, all_at, false≢true)
+
+-- so a man in a corner stands between no two squares
+corner_beside : (x : Direction) (b s k : ℕ) → is_corner b ≡ true → b < 64 → s < 64 → IsBeside b s k (step_of x)
+corner_beside x b s k h inside small = λ n i at low lt le. false_from_ne_true _ (λ y.
+    let here : along s (step_of x) i ≡ Some b = square_is _ b y in
+    let rest : i + (n - i) ≡ n = omega arith in
+    let on : along b (step_of x) (n - i) ≡ Some k = onward s b (step_of x) i (n - i) here ∙ ap (along s (step_of x)) rest ∙ at in
+    let came : along b (back (step_of x)) i ≡ Some s = square_is _ s (returns_to s b (step_of x) i small y) in
+    elim (or_cases (not (is_corner b) || is_end b (step_of x)) (is_end b (back (step_of x))) (corner_ends x b inside)) [
+      | inl first ↦ search (rules, or_cases, false≢true, end_none)
+      | inr e ↦ end_none b (back (step_of x)) i s e low (omega arith) came
+    ])
+
+-- the squares halfway of castlings: lines through one go along its rank alone
+abbrev is_half : ℕ → Bool
+is_half h = h == 3 || h == 5 || h == 59 || h == 61
+
+-- no square is right behind h on a line from elsewhere, the two beside h on its rank apart
+abbrev is_beside_alone : ℕ → Step → Bool
+is_beside_alone h d = not (is_some (along h (back d) 1)) || not (is_some (along h d 1)) || is_square (along h d 1) (h + 1)
+    || is_square (along h d 1) (h - 1)
+
+half_alone : (x : Direction) (h : ℕ) → h < 64 → (not (is_half h) || is_beside_alone h (step_of x)) ≡ true
+unfolding along
+half_alone East h lt = agree_below_at (λ h. not (is_half h) || is_beside_alone h (step_of East)) (λ h. true) 64 h refl lt
+half_alone x h lt = agree_below_at (λ h. not (is_half h) || is_beside_alone h (step_of x)) (λ h. true) 64 h refl lt
+
+-- who stands halfway is a hurdle before none but the squares beside him
+half_no_hurdle : (x : Direction) (h s k : ℕ) → is_half h ≡ true → h < 64 → s < 64 → k ≢ h + 1 → k ≢ h - 1 → IsNoHurdle h s k (step_of x)
+half_no_hurdle x h s k half inside small ne1 ne2 = λ n at low le. false_from_ne_true _ (λ y.
+    let here : along s (step_of x) (n - 1) ≡ Some h = square_is _ h y in
+    let rest : n - 1 + 1 ≡ n = omega arith in
+    let on : along h (step_of x) 1 ≡ Some k = onward s h (step_of x) (n - 1) 1 here ∙ ap (along s (step_of x)) rest ∙ at in
+    let came : along h (back (step_of x)) (n - 1) ≡ Some s = square_is _ s (returns_to s h (step_of x) (n - 1) small y) in
+    let before = passes h s (back (step_of x)) (n - 1) 1 inside (omega arith) came in
+    let alone = implied (is_half h) (is_beside_alone h (step_of x)) (half_alone x h inside) half in
+    elim (or_cases _ (is_square (along h (step_of x) 1) (h - 1)) alone) [
+      | inl e ↦ search (rules, or_cases, back, false≢true, eqb-true)
+      | inr e ↦ ne2 (eqb-true k (h - 1) (sym (ap (λ o. is_square o (h - 1)) on) ∙ e))
+    ])
+
+-- when a man has left a corner, riders get where they got
+module _ (men after : List (Option Man)) (b s k : ℕ) (free : Frees after men b) (edge : is_corner b ≡ true) (inside : b < 64) (small : s < 64) where
+  rode : (xs : List Direction) → list_any (λ x. rides after s k (step_of x)) xs ≡ true → list_any (λ x. rides men s k (step_of x)) xs ≡ true
+  rode xs h = any_kept (λ x. rides after s k (step_of x)) (λ x. rides men s k (step_of x)) xs
+      (λ x ride. ride_kept men after b s k (step_of x) free (corner_beside x b s k edge inside small) ride) h
+
+  reached : (e : Colour) (j : Kind)
+      → (same_kind j Grasshopper ≡ true → list_any (hops after s k) queen_steps ≡ true → list_any (hops men s k) queen_steps ≡ true)
+      → reaches_as after e j s k ≡ true → reaches_as men e j s k ≡ true
+  unfolding reaches_as
+  reached e Queen hop h = rode queen_directions h
+  reached e Rook hop h = rode (East ∷ West ∷ North ∷ South ∷ []) h
+  reached e Bishop hop h = rode (NorthEast ∷ SouthEast ∷ NorthWest ∷ SouthWest ∷ []) h
+  reached e Grasshopper hop h = hop refl h
+  reached e Nightrider hop h = rode knight_directions h
+  reached e j hop h = h
+
+  -- and grasshoppers too, if the man went to no square right before k
+  hopped : (t : ℕ) → Holds after men t → ((x : Direction) → IsNoHurdle t s k (step_of x))
+      → list_any (hops after s k) queen_steps ≡ true → list_any (hops men s k) queen_steps ≡ true
+  hopped t holds none h =
+      any_kept (λ x. hops after s k (step_of x)) (λ x. hops men s k (step_of x)) queen_directions
+      (λ x hop. hop_kept men after b t s k (step_of x) free holds (corner_beside x b s k edge inside small) (none x) hop) h
+
+-- king and rook castle: a king on a goes to t, the rook from c to h
+abbrev CastlingSquares : ℕ → ℕ → ℕ → ℕ → Type 0
+CastlingSquares a t c h =
+    ((a ≡ 4) ⊎ (a ≡ 60)) × (((t ≡ a + 2) × ((c ≡ a + 3) × (h ≡ a + 1))) ⊎ ((t + 2 ≡ a) × ((c + 4 ≡ a) × (h + 1 ≡ a))))
+
+-- what lies between them is empty, and what stands on a straight line with both of the king's squares stands on one with the rook's
+record IsWay (men : List (Option Man)) (a t c h : ℕ) : Type 0 where
+  pub empty : man_on men t ≡ None
+  pub ride : list_any (rides men c a) straight_steps ≡ true
+  pub edge : is_corner c ≡ true
+  pub inside : c < 64
+  pub half : is_half h ≡ true
+  pub beside : (k : ℕ) → k ≢ a → k ≢ t → (k ≢ h + 1) × (k ≢ h - 1)
+  pub lined : (k : ℕ) → k < 64 → k ≢ c → is_on_some straight_steps k h ≡ true → is_on_some straight_steps k a ≡ true → is_on_some straight_steps k c ≡ true
+
+abbrev is_lined_up : ℕ → ℕ → ℕ → ℕ → Bool
+is_lined_up a c h k = not (is_on_some straight_steps k h && is_on_some straight_steps k a) || (k == c || is_on_some straight_steps k c)
+
+lined_up : (a c h k : ℕ) → is_lined_up a c h k ≡ true → k ≢ c → is_on_some straight_steps k h ≡ true → is_on_some straight_steps k a ≡ true
+    → is_on_some straight_steps k c ≡ true
+lined_up a c h k y ne p q = grind (arith, or_cases, implied, and_from, eqb-true)
+
+-- what hangs on the squares alone
+abbrev is_place : ℕ → ℕ → ℕ → Bool
+is_place a c h = (is_corner c && is_half h) && agree_below (is_lined_up a c h) (λ k. true) 64
+
+is_way : (men : List (Option Man)) (a t c h : ℕ) → is_place a c h ≡ true → c < 64 → ((k : ℕ) → k ≢ a → k ≢ t → (k ≢ h + 1) × (k ≢ h - 1))
+    → man_on men t ≡ None → list_any (rides men c a) straight_steps ≡ true → IsWay men a t c h
+is_way men a t c h place inside beside empty ride =
+    let parts = and_parts (is_corner c && is_half h) (agree_below (is_lined_up a c h) (λ k. true) 64) place in
+    let ends = and_parts (is_corner c) (is_half h) parts.0 in
+    record {
+      empty = empty;
+      ride = ride;
+      edge = ends.0;
+      inside = inside;
+      half = ends.1;
+      beside = beside;
+      lined = λ k lt. lined_up a c h k (agree_below_at (is_lined_up a c h) (λ k. true) 64 k parts.1 lt);
+    }
+
+white_short : (men : List (Option Man)) → list_all (is_vacant_at men) (squares_between 4 7) ≡ true → IsWay men 4 6 7 5
+unfolding rides is_clear along is_on_some is_ahead
+white_short men v =
+    let v5 = and_parts (is_vacant_at men 5) _ v in
+    let e5 : man_on men 5 ≡ None = no_man men 5 v5.0 in
+    let e6 : man_on men 6 ≡ None = no_man men 6 (and_parts (is_vacant_at men 6) _ v5.1).0 in
+    is_way men 4 6 7 5 refl (omega arith) (λ k p q. (q, p)) e6 (rw (e5, e6) refl)
+
+white_long : (men : List (Option Man)) → list_all (is_vacant_at men) (squares_between 4 0) ≡ true → IsWay men 4 2 0 3
+unfolding rides is_clear along is_on_some is_ahead
+white_long men v =
+    let v1 = and_parts (is_vacant_at men 1) _ v in
+    let v2 = and_parts (is_vacant_at men 2) _ v1.1 in
+    let e1 : man_on men 1 ≡ None = no_man men 1 v1.0 in
+    let e2 : man_on men 2 ≡ None = no_man men 2 v2.0 in
+    let e3 : man_on men 3 ≡ None = no_man men 3 (and_parts (is_vacant_at men 3) _ v2.1).0 in
+    is_way men 4 2 0 3 refl (omega arith) (λ k p q. (p, q)) e2 (rw (e1, e2, e3) refl)
+
+black_short : (men : List (Option Man)) → list_all (is_vacant_at men) (squares_between 60 63) ≡ true → IsWay men 60 62 63 61
+unfolding rides is_clear along is_on_some is_ahead
+black_short men v =
+    let v61 = and_parts (is_vacant_at men 61) _ v in
+    let e61 : man_on men 61 ≡ None = no_man men 61 v61.0 in
+    let e62 : man_on men 62 ≡ None = no_man men 62 (and_parts (is_vacant_at men 62) _ v61.1).0 in
+    is_way men 60 62 63 61 refl (omega arith) (λ k p q. (q, p)) e62 (rw (e61, e62) refl)
+
+black_long : (men : List (Option Man)) → list_all (is_vacant_at men) (squares_between 60 56) ≡ true → IsWay men 60 58 56 59
+unfolding rides is_clear along is_on_some is_ahead
+black_long men v =
+    let v57 = and_parts (is_vacant_at men 57) _ v in
+    let v58 = and_parts (is_vacant_at men 58) _ v57.1 in
+    let e57 : man_on men 57 ≡ None = no_man men 57 v57.0 in
+    let e58 : man_on men 58 ≡ None = no_man men 58 v58.0 in
+    let e59 : man_on men 59 ≡ None = no_man men 59 (and_parts (is_vacant_at men 59) _ v58.1).0 in
+    is_way men 60 58 56 59 refl (omega arith) (λ k p q. (p, q)) e58 (rw (e57, e58, e59) refl)
+
+at_squares : (men : List (Option Man)) (a t c h i u d j : ℕ) → a ≡ i → t ≡ u → c ≡ d → h ≡ j
+    → (list_all (is_vacant_at men) (squares_between i d) ≡ true → IsWay men i u d j) → list_all (is_vacant_at men) (squares_between a c) ≡ true
+    → IsWay men a t c h
+at_squares men a t c h i u d j from to rook half f v = rw (from, to, rook, half) (f (rw (from, rook) at v))
+
+way : (men : List (Option Man)) (a t c h : ℕ) → CastlingSquares a t c h → list_all (is_vacant_at men) (squares_between a c) ≡ true → IsWay men a t c h
+way men a t c h s v = elim s.0 [
+  | inl e ↦ elim s.1 [
+    | inl f ↦ at_squares men a t c h 4 6 7 5 e (omega arith) (omega arith) (omega arith) (white_short men) v
+    | inr f ↦ at_squares men a t c h 4 2 0 3 e (omega arith) (omega arith) (omega arith) (white_long men) v
+  ]
+  | inr e ↦ elim s.1 [
+    | inl f ↦ at_squares men a t c h 60 62 63 61 e (omega arith) (omega arith) (omega arith) (black_short men) v
+    | inr f ↦ at_squares men a t c h 60 58 56 59 e (omega arith) (omega arith) (omega arith) (black_long men) v
+  ]
+]
+
+-- of these squares, which are apart
+inside_of : (a t c h : ℕ) → CastlingSquares a t c h → (a < 64) × (t < 64) × (h < 64)
+inside_of a t c h s = search rules
+
+someone : (o : Option Man) → (o ≡ None → ⊥) → (y : Man) × (o ≡ Some y)
+someone None h = absurd (h refl)
+someone (Some y) h = (y, refl)
+
+kind_is_rook : (j : Kind) → same_kind j Rook ≡ true → j ≡ Rook
+kind_is_rook Rook h = refl
+kind_is_rook j h = cc
+
+-- what castling changes: the king steps, and then the rook
+module _ (rule : RuleSet) (p : Position) (x : Man) (m : Move) (well : IsWellFormed p) (is : IsMade rule p x m) (castling : is_castling x m ≡ true) where
+  king : same_kind x.kind King ≡ true
+  king = (and_parts _ _ (and_parts _ _ castling).0).0
+
+  castle : (same_kind x.kind Pawn ≡ false) × IsCastle p m
+  castle = castle_of rule p x m well is castling
+
+  castles_so : castles rule p x m ≡ true
+  castles_so = search (rules, ways, false≢true, castle, king_no_step, king)
+
+  all_empty : list_all (is_vacant_at p.men) (squares_between m.from (corner m)) ≡ true
+  unfolding castles may_castle
+  all_empty = grind (arith, and_parts, castles_so)
+
+  on : CastlingSquares m.from m.to (corner m) (halfway m)
+  on = (castle.1.from, castle.1.far)
+
+  the_way : IsWay p.men m.from m.to (corner m) (halfway m)
+  the_way = way p.men m.from m.to (corner m) (halfway m) on all_empty
+
+  small : (m.from < 64) × (m.to < 64) × (halfway m < 64)
+  small = inside_of m.from m.to (corner m) (halfway m) on
+
+  nobody : capture_square p x m ≡ None
+  nobody = no_capture p x m the_way.empty (and_left (same_kind x.kind Pawn) (is_diagonal m) castle.0)
+
+  abbrev stepped : List (Option Man)
+  stepped = with_man (without_man p.men m.from) m.to x
+
+  rook : (z : Man) × (man_on p.men (corner m) ≡ Some z)
+  rook = someone (man_on p.men (corner m)) castle.1.stands
+
+  rook_kind : same_kind rook.0.kind Rook ≡ true
+  rook_kind = castle.1.rook rook.0 rook.1
+
+  abbrev castled : List (Option Man)
+  castled = with_man (without_man stepped (corner m)) (halfway m) rook.0
+
+  arrived_is : arrived p x m ≡ stepped
+  arrived_is = search (rules, king_stays_king, king, nobody)
+
+  moved_is : moved_men p x m ≡ castled
+  unfolding moved_men
+  moved_is = grind (arith, arrived, rook, corner_stays, castle, cond-true, arrived_is)
+
+  after_is : (after rule p m).men ≡ castled
+  after_is = unreborn_after rule p x m is.here (λ circe. nobody) ∙ moved_is
+
+  stepped_size : length stepped ≡ 64
+  stepped_size = length-set (without_man p.men m.from) m.to (Some x) ∙ length-set p.men m.from None ∙ well.size
+
+  king_shift : IsShift p.men stepped m.from m.to x
+  king_shift = gone_shift p.men m.from None m.to x (omega (arith, small.1, well.size)) (λ s at. absurd (false≢true at))
+
+  rook_shift : IsShift stepped castled (corner m) (halfway m) rook.0
+  rook_shift = gone_shift stepped (corner m) None (halfway m) rook.0 (omega (arith, small.2, stepped_size)) (λ s at. absurd (false≢true at))
+
+  rook_there : man_on castled (halfway m) ≡ Some rook.0
+  rook_there = search (rules, man_on-with_same, rook, small, stepped_size, length-set)
+
+  -- what is asked, so that castling gives no check to the king of colour c
+  module _ (c : Colour) (enemy_of : same_colour x.colour c ≡ false) (covered : may_expose p.men c m.from ≡ false)
+      (aside : may_stand_between p.men c m.to ≡ false) (king_off : may_check_from p.men c x m.to ≡ false)
+      (rook_off : may_check_from p.men c (enemy c Rook) (halfway m) ≡ false) where
+    module _ (k : ℕ) (at : king_square p.men c ≡ Some k) (stands : is_man (man_on p.men k) c King ≡ true) (inside : k < 64) where
+      parts : IsCovered p.men c m.from k
+      unfolding may_expose
+      parts = covered_parts p.men c m.from k (ap (λ (o : Option ℕ). may_expose_on p.men o c m.from) (sym at) ∙ covered)
+
+      off_lines : (t : ℕ) → may_stand_between p.men c t ≡ false → is_on_fairy_line p.men (other c) k t ≡ false
+      unfolding may_stand_between
+      off_lines t h = ap (λ (o : Option ℕ). is_on_fairy_line_to p.men o c t) (sym at) ∙ h
+
+      from_there : (y : Man) (t : ℕ) → may_check_from p.men c y t ≡ false → reaches_as p.men y.colour y.kind t k ≡ false
+      unfolding may_check_from
+      from_there y t h = search (rules, or_parts)
+
+      -- once the king has stepped, no man reaches the other king
+      king_steps : is_reached stepped k (other c) ≡ false
+      king_steps = search (rules, unreached, king_shift, parts, off_lines, from_there, stood, small)
+
+      not_corner : k ≢ corner m
+      not_corner e = search (rules, rook, kind_is_rook, rook_kind, false≢true, and_parts)
+
+      apart : (k ≢ halfway m + 1) × (k ≢ halfway m - 1)
+      apart =
+          let off_from : k ≢ m.from = λ e. false≢true (sym parts.apart ∙ eq-eqb k m.from e) in
+          let off_to : k ≢ m.to = λ e. false≢true (ap (λ (o : Option Man). is_man o c King) (sym (ap (man_on p.men) e ∙ the_way.empty)) ∙ stands) in
+          the_way.beside k off_from off_to
+
+      -- nor does the rook from halfway
+      rook_strikes : is_side (man_on castled (halfway m)) (other c) ≡ true → reaches castled (halfway m) k ≡ true → ⊥
+      unfolding reaches reaches_as is_on_some
+      rook_strikes side hit =
+          let mine : same_colour rook.0.colour (other c) ≡ true = rw rook_there at side in
+          let is_rook : rook.0.kind ≡ Rook = kind_is_rook rook.0.kind rook_kind in
+          let now : reaches_as castled rook.0.colour rook.0.kind (halfway m) k ≡ true = rw rook_there at hit in
+          let before : reaches_as stepped rook.0.colour rook.0.kind (halfway m) k ≡ true =
+          reached stepped castled (corner m) (halfway m) k (frees stepped castled (corner m) (halfway m) rook.0 rook_shift) the_way.edge the_way.inside small.2
+          rook.0.colour rook.0.kind (λ hopper. absurd (false≢true (sym (ap (λ (j : Kind). same_kind j Grasshopper) is_rook) ∙ hopper))) now in
+          let rides_now : list_any (rides stepped (halfway m) k) straight_steps ≡ true = rw is_rook at before in
+          let rider : (is_man (man_on p.men (corner m)) (other c) Rook || is_man (man_on p.men (corner m)) (other c) Queen) ≡ true =
+          rw rook.1 (or_left _ _ (and_from _ _ mine rook_kind)) in
+          let rode : list_any (rides p.men (halfway m) k) straight_steps ≡ true =
+          line_before p.men stepped m.from m.to x king_shift Straight k (halfway m) small.2 inside
+          (λ line both. not_parted p.men m.from k (corner m) (other c) Rook straight_steps parts.straight rider the_way.inside
+          (the_way.lined k inside not_corner line (goes_on p.men k m.from straight_steps both.0)) (both.0, the_way.ride)) rides_now in
+          false≢true (sym (from_there (enemy c Rook) (halfway m) rook_off) ∙ rode)
+
+      -- nor another man, who would have reached him before the rook went
+      others_strike : (s : ℕ) (o : Option Man) → man_on castled s ≡ o → s < 64 → s ≢ halfway m → is_side o (other c) ≡ true → reaches castled s k ≡ true → ⊥
+      unfolding reaches is_reached
+      others_strike s None there lt ne side hit = false≢true side
+      others_strike s (Some y) there lt ne side hit =
+          let stood_so : man_on stepped s ≡ Some y = rook_shift.others s y there ne in
+          let now : reaches_as castled y.colour y.kind s k ≡ true = rw there at hit in
+          let frees_corner = frees stepped castled (corner m) (halfway m) rook.0 rook_shift in
+          let before : reaches_as stepped y.colour y.kind s k ≡ true =
+          reached stepped castled (corner m) s k frees_corner the_way.edge the_way.inside lt y.colour y.kind
+          (λ hopper hop. hopped stepped castled (corner m) s k frees_corner the_way.edge the_way.inside lt (halfway m)
+          (stood stepped castled (corner m) (halfway m) rook.0 rook_shift)
+          (λ w. half_no_hurdle w (halfway m) s k the_way.half small.2 lt apart.0 apart.1) hop) now in
+          let mine : is_side (man_on stepped s) (other c) ≡ true = rw stood_so side in
+          let then : reaches stepped s k ≡ true = rw stood_so before in
+          false≢true (sym king_steps
+          ∙ some_square_true (λ s. is_side (man_on stepped s) (other c) && reaches stepped s k) s lt (and_from _ _ mine then))
+
+      castled_unreached : is_reached castled k (other c) ≡ false
+      unfolding is_reached
+      castled_unreached = grind (arith, some_square_false, false_from_ne_true, and_parts, cases_eq, rook_strikes, others_strike)
+
+    -- the king of colour c stands where he stood
+    king_stood : (k : ℕ) → is_man (man_on castled k) c King ≡ true → is_man (man_on p.men k) c King ≡ true
+    king_stood k h =
+        let y = man_there (man_on castled k) c King h in
+        let is_one : is_man (Some y.0) c King ≡ true = rw y.1 at h in
+        let off_half : k ≢ halfway m = λ e.
+        let same : y.0 ≡ rook.0 = rook_shift.arrived y.0 (ap (man_on castled) (sym e) ∙ y.1) in
+        let none : same_kind rook.0.kind King ≡ false = ap (λ (j : Kind). same_kind j King) (kind_is_rook rook.0.kind rook_kind) in
+        false≢true (sym none ∙ ap (λ (w : Man). same_kind w.kind King) (sym same) ∙ (and_parts _ _ is_one).1) in
+        let one : man_on stepped k ≡ Some y.0 = rook_shift.others k y.0 y.1 off_half in
+        let off_to : k ≢ m.to = λ e.
+        let same : y.0 ≡ x = king_shift.arrived y.0 (ap (man_on stepped) (sym e) ∙ one) in
+        false≢true (sym enemy_of ∙ ap (λ (w : Man). same_colour w.colour c) (sym same) ∙ (and_parts _ _ is_one).0) in
+        ap (λ (o : Option Man). is_man o c King) (king_shift.others k y.0 one off_to) ∙ is_one
+
+    pub castling_gives_no_check : in_check rule (after rule p m).men c ≡ false
+    unfolding in_check king_square squares
+    castling_gives_no_check = ap (λ (men : List (Option Man)). in_check rule men c) after_is ∙ by (king_square castled c) refl where
+      by : (o : Option ℕ) → king_square castled c ≡ o → check_of rule castled o (other c) ≡ false
+      by None e = refl
+      by (Some k) e =
+          let f = find_first (λ s. is_man (man_on castled s) c King) 0 64 k e in
+          let inside : k < 64 = omega (arith, f.high) in
+          let stands : is_man (man_on p.men k) c King ≡ true = king_stood k f.here in
+          let at : king_square p.men c ≡ Some k = king_is p.men c k well.kings inside stands in
+          not_attacked rule castled (other c) k (castled_unreached k at stands inside)
+
+-- the words of the squares over which a king castles
+pub castling_aside : (x : Man) (m : Move) → m.to < 64 → is_castling x m ≡ true → is_aside m.from m.to ≡ true
+unfolding steps_to
+castling_aside x m small h =
+    let king : same_kind x.kind King ≡ true = (and_parts _ _ (and_parts _ _ h).0).0 in
+    sym (cond-false (same_kind x.kind Pawn) _ _ (king_is_no_pawn x.kind king) ∙ cond-true (same_kind x.kind King) _ _ king)
+    ∙ castling_steps x m small h
+
+two_aside : (s t : ℕ) → is_aside s t ≡ true → (t ≡ s + 2) ⊎ (s ≡ t + 2)
+two_aside s t h = search (rules, along-is, or_cases)
+
+crossed_aside : (w s a t : ℕ) → s < 64 → a ≡ word (is_aside s) → t < 64 → is_aside s t ≡ true
+    → (bit_at (bit_and a (bit_or (w * 2 ^ 1 % 2 ^ 64) (w / 2 ^ 1))) t == 1) ≡ false → (bit_at w ((s + t) / 2) == 1) ≡ false
+crossed_aside w s a t small are lt aside off =
+    let on : (bit_at a t == 1) ≡ true = word_has (is_aside s) a t are lt ∙ aside in
+    let up : ℕ = w * 2 ^ 1 % 2 ^ 64 in
+    let off_both : (bit_at (bit_or up (w / 2 ^ 1)) t == 1) ≡ false = off_second a (bit_or up (w / 2 ^ 1)) t off on in
+    elim (two_aside s t aside) [
+      | inl e ↦
+          let half : (s + t) / 2 ≡ t - 1 = omega arith in
+          ap (λ n. bit_at w n == 1) half ∙ ap (λ n. n == 1) (sym (bit_up w 1 t (omega arith) lt)) ∙ off_left up (w / 2 ^ 1) t off_both
+      | inr e ↦
+          let half : (s + t) / 2 ≡ 1 + t = omega arith in
+          ap (λ n. bit_at w n == 1) half ∙ ap (λ n. n == 1) (sym (bit_down w 1 t)) ∙ off_right up (w / 2 ^ 1) t off_both
+    ]
+
+pub castling_targets_are : (v : CheckSquares) (s a : ℕ) → s < 64 → a ≡ word (is_aside s)
+    → AreCastlingTargets v s (bit_and a (bit_or (v.straight * 2 ^ 1 % 2 ^ 64) (v.straight / 2 ^ 1)))
+castling_targets_are v s a small are = record { elsewhere = λ t lt aside off. crossed_aside v.straight s a t small are lt aside off }

@@ -1,0 +1,62 @@
+-- What the clauses of check squares and targets exclude: small positions in which the definitions say otherwise than a wrong body would.
+use Rattle.std.proofs.Common.{◌≡◌, ℕ, true, false, [], ◌∷◌, List, Option, refl, sym, ◌∙◌, arith}
+use Rattle.std.specs.Prelude.{◌==◌}
+use Rattle.std.specs.Int.{bit_at}
+use Rattle.std.proofs.lemmas.Bool.{true_from_ne_false, false≢true}
+use Rattle.chess_core.specs.Position.{Position}
+use Rattle.chess_core.specs.declared.man.Colour.TheVariants.{White, Black}
+use Rattle.chess_core.specs.declared.man.Kind.TheVariants.{King, Queen, Rook, Knight, Grasshopper, Pawn}
+use Rattle.chess_core.specs.declared.man.Man.{Man}
+use Rattle.chess_rules.specs.Attacks.{in_check}
+use Rattle.chess_rules.specs.Legal.{legal}
+use Rattle.chess_rules.specs.Play.{after}
+use Rattle.chess_rules.specs.RuleSet.{circe, orthodox}
+use Rattle.chess_rules.specs.ties.Shields.{is_behind, is_reached, is_shut, may_expose, is_on_fairy_line}
+use Rattle.chess_rules.specs.ties.Lines.{is_ahead}
+use Rattle.chess_rules.proofs.Typed.{go, on, position, set_up}
+use Rattle.chess_core.specs.SquareNames.{a1, d1, h1, a2, a3, d3, d6, e5, h7, a8, h8}
+use Rattle.chess_mates.specs.ties.CheckSquares.{AreCheckTargets, enemy, may_check_from}
+use Rattle.chess_rules.proofs.Excluded.{check_after_a_move, opening_capture}
+
+-- the capture en passant gives check by the bishop
+en_passant_checks : (legal orthodox opening_capture (go e5 d6) ≡ true)
+    × (in_check orthodox (after orthodox opening_capture (go e5 d6)).men Black ≡ true)
+unfolding legal check_after_a_move
+en_passant_checks = (refl, refl)
+
+-- so the squares to which the pawn must go to give check hold d6, from which a pawn gives none
+pub crossed_square_may_give_check : (w : ℕ) → AreCheckTargets orthodox opening_capture e5 w → (bit_at w d6 == 1) ≡ true
+crossed_square_may_give_check w are = true_from_ne_false _ (λ e. false≢true
+    (sym (are.elsewhere (go e5 d6) refl (omega arith) en_passant_checks.0 e) ∙ en_passant_checks.1))
+
+-- and no man that leaves e5 opens a line
+pub no_pawn_checks_from_there : (may_check_from opening_capture.men Black (enemy Black Pawn) d6 ≡ false)
+    × (may_expose opening_capture.men Black e5 ≡ false)
+unfolding may_check_from may_expose is_reached is_on_fairy_line is_ahead is_shut is_behind check_after_a_move
+no_pawn_checks_from_there = (refl, refl)
+
+-- Circe, White Ka1 Ga8 Rd1, Black Kh8 Sd3: the rook captures the knight, which is reborn on g8, and the grasshopper hops
+-- over it to the king
+abbrev reborn_hurdle : Position
+reborn_hurdle = position (on White King a1 ∷ on White Grasshopper a8 ∷ on White Rook d1 ∷ on Black King h8 ∷ on Black Knight d3 ∷ []) White
+
+reborn_knight_checks : (legal circe reborn_hurdle (go d1 d3) ≡ true)
+    × (in_check circe (after circe reborn_hurdle (go d1 d3)).men Black ≡ true)
+unfolding legal check_after_a_move
+reborn_knight_checks = (refl, refl)
+
+-- so the squares to which the rook must go to give check hold d3, from which it gives none
+pub captures_with_rebirth_may_give_check : (w : ℕ) → AreCheckTargets circe reborn_hurdle d1 w → (bit_at w d3 == 1) ≡ true
+captures_with_rebirth_may_give_check w are = true_from_ne_false _ (λ e. false≢true
+    (sym (are.elsewhere (go d1 d3) refl (omega arith) reborn_knight_checks.0 e) ∙ reborn_knight_checks.1))
+
+-- Black Ka1 Pa2, a White grasshopper on h7: on a3 it gives check over the pawn, where a queen gives none, and on h1 a queen alone does
+abbrev hop_to_a_king : List (Option Man)
+hop_to_a_king = set_up (on Black King a1 ∷ on Black Pawn a2 ∷ on White Grasshopper h7 ∷ [])
+
+pub grasshopper_checks_over_a_hurdle : (may_check_from hop_to_a_king Black (enemy Black Grasshopper) a3 ≡ true)
+    × (may_check_from hop_to_a_king Black (enemy Black Queen) a3 ≡ false)
+    × (may_check_from hop_to_a_king Black (enemy Black Grasshopper) h1 ≡ false)
+    × (may_check_from hop_to_a_king Black (enemy Black Queen) h1 ≡ true)
+unfolding may_check_from check_after_a_move
+grasshopper_checks_over_a_hurdle = (refl, refl, refl, refl)

@@ -1,0 +1,111 @@
+-- A king who goes next to the other king is in check there: no legal move does so.
+use Rattle.chess_rules.proofs.Basics.{Bool, List, None, Option, Some, and_from, and_left, and_parts, ap, arith, cases_Bool, false, false_from_ne_true, false≢true, inl, inr, list_any, not, not-true, refl, sym, true, ℕ, ◌<◌, ◌||◌, ◌∙◌, ◌≡◌, ◌≢◌}
+use Rattle.chess_mates.proofs.Chess.{CanCastle, Colour, IsWellFormed, King, Man, Move, Position, RuleSet, after, attacked, capture_square, check_of, corner, halfway, in_check, is_absent, is_castling, is_fairy, is_man, is_side, king_square, leaps, legal, man_on, man_on-with_other, man_on-without_other, man_on_at, may_check_from, may_check_from_on, moved_men, other, pseudo, put_at, queen_steps, reaches_as, reborn_square, same_colour, same_kind, some_square_true, strikes, without_man}
+use Rattle.chess_rules.proofs.listing_moves.Calls.{pseudo-from_legal}
+use Rattle.chess_rules.proofs.attacks.Exposing.{king_stays_king}
+use Rattle.chess_rules.proofs.making_moves.Fits.{arrived, arrived_other, can_move, kind_is_king, taken}
+use Rattle.chess_mates.proofs.Fleeing.{IsKingOn, king_is_able, king_on, no_king_square, steps_there}
+use Rattle.chess_rules.proofs.rays.Flips.{king-back}
+use Rattle.chess_rules.proofs.making_moves.Pseudo.{IsMade, made}
+use Rattle.chess_mates.proofs.Rebirths.{after_is}
+use Rattle.chess_rules.proofs.making_moves.Returns.{moved_arrival}
+use Rattle.chess_rules.proofs.attacks.Shielding.{king_is, moved_plainly, other_differs}
+use Rattle.chess_rules.proofs.making_moves.Stays.{after_well_formed, colour_self, move_man_other, reborn_is}
+
+-- who stands on a square stays there when somebody is put on an empty one
+stays_put : (men : List (Option Man)) (o : Option ℕ) (w : Option Man) (s : ℕ) (z : Man) → ((r : ℕ) → o ≡ Some r → man_on men r ≡ None)
+    → man_on men s ≡ Some z → man_on (put_at men o w) s ≡ Some z
+stays_put men None w s z free there = there
+stays_put men (Some r) None s z free there = there
+stays_put men (Some r) (Some y) s z free there =
+    man_on-with_other men r s y (λ e. let none = sym (free r refl) ∙ ap (man_on men) (sym e) ∙ there in cc) ∙ there
+
+module _ (rule : RuleSet) (p : Position) (x : Man) (m : Move) (well : IsWellFormed p) (is : IsMade rule p x m) where
+  stays_after : (s : ℕ) (z : Man) → man_on (moved_men p x m) s ≡ Some z → man_on (after rule p m).men s ≡ Some z
+  stays_after s z there =
+      ap (λ (men : List (Option Man)). man_on men s) (after_is rule p x m is.here)
+      ∙ stays_put (moved_men p x m) (reborn_square rule p x m) (man_on_at p.men (capture_square p x m)) s z
+      (λ r at. (reborn_is rule p x m r at).empty) there
+
+  -- the enemy's king stands where he stood
+  module _ (k : ℕ) (at : king_square p.men (other p.turn) ≡ Some k) (y : Man) (stood : IsKingOn p.men (other p.turn) k y) where
+    off_from : k ≢ m.from
+    off_from e = grind (arith, false≢true, other_differs)
+
+    uncaptured : (s : ℕ) → capture_square p x m ≡ Some s → k ≢ s
+    uncaptured s cap e =
+        let t = taken rule p x m s well is cap in
+        let same : Some y ≡ Some t.man = sym stood.here ∙ ap (man_on p.men) e ∙ t.there in
+        let one : y ≡ t.man = cc in
+        false≢true (sym t.mortal ∙ ap (λ (z : Man). same_kind z.kind King) (sym one) ∙ stood.king)
+
+    arrived_there : man_on (arrived p x m) k ≡ Some y
+    arrived_there =
+        arrived_other p x m k off_from uncaptured (λ e. no_king_square p.men p.turn (other p.turn) k m.to at is.arrival (sym e)) ∙ stood.here
+
+    moved_there : man_on (moved_men p x m) k ≡ Some y
+    unfolding moved_men
+    moved_there = elim (cases_Bool (is_castling x m)) [
+      | inr plain ↦ ap (λ (men : List (Option Man)). man_on men k) (moved_plainly p x m plain) ∙ arrived_there
+      | inl castling ↦
+          let rook : CanCastle (arrived p x m) (corner m) (halfway m) = (can_move rule p x m well is).rook castling in
+          let off_corner : k ≢ corner m = λ e.
+          false≢true (sym (rook.no_king y (ap (man_on (arrived p x m)) (sym e) ∙ arrived_there)) ∙ stood.king) in
+          let off_half : k ≢ halfway m = λ e.
+          let none = sym rook.free ∙ ap (man_on (without_man (arrived p x m) (corner m))) (sym e)
+          ∙ man_on-without_other (arrived p x m) (corner m) k off_corner ∙ arrived_there in
+          cc in
+          rw castling (move_man_other (arrived p x m) (corner m) (halfway m) (man_on (arrived p x m) (corner m)) k off_corner off_half ∙ arrived_there)
+    ]
+
+    -- so he attacks the king who came next to him
+    module _ (small : m.to < 64) (king : same_kind x.kind King ≡ true) (near : reaches_as p.men x.colour x.kind m.to k ≡ true) where
+      came : man_on (after rule p m).men m.to ≡ Some x
+      came =
+          stays_after m.to x (moved_arrival rule p x m well is small
+          ∙ ap (λ (z : Man). Some z) (king_stays_king p x m m.promo is.promotion king))
+
+      back : reaches_as (after rule p m).men (other p.turn) King k m.to ≡ true
+      unfolding reaches_as
+      back =
+          let kind : x.kind ≡ King = kind_is_king x.kind king in
+          let leap : list_any (leaps m.to k) queen_steps ≡ true = rw kind at near in
+          king-back k m.to stood.small small ∙ leap
+
+      strikes_him : strikes rule (after rule p m).men m.to (other p.turn) k ≡ true
+      unfolding strikes
+      strikes_him =
+          let there = stays_after k y moved_there in
+          let side : is_side (man_on (after rule p m).men k) (other p.turn) ≡ true = ap (λ (o : Option Man). is_side o (other p.turn)) there ∙ stood.mine in
+          and_from _ _ (and_from _ _ side (ap not (king_is_able rule (after rule p m).men y k there stood.king)))
+          (steps_there (after rule p m).men y (other p.turn) k m.to there stood.mine stood.king back)
+
+      in_check_there : pseudo rule p m ≡ true → in_check rule (after rule p m).men p.turn ≡ true
+      unfolding in_check attacked
+      in_check_there may =
+          let own : is_man (Some x) p.turn King ≡ true =
+          and_from _ _ (ap (λ (c : Colour). same_colour c p.turn) is.mine ∙ colour_self p.turn) king in
+          let square : king_square (after rule p m).men p.turn ≡ Some m.to =
+          king_is (after rule p m).men p.turn m.to (after_well_formed rule p m well may).kings small
+          (ap (λ (o : Option Man). is_man o p.turn King) came ∙ own) in
+          ap (λ (o : Option ℕ). check_of rule (after rule p m).men o (other p.turn)) square
+          ∙ some_square_true (strikes rule (after rule p m).men m.to (other p.turn)) k stood.small strikes_him
+
+-- a king gives no check himself by a legal move
+pub kings_apart : (rule : RuleSet) (p : Position) (x : Man) (m : Move) → IsWellFormed p → man_on p.men m.from ≡ Some x → m.to < 64 → legal rule p m ≡ true
+    → same_kind x.kind King ≡ true → may_check_from p.men (other p.turn) x m.to ≡ false
+unfolding may_check_from legal
+kings_apart rule p x m well here small lawful king = by (king_square p.men (other p.turn)) refl where
+  may : pseudo rule p m ≡ true
+  may = pseudo-from_legal rule p m lawful
+
+  by : (o : Option ℕ) → king_square p.men (other p.turn) ≡ o → may_check_from_on p.men o x m.to ≡ false
+  by None at = refl
+  by (Some k) at =
+      let kind : x.kind ≡ King = kind_is_king x.kind king in
+      let stood = king_on p.men (other p.turn) k at in
+      let apart : reaches_as p.men x.colour x.kind m.to k ≡ false = false_from_ne_true _ (λ near.
+      let check = in_check_there rule p x m well (made rule p m x may here) k at stood.0 stood.1 small king near may in
+      false≢true (sym (not-true _ (and_parts (pseudo rule p m) _ lawful).1) ∙ check)) in
+      let present : is_absent p.men x ≡ false = and_left (is_fairy x.kind) _ (ap is_fairy kind) in
+      ap (λ (b : Bool). b || reaches_as p.men x.colour x.kind m.to k) present ∙ apart

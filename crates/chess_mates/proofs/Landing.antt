@@ -1,0 +1,89 @@
+-- What a man reaches doesn't depend on who stands on the square that it reaches.
+use Rattle.chess_rules.proofs.Basics.{Bool, List, None, Option, Some, and_left, ap, arith, cases_Bool, false, false_from_ne_true, inl, inr, is_some, list_all, list_any, range_with_len, refl, rules, suc, sym, zero, ℕ, ◌&&◌, ◌+◌, ◌-◌, ◌<◌, ◌||◌, ◌∙◌, ◌≡◌, ◌≢◌, ◌≤◌}
+use Rattle.chess_mates.proofs.Chess.{Bishop, Colour, Direction, East, EastNorthEast, EastSouthEast, Grasshopper, Kind, King, Man, Nightrider, North, NorthEast, NorthNorthEast, NorthNorthWest, NorthWest, Queen, Rook, South, SouthEast, SouthSouthEast, SouthSouthWest, SouthWest, Step, West, WestNorthWest, WestSouthWest, along, any_range_same, diagonal_steps, hops, is_clear, is_occupied, is_square, knight_steps, leaps, man_on, place, queen_steps, reaches_as, rides, step_of, straight_steps}
+use Rattle.chess_rules.proofs.rays.Ahead.{Ordered, ordered}
+use Rattle.chess_rules.proofs.rays.Ends.{square_is, stays}
+
+-- men stand on the same squares, t apart
+pub record StandAlike (men others : List (Option Man)) (t : ℕ) : Type 0 where
+  pub alike : (q : ℕ) → q ≢ t → is_some (man_on men q) ≡ is_some (man_on others q)
+
+occupied_alike : (men others : List (Option Man)) (t : ℕ) (o : Option ℕ) → StandAlike men others t → o ≢ Some t → is_occupied men o ≡ is_occupied others o
+occupied_alike men others t None a ne = refl
+occupied_alike men others t (Some q) a ne = a.alike q (λ e. ne (ap (λ (n : ℕ). Some n) e))
+
+-- a line doesn't come to its end before
+not_yet : (s t : ℕ) (d : Step) (k i : ℕ) → Ordered d → along s d k ≡ Some t → i < k → along s d i ≢ Some t
+not_yet s t d k i o at lt here = let less : place d t < place d t = o.in_order s i k t t here at lt in absurd (omega arith)
+
+all_range_same : (p q : ℕ → Bool) (a n : ℕ) → ((k : ℕ) → a ≤ k → k < a + n → p k ≡ q k) → list_all p (range_with_len a n) ≡ list_all q (range_with_len a n)
+all_range_same p q a zero h = refl
+all_range_same p q a (suc n) h =
+    let r : list_all p (range_with_len (a + 1) n) ≡ list_all q (range_with_len (a + 1) n) =
+    all_range_same p q (a + 1) n (λ k lo hi. h k (omega arith) (omega arith)) in
+    (λ j. h a (omega arith) (omega arith) j && r j)
+
+clear_alike : (men others : List (Option Man)) (s t : ℕ) (d : Step) (k n : ℕ) → Ordered d → StandAlike men others t → along s d k ≡ Some t → n < k
+    → is_clear men s d n ≡ is_clear others s d n
+unfolding is_clear
+clear_alike men others s t d k n o a at lt = search (rules, all_range_same, not_yet)
+
+ride_alike : (men others : List (Option Man)) (s t : ℕ) (d : Step) → Ordered d → StandAlike men others t → rides men s t d ≡ rides others s t d
+unfolding rides
+ride_alike men others s t d o a =
+    any_range_same (λ k. is_square (along s d k) t && is_clear men s d (k - 1)) (λ k. is_square (along s d k) t && is_clear others s d (k - 1)) 1 7
+    (λ k lo hi. elim (cases_Bool (is_square (along s d k) t)) [
+      | inl y ↦ ap (λ (b : Bool). is_square (along s d k) t && b) (clear_alike men others s t d k (k - 1) o a (square_is _ t y) (omega arith))
+      | inr n ↦ and_left (is_square (along s d k) t) _ n ∙ sym (and_left (is_square (along s d k) t) _ n)
+    ])
+
+hop_alike : (men others : List (Option Man)) (s t : ℕ) (d : Step) → Ordered d → StandAlike men others t → hops men s t d ≡ hops others s t d
+unfolding hops
+hop_alike men others s t d o a =
+    any_range_same (λ k. is_square (along s d k) t && is_occupied men (along s d (k - 1)) && is_clear men s d (k - 2))
+    (λ k. is_square (along s d k) t && is_occupied others (along s d (k - 1)) && is_clear others s d (k - 2)) 2 6
+    (λ k lo hi. elim (cases_Bool (is_square (along s d k) t)) [
+      | inl y ↦
+          let at : along s d k ≡ Some t = square_is _ t y in
+          let hurdle : is_occupied men (along s d (k - 1)) ≡ is_occupied others (along s d (k - 1)) =
+          occupied_alike men others t (along s d (k - 1)) a (not_yet s t d k (k - 1) o at (omega arith)) in
+          let free : is_clear men s d (k - 2) ≡ is_clear others s d (k - 2) = clear_alike men others s t d k (k - 2) o a at (omega arith) in
+          (λ j. is_square (along s d k) t && hurdle j && free j)
+      | inr n ↦ rw n refl
+    ])
+
+-- a test of steps, on each list of them
+straight_same : (f g : Step → Bool) → ((x : Direction) → f (step_of x) ≡ g (step_of x)) → list_any f straight_steps ≡ list_any g straight_steps
+straight_same f g h = (λ j. h East j || (h West j || (h North j || (h South j || false))))
+
+diagonal_same : (f g : Step → Bool) → ((x : Direction) → f (step_of x) ≡ g (step_of x)) → list_any f diagonal_steps ≡ list_any g diagonal_steps
+diagonal_same f g h = (λ j. h NorthEast j || (h SouthEast j || (h NorthWest j || (h SouthWest j || false))))
+
+queen_same : (f g : Step → Bool) → ((x : Direction) → f (step_of x) ≡ g (step_of x)) → list_any f queen_steps ≡ list_any g queen_steps
+queen_same f g h =
+    (λ j. h East j || (h West j || (h North j || (h South j || (h NorthEast j || (h SouthEast j || (h NorthWest j || (h SouthWest j || false))))))))
+
+knight_same : (f g : Step → Bool) → ((x : Direction) → f (step_of x) ≡ g (step_of x)) → list_any f knight_steps ≡ list_any g knight_steps
+knight_same f g h =
+    (λ j. h NorthNorthEast j || (h SouthSouthEast j || (h NorthNorthWest
+    j || (h SouthSouthWest j || (h EastNorthEast j || (h EastSouthEast j || (h WestNorthWest j || (h WestSouthWest j || false))))))))
+
+pub reaches_alike : (men others : List (Option Man)) (c : Colour) (j : Kind) (s t : ℕ) → StandAlike men others t
+    → reaches_as men c j s t ≡ reaches_as others c j s t
+unfolding reaches_as
+reaches_alike men others c Queen s t a = search (rules, ordered, queen_same, ride_alike)
+reaches_alike men others c Rook s t a = search (rules, ordered, ride_alike, straight_same)
+reaches_alike men others c Bishop s t a = search (rules, diagonal_same, ordered, ride_alike)
+reaches_alike men others c Grasshopper s t a = search (rules, hop_alike, ordered, queen_same)
+reaches_alike men others c Nightrider s t a = search (rules, knight_same, ordered, ride_alike)
+reaches_alike men others c k s t a = refl
+
+-- a king doesn't step where it stands
+no_step_off : (s : ℕ) (d : Step) → Ordered d → s < 64 → leaps s s d ≡ false
+unfolding leaps
+no_step_off s d o small = false_from_ne_true _ (λ y. let less : place d s < place d s =
+    o.in_order s 0 1 s s (stays s d small) (square_is _ s y) (omega arith) in omega arith)
+
+pub no_step_there : (men : List (Option Man)) (c : Colour) (s : ℕ) → s < 64 → reaches_as men c King s s ≡ false
+unfolding reaches_as
+no_step_there men c s small = queen_same (leaps s s) (λ d. false) (λ x. no_step_off s (step_of x) (ordered x) small)

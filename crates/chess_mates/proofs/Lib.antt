@@ -1,0 +1,16 @@
+pub mod Chess
+pub mod OpenBoard
+pub mod Approaches
+pub mod Checking
+pub mod Rebirths
+pub mod Mating
+pub mod MatesBetween
+pub mod EveryMove
+pub mod Landing
+pub mod Stepping
+pub mod Fleeing
+pub mod KingsApart
+pub mod CastlingChecks
+pub mod CheckTargets
+pub mod FarMen
+pub mod Excluded

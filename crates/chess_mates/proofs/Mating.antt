@@ -1,0 +1,79 @@
+-- The moves that mate, by their numbers.
+use Rattle.chess_rules.proofs.Basics.{Bool, [], and_left, and_right, ap, arith, cases_Bool, cases_lt, false, inl, inr, not, refl, rules, suc, sym, true, zero, ℕ, ◌&&◌, ◌+◌, ◌-◌, ◌<◌, ◌∙◌, ◌∷◌, ◌≡◌, ◌≤◌}
+use Rattle.chess_mates.proofs.Chess.{HaveNone, Move, Position, RuleSet, after, after_by, first_of_and, in_check, is_goal, legal, mates, mates_behind, other, pseudo, second_of_and, triple_at}
+use Rattle.chess_rules.proofs.listing_moves.Places.{moves_behind-end, moves_behind-here, moves_behind-skip, not_pseudo}
+use Rattle.chess_rules.proofs.making_moves.Stays.{maker}
+use Rattle.chess_rules.proofs.listing_moves.Calls.{pseudo-from_legal}
+
+pub mates_behind-here : (rule : RuleSet) (p : Position) (n : ℕ) → n < 28672 → mates rule p (triple_at n) ≡ true
+    → mates_behind rule p n ≡ (triple_at n ∷ mates_behind rule p (n + 1))
+unfolding mates_behind mates
+mates_behind-here rule p n lt h = search (rules, first_of_and, moves_behind-here, second_of_and)
+
+false_second : (a b : Bool) → a ≡ true → (a && b) ≡ false → b ≡ false
+false_second true b e h = h
+false_second false b e h = cc
+
+pub mates_behind-skip : (rule : RuleSet) (p : Position) (n : ℕ) → n < 28672 → mates rule p (triple_at n) ≡ false
+    → mates_behind rule p n ≡ mates_behind rule p (n + 1)
+unfolding mates_behind mates
+mates_behind-skip rule p n lt h = search (rules, false_second, moves_behind-here, moves_behind-skip)
+
+pub not_mating : (rule : RuleSet) (p : Position) (m : Move) → pseudo rule p m ≡ false → mates rule p m ≡ false
+unfolding mates
+not_mating rule p m h = and_left _ _ (not_pseudo rule p m h)
+
+-- over a stretch without mates
+skip_by : (rule : RuleSet) (p : Position) (n a b : ℕ) → b ≡ a + n → b ≤ 28672 → HaveNone (mates rule p) a b → mates_behind rule p a ≡ mates_behind rule p b
+skip_by rule p zero a b e le h = let same : a ≡ b = omega arith in ap (mates_behind rule p) same
+skip_by rule p (suc n) a b e le h =
+    mates_behind-skip rule p a (omega arith) (h.fails a (omega arith) (omega arith))
+    ∙ skip_by rule p n (a + 1) b (omega arith) le (record { fails = λ k lo hi. h.fails k (omega arith) hi })
+
+pub mates_behind-end : (rule : RuleSet) (p : Position) (n : ℕ) → 28672 ≤ n → mates_behind rule p n ≡ []
+unfolding mates_behind
+mates_behind-end rule p n ge = search (rules, moves_behind-end)
+
+pub mates_behind-none : (rule : RuleSet) (p : Position) (a b : ℕ) → (b < 28672 → a ≤ b) → b ≤ 28672 → HaveNone (mates rule p) a b
+    → mates_behind rule p a ≡ mates_behind rule p b
+mates_behind-none rule p a b low high h = elim (cases_lt b a) [
+  | inr ge ↦ skip_by rule p (b - a) a b (omega arith) high h
+  | inl lt ↦ elim (cases_lt b 28672) [
+    | inl q ↦ absurd (let le : a ≤ b = low q in omega arith)
+    | inr past ↦ mates_behind-end rule p a (omega arith) ∙ sym (mates_behind-end rule p b past)
+  ]
+]
+
+-- a move that can't be made doesn't mate, nor one that gives no check if it is legal
+pub no_mate : (rule : RuleSet) (p : Position) (m : Move) → false ≡ pseudo rule p m → false ≡ mates rule p m
+no_mate rule p m h = sym (not_mating rule p m (sym h))
+
+pub turn_after : (rule : RuleSet) (p : Position) (m : Move) → pseudo rule p m ≡ true → (after rule p m).turn ≡ other p.turn
+unfolding after after_by
+turn_after rule p m h = let x = maker rule p m h in rw x.1 refl
+
+pub no_mate_quietly : (rule : RuleSet) (p : Position) (m : Move)
+    → (legal rule p m ≡ true → in_check rule (after rule p m).men (other p.turn) ≡ false) → false ≡ mates rule p m
+unfolding mates is_goal
+no_mate_quietly rule p m quiet = elim (cases_Bool (legal rule p m)) [
+  | inr unlawful ↦ sym (and_left _ _ unlawful)
+  | inl lawful ↦
+      let turn : (after rule p m).turn ≡ other p.turn = turn_after rule p m (pseudo-from_legal rule p m lawful) in
+      let calm : in_check rule (after rule p m).men (after rule p m).turn ≡ false = ap (in_check rule (after rule p m).men) turn ∙ quiet lawful in
+      sym (and_right (legal rule p m) _ (and_left _ _ calm))
+]
+
+-- a move that may be made, tested in the position after it
+pub mates_after : (rule : RuleSet) (p : Position) (m : Move) → pseudo rule p m ≡ true
+    → (not (in_check rule (after rule p m).men p.turn) && is_goal rule (after rule p m)) ≡ mates rule p m
+unfolding mates legal
+mates_after rule p m may = search rules
+
+-- the first move that mates from a place on, by its number
+pub mates_numbered : (rule : RuleSet) (p : Position) (start n : ℕ) → n < 28672 → mates_behind rule p n ≡ mates_behind rule p start
+    → mates rule p (triple_at n) ≡ true → mates_behind rule p start ≡ (triple_at n ∷ mates_behind rule p (n + 1))
+mates_numbered rule p start n lt same h = sym same ∙ mates_behind-here rule p n lt h
+
+pub legal_of_mate : (rule : RuleSet) (p : Position) (m : Move) → mates rule p m ≡ true → legal rule p m ≡ true
+unfolding mates
+legal_of_mate rule p m h = first_of_and _ _ h

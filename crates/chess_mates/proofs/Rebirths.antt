@@ -1,0 +1,192 @@
+-- A man who is reborn gives his own king no check, but as a grasshopper's hurdle.
+use Rattle.chess_rules.proofs.Basics.{List, None, Option, Some, and_from, and_parts, ap, arith, bit_at, cases_Bool, cond-false, cond-true, false, false_from_ne_true, false≢true, inl, inr, is_some, length, list_all, list_any, not, not-true, range_with_len, refl, sym, true, ℕ, ◌&&◌, ◌-◌, ◌<◌, ◌==◌, ◌∙◌, ◌≡◌, rules}
+use Rattle.chess_mates.proofs.Chess.{AreCheckSquares, AtMostOneKing, Bishop, CheckSquares, Colour, Grasshopper, IsWellFormed, Kind, King, Man, Move, Nightrider, Position, Queen, Rook, RuleSet, Step, after, after_by, along, are_rebirths_quiet, arriving, attacked, capture_square, castles, check_of, check_squares_for, circe, corner, diagonal_steps, find_first, halfway, in_check, is_absent, is_castling, is_clear, is_man, is_man-without, is_side, is_square, is_vacant, king_square, knight_steps, man_on, man_on_at, may_castle, may_check_from, move_man, moved_men, orthodox, other, paralysed, pseudo, pseudo_of, put_at, queen_steps, reaches, reaches_as, reaches_of, reborn_square}
+use Rattle.chess_mates.proofs.Chess.{rides, same_colour, same_kind, some_square_false, some_square_true, squares, straight_steps, strikes, with_man, without_at, without_man}
+use Rattle.chess_rules.specs.RuleSet.{madrasi}
+use Rattle.chess_mates.specs.ties.CheckSquares.{rule_of_checks}
+use Rattle.chess_rules.specs.ties.Shields.{cannot_expose}
+use Rattle.chess_mates.proofs.Checking.{no_check}
+use Rattle.chess_rules.proofs.making_moves.Fits.{arrived}
+use Rattle.chess_rules.proofs.making_moves.Pseudo.{IsMade, made, on_board}
+use Rattle.chess_rules.proofs.attacks.Shielding.{other_twice, king_is, man_there, unreborn_after}
+use Rattle.chess_rules.proofs.making_moves.Stays.{captured_enemy, captured_mortal, man_on-with_cases, moved_sound}
+use Rattle.chess_rules.proofs.Tests.{all_kept, any_kept}
+
+-- no grasshopper of this colour stands there
+abbrev LacksGrasshopper : List (Option Man) → Colour → Type 0
+LacksGrasshopper men e = (s : ℕ) → is_man (man_on men s) e Grasshopper ≡ false
+
+-- once y stands on r too, lines are shut and none is opened
+module _ (men : List (Option Man)) (r : ℕ) (y : Man) where
+  was_vacant : (o : Option ℕ) → is_vacant (with_man men r y) o ≡ true → is_vacant men o ≡ true
+  was_vacant None h = h
+  was_vacant (Some q) h = elim (man_on-with_cases men r q y) [
+    | inl e ↦ absurd (false≢true (sym (ap (λ (o : Option Man). not (is_some o)) e.1) ∙ h))
+    | inr e ↦ ap (λ (o : Option Man). not (is_some o)) (sym e) ∙ h
+  ]
+
+  rode : (s t : ℕ) (d : Step) → rides (with_man men r y) s t d ≡ true → rides men s t d ≡ true
+  unfolding rides is_clear
+  rode s t d h =
+      any_kept (λ k. is_square (along s d k) t && list_all (λ i. is_vacant (with_man men r y) (along s d i)) (range_with_len 1 (k - 1)))
+      (λ k. is_square (along s d k) t && list_all (λ i. is_vacant men (along s d i)) (range_with_len 1 (k - 1))) (range_with_len 1 7)
+      (λ k here.
+      let both = and_parts (is_square (along s d k) t) _ here in
+      and_from _ _ both.0 (all_kept (λ i. is_vacant (with_man men r y) (along s d i)) (λ i. is_vacant men (along s d i)) (range_with_len 1 (k - 1))
+      (λ i. was_vacant (along s d i)) both.1)) h
+
+  rode_so : (ds : List Step) (s t : ℕ) → list_any (rides (with_man men r y) s t) ds ≡ true → list_any (rides men s t) ds ≡ true
+  rode_so ds s t h = any_kept (rides (with_man men r y) s t) (rides men s t) ds (λ d. rode s t d) h
+
+  reached : (e : Colour) (j : Kind) (s t : ℕ) → same_kind j Grasshopper ≡ false → reaches_as (with_man men r y) e j s t ≡ true → reaches_as men e j s t ≡ true
+  unfolding reaches_as
+  reached e Queen s t g h = rode_so queen_steps s t h
+  reached e Rook s t g h = rode_so straight_steps s t h
+  reached e Bishop s t g h = rode_so diagonal_steps s t h
+  reached e Grasshopper s t g h = absurd (false≢true (sym g))
+  reached e Nightrider s t g h = rode_so knight_steps s t h
+  reached e j s t g h = h
+
+  -- so y gives the king of his colour no check
+  module _ (c : Colour) (own : same_colour y.colour (other c) ≡ false) (mortal : same_kind y.kind King ≡ false) (lacks : LacksGrasshopper men (other c))
+      (one : AtMostOneKing men) where
+    struck_by : (k s : ℕ) (o : Option Man) → man_on men s ≡ o → is_side o (other c) ≡ true → reaches_of (with_man men r y) o s k ≡ true
+        → strikes orthodox men k (other c) s ≡ true
+    unfolding strikes reaches paralysed
+    struck_by k s None here side h = absurd (false≢true side)
+    struck_by k s (Some z) here side h =
+        let none : is_man (Some z) (other c) Grasshopper ≡ false = ap (λ (o : Option Man). is_man o (other c) Grasshopper) (sym here) ∙ lacks s in
+        let other_kind : same_kind z.kind Grasshopper ≡ false = false_from_ne_true _ (λ g. false≢true (sym none ∙ and_from _ _ side g)) in
+        and_from _ _ (and_from _ _ (ap (λ (o : Option Man). is_side o (other c)) here ∙ side) refl)
+        (ap (λ (o : Option Man). reaches_of men o s k) here ∙ reached z.colour z.kind s k other_kind h)
+
+    struck : (k s : ℕ) → strikes circe (with_man men r y) k (other c) s ≡ true → strikes orthodox men k (other c) s ≡ true
+    unfolding strikes reaches
+    struck k s h = grind (arith, and_parts, man_on-with_cases, false≢true, struck_by)
+
+    king_stood : (k : ℕ) → is_man (man_on (with_man men r y) k) c King ≡ true → is_man (man_on men k) c King ≡ true
+    king_stood k h = elim (man_on-with_cases men r k y) [
+      | inl e ↦ search (rules, false≢true, and_parts)
+      | inr e ↦ ap (λ (o : Option Man). is_man o c King) (sym e) ∙ h
+    ]
+
+    reborn_quietly : in_check orthodox men c ≡ false → in_check circe (with_man men r y) c ≡ false
+    unfolding in_check king_square squares attacked
+    reborn_quietly safe = by (king_square (with_man men r y) c) refl where
+      by : (o : Option ℕ) → king_square (with_man men r y) c ≡ o → check_of circe (with_man men r y) o (other c) ≡ false
+      by None e = refl
+      by (Some k) e =
+          let f = find_first (λ s. is_man (man_on (with_man men r y) s) c King) 0 64 k e in
+          let inside : k < 64 = omega (arith, f.high) in
+          let at : king_square men c ≡ Some k = king_is men c k one inside (king_stood k f.here) in
+          let none : check_of orthodox men (Some k) (other c) ≡ false = ap (λ (o : Option ℕ). check_of orthodox men o (other c)) (sym at) ∙ safe in
+          some_square_false (strikes circe (with_man men r y) k (other c)) 64 (omega arith) (record {
+            fails = λ s lt. false_from_ne_true _ (λ h.
+                false≢true (sym none ∙ some_square_true (strikes orthodox men k (other c)) s lt (struck k s h)));
+          })
+
+-- rebirths apart, Circe is as orthodox chess
+pub same_check : (men : List (Option Man)) (c : Colour) → in_check circe men c ≡ in_check orthodox men c
+unfolding in_check attacked strikes paralysed
+same_check men c = by (king_square men c) where
+  by : (o : Option ℕ) → check_of circe men o (other c) ≡ check_of orthodox men o (other c)
+  by None = refl
+  by (Some k) = refl
+
+same_castles : (p : Position) (x : Man) (m : Move) → castles circe p x m ≡ castles orthodox p x m
+unfolding castles may_castle paralysed
+same_castles p x m =
+    rw (same_check p.men x.colour, same_check (with_man (without_man p.men m.from) (halfway m) x) x.colour) refl
+
+pub pseudo_so : (p : Position) (m : Move) → pseudo circe p m ≡ true → pseudo orthodox p m ≡ true
+unfolding pseudo paralysed
+pseudo_so p m h = sym (by (man_on p.men m.from)) ∙ h where
+  by : (o : Option Man) → pseudo_of circe p o m ≡ pseudo_of orthodox p o m
+  by None = refl
+  by (Some x) = rw (same_castles p x m) refl
+
+-- nobody becomes a grasshopper but by promotion
+lacks_without : (men : List (Option Man)) (a : ℕ) (e : Colour) → LacksGrasshopper men e → LacksGrasshopper (without_man men a) e
+lacks_without men a e none = λ s. false_from_ne_true _ (λ h. false≢true (sym (none s) ∙ is_man-without men a s e Grasshopper h))
+
+lacks_without_at : (men : List (Option Man)) (o : Option ℕ) (e : Colour) → LacksGrasshopper men e → LacksGrasshopper (without_at men o) e
+lacks_without_at men None e none = none
+lacks_without_at men (Some a) e none = lacks_without men a e none
+
+lacks_with : (men : List (Option Man)) (b : ℕ) (z : Man) (e : Colour) → LacksGrasshopper men e → is_man (Some z) e Grasshopper ≡ false
+    → LacksGrasshopper (with_man men b z) e
+lacks_with men b z e none other_man = λ s. elim (man_on-with_cases men b s z) [
+  | inl t ↦ ap (λ (o : Option Man). is_man o e Grasshopper) t.1 ∙ other_man
+  | inr t ↦ ap (λ (o : Option Man). is_man o e Grasshopper) t ∙ none s
+]
+
+lacks_moved : (men : List (Option Man)) (a b : ℕ) (o : Option Man) (e : Colour) → man_on men a ≡ o → LacksGrasshopper men e
+    → LacksGrasshopper (move_man men a b o) e
+lacks_moved men a b None e here none = none
+lacks_moved men a b (Some z) e here none =
+    lacks_with (without_man men a) b z e (lacks_without men a e none) (ap (λ (o : Option Man). is_man o e Grasshopper) (sym here) ∙ none a)
+
+moved_lacks : (p : Position) (x : Man) (m : Move) (e : Colour) → man_on p.men m.from ≡ Some x → m.promo ≡ None → LacksGrasshopper p.men e
+    → LacksGrasshopper (moved_men p x m) e
+unfolding moved_men
+moved_lacks p x m e here unpromoted none =
+    let comes : is_man (Some (arriving x m.promo)) e Grasshopper ≡ false = search rules in
+    let arrived_lacks : LacksGrasshopper (arrived p x m) e = search (rules, lacks_with, lacks_without_at, lacks_without) in
+    elim (cases_Bool (is_castling x m)) [
+      | inl castles ↦ rw castles (lacks_moved (arrived p x m) (corner m) (halfway m) (man_on (arrived p x m) (corner m)) e refl arrived_lacks)
+      | inr no_castles ↦ rw no_castles arrived_lacks
+    ]
+
+absent_lacks : (men : List (Option Man)) (e : Colour) → length men ≡ 64 → is_absent men (record { colour = e; kind = Grasshopper }) ≡ true
+    → LacksGrasshopper men e
+absent_lacks men e size absent = λ s. false_from_ne_true _ (λ h.
+    let z = man_there (man_on men s) e Grasshopper h in
+    false≢true (sym (not-true _ absent) ∙ some_square_true (λ q. is_man (man_on men q) e Grasshopper) s (on_board men s z.0 size z.1) h))
+
+pub after_is : (rule : RuleSet) (p : Position) (x : Man) (m : Move) → man_on p.men m.from ≡ Some x
+    → (after rule p m).men ≡ put_at (moved_men p x m) (reborn_square rule p x m) (man_on_at p.men (capture_square p x m))
+unfolding after after_by
+after_is rule p x m here = rw here refl
+
+-- where the mover has no grasshopper, a move that gives no check in orthodox chess gives none in Circe, promotions apart
+pub rebirth_gives_no_check : (p : Position) (x : Man) (m : Move) → IsWellFormed p → pseudo circe p m ≡ true → man_on p.men m.from ≡ Some x → m.promo ≡ None
+    → is_absent p.men (record { colour = p.turn; kind = Grasshopper }) ≡ true → in_check orthodox (after orthodox p m).men (other p.turn) ≡ false
+    → in_check circe (after circe p m).men (other p.turn) ≡ false
+rebirth_gives_no_check p x m well may here unpromoted absent safe =
+    ap (λ (men : List (Option Man)). in_check circe men (other p.turn)) (after_is circe p x m here)
+    ∙ by (reborn_square circe p x m) (man_on_at p.men (capture_square p x m)) refl where
+      is : IsMade circe p x m
+      is = made circe p m x may here
+
+      before : in_check orthodox (moved_men p x m) (other p.turn) ≡ false
+      before =
+          ap (λ (men : List (Option Man)). in_check orthodox men (other p.turn)) (sym (unreborn_after orthodox p x m here (λ e. absurd (false≢true e)))) ∙ safe
+
+      lacks : LacksGrasshopper (moved_men p x m) p.turn
+      lacks = moved_lacks p x m p.turn here unpromoted (absent_lacks p.men p.turn well.size absent)
+
+      by : (o : Option ℕ) (w : Option Man) → man_on_at p.men (capture_square p x m) ≡ w → in_check circe (put_at (moved_men p x m) o w) (other p.turn) ≡ false
+      by None w who = same_check (moved_men p x m) (other p.turn) ∙ before
+      by (Some r) None who = same_check (moved_men p x m) (other p.turn) ∙ before
+      by (Some r) (Some y) who =
+          reborn_quietly (moved_men p x m) r y (other p.turn)
+          (ap (same_colour y.colour) (other_twice p.turn) ∙ captured_enemy circe p x m y well is who) (captured_mortal circe p x m y well is who)
+          (λ s. ap (λ (e : Colour). is_man (man_on (moved_men p x m) s) e Grasshopper) (other_twice p.turn) ∙ lacks s)
+          (moved_sound circe p x m well is).kings before
+
+pub quiet_parts : (rule : RuleSet) (men : List (Option Man)) (e : Colour) → are_rebirths_quiet rule men e ≡ true
+    → (rule ≡ circe) × (is_absent men (record { colour = e; kind = Grasshopper }) ≡ true)
+unfolding are_rebirths_quiet
+quiet_parts orthodox men e h = absurd (false≢true h)
+quiet_parts circe men e h = (refl, h)
+quiet_parts madrasi men e h = absurd (false≢true h)
+
+-- a move that gives no check by the rules of checks gives none
+pub no_check_by_rebirth : (rule : RuleSet) (p : Position) (x : Man) (m : Move) (s : CheckSquares) (y : Man) (w t : ℕ) → IsWellFormed p → pseudo rule p m ≡ true
+    → man_on p.men m.from ≡ Some x → AreCheckSquares p.men (other p.turn) s → y ≡ arriving x m.promo → w ≡ check_squares_for s y.kind → t ≡ m.to → t < 64
+    → (bit_at w t == 1) ≡ false → (same_kind y.kind King ≡ true → may_check_from p.men (other p.turn) y t ≡ false) → m.promo ≡ None
+    → cannot_expose (rule_of_checks rule p.men p.turn) p (other p.turn) m ≡ true → in_check rule (after rule p m).men (other p.turn) ≡ false
+no_check_by_rebirth rule p x m s y w t well may here a is h same small off apart unpromoted cover = elim (cases_Bool (are_rebirths_quiet rule p.men p.turn)) [
+  | inl quiet ↦ grind (arith, quiet_parts, cond-true, rebirth_gives_no_check, no_check, pseudo_so)
+  | inr loud ↦ grind (arith, cond-false, no_check)
+]

@@ -1,0 +1,140 @@
+-- The men once a man has made a move and the enemy king a step, and what an attack then sees.
+use Rattle.chess_rules.proofs.Basics.{Bool, List, None, Option, Some, and_left, and_right, ap, arith, bit_or, cases_Bool, cases_eq, eq-eqb, eqb-true, false, false_from_ne_true, inl, inr, is_some, length, length-set, not, or_from, or_left, rules, sym, true, ℕ, ◌&&◌, ◌<◌, ◌==◌, ◌||◌, ◌∙◌, ◌≡◌, ◌≢◌}
+use Rattle.chess_mates.proofs.Chess.{sight_lifted, sight_with, AreSeen, Colour, Kind, Man, differs, is_man, is_side, is_square, man_on, man_on-with_other, man_on-without_other, man_on-without_same, occupied_squares, same_colour, same_kind, squares_both, squares_either, squares_not, squares_of, squares_same, without_man, word}
+use Rattle.chess_mates.proofs.Landing.{StandAlike}
+use Rattle.chess_rules.proofs.attacks.Seeing.{gone_to, is_occupied_after, kept_now, left_now, length-without_at, no_man, occupied_now, occupied_words, there_now}
+
+-- the men once z has come from a to b and the man on o is gone, and then x from k to t and the man on u is gone
+abbrev pub stepped : List (Option Man) → ℕ → Option ℕ → ℕ → Man → ℕ → Option ℕ → ℕ → Man → List (Option Man)
+stepped men a o b z k u t x = gone_to (gone_to men a o b z) k u t x
+
+-- what is asked of the squares, and of the men on them: those of colour c look for an attack
+pub record IsStep (men : List (Option Man)) (a : ℕ) (o : Option ℕ) (b k : ℕ) (u : Option ℕ) (t : ℕ) (x : Man) (c : Colour) : Type 0 where
+  pub arrival : b < length men
+  pub flight : t < length men
+  pub taken : (s : ℕ) → is_square u s ≡ true → s ≡ t
+  pub king : same_colour x.colour c ≡ false
+  pub lifted : is_side (man_on men k) c ≡ false
+  pub entered : is_side (man_on men b) c ≡ false
+  pub apart : b ≢ k
+
+length-gone : (men : List (Option Man)) (a : ℕ) (o : Option ℕ) (b : ℕ) (z : Man) → length (gone_to men a o b z) ≡ length men
+length-gone men a o b z = search (rules, length-set, length-without_at)
+
+taken_nowhere : (u : Option ℕ) (t q : ℕ) → ((s : ℕ) → is_square u s ≡ true → s ≡ t) → q ≢ t → is_square u q ≡ false
+taken_nowhere u t q h ne = false_from_ne_true _ (λ y. ne (h q y))
+
+-- the man on a square
+on_flight : (men : List (Option Man)) (a : ℕ) (o : Option ℕ) (b : ℕ) (z : Man) (k : ℕ) (u : Option ℕ) (t : ℕ) (x : Man) (q : ℕ) → t < length men → q ≡ t
+    → man_on (stepped men a o b z k u t x) q ≡ Some x
+on_flight men a o b z k u t x q small e = search rules
+
+on_left : (men : List (Option Man)) (a : ℕ) (o : Option ℕ) (b : ℕ) (z : Man) (k : ℕ) (u : Option ℕ) (t : ℕ) (x : Man) (q : ℕ) → q ≢ t → (k == q) ≡ true
+    → man_on (stepped men a o b z k u t x) q ≡ None
+on_left men a o b z k u t x q ne y = left_now (gone_to men a o b z) k u t x q ne (or_left (k == q) (is_square u q) y)
+
+on_others : (men : List (Option Man)) (a : ℕ) (o : Option ℕ) (b : ℕ) (z : Man) (k : ℕ) (u : Option ℕ) (t : ℕ) (x : Man) (q : ℕ)
+    → ((s : ℕ) → is_square u s ≡ true → s ≡ t) → q ≢ t → (k == q) ≡ false
+    → man_on (stepped men a o b z k u t x) q ≡ man_on (gone_to men a o b z) q
+on_others men a o b z k u t x q h ne off = search (rules, gone_to, kept_now, or_from, taken_nowhere)
+
+pub stands_arrived : (men : List (Option Man)) (a : ℕ) (o : Option ℕ) (b : ℕ) (z : Man) (k : ℕ) (u : Option ℕ) (t : ℕ) (x : Man) (q : ℕ) → b < length men
+    → ((s : ℕ) → is_square u s ≡ true → s ≡ t) → q ≡ b → q ≢ t → b ≢ k
+    → man_on (stepped men a o b z k u t x) q ≡ Some z
+stands_arrived men a o b z k u t x q arrival h e ne off = search (rules, gone_to, on_others, there_now)
+
+-- the squares on which men stand
+without_taken : (h i j e : Bool) → (j ≡ true → e ≡ true) → ((h && not i) || e) ≡ ((h && not (i || j)) || e)
+without_taken h i j e p = grind arith
+
+pub stands : (men : List (Option Man)) (a : ℕ) (o : Option ℕ) (b : ℕ) (z : Man) (k : ℕ) (u : Option ℕ) (t : ℕ) (x : Man) (q : ℕ) → b < length men
+    → t < length men → ((s : ℕ) → is_square u s ≡ true → s ≡ t)
+    → ((is_occupied_after men a o b q && not (k == q)) || t == q) ≡ is_some (man_on (stepped men a o b z k u t x) q)
+stands men a o b z k u t x q arrival flight h = search (rules, gone_to, length-gone, occupied_now, without_taken)
+
+pub lifted_words : (men : List (Option Man)) (a : ℕ) (o : Option ℕ) (b k : ℕ)
+    → (sight_lifted men a o b k).occupied ≡ word (λ s. is_occupied_after men a o b s && not (k == s))
+lifted_words men a o b k = search (rules, occupied_words, squares_both, squares_not)
+
+occupied_stepped : (men : List (Option Man)) (a : ℕ) (o : Option ℕ) (b : ℕ) (z : Man) (k : ℕ) (u : Option ℕ) (t : ℕ) (x : Man) → b < length men
+    → t < length men → ((s : ℕ) → is_square u s ≡ true → s ≡ t)
+    → (sight_with (sight_lifted men a o b k) t).occupied ≡ occupied_squares (stepped men a o b z k u t x)
+occupied_stepped men a o b z k u t x arrival flight h =
+    ap (λ (w : ℕ). bit_or w (word (is_square (Some t)))) (lifted_words men a o b k)
+    ∙ squares_either (λ s. is_occupied_after men a o b s && not (k == s)) (is_square (Some t))
+    ∙ squares_same _ (λ s. is_some (man_on (stepped men a o b z k u t x) s)) (λ s lt. stands men a o b z k u t x s arrival flight h)
+
+-- the king lifted, nobody on the flight yet but who stood there
+lifted_one : (men : List (Option Man)) (a : ℕ) (o : Option ℕ) (b : ℕ) (z : Man) (k q : ℕ) → b < length men
+    → (is_occupied_after men a o b q && not (k == q)) ≡ is_some (man_on (without_man (gone_to men a o b z) k) q)
+lifted_one men a o b z k q arrival =
+    search (rules, and_right, cases_eq, differs, eq-eqb, gone_to, is_occupied_after, man_on-without_other, man_on-without_same, occupied_now)
+
+pub occupied_lifted : (men : List (Option Man)) (a : ℕ) (o : Option ℕ) (b : ℕ) (z : Man) (k : ℕ) → b < length men
+    → (sight_lifted men a o b k).occupied ≡ occupied_squares (without_man (gone_to men a o b z) k)
+occupied_lifted men a o b z k arrival = search (rules, lifted_one, lifted_words, squares_same)
+
+pub lifted_alike : (men : List (Option Man)) (a : ℕ) (o : Option ℕ) (b : ℕ) (z : Man) (k : ℕ) (u : Option ℕ) (t : ℕ) (x : Man) → b < length men
+    → t < length men → ((s : ℕ) → is_square u s ≡ true → s ≡ t)
+    → StandAlike (stepped men a o b z k u t x) (without_man (gone_to men a o b z) k) t
+lifted_alike men a o b z k u t x arrival flight h = search (rules, is_occupied_after, lifted_one, stands)
+
+-- whichever man has arrived
+pub arrival_alike : (men : List (Option Man)) (a : ℕ) (o : Option ℕ) (b : ℕ) (z y : Man) (k : ℕ) (u : Option ℕ) (t : ℕ) (x : Man) → b < length men
+    → t < length men → ((s : ℕ) → is_square u s ≡ true → s ≡ t)
+    → StandAlike (stepped men a o b z k u t x) (stepped men a o b y k u t x) t
+arrival_alike men a o b z y k u t x arrival flight h = search (rules, stands)
+
+pub same_elsewhere : (men : List (Option Man)) (a : ℕ) (o : Option ℕ) (b : ℕ) (z y : Man) (k : ℕ) (u : Option ℕ) (t : ℕ) (x : Man) (q : ℕ) → t < length men
+    → ((s : ℕ) → is_square u s ≡ true → s ≡ t) → (q ≡ b → q ≡ t)
+    → man_on (stepped men a o b z k u t x) q ≡ man_on (stepped men a o b y k u t x) q
+same_elsewhere men a o b z y k u t x q flight h off = search (rules, man_on-with_other, on_flight, on_left, on_others)
+
+-- the men of the attack: the one that moved apart
+last_out : (i p q r : Bool) → r ≡ false → (i && ((p && q) && r)) ≡ false
+last_out i p q r h = grind arith
+
+gone_out : (i o e r : Bool) → (e || o) ≡ true → (i && ((not o && not e) && r)) ≡ false
+gone_out i o e r p = grind arith
+
+all_in : (i o e r : Bool) → (e || o) ≡ false → r ≡ true → (i && ((not o && not e) && r)) ≡ i
+all_in i o e r p q = grind arith
+
+attacker_stands : (men : List (Option Man)) (a : ℕ) (o : Option ℕ) (b k : ℕ) (u : Option ℕ) (t : ℕ) (x : Man) (c : Colour) (j : Kind) (q : ℕ)
+    → IsStep men a o b k u t x c
+    → (is_man (man_on men q) c j && ((not (is_square o q) && not (a == q)) && not (t == q))) ≡ is_man (man_on (stepped men a o b x k u t x) q) c j
+attacker_stands men a o b k u t x c j q i = elim (cases_eq q t) [
+  | inl e ↦
+      last_out (is_man (man_on men q) c j) (not (is_square o q)) (not (a == q)) (not (t == q)) (ap not (eq-eqb t q (sym e)))
+      ∙ sym (ap (λ (y : Option Man). is_man y c j) (on_flight men a o b x k u t x q i.flight e) ∙ and_left (same_colour x.colour c) (same_kind x.kind j) i.king)
+  | inr ne ↦ elim (cases_Bool (k == q)) [
+    | inl y ↦
+        let none : is_man (man_on men q) c j ≡ false = ap (λ (s : ℕ). is_man (man_on men s) c j) (sym (eqb-true k q y)) ∙ no_man (man_on men k) c j i.lifted in
+        and_left (is_man (man_on men q) c j) _ none
+        ∙ sym (ap (λ (y : Option Man). is_man y c j) (on_left men a o b x k u t x q ne y))
+    | inr n ↦ ours ne n ∙ sym (ap (λ (y : Option Man). is_man y c j) (on_others men a o b x k u t x q i.taken ne n))
+  ]
+] where
+  ours : q ≢ t → (k == q) ≡ false → (is_man (man_on men q) c j && ((not (is_square o q) && not (a == q)) && not (t == q))) ≡ is_man
+      (man_on (gone_to men a o b x) q) c j
+  ours ne n = elim (cases_eq q b) [
+    | inl e ↦
+        let none : is_man (man_on men q) c j ≡ false = ap (λ (s : ℕ). is_man (man_on men s) c j) e ∙ no_man (man_on men b) c j i.entered in
+        and_left (is_man (man_on men q) c j) _ none
+        ∙ sym (ap (λ (y : Option Man). is_man y c j) (ap (man_on (gone_to men a o b x)) e ∙ there_now men a o b x i.arrival)
+        ∙ and_left (same_colour x.colour c) (same_kind x.kind j) i.king)
+    | inr off ↦ elim (cases_Bool (is_square (Some a) q || is_square o q)) [
+      | inl y ↦
+          gone_out (is_man (man_on men q) c j) (is_square o q) (a == q) (not (t == q)) y
+          ∙ sym (ap (λ (y : Option Man). is_man y c j) (left_now men a o b x q off y))
+      | inr y ↦
+          all_in (is_man (man_on men q) c j) (is_square o q) (a == q) (not (t == q)) y (ap not (differs t q (λ e. ne (sym e))))
+          ∙ sym (ap (λ (y : Option Man). is_man y c j) (kept_now men a o b x q off y))
+    ]
+  ]
+
+-- the words are those of the men once a man of the other side has come to b too
+pub seen_stepped : (men : List (Option Man)) (a : ℕ) (o : Option ℕ) (b k : ℕ) (u : Option ℕ) (t : ℕ) (x : Man) (c : Colour) → IsStep men a o b k u t x c
+    → AreSeen men (stepped men a o b x k u t x) c (sight_with (sight_lifted men a o b k) t)
+unfolding squares_of
+seen_stepped men a o b k u t x c i = search (rules, attacker_stands, occupied_stepped, squares_both, squares_not, squares_same)

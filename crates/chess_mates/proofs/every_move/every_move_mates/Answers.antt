@@ -1,0 +1,10 @@
+use Rattle.chess_rules.proofs.Basics.{rules}
+use Rattle.chess_mates.proofs.EveryMove.{none-all}
+use Rattle.chess_rules.proofs.listing_moves.Places.{moves_behind-start}
+use Rattle.chess_mates.proofs.every_move.every_move_mates.Goals as goal
+
+pub returns-then-has_quiet_move-clause-answer : goal.returns-then-has_quiet_move-clause-answer
+returns-then-has_quiet_move-clause-answer g c = search (rules, moves_behind-start, none-all)
+
+pub returns-clause-answer : goal.returns-clause-answer
+returns-clause-answer g c = search (rules, moves_behind-start)

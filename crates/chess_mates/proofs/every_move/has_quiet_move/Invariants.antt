@@ -1,0 +1,14 @@
+use Rattle.chess_rules.proofs.Basics.{false, length, list_all, ◌≡◌}
+use Rattle.chess_mates.proofs.Chess.{IsPlaceIn, is_mating, moves_behind}
+use Rattle.chess_mates.proofs.every_move.has_quiet_move.Given as goal
+
+abbrev pub invariant-loop-m : goal.invariant-loop-m
+invariant-loop-m g l = record {
+  board : l.board ≡ l.fn.board;
+  within : IsPlaceIn g.R.Rules.rule l.fn.board l.moves;
+  rest : list_all (is_mating g.R.Rules.rule l.fn.board) (moves_behind g.R.Rules.rule l.fn.board l.moves.place) ≡ false
+      → list_all (is_mating g.R.Rules.rule l.fn.board) (moves_behind g.R.Rules.rule l.fn.board l.fn.moves.place) ≡ false;
+}
+
+abbrev pub decreases-loop-m : goal.decreases-loop-m
+decreases-loop-m g l = length (moves_behind g.R.Rules.rule l.fn.board l.moves.place)

@@ -1,0 +1,5 @@
+pub mod Aims
+pub mod CheckSquares
+pub mod Flights
+pub mod Idle
+pub mod Mates

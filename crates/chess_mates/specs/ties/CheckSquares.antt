@@ -1,0 +1,96 @@
+-- Squares from which a move may give check (own).
+use Rattle.std.specs.Prelude.{◌≡◌, ℕ, ◌+◌, ◌/◌, ◌<◌, Bool, true, false, ◌&&◌, ◌||◌, ◌==◌, not, List, Option, Some, None, if◌then◌else◌}
+use Rattle.std.specs.Int.{bit_at}
+use Rattle.std.specs.Int.Bits.{bit_or}
+use Rattle.chess_core.specs.Position.{Position, is_man, king_square, man_on, other}
+use Rattle.chess_core.specs.Squares.{some_square}
+use Rattle.chess_core.specs.ties.Words.{word}
+use Rattle.chess_core.specs.declared.man.Man.{Man}
+use Rattle.chess_core.specs.declared.man.Move.{Move}
+use Rattle.chess_core.specs.declared.man.Colour.{Colour}
+use Rattle.chess_core.specs.declared.man.Kind.{Kind}
+use Rattle.chess_core.specs.declared.man.Kind.TheVariants.{King, Queen, Rook, Bishop, Knight, Pawn, Grasshopper, Nightrider}
+use Rattle.chess_mates.specs.declared.checks.CheckSquares.{CheckSquares}
+use Rattle.chess_rules.specs.Attacks.{in_check}
+use Rattle.chess_rules.specs.Legal.{legal}
+use Rattle.chess_rules.specs.Play.{after}
+use Rattle.chess_rules.specs.Reaches.{reaches_as}
+use Rattle.chess_rules.specs.RuleSet.{RuleSet, is_circe, orthodox}
+use Rattle.chess_rules.specs.ties.Lines.{is_aside}
+use Rattle.chess_rules.specs.ties.Shields.{is_fairy, may_expose}
+use Rattle.chess_rules.specs.ties.Targets.{may_go}
+
+-- it is a fairy man, and none of its colour and kind stands on the board
+abbrev pub is_absent : List (Option Man) → Man → Bool
+is_absent men x = is_fairy x.kind && not (some_square (λ q. is_man (man_on men q) x.colour x.kind))
+
+-- x, on t, may give check to a king on this square, if there is one; a fairy man of whom none stands on the
+-- board may from everywhere
+abbrev pub may_check_from_on : List (Option Man) → Option ℕ → Man → ℕ → Bool
+may_check_from_on men None x t = false
+may_check_from_on men (Some k) x t = is_absent men x || reaches_as men x.colour x.kind t k
+
+-- x, on t, may give check to the king of colour c
+unfoldable pub may_check_from : List (Option Man) → Colour → Man → ℕ → Bool
+may_check_from men c x t = may_check_from_on men (king_square men c) x t
+
+-- a man who is reborn gives no check, nor uncovers one: in Circe, where colour e, which captures, has no
+-- grasshopper to which he might be a hurdle
+unfoldable pub are_rebirths_quiet : RuleSet → List (Option Man) → Colour → Bool
+are_rebirths_quiet rule men e =
+    is_circe rule && is_absent men (record { colour = e; kind = Grasshopper })
+
+-- the rules by which it is told what moves of colour e uncover: the orthodox ones, where rebirths are quiet
+abbrev pub rule_of_checks : RuleSet → List (Option Man) → Colour → RuleSet
+rule_of_checks rule men e = if are_rebirths_quiet rule men e then orthodox else rule
+
+-- a man of this kind, an enemy of colour c
+abbrev pub enemy : Colour → Kind → Man
+enemy c j = record { colour = other c; kind = j }
+
+-- a man of this kind of the side to move
+abbrev pub own_man : Position → Kind → Man
+own_man p j = record { colour = p.turn; kind = j }
+
+-- the words are those of the squares from which a move may expose the king of colour c, and from which
+-- its enemies of each kind but kings may give check to it
+pub record AreCheckSquares (men : List (Option Man)) (c : Colour)
+    (s : CheckSquares) : Type 0 where
+  pub shield_squares : s.shield_squares ≡ word (may_expose men c)
+  pub straight : s.straight ≡ word (may_check_from men c (enemy c Rook))
+  pub diagonal : s.diagonal ≡ word (may_check_from men c (enemy c Bishop))
+  pub knight : s.knight ≡ word (may_check_from men c (enemy c Knight))
+  pub pawn : s.pawn ≡ word (may_check_from men c (enemy c Pawn))
+  pub grasshopper : s.grasshopper ≡ word (may_check_from men c (enemy c Grasshopper))
+  pub nightrider : s.nightrider ≡ word (may_check_from men c (enemy c Nightrider))
+
+-- of these words that of a kind: a king who stood where he gives check would be in check himself
+abbrev pub check_squares_for : CheckSquares → Kind → ℕ
+check_squares_for s King = 0
+check_squares_for s Queen = bit_or s.straight s.diagonal
+check_squares_for s Rook = s.straight
+check_squares_for s Bishop = s.diagonal
+check_squares_for s Knight = s.knight
+check_squares_for s Pawn = s.pawn
+check_squares_for s Grasshopper = s.grasshopper
+check_squares_for s Nightrider = s.nightrider
+
+-- a legal move from s gives no check, if it goes to a square not in the word
+pub record AreCheckTargets (rule : RuleSet) (p : Position) (s w : ℕ) : Type 0 where
+  pub elsewhere : (m : Move) → m.from ≡ s → m.to < 64 → legal rule p m ≡ true
+      → (bit_at w m.to == 1) ≡ false → in_check rule (after rule p m).men (other p.turn) ≡ false
+
+-- halfway to a square two files beside s that isn't in the word, a rook gives no check
+pub record AreCastlingTargets (v : CheckSquares) (s w : ℕ) : Type 0 where
+  pub elsewhere : (t : ℕ) → t < 64 → is_aside s t ≡ true → (bit_at w t == 1) ≡ false
+      → (bit_at v.straight ((s + t) / 2) == 1) ≡ false
+
+-- a legal move gives no check, if it goes from a square not in the word
+pub record AreCheckOrigins (rule : RuleSet) (p : Position) (w : ℕ) : Type 0 where
+  pub elsewhere : (m : Move) → m.from < 64 → m.to < 64 → legal rule p m ≡ true
+      → (bit_at w m.from == 1) ≡ false → in_check rule (after rule p m).men (other p.turn) ≡ false
+
+-- the word has each square from which this man, whoever else stands there, may go to one of the targets
+pub record AreApproaches (x : Man) (targets w : ℕ) : Type 0 where
+  pub approach : (p : Position) (s t : ℕ) → s < 64 → t < 64 → may_go p x s t ≡ true
+      → (bit_at targets t == 1) ≡ true → (bit_at w s == 1) ≡ true

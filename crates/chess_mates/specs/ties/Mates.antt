@@ -1,0 +1,48 @@
+-- Moves that mate, and places among them (own).
+use Rattle.std.specs.Prelude.{◌≡◌, ℕ, Bool, true, ◌&&◌, ◌-◌, List, [], ◌∷◌, ◌++◌, filter}
+use Rattle.chess_core.specs.Position.{Position, other}
+use Rattle.chess_core.specs.declared.man.Move.{Move}
+use Rattle.chess_rules.specs.RuleSet.{RuleSet}
+use Rattle.chess_rules.specs.Legal.{is_goal, legal}
+use Rattle.chess_rules.specs.Play.{after}
+use Rattle.chess_rules.specs.ties.Places.{moves_behind, moves_between}
+use Rattle.chess_rules.specs.ties.Targets.{AreKept}
+use Rattle.chess_rules.specs.declared.targets.Kept.{Kept}
+use Rattle.chess_mates.specs.declared.checks.CheckSquares.{CheckSquares}
+use Rattle.chess_mates.specs.ties.CheckSquares.{AreCheckSquares}
+
+-- the move mates
+abbrev pub is_mating : RuleSet → Position → Move → Bool
+is_mating rule p m = is_goal rule (after rule p m)
+
+-- the legal moves behind a place after which the side to move is mated
+unfoldable pub mates_behind : RuleSet → Position → ℕ → List Move
+mates_behind rule p place = filter (is_mating rule p) (moves_behind rule p place)
+
+-- the legal moves behind one place that don't lie behind another and after which the side to move is mated
+unfoldable pub mates_between : RuleSet → Position → ℕ → ℕ → List Move
+mates_between rule p place end = filter (is_mating rule p) (moves_between rule p place end)
+
+-- from one place to another the moves `over`, none of which mates, are passed, and then m, which mates
+pub record IsNextMate (rule : RuleSet) (p : Position) (old new : ℕ) (m : Move) : Type 0 where
+  pub over : List Move
+  pub passed : moves_behind rule p old ≡ over ++ moves_behind rule p (new - 1)
+  pub none : filter (is_mating rule p) over ≡ []
+  pub here : moves_behind rule p (new - 1) ≡ m ∷ moves_behind rule p new
+  pub mates : is_mating rule p m ≡ true
+
+-- the move is legal, and the side that is then to move is mated
+unfoldable pub mates : RuleSet → Position → Move → Bool
+mates rule p m = legal rule p m && is_goal rule (after rule p m)
+
+-- a place in a position, with the words of the squares from which a move may give check, and with what
+-- is kept of one origin
+pub record MatingPlace : Type 0 where
+  pub place : ℕ
+  pub checks : CheckSquares
+  pub kept : Kept
+
+-- the place is one in this position
+pub record IsMatingPlaceIn (rule : RuleSet) (p : Position) (v : MatingPlace) : Type 0 where
+  pub checks : AreCheckSquares p.men (other p.turn) v.checks
+  pub kept : AreKept rule p (mates rule p) v.kept

@@ -1,0 +1,256 @@
+//! Moves that give no check, told before they are made.
+ghost use Rattle.std.specs.Prelude.{◌≡◌, ◌<◌, ◌==◌, ℕ, None, Some, false, not, true, is_some};
+ghost use Rattle.std.specs.Int.{bit_at};
+ghost use Rattle.chess_core.specs.Position.{man_on, other, same_kind};
+ghost use Rattle.chess_core.specs.declared.man.Kind.TheVariants.{King, Pawn};
+ghost use Rattle.chess_core.specs.WellFormed.{IsWellFormed};
+ghost use Rattle.chess_core.specs.ties.Words.{word};
+ghost use Rattle.chess_rules.specs.Attacks.{in_check};
+ghost use Rattle.chess_mates.specs.ties.CheckSquares.{AreCastlingTargets, AreCheckSquares, AreCheckTargets, enemy, is_absent, may_check_from, check_squares_for, own_man, are_rebirths_quiet, rule_of_checks};
+ghost use Rattle.chess_rules.specs.ties.Shields.{cannot_expose, may_stand_between};
+ghost use Rattle.chess_rules.specs.Legal.{legal, pseudo};
+ghost use Rattle.chess_rules.specs.Play.{after};
+ghost use Rattle.chess_rules.specs.RuleSet.{is_circe};
+
+use crate::open_board::open_targets;
+use chess_core::board::Board;
+use chess_core::man::{Colour, Kind, Man, Move};
+use chess_core::square::Square;
+use chess_rules::evasions::rebirth_captures;
+use chess_rules::leaps::squares_aside;
+use chess_rules::lines::occupied;
+use chess_rules::outward::comes_as;
+use chess_rules::rules::{Orthodox, Rules};
+use chess_rules::shields::{cannot_expose, fairy_lines, is_fairy, shield_squares};
+use chess_rules::words::{contains, only};
+
+/// The squares from which a move may give check in a position: by exposing the king, or by a man of
+/// this kind that arrives there. A king gives none so: next to the other he would be in check himself.
+#[derive(Clone, Copy)]
+pub(crate) struct CheckSquares {
+    shield_squares: u64,
+    straight: u64,
+    diagonal: u64,
+    knight: u64,
+    pawn: u64,
+    grasshopper: u64,
+    nightrider: u64,
+}
+
+// Whether it is one of the fairy kinds, and none of the colour stands on the board.
+fn is_absent(board: &Board, colour: Colour, kind: Kind) -> bool
+    ensures { result ≡ is_absent board.now.men (record { colour = colour; kind = kind }) }
+{
+    is_fairy(kind) && board.squares(colour, kind) == 0
+}
+
+// The squares from which an enemy of this kind may give check to the colour's king: all of them for fairy men
+// of whom none stands on the board.
+pub(crate) fn check_squares_of(board: &Board, colour: Colour, kind: Kind) -> u64
+    ensures { result ≡ word (may_check_from board.now.men colour (enemy colour kind)) }
+{
+    let Some(king) = board.king_of(colour) else {
+        return 0;
+    };
+    let enemy = colour.other();
+    if is_absent(board, enemy, kind) {
+        return !0;
+    }
+    comes_as(occupied(board), enemy, kind, king)
+}
+
+// The squares from which a move may give check to the colour's king.
+#[inline(always)]
+pub(crate) fn check_squares(board: &Board, colour: Colour) -> CheckSquares
+    ensures { AreCheckSquares board.now.men colour result }
+{
+    CheckSquares {
+        shield_squares: shield_squares(board, colour),
+        straight: check_squares_of(board, colour, Kind::Rook),
+        diagonal: check_squares_of(board, colour, Kind::Bishop),
+        knight: check_squares_of(board, colour, Kind::Knight),
+        pawn: check_squares_of(board, colour, Kind::Pawn),
+        grasshopper: check_squares_of(board, colour, Kind::Grasshopper),
+        nightrider: check_squares_of(board, colour, Kind::Nightrider),
+    }
+}
+
+// Those from which a man of this kind may by a legal move.
+fn check_squares_for(squares: &CheckSquares, kind: Kind) -> u64
+    ensures { result ≡ check_squares_for squares.now kind }
+{
+    match kind {
+        Kind::King => 0,
+        Kind::Queen => squares.straight | squares.diagonal,
+        Kind::Rook => squares.straight,
+        Kind::Bishop => squares.diagonal,
+        Kind::Knight => squares.knight,
+        Kind::Pawn => squares.pawn,
+        Kind::Grasshopper => squares.grasshopper,
+        Kind::Nightrider => squares.nightrider,
+    }
+}
+
+// Whether a man who is reborn gives no check, nor uncovers one: in Circe, where the mover has no grasshopper
+// to which he might be a hurdle.
+#[inline(always)]
+#[tactic(auto, unfolding(crate::specs::ties::CheckSquares::are_rebirths_quiet))]
+fn are_rebirths_quiet<R: Rules>(board: &Board) -> bool
+    ensures { result ≡ are_rebirths_quiet R.rule board.now.men board.now.turn }
+{
+    R::is_circe() && is_absent(board, board.turn(), Kind::Grasshopper)
+}
+
+// The squares on which a man may be captured and reborn, where that may give check.
+#[inline(always)]
+fn checking_rebirths<R: Rules>(board: &Board) -> u64
+    ensures { are_rebirths_quiet R.rule board.now.men board.now.turn ≡ false
+        → is_circe R.rule ≡ true → result ≡ word (λ s. is_some (man_on board.now.men s)) }
+{
+    if are_rebirths_quiet::<R>(board) {
+        return 0;
+    }
+    rebirth_captures::<R>(board)
+}
+
+// Whether every square is a check square to each man, as far as is told here: he exposes the king from
+// wherever he goes, or many captures are followed by a rebirth that may give check.
+pub(crate) fn are_all_near<R: Rules>(board: &Board, squares: &CheckSquares) -> bool {
+    squares.shield_squares == !0 || R::is_circe() && !are_rebirths_quiet::<R>(board)
+}
+
+// The first rank and the last.
+const LAST_RANKS: u64 = 0xff00_0000_0000_00ff;
+
+// The squares to which a king on `from` castles so that the rook, who comes to the square halfway, gives check,
+// and perhaps more.
+#[inline(never)]
+#[tactic(auto, using(crate::proofs::CastlingChecks::castling_targets_are))]
+fn castling_targets(squares: &CheckSquares, from: Square) -> u64
+    ensures { AreCastlingTargets squares.now from result }
+{
+    let checked_from = squares.straight;
+    squares_aside(from) & (checked_from << 1 | checked_from >> 1)
+}
+
+// The squares to which a man of this kind promotes, or castles if he is a king on `king`, and perhaps more.
+#[inline(always)]
+fn special_targets(squares: &CheckSquares, kind: Kind, king: Option<Square>) -> u64
+    ensures promotes { same_kind kind Pawn ≡ true → result ≡ 18374686479671623935 }
+    ensures castles { (s : ℕ) → king ≡ Some s → same_kind kind King ≡ true
+        → AreCastlingTargets squares.now s result }
+{
+    match king {
+        Some(from) if kind.is(Kind::King) => castling_targets(squares, from),
+        _ if kind.is(Kind::Pawn) => LAST_RANKS,
+        _ => 0,
+    }
+}
+
+// The squares to which a man of this kind must go to give check by a legal move, from any square that is no
+// shield square; a king from his own, `king`. `lines` are those to the enemy's king with a fairy man on them.
+#[inline(always)]
+pub(crate) fn targets_off_shields<R: Rules>(
+    board: &Board,
+    squares: &CheckSquares,
+    kind: Kind,
+    king: Option<Square>,
+    lines: u64,
+) -> u64
+    requires well_formed { IsWellFormed board.now }
+    requires squares { AreCheckSquares board.now.men (other board.now.turn) squares.now }
+    requires lines { lines ≡ word (may_stand_between board.now.men (other board.now.turn)) }
+    ensures { (s : ℕ) (x : Man) → s < 64 → man_on board.now.men s ≡ Some x → x.kind ≡ kind
+        → (same_kind kind King ≡ true → king ≡ Some s)
+        → (bit_at squares.now.shield_squares s == 1) ≡ false
+        → AreCheckTargets R.rule board.now s result }
+{
+    let checked_from = check_squares_for(squares, kind);
+    checked_from
+        | only(board.crossed())
+        | special_targets(squares, kind, king)
+        | checking_rebirths::<R>(board)
+        | lines
+}
+
+// The squares to which this man must go from here to give check by a legal move.
+fn check_targets<R: Rules>(board: &Board, squares: &CheckSquares, man: Man, from: Square) -> u64
+    requires well_formed { IsWellFormed board.now }
+    requires squares { AreCheckSquares board.now.men (other board.now.turn) squares.now }
+    requires here { man_on board.now.men from ≡ Some man }
+    ensures { AreCheckTargets R.rule board.now from result }
+{
+    // For the proof: a square's number is below 64.
+    let _small = from.index();
+    if contains(squares.shield_squares, from) {
+        return !0;
+    }
+    let lines = fairy_lines(board, board.turn().other());
+    targets_off_shields::<R>(board, squares, man.kind, Some(from), lines)
+}
+
+// Those of them to which the man on the square, if one stands there, might go, were the others gone.
+pub(crate) fn near_check_targets<R: Rules>(
+    board: &Board,
+    squares: &CheckSquares,
+    from: Square,
+) -> u64
+    requires well_formed { IsWellFormed board.now }
+    requires squares { AreCheckSquares board.now.men (other board.now.turn) squares.now }
+    ensures { AreCheckTargets R.rule board.now from result }
+{
+    let Some(man) = board.man_at(from) else {
+        return 0;
+    };
+    open_targets(man, from) & check_targets::<R>(board, squares, man, from)
+}
+
+// Whether the move may expose the enemy's king, by the man that leaves its square or by one that is
+// captured, castled or reborn.
+fn may_discover<R: Rules>(board: &Board, squares: &CheckSquares, m: &Move) -> bool
+    requires { AreCheckSquares board.now.men (other board.now.turn) squares.now }
+    ensures { result ≡ not (cannot_expose (rule_of_checks R.rule board.now.men board.now.turn)
+        board.now (other board.now.turn) m.now) }
+{
+    if are_rebirths_quiet::<R>(board) {
+        return !cannot_expose::<Orthodox>(board, board.turn().other(), squares.shield_squares, m);
+    }
+    !cannot_expose::<R>(board, board.turn().other(), squares.shield_squares, m)
+}
+
+// Whether no man is promoted.
+fn keeps_its_kind(m: &Move) -> bool
+    ensures { result ≡ true → m.now.promo ≡ None }
+{
+    m.promo.is_none()
+}
+
+// Whether the move may give check, if it is legal: where it answers `false`, it gives none. A promoted man
+// may see through the square that the pawn left, so a promotion always may.
+pub(crate) fn may_check<R: Rules>(board: &Board, squares: &CheckSquares, m: &Move) -> bool
+    requires well_formed { IsWellFormed board.now }
+    requires pseudo { pseudo R.rule board.now m.now ≡ true }
+    requires squares { AreCheckSquares board.now.men (other board.now.turn) squares.now }
+    ensures { result ≡ false → legal R.rule board.now m.now ≡ true
+        → in_check R.rule (after R.rule board.now m.now).men (other board.now.turn) ≡ false }
+{
+    let Some(man) = board.man_at(m.from) else {
+        return true;
+    };
+    if !keeps_its_kind(m) {
+        return true;
+    }
+    // For the proof: a square's number is below 64.
+    let _small = m.to.index();
+    let from_there = check_squares_for(squares, man.kind);
+    contains(from_there, m.to) || may_discover::<R>(board, squares, m)
+}
+
+impl CheckSquares {
+    // The squares from which a move may expose the king.
+    pub(crate) fn shields(&self) -> u64
+        ensures { result ≡ self.now.shield_squares }
+    {
+        self.shield_squares
+    }
+}

@@ -1,0 +1,97 @@
+//! Positions in which each legal move mates.
+ghost use Rattle.std.specs.Prelude.{◌≡◌, ◌&&◌, false, not, true};
+ghost use Rattle.std.specs.List.{list_all};
+ghost use Rattle.chess_core.specs.Position.{other};
+ghost use Rattle.chess_core.specs.WellFormed.{IsWellFormed};
+ghost use Rattle.chess_mates.specs.ties.CheckSquares.{AreCheckSquares};
+ghost use Rattle.chess_rules.specs.Legal.{is_nil, legal, moves};
+ghost use Rattle.chess_mates.specs.ties.Mates.{is_mating};
+ghost use Rattle.chess_rules.specs.ties.Places.{IsPlaceIn, moves_behind};
+
+use crate::checks::{CheckSquares, check_squares, may_check};
+use chess_core::board::Board;
+use chess_core::man::Move;
+use chess_rules::legal_moves::LegalMoves;
+use chess_rules::moves::is_mate;
+use chess_rules::rules::Rules;
+
+/// Whether the side to move has a legal move and each of its legal moves mates: one that can't give check
+/// says no without being played. The board is unchanged.
+pub fn every_move_mates<R: Rules>(board: &mut Board) -> bool
+    requires { IsWellFormed board.old }
+    ensures answer { result ≡ (not (is_nil (moves R.rule board.old))
+        && list_all (is_mating R.rule board.old) (moves R.rule board.old)) }
+    ensures board { board.new ≡ board.old }
+{
+    let squares = check_squares(board, board.turn().other());
+    let moves = LegalMoves::<R>::of(board);
+    if has_quiet_move::<R>(board, &squares, moves) {
+        return false;
+    }
+    has_mates_alone::<R>(board, moves)
+}
+
+// Whether a legal move behind the place can't give check.
+fn has_quiet_move<R: Rules>(
+    board: &mut Board,
+    squares: &CheckSquares,
+    mut moves: LegalMoves<R>,
+) -> bool
+    requires well_formed { IsWellFormed board.old }
+    requires squares { AreCheckSquares board.old.men (other board.old.turn) squares.now }
+    requires place { IsPlaceIn R.rule board.old moves }
+    ensures quiet { result ≡ true
+        → list_all (is_mating R.rule board.old) (moves_behind R.rule board.old moves.place)
+        ≡ false }
+    ensures board { board.new ≡ board.old }
+{
+    while let Some(m) = moves.next(board) {
+        if is_quiet::<R>(board, squares, &m) {
+            return true;
+        }
+    }
+    false
+}
+
+// Whether a legal move can't give check, so that it doesn't mate.
+#[tactic(auto, using(crate::proofs::EveryMove::quietly))]
+fn is_quiet<R: Rules>(board: &Board, squares: &CheckSquares, m: &Move) -> bool
+    requires well_formed { IsWellFormed board.now }
+    requires legal { legal R.rule board.now m.now ≡ true }
+    requires squares { AreCheckSquares board.now.men (other board.now.turn) squares.now }
+    ensures { result ≡ true → is_mating R.rule board.now m.now ≡ false }
+{
+    !may_check::<R>(board, squares, m)
+}
+
+// Whether there is a legal move behind the place, and each of them mates.
+fn has_mates_alone<R: Rules>(board: &mut Board, mut moves: LegalMoves<R>) -> bool
+    requires well_formed { IsWellFormed board.old }
+    requires place { IsPlaceIn R.rule board.old moves }
+    ensures answer { result ≡ (not (is_nil (moves_behind R.rule board.old moves.place))
+        && list_all (is_mating R.rule board.old) (moves_behind R.rule board.old moves.place)) }
+    ensures board { board.new ≡ board.old }
+{
+    let mut some = false;
+    while let Some(m) = moves.next(board) {
+        if !mates_by::<R>(board, m) {
+            return false;
+        }
+        some = true;
+    }
+    some
+}
+
+// Whether the side to move is mated after a legal move. The board is unchanged after it.
+#[tactic(auto, using(chess_rules::proofs::listing_moves::Calls::playing))]
+fn mates_by<R: Rules>(board: &mut Board, m: Move) -> bool
+    requires well_formed { IsWellFormed board.old }
+    requires legal { legal R.rule board.old m ≡ true }
+    ensures answer { result ≡ is_mating R.rule board.old m }
+    ensures board { board.new ≡ board.old }
+{
+    let undo = R::play(board, m);
+    let mated = is_mate::<R>(board);
+    R::unplay(board, m, undo);
+    mated
+}

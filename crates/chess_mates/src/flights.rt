@@ -1,0 +1,156 @@
+//! Flights of the enemy king after a move, told without playing it.
+ghost use Rattle.std.specs.Prelude.{◌≡◌, ◌<◌, ◌==◌, ◌&&◌, ℕ, IfSome, List, Option, is_some, not, true};
+ghost use Rattle.std.specs.Int.{bit_at};
+ghost use Rattle.std.specs.Int.Bits.{bit_and, bit_or};
+ghost use Rattle.chess_core.specs.Position.{is_side, man_on, other, same_kind};
+ghost use Rattle.chess_core.specs.WellFormed.{IsWellFormed};
+ghost use Rattle.chess_core.specs.ties.Words.{side_of, squares_of, word};
+ghost use Rattle.chess_core.specs.declared.man.Man.{Man};
+ghost use Rattle.chess_core.specs.declared.man.Move.{Move};
+ghost use Rattle.chess_core.specs.declared.man.Kind.TheVariants.{King};
+ghost use Rattle.chess_mates.specs.ties.Flights.{AreOpen, IsSeenFrom, has_flight, sight_lifted, sight_with};
+ghost use Rattle.chess_rules.specs.Legal.{pseudo};
+ghost use Rattle.chess_rules.specs.Play.{after, arriving, capture_square};
+ghost use Rattle.chess_rules.specs.ties.Lines.{occupied_squares};
+ghost use Rattle.chess_rules.specs.Reaches.{reaches, reaches_as};
+ghost use Rattle.chess_rules.specs.ties.Sight.{AreSeen, is_simple};
+
+use chess_core::board::Board;
+use chess_core::man::{Colour, Kind, Man, Move};
+use chess_core::square::Square;
+use chess_rules::exposure::is_simple;
+use chess_rules::leaps::king_leaps;
+use chess_rules::outward::attackers_seen;
+use chess_rules::play::{arriving, capture_square};
+use chess_rules::reach::reach_over;
+use chess_rules::rules::Rules;
+use chess_rules::sight::{Sight, sight_after};
+use chess_rules::words::{next_bit, only};
+
+// The men once one has gone from `from` to `to`, the one on the captured square is gone, and the king on
+// `king` is lifted. The man that went doesn't count as one that stands.
+fn sight_lifted(
+    board: &Board,
+    from: Square,
+    captured: Option<Square>,
+    to: Square,
+    king: Square,
+) -> Sight
+    ensures { result ≡ sight_lifted board.now.men from captured to king }
+{
+    let sight = sight_after(board, from, captured, to);
+    Sight {
+        occupied: sight.occupied & !only(Some(king)),
+        standing: sight.standing & !only(Some(from)),
+    }
+}
+
+// The men once that king stands on `to`, whoever stood there.
+fn sight_with(sight: Sight, to: Square) -> Sight
+    ensures { result ≡ sight_with sight to }
+{
+    let there = only(Some(to));
+    Sight {
+        occupied: sight.occupied | there,
+        standing: sight.standing & !there,
+    }
+}
+
+// The squares to which a king that isn't the mover's may not step: its own men stand there, as far as they
+// still stand, or the mover's king.
+fn held_squares(board: &Board, standing: u64) -> u64
+    ensures { result ≡ bit_or (bit_and (side_of board.now.men (other board.now.turn)) standing)
+        (squares_of board.now.men board.now.turn King) }
+{
+    let mover = board.turn();
+    board.side(mover.other()) & standing | board.squares(mover, Kind::King)
+}
+
+// The squares that the man sees from where it arrives, as what it is then.
+fn covered_squares(occupied: u64, man: Man, promo: Option<Kind>, to: Square) -> u64
+    ensures { (men : List (Option Man)) → occupied ≡ occupied_squares men
+        → result ≡ word (reaches_as men (arriving man promo).colour (arriving man promo).kind to) }
+{
+    let arrived = arriving(man, promo);
+    reach_over(occupied, arrived.colour, arrived.kind, to)
+}
+
+// The squares to which the enemy king on `king` may step after a simple move, attacks apart: no man of its
+// own and no king stands there, and in Circe nobody. `sight` is that after the move, the king lifted.
+#[tactic(auto, using(crate::proofs::Fleeing::open_squares_in_circe, crate::proofs::Fleeing::open_squares))]
+fn open_squares<R: Rules>(board: &Board, sight: Sight, king: Square) -> u64
+    ensures { (m : Move) (x : Man) → IsSeenFrom R.rule board.now m x king → m.to < 64
+        → sight ≡ sight_lifted board.now.men m.from (capture_square board.now x m) m.to king
+        → AreOpen R.rule (after R.rule board.now m).men (other board.now.turn) king result }
+{
+    let near = king_leaps(king);
+    if R::is_circe() {
+        return near & !sight.occupied;
+    }
+    near & !held_squares(board, sight.standing)
+}
+
+// The first of the squares that no man of the colour attacks once the enemy king stands there, the man
+// that moved apart.
+fn first_safe(board: &Board, sight: Sight, squares: u64, colour: Colour) -> Option<Square>
+    ensures within { IfSome result (λ t. (t < 64) × ((bit_at squares t == 1) ≡ true)) }
+    ensures safe { IfSome result (λ t. (men : List (Option Man))
+        → AreSeen board.now.men men colour (sight_with sight t)
+        → 0 ≡ word (λ s. is_side (man_on men s) colour && reaches men s t)) }
+{
+    let mut number = 0u8;
+    while let Some(square) = next_bit(squares, number) {
+        if attackers_seen(board, sight_with(sight, square), square, colour) == 0 {
+            return Some(square);
+        }
+        number = square.index() + 1;
+    }
+    None
+}
+
+// Whether the enemy king on `king` is seen to have a flight after the simple move of this man, who is no
+// king.
+fn has_flight_from<R: Rules>(
+    board: &Board,
+    man: Man,
+    m: &Move,
+    captured: Option<Square>,
+    king: Square,
+) -> bool
+    requires seen { IsSeenFrom R.rule board.now m.now man king }
+    requires captured { captured ≡ capture_square board.now man m.now }
+    ensures { result ≡ true → has_flight R.rule (after R.rule board.now m.now) ≡ true }
+{
+    // For the proof: a square's number is below 64.
+    let _small = m.to.index();
+    let sight = sight_lifted(board, m.from, captured, m.to, king);
+    let near = open_squares::<R>(board, sight, king);
+    let covered = covered_squares(sight.occupied, man, m.promo, m.to);
+    first_safe(board, sight, near & !covered, board.turn()).is_some()
+}
+
+// Whether flights after the man's move are looked for: nobody castles or is reborn, and it is no king.
+fn is_looked_at<R: Rules>(man: Man, m: &Move, captures: bool) -> bool
+    ensures { result ≡ (not (same_kind man.kind King) && is_simple R.rule man m.now captures) }
+{
+    !man.kind.is(Kind::King) && is_simple::<R>(man, m, captures)
+}
+
+// Whether the side that is to move after this move is seen to have a flight then.
+pub(crate) fn has_flight<R: Rules>(board: &Board, m: &Move) -> bool
+    requires well_formed { IsWellFormed board.now }
+    requires pseudo { pseudo R.rule board.now m.now ≡ true }
+    ensures { result ≡ true → has_flight R.rule (after R.rule board.now m.now) ≡ true }
+{
+    let Some(man) = board.man_at(m.from) else {
+        return false;
+    };
+    let captured = capture_square(board, man, m);
+    if !is_looked_at::<R>(man, m, captured.is_some()) {
+        return false;
+    }
+    let Some(king) = board.king_of(board.turn().other()) else {
+        return false;
+    };
+    has_flight_from::<R>(board, man, m, captured, king)
+}

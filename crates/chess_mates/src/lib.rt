@@ -1,0 +1,18 @@
+//! Moves that give check and moves that mate, told before they are played: for speed alone, since the rules
+//! of play say all of them.
+//!
+//! No call of this crate takes memory, and none makes a list of moves. A board that is played on stands
+//! afterwards as before.
+#![tactic(auto)]
+
+pub mod aims;
+mod checks;
+pub mod every_move;
+mod flights;
+pub mod mating_moves;
+mod open_board;
+mod origins;
+
+pub use crate::aims::aims_at_king;
+pub use crate::every_move::every_move_mates;
+pub use crate::mating_moves::{MatingMoves, next_mate};

@@ -1,0 +1,277 @@
+//! The moves of one position that mate, most of the others passed over without being played.
+ghost use Rattle.std.specs.Prelude.{◌≡◌, ℕ, ◌≤◌, ◌<◌, ◌∷◌, [], ◌&&◌, IfSome, MatchOption, None, Some, not, true};
+ghost use Rattle.chess_core.specs.Position.{other};
+ghost use Rattle.chess_core.specs.WellFormed.{IsWellFormed};
+ghost use Rattle.chess_rules.specs.Attacks.{in_check};
+ghost use Rattle.chess_mates.specs.ties.CheckSquares.{AreCheckSquares};
+ghost use Rattle.chess_rules.specs.Legal.{is_goal, legal, pseudo};
+ghost use Rattle.chess_mates.specs.ties.Mates.{IsMatingPlaceIn, IsNextMate, mates, mates_behind, mates_between};
+ghost use Rattle.chess_rules.specs.ties.Places.{HaveNone, place_of, triple_at};
+ghost use Rattle.chess_rules.specs.Play.{after};
+ghost use Rattle.chess_rules.specs.ties.Targets.{AreCandidates, AreKept, AreOrigins, IsAimed};
+
+use crate::checks::{CheckSquares, check_squares, may_check, near_check_targets};
+use crate::flights::has_flight;
+use crate::origins::check_origins;
+use chess_core::board::Board;
+use chess_core::man::{Colour, Move};
+use chess_core::square::Square;
+use chess_rules::legal::is_pseudo;
+use chess_rules::moves::{Moves, has_legal_move, triple};
+use chess_rules::rules::{Rules, in_check};
+use chess_rules::sought::{Sought, next_passing};
+use chess_rules::targets::{Kept, TRIPLES, arrivals};
+use std::marker::{Model, PhantomData};
+
+/// A place among all triples, as in `Moves`, in one position: with it are kept the squares from which a
+/// move of that position may give check, and the targets of the origin on which the place stands.
+#[derive_where(Clone, Copy)]
+pub struct MatingMoves<R> {
+    passed: u16,
+    checks: CheckSquares,
+    targets: Kept,
+    rules: PhantomData<R>,
+}
+
+impl<R> Model for MatingMoves<R> {
+    ghost use Rattle.chess_mates.specs.ties.Mates.{MatingPlace};
+
+    ghost Value = { MatingPlace };
+
+    ghost view = { λ m. record { place = m.passed; checks = m.checks; kept = m.targets } };
+
+    ghost inverse = { λ v. record {
+      passed = v.place;
+      checks = v.checks;
+      targets = v.kept;
+      rules = record {};
+    } };
+}
+
+impl<R: Rules> MatingMoves<R> {
+    /// The place before all triples, in the board's position.
+    pub fn of(board: &Board) -> MatingMoves<R>
+        ensures start { result.place ≡ 0 }
+        ensures place { IsMatingPlaceIn R.rule board.now result }
+    {
+        MatingMoves {
+            passed: 0,
+            checks: check_squares(board, board.turn().other()),
+            targets: Kept {
+                origin: None,
+                squares: 0,
+            },
+            rules: PhantomData,
+        }
+    }
+
+    /// The same place, without what is kept.
+    pub fn place(&self) -> Moves<R>
+        ensures { result ≡ self.now.place }
+    {
+        Moves::at(self.passed)
+    }
+
+    /// Goes to another place in the same position.
+    pub fn go_to(&mut self, place: Moves<R>)
+        ensures { self.new ≡ record self.old { place = place } }
+    {
+        self.passed = place.number();
+    }
+
+    /// The first legal move behind the place after which the side to move is mated; the place then stands
+    /// on it. Where there is none: `None`, and the place stands behind all triples. The board is unchanged.
+    /// The place must be one in the board's position.
+    #[tactic(auto, using(crate::proofs::MatesBetween::next_mates), unfolding(chess_rules::specs::ties::Places::place_of))]
+    pub fn next(&mut self, board: &mut Board) -> Option<Move>
+        requires well_formed { IsWellFormed board.old }
+        requires place { IsMatingPlaceIn R.rule board.old self.old }
+        ensures place { self.new ≡ record self.old {
+          place = place_of result;
+          kept = self.new.kept;
+        } }
+        ensures within { IsMatingPlaceIn R.rule board.old self.new }
+        ensures rest { MatchOption result (mates_behind R.rule board.old self.old.place ≡ [])
+            (λ m. mates_behind R.rule board.old self.old.place
+            ≡ m ∷ mates_behind R.rule board.old self.new.place) }
+        ensures next { IfSome result (λ m. IsNextMate R.rule board.old self.old.place self.new.place
+            m) }
+        ensures mates { IfSome result (λ m. mates R.rule board.old m ≡ true) }
+        ensures legal { IfSome result (λ m. legal R.rule board.old m ≡ true) }
+        ensures onward { IfSome result (λ m. self.old.place < self.new.place) }
+        ensures board { board.new ≡ board.old }
+    {
+        let number = next_mating::<R>(board, &self.checks, &mut self.targets, self.passed, TRIPLES);
+        if number < TRIPLES {
+            self.passed = number + 1;
+            return Some(triple(number));
+        }
+        self.passed = TRIPLES;
+        None
+    }
+
+    /// The first legal move behind the place that mates and doesn't lie behind `end`, on which the place
+    /// then stands. The board is unchanged. The place must be one in the board's position.
+    #[tactic(auto, using(crate::proofs::MatesBetween::until_mates))]
+    pub fn next_until(&mut self, end: Moves<R>, board: &mut Board) -> Option<Move>
+        requires well_formed { IsWellFormed board.old }
+        requires place { IsMatingPlaceIn R.rule board.old self.old }
+        ensures within { IsMatingPlaceIn R.rule board.old self.new }
+        ensures rest { MatchOption result (mates_between R.rule board.old self.old.place end ≡ [])
+            (λ m. mates_between R.rule board.old self.old.place end
+            ≡ m ∷ mates_between R.rule board.old self.new.place end) }
+        ensures mates { IfSome result (λ m. mates R.rule board.old m ≡ true) }
+        ensures legal { IfSome result (λ m. legal R.rule board.old m ≡ true) }
+        ensures board { board.new ≡ board.old }
+    {
+        let last = end.number().min(TRIPLES);
+        if self.passed >= last {
+            return None;
+        }
+        let number = next_mating::<R>(board, &self.checks, &mut self.targets, self.passed, last);
+        if number < last {
+            self.passed = number + 1;
+            return Some(triple(number));
+        }
+        None
+    }
+}
+
+/// The first legal move behind the place that mates, on which the place then stands. Where there is
+/// none: `None`. The board is unchanged.
+pub fn next_mate<R: Rules>(place: &mut Moves<R>, board: &mut Board) -> Option<Move>
+    requires { IsWellFormed board.old }
+    ensures rest { MatchOption result (mates_behind R.rule board.old place.old ≡ [])
+        (λ m. mates_behind R.rule board.old place.old
+        ≡ m ∷ mates_behind R.rule board.old place.new) }
+    ensures next { IfSome result (λ m. IsNextMate R.rule board.old place.old place.new m) }
+    ensures legal { IfSome result (λ m. legal R.rule board.old m ≡ true) }
+    ensures board { board.new ≡ board.old }
+{
+    let mut moves = MatingMoves::<R>::of(board);
+    moves.go_to(*place);
+    let found = moves.next(board);
+    *place = moves.place();
+    found
+}
+
+// The number of the first move that mates from the triple numbered `start` on and before the one numbered
+// `end`; `end` where there is none.
+pub(crate) fn next_mating<R: Rules>(
+    board: &mut Board,
+    squares: &CheckSquares,
+    kept: &mut Kept,
+    start: u16,
+    end: u16,
+) -> u16
+    requires well_formed { IsWellFormed board.old }
+    requires squares { AreCheckSquares board.old.men (other board.old.turn) squares.now }
+    requires kept { AreKept R.rule board.old (mates R.rule board.old) kept.old }
+    requires end { end ≤ 28672 }
+    ensures low { result < end → start ≤ result }
+    ensures high { result ≤ end }
+    ensures none { HaveNone (mates R.rule board.old) start result }
+    ensures mates { result < end → mates R.rule board.old (triple_at result) ≡ true }
+    ensures kept { AreKept R.rule board.old (mates R.rule board.old) kept.new }
+    ensures board { board.new ≡ board.old }
+{
+    next_passing::<R, CheckSquares>(board, squares, kept, start, end)
+}
+
+impl Sought for CheckSquares {
+    ghost use Rattle.chess_core.specs.Position.{other};
+    ghost use Rattle.chess_mates.specs.ties.CheckSquares.{AreCheckSquares};
+    ghost use Rattle.chess_mates.specs.ties.Mates.{mates};
+    ghost use Rattle.chess_mates.specs.ties.Idle.{mates-idle};
+
+    ghost test = { mates };
+
+    ghost fits = { λ s rule p. AreCheckSquares p.men (other p.turn) s };
+
+    fn origins<R: Rules>(&self, board: &Board) -> u64 {
+        mating_origins::<R>(board, self)
+    }
+
+    fn candidates<R: Rules>(&self, board: &Board, from: Square) -> u64 {
+        candidates::<R>(board, self, from)
+    }
+
+    fn passes<R: Rules>(&self, board: &mut Board, m: Move) -> bool {
+        is_mating::<R>(board, self, m)
+    }
+
+    ghost idle = { λ rule p m h. mates-idle rule p m h };
+}
+
+// The squares from which a move may mate, and perhaps more: those from which one may give check.
+#[tactic(auto, using(crate::proofs::MatesBetween::mating_origins))]
+fn mating_origins<R: Rules>(board: &Board, squares: &CheckSquares) -> u64
+    requires well_formed { IsWellFormed board.now }
+    requires squares { AreCheckSquares board.now.men (other board.now.turn) squares.now }
+    ensures { AreOrigins (mates R.rule board.now) result }
+{
+    check_origins::<R>(board, squares)
+}
+
+// The squares to which the man on `from` may go with check, and perhaps more.
+#[tactic(auto, using(crate::proofs::MatesBetween::mating_candidates))]
+fn candidates<R: Rules>(board: &Board, squares: &CheckSquares, from: Square) -> u64
+    requires well_formed { IsWellFormed board.now }
+    requires squares { AreCheckSquares board.now.men (other board.now.turn) squares.now }
+    ensures { AreCandidates R.rule board.now (mates R.rule board.now) from result }
+{
+    let word = near_check_targets::<R>(board, squares, from);
+    if word == 0 {
+        return 0;
+    }
+    arrivals::<R>(board, from) & word
+}
+
+// Whether the move is legal and mates. The board is unchanged after it.
+#[tactic(auto, using(crate::proofs::MatesBetween::no_mates, crate::proofs::Fleeing::no_mate_with_flight))]
+fn is_mating<R: Rules>(board: &mut Board, squares: &CheckSquares, m: Move) -> bool
+    requires well_formed { IsWellFormed board.old }
+    requires aimed { IsAimed R.rule board.old m }
+    requires squares { AreCheckSquares board.old.men (other board.old.turn) squares.now }
+    ensures answer { result ≡ mates R.rule board.old m }
+    ensures board { board.new ≡ board.old }
+{
+    if !is_pseudo::<R>(board, &m) {
+        return false;
+    }
+    if !may_check::<R>(board, squares, &m) {
+        return false;
+    }
+    if has_flight::<R>(board, &m) {
+        return false;
+    }
+    gives_mate::<R>(board, m)
+}
+
+// Whether the move, which may be made, is legal and mates. The board is unchanged after it.
+#[tactic(auto, using(crate::proofs::Mating::mates_after))]
+fn gives_mate<R: Rules>(board: &mut Board, m: Move) -> bool
+    requires well_formed { IsWellFormed board.old }
+    requires pseudo { pseudo R.rule board.old m ≡ true }
+    ensures answer { result ≡ mates R.rule board.old m }
+    ensures board { board.new ≡ board.old }
+{
+    let mover = board.turn();
+    let undo = R::play(board, m);
+    let mated = is_mated_by::<R>(board, mover);
+    R::unplay(board, m, undo);
+    mated
+}
+
+// Whether the side to move is mated and `mover` isn't in check. The board is unchanged.
+#[tactic(auto, unfolding(chess_rules::specs::Legal::is_goal))]
+fn is_mated_by<R: Rules>(board: &mut Board, mover: Colour) -> bool
+    requires { IsWellFormed board.old }
+    ensures answer { result ≡ (not (in_check R.rule board.old.men mover)
+        && is_goal R.rule board.old) }
+    ensures board { board.new ≡ board.old }
+{
+    in_check::<R>(board, board.turn())
+        && !in_check::<R>(board, mover)
+        && !has_legal_move::<R>(board)
+}

@@ -1,0 +1,43 @@
+//! Where a man might go, and from where he might come, if no other stood on the board.
+ghost use Rattle.std.specs.Prelude.{◌≡◌, ℕ, ◌<◌, ◌==◌, true};
+ghost use Rattle.std.specs.Int.{bit_at};
+ghost use Rattle.chess_core.specs.Position.{Position};
+ghost use Rattle.chess_core.specs.declared.man.Kind.TheVariants.{Pawn};
+ghost use Rattle.chess_mates.specs.ties.CheckSquares.{AreApproaches};
+ghost use Rattle.chess_rules.specs.ties.Targets.{may_go};
+
+use chess_core::man::{Colour, Kind, Man};
+use chess_core::square::Square;
+use chess_rules::leaps::{king_leaps, knight_leaps, pawn_advances, pawn_leaps};
+use chess_rules::lines::{diagonal_lines, straight_lines};
+use chess_rules::targets::steps_to;
+
+// The squares to which the man on `from` might go, were the others gone, castling among them, and perhaps
+// more: of a fairy man all.
+pub(crate) fn open_targets(man: Man, from: Square) -> u64
+    ensures { (p : Position) (t : ℕ) → t < 64 → may_go p man from t ≡ true
+        → (bit_at result t == 1) ≡ true }
+{
+    match man.kind {
+        Kind::Queen => straight_lines(from) | diagonal_lines(from),
+        Kind::Rook => straight_lines(from),
+        Kind::Bishop => diagonal_lines(from),
+        Kind::Knight => knight_leaps(from),
+        Kind::Pawn => pawn_leaps(man.colour, from) | pawn_advances(man.colour, from),
+        Kind::King => king_leaps(from) | steps_to(man, from),
+        Kind::Grasshopper | Kind::Nightrider => !0,
+    }
+}
+
+// The squares from which a pawn of this colour might come to one of the targets, and perhaps more: what lies
+// over the edge of a file counts.
+#[inline(always)]
+#[tactic(auto, using(crate::proofs::Approaches::black_pawns_before, crate::proofs::Approaches::white_pawns_before))]
+pub(crate) fn pawns_before(colour: Colour, targets: u64) -> u64
+    ensures { AreApproaches (record { colour = colour; kind = Pawn }) targets result }
+{
+    match colour {
+        Colour::White => targets >> 7 | targets >> 8 | targets >> 9 | targets >> 16,
+        Colour::Black => targets << 7 | targets << 8 | targets << 9 | targets << 16,
+    }
+}

@@ -1,0 +1,135 @@
+//! The squares from which a move may give check.
+ghost use Rattle.std.specs.Prelude.{◌≡◌, ℕ, ◌<◌, ◌==◌, Some, false, true};
+ghost use Rattle.std.specs.Int.{bit_at};
+ghost use Rattle.chess_core.specs.Position.{man_on, other, same_kind};
+ghost use Rattle.chess_core.specs.WellFormed.{IsWellFormed};
+ghost use Rattle.chess_core.specs.ties.Words.{side_of, word};
+ghost use Rattle.chess_core.specs.declared.man.Kind.TheVariants.{King};
+ghost use Rattle.chess_mates.specs.ties.CheckSquares.{AreCheckOrigins, AreCheckSquares, AreCheckTargets, own_man};
+ghost use Rattle.chess_rules.specs.ties.Shields.{may_stand_between};
+
+use crate::checks::{CheckSquares, are_all_near, targets_off_shields};
+use crate::open_board::{open_targets, pawns_before};
+use chess_core::board::Board;
+use chess_core::man::{Kind, Man};
+use chess_core::square::Square;
+use chess_rules::rules::Rules;
+use chess_rules::shields::fairy_lines;
+use chess_rules::words::{next_bit, only};
+
+// The squares of the mover's men of this kind from which no move exposes the enemy's king.
+#[inline(always)]
+#[tactic(auto, using(crate::proofs::FarMen::man_of_word, crate::proofs::FarMen::off_denied, chess_rules::proofs::listing_moves::Walks::on_first))]
+fn men_off_shields(board: &Board, squares: &CheckSquares, kind: Kind) -> u64
+    ensures stands { (s : ℕ) → s < 64 → (bit_at result s == 1) ≡ true
+        → man_on board.now.men s ≡ Some (own_man board.now kind) }
+    ensures unshielding { (s : ℕ) → s < 64 → (bit_at result s == 1) ≡ true
+        → (bit_at squares.now.shield_squares s == 1) ≡ false }
+{
+    board.squares(board.turn(), kind) & !squares.shields()
+}
+
+// The squares of the mover's pawns who couldn't come to a check square on an empty board.
+#[inline(always)]
+fn far_pawns<R: Rules>(board: &Board, squares: &CheckSquares, lines: u64) -> u64
+    requires well_formed { IsWellFormed board.now }
+    requires squares { AreCheckSquares board.now.men (other board.now.turn) squares.now }
+    requires lines { lines ≡ word (may_stand_between board.now.men (other board.now.turn)) }
+    ensures { (s : ℕ) → s < 64 → (bit_at result s == 1) ≡ true
+        → AreCheckTargets R.rule board.now s 0 }
+{
+    let targets = targets_off_shields::<R>(board, squares, Kind::Pawn, None, lines);
+    men_off_shields(board, squares, Kind::Pawn) & !pawns_before(board.turn(), targets)
+}
+
+// Whether the man couldn't come from here to one of his targets on an empty board.
+#[inline(always)]
+#[tactic(auto, using(crate::proofs::FarMen::far_by))]
+fn is_far<R: Rules>(board: &Board, man: Man, from: Square, targets: u64) -> bool
+    requires here { man_on board.now.men from ≡ Some man }
+    requires targets { AreCheckTargets R.rule board.now from targets }
+    ensures { result ≡ true → AreCheckTargets R.rule board.now from 0 }
+{
+    open_targets(man, from) & targets == 0
+}
+
+// The squares of the mover's men of this kind, no kings, who couldn't come to a check square on an empty
+// board.
+#[inline(always)]
+fn far_men<R: Rules>(board: &Board, squares: &CheckSquares, kind: Kind, lines: u64) -> u64
+    requires well_formed { IsWellFormed board.now }
+    requires squares { AreCheckSquares board.now.men (other board.now.turn) squares.now }
+    requires lines { lines ≡ word (may_stand_between board.now.men (other board.now.turn)) }
+    requires no_king { same_kind kind King ≡ false }
+    ensures { (s : ℕ) → s < 64 → (bit_at result s == 1) ≡ true
+        → AreCheckTargets R.rule board.now s 0 }
+{
+    let man = Man {
+        colour: board.turn(),
+        kind,
+    };
+    let men = men_off_shields(board, squares, kind);
+    if men == 0 {
+        return 0;
+    }
+    let targets = targets_off_shields::<R>(board, squares, kind, None, lines);
+    let mut far = 0u64;
+    let mut number = 0u8;
+    while let Some(from) = next_bit(men, number) {
+        if is_far::<R>(board, man, from, targets) {
+            far |= only(Some(from));
+        }
+        number = from.index() + 1;
+    }
+    far
+}
+
+// The square of the mover's king, if he couldn't come to a check square on an empty board, castling among
+// his moves.
+#[inline(always)]
+fn far_king<R: Rules>(board: &Board, squares: &CheckSquares, lines: u64) -> u64
+    requires well_formed { IsWellFormed board.now }
+    requires squares { AreCheckSquares board.now.men (other board.now.turn) squares.now }
+    requires lines { lines ≡ word (may_stand_between board.now.men (other board.now.turn)) }
+    ensures { (s : ℕ) → s < 64 → (bit_at result s == 1) ≡ true
+        → AreCheckTargets R.rule board.now s 0 }
+{
+    let Some(from) = next_bit(men_off_shields(board, squares, Kind::King), 0) else {
+        return 0;
+    };
+    let king = Man {
+        colour: board.turn(),
+        kind: Kind::King,
+    };
+    let targets = targets_off_shields::<R>(board, squares, Kind::King, Some(from), lines);
+    if !is_far::<R>(board, king, from, targets) {
+        return 0;
+    }
+    only(Some(from))
+}
+
+// The squares of the mover's men.
+fn own_squares(board: &Board) -> u64
+    ensures { result ≡ side_of board.now.men board.now.turn }
+{
+    board.side(board.turn())
+}
+
+// The squares of the mover's men, those apart who couldn't come to a check square on an empty board.
+pub(crate) fn check_origins<R: Rules>(board: &Board, squares: &CheckSquares) -> u64
+    requires well_formed { IsWellFormed board.now }
+    requires squares { AreCheckSquares board.now.men (other board.now.turn) squares.now }
+    ensures { AreCheckOrigins R.rule board.now result }
+{
+    let own = own_squares(board);
+    if are_all_near::<R>(board, squares) {
+        return own;
+    }
+    let lines = fairy_lines(board, board.turn().other());
+    let far = far_pawns::<R>(board, squares, lines)
+        | far_men::<R>(board, squares, Kind::Knight, lines)
+        | far_men::<R>(board, squares, Kind::Bishop, lines)
+        | far_men::<R>(board, squares, Kind::Rook, lines)
+        | far_king::<R>(board, squares, lines);
+    own & !far
+}
