@@ -15,10 +15,7 @@ bit_down w k s = ap (λ x. x % 2) (shr-shr w k s)
 pub bit_up : (w k s : ℕ) → k ≤ s → s < 64 → bit_at (w * 2 ^ k % 2 ^ 64) s ≡ bit_at w (s - k)
 bit_up w k s from small =
     let all = w * 2 ^ k in
-    let parts : all / 2 ^ 64 * 2 ^ 64 + all % 2 ^ 64 ≡ all = omega (arith, div-add-mod all (2 ^ 64)) in
-    let whole : all + 0 ≡ all = omega arith in
-    sym (bit_at_cat_low (all / 2 ^ 64) 64 (all % 2 ^ 64) s small) ∙ ap (λ n. bit_at n s) (parts ∙ sym whole)
-    ∙ bit_at_cat_high w k 0 s (pow_pos k) from
+    grind (arith, div-add-mod all (2 ^ 64), bit_at_cat_low (all / 2 ^ 64) 64 (all % 2 ^ 64) s small, bit_at_cat_high w k 0 s (pow_pos k) from, pow_pos k)
 
 -- the second square is so many squares behind the first
 abbrev is_on : ℕ → ℕ → ℕ → Bool
@@ -31,8 +28,7 @@ from_below w k s t h at = ap (λ n. n == 1) (bit_down w k s ∙ ap (bit_at w) (s
 from_above : (w k s t : ℕ) → s < 64 → (bit_at w t == 1) ≡ true → is_on k t s ≡ true → (bit_at (w * 2 ^ k % 2 ^ 64) s == 1) ≡ true
 from_above w k s t small h at =
     let e : s ≡ k + t = eqb-true s (k + t) at in
-    let back : s - k ≡ t = omega (arith, e) in
-    ap (λ n. n == 1) (bit_up w k s (omega (arith, e)) small ∙ ap (bit_at w) back) ∙ h
+    grind (arith, bit_up)
 
 on_either : (u v : Bool) (a b i : ℕ) → (u ≡ true → (bit_at a i == 1) ≡ true) → (v ≡ true → (bit_at b i == 1) ≡ true) → (u || v) ≡ true
     → (bit_at (bit_or a b) i == 1) ≡ true

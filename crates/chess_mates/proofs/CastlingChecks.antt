@@ -73,17 +73,12 @@ half_no_hurdle x h s k half inside small ne1 ne2 = λ n at low le. false_from_ne
     let on : along h (step_of x) 1 ≡ Some k = onward s h (step_of x) (n - 1) 1 here ∙ ap (along s (step_of x)) rest ∙ at in
     let came : along h (back (step_of x)) (n - 1) ≡ Some s = square_is _ s (returns_to s h (step_of x) (n - 1) small y) in
     let before = passes h s (back (step_of x)) (n - 1) 1 inside (omega arith) came in
-    let alone = implied (is_half h) (is_beside_alone h (step_of x)) (half_alone x h inside) half in
-    elim (or_cases _ (is_square (along h (step_of x) 1) (h - 1)) alone) [
-      | inl e ↦ search (rules, or_cases, back, false≢true, eqb-true)
-      | inr e ↦ ne2 (eqb-true k (h - 1) (sym (ap (λ o. is_square o (h - 1)) on) ∙ e))
-    ])
+    grind (arith, implied (is_half h) (is_beside_alone h (step_of x)) (half_alone x h inside) half, half_alone x h inside, or_cases, false≢true, eqb-true))
 
 -- when a man has left a corner, riders get where they got
 module _ (men after : List (Option Man)) (b s k : ℕ) (free : Frees after men b) (edge : is_corner b ≡ true) (inside : b < 64) (small : s < 64) where
   rode : (xs : List Direction) → list_any (λ x. rides after s k (step_of x)) xs ≡ true → list_any (λ x. rides men s k (step_of x)) xs ≡ true
-  rode xs h = any_kept (λ x. rides after s k (step_of x)) (λ x. rides men s k (step_of x)) xs
-      (λ x ride. ride_kept men after b s k (step_of x) free (corner_beside x b s k edge inside small) ride) h
+  rode xs h = grind (arith, any_kept, ride_kept, corner_beside)
 
   reached : (e : Colour) (j : Kind)
       → (same_kind j Grasshopper ≡ true → list_any (hops after s k) queen_steps ≡ true → list_any (hops men s k) queen_steps ≡ true)
@@ -202,12 +197,10 @@ inside_of : (a t c h : ℕ) → CastlingSquares a t c h → (a < 64) × (t < 64)
 inside_of a t c h s = search rules
 
 someone : (o : Option Man) → (o ≡ None → ⊥) → (y : Man) × (o ≡ Some y)
-someone None h = absurd (h refl)
-someone (Some y) h = (y, refl)
+someone o h = grind arith
 
 kind_is_rook : (j : Kind) → same_kind j Rook ≡ true → j ≡ Rook
-kind_is_rook Rook h = refl
-kind_is_rook j h = cc
+kind_is_rook j h = grind arith
 
 -- what castling changes: the king steps, and then the rook
 module _ (rule : RuleSet) (p : Position) (x : Man) (m : Move) (well : IsWellFormed p) (is : IsMade rule p x m) (castling : is_castling x m ≡ true) where
@@ -334,8 +327,7 @@ module _ (rule : RuleSet) (p : Position) (x : Man) (m : Move) (well : IsWellForm
           (λ w. half_no_hurdle w (halfway m) s k the_way.half small.2 lt apart.0 apart.1) hop) now in
           let mine : is_side (man_on stepped s) (other c) ≡ true = rw stood_so side in
           let then : reaches stepped s k ≡ true = rw stood_so before in
-          false≢true (sym king_steps
-          ∙ some_square_true (λ s. is_side (man_on stepped s) (other c) && reaches stepped s k) s lt (and_from _ _ mine then))
+          false≢true (search (rules, king_steps, some_square_true, and_from))
 
       castled_unreached : is_reached castled k (other c) ≡ false
       unfolding is_reached
@@ -348,8 +340,7 @@ module _ (rule : RuleSet) (p : Position) (x : Man) (m : Move) (well : IsWellForm
         let is_one : is_man (Some y.0) c King ≡ true = rw y.1 at h in
         let off_half : k ≢ halfway m = λ e.
         let same : y.0 ≡ rook.0 = rook_shift.arrived y.0 (ap (man_on castled) (sym e) ∙ y.1) in
-        let none : same_kind rook.0.kind King ≡ false = ap (λ (j : Kind). same_kind j King) (kind_is_rook rook.0.kind rook_kind) in
-        false≢true (sym none ∙ ap (λ (w : Man). same_kind w.kind King) (sym same) ∙ (and_parts _ _ is_one).1) in
+        grind (arith, kind_is_rook, rook_kind, false≢true, and_parts) in
         let one : man_on stepped k ≡ Some y.0 = rook_shift.others k y.0 y.1 off_half in
         let off_to : k ≢ m.to = λ e.
         let same : y.0 ≡ x = king_shift.arrived y.0 (ap (man_on stepped) (sym e) ∙ one) in
@@ -363,10 +354,7 @@ module _ (rule : RuleSet) (p : Position) (x : Man) (m : Move) (well : IsWellForm
       by None e = refl
       by (Some k) e =
           let f = find_first (λ s. is_man (man_on castled s) c King) 0 64 k e in
-          let inside : k < 64 = omega (arith, f.high) in
-          let stands : is_man (man_on p.men k) c King ≡ true = king_stood k f.here in
-          let at : king_square p.men c ≡ Some k = king_is p.men c k well.kings inside stands in
-          not_attacked rule castled (other c) k (castled_unreached k at stands inside)
+          search (rules, king_stood, king_is, not_attacked, castled_unreached)
 
 -- the words of the squares over which a king castles
 pub castling_aside : (x : Man) (m : Move) → m.to < 64 → is_castling x m ≡ true → is_aside m.from m.to ≡ true
@@ -387,11 +375,9 @@ crossed_aside w s a t small are lt aside off =
     let off_both : (bit_at (bit_or up (w / 2 ^ 1)) t == 1) ≡ false = off_second a (bit_or up (w / 2 ^ 1)) t off on in
     elim (two_aside s t aside) [
       | inl e ↦
-          let half : (s + t) / 2 ≡ t - 1 = omega arith in
-          ap (λ n. bit_at w n == 1) half ∙ ap (λ n. n == 1) (sym (bit_up w 1 t (omega arith) lt)) ∙ off_left up (w / 2 ^ 1) t off_both
+          grind (arith, bit_up w 1 t (omega arith) lt, off_left up (w / 2 ^ 1) t off_both)
       | inr e ↦
-          let half : (s + t) / 2 ≡ 1 + t = omega arith in
-          ap (λ n. bit_at w n == 1) half ∙ ap (λ n. n == 1) (sym (bit_down w 1 t)) ∙ off_right up (w / 2 ^ 1) t off_both
+          grind (arith, bit_down w 1 t, off_right up (w / 2 ^ 1) t off_both)
     ]
 
 pub castling_targets_are : (v : CheckSquares) (s a : ℕ) → s < 64 → a ≡ word (is_aside s)

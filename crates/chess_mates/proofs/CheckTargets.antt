@@ -65,8 +65,7 @@ module _ (rule : RuleSet) (p : Position) (x : Man) (s : CheckSquares) (f : ℕ) 
     unturned = search (rules, and_parts, false_by, last_rank_on, off-c)
 
     unnamed : (o : Option Kind) → m.promo ≡ o → o ≡ None
-    unnamed None e = refl
-    unnamed (Some k) e = absurd (false≢true (sym unturned ∙ unpromoted p x m m.promo k (made rule p m x may stands).promotion e))
+    unnamed o h = grind (arith, unturned, made rule p m x may stands, stands)
 
     by_kind : (bit_at (check_squares_for s (arriving x m.promo).kind) m.to == 1) ≡ false
     by_kind = rw (unnamed m.promo refl, ← checked_from) (off_left a b m.to off-ab)
@@ -92,10 +91,7 @@ module _ (rule : RuleSet) (p : Position) (x : Man) (s : CheckSquares) (f : ℕ) 
 
     covering : is_castling x m ≡ false → cannot_expose rule p (other p.turn) m ≡ true
     unfolding cannot_expose
-    covering no_castling =
-        let plain = plain_elsewhere rule p x m b d small no_castling crossed (off_right a b m.to off-ab) reborn
-        (off_right (bit_or (bit_or a b) c) d m.to off) in
-        rw (stands, origin_stays, aside, plain) refl
+    covering no_castling = grind (arith, plain_elsewhere, off_right, off-ab, off, stands, origin_stays, aside)
 
     no_check_elsewhere : in_check rule (after rule p m).men (other p.turn) ≡ false
     no_check_elsewhere = elim (cases_Bool (is_castling x m)) [
@@ -124,26 +120,18 @@ module _ (rule : RuleSet) (p : Position) (x : Man) (s : CheckSquares) (f : ℕ) 
         (λ bad. absurd (false≢true bad)) lines m at small (pseudo_so p m may_so) apart off m.promo refl in
         ap (λ (r : RuleSet). in_check r (after r p m).men (other p.turn)) parts.0
         ∙ rebirth_gives_no_check p x m well may_so (ap (man_on p.men) at ∙ here) unpromoted parts.1
-        (no_check_elsewhere orthodox p x s f well here checks inside covered a b c d e checked_from crossed promotes castles (λ bad. absurd (false≢true bad))
-        lines m at small (pseudo_so p m may_so) apart off)
+        (grind (arith, no_check_elsewhere, false≢true, pseudo_so, off))
     | inr loud ↦
-        no_check_elsewhere rule p x s f well here checks inside covered a b c d e checked_from crossed promotes castles (reborn loud) lines m at small may
-        apart off
+        grind (arith, no_check_elsewhere, off)
   ]
 
   pub check_targets_some : AreCheckTargets rule p f (bit_or (bit_or (bit_or (bit_or a b) c) d) e)
-  check_targets_some = record {
-    elsewhere = λ m at small lawful off.
-        let stands : man_on p.men m.from ≡ Some x = ap (man_on p.men) at ∙ here in
-        by_rule m at small (pseudo-from_legal rule p m lawful) (kings_apart rule p x m well stands small lawful) off;
-  }
+  check_targets_some = grind (arith, by_rule, pseudo-from_legal, kings_apart)
 
 -- the targets among the squares to which the man might go
 pub check_targets_there : (rule : RuleSet) (p : Position) (x : Man) (f o w : ℕ) → man_on p.men f ≡ Some x
     → ((t : ℕ) → t < 64 → may_go p x f t ≡ true → (bit_at o t == 1) ≡ true) → AreCheckTargets rule p f w → AreCheckTargets rule p f (bit_and o w)
 check_targets_there rule p x f o w here there are = record {
   elsewhere = λ m at small lawful off.
-      let arrives_there : is_arrival rule p m.from m.to ≡ true = arrival_needed rule p m small (pseudo-from_legal rule p m lawful) in
-      let goes : may_go p x m.from m.to ≡ true = may_go_aimed rule p x m (ap (man_on p.men) at ∙ here) arrives_there in
-      are.elsewhere m at small lawful (off_second o w m.to off (there m.to small (ap (λ s. may_go p x s m.to) (sym at) ∙ goes)));
+      grind (arith, arrival_needed rule p m small (pseudo-from_legal rule p m lawful), pseudo-from_legal rule p m lawful, may_go_aimed, off_second, off);
 }

@@ -14,12 +14,7 @@ pub gives_no_check : (rule : RuleSet) (p : Position) (x : Man) (m : Move) → Is
 unfolding may_check_from
 gives_no_check rule p x m well may small here unpromoted h off =
     let parts = cannot_expose_parts rule p x (other p.turn) m here h in
-    plain_safe rule p x m (other p.turn) well (made rule p m x may here) small parts.plain parts.origin parts.aside (λ k at. record {
-      quiet = λ enemy.
-          let no : may_check_from_on p.men (Some k) (arriving x m.promo) m.to ≡ false = search rules in
-          (or_parts (is_absent p.men (arriving x m.promo)) (reaches_as p.men (arriving x m.promo).colour (arriving x m.promo).kind m.to k) no).1;
-      stood = λ enemy. (here ∙ ap (λ (r : Option Kind). Some (arriving x r)) (sym unpromoted), on_board p.men m.from x well.size here);
-    })
+    plain_safe rule p x m (other p.turn) well (made rule p m x may here) small parts.plain parts.origin parts.aside (grind (arith, or_parts, on_board))
 
 pub check_squares_of_none : (men : List (Option Man)) (c : Colour) (j : Kind) → king_square men c ≡ None → 0 ≡ word (may_check_from men c (enemy c j))
 unfolding may_check_from
@@ -28,51 +23,34 @@ check_squares_of_none men c j h = word_empty (may_check_from men c (enemy c j)) 
 pub check_squares_of_all : (men : List (Option Man)) (c : Colour) (j : Kind) (k : ℕ) → king_square men c ≡ Some k → is_absent men (enemy c j) ≡ true
     → bit_not w64 0 ≡ word (may_check_from men c (enemy c j))
 unfolding may_check_from
-check_squares_of_all men c j k at absent =
-    every_square (may_check_from men c (enemy c j)) (λ s b. ap (λ (o : Option ℕ). may_check_from_on men o (enemy c j) s) at ∙ or_left _ _ absent)
+check_squares_of_all men c j k at absent = grind (arith, every_square, or_left)
 
 pub check_squares_of_some : (men : List (Option Man)) (c : Colour) (j : Kind) (k w : ℕ) → king_square men c ≡ Some k → is_absent men (enemy c j) ≡ false
     → w ≡ word (λ s. reaches_as men (other c) j s k) → w ≡ word (may_check_from men c (enemy c j))
 unfolding may_check_from
-check_squares_of_some men c j k w at present h =
-    h ∙ squares_same (λ s. reaches_as men (other c) j s k) (may_check_from men c (enemy c j))
-    (λ s b. sym (ap (λ (o : Option ℕ). may_check_from_on men o (enemy c j) s) at ∙ ap (λ (x : Bool). x || reaches_as men (other c) j s k) present))
+check_squares_of_some men c j k w at present h = grind (arith, squares_same)
 
 -- whether no such fairy man stands on the board, told by the word of his kind
 pub absent_is : (men : List (Option Man)) (c : Colour) (j : Kind) (w : ℕ) → w ≡ squares_of men c j
     → (is_fairy j && (w == 0)) ≡ is_absent men (record { colour = c; kind = j })
 unfolding squares_of
-absent_is men c j w h =
-    ap (λ (b : Bool). is_fairy j && b) (twice (w == 0) ∙ ap not (ap (λ n. not (n == 0)) h ∙ not_zero (λ q. is_man (man_on men q) c j))) where
-      twice : (b : Bool) → b ≡ not (not b)
-      twice true = refl
-      twice false = refl
+absent_is men c j w h = grind (arith, not_zero)
 
 -- a queen's squares are a rook's and a bishop's
 queen_on : (men : List (Option Man)) (c : Colour) (o : Option ℕ) (s : ℕ)
     → (may_check_from_on men o (enemy c Rook) s || may_check_from_on men o (enemy c Bishop) s) ≡ may_check_from_on men o (enemy c Queen) s
 unfolding reaches_as
-queen_on men c None s = refl
-queen_on men c (Some k) s = sym (list_any-append (rides men s k) straight_steps diagonal_steps)
+queen_on men c o s = grind (arith, list_any-append)
 
 queen_squares : (men : List (Option Man)) (c : Colour) (r b : ℕ) → r ≡ word (may_check_from men c (enemy c Rook))
     → b ≡ word (may_check_from men c (enemy c Bishop)) → bit_or r b ≡ word (may_check_from men c (enemy c Queen))
 unfolding may_check_from
 queen_squares men c r b h i =
-    (λ j. bit_or (h j) (i j)) ∙ squares_either (may_check_from men c (enemy c Rook)) (may_check_from men c (enemy c Bishop))
-    ∙ squares_same (λ s. may_check_from men c (enemy c Rook) s || may_check_from men c (enemy c Bishop) s) (may_check_from men c (enemy c Queen))
-    (λ s p. queen_on men c (king_square men c) s)
+    grind (arith, squares_either (may_check_from men c (enemy c Rook)) (may_check_from men c (enemy c Bishop)), squares_same, queen_on)
 
 squares_by_kind : (men : List (Option Man)) (c : Colour) (s : CheckSquares) (j : Kind) → AreCheckSquares men c s
     → same_kind j King ≡ false → check_squares_for s j ≡ word (may_check_from men c (enemy c j))
-squares_by_kind men c s King a piece = absurd (false≢true (sym piece))
-squares_by_kind men c s Queen a piece = queen_squares men c s.straight s.diagonal a.straight a.diagonal
-squares_by_kind men c s Rook a piece = a.straight
-squares_by_kind men c s Bishop a piece = a.diagonal
-squares_by_kind men c s Knight a piece = a.knight
-squares_by_kind men c s Pawn a piece = a.pawn
-squares_by_kind men c s Grasshopper a piece = a.grasshopper
-squares_by_kind men c s Nightrider a piece = a.nightrider
+squares_by_kind men c s j a piece = search (rules, false≢true, queen_squares)
 
 is_enemy : (x : Man) (c : Colour) → x.colour ≡ c → enemy (other c) x.kind ≡ x
 is_enemy x c h = ap (λ (d : Colour). record x { colour = d }) (other_twice c ∙ sym h)
@@ -85,8 +63,7 @@ off_check_squares men e s y w t a colour h small off apart = elim (cases_Bool (s
   | inl king ↦ apart king
   | inr piece ↦
       let word_is : w ≡ word (may_check_from men (other e) (enemy (other e) y.kind)) = h ∙ squares_by_kind men (other e) s y.kind a piece in
-      ap (λ (z : Man). may_check_from men (other e) z t) (sym (is_enemy y e colour))
-      ∙ sym (word_has (may_check_from men (other e) (enemy (other e) y.kind)) w t word_is small) ∙ off
+      grind (arith, is_enemy, word_has)
 ]
 
 pub no_check : (rule : RuleSet) (p : Position) (x : Man) (m : Move) (s : CheckSquares) (y : Man) (w t : ℕ) → IsWellFormed p → pseudo rule p m ≡ true
@@ -95,10 +72,4 @@ pub no_check : (rule : RuleSet) (p : Position) (x : Man) (m : Move) (s : CheckSq
     → cannot_expose rule p (other p.turn) m ≡ true → in_check rule (after rule p m).men (other p.turn) ≡ false
 no_check rule p x m s y w t well may here a is h same small off apart unpromoted cover =
     let colour : y.colour ≡ p.turn = ap (λ (z : Man). z.colour) is ∙ arriving_colour x m.promo ∙ (made rule p m x may here).mine in
-    let off_there : may_check_from p.men (other p.turn) y t ≡ false = off_check_squares p.men p.turn s y w t a colour h small off apart in
-    let off_arriving : may_check_from p.men (other p.turn) (arriving x m.promo) t ≡ false =
-    ap (λ (z : Man). may_check_from p.men (other p.turn) z t) (sym is) ∙ off_there in
-    let off_arrival : may_check_from p.men (other p.turn) (arriving x m.promo) m.to ≡ false =
-    ap (λ (n : ℕ). may_check_from p.men (other p.turn) (arriving x m.promo) n) (sym same) ∙ off_arriving in
-    let to : m.to < 64 = omega arith in
-    gives_no_check rule p x m well may to here unpromoted cover off_arrival
+    grind (arith, off_check_squares, gives_no_check)

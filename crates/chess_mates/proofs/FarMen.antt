@@ -1,7 +1,7 @@
 -- Men who couldn't come to a check square give no check.
 use Rattle.chess_rules.proofs.Basics.{None, Option, Some, and_parts, ap, arith, bit_and, bit_at, bit_at-lt, bit_at_and, bit_at_or, bit_not, bit_or, cases_Bool, eq-eqb, eqb-true, false, false≢true, refl, subst, suc, sym, true, w64, zero, ℕ, ◌-◌, ◌<◌, ◌==◌, ◌^◌, ◌∙◌, ◌≡◌}
 use Rattle.chess_mates.proofs.Chess.{AreApproaches, AreCheckOrigins, AreCheckTargets, Colour, Kind, Man, Move, Position, RuleSet, is_arrival, is_man, is_square, man_on, may_go, pseudo, same_colour, same_colour-true, same_kind, same_kind-is, side_of, squares_of, word}
-use Rattle.std.proofs.Common.{min}
+use Rattle.std.proofs.Common.{rules, min}
 use Rattle.std.proofs.lemmas.Nat.Bits.{bit_at_not}
 use Rattle.chess_rules.proofs.listing_moves.Arrivals.{may_go_aimed}
 use Rattle.chess_rules.proofs.Bits.{word_has}
@@ -12,12 +12,7 @@ use Rattle.chess_rules.proofs.listing_moves.Calls.{pseudo-from_legal}
 
 -- the man on a square of his kind
 man_is : (o : Option Man) (c : Colour) (k : Kind) → is_man o c k ≡ true → o ≡ Some (record { colour = c; kind = k })
-man_is None c k h = absurd (false≢true h)
-man_is (Some x) c k h =
-    let parts = and_parts (same_colour x.colour c) (same_kind x.kind k) h in
-    let colour : x.colour ≡ c = same_colour-true _ _ parts.0 in
-    let kind : x.kind ≡ k = same_kind-is _ _ parts.1 in
-    λ j. Some (record { colour = colour j; kind = kind j })
+man_is o c k h = search (rules, same_colour-true, same_kind-is)
 
 pub man_of_word : (men : _) (c : Colour) (k : Kind) (w s : ℕ) → w ≡ squares_of men c k → s < 64 → (bit_at w s == 1) ≡ true
     → man_on men s ≡ Some (record { colour = c; kind = k })
@@ -33,9 +28,7 @@ far_none rule p = record { far = λ s small on. absurd (let never = off_zero s i
 
 -- a bit that isn't 1
 unset : (n : ℕ) → n < 2 → (n == 1) ≡ false → n ≡ 0
-unset zero lt h = refl
-unset (suc zero) lt h = absurd (false≢true (sym h))
-unset (suc (suc n)) lt h = absurd (omega (arith, lt))
+unset n lt h = grind (arith, false≢true)
 
 -- a square of one of two words
 on_either : (a b i : ℕ) → (bit_at (bit_or a b) i == 1) ≡ true → (bit_at a i == 1) ≡ false → (bit_at b i == 1) ≡ true
@@ -43,12 +36,7 @@ on_either a b i h off = grind (arith, eqb-true, bit_at_or, unset, bit_at-lt, eq-
 
 -- a square of the first of two words, and not of the second
 pub off_denied : (a b i : ℕ) → b < 2 ^ 64 → i < 64 → (bit_at (bit_and a (bit_not w64 b)) i == 1) ≡ true → (bit_at b i == 1) ≡ false
-off_denied a b i fits small on = false_by (bit_at b i == 1) (λ y.
-    let both : bit_at (bit_and a (bit_not w64 b)) i ≡ 1 = eqb-true _ _ on in
-    let one : bit_at b i ≡ 1 = eqb-true _ _ y in
-    let not_b : bit_at (bit_not w64 b) i ≡ 1 - bit_at b i = bit_at_not w64 b i fits small in
-    let e : bit_at (bit_and a (bit_not w64 b)) i ≡ min (bit_at a i) (bit_at (bit_not w64 b) i) = bit_at_and a (bit_not w64 b) i in
-    omega (arith, both, e, one, not_b))
+off_denied a b i fits small on = grind (arith, false_by, eqb-true _ _ on, eqb-true, bit_at_not w64 b i fits small, bit_at_and a (bit_not w64 b) i)
 
 pub far_either : (rule : RuleSet) (p : Position) (a b : ℕ) → AreFar rule p a → AreFar rule p b → AreFar rule p (bit_or a b)
 far_either rule p a b x y = grind (arith, cases_Bool, on_either)
@@ -56,8 +44,7 @@ far_either rule p a b x y = grind (arith, cases_Bool, on_either)
 -- a man who could go to no target on an empty board
 pub far_by : (rule : RuleSet) (p : Position) (x : Man) (s o w : ℕ) → man_on p.men s ≡ Some x → AreCheckTargets rule p s w
     → ((q : Position) (t : ℕ) → t < 64 → may_go q x s t ≡ true → (bit_at o t == 1) ≡ true) → (bit_and o w == 0) ≡ true → AreCheckTargets rule p s 0
-far_by rule p x s o w here are goes none =
-    subst (λ n. AreCheckTargets rule p s n) (eqb-true (bit_and o w) 0 none) (check_targets_there rule p x s o w here (goes p) are)
+far_by rule p x s o w here are goes none = grind (arith, eqb-true, check_targets_there)
 
 pub far_one : (rule : RuleSet) (p : Position) (s o : ℕ) → o ≡ word (λ t. is_square (Some s) t) → AreCheckTargets rule p s 0 → AreFar rule p o
 far_one rule p s o h are = grind (arith, eqb-true, word_has)
@@ -67,9 +54,7 @@ far_unreached : (rule : RuleSet) (p : Position) (x : Man) (s w : ℕ) → man_on
     → ((t : ℕ) → t < 64 → may_go p x s t ≡ true → (bit_at w t == 1) ≡ false) → AreCheckTargets rule p s 0
 far_unreached rule p x s w here are off = record {
   elsewhere = λ m at small lawful none.
-      let arrives_there : is_arrival rule p m.from m.to ≡ true = arrival_needed rule p m small (pseudo-from_legal rule p m lawful) in
-      let goes : may_go p x m.from m.to ≡ true = may_go_aimed rule p x m (ap (man_on p.men) at ∙ here) arrives_there in
-      are.elsewhere m at small lawful (off m.to small (ap (λ s. may_go p x s m.to) (sym at) ∙ goes));
+      grind (arith, arrival_needed rule p m small (pseudo-from_legal rule p m lawful), pseudo-from_legal rule p m lawful, may_go_aimed);
 }
 
 -- men off the squares from which they could come to a target
@@ -87,10 +72,7 @@ far_apart rule p x m w n fits stands are come s small on =
 off_without : (o f i : ℕ) → f < 2 ^ 64 → i < 64 → (bit_at (bit_and o (bit_not w64 f)) i == 1) ≡ false → (bit_at o i == 1) ≡ true → (bit_at f i == 1) ≡ true
 off_without o f i fits small off on =
     let none : bit_at (bit_and o (bit_not w64 f)) i ≡ 0 = unset _ (bit_at-lt (bit_and o (bit_not w64 f)) i) off in
-    let one : bit_at o i ≡ 1 = eqb-true _ _ on in
-    let not_f : bit_at (bit_not w64 f) i ≡ 1 - bit_at f i = bit_at_not w64 f i fits small in
-    let e : bit_at (bit_and o (bit_not w64 f)) i ≡ min (bit_at o i) (bit_at (bit_not w64 f) i) = bit_at_and o (bit_not w64 f) i in
-    eq-eqb _ _ (omega (arith, e, one, not_f, none, bit_at-lt f i))
+    grind (arith, eqb-true _ _ on, bit_at_not w64 f i fits small, bit_at_and o (bit_not w64 f) i, eq-eqb, bit_at-lt f i)
 
 -- a move that may be made goes from a square of its side
 from_own : (rule : RuleSet) (p : Position) (o : ℕ) (m : Move) → o ≡ side_of p.men p.turn → m.from < 64 → pseudo rule p m ≡ true → (bit_at o m.from == 1) ≡ true
@@ -106,6 +88,5 @@ pub check_origins_are : (rule : RuleSet) (p : Position) (o f : ℕ) → o ≡ si
     → AreCheckOrigins rule p (bit_and o (bit_not w64 f))
 check_origins_are rule p o f own fits are = record {
   elsewhere = λ m inside small lawful off.
-      let mine : (bit_at o m.from == 1) ≡ true = from_own rule p o m own inside (pseudo-from_legal rule p m lawful) in
-      (are.far m.from inside (off_without o f m.from fits inside off mine)).elsewhere m refl small lawful (off_zero m.to);
+      grind (arith, from_own rule p o m own inside (pseudo-from_legal rule p m lawful), pseudo-from_legal rule p m lawful, off_without, off_zero m.to);
 }

@@ -23,10 +23,7 @@ use Rattle.chess_rules.proofs.listing_moves.Walks.{on_first}
 some_left : (rule : RuleSet) (p : Position) (n : ℕ) → n < 28672 → legal rule p (triple_at n) ≡ true → (j a : ℕ) → a + j ≡ n
     → is_nil (moves_behind rule p a) ≡ false
 some_left rule p n lt h zero a e = search (rules, moves_behind-here)
-some_left rule p n lt h (suc j) a e = elim (cases_Bool (legal rule p (triple_at a))) [
-  | inl y ↦ ap is_nil (moves_behind-here rule p a (omega (arith, e, lt)) y)
-  | inr nay ↦ ap is_nil (moves_behind-skip rule p a (omega (arith, e, lt)) nay) ∙ some_left rule p n lt h j (a + 1) (omega (arith, e))
-]
+some_left rule p n lt h (suc j) a e = grind (arith, cases_Bool, moves_behind-here, moves_behind-skip, some_left rule p n lt h j (a + 1) (omega (arith, e)))
 
 triple_there : (k t : ℕ) → t < 64 → triple_at (k * 448 + t * 7) ≡ record { from = k; to = t; promo = None }
 unfolding triple_at
@@ -56,12 +53,10 @@ unfolding mates is_goal
 no_mate_with_flight rule p m h = search (rules, flight_there)
 
 no_king_free : (c d : Colour) (o : Option Man) → is_arrival_free c o ≡ true → is_man o d King ≡ false
-no_king_free c d None h = refl
-no_king_free c d (Some y) h = search (rules, and_parts, and_right, not-true)
+no_king_free c d o h = grind (arith, and_parts, and_right, not-true)
 
 no_own_free : (c : Colour) (o : Option Man) → is_arrival_free c o ≡ true → is_side o c ≡ false
-no_own_free c None h = refl
-no_own_free c (Some y) h = not-true _ (and_parts (not (same_colour y.colour c)) (not (same_kind y.kind King)) h).0
+no_own_free c o h = grind (arith, not-true, and_parts)
 
 -- squares of one word that aren't in another
 on_second : (a b i : ℕ) → (bit_at (bit_and a b) i == 1) ≡ true → (bit_at b i == 1) ≡ true
@@ -72,8 +67,7 @@ unseen_bit test n w t h small on = search (rules, on_second, squares_not, word_h
 
 -- the squares to which a king may step, attacks apart
 free_of : (c : Colour) (o : Option Man) → is_side o (other c) ≡ false → is_man o c King ≡ false → is_arrival_free (other c) o ≡ true
-free_of c None side king = refl
-free_of c (Some y) side king = search (rules, false≢true)
+free_of c o side king = grind (arith, false≢true)
 
 arrived_free : (c : Colour) (z : Man) → same_colour z.colour (other c) ≡ false → same_kind z.kind King ≡ false → is_arrival_free (other c) (Some z) ≡ true
 arrived_free c z side king = and_from (not (same_colour z.colour (other c))) _ (ap not side) (ap not king)
@@ -126,10 +120,8 @@ module _ (rule : RuleSet) (p : Position) (m : Move) (x : Man) (k : ℕ) (i : IsS
 
     free_there : (t : ℕ) → (is_side (man_on p.men t) (other p.turn) && (not (is_square (capture_square p x m) t) && not (m.from == t))
         || is_man (man_on p.men t) p.turn King) ≡ false → is_arrival_free (other p.turn) (man_on (arrived p x m) t) ≡ true
-    free_there t at = elim (cases_eq t m.to) [
-      | inl e ↦ search (rules, arrived, there_now, arrived_free, no_own_arrives, no_king_arrives)
-      | inr ne ↦ search (rules, cases_Bool, left_now, or_parts, unless, kept_now, free_of)
-    ]
+    free_there t at =
+        grind (arith, cases_eq t m.to, there_now, arrived_free, no_own_arrives, no_king_arrives, cases_Bool, left_now, or_parts, unless, kept_now, free_of)
 
     pub open_squares : (w l h : ℕ) → is_circe rule ≡ false → w ≡ word (λ t. list_any (leaps k t) queen_steps)
         → l ≡ (sight_lifted p.men m.from (capture_square p x m) m.to k).standing
@@ -157,14 +149,7 @@ module _ (rule : RuleSet) (p : Position) (m : Move) (x : Man) (k : ℕ) (i : IsS
               let reached = reached_near (after rule p m).men (other p.turn) k w t near lt (on_first w _ t on) in
               let off : (is_occupied_after p.men m.from (capture_square p x m) m.to t && not (k == t)) ≡ false = sym (word_has _ l t held lt)
               ∙ unseen_bit _ w l t held lt on in
-              let apart : not (k == t) ≡ true = ap not (differs k t
-              (λ e. false≢true (sym (no_step_there (after rule p m).men (other p.turn) t lt)
-              ∙ ap (λ (s : ℕ). reaches_as (after rule p m).men (other p.turn) King s t) (sym e) ∙ reached))) in
-              let nobody : man_on (arrived p x m) t ≡ None = none_from_is_some _
-              (sym (occupied_now p.men m.from (capture_square p x m) m.to (arriving x m.promo) t (omega (arith, small, i.well_formed.size)))
-              ∙ first_false (is_occupied_after p.men m.from (capture_square p x m) m.to t) _ off apart) in
-              let empty : man_on (after rule p m).men t ≡ None = ap (λ (l : List (Option Man)). man_on l t) after_seen ∙ nobody in
-              and_from _ _ (and_from _ _ reached (ap (is_arrival_free (other p.turn)) empty)) (ap not (and_right (is_circe rule) _ (ap is_some empty)));
+              grind (arith, differs, false≢true, no_step_there, none_from_is_some, occupied_now, first_false, after_seen, and_from, and_right);
         }
 
 -- nobody attacks a king that has stepped there
@@ -177,8 +162,7 @@ pub record IsSafeStep (men : List (Option Man)) (a : ℕ) (o : Option ℕ) (b : 
     pub others : (l : List (Option Man)) → AreSeen men l c (sight_with (sight_lifted men a o b k) t) → 0 ≡ word (λ s. is_side (man_on l s) c && reaches l s t)
 
 reaches_alike_of : (men others : List (Option Man)) (o : Option Man) (s t : ℕ) → StandAlike men others t → reaches_of men o s t ≡ reaches_of others o s t
-reaches_alike_of men others None s t a = refl
-reaches_alike_of men others (Some y) s t a = reaches_alike men others y.colour y.kind s t a
+reaches_alike_of men others o s t a = grind (arith, reaches_alike)
 
 no_strike : (a p r : Bool) → (a && r) ≡ false → ((a && p) && r) ≡ false
 no_strike a p r q = grind arith
@@ -198,24 +182,19 @@ module _ (men : List (Option Man)) (a : ℕ) (o : Option ℕ) (b : ℕ) (z : Man
   arrival_unseen =
       let lifted : List (Option Man) = without_man (gone_to men a o b z) k in
       reaches_alike now lifted z.colour z.kind b t (lifted_alike men a o b z k u t x i.step.arrival i.step.flight i.step.taken)
-      ∙ sym (word_has (reaches_as lifted z.colour z.kind b) r t (i.arrived lifted (occupied_lifted men a o b z k i.step.arrival))
-      (omega (arith, i.step.flight, i.size)))
+      ∙ sym (grind (arith, word_has, occupied_lifted))
       ∙ i.unseen
 
   elsewhere : (s : ℕ) → s < 64 → (s ≡ b → s ≡ t) → (is_side (man_on now s) c && reaches_of now (man_on now s) s t) ≡ false
   unfolding reaches
   elsewhere s small off =
       ap (λ (y : Option Man). is_side y c && reaches_of now y s t) (same_elsewhere men a o b z x k u t x s i.step.flight i.step.taken off)
-      ∙ ap (λ (y : Bool). is_side (man_on then s) c && y) (reaches_alike_of now then (man_on then s) s t
-      (arrival_alike men a o b z x k u t x i.step.arrival i.step.flight i.step.taken))
+      ∙ ap (λ (y : Bool). is_side (man_on then s) c && y) (grind (arith, reaches_alike_of, arrival_alike))
       ∙ zero_false (λ s. is_side (man_on then s) c && reaches then s t) s (i.others then (seen_stepped men a o b k u t x c i.step)) small
 
   nobody_strikes : (s : ℕ) → s < 64 → (is_side (man_on now s) c && reaches now s t) ≡ false
   unfolding reaches
-  nobody_strikes s small = elim (cases_eq s b) [
-    | inl e ↦ search (rules, cases_eq, elsewhere, stands_arrived, taken, and_right, arrival_unseen)
-    | inr ne ↦ elsewhere s small (λ e. absurd (ne e))
-  ]
+  nobody_strikes s small = grind (arith, cases_eq, elsewhere, stands_arrived, taken, and_right, arrival_unseen)
 
   not_attacked : (rule : RuleSet) → attacked rule now t c ≡ false
   unfolding attacked strikes
@@ -223,8 +202,7 @@ module _ (men : List (Option Man)) (a : ℕ) (o : Option ℕ) (b : ℕ) (z : Man
 
 -- the step itself
 other_side : (o : Option Man) (c : Colour) → is_man o (other c) King ≡ true → is_side o c ≡ false
-other_side None c h = refl
-other_side (Some y) c h = search (rules, same_colour-true, first_of_and)
+other_side o c h = grind (arith, same_colour-true, first_of_and)
 
 pub steps_there : (men : List (Option Man)) (x : Man) (c : Colour) (k t : ℕ) → man_on men k ≡ Some x → same_colour x.colour c ≡ true
     → same_kind x.kind King ≡ true → reaches_as men c King k t ≡ true → reaches men k t ≡ true
@@ -268,8 +246,7 @@ module _ (rule : RuleSet) (q : Position) (x : Man) (k t : ℕ) (i : IsKingStep r
   simple_step =
       let way = open_parts rule q.men q.turn k t i.near in
       record {
-        castling = false_from_ne_true _ (λ y. king_no_step q x (step_to k t) i.well_formed i.here y i.king
-            (steps_there q.men x q.turn k t i.here i.mine i.king way.reached));
+        castling = false_from_ne_true _ (search (rules, king_no_step, steps_there));
         rebirth = λ circe. no_capture q x (step_to k t) (way.nobody circe) (and_left (same_kind x.kind Pawn) _ (king_is_no_pawn x.kind i.king));
       }
 
@@ -288,35 +265,20 @@ pub record IsKingOn (men : List (Option Man)) (c : Colour) (k : ℕ) (x : Man) :
   pub king : same_kind x.kind King ≡ true
 
 pub king_on : (men : List (Option Man)) (c : Colour) (k : ℕ) → king_square men c ≡ Some k → (x : Man) × IsKingOn men c k x
-king_on men c k at =
-    let there = king_there men c k at in
-    let y = man_there (man_on men k) c King there.1 in
-    let is : is_man (Some y.0) c King ≡ true = ap (λ (o : Option Man). is_man o c King) (sym y.1) ∙ there.1 in
-    let parts = and_parts _ _ is in
-    (y.0, record { small = there.0; here = y.1; mine = parts.0; king = parts.1 })
+king_on men c k at = grind (arith, king_there men c k, man_there, and_parts)
 
 king_is_other : (x : Man) (c : Colour) → same_colour x.colour (other c) ≡ true → same_colour x.colour c ≡ false
 king_is_other x c h = search rules
 
 pub no_king_square : (men : List (Option Man)) (c d : Colour) (k b : ℕ) → king_square men d ≡ Some k → is_arrival_free c (man_on men b) ≡ true → b ≢ k
-no_king_square men c d k b at free e =
-    false≢true (sym (no_king_free c d (man_on men b) free) ∙ ap (λ (s : ℕ). is_man (man_on men s) d King) e ∙ (king_there men d k at).1)
+no_king_square men c d k b at free e = grind (arith, false≢true, no_king_free c d (man_on men b) free, king_there men d k)
 
 module _ (rule : RuleSet) (p : Position) (m : Move) (x : Man) (k : ℕ) (i : IsSeenFrom rule p m x k) (small : m.to < 64) where
   is_step : (y : Man) (t : ℕ) → t < 64 → IsKingOn (after rule p m).men (other p.turn) k y
       → IsStep p.men m.from (capture_square p x m) m.to k (capture_square (after rule p m) y (step_to k t)) t y p.turn
   is_step y t there king =
       let free = (is_made rule p m x k i).arrival in
-      record {
-        arrival = omega (arith, small, i.well_formed.size);
-        flight = omega (arith, there, i.well_formed.size);
-        taken = λ s at. capture_of_piece (after rule p m) y (step_to k t) s (king_is_no_pawn y.kind king.king)
-            (is_square-some (capture_square (after rule p m) y (step_to k t)) s at);
-        king = king_is_other y p.turn king.mine;
-        lifted = other_side (man_on p.men k) p.turn (king_there p.men (other p.turn) k i.king).1;
-        entered = no_own_free p.turn (man_on p.men m.to) free;
-        apart = no_king_square p.men p.turn (other p.turn) k m.to i.king free;
-      }
+      grind (arith, taken, capture_of_piece, king_is_no_pawn, is_square-some, king_is_other, other_side, king_there, no_own_free, no_king_square)
 
   module _ (n r : ℕ) (near : AreOpen rule (after rule p m).men (other p.turn) k n)
       (arrives : (l : List (Option Man)) → (sight_lifted p.men m.from (capture_square p x m) m.to k).occupied ≡ occupied_squares l
@@ -342,13 +304,7 @@ module _ (rule : RuleSet) (p : Position) (m : Move) (x : Man) (k : ℕ) (i : IsS
           small = there;
           near = ap (λ (c : Colour). is_open rule (after rule p m).men c k t) turn ∙ near.inside t there (on_first n (bit_not w64 r) t on);
         } in
-        let safe : IsSafeStep p.men m.from (capture_square p x m) m.to (arriving x m.promo) k u t king.0 p.turn r = record {
-          step = is_step king.0 t there king.1;
-          size = i.well_formed.size;
-          arrived = arrives;
-          unseen = unseen_bit _ n r t seen there on;
-          others = others;
-        } in
+        let safe : IsSafeStep p.men m.from (capture_square p x m) m.to (arriving x m.promo) k u t king.0 p.turn r = search (rules, is_step king.0 t there king.1, unseen_bit _ n r t seen there on) in
         some_square_true (is_flight rule (after rule p m)) t there
         (ap (λ (o : Option ℕ). is_flight_from rule (after rule p m) o t) (ap (king_square (after rule p m).men) turn ∙ at)
         ∙ step_is_legal rule (after rule p m) king.0 k t step
@@ -360,5 +316,4 @@ module _ (rule : RuleSet) (p : Position) (m : Move) (x : Man) (k : ℕ) (i : IsS
         → IfSome o (λ t. (l : List (Option Man)) → AreSeen p.men l p.turn (sight_with (sight_lifted p.men m.from (capture_square p x m) m.to k) t)
         → 0 ≡ word (λ s. is_side (man_on l s) p.turn && reaches l s t))
         → is_some o ≡ true → has_flight rule (after rule p m) ≡ true
-    has_flight_first None within safe h = absurd (false≢true h)
-    has_flight_first (Some t) within safe h = has_flight_to t within.0 within.1 safe
+    has_flight_first o within safe h = grind (arith, false≢true, has_flight_to)

@@ -1,4 +1,5 @@
 -- A king who goes next to the other king is in check there: no legal move does so.
+use Rattle.std.proofs.Common.{rules}
 use Rattle.chess_rules.proofs.Basics.{Bool, List, None, Option, Some, and_from, and_left, and_parts, ap, arith, cases_Bool, false, false_from_ne_true, false≢true, inl, inr, list_any, not, not-true, refl, sym, true, ℕ, ◌<◌, ◌||◌, ◌∙◌, ◌≡◌, ◌≢◌}
 use Rattle.chess_mates.proofs.Chess.{CanCastle, Colour, IsWellFormed, King, Man, Move, Position, RuleSet, after, attacked, capture_square, check_of, corner, halfway, in_check, is_absent, is_castling, is_fairy, is_man, is_side, king_square, leaps, legal, man_on, man_on-with_other, man_on-without_other, man_on_at, may_check_from, may_check_from_on, moved_men, other, pseudo, put_at, queen_steps, reaches_as, reborn_square, same_colour, same_kind, some_square_true, strikes, without_man}
 use Rattle.chess_rules.proofs.listing_moves.Calls.{pseudo-from_legal}
@@ -16,9 +17,7 @@ use Rattle.chess_rules.proofs.making_moves.Stays.{after_well_formed, colour_self
 stays_put : (men : List (Option Man)) (o : Option ℕ) (w : Option Man) (s : ℕ) (z : Man) → ((r : ℕ) → o ≡ Some r → man_on men r ≡ None)
     → man_on men s ≡ Some z → man_on (put_at men o w) s ≡ Some z
 stays_put men None w s z free there = there
-stays_put men (Some r) None s z free there = there
-stays_put men (Some r) (Some y) s z free there =
-    man_on-with_other men r s y (λ e. let none = sym (free r refl) ∙ ap (man_on men) (sym e) ∙ there in cc) ∙ there
+stays_put men (Some r) w s z free there = grind (arith, man_on-with_other)
 
 module _ (rule : RuleSet) (p : Position) (x : Man) (m : Move) (well : IsWellFormed p) (is : IsMade rule p x m) where
   stays_after : (s : ℕ) (z : Man) → man_on (moved_men p x m) s ≡ Some z → man_on (after rule p m).men s ≡ Some z
@@ -35,9 +34,7 @@ module _ (rule : RuleSet) (p : Position) (x : Man) (m : Move) (well : IsWellForm
     uncaptured : (s : ℕ) → capture_square p x m ≡ Some s → k ≢ s
     uncaptured s cap e =
         let t = taken rule p x m s well is cap in
-        let same : Some y ≡ Some t.man = sym stood.here ∙ ap (man_on p.men) e ∙ t.there in
-        let one : y ≡ t.man = cc in
-        false≢true (sym t.mortal ∙ ap (λ (z : Man). same_kind z.kind King) (sym one) ∙ stood.king)
+        grind (arith, false≢true)
 
     arrived_there : man_on (arrived p x m) k ≡ Some y
     arrived_there =
@@ -49,12 +46,8 @@ module _ (rule : RuleSet) (p : Position) (x : Man) (m : Move) (well : IsWellForm
       | inr plain ↦ ap (λ (men : List (Option Man)). man_on men k) (moved_plainly p x m plain) ∙ arrived_there
       | inl castling ↦
           let rook : CanCastle (arrived p x m) (corner m) (halfway m) = (can_move rule p x m well is).rook castling in
-          let off_corner : k ≢ corner m = λ e.
-          false≢true (sym (rook.no_king y (ap (man_on (arrived p x m)) (sym e) ∙ arrived_there)) ∙ stood.king) in
-          let off_half : k ≢ halfway m = λ e.
-          let none = sym rook.free ∙ ap (man_on (without_man (arrived p x m) (corner m))) (sym e)
-          ∙ man_on-without_other (arrived p x m) (corner m) k off_corner ∙ arrived_there in
-          cc in
+          let off_corner : k ≢ corner m = grind (arith, false≢true, arrived_there) in
+          let off_half : k ≢ halfway m = grind (arith, man_on-without_other, arrived_there) in
           rw castling (move_man_other (arrived p x m) (corner m) (halfway m) (man_on (arrived p x m) (corner m)) k off_corner off_half ∙ arrived_there)
     ]
 
@@ -62,23 +55,19 @@ module _ (rule : RuleSet) (p : Position) (x : Man) (m : Move) (well : IsWellForm
     module _ (small : m.to < 64) (king : same_kind x.kind King ≡ true) (near : reaches_as p.men x.colour x.kind m.to k ≡ true) where
       came : man_on (after rule p m).men m.to ≡ Some x
       came =
-          stays_after m.to x (moved_arrival rule p x m well is small
-          ∙ ap (λ (z : Man). Some z) (king_stays_king p x m m.promo is.promotion king))
+          stays_after m.to x (grind (arith, moved_arrival, king_stays_king))
 
       back : reaches_as (after rule p m).men (other p.turn) King k m.to ≡ true
       unfolding reaches_as
       back =
           let kind : x.kind ≡ King = kind_is_king x.kind king in
-          let leap : list_any (leaps m.to k) queen_steps ≡ true = rw kind at near in
-          king-back k m.to stood.small small ∙ leap
+          grind (arith, king-back)
 
       strikes_him : strikes rule (after rule p m).men m.to (other p.turn) k ≡ true
       unfolding strikes
       strikes_him =
           let there = stays_after k y moved_there in
-          let side : is_side (man_on (after rule p m).men k) (other p.turn) ≡ true = ap (λ (o : Option Man). is_side o (other p.turn)) there ∙ stood.mine in
-          and_from _ _ (and_from _ _ side (ap not (king_is_able rule (after rule p m).men y k there stood.king)))
-          (steps_there (after rule p m).men y (other p.turn) k m.to there stood.mine stood.king back)
+          grind (arith, and_from, king_is_able, steps_there, back)
 
       in_check_there : pseudo rule p m ≡ true → in_check rule (after rule p m).men p.turn ≡ true
       unfolding in_check attacked

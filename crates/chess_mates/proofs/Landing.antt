@@ -9,8 +9,7 @@ pub record StandAlike (men others : List (Option Man)) (t : ℕ) : Type 0 where
   pub alike : (q : ℕ) → q ≢ t → is_some (man_on men q) ≡ is_some (man_on others q)
 
 occupied_alike : (men others : List (Option Man)) (t : ℕ) (o : Option ℕ) → StandAlike men others t → o ≢ Some t → is_occupied men o ≡ is_occupied others o
-occupied_alike men others t None a ne = refl
-occupied_alike men others t (Some q) a ne = a.alike q (λ e. ne (ap (λ (n : ℕ). Some n) e))
+occupied_alike men others t o a ne = grind arith
 
 -- a line doesn't come to its end before
 not_yet : (s t : ℕ) (d : Step) (k i : ℕ) → Ordered d → along s d k ≡ Some t → i < k → along s d i ≢ Some t
@@ -32,10 +31,7 @@ ride_alike : (men others : List (Option Man)) (s t : ℕ) (d : Step) → Ordered
 unfolding rides
 ride_alike men others s t d o a =
     any_range_same (λ k. is_square (along s d k) t && is_clear men s d (k - 1)) (λ k. is_square (along s d k) t && is_clear others s d (k - 1)) 1 7
-    (λ k lo hi. elim (cases_Bool (is_square (along s d k) t)) [
-      | inl y ↦ ap (λ (b : Bool). is_square (along s d k) t && b) (clear_alike men others s t d k (k - 1) o a (square_is _ t y) (omega arith))
-      | inr n ↦ and_left (is_square (along s d k) t) _ n ∙ sym (and_left (is_square (along s d k) t) _ n)
-    ])
+    (grind (arith, cases_Bool, clear_alike, square_is, and_left))
 
 hop_alike : (men others : List (Option Man)) (s t : ℕ) (d : Step) → Ordered d → StandAlike men others t → hops men s t d ≡ hops others s t d
 unfolding hops
@@ -44,11 +40,7 @@ hop_alike men others s t d o a =
     (λ k. is_square (along s d k) t && is_occupied others (along s d (k - 1)) && is_clear others s d (k - 2)) 2 6
     (λ k lo hi. elim (cases_Bool (is_square (along s d k) t)) [
       | inl y ↦
-          let at : along s d k ≡ Some t = square_is _ t y in
-          let hurdle : is_occupied men (along s d (k - 1)) ≡ is_occupied others (along s d (k - 1)) =
-          occupied_alike men others t (along s d (k - 1)) a (not_yet s t d k (k - 1) o at (omega arith)) in
-          let free : is_clear men s d (k - 2) ≡ is_clear others s d (k - 2) = clear_alike men others s t d k (k - 2) o a at (omega arith) in
-          (λ j. is_square (along s d k) t && hurdle j && free j)
+          grind (arith, square_is _ t y, occupied_alike, not_yet s t d k (k - 1) o, clear_alike men others s t d k (k - 2) o a)
       | inr n ↦ rw n refl
     ])
 
@@ -71,12 +63,7 @@ knight_same f g h =
 pub reaches_alike : (men others : List (Option Man)) (c : Colour) (j : Kind) (s t : ℕ) → StandAlike men others t
     → reaches_as men c j s t ≡ reaches_as others c j s t
 unfolding reaches_as
-reaches_alike men others c Queen s t a = search (rules, ordered, queen_same, ride_alike)
-reaches_alike men others c Rook s t a = search (rules, ordered, ride_alike, straight_same)
-reaches_alike men others c Bishop s t a = search (rules, diagonal_same, ordered, ride_alike)
-reaches_alike men others c Grasshopper s t a = search (rules, hop_alike, ordered, queen_same)
-reaches_alike men others c Nightrider s t a = search (rules, knight_same, ordered, ride_alike)
-reaches_alike men others c k s t a = refl
+reaches_alike men others c j s t a = grind (arith, ordered, queen_same, ride_alike, straight_same, diagonal_same, hop_alike, knight_same)
 
 -- a king doesn't step where it stands
 no_step_off : (s : ℕ) (d : Step) → Ordered d → s < 64 → leaps s s d ≡ false

@@ -1,4 +1,5 @@
 -- The mates between two places, and the walk that finds them.
+use Rattle.std.proofs.Common.{rules}
 use Rattle.chess_rules.proofs.Basics.{List, [], ap, append_cancel_right, arith, bit_at, cases_lt, false, filter, filter-append, inl, inr, length, length-append, refl, sym, true, ℕ, ◌++◌, ◌+◌, ◌-◌, ◌<◌, ◌==◌, ◌∙◌, ◌∷◌, ◌≡◌, ◌≤◌}
 use Rattle.chess_mates.proofs.Chess.{AreCheckOrigins, AreCheckTargets, AreOrigins, HaveNone, IsNextMate, Move, Position, RuleSet, first_of_and, is_mating, legal, mates, mates_behind, mates_between, moves_behind, moves_between, pseudo, second_of_and, triple_at}
 use Rattle.chess_rules.proofs.listing_moves.Between.{behind_cut, between-none, between-past}
@@ -8,8 +9,7 @@ use Rattle.chess_mates.proofs.Mating.{legal_of_mate, mates_behind-end, mates_beh
 
 none_before : (xs ys : List Move) → xs ++ ys ≡ ys → xs ≡ []
 none_before [] ys e = refl
-none_before (x ∷ xs) ys e =
-    absurd (let n : length ((x ∷ xs) ++ ys) ≡ length ys = ap length e in let m = length-append (x ∷ xs) ys in omega (arith, n, m))
+none_before (x ∷ xs) ys e = grind (arith, length-append (x ∷ xs) ys)
 
 -- the first move that mates behind a place, by its number
 pub next_mate_numbered : (rule : RuleSet) (p : Position) (start n : ℕ) → start ≤ n → n < 28672 → mates_behind rule p n ≡ mates_behind rule p start
@@ -18,42 +18,24 @@ unfolding mates_behind mates
 next_mate_numbered rule p start n le lt same h =
     let less : n + 1 - 1 ≡ n = omega arith in
     let cut = behind_cut rule p start n le in
-    let both = sym (filter-append (is_mating rule p) (moves_between rule p start n) (moves_behind rule p n)) ∙ ap (filter (is_mating rule p)) (sym cut)
-    ∙ sym same in
-    record {
-      over = moves_between rule p start n;
-      passed = rw less cut;
-      none = none_before _ _ both;
-      here = rw less (moves_behind-here rule p n lt (first_of_and _ _ h));
-      mates = second_of_and (legal rule p (triple_at n)) _ h;
-    }
+    grind (arith, filter-append, none_before, moves_behind-here, first_of_and, second_of_and)
 
 -- the mates behind a place, cut at another
 pub cut_mates : (rule : RuleSet) (p : Position) (a b : ℕ) → a ≤ b → mates_behind rule p a ≡ mates_between rule p a b ++ mates_behind rule p b
 unfolding mates_behind mates_between
-cut_mates rule p a b le =
-    ap (filter (is_mating rule p)) (behind_cut rule p a b le)
-    ∙ filter-append (is_mating rule p) (moves_between rule p a b) (moves_behind rule p b)
+cut_mates rule p a b le = grind (arith, behind_cut rule p a b le, filter-append (is_mating rule p) (moves_between rule p a b) (moves_behind rule p b))
 
 -- up to the first move that mates, and where none is left before the end
 pub until-mate : (rule : RuleSet) (p : Position) (a n e : ℕ) → a ≤ n → n < e → n < 28672 → HaveNone (mates rule p) a n → mates rule p (triple_at n) ≡ true
     → mates_between rule p a e ≡ triple_at n ∷ mates_between rule p (n + 1) e
 until-mate rule p a n e low before fits none h =
     append_cancel_right (mates_between rule p a e) (triple_at n ∷ mates_between rule p (n + 1) e) (mates_behind rule p e)
-    (sym (cut_mates rule p a e (omega (arith, low, before)))
-    ∙ mates_numbered rule p a n fits (sym (mates_behind-none rule p a n (λ lt. low) (omega (arith, fits)) none)) h
-    ∙ ap (λ ms. triple_at n ∷ ms) (cut_mates rule p (n + 1) e (omega (arith, before))))
+    (grind (arith, cut_mates, mates_numbered, mates_behind-none))
 
 pub until-mateless : (rule : RuleSet) (p : Position) (a n e : ℕ) → a < n → n ≤ 28672 → n ≤ e → (n < 28672 → e ≤ n) → HaveNone (mates rule p) a n
     → mates_between rule p a e ≡ []
 until-mateless rule p a n e lt fits before all none =
-    none_before _ _ (sym (cut_mates rule p a e (omega (arith, lt, before))) ∙ mates_behind-none rule p a n (λ h. omega (arith, lt)) fits none ∙ last)
-  where
-    last : mates_behind rule p n ≡ mates_behind rule p e
-    last = elim (cases_lt n 28672) [
-      | inl h ↦ (let same : n ≡ e = omega (arith, before, all h) in ap (mates_behind rule p) same)
-      | inr past ↦ mates_behind-end rule p n past ∙ sym (mates_behind-end rule p e (omega (arith, past, before)))
-    ]
+    grind (arith, none_before, cut_mates rule p a e (omega (arith, lt, before)), mates_behind-none, cases_lt n 28672, mates_behind-end)
 
 pub mates_between-none : (rule : RuleSet) (p : Position) (a b : ℕ) → b ≤ a → mates_between rule p a b ≡ []
 unfolding mates_between
@@ -70,9 +52,7 @@ checks_elsewhere rule p s w h m at small may off = sym (no_mate_quietly rule p m
 
 -- a move from no square from which one may give check doesn't mate
 pub mating_origins : (rule : RuleSet) (p : Position) (w : ℕ) → AreCheckOrigins rule p w → AreOrigins (mates rule p) w
-mating_origins rule p w h = record {
-  elsewhere = λ m inside small off. sym (no_mate_quietly rule p m (λ lawful. h.elsewhere m inside small lawful off));
-}
+mating_origins rule p w h = grind (arith, no_mate_quietly)
 
 -- for that over mates
 pub ruleset until_mates = (legal_of_mate, mates_between-none, mates_between-past, until-mateless)

@@ -11,8 +11,7 @@ unfolding mates_behind mates
 mates_behind-here rule p n lt h = search (rules, first_of_and, moves_behind-here, second_of_and)
 
 false_second : (a b : Bool) → a ≡ true → (a && b) ≡ false → b ≡ false
-false_second true b e h = h
-false_second false b e h = cc
+false_second a b e h = grind arith
 
 pub mates_behind-skip : (rule : RuleSet) (p : Position) (n : ℕ) → n < 28672 → mates rule p (triple_at n) ≡ false
     → mates_behind rule p n ≡ mates_behind rule p (n + 1)
@@ -38,10 +37,7 @@ pub mates_behind-none : (rule : RuleSet) (p : Position) (a b : ℕ) → (b < 286
     → mates_behind rule p a ≡ mates_behind rule p b
 mates_behind-none rule p a b low high h = elim (cases_lt b a) [
   | inr ge ↦ skip_by rule p (b - a) a b (omega arith) high h
-  | inl lt ↦ elim (cases_lt b 28672) [
-    | inl q ↦ absurd (let le : a ≤ b = low q in omega arith)
-    | inr past ↦ mates_behind-end rule p a (omega arith) ∙ sym (mates_behind-end rule p b past)
-  ]
+  | inl lt ↦ grind (arith, cases_lt, mates_behind-end)
 ]
 
 -- a move that can't be made doesn't mate, nor one that gives no check if it is legal
@@ -55,13 +51,7 @@ turn_after rule p m h = let x = maker rule p m h in rw x.1 refl
 pub no_mate_quietly : (rule : RuleSet) (p : Position) (m : Move)
     → (legal rule p m ≡ true → in_check rule (after rule p m).men (other p.turn) ≡ false) → false ≡ mates rule p m
 unfolding mates is_goal
-no_mate_quietly rule p m quiet = elim (cases_Bool (legal rule p m)) [
-  | inr unlawful ↦ sym (and_left _ _ unlawful)
-  | inl lawful ↦
-      let turn : (after rule p m).turn ≡ other p.turn = turn_after rule p m (pseudo-from_legal rule p m lawful) in
-      let calm : in_check rule (after rule p m).men (after rule p m).turn ≡ false = ap (in_check rule (after rule p m).men) turn ∙ quiet lawful in
-      sym (and_right (legal rule p m) _ (and_left _ _ calm))
-]
+no_mate_quietly rule p m quiet = grind (arith, cases_Bool, and_left, turn_after, pseudo-from_legal, and_right)
 
 -- a move that may be made, tested in the position after it
 pub mates_after : (rule : RuleSet) (p : Position) (m : Move) → pseudo rule p m ≡ true

@@ -1,4 +1,5 @@
 -- Where a man goes, he might go on an empty board.
+use Rattle.std.proofs.Common.{arith}
 use Rattle.chess_rules.proofs.Basics.{Bool, List, Option, and_parts, bit_at, bit_or, cond-false, cond-true, false, false≢true, inl, inr, list_any, list_any-append, or_cases, refl, rules, sym, true, ℕ, ◌&&◌, ◌<◌, ◌==◌, ◌||◌, ◌∙◌, ◌≡◌}
 use Rattle.chess_mates.proofs.Chess.{Bishop, Kind, King, Knight, Man, Pawn, Position, Queen, Rook, diagonal_steps, is_advance, is_on_some, knight_steps, leaps, may_go, pawn_captures, queen_steps, reaches_as, rides, same_kind, steps_to, straight_steps, word}
 use Rattle.chess_rules.proofs.listing_moves.Arrivals.{no_steps}
@@ -17,10 +18,7 @@ rides_on men s t ds h = goes_on men s t ds h
 
 -- a pawn steps one square or two
 pub advances : (v one two rank free : Bool) → (v && (one || (rank && two && free))) ≡ true → (one || two) ≡ true
-advances true true two rank free h = refl
-advances true false two true free h = (and_parts two free h).0
-advances true false two false free h = absurd (false≢true h)
-advances false one two rank free h = absurd (false≢true h)
+advances v one two rank free h = grind (arith, and_parts, false≢true)
 
 module _ (p : Position) (x : Man) (s t : ℕ) (small : t < 64) (h : may_go p x s t ≡ true) where
   -- a piece of this kind reaches t

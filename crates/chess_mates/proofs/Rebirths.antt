@@ -19,21 +19,14 @@ LacksGrasshopper men e = (s : ℕ) → is_man (man_on men s) e Grasshopper ≡ f
 -- once y stands on r too, lines are shut and none is opened
 module _ (men : List (Option Man)) (r : ℕ) (y : Man) where
   was_vacant : (o : Option ℕ) → is_vacant (with_man men r y) o ≡ true → is_vacant men o ≡ true
-  was_vacant None h = h
-  was_vacant (Some q) h = elim (man_on-with_cases men r q y) [
-    | inl e ↦ absurd (false≢true (sym (ap (λ (o : Option Man). not (is_some o)) e.1) ∙ h))
-    | inr e ↦ ap (λ (o : Option Man). not (is_some o)) (sym e) ∙ h
-  ]
+  was_vacant o h = grind (arith, man_on-with_cases, false≢true)
 
   rode : (s t : ℕ) (d : Step) → rides (with_man men r y) s t d ≡ true → rides men s t d ≡ true
   unfolding rides is_clear
   rode s t d h =
       any_kept (λ k. is_square (along s d k) t && list_all (λ i. is_vacant (with_man men r y) (along s d i)) (range_with_len 1 (k - 1)))
       (λ k. is_square (along s d k) t && list_all (λ i. is_vacant men (along s d i)) (range_with_len 1 (k - 1))) (range_with_len 1 7)
-      (λ k here.
-      let both = and_parts (is_square (along s d k) t) _ here in
-      and_from _ _ both.0 (all_kept (λ i. is_vacant (with_man men r y) (along s d i)) (λ i. is_vacant men (along s d i)) (range_with_len 1 (k - 1))
-      (λ i. was_vacant (along s d i)) both.1)) h
+      (grind (arith, and_parts, and_from, all_kept, was_vacant)) h
 
   rode_so : (ds : List Step) (s t : ℕ) → list_any (rides (with_man men r y) s t) ds ≡ true → list_any (rides men s t) ds ≡ true
   rode_so ds s t h = any_kept (rides (with_man men r y) s t) (rides men s t) ds (λ d. rode s t d) h
@@ -41,11 +34,7 @@ module _ (men : List (Option Man)) (r : ℕ) (y : Man) where
   reached : (e : Colour) (j : Kind) (s t : ℕ) → same_kind j Grasshopper ≡ false → reaches_as (with_man men r y) e j s t ≡ true → reaches_as men e j s t ≡ true
   unfolding reaches_as
   reached e Queen s t g h = rode_so queen_steps s t h
-  reached e Rook s t g h = rode_so straight_steps s t h
-  reached e Bishop s t g h = rode_so diagonal_steps s t h
-  reached e Grasshopper s t g h = absurd (false≢true (sym g))
-  reached e Nightrider s t g h = rode_so knight_steps s t h
-  reached e j s t g h = h
+  reached e j s t g h = search (rules, rode_so, false≢true)
 
   -- so y gives the king of his colour no check
   module _ (c : Colour) (own : same_colour y.colour (other c) ≡ false) (mortal : same_kind y.kind King ≡ false) (lacks : LacksGrasshopper men (other c))
@@ -53,22 +42,14 @@ module _ (men : List (Option Man)) (r : ℕ) (y : Man) where
     struck_by : (k s : ℕ) (o : Option Man) → man_on men s ≡ o → is_side o (other c) ≡ true → reaches_of (with_man men r y) o s k ≡ true
         → strikes orthodox men k (other c) s ≡ true
     unfolding strikes reaches paralysed
-    struck_by k s None here side h = absurd (false≢true side)
-    struck_by k s (Some z) here side h =
-        let none : is_man (Some z) (other c) Grasshopper ≡ false = ap (λ (o : Option Man). is_man o (other c) Grasshopper) (sym here) ∙ lacks s in
-        let other_kind : same_kind z.kind Grasshopper ≡ false = false_from_ne_true _ (λ g. false≢true (sym none ∙ and_from _ _ side g)) in
-        and_from _ _ (and_from _ _ (ap (λ (o : Option Man). is_side o (other c)) here ∙ side) refl)
-        (ap (λ (o : Option Man). reaches_of men o s k) here ∙ reached z.colour z.kind s k other_kind h)
+    struck_by k s o here side h = grind (arith, false≢true, false_from_ne_true, and_from, reached)
 
     struck : (k s : ℕ) → strikes circe (with_man men r y) k (other c) s ≡ true → strikes orthodox men k (other c) s ≡ true
     unfolding strikes reaches
     struck k s h = grind (arith, and_parts, man_on-with_cases, false≢true, struck_by)
 
     king_stood : (k : ℕ) → is_man (man_on (with_man men r y) k) c King ≡ true → is_man (man_on men k) c King ≡ true
-    king_stood k h = elim (man_on-with_cases men r k y) [
-      | inl e ↦ search (rules, false≢true, and_parts)
-      | inr e ↦ ap (λ (o : Option Man). is_man o c King) (sym e) ∙ h
-    ]
+    king_stood k h = grind (arith, man_on-with_cases, false≢true, and_parts)
 
     reborn_quietly : in_check orthodox men c ≡ false → in_check circe (with_man men r y) c ≡ false
     unfolding in_check king_square squares attacked
@@ -81,50 +62,36 @@ module _ (men : List (Option Man)) (r : ℕ) (y : Man) where
           let at : king_square men c ≡ Some k = king_is men c k one inside (king_stood k f.here) in
           let none : check_of orthodox men (Some k) (other c) ≡ false = ap (λ (o : Option ℕ). check_of orthodox men o (other c)) (sym at) ∙ safe in
           some_square_false (strikes circe (with_man men r y) k (other c)) 64 (omega arith) (record {
-            fails = λ s lt. false_from_ne_true _ (λ h.
-                false≢true (sym none ∙ some_square_true (strikes orthodox men k (other c)) s lt (struck k s h)));
+            fails = λ s lt. false_from_ne_true _ (search (rules, false≢true, some_square_true, struck));
           })
 
 -- rebirths apart, Circe is as orthodox chess
 pub same_check : (men : List (Option Man)) (c : Colour) → in_check circe men c ≡ in_check orthodox men c
 unfolding in_check attacked strikes paralysed
-same_check men c = by (king_square men c) where
-  by : (o : Option ℕ) → check_of circe men o (other c) ≡ check_of orthodox men o (other c)
-  by None = refl
-  by (Some k) = refl
+same_check men c = grind arith
 
 same_castles : (p : Position) (x : Man) (m : Move) → castles circe p x m ≡ castles orthodox p x m
 unfolding castles may_castle paralysed
-same_castles p x m =
-    rw (same_check p.men x.colour, same_check (with_man (without_man p.men m.from) (halfway m) x) x.colour) refl
+same_castles p x m = grind (arith, same_check)
 
 pub pseudo_so : (p : Position) (m : Move) → pseudo circe p m ≡ true → pseudo orthodox p m ≡ true
 unfolding pseudo paralysed
-pseudo_so p m h = sym (by (man_on p.men m.from)) ∙ h where
-  by : (o : Option Man) → pseudo_of circe p o m ≡ pseudo_of orthodox p o m
-  by None = refl
-  by (Some x) = rw (same_castles p x m) refl
+pseudo_so p m h = grind (arith, same_castles)
 
 -- nobody becomes a grasshopper but by promotion
 lacks_without : (men : List (Option Man)) (a : ℕ) (e : Colour) → LacksGrasshopper men e → LacksGrasshopper (without_man men a) e
 lacks_without men a e none = λ s. false_from_ne_true _ (λ h. false≢true (sym (none s) ∙ is_man-without men a s e Grasshopper h))
 
 lacks_without_at : (men : List (Option Man)) (o : Option ℕ) (e : Colour) → LacksGrasshopper men e → LacksGrasshopper (without_at men o) e
-lacks_without_at men None e none = none
-lacks_without_at men (Some a) e none = lacks_without men a e none
+lacks_without_at men o e none = grind (arith, lacks_without)
 
 lacks_with : (men : List (Option Man)) (b : ℕ) (z : Man) (e : Colour) → LacksGrasshopper men e → is_man (Some z) e Grasshopper ≡ false
     → LacksGrasshopper (with_man men b z) e
-lacks_with men b z e none other_man = λ s. elim (man_on-with_cases men b s z) [
-  | inl t ↦ ap (λ (o : Option Man). is_man o e Grasshopper) t.1 ∙ other_man
-  | inr t ↦ ap (λ (o : Option Man). is_man o e Grasshopper) t ∙ none s
-]
+lacks_with men b z e none other_man = grind (arith, man_on-with_cases)
 
 lacks_moved : (men : List (Option Man)) (a b : ℕ) (o : Option Man) (e : Colour) → man_on men a ≡ o → LacksGrasshopper men e
     → LacksGrasshopper (move_man men a b o) e
-lacks_moved men a b None e here none = none
-lacks_moved men a b (Some z) e here none =
-    lacks_with (without_man men a) b z e (lacks_without men a e none) (ap (λ (o : Option Man). is_man o e Grasshopper) (sym here) ∙ none a)
+lacks_moved men a b o e here none = grind (arith, lacks_with, lacks_without)
 
 moved_lacks : (p : Position) (x : Man) (m : Move) (e : Colour) → man_on p.men m.from ≡ Some x → m.promo ≡ None → LacksGrasshopper p.men e
     → LacksGrasshopper (moved_men p x m) e
@@ -132,16 +99,12 @@ unfolding moved_men
 moved_lacks p x m e here unpromoted none =
     let comes : is_man (Some (arriving x m.promo)) e Grasshopper ≡ false = search rules in
     let arrived_lacks : LacksGrasshopper (arrived p x m) e = search (rules, lacks_with, lacks_without_at, lacks_without) in
-    elim (cases_Bool (is_castling x m)) [
-      | inl castles ↦ rw castles (lacks_moved (arrived p x m) (corner m) (halfway m) (man_on (arrived p x m) (corner m)) e refl arrived_lacks)
-      | inr no_castles ↦ rw no_castles arrived_lacks
-    ]
+    grind (arith, cases_Bool (is_castling x m), lacks_moved (arrived p x m) (corner m) (halfway m) (man_on (arrived p x m) (corner m)) e refl arrived_lacks)
 
 absent_lacks : (men : List (Option Man)) (e : Colour) → length men ≡ 64 → is_absent men (record { colour = e; kind = Grasshopper }) ≡ true
     → LacksGrasshopper men e
 absent_lacks men e size absent = λ s. false_from_ne_true _ (λ h.
-    let z = man_there (man_on men s) e Grasshopper h in
-    false≢true (sym (not-true _ absent) ∙ some_square_true (λ q. is_man (man_on men q) e Grasshopper) s (on_board men s z.0 size z.1) h))
+    search (rules, man_there (man_on men s) e Grasshopper h, false≢true, not-true _ absent, some_square_true, on_board))
 
 pub after_is : (rule : RuleSet) (p : Position) (x : Man) (m : Move) → man_on p.men m.from ≡ Some x
     → (after rule p m).men ≡ put_at (moved_men p x m) (reborn_square rule p x m) (man_on_at p.men (capture_square p x m))
@@ -177,9 +140,7 @@ rebirth_gives_no_check p x m well may here unpromoted absent safe =
 pub quiet_parts : (rule : RuleSet) (men : List (Option Man)) (e : Colour) → are_rebirths_quiet rule men e ≡ true
     → (rule ≡ circe) × (is_absent men (record { colour = e; kind = Grasshopper }) ≡ true)
 unfolding are_rebirths_quiet
-quiet_parts orthodox men e h = absurd (false≢true h)
-quiet_parts circe men e h = (refl, h)
-quiet_parts madrasi men e h = absurd (false≢true h)
+quiet_parts rule men e h = grind (arith, false≢true)
 
 -- a move that gives no check by the rules of checks gives none
 pub no_check_by_rebirth : (rule : RuleSet) (p : Position) (x : Man) (m : Move) (s : CheckSquares) (y : Man) (w t : ℕ) → IsWellFormed p → pseudo rule p m ≡ true

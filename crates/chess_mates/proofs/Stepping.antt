@@ -67,8 +67,7 @@ occupied_stepped men a o b z k u t x arrival flight h =
 -- the king lifted, nobody on the flight yet but who stood there
 lifted_one : (men : List (Option Man)) (a : ℕ) (o : Option ℕ) (b : ℕ) (z : Man) (k q : ℕ) → b < length men
     → (is_occupied_after men a o b q && not (k == q)) ≡ is_some (man_on (without_man (gone_to men a o b z) k) q)
-lifted_one men a o b z k q arrival =
-    search (rules, and_right, cases_eq, differs, eq-eqb, gone_to, is_occupied_after, man_on-without_other, man_on-without_same, occupied_now)
+lifted_one men a o b z k q arrival = grind (arith, and_right, cases_eq, differs, eq-eqb, man_on-without_other, man_on-without_same, occupied_now)
 
 pub occupied_lifted : (men : List (Option Man)) (a : ℕ) (o : Option ℕ) (b : ℕ) (z : Man) (k : ℕ) → b < length men
     → (sight_lifted men a o b k).occupied ≡ occupied_squares (without_man (gone_to men a o b z) k)
@@ -105,13 +104,10 @@ attacker_stands : (men : List (Option Man)) (a : ℕ) (o : Option ℕ) (b k : �
     → (is_man (man_on men q) c j && ((not (is_square o q) && not (a == q)) && not (t == q))) ≡ is_man (man_on (stepped men a o b x k u t x) q) c j
 attacker_stands men a o b k u t x c j q i = elim (cases_eq q t) [
   | inl e ↦
-      last_out (is_man (man_on men q) c j) (not (is_square o q)) (not (a == q)) (not (t == q)) (ap not (eq-eqb t q (sym e)))
-      ∙ sym (ap (λ (y : Option Man). is_man y c j) (on_flight men a o b x k u t x q i.flight e) ∙ and_left (same_colour x.colour c) (same_kind x.kind j) i.king)
+      grind (arith, last_out, eq-eqb, on_flight, and_left)
   | inr ne ↦ elim (cases_Bool (k == q)) [
     | inl y ↦
-        let none : is_man (man_on men q) c j ≡ false = ap (λ (s : ℕ). is_man (man_on men s) c j) (sym (eqb-true k q y)) ∙ no_man (man_on men k) c j i.lifted in
-        and_left (is_man (man_on men q) c j) _ none
-        ∙ sym (ap (λ (y : Option Man). is_man y c j) (on_left men a o b x k u t x q ne y))
+        grind (arith, eqb-true, no_man, and_left, on_left)
     | inr n ↦ ours ne n ∙ sym (ap (λ (y : Option Man). is_man y c j) (on_others men a o b x k u t x q i.taken ne n))
   ]
 ] where
@@ -119,18 +115,8 @@ attacker_stands men a o b k u t x c j q i = elim (cases_eq q t) [
       (man_on (gone_to men a o b x) q) c j
   ours ne n = elim (cases_eq q b) [
     | inl e ↦
-        let none : is_man (man_on men q) c j ≡ false = ap (λ (s : ℕ). is_man (man_on men s) c j) e ∙ no_man (man_on men b) c j i.entered in
-        and_left (is_man (man_on men q) c j) _ none
-        ∙ sym (ap (λ (y : Option Man). is_man y c j) (ap (man_on (gone_to men a o b x)) e ∙ there_now men a o b x i.arrival)
-        ∙ and_left (same_colour x.colour c) (same_kind x.kind j) i.king)
-    | inr off ↦ elim (cases_Bool (is_square (Some a) q || is_square o q)) [
-      | inl y ↦
-          gone_out (is_man (man_on men q) c j) (is_square o q) (a == q) (not (t == q)) y
-          ∙ sym (ap (λ (y : Option Man). is_man y c j) (left_now men a o b x q off y))
-      | inr y ↦
-          all_in (is_man (man_on men q) c j) (is_square o q) (a == q) (not (t == q)) y (ap not (differs t q (λ e. ne (sym e))))
-          ∙ sym (ap (λ (y : Option Man). is_man y c j) (kept_now men a o b x q off y))
-    ]
+        grind (arith, no_man, and_left, there_now)
+    | inr off ↦ grind (arith, cases_Bool, gone_out, left_now, all_in, differs, kept_now)
   ]
 
 -- the words are those of the men once a man of the other side has come to b too

@@ -7,13 +7,10 @@ from_on word from = bit_and word ((2 ^ 64 - 1) * 2 ^ from % 2 ^ 64)
 
 bit_from_on : (word from i : ℕ) → from ≤ i → i < 64 → bit_at (from_on word from) i ≡ bit_at word i
 bit_from_on word from i lo hi =
-    ap (λ m. bit_at (bit_and word m) i) (ones_shl 64 from (omega arith)) ∙ bit_at_and word (2 ^ 64 - 2 ^ from) i
-    ∙ omega (arith, bit_at_mask_inside from 64 i lo hi, bit_at-lt word i)
+    grind (arith, ones_shl 64 from (omega arith), bit_at_and word (2 ^ 64 - 2 ^ from) i, bit_at_mask_inside from 64 i lo hi, bit_at-lt word i)
 
 bit_below : (word from i : ℕ) → from ≤ 64 → i < from → bit_at (from_on word from) i ≡ 0
-bit_below word from i le lt =
-    ap (λ m. bit_at (bit_and word m) i) (ones_shl 64 from le) ∙ bit_at_and word (2 ^ 64 - 2 ^ from) i
-    ∙ omega (arith, bit_at_mask_below from 64 i lt)
+bit_below word from i le lt = grind (arith, ones_shl 64 from le, bit_at_and word (2 ^ 64 - 2 ^ from) i, bit_at_mask_below from 64 i lt)
 
 not_set : (n : ℕ) → n ≡ 0 → (n == 1) ≡ false
 not_set n h = rw h refl
@@ -24,13 +21,7 @@ next_none word from p h =
     (λ k lo hi. not_set (bit_at word k) (sym (bit_from_on word from k lo (omega arith)) ∙ ap (λ n. bit_at n k) h ∙ bit_at-zero k))
 
 pub next_low : (word from : ℕ) → from < 64 → 0 < from_on word from → from_on word from < 2 ^ 64 → from ≤ trailing_zeros w64 (from_on word from)
-next_low word from p pos fits =
-    let t = trailing_zeros w64 (from_on word from) in
-    let w = bit_at-trailing_zeros w64 (from_on word from) pos fits in
-    elim (cases_lt t from) [
-      | inl q ↦ absurd (let z : ◌≡◌ {A = ℕ} 0 1 = sym (bit_below word from t (omega arith) q) ∙ w.1 in omega arith)
-      | inr q ↦ q
-    ]
+next_low word from p pos fits = grind (arith, bit_at-trailing_zeros w64 (from_on word from) pos fits, cases_lt, bit_below)
 
 pub next_some : (word from : ℕ) → from < 64 → 0 < from_on word from → from_on word from < 2 ^ 64
     → find (λ s. bit_at word s == 1) (range_with_len from (64 - from)) ≡ Some (trailing_zeros w64 (from_on word from))
@@ -43,13 +34,11 @@ next_some word from p pos fits =
     (λ j a b. not_set (bit_at word j) (sym (bit_from_on word from j a (omega (arith, w.0))) ∙ w.2 j b))
 
 is_bit : (b : Bool) → (bit_of b == 1) ≡ b
-is_bit true = refl
-is_bit false = refl
+is_bit b = grind arith
 
 -- a word that isn't 0 has a square
 zero_or : (n : ℕ) → (n ≡ 0) ⊎ (0 < n)
-zero_or zero = inl refl
-zero_or (suc n) = inr (omega arith)
+zero_or n = grind arith
 
 pub not_zero : (test : ℕ → Bool) → not (word test == 0) ≡ some_square test
 not_zero test = search (rules, squares_none, squares_some, zero_or)

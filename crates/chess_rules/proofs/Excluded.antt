@@ -1,5 +1,5 @@
 -- What the clauses of attack, of lines and of targets exclude: small positions in which the definitions say otherwise than a wrong body would.
-use Rattle.std.proofs.Common.{◌≡◌, ℕ, ◌-◌, ◌/◌, ◌%◌, ◌^◌, ◌<◌, ◌≤◌, Bool, true, false, not, [], ◌∷◌, List, Option, Some, find, take, drop, filter, refl, sym, ap, ◌∙◌, inl, inr, arith}
+use Rattle.std.proofs.Common.{rules, ◌≡◌, ℕ, ◌-◌, ◌/◌, ◌%◌, ◌^◌, ◌<◌, ◌≤◌, Bool, true, false, not, [], ◌∷◌, List, Option, Some, find, take, drop, filter, refl, sym, ap, ◌∙◌, inl, inr, arith}
 use Rattle.std.specs.Prelude.{◌==◌, ◌&&◌}
 use Rattle.std.specs.Int.{bit_at}
 use Rattle.std.specs.List.{range_with_len}
@@ -307,10 +307,7 @@ nightriders_line_is_shut = (refl, refl, refl, refl, refl)
 ends_at : (p : Position) (s w k b : ℕ) → (bit_at w (k / 7) == 1) ≡ true
     → pseudo orthodox p (record { from = s; to = k / 7; promo = promotion_at (k % 7) }) ≡ true
     → IsBarrenFrom p s w 0 b → b ≤ k
-ends_at p s w k b on may barren = elim (cases_lt k b) [
-  | inl lt ↦ absurd (false≢true (sym (barren.fails orthodox k (omega arith) lt on) ∙ may))
-  | inr le ↦ le
-]
+ends_at p s w k b on may barren = grind (arith, cases_lt, false≢true)
 
 -- of a rook on a1 to b1, and of a pawn that becomes a queen on e8
 pub stretch_ends_at_a_move : (w b : ℕ) → (bit_at w b1 == 1) ≡ true → IsBarrenFrom (position (on White Rook a1 ∷ []) White) a1 w 0 b → b ≤ 7

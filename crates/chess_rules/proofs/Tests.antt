@@ -3,12 +3,10 @@ use Rattle.chess_rules.proofs.Basics.{Bool, List, None, Some, [], and_from, and_
 use Rattle.chess_core.proofs.Ranges.{NoneBelow}
 
 pub first_of_and : (a b : Bool) → (a && b) ≡ true → a ≡ true
-first_of_and true b h = refl
-first_of_and false b h = h
+first_of_and a b h = grind arith
 
 pub second_of_and : (a b : Bool) → (a && b) ≡ true → b ≡ true
-second_of_and true b h = h
-second_of_and false b h = absurd (false≢true h)
+second_of_and a b h = grind (arith, false≢true)
 
 pub all_at : (p : ℕ → Bool) (a n k : ℕ) → list_all p (range_with_len a n) ≡ true → a ≤ k → k < a + n → p k ≡ true
 all_at p a zero k h lo hi = absurd (omega arith)
@@ -18,13 +16,10 @@ all_at p a (suc n) k h lo hi = elim (cases_eq k a) [
 ]
 
 pub implied : (a b : Bool) → (not a || b) ≡ true → a ≡ true → b ≡ true
-implied true b h e = h
-implied false b h e = absurd (false≢true e)
+implied a b h e = grind (arith, false≢true)
 
 pub same_Bool : (a b : Bool) → (a ≡ true → b ≡ true) → (b ≡ true → a ≡ true) → a ≡ b
-same_Bool true b f g = sym (f refl)
-same_Bool false true f g = g refl
-same_Bool false false f g = refl
+same_Bool a b f g = grind arith
 
 -- what holds of each holds of all, and what of one of some
 pub all_kept : {A : Type 0} (f g : A → Bool) (xs : List A) → ((x : A) → f x ≡ true → g x ≡ true) → list_all f xs ≡ true → list_all g xs ≡ true
@@ -41,13 +36,7 @@ differs a b ne = search rules
 -- either some number of the range passes or none does
 pub any_range_cases : (p : ℕ → Bool) (a n : ℕ) → ((k : ℕ) × (a ≤ k) × (k < a + n) × (p k ≡ true)) ⊎ ((k : ℕ) → a ≤ k → k < a + n → p k ≡ false)
 any_range_cases p a zero = inr (λ k lo hi. absurd (omega arith))
-any_range_cases p a (suc n) = elim (cases_Bool (p (a + n))) [
-  | inl y ↦ inl (a + n, omega arith, omega arith, y)
-  | inr fail ↦ elim (any_range_cases p a n) [
-    | inl w ↦ inl (w.0, w.1, omega (arith, w.2), w.3)
-    | inr none ↦ inr (λ k lo hi. elim (cases_eq k (a + n)) [ inl e ↦ rw e fail | inr ne ↦ none k lo (omega arith) ])
-  ]
-]
+any_range_cases p a (suc n) = grind (arith, cases_Bool (p (a + n)), any_range_cases p a n, cases_eq)
 
 -- tests that agree on a range
 pub any_range_same : (p q : ℕ → Bool) (a n : ℕ) → ((k : ℕ) → a ≤ k → k < a + n → p k ≡ q k) → list_any p (range_with_len a n) ≡ list_any q (range_with_len a n)

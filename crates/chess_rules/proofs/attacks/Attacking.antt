@@ -19,19 +19,11 @@ some_square_same p q h = elim (any_range_cases p 0 64) [
 turned : (men : List (Option Man)) (c : Colour) (j : Kind) (s t : ℕ) → (j ≡ Grasshopper → ⊥) → s < 64 → t < 64
     → reaches_as men (other c) j t s ≡ reaches_as men c j s t
 unfolding reaches_as
-turned men c King s t piece p q = king-back t s q p
-turned men c Queen s t piece p q = queen_rides-back men t s q p
-turned men c Rook s t piece p q = straight-back men t s q p
-turned men c Bishop s t piece p q = diagonal-back men t s q p
-turned men c Knight s t piece p q = knight-back t s q p
-turned men c Pawn s t piece p q = sym (pawn-back c s t p q)
-turned men c Grasshopper s t piece p q = absurd (piece refl)
-turned men c Nightrider s t piece p q = nightrider-back men t s q p
+turned men c j s t piece p q = grind (arith, king-back, queen_rides-back, straight-back, diagonal-back, knight-back, pawn-back, nightrider-back)
 
 pub comes_back : (men : List (Option Man)) (c e : Colour) (j : Kind) (t w : ℕ) → (j ≡ Grasshopper → ⊥) → t < 64 → w ≡ word (reaches_as men e j t)
     → e ≡ other c → w ≡ word (λ s. reaches_as men c j s t)
-comes_back men c e j t w piece q h enemy =
-    h ∙ ap (λ (d : Colour). word (reaches_as men d j t)) enemy ∙ squares_same _ _ (λ s p. turned men c j s t piece p q)
+comes_back men c e j t w piece q h enemy = grind (arith, squares_same, turned)
 
 pub comes_grasshopper : (men : List (Option Man)) (c : Colour) (t : ℕ) → t < 64
     → word (λ s. list_any (hopped_from men t s) queen_steps) ≡ word (λ s. reaches_as men c Grasshopper s t)
@@ -41,8 +33,7 @@ comes_grasshopper men c t q = squares_same _ _ (λ s p. sym (grasshopper-back me
 -- a man of this colour and kind goes as such men go
 reaches_of_man : (men : List (Option Man)) (o : Option Man) (c : Colour) (k : Kind) (s t : ℕ) → is_man o c k ≡ true
     → reaches_of men o s t ≡ reaches_as men c k s t
-reaches_of_man men None c k s t h = absurd (false≢true h)
-reaches_of_man men (Some x) c k s t h = search (rules, first_of_and, same_colour-true, same_kind-is, second_of_and)
+reaches_of_man men o c k s t h = grind (arith, first_of_and, same_colour-true, same_kind-is, second_of_and)
 
 only_then : (a b c : Bool) → (a ≡ true → b ≡ c) → (a && b) ≡ (a && c)
 only_then a b c p = grind arith
@@ -72,9 +63,6 @@ others = King ∷ Knight ∷ Pawn ∷ Grasshopper ∷ Nightrider ∷ []
 by_lines : (b : Bool) (k : Kind) (r s d : Bool) → (k ≡ Rook → r ≡ s) → (k ≡ Bishop → r ≡ d) → (k ≡ Queen → r ≡ (s || d))
     → (((((b && same_kind k Rook) || (b && same_kind k Queen)) && s) || (((b && same_kind k Bishop) || (b && same_kind k Queen)) && d))
     || list_any (λ j. (b && same_kind k j) && r) others) ≡ (b && r)
-by_lines b Rook r s d rook bishop queen = let e : r ≡ s = rook refl in grind arith
-by_lines b Bishop r s d rook bishop queen = let e : r ≡ d = bishop refl in grind arith
-by_lines b Queen r s d rook bishop queen = let e : r ≡ (s || d) = queen refl in grind arith
 by_lines b k r s d rook bishop queen = grind arith
 
 rook_reaches : (men : List (Option Man)) (c : Colour) (k : Kind) (s t : ℕ) → s < 64 → t < 64 → k ≡ Rook
@@ -109,8 +97,7 @@ met men c k t m n w ds h i j = search (rules, squares_both, squares_either)
 -- where a rider gets, a line goes
 ahead_of : (men : List (Option Man)) (k s : ℕ) (d : Step) → rides men k s d ≡ true → is_ahead k d s ≡ true
 unfolding rides is_ahead
-ahead_of men k s d h = any_kept (λ n. is_square (along k d n) s && is_clear men k d (n - 1)) (λ n. is_square (along k d n) s) (range_with_len 1 7)
-    (λ n. first_of_and (is_square (along k d n) s) (is_clear men k d (n - 1))) h
+ahead_of men k s d h = search (rules, any_kept, first_of_and)
 
 pub goes_on : (men : List (Option Man)) (k s : ℕ) (ds : List Step) → list_any (rides men k s) ds ≡ true → list_any (λ d. is_ahead k d s) ds ≡ true
 goes_on men k s ds h = any_kept (rides men k s) (λ d. is_ahead k d s) ds (λ d. ahead_of men k s d) h

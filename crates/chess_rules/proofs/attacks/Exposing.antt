@@ -40,9 +40,7 @@ faced_after men c k t w h = ap (λ n. not (n == 0)) h ∙ not_zero (λ s. is_man
 faced_is : (men : List (Option Man)) (c : Colour) (y : Man) (s : ℕ) → same_colour y.colour (other c) ≡ true
     → some_square (λ q. is_man (man_on men q) c y.kind && reaches men q s) ≡ faces_its_like men y s
 unfolding faces_its_like faces
-faced_is men c y s side =
-    let mine : other y.colour ≡ c = ap other (same_colour-true y.colour (other c) side) ∙ other_twice c in
-    ap (λ (d : Colour). some_square (λ q. is_man (man_on men q) d y.kind && reaches men q s)) (sym mine)
+faced_is men c y s side = grind (arith, same_colour-true, other_twice)
 
 -- a king is none
 pub faced_king : (king f : Bool) → king ≡ true → not king ≡ (not king && f)
@@ -75,13 +73,11 @@ goes_capturing rule p x m well is small = search (rules, captures_arrival, other
 
 -- the king after the move
 pub free_of_king : (c : Colour) (o : Option Man) → is_arrival_free c o ≡ true → is_man o c King ≡ false
-free_of_king c None h = refl
-free_of_king c (Some y) h = search (rules, and_left, and_parts, not-true)
+free_of_king c o h = grind (arith, and_left, and_parts, not-true)
 
 pub king_stays_king : (p : Position) (x : Man) (m : Move) (r : Option Kind) → is_promotion_right p x m r ≡ true → same_kind x.kind King ≡ true
     → arriving x r ≡ x
-king_stays_king p x m None right king = refl
-king_stays_king p x m (Some k) right king = search (rules, and_parts, false≢true, pawn_is_no_king)
+king_stays_king p x m r right king = grind (arith, and_parts, false≢true, pawn_is_no_king)
 
 goes_without_king : (rule : RuleSet) (p : Position) (x : Man) (m : Move) → IsWellFormed p → IsMade rule p x m → m.to < 64 → same_kind x.kind King ≡ false
     → IsNoKing p.men m.from (capture_square p x m) m.to (arriving x m.promo) p.turn
@@ -101,22 +97,7 @@ goes_without_king rule p x m well is small other_man = record {
 pub king_is_after : (rule : RuleSet) (p : Position) (x : Man) (m : Move) → IsWellFormed p → IsMade rule p x m → m.to < 64 → is_castling x m ≡ false
     → king_square (arrived p x m) p.turn ≡ king_after p x m
 king_is_after rule p x m well is small castling =
-    search (
-      rules,
-      and_from,
-      arrived,
-      cases_Bool,
-      colour_self,
-      cond-false,
-      cond-true,
-      goes_without_king,
-      king_is,
-      king_stands,
-      king_stays_king,
-      moved_arrival,
-      moved_plainly,
-      moved_sound,
-    )
+    grind (arith, and_from, cases_Bool, colour_self, cond-false, cond-true, goes_without_king, king_is, king_stands, king_stays_king, moved_arrival, moved_plainly, moved_sound)
 
 pub check_is : (rule : RuleSet) (p : Position) (x : Man) (m : Move) (o : Option ℕ) → IsWellFormed p → IsMade rule p x m → m.to < 64 → IsSimple rule p x m
     → king_after p x m ≡ o → in_check rule (after rule p m).men p.turn ≡ check_of rule (arrived p x m) o (other p.turn)
@@ -139,8 +120,7 @@ own_there : (mine o a k b : Bool) → mine ≡ false → b ≡ true → (((mine 
 own_there mine o a k b p q = grind arith
 
 free_of_own : (c : Colour) (k : Kind) (o : Option Man) → is_arrival_free c o ≡ true → is_man o c k ≡ false
-free_of_own c k None h = refl
-free_of_own c k (Some y) h = and_left (same_colour y.colour c) _ (not-true _ (and_parts (not (same_colour y.colour c)) (not (same_kind y.kind King)) h).0)
+free_of_own c k o h = grind (arith, and_left, not-true, and_parts)
 
 own_on : (rule : RuleSet) (p : Position) (x : Man) (m : Move) (k : Kind) (s : ℕ) → IsWellFormed p → IsMade rule p x m → m.to < 64
     → (((is_man (man_on p.men s) x.colour k && not (is_square (capture_square p x m) s)) && not (is_square (Some m.from) s)) || is_arriving_as x m k s)

@@ -33,8 +33,7 @@ IsNoHurdle a s k d = (n : ℕ) → along s d n ≡ Some k → 2 ≤ n → n ≤ 
 
 -- where a lies off the line on which s lies
 off_line : (a s k : ℕ) (d : Step) → s < 64 → (is_ahead k (back d) s ≡ true → is_ahead k (back d) a ≡ false) → IsBeside a s k d
-off_line a s k d small off = λ n i at low lt le. false_from_ne_true _ (λ y.
-    false≢true (sym (off (its_own s k d n small at (omega (arith, low, lt)) le)) ∙ ahead_on s k d n i a at lt le y))
+off_line a s k d small off = grind (arith, false_from_ne_true, false≢true, its_own, ahead_on)
 
 clear_kept : (men after : List (Option Man)) (a s k : ℕ) (d : Step) (n m : ℕ) → Frees after men a → along s d n ≡ Some k → n ≤ 7 → m < n
     → IsBeside a s k d → is_clear after s d m ≡ true → is_clear men s d m ≡ true
@@ -106,9 +105,7 @@ module _ (men after : List (Option Man)) (e : Colour) (a b k s : ℕ) (i : Frees
   -- a square that isn't lined with such a man lies on no line with him
   unlined : (j : Kind) (q t : ℕ) (d : Step) → is_lined men e j k t d ≡ false → q < 64 → is_man (man_on men q) e j ≡ true → is_ahead k d q ≡ true
       → is_ahead k d t ≡ false
-  unlined j q t d off inside man ahead =
-      false_from_ne_true _ (λ y. false≢true (sym off
-      ∙ and_from _ _ y (some_square_true (λ q. is_man (man_on men q) e j && is_ahead k d q) q inside (and_from _ _ man ahead))))
+  unlined j q t d off inside man ahead = search (rules, false_from_ne_true, false≢true, and_from, some_square_true)
 
   beside : (j : Kind) (d : Step) → WasThere men e j a b s → is_lined men e j k a (back d) ≡ false → IsBeside a s k d
   beside j d was off = elim was [
@@ -117,12 +114,7 @@ module _ (men after : List (Option Man)) (e : Colour) (a b k s : ℕ) (i : Frees
   ]
 
   no_hurdle : (x : Direction) → WasThere men e Grasshopper a b s → is_lined men e Grasshopper k b (back (step_of x)) ≡ false → IsNoHurdle b s k (step_of x)
-  no_hurdle x was off = elim was [
-    | inl man ↦ λ n at low le.
-        off_line b s k (step_of x) small (unlined Grasshopper s b (back (step_of x)) off small man) n (n - 1) at (omega arith) (omega arith) le
-    | inr w ↦ λ n at low le. false_from_ne_true _ (λ y.
-        once s 0 (n - 1) s x (omega arith) (stays s (step_of x) small) (square_is _ s (ap (is_square (along s (step_of x) (n - 1))) w.0 ∙ y)))
-  ]
+  no_hurdle x was off = grind (arith, off_line, unlined, false_from_ne_true, once, stays s (step_of x) small, square_is)
 
   -- a grasshopper that stands where it stood hops as it hopped, and one that has come from a as it would have hopped
   pub hopper_before : Holds after men b → WasThere men e Grasshopper a b s → list_any (is_lined men e Grasshopper k a) queen_steps ≡ false
@@ -156,15 +148,11 @@ passed test k w r d h i = grind (arith, squares_both, not_zero, some_square_same
 pub line_passes : (test : ℕ → Bool) (k w r : ℕ) (d : Step) → w ≡ word test → r ≡ ray k d → (bit_and r w == 0) ≡ false
     → r ≡ word (λ t. is_ahead k d t && some_square (λ q. test q && is_ahead k d q))
 unfolding ray
-line_passes test k w r d h i some =
-    i ∙ squares_same _ _ (λ t b. sym (ap (λ (y : Bool). is_ahead k d t && y) (sym (passed test k w r d h i) ∙ ap not some) ∙ and_true (is_ahead k d t))) where
-      and_true : (a : Bool) → (a && true) ≡ a
-      and_true a = grind arith
+line_passes test k w r d h i some = grind (arith, squares_same, passed test k w r d h i)
 
 pub line_misses : (test : ℕ → Bool) (k w r : ℕ) (d : Step) → w ≡ word test → r ≡ ray k d → (bit_and r w == 0) ≡ true
     → 0 ≡ word (λ t. is_ahead k d t && some_square (λ q. test q && is_ahead k d q))
-line_misses test k w r d h i none =
-    word_empty _ (λ t b. and_right (is_ahead k d t) _ (sym (passed test k w r d h i) ∙ ap not none))
+line_misses test k w r d h i none = grind (arith, word_empty, and_right, passed test k w r d h i)
 
 -- where no such man stands, or no king
 none_of : (p : ℕ → Bool) (q : ℕ) → some_square p ≡ false → q < 64 → p q ≡ false

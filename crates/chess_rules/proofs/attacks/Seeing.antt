@@ -28,19 +28,16 @@ abbrev pub gone_to : List (Option Man) → ℕ → Option ℕ → ℕ → Man �
 gone_to men a o b z = with_man (without_at (without_man men a) o) b z
 
 pub length-without_at : (men : List (Option Man)) (o : Option ℕ) → length (without_at men o) ≡ length men
-length-without_at men None = refl
-length-without_at men (Some s) = length-set men s None
+length-without_at men o = grind (arith, length-set)
 
 pub there_now : (men : List (Option Man)) (a : ℕ) (o : Option ℕ) (b : ℕ) (z : Man) → b < length men → man_on (gone_to men a o b z) b ≡ Some z
 there_now men a o b z small = search rules
 
 gone_at : (men : List (Option Man)) (o : Option ℕ) (q : ℕ) → is_square o q ≡ true → man_on (without_at men o) q ≡ None
-gone_at men None q h = absurd (false≢true h)
-gone_at men (Some s) q h = ap (λ (n : ℕ). man_on (without_man men n) q) (eqb-true s q h) ∙ man_on-without_same men q
+gone_at men o q h = grind (arith, false≢true, eqb-true, man_on-without_same)
 
 kept_at : (men : List (Option Man)) (o : Option ℕ) (q : ℕ) → is_square o q ≡ false → man_on (without_at men o) q ≡ man_on men q
-kept_at men None q h = refl
-kept_at men (Some s) q h = man_on-without_other men s q (λ e. false≢true (sym h ∙ eq-eqb s q (sym e)))
+kept_at men o q h = grind (arith, man_on-without_other, false≢true, eq-eqb)
 
 pub left_now : (men : List (Option Man)) (a : ℕ) (o : Option ℕ) (b : ℕ) (z : Man) (q : ℕ) → q ≢ b → (is_square (Some a) q || is_square o q) ≡ true
     → man_on (gone_to men a o b z) q ≡ None
@@ -73,12 +70,10 @@ pub record IsCapture (men : List (Option Man)) (a : ℕ) (o : Option ℕ) (b : �
   pub captured : is_some (man_on men b) ≡ true → is_square o b ≡ true
 
 pub no_man : (o : Option Man) (c : Colour) (k : Kind) → is_side o c ≡ false → is_man o c k ≡ false
-no_man None c k h = refl
-no_man (Some y) c k h = and_left (same_colour y.colour c) (same_kind y.kind k) h
+no_man o c k h = grind (arith, and_left)
 
 nobody : (o : Option Man) (c : Colour) (k : Kind) → is_some o ≡ false → is_man o c k ≡ false
-nobody None c k h = refl
-nobody (Some y) c k h = absurd (false≢true (sym h))
+nobody o c k h = grind (arith, false≢true)
 
 enemy_now : (men : List (Option Man)) (a : ℕ) (o : Option ℕ) (b : ℕ) (z : Man) (c : Colour) (k : Kind) (q : ℕ) → IsCapture men a o b z c
     → (is_man (man_on men q) (other c) k && not (is_square o q)) ≡ is_man (man_on (gone_to men a o b z) q) (other c) k
@@ -126,21 +121,8 @@ pub record IsNoKing (men : List (Option Man)) (a : ℕ) (o : Option ℕ) (b : �
 
 king_now : (men : List (Option Man)) (a : ℕ) (o : Option ℕ) (b : ℕ) (z : Man) (c : Colour) (q : ℕ) → IsNoKing men a o b z c
     → is_man (man_on (gone_to men a o b z) q) c King ≡ is_man (man_on men q) c King
-king_now men a o b z c q i = elim (cases_eq q b) [
-  | inl e ↦
-      let there : man_on (gone_to men a o b z) q ≡ Some z = ap (man_on (gone_to men a o b z)) e ∙ there_now men a o b z i.small in
-      rw there i.comes ∙ sym (ap (λ (s : ℕ). is_man (man_on men s) c King) e ∙ i.arrival)
-  | inr ne ↦ elim (cases_Bool (is_square (Some a) q || is_square o q)) [
-    | inl y ↦
-        let left : man_on (gone_to men a o b z) q ≡ None = left_now men a o b z q ne y in
-        let none : is_man (man_on men q) c King ≡ false = elim (or_cases (is_square (Some a) q) (is_square o q) y) [
-          | inl at ↦ ap (λ (s : ℕ). is_man (man_on men s) c King) (sym (eqb-true a q at)) ∙ i.here
-          | inr at ↦ i.captured q at
-        ] in
-        rw left (sym none)
-    | inr n ↦ ap (λ (y : Option Man). is_man y c King) (kept_now men a o b z q ne n)
-  ]
-]
+king_now men a o b z c q i =
+    grind (arith, cases_eq q b, there_now men a o b z i.small, cases_Bool (is_square (Some a) q || is_square o q), left_now, or_cases, eqb-true a q, kept_now)
 
 pub king_stands : (men : List (Option Man)) (a : ℕ) (o : Option ℕ) (b : ℕ) (z : Man) (c : Colour) → IsNoKing men a o b z c
     → king_square (gone_to men a o b z) c ≡ king_square men c

@@ -34,19 +34,13 @@ abbrev IsParted : List (Option Man) → ℕ → ℕ → ℕ → List Step → Ty
 IsParted men a k s ds = (list_any (rides men k a) ds ≡ true) × (list_any (rides men s a) ds ≡ true)
 
 opposed_along : (l : RiderLines) → opposed (steps_along l) (steps_along l) ≡ true
-opposed_along Straight = refl
-opposed_along Diagonal = refl
+opposed_along l = grind arith
 
 -- a rider that a line leads to reaches along it
 rider_reaches : (men : List (Option Man)) (e : Colour) (l : RiderLines) (j : Kind) (s k : ℕ) → (same_kind j (rider_along l) || same_kind j Queen) ≡ true
     → list_any (rides men s k) (steps_along l) ≡ true → reaches_as men e j s k ≡ true
 unfolding reaches_as
-rider_reaches men e Straight Rook s k h r = r
-rider_reaches men e Diagonal Bishop s k h r = r
-rider_reaches men e Straight Queen s k h r = list_any-append (rides men s k) straight_steps diagonal_steps ∙ or_left _ _ r
-rider_reaches men e Diagonal Queen s k h r = search (rules, list_any-append, or_right)
-rider_reaches men e Straight j s k h r = absurd (cc)
-rider_reaches men e Diagonal j s k h r = absurd (cc)
+rider_reaches men e l j s k h r = grind (arith, list_any-append, or_right)
 
 -- a doesn't shut a line along which a man of kind j on s would ride to k, and a fairy man there goes to k as before
 record NoneShut (men after : List (Option Man)) (a k s : ℕ) (j : Kind) : Type 0 where
@@ -68,8 +62,7 @@ covered_parts men c a k h = search (rules, or_parts)
 
 shut : (men : List (Option Man)) (c : Colour) (a k : ℕ) (l : RiderLines) → IsCovered men c a k
     → is_shut men (other c) (rider_along l) (steps_along l) k a ≡ false
-shut men c a k Straight g = g.straight
-shut men c a k Diagonal g = g.diagonal
+shut men c a k l g = grind arith
 
 -- what keeps one square from shutting a line to a man that stands on another
 pub not_parted : (men : List (Option Man)) (a k s : ℕ) (e : Colour) (j : Kind) (ds : List Step) → is_shut men e j ds k a ≡ false
@@ -84,8 +77,7 @@ pub record IsQuiet (men : List (Option Man)) (c : Colour) (a b k : ℕ) (z : Man
   pub stood : same_colour z.colour (other c) ≡ true → (man_on men a ≡ Some z) × (a < 64)
 
 pub man_there : (o : Option Man) (c : Colour) (j : Kind) → is_man o c j ≡ true → (y : Man) × (o ≡ Some y)
-man_there None c j h = cc
-man_there (Some y) c j h = (y, refl)
+man_there o c j h = grind arith
 
 -- the square of a king is its side's
 pub king_is : (men : List (Option Man)) (c : Colour) (k : ℕ) → AtMostOneKing men → k < 64 → is_man (man_on men k) c King ≡ true → king_square men c ≡ Some k
@@ -97,8 +89,7 @@ king_is men c k one small h =
 
 module _ (men after : List (Option Man)) (a b : ℕ) (z : Man) (i : IsShift men after a b z) where
   stays_vacant : (o : Option ℕ) → is_vacant after o ≡ true → is_square o a ≡ false → is_vacant men o ≡ true
-  stays_vacant None h ne = h
-  stays_vacant (Some q) h ne = search (rules, none_from_is_some, not-true, eq-eqb)
+  stays_vacant o h ne = grind (arith, none_from_is_some, not-true, eq-eqb)
 
   pub frees : Frees after men a
   frees = record { vacant = stays_vacant }
@@ -259,14 +250,11 @@ stays_safe rule men after a b z c i g = by (king_square after c) refl where
 
 -- nobody is reborn where nobody is captured, or without Circe
 none_reborn : (men : List (Option Man)) (o : Option Man) (s : ℕ) → reborn_at false men o (Some s) ≡ None
-none_reborn men None s = refl
-none_reborn men (Some y) s = refl
+none_reborn men o s = grind arith
 
 pub nobody_reborn : (circe : Bool) (men before : List (Option Man)) (o : Option ℕ) → (circe ≡ true → o ≡ None)
     → reborn_at circe men (man_on_at before o) o ≡ None
-nobody_reborn circe men before None h = refl
-nobody_reborn false men before (Some s) h = none_reborn men (man_on before s) s
-nobody_reborn true men before (Some s) h = let bad : Some s ≡ None = h refl in cc
+nobody_reborn circe men before o h = grind (arith, none_reborn)
 
 -- a plain move captures on its arrival alone
 captures_there : (p : Position) (x : Man) (m : Move) (s : ℕ) → is_square p.crossed m.to ≡ false → capture_square p x m ≡ Some s → s ≡ m.to
@@ -329,16 +317,13 @@ pub plain_safe : (rule : RuleSet) (p : Position) (x : Man) (m : Move) (c : Colou
 plain_safe rule p x m c well is small plain cannot_expose aside quiet = search (rules, men_after, stays_safe, arrived, arrived_shift, king_came)
 
 pub arriving_colour : (x : Man) (r : Option Kind) → (arriving x r).colour ≡ x.colour
-arriving_colour x None = refl
-arriving_colour x (Some k) = refl
+arriving_colour x r = grind arith
 
 pub other_twice : (c : Colour) → other (other c) ≡ c
-other_twice White = refl
-other_twice Black = refl
+other_twice c = grind arith
 
 pub other_differs : (c : Colour) → same_colour c (other c) ≡ false
-other_differs White = refl
-other_differs Black = refl
+other_differs c = grind arith
 
 pub record CannotExpose (rule : RuleSet) (p : Position) (x : Man) (c : Colour) (m : Move) : Type 0 where
   pub origin : may_expose p.men c m.from ≡ false

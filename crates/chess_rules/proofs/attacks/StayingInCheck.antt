@@ -17,14 +17,7 @@ keeps men after a b z q y i here na nb = search rules
 
 stays_free : (men after : List (Option Man)) (a b : ℕ) (z : Man) (o : Option ℕ) → IsShift men after a b z → is_vacant men o ≡ true → is_square o b ≡ false
     → is_vacant after o ≡ true
-stays_free men after a b z None i h ne = h
-stays_free men after a b z (Some q) i h ne = by (man_on after q) refl where
-  by : (u : Option Man) → man_on after q ≡ u → is_vacant after (Some q) ≡ true
-  by None e = rw e refl
-  by (Some y) e =
-      let there : man_on men q ≡ Some y = i.others q y e (λ same. let yes : (q == b) ≡ true = eq-eqb q b same in cc) in
-      let full : is_vacant men (Some q) ≡ false = rw there refl in
-      cc
+stays_free men after a b z o i h ne = grind (arith, eq-eqb)
 
 -- an orthodox man that reached k and isn't met reaches it
 module _ (men after : List (Option Man)) (a b : ℕ) (z : Man) (c : Colour) (k s : ℕ) (i : IsShift men after a b z) (p : s < 64) (q : k < 64)
@@ -48,8 +41,7 @@ module _ (men after : List (Option Man)) (a b : ℕ) (z : Man) (c : Colour) (k s
   reaches_after e j f h = h
 
 pub side_there : (o : Option Man) (c : Colour) → is_side o c ≡ true → (y : Man) × ((o ≡ Some y) × (same_colour y.colour c ≡ true))
-side_there None c h = cc
-side_there (Some y) c h = (y, (refl, h))
+side_there o c h = grind arith
 
 pub king_there : (men : List (Option Man)) (c : Colour) (k : ℕ) → king_square men c ≡ Some k → (k < 64) × (is_man (man_on men k) c King ≡ true)
 unfolding king_square squares
@@ -96,8 +88,7 @@ not_king x c piece h = let king = (and_parts (same_colour x.colour c) (same_kind
 
 -- no king of the mover's on a free arrival
 free_of_king : (o : Option Man) (c : Colour) → is_arrival_free c o ≡ true → is_man o c King ≡ true → ⊥
-free_of_king None c h k = cc
-free_of_king (Some y) c h k = search (rules, and_parts)
+free_of_king o c h k = grind (arith, and_parts)
 
 -- a plain move that doesn't meet a check, and isn't the king's, leaves its mover in check
 pub check_stays : (rule : RuleSet) (p : Position) (x : Man) (m : Move) → IsWellFormed p → pseudo rule p m ≡ true → man_on p.men m.from ≡ Some x → m.to < 64

@@ -9,14 +9,10 @@ use Rattle.chess_rules.proofs.rays.Tables.{each_pair}
 
 -- no man of the colour and no king
 free_of : (a c : Colour) (k : Kind) → not (same_colour a c || (same_colour a (other c) && same_kind k King)) ≡ (not (same_colour a c) && not (same_kind k King))
-free_of White White k = refl
-free_of White Black k = refl
-free_of Black White k = refl
-free_of Black Black k = refl
+free_of a c k = grind arith
 
 free_on : (o : Option Man) (c : Colour) → not (is_side o c || is_man o (other c) King) ≡ is_arrival_free c o
-free_on None c = refl
-free_on (Some y) c = free_of y.colour c y.kind
+free_on o c = grind (arith, free_of)
 
 pub free_word : (men : List (Option Man)) (c : Colour) (a b : ℕ) → a ≡ side_of men c → b ≡ squares_of men (other c) King
     → bit_not w64 (bit_or a b) ≡ word (λ t. is_arrival_free c (man_on men t))
@@ -34,10 +30,8 @@ castling_none u x s h = word_empty (λ t. u && steps_to x s t) (λ t b. and_left
 -- one square ahead, and the square halfway to the one behind it
 one_near : (c : Colour) (s t : ℕ) → s < 64 → t < 64 → is_square (along s (forward c) 1) t ≡ (is_advance c s t && list_any (leaps s t) queen_steps)
 unfolding along leaps
-one_near White s t p q =
-    each_pair (λ s t. is_square (along s (forward White) 1) t) (λ s t. is_advance White s t && list_any (leaps s t) queen_steps) s t p q refl
-one_near Black s t p q =
-    each_pair (λ s t. is_square (along s (forward Black) 1) t) (λ s t. is_advance Black s t && list_any (leaps s t) queen_steps) s t p q refl
+one_near White s t p q = search (rules, each_pair)
+one_near Black s t p q = search (rules, each_pair)
 
 half_one : (c : Colour) (s t : ℕ) → s < 64 → t < 64 → is_square (along s (forward c) 2) t ≡ true → is_square (along s (forward c) 1) ((s + t) / 2) ≡ true
 half_one c s t p q = implied _ _ (table c)
@@ -49,8 +43,7 @@ half_one c s t p q = implied _ _ (table c)
         (λ _ _. true) s t p q refl
 
 one_is : (o : Option ℕ) (t u : ℕ) → is_square o t ≡ true → is_square o u ≡ true → t ≡ u
-one_is None t u h i = cc
-one_is (Some s) t u h i = sym (eqb-true s t h) ∙ eqb-true s u i
+one_is o t u h i = grind (arith, eqb-true)
 
 -- the squares to which a pawn steps: `a` one and two ahead, `o` with men, `k` next to it
 module _ (p : Position) (x : Man) (s : ℕ) (small : s < 64) (a o k : ℕ) (advances : a ≡ word (is_advance x.colour s))
@@ -211,26 +204,15 @@ unfolding is_arrival pseudo
 left_to_test rule p x m here h = search (rules, and_parts, last_two)
 
 middle : (a b c : Bool) → a ≡ true → c ≡ true → ((a && b) && c) ≡ b
-middle true true true h i = refl
-middle true false c h i = refl
-middle false b c h i = cc
-middle true true false h i = cc
+middle a b c h i = grind arith
 
 pub aimed_promotion : (rule : RuleSet) (p : Position) (m : Move) (k : Kind) → IsAimed rule p m → m.promo ≡ Some k → may_promote p k ≡ pseudo rule p m
 aimed_promotion rule p m k a e =
-    let named : arrives a.man m.to ≡ true = sym a.promotion ∙ ap (λ (o : Option Kind). is_some o) e in
-    let pawn : same_kind a.man.kind Pawn ≡ true = (and_parts _ _ named).0 in
-    let way : goes rule p a.man m ≡ true = goes_as_pawn rule p a.man m a.here pawn (may_go_aimed rule p a.man m a.here a.arrival) in
-    sym (left_to_test rule p a.man m a.here a.arrival ∙ ap (λ (o : Option Kind). is_promotion_right p a.man m o && goes rule p a.man m) e
-    ∙ middle (arrives a.man m.to) (may_promote p k) (goes rule p a.man m) named way)
+    grind (arith, and_parts, goes_as_pawn, may_go_aimed rule p a.man m a.here a.arrival, left_to_test rule p a.man m a.here a.arrival, middle)
 
 pub aimed_plain : (rule : RuleSet) (p : Position) (m : Move) (x : Man) → IsAimed rule p m → m.promo ≡ None → man_on p.men m.from ≡ Some x
     → goes rule p x m ≡ pseudo rule p m
-aimed_plain rule p m x a e here =
-    let same : a.man ≡ x = let both : Some a.man ≡ Some x = sym a.here ∙ here in cc in
-    let unnamed : arrives x m.to ≡ false = rw (← same) (sym a.promotion ∙ ap (λ (o : Option Kind). is_some o) e) in
-    sym (left_to_test rule p x m here a.arrival ∙ ap (λ (o : Option Kind). is_promotion_right p x m o && goes rule p x m) e
-    ∙ ap (λ (b : Bool). not b && goes rule p x m) unnamed)
+aimed_plain rule p m x a e here = grind (arith, left_to_test rule p x m here a.arrival)
 
 -- for the test of a move that is aimed
 pub ruleset aimed = (aimed_plain, aimed_promotion, may_go_aimed)

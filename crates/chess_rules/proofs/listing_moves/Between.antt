@@ -5,8 +5,7 @@ use Rattle.chess_rules.proofs.Chess.{HaveNone, Move, Position, RuleSet, legal, m
 use Rattle.chess_rules.proofs.listing_moves.Places.{drop_triples, drop_triples_past, over}
 
 take-none : (n : ℕ) → take {A = Move} n [] ≡ []
-take-none zero = refl
-take-none (suc n) = refl
+take-none n = grind arith
 
 pub between-none : (rule : RuleSet) (p : Position) (a b : ℕ) → b ≤ a → moves_between rule p a b ≡ []
 unfolding moves_between
@@ -35,8 +34,7 @@ between-none-legal rule p a b e =
 -- up to the first legal one, and where none is left before the end
 pub until-legal : (rule : RuleSet) (p : Position) (a n e : ℕ) → a ≤ n → n < e → n < 28672 → HaveNone (legal rule p) a n → legal rule p (triple_at n) ≡ true
     → moves_between rule p a e ≡ triple_at n ∷ moves_between rule p (n + 1) e
-until-legal rule p a n e low before fits none h =
-    between-none-legal rule p a n e (λ lt. low) (omega (arith, fits)) none ∙ between-here rule p n e fits before h
+until-legal rule p a n e low before fits none h = grind (arith, between-none-legal, between-here rule p n e fits before h)
 
 pub until-end : (rule : RuleSet) (p : Position) (a n e : ℕ) → n ≤ 28672 → n ≤ e → (n < 28672 → e ≤ n) → HaveNone (legal rule p) a n
     → moves_between rule p a e ≡ []

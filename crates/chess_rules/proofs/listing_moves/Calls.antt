@@ -1,5 +1,5 @@
 -- The calls of `next` over one position.
-use Rattle.chess_rules.proofs.Basics.{List, MatchOption, None, Option, Some, [], and_parts, ap, drop, refl, rules, slice_get, suc, sym, true, zero, ℕ, ◌+◌, ◌∙◌, ◌∷◌, ◌≡◌}
+use Rattle.chess_rules.proofs.Basics.{arith, List, MatchOption, None, Option, Some, [], and_parts, ap, drop, refl, rules, slice_get, suc, sym, true, zero, ℕ, ◌+◌, ◌∙◌, ◌∷◌, ◌≡◌}
 use Rattle.chess_rules.proofs.Chess.{Move, Position, RuleSet, legal, moves, moves_behind, place_of, pseudo}
 use Rattle.chess_rules.proofs.listing_moves.Places.{moves_behind-end}
 
@@ -30,13 +30,11 @@ pub step_on : (rule : RuleSet) (p : Position) (n place next : ℕ) (o : Option M
     → MatchOption o (moves_behind rule p place ≡ []) (λ m. moves_behind rule p place ≡ (m ∷ moves_behind rule p next))
     → moves_behind rule p next ≡ drop (n + 1) (moves rule p)
 unfolding place_of
-step_on rule p n place next None at e rest = search (rules, drop_none, moves_behind-end)
-step_on rule p n place next (Some m) at e rest = search (rules, drop_some)
+step_on rule p n place next o at e rest = grind (arith, drop_none, moves_behind-end, drop_some)
 
 pub answer_is : (rule : RuleSet) (p : Position) (n place next : ℕ) (o : Option Move) → moves_behind rule p place ≡ drop n (moves rule p)
     → MatchOption o (moves_behind rule p place ≡ []) (λ m. moves_behind rule p place ≡ (m ∷ moves_behind rule p next)) → o ≡ slice_get (moves rule p) n
-answer_is rule p n place next None at rest = sym (get_none (moves rule p) n (sym at ∙ rest))
-answer_is rule p n place next (Some m) at rest = sym (get_some (moves rule p) n m (moves_behind rule p next) (sym at ∙ rest))
+answer_is rule p n place next o at rest = grind (arith, get_none, get_some)
 
 -- a legal move may be made
 pub pseudo-from_legal : (rule : RuleSet) (p : Position) (m : Move) → legal rule p m ≡ true → pseudo rule p m ≡ true

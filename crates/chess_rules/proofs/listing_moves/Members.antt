@@ -1,5 +1,5 @@
 -- The elements of lists that are made of others, and lists whose elements stand in order.
-use Rattle.chess_rules.proofs.Basics.{AllPairs, Bool, Contains, Contains-append_cases, Contains-append_left, Contains-append_right, Contains-get_or, List, [], ap, arith, cases_eq, cond, false, false≢true, filter, flat_map, get_or, inl, inr, map, range_with_len, refl, suc, sym, true, zero, ℕ, ◌++◌, ◌+◌, ◌<◌, ◌∙◌, ◌∷◌, ◌≡◌, ◌≤◌, ◌⊎◌}
+use Rattle.chess_rules.proofs.Basics.{rules, AllPairs, Bool, Contains, Contains-append_cases, Contains-append_left, Contains-append_right, Contains-get_or, List, [], ap, arith, cases_eq, cond, false, false≢true, filter, flat_map, get_or, inl, inr, map, range_with_len, refl, suc, sym, true, zero, ℕ, ◌++◌, ◌+◌, ◌<◌, ◌∙◌, ◌∷◌, ◌≡◌, ◌≤◌, ◌⊎◌}
 use Rattle.std.proofs.lemmas.List.Kept.{AllPairs-cons}
 
 module _ {X : Type 0} where
@@ -14,24 +14,12 @@ module _ {X : Type 0} where
 
   -- the first, or one of the others
   pub in_cases : (y : X) (xs : List X) (x : X) → Contains (y ∷ xs) x → (y ≡ x) ⊎ Contains xs x
-  in_cases y xs x (zero, less, at) = inl at
-  in_cases y xs x (suc k, less, at) = inr (k, omega (arith, less), at)
+  in_cases y xs x h = grind arith
 
   -- the elements of a filter
   pub from_filter : (test : X → Bool) (xs : List X) (x : X) → Contains (filter test xs) x → Contains xs x × (test x ≡ true)
   from_filter test [] x c = absurd (none_in_nil x c)
-  from_filter test (y ∷ xs) x c = split (test y) refl (from_filter test xs x) c
-    where
-      later : Contains xs x × (test x ≡ true) → Contains (y ∷ xs) x × (test x ≡ true)
-      later w = (later_in y xs x w.0, w.1)
-
-      split : (b : Bool) → test y ≡ b → (Contains (filter test xs) x → Contains xs x × (test x ≡ true))
-          → Contains (cond b (y ∷ filter test xs) (filter test xs)) x → Contains (y ∷ xs) x × (test x ≡ true)
-      split true e rest h = elim (in_cases y (filter test xs) x h) [
-        | inl same ↦ ((0, omega arith, same), ap test (sym same) ∙ e)
-        | inr r ↦ later (rest r)
-      ]
-      split false e rest h = later (rest h)
+  from_filter test (y ∷ xs) x c = grind (arith, later_in, in_cases, from_filter test xs x)
 
   pub in_filter : (test : X → Bool) (xs : List X) (x : X) → Contains xs x → test x ≡ true → Contains (filter test xs) x
   in_filter test [] x c t = absurd (none_in_nil x c)

@@ -42,25 +42,21 @@ arrival_of rule p x m small here h = search (rules, and_from, and_parts, may_go_
 
 arrival_by : (rule : RuleSet) (p : Position) (m : Move) (o : Option Man) → m.to < 64 → man_on p.men m.from ≡ o → pseudo_of rule p o m ≡ true
     → is_arrival rule p m.from m.to ≡ true
-arrival_by rule p m None small here h = cc
-arrival_by rule p m (Some x) small here h = arrival_of rule p x m small here h
+arrival_by rule p m o small here h = grind (arith, arrival_of)
 
 pub arrival_needed : (rule : RuleSet) (p : Position) (m : Move) → m.to < 64 → pseudo rule p m ≡ true → is_arrival rule p m.from m.to ≡ true
 unfolding pseudo
 arrival_needed rule p m small h = arrival_by rule p m (man_on p.men m.from) small refl h
 
 pub false_by : (b : Bool) → (b ≡ true → ⊥) → b ≡ false
-false_by true h = absurd (h refl)
-false_by false h = refl
+false_by b h = grind arith
 
 -- a promotion is named exactly on the last rank
 promoted : (p : Position) (x : Man) (m : Move) (o : Option Kind) → is_promotion_right p x m o ≡ true → o ≡ None → arrives x m.to ≡ false
-promoted p x m None h e = search (rules, cases_Bool)
-promoted p x m (Some k) h e = cc
+promoted p x m o h e = grind (arith, cases_Bool)
 
 pub unpromoted : (p : Position) (x : Man) (m : Move) (o : Option Kind) (k : Kind) → is_promotion_right p x m o ≡ true → o ≡ Some k → arrives x m.to ≡ true
-unpromoted p x m None k h e = cc
-unpromoted p x m (Some j) k h e = (and_parts _ _ h).0
+unpromoted p x m o k h e = grind (arith, and_parts)
 
 no_promotion_here : (rule : RuleSet) (p : Position) (x : Man) (m : Move) (k : Kind) → man_on p.men m.from ≡ Some x → m.promo ≡ Some k → arrives x m.to ≡ false
     → pseudo rule p m ≡ false
@@ -101,14 +97,10 @@ pub from-missed : (p : Position) (s a b w : ℕ) → ((t : ℕ) → a / 7 ≤ t 
 from-missed p s a b w none = search rules
 
 pub some_named : (n : ℕ) → 1 ≤ n → n < 7 → is_some (promotion_at n) ≡ true
-some_named n lo hi =
-    let e : n - 1 + 1 ≡ n = omega arith in
-    let some : is_some (promotion_at (n - 1 + 1)) ≡ true = agree_below_at (λ j. is_some (promotion_at (j + 1))) (λ _. true) 6 (n - 1) refl (omega arith) in
-    rw e at some
+some_named n lo hi = grind (arith, agree_below_at)
 
 named_by : (o : Option Kind) → is_some o ≡ true → (k : Kind) × (o ≡ Some k)
-named_by None h = cc
-named_by (Some k) h = (k, refl)
+named_by o h = grind arith
 
 -- on another rank than the last there is no promotion
 pub from-unpromoted : (p : Position) (x : Man) (s z t a : ℕ) → man_on p.men s ≡ Some x → arrives x t ≡ false → 7 * t < a → IsBarrenFrom p s z a (7 * t + 7)
@@ -135,9 +127,7 @@ from-target p s start at t w past f = search rules
 
 pub from-first : (p : Position) (x : Man) (s start at t w n : ℕ) → man_on p.men s ≡ Some x → IsBarrenFrom p s w start at
     → find (λ q. bit_at w q == 1) (range_with_len (at / 7) (64 - at / 7)) ≡ Some t → arrives x t ≡ true → n ≡ 7 * t → IsBarrenFrom p s w start (n + 1)
-from-first p x s start at t w n here past found last e =
-    rw e (from-join p s w start (7 * t) (7 * t + 1) (from-target p s start at t w past (find_first (λ q. bit_at w q == 1) (at / 7) (64 - at / 7) t found))
-    (from-promoted p x s w t here last))
+from-first p x s start at t w n here past found last e = search (rules, from-join, from-target p s start, find_first, from-promoted p x s w t here last)
 
 -- up to the end, where there is none
 pub from-none : (p : Position) (s start at w : ℕ) → IsBarrenFrom p s w start at → find (λ q. bit_at w q == 1) (range_with_len (at / 7) (64 - at / 7)) ≡ None
@@ -160,16 +150,12 @@ from-plain p x s a w here h = elim (cases_eq (a % 7) 0) [
 pub plain-target : (p : Position) (x : Man) (s start t w : ℕ) → man_on p.men s ≡ Some x → same_kind x.kind Pawn ≡ false
     → IsFirst (λ q. bit_at w q == 1) ((start + 6) / 7) (64 - (start + 6) / 7) t
     → IsBarrenFrom p s w start (7 * t)
-plain-target p x s start t w here h f =
-    let at : 7 * ((start + 6) / 7) / 7 ≡ (start + 6) / 7 = omega arith in
-    from-target p s start (7 * ((start + 6) / 7)) t w (from-plain p x s start w here h) (rw at f)
+plain-target p x s start t w here h f = grind (arith, from-target, from-plain p x s start w here h)
 
 pub plain-none : (p : Position) (x : Man) (s start w : ℕ) → man_on p.men s ≡ Some x → same_kind x.kind Pawn ≡ false
     → find (λ q. bit_at w q == 1) (range_with_len ((start + 6) / 7) (64 - (start + 6) / 7)) ≡ None
     → IsBarrenFrom p s w start 448
-plain-none p x s start w here h none =
-    let at : 7 * ((start + 6) / 7) / 7 ≡ (start + 6) / 7 = omega arith in
-    from-none p s start (7 * ((start + 6) / 7)) w (from-plain p x s start w here h) (rw at none)
+plain-none p x s start w here h none = search (rules, from-none, from-plain p x s start w here h)
 
 -- the triple that is found
 pub named_at : (p : Position) (x : Man) (s t n w : ℕ) → man_on p.men s ≡ Some x → (bit_at w t == 1) ≡ true → n / 7 ≡ t
@@ -181,9 +167,7 @@ none_named n e = rw e refl
 
 pub plain-named : (p : Position) (x : Man) (s t w : ℕ) → man_on p.men s ≡ Some x → same_kind x.kind Pawn ≡ false → (bit_at w t == 1) ≡ true
     → IsNamed p s w (7 * t)
-plain-named p x s t w here h set =
-    let zero : 7 * t % 7 ≡ 0 = omega arith in
-    named_at p x s t (7 * t) w here set (omega arith) (none_named (7 * t % 7) zero ∙ sym (no_pawn_promotes x t h))
+plain-named p x s t w here h set = grind (arith, named_at, none_named, no_pawn_promotes)
 
 pub every_square_on : (t : ℕ) → t < 64 → (bit_at (bit_not w64 0) t == 1) ≡ true
 every_square_on t lt = agree_below_at (λ n. bit_at (bit_not w64 0) n == 1) (λ _. true) 64 t refl lt

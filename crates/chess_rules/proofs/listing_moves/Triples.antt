@@ -36,11 +36,7 @@ next_rises n less = search rules
 
 later_rises : (d n : ℕ) → n + suc d < 28672 → triple_number (triple_at n) < triple_number (triple_at (n + suc d))
 later_rises zero n less = let e : n + 1 ≡ n + suc zero = omega arith in rw (← e) (next_rises n (omega (arith, less)))
-later_rises (suc d) n less =
-    let a : triple_number (triple_at n) < triple_number (triple_at (n + suc d)) = later_rises d n (omega (arith, less)) in
-    let b : triple_number (triple_at (n + suc d)) < triple_number (triple_at (n + suc d + 1)) = next_rises (n + suc d) (omega (arith, less)) in
-    let e : n + suc (suc d) ≡ n + suc d + 1 = omega arith in
-    rw e (omega (arith, a, b))
+later_rises (suc d) n less = grind (arith, next_rises, later_rises d n (omega (arith, less)))
 
 -- the numbers of a range rise
 range_rises : (a n : ℕ) → AllPairs (λ j k. (j < k) × (k < a + n)) (range_with_len a n)
@@ -83,18 +79,10 @@ hop_on_board men s t d h = search (rules, some_passes, stays_on_board)
 
 reach_as_on_board : (men : List (Option Man)) (c : Colour) (k : Kind) (s t : ℕ) → reaches_as men c k s t ≡ true → t < 64
 unfolding reaches_as
-reach_as_on_board men c King s t h = some_passes (leaps s t) queen_steps (λ d. leap_on_board s t d) h
-reach_as_on_board men c Queen s t h = some_passes (rides men s t) queen_steps (λ d. ride_on_board men s t d) h
-reach_as_on_board men c Rook s t h = some_passes (rides men s t) straight_steps (λ d. ride_on_board men s t d) h
-reach_as_on_board men c Bishop s t h = some_passes (rides men s t) diagonal_steps (λ d. ride_on_board men s t d) h
-reach_as_on_board men c Knight s t h = some_passes (leaps s t) knight_steps (λ d. leap_on_board s t d) h
-reach_as_on_board men c Pawn s t h = some_passes (leaps s t) (pawn_captures c) (λ d. leap_on_board s t d) h
-reach_as_on_board men c Grasshopper s t h = some_passes (hops men s t) queen_steps (λ d. hop_on_board men s t d) h
-reach_as_on_board men c Nightrider s t h = some_passes (rides men s t) knight_steps (λ d. ride_on_board men s t d) h
+reach_as_on_board men c k s t h = grind (arith, some_passes, leap_on_board, ride_on_board, hop_on_board)
 
 reach_of_on_board : (men : List (Option Man)) (o : Option Man) (s t : ℕ) → reaches_of men o s t ≡ true → t < 64
-reach_of_on_board men None s t h = absurd (false≢true h)
-reach_of_on_board men (Some x) s t h = reach_as_on_board men x.colour x.kind s t h
+reach_of_on_board men o s t h = grind (arith, false≢true, reach_as_on_board)
 
 reach_on_board : (men : List (Option Man)) (s t : ℕ) → reaches men s t ≡ true → t < 64
 unfolding reaches
@@ -118,8 +106,7 @@ may_be_promoted p Grasshopper h = (5, omega arith, refl)
 may_be_promoted p Nightrider h = (6, omega arith, refl)
 
 promotion_is_one : (p : Position) (x : Man) (m : Move) (r : Option Kind) → is_promotion_right p x m r ≡ true → Contains promotions r
-promotion_is_one p x m None h = (0, omega arith, refl)
-promotion_is_one p x m (Some k) h = may_be_promoted p k (and_parts _ _ h).1
+promotion_is_one p x m r h = grind (arith, may_be_promoted, and_parts)
 
 pub made_is_triple : (rule : RuleSet) (p : Position) (m : Move) → length p.men ≡ 64 → pseudo rule p m ≡ true
     → (m.from < 64) × (m.to < 64) × Contains promotions m.promo
@@ -138,8 +125,7 @@ by_parts m n a b = search rules
 
 -- a list without elements
 pub nothing_in : (ms : List Move) → is_nil ms ≡ true → (m : Move) → Contains ms m → ⊥
-nothing_in [] h m c = none_in_nil m c
-nothing_in (x ∷ ms) h m c = false≢true h
+nothing_in ms h m c = grind (arith, none_in_nil, false≢true)
 
 pub nil_where_nothing : (ms : List Move) → ((m : Move) → Contains ms m → ⊥) → is_nil ms ≡ true
 nil_where_nothing [] h = refl

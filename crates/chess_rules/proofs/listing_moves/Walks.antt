@@ -47,20 +47,13 @@ module _ (rule : RuleSet) (p : Position) (test : Move → Bool) (needs : (m : Mo
   -- the squares of the side to move are all its origins
   pub own-origins : (o : ℕ) → o ≡ side_of p.men p.turn → AreOrigins test o
   unfolding side_of
-  own-origins o h = record {
-    elsewhere = λ m inside small off.
-        needs m (own_moves p rule m (man_on p.men m.from) refl (sym (word_has (λ s. is_side (man_on p.men s) p.turn) o m.from h inside) ∙ off));
-  }
+  own-origins o h = grind (arith, own_moves, word_has)
 
   -- none of the squares from the first one on and before the next origin is in the word
   none-missed : (a b o : ℕ) → AreOrigins test o → b ≤ 28672 → ((s : ℕ) → a / 448 ≤ s → s < (b + 447) / 448 → (bit_at o s == 1) ≡ false)
       → HaveNone test a b
   unfolding triple_at
-  none-missed a b o h le none = record {
-    fails = λ k lo hi.
-        h.elsewhere (record { from = k / 448; to = k / 7 % 64; promo = promotion_at (k % 7) }) (omega (arith, hi, le)) (omega arith)
-        (none (k / 448) (omega (arith, lo)) (omega (arith, hi)));
-  }
+  none-missed a b o h le none = grind arith
 
   -- up to a triple of the next origin
   pub none-origin : (start number s a o w n z : ℕ) → AreOrigins test o → HaveNone test start number

@@ -19,17 +19,14 @@ taken_there : (rule : RuleSet) (p : Position) (x : Man) (m : Move) → IsMade ru
 taken_there rule p x m made e = search rules
 
 pub is_square-some : (o : Option ℕ) (t : ℕ) → is_square o t ≡ true → o ≡ Some t
-is_square-some None t h = cc
-is_square-some (Some s) t h = ap (λ (k : ℕ). Some k) (eqb-true s t h)
+is_square-some o t h = grind (arith, eqb-true)
 
 is_man-some : (o : Option Man) (c : Colour) (k : Kind) → is_man o c k ≡ true
     → (y : Man) × ((o ≡ Some y) × ((same_colour y.colour c ≡ true) × (same_kind y.kind k ≡ true)))
-is_man-some None c k h = cc
-is_man-some (Some y) c k h = (y, (refl, and_parts _ _ h))
+is_man-some o c k h = grind (arith, and_parts)
 
 pub pawn_is_no_king : (k : Kind) → same_kind k Pawn ≡ true → same_kind k King ≡ false
-pawn_is_no_king Pawn h = refl
-pawn_is_no_king k h = cc
+pawn_is_no_king k h = grind arith
 
 other_colours : (x y : Man) (c d : Colour) → x.colour ≡ c → same_colour y.colour d ≡ true → same_colour c d ≡ false → (o : Option Man) → o ≡ Some x
     → o ≡ Some y → ⊥
@@ -38,8 +35,7 @@ other_colours x y c d a b ne o e f = search rules
 -- en passant: behind the crossed square stands the pawn that passed it
 taken_passing : (c : Colour) (p : Position) (x : Man) (m : Move) (s : ℕ) → p.turn ≡ c → x.colour ≡ c → man_on p.men m.from ≡ Some x → IsPawnTake c m.from m.to
     → was_passed p.men c m.to ≡ true → IsAt (file_of m.to) (rank_of m.from) s → IsTaken p m s
-taken_passing White p x m s turn mine here take passed at = search (rules, and_parts, eqb-true, is_man-some, other_colours, pawn_is_no_king)
-taken_passing Black p x m s turn mine here take passed at = search (rules, and_parts, eqb-true, is_man-some, other_colours, pawn_is_no_king)
+taken_passing c p x m s turn mine here take passed at = grind (arith, and_parts, eqb-true, is_man-some, other_colours, pawn_is_no_king)
 
 -- a pawn that leaves its file captures
 pub diagonal_takes : (rule : RuleSet) (p : Position) (x : Man) (m : Move) → IsMade rule p x m → same_kind x.kind Pawn ≡ true → is_diagonal m ≡ true
@@ -75,24 +71,19 @@ taken rule p x m s well made h = elim (cases_Bool (is_some (man_on p.men m.to)))
 ]
 
 promoted_no_king : (p : Position) (k : Kind) → may_promote p k ≡ true → same_kind k King ≡ false
-promoted_no_king p King h = cc
-promoted_no_king p Pawn h = cc
-promoted_no_king p k h = refl
+promoted_no_king p k h = grind arith
 
 -- a king that arrives is the king that went
 pub arriving_king : (p : Position) (x : Man) (m : Move) (r : Option Kind) → is_promotion_right p x m r ≡ true → same_kind (arriving x r).kind King ≡ true
     → arriving x r ≡ x
-arriving_king p x m None right king = refl
-arriving_king p x m (Some k) right king = search (rules, and_parts, promoted_no_king)
+arriving_king p x m r right king = grind (arith, and_parts, promoted_no_king)
 
 without_at-no_king : (men : List (Option Man)) (o : Option ℕ) (c : Colour) → HasNoKing men c → HasNoKing (without_at men o) c
-without_at-no_king men None c none = none
-without_at-no_king men (Some s) c none = search (rules, false_from_ne_true, is_man-without)
+without_at-no_king men o c none = grind (arith, false_from_ne_true, is_man-without)
 
 -- what isn't taken off stands
 pub man_on-without_at : (men : List (Option Man)) (o : Option ℕ) (t : ℕ) → ((s : ℕ) → o ≡ Some s → t ≢ s) → man_on (without_at men o) t ≡ man_on men t
-man_on-without_at men None t ne = refl
-man_on-without_at men (Some s) t ne = man_on-without_other men s t (ne s refl)
+man_on-without_at men o t ne = grind (arith, man_on-without_other)
 
 some-is_some : (men : List (Option Man)) (s : ℕ) (y : Man) → man_on men s ≡ Some y → IsSome (man_on men s)
 some-is_some men s y e = rw e (search rules)
@@ -112,8 +103,7 @@ abbrev pub arrived : Position → Man → Move → List (Option Man)
 arrived p x m = with_man (without_at (without_man p.men m.from) (capture_square p x m)) m.to (arriving x m.promo)
 
 pub kind_is_king : (k : Kind) → same_kind k King ≡ true → k ≡ King
-kind_is_king King h = refl
-kind_is_king k h = cc
+kind_is_king k h = grind arith
 
 -- a king's step isn't castling
 pub king_no_step : (p : Position) (x : Man) (m : Move) → IsWellFormed p → man_on p.men m.from ≡ Some x → is_castling x m ≡ true → same_kind x.kind King ≡ true
@@ -153,8 +143,7 @@ corner_stays p x m piece castle =
     (λ s cap e. off (e ∙ capture_of_piece p x m s piece cap)) off
 
 rook_is_no_king : (k : Kind) → same_kind k Rook ≡ true → same_kind k King ≡ false
-rook_is_no_king Rook h = refl
-rook_is_no_king k h = cc
+rook_is_no_king k h = grind arith
 
 can_castle : (rule : RuleSet) (p : Position) (x : Man) (m : Move) → IsWellFormed p → IsMade rule p x m → is_castling x m ≡ true
     → CanCastle (arrived p x m) (corner m) (halfway m)

@@ -1,5 +1,5 @@
 -- What a move that may be made is made of, check to the mover apart.
-use Rattle.chess_rules.proofs.Basics.{List, None, Option, Some, and_parts, cases_lt, cond-false, cond-true, eqb-true, false, get_or_past, inl, inr, le-ltb, length, list_any, lt-ltb, nat_lt, or_cases, refl, rules, true, ℕ, ◌+◌, ◌<◌, ◌≡◌, ◌≢◌, ◌⊎◌}
+use Rattle.chess_rules.proofs.Basics.{arith, List, None, Option, Some, and_parts, cases_lt, cond-false, cond-true, eqb-true, false, get_or_past, inl, inr, le-ltb, length, list_any, lt-ltb, nat_lt, or_cases, refl, rules, true, ℕ, ◌+◌, ◌<◌, ◌≡◌, ◌≢◌, ◌⊎◌}
 use Rattle.chess_rules.proofs.Chess.{Black, Colour, IsWellFormed, Kind, King, Man, Move, Pawn, Position, Rook, RuleSet, White, along, along-is, castles, corner, file_of, forward, goes, halfway, is_arrival_free, is_home, is_home-none, is_home-square, is_promotion_right, is_square, leaps, man_on, may_castle, pawn_captures, pawn_steps, pawn_takes, pseudo, rank_of, reaches, reaches_as, same_colour-true, same_kind, second_rank}
 use Rattle.chess_rules.proofs.making_moves.Castles.{no_man}
 
@@ -26,12 +26,10 @@ pub ways : (rule : RuleSet) (p : Position) (x : Man) (m : Move) → goes rule p 
 ways rule p x m h = search rules
 
 pub kind_is_pawn : (k : Kind) → same_kind k Pawn ≡ true → k ≡ Pawn
-kind_is_pawn Pawn h = refl
-kind_is_pawn k h = cc
+kind_is_pawn k h = grind arith
 
 pub king_is_no_pawn : (k : Kind) → same_kind k King ≡ true → same_kind k Pawn ≡ false
-king_is_no_pawn King h = refl
-king_is_no_pawn k h = cc
+king_is_no_pawn k h = grind arith
 
 -- a square with a man is one of the 64
 pub on_board : (men : List (Option Man)) (s : ℕ) (x : Man) → length men ≡ 64 → man_on men s ≡ Some x → s < 64
@@ -50,8 +48,7 @@ pub record IsPawnTake (c : Colour) (s t : ℕ) : Type 0 where
 
 pawn_leaps : (c : Colour) (s t : ℕ) → list_any (leaps s t) (pawn_captures c) ≡ true → IsPawnTake c s t
 unfolding leaps
-pawn_leaps White s t h = search (rules, along-is, or_cases)
-pawn_leaps Black s t h = search (rules, along-is, or_cases)
+pawn_leaps c s t h = grind (arith, along-is, or_cases)
 
 pub pawn_reaches : (men : List (Option Man)) (x : Man) (s t : ℕ) → man_on men s ≡ Some x → same_kind x.kind Pawn ≡ true → reaches men s t ≡ true
     → IsPawnTake x.colour s t
@@ -73,12 +70,10 @@ pub record IsAhead (c : Colour) (s t n : ℕ) : Type 0 where
   pub small : t < 64
 
 ahead_one : (c : Colour) (s t : ℕ) → is_square (along s (forward c) 1) t ≡ true → IsAhead c s t 1
-ahead_one White s t h = search (rules, along-is)
-ahead_one Black s t h = search (rules, along-is)
+ahead_one c s t h = grind (arith, along-is)
 
 ahead_two : (c : Colour) (s t : ℕ) → is_square (along s (forward c) 2) t ≡ true → IsAhead c s t 2
-ahead_two White s t h = search (rules, along-is)
-ahead_two Black s t h = search (rules, along-is)
+ahead_two c s t h = grind (arith, along-is)
 
 pub pawn_goes : (p : Position) (x : Man) (m : Move) → pawn_steps p x m ≡ true → IsPawnStep p x m
 pawn_goes p x m h =

@@ -15,8 +15,7 @@ abbrev cleared : Position → Man → Move → List (Option Man)
 cleared p x m = without_at (without_man p.men m.from) (capture_square p x m)
 
 length-without_at : (men : List (Option Man)) (o : Option ℕ) → length (without_at men o) ≡ length men
-length-without_at men None = refl
-length-without_at men (Some s) = length-set men s None
+length-without_at men o = grind (arith, length-set)
 
 arrived_there : (p : Position) (x : Man) (m : Move) → length p.men ≡ 64 → m.to < 64 → man_on (arrived p x m) m.to ≡ Some (arriving x m.promo)
 arrived_there p x m size small = search rules
@@ -35,8 +34,7 @@ moved_arrival rule p x m well made small = elim (cases_Bool (is_castling x m)) [
 
 -- a promoted man was a pawn
 leaving_arriving : (p : Position) (x : Man) (m : Move) (r : Option Kind) → is_promotion_right p x m r ≡ true → leaving (arriving x r) r ≡ x
-leaving_arriving p x m None h = refl
-leaving_arriving p x m (Some k) h = search (rules, and_parts, kind_is_pawn)
+leaving_arriving p x m r h = grind (arith, and_parts, kind_is_pawn)
 
 -- the rook that castles
 rook_stands : (p : Position) (m : Move) → IsCastle p m → (z : Man) × (man_on p.men (corner m) ≡ Some z)
@@ -94,19 +92,7 @@ castle_back : (rule : RuleSet) (p : Position) (x : Man) (m : Move) → IsWellFor
     → CanCastle (moved_men p x m) (halfway m) (corner m)
 unfolding moved_men
 castle_back rule p x m well made e =
-    search (
-      rules,
-      arrived,
-      can_move,
-      castle_of,
-      corner_stays,
-      length-set,
-      length-without_at,
-      lift_after_place,
-      man_on-with_same,
-      man_on-without_same,
-      rook_stands,
-    )
+    grind (arith, can_move, castle_of, corner_stays, length-set, length-without_at, lift_after_place, man_on-with_same, man_on-without_same, rook_stands)
 
 pub can_return : (rule : RuleSet) (p : Position) (x : Man) (m : Move) (u : Loss) → IsWellFormed p → IsMade rule p x m → m.to < 64 → u ≡ loss_by rule p x m
     → CanReturn (moved_men p x m) x m u
@@ -147,10 +133,7 @@ before_is rule p x m u well made lost = search (rules, place_after_lift, returne
 pub reborn_stands : (rule : RuleSet) (p : Position) (x : Man) (m : Move) (s : ℕ) → IsWellFormed p → IsMade rule p x m → reborn_square rule p x m ≡ Some s
     → IsSome (man_on (put_at (moved_men p x m) (reborn_square rule p x m) (man_on_at p.men (capture_square p x m))) s)
 reborn_stands rule p x m s well made e =
-    let b = reborn_is rule p x m s e in
-    let size = (moved_sound rule p x m well made).size in
-    let small : s < 64 = rebirth_small b.man.colour b.man.kind b.square s b.home in
-    rw (e, b.who) (some_there _ b.man (man_on-with_same (moved_men p x m) s b.man (omega arith)))
+    grind (arith, reborn_is rule p x m s e, moved_sound rule p x m well made, made, rebirth_small, some_there, man_on-with_same)
 
 pub undo_is : (rule : RuleSet) (p : Position) (x : Man) (m : Move) → man_on p.men m.from ≡ Some x → undo_of rule p m ≡ loss_by rule p x m
 unfolding undo_of
@@ -174,9 +157,7 @@ can_take_off rule q p m u s well may now was e =
 off_is : (rule : RuleSet) (q q2 p : Position) (x : Man) (m : Move) (u : Loss) → man_on p.men m.from ≡ Some x → q ≡ after rule p m → u ≡ loss_by rule p x m
     → q2 ≡ record q { men = without_at q.men u.rebirth } → q2 ≡ record (after_by rule p x m) { men = moved_men p x m }
 unfolding loss_by after_by
-off_is rule q q2 p x m u here now lost off =
-    let q_is = now ∙ after_is rule p x m here in
-    rw (off, q_is, lost) (ap (λ (l : List (Option Man)). record (after_by rule p x m) { men = l }) (unreborn rule p x m))
+off_is rule q q2 p x m u here now lost off = grind (arith, after_is rule p x m here, unreborn rule p x m)
 
 -- the man found on the arrival, and what taking the move back then needs and gives
 pub record GoesBack (q2 p : Position) (m : Move) (u : Loss) (a : ℕ) (r : Option Kind) : Type 0 where

@@ -16,20 +16,13 @@ pub record IsSound (men : List (Option Man)) : Type 0 where
 -- on a square after a man was put on another or the same
 pub man_on-with_cases : (men : List (Option Man)) (s t : ℕ) (y : Man)
     → ((t ≡ s) × (man_on (with_man men s y) t ≡ Some y)) ⊎ (man_on (with_man men s y) t ≡ man_on men t)
-man_on-with_cases men s t y = elim (cases_eq t s) [
-  | inl same ↦ elim (cases_lt s (length men)) [
-    | inl lt ↦ inl (same, rw same (man_on-with_same men s y lt))
-    | inr ge ↦ inr (ap (λ (l : List (Option Man)). man_on l t) (set_past men s (Some y) ge))
-  ]
-  | inr ne ↦ inr (man_on-with_other men s t y ne)
-]
+man_on-with_cases men s t y = grind (arith, cases_eq t s, cases_lt s (length men), man_on-with_same, set_past, man_on-with_other)
 
 IsSound-without : (men : List (Option Man)) (s : ℕ) → IsSound men → IsSound (without_man men s)
 IsSound-without men s sound = search (rules, length-set, AtMostOneKing-without, cases_eq, man_on-without_same, man_on-without_other)
 
 IsSound-without_at : (men : List (Option Man)) (o : Option ℕ) → IsSound men → IsSound (without_at men o)
-IsSound-without_at men None sound = sound
-IsSound-without_at men (Some s) sound = IsSound-without men s sound
+IsSound-without_at men o sound = search (rules, IsSound-without)
 
 IsSound-with : (men : List (Option Man)) (s : ℕ) (y : Man) → IsSound men → is_pawn_inside (Some y) s ≡ true
     → (same_kind y.kind King ≡ true → HasNoKing men y.colour) → IsSound (with_man men s y)
@@ -49,17 +42,13 @@ pawn_ranks y s pawn h = search rules
 -- a pawn's way from a rank inside to one that isn't the last
 onward : (c : Colour) (s t n : ℕ) → 2 ≤ rank_of s → rank_of s ≤ 7 → t < 64 → Advances c s t n → 1 ≤ n → eqb (rank_of t) (last_rank c) ≡ false
     → (2 ≤ rank_of t) × (rank_of t ≤ 7)
-onward White s t n low high small adv one last = search (rules, cases_eq, eq-eqb)
-onward Black s t n low high small adv one last = search (rules, cases_eq, eq-eqb)
+onward c s t n low high small adv one last = grind (arith, cases_eq, eq-eqb)
 
 promoted_no_pawn : (p : Position) (k : Kind) → may_promote p k ≡ true → same_kind k Pawn ≡ false
-promoted_no_pawn p King h = cc
-promoted_no_pawn p Pawn h = cc
-promoted_no_pawn p k h = refl
+promoted_no_pawn p k h = grind arith
 
 and_false_right : (a b : Bool) → a ≡ true → (a && b) ≡ false → b ≡ false
-and_false_right true b h e = e
-and_false_right false b h e = cc
+and_false_right a b h e = grind arith
 
 -- the man that arrives stands where he may
 arriving_inside : (rule : RuleSet) (p : Position) (x : Man) (m : Move) (r : Option Kind) → IsWellFormed p → IsMade rule p x m
@@ -69,8 +58,7 @@ arriving_inside rule p x m None well made right =
     search (rules, and_false_right, and_parts, cases_Bool, not-true, onward, other_inside, pawn_goes, pawn_inside, pawn_ranks, pawn_reaches, ways)
 
 rook_is_no_pawn : (k : Kind) → same_kind k Rook ≡ true → same_kind k Pawn ≡ false
-rook_is_no_pawn Rook h = refl
-rook_is_no_pawn k h = cc
+rook_is_no_pawn k h = grind arith
 
 arrived_sound : (rule : RuleSet) (p : Position) (x : Man) (m : Move) → IsWellFormed p → IsMade rule p x m → IsSound (arrived p x m)
 arrived_sound rule p x m well made =
@@ -82,8 +70,7 @@ arrived_sound rule p x m well made =
 -- the men once a rook has gone to the square between
 castled_sound : (men : List (Option Man)) (a b : ℕ) (o : Option Man) → IsSound men
     → ((z : Man) → o ≡ Some z → (same_kind z.kind King ≡ false) × (same_kind z.kind Pawn ≡ false)) → IsSound (move_man men a b o)
-castled_sound men a b None sound rook = sound
-castled_sound men a b (Some z) sound rook = search (rules, IsSound-with, IsSound-without, other_inside)
+castled_sound men a b o sound rook = search (rules, IsSound-with, IsSound-without, other_inside)
 
 pub moved_sound : (rule : RuleSet) (p : Position) (x : Man) (m : Move) → IsWellFormed p → IsMade rule p x m → IsSound (moved_men p x m)
 unfolding moved_men
@@ -108,20 +95,15 @@ pub record IsReborn (circe : Bool) (men : List (Option Man)) (o : Option Man) (c
   pub empty : man_on men r ≡ None
 
 if_empty-parts : (men : List (Option Man)) (o : Option ℕ) (r : ℕ) → if_empty men o ≡ Some r → (o ≡ Some r) × (man_on men r ≡ None)
-if_empty-parts men None r h = cc
-if_empty-parts men (Some s) r h = search (rules, cases_Bool, cond-false, cond-true, none_from_is_some)
+if_empty-parts men o r h = grind (arith, cases_Bool, cond-false, cond-true, none_from_is_some)
 
 reborn_parts : (circe : Bool) (men : List (Option Man)) (o : Option Man) (c : Option ℕ) (r : ℕ) → reborn_at circe men o c ≡ Some r → IsReborn circe men o c r
-reborn_parts circe men None c r h = cc
-reborn_parts circe men (Some y) None r h = cc
-reborn_parts true men (Some y) (Some s) r h = search (rules, if_empty-parts)
-reborn_parts false men (Some y) (Some s) r h = cc
+reborn_parts circe men o c r h = grind (arith, if_empty-parts)
 
 -- a pawn is reborn on rank 2 or 7
 pawn_reborn : (c : Colour) (s r : ℕ) → rebirth c Pawn s ≡ Some r → (2 ≤ rank_of r) × (rank_of r ≤ 7)
 unfolding rebirth
-pawn_reborn White s r h = let i : IsAt (file_of s) 2 r = square_at-is _ _ r (rw h (eq-eqb r r refl)) in (omega arith, omega arith)
-pawn_reborn Black s r h = let i : IsAt (file_of s) 7 r = square_at-is _ _ r (rw h (eq-eqb r r refl)) in (omega arith, omega arith)
+pawn_reborn c s r h = grind (arith, square_at-is, eq-eqb)
 
 reborn_inside : (y : Man) (s r : ℕ) → rebirth y.colour y.kind s ≡ Some r → is_pawn_inside (Some y) r ≡ true
 reborn_inside y s r h = search (rules, kind_is_pawn, other_inside, pawn_inside, pawn_reborn)
@@ -129,16 +111,13 @@ reborn_inside y s r h = search (rules, kind_is_pawn, other_inside, pawn_inside, 
 -- a rook is reborn on a corner of its side
 rook_reborn : (y : Man) (c : Colour) (s r : ℕ) → is_man (Some y) c Rook ≡ true → rebirth c Rook s ≡ Some r → is_home (Some y) r ≡ true
 unfolding rebirth is_home
-rook_reborn y White s r is h = search (rules, cases_Bool)
-rook_reborn y Black s r is h = search (rules, cases_Bool)
+rook_reborn y c s r is h = grind (arith, cases_Bool)
 
 kind_is_rook : (k : Kind) → same_kind k Rook ≡ true → k ≡ Rook
-kind_is_rook Rook h = refl
-kind_is_rook k h = cc
+kind_is_rook k h = grind arith
 
 pub colour_self : (c : Colour) → same_colour c c ≡ true
-colour_self White = refl
-colour_self Black = refl
+colour_self c = grind arith
 
 reborn_rook_home : (y : Man) (s r : ℕ) → same_kind y.kind Rook ≡ true → rebirth y.colour y.kind s ≡ Some r → is_home (Some y) r ≡ true
 reborn_rook_home y s r rook h =
@@ -148,13 +127,10 @@ reborn_rook_home y s r rook h =
 -- the men once a man is reborn
 reborn_sound : (men : List (Option Man)) (o : Option ℕ) (y : Option Man) → IsSound men
     → ((r : ℕ) (z : Man) → o ≡ Some r → y ≡ Some z → (is_pawn_inside (Some z) r ≡ true) × (same_kind z.kind King ≡ false)) → IsSound (put_at men o y)
-reborn_sound men None y sound h = sound
-reborn_sound men (Some r) None sound h = sound
-reborn_sound men (Some r) (Some z) sound h = search (rules, IsSound-with)
+reborn_sound men o y sound h = search (rules, IsSound-with)
 
 captured_there : (men : List (Option Man)) (c : Option ℕ) (z : Man) → man_on_at men c ≡ Some z → (s : ℕ) × ((c ≡ Some s) × (man_on men s ≡ Some z))
-captured_there men None z h = cc
-captured_there men (Some s) z h = (s, (refl, h))
+captured_there men c z h = grind arith
 
 -- the man that was captured is no king, and an enemy
 captured : (rule : RuleSet) (p : Position) (x : Man) (m : Move) (z : Man) → IsWellFormed p → IsMade rule p x m
@@ -214,8 +190,7 @@ home_stays p x m t well left = rw (arrived_other p x m t left.from left.capture 
 
 -- elsewhere than on the two squares of the rook nothing changes
 pub move_man_other : (men : List (Option Man)) (a b : ℕ) (o : Option Man) (t : ℕ) → t ≢ a → t ≢ b → man_on (move_man men a b o) t ≡ man_on men t
-move_man_other men a b None t na nb = refl
-move_man_other men a b (Some y) t na nb = man_on-with_other (without_man men a) b t y nb ∙ man_on-without_other men a t na
+move_man_other men a b o t na nb = grind (arith, man_on-with_other, man_on-without_other)
 
 moved_home : (rule : RuleSet) (p : Position) (x : Man) (m : Move) → IsWellFormed p → IsMade rule p x m → AreHome (stayed p x m) (moved_men p x m)
 unfolding moved_men
@@ -240,10 +215,7 @@ moved_home rule p x m well made = λ t h. elim (cases_Bool (is_castling x m)) [
 reborn_home : (u : Unmoved) (men : List (Option Man)) (o : Option ℕ) (y : Option Man) → length men ≡ 64 → AreHome u men
     → ((r : ℕ) → o ≡ Some r → (man_on men r ≡ None) × ((r < 64) × ((z : Man) × ((y ≡ Some z) × (same_kind z.kind Rook ≡ true → is_home (Some z) r ≡ true)))))
     → AreHome (unmoved_with_rook u o y) (put_at men o y)
-reborn_home u men None y size homes h = homes
-reborn_home u men (Some r) None size homes h = λ t e. let bad = (h r refl).1.1.1.0 in cc
-reborn_home u men (Some r) (Some z) size homes h =
-    search (rules, cases_Bool, cases_eq, has_unmoved-mark_other, is_home-none, man_on-with_other, man_on-with_same)
+reborn_home u men o y size homes h = grind (arith, cases_Bool, cases_eq, has_unmoved-mark_other, is_home-none, man_on-with_other, man_on-with_same)
 
 shade_small : (s a b r : ℕ) → a < 64 → b < 64 → by_shade s a b ≡ Some r → r < 64
 shade_small s a b r la lb h = search rules
@@ -253,22 +225,7 @@ at_small f k r h = let i : IsAt f k r = square_at-is f k r (rw h (eq-eqb r r ref
 
 pub rebirth_small : (c : Colour) (k : Kind) (s r : ℕ) → rebirth c k s ≡ Some r → r < 64
 unfolding rebirth
-rebirth_small White King s r h = cc
-rebirth_small Black King s r h = cc
-rebirth_small White Queen s r h = let e : 3 ≡ r = cc in omega arith
-rebirth_small Black Queen s r h = let e : 59 ≡ r = cc in omega arith
-rebirth_small White Rook s r h = shade_small s 7 0 r (omega arith) (omega arith) h
-rebirth_small Black Rook s r h = shade_small s 56 63 r (omega arith) (omega arith) h
-rebirth_small White Bishop s r h = shade_small s 5 2 r (omega arith) (omega arith) h
-rebirth_small Black Bishop s r h = shade_small s 58 61 r (omega arith) (omega arith) h
-rebirth_small White Knight s r h = shade_small s 1 6 r (omega arith) (omega arith) h
-rebirth_small Black Knight s r h = shade_small s 62 57 r (omega arith) (omega arith) h
-rebirth_small White Pawn s r h = at_small (file_of s) 2 r h
-rebirth_small Black Pawn s r h = at_small (file_of s) 7 r h
-rebirth_small White Grasshopper s r h = at_small (file_of s) 8 r h
-rebirth_small Black Grasshopper s r h = at_small (file_of s) 1 r h
-rebirth_small White Nightrider s r h = at_small (file_of s) 8 r h
-rebirth_small Black Nightrider s r h = at_small (file_of s) 1 r h
+rebirth_small c k s r h = grind (arith, shade_small, at_small)
 
 pub after_home : (rule : RuleSet) (p : Position) (x : Man) (m : Move) → IsWellFormed p → IsMade rule p x m
     → AreHome (unmoved_after rule p x m) (put_at (moved_men p x m) (reborn_square rule p x m) (man_on_at p.men (capture_square p x m)))
@@ -286,10 +243,8 @@ vacant men s h = rw h refl
 double_passed : (c : Colour) (p : Position) (x : Man) (m : Move) → length p.men ≡ 64 → x.colour ≡ c → same_kind x.kind Pawn ≡ true → m.to < 64
     → file_of m.from ≡ file_of m.to → rank_of m.from ≡ second_rank c → Advances c m.from m.to 2 → man_on p.men (halfway m) ≡ None
     → was_passed (with_man (without_man p.men m.from) m.to x) (other c) (halfway m) ≡ true
-double_passed White p x m size mine pawn small file second adv empty =
-    search (rules, and_from, eq-eqb, length-set, man_on-with_other, man_on-with_same, man_on-without_none, man_on-without_same, vacant)
-double_passed Black p x m size mine pawn small file second adv empty =
-    search (rules, and_from, eq-eqb, length-set, man_on-with_other, man_on-with_same, man_on-without_none, man_on-without_same, vacant)
+double_passed c p x m size mine pawn small file second adv empty =
+    grind (arith, and_from, eq-eqb, length-set, man_on-with_other, man_on-with_same, man_on-without_none, man_on-without_same, vacant)
 
 -- a move that captures nothing and doesn't castle
 plain_men : (rule : RuleSet) (p : Position) (x : Man) (m : Move) → capture_square p x m ≡ None → is_castling x m ≡ false
@@ -301,16 +256,13 @@ plain_men rule p x m none plain = rw (none, plain) refl
 -- not on the last rank no promotion is named
 no_promotion : (p : Position) (x : Man) (m : Move) (r : Option Kind) → is_promotion_right p x m r ≡ true → eqb (rank_of m.to) (last_rank x.colour) ≡ false
     → arriving x r ≡ x
-no_promotion p x m None right off = refl
-no_promotion p x m (Some k) right off = search (rules, and_parts)
+no_promotion p x m r right off = grind (arith, and_parts)
 
 two_on : (c : Colour) (s t : ℕ) → rank_of s ≡ second_rank c → Advances c s t 2 → eqb (rank_of t) (last_rank c) ≡ false
-two_on White s t second adv = ne_eqb _ _ (λ e. omega arith)
-two_on Black s t second adv = ne_eqb _ _ (λ e. omega arith)
+two_on c s t second adv = grind (arith, ne_eqb)
 
 one_or_two : (c : Colour) (s t n : ℕ) → Advances c s t n → n ≡ 1 → (eqb (rank_of s + 2) (rank_of t) || eqb (rank_of t + 2) (rank_of s)) ≡ true → ⊥
-one_or_two White s t n adv one h = search (rules, eqb-true, or_cases)
-one_or_two Black s t n adv one h = search (rules, eqb-true, or_cases)
+one_or_two c s t n adv one h = grind (arith, eqb-true, or_cases)
 
 double_right : (rule : RuleSet) (p : Position) (x : Man) (m : Move) → IsWellFormed p → IsMade rule p x m → is_double_step x m ≡ true
     → was_passed (put_at (moved_men p x m) (reborn_square rule p x m) (man_on_at p.men (capture_square p x m))) (other p.turn) (halfway m) ≡ true
@@ -324,15 +276,7 @@ after_crossed rule p x m well made = search (rules, double_right)
 
 pub after_by_well : (rule : RuleSet) (p : Position) (x : Man) (m : Move) → IsWellFormed p → IsMade rule p x m → IsWellFormed (after_by rule p x m)
 unfolding after_by
-after_by_well rule p x m well made =
-    let sound = after_sound rule p x m well made in
-    record {
-      size = sound.size;
-      kings = sound.kings;
-      pawns = sound.pawns;
-      homes = after_home rule p x m well made;
-      crossed = after_crossed rule p x m well made;
-    }
+after_by_well rule p x m well made = grind (arith, after_sound rule p x m well made, made, after_home rule p x m well made, after_crossed rule p x m well made)
 
 -- some man makes the move
 pub maker : (rule : RuleSet) (p : Position) (m : Move) → pseudo rule p m ≡ true → (x : Man) × (man_on p.men m.from ≡ Some x)

@@ -13,21 +13,8 @@ onward s b d j i h = search (rules, placed_from)
 
 -- between two files or ranks of the board lie others of it
 within : (f k i r l : ℕ) → 1 ≤ f → f ≤ 8 → i ≤ k → 1 ≤ f + k * r - k * l → f + k * r - k * l ≤ 8 → (1 ≤ f + i * r - i * l) × (f + i * r - i * l ≤ 8)
-within f k i r l a b le low high = elim (cases_lt r l) [
-  | inl lt ↦
-      let e : ℕ = l - r in
-      let el : r + (l - r) ≡ l = omega arith in
-      let x : k * l ≡ k * r + k * (l - r) = ap (λ n. k * n) (sym el) ∙ mul-add k r (l - r) in
-      let y : i * l ≡ i * r + i * (l - r) = ap (λ n. i * n) (sym el) ∙ mul-add i r (l - r) in
-      let z : k * (l - r) ≡ i * (l - r) + (k - i) * (l - r) = let t : k ≡ i + (k - i) = omega arith in ap (λ n. n * (l - r)) t ∙ add-mul i (k - i) (l - r) in
-      (omega arith, omega arith)
-  | inr ge ↦
-      let er : l + (r - l) ≡ r = omega arith in
-      let x : k * r ≡ k * l + k * (r - l) = ap (λ n. k * n) (sym er) ∙ mul-add k l (r - l) in
-      let y : i * r ≡ i * l + i * (r - l) = ap (λ n. i * n) (sym er) ∙ mul-add i l (r - l) in
-      let z : k * (r - l) ≡ i * (r - l) + (k - i) * (r - l) = let t : k ≡ i + (k - i) = omega arith in ap (λ n. n * (r - l)) t ∙ add-mul i (k - i) (r - l) in
-      (omega arith, omega arith)
-]
+within f k i r l a b le low high =
+    grind (arith, cases_lt r l, mul-add k r (l - r), mul-add i r (l - r), add-mul i (k - i) (l - r), mul-add k l (r - l), mul-add i l (r - l), add-mul i (k - i) (r - l))
 
 -- a square before t on its line
 pub record Passed (s : ℕ) (d : Step) (i q : ℕ) : Type 0 where
@@ -63,18 +50,10 @@ over : (j a b : ℕ) → a < b → j * b ≡ j * a + j * (b - a)
 over j a b lt = let e : b ≡ a + (b - a) = omega arith in ap (λ n. j * n) e ∙ mul-add j a (b - a)
 
 grows : (s p q j k a b : ℕ) → p + j * a ≡ s + j * b → q + k * a ≡ s + k * b → j < k → a < b → p < q
-grows s p q j k a b h i lt up =
-    let x : j * b ≡ j * a + j * (b - a) = over j a b up in
-    let y : k * b ≡ k * a + k * (b - a) = over k a b up in
-    let z : j * (b - a) < k * (b - a) = apart j k (b - a) lt (omega arith) in
-    omega arith
+grows s p q j k a b h i lt up = grind (arith, over j a b up, over k a b up, apart j k (b - a) lt (omega arith))
 
 shrinks : (s p q j k a b : ℕ) → p + j * a ≡ s + j * b → q + k * a ≡ s + k * b → j < k → b < a → q < p
-shrinks s p q j k a b h i lt down =
-    let x : j * a ≡ j * b + j * (a - b) = over j b a down in
-    let y : k * a ≡ k * b + k * (a - b) = over k b a down in
-    let z : j * (a - b) < k * (a - b) = apart j k (a - b) lt (omega arith) in
-    omega arith
+shrinks s p q j k a b h i lt down = grind (arith, over j b a down, over k b a down, apart j k (a - b) lt (omega arith))
 
 -- a line passes its squares in order
 pub record Ordered (d : Step) : Type 0 where
@@ -105,19 +84,4 @@ falling d non down = record {
 
 pub ordered : (x : Direction) → Ordered (step_of x)
 unfolding rises
-ordered East = rising (step_by 1 0 0 0) refl
-ordered West = falling (step_by 0 1 0 0) refl (omega arith)
-ordered North = rising (step_by 0 0 1 0) refl
-ordered South = falling (step_by 0 0 0 1) refl (omega arith)
-ordered NorthEast = rising (step_by 1 0 1 0) refl
-ordered SouthEast = falling (step_by 1 0 0 1) refl (omega arith)
-ordered NorthWest = rising (step_by 0 1 1 0) refl
-ordered SouthWest = falling (step_by 0 1 0 1) refl (omega arith)
-ordered NorthNorthEast = rising (step_by 1 0 2 0) refl
-ordered SouthSouthEast = falling (step_by 1 0 0 2) refl (omega arith)
-ordered NorthNorthWest = rising (step_by 0 1 2 0) refl
-ordered SouthSouthWest = falling (step_by 0 1 0 2) refl (omega arith)
-ordered EastNorthEast = rising (step_by 2 0 1 0) refl
-ordered EastSouthEast = falling (step_by 2 0 0 1) refl (omega arith)
-ordered WestNorthWest = rising (step_by 0 2 1 0) refl
-ordered WestSouthWest = falling (step_by 0 2 0 1) refl (omega arith)
+ordered x = grind (arith, rising, falling)

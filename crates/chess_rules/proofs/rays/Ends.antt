@@ -19,8 +19,7 @@ placed_at : (f r t : ℕ) → 1 ≤ f → f ≤ 8 → 1 ≤ r → r ≤ 8 → 8 
 placed_at f r t a b c d e = record { f_low = a; f_high = b; r_low = c; r_high = d; file = omega arith; rank = omega arith }
 
 placed_by : (f r t : ℕ) (b : Bool) → (is_on_board f && is_on_board r) ≡ b → cond b (Some (8 * (r - 1) + (f - 1))) None ≡ Some t → Placed f r t
-placed_by f r t true on h = search (rules, first_of_and, leb-true, placed_at, second_of_and, some_is)
-placed_by f r t false on h = absurd (cc)
+placed_by f r t b on h = grind (arith, first_of_and, leb-true, placed_at, second_of_and, some_is)
 
 pub placed_from : (f r t : ℕ) → square_at f r ≡ Some t → Placed f r t
 placed_from f r t h = placed_by f r t (is_on_board f && is_on_board r) refl h
@@ -31,34 +30,23 @@ part f k i r l le on = search (rules, add-mul)
 
 pub between : (s t : ℕ) (d : Step) (k i : ℕ) → i ≤ k → along s d k ≡ Some t → along t (back d) (k - i) ≡ along s d i
 unfolding along
-between s t d k i le h =
-    let p : Placed (file_of s + k * d.right - k * d.left) (rank_of s + k * d.up - k * d.down) t = placed_from _ _ t h in
-    let f : file_of t + (k - i) * d.left - (k - i) * d.right ≡ file_of s
-    + i * d.right - i * d.left = rw p.file (part (file_of s) k i d.right d.left le p.f_low) in
-    let r : rank_of t + (k - i) * d.down - (k - i) * d.up ≡ rank_of s + i * d.up - i * d.down = rw p.rank (part (rank_of s) k i d.up d.down le p.r_low) in
-    (λ j. square_at (f j) (r j))
+between s t d k i le h = grind (arith, placed_from, part)
 
 pub on_board : (x : ℕ) → 1 ≤ x → x ≤ 8 → is_on_board x ≡ true
 on_board x a b = and_from _ _ (le-leb 1 x a) (le-leb x 8 b)
 
 pub cond-on : (b : Bool) (s n : ℕ) → b ≡ true → n ≡ s → cond b (Some n) None ≡ Some s
-cond-on true s n h e = ap (λ (m : ℕ). Some m) e
-cond-on false s n h e = absurd (false≢true h)
+cond-on b s n h e = grind (arith, false≢true)
 
 pub stays : (s : ℕ) (d : Step) → s < 64 → along s d 0 ≡ Some s
 unfolding along
 stays s d p = search rules
 
 pub square_is : (o : Option ℕ) (t : ℕ) → is_square o t ≡ true → o ≡ Some t
-square_is None t h = absurd (false≢true h)
-square_is (Some s) t h = ap (λ (n : ℕ). Some n) (eqb-true s t h)
+square_is o t h = grind (arith, false≢true, eqb-true)
 
 pub returns_to : (s t : ℕ) (d : Step) (k : ℕ) → s < 64 → is_square (along s d k) t ≡ true → is_square (along t (back d) k) s ≡ true
-returns_to s t d k p h =
-    let at : along s d k ≡ Some t = square_is _ t h in
-    let e : k - 0 ≡ k = omega arith in
-    let b : along t (back d) k ≡ Some s = ap (along t (back d)) (sym e) ∙ between s t d k 0 (omega arith) at ∙ stays s d p in
-    ap (λ o. is_square o s) b ∙ eq-eqb s s refl
+returns_to s t d k p h = grind (arith, square_is _ t h, between s t d k 0 (omega arith), stays s d p, eq-eqb s s refl)
 
 clear_back : (men : List (Option Man)) (s t : ℕ) (d : Step) (k : ℕ) → along s d k ≡ Some t → is_clear men s d (k - 1) ≡ true
     → is_clear men t (back d) (k - 1) ≡ true

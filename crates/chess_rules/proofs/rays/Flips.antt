@@ -1,5 +1,5 @@
 -- Lists of steps that hold each step with its opposite.
-use Rattle.chess_rules.proofs.Basics.{Bool, List, Option, [], and_parts, ap, eqb-true, inl, inr, list_all, list_any, or_cases, or_left, or_right, refl, rules, sym, true, ℕ, ◌&&◌, ◌<◌, ◌==◌, ◌∙◌, ◌∷◌, ◌≡◌}
+use Rattle.chess_rules.proofs.Basics.{arith, Bool, List, Option, [], and_parts, ap, eqb-true, inl, inr, list_all, list_any, or_cases, or_left, or_right, refl, rules, sym, true, ℕ, ◌&&◌, ◌<◌, ◌==◌, ◌∙◌, ◌∷◌, ◌≡◌}
 use Rattle.chess_rules.proofs.Chess.{Black, Colour, Man, Step, White, diagonal_steps, hopped_from, hops, knight_steps, leaps, other, pawn_captures, queen_steps, rides, same_Bool, straight_steps}
 use Rattle.chess_rules.proofs.rays.Ends.{back, rides-back, returns_to}
 use Rattle.chess_rules.proofs.rays.Hops.{hops-back}
@@ -68,8 +68,7 @@ king-back s t = leaps_turned queen_steps queen_steps s t refl refl
 
 -- a pawn captures back as one of the other colour
 pub pawn-back : (c : Colour) (s t : ℕ) → s < 64 → t < 64 → list_any (leaps s t) (pawn_captures c) ≡ list_any (leaps t s) (pawn_captures (other c))
-pawn-back White s t = leaps_turned (pawn_captures White) (pawn_captures Black) s t refl refl
-pawn-back Black s t = leaps_turned (pawn_captures Black) (pawn_captures White) s t refl refl
+pawn-back c s t = grind (arith, leaps_turned)
 
 pub grasshopper-back : (men : List (Option Man)) (s t : ℕ) → s < 64 → t < 64 → list_any (hops men s t) queen_steps ≡ list_any (hopped_from men t s) queen_steps
 grasshopper-back men s t p q = search (rules, flip, hops-back)

@@ -9,10 +9,7 @@ use Rattle.chess_rules.proofs.rays.Stopping.{Steps, Stops, ahead_at, passes_test
 
 -- a number of the range that passes
 found : (p : ℕ → Bool) (a n : ℕ) → list_any p (range_with_len a n) ≡ true → (k : ℕ) × (a ≤ k) × (k < a + n) × (p k ≡ true)
-found p a n h = elim (any_range_cases p a n) [
-  | inl w ↦ w
-  | inr none ↦ absurd (false≢true (sym (any_range_false p a n none) ∙ h))
-]
+found p a n h = grind (arith, any_range_cases p a n, false≢true, any_range_false)
 
 -- the squares before the stop are empty
 free_before : (men : List (Option Man)) (s : ℕ) (d : Step) (b j : ℕ) → Ordered d → Stops men s d b → s < 64 → Steps s d b j → is_clear men s d (j - 1) ≡ true
@@ -138,8 +135,7 @@ some_next : (s : ℕ) (d : Step) (t : ℕ) → s < 64 → is_ahead s d t ≡ tru
 some_next s d t p h = let on = steps_on s d t h in passes s t d on.0 1 p on.1.low on.1.at
 
 unplaced : (up : Bool) (a b : ℕ) → a < 64 → b < 64 → place_by up a ≡ place_by up b → a ≡ b
-unplaced true a b p q h = h
-unplaced false a b p q h = omega arith
+unplaced up a b p q h = grind arith
 
 next_is : (s : ℕ) (x : Direction) (r b t : ℕ) → s < 64 → r ≡ ray s (step_of x) → IsStop (step_of x) r b → is_ahead s (step_of x) t ≡ true
     → Some b ≡ along s (step_of x) 1
@@ -162,8 +158,7 @@ next_is s x r b t p h stop ahead =
     ap (λ (n : ℕ). Some n) same ∙ sym w.1.at
 
 none_at : (o : Option ℕ) → ((q : ℕ) → o ≡ Some q → ⊥) → None ≡ o
-none_at None h = refl
-none_at (Some q) h = absurd (h q refl)
+none_at o h = grind arith
 
 pub next_none : (s : ℕ) (d : Step) (r : ℕ) → s < 64 → r ≡ ray s d → r ≡ 0 → None ≡ along s d 1
 unfolding ray

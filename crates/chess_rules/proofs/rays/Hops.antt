@@ -1,15 +1,13 @@
 -- Hops seen from the square of arrival.
-use Rattle.chess_rules.proofs.Basics.{Bool, List, Option, Some, ap, arith, cases_Bool, false, inl, inr, list_all, list_any, range_with_len, refl, sym, true, ℕ, ◌&&◌, ◌-◌, ◌<◌, ◌∙◌, ◌≡◌, ◌≤◌}
+use Rattle.chess_rules.proofs.Basics.{rules, Bool, List, Option, Some, ap, arith, cases_Bool, false, inl, inr, list_all, list_any, range_with_len, refl, sym, true, ℕ, ◌&&◌, ◌-◌, ◌<◌, ◌∙◌, ◌≡◌, ◌≤◌}
 use Rattle.chess_rules.proofs.Chess.{Man, Step, all_at, all_range_true, along, any_range_false, any_range_same, hopped_from, hops, is_clear, is_occupied, is_square, is_vacant, rides_on, same_Bool}
 use Rattle.chess_rules.proofs.rays.Ends.{back, between, returns_to, square_is}
 
 and_true : (a b : Bool) → (a && true && b) ≡ (a && b)
-and_true true b = refl
-and_true false b = refl
+and_true a b = grind arith
 
 and_false : (a b : Bool) → (a && false && b) ≡ false
-and_false true b = refl
-and_false false b = refl
+and_false a b = grind arith
 
 -- the squares between are the same from both ends
 far : (men : List (Option Man)) (s t : ℕ) (d : Step) (k : ℕ) → 2 ≤ k → along s d k ≡ Some t
@@ -28,19 +26,14 @@ far men s t d k lo at =
     ∙ all_at (λ i. is_vacant men (along t (back d) i)) 2 (k - 2) (k - i) h (omega arith) (omega arith)))
 
 and_out : (p q : ℕ → Bool) (o : Bool) (a n : ℕ) → list_any (λ k. p k && o && q k) (range_with_len a n) ≡ (o && list_any (λ k. p k && q k) (range_with_len a n))
-and_out p q true a n = any_range_same _ _ a n (λ k lo hi. and_true (p k) (q k))
-and_out p q false a n = any_range_false _ a n (λ k lo hi. and_false (p k) (q k))
+and_out p q o a n = grind (arith, any_range_same, and_true, any_range_false, and_false)
 
 -- the square next to t is the one before it
 before : (men : List (Option Man)) (s t : ℕ) (d : Step) (k : ℕ) → 2 ≤ k → along s d k ≡ Some t → along s d (k - 1) ≡ along t (back d) 1
-before men s t d k lo at =
-    let one : k - (k - 1) ≡ 1 = omega arith in
-    sym (between s t d k (k - 1) (omega arith) at) ∙ ap (along t (back d)) one
+before men s t d k lo at = grind (arith, between s t d k (k - 1) (omega arith))
 
 false_first : (a b c x y z : Bool) → a ≡ false → x ≡ false → (a && b && c) ≡ (x && y && z)
-false_first true b c x y z h l = absurd (cc)
-false_first false b c true y z h l = absurd (cc)
-false_first false b c false y z h l = refl
+false_first a b c x y z h l = grind arith
 
 hop_test : (men : List (Option Man)) (s t : ℕ) (d : Step) (k : ℕ) → s < 64 → t < 64 → 2 ≤ k
     → (is_square (along s d k) t && is_occupied men (along s d (k - 1)) && is_clear men s d (k - 2))

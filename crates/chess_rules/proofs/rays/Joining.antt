@@ -1,13 +1,9 @@
 -- Words of several lines joined.
-use Rattle.chess_rules.proofs.Basics.{Bool, List, [], bit_or, false, list_any, list_any-append, refl, sym, true, ℕ, ◌++◌, ◌||◌, ◌∙◌, ◌∷◌, ◌≡◌}
+use Rattle.chess_rules.proofs.Basics.{rules, arith, Bool, List, [], bit_or, false, list_any, list_any-append, refl, sym, true, ℕ, ◌++◌, ◌||◌, ◌∙◌, ◌∷◌, ◌≡◌}
 use Rattle.chess_rules.proofs.Chess.{Step, squares_either, squares_same, word}
 
 one_by_one : (a b c d : Bool) → (((a || b) || c) || d) ≡ (a || (b || (c || (d || false))))
-one_by_one true b c d = refl
-one_by_one false true c d = refl
-one_by_one false false true d = refl
-one_by_one false false false true = refl
-one_by_one false false false false = refl
+one_by_one a b c d = grind arith
 
 pub four : (p : ℕ → Step → Bool) (a b c d : Step) (k l m n : ℕ) → k ≡ word (λ t. p t a) → l ≡ word (λ t. p t b) → m ≡ word (λ t. p t c) → n ≡ word (λ t. p t d)
     → bit_or (bit_or (bit_or k l) m) n ≡ word (λ t. list_any (p t) (a ∷ b ∷ c ∷ d ∷ []))

@@ -1,5 +1,5 @@
 -- A ride: the line as far as the first man on it.
-use Rattle.chess_rules.proofs.Basics.{Bool, List, Option, Some, and_from, and_left, ap, arith, bit_and, bit_at, bit_not, cases_Bool, cases_eq, cases_lt, eq-eqb, eqb-true, false, false≢true, inl, inr, is_some, not, refl, sym, true, w64, ℕ, ◌&&◌, ◌+◌, ◌-◌, ◌<◌, ◌∙◌, ◌≡◌, ◌≤◌}
+use Rattle.chess_rules.proofs.Basics.{rules, Bool, List, Option, Some, and_from, and_left, ap, arith, bit_and, bit_at, bit_not, cases_Bool, cases_eq, cases_lt, eq-eqb, eqb-true, false, false≢true, inl, inr, is_some, not, refl, sym, true, w64, ℕ, ◌&&◌, ◌+◌, ◌-◌, ◌<◌, ◌∙◌, ◌≡◌, ◌≤◌}
 use Rattle.chess_rules.proofs.Chess.{IsStop, Man, Step, all_range_false, all_range_true, along, any_range_cases, any_range_false, any_range_true, first_of_and, is_ahead, is_clear, is_square, is_vacant, man_on, place, place_by, ray, rides, rises, second_of_and, squares_both, squares_not, squares_same, word}
 use Rattle.chess_rules.proofs.rays.Ahead.{Ordered, onward, passes}
 use Rattle.chess_rules.proofs.Bits.{word_has}
@@ -25,17 +25,10 @@ ahead_men men s d r o h i = (λ j. bit_and (h j) (i j)) ∙ squares_both (is_ahe
 
 pub stops : (men : List (Option Man)) (s : ℕ) (d : Step) (r o b : ℕ) → r ≡ ray s d → o ≡ word (λ q. is_some (man_on men q)) → IsStop d (bit_and r o) b
     → Stops men s d b
-stops men s d r o b h i stop =
-    let w : bit_and r o ≡ word (λ q. is_ahead s d q && is_some (man_on men q)) = ahead_men men s d r o h i in
-    record {
-      small = stop.small;
-      first = λ q p ahead man. stop.first q p (marked (λ q. is_ahead s d q && is_some (man_on men q)) (bit_and r o) q w p (and_from _ _ ahead man));
-      here = λ lt. passes_test (λ q. is_ahead s d q && is_some (man_on men q)) (bit_and r o) b w stop.small (stop.here lt);
-    }
+stops men s d r o b h i stop = grind (arith, ahead_men men s d r o h i, marked, and_from, passes_test)
 
 pub place_le : (up : Bool) (t : ℕ) → t < 64 → place_by up t ≤ 63
-place_le true t p = omega arith
-place_le false t p = omega arith
+place_le up t p = grind arith
 
 -- how many steps on
 pub record Steps (s : ℕ) (d : Step) (t k : ℕ) : Type 0 where

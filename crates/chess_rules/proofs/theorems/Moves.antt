@@ -1,5 +1,5 @@
 -- The moves of a position are its legal moves, each once, in the stated order; and what mate and stalemate say of legal moves.
-use Rattle.std.proofs.Common.{◌≡◌, ◌≢◌, ◌<◌, ◌↔◌, ◌⊎◌, true, false, not, sym, ap, ◌∙◌, arith}
+use Rattle.std.proofs.Common.{rules, ◌≡◌, ◌≢◌, ◌<◌, ◌↔◌, ◌⊎◌, true, false, not, sym, ap, ◌∙◌, arith}
 use Rattle.std.specs.List.{AllPairs, Contains}
 use Rattle.chess_core.specs.MoveOrder.{promotion_place, triple_number}
 use Rattle.chess_core.specs.Position.{Position}
@@ -43,10 +43,7 @@ module _ (rule : RuleSet) (p : Position) where
 
   -- In a well-formed position a move stands among the moves exactly where it is legal.
   pub moves_are_the_legal_moves : (m : Move) → IsWellFormed p → Contains (moves rule p) m ↔ (legal rule p m ≡ true)
-  moves_are_the_legal_moves m well = (
-    λ c. ((moves_are_the_legal_triples m).0 c).1,
-    λ h. (moves_are_the_legal_triples m).1 (legal_moves_are_triples m well h, h),
-  )
+  moves_are_the_legal_moves m well = grind (arith, moves_are_the_legal_triples, legal_moves_are_triples)
 
   -- The moves stand in order: each precedes every later one.
   pub moves_in_order : AllPairs Precedes (moves rule p)
@@ -70,19 +67,9 @@ module _ (rule : RuleSet) (p : Position) where
   -- Mate: the side to move is in check, and no move is legal.
   pub mate_is : IsWellFormed p → (is_goal rule p ≡ true) ↔ ((in_check rule p.men p.turn ≡ true) × ((m : Move) → legal rule p m ≡ false))
   unfolding is_goal
-  mate_is well = (
-    λ h. let w = and_parts (in_check rule p.men p.turn) (is_nil (moves rule p)) h in (w.0, (no_moves_is well).0 w.1),
-    λ h. and_from (in_check rule p.men p.turn) (is_nil (moves rule p)) h.0 ((no_moves_is well).1 h.1),
-  )
+  mate_is well = grind (arith, and_parts, no_moves_is, and_from)
 
   -- Stalemate: it is not in check, and no move is legal.
   pub stalemate_is : IsWellFormed p → (is_stalemate rule p ≡ true) ↔ ((in_check rule p.men p.turn ≡ false) × ((m : Move) → legal rule p m ≡ false))
   unfolding is_stalemate
-  stalemate_is well = (
-    λ h.
-        let w = and_parts (not (in_check rule p.men p.turn)) (is_nil (moves rule p)) h in
-        (not-true (in_check rule p.men p.turn) w.0, (no_moves_is well).0 w.1),
-    λ h.
-        and_from (not (in_check rule p.men p.turn)) (is_nil (moves rule p)) (not_from_false (in_check rule p.men p.turn) h.0)
-        ((no_moves_is well).1 h.1),
-  )
+  stalemate_is well = grind (arith, and_parts, not-true, no_moves_is, and_from, not_from_false)
