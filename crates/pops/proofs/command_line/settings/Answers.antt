@@ -1,6 +1,4 @@
-use Rattle.std.proofs.Common.{◌∙◌, sym, ap, codes, Some, option_map}
-use Rattle.std.specs.Prelude.{string_bytes}
-use Rattle.clap.specs.Walk.{first_of, one_of}
+use Rattle.pops.proofs.Basics.{Some, ap, codes, first_of, one_of, option_map, string_bytes, sym, ◌∙◌}
 use Rattle.clap.specs.Matches.{found_of}
 use Rattle.clap.proofs.WalkLemmas.{first_value-rows, one_text-rows}
 use Rattle.pops.proofs.command_line.settings.Goals as goal

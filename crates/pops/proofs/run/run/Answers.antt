@@ -1,5 +1,4 @@
-use Rattle.std.proofs.Common.{◌+◌, arith, refl, ap, ◌∙◌, inl}
-use Rattle.pop_text.proofs.Using.{failures_then}
+use Rattle.pops.proofs.Basics.{ap, arith, failures_then, inl, refl, ◌+◌, ◌∙◌}
 use Rattle.pops.proofs.Running.{progress_start, progress_step, run_ends, run_cut, ended_most, cut_most, failed_once}
 use Rattle.pops.proofs.run.run.Goals as goal
 

@@ -1,6 +1,5 @@
-use Rattle.std.proofs.Common.{refl}
+use Rattle.pops.proofs.Basics.{entry_text, refl}
 use Rattle.pop_input.specs.Blocks.{Sound as SoundEntry, Faulty as FaultyEntry}
-use Rattle.pops.specs.Report.{entry_text}
 use Rattle.pops.proofs.Running.{item_done}
 use Rattle.pops.proofs.session.Session.step.Goals as goal
 
