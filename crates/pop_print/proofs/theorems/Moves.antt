@@ -1,6 +1,6 @@
 -- The text of a move tells the move: two moves that are written alike castle to the same side, or the same man goes
 -- between the same squares and is promoted alike.
-use Rattle.std.proofs.Common.{◌≡◌, ◌≤◌, ℕ, ◌+◌, ◌<◌, Bool, true, false, cond, eqb, nat_lt, List, [], ◌∷◌, ◌++◌, Option, Some, None, refl, sym, ap, ◌∙◌, arith, append_assoc, drop, get_or, ◌⊎◌, inl, inr}
+use Rattle.std.proofs.Common.{◌≡◌, ℕ, ◌+◌, ◌<◌, Bool, true, false, cond, eqb, nat_lt, List, [], ◌∷◌, ◌++◌, Option, Some, None, refl, sym, ap, ◌∙◌, arith, append_assoc, drop, get_or, ◌⊎◌, inl}
 use Rattle.std.specs.Prelude.{codes}
 use Rattle.std.proofs.lemmas.Bool.{and_from, and_parts, cases_Bool, cond-false, cond-true, eqb-true, le-ltb, lt-ltb, or_cases, true≢false}
 use Rattle.chess_core.specs.Squares.{file_of, rank_of}
@@ -10,8 +10,7 @@ use Rattle.chess_core.specs.declared.man.Kind.TheVariants.{King, Queen, Rook, Bi
 use Rattle.chess_core.specs.Position.{Position, is_man, man_on, same_kind}
 use Rattle.chess_core.specs.Triple.{Triple}
 use Rattle.chess_core.specs.WellFormed.{IsWellFormed}
-use Rattle.chess_rules.specs.Legal.{is_promotion_right, legal, pseudo, pseudo_of}
-use Rattle.chess_rules.specs.Play.{is_castling}
+use Rattle.chess_rules.specs.Legal.{is_promotion_right, legal, pseudo}
 use Rattle.chess_rules.specs.RuleSet.{RuleSet}
 use Rattle.chess_rules.proofs.listing_moves.Calls.{pseudo-from_legal}
 use Rattle.chess_rules.proofs.making_moves.Pseudo.{IsMade, king_is_no_pawn, made}
@@ -21,15 +20,13 @@ use Rattle.pop_solve.specs.Chess.{castling_side, show, shown_of}
 use Rattle.pop_solve.specs.declared.shown.Side.{Side}
 use Rattle.pop_solve.specs.declared.shown.Side.TheVariants.{A, H}
 use Rattle.pop_solve.specs.declared.shown.Mark.{Mark}
-use Rattle.pop_solve.specs.declared.shown.Mark.TheVariants.{Plain, Check, Mate, Stalemate}
 use Rattle.pop_solve.specs.Shown.{Shown}
 use Rattle.pop_print.specs.Moves.{castling_text, en_passant_text, mark_text, move_text, promotion_text, rebirth_text, step_text, unmarked_text}
 use Rattle.pop_print.specs.Notation.{letter_of, man_text, square_text}
 
 -- the kind with this letter
 abbrev kind_written : ℕ → Kind
-kind_written l =
-    cond (eqb l 75) King (cond (eqb l 81) Queen (cond (eqb l 82) Rook (cond (eqb l 66) Bishop
+kind_written l = cond (eqb l 75) King (cond (eqb l 81) Queen (cond (eqb l 82) Rook (cond (eqb l 66) Bishop
     (cond (eqb l 83) Knight (cond (eqb l 80) Pawn (cond (eqb l 71) Grasshopper Nightrider))))))
 
 letter_tells : (k : Kind) → kind_written (letter_of k) ≡ k
