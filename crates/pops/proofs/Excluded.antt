@@ -1,6 +1,6 @@
 -- What the clauses of a session, a run and the settings exclude: a sound problem told as faulty, another status or another call after the sink failed,
 -- flags that weren't given, settings of words that the command refuses, and a refusal of words that it takes.
-use Rattle.pops.proofs.Basics.{Broken, Choice, Clean, End, Ended, Entry, Err, Failed, IfErr, IfOk, Input, IsSettings, List, MayFollow, None, Ok, Open, Option, Place, Problem, Reads, Result, Runs, Some, Sound, Standing, Steps, Text, [], after, ap, append_cancel_right, arith, codes, command, entries_left, false, is_faulty, matches_of, not, one_of, refl, refusals, sym, takes, true, ℕ, ◌+◌, ◌∙◌, ◌∷◌, ◌≡◌, ◌≢◌, ◌≤◌}
+use Rattle.pops.proofs.Basics.{Choice, Clean, End, Entry, Err, IfErr, IfOk, Input, IsSettings, List, MayFollow, None, Ok, Open, Option, Place, Problem, Reads, Result, Runs, Some, Sound, Standing, Steps, Text, [], append_cancel_right, arith, codes, command, false, matches_of, one_of, refusals, sym, takes, true, ℕ, ◌+◌, ◌∙◌, ◌∷◌, ◌≡◌, ◌≢◌, ◌≤◌}
 use Rattle.pops.specs.declared.settings.ArgFault.{ArgFault}
 use Rattle.pops.specs.declared.settings.ArgFault.TheVariants.{Usage, Memory}
 use Rattle.pops.specs.declared.settings.Settings.{Settings}

@@ -1,5 +1,5 @@
 -- A run, step by step.
-use Rattle.pops.proofs.Basics.{rules, Appends, Bool, Broken, Choice, Clean, Consumes, End, Ended, Ending, Entry, Err, Failed, Faulty, Finished, IfSome, Input, InputFailed, IsSeen, List, MayFollow, None, Ok, Open, Option, OutputFailed, Place, Problem, Reads, Result, Runs, Some, Sound, Standing, Steps, TakesItem, Writes, [], after, ap, append-nil, append_assoc, appends_kept, appends_none, appends_then, arith, begins_later, begins_longer, consumes_then, entries_in, entries_left, entries_of, entry_text, failures_after, false, grew, if◌then◌else◌, is_err, is_faulty, length, length-append, length-take, limit, list_any, met, not, refl, report, report_from, start, status_of, status_with, step_of, sym, take, taken_of, tells_failure, true, words_from, ℕ, ◌++◌, ◌+◌, ◌-◌, ◌^◌, ◌||◌, ◌∙◌, ◌∷◌, ◌≡◌, ◌≤◌}
+use Rattle.pops.proofs.Basics.{Appends, Bool, Broken, Choice, Clean, Consumes, End, Ended, Ending, Entry, Err, Finished, IfSome, Input, IsSeen, List, MayFollow, None, Ok, Open, Option, OutputFailed, Place, Problem, Reads, Result, Runs, Some, Standing, Steps, TakesItem, Writes, [], after, ap, append-nil, append_assoc, appends_kept, appends_none, appends_then, arith, begins_later, begins_longer, consumes_then, entries_in, entries_left, entry_text, failures_after, false, grew, is_err, is_faulty, length, length-append, length-take, limit, list_any, met, not, refl, report_from, start, status_of, status_with, step_of, sym, take, taken_of, tells_failure, true, ℕ, ◌++◌, ◌+◌, ◌-◌, ◌^◌, ◌||◌, ◌∙◌, ◌∷◌, ◌≡◌, ◌≤◌}
 use Rattle.std.proofs.lemmas.Bool.{lt-ltb}
 use Rattle.std.proofs.Math.Seq.{take-append_seam}
 use Rattle.pop_text.specs.declared.sink.SinkFault.{SinkFault}
@@ -109,7 +109,7 @@ progress_cut choice old new mid left before t now r fault p q seen =
     let m = met_after new.at.at.end left r all.bytes all.taken seen in
     let items : entries_in (met (is_broken new.at.at.end) r left) ≡ (p.items ++ q.0 ∷ []) ++ entries_left new.at m.0 =
     ap entries_in m.2 ∙ sym (all_to_come _) ∙ all.begin m.0 m.1 in
-    grind (arith, report-append, append-nil, begins_longer, begins_later)
+    grind (arith, report-append, begins_longer, begins_later)
 
 grew_same : (n : ℕ) → grew n n ≡ false
 grew_same n = grind arith

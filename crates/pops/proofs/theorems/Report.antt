@@ -1,5 +1,5 @@
 -- The report of an input is the texts of its items, each a function of its own block, its number and what is chosen: no neighbour changes it.
-use Rattle.pops.proofs.Basics.{rules, Choice, Entry, Input, List, Words, [], ap, append_assoc, arith, count_by, entries_in, entries_of, entry_text, enumerate_from, false, flat_map, get_or, is_line_end, length, limit, map, put_before, refl, report, report_from, suc, sym, true, words_of, ℕ, ◌++◌, ◌+◌, ◌<◌, ◌∙◌, ◌∷◌, ◌≡◌}
+use Rattle.pops.proofs.Basics.{Choice, Entry, Input, List, Words, [], ap, append_assoc, arith, count_by, entries_in, entries_of, entry_text, enumerate_from, false, flat_map, get_or, is_line_end, length, limit, map, put_before, refl, report, report_from, words_of, ℕ, ◌++◌, ◌+◌, ◌<◌, ◌∷◌, ◌≡◌}
 use Rattle.pop_input.proofs.theorems.Entries.{NextBlock, entries_are, is_first, length-own_entries, own_entries, own_entry, tokens_in}
 use Rattle.pop_input.proofs.Pieces.{tokens_at}
 use Rattle.pop_input.proofs.theorems.Inputs.{next_line, words_of_both_and_rest}
@@ -48,8 +48,7 @@ module _ (choice : Choice) where
       → words_of input ≡ put_before (flat_map tokens_in before) (put_before (tokens_in block) words)
       → get_or (texts input) (length before) [] ≡ entry_text choice (1 + length before) (own_entry (is_first before) block)
   unfolding entries_in
-  text_of_a_block input before block words are =
-      grind (arith, entries_are before block words, length-own_entries before, text_behind 1 (own_entries before) (own_entry (is_first before) block) (entries_of false words))
+  text_of_a_block input before block words are = grind (arith, entries_are before block words, length-own_entries before, text_behind)
 
   -- No neighbour changes a text: in two inputs with as many blocks before the same block, of the same lines, its text is the same, whatever
   -- the words of the blocks before are, whatever words follow, and however the inputs end.

@@ -18,8 +18,7 @@ command_is c =
     let check_is : rule_of c.action-check.result ≡ check = search rules in
     let no_board_is : rule_of c.action-no_board.result ≡ no_board = search rules in
     let file_is : rule_of c.new-file.result ≡ new_rule (codes "file") = search rules in
-    c.in_ok-command.ensures.shape (search rules)
-    ∙ ap₂ with_rule (c.in_ok-arg-2.ensures.shape (search rules) ∙ ap₂ with_rule
+    c.in_ok-command.ensures.shape (search rules) ∙ ap₂ with_rule (c.in_ok-arg-2.ensures.shape (search rules) ∙ ap₂ with_rule
     (c.in_ok-arg.ensures.shape (search rules) ∙ ap₂ with_rule c.new-3.ensures.app check_is) no_board_is) file_is
 
 pub returns-clause-rows : goal.returns-clause-rows

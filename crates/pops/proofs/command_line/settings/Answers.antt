@@ -14,8 +14,7 @@ returns-clause-chosen c =
       file = elim c.match-get_str.branch [
         | in-Some+in-Ok-from_str w ↦ ap (option_map string_bytes) w.file-is ∙ ap Some w.in-Ok-from_str.ensures.ok
             ∙ ap (option_map (λ s. s.now)) (sym w.in-Some.is) ∙ c.get_str.ensures ∙ file_text
-        | in-None w ↦ ap (option_map string_bytes) w.file-is
-            ∙ ap (option_map (λ s. s.now)) (sym w.in-None.is) ∙ c.get_str.ensures ∙ file_text
+        | in-None w ↦ ap (option_map string_bytes) w.file-is ∙ ap (option_map (λ s. s.now)) (sym w.in-None.is) ∙ c.get_str.ensures ∙ file_text
       ];
       check = record {
         absent = λ e. c.get_flag.ensures.none (check_text ∙ e);
