@@ -1,16 +1,6 @@
 -- What the clauses of men, diagrams and boards exclude: small boards on which the definitions say otherwise than a wrong body would.
-use Rattle.std.proofs.Common.{◌≡◌, true, false, [], ◌∷◌, List, Option, Some, None, refl}
-use Rattle.std.specs.List.{repeat}
-use Rattle.chess_core.specs.Castling.{has_unmoved, mark_unmoved, none_unmoved, with_unmoved, without_unmoved}
-use Rattle.chess_core.specs.Diagrams.{has_kind, has_men, is_other_king, is_second_king, is_stray_pawn, is_taken, is_there, shows, stands}
-use Rattle.chess_core.specs.Position.{king_square, man_on, with_man, without_man}
+use Rattle.chess_core.proofs.Basics.{Black, King, List, Man, None, Option, Pawn, Some, White, [], false, has_kind, has_men, has_unmoved, is_home, is_other_king, is_second_king, is_stray_pawn, is_taken, is_there, king_square, man_on, mark_unmoved, none_unmoved, refl, repeat, shows, side_of, some_square, squares, squares_of, stands, true, with_man, with_unmoved, without_man, without_unmoved, word, word_of, ◌∷◌, ◌≡◌}
 use Rattle.chess_core.specs.SquareNames.{a1, b1, e1, a2, e8, h8}
-use Rattle.chess_core.specs.Squares.{some_square, squares}
-use Rattle.chess_core.specs.WellFormed.{is_home}
-use Rattle.chess_core.specs.ties.Words.{side_of, squares_of, word, word_of}
-use Rattle.chess_core.specs.declared.man.Colour.TheVariants.{White, Black}
-use Rattle.chess_core.specs.declared.man.Kind.TheVariants.{King, Pawn}
-use Rattle.chess_core.specs.declared.man.Man.{Man}
 
 abbrev white_king : Man
 white_king = record { colour = White; kind = King }

@@ -1,12 +1,5 @@
 -- Kings by the word of their squares.
-use Rattle.std.proofs.Common.{◌≡◌, ℕ, ◌<◌, Bool, List, Option, Some, None, sym, ap, ◌∙◌, arith}
-use Rattle.std.specs.Int.{bit_at, trailing_zeros, w64}
-use Rattle.std.proofs.lemmas.Nat.Bits.{bit_at-zero, bit_at-trailing_zeros}
-use Rattle.chess_core.specs.declared.man.Man.{Man}
-use Rattle.chess_core.specs.declared.man.Colour.{Colour}
-use Rattle.chess_core.specs.declared.man.Kind.TheVariants.{King}
-use Rattle.chess_core.specs.Position.{is_man, king_square, man_on}
-use Rattle.chess_core.specs.ties.Words.{squares_of}
+use Rattle.chess_core.proofs.Basics.{Bool, Colour, King, List, Man, None, Option, Some, ap, arith, bit_at, bit_at-trailing_zeros, bit_at-zero, is_man, king_square, man_on, squares_of, sym, trailing_zeros, w64, ℕ, ◌<◌, ◌∙◌, ◌≡◌}
 use Rattle.chess_core.proofs.Words.{bit_false, bit_true, square_bit, square_word_small}
 use Rattle.chess_core.proofs.Ranges.{find_square_some, find_square_none}
 

@@ -1,36 +1,19 @@
 -- Laws of words: their bits, one bit set or cleared, two words joined.
-use Rattle.std.proofs.Common.{◌≡◌, ℕ, eqb, zero, suc, ◌+◌, ◌-◌, ◌*◌, ◌/◌, ◌%◌, ◌^◌, ◌<◌, min, max, Bool, true, false, ◌&&◌, ◌||◌, not, List, [], ◌∷◌, length, get_or, set, refl, sym, ap, ◌∙◌, subst, arith, inl, inr, rules}
-use Rattle.std.specs.Int.{bit_at, bit_not, w64, trailing_zeros}
-use Rattle.std.specs.Int.Bits.{bit_and, bit_or}
-use Rattle.std.proofs.lemmas.Bool.{cases_eq, eq-eqb, ne_eqb}
-use Rattle.std.proofs.lemmas.List.{length-set, get_or-set_same, get_or-set_other}
-use Rattle.std.proofs.lemmas.Nat.{or_lt, and_le_l, one_shl}
-use Rattle.std.proofs.lemmas.Nat.Bits.{bit_at_lowest, bit_at-suc, bit_at_and, bit_at_not, bit_at_or, bit_at-zero, bit_at-pow_same, bit_at-pow_other, bit_at-trailing_zeros, same_from_bits_below, bit_at_set_same, bit_at_set_other, bit_at_clear_same, bit_at_clear_other}
+use Rattle.chess_core.proofs.Basics.{Bool, List, [], and_le_l, ap, arith, bit_and, bit_at, bit_at-pow_other, bit_at-pow_same, bit_at-suc, bit_at-trailing_zeros, bit_at-zero, bit_at_and, bit_at_clear_other, bit_at_clear_same, bit_at_lowest, bit_at_not, bit_at_or, bit_at_set_other, bit_at_set_same, bit_not, bit_of, bit_or, cases_eq, eq-eqb, eqb, false, get_or, get_or-set_other, get_or-set_same, inl, inr, length, length-set, max, min, ne_eqb, not, one_shl, or_lt, refl, rules, same_from_bits_below, set, some_square, squares, subst, suc, sym, trailing_zeros, true, w64, word, word_of, zero, ℕ, ◌%◌, ◌&&◌, ◌*◌, ◌+◌, ◌-◌, ◌<◌, ◌^◌, ◌||◌, ◌∙◌, ◌∷◌, ◌≡◌}
 use Rattle.std.proofs.lemmas.List.FromFn.{get_or-range_with_len}
-use Rattle.chess_core.specs.Squares.{squares, some_square}
 use Rattle.chess_core.proofs.Ranges.{some_square_true, some_square_false}
-use Rattle.chess_core.specs.ties.Words.{bit_of, word_of, word}
-
-low : (b : Bool) (n : ℕ) → ((bit_of b + 2 * n) % 2 ≡ bit_of b) × ((bit_of b + 2 * n) / 2 ≡ n)
-low true n = omega arith
-low false n = omega arith
-
-small : (b : Bool) (n k : ℕ) → n < 2 ^ k → bit_of b + 2 * n < 2 ^ suc k
-small true n k h = omega arith
-small false n k h = omega arith
 
 pub word_small : {X : Type 0} (test : X → Bool) (xs : List X) → word_of test xs < 2 ^ length xs
 unfolding word_of
 word_small test [] = omega arith
-word_small test (x ∷ xs) = small (test x) (word_of test xs) (length xs) (word_small test xs)
+word_small test (x ∷ xs) = grind (arith, word_small test xs)
 
 -- bit i of a word
 pub word_bit : {X : Type 0} (test : X → Bool) (xs : List X) (d : X) (i : ℕ) → i < length xs → bit_at (word_of test xs) i ≡ bit_of (test (get_or xs i d))
 unfolding word_of
 word_bit test [] d i h = absurd (omega arith)
-word_bit test (x ∷ xs) d zero h = bit_at_lowest (bit_of (test x) + 2 * word_of test xs) ∙ (low (test x) (word_of test xs)).0
-word_bit test (x ∷ xs) d (suc i) h =
-    bit_at-suc (bit_of (test x) + 2 * word_of test xs) i ∙ ap (λ n. bit_at n i) (low (test x) (word_of test xs)).1 ∙ word_bit test xs d i (omega arith)
+word_bit test (x ∷ xs) d zero h = grind (arith, bit_at_lowest)
+word_bit test (x ∷ xs) d (suc i) h = grind (arith, bit_at-suc, word_bit test xs d i (omega arith))
 
 -- a number of 64 bits with these bits is the word
 pub word_from_bits : {X : Type 0} (test : X → Bool) (xs : List X) (d : X) (n : ℕ) → length xs ≡ 64 → n < 2 ^ 64
@@ -44,11 +27,9 @@ pub word_with : {X : Type 0} (test : X → Bool) (xs : List X) (s : ℕ) (y : X)
     → bit_or (word_of test xs) (1 * 2 ^ s % 2 ^ 64) ≡ word_of test (set xs s y)
 word_with test xs s y l p h =
     let w : word_of test xs < 2 ^ 64 = subst (λ k. word_of test xs < 2 ^ k) l (word_small test xs) in
-    word_from_bits test (set xs s y) y _ (length-set xs s y ∙ l) (or_lt 64 _ _ w (omega arith))
-    (λ i q. elim (cases_eq i s) [
+    word_from_bits test (set xs s y) y _ (length-set xs s y ∙ l) (or_lt 64 _ _ w (omega arith)) (λ i q. elim (cases_eq i s) [
       | inl e ↦ rw e (bit_at_set_same w64 (word_of test xs) s p ∙ sym (ap (λ x. bit_of (test x)) (get_or-set_same xs s y y (omega arith)) ∙ ap bit_of h))
-      | inr ne ↦ bit_at_set_other w64 (word_of test xs) s p i ne ∙ word_bit test xs y i (omega arith)
-          ∙ sym (ap (λ x. bit_of (test x)) (get_or-set_other xs s i y y ne))
+      | inr ne ↦ grind (arith, bit_at_set_other w64 (word_of test xs) s p i ne, word_bit test xs y i (omega arith), get_or-set_other xs s i y y ne)
     ])
 
 -- a member is put in that does not
@@ -59,8 +40,7 @@ word_without test xs s y l p h =
     word_from_bits test (set xs s y) y _ (length-set xs s y ∙ l) (omega (arith, and_le_l (word_of test xs) (bit_not w64 (1 * 2 ^ s % 2 ^ 64))))
     (λ i q. elim (cases_eq i s) [
       | inl e ↦ rw e (bit_at_clear_same w64 (word_of test xs) s p ∙ sym (ap (λ x. bit_of (test x)) (get_or-set_same xs s y y (omega arith)) ∙ ap bit_of h))
-      | inr ne ↦ bit_at_clear_other w64 (word_of test xs) s p i q ne ∙ word_bit test xs y i (omega arith)
-          ∙ sym (ap (λ x. bit_of (test x)) (get_or-set_other xs s i y y ne))
+      | inr ne ↦ grind (arith, bit_at_clear_other w64 (word_of test xs) s p i q ne, word_bit test xs y i (omega arith), get_or-set_other xs s i y y ne)
     ])
 
 -- a member is put in that the test cannot tell from the one before
@@ -71,20 +51,14 @@ word_same test (x ∷ xs) zero y d h = ap (λ b. bit_of b + 2 * word_of test xs)
 word_same test (x ∷ xs) (suc s) y d h = ap (λ n. bit_of (test x) + 2 * n) (word_same test xs s y d h)
 
 both : (a b : Bool) → min (bit_of a) (bit_of b) ≡ bit_of (a && b)
-both true true = refl
-both true false = refl
-both false true = refl
-both false false = refl
+both a b = grind arith
 
 -- what passes both tests
 pub word_both : {X : Type 0} (p q r : X → Bool) (xs : List X) (d : X) → length xs ≡ 64 → ((x : X) → (p x && q x) ≡ r x)
     → bit_and (word_of p xs) (word_of q xs) ≡ word_of r xs
 word_both p q r xs d l h =
     let w : word_of p xs < 2 ^ 64 = subst (λ k. word_of p xs < 2 ^ k) l (word_small p xs) in
-    word_from_bits r xs d _ l (omega (arith, and_le_l (word_of p xs) (word_of q xs)))
-    (λ i b. bit_at_and (word_of p xs) (word_of q xs) i
-    ∙ (λ j. min (word_bit p xs d i (omega arith) j) (word_bit q xs d i (omega arith) j))
-    ∙ both (p (get_or xs i d)) (q (get_or xs i d)) ∙ ap bit_of (h (get_or xs i d)))
+    word_from_bits r xs d _ l (omega (arith, and_le_l (word_of p xs) (word_of q xs))) (grind (arith, bit_at_and, word_bit, both))
 
 -- the same word by the numbers of the squares
 pub squares_at : (i : ℕ) → i < 64 → get_or squares i 0 ≡ i
@@ -93,8 +67,7 @@ squares_at i p = get_or-range_with_len 0 64 i 0 p ∙ omega arith
 
 pub word_on : {X : Type 0} (test : X → Bool) (xs : List X) (d : X) → length xs ≡ 64 → word_of test xs ≡ word (λ s. test (get_or xs s d))
 unfolding word squares
-word_on test xs d l =
-    word_from_bits (λ s. test (get_or xs s d)) squares 0 (word_of test xs) refl (subst (λ k. word_of test xs < 2 ^ k) l (word_small test xs))
+word_on test xs d l = word_from_bits (λ s. test (get_or xs s d)) squares 0 (word_of test xs) refl (subst (λ k. word_of test xs < 2 ^ k) l (word_small test xs))
     (λ i p. word_bit test xs d i (omega arith) ∙ ap (λ n. bit_of (test (get_or xs n d))) (sym (squares_at i p)))
 
 -- bit s of a word of squares
@@ -113,18 +86,11 @@ square_word test n fits h = word_from_bits test squares 0 n refl fits (λ s p. h
 
 -- the word of one square
 pub square_alone : (s : ℕ) → s < 64 → 1 * 2 ^ s % 2 ^ 64 ≡ word (λ t. eqb s t)
-square_alone s p =
-    square_word (λ t. eqb s t) _ (omega arith)
-    (λ t b. elim (cases_eq t s) [
-      | inl e ↦ rw (e, eq-eqb s s refl) (ap (λ n. bit_at n s) (one_shl s 64 p) ∙ bit_at-pow_same s)
-      | inr ne ↦ rw (ne_eqb s t (λ e. ne (sym e))) (ap (λ n. bit_at n t) (one_shl s 64 p) ∙ bit_at-pow_other s t ne)
-    ])
+square_alone s p = square_word (λ t. eqb s t) _ (omega arith)
+    (grind (arith, cases_eq, eq-eqb s s refl, one_shl s 64 p, bit_at-pow_same s, ne_eqb, bit_at-pow_other))
 
 either : (a b : Bool) → max (bit_of a) (bit_of b) ≡ bit_of (a || b)
-either true true = refl
-either true false = refl
-either false true = refl
-either false false = refl
+either a b = grind arith
 
 pub squares_either : (p q : ℕ → Bool) → bit_or (word p) (word q) ≡ word (λ s. p s || q s)
 squares_either p q = search (rules, square_word, or_lt, square_word_small, bit_at_or, square_bit, either)
@@ -134,16 +100,14 @@ squares_both p q = search (rules, square_word, and_le_l, square_word_small, bit_
 
 -- a word is 0 where no square passes
 pub bit_false : (b : Bool) → bit_of b ≡ 0 → b ≡ false
-bit_false true h = absurd (omega arith)
-bit_false false h = refl
+bit_false b h = grind arith
 
 pub squares_none : (test : ℕ → Bool) → word test ≡ 0 → some_square test ≡ false
 squares_none test h =
     some_square_false test 64 (omega arith) (record { fails = λ s p. bit_false (test s) (sym (square_bit test s p) ∙ ap (λ n. bit_at n s) h ∙ bit_at-zero s) })
 
 pub bit_true : (b : Bool) → bit_of b ≡ 1 → b ≡ true
-bit_true true h = refl
-bit_true false h = absurd (omega arith)
+bit_true b h = grind arith
 
 pub squares_some : (test : ℕ → Bool) → 0 < word test → some_square test ≡ true
 squares_some test h =
@@ -152,18 +116,13 @@ squares_some test h =
 
 -- whether the word is another than 0 tells whether some square passes
 pub some_square_told : (test : ℕ → Bool) (n : ℕ) → n ≡ word test → not (eqb n 0) ≡ some_square test
-some_square_told test n h = elim (cases_eq n 0) [
-  | inl e ↦ rw e (sym (squares_none test (sym h ∙ e)))
-  | inr ne ↦ rw (ne_eqb n 0 ne) (sym (squares_some test (let pos : 0 < n = omega (arith, ne) in rw (← h) pos)))
-]
+some_square_told test n h = grind (arith, cases_eq, squares_none, ne_eqb, squares_some)
 
 negated : (b : Bool) → 1 - bit_of b ≡ bit_of (not b)
-negated true = refl
-negated false = refl
+negated b = grind arith
 
 pub squares_not : (p : ℕ → Bool) → bit_not w64 (word p) ≡ word (λ s. not (p s))
-squares_not p =
-    square_word (λ s. not (p s)) _ (omega (arith, square_word_small p))
+squares_not p = square_word (λ s. not (p s)) _ (omega (arith, square_word_small p))
     (λ s b. bit_at_not w64 (word p) s (square_word_small p) b ∙ ap (λ n. 1 - n) (square_bit p s b) ∙ negated (p s))
 
 pub squares_same : (p q : ℕ → Bool) → ((s : ℕ) → s < 64 → p s ≡ q s) → word p ≡ word q

@@ -1,17 +1,8 @@
 -- Blocks token by token.
-use Rattle.pop_input.proofs.Basics.{Bool, List, None, Option, Some, [], append-nil, append_assoc, arith, false, list_all, not, onto_first, refl, true, ℕ, ◌++◌, ◌∷◌, ◌≡◌}
-use Rattle.pop_input.proofs.Words.{Command, Fault, State, Tail, TextLine, TextWord, Token, Word, Words, at_line, block_fault, closed_entry, closes, command_of, entries_by, entries_of, fault_of, first_fault, has_begun, inside, last_text, or_else, put_before, state_of, text_after, text_word_of}
-use Rattle.pop_text.specs.ties.Left.{no_words}
-use Rattle.pop_input.specs.Blocks.{words_before, closing_of, cut_by, blocks_of, line_of, closing_line, block_entries}
+use Rattle.pop_input.proofs.Words.{Bool, Command, Fault, List, None, Option, Some, State, Tail, TextLine, TextWord, Token, Word, Words, [], append-nil, append_assoc, arith, at_line, block_entries, block_fault, blocks_of, closed_entry, closes, closing_line, closing_of, command_of, cut_by, entries_by, entries_of, false, fault_of, first_fault, has_begun, inside, last_text, line_of, list_all, no_words, not, or_else, put_before, refl, state_of, text_after, text_word_of, true, words_before, ℕ, ◌++◌, ◌∷◌, ◌≡◌}
 use Rattle.pop_input.specs.declared.names.Command.TheVariants.{Next, Last}
 
 -- One more token.
-
-or_later : {A : Type 0} (a b c : Option A) → or_else (or_else a b) c ≡ or_else a (or_else b c)
-or_later a b c = grind arith
-
-or_none : {A : Type 0} (a : Option A) → or_else a None ≡ a
-or_none a = grind arith
 
 -- the fault of a word of a problem
 abbrev pub word_fault : List (List ℕ) → ℕ → List ℕ → Option Fault
@@ -19,8 +10,8 @@ word_fault before line text = at_line line (fault_of true (state_of before) text
 
 pub fault_more : (before : List (List ℕ)) (done : List Token) (line : ℕ) (text : List ℕ)
     → first_fault before (done ++ Word line text ∷ []) ≡ or_else (first_fault before done) (word_fault (words_before before done) line text)
-fault_more before [] line text = or_none (word_fault before line text)
-fault_more before (Word l t ∷ done) line text = grind (arith, fault_more (t ∷ before) done line text, or_later)
+fault_more before [] line text = grind arith
+fault_more before (Word l t ∷ done) line text = grind (arith, fault_more (t ∷ before) done line text)
 fault_more before (TextLine l k t ∷ done) line text = fault_more before done line text
 
 fault_line : (before : List (List ℕ)) (done : List Token) (line : ℕ) (keyword text : List ℕ)
@@ -36,15 +27,13 @@ said first done = state_of (words_before [] (inside first done))
 -- one more word of a block
 pub block_more : (first : Bool) (done : List Token) (line : ℕ) (text : List ℕ)
     → block_fault first (done ++ Word line text ∷ []) ≡ or_else (block_fault first done) (at_line line (fault_of (has_begun first done) (said first done) text))
-block_more first [] line text = grind (arith, fault_more [] [] line text, or_none)
-block_more first (token ∷ done) line text =
-    grind (arith, block_more first done line text, fault_more [] (token ∷ done) line text, fault_more [] done line text, or_later)
+block_more first [] line text = grind arith
+block_more first (token ∷ done) line text = grind (arith, fault_more, block_more first done line text)
 
 pub block_line : (first : Bool) (done : List Token) (line : ℕ) (keyword text : List ℕ)
     → block_fault first (done ++ TextLine line keyword text ∷ []) ≡ block_fault first done
 block_line first [] line keyword text = grind arith
-block_line first (token ∷ done) line keyword text =
-    grind (arith, block_line first done line keyword text, fault_line [] (token ∷ done) line keyword text, fault_line [] done line keyword text)
+block_line first (token ∷ done) line keyword text = grind (arith, fault_line, block_line first done line keyword text)
 
 pub begun_word : (first : Bool) (done : List Token) (line : ℕ) (text : List ℕ) → has_begun first (done ++ Word line text ∷ []) ≡ true
 begun_word first [] line text = grind arith
@@ -100,9 +89,6 @@ text_line wanted old (TextLine l k t ∷ done) line keyword text = text_line wan
 abbrev pub is_open : Token → Bool
 is_open token = not (closes (closing_of token))
 
-cut_open : (c : Option Command) (token : Token) (blocks : List (List Token)) → closes c ≡ false → cut_by c token blocks ≡ onto_first token blocks
-cut_open c token blocks h = grind arith
-
 open_parts : (token : Token) (done : List Token) → list_all is_open (token ∷ done) ≡ true → (is_open token ≡ true) × (list_all is_open done ≡ true)
 open_parts token done h = grind arith
 
@@ -110,7 +96,7 @@ open_parts token done h = grind arith
 pub blocks_open : (done tokens : List Token) → list_all is_open done ≡ true → (b : List Token) (bs : List (List Token)) → blocks_of tokens ≡ b ∷ bs
     → blocks_of (done ++ tokens) ≡ (done ++ b) ∷ bs
 blocks_open [] tokens h b bs e = e
-blocks_open (token ∷ done) tokens h b bs e = grind (arith, open_parts, blocks_open done tokens (open_parts token done h).1 b bs e, cut_open)
+blocks_open (token ∷ done) tokens h b bs e = grind (arith, open_parts, blocks_open done tokens (open_parts token done h).1 b bs e)
 
 -- no line closes open tokens
 pub open_line : (done : List Token) → list_all is_open done ≡ true → closing_line done ≡ None
@@ -130,11 +116,7 @@ module _ (first : Bool) (done : List Token) (line : ℕ) (text : List ℕ) (plai
 
   closing_blocks : (c : Command) → command_of text ≡ Some c → closes (Some c) ≡ true → (bs : List (List Token))
       → cut_by (Some c) (Word line text) (blocks_of words.tokens) ≡ (Word line text ∷ []) ∷ bs → blocks_of (block ++ words.tokens) ≡ block ∷ bs
-  closing_blocks c is h bs e = grind (
-    arith,
-    append_assoc done (Word line text ∷ []) words.tokens,
-    blocks_open done (Word line text ∷ words.tokens) plain (Word line text ∷ []) bs,
-  )
+  closing_blocks c is h bs e = grind (arith, append_assoc, blocks_open done (Word line text ∷ words.tokens) plain (Word line text ∷ []) bs)
 
   closing_entries : (c : Command) → command_of text ≡ Some c → closes (Some c) ≡ true → (bs : List (List Token))
       → cut_by (Some c) (Word line text) (blocks_of words.tokens) ≡ (Word line text ∷ []) ∷ bs
@@ -155,10 +137,4 @@ module _ (first : Bool) (done : List Token) (line : ℕ) (text : List ℕ) (plai
 -- an input that ends in a block
 pub ended_entries : (first : Bool) (done : List Token) (tail : Tail) (line : ℕ) → list_all is_open done ≡ true
     → entries_of first (put_before done (no_words tail line)) ≡ entries_by (block_fault first done) None first tail line done
-ended_entries first done tail line plain = grind (
-  arith,
-  blocks_open done [] plain [] [],
-  append-nil {A = Token},
-  open_line done plain,
-  append-nil (entries_by (block_fault first done) None first tail line done),
-)
+ended_entries first done tail line plain = grind (arith, blocks_open done [] plain [] [], append-nil {A = Token}, open_line done plain)

@@ -1,22 +1,6 @@
 -- What the clauses exclude: places and words of which the definitions say otherwise than a wrong body would.
-use Rattle.std.proofs.Common.{◌≡◌, ℕ, List, [], ◌∷◌, Option, None, Some, true, false, refl}
-use Rattle.std.specs.Prelude.{codes}
-use Rattle.chess_core.specs.Diagrams.{Setup, has_men}
-use Rattle.chess_core.specs.WellFormed.{is_crossed_right}
-use Rattle.pop_text.specs.Words.{Word}
-use Rattle.pop_text.specs.ties.Plain.{is_plain}
-use Rattle.pop_input.specs.Blocks.{first_fault}
-use Rattle.pop_input.specs.Ends.{setup_fault}
-use Rattle.pop_input.specs.FaultKinds.{fault_at}
-use Rattle.pop_input.specs.State.{State}
-use Rattle.pop_input.specs.declared.stipulation.Stipulation.{Stipulation}
-use Rattle.pop_input.specs.Names.{command_of, section_of}
-use Rattle.pop_input.specs.ties.Standing.{Standing, NextItem}
-use Rattle.pop_input.specs.declared.fault_kind.FaultKind.TheVariants.{EnPassantImpossible, WordMisplaced}
-use Rattle.pop_input.specs.declared.item.Fault.{Fault}
+use Rattle.pop_input.proofs.Words.{EnPassantImpossible, Fault, List, NextItem, No, None, Nothing, Option, Setup, Some, Standing, State, Stipulation, Word, WordMisplaced, [], codes, command_of, false, fault_at, first_fault, has_men, is_crossed_right, is_plain, refl, section_of, setup_fault, true, ℕ, ◌∷◌, ◌≡◌}
 use Rattle.pop_input.specs.declared.item.Item.TheVariants.{Faulty}
-use Rattle.pop_input.specs.declared.item.Last.TheVariants.{No}
-use Rattle.pop_input.specs.declared.reader.Next.TheVariants.{Nothing}
 
 -- behind the fault of a problem that is cut off the cut is still to come
 pub cut_is_to_come : (old new : Standing) (had left : Option (List ℕ)) (fault : Fault)

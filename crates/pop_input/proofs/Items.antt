@@ -1,16 +1,9 @@
 -- A block as far as it is read, and the item at its end.
-use Rattle.pop_input.proofs.Basics.{Bool, List, None, Option, Some, [], ap, arith, false, inr, length, list_all, list_all-append, refl, sym, true, ℕ, ◌++◌, ◌<◌, ◌∙◌, ◌∷◌, ◌≡◌, ◌≤◌, ◌⊎◌}
-use Rattle.pop_input.proofs.Words.{Block, Command, Fault, Reading, ReadsWord, State, Takes, TakesPart, TextLine, TextWord, Word, among, at_line, block_fault, closes, command_of, fault_at, fault_of, has_begun, inside, last_of, last_text, or_else, text_after, text_word_of}
-use Rattle.pop_text.proofs.Left.{no_short_form}
-use Rattle.std.proofs.lemmas.Bool.{lt-ltb}
-use Rattle.pop_text.specs.Words.{Token as Part, text_of_line}
-use Rattle.pop_input.specs.Names.{section_of}
-use Rattle.pop_input.specs.ties.Closings.{IsNew, TakesLine, noted, said_after, text_with}
+use Rattle.pop_input.proofs.Words.{Block, Bool, Command, IsNew, List, None, Option, Reading, ReadsWord, Some, State, Takes, TakesLine, TakesPart, TextLine, TextWord, Word, WordTooLong, [], among, ap, arith, at_line, block_fault, closes, command_of, false, fault_at, fault_of, has_begun, inr, inside, last_of, last_text, length, list_all, list_all-append, lt-ltb, no_short_form, noted, or_else, refl, section_of, sym, takes_none, text_of_line, text_word_of, true, ℕ, ◌++◌, ◌<◌, ◌∙◌, ◌∷◌, ◌≡◌, ◌≤◌, ◌⊎◌}
+use Rattle.pop_text.specs.Words.{Token as Part}
 use Rattle.pop_input.specs.declared.names.TextWord.TheVariants.{Title, Author}
-use Rattle.pop_text.proofs.Plain.{takes_none}
 use Rattle.pop_input.proofs.Taking.{takes_then}
 use Rattle.pop_input.proofs.Blocks.{is_open, said, block_more, block_line, begun_word, begun_line, inside_more, inside_none, inside_first, words_more, words_line, text_more, text_line}
-use Rattle.pop_input.specs.declared.fault_kind.FaultKind.TheVariants.{WordTooLong}
 
 -- what a block says of its tokens
 pub record Tells (first : Bool) (block : Block) (done : List Part) : Type 0 where
@@ -35,9 +28,6 @@ block_starts first place had block n = grind (arith, takes_none)
 pub or_first : {A : Type 0} (a b : Option A) → or_else a b ≡ None → a ≡ None
 or_first a b h = grind arith
 
-never : {A : Type 0} (a : Option A) (x : A) → or_else a (Some x) ≡ None → ⊥
-never a x h = grind arith
-
 -- a word too long is no command
 long_no_command : (text : List ℕ) → 160 < length text → command_of text ≡ None
 unfolding command_of section_of
@@ -46,44 +36,23 @@ long_no_command text long = grind (arith, no_short_form)
 long_fault : (begun : Bool) (state : State) (text : List ℕ) → 160 < length text → fault_of begun state text ≡ Some WordTooLong
 long_fault begun state text long = rw (lt-ltb 160 (length text) long) refl
 
-title_with : (k : TextWord) (text : List ℕ) (rest : List ℕ) (had : List ℕ) (before : List ℕ) → text ≡ text_of_line rest → had ≡ before
-    → text_with Title had k text ≡ text_after Title before (Some k) rest
-title_with k text rest had before p q = grind arith
-
-author_with : (k : TextWord) (text : List ℕ) (rest : List ℕ) (had : List ℕ) (before : List ℕ) → text ≡ text_of_line rest → had ≡ before
-    → text_with Author had k text ≡ text_after Author before (Some k) rest
-author_with k text rest had before p q = grind arith
-
 -- Texts behind one more token.
 
 title_line : (first : Bool) (done : List Part) (line : ℕ) (name rest : List ℕ) (keyword : TextWord) (text had : List ℕ) (begun : Bool)
-    → begun ≡ has_begun first done → text_word_of name ≡ Some keyword → text ≡ text_of_line rest
-    → had ≡ last_text Title [] (inside first done) → noted begun Title had keyword text
-    ≡ last_text Title [] (inside first (done ++ TextLine line name rest ∷ []))
-title_line first done line name rest keyword text had begun at is bytes before = grind (arith, title_with, text_line, inside_more, inside_none, inside_first)
+    → begun ≡ has_begun first done → text_word_of name ≡ Some keyword → text ≡ text_of_line rest → had ≡ last_text Title [] (inside first done)
+    → noted begun Title had keyword text ≡ last_text Title [] (inside first (done ++ TextLine line name rest ∷ []))
+title_line first done line name rest keyword text had begun at is bytes before = grind (arith, text_line, inside_more, inside_none, inside_first)
 
 author_line : (first : Bool) (done : List Part) (line : ℕ) (name rest : List ℕ) (keyword : TextWord) (text had : List ℕ) (begun : Bool)
-    → begun ≡ has_begun first done → text_word_of name ≡ Some keyword → text ≡ text_of_line rest
-    → had ≡ last_text Author [] (inside first done) → noted begun Author had keyword text
-    ≡ last_text Author [] (inside first (done ++ TextLine line name rest ∷ []))
-author_line first done line name rest keyword text had begun at is bytes before = grind (arith, author_with, text_line, inside_more, inside_none, inside_first)
+    → begun ≡ has_begun first done → text_word_of name ≡ Some keyword → text ≡ text_of_line rest → had ≡ last_text Author [] (inside first done)
+    → noted begun Author had keyword text ≡ last_text Author [] (inside first (done ++ TextLine line name rest ∷ []))
+author_line first done line name rest keyword text had begun at is bytes before = grind (arith, text_line, inside_more, inside_none, inside_first)
 
 words_inside : (first : Bool) (done : List Part) (line : ℕ) (name rest : List ℕ) (begun : Bool) → begun ≡ has_begun first done
     → said first done ≡ said first (done ++ TextLine line name rest ∷ [])
 words_inside first done line name rest begun at = grind (arith, words_line, inside_more, inside_none, inside_first)
 
-text_word : (wanted : TextWord) (first : Bool) (done : List Part) (line : ℕ) (text : List ℕ) (begun : Bool) → begun ≡ has_begun first done
-    → last_text wanted [] (inside first done) ≡ last_text wanted [] (inside first (done ++ Word line text ∷ []))
-text_word wanted first done line text begun at = grind (arith, text_more, inside_more, inside_none, inside_first)
-
-said_word : (first : Bool) (done : List Part) (line : ℕ) (text : List ℕ) (begun : Bool) → begun ≡ has_begun first done
-    → said_after begun (said first done) text ≡ said first (done ++ Word line text ∷ [])
-said_word first done line text begun at = grind (arith, words_more, inside_more, inside_none, inside_first)
-
 module _ (first : Bool) (old mid new : Reading) (had met left : Option (List ℕ)) (block next : Block) (b : BlockSoFar first old mid had met block) where
-  plain_more : (part : Part) → is_open part ≡ true → list_all is_open (b.done ++ part ∷ []) ≡ true
-  plain_more part h = list_all-append is_open b.done (part ∷ []) ∙ rw (b.plain, h) refl
-
   pub takes_more : (part : Part) → TakesPart mid new met left part → Takes (among old) (among new) had left (b.done ++ part ∷ [])
   takes_more part t = takes_then (among old) (among mid) (among new) had met left b.done (part ∷ []) b.takes t.0
 
@@ -96,36 +65,25 @@ module _ (first : Bool) (old mid new : Reading) (had met left : Option (List ℕ
   line_read line name rest keyword text t is bytes n = record {
     done = b.done ++ TextLine line name rest ∷ [];
     takes = takes_more (TextLine line name rest) t;
-    plain = plain_more (TextLine line name rest) refl;
+    plain = grind (arith, list_all-append);
     fault = n.fault ∙ b.fault ∙ sym (block_line first b.done line name rest);
-    told = λ none.
-        let k = b.told (sym n.fault ∙ none) in
-        record {
-          begun = n.begun ∙ k.begun ∙ sym (begun_line first b.done line name rest);
-          draft = n.draft ∙ k.draft ∙ words_inside first b.done line name rest block.begun k.begun;
-          title = n.title ∙ title_line first b.done line name rest keyword text block.title block.begun k.begun is bytes k.title;
-          author = n.author ∙ author_line first b.done line name rest keyword text block.author block.begun k.begun is bytes k.author;
-        };
+    told = grind (arith, begun_line, words_inside, title_line, author_line);
     on = let h = goes_on (TextLine line name rest) t in omega (arith, h);
     further = inr (goes_on (TextLine line name rest) t);
   }
-
-  fault_is : (line : ℕ) (text : List ℕ) (f : Option Fault) → block.fault ≡ f
-      → or_else f (at_line line (fault_of block.begun block.draft text)) ≡ or_else f (at_line line (fault_of (has_begun first b.done) (said first b.done) text))
-  fault_is line text f is = grind arith
 
   module _ (line : ℕ) (text : List ℕ) (fault : next.fault ≡ or_else block.fault (at_line line (fault_of block.begun block.draft text)))
       (r : next.fault ≡ None → ReadsWord block next line text) where
     -- a word, the closing one too
     pub word_read : (next.fault ≡ block_fault first (b.done ++ Word line text ∷ [])) × (next.fault ≡ None → Tells first next (b.done ++ Word line text ∷ []))
-    word_read = grind (arith, fault_is, said, block_more, or_first, begun_word, said_word, text_word)
+    word_read = grind (arith, block_more, or_first, begun_word, text_more, inside_more, inside_none, inside_first, words_more)
 
     -- a word that does not close the block
     pub open_read : TakesPart mid new met left (Word line text) → closes (command_of text) ≡ false → BlockSoFar first old new had left next
     open_read t is = record {
       done = b.done ++ Word line text ∷ [];
       takes = takes_more (Word line text) t;
-      plain = plain_more (Word line text) (rw is refl);
+      plain = grind (arith, list_all-append);
       fault = word_read.0;
       told = word_read.1;
       on = let h = goes_on (Word line text) t in omega (arith, h);
@@ -137,7 +95,7 @@ module _ (first : Bool) (old mid new : Reading) (had met left : Option (List ℕ
       → next.fault ≡ or_else block.fault (Some (fault_at WordTooLong line)) → BlockSoFar first old new had left next
   long_read line text t long fault = open_read line text
       (fault ∙ ap (λ n. or_else block.fault (at_line line n)) (sym (long_fault block.begun block.draft text long)))
-      (λ none. absurd (never block.fault (fault_at WordTooLong line) (sym fault ∙ none))) t (ap closes (long_no_command text long))
+      (λ none. absurd (grind arith)) t (ap closes (long_no_command text long))
 
 pub not_closing : (c : Option Command) → last_of c ≡ None → closes c ≡ false
 not_closing c h = grind arith

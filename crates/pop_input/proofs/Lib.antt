@@ -1,4 +1,3 @@
-pub mod Basics
 pub mod Words
 pub mod Parsing
 pub mod Putting

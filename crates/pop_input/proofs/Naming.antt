@@ -1,8 +1,5 @@
 -- Names letter by letter.
-use Rattle.pop_input.proofs.Basics.{List, [], arith, drop, drop_more, false, get_or, length, map, nat_eq, refl, starts_with, to_ascii_lowercase, true, ℕ, ◌&&◌, ◌+◌, ◌<◌, ◌∷◌, ◌≡◌, ◌≤◌}
-use Rattle.std.proofs.lemmas.List.{length-map, drop_all}
-use Rattle.std.proofs.lemmas.Bool.{eq-eqb, ne_eqb}
-use Rattle.pop_text.proofs.Left.{longer}
+use Rattle.pop_input.proofs.Words.{List, arith, drop, drop_all, drop_more, eq-eqb, false, get_or, length, length-map, longer, map, nat_eq, ne_eqb, refl, starts_with, to_ascii_lowercase, true, ℕ, ◌&&◌, ◌+◌, ◌<◌, ◌∷◌, ◌≡◌, ◌≤◌}
 
 abbrev pub small : List ℕ → List ℕ
 small word = map to_ascii_lowercase word
@@ -22,13 +19,9 @@ pub begins_stop : (name word : List ℕ) (i : ℕ) → i < length name → i < l
     → starts_with nat_eq (drop i name) (small (drop i word)) ≡ false
 begins_stop name word i in_name in_word other = grind (arith, begins_step, ne_eqb)
 
-begins_none : (name : List ℕ) → starts_with nat_eq name [] ≡ true
-begins_none [] = refl
-begins_none (a ∷ name) = refl
-
 -- all letters are the name's
 pub begins_all : (name word : List ℕ) (i : ℕ) → length word ≤ i → starts_with nat_eq (drop i name) (small (drop i word)) ≡ true
-begins_all name word i over = rw (drop_all i word over) (begins_none (drop i name))
+begins_all name word i over = rw (drop_all i word over) (grind arith)
 
 pub too_long : (name word : List ℕ) → length name < length word → starts_with nat_eq name (small word) ≡ false
 too_long name word long = longer name (small word) (omega (arith, length-map word to_ascii_lowercase))
@@ -37,5 +30,4 @@ too_long name word long = longer name (small word) (omega (arith, length-map wor
 pub other_letter : (name word : List ℕ) → 0 < length name → 0 < length word → nat_eq (to_ascii_lowercase (get_or word 0 0)) (get_or name 0 0) ≡ false
     → starts_with nat_eq name (small word) ≡ false
 other_letter (a ∷ name) (b ∷ word) p q h = rw h refl
-other_letter [] word p q h = absurd (omega arith)
-other_letter (a ∷ name) [] p q h = absurd (omega arith)
+other_letter name word p q h = grind arith

@@ -1,6 +1,5 @@
 -- The fault of a block that is read so far, and of the item that closes it.
-use Rattle.pop_input.proofs.Basics.{Bool, List, Option, [], subst, sym, ℕ, ◌++◌, ◌∷◌}
-use Rattle.pop_input.proofs.Words.{Block, Closes, IsNumbered, Item, Reading, ReadsWord, TakesPart, Word}
+use Rattle.pop_input.proofs.Words.{Block, Bool, Closes, IsNumbered, Item, List, Option, Reading, ReadsWord, TakesPart, Word, [], subst, sym, ℕ, ◌++◌, ◌∷◌}
 use Rattle.pop_input.specs.declared.item.Last.{Last}
 use Rattle.pop_input.proofs.Items.{BlockSoFar, word_read}
 use Rattle.pop_input.proofs.Numbers.{SmallFault, block_small, closed_numbered}

@@ -1,17 +1,11 @@
 -- Squares and numbers, byte by byte.
-use Rattle.pop_input.proofs.Basics.{List, None, Option, Some, [], append_assoc, arith, drop, drop_more, get_or, length, list_all, map, refl, to_ascii_lowercase, true, ℕ, ◌*◌, ◌++◌, ◌+◌, ◌<◌, ◌∷◌, ◌≡◌, ◌≤◌}
-use Rattle.pop_input.proofs.Words.{is_digit, squares_from, squares_of}
+use Rattle.pop_input.proofs.Words.{List, None, Option, Some, [], append_assoc, arith, before_squares, drop, drop_more, get_or, is_digit, length, list_all, map, most_solutions, refl, square_by, squares_from, squares_of, stipulation_in_small_letters, to_ascii_lowercase, true, value_of, ℕ, ◌*◌, ◌++◌, ◌+◌, ◌<◌, ◌∷◌, ◌≡◌, ◌≤◌}
 use Rattle.std.proofs.Math.Seq.{drop-length}
-use Rattle.pop_input.specs.Values.{square_by, before_squares, value_of, most_solutions, stipulation_in_small_letters}
 
 -- squares before those of a text
 abbrev pub with_front : List ℕ → Option (List ℕ) → Option (List ℕ)
 with_front done None = None
 with_front done (Some squares) = Some (done ++ squares)
-
-pub front_none : (squares : Option (List ℕ)) → with_front [] squares ≡ squares
-front_none None = refl
-front_none (Some squares) = refl
 
 pub front_more : (done : List ℕ) (square : ℕ) (squares : Option (List ℕ))
     → with_front done (before_squares (Some square) squares) ≡ with_front (done ++ square ∷ []) squares
@@ -20,8 +14,7 @@ front_more done square squares = grind (arith, append_assoc)
 -- a word that isn't empty
 pub some_squares : (word : List ℕ) → 0 < length word → squares_of word ≡ squares_from word
 unfolding squares_of
-some_squares [] h = absurd (omega arith)
-some_squares (b ∷ word) h = refl
+some_squares word h = grind arith
 
 -- This much of a number is read: it is known as far as it is no more than the greatest limit.
 pub record DigitsSoFar (text : List ℕ) (value : ℕ) : Type 0 where

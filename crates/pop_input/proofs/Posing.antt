@@ -1,24 +1,14 @@
 -- The problem that words pose is sound where no test at their end fails.
-use Rattle.pop_input.proofs.Basics.{Bool, List, None, Option, Some, arith, cases_Bool, cases_eq, false, if◌then◌else◌, refl, true, ℕ, ◌≡◌, ◌⊎◌}
-use Rattle.pop_input.proofs.Words.{ArePut, EnPassantImpossible, Man, Setup, State, Stipulation, counts, has_king_to_mate, in_check, man_on, mark_unmoved, none_unmoved, other, rule_of}
-use Rattle.std.proofs.Common.{◌==◌}
-use Rattle.std.proofs.lemmas.Bool.{and_parts, cond-true, cond-false}
-use Rattle.chess_core.specs.Castling.{has_unmoved}
-use Rattle.chess_core.specs.Diagrams.{has_men, position_of}
-use Rattle.chess_core.specs.WellFormed.{IsWellFormed, is_crossed_right, is_home}
+use Rattle.std.proofs.Common.{rules}
+use Rattle.pop_input.proofs.Words.{ArePut, Bool, EnPassantImpossible, IsWellFormed, List, Man, None, Option, Setup, Some, State, Stipulation, arith, cases_Bool, false, has_king_to_mate, has_men, has_unmoved, in_check, is_crossed_right, is_home, man_on, mark_unmoved, none_unmoved, other, position_fault, position_of, refl, rule_of, setup_fault, setup_of, starts, true, unmoved_of, ℕ, ◌≡◌}
 use Rattle.chess_core.specs.declared.man.Unmoved.{Unmoved}
-use Rattle.pop_input.specs.Stipulations.{starts}
-use Rattle.pop_input.specs.Ends.{position_fault, setup_fault, setup_of, unmoved_of}
 use Rattle.pop_input.specs.declared.stipulation.Form.{Form}
 
 module _ (men : List (Option Man)) (barred : Unmoved) where
-  home_or : (s n : ℕ) (rest : Bool) → (if s == n then counts men barred n else rest) ≡ true → (is_home (man_on men s) s ≡ true) ⊎ (rest ≡ true)
-  home_or s n rest h = grind (arith, cases_eq, cond-true, and_parts, cond-false)
-
   -- the man that castles from it stands on each square that counts as unmoved
   pub homes : (s : ℕ) → has_unmoved (unmoved_of men barred) s ≡ true → is_home (man_on men s) s ≡ true
   unfolding has_unmoved mark_unmoved none_unmoved unmoved_of
-  homes s h = grind (arith, home_or)
+  homes s h = search rules
 
 -- well formed but for the crossed square
 well_formed_by : (state : State) (form : Form) → ArePut state.men → is_crossed_right state.men (starts form) state.crossed ≡ true

@@ -1,18 +1,9 @@
 -- Men that are put without a fault.
-use Rattle.pop_input.proofs.Basics.{Bool, Err, List, None, Ok, Option, Some, [], arith, cases_Bool, cases_eq, false, get_or, if◌then◌else◌, inl, inr, is_some, length, not, refl, suc, true, zero, ℕ, ◌&&◌, ◌∙◌, ◌∷◌, ◌≡◌}
-use Rattle.pop_input.proofs.Words.{ArePut, Colour, King, Man, PawnOnOuterRank, SecondKing, Setup, SquareTaken, fault_if, is_pawn_inside, man_fault, man_on, same_kind, stands, with_man}
-use Rattle.std.proofs.Common.{Result, IsSome}
-use Rattle.std.specs.List.{repeat}
-use Rattle.std.specs.Prelude.{MatchResult}
-use Rattle.std.proofs.lemmas.List.{length-set, set_past}
-use Rattle.std.proofs.lemmas.Bool.{cases_lt}
+use Rattle.pop_input.proofs.Words.{ArePut, Bool, Colour, Err, HasNoKing, IsSome, King, List, Man, MatchResult, None, Ok, Option, PawnOnOuterRank, Result, SecondKing, Setup, Some, SquareTaken, [], arith, cases_Bool, cases_eq, cases_lt, false, fault_if, get_or, if◌then◌else◌, inl, inr, is_man, is_pawn_inside, is_some, is_there, length, length-set, man_fault, man_on, no_men, not, refl, repeat, same_kind, set_past, stands, suc, true, with_man, zero, ℕ, ◌&&◌, ◌∙◌, ◌∷◌, ◌≡◌}
 use Rattle.std.proofs.Math.ListN.{get_or-eq_default}
-use Rattle.chess_core.specs.Position.{HasNoKing, is_man}
-use Rattle.chess_core.specs.Diagrams.{is_there}
 use Rattle.chess_core.specs.declared.diagram.Taken.{Taken}
 use Rattle.chess_core.proofs.Men.{AtMostOneKing-with, man_on-with_same, man_on-with_other}
 use Rattle.chess_core.proofs.Ranges.{some_square_true}
-use Rattle.pop_input.specs.State.{no_men}
 
 nobody : (n s : ℕ) → ◌≡◌ {A = Option Man} (get_or (repeat n (None ∷ [])) s None) None
 nobody zero s = refl
@@ -44,13 +35,7 @@ more_put : (men : List (Option Man)) (man : Man) (square : ℕ) → ArePut men �
 more_put men man square put inside king = record {
   size = length-set men square (Some man) ∙ put.size;
   kings = AtMostOneKing-with men square man put.kings (λ is. no_king men man.colour put.size (king is));
-  pawns = λ s. elim (cases_eq s square) [
-    | inl same ↦ elim (cases_lt square (length men)) [
-      | inl lt ↦ let e : man_on (with_man men square man) square ≡ Some man = man_on-with_same men square man lt in rw (same, e) inside
-      | inr ge ↦ let e : with_man men square man ≡ men = set_past men square (Some man) ge in rw e (put.pawns s)
-    ]
-    | inr ne ↦ let e : man_on (with_man men square man) s ≡ man_on men s = man_on-with_other men square s man ne in rw e (put.pawns s)
-  ];
+  pawns = λ s. grind (arith, cases_eq s square, cases_lt square (length men), man_on-with_same, set_past, man_on-with_other);
 }
 
 fits_by : (taken inside king second : Bool) → (if taken then Some SquareTaken
@@ -59,9 +44,8 @@ fits_by taken inside king second h = grind arith
 
 -- a man that is put without a fault, or not put
 pub put_keeps : (r : Result (Unit {0}) Taken) (old new : Setup) (square : ℕ) (man : Man)
-    → MatchResult r (λ _. (man_on old.men square ≡ None) × (new ≡ record old { men = with_man old.men square man }))
-    (λ _. IsSome (man_on old.men square) × (new ≡ old))
-    → man_fault old.men man square ≡ None → ArePut old.men → ArePut new.men
+    → MatchResult r (λ _. (man_on old.men square ≡ None) × (new ≡ record old { men = with_man old.men square man })) (λ _. IsSome (man_on old.men square) × (new
+    ≡ old)) → man_fault old.men man square ≡ None → ArePut old.men → ArePut new.men
 put_keeps (Ok done) old new square man did none put =
     let fits = fits_by (is_some (man_on old.men square)) (is_pawn_inside (Some man) square) (same_kind man.kind King) (stands old.men man.colour King) none in
     rw did.1 (more_put old.men man square put fits.0 fits.1)

@@ -1,31 +1,13 @@
 -- Inputs, and the items that they hold, computed from the definitions.
-use Rattle.std.proofs.Common.{◌≡◌, ℕ, List, [], ◌∷◌, ◌++◌, refl, None, Some, Option, replicate, false, true}
-use Rattle.std.specs.Prelude.{codes}
-use Rattle.chess_core.specs.Castling.{has_unmoved, mark_unmoved, none_unmoved}
-use Rattle.chess_core.specs.Position.{king_square, with_man}
+use Rattle.pop_input.proofs.Words.{BadLimit, BadStipulation, BeginProblemMissing, Clean, Colour, ColourMissing, DeviceFailed, EnPassantImpossible, EndProblemMissing, Ending, Entry, Failed, FaultKind, Kind, King, KingMissing, List, Man, NoMen, None, NoneCastlesThere, Option, PawnOnOuterRank, Rook, SecondCondition, SecondKing, SecondStipulation, Some, Sound, SquareMissing, SquareTaken, StipulationMissing, WaitingSideInCheck, WordMisplaced, WordTooLong, [], attacked, awaited_of, codes, colour_of, command_of, condition_of, end_fault_in, entries_of, faces, faces_its_like, false, fault_at, has_unmoved, in_check, is_crossed_right, is_home, is_taken, is_there, kind_of, king_square, limit, limit_of, mark_unmoved, no_men, none_unmoved, option_of, paralysed, refl, replicate, section_of, squares_of, stands, stipulation_of, strikes, text_word_of, true, unmoved_of, with_man, words_of, ℕ, ◌++◌, ◌∷◌, ◌≡◌}
 use Rattle.chess_core.specs.Squares.{some_square, squares}
 use Rattle.chess_core.specs.Steps.{along}
-use Rattle.chess_core.specs.WellFormed.{is_crossed_right, is_home}
-use Rattle.chess_core.specs.declared.man.Colour.{Colour}
 use Rattle.chess_core.specs.declared.man.Colour.TheVariants.{White, Black}
-use Rattle.chess_core.specs.declared.man.Kind.{Kind}
-use Rattle.chess_core.specs.declared.man.Kind.TheVariants.{King, Rook}
-use Rattle.chess_core.specs.declared.man.Man.{Man}
-use Rattle.chess_rules.specs.Attacks.{attacked, faces, faces_its_like, in_check, paralysed, strikes}
 use Rattle.chess_rules.specs.Reaches.{hops, is_clear, leaps, reaches, reaches_as, rides}
-use Rattle.pop_text.specs.Words.{Clean, Failed, Ending, words_of, limit}
-use Rattle.chess_core.specs.Diagrams.{is_taken, is_there, stands}
-use Rattle.pop_input.specs.Blocks.{Entry, Sound, Faulty, entries_of}
-use Rattle.pop_input.specs.Ends.{end_fault_in, unmoved_of}
-use Rattle.pop_input.specs.Names.{awaited_of, colour_of, command_of, condition_of, kind_of, option_of, section_of, text_word_of}
-use Rattle.pop_input.specs.State.{no_men}
-use Rattle.pop_input.specs.Values.{limit_of, squares_of, stipulation_of}
+use Rattle.pop_input.specs.Blocks.{Faulty}
 use Rattle.pop_input.specs.declared.condition.Condition.TheVariants.{Madrasi}
 use Rattle.pop_input.specs.declared.stipulation.Goal.TheVariants.{Mate, Stalemate}
 use Rattle.pop_input.specs.declared.stipulation.Form.TheVariants.{Direct, Help}
-use Rattle.pop_input.specs.declared.fault_kind.FaultKind.{FaultKind}
-use Rattle.pop_input.specs.declared.fault_kind.FaultKind.TheVariants.{BeginProblemMissing, WordMisplaced, WordTooLong, ColourMissing, SquareTaken, PawnOnOuterRank, SecondKing, BadStipulation, SecondStipulation, StipulationMissing, NoMen, SecondCondition, BadLimit, SquareMissing, EnPassantImpossible, NoneCastlesThere, KingMissing, WaitingSideInCheck, EndProblemMissing, DeviceFailed}
-use Rattle.pop_input.specs.FaultKinds.{fault_at}
 
 abbrev items_by : Ending → List ℕ → List Entry
 items_by ending bytes = entries_of true (words_of (record { bytes = bytes; ending = ending }))

@@ -1,35 +1,17 @@
 -- Plain words behind a fault change nothing.
-use Rattle.pop_input.proofs.Basics.{Bool, List, None, Option, Some, [], append-nil, append_assoc, arith, false, inl, inr, list_all, list_all-append, not, refl, subst, sym, true, ℕ, ◌&&◌, ◌++◌, ◌<◌, ◌∙◌, ◌∷◌, ◌≡◌, ◌⊎◌}
-use Rattle.pop_input.proofs.Words.{Block, Fault, Reading, among, block_fault, closes, command_of}
-use Rattle.std.specs.Prelude.{codes, option_map}
-use Rattle.pop_text.specs.Words.{Token as Part, is_short_form}
-use Rattle.pop_text.specs.ties.Plain.{Skips, is_named, is_plain}
-use Rattle.pop_text.proofs.Plain.{plain_no_closing}
-use Rattle.pop_input.specs.declared.names.Section.{Section}
-use Rattle.pop_input.specs.declared.names.Command.TheVariants.{Enter}
+use Rattle.pop_input.proofs.Words.{Block, Bool, Fault, List, None, Option, Reading, Skips, Some, [], among, append-nil, append_assoc, arith, block_fault, closes, codes, command_of, false, inl, inr, is_named, is_plain, is_short_form, list_all, list_all-append, plain_no_closing, refl, sym, true, ℕ, ◌++◌, ◌<◌, ◌∙◌, ◌∷◌, ◌≡◌, ◌⊎◌}
+use Rattle.pop_text.specs.Words.{Token as Part}
 use Rattle.pop_input.proofs.Blocks.{block_more, is_open}
 use Rattle.pop_input.proofs.Items.{BlockSoFar}
 use Rattle.pop_input.proofs.Taking.{takes_then}
 
-enter_open : (section : Option Section) → closes (option_map Enter section) ≡ false
-enter_open section = grind arith
-
 no_closing : (text : List ℕ) (begins : Bool) → is_short_form (codes "beginproblem") text ≡ begins → is_named text ≡ false → closes (command_of text) ≡ false
 unfolding command_of
-no_closing text begins is plain = grind (arith, plain_no_closing, enter_open)
-
-not_true : (b : Bool) → not b ≡ true → b ≡ false
-not_true b h = grind arith
+no_closing text begins is plain = grind (arith, plain_no_closing)
 
 -- a plain word closes no block
 plain_open : (token : Part) → is_plain token ≡ true → is_open token ≡ true
-plain_open token h = grind (arith, no_closing, not_true)
-
-and_parts : (p q : Bool) → (p && q) ≡ true → (p ≡ true) × (q ≡ true)
-and_parts p q h = grind arith
-
-plain_parts : (token : Part) (tokens : List Part) → list_all is_plain (token ∷ tokens) ≡ true → (is_plain token ≡ true) × (list_all is_plain tokens ≡ true)
-plain_parts token tokens h = grind arith
+plain_open token h = grind (arith, no_closing)
 
 plain_all : (tokens : List Part) → list_all is_plain tokens ≡ true → list_all is_open tokens ≡ true
 plain_all [] h = refl
@@ -39,8 +21,7 @@ plain_all (token ∷ tokens) h = grind (arith, plain_open, plain_all tokens)
 fault_stays : (first : Bool) (fault : Fault) (done tokens : List Part) → list_all is_plain tokens ≡ true → block_fault first done ≡ Some fault
     → block_fault first (done ++ tokens) ≡ Some fault
 fault_stays first fault done [] h is = grind (arith, append-nil {A = Part})
-fault_stays first fault done (token ∷ tokens) h is =
-    grind (arith, append_assoc done (token ∷ []) tokens, block_more, fault_stays first fault (done ++ token ∷ []) tokens)
+fault_stays first fault done (token ∷ tokens) h is = grind (arith, append_assoc, block_more, fault_stays first fault (done ++ token ∷ []) tokens)
 
 module _ (first : Bool) (old mid new : Reading) (had left : Option (List ℕ)) (block : Block) (b : BlockSoFar first old mid had left block)
     (s : Skips mid new) where
@@ -60,8 +41,7 @@ module _ (first : Bool) (old mid new : Reading) (had left : Option (List ℕ)) (
       further_on (inr far) = inr (omega (arith, far, s.on))
 
   by_fault : (fault : Option Fault) → block.fault ≡ fault → (block.fault ≡ None → new ≡ mid) → BlockSoFar first old new had left block
-  by_fault None is same = subst (λ place. BlockSoFar first old place had left block) (sym (same is)) b
-  by_fault (Some fault) is same = behind_fault fault is
+  by_fault fault is same = grind (arith, behind_fault)
 
   pub skip_read : (block.fault ≡ None → new ≡ mid) → BlockSoFar first old new had left block
   skip_read same = by_fault block.fault refl same

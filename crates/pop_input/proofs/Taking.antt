@@ -1,20 +1,12 @@
 -- Calls that take tokens, one after another.
-use Rattle.pop_input.proofs.Basics.{Err, List, Ok, Option, Some, [], ap, append_assoc, arith, refl, subst, true, ℕ, ◌++◌, ◌∙◌, ◌∷◌, ◌≡◌, ◌≤◌}
-use Rattle.pop_input.proofs.Words.{Device, Input, ReadFault, Reading, Takes, TextLine, TextWord, TooLong, Words, after, among, is_text_word, limit, put_before, text_word_of, words_left}
-use Rattle.std.proofs.Common.{length-append}
+use Rattle.pop_input.proofs.Words.{Device, Err, GoesOn, Input, List, NextToken, Ok, Option, ReadFault, Reading, RestOfLine, Some, Spot, Takes, TakesNone, TakesWord, TextLine, TextWord, TooLong, [], after, among, append_assoc, arith, behind_word, consumes_then, is_text_word, length-append, limit, refl, subst, text_word_of, true, ℕ, ◌++◌, ◌∷◌, ◌≡◌, ◌≤◌}
 use Rattle.pop_text.specs.Words.{Token as Part}
-use Rattle.pop_text.specs.ties.Left.{Spot, behind_word, TakesWord, GoesOn, RestOfLine, TakesNone}
 use Rattle.pop_text.specs.declared.read_fault.ReadFault.TheVariants.{InputTooLong}
 use Rattle.pop_text.specs.declared.word.Word.{Word as Room}
-use Rattle.pop_text.proofs.Using.{consumes_then}
-use Rattle.pop_input.specs.ties.Tokens.{NextToken}
 use Rattle.pop_input.specs.declared.token.Token.TheVariants.{Line, Cut}
 
 pub after_both : (xs ys : List ℕ) (rest : Input) → after (xs ++ ys) rest ≡ after xs (after ys rest)
 after_both xs ys rest = rw (append_assoc xs ys rest.bytes) refl
-
-put_both : (xs ys : List Part) (words : Words) → put_before xs (put_before ys words) ≡ put_before (xs ++ ys) words
-put_both xs ys words = rw (append_assoc xs ys words.tokens) refl
 
 pub takes_then : (a b c : Spot) (had mid left : Option (List ℕ)) (xs ys : List Part) → Takes a b had mid xs → Takes b c mid left ys
     → Takes a c had left (xs ++ ys)
@@ -23,11 +15,7 @@ takes_then a b c had mid left xs ys p q = record {
   taken = consumes_then had mid left p.bytes q.bytes p.taken q.taken;
   amount = omega (arith, p.amount, q.amount, length-append p.bytes q.bytes);
   follows = λ rest may. rw (after_both p.bytes q.bytes rest) (p.follows (after q.bytes rest) (q.follows rest may));
-  begin = λ rest may.
-      ap (words_left a.behind a.at) (after_both p.bytes q.bytes rest)
-      ∙ p.begin (after q.bytes rest) (q.follows rest may)
-      ∙ ap (put_before xs) (q.begin rest may)
-      ∙ put_both xs ys (words_left c.behind c.at rest);
+  begin = λ rest may. grind (arith, append_assoc);
 }
 
 module _ (old mid new : Reading) (had met left : Option (List ℕ)) (room : Room) (keyword : TextWord)

@@ -1,41 +1,58 @@
--- The words of chess, of texts and of problems that most proofs name.
-unfoldable pub use Rattle.chess_core.specs.Castling.{mark_unmoved, none_unmoved}
-pub use Rattle.chess_core.specs.Diagrams.{Setup}
-unfoldable pub use Rattle.chess_core.specs.Diagrams.{stands}
-pub use Rattle.chess_core.specs.Position.{man_on, other, same_kind, with_man}
-pub use Rattle.chess_core.specs.WellFormed.{is_pawn_inside}
+-- Words and lemmas of the standard library and of the crates that most proofs name.
+pub use Rattle.std.proofs.Common.{Bool, Err, IsSome, List, None, Ok, Option, Result, Some, [], ap, append_assoc, arith, cond, count_by, drop, false, fold, get_or, if◌then◌else◌, inl, inr, is_some, length, length-append, map, not, refl, replicate, subst, suc, sym, take, true, zero, ℕ, ◌&&◌, ◌*◌, ◌++◌, ◌+◌, ◌-◌, ◌<◌, ◌==◌, ◌∙◌, ◌∷◌, ◌≡◌, ◌≤◌, ◌⊎◌}
+pub use Rattle.std.proofs.lemmas.Bool.{and_parts, cases_Bool, cases_eq, cases_lt, cond-false, cond-true, eq-eqb, lt-ltb, ne_eqb}
+pub use Rattle.std.proofs.lemmas.List.{append-nil, drop_all, drop_more, get_or_at, length-map, length-set, set_past}
+pub use Rattle.std.proofs.lemmas.List.Folds.{list_all-append}
+pub use Rattle.std.specs.Char.{to_ascii_lowercase}
+pub use Rattle.std.specs.List.{flat_map, list_all, list_any, onto_first, repeat, slice_split, starts_with}
+pub use Rattle.std.specs.Prelude.{MatchResult, codes, nat_eq, option_map}
+pub use Rattle.chess_core.specs.Castling.{castling_squares, is_castling, with_unmoved}
+unfoldable pub use Rattle.chess_core.specs.Castling.{has_unmoved, mark_unmoved, none_unmoved}
+pub use Rattle.chess_core.specs.Diagrams.{Setup, has_men}
+unfoldable pub use Rattle.chess_core.specs.Diagrams.{is_taken, is_there, position_of, stands}
+pub use Rattle.chess_core.specs.Position.{HasNoKing, is_man, man_on, other, same_kind, with_man}
+unfoldable pub use Rattle.chess_core.specs.Position.{king_square}
+pub use Rattle.chess_core.specs.WellFormed.{IsWellFormed, is_pawn_inside}
+unfoldable pub use Rattle.chess_core.specs.WellFormed.{is_crossed_right, is_home}
 pub use Rattle.chess_core.specs.declared.man.Colour.{Colour}
-pub use Rattle.chess_core.specs.declared.man.Kind.TheVariants.{King}
+pub use Rattle.chess_core.specs.declared.man.Kind.{Kind}
+pub use Rattle.chess_core.specs.declared.man.Kind.TheVariants.{King, Rook}
 pub use Rattle.chess_core.specs.declared.man.Man.{Man}
-unfoldable pub use Rattle.chess_rules.specs.Attacks.{in_check}
-pub use Rattle.pop_text.specs.Words.{Input, Tail, TextLine, Token, Word, Words, is_text_word}
+unfoldable pub use Rattle.chess_rules.specs.Attacks.{attacked, faces, faces_its_like, in_check, paralysed, strikes}
+pub use Rattle.pop_text.proofs.Left.{longer, no_short_form}
+pub use Rattle.pop_text.proofs.Plain.{plain_no_closing, takes_none}
+pub use Rattle.pop_text.proofs.Using.{asks_none, asks_then, consumes_then}
+pub use Rattle.pop_text.specs.Words.{Clean, Ending, Failed, Input, Long, Tail, TextLine, Token, Word, Words, is_cut, is_line_end, is_short_form, is_text_word, lines_tokens, runs_of, text_of_line, tokens_of, words_by, words_from, words_of}
 unfoldable pub use Rattle.pop_text.specs.Words.{limit}
 pub use Rattle.pop_text.specs.declared.read_fault.ReadFault.{ReadFault}
 pub use Rattle.pop_text.specs.declared.read_fault.ReadFault.TheVariants.{Device, TooLong}
-pub use Rattle.pop_text.specs.ties.Left.{Takes, after, among, put_before, words_left}
-pub use Rattle.pop_text.specs.ties.Reading.{Reading}
-pub use Rattle.pop_input.specs.Blocks.{block_fault, closed_entry, entries_by, entries_of, first_fault, has_begun, inside, last_text, tail_fault, text_after}
-pub use Rattle.pop_input.specs.Ends.{ArePut, counts}
-unfoldable pub use Rattle.pop_input.specs.Ends.{end_fault_in}
-pub use Rattle.pop_input.specs.FaultKinds.{at_line, fault_at}
+pub use Rattle.pop_text.specs.ties.Left.{GoesOn, IsOver, MayFollow, RestOfLine, Spot, Takes, TakesNone, TakesWord, after, among, behind_word, no_words, put_before, words_left}
+pub use Rattle.pop_text.specs.ties.Plain.{Skips, is_named, is_plain}
+pub use Rattle.pop_text.specs.ties.Reading.{Asks, Reading}
+pub use Rattle.pop_input.specs.Blocks.{Entry, Sound, block_entries, block_fault, blocks_of, closed_entry, closing_line, closing_of, cut_by, entries_by, entries_of, entry_of, first_fault, has_begun, inside, last_text, line_of, more_entries, problem_of, tail_fault, text_after, words_before}
+pub use Rattle.pop_input.specs.Ends.{ArePut, counts, posed_of, position_fault, setup_fault, setup_of, stated_fault}
+unfoldable pub use Rattle.pop_input.specs.Ends.{end_fault_in, unmoved_of}
+pub use Rattle.pop_input.specs.FaultKinds.{at_line, fault_at, number_of}
+unfoldable pub use Rattle.pop_input.specs.FaultKinds.{kind_numbered}
 pub use Rattle.pop_input.specs.Names.{closes, or_else}
-unfoldable pub use Rattle.pop_input.specs.Names.{command_of, text_word_of}
+unfoldable pub use Rattle.pop_input.specs.Names.{awaited_of, colour_of, command_of, condition_of, kind_of, option_of, section_of, text_word_of}
 pub use Rattle.pop_input.specs.Posed.{rule_of}
-pub use Rattle.pop_input.specs.State.{State, state_of}
-pub use Rattle.pop_input.specs.Stipulations.{has_king_to_mate}
-pub use Rattle.pop_input.specs.Values.{is_digit, squares_from}
-unfoldable pub use Rattle.pop_input.specs.Values.{squares_of}
-pub use Rattle.pop_input.specs.WordFaults.{fault_if, fault_of, man_fault, men_fault}
+pub use Rattle.pop_input.specs.State.{State, no_men, put_men, state_of}
+pub use Rattle.pop_input.specs.Stipulations.{has_king_to_mate, starts}
+pub use Rattle.pop_input.specs.Values.{before_squares, is_digit, most_solutions, square_by, squares_from, stipulation_in_small_letters, value_of}
+unfoldable pub use Rattle.pop_input.specs.Values.{limit_of, squares_of, stipulation_of}
+pub use Rattle.pop_input.specs.WordFaults.{barred_fault, begin_fault, condition_fault, control_fault, fault_if, fault_of, letter_fault, man_fault, men_fault, pieces_fault, put_fault, role_fault, stipulation_fault}
 pub use Rattle.pop_input.specs.declared.block.Block.{Block}
 pub use Rattle.pop_input.specs.declared.fault_kind.FaultKind.{FaultKind}
-pub use Rattle.pop_input.specs.declared.fault_kind.FaultKind.TheVariants.{EnPassantImpossible, PawnOnOuterRank, SecondKing, SquareTaken}
+pub use Rattle.pop_input.specs.declared.fault_kind.FaultKind.TheVariants.{BadLimit, BadStipulation, BeginProblemMissing, ColourMissing, DeviceFailed, EnPassantImpossible, EndProblemMissing, KingMissing, NoMen, NoneCastlesThere, PawnOnOuterRank, SecondCondition, SecondKing, SecondStipulation, SquareMissing, SquareTaken, StipulationMissing, WaitingSideInCheck, WordMisplaced, WordTooLong}
 pub use Rattle.pop_input.specs.declared.item.Fault.{Fault}
 pub use Rattle.pop_input.specs.declared.item.Item.{Item}
-pub use Rattle.pop_input.specs.declared.item.Last.TheVariants.{Yes}
+pub use Rattle.pop_input.specs.declared.item.Last.TheVariants.{No, Yes}
 pub use Rattle.pop_input.specs.declared.names.Command.{Command}
+pub use Rattle.pop_input.specs.declared.names.Command.TheVariants.{Enter}
 pub use Rattle.pop_input.specs.declared.names.TextWord.{TextWord}
-pub use Rattle.pop_input.specs.declared.reader.Next.TheVariants.{Nothing}
+pub use Rattle.pop_input.specs.declared.reader.Next.TheVariants.{First, Later, Nothing}
 pub use Rattle.pop_input.specs.declared.stipulation.Stipulation.{Stipulation}
-pub use Rattle.pop_input.specs.ties.Closings.{Closes, ReadsWord, cut_fault, ended_by, ended_item, last_of, told_of_cut}
-pub use Rattle.pop_input.specs.ties.Standing.{IsNumbered, Standing, next_behind}
-pub use Rattle.pop_input.specs.ties.Tokens.{CutsOff, TakesPart}
+pub use Rattle.pop_input.specs.ties.Closings.{Closes, IsNew, ReadsWord, TakesLine, closing_fault, cut_fault, ended_by, ended_item, last_of, noted, said_after, text_with, told_of_cut}
+pub use Rattle.pop_input.specs.ties.Standing.{IsNumbered, NextItem, Reads, Standing, entries_at, entries_left, next_behind}
+pub use Rattle.pop_input.specs.ties.Tokens.{CutsOff, NextToken, TakesNothing, TakesPart}

@@ -1,5 +1,5 @@
 -- Blanks that are written one part after another.
-use Rattle.std.proofs.Common.{◌≡◌, ◌<◌, ◌≤◌, ℕ, ◌+◌, ◌-◌, ◌*◌, List, [], ◌∷◌, ◌++◌, replicate, codes, refl, sym, ap, ◌∙◌, append_assoc, arith, Option}
+use Rattle.std.proofs.Common.{◌≡◌, ◌<◌, ◌≤◌, ℕ, ◌+◌, ◌-◌, ◌*◌, List, [], ◌∷◌, ◌++◌, replicate, codes, append_assoc, arith, Option}
 use Rattle.std.proofs.lemmas.List.{replicate-append-replicate, replicate_more}
 use Rattle.pop_text.specs.Bytes.{Appends, Begins}
 use Rattle.pop_text.proofs.Appending.{begins_longer, begins_later}
@@ -9,16 +9,12 @@ use Rattle.pop_solve.specs.Shown.{Shown}
 
 -- a row of blanks in two parts
 pub blanks_cut : (part whole : ℕ) → part ≤ whole → replicate {A = ℕ} whole 32 ≡ replicate part 32 ++ replicate (whole - part) 32
-blanks_cut part whole within =
-    let e : part + (whole - part) ≡ whole = omega arith in
-    sym (replicate-append-replicate {A = ℕ} part (whole - part) 32 ∙ ap (λ n. replicate {A = ℕ} n 32) e)
+blanks_cut part whole within = grind (arith, replicate-append-replicate)
 
 -- a node whose first blanks stand apart
 pub node_cut : (apart depth half : ℕ) (shown : Shown) → apart ≤ 2 * depth
     → node_text depth half shown ≡ replicate apart 32 ++ (replicate (2 * depth - apart) 32 ++ prefix_text half ++ move_text shown ++ codes "\n")
-node_cut apart depth half shown within =
-    ap (λ row. row ++ prefix_text half ++ move_text shown ++ codes "\n") (blanks_cut apart (2 * depth) within)
-    ∙ rw (append_assoc, append_assoc, append_assoc) (rw (append_assoc, append_assoc) refl)
+node_cut apart depth half shown within = grind (arith, blanks_cut apart (2 * depth) within, append_assoc)
 
 -- a row of blanks of which one more was begun
 pub blanks_begin : (a b c : Option (List ℕ)) (done count : ℕ) → done < count → Appends a b (replicate done 32) → Begins b c (32 ∷ [])

@@ -1,6 +1,5 @@
 -- The value by half-moves is what the battle definitions say.
-use Rattle.pop_solve.proofs.Basics.{Bool, ap, arith, false, refl, rules, suc, zero, ℕ, ◌%◌, ◌&&◌, ◌*◌, ◌||◌, ◌∙◌, ◌≡◌}
-use Rattle.pop_solve.proofs.Words.{Battle, Game, Selfmate, can_move, every_move, lost, self_lost, self_wins, some_move, value, wins}
+use Rattle.pop_solve.proofs.Words.{Battle, Game, Selfmate, ap, arith, can_move, every_move, lost, refl, rules, self_lost, self_wins, some_move, suc, value, wins, zero, ℕ, ◌%◌, ◌&&◌, ◌*◌, ◌||◌, ◌∙◌, ◌≡◌}
 use Rattle.pop_solve.specs.declared.aim.Battle.TheVariants.{Direct}
 
 module _ {P M : Type 0} (game : Game P M) where
@@ -39,12 +38,9 @@ module _ {P M : Type 0} (game : Game P M) where
   unfolding value
   self-odd t p e = rw e refl
 
-  or-false : (b : Bool) → b ≡ (b || false)
-  or-false b = search rules
-
   pub value-self_wins : (k : ℕ) (r : P) → value Selfmate game (2 * k) r ≡ (game.goal r || self_wins game k r)
   unfolding self_wins
-  value-self_wins zero r = value-zero Selfmate r ∙ or-false (game.goal r)
+  value-self_wins zero r = grind (arith, value-zero)
   value-self_wins (suc k) r =
       let two : 2 * suc k ≡ suc (suc (2 * k)) = omega arith in
       let black : (q : P) → value Selfmate game (suc (2 * k)) q ≡ (can_move game q && every_move game (λ x. game.goal x || self_wins game k x) q) =

@@ -1,18 +1,9 @@
 -- What the calls of the rules say in the words of the search.
-use Rattle.pop_solve.proofs.Basics.{Bool, List, MatchOption, None, Option, Some, [], ap, arith, eqb, false, filter, is_some, length, list_any, nat_tests, not, refl, rules, sym, true, ℕ, ◌++◌, ◌-◌, ◌<◌, ◌∙◌, ◌∷◌, ◌≡◌, ◌≤◌}
-use Rattle.pop_solve.proofs.Words.{Battle, Goal, Mate, Position, RuleSet, Triple, can_move, chess, is_for_mate, is_goal, is_mating, legal, mates_behind, moves_behind, moves_between, value, walk_count}
-use Rattle.chess_rules.specs.Legal.{is_nil, is_stalemate, moves}
-use Rattle.chess_mates.specs.ties.Mates.{mates_between}
-use Rattle.chess_mates.proofs.MatesBetween.{cut_mates}
-use Rattle.chess_rules.proofs.listing_moves.Between.{cut_moves}
-use Rattle.pop_solve.specs.Chess.{is_reached}
+use Rattle.pop_solve.proofs.Words.{Battle, Bool, Goal, List, MatchOption, Mate, None, Option, Position, RuleSet, Some, Triple, [], arith, can_move, chess, cut_mates, cut_moves, eqb, false, filter, is_for_mate, is_goal, is_mating, is_nil, is_reached, is_some, is_stalemate, legal, length, list_any, mates_behind, mates_between, moves, moves_behind, moves_between, nat_tests, not, refl, rules, sym, true, value, walk_count, ℕ, ◌++◌, ◌-◌, ◌<◌, ◌∙◌, ◌∷◌, ◌≡◌, ◌≤◌}
 use Rattle.pop_solve.specs.Game.{some_move as some_good}
 
-is_nil-length : (ms : List Triple) → not (is_nil ms) ≡ not (eqb (length ms) 0)
-is_nil-length ms = search rules
-
 pub can_move-is : (goal : Goal) (rule : RuleSet) (p : Position) → not (is_nil (moves rule p)) ≡ can_move (chess goal rule) p
-can_move-is goal rule p = is_nil-length (moves rule p)
+can_move-is goal rule p = grind arith
 
 -- before all triples all moves are to come
 pub behind_start : (rule : RuleSet) (p : Position) → moves_behind rule p 0 ≡ moves rule p
@@ -37,16 +28,13 @@ module _ (rule : RuleSet) (p : Position) where
 
   some_mates : (b : ℕ) → some_good (chess Mate rule) (is_goal rule) p ≡ not (is_nil (mates_between rule p 0 b ++ mates_behind rule p b))
   unfolding mates_behind
-  some_mates b =
-      any_mating (moves rule p) ∙ ap (λ ms. not (is_nil (filter (is_mating rule p) ms))) (sym (behind_start rule p))
-      ∙ ap (λ ms. not (is_nil ms)) (cut_mates rule p 0 b (omega arith))
+  some_mates b = grind (arith, any_mating (moves rule p), behind_start rule p, cut_mates rule p 0 b (omega arith))
 
   mate_within : (before behind : List Triple) (m : Triple) (more : List Triple) → behind ≡ m ∷ more → true ≡ not (is_nil (before ++ behind))
   mate_within [] behind m more e = rw e refl
   mate_within (x ∷ before) behind m more e = refl
 
-  pub mate_behind : (b next : ℕ) (o : Option Triple)
-      → MatchOption o (mates_behind rule p b ≡ []) (λ m. mates_behind rule p b ≡ m ∷ mates_behind rule p next)
+  pub mate_behind : (b next : ℕ) (o : Option Triple) → MatchOption o (mates_behind rule p b ≡ []) (λ m. mates_behind rule p b ≡ m ∷ mates_behind rule p next)
       → true ≡ is_some o → true ≡ some_good (chess Mate rule) (is_reached Mate rule) p
   mate_behind b next None found some = absurd cc
   mate_behind b next (Some m) found some = mate_within (mates_between rule p 0 b) (mates_behind rule p b) m _ found ∙ sym (some_mates b)
@@ -62,8 +50,7 @@ module _ (rule : RuleSet) (p : Position) where
       → MatchOption o' (mates_between rule q a b' ≡ []) (λ m. mates_between rule q a b' ≡ m ∷ mates_between rule q last b')
       → a ≡ 0 → b ≡ b' → q ≡ p → false ≡ is_some o → false ≡ is_some o' → false ≡ some_good (chess Mate rule) (is_reached Mate rule) p
   no_mate a b b' next last q None None behind before start cut same none none' = rw (some_mates b', rw (start, same) at before, rw cut at behind) refl
-  no_mate a b b' next last q (Some m) o' behind before start cut same none none' = absurd cc
-  no_mate a b b' next last q None (Some m) behind before start cut same none none' = absurd cc
+  no_mate a b b' next last q o o' behind before start cut same none none' = grind arith
 
 -- with a half-move left there is something to walk
 pub walk_count-some : {P M : Type 0} (moves : P → List M) (after : P → M → P) (left : ℕ) (p : P) → 0 < left → 1 ≤ walk_count moves after left p
@@ -72,9 +59,6 @@ walk_count-some moves after left p some = search rules
 
 -- a move that is found says that there is one, wherever it was looked for
 module _ (goal : Goal) (rule : RuleSet) (p : Position) where
-  some-then : (ms : List Triple) (m : Triple) (more : List Triple) → ms ≡ m ∷ more → not (eqb (length ms) 0) ≡ true
-  some-then ms m more e = rw e (grind (arith, nat_tests))
-
   some-within : (before here behind : List Triple) (m : Triple) (more : List Triple) → here ≡ m ∷ more
       → not (eqb (length (before ++ (here ++ behind))) 0) ≡ true
   some-within [] here behind m more e = rw e (grind (arith, nat_tests))
@@ -84,14 +68,13 @@ module _ (goal : Goal) (rule : RuleSet) (p : Position) where
       → MatchOption o (moves_between rule p place killer ≡ []) (λ m. (moves_between rule p place killer ≡ m ∷ moves_between rule p next killer)
       × (legal rule p m ≡ true)) → true ≡ can_move (chess goal rule) p
   has_killer killer place next None at e found = absurd cc
-  has_killer killer place next (Some m) at e found =
-      rw (cut_moves rule p place killer (omega (arith, at)))
+  has_killer killer place next (Some m) at e found = rw (cut_moves rule p place killer (omega (arith, at)))
       (sym (some-within (moves_between rule p 0 place) (moves_between rule p place killer) (moves_behind rule p killer) m _ found.0))
 
   pub has_first : (place next : ℕ) (o : Option Triple) → place ≡ 0
       → MatchOption o (moves_behind rule p place ≡ []) (λ m. (moves_behind rule p place ≡ m ∷ moves_behind rule p next) × (legal rule p m ≡ true))
       → is_some o ≡ can_move (chess goal rule) p
-  has_first place next o at found = search (rules, behind_start, some-then)
+  has_first place next o at found = grind (arith, behind_start, nat_tests)
 
   -- where there is a move the goal isn't reached
   pub unreached : can_move (chess goal rule) p ≡ true → is_reached goal rule p ≡ false

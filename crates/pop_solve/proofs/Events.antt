@@ -1,37 +1,20 @@
 -- What a call gives.
-use Rattle.pop_solve.proofs.Basics.{List, MatchOption, None, Option, [], append_assoc, arith, cond, drop, eqb, false, flat_map, is_some, length, length-reverse, min, nat_tests, refl, reverse, rules, suc, take, true, zero, ℕ, ◌+◌, ◌-◌, ◌^◌, ◌||◌, ◌∷◌, ◌≡◌, ◌≤◌}
-use Rattle.pop_solve.proofs.Words.{AreKnown, Barred, Before, Behind, Frame, IsGiven, IsLinked, IsRoomy, IsSound, IsStanding, IsWalking, IsWellFormed, Phase, Play, Posed, Position, RuleSet, Set, Stage, Step, Triple, Walks, Within, half_moves, is_barred, is_help, is_set, keep, left_of, path, phase_half_moves, phase_paths, phase_start, phase_steps, plan_of, position, shown_along, shown_last, solutions, started, steps_from, total}
-use Rattle.std.proofs.Common.{option_map, slice_get}
-use Rattle.arrayvec.specs.ArrayVec.{ArrayVec}
+use Rattle.pop_solve.proofs.Words.{AreKnown, ArrayVec, Barred, Before, Behind, Event, Frame, Gives, IsGiven, IsLinked, IsRoomy, IsSound, IsStanding, IsWalking, IsWellFormed, Line, List, MatchOption, Node, None, Option, Phase, Play, Posed, Position, RuleSet, Set, Shown, Stage, StandsOn, Step, Total, Walks, Within, [], append_assoc, arith, begins, cond, counted, drop, eqb, event_of, events, false, flat_map, half_moves, is_barred, is_help, is_set, is_some, keep, left_of, length, length-reverse, min, nat_tests, opening, option_map, path, phase_half, phase_half_moves, phase_paths, phase_start, phase_steps, plan_of, position, refl, reverse, rules, shown_along, shown_last, slice_get, solutions, start, started, step_of, steps_from, suc, take, total, true, zero, ℕ, ◌+◌, ◌-◌, ◌^◌, ◌||◌, ◌∷◌, ◌≡◌, ◌≤◌}
 use Rattle.pop_solve.proofs.Sound.{in_range}
-use Rattle.pop_solve.specs.Events.{start, opening, line, tree_node, step_of, event_of, phase_half, counted, events}
-use Rattle.pop_solve.specs.ties.Seen.{StandsOn}
-use Rattle.pop_solve.specs.ties.Phases.{begins, Gives}
-use Rattle.pop_solve.specs.Shown.{Shown}
-use Rattle.pop_solve.specs.declared.event.Event.{Event}
-use Rattle.pop_solve.specs.declared.event.Event.TheVariants.{Line, Node, Total}
 use Rattle.pop_solve.proofs.Paths.{path-length, reach-path}
-
-step-help : (problem : Posed) (phase : Phase) (path : List Triple) → is_help problem.stipulation.form ≡ true → step_of problem phase path ≡ line phase path
-step-help problem phase path e = rw e refl
-
-step-battle : (problem : Posed) (phase : Phase) (path : List Triple) → is_help problem.stipulation.form ≡ false
-    → step_of problem phase path ≡ tree_node phase path
-step-battle problem phase path e = rw e refl
 
 -- the event of a line
 pub line-event : (problem : Posed) (phase : Phase) (frames : List Frame) (half : ℕ) (moves : ArrayVec Shown) → is_help problem.stipulation.form ≡ true
-    → half ≡ phase_half problem phase → (rule : RuleSet)
-    → moves.items ≡ shown_along problem.stipulation.goal rule (phase_start problem phase) (path frames)
+    → half ≡ phase_half problem phase → (rule : RuleSet) → moves.items ≡ shown_along problem.stipulation.goal rule (phase_start problem phase) (path frames)
     → Line half moves ≡ event_of rule problem (step_of problem phase (path frames))
-line-event problem phase frames half moves help h rule m = rw (step-help problem phase (path frames) help, h, ← m) refl
+line-event problem phase frames half moves help h rule m = grind arith
 
 -- the event of a node
 pub node-event : (problem : Posed) (phase : Phase) (frames : List Frame) (half depth : ℕ) (shown : Shown) → is_help problem.stipulation.form ≡ false
     → half ≡ phase_half problem phase → depth + 2 ≡ length frames → (rule : RuleSet)
     → shown ≡ shown_last problem.stipulation.goal rule (phase_start problem phase) (path (reverse frames))
     → Node depth (half + depth) shown ≡ event_of rule problem (step_of problem phase (path (reverse frames)))
-node-event problem phase frames half depth shown help h e rule s = search (rules, path-length, length-reverse, step-battle)
+node-event problem phase frames half depth shown help h e rule s = grind (arith, path-length, length-reverse)
 
 pub room-length : (h : ℕ) (fs : List Frame) → IsRoomy h fs → length fs ≤ h + 1
 unfolding IsRoomy
@@ -41,9 +24,6 @@ room-length h (f ∷ below) s = omega (arith, s.0)
 -- the board after a path is given
 module _ (rule : RuleSet) (problem : Posed) (phase : Phase) (h : ℕ) (frames : List Frame) (board : Position)
     (r : IsWalking rule h (phase_start problem phase) (reverse frames) board) (deep : 2 ≤ length frames) where
-  pub stands_at : StandsOn rule problem (step_of problem phase (path (reverse frames))) board (length frames)
-  stands_at = search (rules, reach-path, path-length, length-reverse)
-
   pub shallow : h ≤ 32 → length frames ≤ 33
   shallow least = omega (arith, room-length h (reverse frames) r.roomy, length-reverse frames)
 
@@ -70,9 +50,6 @@ pub within-limit : (rule : RuleSet) (problem : Posed) (phase : Phase) (count : �
 unfolding IsStanding
 within-limit rule problem phase count frames board s = s.1
 
-two_one : (n : ℕ) → 2 ≤ n → eqb n 2 ≡ eqb (n - 1) 1
-two_one n h = let m : n ≡ suc (n - 1) = omega (arith, h) in rw m (grind (arith, nat_tests))
-
 module _ (rule : RuleSet) (problem : Posed) (phase : Phase) (count : ℕ) (old : List Frame) (frames : List Frame) (board : Position)
     (most : count ≤ problem.max_solutions)
     (w : Walks rule (plan_of problem) (phase_half_moves problem phase) (phase_start problem phase) (problem.max_solutions - count) old
@@ -80,17 +57,14 @@ module _ (rule : RuleSet) (problem : Posed) (phase : Phase) (count : ℕ) (old :
   pub deep-given : 2 ≤ length frames
   deep-given = omega (arith, w.deep refl, length-reverse frames)
 
-  begins-given : (is_help problem.stipulation.form || eqb (length frames) 2) ≡ begins (is_help problem.stipulation.form) (path (reverse frames))
-  begins-given = search (rules, path-length, length-reverse, two_one, deep-given)
-
   pub room-given : cond (is_help problem.stipulation.form || eqb (length frames) 2) 1 0 ≤ problem.max_solutions - count
-  room-given = rw begins-given (w.within refl)
+  room-given = grind (arith, path-length, length-reverse, deep-given, nat_tests)
 
   gives-here : (next : ℕ) (event : Event) → next ≡ count + cond (is_help problem.stipulation.form || eqb (length frames) 2) 1 0
       → event ≡ event_of rule problem (step_of problem phase (path (reverse frames)))
       → Gives rule problem (left_of rule problem (Within phase count) old) (left_of rule problem (Within phase next) (reverse frames)) event board
       (length frames)
-  gives-here next event n e = search (rules, left-given, begins-given, stands_at, deep-given)
+  gives-here next event n e = grind (arith, left-given, deep-given, reach-path, path-length, length-reverse, nat_tests)
 
   stands-here : (next : ℕ) → next ≡ count + cond (is_help problem.stipulation.form || eqb (length frames) 2) 1 0
       → IsStanding rule problem (Within phase next) (reverse frames) board
@@ -165,14 +139,9 @@ depth-most rule problem stage frames board s = search (rules, length-reverse, ro
 
 -- the steps still to come after a call
 drop-next : {A : Type 0} (k : ℕ) (xs : List A) (y : A) (ys : List A) → y ∷ ys ≡ drop k xs → ys ≡ drop (suc k) xs
-drop-next zero [] y ys e = absurd cc
-drop-next zero (x ∷ xs) y ys e = cc
+drop-next zero xs y ys e = grind arith
 drop-next (suc k) [] y ys e = absurd cc
 drop-next (suc k) (x ∷ xs) y ys e = drop-next k xs y ys e
-
-pub given-next : (rule : RuleSet) (problem : Posed) (old new : List Step) (step : Step) (given given2 : ℕ) → old ≡ step ∷ new
-    → given2 ≡ min (given + 1) (2 ^ 64 - 1) → IsGiven rule problem old given → IsGiven rule problem new given2
-given-next rule problem old new step given given2 e more g = search (rules, drop-next)
 
 pub given-all : (rule : RuleSet) (problem : Posed) → IsGiven rule problem (events rule problem) 0
 given-all rule problem = search rules
@@ -180,7 +149,7 @@ given-all rule problem = search rules
 pub given-event : (rule : RuleSet) (problem : Posed) (event : Option Event) (old new : List Step) (board : Position) (depth given given2 : ℕ)
     → is_some event ≡ true → MatchOption event ((old ≡ []) × (board ≡ start problem) × (new ≡ [])) (λ e. Gives rule problem old new e board depth)
     → given2 ≡ min (given + 1) (2 ^ 64 - 1) → IsGiven rule problem old given → IsGiven rule problem new given2
-given-event rule problem event old new board depth given given2 some x more g = search (rules, given-next)
+given-event rule problem event old new board depth given given2 some x more g = grind (arith, drop-next)
 
 pub given-none : (rule : RuleSet) (problem : Posed) (event : Option Event) (old new : List Step) (board : Position) (depth given : ℕ)
     → is_some event ≡ false → MatchOption event ((old ≡ []) × (board ≡ start problem) × (new ≡ [])) (λ e. Gives rule problem old new e board depth)

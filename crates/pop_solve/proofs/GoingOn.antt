@@ -1,7 +1,5 @@
 -- How many half-moves a line goes on below a move, and what is reached where it ends.
-use Rattle.pop_solve.proofs.Basics.{Bool, arith, cond, eqb, false, nat_tests, refl, rules, suc, true, zero, ℕ, ◌*◌, ◌+◌, ◌-◌, ◌/◌, ◌<◌, ◌||◌, ◌≡◌, ◌≤◌, ◌⊎◌}
-use Rattle.pop_solve.proofs.Words.{Battle, Game, Plan, battle_of, ends_variation, first_from, follows, is_help, open_length, seeks, value, varies}
-use Rattle.pop_solve.specs.ties.Walk.{fewest, goes_on}
+use Rattle.pop_solve.proofs.Words.{Battle, Bool, Game, Plan, arith, battle_of, cond, ends_variation, eqb, false, fewest, first_from, follows, goes_on, is_help, nat_tests, open_length, refl, rules, seeks, suc, true, value, varies, zero, ℕ, ◌*◌, ◌+◌, ◌-◌, ◌/◌, ◌<◌, ◌||◌, ◌≡◌, ◌≤◌, ◌⊎◌}
 
 pub cases : (b : Bool) → (b ≡ false) ⊎ (b ≡ true)
 cases b = search rules
@@ -35,14 +33,9 @@ module _ {P M : Type 0} (game : Game P M) where
   first_from-some battle q zero a some = some
   first_from-some battle q (suc n) a some = search (rules, first_from-some battle q n)
 
-  length_none : (battle : Battle) (t n : ℕ) (q : P) (z s goal : Bool) → eqb t 0 ≡ z
-      → cond (z || goal) 0 (cond s (first_from battle game q n (fewest battle)) t) ≡ 0 → (t ≡ 0) ⊎ (goal ≡ true)
-  length_none battle t n q z s goal e l = search (rules, first_from-some, nat_tests)
-
-  goes_on-none : (plan : Plan) (t : ℕ) (q : P) → is_help plan.form ≡ false → varies plan ≡ true → goes_on plan game t q ≡ 0
-      → (t ≡ 0) ⊎ (game.goal q ≡ true)
+  goes_on-none : (plan : Plan) (t : ℕ) (q : P) → is_help plan.form ≡ false → varies plan ≡ true → goes_on plan game t q ≡ 0 → (t ≡ 0) ⊎ (game.goal q ≡ true)
   unfolding goes_on open_length
-  goes_on-none plan t q a shown l = search (rules, length_none)
+  goes_on-none plan t q a shown l = grind (arith, first_from-some, nat_tests)
 
   followed-last : (plan : Plan) (root : Bool) (q : P) → is_help plan.form ≡ false → seeks (battle_of plan.form) 1 ≡ true
       → follows plan game root 0 q ≡ true → game.goal q ≡ true

@@ -1,7 +1,5 @@
 -- The first solutions of a phase, by the paths that begin them.
-use Rattle.pop_solve.proofs.Basics.{Bool, List, [], ap, append-nil, arith, cond, eqb, false, inr, length, map, nat_tests, refl, rules, suc, true, zero, ℕ, ◌&&◌, ◌++◌, ◌+◌, ◌-◌, ◌<◌, ◌||◌, ◌∙◌, ◌∷◌, ◌≡◌, ◌≤◌}
-use Rattle.pop_solve.proofs.Words.{Frame, Game, IsWalking, Plan, Position, RuleSet, Steps, Walks, chess, gives, is_help, keep, moves_behind, path, position, shown, started, to_come}
-use Rattle.pop_solve.specs.ties.Phases.{begins}
+use Rattle.pop_solve.proofs.Words.{Bool, Frame, Game, IsWalking, List, Plan, Position, RuleSet, Steps, Walks, [], ap, append-nil, arith, begins, chess, cond, eqb, false, gives, is_help, keep, length, map, moves_behind, nat_tests, path, position, refl, rules, shown, started, suc, to_come, true, zero, ℕ, ◌&&◌, ◌++◌, ◌+◌, ◌-◌, ◌<◌, ◌||◌, ◌∙◌, ◌∷◌, ◌≡◌}
 use Rattle.pop_solve.proofs.Paths.{path-length}
 
 pub started-nil : (M : Type 0) (help : Bool) (n : ℕ) → started {M = M} help n [] ≡ 0
@@ -94,28 +92,11 @@ module _ (rule : RuleSet) (plan : Plan) (h : ℕ) (p : Position) where
 
     pub walks_full : (limit : ℕ) (board : Position) → IsWalking rule h p mid board → (eqb limit 0 && (is_help plan.form || eqb (length mid) 1)) ≡ true
         → Walks rule plan h p limit old mid board false
-    walks_full limit board r e =
-        let x = both_true (eqb limit 0) (is_help plan.form || eqb (length mid) 1) e in
-        let z : limit ≡ 0 = grind (arith, nat_tests, x.0) in
-        let f = full mid x.1 in record {
-          walking = r;
-          come = λ g. absurd cc;
-          starts = λ g. absurd cc;
-          within = λ g. absurd cc;
-          deep = λ g. absurd cc;
-          closed = λ g. absurd cc;
-          ended = λ g. rw (same, z) f.0;
-          over = λ g. inr z;
-          none = λ g. rw (same, z) f.1;
-        }
+    walks_full limit board r e = let x = both_true (eqb limit 0) (is_help plan.form || eqb (length mid) 1) e in grind (arith, nat_tests, full mid x.1, none)
 
     room : (n : ℕ) (b : Bool) → (eqb n 0 && b) ≡ false → b ≡ true → 0 < n
     room n b e t = search rules
 
-    most_one : (b : Bool) (n : ℕ) → (b ≡ true → 0 < n) → cond b 1 0 ≤ n
-    most_one b n e = search rules
-
-    pub walks_given : (limit : ℕ) (new : List Frame) (board : Position) (before after : ℕ) (given : Bool)
-        → Steps rule plan h p mid new board before after given → given ≡ true → 0 < length mid
-        → (eqb limit 0 && (is_help plan.form || eqb (length mid) 1)) ≡ false → Walks rule plan h p limit old new board true
-    walks_given limit new board before after given made is some e = search (rules, path-length, room, keep-next, started-next, most_one, none)
+    pub walks_given : (limit : ℕ) (new : List Frame) (board : Position) (before after : ℕ) (given : Bool) → Steps rule plan h p mid new board before after given
+        → given ≡ true → 0 < length mid → (eqb limit 0 && (is_help plan.form || eqb (length mid) 1)) ≡ false → Walks rule plan h p limit old new board true
+    walks_given limit new board before after given made is some e = grind (arith, path-length, room, keep-next, started-next, none)

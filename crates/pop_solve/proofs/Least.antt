@@ -1,6 +1,5 @@
 -- The least length by half-moves is the least number of moves.
-use Rattle.pop_solve.proofs.Basics.{Bool, ap, arith, cond, false, position_or_len, range_with_len, refl, rules, suc, zero, ℕ, ◌*◌, ◌+◌, ◌||◌, ◌∙◌, ◌≡◌}
-use Rattle.pop_solve.proofs.Words.{Game, Selfmate, first_from, least, self_wins, value, wins}
+use Rattle.pop_solve.proofs.Words.{Bool, Game, Selfmate, arith, cond, false, first_from, least, position_or_len, range_with_len, refl, rules, self_wins, suc, wins, zero, ℕ, ◌*◌, ◌+◌, ◌≡◌}
 use Rattle.pop_solve.specs.declared.aim.Battle.TheVariants.{Direct}
 use Rattle.pop_solve.proofs.Battles.{value-wins, value-self_wins}
 
@@ -31,31 +30,18 @@ module _ {P M : Type 0} (game : Game P M) (q : P) where
 
   -- the half-moves of the first test that holds are those of the least number of moves
   pub least-direct : (n : ℕ) → first_from Direct game q n 1 + 1 ≡ 2 * least Direct game (suc n) q
-  least-direct n =
-      let x = first_number (λ i. wins game (suc i) q) n 0 in
-      let a : first_from Direct game q n 1 ≡ suc (2 * x) = by_twos n 0 in
-      let b : x + 1 ≡ first_number (λ k. wins game k q) n (0 + 1) = first_number-shift (λ k. wins game k q) n 0 in
-      let c : 0 + least Direct game (suc n) q ≡ first_number (λ k. wins game k q) (suc n) 0 = first_number-is (λ k. wins game k q) (suc n) 0 in
-      omega (arith, a, b, c, zero_loses n)
+  least-direct n = search (rules, first_number, by_twos n 0, first_number-shift, first_number-is, zero_loses n)
 
   -- the same in selfmates, where the goal isn't reached
   module _ (open_yet : game.goal q ≡ false) where
-    value-self : (k : ℕ) → value Selfmate game (2 * k) q ≡ self_wins game k q
-    value-self k = value-self_wins game k q ∙ ap (λ b. b || self_wins game k q) open_yet
-
     by_twos_self : (n k : ℕ) → first_from Selfmate game q n (2 * k) ≡ 2 * (first_number (λ i. self_wins game i q) n k)
     unfolding first_from first_number
     by_twos_self zero k = search rules
-    by_twos_self (suc n) k = search (rules, value-self, by_twos_self n (k + 1))
+    by_twos_self (suc n) k = grind (arith, by_twos_self n (k + 1), value-self_wins)
 
     zero_loses_self : (n : ℕ) → first_number (λ k. self_wins game k q) (suc n) 0 ≡ first_number (λ k. self_wins game k q) n (0 + 1)
     unfolding first_number self_wins
     zero_loses_self n = refl
 
     pub least-selfmate : (n : ℕ) → first_from Selfmate game q n 2 ≡ 2 * least Selfmate game (suc n) q
-    least-selfmate n =
-        let a : first_from Selfmate game q n 2 ≡ 2 * first_number (λ i. self_wins game i q) n 1 = by_twos_self n 1 in
-        let c : 0 + least Selfmate game (suc n) q ≡ first_number (λ k. self_wins game k q) (suc n) 0 = first_number-is (λ k. self_wins game k q) (suc n) 0 in
-        let d : 0 + 1 ≡ 1 = omega arith in
-        let z : first_number (λ k. self_wins game k q) (suc n) 0 ≡ first_number (λ k. self_wins game k q) n 1 = rw d at zero_loses_self n in
-        omega (arith, a, c, z)
+    least-selfmate n = search (rules, first_number, by_twos_self n 1, first_number-is, zero_loses_self n)

@@ -1,6 +1,5 @@
 -- Rising lengths.
-use Rattle.pop_solve.proofs.Basics.{ap, arith, cond, false, refl, rules, suc, sym, true, zero, ℕ, ◌+◌, ◌-◌, ◌/◌, ◌<◌, ◌≡◌, ◌≤◌}
-use Rattle.pop_solve.proofs.Words.{Battle, Game, first_from, value}
+use Rattle.pop_solve.proofs.Words.{Battle, Game, ap, arith, cond, false, first_from, refl, rules, suc, true, value, zero, ℕ, ◌+◌, ◌-◌, ◌/◌, ◌<◌, ◌≡◌, ◌≤◌}
 
 module _ {P M : Type 0} (battle : Battle) (game : Game P M) (q : P) where
   found : (n a : ℕ) → value battle game a q ≡ true → first_from battle game q n a ≡ a
@@ -20,13 +19,10 @@ module _ {P M : Type 0} (battle : Battle) (game : Game P M) (q : P) where
 
   pub length-next : (left a : ℕ) → a + 2 ≤ left → value battle game a q ≡ false
       → first_from battle game q ((left - (a + 2)) / 2) (a + 2) ≡ first_from battle game q ((left - a) / 2) a
-  length-next left a h e =
-      let n : (left - a) / 2 ≡ suc ((left - (a + 2)) / 2) = omega (arith, h) in
-      rw n (sym (next ((left - (a + 2)) / 2) a e))
+  length-next left a h e = grind (arith, next ((left - (a + 2)) / 2) a e)
 
   pub length-last : (left a : ℕ) → left < a + 2 → first_from battle game q ((left - a) / 2) a ≡ a
-  length-last left a h =
-      let n : (left - a) / 2 ≡ 0 = omega (arith, h) in rw n (last a)
+  length-last left a h = grind (arith, last a)
 
   -- a length that holds in the end is found as early with more tries
   pub length-more : (n k a : ℕ) → value battle game (a + (n + n)) q ≡ true → n ≤ k → first_from battle game q k a ≡ first_from battle game q n a

@@ -1,4 +1,3 @@
-pub mod Basics
 pub mod Words
 pub mod Boards
 pub mod Values

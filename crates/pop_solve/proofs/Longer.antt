@@ -1,9 +1,6 @@
 -- One more move never harms.
-use Rattle.pop_solve.proofs.Basics.{Bool, List, [], ap, arith, cases_lt, false, get_or, inl, inr, length, list_all, list_any, not, or_cases, or_left, or_right, position_or_len, range_with_len, refl, rules, suc, sym, true, zero, ℕ, ◌&&◌, ◌+◌, ◌-◌, ◌<◌, ◌||◌, ◌∙◌, ◌∷◌, ◌≡◌, ◌≤◌}
-use Rattle.pop_solve.proofs.Words.{Game, can_move, every_move, lost, self_lost, self_wins, some_move, wins}
-use Rattle.std.proofs.lemmas.Bool.{and_from, and_parts}
+use Rattle.pop_solve.proofs.Words.{Bool, Game, List, [], and_from, and_parts, ap, arith, can_move, cases_lt, every_move, fails_before_first, false, get_or, inl, inr, length, list_all, list_any, lost, not, or_cases, or_left, or_right, passes_at_first, position_or_len, prefix_len-le-length, range_with_len, refl, rules, self_lost, self_wins, some_move, suc, sym, true, wins, zero, ℕ, ◌&&◌, ◌+◌, ◌-◌, ◌<◌, ◌||◌, ◌∙◌, ◌∷◌, ◌≡◌, ◌≤◌}
 use Rattle.std.proofs.lemmas.List.FromFn.{get_or-range_with_len, length-range_with_len}
-use Rattle.std.proofs.lemmas.List.Sums.{fails_before_first, passes_at_first, prefix_len-le-length}
 
 module _ {X : Type 0} (f g : X → Bool) (weaker : (x : X) → f x ≡ true → g x ≡ true) where
   any_weaker : (xs : List X) → list_any f xs ≡ true → list_any g xs ≡ true
@@ -15,9 +12,7 @@ module _ {X : Type 0} (f g : X → Bool) (weaker : (x : X) → f x ≡ true → 
 
   all_weaker : (xs : List X) → list_all f xs ≡ true → list_all g xs ≡ true
   all_weaker [] h = h
-  all_weaker (x ∷ xs) h =
-      let both = and_parts (f x) (list_all f xs) h in
-      and_from (g x) (list_all g xs) (weaker x both.0) (all_weaker xs both.1)
+  all_weaker (x ∷ xs) h = let both = and_parts (f x) (list_all f xs) h in and_from (g x) (list_all g xs) (weaker x both.0) (all_weaker xs both.1)
 
 or_weaker : (a b c : Bool) → (b ≡ true → c ≡ true) → (a || b) ≡ true → (a || c) ≡ true
 or_weaker a b c w h = search rules
@@ -29,8 +24,7 @@ module _ {P M : Type 0} (game : Game P M) where
   some_weaker : (f g : P → Bool) → ((q : P) → f q ≡ true → g q ≡ true) → (p : P) → some_move game f p ≡ true → some_move game g p ≡ true
   some_weaker f g w p h = any_weaker (λ m. f (game.after p m)) (λ m. g (game.after p m)) (λ m. w (game.after p m)) (game.moves p) h
 
-  every_weaker : (f g : P → Bool) → ((q : P) → f q ≡ true → g q ≡ true) → (p : P) → every_move game f p ≡ true
-      → every_move game g p ≡ true
+  every_weaker : (f g : P → Bool) → ((q : P) → f q ≡ true → g q ≡ true) → (p : P) → every_move game f p ≡ true → every_move game g p ≡ true
   every_weaker f g w p h = all_weaker (λ m. f (game.after p m)) (λ m. g (game.after p m)) (λ m. w (game.after p m)) (game.moves p) h
 
   pub lost-more : (j : ℕ) (q : P) → lost game j q ≡ true → lost game (suc j) q ≡ true
@@ -52,8 +46,7 @@ module _ {P M : Type 0} (game : Game P M) where
   pub self_wins-more : (k : ℕ) (p : P) → self_wins game k p ≡ true → self_wins game (suc k) p ≡ true
   unfolding self_wins
   self_wins-more zero p h = absurd cc
-  self_wins-more (suc k) p h =
-      some_weaker (λ q. can_move game q && every_move game (λ r. game.goal r || self_wins game k r) q)
+  self_wins-more (suc k) p h = some_weaker (λ q. can_move game q && every_move game (λ r. game.goal r || self_wins game k r) q)
       (λ q. can_move game q && every_move game (λ r. game.goal r || self_wins game (suc k) r) q)
       (won-more (self_wins game k) (self_wins game (suc k)) (λ r. self_wins-more k r)) p h
 
@@ -62,8 +55,7 @@ module _ {P M : Type 0} (game : Game P M) where
   self_lost-more zero q h = h
   self_lost-more (suc j) q h =
       let a : suc j - 1 ≡ j = omega arith in
-      let b : suc (suc j) - 1 ≡ suc j = omega arith in
-      rw b (won-more (self_wins game j) (self_wins game (suc j)) (self_wins-more j) q (rw a at h))
+      grind (arith, won-more (self_wins game j) (self_wins game (suc j)) (self_wins-more j) q (rw a at h))
 
 -- what holds a step on holds of each greater number
 pub climbs : (f : ℕ → Bool) → ((k : ℕ) → f k ≡ true → f (suc k) ≡ true) → (k n : ℕ) → k ≤ n → f k ≡ true → f n ≡ true

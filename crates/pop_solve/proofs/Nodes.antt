@@ -1,10 +1,5 @@
 -- The paths of trees.
-use Rattle.pop_solve.proofs.Basics.{AllPairs, Bool, Contains, List, [], ap, cond, false, false≢true, filter, flat_map, inl, inr, list_any, map, or_cases, or_left, or_right, refl, rules, subst, suc, sym, true, zero, ℕ, ◌++◌, ◌-◌, ◌∙◌, ◌∷◌, ◌≡◌, ◌⊎◌}
-use Rattle.pop_solve.proofs.Words.{Battle, Game, answers, best, first_in, from_flat_map, from_map, in_cases, in_flat_map, in_map, keeps, least, node, none_in_nil, pairs_flat_map, pairs_map, pairs_nil, pairs_of, set_shows, set_tree, tree}
-use Rattle.std.proofs.Common.{◌≢◌, ◌↔◌}
-use Rattle.std.proofs.lemmas.List.Kept.{AllPairs-filter}
-use Rattle.chess_rules.proofs.listing_moves.Members.{from_filter, in_filter, later_in}
-use Rattle.pop_solve.specs.Tree.{below}
+use Rattle.pop_solve.proofs.Words.{AllPairs, AllPairs-filter, Battle, Bool, Contains, Game, List, [], answers, ap, arith, below, best, cond, false, false≢true, filter, first_in, flat_map, from_filter, from_flat_map, from_map, in_cases, in_filter, in_flat_map, in_map, inl, inr, keeps, later_in, least, list_any, map, node, none_in_nil, or_cases, or_left, or_right, pairs_flat_map, pairs_map, pairs_nil, pairs_of, refl, rules, set_shows, set_tree, subst, suc, sym, tree, true, zero, ℕ, ◌++◌, ◌-◌, ◌↔◌, ◌∙◌, ◌∷◌, ◌≡◌, ◌≢◌, ◌⊎◌}
 use Rattle.pop_solve.proofs.theorems.Lists.{HasBeginnings, StandsBefore}
 
 -- some element passes a test
@@ -45,8 +40,7 @@ module _ {M : Type 0} where
     | inl same ↦ inl cc
     | inr r ↦
         let w = from_map (λ path. m ∷ path) below (m ∷ path) r in
-        let same : w.0 ≡ path = tail_of (m ∷ w.0) (m ∷ path) w.2 in
-        inr (subst (Contains below) same w.1)
+        grind arith
   ]
     where
       rest : List M → List M
@@ -74,19 +68,13 @@ module _ {M : Type 0} where
         in_flat_map (λ m. node m (f m)) ms m (m ∷ path) c (later_in (m ∷ []) (map (λ path. m ∷ path) (f m)) (m ∷ path) (in_map (λ path. m ∷ path) (f m) path b))
 
     pub nodes_not_empty : (ms : List M) → HasNoEmpty (flat_map (λ m. node m (f m)) ms)
-    nodes_not_empty ms path c e =
-        let w = from_flat_map (λ m. node m (f m)) ms path c in
-        let s = starts w.0 (f w.0) path w.2 in
-        cc
+    nodes_not_empty ms path c e = let w = from_flat_map (λ m. node m (f m)) ms path c in grind (arith, starts w.0 (f w.0) path w.2)
 
     pub nodes_have_beginnings : ((m : M) → HasBeginnings (f m)) → (ms : List M) → HasBeginnings (flat_map (λ m. node m (f m)) ms)
     nodes_have_beginnings closed ms x [] ys c = root_in_nodes ms x (from_nodes ms x ys c).0
     nodes_have_beginnings closed ms x (y ∷ xs) ys c =
         let w = from_nodes ms x ((y ∷ xs) ++ ys) c in
-        elim w.1 [
-          | inl none ↦ absurd cc
-          | inr b ↦ path_in_nodes ms x (y ∷ xs) w.0 (closed x y xs ys b)
-        ]
+        elim w.1 [ inl none ↦ absurd cc | inr b ↦ path_in_nodes ms x (y ∷ xs) w.0 (closed x y xs ys b) ]
 
     module _ (before : M → M → Type 0) where
       -- nodes in order, with paths in order below each
@@ -252,8 +240,7 @@ module _ {P M : Type 0} (battle : Battle) (game : Game P M) (n : ℕ) where
     module _ (before : M → M → Type 0) (order : (p : P) → AllPairs before (game.moves p)) where
       pub below_key_stands : (h : ℕ) (p : P) (m : M) → AllPairs (StandsBefore before) (below_key h p m)
       unfolding below_key
-      below_key_stands h p m =
-          either_way (AllPairs (StandsBefore before)) variation (below battle game n (h - 1) (game.after p m)) []
+      below_key_stands h p m = either_way (AllPairs (StandsBefore before)) variation (below battle game n (h - 1) (game.after p m)) []
           ((trees_stand before order (h - 1)).0 (game.after p m)) (pairs_nil (StandsBefore before))
 
       pub below_set_stands : (h : ℕ) (p : P) (d : M) → AllPairs (StandsBefore before) (below_set h p d)
@@ -261,8 +248,7 @@ module _ {P M : Type 0} (battle : Battle) (game : Game P M) (n : ℕ) where
       below_set_stands h p d =
           let r = game.after p d in
           either_way (AllPairs (StandsBefore before)) variation (answers battle game n h r) (single_answers r) ((trees_stand before order h).1 r)
-          (unless_stands (StandsBefore before) (game.goal r) (map (λ m. m ∷ []) (best battle game n r))
-          (singles_stand before (best battle game n r) (best_stand before order r)))
+          (search (rules, unless_stands, singles_stand, best_stand))
 
     -- all paths of a play and of set play
     pub tree_paths : (h : ℕ) (p : P) → flat_map (λ s. s) (tree battle game variation n h p) ≡ flat_map (λ m. node m (below_key h p m)) (kept p)
@@ -294,25 +280,20 @@ module _ {M : Type 0} (f : M → List (List M)) (g : Bool) (ms : List M) (m : M)
   deeper_unless x path = (
     λ c.
         let w = (in_unless g (flat_map (λ m. node m (f m)) ms) (m ∷ (x ∷ path))).0 c in
-        let k = from_nodes f ms m (x ∷ path) w.1 in
-        (w.0, k.0, deeper x path k.1),
+        grind (arith, from_nodes f ms m (x ∷ path) w.1),
     λ w. (in_unless g (flat_map (λ m. node m (f m)) ms) (m ∷ (x ∷ path))).1 (w.0, path_in_nodes f ms m (x ∷ path) w.1 w.2),
   )
 
 -- nodes of the moves that pass a test
 module _ {M : Type 0} (f : M → List (List M)) (test : M → Bool) (ms : List M) (m : M) where
   pub roots_are : Contains (flat_map (λ m. node m (f m)) (filter test ms)) (m ∷ []) ↔ (Contains ms m × (test m ≡ true))
-  roots_are = (
-    λ c. from_filter test ms m (from_nodes f (filter test ms) m [] c).0,
-    λ w. root_in_nodes f (filter test ms) m (in_filter test ms m w.0 w.1),
-  )
+  roots_are = (λ c. from_filter test ms m (from_nodes f (filter test ms) m [] c).0, λ w. root_in_nodes f (filter test ms) m (in_filter test ms m w.0 w.1))
 
   pub deeper_are : (x : M) (path : List M)
       → Contains (flat_map (λ m. node m (f m)) (filter test ms)) (m ∷ (x ∷ path)) ↔ (Contains ms m × (test m ≡ true) × Contains (f m) (x ∷ path))
   deeper_are x path = (
     λ c.
         let w = (deeper_unless f false (filter test ms) m x path).0 c in
-        let k = from_filter test ms m w.1 in
-        (k.0, k.1, w.2),
+        grind (arith, from_filter test ms m w.1),
     λ w. path_in_nodes f (filter test ms) m (x ∷ path) (in_filter test ms m w.0 w.1) w.2,
   )

@@ -1,9 +1,5 @@
 -- How many frames a search opens.
-use Rattle.pop_solve.proofs.Basics.{Bool, List, [], arith, cond, drop, eqb, false, inl, inr, min, not, refl, rules, suc, true, zero, ℕ, ◌&&◌, ◌++◌, ◌+◌, ◌-◌, ◌<◌, ◌^◌, ◌∷◌, ◌≡◌, ◌≤◌, ◌⊎◌}
-use Rattle.pop_solve.proofs.Words.{Barred, Battle, Before, Behind, Form, Frame, IsCounted, IsGiven, IsSound, IsWhites, Opens, Phase, Plan, Play, Posed, Position, RuleSet, Set, Stage, Step, Tries, Within, battle_of, fewest_left, half_moves_of, is_barred, is_help, is_set, left_of, phase_half_moves, phase_start, phase_steps, plan_of, position, seeks, to_open, total, varies}
-use Rattle.pop_solve.specs.Events.{first_phase}
-use Rattle.pop_solve.specs.ties.Seen.{fewest_from, is_stop, is_unstopped, phase_fewest, phase_walk, walk_from}
-use Rattle.pop_solve.specs.ties.Phases.{rest_fewest, rest_open, IsKeys, IsNarrow, IsOpened, OpensOn}
+use Rattle.pop_solve.proofs.Words.{Barred, Battle, Before, Behind, Bool, Form, Frame, IsCounted, IsGiven, IsKeys, IsNarrow, IsOpened, IsSound, IsWhites, List, Opens, OpensOn, Phase, Plan, Play, Posed, Position, RuleSet, Set, Stage, Step, Tries, Within, [], arith, battle_of, cond, drop, eqb, false, fewest_from, fewest_left, first_phase, half_moves_of, inl, inr, is_barred, is_help, is_set, is_stop, is_unstopped, left_of, min, not, phase_fewest, phase_half_moves, phase_start, phase_steps, phase_walk, plan_of, position, refl, rest_fewest, rest_open, rules, seeks, suc, to_open, total, true, walk_from, zero, ℕ, ◌&&◌, ◌++◌, ◌+◌, ◌-◌, ◌<◌, ◌^◌, ◌∷◌, ◌≡◌, ◌≤◌, ◌⊎◌}
 use Rattle.pop_solve.proofs.Boards.{behind_start}
 use Rattle.pop_solve.proofs.Sound.{some_way}
 use Rattle.pop_solve.proofs.ToCome.{one, walk_count-start}
@@ -29,9 +25,6 @@ root-counted : (n count count2 : ℕ) → (0 < n → count2 ≡ min (count + 1) 
     → min (count + cond (eqb n 0) 0 1) (2 ^ 64 - 1) ≤ count2
 root-counted n count count2 more same = search rules
 
-less_none : (n : ℕ) → n - 0 ≡ n
-less_none n = omega arith
-
 -- what is opened in a later phase, counted apart
 counted-apart : (walk later opened rest : ℕ) → IsCounted walk opened (rest + later) → IsCounted (walk - later) opened rest
 counted-apart walk later opened rest c = search rules
@@ -55,9 +48,6 @@ module _ (rule : RuleSet) (problem : Posed) where
   abbrev later_fewest : Phase → ℕ
   later_fewest phase = cond (is_set phase) (phase_fewest rule problem Play) 0
 
-  keys-alone : problem.variation ≡ false → varies (plan_of problem) ≡ false
-  keys-alone e = rw e refl
-
   -- a phase that isn't possible
   pub opens-barred : (phase : Phase) (old new : List Frame) (count : ℕ) (left : List Step) → is_barred rule problem phase ≡ true
       → OpensOn rule problem (Before phase) Barred old new count count left
@@ -80,7 +70,7 @@ module _ (rule : RuleSet) (problem : Posed) where
     root-fewest : phase_fewest rule problem phase ≡ cond (eqb f.left 0) 0 1 + fewest_left rule plan (phase_half_moves problem phase)
         (phase_start problem phase) (f ∷ [])
     unfolding fewest_left position
-    root-fewest = rw (possible, place_is, behind_start rule (phase_start problem phase), ← left_is, less_none f.left) (omega arith)
+    root-fewest = grind (arith, behind_start)
 
     from-fewest : fewest_from rule problem phase ≡ cond
         (eqb f.left 0) 0 1 + (fewest_left rule plan (phase_half_moves problem phase) (phase_start problem phase) (f ∷ []) + later_fewest phase)
@@ -89,26 +79,20 @@ module _ (rule : RuleSet) (problem : Posed) where
     pub opens-begun : (old : List Frame) (count count2 : ℕ) (left : List Step) → (0 < f.left → count2 ≡ min (count + 1) (2 ^ 64 - 1))
         → (f.left ≡ 0 → count2 ≡ count) → OpensOn rule problem (Before phase) (Within phase 0) old (f ∷ []) count count2 left
     unfolding rest_open rest_fewest IsNarrow
-    opens-begun old count count2 left more same =
-        search (rules, from-open, opened-most, counted_by, root-counted, from-fewest, whites-root, white-starts, some_way)
+    opens-begun old count count2 left more same = search (rules, from-open, opened-most, counted_by, from-fewest, whites-root, white-starts, some_way)
 
   -- within a phase
   module _ (phase : Phase) (count : ℕ) (old new : List Frame) (before after : ℕ)
       (x : Opens rule (plan_of problem) (phase_start problem phase) old new before after)
       (y : Tries rule (plan_of problem) (phase_half_moves problem phase) (phase_start problem phase) old new before after) where
-    walked-most : (is_help problem.stipulation.form ≡ true) ⊎ (IsKeys problem phase × (IsWhites (battle_of problem.stipulation.form) old ≡ true))
-        → after + to_open rule (phase_start problem phase) new ≤ before + to_open rule (phase_start problem phase) old
-    walked-most e = search rules
-
-    walked-counted : is_help problem.stipulation.form ≡ true → (walk : ℕ)
-        → IsCounted walk before (to_open rule (phase_start problem phase) old + later phase)
+    walked-counted : is_help problem.stipulation.form ≡ true → (walk : ℕ) → IsCounted walk before (to_open rule (phase_start problem phase) old + later phase)
         → IsCounted walk after (to_open rule (phase_start problem phase) new + later phase)
     walked-counted h walk c = search (rules, counted-along, counted-apart)
 
     pub opens-given : (next : ℕ) (left : List Step) (last : List Frame) → last ≡ new
         → OpensOn rule problem (Within phase count) (Within phase next) old last before after left
     unfolding rest_open rest_fewest IsNarrow
-    opens-given next left last kept = search (rules, walked-most, walked-counted, keys-alone)
+    opens-given next left last kept = grind (arith, walked-counted)
 
     -- its end: where no phase is stopped, nothing is left to open
     nothing_open : (left : List Step) → is_unstopped (total count (eqb count problem.max_solutions) ∷ left) ≡ true → count ≤ problem.max_solutions
@@ -128,13 +112,8 @@ module _ (rule : RuleSet) (problem : Posed) where
     unfolding rest_open rest_fewest IsNarrow
     opens-ended stage last left at most over = record {
       narrow = λ n. rw at (narrowed phase n);
-      most = λ n. rw (at, rest-is phase) (omega (arith, walked-most n));
-      counted = λ h u walk c. rw (at, rest-is phase)
-          (let w = walked-counted h walk c in let z = nothing_open left u most over in record {
-            within = omega (arith, w.within);
-            counts = omega
-                (arith, z, w.counts);
-          });
+      most = λ n. rw (at, rest-is phase) (grind arith);
+      counted = λ h u walk c. grind (arith, walked-counted h walk c, nothing_open);
       grows = y.grows;
       fewest = λ h u. rw (at, fewest-is phase) (omega (arith, y.fewest h, nothing_fewest left u most over));
     }

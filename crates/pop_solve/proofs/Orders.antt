@@ -1,21 +1,13 @@
 -- The moves of a position, stretch by stretch, are all its moves in another order.
-use Rattle.pop_solve.proofs.Basics.{Bool, List, [], ap, append-nil, arith, cases_lt, cond, eqb, false, filter, inl, inr, nat_tests, not, refl, rules, suc, sym, true, zero, ℕ, ◌&&◌, ◌++◌, ◌+◌, ◌-◌, ◌<◌, ◌∙◌, ◌∷◌, ◌≡◌, ◌≤◌}
-use Rattle.pop_solve.proofs.Words.{Killer, Order, Position, RuleSet, Triple, ahead, belongs, moves_behind, moves_behind-end, moves_between}
-use Rattle.std.proofs.lemmas.Bool.{cases_Bool}
-use Rattle.std.proofs.lemmas.List.Elements.{filter_agree}
-use Rattle.chess_rules.proofs.listing_moves.Between.{between-here, between-none, between-past, between-skip}
-use Rattle.chess_rules.proofs.listing_moves.Places.{moves_behind-here, moves_behind-skip, place_of_triple}
+use Rattle.pop_solve.proofs.Words.{Bool, Earlier, Killer, List, Order, Others, Position, RuleSet, Triple, [], ahead, all_of, ap, append-nil, arith, belongs, between-here, between-none, between-past, between-skip, cases_Bool, cases_lt, comes_early, cond, eqb, false, filter, filter_agree, here, inl, inr, is_at, later, moves_behind, moves_behind-end, moves_behind-here, moves_behind-skip, moves_between, nat_tests, not, place_of_triple, refl, rules, suc, sym, true, zero, ℕ, ◌&&◌, ◌++◌, ◌+◌, ◌-◌, ◌<◌, ◌∙◌, ◌∷◌, ◌≡◌, ◌≤◌}
 use Rattle.chess_rules.specs.Legal.{moves as legal_moves}
-use Rattle.pop_solve.specs.declared.frame.Stretch.TheVariants.{Earlier, Others}
 use Rattle.pop_solve.specs.declared.frame.Early.TheVariants.{NoMoves}
 use Rattle.pop_solve.proofs.Boards.{behind_start}
-use Rattle.pop_solve.specs.ties.Frames.{all_of, comes_early, here, is_at, later}
 
 -- a list parted by three tests
 module _ {M : Type 0} (a b c : M → Bool) where
   abbrev parted : List M → List M
-  parted ms =
-      filter a ms ++ (filter (λ m. not (a m) && b m) ms ++ (filter (λ m. not (a m) && (not (b m) && c m)) ms
+  parted ms = filter a ms ++ (filter (λ m. not (a m) && b m) ms ++ (filter (λ m. not (a m) && (not (b m) && c m)) ms
       ++ filter (λ m. not (a m) && (not (b m) && not (c m))) ms))
 
 -- a fold whose steps may change places says the same of a list and of its parts
@@ -34,8 +26,7 @@ module _ {M C : Type 0} (step : M → C → C) (g : List M → C) (cons : (x : M
   past_two x xs ys zs = same_behind xs (ys ++ x ∷ zs) (x ∷ (ys ++ zs)) (to_front x ys zs ∙ sym (cons x (ys ++ zs))) ∙ to_front x xs (ys ++ zs)
 
   past_three : (x : M) (ws xs ys zs : List M) → g (ws ++ (xs ++ (ys ++ x ∷ zs))) ≡ step x (g (ws ++ (xs ++ (ys ++ zs))))
-  past_three x ws xs ys zs =
-      same_behind ws (xs ++ (ys ++ x ∷ zs)) (x ∷ (xs ++ (ys ++ zs))) (past_two x xs ys zs ∙ sym (cons x (xs ++ (ys ++ zs))))
+  past_three x ws xs ys zs = same_behind ws (xs ++ (ys ++ x ∷ zs)) (x ∷ (xs ++ (ys ++ zs))) (past_two x xs ys zs ∙ sym (cons x (xs ++ (ys ++ zs))))
       ∙ to_front x ws (xs ++ (ys ++ zs))
 
   same_parted : (a b c : M → Bool) (ms : List M) → g (parted a b c ms) ≡ g ms
@@ -96,8 +87,7 @@ module _ (rule : RuleSet) (p : Position) (order : Order) where
   pub same_start : {C : Type 0} (step : Triple → C → C) (g : List Triple → C) → ((m : Triple) (ms : List Triple) → g (m ∷ ms) ≡ step m (g ms))
       → ((m n : Triple) (c : C) → step m (step n c) ≡ step n (step m c)) → g (ahead rule p order Killer (order.killer - 1)) ≡ g (legal_moves rule p)
   unfolding later belongs
-  same_start step g cons swap =
-      ap (λ ms. g (ms ++ later rule p order Killer)) (before_killer (order.killer - 1) refl)
+  same_start step g cons swap = ap (λ ms. g (ms ++ later rule p order Killer)) (before_killer (order.killer - 1) refl)
       ∙ same_parted step g cons swap (is_at order.killer) (is_at order.earlier) (comes_early order.early p) (legal_moves rule p)
 
 pub ruleset first_place = (before_killer, before_earlier, behind_earlier, behind_start)

@@ -1,9 +1,7 @@
 -- The outcomes of a step, for frames listed from the top down.
-use Rattle.pop_solve.proofs.Basics.{Bool, IfSome, List, Option, [], ap, arith, eqb, false, inl, inr, length, min, refl, rules, suc, true, ℕ, ◌+◌, ◌-◌, ◌<◌, ◌^◌, ◌∙◌, ◌∷◌, ◌≡◌, ◌≤◌, ◌⊎◌}
-use Rattle.pop_solve.proofs.Words.{AreKnown, Battle, CameFrom, CameFromAt, Counts, Frame, GoesTo, IsCounted, IsLinked, IsPlaceIn, IsRoomy, IsWalking, IsWhites, LegalPlace, Loss, Plan, Position, RuleSet, Steps, Triple, after_well_formed, battle_of, chess, fewest_left, follows, gives, is_help, legal, moves_behind, opened, path, position, pseudo-from_legal, seeks, to_come, to_open, turns, undo_of, walk_behind}
+use Rattle.pop_solve.proofs.Words.{AreKnown, Battle, Bool, CameFrom, CameFromAt, Counts, Frame, GoesTo, IfSome, IsCounted, IsLinked, IsPlaceIn, IsRoomy, IsWalking, IsWhites, LegalPlace, List, Loss, Option, Plan, Position, RuleSet, Steps, Triple, [], after_well_formed, ap, arith, chess, eqb, false, fewest_left, follows, gives, goes_on, inl, inr, is_help, legal, length, min, moves_behind, opened, path, position, pseudo-from_legal, refl, rules, seeks, suc, to_come, to_open, true, turns, undo_of, walk_behind, ℕ, ◌+◌, ◌-◌, ◌<◌, ◌^◌, ◌∷◌, ◌≡◌, ◌≤◌, ◌⊎◌}
 use Rattle.chess_rules.specs.Play.{after as played}
 use Rattle.pop_solve.specs.ties.Frames.{opened as opened_frame}
-use Rattle.pop_solve.specs.ties.Walk.{goes_on}
 use Rattle.pop_solve.proofs.Tests.{learned, moved}
 use Rattle.pop_solve.proofs.GoingOn.{no_zero, goes_on-help, follows-help, goes_on-keys, goes_on-most, ended-reached}
 use Rattle.pop_solve.proofs.ToCome.{one, walk_count-start, walk_behind-none, come-pass, come-enter, tries-pass, tries-enter, turns-pass, turns-enter, open-next, open-enter, come-close, tries-close, turns-close, open-close, steps-skip}
@@ -58,15 +56,7 @@ module _ (rule : RuleSet) (h : ℕ) (p : Position) where
       → IsWalking rule h p (opened m (undo_of rule board m) tried ∷ (moved f next ∷ below)) after
   unfolding IsLinked IsRoomy AreKnown position
   walking-enter plan f next m tried below board after r less lawful e =
-      let s = walking-moved plan f next below board board r refl in
-      let at : board ≡ position rule p (moved f next ∷ below) = s.board_at in
-      record {
-        linked = (rw (← at) s.sound, rw (← at) lawful, ap (λ b. undo_of rule b m) at, s.linked);
-        roomy = (omega (arith, less, r.roomy.0), s.roomy);
-        known = (tt, s.known);
-        sound = rw e (after_well_formed rule board m r.sound (pseudo-from_legal rule board m lawful));
-        board_at = e ∙ ap (λ b. played rule b m) at;
-      }
+      grind (arith, after_well_formed rule board m r.sound (pseudo-from_legal rule board m lawful), pseudo-from_legal rule board m lawful)
 
 -- where keys alone are shown
 whites-cut : (battle : Battle) (f : Frame) (below : List Frame) → IsWhites battle (f ∷ below) ≡ true → IsWhites battle below ≡ true
@@ -103,15 +93,14 @@ module _ (rule : RuleSet) (plan : Plan) (h : ℕ) (p : Position) (f : Frame) (be
   steps-close after count e lowest before =
       let here : (f.left ≡ 0) ⊎ (moves_behind rule (position rule p (f ∷ below)) f.place ≡ []) = rw (← r.board_at) e in
       let o = open-close rule plan p f below here in
-      record {
-        walking = walking-close rule h p f below board after r lowest before;
-        come = come-close rule plan h p f below here;
-        deep = λ g. absurd cc;
-        ended = λ g. absurd cc;
-        falls = turns-close rule plan h p f below;
-        opens = search (rules, o, whites-cut);
-        tries = record { grows = omega arith; fewest = λ a. omega (arith, tries-close rule plan h p f below here) };
-      }
+      grind (
+        arith,
+        walking-close rule h p f below board after r lowest before,
+        come-close,
+        turns-close rule plan h p f below,
+        whites-cut,
+        tries-close rule plan h p f below here,
+      )
 
   module _ (next : ℕ) (m : Triple) (t : ℕ) (left : f.left ≡ suc t) (e : moves_behind rule board f.place ≡ m ∷ moves_behind rule board next) where
     here : moves_behind rule (position rule p (f ∷ below)) f.place ≡ m ∷ moves_behind rule (position rule p (f ∷ below)) next
@@ -124,9 +113,8 @@ module _ (rule : RuleSet) (plan : Plan) (h : ℕ) (p : Position) (f : Frame) (be
     fuel = omega (arith, top_room rule h p f below board r, left)
 
     pub steps-pass : (after : Position) (opened opened2 : ℕ) → follows plan (chess plan.goal rule) (eqb (length below) 0) t (played rule board m) ≡ false
-        → after ≡ board
-        → Counts rule plan (eqb (length below) 0) t (played rule board m) opened opened2 → Steps rule plan h p (f ∷ below)
-        (moved f next ∷ below) after opened opened2 false
+        → after ≡ board → Counts rule plan (eqb (length below) 0) t (played rule board m) opened opened2
+        → Steps rule plan h p (f ∷ below) (moved f next ∷ below) after opened opened2 false
     steps-pass after opened opened2 b at x =
         let o = open-next rule plan h p f next m below _ t fuel left here in
         record {
@@ -135,24 +123,15 @@ module _ (rule : RuleSet) (plan : Plan) (h : ℕ) (p : Position) (f : Frame) (be
           deep = λ g. absurd cc;
           ended = λ g. absurd cc;
           falls = turns-pass rule plan h p f next m below _ t fuel left here;
-          opens = record {
-            whites = λ a c w. whites-moved (battle_of plan.form) f next below w;
-            most = search (rules, x.keys, o, after_here, whites-top);
-            helped = search (rules, follows-help);
-            counted = search (rules, follows-help);
-          };
-          tries = record {
-            grows = omega (arith, x.tries);
-            fewest = search (rules, x.tries, after_here, tries-pass rule plan h p f next m below _ t fuel left here);
-          };
+          opens = grind (arith, whites-moved, whites-top, follows-help);
+          tries = record { grows = omega (arith, x.tries); fewest = search (rules, x.tries, tries-pass rule plan h p f next m below _ t fuel left here) };
         }
 
     pub steps-enter : (after : Position) (opened opened2 : ℕ) → legal rule board m ≡ true
         → follows plan (chess plan.goal rule) (eqb (length below) 0) t (played rule board m) ≡ true → after ≡ played rule board m
-        → Counts rule plan (eqb (length below) 0) t (played rule board m) opened opened2 → Steps rule plan h p (f ∷ below)
-        (opened_frame m (undo_of rule board m)
-        (goes_on plan (chess plan.goal rule) t (played rule board m)) ∷ (moved f next ∷ below)) after opened opened2
-        (gives plan (chess plan.goal rule) t (played rule board m))
+        → Counts rule plan (eqb (length below) 0) t (played rule board m) opened opened2
+        → Steps rule plan h p (f ∷ below) (opened_frame m (undo_of rule board m) (goes_on plan (chess plan.goal rule) t (played rule board m)) ∷ (moved f next ∷
+        below)) after opened opened2 (gives plan (chess plan.goal rule) t (played rule board m))
     steps-enter after opened opened2 lawful b at x =
         let o = open-next rule plan h p f next m below _ t fuel left here in
         let u = undo_of rule board m in
@@ -160,8 +139,7 @@ module _ (rule : RuleSet) (plan : Plan) (h : ℕ) (p : Position) (f : Frame) (be
         let tried = goes_on plan (chess plan.goal rule) t (played rule board m) in
         let n = open-enter rule plan h p f next m below _ t fuel left here u tried in
         let helped : is_help plan.form ≡ true
-        → to_open rule p (f ∷ below) ≡ one rule plan t + to_open rule p (opened_frame m u tried ∷ (moved f next ∷ below)) =
-        λ a.
+        → to_open rule p (f ∷ below) ≡ one rule plan t + to_open rule p (opened_frame m u tried ∷ (moved f next ∷ below)) = λ a.
         let w : walk_behind rule tried q 0 ≡ walk_behind rule t q 0 = ap (λ x. walk_behind rule x q 0) (goes_on-help plan (chess plan.goal rule) t _ a) in
         omega (arith, o, n, w, walk_count-start rule plan t q) in
         record {
@@ -171,12 +149,7 @@ module _ (rule : RuleSet) (plan : Plan) (h : ℕ) (p : Position) (f : Frame) (be
           deep = λ g. omega arith;
           ended = λ g e. rw at (ended-reached (chess plan.goal rule) plan (eqb (length below) 0) t (played rule board m) b e);
           falls = turns-enter rule plan h p f next m below _ t fuel left here u tried;
-          opens = record {
-            whites = search (rules, whites-none, goes_on-keys, whites-top, whites-moved);
-            most = search (rules, x.keys, o, n, walk_behind-none, goes_on-keys, whites-top, after_here);
-            helped = λ a. omega (arith, helped a, opened-most rule plan t opened opened2 (x.more a) (x.none a));
-            counted = λ a walk c. counted_by rule plan t walk opened opened2 _ _ (helped a) (x.more a) (x.none a) c;
-          };
+          opens = grind (arith, whites-none, goes_on-keys, whites-top, whites-moved, walk_behind-none, after_here, counted_by);
           tries = record {
             grows = omega (arith, x.tries);
             fewest = λ a. rw after_here
@@ -191,8 +164,7 @@ module _ (rule : RuleSet) (plan : Plan) (h : ℕ) (p : Position) (f : Frame) (be
       → (length below ≡ 0 → after ≡ board) → ((q : Position) → 0 < length below → CameFromAt rule f board q → after ≡ q)
       → Steps rule plan h p (f ∷ below) below after count count false
   skips-close after count (inl e) lowest before = steps-close rule plan h p f below board r after count (inl e) lowest before
-  skips-close after count (inr g) lowest before =
-      steps-skip rule plan h p f below [] g below after count count false
+  skips-close after count (inr g) lowest before = steps-skip rule plan h p f below [] g below after count count false
       (steps-close rule plan h p (moved f g.mid) below board (walking-moved rule h p plan f g.mid below board board r refl) after count
       (inr (rw r.board_at g.here)) lowest before)
 

@@ -1,10 +1,6 @@
 -- The path to the top frame, and what is shown of it.
-use Rattle.pop_solve.proofs.Basics.{List, [], ap, arith, cond, drop, get_or, length, length-append, length-reverse, refl, reverse, reverse-append, rules, subst, sym, take, take-append-drop, take_all, true, ℕ, ◌++◌, ◌+◌, ◌-◌, ◌<◌, ◌∙◌, ◌∷◌, ◌≡◌, ◌≤◌}
-use Rattle.pop_solve.proofs.Words.{CameFrom, CameFromAt, Frame, Goal, IsLinked, IsWalking, Plan, Position, RuleSet, Triple, chess, ends_variation, legal, path, position, reach, show, shown_along, shown_last}
+use Rattle.pop_solve.proofs.Words.{CameFrom, CameFromAt, Frame, Goal, IsEnded, IsLinked, IsWalking, List, Plan, Position, RuleSet, Triple, [], ap, arith, chess, cond, drop, ends_variation, get_or, legal, length, length-append, length-reverse, length-take, path, position, reach, refl, reverse, reverse-append, rules, show, shown_along, shown_last, subst, sym, take, take-append-drop, take_all, take_more, true, ℕ, ◌++◌, ◌+◌, ◌-◌, ◌<◌, ◌∙◌, ◌∷◌, ◌≡◌, ◌≤◌}
 use Rattle.chess_rules.specs.Play.{after as played}
-use Rattle.std.proofs.Common.{length-take}
-use Rattle.std.proofs.lemmas.List.{take_more}
-use Rattle.pop_solve.specs.ties.Walk.{IsEnded}
 use Rattle.pop_solve.proofs.Outcomes.{CameFrom-deep, walking-close}
 use Rattle.pop_solve.specs.declared.chess.Reached.{Reached}
 use Rattle.pop_solve.specs.declared.chess.Reached.TheVariants.{Perhaps, Surely}
@@ -67,42 +63,31 @@ module _ (rule : RuleSet) where
   linked-cut : (p : Position) (xs ys : List Frame) → IsLinked rule p (xs ++ ys) → IsLinked rule p ys
   unfolding IsLinked
   linked-cut p [] ys l = l
-  linked-cut p (f ∷ []) [] l = tt
-  linked-cut p (f ∷ []) (y ∷ ys) l = l.3
+  linked-cut p (f ∷ []) ys l = grind arith
   linked-cut p (f ∷ (g ∷ xs)) ys l = linked-cut p (g ∷ xs) ys l.3
 
   pub linked-take : (p : Position) (frames : List Frame) (n : ℕ) → IsLinked rule p (reverse frames) → IsLinked rule p (reverse (take n frames))
-  linked-take p frames n l =
-      let parts : reverse frames ≡ reverse (drop n frames) ++ reverse (take n frames) =
-      ap reverse (sym (take-append-drop n frames)) ∙ reverse-append (take n frames) (drop n frames) in
-      let T : List Frame → Type 0 = λ fs. IsLinked rule p fs in
-      linked-cut p (reverse (drop n frames)) (reverse (take n frames)) (subst T parts l)
+  linked-take p frames n l = grind (arith, take-append-drop n frames, reverse-append (take n frames) (drop n frames), linked-cut)
 
   -- some frames and one above them
   module _ (upper lower : List Frame) (f : Frame) (cut : upper ≡ lower ++ f ∷ []) (some : 0 < length lower) where
     stacked : reverse upper ≡ f ∷ reverse lower
     stacked = popped upper lower f cut
 
-    some-below : 0 < length (reverse lower)
-    some-below = omega (arith, length-reverse lower, some)
-
     pub back-asks : (h : ℕ) (p board : Position) → IsWalking rule h p (reverse upper) board → CameFrom rule f board
-    back-asks h p board r =
-        let T : List Frame → Type 0 = λ fs. IsWalking rule h p fs board in
-        CameFrom-deep rule h p f (reverse lower) board (subst T stacked r) some-below
+    back-asks h p board r = grind (arith, CameFrom-deep, stacked, length-reverse)
 
     pub back-walking : (h : ℕ) (p board after : Position) → IsWalking rule h p (reverse upper) board → ((q : Position) → CameFromAt rule f board q
         → after ≡ q) → IsWalking rule h p (reverse lower) after
     back-walking h p board after r before =
         let T : List Frame → Type 0 = λ fs. IsWalking rule h p fs board in
-        walking-close rule h p f (reverse lower) board after (subst T stacked r)
-        (λ z. absurd (omega (arith, z, some-below))) (λ q z cf. before q cf)
+        walking-close rule h p f (reverse lower) board after (subst T stacked r) (λ z. absurd (grind (arith, length-reverse))) (λ q z cf. before q cf)
 
     pub forth-legal : (p : Position) → IsLinked rule p (reverse upper) → legal rule (position rule p (reverse lower)) f.by ≡ true
-    forth-legal p l = let T : List Frame → Type 0 = λ fs. IsLinked rule p fs in linked-legal p f (reverse lower) some-below (subst T stacked l)
+    forth-legal p l = grind (arith, linked-legal, stacked, length-reverse)
 
     pub forth-position : (p : Position) → position rule p (reverse upper) ≡ played rule (position rule p (reverse lower)) f.by
-    forth-position p = ap (position rule p) stacked ∙ position-more p f (reverse lower) some-below
+    forth-position p = grind (arith, stacked, position-more, length-reverse)
 
     -- the move of the frame above leads back to its position, and to the goal where a variation ends there
     pub forth-again : (h : ℕ) (p board after : Position) → IsWalking rule h p (reverse upper) board → IsWalking rule h p (reverse lower) after
@@ -117,17 +102,16 @@ module _ (rule : RuleSet) where
     pub forth-along : (goal : Goal) (p : Position)
         → shown_along goal rule p (path (reverse upper)) ≡ shown_along goal rule p (path (reverse lower)) ++ show goal rule
         (position rule p (reverse lower)) f.by ∷ []
-    forth-along goal p = ap (λ fs. shown_along goal rule p (path fs)) stacked ∙ along-more goal rule p f (reverse lower) some-below
+    forth-along goal p = grind (arith, stacked, along-more, length-reverse)
 
     pub forth-last : (goal : Goal) (p : Position) → shown_last goal rule p (path (reverse upper)) ≡ show goal rule (position rule p (reverse lower)) f.by
-    forth-last goal p = ap (λ fs. shown_last goal rule p (path fs)) stacked ∙ last-more goal rule p f (reverse lower) some-below
+    forth-last goal p = grind (arith, stacked, last-more, length-reverse)
 
   -- with one frame left, or none, the board stands on the first position
   one-position : (p : Position) (frames : List Frame) → length frames ≤ 1 → position rule p frames ≡ p
   unfolding position
   one-position p [] few = refl
-  one-position p (f ∷ []) few = refl
-  one-position p (f ∷ (g ∷ below)) few = absurd (omega (arith, few))
+  one-position p frames few = grind arith
 
   pub first-position : (p : Position) (frames : List Frame) (k : ℕ) → k ≤ 1 → position rule p (reverse (take k frames)) ≡ p
   first-position p frames k few = search (rules, one-position, length-reverse)

@@ -1,9 +1,6 @@
 -- The paths of a phase's solutions.
-use Rattle.pop_solve.proofs.Basics.{AllPairs, List, [], ap, arith, drop, false, flat_map, map, refl, take, take-append-drop, true, ℕ, ◌<◌, ◌∷◌, ◌≡◌}
-use Rattle.pop_solve.proofs.Words.{Battle, Game, Phase, Play, Posed, Position, RuleSet, Set, Triple, battle_of, chess, help_lines, is_help, phase_half_moves, phase_start, set_tree, solutions, tree}
-use Rattle.std.proofs.lemmas.List.Concat.{flat_map-append}
+use Rattle.pop_solve.proofs.Words.{AllPairs, Battle, Game, List, Phase, Play, Posed, Position, RuleSet, Set, Triple, [], ap, arith, battle_of, chess, drop, false, flat_map, flat_map-append, help_lines, is_help, map, pairs_front, phase_half_moves, phase_start, refl, set_tree, solutions, take, take-append-drop, tree, true, ℕ, ◌<◌, ◌∷◌, ◌≡◌}
 use Rattle.chess_core.specs.MoveOrder.{triple_number}
-use Rattle.chess_rules.proofs.listing_moves.Members.{pairs_front}
 
 -- each list by itself, joined
 singles : {X : Type 0} (xs : List X) → flat_map (λ s. s) (map (λ x. x ∷ []) xs) ≡ xs
@@ -13,8 +10,7 @@ singles (x ∷ xs) = ap (λ ys. x ∷ ys) (singles xs)
 -- the first of joined lists
 pub first_joined : {X : Type 0} (R : X → X → Type 0) (n : ℕ) (xss : List (List X)) → AllPairs R (flat_map (λ s. s) xss)
     → AllPairs R (flat_map (λ s. s) (take n xss))
-first_joined R n xss pairs =
-    pairs_front R (flat_map (λ s. s) (take n xss)) (flat_map (λ s. s) (drop n xss))
+first_joined R n xss pairs = pairs_front R (flat_map (λ s. s) (take n xss)) (flat_map (λ s. s) (drop n xss))
     (rw (← flat_map-append (λ s. s) (take n xss) (drop n xss), take-append-drop n xss) pairs)
 
 pub never_itself : (m : Triple) → triple_number m < triple_number m → ⊥

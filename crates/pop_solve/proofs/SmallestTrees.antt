@@ -1,7 +1,5 @@
 -- The smallest trees that decide a position.
-use Rattle.pop_solve.proofs.Basics.{Bool, List, [], arith, cond, false, min, rules, suc, sum_by, sum_by-cons, true, zero, ℕ, ◌+◌, ◌∷◌, ◌≡◌, ◌≤◌}
-use Rattle.pop_solve.proofs.Words.{Battle, Game, can_move, least_of, smallest_below, smallest_tree}
-use Rattle.pop_solve.specs.ties.Counts.{decided_by}
+use Rattle.pop_solve.proofs.Words.{Battle, Bool, Game, List, [], arith, can_move, cond, decided_by, false, least_of, rules, smallest_below, smallest_tree, suc, sum_by, sum_by-cons, zero, ℕ, ◌+◌, ◌∷◌, ◌≡◌, ◌≤◌}
 
 module _ {M : Type 0} (test : M → Bool) (f : M → ℕ) where
   least-most : (n : ℕ) (ms : List M) → least_of test f n ms ≤ n
@@ -20,10 +18,7 @@ module _ {M : Type 0} (test : M → Bool) (f : M → ℕ) where
 
   least-next : (m : M) (a n : ℕ) (ms : List M) → n ≡ f m + a → least_of test f n (m ∷ ms) ≤ f m + cond (test m) 0 (least_of test f a ms)
   unfolding least_of
-  least-next m a n ms e =
-      let l = least-plus (f m) a n ms e in
-      elim (test m) as (λ b. cond b (min (f m) (least_of test f n ms)) (least_of test f n ms) ≤ f m + cond b 0
-      (least_of test f a ms)) [ true ↦ omega arith | false ↦ l ]
+  least-next m a n ms e = grind (arith, least-plus (f m) a n ms e)
 
   below-next : (m : M) (ms : List M) → below (m ∷ ms) ≤ f m + cond (test m) 0 (below ms)
   below-next m ms = least-next m (sum_by f ms) (sum_by f (m ∷ ms)) ms (sum_by-cons f m ms)
@@ -60,11 +55,7 @@ module _ {P M : Type 0} (battle : Battle) (game : Game P M) where
   pub tree-one : (t : ℕ) (p : P) → t ≡ 1 → smallest_tree battle game t p ≤ 1
   unfolding smallest_below
   tree-one zero p e = cc
-  tree-one (suc zero) p e =
-      let s = trees-start 1 p in
-      let l = least-most (decided_by battle game 0 p) (λ m. smallest_tree battle game 0 (game.after p m))
-      (sum_by (λ m. smallest_tree battle game 0 (game.after p m)) (game.moves p)) (game.moves p) in
-      omega (arith, s, l, nothing p (game.moves p))
+  tree-one (suc zero) p e = grind (arith, trees-start 1 p, least-most, game.moves p, nothing p (game.moves p))
   tree-one (suc (suc t)) p e = absurd (omega (arith, e))
 
 pub ruleset shortest = (tree-zero, tree-one)

@@ -1,15 +1,12 @@
 -- What is to come from the root frame of a phase is the phase's solutions.
-use Rattle.pop_solve.proofs.Basics.{Bool, List, [], ap, arith, cond, false, filter, flat_map, length, list_all, map, nat_tests, refl, rules, suc, sym, take, true, zero, ℕ, ◌*◌, ◌++◌, ◌+◌, ◌-◌, ◌∙◌, ◌∷◌, ◌≡◌, ◌≤◌}
-use Rattle.pop_solve.proofs.Words.{Battle, Form, Frame, Game, IsSound, Phase, Plan, Play, Posed, RuleSet, Selfmate, Set, battle_of, chess, half_moves_of, help_lines, is_help, is_set, keep, keeps, moves_behind, node, phase_half_moves, phase_paths, phase_start, plan_of, seeks, set_shows, set_tree, shown, solutions, started, tree, value, varies}
+use Rattle.pop_solve.proofs.Words.{Battle, Bool, Form, Frame, Game, IsSound, List, Phase, Plan, Play, Posed, RuleSet, Selfmate, Set, [], ap, arith, battle_of, chess, cond, false, filter, flat_map, half_moves_of, help_lines, is_help, is_set, keep, keeps, length, list_all, map, moves_behind, nat_tests, node, phase_half_moves, phase_paths, phase_start, plan_of, refl, rules, seeks, set_shows, set_tree, shown, shows_variations, solutions, started, suc, sym, take, tree, tree_shown, true, value, varies, zero, ℕ, ◌++◌, ◌+◌, ◌-◌, ◌∙◌, ◌∷◌, ◌≡◌}
 use Rattle.pop_solve.specs.declared.aim.Battle.TheVariants.{Direct}
 use Rattle.chess_rules.specs.Legal.{moves as legal_moves}
 use Rattle.pop_solve.proofs.Sound.{some_way}
-use Rattle.pop_solve.specs.ties.Walk.{goes_on}
 use Rattle.pop_input.specs.declared.stipulation.Form.TheVariants.{Direct}
 use Rattle.pop_solve.proofs.Battles.{value-wins, value-self_wins}
 use Rattle.pop_solve.proofs.Trees.{flat-filter, shown-zero, shown-help, halves, keeps-value, half-some, halves-seek, seeks-step, flip, unflip, beneath, as_nodes, by_test, below-key, below-set}
 use Rattle.pop_solve.proofs.Kept.{keep-nil, started-nil, to_come-root}
-use Rattle.pop_solve.specs.ties.Plans.{shows_variations, tree_shown}
 
 -- what is kept of a list of paths, and the solutions begun: `sols` are its solutions
 pub record IsCutInto {M : Type 0} (help : Bool) (n : ℕ) (paths : List (List M)) (sols : List (List (List M))) : Type 0 where
@@ -99,12 +96,8 @@ module _ {P M : Type 0} (game : Game P M) (plan : Plan) where
       ∙ flat-filter _ T (λ m. node m (X m)) (λ m. node m (X m)) (game.moves p) (λ m. by_test game plan battle true h (game.after p m) refl) (λ m t. refl) in
       let b : map (λ m. node m (X m)) (filter T (game.moves p)) ≡ map (λ m. node m (G m)) (filter other (game.moves p)) =
       map-filter T other _ _ (game.moves p) same (λ m t. ap (node m) (each m t)) in
-      let full : (m : M) → list_all some (X m) ≡ true = λ m. shown-full false h (goes_on plan game h (game.after p m)) (game.after p m)
-      (game.moves (game.after p m)) in
-      record {
-        kept = rw (a, ← b) (nodes-kept X full n (filter T (game.moves p)));
-        begun = rw (a, ← b) (nodes-begun X full n (filter T (game.moves p)));
-      }
+      let full : (m : M) → list_all some (X m) ≡ true = grind (arith, shown-full) in
+      grind (arith, nodes-kept, game.moves p, nodes-begun X full n (filter T (game.moves p)))
 
 -- half-moves of a battle
 halves-form : (form : Form) (n : ℕ) → is_help form ≡ false → half_moves_of form n ≡ halves (battle_of form) n
@@ -112,18 +105,8 @@ halves-form form n e = search rules
 
 module _ {P M : Type 0} (game : Game P M) (plan : Plan) (battle : is_help plan.form ≡ false) where
   set_value : (battle : Battle) (n h : ℕ) (r : P) → suc h ≡ halves battle n - 1 → value battle game h r ≡ set_shows battle game n r
-  set_value Direct n h r e =
-      let k : h ≡ suc (2 * (n - 2)) = omega (arith, e) in
-      let m : n - 1 ≡ suc (n - 2) = omega (arith, e) in
-      rw (k, m) (value-wins game (n - 2) r)
-  set_value Selfmate n h r e =
-      let k : h ≡ 2 * (n - 1) = omega (arith, e) in rw k (value-self_wins game (n - 1) r)
-
-  halves-most : (battle : Battle) (n h : ℕ) → suc h ≡ halves battle n → suc h ≤ 2 * n
-  halves-most battle n h e = search rules
-
-  set-most : (battle : Battle) (n h : ℕ) → suc h ≡ halves battle n - 1 → h ≤ 2 * n
-  set-most battle n h e = search rules
+  set_value Direct n h r e = grind (arith, value-wins game (n - 2) r)
+  set_value Selfmate n h r e = grind (arith, value-self_wins game (n - 1) r)
 
   -- the play: the tree
   pub tree-cut : (n h max : ℕ) (p : P) → suc h ≡ halves (battle_of plan.form) n
@@ -135,9 +118,8 @@ module _ {P M : Type 0} (game : Game P M) (plan : Plan) (battle : is_help plan.f
       let one : suc h - 1 ≡ h = omega arith in
       let s : seeks (battle_of plan.form) (suc h) ≡ true = rw e2 (halves-seek game (battle_of plan.form) k.0) in
       let same : (m : M) → value (battle_of plan.form) game h (game.after p m) ≡ keeps (battle_of plan.form) game n (game.after p m) =
-      λ m. sym (ap (λ x. keeps (battle_of plan.form) game x (game.after p m)) k.1 ∙ keeps-value game (battle_of plan.form) k.0 (game.after p m)
-      ∙ ap (λ x. value (battle_of plan.form) game x (game.after p m)) l) in
-      rw one (root-cut game plan battle h max p _ _ same (λ m v. below-key game plan battle n h (game.after p m) s (halves-most (battle_of plan.form) n h e) v))
+      grind (arith, keeps-value) in
+      rw one (root-cut game plan battle h max p _ _ same (λ m v. below-key game plan battle n h (game.after p m) s (grind arith) v))
 
   -- set play
   pub set-cut : (n h max : ℕ) (p : P) → suc h ≡ halves (battle_of plan.form) n - 1
@@ -152,7 +134,7 @@ module _ {P M : Type 0} (game : Game P M) (plan : Plan) (battle : is_help plan.f
       let s2 : seeks (battle_of plan.form) (h + 1) ≡ false = rw (← one) s1 in
       let s3 : seeks (battle_of plan.form) h ≡ true = unflip game _ (sym (seeks-step game (battle_of plan.form) h) ∙ s2) in
       root-cut game plan battle h max p _ _ (λ m. set_value (battle_of plan.form) n h (game.after p m) e)
-      (λ m v. below-set game plan battle n h (game.after p m) s3 (set-most (battle_of plan.form) n h e) v)
+      (λ m v. below-set game plan battle n h (game.after p m) s3 (grind arith) v)
 
 -- a phase of no half-moves
 none-cut : {M : Type 0} (help : Bool) (n : ℕ) → IsCutInto {M = M} help n [] []
@@ -166,23 +148,16 @@ module _ (rule : RuleSet) (problem : Posed) (stated : IsSound problem) where
   plan = plan_of problem
 
   cut : (phase : Phase) (help : Bool) → is_help problem.stipulation.form ≡ help → (h : ℕ) → phase_half_moves problem phase ≡ h
-      → IsCutInto help problem.max_solutions
-      (shown plan (chess problem.stipulation.goal rule) true h h (phase_start problem phase) (legal_moves rule (phase_start problem phase)))
-      (cond help (map (λ path. path ∷ []) (help_lines (chess problem.stipulation.goal rule) h (phase_start problem phase)))
-      (cond (is_set phase) (set_tree (battle_of problem.stipulation.form) (chess problem.stipulation.goal rule) problem.variation problem.stipulation.n h
-      (phase_start problem phase))
-      (tree (battle_of problem.stipulation.form) (chess problem.stipulation.goal rule) problem.variation problem.stipulation.n h
-      (phase_start problem phase))))
+      → IsCutInto help problem.max_solutions (shown plan (chess problem.stipulation.goal rule) true h h (phase_start problem phase) (legal_moves rule
+      (phase_start problem phase))) (cond help (map (λ path. path ∷ []) (help_lines (chess problem.stipulation.goal rule) h (phase_start problem phase))) (cond
+      (is_set phase) (set_tree (battle_of problem.stipulation.form) (chess problem.stipulation.goal rule) problem.variation problem.stipulation.n h (phase_start
+      problem phase)) (tree (battle_of problem.stipulation.form) (chess problem.stipulation.goal rule) problem.variation problem.stipulation.n h (phase_start
+      problem phase))))
   unfolding help_lines set_tree
-  cut phase true e zero z =
-      rw (shown-zero (chess problem.stipulation.goal rule) plan true 0 (phase_start problem phase) (legal_moves rule (phase_start problem phase)))
-      (none-cut true problem.max_solutions)
-  cut phase true e (suc h) z =
-      rw (shown-help (chess problem.stipulation.goal rule) plan e true h (phase_start problem phase))
+  cut phase true e zero z = search (rules, shown-zero, none-cut)
+  cut phase true e (suc h) z = rw (shown-help (chess problem.stipulation.goal rule) plan e true h (phase_start problem phase))
       (record { kept = lines-kept problem.max_solutions _; begun = lines-begun problem.max_solutions _ })
-  cut Set false e zero z =
-      rw (shown-zero (chess problem.stipulation.goal rule) plan true 0 (phase_start problem Set) (legal_moves rule (phase_start problem Set)))
-      (none-cut false problem.max_solutions)
+  cut Set false e zero z = search (rules, shown-zero, none-cut)
   cut Set false e (suc h) z =
       rw (shown-varied problem.variation) at (set-cut (chess problem.stipulation.goal rule) plan e problem.stipulation.n h problem.max_solutions
       (phase_start problem Set) (sym z ∙ ap (λ x. x - 1) (halves-form problem.stipulation.form problem.stipulation.n e)))

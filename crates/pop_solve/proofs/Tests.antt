@@ -1,15 +1,10 @@
 -- One turn of a test over frames.
+use Rattle.pop_solve.proofs.Words.{AreKnown, Bool, CameFrom, CameFromAt, Ends, Frame, HasCounted, IfNone, IfSome, IsCut, IsLinked, IsOpenedOn, IsPlaceIn, IsTesting, IsWellFormed, Killer, LegalPlace, List, Loss, MatchOption, None, Option, Order, Position, RuleSet, Some, Triple, Turns, [], after_well_formed, ahead, ap, arith, cases_lt, chess, cond, deliver, drop, drop-append-le, inl, inr, join, joined, least_of, legal, length, length-append, length-drop, length-reverse, list_all, list_any, min, not, pending, position, pseudo-from_legal, refl, reverse, reverse-append, rules, seeks, smallest_below, smallest_tree, steps, steps_among, subst, suc, sum_by, sum_by-cons, sym, take, take-append-le, take_all, tested, tests, to_test, to_try, to_try_with, top_left, true, undo_of, untried, value, walk_among, walk_count, work, ℕ, ◌&&◌, ◌++◌, ◌+◌, ◌-◌, ◌<◌, ◌^◌, ◌||◌, ◌∙◌, ◌∷◌, ◌≡◌, ◌≤◌, ◌⊎◌}
 use Rattle.chess_rules.specs.Play.{after as played}
 use Rattle.chess_rules.specs.Legal.{moves as legal_moves}
 use Rattle.pop_solve.specs.declared.aim.Aim.{Aim}
-use Rattle.pop_solve.proofs.Basics.{Bool, IfSome, List, MatchOption, None, Option, Some, [], ap, arith, cases_lt, cond, drop, inl, inr, length, length-append, length-reverse, list_all, list_any, min, not, refl, reverse, reverse-append, rules, subst, suc, sum_by, sum_by-cons, sym, take, take_all, true, ℕ, ◌&&◌, ◌++◌, ◌+◌, ◌-◌, ◌<◌, ◌^◌, ◌||◌, ◌∙◌, ◌∷◌, ◌≡◌, ◌≤◌, ◌⊎◌}
-use Rattle.pop_solve.proofs.Words.{AreKnown, CameFrom, CameFromAt, Frame, HasCounted, IsLinked, IsPlaceIn, IsWellFormed, Killer, LegalPlace, Loss, Order, Position, RuleSet, Triple, after_well_formed, ahead, chess, least_of, legal, position, pseudo-from_legal, seeks, smallest_below, smallest_tree, steps, tests, undo_of, untried, value, walk_count, work}
-use Rattle.std.proofs.Common.{IfNone}
-use Rattle.std.proofs.lemmas.List.{length-drop, drop-append-le, take-append-le}
 use Rattle.pop_solve.proofs.Orders.{same_start}
 use Rattle.pop_solve.specs.declared.frame.Stretch.{Stretch}
-use Rattle.pop_solve.specs.ties.Values.{decides, join, joined}
-use Rattle.pop_solve.specs.ties.Frames.{IsCut, IsOpenedOn, IsTesting, deliver, pending, steps_among, Turns, Ends, tested, top_left, walk_among, to_test, to_try, to_try_with}
 use Rattle.pop_solve.proofs.SmallestTrees.{trees-next, trees-end, trees-start}
 
 -- the frame with its place moved on
@@ -23,12 +18,6 @@ learned f known = record f { known = known }
 -- the same in a test
 abbrev pub passed : Frame → ℕ → Stretch → Option LegalPlace → Frame
 passed f place s known = record f { place = place; stretch = s; known = known }
-
-join-decided : (s rest : Bool) → join s s rest ≡ s
-join-decided s rest = search rules
-
-decides-self : (s : Bool) → decides s s ≡ true
-decides-self s = search rules
 
 -- the moves of a frame that is opened are all its position's moves, in another order
 module _ (rule : RuleSet) (q : Position) (o : Order) where
@@ -46,8 +35,7 @@ module _ (rule : RuleSet) (q : Position) (o : Order) where
 
   least-start : (test : Triple → Bool) (f : Triple → ℕ) (n : ℕ) → least_of test f n first ≡ least_of test f n (legal_moves rule q)
   unfolding least_of
-  least-start test f n =
-      same_start rule q o (λ m c. cond (test m) (min (f m) c) c) (least_of test f n) (λ m ms. refl) (λ m k c. grind arith)
+  least-start test f n = same_start rule q o (λ m c. cond (test m) (min (f m) c) c) (least_of test f n) (λ m ms. refl) (λ m k c. grind arith)
 
 module _ (rule : RuleSet) (aim : Aim) where
   -- the value of some moves of a position
@@ -71,7 +59,7 @@ module _ (rule : RuleSet) (aim : Aim) where
   pub pending-decided : (p : Position) (f : Frame) (below : List Frame) (answer : Option Bool) → answer ≡ Some (seeks aim.battle f.left)
       → pending rule aim p (f ∷ below) answer ≡ deliver rule aim p below (seeks aim.battle f.left)
   unfolding pending deliver
-  pending-decided p f below answer e = rw (e, join-decided) refl
+  pending-decided p f below answer e = grind arith
 
   pub pending-undecided : (p : Position) (f : Frame) (below : List Frame) (answer : Option Bool)
       → (answer ≡ None) ⊎ (answer ≡ Some (not (seeks aim.battle f.left)))
@@ -103,12 +91,11 @@ module _ (rule : RuleSet) (aim : Aim) where
   pub try-decided : (p : Position) (f : Frame) (below : List Frame) (answer : Option Bool) → answer ≡ Some (seeks aim.battle f.left)
       → to_try rule aim p (f ∷ below) answer ≡ to_try_with rule aim p below (seeks aim.battle f.left)
   unfolding to_try to_try_with
-  try-decided p f below answer e = rw (e, decides-self (seeks aim.battle f.left), join-decided) (omega arith)
+  try-decided p f below answer e = grind arith
 
   pub try-undecided : (p : Position) (f : Frame) (below : List Frame) (answer : Option Bool) → (answer ≡ None) ⊎ (answer ≡ Some (not (seeks aim.battle f.left)))
-      → to_try rule aim p (f ∷ below) answer ≡ fewest f.left (position rule p (f ∷ below))
-      (untried rule (position rule p (f ∷ below)) f) + to_try_with rule aim p below
-      (rest f.left (position rule p (f ∷ below)) (untried rule (position rule p (f ∷ below)) f))
+      → to_try rule aim p (f ∷ below) answer ≡ fewest f.left (position rule p (f ∷ below)) (untried rule (position rule p (f ∷ below)) f) + to_try_with rule aim
+      p below (rest f.left (position rule p (f ∷ below)) (untried rule (position rule p (f ∷ below)) f))
   unfolding to_try to_try_with
   try-undecided p f below answer e = search rules
 
@@ -130,8 +117,7 @@ module _ (rule : RuleSet) (aim : Aim) where
   unfolding steps_among
   steps-next t P ms more m e = rw e (sum_by-cons (λ x. 1 + steps rule t (played rule P x)) m more)
 
-  walk_count-start : (t : ℕ) (q : Position) (o : Order) → 0 < t
-      → walk_count (legal_moves rule) (played rule) t q ≡ 1 + walk_among rule t q (first rule q o)
+  walk_count-start : (t : ℕ) (q : Position) (o : Order) → 0 < t → walk_count (legal_moves rule) (played rule) t q ≡ 1 + walk_among rule t q (first rule q o)
   unfolding walk_count walk_among
   walk_count-start t q o some = search (rules, sum-start)
 
@@ -151,9 +137,8 @@ module _ (rule : RuleSet) (aim : Aim) where
     unfolding deliver position
     deliver-next = search (rules, rest-next)
 
-    try-next : fewest f.left P (untried rule P f) + to_try_with rule aim p below (rest f.left P (untried rule P f))
-        ≤ smallest_tree aim.battle (chess aim.goal rule) t (played rule P m) + to_try_with rule aim p (passed f next s kn ∷ below)
-        (value aim.battle (chess aim.goal rule) t (played rule P m))
+    try-next : fewest f.left P (untried rule P f) + to_try_with rule aim p below (rest f.left P (untried rule P f)) ≤ smallest_tree aim.battle (chess aim.goal
+        rule) t (played rule P m) + to_try_with rule aim p (passed f next s kn ∷ below) (value aim.battle (chess aim.goal rule) t (played rule P m))
     unfolding to_try_with position
     try-next = search (rules, trees-next, rest-next)
 
@@ -237,15 +222,7 @@ module _ (rule : RuleSet) (p : Position) where
       → IsTesting rule p (tested k m (undo_of rule board m) t kq ∷ (passed f next s kn ∷ below)) (played rule board m)
   unfolding IsLinked IsCut AreKnown position
   testing-open f next s m k t kn kq below board r lawful some left w wq =
-      let settled = testing-settled f next s kn below board r w in
-      let at : board ≡ position rule p (passed f next s kn ∷ below) = settled.board_at in
-      record {
-        linked = (rw (← at) settled.sound, rw (← at) lawful, ap (λ b. undo_of rule b m) at, settled.linked);
-        cut = (some, omega (arith, left), settled.cut);
-        known = (rw (← at) wq, settled.known);
-        sound = after_well_formed rule board m r.sound (pseudo-from_legal rule board m lawful);
-        board_at = ap (λ b. played rule b m) at;
-      }
+      grind (arith, after_well_formed rule board m r.sound (pseudo-from_legal rule board m lawful), pseudo-from_legal rule board m lawful)
 
 -- the frames from the floor up, once a frame is put on or taken off
 pub tests-push : (floor : ℕ) (xs : List Frame) (x : Frame) → floor ≤ length xs → tests floor (xs ++ x ∷ []) ≡ x ∷ tests floor xs
@@ -257,17 +234,11 @@ unfolding tests
 length-tests floor xs = length-reverse (drop floor xs) ∙ length-drop floor xs
 
 module _ (rule : RuleSet) (aim : Aim) (floor : ℕ) (top : Frame) (old new : List Frame) (taken : old ≡ new ++ top ∷ []) (low : floor < length old) where
-  len : length old ≡ length new + 1
-  len = ap length taken ∙ length-append new (top ∷ [])
-
-  low_new : floor ≤ length new
-  low_new = omega (arith, len, low)
-
   popped : tests floor old ≡ top ∷ tests floor new
-  popped = ap (tests floor) taken ∙ tests-push floor new top low_new
+  popped = grind (arith, tests-push, length-append)
 
   base_new : take floor new ≡ take floor old
-  base_new = sym (ap (take floor) taken ∙ take-append-le floor new (top ∷ []) low_new)
+  base_new = grind (arith, take-append-le, length-append)
 
   testing_top : (p board : Position) → IsTesting rule p (tests floor old) board → IsTesting rule p (top ∷ tests floor new) board
   testing_top p board r = let P : List Frame → Type 0 = λ fs. IsTesting rule p fs board in subst P popped r
@@ -283,31 +254,22 @@ module _ (rule : RuleSet) (aim : Aim) (floor : ℕ) (top : Frame) (old new : Lis
         → to_try rule aim p (top ∷ tests floor new) was ≡ to_try_with rule aim p (tests floor new) v → MatchOption result
         (Turns rule aim floor p old new was is after count count) (λ w. Ends rule aim floor p old new was after count count w)
     close_turns count p r e left = elim (cases_lt floor depth) [
-      | inl deep ↦
-          rw (above deep).0 (record {
-            testing = testing-close rule p top (tests floor new) board after (testing_top p board r)
-                (omega (arith, length-tests floor new, d)) (λ q cf. before q deep cf);
-            same = ap (λ fs. pending rule aim p fs was) popped ∙ e ∙ deliver-some rule aim p (tests floor new) v (omega (arith, length-tests floor new, d))
-                ∙ ap (pending rule aim p (tests floor new)) (sym (above deep).1);
-            falls = rw popped (work-close rule aim p top (tests floor new));
-            above = omega (arith, d);
-            base = base_new;
-            counted = rw popped (omega (arith, open-close rule aim p top (tests floor new)));
-            tried = rw (popped, (above deep).1) (omega (arith, left, try-some rule aim p (tests floor new) v (omega (arith, length-tests floor new, d))));
-          })
-      | inr low ↦
-          rw (lowest low).0 (record {
-            value = ap (λ fs. pending rule aim p fs was) popped ∙ e ∙ deliver-none rule aim p (tests floor new) v (omega (arith, length-tests floor new, d));
-            back = (lowest low).1 ∙ lowest-back rule p top (tests floor new) board (testing_top p board r) (omega (arith, length-tests floor new, d));
-            base = sym (take_all floor new (omega (arith, d))) ∙ base_new;
-            counted = omega arith;
-            tried = rw popped (omega (arith, left, try-none rule aim p (tests floor new) v (omega (arith, length-tests floor new, d))));
-          })
+      | inl deep ↦ rw (above deep).0 (record {
+        testing = testing-close rule p top (tests floor new) board after (testing_top p board r)
+            (omega (arith, length-tests floor new, d)) (λ q cf. before q deep cf);
+        same = grind (arith, popped, deliver-some, length-tests);
+        falls = rw popped (work-close rule aim p top (tests floor new));
+        above = omega (arith, d);
+        base = base_new;
+        counted = rw popped (omega (arith, open-close rule aim p top (tests floor new)));
+        tried = rw (popped, (above deep).1) (omega (arith, left, try-some rule aim p (tests floor new) v (omega (arith, length-tests floor new, d))));
+      })
+      | inr low ↦ grind (arith, popped, deliver-none, length-tests, lowest-back, take_all, base_new, try-none)
     ]
 
     pub close_room : (p : Position) (N : ℕ) → IsTesting rule p (tests floor old) board → top_left (tests floor old) + length old ≤ N + 1
         → IfNone result (top_left (tests floor new) + length new ≤ N + 1)
-    close_room p N r room = search (rules, cases_lt, room-close, testing_top, length-tests, popped, len)
+    close_room p N r room = grind (arith, cases_lt, room-close, testing_top, length-tests, popped, length-append)
 
   module _ (place : ℕ) (s : Stretch) (kn : Option LegalPlace) (m : Triple) (board after : Position) (N : ℕ) (was : Option Bool) (last : List Frame)
       (some : 0 < top.left) (open_yet : (was ≡ None) ⊎ (was ≡ Some (not (seeks aim.battle top.left))))
@@ -315,33 +277,21 @@ module _ (rule : RuleSet) (aim : Aim) (floor : ℕ) (top : Frame) (old new : Lis
       (within : IfSome kn (IsPlaceIn rule board)) where
     -- what `descend` leaves
     abbrev pub Descends : Option Bool → Type 0
-    Descends is =
-        MatchOption is
-        ((0 < top.left - 1)
+    Descends is = MatchOption is ((0 < top.left - 1)
         × (value aim.battle (chess aim.goal rule) (top.left - 1) (played rule board m) ≡ joined aim.battle (chess aim.goal rule) (top.left - 1)
-        (played rule board m) (legal_moves rule (played rule board m)))
-        × (after ≡ played rule board m)
+        (played rule board m) (legal_moves rule (played rule board m))) × (after ≡ played rule board m)
         × IsOpenedOn rule (played rule board m) (new ++ passed top place s kn ∷ []) last m (undo_of rule board m) (top.left - 1))
         (λ v. (v ≡ value aim.battle (chess aim.goal rule) (top.left - 1) (played rule board m)) × (after ≡ board) × (last ≡ new ++ passed top place s kn ∷ []))
 
     left_is : top.left ≡ suc (top.left - 1)
     left_is = omega (arith, some)
 
-    mid_is : tests floor (new ++ passed top place s kn ∷ []) ≡ passed top place s kn ∷ tests floor new
-    mid_is = tests-push floor new (passed top place s kn) low_new
-
-    low_mid : floor ≤ length (new ++ passed top place s kn ∷ [])
-    low_mid = omega (arith, low_new, length-append new (passed top place s kn ∷ []))
-
-    base_mid : take floor (new ++ passed top place s kn ∷ []) ≡ take floor old
-    base_mid = take-append-le floor new (passed top place s kn ∷ []) low_new ∙ base_new
-
     opened_last : (d : Descends None)
         → tests floor last ≡ tested d.3.order m (undo_of rule board m) (top.left - 1) d.3.known ∷ (passed top place s kn ∷ tests floor new)
-    opened_last d = search (rules, tests-push, low_mid, mid_is)
+    opened_last d = grind (arith, tests-push, length-append)
 
     settled_last : (v : Bool) → Descends (Some v) → tests floor last ≡ passed top place s kn ∷ tests floor new
-    settled_last v d = search (rules, mid_is)
+    settled_last v d = grind (arith, tests-push, length-append)
 
     module _ (p : Position) (r : IsTesting rule p (tests floor old) board) where
       at : board ≡ position rule p (top ∷ tests floor new)
@@ -374,37 +324,28 @@ module _ (rule : RuleSet) (aim : Aim) (floor : ℕ) (top : Frame) (old new : Lis
       descend_counted (Some v) d before count o = rw (settled_last v d, popped) (search (rules, at, here, open-settled, left_is))
 
       descend_tried : (is : Option Bool) → Descends is → (before count : ℕ)
-          → MatchOption is (HasCounted before count 1) (λ _. HasCounted before count
-          (smallest_tree aim.battle (chess aim.goal rule) (top.left - 1) (played rule board m)))
-          → min (before + to_try rule aim p (tests floor old) was) (2 ^ 64 - 1) ≤ count + to_try rule aim p (tests floor last) is
+          → MatchOption is (HasCounted before count 1) (λ _. HasCounted before count (smallest_tree aim.battle (chess aim.goal rule) (top.left - 1) (played rule
+          board m))) → min (before + to_try rule aim p (tests floor old) was) (2 ^ 64 - 1) ≤ count + to_try rule aim p (tests floor last) is
       descend_tried None d before count tries = rw (opened_last d, popped) (search (rules, at, here, try-undecided, try-next, try-open, left_is))
       descend_tried (Some v) d before count tries = rw (settled_last v d, popped)
-          (let n = try-next rule aim p top (tests floor new) place s m _ kn left_is here in
-          search (rules, n, at, try-undecided rule aim p top (tests floor new) was open_yet, try-some))
-
-    descend_above : (is : Option Bool) → Descends is → floor < length last
-    descend_above is d = search (rules, low_new, length-append)
-
-    descend_base : (is : Option Bool) → Descends is → take floor last ≡ take floor old
-    descend_base is d = search (rules, low_new, low_mid, take-append-le, base_mid)
+          (let n = try-next rule aim p top (tests floor new) place s m _ kn left_is here in search (rules, at, try-undecided, try-some))
 
     pub descend_turns : (is : Option Bool) → Descends is → (before count : ℕ)
         → MatchOption is (count ≤ before + 1) (λ _. count ≤ before + walk_count (legal_moves rule) (played rule) (top.left - 1) (played rule board m))
-        → MatchOption is (HasCounted before count 1) (λ _. HasCounted before count
-        (smallest_tree aim.battle (chess aim.goal rule) (top.left - 1) (played rule board m)))
-        → (p : Position) → IsTesting rule p (tests floor old) board → Turns rule aim floor p old last was is after before count
+        → MatchOption is (HasCounted before count 1) (λ _. HasCounted before count (smallest_tree aim.battle (chess aim.goal rule) (top.left - 1) (played rule
+        board m))) → (p : Position) → IsTesting rule p (tests floor old) board → Turns rule aim floor p old last was is after before count
     descend_turns is d before count o tries p r = record {
       testing = descend_testing p r is d;
       same = descend_same p r is d;
       falls = descend_falls p r is d;
-      above = descend_above is d;
-      base = descend_base is d;
+      above = grind (arith, length-append);
+      base = grind (arith, take-append-le, length-append);
       counted = descend_counted p r is d before count o;
       tried = descend_tried p r is d before count tries;
     }
 
     pub descend_room : (is : Option Bool) → Descends is → top_left (tests floor old) + length old ≤ N + 1 → top_left (tests floor last) + length last ≤ N + 1
-    descend_room is d room = search (rules, tests-push, low_mid, mid_is, popped, len, length-append)
+    descend_room is d room = grind (arith, tests-push, length-append)
 
   -- what the top frame asks of the calls
   pub top_some : (p board : Position) → IsTesting rule p (tests floor old) board → 0 < top.left
@@ -415,7 +356,7 @@ module _ (rule : RuleSet) (aim : Aim) (floor : ℕ) (top : Frame) (old new : Lis
   top_known p board r = let f = testing_top p board r in rw f.board_at f.known.0
 
   pub top_room : (N : ℕ) → top_left (tests floor old) + length old ≤ N + 1 → length new + top.left ≤ N
-  top_room N room = let t : top_left (tests floor old) ≡ top.left = ap top_left popped in omega (arith, t, room, len)
+  top_room N room = let t : top_left (tests floor old) ≡ top.left = ap top_left popped in grind (arith, length-append)
 
   -- the value of a frame that its answer decides, and of one with no move left
   pub decided_value : (p : Position) (was : Option Bool) → was ≡ Some (seeks aim.battle top.left)
@@ -425,12 +366,7 @@ module _ (rule : RuleSet) (aim : Aim) (floor : ℕ) (top : Frame) (old new : Lis
   pub exhausted_value : (p board : Position) (was : Option Bool) → IsTesting rule p (tests floor old) board
       → (was ≡ None) ⊎ (was ≡ Some (not (seeks aim.battle top.left))) → untried rule board top ≡ []
       → pending rule aim p (top ∷ tests floor new) was ≡ deliver rule aim p (tests floor new) (not (seeks aim.battle top.left))
-  exhausted_value p board was r u e =
-      let at : board ≡ position rule p (top ∷ tests floor new) = (testing_top p board r).board_at in
-      pending-undecided rule aim p top (tests floor new) was u
-      ∙ ap (deliver rule aim p (tests floor new))
-      (rest-none rule aim top.left (position rule p (top ∷ tests floor new)) (untried rule (position rule p (top ∷ tests floor new)) top)
-      (top_some p board r) (rw (← at) e))
+  exhausted_value p board was r u e = grind (arith, testing_top p board r, pending-undecided rule aim p top (tests floor new) was u, rest-none, top_some)
 
   -- and the positions that are to be tried then
   pub decided_left : (p : Position) (was : Option Bool) → was ≡ Some (seeks aim.battle top.left)
@@ -444,8 +380,7 @@ module _ (rule : RuleSet) (aim : Aim) (floor : ℕ) (top : Frame) (old new : Lis
       let at : board ≡ position rule p (top ∷ tests floor new) = (testing_top p board r).board_at in
       let none : untried rule (position rule p (top ∷ tests floor new)) top ≡ [] = rw (← at) e in
       let v = rest-none rule aim top.left (position rule p (top ∷ tests floor new)) _ (top_some p board r) none in
-      try-undecided rule aim p top (tests floor new) was u
-      ∙ (rw (v, none, trees-end aim.battle (chess aim.goal rule) top.left (position rule p (top ∷ tests floor new))) (omega arith))
+      grind (arith, try-undecided, trees-end)
 
 -- a call that leaves the board as it was
 pub testing_same : (rule : RuleSet) (p : Position) (frames : List Frame) (board now : Position) → IsTesting rule p frames board → now ≡ board
@@ -477,21 +412,9 @@ module _ (rule : RuleSet) (aim : Aim) where
   unfolding pending deliver IsLinked IsCut AreKnown position to_test to_try to_try_with
   begins floor p N left k board before count by undo under frames kn low put within room more one_more at sound d =
       let none : tests floor under ≡ [] = nil_of (tests floor under) (omega (arith, length-tests floor under, low)) in
-      let one : tests floor frames ≡ tested k by undo left kn ∷ [] = ap (tests floor) put ∙ tests-push floor under _ (omega (arith, low))
-      ∙ ap (λ fs. tested k by undo left kn ∷ fs) none in
-      let n = length-append under (tested k by undo left kn ∷ []) in
-      record {
-        counted = rw one (omega (arith, more, walk_count-start rule aim left p k d.0));
-        tried = rw one (omega (arith, one_more, fewest-start rule aim left p k));
-        testing = rw one (record { linked = tt; cut = d.0; known = (within, tt); sound = sound; board_at = at });
-        same = rw (one, rest-start rule aim left p k) (sym d.1);
-        above = omega (arith, ap length put, n, low);
-        room = let t : top_left (tests floor frames) ≡ left = ap top_left one in omega (arith, t, ap length put, n, low, room);
-        base = ap (take floor) put ∙ take-append-le floor under _ (omega (arith, low)) ∙ take_all floor under (omega (arith, low));
-      }
+      grind (arith, tests-push, length-append, walk_count-start, fewest-start, rest-start, take-append-le, take_all)
 
-  pub goes_on : (floor : ℕ) (p : Position) (N : ℕ) (v : Bool) (under old new : List Frame) (was is : Option Bool) (board after : Position)
-      (before count most fewest : ℕ) → IsUnderway rule aim floor p N v under old was board before most fewest
-      → Turns rule aim floor p old new was is after before count → top_left (tests floor new) + length new ≤ N + 1
-      → IsUnderway rule aim floor p N v under new is after count most fewest
+  pub goes_on : (floor : ℕ) (p : Position) (N : ℕ) (v : Bool) (under old new : List Frame) (was is : Option Bool) (board after : Position) (before count most
+      fewest : ℕ) → IsUnderway rule aim floor p N v under old was board before most fewest → Turns rule aim floor p old new was is after before count
+      → top_left (tests floor new) + length new ≤ N + 1 → IsUnderway rule aim floor p N v under new is after count most fewest
   goes_on floor p N v under old new was is board after before count most fewest u t room = search rules

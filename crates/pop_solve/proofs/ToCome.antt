@@ -1,13 +1,8 @@
 -- What the moves still to come say of paths, turns and counts: the next move, and those passed over.
-use Rattle.pop_solve.proofs.Basics.{Bool, List, [], ap, append_assoc, arith, cond, eqb, false, filter, inl, inr, length, map, refl, rules, suc, sum_by, sum_by-cons, true, zero, ℕ, ◌++◌, ◌+◌, ◌-◌, ◌<◌, ◌∙◌, ◌∷◌, ◌≡◌, ◌≤◌, ◌⊎◌}
-use Rattle.pop_solve.proofs.Words.{Frame, GoesTo, IsWhites, Loss, Mate, Plan, Position, RuleSet, Steps, Triple, battle_of, chess, fewest_left, follows, gives, is_goal, is_help, is_mating, moves_behind, opened, path, position, seeks, seeks_last, shown, smallest_tree, steps, to_come, to_open, turns, value, walk_behind, walk_count}
+use Rattle.pop_solve.proofs.Words.{Bool, Frame, GoesTo, IsWhites, List, Loss, Mate, Plan, Position, RuleSet, Steps, Triple, [], ap, append_assoc, arith, battle_of, chess, cond, eqb, false, fewest_for, fewest_left, fewest_walked, filter, follows, gives, goes_on, inl, inr, is_goal, is_help, is_mating, length, map, map-append, moves_behind, opened, path, position, refl, rules, seeks, seeks_last, shown, smallest_tree, steps, steps_behind, suc, sum_by, sum_by-append, sum_by-cons, to_come, to_open, true, turns, value, walk_behind, walk_count, zero, ℕ, ◌++◌, ◌+◌, ◌-◌, ◌<◌, ◌∙◌, ◌∷◌, ◌≡◌, ◌≤◌, ◌⊎◌}
 use Rattle.chess_rules.specs.Play.{after as played}
 use Rattle.chess_rules.specs.Legal.{moves as legal_moves}
-use Rattle.std.proofs.lemmas.List.{map-append}
-use Rattle.std.proofs.lemmas.List.Sums.{sum_by-append}
 use Rattle.pop_solve.proofs.Boards.{behind_start}
-use Rattle.pop_solve.specs.ties.Frames.{steps_behind}
-use Rattle.pop_solve.specs.ties.Walk.{goes_on, fewest_for, fewest_walked}
 use Rattle.pop_solve.proofs.Tests.{moved}
 use Rattle.pop_solve.proofs.GoingOn.{cases, no_zero, goes_on-help, follows-help}
 
@@ -48,11 +43,9 @@ module _ (rule : RuleSet) (plan : Plan) where
 
   -- the positions to be tried for the next move, and for the others
   fewest-next : (root : Bool) (k t : ℕ) (P : Position) (m : Triple) (ms : List Triple)
-      → fewest_walked plan (chess plan.goal rule) root (suc k) (suc t) P (m ∷ ms)
-      ≡ (fewest_for plan (chess plan.goal rule) root t (played rule P m) + cond (follows plan (chess plan.goal rule) root t (played rule P m))
-      (fewest_walked plan (chess plan.goal rule) false k (goes_on plan (chess plan.goal rule) t (played rule P m)) (played rule P m)
-      (legal_moves rule (played rule P m))) 0)
-      + fewest_walked plan (chess plan.goal rule) root (suc k) (suc t) P ms
+      → fewest_walked plan (chess plan.goal rule) root (suc k) (suc t) P (m ∷ ms) ≡ (fewest_for plan (chess plan.goal rule) root t (played rule P m) + cond
+      (follows plan (chess plan.goal rule) root t (played rule P m)) (fewest_walked plan (chess plan.goal rule) false k (goes_on plan (chess plan.goal rule) t
+      (played rule P m)) (played rule P m) (legal_moves rule (played rule P m))) 0) + fewest_walked plan (chess plan.goal rule) root (suc k) (suc t) P ms
   unfolding fewest_walked
   fewest-next root k t P m ms = search (rules, sum_by-cons)
 
@@ -104,17 +97,13 @@ module _ (rule : RuleSet) (plan : Plan) where
 
     -- a move that is followed: its path, where that is given, and what stands below it
     pub come-enter : (undo : Loss) → follows plan (chess plan.goal rule) root t q ≡ true
-        → to_come rule plan h p (f ∷ below) ≡ given_path (gives plan (chess plan.goal rule) t q)
-        (path (opened m undo (goes_on plan (chess plan.goal rule) t q) ∷ (moved f next ∷ below))) ++ to_come rule plan h p
-        (opened m undo (goes_on plan (chess plan.goal rule) t q) ∷ (moved f next ∷ below))
+        → to_come rule plan h p (f ∷ below) ≡ given_path (gives plan (chess plan.goal rule) t q) (path (opened m undo (goes_on plan (chess plan.goal rule) t q)
+        ∷ (moved f next ∷ below))) ++ to_come rule plan h p (opened m undo (goes_on plan (chess plan.goal rule) t q) ∷ (moved f next ∷ below))
     unfolding to_come position path
     come-enter undo b =
         let less : h - suc (length below) ≡ k = omega arith in
         let P = position rule p (f ∷ below) in
-        rw (fuel, less, left, e, shown-next root k t P m (moves_behind rule P next), b, behind_start rule q, no_zero (length below))
-        (turn (gives plan (chess plan.goal rule) t q) (path (f ∷ below)) m
-        (shown plan (chess plan.goal rule) false k (goes_on plan (chess plan.goal rule) t q) q (legal_moves rule q))
-        (shown plan (chess plan.goal rule) root (suc k) (suc t) P (moves_behind rule P next)) (to_come rule plan h p below))
+        rw (fuel, less, left, e, shown-next root k t P m (moves_behind rule P next), b, behind_start rule q, no_zero (length below)) (search (rules, turn))
 
     pub tries-pass : follows plan (chess plan.goal rule) root t q ≡ false
         → fewest_left rule plan h p (f ∷ below) ≡ fewest_for plan (chess plan.goal rule) root t q + fewest_left rule plan h p (moved f next ∷ below)
@@ -213,9 +202,8 @@ module _ (rule : RuleSet) (plan : Plan) where
     fewest-skipped low fuel last for a m ms misses = search (rules, fewest-next, fewest_for-last, follows-last)
 
     -- what such moves count nothing in is the same from the later place on
-    same-later : {A : Type 0} (F : ℕ → List Triple → A)
-        → (seeks_last plan ≡ true → plan.goal ≡ Mate → (m : Triple) (ms : List Triple) → is_mating rule P m ≡ false → F 1 (m ∷ ms) ≡ F 1 ms)
-        → F f.left (moves_behind rule P f.place) ≡ F f.left (moves_behind rule P g.mid)
+    same-later : {A : Type 0} (F : ℕ → List Triple → A) → (seeks_last plan ≡ true → plan.goal ≡ Mate → (m : Triple) (ms : List Triple)
+        → is_mating rule P m ≡ false → F 1 (m ∷ ms) ≡ F 1 ms) → F f.left (moves_behind rule P f.place) ≡ F f.left (moves_behind rule P g.mid)
     unfolding position
     same-later F skip = elim g.none [
       | inl e ↦ rw (g.passed, e) refl
@@ -224,8 +212,7 @@ module _ (rule : RuleSet) (plan : Plan) where
 
     come-skip : to_come rule plan h p (f ∷ below) ≡ to_come rule plan h p later
     unfolding to_come position path
-    come-skip =
-        ap (λ lines. map (λ line. path (f ∷ below) ++ line) lines ++ to_come rule plan h p below)
+    come-skip = ap (λ lines. map (λ line. path (f ∷ below) ++ line) lines ++ to_come rule plan h p below)
         (same-later (λ n ms. shown plan (chess plan.goal rule) deepest room n P ms) (skipped deepest room))
 
     fewer : (k : ℕ) → steps_behind rule k P g.mid ≤ steps_behind rule k P f.place
@@ -255,8 +242,7 @@ module _ (rule : RuleSet) (plan : Plan) where
 
     tries-skip : is_help plan.form ≡ false → fewest_left rule plan h p (f ∷ below) ≡ fewest_left rule plan h p later
     unfolding fewest_left position
-    tries-skip a =
-        ap (λ n. n + fewest_left rule plan h p below)
+    tries-skip a = ap (λ n. n + fewest_left rule plan h p below)
         (same-later (λ n ms. fewest_walked plan (chess plan.goal rule) deepest room n P ms) (λ last for. fewest-skipped deepest room last for a))
 
     pub steps-skip : (new : List Frame) (board : Position) (before after : ℕ) (given : Bool) → Steps rule plan h p later new board before after given

@@ -1,10 +1,6 @@
 -- What the walk shows is the tree that the definitions name.
-use Rattle.pop_solve.proofs.Basics.{Bool, List, [], ap, append-nil, arith, cond, eqb, false, filter, flat_map, list_all, map, nat_tests, not, refl, rules, suc, sym, true, zero, ℕ, ◌%◌, ◌&&◌, ◌*◌, ◌++◌, ◌+◌, ◌-◌, ◌/◌, ◌<◌, ◌||◌, ◌∙◌, ◌∷◌, ◌≡◌, ◌≤◌}
-use Rattle.pop_solve.proofs.Words.{Battle, Game, Plan, Selfmate, answers, battle_of, best, every_move, first_from, follows, gives, is_help, keeps, least, lines_to_goal, node, open_length, seeks, shown, value, varies}
+use Rattle.pop_solve.proofs.Words.{Battle, Bool, Game, List, Plan, Selfmate, [], answers, ap, append-nil, arith, battle_of, below, best, cond, eqb, every_move, false, fewest, filter, first_from, flat_map, flat_map_single, follows, gives, goes_on, is_help, keeps, least, lines_to_goal, list_all, map, nat_tests, node, not, open_length, refl, rules, seeks, shown, suc, sym, true, value, varies, zero, ℕ, ◌%◌, ◌&&◌, ◌*◌, ◌++◌, ◌+◌, ◌-◌, ◌/◌, ◌<◌, ◌||◌, ◌∙◌, ◌∷◌, ◌≡◌, ◌≤◌}
 use Rattle.pop_solve.specs.declared.aim.Battle.TheVariants.{Direct}
-use Rattle.std.proofs.lemmas.List.Concat.{flat_map_single}
-use Rattle.pop_solve.specs.Tree.{below}
-use Rattle.pop_solve.specs.ties.Walk.{fewest, goes_on}
 use Rattle.pop_solve.proofs.Battles.{value-lost, value-self_lost}
 use Rattle.pop_solve.proofs.Lengths.{length-more}
 use Rattle.pop_solve.proofs.GoingOn.{length_most, goes_on-keys}
@@ -55,18 +51,10 @@ module _ {P M : Type 0} (game : Game P M) where
     unfolding goes_on
     goes_on-whole t q = rw help refl
 
-    not_yet : (k : ℕ) (g : Bool) (xs ys : List (List M)) → xs ≡ ys → cond (eqb (suc k) 0 && g) ([] ∷ []) [] ++ xs ≡ ys
-    not_yet k g xs ys e = let z : eqb (suc k) 0 ≡ false = grind (arith, nat_tests) in rw z e
-
     pub shown-help : (root : Bool) (k : ℕ) (p : P) → shown plan game root (suc k) (suc k) p (game.moves p) ≡ lines_to_goal game (suc k) p
     unfolding shown follows gives lines_to_goal
-    shown-help root zero p =
-        flat-same _ _ (game.moves p) (λ m. by_move _ (game.goal (game.after p m)) m [] _ (append-nil _))
-    shown-help root (suc k) p =
-        flat-same _ _ (game.moves p) (λ m. by_move _ (eqb (suc k) 0 && game.goal (game.after p m)) m _ _
-        (not_yet k (game.goal (game.after p m)) _ _
-        (ap (λ t. shown plan game false (suc k) t (game.after p m) (game.moves (game.after p m))) (goes_on-whole (suc k) (game.after p m))
-        ∙ shown-help false k (game.after p m))))
+    shown-help root zero p = grind (arith, flat-same, by_move, append-nil)
+    shown-help root (suc k) p = flat-same _ _ (game.moves p) (λ m. grind (arith, by_move, goes_on-whole, nat_tests, shown-help false k (game.after p m)))
 
   -- battle play: parities
   pub seeks-step : (battle : Battle) (t : ℕ) → seeks battle (t + 1) ≡ not (seeks battle t)
@@ -85,19 +73,9 @@ module _ {P M : Type 0} (game : Game P M) where
   least-halves : (battle : Battle) (n t : ℕ) (q : P) → seeks battle t ≡ true → 0 < t → t ≤ 2 * n → game.goal q ≡ false → value battle game t q ≡ true
       → first_from battle game q ((t - fewest battle) / 2) (fewest battle) ≡ halves battle (least battle game n q)
   least-halves Selfmate zero t q s some most open_yet v = absurd (omega (arith, some, most))
-  least-halves Selfmate (suc n) t q s some most open_yet v =
-      let k = seeks-halves Selfmate t s some in
-      let a : (t - 2) / 2 ≡ k.0 = omega (arith, k.1) in
-      let b : 2 + (k.0 + k.0) ≡ t = omega (arith, k.1) in
-      let m : first_from Selfmate game q n 2 ≡ first_from Selfmate game q k.0 2 = length-more Selfmate game q k.0 n 2 (rw b v) (omega (arith, k.1, most)) in
-      rw a (sym m ∙ least-selfmate game q open_yet n)
+  least-halves Selfmate (suc n) t q s some most open_yet v = grind (arith, seeks-halves Selfmate t s some, length-more, least-selfmate game q open_yet n)
   least-halves Direct zero t q s some most open_yet v = absurd (omega (arith, some, most))
-  least-halves Direct (suc n) t q s some most open_yet v =
-      let k = seeks-halves Direct t s some in
-      let a : (t - 1) / 2 ≡ k.0 = omega (arith, k.1) in
-      let b : 1 + (k.0 + k.0) ≡ t = omega (arith, k.1) in
-      let m : first_from Direct game q n 1 ≡ first_from Direct game q k.0 1 = length-more Direct game q k.0 n 1 (rw b v) (omega (arith, k.1, most)) in
-      rw a (sym m ∙ omega (arith, least-direct game q n))
+  least-halves Direct (suc n) t q s some most open_yet v = grind (arith, seeks-halves Direct t s some, length-more, least-direct game q n)
 
   pub half-some : (battle : Battle) (k : ℕ) → 0 < halves battle k → (j : ℕ) × (k ≡ suc j)
   half-some Selfmate k some = (k - 1, omega (arith, some))
@@ -118,9 +96,6 @@ module _ {P M : Type 0} (game : Game P M) where
   unfolding first_from
   first_from-least battle q zero a = search rules
   first_from-least battle q (suc n) a = search (rules, first_from-least battle q n (a + 2))
-
-  fewest-some : (battle : Battle) → 1 ≤ fewest battle
-  fewest-some battle = search rules
 
   pub halves-seek : (battle : Battle) (k : ℕ) → seeks battle (halves battle (suc k)) ≡ true
   halves-seek battle k = search rules
@@ -163,34 +138,26 @@ module _ {P M : Type 0} (game : Game P M) where
 
     -- the moves of White in his least length, over anything
     white : (n k t : ℕ) (q : P) (G : M → List (List M)) → seeks (battle_of plan.form) t ≡ true → 0 < t → t ≤ 2 * n → t ≤ suc k → game.goal q ≡ false
-        → value (battle_of plan.form) game t q ≡ true
-        → ((l : ℕ) (m : M) → seeks (battle_of plan.form) (l + 1) ≡ true → l + 1 ≤ t → value (battle_of plan.form) game l (game.after q m) ≡ true → node m
-        (beneath k l (game.after q m)) ≡ G m)
+        → value (battle_of plan.form) game t q ≡ true → ((l : ℕ) (m : M) → seeks (battle_of plan.form) (l + 1) ≡ true → l + 1 ≤ t
+        → value (battle_of plan.form) game l (game.after q m) ≡ true → node m (beneath k l (game.after q m)) ≡ G m)
         → shown plan game false (suc k) (open_length (battle_of plan.form) game t q) q (game.moves q) ≡ flat_map G (best (battle_of plan.form) game n q)
     unfolding open_length
     white n k zero q G s some most room open_yet v each = absurd (omega (arith, some))
     white n k (suc t) q G s some most room open_yet v each =
-        let z : eqb (suc t) 0 ≡ false = grind (arith, nat_tests) in
+        let z : eqb (suc t) 0 ≡ false = grind arith in
         let L = first_from (battle_of plan.form) game q ((suc t - fewest (battle_of plan.form)) / 2) (fewest (battle_of plan.form)) in
-        let h : L ≡ halves (battle_of plan.form) (least (battle_of plan.form) game n q) = least-halves (battle_of plan.form) n
-        (suc t) q s some most open_yet v in
+        let h : L ≡ halves (battle_of plan.form) (least (battle_of plan.form) game n q) = grind (arith, least-halves) in
         rw (z, open_yet, s) (go L refl h)
       where
         z0 : eqb (suc t) 0 ≡ false
-        z0 = grind (arith, nat_tests)
+        z0 = grind arith
 
         L0 : ℕ
         L0 = first_from (battle_of plan.form) game q ((suc t - fewest (battle_of plan.form)) / 2) (fewest (battle_of plan.form))
 
         go : (x : ℕ) → L0 ≡ x → x ≡ halves (battle_of plan.form) (least (battle_of plan.form) game n q)
             → shown plan game false (suc k) x q (game.moves q) ≡ flat_map G (best (battle_of plan.form) game n q)
-        go zero e h = absurd (omega (
-          arith,
-          e,
-          first_from-least (battle_of plan.form) q ((suc t - fewest (battle_of plan.form)) / 2) (fewest (battle_of plan.form)),
-          fewest-some
-              (battle_of plan.form),
-        ))
+        go zero e h = absurd (grind (arith, first_from-least))
         go (suc l) e h =
             let j = half-some (battle_of plan.form) (least (battle_of plan.form) game n q) (omega (arith, h)) in
             let h2 : suc l ≡ halves (battle_of plan.form) (suc j.0) = h ∙ ap (halves (battle_of plan.form)) j.1 in
@@ -200,17 +167,12 @@ module _ {P M : Type 0} (game : Game P M) where
             let most2 : L0 ≤ suc t = length_most game (battle_of plan.form) (suc t) q false true false z0 s in
             as_nodes false k l q (game.moves q)
             ∙ flat-filter _ (λ m. keeps (battle_of plan.form) game (least (battle_of plan.form) game n q) (game.after q m)) _ G (game.moves q)
-            (λ m. by_test false l (game.after q m) s2 ∙ sym
-            (ap (λ x. keeps (battle_of plan.form) game x (game.after q m)) j.1 ∙ keeps-value (battle_of plan.form) j.0 (game.after q m)
-            ∙ ap (λ x. value (battle_of plan.form) game x (game.after q m)) l2))
+            (grind (arith, by_test, keeps-value))
             (λ m v2. each l m s2 (omega (arith, e, most2)) (sym (by_test false l (game.after q m) s2) ∙ v2))
 
     open-goal : (k : ℕ) (q : P) → game.goal q ≡ true → shown plan game false k (open_length (battle_of plan.form) game k q) q (game.moves q) ≡ []
     unfolding open_length
     open-goal k q g = search (rules, shown-zero)
-
-    clash : {b : Bool} → b ≡ false → b ≡ true → ⊥
-    clash f t = cc
 
     module _ (variation : varies plan ≡ true) where
       beneath-is : (k t : ℕ) (q : P) → beneath k t q ≡ shown plan game false k (open_length (battle_of plan.form) game t q) q (game.moves q)
@@ -236,15 +198,11 @@ module _ {P M : Type 0} (game : Game P M) where
           → seeks (battle_of plan.form) (suc t) ≡ false → Tie n (suc k) (suc t) q
       unfolding below open_length
       tie-black n k t q ih v room most g s =
-          let z : eqb (suc t) 0 ≡ false = grind (arith, nat_tests) in
+          let z : eqb (suc t) 0 ≡ false = grind arith in
           let one : suc t ≡ t + 1 = omega arith in
           let s1 : seeks (battle_of plan.form) (t + 1) ≡ false = (rw (← one) s) in
           let w : seeks (battle_of plan.form) t ≡ true = unflip _ (sym (seeks-step (battle_of plan.form) t) ∙ s1) in
-          rw (z, g, s) (as_nodes false k t q (game.moves q)
-          ∙ flat-all (λ d. value (battle_of plan.form) game t (game.after q d)) _ _ (game.moves q) (value-black (battle_of plan.form) t q g s v)
-          (λ d v2. ap (λ b. cond b (node d (beneath k t (game.after q d))) []) (by_none t (game.after q d) s1)
-          ∙ ap (node d) (beneath-is k t (game.after q d) ∙ ih t (game.after q d) v2 (omega (arith, room)) (omega (arith, most))
-          ∙ ap (λ x. cond x (answers (battle_of plan.form) game n k (game.after q d)) (below (battle_of plan.form) game n k (game.after q d))) w)))
+          grind (arith, as_nodes, game.moves q, flat-all, value-black (battle_of plan.form) t q g s v, by_none, beneath-is)
 
       -- what the walk shows below a move that is shown
       pub tie : (n k t : ℕ) (q : P) → value (battle_of plan.form) game t q ≡ true → t ≤ k → t ≤ 2 * n → Tie n k t q
@@ -301,7 +259,7 @@ module _ {P M : Type 0} (game : Game P M) where
             → shown plan game false h2 (open_length (battle_of plan.form) game h2 r) r (game.moves r) ≡ cond g []
             (map (λ m. m ∷ []) (best (battle_of plan.form) game n r))
         no_variation e h2 i true g = open-goal h2 r g
-        no_variation e zero i false g = absurd (clash g (sym (value-end-zero (battle_of plan.form) r) ∙ (rw i at v)))
+        no_variation e zero i false g = absurd (grind (arith, value-end-zero))
         no_variation e (suc k) i false g =
             white n k (suc k) r (λ m. (m ∷ []) ∷ []) (rw i at s) (omega arith) (rw i at most) (omega arith) g (rw i at v)
             (λ l m s2 less v2. ap (node m) (beneath-none k l (game.after r m) e s2))

@@ -1,23 +1,15 @@
 -- The value of a position by what its tests say.
-use Rattle.pop_solve.proofs.Basics.{Bool, List, [], arith, cond, false, length, list_any, nat_tests, not, refl, rules, suc, true, zero, ℕ, ◌%◌, ◌&&◌, ◌<◌, ◌||◌, ◌∷◌, ◌≡◌}
-use Rattle.pop_solve.proofs.Words.{Battle, Game, Selfmate, can_move, every_move, seeks, some_move, value}
+use Rattle.pop_solve.proofs.Words.{Battle, Bool, Game, List, Selfmate, [], arith, can_move, cond, every_move, false, joined, length, list_any, not, refl, rules, seeks, some_move, suc, true, value, zero, ℕ, ◌%◌, ◌&&◌, ◌<◌, ◌||◌, ◌∷◌, ◌≡◌}
 use Rattle.pop_solve.specs.declared.aim.Battle.TheVariants.{Direct}
 use Rattle.std.specs.Prelude.{◌==◌}
-use Rattle.pop_solve.specs.ties.Values.{joined}
 
 module _ {P M : Type 0} (battle : Battle) (game : Game P M) where
-  cases : (e s c a b : Bool) → e ≡ false → (s || c) ≡ true → (e || cond s a (c && b)) ≡ cond s a b
-  cases e s c a b h k = search rules
-
   pub value-last : (t : ℕ) (p : P) → t ≡ 0 → value battle game t p ≡ game.goal p
   unfolding value
   value-last t p z = search rules
 
   pub both : (a b : Bool) → (a && b) ≡ true → (a ≡ true) × (b ≡ true)
   both a b e = search rules
-
-  odd-only : (t : ℕ) (g : Bool) → (t % 2 == 1) ≡ true → (t % 2 == 0 && g) ≡ false
-  odd-only t g e = search rules
 
   -- the last half-move
   pub value-mates : (p : P) → battle ≡ Direct → value battle game 1 p ≡ some_move game game.goal p
@@ -35,7 +27,7 @@ module _ {P M : Type 0} (battle : Battle) (game : Game P M) where
 
   -- White with a half-move that nothing ends before
   pub value-free : (t : ℕ) (p : P) → 0 < t → (t % 2 == 1 && seeks battle t) ≡ true → value battle game t p ≡ joined battle game t p (game.moves p)
-  value-free t p some e = search (rules, both, value-joined, odd-only)
+  value-free t p some e = grind (arith, both, value-joined)
 
   -- with a move, and the goal not reached
   pub value-open : (t : ℕ) (p : P) → 0 < t → can_move game p ≡ true → game.goal p ≡ false → value battle game t p ≡ joined battle game t p (game.moves p)
@@ -49,7 +41,7 @@ module _ {P M : Type 0} (battle : Battle) (game : Game P M) where
     where
       none : (ms : List M) → not (length ms == 0) ≡ false → ms ≡ []
       none [] e = refl
-      none (m ∷ ms) e = absurd (grind (arith, nat_tests, e))
+      none (m ∷ ms) e = absurd (grind (arith, e))
 
       stuck : (e s c b : Bool) (ms : List M) → c ≡ false → ms ≡ [] → (e || cond s (list_any (λ m. value battle game t (game.after p m)) ms) (c && b)) ≡ e
       stuck true s c b ms h k = refl

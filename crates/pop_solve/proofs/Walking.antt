@@ -1,11 +1,8 @@
 -- The outcomes of a step for frames listed from the bottom up, as the code holds them, and what its calls hand on.
-use Rattle.pop_solve.proofs.Basics.{Bool, IfSome, List, MatchOption, None, Option, Some, [], ap, append-nil, arith, eqb, false, inl, inr, length, length-reverse, refl, reverse, reverse-append, rules, subst, suc, sym, true, ℕ, ◌++◌, ◌+◌, ◌-◌, ◌<◌, ◌∙◌, ◌∷◌, ◌≡◌, ◌≤◌, ◌⊎◌}
-use Rattle.pop_solve.proofs.Words.{AreKnown, CameFrom, CameFromAt, Counts, Frame, GoesTo, HasCounted, IsPlaceIn, IsWalking, LegalPlace, Mate, Plan, Position, RuleSet, Steps, Triple, battle_of, chess, follows, gives, is_for_mate, is_goal, legal, mates_behind, moves_behind, moves_behind-end, position, seeks_last, smallest_tree, undo_of, value}
+use Rattle.pop_solve.proofs.Words.{AreKnown, Bool, CameFrom, CameFromAt, Counts, Frame, GoesTo, HasCounted, IfSome, IsNextMate, IsPlaceIn, IsWalking, LegalPlace, List, MatchOption, Mate, Option, Plan, Position, RuleSet, Steps, Triple, [], ap, append-nil, arith, battle_of, chess, eqb, false, follows, gives, goes_on, inl, inr, is_for_mate, is_goal, legal, length, length-reverse, mates_behind, moves_behind, moves_behind-end, position, refl, reverse, reverse-append, rules, seeks_last, smallest_tree, subst, suc, sym, true, undo_of, value, ℕ, ◌++◌, ◌+◌, ◌-◌, ◌<◌, ◌∙◌, ◌∷◌, ◌≡◌, ◌≤◌, ◌⊎◌}
 use Rattle.chess_rules.specs.Play.{after as played}
-use Rattle.chess_mates.specs.ties.Mates.{IsNextMate}
 use Rattle.pop_solve.proofs.Boards.{for_mate}
 use Rattle.pop_solve.specs.ties.Frames.{opened as opened_frame}
-use Rattle.pop_solve.specs.ties.Walk.{goes_on}
 use Rattle.pop_solve.proofs.Tests.{learned, moved}
 use Rattle.pop_solve.proofs.GoingOn.{cases}
 use Rattle.pop_solve.proofs.Outcomes.{CameFrom-deep, walking-close, walking-learned, top_room, steps-learned, skips-close, steps-pass, steps-enter, walking-moved}
@@ -78,15 +75,13 @@ module _ (rule : RuleSet) (plan : Plan) (h : ℕ) (top : Frame) (old new : List 
         elim (cases (follows plan (chess plan.goal rule) root behind arrived)) [
           | inl passed ↦
               let x = passes passed in
-              rw (popped old new top taken, x.2, mid_is, x.0)
-              (steps-learned rule plan h p top known (reverse new) _ after opened opened2 false
+              rw (popped old new top taken, x.2, mid_is, x.0) (steps-learned rule plan h p top known (reverse new) _ after opened opened2 false
               (steps-skip rule plan h p f (reverse new) _ g _ after opened opened2 false
               (steps-pass rule plan h p (moved f g.mid) (reverse new) now r3 place m behind left here after opened opened2
               (rw flag2 passed) x.1 (rw flag2 counts))))
           | inr entered ↦
               let x = enters entered in
-              rw (popped old new top taken, x.2, reverse-push mid, mid_is, x.0)
-              (steps-learned rule plan h p top known (reverse new) _ after opened opened2 _
+              rw (popped old new top taken, x.2, reverse-push mid, mid_is, x.0) (steps-learned rule plan h p top known (reverse new) _ after opened opened2 _
               (steps-skip rule plan h p f (reverse new) _ g _ after opened opened2 _
               (steps-enter rule plan h p (moved f g.mid) (reverse new) now r3 place m behind left here after opened opened2 lawful
               (rw flag2 entered) x.1 (rw flag2 counts))))
@@ -94,17 +89,13 @@ module _ (rule : RuleSet) (plan : Plan) (h : ℕ) (top : Frame) (old new : List 
 
 -- a frame is closed, whatever is walked
 module _ (rule : RuleSet) (h : ℕ) (top : Frame) (old new : List Frame) (taken : old ≡ new ++ top ∷ []) where
-  walking_popped : (p board : Position) → IsWalking rule h p (reverse old) board → IsWalking rule h p (top ∷ reverse new) board
-  walking_popped p board r = search (rules, popped)
-
   pub back_asks : (p board : Position) (depth : ℕ) → IsWalking rule h p (reverse old) board → depth ≡ length new → 0 < depth → CameFrom rule top board
-  back_asks p board depth r d deep = CameFrom-deep rule h p top (reverse new) board (walking_popped p board r) (omega (arith, length-reverse new, d, deep))
+  back_asks p board depth r d deep = CameFrom-deep rule h p top (reverse new) board (grind (arith, popped)) (omega (arith, length-reverse new, d, deep))
 
   pub back_walking : (p board after : Position) (depth : ℕ) → IsWalking rule h p (reverse old) board → depth ≡ length new → (depth ≡ 0 → after ≡ board)
       → ((q : Position) → 0 < depth → CameFromAt rule top board q → after ≡ q) → IsWalking rule h p (reverse new) after
-  back_walking p board after depth r d lowest before =
-      walking-close rule h p top (reverse new) board after
-      (walking_popped p board r) (λ z. lowest (omega (arith, length-reverse new, d, z))) (λ q z cf. before q (omega (arith, length-reverse new, d, z)) cf)
+  back_walking p board after depth r d lowest before = walking-close rule h p top (reverse new) board after
+      (grind (arith, popped)) (λ z. lowest (omega (arith, length-reverse new, d, z))) (λ q z cf. before q (omega (arith, length-reverse new, d, z)) cf)
 
 -- with no frame left the board stands on the first position
 pub walking_back : (rule : RuleSet) (h : ℕ) (p board : Position) (frames : List Frame) → IsWalking rule h p (reverse frames) board → length frames ≡ 0
@@ -116,23 +107,13 @@ walking_back rule h p board (f ∷ frames) r none = absurd (omega (arith, none))
 -- what the next move or the next mate says of the moves passed over
 module _ (rule : RuleSet) (plan : Plan) (left : ℕ) (p : Position) (place next : ℕ) where
   abbrev pub Next : Option Triple → Type 0
-  Next o =
-      MatchOption o ((left ≡ 0) ⊎ GoesTo rule plan left p place [])
+  Next o = MatchOption o ((left ≡ 0) ⊎ GoesTo rule plan left p place [])
       (λ m. (0 < left) × GoesTo rule plan left p place (m ∷ moves_behind rule p next) × (legal rule p m ≡ true))
 
   pub next_mating : (o : Option Triple) → plan.goal ≡ Mate → seeks_last plan ≡ true → left ≡ 1
       → MatchOption o (mates_behind rule p place ≡ []) (λ m. IsNextMate rule p place next m × (legal rule p m ≡ true)) → Next o
   unfolding mates_behind
-  next_mating None for last single e =
-      let behind : moves_behind rule p 28672 ≡ [] = moves_behind-end rule p 28672 (omega arith) in
-      inr (record {
-        mid = 28672;
-        over = moves_behind rule p place;
-        passed = search (rules, append-nil, behind);
-        none = inr (last, for, single, e);
-        here = behind;
-      })
-  next_mating (Some m) for last single e = search rules
+  next_mating o for last single e = grind (arith, moves_behind-end rule p 28672 (omega arith), append-nil)
 
 -- after a mating last half-move the value is known, and nothing has to be tried for it
 pub value-mated : (rule : RuleSet) (plan : Plan) (left : ℕ) (q : Position) → is_for_mate plan.goal ≡ true → left + 1 ≡ 1 → is_goal rule q ≡ true

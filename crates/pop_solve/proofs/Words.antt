@@ -1,51 +1,70 @@
--- The words of chess, of problems and of searches that most proofs name.
-pub use Rattle.chess_core.specs.Position.{Position}
+-- Words and lemmas of the standard library and of the crates that most proofs name.
+pub use Rattle.std.proofs.Common.{Bool, IfNone, IfSome, List, MatchOption, None, Option, Some, [], ap, append_assoc, arith, cond, drop, eqb, false, filter, get_or, inl, inr, is_some, length, length-append, length-take, map, min, not, option_map, refl, reverse, rules, slice_get, subst, suc, sym, take, true, zero, ℕ, ◌%◌, ◌&&◌, ◌*◌, ◌++◌, ◌+◌, ◌-◌, ◌/◌, ◌<◌, ◌^◌, ◌||◌, ◌↔◌, ◌∙◌, ◌∷◌, ◌≡◌, ◌≢◌, ◌≤◌, ◌⊎◌}
+pub use Rattle.std.proofs.lemmas.Bool.{and_from, and_parts, cases_Bool, cases_lt, false≢true, or_cases, or_left, or_right}
+pub use Rattle.std.proofs.lemmas.Bool.Decides.{nat_tests}
+pub use Rattle.std.proofs.lemmas.List.{append-nil, drop-append-le, length-drop, length-reverse, map-append, reverse-append, take-append-drop, take-append-le, take_all, take_more}
+pub use Rattle.std.proofs.lemmas.List.Concat.{flat_map-append, flat_map_single}
+pub use Rattle.std.proofs.lemmas.List.Elements.{Contains-append_cases, filter-append, filter_agree}
+pub use Rattle.std.proofs.lemmas.List.Kept.{AllPairs-filter}
+pub use Rattle.std.proofs.lemmas.List.Sums.{fails_before_first, passes_at_first, prefix_len-le-length, sum_by-append, sum_by-cons}
+pub use Rattle.std.specs.List.{AllPairs, Contains, flat_map, list_all, list_any, position_or_len, range_with_len, sum_by}
+pub use Rattle.arrayvec.specs.ArrayVec.{ArrayVec, array_vec_len}
+pub use Rattle.chess_core.specs.Position.{Position, other}
 pub use Rattle.chess_core.specs.Triple.{Triple}
 pub use Rattle.chess_core.specs.WellFormed.{IsWellFormed}
+unfoldable pub use Rattle.chess_core.specs.WellFormed.{is_crossed_right}
+pub use Rattle.chess_rules.proofs.listing_moves.Between.{between-here, between-none, between-past, between-skip, cut_moves}
+pub use Rattle.chess_mates.proofs.MatesBetween.{cut_mates}
 pub use Rattle.chess_rules.proofs.listing_moves.Calls.{pseudo-from_legal}
-pub use Rattle.chess_rules.proofs.listing_moves.Members.{first_in, from_flat_map, from_map, in_cases, in_flat_map, in_map, none_in_nil, pairs_flat_map, pairs_map, pairs_nil, pairs_of}
-pub use Rattle.chess_rules.proofs.listing_moves.Places.{moves_behind-end}
+pub use Rattle.chess_rules.proofs.listing_moves.Members.{first_in, from_filter, from_flat_map, from_map, in_cases, in_filter, in_flat_map, in_map, later_in, none_in_nil, pairs_append, pairs_flat_map, pairs_front, pairs_map, pairs_nil, pairs_of, pairs_weaker}
+pub use Rattle.chess_rules.proofs.listing_moves.Places.{moves_behind-end, moves_behind-here, moves_behind-skip, place_of_triple}
 pub use Rattle.chess_rules.proofs.making_moves.Stays.{after_well_formed}
-unfoldable pub use Rattle.chess_rules.specs.Legal.{is_goal, legal}
+pub use Rattle.chess_rules.proofs.theorems.Moves.{Precedes, moves_are_the_legal_moves, moves_differ, moves_in_order}
+pub use Rattle.chess_rules.specs.Legal.{is_nil}
+unfoldable pub use Rattle.chess_rules.specs.Legal.{is_goal, is_stalemate, legal, moves}
 pub use Rattle.chess_rules.specs.Loss.{Loss}
 unfoldable pub use Rattle.chess_rules.specs.Play.{undo_of}
 pub use Rattle.chess_rules.specs.RuleSet.{RuleSet}
 pub use Rattle.chess_rules.specs.ties.Places.{IsPlaceIn, LegalPlace}
-pub use Rattle.chess_mates.specs.ties.Mates.{is_mating}
 unfoldable pub use Rattle.chess_rules.specs.ties.Places.{moves_behind, moves_between}
+pub use Rattle.chess_mates.specs.ties.Mates.{IsNextMate, MatingPlace, is_mating, mates_between}
 unfoldable pub use Rattle.chess_mates.specs.ties.Mates.{mates_behind}
 pub use Rattle.pop_input.specs.Posed.{IsSound, Posed}
-pub use Rattle.pop_input.specs.Stipulations.{half_moves, half_moves_of, is_help}
+pub use Rattle.pop_input.specs.Stipulations.{half_moves, half_moves_of, is_help, may_have}
 pub use Rattle.pop_input.specs.declared.stipulation.Form.{Form}
 pub use Rattle.pop_input.specs.declared.stipulation.Goal.{Goal}
 pub use Rattle.pop_input.specs.declared.stipulation.Goal.TheVariants.{Mate}
 pub use Rattle.pop_solve.specs.Aims.{battle_of}
-pub use Rattle.pop_solve.specs.Chess.{chess}
+pub use Rattle.pop_solve.specs.Chess.{chess, is_reached, set_start}
 unfoldable pub use Rattle.pop_solve.specs.Chess.{show}
-pub use Rattle.pop_solve.specs.Events.{Step, is_barred, is_set, phase_half_moves, phase_start, shown_along, shown_last, steps_from, total}
+pub use Rattle.pop_solve.specs.Events.{Step, counted, event_of, events, first_phase, impossible, is_barred, is_set, line, opening, phase_half, phase_half_moves, phase_start, shown_along, shown_last, start, step_of, steps_from, total, tree_node}
 unfoldable pub use Rattle.pop_solve.specs.Events.{phase_steps, solutions}
 pub use Rattle.pop_solve.specs.Game.{Game, can_move, every_move, reach, some_move}
 unfoldable pub use Rattle.pop_solve.specs.Game.{help_lines, lines_to_goal, lost, self_lost, self_wins, wins}
-pub use Rattle.pop_solve.specs.Tree.{best, keeps, least, node, set_shows, tree}
-unfoldable pub use Rattle.pop_solve.specs.Tree.{answers, set_tree}
+pub use Rattle.pop_solve.specs.Shown.{Shown}
+pub use Rattle.pop_solve.specs.Tree.{best, keeps, least, node, set_shows, tree, wins_in}
+unfoldable pub use Rattle.pop_solve.specs.Tree.{answers, below, set_tree}
 pub use Rattle.pop_solve.specs.declared.aim.Battle.{Battle}
 pub use Rattle.pop_solve.specs.declared.aim.Battle.TheVariants.{Selfmate}
+pub use Rattle.pop_solve.specs.declared.event.Event.{Event}
+pub use Rattle.pop_solve.specs.declared.event.Event.TheVariants.{Line, Node, Total}
 pub use Rattle.pop_solve.specs.declared.event.Phase.{Phase}
 pub use Rattle.pop_solve.specs.declared.event.Phase.TheVariants.{Play, Set}
-pub use Rattle.pop_solve.specs.declared.frame.Stretch.TheVariants.{Killer}
+pub use Rattle.pop_solve.specs.declared.frame.Stretch.TheVariants.{Earlier, Killer, Others}
 pub use Rattle.pop_solve.specs.declared.phases.Stage.{Stage}
 pub use Rattle.pop_solve.specs.declared.phases.Stage.TheVariants.{Barred, Before, Behind, Within}
 pub use Rattle.pop_solve.specs.declared.plan.Plan.{Plan}
 pub use Rattle.pop_solve.specs.ties.Calls.{Counts}
-pub use Rattle.pop_solve.specs.ties.Counts.{HasCounted}
+pub use Rattle.pop_solve.specs.ties.Counts.{HasCounted, decided_by}
 unfoldable pub use Rattle.pop_solve.specs.ties.Counts.{least_of, smallest_below, smallest_tree, walk_count}
-pub use Rattle.pop_solve.specs.ties.Frames.{CameFrom, CameFromAt, Frame, Order, ahead, opened, untried}
-unfoldable pub use Rattle.pop_solve.specs.ties.Frames.{AreKnown, IsLinked, belongs, position, steps, tests, to_open, walk_behind, work}
+pub use Rattle.pop_solve.specs.ties.Frames.{CameFrom, CameFromAt, Ends, Frame, IsOpenedOn, IsTesting, Order, Turns, ahead, all_of, comes_early, is_at, opened, stretches_behind, tested, top_left, untried}
+unfoldable pub use Rattle.pop_solve.specs.ties.Frames.{AreKnown, IsCut, IsLinked, belongs, deliver, here, later, pending, position, steps, steps_among, steps_behind, tests, to_open, to_test, to_try, to_try_with, walk_among, walk_behind, work}
 pub use Rattle.pop_solve.specs.ties.Marks.{is_for_mate}
-pub use Rattle.pop_solve.specs.ties.Phases.{IsGiven, Walks, phase_paths}
-unfoldable pub use Rattle.pop_solve.specs.ties.Phases.{IsStanding, keep, left_of, started}
-pub use Rattle.pop_solve.specs.ties.Plans.{plan_of, varies}
-pub use Rattle.pop_solve.specs.ties.Values.{seeks}
-unfoldable pub use Rattle.pop_solve.specs.ties.Values.{value}
-pub use Rattle.pop_solve.specs.ties.Walk.{GoesTo, IsCounted, IsWalking, Opens, Steps, Tries, ends_variation, seeks_last}
-unfoldable pub use Rattle.pop_solve.specs.ties.Walk.{IsRoomy, IsWhites, fewest_left, first_from, follows, gives, open_length, path, shown, to_come, turns}
+pub use Rattle.pop_solve.specs.ties.Phases.{Gives, IsGiven, IsKeys, IsOpened, OpensOn, Walks, begins, phase_paths}
+unfoldable pub use Rattle.pop_solve.specs.ties.Phases.{IsNarrow, IsStanding, keep, left_of, rest_fewest, rest_open, started}
+pub use Rattle.pop_solve.specs.ties.Plans.{plan_of, shows_variations, tree_shown, varies}
+pub use Rattle.pop_solve.specs.ties.Seen.{StandsOn, fewest_from, is_stop, is_unstopped, is_walked_once, phase_fewest, phase_walk, walk_from}
+pub use Rattle.pop_solve.specs.ties.Values.{decides, join, seeks}
+unfoldable pub use Rattle.pop_solve.specs.ties.Values.{joined, value}
+pub use Rattle.pop_solve.specs.ties.Walk.{GoesTo, IsCounted, IsEnded, IsWalking, Opens, Steps, Tries, ends_variation, fewest, fewest_for, seeks_last}
+unfoldable pub use Rattle.pop_solve.specs.ties.Walk.{IsRoomy, IsWhites, fewest_left, fewest_walked, first_from, follows, gives, goes_on, open_length, path, shown, to_come, turns}

@@ -1,8 +1,5 @@
 -- A text over and over.
-use Rattle.std.proofs.Common.{◌≡◌, ◌≤◌, ◌<◌, inl, inr, ℕ, zero, suc, ◌-◌, List, [], ◌∷◌, ◌++◌, length, take, drop, refl, ap, arith}
-use Rattle.std.proofs.lemmas.Bool.{cases_lt}
-use Rattle.std.proofs.lemmas.List.{length-take-le}
-use Rattle.std.proofs.Math.Seq.{take-append_seam}
+use Rattle.pop_text.proofs.Basics.{List, [], ap, arith, cases_lt, drop, length, length-take-le, refl, suc, take, take-append_seam, zero, ℕ, ◌++◌, ◌-◌, ◌<◌, ◌∷◌, ◌≡◌, ◌≤◌}
 use Rattle.pop_text.specs.ties.Trials.{cycled}
 
 -- the first bytes of the rest come first
@@ -11,13 +8,6 @@ cycled_front text rest n zero some few = grind arith
 cycled_front text rest zero (suc k) some few = grind arith
 cycled_front text [] (suc n) (suc k) some few = absurd (omega arith)
 cycled_front text (b ∷ rest) (suc n) (suc k) some few = grind (arith, cycled_front text rest n k)
-
-cycled_none : (n : ℕ) → ◌≡◌ {A = List ℕ} (cycled [] [] n) []
-cycled_none n = grind arith
-
-length_zero : (rest : List ℕ) → length rest ≡ 0 → rest ≡ []
-length_zero [] h = refl
-length_zero (b ∷ rest) h = absurd (omega (arith, h))
 
 -- as many bytes as the rest has are the rest
 cycled_rest : (text rest : List ℕ) → cycled text rest (length rest) ≡ rest
@@ -32,16 +22,9 @@ cycled_whole text = cycled_rest text text
 module _ (text rest back : List ℕ) (left count : ℕ) (behind : back ≡ drop count rest) where
   pub gives : (given after : List ℕ) → count ≤ left → count ≤ length rest → given ≡ take count rest
       → cycled text rest left ≡ take count (given ++ after) ++ cycled text back (left - count)
-  gives given after some few is =
-      grind (arith, length-take-le count rest few, take-append_seam given after, cycled_front text rest left count some few)
+  gives given after some few is = grind (arith, length-take-le count rest few, take-append_seam given after, cycled_front text rest left count some few)
 
   -- no byte, where there is room, only at the end
   pub gives_none : (room : ℕ) → (0 < length rest → 0 < room → 0 < left → 0 < count) → (length rest ≡ 0 → text ≡ []) → count ≡ 0 → 0 < room
       → cycled text back (left - count) ≡ []
-  gives_none room some none nothing wide = elim (cases_lt 0 (length rest)) [
-    | inl more ↦ elim (cases_lt 0 left) [
-      | inl still ↦ let bad = some more wide still in absurd (omega (arith, bad, nothing))
-      | inr over ↦ let done : left - count ≡ 0 = omega (arith, over) in rw done refl
-    ]
-    | inr short ↦ grind (arith, length_zero rest, none, cycled_none (left - count))
-  ]
+  gives_none room some none nothing wide = grind (arith, cases_lt)

@@ -1,20 +1,11 @@
 -- What the clauses of the scanner exclude: a call that uses more than its word or its line, and a word with another number, where the bytes of the
 -- source are known; a part of a line that holds a line end; and a text of which a part was left out.
-use Rattle.std.proofs.Common.{◌≡◌, ℕ, ◌+◌, List, [], ◌∷◌, ◌++◌, length, length-append, Some, true, refl, sym, ◌∙◌, ap, arith, inl, inr, count_by, Ok}
-use Rattle.std.specs.List.{list_all}
-use Rattle.std.proofs.lemmas.List.{append_cancel_right}
-use Rattle.pop_text.specs.Bytes.{Appends}
-use Rattle.pop_text.specs.Words.{is_gap, is_in_line, is_in_word, is_line_end}
-use Rattle.pop_text.specs.ties.Reading.{Reading, Uses}
-use Rattle.pop_text.specs.ties.Runs.{UsesRun, UsesLine}
-use Rattle.pop_text.specs.declared.text.Text.{Text}
+use Rattle.pop_text.proofs.Basics.{Appends, List, Ok, Reading, Some, Text, Uses, UsesLine, UsesRun, [], ap, append_cancel_right, arith, count_by, inl, inr, is_gap, is_in_line, is_in_word, is_line_end, length, length-append, list_all, refl, sym, true, ℕ, ◌++◌, ◌+◌, ◌∙◌, ◌∷◌, ◌≡◌}
 use Rattle.pop_text.proofs.WordLaws.{all_parts}
 
 -- two ways to use bytes of a known source use the same
 same_bytes : (old new : Reading) (had left xs ys : List ℕ) → Uses old new (Some had) (Some left) xs → Uses old new (Some had) (Some left) ys → xs ≡ ys
-same_bytes old new had left xs ys p q =
-    let taken : p.taken ≡ q.taken = append_cancel_right p.taken q.taken left (sym p.consumed ∙ q.consumed) in
-    append_cancel_right xs ys new.window (sym p.unread ∙ ap (λ t. old.window ++ t) taken ∙ q.unread)
+same_bytes old new had left xs ys p q = grind (arith, append_cancel_right)
 
 no_more : (xs behind : List ℕ) → xs ≡ xs ++ behind → behind ≡ []
 no_more xs [] e = refl
@@ -29,11 +20,7 @@ same_gap : (g h : List ℕ) (c : ℕ) (run behind : List ℕ) → list_all is_ga
 same_gap [] [] c run behind p q w e = (refl, no_more (c ∷ run) behind e)
 same_gap [] (b ∷ h) c run behind p q w e = let is : b ≡ c = cc in absurd (gap_or_word b (all_parts is_gap b h q).0 (rw is w))
 same_gap (b ∷ g) [] c run behind p q w e = let is : c ≡ b = cc in absurd (gap_or_word b (all_parts is_gap b g p).0 (rw (← is) w))
-same_gap (b ∷ g) (d ∷ h) c run behind p q w e =
-    let is : b ≡ d = cc in
-    let rest = same_gap g h c run behind (all_parts is_gap b g p).1 (all_parts is_gap d h q).1 w cc in
-    let tails : g ≡ h = rest.0 in
-    (cc, rest.1)
+same_gap (b ∷ g) (d ∷ h) c run behind p q w e = grind (arith, all_parts, same_gap g h c run behind (all_parts is_gap b g p).1 (all_parts is_gap d h q).1 w cc)
 
 -- a call that used a gap, a run and bytes behind it: there are none, and the number is that of the run's line
 pub nothing_behind_word : (old new : Reading) (had left : List ℕ) (number : ℕ) (gap : List ℕ) (c : ℕ) (run behind : List ℕ) → list_all is_gap gap ≡ true
@@ -43,20 +30,16 @@ nothing_behind_word old new had left number gap c run behind blank solid used u 
     let same = same_gap gap u.gap c run behind blank u.blank solid (same_bytes old new had left (u.gap ++ c ∷ run) ((gap ++ c ∷ run) ++ behind) u.uses used) in
     (same.1, u.line ∙ ap (λ g. old.line + count_by is_line_end g) (sym same.0))
 
-plain_end : (b : ℕ) → is_in_line b ≡ true → b ≡ 10 → ⊥
-plain_end b h e = grind (arith, h, e)
-
 -- a line before its line end is the same one, and nothing follows
 same_line : (line other behind : List ℕ) → list_all is_in_line line ≡ true → list_all is_in_line other ≡ true → other ++ 10 ∷ [] ≡ (line ++ 10 ∷ []) ++ behind
     → behind ≡ []
 same_line [] [] behind p q e = no_more (10 ∷ []) behind e
-same_line [] (b ∷ other) behind p q e = absurd (plain_end b (all_parts is_in_line b other q).0 cc)
-same_line (b ∷ line) [] behind p q e = absurd (plain_end b (all_parts is_in_line b line p).0 cc)
+same_line [] (b ∷ other) behind p q e = grind (arith, all_parts)
+same_line (b ∷ line) [] behind p q e = grind (arith, all_parts)
 same_line (b ∷ line) (d ∷ other) behind p q e = same_line line other behind (all_parts is_in_line b line p).1 (all_parts is_in_line d other q).1 cc
 
 no_end : (line other behind : List ℕ) → list_all is_in_line other ≡ true → other ≡ (line ++ 10 ∷ []) ++ behind → ⊥
-no_end [] [] behind q e = cc
-no_end [] (b ∷ other) behind q e = plain_end b (all_parts is_in_line b other q).0 cc
+no_end [] other behind q e = grind (arith, all_parts)
 no_end (b ∷ line) [] behind q e = cc
 no_end (b ∷ line) (d ∷ other) behind q e = no_end line other behind (all_parts is_in_line d other q).1 cc
 

@@ -1,20 +1,7 @@
 -- What used bytes take of the words still to come.
-use Rattle.std.proofs.Common.{◌≡◌, ◌<◌, ◌≤◌, ℕ, ◌+◌, ◌-◌, List, [], ◌∷◌, ◌++◌, length, length-append, take, drop, Option, None, Some, Result, Bool, true, false, refl, ◌∙◌, ap, arith, append_assoc, inl, inr, count_by, cond, Err, Ok}
-use Rattle.std.specs.List.{list_all, starts_with}
-use Rattle.std.specs.Prelude.{nat_eq, ◌&&◌}
-use Rattle.std.proofs.Math.Seq.{take-append-add, drop-append-add, take-nil, drop-nil}
-use Rattle.std.proofs.lemmas.List.{append-nil, length-map}
-use Rattle.std.proofs.lemmas.List.Sums.{sum_by-append}
-use Rattle.pop_text.specs.Words.{Input, Ending, Clean, Failed, Words, Token, Word, TextLine, Tail, End as AtEnd, Long, Broken as Failing, limit, words_by, tokens_from, tail_of, is_cut, is_text_word, is_short_form, is_gap, is_in_line, is_in_word, is_line_end}
+use Rattle.pop_text.proofs.Basics.{Bool, Device, Err, Input, InputTooLong, IsOver, IsRunOver, List, Long, MayFollow, NextWord, None, Ok, Option, Peeks, ReadFault, Reading, RestOfLine, Result, Some, Stands, Tail, Takes, TakesNone, TakesWord, Text, TextLine, Token, TooLong, Uses, UsesAll, UsesLine, UsesRun, UsesWhole, UsesWord, Word, Words, [], after, among, ap, append-nil, append_assoc, arith, behind_word, cond, count_by, drop, drop-append-add, drop-nil, false, inl, inr, is_cut, is_gap, is_in_line, is_in_word, is_line_end, is_short_form, is_text_word, length, length-append, length-map, limit, list_all, nat_eq, refl, starts_with, sum_by-append, tail_of, take, take-append-add, take-nil, tokens_from, true, words_by, words_left, ℕ, ◌&&◌, ◌++◌, ◌+◌, ◌-◌, ◌<◌, ◌∙◌, ◌∷◌, ◌≡◌, ◌≤◌}
+use Rattle.pop_text.specs.Words.{End as AtEnd, Broken as Failing}
 use Rattle.pop_text.proofs.WordLaws.{skip_gap, take_run, drop_run, take_line, take_last_line, run_tokens, RunEnds, with_view, with_gap, line_lines, solid_line}
-use Rattle.pop_text.specs.ties.Reading.{Reading, Uses, UsesAll}
-use Rattle.pop_text.specs.ties.Runs.{Peeks, Stands, IsRunOver, UsesRun, UsesWord, UsesWhole, UsesLine}
-use Rattle.pop_text.specs.ties.Left.{after, MayFollow, words_left, Takes, among, behind_word, IsOver, TakesWord, TakesNone, GoesOn, NextWord, RestOfLine}
-use Rattle.pop_text.specs.declared.scanner.End.{End}
-use Rattle.pop_text.specs.declared.scanner.End.TheVariants.{Ended, Broken}
-use Rattle.pop_text.specs.declared.read_fault.ReadFault.{ReadFault}
-use Rattle.pop_text.specs.declared.read_fault.ReadFault.TheVariants.{TooLong, InputTooLong, Device}
-use Rattle.pop_text.specs.declared.text.Text.{Text}
 use Rattle.pop_text.specs.declared.word.Word.{Word as Read}
 
 -- A word too long is no text word.
@@ -26,14 +13,10 @@ pub longer : (name word : List ℕ) → length name < length word → starts_wit
 longer [] [] less = absurd (omega arith)
 longer [] (b ∷ word) less = refl
 longer (a ∷ name) [] less = absurd (omega arith)
-longer (a ∷ name) (b ∷ word) less =
-    let rest : starts_with nat_eq name word ≡ false = longer name word (omega arith) in ap (λ t. nat_eq b a && t) rest ∙ and_false (nat_eq b a)
+longer (a ∷ name) (b ∷ word) less = grind (arith, and_false, longer name word (omega arith))
 
 pub no_short_form : (name word : List ℕ) → length name < length word → is_short_form name word ≡ false
 no_short_form name word less = grind (arith, longer, length-map, and_false)
-
-long_no_text : (word : List ℕ) → 160 < length word → is_text_word word ≡ false
-long_no_text word long = grind (arith, no_short_form)
 
 -- Views.
 
@@ -43,10 +26,6 @@ view_at place rest = take (limit - place.used) (place.window ++ rest.bytes)
 
 abbrev pub tail_at : Reading → Input → Tail
 tail_at place rest = tail_of (drop (limit - place.used) (place.window ++ rest.bytes)) rest.ending
-
-views : (room more : ℕ) (used bytes all : List ℕ) → room ≡ length used + more → all ≡ used ++ bytes
-    → (take room all ≡ used ++ take more bytes) × (drop room all ≡ drop more bytes)
-views room more used bytes all e f = rw (e, f) (take-append-add used bytes more, drop-append-add used bytes more)
 
 same_words : (ts us : List Token) (tail : Tail) (l m : ℕ) → ts ≡ us → l ≡ m
     → ◌≡◌ {A = Words} (record { tokens = ts; tail = tail; tail_line = l }) (record { tokens = us; tail = tail; tail_line = m })
@@ -59,25 +38,16 @@ module _ {old new : Reading} {had left : Option (List ℕ)} {used : List ℕ} (u
     (b c : Option (List ℕ)) where
   -- used bytes stand first in the view
   left_is : (rest : Input) → words_left b old (after u.taken rest) ≡ words_by b old.line (used ++ view_at new rest) (tail_at new rest)
-  left_is rest =
-      let room : limit - old.used ≡ length used + (limit - new.used) = omega (arith, u.used, within) in
-      grind (
-        arith,
-        u.unread,
-        append_assoc old.window u.taken rest.bytes,
-        append_assoc used new.window rest.bytes,
-        views (limit - old.used) (limit - new.used) used (new.window ++ rest.bytes) (old.window ++ (u.taken ++ rest.bytes)) room,
-      )
+  left_is rest = grind (arith, append_assoc, take-append-add, drop-append-add)
 
   -- they take the tokens that they say, whatever stands behind them
-  pub takes : (tokens : List Token)
-      → ((rest : Input) → MayFollow new.end rest → tokens_from b (is_cut (tail_at new rest)) old.line (used ++ view_at new rest) ≡ tokens
-      ++ tokens_from c (is_cut (tail_at new rest)) new.line (view_at new rest))
-      → Takes (record { behind = b; at = old }) (record { behind = c; at = new }) had left tokens
+  pub takes : (tokens : List Token) → ((rest : Input) → MayFollow new.end rest
+      → tokens_from b (is_cut (tail_at new rest)) old.line (used ++ view_at new rest) ≡ tokens ++ tokens_from c (is_cut (tail_at new rest)) new.line (view_at
+      new rest)) → Takes (record { behind = b; at = old }) (record { behind = c; at = new }) had left tokens
   takes tokens say = record {
     bytes = u.taken;
     taken = u.consumed;
-    follows = λ rest may. grind (arith, u.still);
+    follows = λ rest may. grind arith;
     begin = λ rest may. left_is rest ∙ same_words _ _ (tail_at new rest) _ _ (say rest may)
         (omega (arith, u.line, count_then old.line used (view_at new rest)));
     amount = omega (arith, u.used, ap length u.unread, length-append old.window u.taken, length-append used new.window);
@@ -88,10 +58,6 @@ module _ {old new : Reading} {had left : Option (List ℕ)} {used : List ℕ} (u
 -- no byte is to be read from it on, and the view ends so
 abbrev Stops : Reading → Tail → Type 0
 Stops place tail = (rest : Input) → MayFollow place.end rest → (view_at place rest ≡ []) × (tail_at place rest ≡ tail)
-
-stops_by : (place : Reading) (end : End) (ending : Ending) → place.window ≡ [] → place.end ≡ end
-    → ((rest : Input) → MayFollow end rest → rest ≡ record { bytes = []; ending = ending }) → Stops place (tail_of [] ending)
-stops_by place end ending empty is only rest may = grind (arith, take-nil, drop-nil)
 
 full_view : (n : ℕ) (window : List ℕ) (rest : Input) → n ≡ 0 → 0 < length window
     → (take n (window ++ rest.bytes) ≡ []) × (tail_of (drop n (window ++ rest.bytes)) rest.ending ≡ Long)
@@ -104,12 +70,12 @@ fault_tail (InputTooLong line) = Long
 fault_tail (Device line) = Failing
 
 stops_at_end : (place : Reading) → Peeks place (Ok None) → Stops place AtEnd
-stops_at_end place at = stops_by place Ended Clean at.0 at.1 (λ rest may. may)
+stops_at_end place at = grind arith
 
 stops_at_fault : (fault : ReadFault) (place : Reading) → Peeks place (Err fault) → Stops place (fault_tail fault)
 stops_at_fault (TooLong line) place at = absurd at
 stops_at_fault (InputTooLong line) place at = λ rest may. full_view (limit - place.used) place.window rest (omega (arith, at.1)) at.0
-stops_at_fault (Device line) place at = stops_by place Broken Failed at.0 at.1 (λ rest may. may)
+stops_at_fault (Device line) place at = grind (arith, take-nil, drop-nil)
 
 -- no word is left there
 over : (place : Reading) (tail : Tail) → Stops place tail → IsOver place tail
@@ -125,87 +91,56 @@ run_ends new rest may h = grind (arith, with_gap, stops_at_end, with_view)
 pub run_said : (cut : Bool) (line : ℕ) (gap run view : List ℕ) → list_all is_gap gap ≡ true → list_all is_in_word run ≡ true → 0 < length run → RunEnds cut view
     → tokens_from None cut line ((gap ++ run) ++ view) ≡ run_tokens (is_text_word run) cut (line + count_by is_line_end gap) run view
 run_said cut line gap [] view blank solid some ends = absurd (omega arith)
-run_said cut line gap (b ∷ run) view blank solid some ends =
-    grind (
-      arith,
-      append_assoc gap (b ∷ run) view,
-      skip_gap cut line gap ((b ∷ run) ++ view),
-      take_run cut (line + count_by is_line_end gap) b run view
-          solid ends,
-    )
+run_said cut line gap (b ∷ run) view blank solid some ends = grind (arith, append_assoc, skip_gap, take_run)
 
 -- a gap says nothing
 gap_takes : {old new : Reading} {had left : Option (List ℕ)} → UsesAll is_gap old new had left → new.used ≤ limit → Takes (among old) (among new) had left []
-gap_takes {old} {new} p within = takes p.uses within None None [] (λ rest may.
-    grind (arith, skip_gap (is_cut (tail_at new rest)) old.line p.bytes (view_at new rest) p.all, p.uses.line))
+gap_takes {old} {new} p within = grind (arith, takes p.uses within None None, skip_gap)
 
 -- where a fault is found at the place, no word is taken and none is left
 none_left : {old new : Reading} {had left : Option (List ℕ)} (b : Option (List ℕ)) (fault : ReadFault) → Peeks new (Err fault) → old.used ≤ new.used
-    → Takes (record { behind = b; at = old }) (among new) had left []
-    → TakesNone (record { behind = b; at = old }) new had left fault
+    → Takes (record { behind = b; at = old }) (among new) had left [] → TakesNone (record { behind = b; at = old }) new had left fault
 none_left = grind (arith, over, stops_at_fault)
 
 module _ {old new : Reading} {had left : Option (List ℕ)} {number : ℕ} (run : List ℕ) (p : UsesRun old new had left number run) where
   number_is : number ≡ new.line
   number_is = omega (arith, p.line, p.uses.line, count_then old.line p.gap run, line_lines run (solid_line run p.solid))
 
-  grows : new.used ≡ old.used + (length p.gap + length run)
-  grows = omega (arith, p.uses.used, length-append p.gap run)
-
   -- a run that a fault cuts is no word
   cut_takes : (fault : ReadFault) → Peeks new (Err fault) → TakesNone (among old) new had left fault
-  cut_takes fault at = none_left None fault at (omega (arith, grows)) (takes p.uses (grind arith) None None [] (λ rest may.
-      grind (
-        arith,
-        stops_at_fault fault new at rest may,
-        append-nil (p.gap ++ run),
-        skip_gap true old.line p.gap run p.blank,
-        drop_run (old.line + count_by is_line_end p.gap) run p.solid,
-      )))
+  cut_takes fault at = none_left None fault at (grind arith) (takes p.uses (grind arith) None None [] (λ rest may.
+      grind (arith, stops_at_fault, append-nil, skip_gap, drop_run)))
 
   over_said : (text : Bool) → is_text_word run ≡ text → 0 < length run → IsRunOver new → (rest : Input) → MayFollow new.end rest
       → tokens_from None (is_cut (tail_at new rest)) old.line ((p.gap ++ run) ++ view_at new rest)
       ≡ run_tokens text (is_cut (tail_at new rest)) new.line run (view_at new rest)
-  over_said text is some over rest may = grind (
-    arith,
-    run_said (is_cut (tail_at new rest)) old.line p.gap run (view_at new rest) p.blank p.solid some
-        (run_ends new rest may over),
-    is,
-    p.line,
-    number_is,
-  )
+  over_said text is some over rest may = grind (arith, run_said, run_ends, over, number_is)
 
   -- one that is over is a word
   word_takes : (text : Bool) → is_text_word run ≡ text → 0 < length run → IsRunOver new → TakesWord text old new had left number run
   word_takes true is some over = takes p.uses (grind arith) None (Some run) [] (over_said true is some over)
   word_takes false is some over = rw number_is (takes p.uses (grind arith) None None (Word new.line run ∷ []) (over_said false is some over))
 
-  goes_on : 0 < length run → IsRunOver new → GoesOn old new
-  goes_on some over = grind (arith, grows)
-
 -- what the used bytes and the place behind them say of the next word
 pub next_of : (old new : Reading) (had left : Option (List ℕ)) (result : Result (Option Read) ReadFault) → UsesWord old new had left result → Stands new result
     → NextWord old new had left result
 next_of old new had left (Ok None) p at = (gap_takes p at.2, over new AtEnd (stops_at_end new at), (omega (arith, p.uses.used), at.2))
-next_of old new had left (Ok (Some word)) p some =
-    (word_takes word.bytes.items p.0 (is_text_word word.bytes.items) refl some p.1, some, goes_on word.bytes.items p.0 some p.1)
+next_of old new had left (Ok (Some word)) p some = grind (arith, word_takes, length-append)
 next_of old new had left (Err (TooLong line)) (run, long, p, ends) at =
     let some : 0 < length run = omega (arith, long) in
-    (run, long, word_takes run p false (long_no_text run long) some ends, goes_on run p some ends)
+    (run, long, word_takes run p false (grind (arith, no_short_form)) some ends, grind (arith, length-append))
 next_of old new had left (Err (InputTooLong line)) p at = cut_takes p.0 p.1 (InputTooLong line) at
 next_of old new had left (Err (Device line)) p at = cut_takes p.0 p.1 (Device line) at
 
 -- Text lines.
 
 line_takes : {old new : Reading} {had left : Option (List ℕ)} (keyword line : List ℕ) → list_all is_in_line line ≡ true → UsesWhole old new had left line
-    → new.used ≤ limit
-    → Takes (behind_word keyword old) (among new) had left (TextLine old.line keyword line ∷ [])
+    → new.used ≤ limit → Takes (behind_word keyword old) (among new) had left (TextLine old.line keyword line ∷ [])
 line_takes {old} {new} keyword line plain (inl u) within =
-    let next : old.line + 1 ≡ new.line = grind (arith, u.line, count_then old.line line (10 ∷ []), line_lines line plain) in
-    takes u within (Some keyword) None (TextLine old.line keyword line ∷ []) (λ rest may.
-    grind (arith, append_assoc line (10 ∷ []) (view_at new rest), take_line keyword (is_cut (tail_at new rest)) old.line line (view_at new rest) plain, next))
+    let next : old.line + 1 ≡ new.line = grind (arith, u.line, count_then old.line line (10 ∷ []), line_lines) in
+    takes u within (Some keyword) None (TextLine old.line keyword line ∷ []) (grind (arith, append_assoc, take_line))
 line_takes {old} {new} keyword line plain (inr last) within = takes last.0 within (Some keyword) None (TextLine old.line keyword line ∷ []) (λ rest may.
-    grind (arith, stops_at_end new (last.1, last.2, within) rest may, append-nil line, take_last_line keyword false old.line line plain))
+    grind (arith, stops_at_end, append-nil, take_last_line))
 
 pub line_of : (old new : Reading) (had left : Option (List ℕ)) (keyword : List ℕ) (text : Text) → UsesLine old new had left (Ok text) → new.used ≤ limit
     → RestOfLine keyword old new had left (Ok text)
@@ -214,5 +149,4 @@ line_of old new had left keyword text (line, plain, is, whole) within = (line, l
 pub line_cut : {old new : Reading} {had left : Option (List ℕ)} (keyword : List ℕ) (fault : ReadFault) → UsesAll is_in_line old new had left
     → Peeks new (Err fault) → RestOfLine keyword old new had left (Err fault)
 line_cut {old} {new} keyword fault p at = none_left (Some keyword) fault at (omega (arith, p.uses.used))
-    (takes p.uses (grind arith) (Some keyword) None [] (λ rest may.
-    grind (arith, stops_at_fault fault new at rest may, append-nil p.bytes, take_last_line keyword true old.line p.bytes p.all)))
+    (takes p.uses (grind arith) (Some keyword) None [] (grind (arith, stops_at_fault, append-nil, take_last_line)))

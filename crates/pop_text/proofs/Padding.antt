@@ -1,8 +1,5 @@
 -- A text fills its room with zeros.
-use Rattle.std.proofs.Common.{◌≡◌, ◌≤◌, ℕ, ◌-◌, List, ◌++◌, length, take, drop, replicate, ap, sym, ◌∙◌}
-use Rattle.std.proofs.lemmas.List.{drop-replicate}
-use Rattle.std.proofs.Math.Seq.{take-append_seam}
-use Rattle.pop_text.specs.ties.Texts.{IsPadded, padded}
+use Rattle.pop_text.proofs.Basics.{IsPadded, List, ap, drop, drop-replicate, length, padded, replicate, sym, take, take-append_seam, ℕ, ◌++◌, ◌-◌, ◌∙◌, ◌≡◌, ◌≤◌}
 
 -- bytes over the first cells of a room of zeros
 pub bytes_padded : (bytes : List ℕ) (size : ℕ) → length bytes ≡ size → size ≤ 200 → IsPadded (bytes ++ drop size (replicate {A = ℕ} 200 0)) size

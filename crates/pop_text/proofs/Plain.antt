@@ -1,15 +1,6 @@
 -- Plain words: what skipping them takes.
-use Rattle.std.proofs.Common.{◌≡◌, ◌<◌, ◌≤◌, ℕ, zero, suc, ◌+◌, ◌-◌, List, [], ◌∷◌, ◌++◌, length, length-append, length-take, length-drop, take, drop, get_or, Option, None, Bool, true, false, refl, ◌∙◌, ap, arith, append_assoc, ◌⊎◌, inl, inr, count_by}
-use Rattle.std.specs.Prelude.{◌&&◌, ◌||◌, ◌==◌, codes}
+use Rattle.pop_text.proofs.Basics.{ArePlain, Bool, Input, IsPlain, List, None, Option, Reading, RunsOut, Skips, Takes, Uses, Word, [], among, ap, append_assoc, arith, codes, count_by, drop, drop-drop, drop-take, drop_more, false, get_or, inl, inr, is_cut, is_gap, is_in_word, is_line_end, is_named, is_plain, is_short_form, is_text_word, length, length-append, length-drop, length-take, limit, list_all, list_all-append, refl, suc, take, take-add, take-append-drop, tokens_from, true, zero, ℕ, ◌&&◌, ◌++◌, ◌+◌, ◌-◌, ◌<◌, ◌==◌, ◌||◌, ◌∙◌, ◌∷◌, ◌≡◌, ◌≤◌, ◌⊎◌}
 use Rattle.std.specs.Char.{to_ascii_lowercase}
-use Rattle.std.specs.List.{list_all}
-use Rattle.std.proofs.Math.Seq.{take-add}
-use Rattle.std.proofs.lemmas.List.{drop-take, drop-drop, drop_more, take-append-drop}
-use Rattle.std.proofs.lemmas.List.Folds.{list_all-append}
-use Rattle.pop_text.specs.Words.{Input, Word, is_cut, is_gap, is_in_word, is_line_end, is_short_form, is_text_word, limit, tokens_from}
-use Rattle.pop_text.specs.ties.Reading.{Reading, Uses}
-use Rattle.pop_text.specs.ties.Left.{Takes, among}
-use Rattle.pop_text.specs.ties.Plain.{ArePlain, IsPlain, RunsOut, Skips, is_named, is_plain}
 use Rattle.pop_text.proofs.WordLaws.{all_parts, line_lines, solid_line, RunEnds, with_gap}
 use Rattle.pop_text.proofs.Using.{keeps_bytes}
 use Rattle.pop_text.proofs.Excluded.{gap_or_word}
@@ -17,14 +8,11 @@ use Rattle.pop_text.proofs.Left.{and_false, count_then, run_said, tail_at, takes
 
 -- Names.
 
-and_three : (p q r s : Bool) → ((p && q) && r) ≡ false → (p && (q && (r && s))) ≡ false
-and_three p q r s h = grind arith
-
 -- a word with other first letters is no short form
 no_front : (x y z : ℕ) (name : List ℕ) (a b c : ℕ) (word : List ℕ)
     → (((to_ascii_lowercase a == x) && (to_ascii_lowercase b == y)) && (to_ascii_lowercase c == z)) ≡ false
     → is_short_form (x ∷ y ∷ z ∷ name) (a ∷ b ∷ c ∷ word) ≡ false
-no_front x y z name a b c word h = grind (arith, and_three, and_false)
+no_front x y z name a b c word h = grind (arith, and_false)
 
 or_parts : (p q : Bool) → (p || q) ≡ false → (p ≡ false) × (q ≡ false)
 or_parts p q h = grind arith
@@ -43,16 +31,13 @@ plain_no_closing word h = grind (arith, or_parts, no_front)
 -- Words, one more.
 
 pub none_plain : IsPlain []
-none_plain =
-    record { tokens = λ line. []; plain = λ line. refl; words = λ cut line behind ends. let same : line + 0 ≡ line = omega arith in rw same refl }
+none_plain = record { tokens = λ line. []; plain = λ line. refl; words = λ cut line behind ends. let same : line + 0 ≡ line = omega arith in rw same refl }
 
 -- a run behind bytes begins behind a gap, or there are none
 runs_start : (bytes gap word rest behind : List ℕ) → list_all is_gap gap ≡ true → list_all is_in_word word ≡ true → 0 < length word
-    → RunsOut bytes ((gap ++ word) ++ rest)
-    → (bytes ≡ []) ⊎ ((c : ℕ) × (more : List ℕ) × ((gap ++ word) ++ behind ≡ c ∷ more) × (is_gap c ≡ true))
+    → RunsOut bytes ((gap ++ word) ++ rest) → (bytes ≡ []) ⊎ ((c : ℕ) × (more : List ℕ) × ((gap ++ word) ++ behind ≡ c ∷ more) × (is_gap c ≡ true))
 runs_start bytes [] [] rest behind g w some out = absurd (omega arith)
-runs_start bytes [] (b ∷ word) rest behind g w some (inl none) = inl none
-runs_start bytes [] (b ∷ word) rest behind g w some (inr is) = absurd (gap_or_word b is (all_parts is_in_word b word w).0)
+runs_start bytes [] (b ∷ word) rest behind g w some h = grind (arith, gap_or_word, all_parts)
 runs_start bytes (c ∷ gap) word rest behind g w some out = inr (c, (gap ++ word) ++ behind, refl, (all_parts is_gap c gap g).0)
 
 module _ (bytes gap word : List ℕ) (some : 0 < length word) (blank : list_all is_gap gap ≡ true) (solid : list_all is_in_word word ≡ true)
@@ -85,14 +70,8 @@ module _ (bytes gap word : List ℕ) (some : 0 < length word) (blank : list_all 
 
 -- A step over a view: a gap of g bytes behind the first k, and a run of r.
 
-runs_out : (bytes behind : List ℕ) → 0 < length behind → is_gap (get_or behind 0 0) ≡ true → RunsOut bytes behind
-runs_out bytes behind some is = grind arith
-
 pub none_out : (behind : List ℕ) → RunsOut [] behind
 none_out behind = grind arith
-
-drop_first : (behind : List ℕ) (r : ℕ) → r < length behind → get_or (drop r behind) 0 0 ≡ get_or behind r 0
-drop_first behind r less = rw (drop_more behind r 0 less) refl
 
 module _ (view left behind : List ℕ) (k g r lines more : ℕ) (at_left : left ≡ drop k view) (at_behind : behind ≡ drop g left) (some : r ≡ 0 → ⊥)
     (short : r ≡ length behind → ⊥) (few : g ≤ length left) (fits : r ≤ length behind) where
@@ -116,18 +95,14 @@ module _ (view left behind : List ℕ) (k g r lines more : ℕ) (at_left : left 
   step_more blank solid over plain are s =
       let size : length (take r behind) ≡ r = omega (arith, length-take r behind, fits) in record {
         within = let at = s.within in omega (arith, at, ap length at_left, length-drop k view, ap length at_behind, length-drop g left, few, fits);
-        plain = rw pieces (plain_more (take k view) (take g left) (take r behind) (omega (arith, some, size)) blank solid plain (drop r behind) s.plain
-            (rw parts at s.over));
-        over = rw rest_is (runs_out (take (k + (g + r)) view) (drop r behind) (omega (arith, less, length-drop r behind))
-            (ap is_gap (drop_first behind r less) ∙ over less));
-        lines = let n = s.lines in rw pieces (omega (
+        plain = rw pieces (grind (arith, plain_more, parts));
+        over = rw rest_is (grind (arith, less, length-drop, drop_more));
+        lines = let n = s.lines in rw pieces (grind (
           arith,
-          n,
-          are,
           count_then 0 (take k view) (take g left ++ take r behind),
-          count_then 0 (take g left)
-              (take r behind),
+          count_then 0 (take g left) (take r behind),
           line_lines (take r behind) (solid_line (take r behind) solid),
+          solid_line (take r behind) solid,
         ));
       }
 

@@ -1,21 +1,5 @@
 -- Bytes used one after another.
-use Rattle.std.proofs.Common.{◌≡◌, ◌<◌, ◌≤◌, ℕ, List, [], ◌∷◌, ◌++◌, length, length-append, length-take, take, Option, Result, Bool, true, false, refl, sym, ◌∙◌, ap, arith, append_assoc, ◌⊎◌, inl, inr, subst, cond, ◌+◌, Err, Ok}
-use Rattle.std.specs.List.{list_all}
-use Rattle.std.specs.Prelude.{nat_lt}
-use Rattle.std.proofs.lemmas.List.Folds.{list_all-append}
-use Rattle.std.proofs.lemmas.List.Sums.{sum_by-append}
-use Rattle.std.proofs.lemmas.List.{append-nil, take_all, take-append-le}
-use Rattle.std.proofs.lemmas.Bool.{eqb-true, le-ltb, cases_lt, ltb-true, ltb-false}
-use Rattle.std.proofs.Math.Seq.{take-append-add}
-use Rattle.pop_text.specs.Bytes.{Consumes}
-use Rattle.pop_text.specs.Words.{is_gap, is_in_word, is_line_end}
-use Rattle.pop_text.specs.ties.Reading.{Reading, Uses, UsesAll, Asks, failures_after}
-use Rattle.pop_text.specs.ties.Runs.{Peeks, Sticks, IsRunOver, RunsTo, Stands, UsesRun, UsesSolid, UsesWord}
-use Rattle.pop_text.specs.ties.Left.{found_by, found_of}
-use Rattle.pop_text.specs.declared.read_fault.ReadFault.{ReadFault}
-use Rattle.pop_text.specs.declared.read_fault.ReadFault.TheVariants.{TooLong, InputTooLong, Device}
-use Rattle.pop_text.specs.declared.scanner.End.{End}
-use Rattle.pop_text.specs.declared.scanner.End.TheVariants.{Open}
+use Rattle.pop_text.proofs.Basics.{Asks, Bool, Consumes, Device, End, Err, InputTooLong, IsRunOver, List, Ok, Open, Option, Peeks, ReadFault, Reading, Result, RunsTo, Stands, Sticks, TooLong, Uses, UsesAll, UsesRun, UsesSolid, UsesWord, [], ap, append-nil, append_assoc, arith, cases_lt, eqb-true, failures_after, false, found_by, found_of, inl, inr, is_gap, is_in_word, is_line_end, le-ltb, length, length-append, length-take, list_all, list_all-append, ltb-false, ltb-true, nat_lt, refl, subst, sum_by-append, sym, take, take-append-add, take-append-le, take_all, true, ℕ, ◌++◌, ◌+◌, ◌<◌, ◌∙◌, ◌∷◌, ◌≡◌, ◌⊎◌}
 use Rattle.pop_text.specs.declared.word.Word.{Word as Read}
 use Rattle.pop_text.proofs.WordLaws.{line_lines, solid_line}
 
@@ -26,14 +10,7 @@ pub keeps_bytes : (had : Option (List ℕ)) → Consumes had had []
 keeps_bytes had = grind arith
 
 pub uses_then : {a b c : Reading} {had mid left : Option (List ℕ)} {xs ys : List ℕ} → Uses a b had mid xs → Uses b c mid left ys → Uses a c had left (xs ++ ys)
-uses_then {a} {b} {c} {had} {mid} {left} {xs} {ys} p q = record {
-  taken = p.taken ++ q.taken;
-  consumed = consumes_then had mid left p.taken q.taken p.consumed q.consumed;
-  unread = grind (arith, p.unread, q.unread, append_assoc {A = ℕ});
-  used = omega (arith, p.used, q.used, length-append xs ys);
-  line = omega (arith, p.line, q.line, sum_by-append (λ x. cond (is_line_end x) 1 0) xs ys);
-  still = grind (arith, p.still, q.still);
-}
+uses_then {a} {b} {c} {had} {mid} {left} {xs} {ys} p q = grind (arith, consumes_then, append_assoc, length-append, sum_by-append)
 
 -- no byte was used
 unfoldable pub no_run : (test : ℕ → Bool) (place : Reading) (had : Option (List ℕ)) → UsesAll test place place had had
@@ -45,8 +22,7 @@ no_run test place had = record {
 
 unfoldable pub all_then : {test : ℕ → Bool} {a b c : Reading} {had mid left : Option (List ℕ)} → UsesAll test a b had mid → UsesAll test b c mid left
     → UsesAll test a c had left
-all_then {test} p q =
-    record { bytes = p.bytes ++ q.bytes; all = list_all-append test p.bytes q.bytes ∙ rw (p.all, q.all) refl; uses = uses_then p.uses q.uses }
+all_then {test} p q = record { bytes = p.bytes ++ q.bytes; all = list_all-append test p.bytes q.bytes ∙ rw (p.all, q.all) refl; uses = uses_then p.uses q.uses }
 
 -- after a byte was looked at
 unfoldable pub all_seen : {test : ℕ → Bool} {a b c : Reading} {had mid left : Option (List ℕ)} → UsesAll test a b had mid → Uses b c mid left []
@@ -76,19 +52,16 @@ more_so_far part next p u all uses is = record { used = all_then (all_seen p.use
 
 -- Ends and failures.
 
-pub failures_same : (a : End) (m : ℕ) → failures_after a a m ≡ m
-failures_same a m = grind arith
-
 -- failures of two steps
 pub failures_then : (a b c : End) (n m k : ℕ) → a ≡ Open ⊎ b ≡ a → b ≡ Open ⊎ c ≡ b → m ≡ failures_after a b n → k ≡ failures_after b c m
     → k ≡ failures_after a c n
-failures_then a b c n m k p q e f = grind (arith, failures_same)
+failures_then a b c n m k p q e f = grind arith
 
 pub asks_none : (end : End) (had : Option (List ℕ)) (n : ℕ) → Asks end end had had n n
-asks_none end had n = record { seen = λ h. h; ends = inr refl; counted = sym (failures_same end n) }
+asks_none end had n = grind arith
 
 pub asks_then : {a b c : End} {had mid left : Option (List ℕ)} {n m k : ℕ} → Asks a b had mid n m → Asks b c mid left m k → Asks a c had left n k
-asks_then p q = grind (arith, failures_same)
+asks_then p q = grind arith
 
 -- Runs.
 
@@ -103,15 +76,7 @@ take_room kept part room is = rw (← is) (take-append-add kept part room)
 -- what the word has of a longer run, and whether it has all
 pub run_more : (run part : List ℕ) → 0 < length part → kept_of_run (take 160 run ++ part) ≡ kept_of_run (run ++ part)
 run_more run part some = elim (cases_lt 160 (length run)) [
-  | inl long ↦ grind (
-    arith,
-    length-take 160 run,
-    take_room (take 160 run) part 0,
-    append-nil (take 160 run),
-    take-append-le 160 run part,
-    le-ltb,
-    length-append,
-  )
+  | inl long ↦ grind (arith, length-take 160 run, take_room (take 160 run) part 0, append-nil, take-append-le 160 run part, le-ltb, length-append)
   | inr short ↦ ap (λ r. kept_of_run (r ++ part)) (take_all 160 run short)
 ]
 
@@ -120,11 +85,8 @@ pub run_over : {old new : Reading} {had left : Option (List ℕ)} {kept : List �
     → IsRunOver new → RunsTo old new had left kept (Ok fits)
 run_over {kept = kept} true p over =
     let few : length p.used.bytes < 161 = ltb-true (length p.used.bytes) 161 (sym (ap (λ k. k.1) p.is)) in
-    let whole : kept ≡ p.used.bytes = ap (λ k. k.0) p.is ∙ take_all 160 p.used.bytes (omega arith) in
-    rw whole (record { solid = p.used.all; uses = p.used.uses }, over)
-run_over false p over =
-    let many : 161 ≤ length p.used.bytes = ltb-false (length p.used.bytes) 161 (sym (ap (λ k. k.1) p.is)) in
-    (p.used.bytes, omega arith, record { solid = p.used.all; uses = p.used.uses }, over)
+    grind (arith, take_all 160 p.used.bytes (omega arith))
+run_over false p over = grind (arith, ltb-false)
 
 -- a gap, and a run behind it
 gap_run : {a b c : Reading} {had mid left : Option (List ℕ)} (number : ℕ) {run : List ℕ} → UsesAll is_gap a b had mid → UsesSolid b c mid left run
@@ -137,18 +99,14 @@ first_byte : (b : ℕ) (rest : List ℕ) (new : Reading) (taken run : List ℕ) 
 first_byte b rest new taken [] e out over = grind (arith, e, out)
 first_byte b rest new taken (c ∷ run) e out over = omega arith
 
-cut_line : {mid new : Reading} {met left : Option (List ℕ)} {run : List ℕ} (number : ℕ) → UsesSolid mid new met left run → number ≡ new.line → number ≡ mid.line
-cut_line {run = run} number q is = let u = q.uses in omega (arith, is, u.line, line_lines run (solid_line run q.solid))
-
 -- a gap and the run behind it are the word that is found, or the fault
-pub found_uses : (old mid new : Reading) (had met left : Option (List ℕ)) (word : Read) (run : Result Bool ReadFault)
-    → UsesAll is_gap old mid had met → word.line ≡ mid.line → RunsTo mid new met left word.bytes.items run
-    → UsesWord old new had left (found_by word (found_of run word.line))
+pub found_uses : (old mid new : Reading) (had met left : Option (List ℕ)) (word : Read) (run : Result Bool ReadFault) → UsesAll is_gap old mid had met
+    → word.line ≡ mid.line → RunsTo mid new met left word.bytes.items run → UsesWord old new had left (found_by word (found_of run word.line))
 found_uses old mid new had met left word (Ok true) p line q = (gap_run word.line p q.0 line, q.1)
 found_uses old mid new had met left word (Ok false) p line (run, long, q, over) = (run, long, gap_run word.line p q line, over)
 found_uses old mid new had met left word (Err (TooLong number)) p line q = absurd q.2
-found_uses old mid new had met left word (Err (InputTooLong number)) p line (run, q, at) = (run, gap_run number p q (cut_line number q at.2))
-found_uses old mid new had met left word (Err (Device number)) p line (run, q, at) = (run, gap_run number p q (cut_line number q at.2))
+found_uses old mid new had met left word (Err (InputTooLong number)) p line (run, q, at) = (run, gap_run number p q (grind (arith, line_lines, solid_line)))
+found_uses old mid new had met left word (Err (Device number)) p line (run, q, at) = (run, gap_run number p q (grind (arith, line_lines, solid_line)))
 
 -- the word has a byte where the run's first one is in no gap
 pub found_stands : (mid new : Reading) (met left : Option (List ℕ)) (word : Read) (run : Result Bool ReadFault) (b : ℕ) (rest : List ℕ)
@@ -156,10 +114,10 @@ pub found_stands : (mid new : Reading) (met left : Option (List ℕ)) (word : Re
 found_stands mid new met left word run b rest p at out = grind (arith, first_byte)
 
 -- a gap up to a fault
-pub uses_cut : (old new : Reading) (had left : Option (List ℕ)) (fault : ReadFault) → UsesAll is_gap old new had left → Peeks new (Err fault) → UsesWord old new had left (Err fault)
+pub uses_cut : (old new : Reading) (had left : Option (List ℕ)) (fault : ReadFault) → UsesAll is_gap old new had left → Peeks new
+    (Err fault) → UsesWord old new had left (Err fault)
 unfolding no_run
-uses_cut old new had left fault p at =
-    found_uses old new new had left left (record { bytes = record { items = [] }; line = new.line }) (Err fault) p refl
+uses_cut old new had left fault p at = found_uses old new new had left left (record { bytes = record { items = [] }; line = new.line }) (Err fault) p refl
     ([], record { solid = refl; uses = (no_run is_gap new left).uses }, at)
 
 pub fault_sticks : (fault : ReadFault) (place : Reading) → Peeks place (Err fault) → Sticks place fault

@@ -1,18 +1,7 @@
 -- The window: bytes that wait between two places of an array.
-use Rattle.std.proofs.Common.{◌≡◌, ◌<◌, ◌≤◌, ℕ, zero, suc, ◌+◌, ◌-◌, List, [], ◌∷◌, length, length-take, length-drop, take, drop, slice_range, slice_index, Option, Some, Ok, Bool, true, ◌==◌, refl, sym, ◌∙◌, ap, arith, get_or, count_by}
-use Rattle.std.specs.List.{list_all}
-use Rattle.std.proofs.lemmas.Bool.{le-ltb}
-use Rattle.std.proofs.lemmas.List.{append-nil, take-append-drop, drop-take, drop-drop, drop_more, length-take-le, take-take}
-use Rattle.pop_text.specs.Words.{is_in_line, is_line_end, limit}
-use Rattle.pop_text.specs.ties.Reading.{IsFront, IsView, Leads, Reading, Uses}
-use Rattle.pop_text.specs.ties.Runs.{Peeks}
-use Rattle.pop_text.specs.ties.Texts.{with_byte}
-use Rattle.pop_text.specs.declared.scanner.End.{End}
+use Rattle.pop_text.proofs.Basics.{Bool, End, IsFront, IsView, Leads, List, Ok, Option, Peeks, Reading, Some, Uses, [], append-nil, arith, count_by, drop, drop-drop, drop-take, drop_more, get_or, is_in_line, is_line_end, le-ltb, length, length-drop, length-take, length-take-le, limit, list_all, refl, slice_index, slice_range, suc, take, take-append-drop, take-take, true, with_byte, zero, ℕ, ◌+◌, ◌-◌, ◌<◌, ◌==◌, ◌∷◌, ◌≡◌, ◌≤◌}
 use Rattle.pop_text.proofs.Using.{keeps_bytes}
 use Rattle.pop_text.proofs.WordLaws.{line_lines}
-
-window_length : (cells : List ℕ) (start stop : ℕ) → stop ≤ length cells → length (slice_range cells start stop) ≡ stop - start
-window_length cells start stop within = omega (arith, length-take (stop - start) (drop start cells), length-drop start cells, within)
 
 -- its first byte
 window_front : (cells : List ℕ) (start stop : ℕ) → start < stop → stop ≤ length cells
@@ -22,9 +11,7 @@ window_front cells start stop some within = grind (arith, drop_more)
 -- and what stands behind others
 window_drop : (cells : List ℕ) (start stop count : ℕ) → start + count ≤ stop
     → slice_range cells (start + count) stop ≡ drop count (slice_range cells start stop)
-window_drop cells start stop count within =
-    let parts : stop - start ≡ count + (stop - (start + count)) = omega arith in
-    grind (arith, drop-take count (stop - (start + count)) (drop start cells), drop-drop count start cells)
+window_drop cells start stop count within = grind (arith, drop-take count (stop - (start + count)) (drop start cells), drop-drop count start cells)
 
 module _ (cells : List ℕ) (start stop : ℕ) (within : stop ≤ length cells) where
   abbrev reading : ℕ → ℕ → ℕ → End → Reading
@@ -37,13 +24,11 @@ module _ (cells : List ℕ) (start stop : ℕ) (within : stop ≤ length cells) 
   pub some_used : (used line count lines : ℕ) (end : End) (had : Option (List ℕ)) → start ≤ stop → count ≤ length (slice_range cells start stop)
       → lines ≡ count_by is_line_end (take count (slice_range cells start stop))
       → Uses (reading start used line end) (reading (start + count) (used + count) (line + lines) end) had had (take count (slice_range cells start stop))
-  some_used used line count lines end had in_order few are =
-      let room : start + count ≤ stop = omega (arith, window_length cells start stop within, few) in
-      grind (arith, window_drop cells start stop count room, keeps_bytes, append-nil, take-append-drop, length-take-le)
+  some_used used line count lines end had in_order few are = grind (arith, window_drop, keeps_bytes, append-nil, take-append-drop, length-take, length-drop)
 
   pub rest_waits : (count : ℕ) → start ≤ stop → count ≤ length (slice_range cells start stop)
       → slice_range cells (start + count) stop ≡ drop count (slice_range cells start stop)
-  rest_waits count in_order few = window_drop cells start stop count (omega (arith, window_length cells start stop within, few))
+  rest_waits count in_order few = window_drop cells start stop count (grind (arith, length-take, length-drop))
 
 -- The bytes that belong to the input.
 
@@ -54,15 +39,8 @@ pub record IsWithin (now : Reading) (view : List ℕ) (count : ℕ) : Type 0 whe
   pub room : now.used + count ≤ limit
 
 module _ {now : Reading} {view : List ℕ} {count : ℕ} (is : IsView now view) (few : count ≤ length view) where
-  size : length view ≤ limit - now.used
-  size = omega (arith, ap length is.bytes, length-take (limit - now.used) now.window)
-
   pub view_within : IsWithin now view count
-  view_within = record {
-    front = grind (arith, is.bytes, take-take count (limit - now.used) now.window, size);
-    few = omega (arith, ap length is.bytes, length-take (limit - now.used) now.window);
-    room = omega (arith, size, is.within);
-  }
+  view_within = grind (arith, take-take, length-take)
 
   -- some stand there, where the window's first byte passes a test
   pub view_some : (test : ℕ → Bool) → ((b : ℕ) (rest : List ℕ) → view ≡ b ∷ rest → test b ≡ true → 0 < count) → (b : ℕ) (rest : List ℕ) → now.window ≡ b ∷ rest
@@ -71,18 +49,7 @@ module _ {now : Reading} {view : List ℕ} {count : ℕ} (is : IsView now view) 
 
 pub front_is : {now : Reading} {view : List ℕ} {count : ℕ} (test : ℕ → Bool) → IsView now view → Leads test view count
     → ((bytes : List ℕ) → list_all test bytes ≡ true → list_all is_in_line bytes ≡ true) → IsFront test now (take count view)
-front_is {now} {view} {count} test is p plain =
-    let long : length (take count view) ≡ count = length-take-le count view p.within in
-    let v = view_within is p.within in
-    let front : take (length (take count view)) now.window ≡ take count view = ap (λ n. take n now.window) long ∙ sym v.front in
-    record {
-      front = front;
-      flat = sym (ap (count_by is_line_end) front ∙ line_lines (take count view) (plain (take count view) p.all));
-      within = omega (arith, long, v.few);
-      room = omega (arith, long, v.room);
-      all = p.all;
-      some = λ b rest at passes room. let h = view_some is p.within test p.some b rest at passes room in omega (arith, long, h);
-    }
+front_is {now} {view} {count} test is p plain = grind (arith, length-take-le count view p.within, view_within is p.within, line_lines, view_some)
 
 -- bytes before the first line end
 pub plain_front : (view : List ℕ) (count : ℕ) → count ≤ length view → ((k : ℕ) → k < count → (slice_index view k == 10) ≡ true → ⊥)

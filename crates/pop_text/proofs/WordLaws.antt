@@ -1,9 +1,5 @@
 -- What stands first in the words of a view.
-use Rattle.std.proofs.Common.{◌≡◌, ℕ, ◌+◌, ◌⊎◌, ◌&&◌, List, [], ◌∷◌, ◌++◌, Bool, true, false, refl, sym, ◌∙◌, ap, inl, inr, count_by, None, Some, cond, arith, if◌then◌else◌}
-use Rattle.std.specs.List.{slice_split, list_all}
-use Rattle.std.proofs.lemmas.List.{append-nil}
-use Rattle.std.proofs.lemmas.List.Sums.{sum_by-append}
-use Rattle.pop_text.specs.Words.{Token, Word, TextLine, is_blank, is_line_end, is_gap, is_in_line, is_in_word, is_text_word, runs_of, onto_run, tokens_of, lines_tokens, text_lines, tokens_from, is_line_over}
+use Rattle.pop_text.proofs.Basics.{Bool, List, None, Some, TextLine, Token, Word, [], ap, append-nil, arith, cond, count_by, false, if◌then◌else◌, inl, inr, is_blank, is_gap, is_in_line, is_in_word, is_line_end, is_line_over, is_text_word, lines_tokens, list_all, refl, runs_of, slice_split, sum_by-append, sym, text_lines, tokens_from, tokens_of, true, ℕ, ◌&&◌, ◌++◌, ◌+◌, ◌∙◌, ◌∷◌, ◌≡◌, ◌⊎◌}
 
 -- Lines of a view.
 
@@ -23,10 +19,6 @@ word_byte b h = grind arith
 pub all_parts : (test : ℕ → Bool) (b : ℕ) (bytes : List ℕ) → list_all test (b ∷ bytes) ≡ true → (test b ≡ true) × (list_all test bytes ≡ true)
 all_parts test b bytes h = grind arith
 
-skip_one : (cut : Bool) (n b : ℕ) (view : List ℕ) → is_gap b ≡ true
-    → tokens_from None cut n (b ∷ view) ≡ tokens_from None cut (n + cond (is_line_end b) 1 0) view
-skip_one cut n b view h = grind (arith, gap_byte, skip_blank)
-
 -- a gap only counts lines
 pub skip_gap : (cut : Bool) (n : ℕ) (gap view : List ℕ) → list_all is_gap gap ≡ true
     → tokens_from None cut n (gap ++ view) ≡ tokens_from None cut (n + count_by is_line_end gap) view
@@ -35,8 +27,7 @@ skip_gap cut n (b ∷ gap) view h =
     let p = all_parts is_gap b gap h in
     let sum : count_by is_line_end (b ∷ gap) ≡ (0 + cond (is_line_end b) 1 0) + count_by is_line_end gap =
     sum_by-append (λ x. cond (is_line_end x) 1 0) (b ∷ []) gap in
-    skip_one cut n b (gap ++ view) p.0 ∙ skip_gap cut (n + cond (is_line_end b) 1 0) gap view p.1
-    ∙ ap (λ m. tokens_from None cut m view) (omega (arith, sum))
+    grind (arith, gap_byte, skip_gap cut (n + cond (is_line_end b) 1 0) gap view p.1)
 
 -- Runs of a line.
 
@@ -45,14 +36,11 @@ data Apart : List ℕ → Type 0 where
   nothing : Apart []
   blank : {c : ℕ} {line : List ℕ} → is_blank c ≡ true → Apart (c ∷ line)
 
-run_step : (b c : ℕ) (line : List ℕ) → is_blank b ≡ false → is_blank c ≡ false → runs_of (b ∷ c ∷ line) ≡ onto_run b (runs_of (c ∷ line))
-run_step b c line p q = rw (p, q) refl
-
 -- the first run of a line
 runs_front : (b : ℕ) (run line : List ℕ) → list_all is_in_word (b ∷ run) ≡ true → Apart line → runs_of ((b ∷ run) ++ line) ≡ (b ∷ run, line) ∷ runs_of line
 runs_front b [] [] h nothing = grind (arith, word_byte)
 runs_front b [] (c ∷ line) h (blank is) = grind (arith, word_byte)
-runs_front b (c ∷ run) line h apart = grind (arith, word_byte, run_step, runs_front c run line)
+runs_front b (c ∷ run) line h apart = grind (arith, word_byte, runs_front c run line)
 
 -- Words.
 
@@ -146,7 +134,7 @@ pub take_run : (cut : Bool) (n b : ℕ) (run view : List ℕ) → list_all is_in
     → tokens_from None cut n ((b ∷ run) ++ view) ≡ run_tokens (is_text_word (b ∷ run)) cut n (b ∷ run) view
 take_run cut n b run view h ends =
     let p = parts_of cut view ends in
-    grind (arith, line_parts (b ∷ run) view p.first p.others, solid_line (b ∷ run), p.are, run_parts cut n b run p.first p.others h p.over, run_tokens_are)
+    grind (arith, line_parts (b ∷ run) view p.first p.others, solid_line (b ∷ run), p.are, run_parts, run_tokens_are)
 
 -- a run that the end of the view cuts is no token
 pub drop_run : (n : ℕ) (run : List ℕ) → list_all is_in_word run ≡ true → tokens_from None true n run ≡ []
@@ -160,9 +148,7 @@ drop_run n (b ∷ run) h =
 -- behind a text word, a line that its line end ends is the first token
 pub take_line : (keyword : List ℕ) (cut : Bool) (n : ℕ) (line view : List ℕ) → list_all is_in_line line ≡ true
     → tokens_from (Some keyword) cut n (line ++ 10 ∷ view) ≡ TextLine n keyword line ∷ tokens_from None cut (n + 1) view
-take_line keyword cut n line view h =
-    let s = split_some view in
-    rw (line_parts line (10 ∷ view) [] (s.0 ∷ s.1) h (rw s.2 refl), s.2, append-nil line) refl
+take_line keyword cut n line view h = let s = split_some view in rw (line_parts line (10 ∷ view) [] (s.0 ∷ s.1) h (rw s.2 refl), s.2, append-nil line) refl
 
 -- one that the end of the view ends is the last, where nothing is cut, and otherwise no token
 pub take_last_line : (keyword : List ℕ) (cut : Bool) (n : ℕ) (line : List ℕ) → list_all is_in_line line ≡ true

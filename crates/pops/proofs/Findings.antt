@@ -1,15 +1,9 @@
 -- The events of a problem, printed one by one.
-use Rattle.std.proofs.Common.{◌≡◌, ℕ, List, [], ◌∷◌, ◌++◌, map, drop, Option, None, Some, refl, sym, ap, ◌∙◌, append_assoc}
-use Rattle.std.specs.Prelude.{slice_get}
-use Rattle.std.specs.List.{flat_map}
+use Rattle.pops.proofs.Basics.{Appends, Begins, List, None, Option, Some, [], ap, append-nil, append_assoc, appends_none, appends_then, begins_later, begins_longer, drop, event_of, events, events_of, flat_map, map, refl, slice_get, sym, ℕ, ◌++◌, ◌∙◌, ◌∷◌, ◌≡◌}
 use Rattle.std.specs.Option.{option_map}
-use Rattle.std.proofs.lemmas.List.{append-nil}
 use Rattle.std.proofs.lemmas.Option.{none-some, same_Some}
 use Rattle.chess_rules.specs.RuleSet.{RuleSet}
 use Rattle.pop_input.specs.Posed.{Posed, rule_of}
-use Rattle.pop_solve.specs.Events.{event_of, events, events_of}
-use Rattle.pop_text.specs.Bytes.{Appends, Begins}
-use Rattle.pop_text.proofs.Appending.{appends_then, appends_none, begins_later, begins_longer}
 
 -- From before to now the texts of the first items were written, and those of these items are still to come.
 pub record IsPrinting {A : Type 0} (text : A → List ℕ) (all left : List A) (before now : Option (List ℕ)) : Type 0 where

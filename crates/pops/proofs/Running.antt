@@ -1,34 +1,16 @@
 -- A run, step by step.
-use Rattle.std.proofs.Common.{◌≡◌, ◌≤◌, ◌^◌, ℕ, ◌+◌, ◌-◌, ◌||◌, List, [], ◌∷◌, ◌++◌, length, length-append, take, Option, None, Some, Result, Ok, Err, Bool, true, false, not, refl, sym, ◌∙◌, ap, arith, append_assoc, if◌then◌else◌, IfSome}
-use Rattle.std.specs.Prelude.{is_err}
-use Rattle.std.specs.List.{list_any}
+use Rattle.pops.proofs.Basics.{Appends, Bool, Broken, Choice, Clean, Consumes, End, Ended, Ending, Entry, Err, Finished, IfSome, Input, IsSeen, List, MayFollow, None, Ok, Open, Option, OutputFailed, Place, Problem, Reads, Result, Runs, Some, Standing, Steps, TakesItem, Writes, [], after, ap, append-nil, append_assoc, appends_kept, appends_none, appends_then, arith, begins_later, begins_longer, consumes_then, entries_in, entries_left, entry_text, failures_after, false, grew, is_err, is_faulty, length, length-append, length-take, limit, list_any, met, not, refl, report_from, start, status_of, status_with, step_of, sym, take, taken_of, tells_failure, true, ℕ, ◌++◌, ◌+◌, ◌-◌, ◌^◌, ◌||◌, ◌∙◌, ◌∷◌, ◌≡◌, ◌≤◌}
 use Rattle.std.proofs.lemmas.Bool.{lt-ltb}
-use Rattle.std.proofs.lemmas.List.{append-nil, length-take}
 use Rattle.std.proofs.Math.Seq.{take-append_seam}
 use Rattle.pop_text.specs.declared.sink.SinkFault.{SinkFault}
-use Rattle.pop_text.specs.declared.scanner.End.{End}
-use Rattle.pop_text.specs.declared.scanner.End.TheVariants.{Open, Ended, Broken}
-use Rattle.pop_text.specs.Bytes.{Appends, Consumes, Writes}
-use Rattle.pop_text.specs.ties.Left.{after, MayFollow}
-use Rattle.pop_text.specs.ties.Reading.{IsSeen, failures_after}
-use Rattle.pop_text.specs.Words.{Input, Ending, Clean, Failed, limit, words_from}
-use Rattle.pop_text.proofs.Appending.{appends_then, appends_kept, appends_none, begins_later, begins_longer}
-use Rattle.pop_text.proofs.Using.{consumes_then}
-use Rattle.pop_input.specs.Blocks.{Entry, entries_of}
-use Rattle.pop_input.specs.ties.Standing.{Standing, Reads, entries_left, start as before_all}
-use Rattle.pops.specs.Report.{Choice, entries_in, entry_text, is_faulty, report, report_from, status_of, tells_failure}
-use Rattle.pops.specs.Run.{Runs, grew, met, taken_of}
-use Rattle.pops.specs.ties.Sessions.{Place, Steps, TakesItem, start, status_with, step_of}
+use Rattle.pop_input.specs.ties.Standing.{start as before_all}
 use Rattle.pops.specs.declared.status.Status.{Status}
-use Rattle.pops.specs.declared.status.Status.TheVariants.{Sound, Faulty, InputFailed, OutputFailed}
-use Rattle.pops.specs.declared.status.Step.TheVariants.{Problem, Finished}
 
 -- an item that was read and printed so is what a step answers of it
 pub item_done : {A : Type 0} (old new : Place) (had left before now : Option (List ℕ)) (entry : Entry) (printed : Result A SinkFault)
     → TakesItem old new had left entry → new.stopped ≡ is_err printed → Writes before now (entry_text old.choice old.number entry) printed
     → Steps old new had left before now (step_of printed (not (is_faulty entry)))
-item_done old new had left before now entry (Ok done) takes stopped written = (entry, takes, written, stopped, refl)
-item_done old new had left before now entry (Err fault) takes stopped written = (entry, takes, written, stopped)
+item_done old new had left before now entry printed takes stopped written = grind arith
 
 -- From the beginning to now these items were read, and their report was written.
 pub record Progress (choice : Choice) (now : Place) (had left before taken : Option (List ℕ)) : Type 0 where
@@ -40,63 +22,30 @@ pub record Progress (choice : Choice) (now : Place) (had left before taken : Opt
   pub choice_is : now.choice ≡ choice
   pub running : now.stopped ≡ false
 
-consumes_none : (a : Option (List ℕ)) → Consumes a a []
-consumes_none None = tt
-consumes_none (Some a) = refl
-
-after_after : (xs ys : List ℕ) (rest : Input) → after (xs ++ ys) rest ≡ after xs (after ys rest)
-after_after xs ys rest = ap (λ bytes. let r : Input = record { bytes = bytes; ending = rest.ending } in r) (append_assoc xs ys rest.bytes)
-
 -- one read after another
 pub reads_then : (a b c : Standing) (had mid left : Option (List ℕ)) (xs ys : List Entry) → Reads a b had mid xs → Reads b c mid left ys
     → Reads a c had left (xs ++ ys)
-reads_then a b c had mid left xs ys p q = record {
-  bytes = p.bytes ++ q.bytes;
-  taken = consumes_then had mid left p.bytes q.bytes p.taken q.taken;
-  follows = λ rest may. rw (after_after p.bytes q.bytes rest) (p.follows (after q.bytes rest) (q.follows rest may));
-  begin = λ rest may. ap (entries_left a) (after_after p.bytes q.bytes rest) ∙ p.begin (after q.bytes rest) (q.follows rest may)
-      ∙ ap (λ zs. xs ++ zs) (q.begin rest may) ∙ sym (append_assoc xs ys (entries_left c rest));
-  amount = omega (arith, length-append p.bytes q.bytes, p.amount, q.amount);
-}
+reads_then a b c had mid left xs ys p q = grind (arith, consumes_then had mid left p.bytes q.bytes p.taken q.taken, append_assoc, length-append p.bytes q.bytes)
 
 report-append : (choice : Choice) (n : ℕ) (xs ys : List Entry) → report_from choice n (xs ++ ys) ≡ report_from choice n xs
     ++ report_from choice (n + length xs) ys
 report-append choice n [] ys = ap (λ k. report_from choice k ys) (omega arith)
-report-append choice n (x ∷ xs) ys =
-    let e : (n + 1) + length xs ≡ n + length (x ∷ xs) = omega arith in
-    ap (λ t. entry_text choice n x ++ t) (report-append choice (n + 1) xs ys ∙ ap (λ k. report_from choice (n + 1) xs ++ report_from choice k ys) e)
-    ∙ sym (append_assoc (entry_text choice n x) _ _)
-
-or_assoc : (a b c : Bool) → (a || (b || c)) ≡ ((a || b) || c)
-or_assoc true b c = refl
-or_assoc false b c = refl
+report-append choice n (x ∷ xs) ys = grind (arith, append_assoc, report-append choice (n + 1) xs ys)
 
 any_more : (test : Entry → Bool) (xs : List Entry) (x : Entry) → list_any test (xs ++ x ∷ []) ≡ (list_any test xs || test x)
 any_more test [] x = grind arith
-any_more test (y ∷ xs) x = rw (any_more test xs x) (or_assoc (test y) (list_any test xs) (test x))
-
-status_cases : (failed faulty failure fault : Bool) → (if failed || failure then InputFailed else (if faulty || fault then Faulty else Sound))
-    ≡ status_with (if failed then InputFailed else (if faulty then Faulty else Sound)) failure fault
-status_cases true faulty true fault = refl
-status_cases true faulty false true = refl
-status_cases true faulty false false = refl
-status_cases false faulty true fault = refl
-status_cases false true false true = refl
-status_cases false false false true = refl
-status_cases false true false false = refl
-status_cases false false false false = refl
+any_more test (y ∷ xs) x = rw (any_more test xs x) (grind arith)
 
 -- the status of items and one more
 status_more : (xs : List Entry) (x : Entry) → status_of (xs ++ x ∷ []) ≡ status_with (status_of xs) (tells_failure x) (is_faulty x)
 unfolding status_of
-status_more xs x = rw (any_more tells_failure xs x, any_more is_faulty xs x)
-    (status_cases (list_any tells_failure xs) (list_any is_faulty xs) (tells_failure x) (is_faulty x))
+status_more xs x = grind (arith, any_more)
 
 pub progress_start : (choice : Choice) (had before : Option (List ℕ)) → Progress choice (start choice) had had before before
 unfolding status_of
 progress_start choice had before = record {
   items = [];
-  reads = record { bytes = []; taken = consumes_none had; follows = λ rest may. may; begin = λ rest may. refl; amount = refl };
+  reads = record { bytes = []; taken = grind arith; follows = λ rest may. may; begin = λ rest may. refl; amount = refl };
   written = appends_none before;
   number = refl;
   status = refl;
@@ -126,34 +75,19 @@ input : List ℕ → Ending → Input
 input bytes ending = record { bytes = bytes; ending = ending }
 
 taken_front : (bytes ys : List ℕ) → take (length (bytes ++ ys) - length ys) (bytes ++ ys) ≡ bytes ++ []
-taken_front bytes ys =
-    let e : length (bytes ++ ys) - length ys ≡ length bytes = omega (arith, length-append bytes ys) in
-    ap (λ n. take n (bytes ++ ys)) e ∙ take-append_seam bytes ys ∙ sym (append-nil bytes)
+taken_front bytes ys = grind (arith, length-append bytes ys, take-append_seam bytes ys, append-nil bytes)
 
 -- what was met is what was taken and what may follow
 met_after : (e : End) (left : Option (List ℕ)) (r bytes : List ℕ) → Consumes (Some r) left bytes → IsSeen e left
     → (rest : Input) × MayFollow e rest × (met (is_broken e) r left ≡ after bytes rest)
 met_after e None r bytes p seen = absurd p
 met_after Open (Some ys) r bytes p seen = (record { bytes = ys; ending = Clean }, tt, ap (λ bs. let i : Input = record { bytes = bs; ending = Clean } in i) p)
-met_after Ended (Some ys) r bytes p seen = (
-  record { bytes = []; ending = Clean },
-  refl,
-  ap (λ bs. let i : Input = record { bytes = bs; ending = Clean } in i)
-      (p ∙ ap (λ zs. bytes ++ zs) seen),
-)
-met_after Broken (Some ys) r bytes p seen = (
-  record { bytes = []; ending = Failed },
-  refl,
-  ap
-      (λ bs. let i : Input = record { bytes = bs; ending = Failed } in i) (ap (λ zs. take (length zs - length ys) zs) p ∙ taken_front bytes ys),
-)
+met_after e (Some ys) r bytes p seen = grind (arith, taken_front)
 
 -- before all items, those that are still to come are all of the input's
 all_to_come : (rest : Input) → entries_left before_all rest ≡ entries_in rest
 unfolding entries_in
-all_to_come rest =
-    let all : limit - 0 ≡ limit = omega arith in
-    ap (λ room. entries_of true (words_from None room 1 rest)) all
+all_to_come rest = grind arith
 
 -- a run that ends
 progress_end : (choice : Choice) (old new : Place) (mid left before t now : Option (List ℕ)) (r : List ℕ) (answer : Status)
@@ -175,12 +109,7 @@ progress_cut choice old new mid left before t now r fault p q seen =
     let m = met_after new.at.at.end left r all.bytes all.taken seen in
     let items : entries_in (met (is_broken new.at.at.end) r left) ≡ (p.items ++ q.0 ∷ []) ++ entries_left new.at m.0 =
     ap entries_in m.2 ∙ sym (all_to_come _) ∙ all.begin m.0 m.1 in
-    let text : report choice (met (is_broken new.at.at.end) r left) ≡ (report_from choice 1 p.items ++ entry_text choice (1 + length p.items) q.0)
-    ++ report_from choice (1 + length (p.items ++ q.0 ∷ [])) (entries_left new.at m.0) =
-    ap (report_from choice 1) items ∙ report-append choice 1 (p.items ++ q.0 ∷ []) _
-    ∙ ap (λ x. x ++ report_from choice (1 + length (p.items ++ q.0 ∷ [])) (entries_left new.at m.0))
-    (report-append choice 1 p.items (q.0 ∷ []) ∙ ap (λ x. report_from choice 1 p.items ++ x) (append-nil _)) in
-    (rw text (begins_longer _ (begins_later before t now _ _ p.written (rw (p.number, p.choice_is) at q.2))), refl)
+    grind (arith, report-append, begins_longer, begins_later)
 
 grew_same : (n : ℕ) → grew n n ≡ false
 grew_same n = grind arith
@@ -190,9 +119,7 @@ grew_more n = lt-ltb n (n + 1) (omega arith)
 
 -- the count of failures says whether the input broke off
 grew_broken : (e : End) (n m : ℕ) → m ≡ failures_after Open e n → grew n m ≡ is_broken e
-grew_broken Open n m is = rw is (grew_same n)
-grew_broken Ended n m is = rw is (grew_same n)
-grew_broken Broken n m is = rw is (grew_more n)
+grew_broken e n m is = grind (arith, grew_same, grew_more)
 
 pub run_ends : (choice : Choice) (old new : Place) (had mid left before t now : Option (List ℕ)) (answer : Status) (n m v w : ℕ)
     → Progress choice old had mid before t → Steps old new mid left t now (Ok (Finished answer)) → IsSeen new.at.at.end left
@@ -212,17 +139,11 @@ run_cut choice old new (Some r) mid left before t now fault n m v w p q seen rea
 taken_most : (new : Standing) (r : List ℕ) (left : Option (List ℕ)) (items : List Entry) → Reads before_all new (Some r) left items
     → new.at.used + length new.at.window ≤ limit + 4096 → length (taken_of r left) ≤ 2 ^ 30 + 4096
 unfolding limit
-taken_most new r None items p most = absurd p.taken
-taken_most new r (Some ys) items p most =
-    let all : length r ≡ length p.bytes + length ys = ap length p.taken ∙ length-append p.bytes ys in
-    let amount : length p.bytes + (0 + 0) ≡ new.at.used + length new.at.window = p.amount in
-    omega (arith, length-take (length r - length ys) r)
+taken_most new r left items p most = grind (arith, length-append, length-take)
 
 -- a source that has failed is not asked again
 pub failed_once : (e : End) (n m : ℕ) → m ≡ failures_after Open e n → m ≤ n + 1
-failed_once Open n m is = omega arith
-failed_once Ended n m is = omega arith
-failed_once Broken n m is = omega arith
+failed_once e n m is = grind arith
 
 pub ended_most : (choice : Choice) (old new : Place) (had mid left before t now : Option (List ℕ)) (answer : Status) → Progress choice old had mid before t
     → Steps old new mid left t now (Ok (Finished answer)) → new.at.at.used + length new.at.at.window ≤ limit + 4096

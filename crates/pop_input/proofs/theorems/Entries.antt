@@ -1,11 +1,5 @@
 -- The entry of a block is a function of its own words and their lines: no neighbour changes it.
-use Rattle.std.proofs.Common.{◌≡◌, ℕ, suc, Bool, true, false, List, [], ◌∷◌, ◌++◌, map, length, get_or, None, Some, refl, sym, ap, ◌∙◌, append_assoc}
-use Rattle.std.specs.List.{flat_map, list_all}
-use Rattle.std.proofs.lemmas.List.{get_or_at, length-map}
-use Rattle.pop_text.specs.ties.Left.{no_words, put_before}
-use Rattle.pop_text.specs.Words.{Tail, Token, Word, Words}
-use Rattle.pop_input.specs.Blocks.{Entry, block_fault, closed_entry, entries_by, entries_of, inside}
-use Rattle.pop_input.specs.Names.{command_of}
+use Rattle.pop_input.proofs.Words.{Bool, Entry, List, None, Some, Tail, Token, Word, Words, [], ap, append_assoc, block_fault, closed_entry, command_of, entries_by, entries_of, false, flat_map, get_or, get_or_at, inside, length, length-map, list_all, map, no_words, put_before, refl, suc, sym, true, ℕ, ◌++◌, ◌∙◌, ◌∷◌, ◌≡◌}
 use Rattle.pop_input.specs.declared.names.Command.TheVariants.{Last, Next}
 use Rattle.pop_input.proofs.Blocks.{ended_entries, is_open, last_entries, next_entries}
 
@@ -42,10 +36,8 @@ block_and_rest first block words = next_entries first block.front block.line blo
 pub blocks_and_rest : (blocks : List NextBlock) (words : Words)
     → entries_of false (put_before (flat_map tokens_in blocks) words) ≡ map (own_entry false) blocks ++ entries_of false words
 blocks_and_rest [] words = refl
-blocks_and_rest (block ∷ blocks) words =
-    ap (entries_of false) (sym (put_both (tokens_in block) (flat_map tokens_in blocks) words))
-    ∙ block_and_rest false block (put_before (flat_map tokens_in blocks) words)
-    ∙ ap (λ entries. own_entry false block ∷ entries) (blocks_and_rest blocks words)
+blocks_and_rest (block ∷ blocks) words = ap (entries_of false) (sym (put_both (tokens_in block) (flat_map tokens_in blocks) words))
+    ∙ block_and_rest false block (put_before (flat_map tokens_in blocks) words) ∙ ap (λ entries. own_entry false block ∷ entries) (blocks_and_rest blocks words)
 
 -- A block that EndProblem closes has its own entry too, and nothing behind it has one.
 pub end_block : (first : Bool) (front : List Token) (line : ℕ) (closer : List ℕ) (words : Words) → list_all is_open front ≡ true
@@ -77,14 +69,12 @@ entries_are [] block words = block_and_rest true block words
 entries_are (other ∷ before) block words =
     let rest = put_before (tokens_in block) words in
     ap (entries_of true) (sym (put_both (tokens_in other) (flat_map tokens_in before) rest))
-    ∙ block_and_rest true other (put_before (flat_map tokens_in before) rest)
-    ∙ ap (λ entries. own_entry true other ∷ entries) (blocks_and_rest before rest)
+    ∙ block_and_rest true other (put_before (flat_map tokens_in before) rest) ∙ ap (λ entries. own_entry true other ∷ entries) (blocks_and_rest before rest)
     ∙ ap (λ entries. own_entry true other ∷ (map (own_entry false) before ++ entries)) (block_and_rest false block words)
 
 -- No neighbour changes an entry: whatever blocks stand before a block, and whatever words follow, the item at its place is its own entry.
 pub entry_is_its_own : (before : List NextBlock) (block : NextBlock) (words : Words) (d : Entry)
     → get_or (entries_of true (put_before (flat_map tokens_in before) (put_before (tokens_in block) words))) (length before) d
     ≡ own_entry (is_first before) block
-entry_is_its_own before block words d =
-    ap (λ entries. get_or entries (length before) d) (entries_are before block words)
+entry_is_its_own before block words d = ap (λ entries. get_or entries (length before) d) (entries_are before block words)
     ∙ get_or_at (own_entries before) (own_entry (is_first before) block) (entries_of false words) d (length before) (length-own_entries before)

@@ -1,10 +1,6 @@
 -- Each kind of fault has a number of its own.
-use Rattle.std.proofs.Common.{◌≡◌, Some, refl}
-use Rattle.pop_input.specs.FaultKinds.{kind_numbered, number_of}
-use Rattle.pop_input.specs.declared.fault_kind.FaultKind.{FaultKind}
-use Rattle.pop_input.specs.declared.fault_kind.FaultKind.TheVariants.{BeginProblemMissing, WordMisplaced, WordTooLong, ColourMissing, SquareTaken, PawnOnOuterRank, SecondKing}
-use Rattle.pop_input.specs.declared.fault_kind.FaultKind.TheVariants.{BadStipulation, SecondStipulation, StipulationMissing, NoMen, SecondCondition, BadLimit, SquareMissing}
-use Rattle.pop_input.specs.declared.fault_kind.FaultKind.TheVariants.{EnPassantImpossible, NoneCastlesThere, KingMissing, WaitingSideInCheck, EndProblemMissing, InputTooLong, DeviceFailed}
+use Rattle.pop_input.proofs.Words.{BadLimit, BadStipulation, BeginProblemMissing, ColourMissing, DeviceFailed, EnPassantImpossible, EndProblemMissing, FaultKind, KingMissing, NoMen, NoneCastlesThere, PawnOnOuterRank, SecondCondition, SecondKing, SecondStipulation, Some, SquareMissing, SquareTaken, StipulationMissing, WaitingSideInCheck, WordMisplaced, WordTooLong, kind_numbered, number_of, refl, ◌≡◌}
+use Rattle.pop_input.specs.declared.fault_kind.FaultKind.TheVariants.{InputTooLong}
 
 -- The kind that has the number of a kind is this one: so a fault that is told by its number is told by its own text.
 pub numbered_is : (kind : FaultKind) → kind_numbered (number_of kind) ≡ Some kind

@@ -1,7 +1,5 @@
 -- Whole lines of an input: their words are their own, up to the numbers of their lines.
-use Rattle.std.proofs.Common.{◌≡◌, ℕ, ◌+◌, ◌-◌, ◌<◌, List, ◌∷◌, ◌++◌, length, count_by, None, ◌∙◌, ap, refl, arith}
-use Rattle.pop_text.specs.ties.Left.{put_before}
-use Rattle.pop_text.specs.Words.{Input, Words, is_line_end, limit, words_from, words_of}
+use Rattle.pop_input.proofs.Words.{Input, List, None, Words, ap, arith, count_by, is_line_end, length, limit, put_before, refl, words_from, words_of, ℕ, ◌++◌, ◌+◌, ◌-◌, ◌<◌, ◌∙◌, ◌∷◌, ◌≡◌}
 use Rattle.pop_input.proofs.Pieces.{tokens_at, words_from_behind}
 
 -- The words of an input of whole lines, a line end, and more: those of the lines, and then those of what is behind, read from the next line

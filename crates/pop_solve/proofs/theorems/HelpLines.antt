@@ -1,19 +1,6 @@
 -- The lines of help play: which lists of moves they are, that each stands once, and in which order.
-use Rattle.std.proofs.Common.{◌≡◌, ◌≢◌, ℕ, zero, suc, ◌≤◌, ◌↔◌, true, List, [], ◌∷◌, length, refl, arith}
-use Rattle.std.specs.List.{AllPairs, Contains}
-use Rattle.chess_core.specs.Position.{Position}
-use Rattle.chess_core.specs.Triple.{Triple}
-use Rattle.chess_core.specs.WellFormed.{IsWellFormed}
-use Rattle.chess_rules.specs.Legal.{legal}
+use Rattle.pop_solve.proofs.Words.{AllPairs, Contains, Game, Goal, IsWellFormed, List, Position, Precedes, RuleSet, Triple, [], after_well_formed, arith, chess, help_lines, is_reached, legal, length, moves_are_the_legal_moves, moves_differ, moves_in_order, none_in_nil, pairs_nil, pairs_weaker, pseudo-from_legal, reach, refl, suc, true, zero, ℕ, ◌↔◌, ◌∷◌, ◌≡◌, ◌≢◌, ◌≤◌}
 use Rattle.chess_rules.specs.Play.{after as played}
-use Rattle.chess_rules.specs.RuleSet.{RuleSet}
-use Rattle.chess_rules.proofs.listing_moves.Calls.{pseudo-from_legal}
-use Rattle.chess_rules.proofs.listing_moves.Members.{none_in_nil, pairs_nil, pairs_weaker}
-use Rattle.chess_rules.proofs.making_moves.Stays.{after_well_formed}
-use Rattle.chess_rules.proofs.theorems.Moves.{Precedes, moves_are_the_legal_moves, moves_differ, moves_in_order}
-use Rattle.pop_input.specs.declared.stipulation.Goal.{Goal}
-use Rattle.pop_solve.specs.Chess.{chess, is_reached}
-use Rattle.pop_solve.specs.Game.{Game, help_lines, reach}
 use Rattle.pop_solve.proofs.HelpPlay.{from_lines, in_lines, lines_stand}
 use Rattle.pop_solve.proofs.theorems.Lists.{IsPlayable, StandsBefore, never_before_itself}
 
@@ -25,17 +12,13 @@ module _ {P M : Type 0} (game : Game P M) where
       → Contains (help_lines game h p) line ↔ ((1 ≤ h) × (length line ≡ h) × IsPlayable game p line × (game.goal (reach game.after p line) ≡ true))
   unfolding help_lines
   help_lines_are zero p line = (λ c. absurd (none_in_nil line c), λ w. absurd (omega (arith, w.0)))
-  help_lines_are (suc h) p line = (
-    λ c. let w = from_lines game (suc h) p line c in (omega arith, w.0, w.1, w.2),
-    λ w. in_lines game (suc h) p line w.1 w.2 w.3,
-  )
+  help_lines_are (suc h) p line = (λ c. let w = from_lines game (suc h) p line c in (omega arith, w.0, w.1, w.2), λ w. in_lines game (suc h) p line w.1 w.2 w.3)
 
   -- They stand in lexicographic order of the order in which the moves of each position stand.
   pub help_lines_in_order : (before : M → M → Type 0) → ((p : P) → AllPairs before (game.moves p))
       → (h : ℕ) (p : P) → AllPairs (StandsBefore before) (help_lines game h p)
   unfolding help_lines
-  help_lines_in_order before order zero p = pairs_nil (StandsBefore before)
-  help_lines_in_order before order (suc h) p = lines_stand game before order (suc h) p
+  help_lines_in_order before order p h = grind (arith, pairs_nil, lines_stand)
 
   -- Where no position has two moves alike, no two lines are alike.
   pub help_lines_differ : ((p : P) → AllPairs (λ m n. m ≢ n) (game.moves p)) → (h : ℕ) (p : P) → AllPairs (λ a b. a ≢ b) (help_lines game h p)
@@ -70,10 +53,7 @@ module _ (goal : Goal) (rule : RuleSet) where
   pub help_lines_of_chess_are : (h : ℕ) (p : Position) (line : List Triple) → IsWellFormed p
       → Contains (help_lines (chess goal rule) h p) line
       ↔ ((1 ≤ h) × (length line ≡ h) × IsLegalLine rule p line × (is_reached goal rule (reach (played rule) p line) ≡ true))
-  help_lines_of_chess_are h p line well = (
-    λ c. let w = (help_lines_are (chess goal rule) h p line).0 c in (w.0, w.1, (playable_is_legal p line well).0 w.2, w.3),
-    λ w. (help_lines_are (chess goal rule) h p line).1 (w.0, w.1, (playable_is_legal p line well).1 w.2, w.3),
-  )
+  help_lines_of_chess_are h p line well = grind (arith, help_lines_are (chess goal rule) h p line, playable_is_legal p line well)
 
   -- They stand in lexicographic order of the moves.
   pub help_lines_of_chess_in_order : (h : ℕ) (p : Position) → AllPairs (StandsBefore Precedes) (help_lines (chess goal rule) h p)

@@ -1,7 +1,5 @@
 -- Lists of moves: those that can be played from a position, and their lexicographic order by an order of the moves.
-use Rattle.std.proofs.Common.{◌≡◌, ◌≢◌, List, [], ◌∷◌, ◌++◌, ◌⊎◌, inl, inr, refl, sym, ap}
-use Rattle.std.specs.List.{Contains, flat_map}
-use Rattle.pop_solve.specs.Game.{Game}
+use Rattle.pop_solve.proofs.Words.{Contains, Game, List, [], ap, arith, flat_map, inl, inr, refl, sym, ◌++◌, ◌∷◌, ◌≡◌, ◌≢◌, ◌⊎◌}
 
 module _ {P M : Type 0} (game : Game P M) where
   -- The list can be played from p: each move is one of the moves of the position in which it is made.
@@ -40,8 +38,7 @@ module _ {M : Type 0} (before : M → M → Type 0) where
   pub ways_to_stand_before : (xs ys : List M) → StandsBefore xs ys
       → ((y : M) × (zs : List M) × (ys ≡ xs ++ y ∷ zs))
       ⊎ ((front : List M) × (m : M) × (n : M) × (us : List M) × (vs : List M) × (xs ≡ front ++ m ∷ us) × (ys ≡ front ++ n ∷ vs) × before m n)
-  ways_to_stand_before [] [] b = absurd b
-  ways_to_stand_before [] (y ∷ ys) b = inl (y, ys, refl)
+  ways_to_stand_before [] ys b = grind arith
   ways_to_stand_before (x ∷ xs) [] b = absurd b
   ways_to_stand_before (x ∷ xs) (y ∷ ys) (inl less) = inr ([], x, y, xs, ys, refl, refl, less)
   ways_to_stand_before (x ∷ xs) (y ∷ ys) (inr (same, b)) = elim (ways_to_stand_before xs ys b) [
@@ -55,13 +52,11 @@ module _ {M : Type 0} (before : M → M → Type 0) where
   all_below_first [] ys zs b apart = absurd (apart zs refl)
   all_below_first (x ∷ xs) ys [] b apart = absurd b
   all_below_first (x ∷ xs) ys (z ∷ zs) (inl less) apart = inl less
-  all_below_first (x ∷ xs) ys (z ∷ zs) (inr (same, b)) apart =
-      inr (same, all_below_first xs ys zs b (λ ws e. apart ws (λ i. sym same i ∷ e i)))
+  all_below_first (x ∷ xs) ys (z ∷ zs) (inr (same, b)) apart = inr (same, all_below_first xs ys zs b (λ ws e. apart ws (λ i. sym same i ∷ e i)))
 
   -- Where no move stands before itself, no list does.
   pub never_before_itself : ((m : M) → before m m → ⊥) → (xs ys : List M) → StandsBefore xs ys → xs ≢ ys
-  never_before_itself strict [] [] b e = b
-  never_before_itself strict [] (y ∷ ys) b e = cc
+  never_before_itself strict [] xs b e = grind arith
   never_before_itself strict (x ∷ xs) [] b e = b
   never_before_itself strict (x ∷ xs) (y ∷ ys) (inl less) e = let same : x ≡ y = cc in strict x (rw (← same) at less)
   never_before_itself strict (x ∷ xs) (y ∷ ys) (inr (same, b)) e = let rest : xs ≡ ys = cc in never_before_itself strict xs ys b rest

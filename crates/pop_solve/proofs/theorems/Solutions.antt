@@ -1,20 +1,6 @@
 -- The solutions of a chess problem: which lines and keys they are, that no path of a phase stands twice, and in which order the paths stand.
-use Rattle.std.proofs.Common.{◌≡◌, ◌≢◌, ◌≤◌, ◌↔◌, Bool, true, false, List, [], ◌∷◌, take, length, refl}
-use Rattle.std.specs.List.{AllPairs, Contains}
-use Rattle.chess_core.specs.Triple.{Triple}
-use Rattle.chess_rules.specs.Legal.{legal}
+use Rattle.pop_solve.proofs.Words.{AllPairs, Bool, Contains, IsSound, List, Phase, Play, Posed, Precedes, RuleSet, Set, Triple, [], false, is_help, is_reached, keeps, legal, length, moves_are_the_legal_moves, moves_in_order, pairs_weaker, phase_half_moves, phase_start, reach, refl, rules, set_shows, solutions, start, take, true, ◌↔◌, ◌∷◌, ◌≡◌, ◌≢◌, ◌≤◌}
 use Rattle.chess_rules.specs.Play.{after as played}
-use Rattle.chess_rules.specs.RuleSet.{RuleSet}
-use Rattle.chess_rules.proofs.listing_moves.Members.{pairs_weaker}
-use Rattle.chess_rules.proofs.theorems.Moves.{Precedes, moves_are_the_legal_moves, moves_in_order}
-use Rattle.pop_input.specs.Posed.{IsSound, Posed}
-use Rattle.pop_input.specs.Stipulations.{is_help}
-use Rattle.pop_solve.specs.declared.event.Phase.{Phase}
-use Rattle.pop_solve.specs.declared.event.Phase.TheVariants.{Set, Play}
-use Rattle.pop_solve.specs.Chess.{is_reached}
-use Rattle.pop_solve.specs.Events.{phase_half_moves, phase_start, solutions, start}
-use Rattle.pop_solve.specs.Game.{reach}
-use Rattle.pop_solve.specs.Tree.{keeps, set_shows}
 use Rattle.pop_solve.proofs.PhasePaths.{first_joined, game_of, its_battle, help_paths, never_itself, play_paths, set_paths}
 use Rattle.pop_solve.proofs.Sound.{start_sound}
 use Rattle.pop_solve.proofs.theorems.HelpLines.{IsLegalLine, help_lines_of_chess_are, help_lines_of_chess_in_order}
@@ -29,10 +15,7 @@ module _ (rule : RuleSet) (problem : Posed) where
       ↔ ((1 ≤ phase_half_moves problem phase) × (length line ≡ phase_half_moves problem phase)
       × IsLegalLine rule (phase_start problem phase) line
       × (is_reached problem.stipulation.goal rule (reach (played rule) (phase_start problem phase) line) ≡ true))
-  lines_of_a_phase_are phase line sound help =
-      rw (help_paths rule problem phase help)
-      (help_lines_of_chess_are problem.stipulation.goal rule (phase_half_moves problem phase) (phase_start problem phase) line
-      (start_sound problem sound phase))
+  lines_of_a_phase_are phase line sound help = rw (help_paths rule problem phase help) (search (rules, help_lines_of_chess_are, start_sound))
 
   -- Battle play: a move is a key of a sound problem exactly where it is legal and keeps the win within the problem's number of moves.
   pub keys_of_a_problem_are : (m : Triple) → IsSound problem → is_help problem.stipulation.form ≡ false
@@ -69,18 +52,14 @@ module _ (rule : RuleSet) (problem : Posed) where
           (help_lines_of_chess_in_order problem.stipulation.goal rule (phase_half_moves problem phase) (phase_start problem phase))
       by_form false battle Play =
           rw (play_paths rule problem battle)
-          (play_in_order (its_battle problem) (game_of rule problem) problem.stipulation.n problem.variation
-          (phase_half_moves problem Play) (phase_start problem Play) Precedes (moves_in_order rule))
+          (search (rules, play_in_order, moves_in_order))
       by_form false battle Set =
           rw (set_paths rule problem battle)
-          (set_play_in_order (its_battle problem) (game_of rule problem) problem.stipulation.n problem.variation
-          (phase_half_moves problem Set) (phase_start problem Set) Precedes (moves_in_order rule))
+          (search (rules, set_play_in_order, moves_in_order))
 
   -- No two paths of a phase are alike.
   pub paths_differ : (phase : Phase) → AllPairs (λ a b. a ≢ b) (paths (solutions rule problem phase))
-  paths_differ phase =
-      pairs_weaker (StandsBefore Precedes) (λ a b. a ≢ b) (paths (solutions rule problem phase)) (never_before_itself Precedes never_itself)
-      (paths_in_order phase)
+  paths_differ phase = search (rules, pairs_weaker, never_before_itself Precedes never_itself, never_itself, paths_in_order phase)
 
   -- Nor two of those that are shown, which are the first solutions, up to the limit, and they stand in that order.
   pub shown_paths_in_order : (phase : Phase) → AllPairs (StandsBefore Precedes) (paths (take problem.max_solutions (solutions rule problem phase)))
@@ -91,11 +70,5 @@ module _ (rule : RuleSet) (problem : Posed) where
 
   -- In battle play a beginning of a path is a path too: no node stands without those above it.
   pub nodes_stand_below_their_parents : (phase : Phase) → is_help problem.stipulation.form ≡ false → HasBeginnings (paths (solutions rule problem phase))
-  nodes_stand_below_their_parents Play battle =
-      rw (play_paths rule problem battle)
-      (play_has_beginnings (its_battle problem) (game_of rule problem) problem.stipulation.n problem.variation
-      (phase_half_moves problem Play) (phase_start problem Play))
-  nodes_stand_below_their_parents Set battle =
-      rw (set_paths rule problem battle)
-      (set_play_has_beginnings (its_battle problem) (game_of rule problem) problem.stipulation.n problem.variation
-      (phase_half_moves problem Set) (phase_start problem Set))
+  nodes_stand_below_their_parents Play battle = rw (play_paths rule problem battle) (search (rules, play_has_beginnings))
+  nodes_stand_below_their_parents Set battle = rw (set_paths rule problem battle) (search (rules, set_play_has_beginnings))

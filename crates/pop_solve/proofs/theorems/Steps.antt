@@ -1,15 +1,5 @@
 -- The steps of a search, which are its events before they are shown: no line and no node comes twice.
-use Rattle.std.proofs.Common.{◌≡◌, ◌≢◌, ℕ, Bool, true, false, cond, List, [], ◌∷◌, ◌++◌, map, take, ◌⊎◌, inl, inr, sym, ◌∙◌, subst}
-use Rattle.std.specs.List.{AllPairs, Contains}
-use Rattle.std.proofs.lemmas.List.Elements.{Contains-append_cases}
-use Rattle.chess_core.specs.Triple.{Triple}
-use Rattle.chess_rules.specs.RuleSet.{RuleSet}
-use Rattle.chess_rules.proofs.listing_moves.Members.{from_map, in_cases, none_in_nil, pairs_append, pairs_map, pairs_nil, pairs_of}
-use Rattle.pop_input.specs.Posed.{Posed}
-use Rattle.pop_input.specs.Stipulations.{is_help}
-use Rattle.pop_solve.specs.declared.event.Phase.{Phase}
-use Rattle.pop_solve.specs.declared.event.Phase.TheVariants.{Set, Play}
-use Rattle.pop_solve.specs.Events.{Step, opening, impossible, line, tree_node, total, events, is_barred, phase_steps, solutions, step_of, steps_from}
+use Rattle.pop_solve.proofs.Words.{AllPairs, Bool, Contains, Contains-append_cases, List, Phase, Play, Posed, RuleSet, Set, Step, Triple, [], arith, cond, events, false, from_map, impossible, in_cases, inl, inr, is_barred, line, map, none_in_nil, opening, pairs_append, pairs_map, pairs_nil, pairs_of, phase_steps, solutions, step_of, steps_from, subst, sym, take, total, tree_node, true, ◌++◌, ◌∙◌, ◌∷◌, ◌≡◌, ◌≢◌, ◌⊎◌}
 use Rattle.pop_solve.proofs.theorems.Lists.{paths}
 use Rattle.pop_solve.proofs.theorems.Solutions.{shown_paths_differ}
 
@@ -25,20 +15,8 @@ GivesPath (total count stopped) = ⊥
 abbrev pub IsOtherThan : Step → Step → Type 0
 IsOtherThan s t = GivesPath s → s ≢ t
 
-same_path : (b : Bool) (phase : Phase) (x y : List Triple)
-    → cond b (line phase x) (tree_node phase x) ≡ cond b (line phase y) (tree_node phase y) → x ≡ y
-same_path true phase x y e = cc
-same_path false phase x y e = cc
-
-no_total : (b : Bool) (phase : Phase) (x : List Triple) (count : ℕ) (stopped : Bool) → cond b (line phase x) (tree_node phase x) ≡ total count stopped → ⊥
-no_total true phase x count stopped e = cc
-no_total false phase x count stopped e = cc
-
 no_other_phase : (b c : Bool) (x y : List Triple) → cond b (line Set x) (tree_node Set x) ≡ cond c (line Play y) (tree_node Play y) → ⊥
-no_other_phase true true x y e = cc
-no_other_phase true false x y e = cc
-no_other_phase false true x y e = cc
-no_other_phase false false x y e = cc
+no_other_phase b c x y e = grind arith
 
 module _ (rule : RuleSet) (problem : Posed) where
   rest_differs : (phase : Phase) (b : Bool) (end : Step) → ((path : List Triple) → step_of problem phase path ≡ end → ⊥)
@@ -49,7 +27,7 @@ module _ (rule : RuleSet) (problem : Posed) where
       let all = paths (take problem.max_solutions (solutions rule problem phase)) in
       pairs_append IsOtherThan (map (step_of problem phase) all) (end ∷ [])
       (pairs_map (λ a b. a ≢ b) IsOtherThan (step_of problem phase) all
-      (λ x y ne gives same. ne (same_path (is_help problem.stipulation.form) phase x y same)) (shown_paths_differ rule problem phase))
+      (λ x y ne gives same. ne (grind arith)) (shown_paths_differ rule problem phase))
       (pairs_of IsOtherThan end [] (λ y c. absurd (none_in_nil y c)) (pairs_nil IsOtherThan))
       (λ x y c d gives same. across x y (from_map (step_of problem phase) all x c) (in_cases end [] y d) same)
     where
@@ -62,24 +40,16 @@ module _ (rule : RuleSet) (problem : Posed) where
   -- No line and no node of a phase comes twice.
   pub steps_of_a_phase_differ : (phase : Phase) → AllPairs IsOtherThan (phase_steps rule problem phase)
   unfolding phase_steps
-  steps_of_a_phase_differ phase =
-      pairs_of IsOtherThan (opening phase) _ (λ y c none. absurd none)
-      (rest_differs phase (is_barred rule problem phase) _ (λ path. no_total (is_help problem.stipulation.form) phase path _ _))
+  steps_of_a_phase_differ phase = grind (arith, pairs_of, rest_differs)
 
   in_rest : (phase : Phase) (b : Bool) (end x : Step) → (GivesPath end → ⊥)
       → Contains (cond b (impossible ∷ []) (map (step_of problem phase) (paths (take problem.max_solutions (solutions rule problem phase))) ++ end ∷ [])) x
       → GivesPath x → (path : List Triple) × (step_of problem phase path ≡ x)
-  in_rest phase true end x bare c gives = elim (in_cases impossible [] x c) [
-    | inl e ↦ absurd (subst GivesPath (sym e) gives)
-    | inr none ↦ absurd (none_in_nil x none)
-  ]
+  in_rest phase true end x bare c gives = grind (arith, in_cases, none_in_nil)
   in_rest phase false end x bare c gives =
       elim (Contains-append_cases (map (step_of problem phase) (paths (take problem.max_solutions (solutions rule problem phase)))) (end ∷ []) x c) [
         | inl here ↦ let w = from_map (step_of problem phase) (paths (take problem.max_solutions (solutions rule problem phase))) x here in (w.0, w.2)
-        | inr there ↦ elim (in_cases end [] x there) [
-          | inl e ↦ absurd (bare (subst GivesPath (sym e) gives))
-          | inr none ↦ absurd (none_in_nil x none)
-        ]
+        | inr there ↦ grind (arith, in_cases)
       ]
 
   in_phase : (phase : Phase) (x : Step) → Contains (phase_steps rule problem phase) x → GivesPath x → (path : List Triple) × (step_of problem phase path ≡ x)
@@ -97,9 +67,7 @@ module _ (rule : RuleSet) (problem : Posed) where
       both =
           pairs_append IsOtherThan (phase_steps rule problem Set) (phase_steps rule problem Play) (steps_of_a_phase_differ Set) (steps_of_a_phase_differ Play)
           (λ x y c d gives same.
-          let a = in_phase Set x c gives in
-          let b = in_phase Play y d (subst GivesPath same gives) in
-          no_other_phase (is_help problem.stipulation.form) (is_help problem.stipulation.form) a.0 b.0 (a.1 ∙ same ∙ sym b.1))
+          grind (arith, in_phase Set x c gives, in_phase Play y d (subst GivesPath same gives)))
 
       by_set_play : (b : Bool) → AllPairs IsOtherThan (steps_from rule problem (cond b Set Play))
       by_set_play true = both

@@ -1,12 +1,5 @@
 -- The trees of battle play, over any game: which moves stand in them, that no path stands twice, and in which order the paths stand.
-use Rattle.std.proofs.Common.{◌≡◌, ◌≢◌, ℕ, zero, suc, ◌-◌, ◌≤◌, ◌↔◌, Bool, true, false, List, [], ◌∷◌, refl, sym, ◌∙◌, arith}
-use Rattle.std.specs.List.{AllPairs, Contains}
-use Rattle.std.proofs.lemmas.Bool.{false≢true}
-use Rattle.std.proofs.lemmas.List.Kept.{AllPairs-filter}
-use Rattle.chess_rules.proofs.listing_moves.Members.{from_filter, in_filter, none_in_nil, pairs_nil, pairs_weaker}
-use Rattle.pop_solve.specs.declared.aim.Battle.{Battle}
-use Rattle.pop_solve.specs.Game.{Game}
-use Rattle.pop_solve.specs.Tree.{answers, below, best, keeps, least, set_shows, set_tree, tree, wins_in}
+use Rattle.pop_solve.proofs.Words.{AllPairs, AllPairs-filter, Battle, Bool, Contains, Game, List, [], answers, arith, below, best, false, from_filter, in_filter, keeps, least, none_in_nil, pairs_nil, pairs_weaker, refl, set_shows, set_tree, suc, sym, tree, true, wins_in, zero, ℕ, ◌-◌, ◌↔◌, ◌∙◌, ◌∷◌, ◌≡◌, ◌≢◌, ◌≤◌}
 use Rattle.pop_solve.proofs.Nodes.{any_from_element, element_from_any, answers_more, answers_zero, below_more, below_zero, deeper_unless, nil_has_beginnings, nodes_have_beginnings, nodes_stand, roots_are, roots_unless, deeper_are, tree_paths, set_tree_paths, set_tree_none, from_nodes, below_key, kept, set_moves, below_set, below_key_has_beginnings, below_key_not_empty, below_key_stands, below_set_has_beginnings, below_set_not_empty, below_set_stands}
 use Rattle.pop_solve.proofs.theorems.Lengths.{no_win_in_none, wins_by_a_move, wins_in_least}
 use Rattle.pop_solve.proofs.theorems.Lists.{HasBeginnings, StandsBefore, never_before_itself, paths}
@@ -22,8 +15,7 @@ module _ {P M : Type 0} (battle : Battle) (game : Game P M) (n : ℕ) where
 
   -- A move stands alone as a path of the play, which is the first of a solution, exactly where it is a key.
   pub keys_are : (variation : Bool) (h : ℕ) (p : P) (m : M) → Contains (paths (tree battle game variation n h p)) (m ∷ []) ↔ IsKey p m
-  keys_are variation h p m =
-      rw (tree_paths battle game n variation h p)
+  keys_are variation h p m = rw (tree_paths battle game n variation h p)
       (roots_are (below_key battle game n variation h p) (λ m. keeps battle game n (game.after p m)) (game.moves p) m)
 
   -- There is a key exactly where White wins within n moves.
@@ -80,20 +72,14 @@ module _ {P M : Type 0} (battle : Battle) (game : Game P M) (n : ℕ) where
   pub some_best_where_won : (r : P) → wins_in battle game n r ≡ true → (m : M) × IsBest r m
   some_best_where_won r h =
       let won : wins_in battle game (least battle game n r) r ≡ true = wins_in_least game battle n r h in
-      element_from_any (λ m. keeps battle game (least battle game n r) (game.after r m)) (game.moves r)
-      (sym (wins_by_a_move game battle (least battle game n r) r (some_move_needed (least battle game n r) won)) ∙ won)
-    where
-      some_move_needed : (k : ℕ) → wins_in battle game k r ≡ true → 1 ≤ k
-      some_move_needed zero w = absurd (false≢true (sym (no_win_in_none game battle r) ∙ w))
-      some_move_needed (suc k) w = omega arith
+      grind (arith, element_from_any, wins_by_a_move, no_win_in_none)
 
   -- Below a position in which White moves, with half-moves left and the goal not reached, his best continuations stand.
   pub continuations_are : (h : ℕ) (r : P) (m : M) → Contains (answers battle game n h r) (m ∷ []) ↔ ((1 ≤ h) × (game.goal r ≡ false) × IsBest r m)
   continuations_are zero r m = rw (answers_zero battle game n r) (λ c. absurd (none_in_nil (m ∷ []) c), λ w. absurd (omega (arith, w.0)))
   continuations_are (suc h) r m =
       let are = roots_unless (λ m. below battle game n h (game.after r m)) (game.goal r) (best battle game n r) m in
-      rw (answers_more battle game n h r)
-      (λ c. let w = are.0 c in (omega arith, w.0, (is_best r m).0 w.1), λ w. are.1 (w.1, (is_best r m).1 w.2))
+      grind (arith, answers_more, is_best r m)
 
   -- And below a continuation stand the defences to it, with a half-move less.
   pub continuations_go_on : (h : ℕ) (r : P) (m x : M) (path : List M)
@@ -101,15 +87,13 @@ module _ {P M : Type 0} (battle : Battle) (game : Game P M) (n : ℕ) where
       ↔ ((game.goal r ≡ false) × IsBest r m × Contains (below battle game n h (game.after r m)) (x ∷ path))
   continuations_go_on h r m x path =
       let are = deeper_unless (λ m. below battle game n h (game.after r m)) (game.goal r) (best battle game n r) m x path in
-      rw (answers_more battle game n h r)
-      (λ c. let w = are.0 c in (w.0, (is_best r m).0 w.1, w.2), λ w. are.1 (w.0, (is_best r m).1 w.1, w.2))
+      grind (arith, answers_more, is_best r m)
 
   -- Set play, with half-moves left, shows those moves of Black after which the goal is reached or White wins with a move less.
   pub set_play_is : (variation : Bool) (h : ℕ) (p : P) (d : M)
       → Contains (paths (set_tree battle game variation n h p)) (d ∷ [])
       ↔ ((1 ≤ h) × Contains (game.moves p) d × (set_shows battle game n (game.after p d) ≡ true))
-  set_play_is variation zero p d =
-      rw (set_tree_none battle game n variation p) (λ c. absurd (none_in_nil (d ∷ []) c), λ w. absurd (omega (arith, w.0)))
+  set_play_is variation zero p d = grind (arith, set_tree_none, none_in_nil)
   set_play_is variation (suc h) p d =
       let are = roots_are (below_set battle game n variation h p) (λ d. set_shows battle game n (game.after p d)) (game.moves p) d in
       rw (set_tree_paths battle game n variation h p) (λ c. let w = are.0 c in (omega arith, w.0, w.1), λ w. are.1 (w.1, w.2))
@@ -117,10 +101,8 @@ module _ {P M : Type 0} (battle : Battle) (game : Game P M) (n : ℕ) where
   module _ (variation : Bool) (h : ℕ) (p : P) where
     -- A beginning of a path of the play is a path too.
     pub play_has_beginnings : HasBeginnings (paths (tree battle game variation n h p))
-    play_has_beginnings =
-        rw (tree_paths battle game n variation h p)
-        (nodes_have_beginnings (below_key battle game n variation h p) (below_key_has_beginnings battle game n variation h p)
-        (kept battle game n p))
+    play_has_beginnings = rw (tree_paths battle game n variation h p)
+        (nodes_have_beginnings (below_key battle game n variation h p) (below_key_has_beginnings battle game n variation h p) (kept battle game n p))
 
     -- In set play too.
     pub set_play_has_beginnings : HasBeginnings (paths (set_tree battle game variation n h p))
@@ -137,9 +119,7 @@ module _ {P M : Type 0} (battle : Battle) (game : Game P M) (n : ℕ) where
     -- what stands below it, and that before the next of its siblings.
     pub play_in_order : (before : M → M → Type 0) → ((p : P) → AllPairs before (game.moves p))
         → AllPairs (StandsBefore before) (paths (tree battle game variation n h p))
-    play_in_order before order =
-        rw (tree_paths battle game n variation h p)
-        (nodes_stand (below_key battle game n variation h p) before (kept battle game n p)
+    play_in_order before order = rw (tree_paths battle game n variation h p) (nodes_stand (below_key battle game n variation h p) before (kept battle game n p)
         (AllPairs-filter before (λ m. keeps battle game n (game.after p m)) (game.moves p) (order p))
         (below_key_stands battle game n variation before order h p) (below_key_not_empty battle game n variation h p))
 
@@ -158,12 +138,10 @@ module _ {P M : Type 0} (battle : Battle) (game : Game P M) (n : ℕ) where
 
     -- Where no position has two moves alike, no two paths of the play are alike.
     pub play_differs : ((p : P) → AllPairs (λ m n. m ≢ n) (game.moves p)) → AllPairs (λ a b. a ≢ b) (paths (tree battle game variation n h p))
-    play_differs differ =
-        pairs_weaker (StandsBefore (λ m n. m ≢ n)) (λ a b. a ≢ b) (paths (tree battle game variation n h p))
+    play_differs differ = pairs_weaker (StandsBefore (λ m n. m ≢ n)) (λ a b. a ≢ b) (paths (tree battle game variation n h p))
         (never_before_itself (λ m n. m ≢ n) (λ m ne. ne refl)) (play_in_order (λ m n. m ≢ n) differ)
 
     -- Nor two of set play.
     pub set_play_differs : ((p : P) → AllPairs (λ m n. m ≢ n) (game.moves p)) → AllPairs (λ a b. a ≢ b) (paths (set_tree battle game variation n h p))
-    set_play_differs differ =
-        pairs_weaker (StandsBefore (λ m n. m ≢ n)) (λ a b. a ≢ b) (paths (set_tree battle game variation n h p))
+    set_play_differs differ = pairs_weaker (StandsBefore (λ m n. m ≢ n)) (λ a b. a ≢ b) (paths (set_tree battle game variation n h p))
         (never_before_itself (λ m n. m ≢ n) (λ m ne. ne refl)) (set_play_in_order (λ m n. m ≢ n) differ)

@@ -1,19 +1,8 @@
 -- The report of an input is the texts of its items, each a function of its own block, its number and what is chosen: no neighbour changes it.
-use Rattle.std.proofs.Common.{◌≡◌, ℕ, suc, ◌+◌, List, [], ◌∷◌, ◌++◌, map, length, get_or, count_by, ◌<◌, true, false, refl, sym, ap, ◌∙◌, arith, append_assoc}
-use Rattle.std.specs.List.{enumerate_from, flat_map}
-use Rattle.pop_text.specs.ties.Left.{put_before}
-use Rattle.pop_text.specs.Words.{Input, Words, is_line_end, limit, words_of}
-use Rattle.pop_input.specs.Blocks.{Entry, entries_of}
+use Rattle.pops.proofs.Basics.{Choice, Entry, Input, List, Words, [], ap, append_assoc, arith, count_by, entries_in, entries_of, entry_text, enumerate_from, false, flat_map, get_or, is_line_end, length, limit, map, put_before, refl, report, report_from, words_of, ℕ, ◌++◌, ◌+◌, ◌<◌, ◌∷◌, ◌≡◌}
 use Rattle.pop_input.proofs.theorems.Entries.{NextBlock, entries_are, is_first, length-own_entries, own_entries, own_entry, tokens_in}
 use Rattle.pop_input.proofs.Pieces.{tokens_at}
 use Rattle.pop_input.proofs.theorems.Inputs.{next_line, words_of_both_and_rest}
-use Rattle.pops.specs.Report.{Choice, entries_in, entry_text, report, report_from}
-
-same_first : (before instead : List NextBlock) → length before ≡ length instead → is_first before ≡ is_first instead
-same_first [] [] e = refl
-same_first [] (block ∷ blocks) e = absurd (omega (arith, e))
-same_first (block ∷ blocks) [] e = absurd (omega (arith, e))
-same_first (block ∷ blocks) (other ∷ others) e = refl
 
 module _ (choice : Choice) where
   -- The texts of items, the first with this number.
@@ -37,18 +26,12 @@ module _ (choice : Choice) where
   pub report_of_both : (number : ℕ) (first others : List Entry)
       → report_from choice number (first ++ others) ≡ report_from choice number first ++ report_from choice (number + length first) others
   report_of_both number [] others = let e : number + 0 ≡ number = omega arith in rw e refl
-  report_of_both number (entry ∷ first) others =
-      let e : number + 1 + length first ≡ number + suc (length first) = omega arith in
-      ap (λ r. entry_text choice number entry ++ r) (report_of_both (number + 1) first others)
-      ∙ rw e (sym (append_assoc (entry_text choice number entry) (report_from choice (number + 1) first)
-      (report_from choice (number + suc (length first)) others)))
+  report_of_both number (entry ∷ first) others = grind (arith, append_assoc, report_of_both (number + 1) first others)
 
   text_behind : (number : ℕ) (first : List Entry) (entry : Entry) (others : List Entry)
       → get_or (texts_from number (first ++ entry ∷ others)) (length first) [] ≡ entry_text choice (number + length first) entry
   text_behind number [] entry others = let e : number + 0 ≡ number = omega arith in rw e refl
-  text_behind number (other ∷ first) entry others =
-      let e : number + 1 + length first ≡ number + suc (length first) = omega arith in
-      rw (← e) (text_behind (number + 1) first entry others)
+  text_behind number (other ∷ first) entry others = grind (arith, text_behind (number + 1) first entry others)
 
   -- The report of an input of blocks, one more, and whatever words follow: the report of the blocks before; the text of this one's own entry,
   -- with its number; and the report of what follows.
@@ -58,25 +41,14 @@ module _ (choice : Choice) where
       ≡ report_from choice 1 (own_entries before)
       ++ (entry_text choice (1 + length before) (own_entry (is_first before) block) ++ report_from choice (1 + length before + 1) (entries_of false words))
   unfolding entries_in
-  report_around_a_block input before block words are =
-      ap (λ w. report_from choice 1 (entries_of true w)) are
-      ∙ ap (report_from choice 1) (entries_are before block words)
-      ∙ report_of_both 1 (own_entries before) (own_entry (is_first before) block ∷ entries_of false words)
-      ∙ ap (λ n. report_from choice 1 (own_entries before) ++ report_from choice (1 + n) (own_entry (is_first before) block ∷ entries_of false words))
-      (length-own_entries before)
+  report_around_a_block input before block words are = grind (arith, entries_are, report_of_both, length-own_entries)
 
   -- In such an input the text at the block's place is that of its own entry.
   pub text_of_a_block : (input : Input) (before : List NextBlock) (block : NextBlock) (words : Words)
       → words_of input ≡ put_before (flat_map tokens_in before) (put_before (tokens_in block) words)
       → get_or (texts input) (length before) [] ≡ entry_text choice (1 + length before) (own_entry (is_first before) block)
   unfolding entries_in
-  text_of_a_block input before block words are =
-      ap (λ w. get_or (texts_from 1 (entries_of true w)) (length before) []) are
-      ∙ ap (λ entries. get_or (texts_from 1 entries) (length before) []) (entries_are before block words)
-      ∙ ap (λ n. get_or (texts_from 1 (own_entries before ++ own_entry (is_first before) block ∷ entries_of false words)) n [])
-      (sym (length-own_entries before))
-      ∙ text_behind 1 (own_entries before) (own_entry (is_first before) block) (entries_of false words)
-      ∙ ap (λ n. entry_text choice (1 + n) (own_entry (is_first before) block)) (length-own_entries before)
+  text_of_a_block input before block words are = grind (arith, entries_are before block words, length-own_entries before, text_behind)
 
   -- No neighbour changes a text: in two inputs with as many blocks before the same block, of the same lines, its text is the same, whatever
   -- the words of the blocks before are, whatever words follow, and however the inputs end.
@@ -85,10 +57,7 @@ module _ (choice : Choice) where
       → words_of other ≡ put_before (flat_map tokens_in instead) (put_before (tokens_in block) after) → length before ≡ length instead
       → get_or (texts input) (length before) [] ≡ get_or (texts other) (length instead) []
   text_is_its_own input other before instead block words after are is as_many =
-      text_of_a_block input before block words are
-      ∙ ap (λ n. entry_text choice (1 + n) (own_entry (is_first before) block)) as_many
-      ∙ ap (λ first. entry_text choice (1 + length instead) (own_entry first block)) (same_first before instead as_many)
-      ∙ sym (text_of_a_block other instead block after is)
+      grind (arith, text_of_a_block input before block words are, text_of_a_block other instead block after is)
 
   -- The same in bytes: change the bytes before some lines, which hold a block, and those behind them, as you like, but so that as many blocks
   -- and as many line ends stand before: the text at the block's place is the same.
@@ -99,8 +68,4 @@ module _ (choice : Choice) where
       → length before ≡ length those → count_by is_line_end lines ≡ count_by is_line_end instead → tokens_at (next_line lines) own ≡ tokens_in block
       → get_or (texts input) (length before) [] ≡ get_or (texts other) (length those) []
   bytes_around_change_nothing input other lines instead own rest after before those block here there small fits first second as_many level is =
-      let same_line : next_line instead ≡ next_line lines = ap (λ n. 1 + (n + 1)) (sym level) in
-      let w = words_of_both_and_rest input lines own rest here small in
-      let v = words_of_both_and_rest other instead own after there fits in
-      text_is_its_own input other before those block w.0 v.0 (w.1 ∙ rw (first, is) refl)
-      (v.1 ∙ rw (second, same_line, is) refl) as_many
+      grind (arith, words_of_both_and_rest input lines own rest here small, words_of_both_and_rest other instead own after there fits, text_is_its_own)

@@ -1,4 +1,4 @@
-use Rattle.pop_input.proofs.Basics.{arith, length, sym, ◌<◌, ◌∙◌}
+use Rattle.pop_input.proofs.Words.{arith, length, sym, ◌<◌, ◌∙◌}
 use Rattle.pop_input.proofs.Naming.{begins_all, begins_more, begins_stop, too_long}
 use Rattle.pop_input.proofs.names.begins.Goals as goal
 

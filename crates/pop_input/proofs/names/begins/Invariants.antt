@@ -1,4 +1,4 @@
-use Rattle.pop_input.proofs.Basics.{drop, map, nat_eq, starts_with, to_ascii_lowercase, ◌≡◌}
+use Rattle.pop_input.proofs.Words.{drop, map, nat_eq, starts_with, to_ascii_lowercase, ◌≡◌}
 use Rattle.pop_input.proofs.names.begins.Given as goal
 
 -- what is left to compare decides

@@ -1,5 +1,4 @@
-use Rattle.pop_input.proofs.Basics.{[], ap, is_some, sym, ◌∙◌}
-use Rattle.pop_input.proofs.Words.{is_text_word, text_word_of}
+use Rattle.pop_input.proofs.Words.{[], ap, is_some, is_text_word, sym, text_word_of, ◌∙◌}
 use Rattle.pop_input.proofs.Taking.{line_token, cut_token, none_within}
 use Rattle.pop_input.proofs.token.next_token.Goals as goal
 

@@ -1,9 +1,7 @@
-use Rattle.pop_input.proofs.Basics.{take}
+use Rattle.pop_input.proofs.Words.{take}
 use Rattle.pop_input.proofs.Parsing.{DigitsSoFar}
 use Rattle.pop_input.proofs.values.limit_of.Given as goal
 
 -- the digits so far are read
 abbrev pub invariant-digits : goal.invariant-digits
-invariant-digits l = record {
-  read : DigitsSoFar (take l.byte-index l.word) l.value;
-}
+invariant-digits l = record { read : DigitsSoFar (take l.byte-index l.word) l.value }

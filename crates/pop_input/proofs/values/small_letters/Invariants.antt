@@ -1,4 +1,4 @@
-use Rattle.pop_input.proofs.Basics.{map, take, to_ascii_lowercase, ◌≡◌}
+use Rattle.pop_input.proofs.Words.{map, take, to_ascii_lowercase, ◌≡◌}
 use Rattle.pop_input.proofs.values.small_letters.Given as goal
 
 abbrev pub invariant-loop-byte : goal.invariant-loop-byte

@@ -1,5 +1,4 @@
-use Rattle.pop_input.proofs.Basics.{ap, arith, drop, length, sym, ◌+◌, ◌<◌, ◌∙◌}
-use Rattle.pop_input.proofs.Words.{squares_from}
+use Rattle.pop_input.proofs.Words.{ap, arith, drop, length, squares_from, sym, ◌+◌, ◌<◌, ◌∙◌}
 use Rattle.pop_input.proofs.Parsing.{with_front, odd_end, pair_step, front_more}
 use Rattle.pop_input.proofs.values.squares_of.Goals as goal
 
@@ -14,9 +13,7 @@ pairs-preserved c =
     record {
       within = omega (arith, here);
       room = let was = c.pairs.invariant.room in let len = c.push.ensures.len in omega (arith, was, len);
-      rest =
-          c.pairs.invariant.rest
+      rest = c.pairs.invariant.rest
           ∙ ap (with_front c.pairs.squares.items) (pair_step c.args.word.now c.pairs.at c.in-Some.square here (sym c.square_by.ensures ∙ c.in-Some.is))
-          ∙ front_more c.pairs.squares.items c.in-Some.square rest
-          ∙ ap (λ l. with_front l rest) (sym c.push.ensures.items);
+          ∙ front_more c.pairs.squares.items c.in-Some.square rest ∙ ap (λ l. with_front l rest) (sym c.push.ensures.items);
     }

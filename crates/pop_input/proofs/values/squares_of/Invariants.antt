@@ -1,5 +1,4 @@
-use Rattle.pop_input.proofs.Basics.{drop, length, ◌*◌, ◌-◌, ◌≡◌, ◌≤◌}
-use Rattle.pop_input.proofs.Words.{squares_from, squares_of}
+use Rattle.pop_input.proofs.Words.{drop, length, squares_from, squares_of, ◌*◌, ◌-◌, ◌≡◌, ◌≤◌}
 use Rattle.pop_input.proofs.Parsing.{with_front}
 use Rattle.pop_input.proofs.values.squares_of.Given as goal
 

@@ -1,4 +1,4 @@
-use Rattle.pop_input.specs.Values.{stipulation_of}
+use Rattle.pop_input.proofs.Words.{stipulation_of}
 use Rattle.pop_input.proofs.Parsing.{long_stipulation}
 use Rattle.pop_input.proofs.values.stipulation_of.Goals as goal
 

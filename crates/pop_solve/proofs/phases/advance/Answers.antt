@@ -1,4 +1,4 @@
-use Rattle.pop_solve.proofs.Basics.{rules}
+use Rattle.pop_solve.proofs.Words.{rules}
 use Rattle.pop_solve.proofs.Opened.{opens-play}
 use Rattle.pop_solve.proofs.phases.advance.Goals as goal
 

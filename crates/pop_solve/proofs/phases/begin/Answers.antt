@@ -1,5 +1,4 @@
-use Rattle.pop_solve.proofs.Basics.{Bool, false, not, refl, rules, true, ◌≡◌}
-use Rattle.pop_solve.proofs.Words.{IsStanding}
+use Rattle.pop_solve.proofs.Words.{arith, Bool, IsStanding, false, not, refl, rules, true, ◌≡◌}
 use Rattle.pop_solve.proofs.Walking as walking
 use Rattle.pop_solve.proofs.Events as events
 use Rattle.pop_solve.proofs.Opened as opened
@@ -9,12 +8,10 @@ use Rattle.pop_solve.proofs.Sound.{start_sound}
 use Rattle.pop_solve.proofs.phases.begin.Goals as goal
 
 barred : (b r : Bool) → r ≡ not b → r ≡ false → b ≡ true
-barred true r e f = refl
-barred false r e f = cc
+barred b r e f = grind arith
 
 open_yet : (b r : Bool) → r ≡ not b → r ≡ true → b ≡ false
-open_yet true r e f = cc
-open_yet false r e f = refl
+open_yet b r e f = grind arith
 
 pub returns-then-not-set_up-clause-left : goal.returns-then-not-set_up-clause-left
 returns-then-not-set_up-clause-left g c = search (rules, events.left-barred, barred)
@@ -36,7 +33,6 @@ returns-then-not-set_up-clause-opens g c = search (rules, opened.opens-barred, b
 
 pub returns-clause-opens : goal.returns-clause-opens
 unfolding IsStanding
-returns-clause-opens g c =
-    rw (c.push-2.ensures.items, walking.reverse-push, c.requires.standing.0)
+returns-clause-opens g c = rw (c.push-2.ensures.items, walking.reverse-push, c.requires.standing.0)
     (opened.opens-begun g.R.Rules.rule c.args.problem.now c.requires.sound c.args.phase _ c.phase_half_moves-left.ensures c.start.ensures
     (open_yet _ _ c.set_up.ensures.possible c.if-not-set_up.false) _ _ _ _ (λ some. c.opened_by.ensures.more some refl) c.opened_by.ensures.none)

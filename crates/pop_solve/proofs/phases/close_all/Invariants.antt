@@ -1,10 +1,8 @@
-use Rattle.pop_solve.proofs.Basics.{length, reverse}
-use Rattle.pop_solve.proofs.Words.{IsWalking, Position}
+use Rattle.pop_solve.proofs.Words.{IsWalking, Position, length, reverse}
 use Rattle.pop_solve.proofs.phases.close_all.Given as goal
 
 abbrev pub invariant-loop-top : goal.invariant-loop-top
-invariant-loop-top g l =
-    (p : Position) → IsWalking g.R.Rules.rule l.half_moves p (reverse l.fn.frames.items) l.fn.board
+invariant-loop-top g l = (p : Position) → IsWalking g.R.Rules.rule l.half_moves p (reverse l.fn.frames.items) l.fn.board
     → IsWalking g.R.Rules.rule l.half_moves p (reverse l.frames.items) l.board
 
 abbrev pub decreases-loop-top : goal.decreases-loop-top

@@ -1,5 +1,4 @@
-use Rattle.pop_solve.proofs.Basics.{refl, rules}
-use Rattle.pop_solve.proofs.Words.{IsStanding}
+use Rattle.pop_solve.proofs.Words.{IsStanding, refl, rules}
 use Rattle.pop_solve.proofs.Events as events
 use Rattle.pop_solve.proofs.Opened as opened
 use Rattle.pop_solve.proofs.phases.go_on.Goals as goal

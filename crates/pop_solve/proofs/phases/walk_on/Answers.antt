@@ -1,4 +1,4 @@
-use Rattle.pop_solve.proofs.Basics.{arith, length, length-reverse, nat_tests, refl, rules, sym, ◌<◌, ◌∙◌, ◌≡◌}
+use Rattle.pop_solve.proofs.Words.{arith, length, length-reverse, nat_tests, refl, rules, sym, ◌<◌, ◌∙◌, ◌≡◌}
 use Rattle.pop_solve.proofs.Kept as kept
 use Rattle.pop_solve.proofs.Opened as opened
 use Rattle.pop_solve.proofs.phases.walk_on.Goals as goal
@@ -17,8 +17,7 @@ returns-then-step g c =
       walks = rw (← c.of-plan.ensures, ← c.phase_half_moves-half_moves.ensures)
           (kept.walks_given g.R.Rules.rule _ _ _ _ _ c.loop-frames.invariant.1 _ _ _ _ _ _ (c.step.ensures.steps _ c.loop-frames.invariant.0) c.if-step.true
           (omega (arith, l, some)) (rw (l, ← c.len.ensures.value) (sym c.is_full.ensures ∙ c.if-not-is_full.true)));
-      opens = rw (← c.of-plan.ensures)
-          (opened.opens-then _ _ _ _ _ _ _ _ _ c.loop-frames.invariant.2 (c.step.ensures.steps _ c.loop-frames.invariant.0).opens);
+      opens = rw (← c.of-plan.ensures) (opened.opens-then _ _ _ _ _ _ _ _ _ c.loop-frames.invariant.2 (c.step.ensures.steps _ c.loop-frames.invariant.0).opens);
       tries = rw (← c.of-plan.ensures, ← c.phase_half_moves-half_moves.ensures)
           (opened.tries-then _ _ _ _ _ _ _ _ _ _ c.loop-frames.invariant.3 (c.step.ensures.steps _ c.loop-frames.invariant.0).tries);
     }

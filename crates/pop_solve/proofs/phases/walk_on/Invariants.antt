@@ -1,10 +1,8 @@
-use Rattle.pop_solve.proofs.Basics.{reverse, ◌≡◌}
-use Rattle.pop_solve.proofs.Words.{IsWalking, Opens, Tries, phase_start, to_come, turns}
+use Rattle.pop_solve.proofs.Words.{IsWalking, Opens, Tries, phase_start, reverse, to_come, turns, ◌≡◌}
 use Rattle.pop_solve.proofs.phases.walk_on.Given as goal
 
 abbrev pub invariant-loop-frames : goal.invariant-loop-frames
-invariant-loop-frames g l =
-    IsWalking g.R.Rules.rule l.half_moves (phase_start l.problem l.fn.phase) (reverse l.frames.items) l.board
+invariant-loop-frames g l = IsWalking g.R.Rules.rule l.half_moves (phase_start l.problem l.fn.phase) (reverse l.frames.items) l.board
     × (to_come g.R.Rules.rule l.plan l.half_moves (phase_start l.problem l.fn.phase) (reverse l.fn.frames.items)
     ≡ to_come g.R.Rules.rule l.plan l.half_moves (phase_start l.problem l.fn.phase) (reverse l.frames.items))
     × Opens g.R.Rules.rule l.plan (phase_start l.problem l.fn.phase) (reverse l.fn.frames.items) (reverse l.frames.items) l.fn.opened l.opened

@@ -1,5 +1,4 @@
-use Rattle.pop_solve.proofs.Basics.{ap, arith, length, sym, ◌-◌, ◌∙◌}
-use Rattle.pop_solve.proofs.Words.{show}
+use Rattle.pop_solve.proofs.Words.{ap, arith, length, show, sym, ◌-◌, ◌∙◌}
 use Rattle.pop_solve.proofs.Paths as paths
 use Rattle.pop_solve.proofs.showing.last_shown.Goals as goal
 

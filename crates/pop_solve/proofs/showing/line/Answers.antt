@@ -1,12 +1,10 @@
-use Rattle.pop_solve.proofs.Basics.{ap, arith, refl, reverse, rules, sym, take_all, ◌+◌, ◌∙◌}
-use Rattle.pop_solve.proofs.Words.{position}
+use Rattle.pop_solve.proofs.Words.{ap, arith, position, refl, reverse, rules, sym, take_all, ◌+◌, ◌∙◌}
 use Rattle.chess_rules.specs.Play.{after as played}
 use Rattle.pop_solve.proofs.Paths as paths
 use Rattle.pop_solve.proofs.showing.line.Goals as goal
 
 pub loop-k-init : goal.loop-k-init
-loop-k-init g c =
-    search (rules, paths.first-path, paths.first-position, c.new-line.ensures, c.take_all_back.ensures.start, c.take_all_back.ensures.well_formed)
+loop-k-init g c = search (rules, paths.first-path, paths.first-position, c.new-line.ensures, c.take_all_back.ensures.start, c.take_all_back.ensures.well_formed)
 
 pub play_shown-requires-clause-legal : goal.play_shown-requires-clause-legal
 play_shown-requires-clause-legal g c =

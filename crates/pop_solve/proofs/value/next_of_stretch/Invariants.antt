@@ -1,11 +1,8 @@
-use Rattle.pop_solve.proofs.Basics.{filter, length, ◌≡◌}
-use Rattle.pop_solve.proofs.Words.{IsPlaceIn, belongs, moves_behind}
+use Rattle.pop_solve.proofs.Words.{IsPlaceIn, belongs, filter, length, moves_behind, ◌≡◌}
 use Rattle.pop_solve.proofs.value.next_of_stretch.Given as goal
 
 abbrev pub invariant-loop-by : goal.invariant-loop-by
-invariant-loop-by g l =
-    (l.board ≡ l.fn.board)
-    × IsPlaceIn g.R.Rules.rule l.fn.board l.moves
+invariant-loop-by g l = (l.board ≡ l.fn.board) × IsPlaceIn g.R.Rules.rule l.fn.board l.moves
     × (filter (belongs l.fn.board l.order l.stretch) (moves_behind g.R.Rules.rule l.fn.board l.fn.moves.place)
     ≡ filter (belongs l.fn.board l.order l.stretch) (moves_behind g.R.Rules.rule l.fn.board l.moves.place))
 

@@ -1,5 +1,4 @@
-use Rattle.pop_solve.proofs.Basics.{arith, rules, sym, ◌<◌, ◌∙◌}
-use Rattle.pop_solve.proofs.Words.{chess}
+use Rattle.pop_solve.proofs.Words.{arith, chess, rules, sym, ◌<◌, ◌∙◌}
 use Rattle.pop_solve.proofs.Boards.{unreached}
 use Rattle.pop_solve.proofs.SmallestTrees as trees
 use Rattle.pop_solve.proofs.Values as values

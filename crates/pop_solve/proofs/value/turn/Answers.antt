@@ -1,11 +1,9 @@
-use Rattle.pop_solve.proofs.Basics.{None, Some, ap, not, rules, sym, ◌∙◌, ◌≡◌, ◌⊎◌}
-use Rattle.pop_solve.proofs.Words.{Frame, seeks, untried}
+use Rattle.pop_solve.proofs.Words.{Frame, None, Some, ap, not, rules, seeks, sym, untried, ◌∙◌, ◌≡◌, ◌⊎◌}
 use Rattle.pop_solve.proofs.Tests as test
 use Rattle.pop_solve.proofs.value.turn.Goals as goal
 
 pub close-requires : goal.close-requires
-close-requires g c =
-    search (rules, test.close_asks, c.in-Some.ensures.items, c.requires.above, c.len-depth.ensures.value, c.requires.testing.1)
+close-requires g c = search (rules, test.close_asks, c.in-Some.ensures.items, c.requires.above, c.len-depth.ensures.value, c.requires.testing.1)
 
 pub returns-then-decided-clause-room : goal.returns-then-decided-clause-room
 returns-then-decided-clause-room g c =

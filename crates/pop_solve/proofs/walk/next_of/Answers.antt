@@ -1,4 +1,4 @@
-use Rattle.pop_solve.proofs.Basics.{rules}
+use Rattle.pop_solve.proofs.Words.{rules}
 use Rattle.pop_solve.proofs.Boards.{for_mate}
 use Rattle.pop_solve.proofs.Walking.{next_mating}
 use Rattle.pop_solve.proofs.walk.next_of.Goals as goal

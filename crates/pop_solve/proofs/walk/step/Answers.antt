@@ -1,5 +1,4 @@
-use Rattle.pop_solve.proofs.Basics.{ap, refl, rules, ◌≡◌}
-use Rattle.pop_solve.proofs.Words.{Frame}
+use Rattle.pop_solve.proofs.Words.{Frame, ap, refl, rules, ◌≡◌}
 use Rattle.pop_solve.proofs.Walking as walking
 use Rattle.pop_solve.proofs.walk.step.Goals as goal
 

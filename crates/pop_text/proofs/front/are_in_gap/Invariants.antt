@@ -1,6 +1,4 @@
-use Rattle.std.proofs.Common.{◌≡◌, take}
-use Rattle.std.specs.List.{list_all}
-use Rattle.pop_text.specs.Words.{is_gap}
+use Rattle.pop_text.proofs.Basics.{is_gap, list_all, take, ◌≡◌}
 use Rattle.pop_text.proofs.front.are_in_gap.Given as goal
 
 -- whether the bytes so far are blanks or line ends

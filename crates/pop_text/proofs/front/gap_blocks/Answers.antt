@@ -1,4 +1,4 @@
-use Rattle.std.proofs.Common.{◌∙◌, sym}
+use Rattle.pop_text.proofs.Basics.{sym, ◌∙◌}
 use Rattle.pop_text.proofs.Fronts.{first_block}
 use Rattle.pop_text.proofs.front.gap_blocks.Goals as goal
 

@@ -1,6 +1,4 @@
-use Rattle.std.proofs.Common.{◌-◌, length}
-use Rattle.pop_text.specs.Words.{is_gap}
-use Rattle.pop_text.specs.ties.Reading.{AreFirst}
+use Rattle.pop_text.proofs.Basics.{AreFirst, is_gap, length, ◌-◌}
 use Rattle.pop_text.proofs.front.gap_blocks.Given as goal
 
 -- only blanks and line ends so far

@@ -1,4 +1,4 @@
-use Rattle.std.proofs.lemmas.List.{take_rest}
+use Rattle.pop_text.proofs.Basics.{take_rest}
 use Rattle.pop_text.proofs.Fronts.{first_both}
 use Rattle.pop_text.proofs.front.gap_front.Goals as goal
 

@@ -1,4 +1,4 @@
-use Rattle.std.proofs.Common.{arith, rules}
+use Rattle.pop_text.proofs.Basics.{arith, rules}
 use Rattle.pop_text.proofs.Windows.{plain_front, plain_all}
 use Rattle.pop_text.proofs.front.line_front.Goals as goal
 

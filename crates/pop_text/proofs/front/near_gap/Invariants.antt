@@ -1,5 +1,4 @@
-use Rattle.pop_text.specs.Words.{is_gap}
-use Rattle.pop_text.specs.ties.Reading.{AreFirst}
+use Rattle.pop_text.proofs.Basics.{AreFirst, is_gap}
 use Rattle.pop_text.proofs.front.near_gap.Given as goal
 
 -- only blanks and line ends so far

@@ -1,5 +1,4 @@
-use Rattle.std.proofs.Common.{slice_range, refl, arith, length}
-use Rattle.std.proofs.lemmas.List.{take_rest}
+use Rattle.pop_text.proofs.Basics.{arith, length, refl, slice_range, take_rest}
 use Rattle.pop_text.proofs.Plain.{none_plain, none_out, step_more}
 use Rattle.pop_text.proofs.front.plain_front.Goals as goal
 

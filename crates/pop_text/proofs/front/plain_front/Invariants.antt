@@ -1,5 +1,4 @@
-use Rattle.std.proofs.Common.{◌-◌, length}
-use Rattle.pop_text.specs.ties.Plain.{ArePlain}
+use Rattle.pop_text.proofs.Basics.{ArePlain, length, ◌-◌}
 use Rattle.pop_text.proofs.front.plain_front.Given as goal
 
 -- plain words so far

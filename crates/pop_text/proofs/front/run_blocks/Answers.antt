@@ -1,4 +1,4 @@
-use Rattle.std.proofs.Common.{rules}
+use Rattle.pop_text.proofs.Basics.{rules}
 use Rattle.pop_text.proofs.Fronts.{all_block}
 use Rattle.pop_text.proofs.front.run_blocks.Goals as goal
 

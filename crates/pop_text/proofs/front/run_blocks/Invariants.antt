@@ -1,14 +1,9 @@
-use Rattle.std.proofs.Common.{◌≡◌, ◌≤◌, ◌-◌, take, true, length}
-use Rattle.std.specs.List.{list_all}
-use Rattle.pop_text.specs.Words.{is_in_word}
+use Rattle.pop_text.proofs.Basics.{is_in_word, length, list_all, take, true, ◌-◌, ◌≡◌, ◌≤◌}
 use Rattle.pop_text.proofs.front.run_blocks.Given as goal
 
 -- no blank or line end so far
 abbrev pub invariant-whole : goal.invariant-whole
-invariant-whole l = record {
-  within : l.count ≤ length l.view;
-  all : list_all is_in_word (take l.count l.view) ≡ true;
-}
+invariant-whole l = record { within : l.count ≤ length l.view; all : list_all is_in_word (take l.count l.view) ≡ true }
 
 abbrev pub decreases-whole : goal.decreases-whole
 decreases-whole l = length l.view - l.count

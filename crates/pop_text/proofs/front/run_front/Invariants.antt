@@ -1,6 +1,4 @@
-use Rattle.std.proofs.Common.{◌≡◌, take, true}
-use Rattle.std.specs.List.{list_all}
-use Rattle.pop_text.specs.Words.{is_in_word}
+use Rattle.pop_text.proofs.Basics.{is_in_word, list_all, take, true, ◌≡◌}
 use Rattle.pop_text.proofs.front.run_front.Given as goal
 
 -- no blank or line end so far

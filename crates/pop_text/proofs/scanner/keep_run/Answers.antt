@@ -1,5 +1,4 @@
-use Rattle.std.proofs.Common.{◌∙◌, ◌++◌, ◌≤◌, arith, length, length-append, sym, rules}
-use Rattle.std.proofs.lemmas.List.{take_all}
+use Rattle.pop_text.proofs.Basics.{arith, length, length-append, rules, sym, take_all, ◌++◌, ◌∙◌, ◌≤◌}
 use Rattle.pop_text.proofs.Using.{take_room}
 use Rattle.pop_text.proofs.scanner.keep_run.Goals as goal
 

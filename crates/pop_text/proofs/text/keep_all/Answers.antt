@@ -1,6 +1,4 @@
-use Rattle.std.proofs.Common.{rules}
-use Rattle.std.proofs.lemmas.Bool.{eqb-true}
-use Rattle.std.proofs.lemmas.List.Folds.{fold_stuck}
+use Rattle.pop_text.proofs.Basics.{eqb-true, fold_stuck, rules}
 use Rattle.pop_text.proofs.Windows.{full_stays}
 use Rattle.pop_text.proofs.text.keep_all.Goals as goal
 

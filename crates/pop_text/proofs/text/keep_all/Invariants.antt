@@ -1,5 +1,4 @@
-use Rattle.std.proofs.Common.{◌≡◌, fold, take}
-use Rattle.pop_text.specs.ties.Texts.{with_byte}
+use Rattle.pop_text.proofs.Basics.{fold, take, with_byte, ◌≡◌}
 use Rattle.pop_text.proofs.text.keep_all.Given as goal
 
 -- the bytes so far are kept

@@ -1,12 +1,8 @@
-use Rattle.std.proofs.Common.{rules, ap, ap₂, refl, codes, true, map, ◌≡◌, ◌∙◌}
-use Rattle.std.proofs.lemmas.Result.{IfErr-weaker, IfOk-weaker}
+use Rattle.pops.proofs.Basics.{IfErr-weaker, IfOk-weaker, ap, app_of, ap₂, check, codes, command, is_simple, map, matches_of, new_rule, no_board, refl, rules, takes, true, with_rule, ◌∙◌, ◌≡◌}
 use Rattle.clap.specs.Walk.{rule_of}
-use Rattle.clap.specs.Simple.{app_of, is_simple, new_rule, matches_of, with_rule}
-use Rattle.clap.specs.Takes.{takes}
 use Rattle.clap.specs.Faults.{fault_of, is_simple_and_free}
 use Rattle.clap.proofs.FaultLemmas.{fails_as}
 use Rattle.clap.proofs.OnLiterals.{clap_on_literals}
-use Rattle.pops.specs.CommandLine.{check, no_board, command}
 use Rattle.pops.proofs.command_line.matched.Goals as goal
 
 is_simple_and_free_command : is_simple_and_free command ≡ true
@@ -22,8 +18,7 @@ command_is c =
     let check_is : rule_of c.action-check.result ≡ check = search rules in
     let no_board_is : rule_of c.action-no_board.result ≡ no_board = search rules in
     let file_is : rule_of c.new-file.result ≡ new_rule (codes "file") = search rules in
-    c.in_ok-command.ensures.shape (search rules)
-    ∙ ap₂ with_rule (c.in_ok-arg-2.ensures.shape (search rules) ∙ ap₂ with_rule
+    c.in_ok-command.ensures.shape (search rules) ∙ ap₂ with_rule (c.in_ok-arg-2.ensures.shape (search rules) ∙ ap₂ with_rule
     (c.in_ok-arg.ensures.shape (search rules) ∙ ap₂ with_rule c.new-3.ensures.app check_is) no_board_is) file_is
 
 pub returns-clause-rows : goal.returns-clause-rows

@@ -1,6 +1,4 @@
-use Rattle.std.proofs.Common.{◌∙◌, sym, ap, codes, Some, option_map}
-use Rattle.std.specs.Prelude.{string_bytes}
-use Rattle.clap.specs.Walk.{first_of, one_of}
+use Rattle.pops.proofs.Basics.{Some, ap, codes, first_of, one_of, option_map, string_bytes, sym, ◌∙◌}
 use Rattle.clap.specs.Matches.{found_of}
 use Rattle.clap.proofs.WalkLemmas.{first_value-rows, one_text-rows}
 use Rattle.pops.proofs.command_line.settings.Goals as goal
@@ -16,8 +14,7 @@ returns-clause-chosen c =
       file = elim c.match-get_str.branch [
         | in-Some+in-Ok-from_str w ↦ ap (option_map string_bytes) w.file-is ∙ ap Some w.in-Ok-from_str.ensures.ok
             ∙ ap (option_map (λ s. s.now)) (sym w.in-Some.is) ∙ c.get_str.ensures ∙ file_text
-        | in-None w ↦ ap (option_map string_bytes) w.file-is
-            ∙ ap (option_map (λ s. s.now)) (sym w.in-None.is) ∙ c.get_str.ensures ∙ file_text
+        | in-None w ↦ ap (option_map string_bytes) w.file-is ∙ ap (option_map (λ s. s.now)) (sym w.in-None.is) ∙ c.get_str.ensures ∙ file_text
       ];
       check = record {
         absent = λ e. c.get_flag.ensures.none (check_text ∙ e);

@@ -1,5 +1,4 @@
-use Rattle.std.proofs.Common.{◌+◌, arith, refl, ap, ◌∙◌, inl}
-use Rattle.pop_text.proofs.Using.{failures_then}
+use Rattle.pops.proofs.Basics.{ap, arith, failures_then, inl, refl, ◌+◌, ◌∙◌}
 use Rattle.pops.proofs.Running.{progress_start, progress_step, run_ends, run_cut, ended_most, cut_most, failed_once}
 use Rattle.pops.proofs.run.run.Goals as goal
 
@@ -25,8 +24,7 @@ returns-in-Ok-Finished g c =
       headline = run_ends _ c.items.session c.step.new.self _ (g.S.Source.remaining c.items.source) (g.S.Source.remaining c.step.new.source) _
           (g.W.Sink.taken c.items.sink) (g.W.Sink.taken c.step.new.sink)
           c.in-Ok-Finished.status _ _ _ _ i.progress (rw c.in-Ok-Finished.field-0-is at (c.in-Ok-Finished.ensures.does i.progress.running))
-          (c.step.ensures.seen i.seen)
-          (failures_then _ _ _ _ _ _ (inl refl) c.step.ensures.ends i.read_failures c.step.ensures.read_failures)
+          (c.step.ensures.seen i.seen) (failures_then _ _ _ _ _ _ (inl refl) c.step.ensures.ends i.read_failures c.step.ensures.read_failures)
           (c.in-Ok-Finished.ensures.write_failures i.progress.running ∙ i.write_failures);
       once = (
         failed_once c.step.new.self.at.at.end _ _ (failures_then _ _ _ _ _ _ (inl refl) c.step.ensures.ends i.read_failures c.step.ensures.read_failures),

@@ -1,8 +1,4 @@
-use Rattle.std.proofs.Common.{◌≡◌}
-use Rattle.pop_text.specs.ties.Reading.{IsSeen, failures_after}
-use Rattle.pop_text.specs.declared.scanner.End.TheVariants.{Open}
-use Rattle.pop_input.specs.ties.Standing.{work_left}
-use Rattle.pops.specs.Report.{choice_of}
+use Rattle.pops.proofs.Basics.{IsSeen, Open, choice_of, failures_after, work_left, ◌≡◌}
 use Rattle.pops.proofs.Running.{Progress}
 use Rattle.pops.proofs.run.run.Given as goal
 

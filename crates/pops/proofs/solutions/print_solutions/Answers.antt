@@ -1,7 +1,4 @@
-use Rattle.std.proofs.Common.{◌∙◌, ap, map, refl, sym}
-use Rattle.std.proofs.lemmas.Result.{err_from_is_err_and}
-use Rattle.pop_solve.specs.Events.{event_of, events_of}
-use Rattle.pop_print.specs.Events.{event_text}
+use Rattle.pops.proofs.Basics.{ap, err_from_is_err_and, event_of, event_text, events_of, map, refl, sym, ◌∙◌}
 use Rattle.pops.proofs.Findings.{printing_starts, printing_goes_on, printing_breaks_off, events_under, first_shown}
 use Rattle.pops.proofs.solutions.print_solutions.Goals as goal
 

@@ -1,6 +1,4 @@
-use Rattle.std.proofs.Common.{◌≡◌, map, length}
-use Rattle.pop_solve.specs.Events.{event_of, events_of}
-use Rattle.pop_print.specs.Events.{event_text}
+use Rattle.pops.proofs.Basics.{event_of, event_text, events_of, length, map, ◌≡◌}
 use Rattle.pops.proofs.Findings.{IsPrinting}
 use Rattle.pops.proofs.solutions.print_solutions.Given as goal
 

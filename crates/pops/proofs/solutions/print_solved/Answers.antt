@@ -1,6 +1,4 @@
-use Rattle.std.proofs.lemmas.Result.{err_from_is_err_and}
-use Rattle.pop_text.proofs.Appending.{appends_then, begins_later, begins_longer, writes_then}
-use Rattle.pops.specs.Report.{entry_text}
+use Rattle.pops.proofs.Basics.{appends_then, begins_later, begins_longer, entry_text, err_from_is_err_and, writes_then}
 use Rattle.pops.proofs.solutions.print_solved.Goals as goal
 
 pub returns-in_err-print_head-clause-bytes : goal.returns-in_err-print_head-clause-bytes

@@ -1,5 +1,4 @@
-use Rattle.std.proofs.Common.{rules}
-use Rattle.std.proofs.lemmas.Nat.Bits.{shr_and_one}
+use Rattle.chess_core.proofs.Basics.{rules, shr_and_one}
 use Rattle.chess_core.proofs.Castlings.{has_unmoved-bit}
 use Rattle.chess_core.proofs.man.Unmoved.has.Goals as goal
 

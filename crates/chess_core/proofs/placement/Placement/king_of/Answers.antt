@@ -1,4 +1,4 @@
-use Rattle.std.proofs.Common.{sym, rules}
+use Rattle.chess_core.proofs.Basics.{rules, sym}
 use Rattle.chess_core.proofs.Kings.{king_square-none, king_square-some}
 use Rattle.chess_core.proofs.placement.Placement.king_of.Goals as goal
 

@@ -1,6 +1,4 @@
-use Rattle.std.proofs.Common.{◌≡◌, ◌<◌, ◌∙◌, Some, None}
-use Rattle.std.proofs.lemmas.List.{length-set}
-use Rattle.chess_core.specs.Position.{man_on}
+use Rattle.chess_core.proofs.Basics.{None, Some, length-set, man_on, ◌<◌, ◌∙◌, ◌≡◌}
 use Rattle.chess_core.proofs.Kept.{lifted}
 use Rattle.chess_core.proofs.placement.Placement.lift.Goals as goal
 
@@ -12,6 +10,5 @@ invariant_of-self c =
     let held : man_on b.array c.args.square ≡ Some x = rw (← c.index-index.ensures.value) c.in-Some.is in
     rw (c.index-index.ensures.value, c.number-kind.ensures.value, c.number-side.ensures.value) (
       length-set b.array c.args.square None ∙ c.self.invariant.0,
-      lifted b.array b.by_kind b.by_side c.args.square x c.self.invariant.1 c.self.invariant.0 small
-          held,
+      lifted b.array b.by_kind b.by_side c.args.square x c.self.invariant.1 c.self.invariant.0 small held,
     )

@@ -1,5 +1,4 @@
-use Rattle.pop_input.proofs.Basics.{ap, sym, ◌∙◌}
-use Rattle.pop_input.proofs.Words.{ArePut}
+use Rattle.pop_input.proofs.Words.{ArePut, ap, sym, ◌∙◌}
 use Rattle.pop_input.proofs.Posing.{well_formed_without}
 use Rattle.pop_input.proofs.draft.Draft.is_well_formed.Goals as goal
 

@@ -1,4 +1,4 @@
-use Rattle.pop_input.proofs.Basics.{arith, refl}
+use Rattle.pop_input.proofs.Words.{arith, refl}
 use Rattle.pop_input.proofs.Putting.{none_put}
 use Rattle.pop_input.proofs.draft.Draft.new.Goals as goal
 

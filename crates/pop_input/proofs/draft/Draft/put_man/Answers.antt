@@ -1,5 +1,4 @@
-use Rattle.pop_input.proofs.Basics.{ap, sym, ◌∙◌, ◌≡◌}
-use Rattle.pop_input.proofs.Words.{man_fault}
+use Rattle.pop_input.proofs.Words.{ap, man_fault, sym, ◌∙◌, ◌≡◌}
 use Rattle.pop_input.proofs.Putting.{put_keeps}
 use Rattle.pop_input.proofs.draft.Draft.put_man.Goals as goal
 

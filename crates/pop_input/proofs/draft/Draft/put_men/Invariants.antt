@@ -1,6 +1,4 @@
-use Rattle.pop_input.proofs.Basics.{drop, ◌≡◌}
-use Rattle.pop_input.proofs.Words.{men_fault}
-use Rattle.pop_input.specs.State.{put_men}
+use Rattle.pop_input.proofs.Words.{drop, men_fault, put_men, ◌≡◌}
 use Rattle.pop_input.proofs.draft.Draft.put_men.Given as goal
 
 -- what is left to do is to put the man on the rest

@@ -1,6 +1,4 @@
-use Rattle.pop_input.proofs.Basics.{fold, take, ◌≡◌}
-use Rattle.pop_input.proofs.Words.{counts, mark_unmoved, none_unmoved}
-use Rattle.chess_core.specs.Castling.{castling_squares}
+use Rattle.pop_input.proofs.Words.{castling_squares, counts, fold, mark_unmoved, none_unmoved, take, ◌≡◌}
 use Rattle.pop_input.proofs.draft.Draft.unmoved.Given as goal
 
 -- the castling squares so far are marked

@@ -1,5 +1,4 @@
-use Rattle.pop_input.proofs.Basics.{fold, list_all, take, true, ◌≡◌}
-use Rattle.chess_core.specs.Castling.{is_castling, with_unmoved}
+use Rattle.pop_input.proofs.Words.{fold, is_castling, list_all, take, true, with_unmoved, ◌≡◌}
 use Rattle.pop_input.proofs.draft.awaited.barred_with.Given as goal
 
 -- the squares so far are castling squares, and in the set

@@ -1,6 +1,4 @@
-use Rattle.pop_input.proofs.Basics.{None, ap, refl, sym, ◌∙◌, ◌≡◌}
-use Rattle.pop_input.proofs.Words.{Nothing, Standing, command_of, last_of, next_behind}
-use Rattle.pop_text.proofs.Using.{asks_none, asks_then}
+use Rattle.pop_input.proofs.Words.{None, Nothing, Standing, ap, asks_none, asks_then, command_of, last_of, next_behind, refl, sym, ◌∙◌, ◌≡◌}
 use Rattle.pop_input.proofs.Items.{block_starts, line_read, long_read, open_read, not_closing}
 use Rattle.pop_input.proofs.Skipping.{skip_read}
 use Rattle.pop_input.proofs.Ends.{word_closes, input_ends, cut_read}
@@ -55,8 +53,7 @@ returns-in-Some-clause-item g c =
     let i = c.words.invariant in
     let new : Standing = record { next = c.next_behind-self-inside.result; at = c.next_token.new.scanner } in
     word_closes _ _ new _ _ i.starts _ _ _ _ i.block _ _ c.in-Word.ensures.token.0 c.read_word.ensures.read c.closed.result c.in-Some.last _
-    c.closed.ensures refl
-    (sym c.read_word.ensures.closes ∙ c.in-Some.is) c.next_behind-self-inside.ensures
+    c.closed.ensures refl (sym c.read_word.ensures.closes ∙ c.in-Some.is) c.next_behind-self-inside.ensures
 
 pub returns-in-Ended-clause-item : goal.returns-in-Ended-clause-item
 returns-in-Ended-clause-item g c =

@@ -1,6 +1,4 @@
-use Rattle.pop_input.proofs.Basics.{◌-◌, ◌≡◌}
-use Rattle.pop_input.proofs.Words.{limit}
-use Rattle.pop_text.specs.ties.Reading.{Asks}
+use Rattle.pop_input.proofs.Words.{Asks, limit, ◌-◌, ◌≡◌}
 use Rattle.pop_input.proofs.Items.{BlockSoFar}
 use Rattle.pop_input.proofs.Ends.{block_of}
 use Rattle.pop_input.proofs.reader.Reader.next_problem.Given as goal

@@ -1,5 +1,4 @@
-use Rattle.pop_solve.proofs.Basics.{ap, rules}
-use Rattle.pop_solve.proofs.Words.{IsStanding, left_of, steps_from}
+use Rattle.pop_solve.proofs.Words.{IsStanding, ap, left_of, rules, steps_from}
 use Rattle.pop_solve.proofs.Events.{given-all}
 use Rattle.pop_solve.proofs.Opened.{opened-start}
 use Rattle.pop_solve.proofs.search.Search.new.Goals as goal

@@ -1,4 +1,4 @@
-use Rattle.pop_solve.proofs.Basics.{rules, sym, ◌∙◌}
+use Rattle.pop_solve.proofs.Words.{rules, sym, ◌∙◌}
 use Rattle.pop_solve.proofs.Events as events
 use Rattle.pop_solve.proofs.Opened as opened
 use Rattle.pop_solve.proofs.search.Search.next.Goals as goal
@@ -8,8 +8,7 @@ invariant_of-self g c = (
   c.self.invariant.0,
   c.self.invariant.1,
   c.advance-event.ensures.standing,
-  events.given-event g.R.Rules.rule _ _ _ _ _ _ _ _
-      (sym c.is_some.ensures ∙ c.if-is_some.true) c.advance-event.ensures.gives (search rules) c.self.invariant.3,
+  events.given-event g.R.Rules.rule _ _ _ _ _ _ _ _ (sym c.is_some.ensures ∙ c.if-is_some.true) c.advance-event.ensures.gives (search rules) c.self.invariant.3,
   opened.opened-on g.R.Rules.rule _ _ _ _ _ _ _ _ _ c.self.invariant.3 c.advance-event.ensures.opens c.self.invariant.4,
 )
 

@@ -1,4 +1,4 @@
-use Rattle.std.proofs.Common.{rules}
+use Rattle.pop_text.proofs.Basics.{rules}
 use Rattle.pop_text.proofs.Windows.{some_used, rest_waits}
 use Rattle.pop_text.proofs.scanner.Scanner.advance.Goals as goal
 

@@ -1,4 +1,4 @@
-use Rattle.pop_text.specs.Words.{is_in_line}
+use Rattle.pop_text.proofs.Basics.{is_in_line}
 use Rattle.pop_text.proofs.Windows.{front_is}
 use Rattle.pop_text.proofs.scanner.Scanner.line_part.Goals as goal
 

@@ -1,5 +1,4 @@
-use Rattle.std.proofs.Common.{◌≤◌, arith, length}
-use Rattle.pop_text.specs.Words.{limit}
+use Rattle.pop_text.proofs.Basics.{arith, length, limit, ◌≤◌}
 use Rattle.pop_text.proofs.Windows.{front_peeks}
 use Rattle.pop_text.proofs.scanner.Scanner.peek.Goals as goal
 

@@ -1,4 +1,4 @@
-use Rattle.std.proofs.Common.{Err, None, Ok, ap}
+use Rattle.pop_text.proofs.Basics.{Err, None, Ok, ap}
 use Rattle.pop_text.proofs.Using.{fault_sticks, found_stands, found_uses, uses_cut}
 use Rattle.pop_text.proofs.Left.{next_of}
 use Rattle.pop_text.proofs.scanner.Scanner.read_word.Goals as goal

@@ -1,6 +1,4 @@
-use Rattle.std.proofs.Common.{◌∙◌, sym, ap, arith, inl, inr, not, subst}
-use Rattle.pop_text.specs.Words.{without_trailing}
-use Rattle.pop_text.specs.ties.Reading.{Uses}
+use Rattle.pop_text.proofs.Basics.{Uses, ap, arith, inl, inr, not, subst, sym, without_trailing, ◌∙◌}
 use Rattle.pop_text.proofs.Lines.{kept_all, kept_of_line}
 use Rattle.pop_text.proofs.Left.{line_of, line_cut}
 use Rattle.pop_text.proofs.Using.{asks_none, asks_then, more_so_far, none_so_far, line_ends, seen_so_far, still_stuck}

@@ -1,8 +1,4 @@
-use Rattle.std.proofs.Common.{Err, ◌≡◌, ◌-◌}
-use Rattle.pop_text.specs.Words.{is_in_line, limit}
-use Rattle.pop_text.specs.ties.Reading.{Asks}
-use Rattle.pop_text.specs.ties.Runs.{Peeks}
-use Rattle.pop_text.specs.declared.read_fault.ReadFault.{ReadFault}
+use Rattle.pop_text.proofs.Basics.{Asks, Err, Peeks, ReadFault, is_in_line, limit, ◌-◌, ◌≡◌}
 use Rattle.pop_text.proofs.Using.{SoFar}
 use Rattle.pop_text.proofs.Lines.{kept_of_line}
 use Rattle.pop_text.proofs.scanner.Scanner.rest_of_line.Given as goal

@@ -1,4 +1,4 @@
-use Rattle.std.proofs.Common.{◌∙◌, arith, sym}
+use Rattle.pop_text.proofs.Basics.{arith, sym, ◌∙◌}
 use Rattle.pop_text.proofs.Using.{all_then, all_seen, asks_then, still_stuck}
 use Rattle.pop_text.proofs.scanner.Scanner.skip_gap.Goals as goal
 

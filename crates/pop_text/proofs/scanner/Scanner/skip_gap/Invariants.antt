@@ -1,8 +1,4 @@
-use Rattle.std.proofs.Common.{Err, ◌≡◌, ◌-◌}
-use Rattle.pop_text.specs.Words.{is_gap, limit}
-use Rattle.pop_text.specs.ties.Reading.{UsesAll, Asks}
-use Rattle.pop_text.specs.ties.Runs.{Peeks}
-use Rattle.pop_text.specs.declared.read_fault.ReadFault.{ReadFault}
+use Rattle.pop_text.proofs.Basics.{Asks, Err, Peeks, ReadFault, UsesAll, is_gap, limit, ◌-◌, ◌≡◌}
 use Rattle.pop_text.proofs.scanner.Scanner.skip_gap.Given as goal
 
 -- only blanks and line ends are used so far

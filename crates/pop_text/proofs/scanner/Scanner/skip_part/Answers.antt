@@ -1,6 +1,4 @@
-use Rattle.std.proofs.Common.{◌≡◌, ◌∙◌, arith, ap, length, length-drop, count_by, subst, true}
-use Rattle.std.specs.List.{list_all}
-use Rattle.pop_text.specs.Words.{is_gap, is_line_end}
+use Rattle.pop_text.proofs.Basics.{ap, arith, count_by, is_gap, is_line_end, length, length-drop, list_all, subst, true, ◌∙◌, ◌≡◌}
 use Rattle.pop_text.proofs.Windows.{view_some, view_within}
 use Rattle.pop_text.proofs.scanner.Scanner.skip_part.Goals as goal
 

@@ -1,6 +1,4 @@
-use Rattle.std.proofs.Common.{◌∙◌, ◌-◌, ap, arith, count_by, length, length-drop, subst, sym}
-use Rattle.pop_text.specs.Words.{is_line_end, limit}
-use Rattle.pop_text.specs.ties.Reading.{Uses}
+use Rattle.pop_text.proofs.Basics.{Uses, ap, arith, count_by, is_line_end, length, length-drop, limit, subst, sym, ◌-◌, ◌∙◌}
 use Rattle.pop_text.proofs.Plain.{behind_view, skips}
 use Rattle.pop_text.proofs.Windows.{view_within}
 use Rattle.pop_text.proofs.scanner.Scanner.skip_plain.Goals as goal

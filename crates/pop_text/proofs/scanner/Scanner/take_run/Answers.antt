@@ -1,7 +1,5 @@
-use Rattle.std.proofs.Common.{◌++◌, ◌≡◌, ◌∙◌, sym, subst, true, not, ap, arith, inl, inr}
+use Rattle.pop_text.proofs.Basics.{Uses, ap, arith, inl, inr, is_in_word, not, subst, sym, true, ◌++◌, ◌∙◌, ◌≡◌}
 use Rattle.std.proofs.lemmas.Result.{err_from_is_err_and}
-use Rattle.pop_text.specs.Words.{is_in_word}
-use Rattle.pop_text.specs.ties.Reading.{Uses}
 use Rattle.pop_text.proofs.Using.{asks_none, asks_then, kept_of_run, more_so_far, none_so_far, run_more, run_over, seen_so_far}
 use Rattle.pop_text.proofs.scanner.Scanner.take_run.Goals as goal
 

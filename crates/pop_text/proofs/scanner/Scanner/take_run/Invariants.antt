@@ -1,6 +1,4 @@
-use Rattle.std.proofs.Common.{◌-◌}
-use Rattle.pop_text.specs.Words.{is_in_word, limit}
-use Rattle.pop_text.specs.ties.Reading.{Asks}
+use Rattle.pop_text.proofs.Basics.{Asks, is_in_word, limit, ◌-◌}
 use Rattle.pop_text.proofs.Using.{SoFar, kept_of_run}
 use Rattle.pop_text.proofs.scanner.Scanner.take_run.Given as goal
 

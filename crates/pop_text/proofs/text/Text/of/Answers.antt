@@ -1,4 +1,4 @@
-use Rattle.std.proofs.Common.{rules}
+use Rattle.pop_text.proofs.Basics.{rules}
 use Rattle.pop_text.proofs.Padding.{bytes_padded}
 use Rattle.pop_text.proofs.text.Text.of.Goals as goal
 

@@ -1,5 +1,4 @@
-use Rattle.std.proofs.Common.{◌≡◌, length}
-use Rattle.pop_text.specs.Words.{without_trailing}
+use Rattle.pop_text.proofs.Basics.{length, without_trailing, ◌≡◌}
 use Rattle.pop_text.proofs.text.Text.trimmed.Given as goal
 
 -- only trailing blanks are gone

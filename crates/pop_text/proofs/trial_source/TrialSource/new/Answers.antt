@@ -1,4 +1,4 @@
-use Rattle.std.proofs.Common.{List, ℕ, Some, ap}
+use Rattle.pop_text.proofs.Basics.{List, Some, ap, ℕ}
 use Rattle.pop_text.proofs.Cycles.{cycled_whole}
 use Rattle.pop_text.proofs.trial_source.TrialSource.new.Goals as goal
 

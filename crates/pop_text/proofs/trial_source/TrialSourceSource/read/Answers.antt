@@ -1,4 +1,4 @@
-use Rattle.std.proofs.Common.{rules}
+use Rattle.pop_text.proofs.Basics.{rules}
 use Rattle.pop_text.proofs.Cycles.{gives, gives_none}
 use Rattle.pop_text.proofs.trial_source.TrialSourceSource.read.Goals as goal
 

@@ -1,5 +1,4 @@
-use Rattle.std.proofs.Common.{◌≡◌, false}
-use Rattle.pop_text.specs.declared.scanner.End.TheVariants.{Open}
+use Rattle.pops.proofs.Basics.{Open, false, ◌≡◌}
 use Rattle.pops.proofs.tests.devices.steps_behind_a_failed_write.Given as goal
 
 -- neither device has failed while it may still be asked
