@@ -1,6 +1,6 @@
 -- A move that goes to no square from which its man may give check gives none.
 use Rattle.chess_rules.proofs.Basics.{None, Option, Some, agree_below_at, and_parts, ap, arith, bit_and, bit_at, bit_not, bit_or, cases_Bool, false, false≢true, inl, inr, is_some, not, refl, rules, sym, true, w64, ℕ, ◌+◌, ◌/◌, ◌<◌, ◌==◌, ◌||◌, ◌∙◌, ◌≡◌}
-use Rattle.chess_mates.proofs.Chess.{AreCastlingTargets, AreCheckSquares, AreCheckTargets, Black, CheckSquares, Colour, IsWellFormed, Kind, King, Man, Move, Pawn, Position, Rook, RuleSet, White, after, are_rebirths_quiet, arrives, arriving, check_squares_for, circe, halfway, in_check, is_arrival, is_aside, is_castling, is_circe, is_square, last_rank, legal, man_on, may_check_from, may_expose, may_go, may_stand_between, orthodox, other, pseudo, rank_of, same_colour, same_kind, word}
+use Rattle.chess_mates.proofs.Chess.{AreCastlingTargets, AreCheckSquares, AreCheckTargets, Black, CheckSquares, Colour, IsWellFormed, Kind, King, Man, Move, Pawn, Position, Rook, RuleSet, White, after, are_rebirths_quiet, arrives, arriving, check_squares_for, circe, halfway, in_check, is_aside, is_castling, is_circe, is_square, last_rank, legal, man_on, may_check_from, may_expose, may_go, may_stand_between, orthodox, other, pseudo, rank_of, same_colour, same_kind, word}
 use Rattle.chess_mates.specs.ties.CheckSquares.{enemy}
 use Rattle.chess_rules.specs.ties.Shields.{cannot_expose}
 use Rattle.chess_rules.proofs.listing_moves.Arrivals.{may_go_aimed}
@@ -14,7 +14,7 @@ use Rattle.chess_rules.proofs.making_moves.Pseudo.{made}
 use Rattle.chess_mates.proofs.Rebirths.{pseudo_so, quiet_parts, rebirth_gives_no_check}
 use Rattle.chess_rules.proofs.attacks.Shielding.{other_differs}
 use Rattle.chess_rules.proofs.listing_moves.Walks.{off_second}
-use Rattle.chess_rules.proofs.listing_moves.Targeting.{arrival_needed, every_square_on, false_by, nobody_moves, unpromoted}
+use Rattle.chess_rules.proofs.listing_moves.Targeting.{arrival_needed, every_square_on, false_by, nobody_moves}
 use Rattle.chess_rules.proofs.Tests.{implied}
 
 -- a pawn's last rank is in the word of both

@@ -1,6 +1,6 @@
 -- The squares from which a move may give check, by kinds.
-use Rattle.chess_rules.proofs.Basics.{or_parts, rules, Bool, List, None, Option, Some, ap, arith, bit_at, bit_not, bit_or, cases_Bool, false, false≢true, inl, inr, list_any-append, not, or_left, refl, sym, true, w64, ℕ, ◌&&◌, ◌<◌, ◌==◌, ◌||◌, ◌∙◌, ◌≡◌}
-use Rattle.chess_mates.proofs.Chess.{AreCheckSquares, Bishop, CheckSquares, Colour, Grasshopper, IsWellFormed, Kind, King, Knight, Man, Move, Nightrider, Pawn, Position, Queen, Rook, RuleSet, after, arriving, check_squares_for, diagonal_steps, in_check, is_absent, is_fairy, is_man, king_square, man_on, may_check_from, may_check_from_on, other, pseudo, reaches_as, rides, same_kind, squares_either, squares_of, squares_same, straight_steps, word}
+use Rattle.chess_rules.proofs.Basics.{or_parts, rules, List, None, Option, Some, ap, arith, bit_at, bit_not, bit_or, cases_Bool, false, false≢true, inl, inr, list_any-append, or_left, sym, true, w64, ℕ, ◌&&◌, ◌<◌, ◌==◌, ◌||◌, ◌∙◌, ◌≡◌}
+use Rattle.chess_mates.proofs.Chess.{AreCheckSquares, Bishop, CheckSquares, Colour, IsWellFormed, Kind, King, Man, Move, Position, Queen, Rook, RuleSet, after, arriving, check_squares_for, in_check, is_absent, is_fairy, king_square, man_on, may_check_from, may_check_from_on, other, pseudo, reaches_as, same_kind, squares_either, squares_of, squares_same, word}
 use Rattle.chess_mates.specs.ties.CheckSquares.{enemy}
 use Rattle.chess_rules.specs.ties.Shields.{cannot_expose}
 use Rattle.chess_rules.proofs.Bits.{not_zero, word_empty, word_has, every_square}

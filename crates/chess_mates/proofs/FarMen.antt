@@ -1,7 +1,7 @@
 -- Men who couldn't come to a check square give no check.
-use Rattle.chess_rules.proofs.Basics.{None, Option, Some, and_parts, ap, arith, bit_and, bit_at, bit_at-lt, bit_at_and, bit_at_or, bit_not, bit_or, cases_Bool, eq-eqb, eqb-true, false, false≢true, refl, subst, suc, sym, true, w64, zero, ℕ, ◌-◌, ◌<◌, ◌==◌, ◌^◌, ◌∙◌, ◌≡◌}
-use Rattle.chess_mates.proofs.Chess.{AreApproaches, AreCheckOrigins, AreCheckTargets, Colour, Kind, Man, Move, Position, RuleSet, is_arrival, is_man, is_square, man_on, may_go, pseudo, same_colour, same_colour-true, same_kind, same_kind-is, side_of, squares_of, word}
-use Rattle.std.proofs.Common.{rules, min}
+use Rattle.chess_rules.proofs.Basics.{Option, Some, arith, bit_and, bit_at, bit_at-lt, bit_at_and, bit_at_or, bit_not, bit_or, cases_Bool, eq-eqb, eqb-true, false, false≢true, sym, true, w64, ℕ, ◌<◌, ◌==◌, ◌^◌, ◌∙◌, ◌≡◌}
+use Rattle.chess_mates.proofs.Chess.{AreApproaches, AreCheckOrigins, AreCheckTargets, Colour, Kind, Man, Move, Position, RuleSet, is_man, is_square, man_on, may_go, pseudo, same_colour-true, same_kind-is, side_of, squares_of, word}
+use Rattle.std.proofs.Common.{rules}
 use Rattle.std.proofs.lemmas.Nat.Bits.{bit_at_not}
 use Rattle.chess_rules.proofs.listing_moves.Arrivals.{may_go_aimed}
 use Rattle.chess_rules.proofs.Bits.{word_has}

@@ -1,7 +1,6 @@
 -- A king who goes next to the other king is in check there: no legal move does so.
-use Rattle.std.proofs.Common.{rules}
-use Rattle.chess_rules.proofs.Basics.{Bool, List, None, Option, Some, and_from, and_left, and_parts, ap, arith, cases_Bool, false, false_from_ne_true, false≢true, inl, inr, list_any, not, not-true, refl, sym, true, ℕ, ◌<◌, ◌||◌, ◌∙◌, ◌≡◌, ◌≢◌}
-use Rattle.chess_mates.proofs.Chess.{CanCastle, Colour, IsWellFormed, King, Man, Move, Position, RuleSet, after, attacked, capture_square, check_of, corner, halfway, in_check, is_absent, is_castling, is_fairy, is_man, is_side, king_square, leaps, legal, man_on, man_on-with_other, man_on-without_other, man_on_at, may_check_from, may_check_from_on, moved_men, other, pseudo, put_at, queen_steps, reaches_as, reborn_square, same_colour, same_kind, some_square_true, strikes, without_man}
+use Rattle.chess_rules.proofs.Basics.{Bool, List, None, Option, Some, and_from, and_left, and_parts, ap, arith, cases_Bool, false, false_from_ne_true, false≢true, inl, inr, not-true, refl, sym, true, ℕ, ◌<◌, ◌||◌, ◌∙◌, ◌≡◌, ◌≢◌}
+use Rattle.chess_mates.proofs.Chess.{CanCastle, Colour, IsWellFormed, King, Man, Move, Position, RuleSet, after, attacked, capture_square, check_of, corner, halfway, in_check, is_absent, is_castling, is_fairy, is_man, king_square, legal, man_on, man_on-with_other, man_on-without_other, man_on_at, may_check_from, may_check_from_on, moved_men, other, pseudo, put_at, reaches_as, reborn_square, same_colour, same_kind, some_square_true, strikes}
 use Rattle.chess_rules.proofs.listing_moves.Calls.{pseudo-from_legal}
 use Rattle.chess_rules.proofs.attacks.Exposing.{king_stays_king}
 use Rattle.chess_rules.proofs.making_moves.Fits.{arrived, arrived_other, can_move, kind_is_king, taken}

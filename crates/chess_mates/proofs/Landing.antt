@@ -1,6 +1,6 @@
 -- What a man reaches doesn't depend on who stands on the square that it reaches.
-use Rattle.chess_rules.proofs.Basics.{Bool, List, None, Option, Some, and_left, ap, arith, cases_Bool, false, false_from_ne_true, inl, inr, is_some, list_all, list_any, range_with_len, refl, rules, suc, sym, zero, ℕ, ◌&&◌, ◌+◌, ◌-◌, ◌<◌, ◌||◌, ◌∙◌, ◌≡◌, ◌≢◌, ◌≤◌}
-use Rattle.chess_mates.proofs.Chess.{Bishop, Colour, Direction, East, EastNorthEast, EastSouthEast, Grasshopper, Kind, King, Man, Nightrider, North, NorthEast, NorthNorthEast, NorthNorthWest, NorthWest, Queen, Rook, South, SouthEast, SouthSouthEast, SouthSouthWest, SouthWest, Step, West, WestNorthWest, WestSouthWest, along, any_range_same, diagonal_steps, hops, is_clear, is_occupied, is_square, knight_steps, leaps, man_on, place, queen_steps, reaches_as, rides, step_of, straight_steps}
+use Rattle.chess_rules.proofs.Basics.{Bool, List, Option, Some, and_left, arith, cases_Bool, false, false_from_ne_true, inl, inr, is_some, list_all, list_any, range_with_len, refl, rules, suc, zero, ℕ, ◌&&◌, ◌+◌, ◌-◌, ◌<◌, ◌||◌, ◌≡◌, ◌≢◌, ◌≤◌}
+use Rattle.chess_mates.proofs.Chess.{Colour, Direction, East, EastNorthEast, EastSouthEast, Kind, King, Man, North, NorthEast, NorthNorthEast, NorthNorthWest, NorthWest, South, SouthEast, SouthSouthEast, SouthSouthWest, SouthWest, Step, West, WestNorthWest, WestSouthWest, along, any_range_same, diagonal_steps, hops, is_clear, is_occupied, is_square, knight_steps, leaps, man_on, place, queen_steps, reaches_as, rides, step_of, straight_steps}
 use Rattle.chess_rules.proofs.rays.Ahead.{Ordered, ordered}
 use Rattle.chess_rules.proofs.rays.Ends.{square_is, stays}
 

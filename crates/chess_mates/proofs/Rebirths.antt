@@ -1,8 +1,8 @@
 -- A man who is reborn gives his own king no check, but as a grasshopper's hurdle.
-use Rattle.chess_rules.proofs.Basics.{List, None, Option, Some, and_from, and_parts, ap, arith, bit_at, cases_Bool, cond-false, cond-true, false, false_from_ne_true, false≢true, inl, inr, is_some, length, list_all, list_any, not, not-true, range_with_len, refl, sym, true, ℕ, ◌&&◌, ◌-◌, ◌<◌, ◌==◌, ◌∙◌, ◌≡◌, rules}
-use Rattle.chess_mates.proofs.Chess.{AreCheckSquares, AtMostOneKing, Bishop, CheckSquares, Colour, Grasshopper, IsWellFormed, Kind, King, Man, Move, Nightrider, Position, Queen, Rook, RuleSet, Step, after, after_by, along, are_rebirths_quiet, arriving, attacked, capture_square, castles, check_of, check_squares_for, circe, corner, diagonal_steps, find_first, halfway, in_check, is_absent, is_castling, is_clear, is_man, is_man-without, is_side, is_square, is_vacant, king_square, knight_steps, man_on, man_on_at, may_castle, may_check_from, move_man, moved_men, orthodox, other, paralysed, pseudo, pseudo_of, put_at, queen_steps, reaches, reaches_as, reaches_of, reborn_square}
-use Rattle.chess_mates.proofs.Chess.{rides, same_colour, same_kind, some_square_false, some_square_true, squares, straight_steps, strikes, with_man, without_at, without_man}
-use Rattle.chess_rules.specs.RuleSet.{madrasi}
+use Rattle.chess_rules.proofs.Basics.{List, None, Option, Some, and_from, and_parts, ap, arith, bit_at, cases_Bool, cond-false, cond-true, false, false_from_ne_true, false≢true, inl, inr, length, list_all, list_any, not-true, range_with_len, refl, sym, true, ℕ, ◌&&◌, ◌-◌, ◌<◌, ◌==◌, ◌∙◌, ◌≡◌, rules}
+use Rattle.chess_mates.proofs.Chess.{AreCheckSquares, AtMostOneKing, CheckSquares, Colour, Grasshopper, IsWellFormed, Kind, King, Man, Move, Position, Queen, RuleSet, Step, after, after_by, along, are_rebirths_quiet, arriving, attacked, capture_square, castles, check_of, check_squares_for, circe, corner, find_first, halfway}
+use Rattle.chess_mates.proofs.Chess.{in_check, is_absent, is_castling, is_clear, is_man, is_man-without, is_side, is_square, is_vacant, king_square, man_on, man_on_at, may_castle, may_check_from, move_man, moved_men, orthodox, other, paralysed, pseudo, put_at, queen_steps, reaches, reaches_as, reaches_of, reborn_square}
+use Rattle.chess_mates.proofs.Chess.{rides, same_colour, same_kind, some_square_false, some_square_true, squares, strikes, with_man, without_at, without_man}
 use Rattle.chess_mates.specs.ties.CheckSquares.{rule_of_checks}
 use Rattle.chess_rules.specs.ties.Shields.{cannot_expose}
 use Rattle.chess_mates.proofs.Checking.{no_check}

@@ -1,5 +1,6 @@
 -- The item at the end of a block.
-use Rattle.pop_input.proofs.Words.{Block, Bool, Closes, Command, CutsOff, Device, DeviceFailed, Entry, Fault, FaultKind, First, Input, IsOver, Item, Later, List, Long, MayFollow, NextItem, No, None, Nothing, Option, ReadFault, Reading, Reads, ReadsWord, Some, Standing, Tail, Takes, TakesNothing, TakesPart, TooLong, Word, Yes, [], among, append-nil, arith, block_fault, closed_entry, command_of, cut_fault, ended_by, ended_item, entries_by, entries_left, entries_of, false, fault_at, inside, last_of, more_entries, next_behind, no_words, put_before, refl, subst, tail_fault, told_of_cut, true, words_left, ℕ, ◌++◌, ◌∷◌, ◌≡◌}
+use Rattle.pop_input.proofs.Words.{Block, Bool, Closes, Command, CutsOff, Device, DeviceFailed, Entry, Fault, FaultKind, First, Input, IsOver, Item, Later, List, Long, MayFollow, NextItem, No, None, Nothing, Option, ReadFault, Reading, Reads, ReadsWord, Some, Standing, Tail, Takes, TakesNothing, TakesPart, TooLong, Word, Yes, [], among}
+use Rattle.pop_input.proofs.Words.{append-nil, arith, block_fault, closed_entry, command_of, cut_fault, ended_by, ended_item, entries_by, entries_left, entries_of, false, fault_at, inside, last_of, more_entries, next_behind, no_words, put_before, refl, subst, tail_fault, told_of_cut, true, words_left, ℕ, ◌++◌, ◌∷◌, ◌≡◌}
 use Rattle.pop_text.specs.Words.{Token as Part, End as AtEnd, Broken as Failing}
 use Rattle.pop_text.specs.declared.read_fault.ReadFault.TheVariants.{InputTooLong as PastLimit}
 use Rattle.pop_input.specs.Blocks.{Faulty as FaultyEntry}

@@ -1,5 +1,6 @@
 -- Inputs, and the items that they hold, computed from the definitions.
-use Rattle.pop_input.proofs.Words.{BadLimit, BadStipulation, BeginProblemMissing, Clean, Colour, ColourMissing, DeviceFailed, EnPassantImpossible, EndProblemMissing, Ending, Entry, Failed, FaultKind, Kind, King, KingMissing, List, Man, NoMen, None, NoneCastlesThere, Option, PawnOnOuterRank, Rook, SecondCondition, SecondKing, SecondStipulation, Some, Sound, SquareMissing, SquareTaken, StipulationMissing, WaitingSideInCheck, WordMisplaced, WordTooLong, [], attacked, awaited_of, codes, colour_of, command_of, condition_of, end_fault_in, entries_of, faces, faces_its_like, false, fault_at, has_unmoved, in_check, is_crossed_right, is_home, is_taken, is_there, kind_of, king_square, limit, limit_of, mark_unmoved, no_men, none_unmoved, option_of, paralysed, refl, replicate, section_of, squares_of, stands, stipulation_of, strikes, text_word_of, true, unmoved_of, with_man, words_of, ℕ, ◌++◌, ◌∷◌, ◌≡◌}
+use Rattle.pop_input.proofs.Words.{BadLimit, BadStipulation, BeginProblemMissing, Clean, Colour, ColourMissing, DeviceFailed, EnPassantImpossible, EndProblemMissing, Ending, Entry, Failed, FaultKind, Kind, King, KingMissing, List, Man, NoMen, None, NoneCastlesThere, Option, PawnOnOuterRank, Rook, SecondCondition, SecondKing, SecondStipulation, Some, Sound, SquareMissing, SquareTaken, StipulationMissing, WaitingSideInCheck, WordMisplaced, WordTooLong, [], attacked, awaited_of, codes}
+use Rattle.pop_input.proofs.Words.{colour_of, command_of, condition_of, end_fault_in, entries_of, faces, faces_its_like, false, fault_at, has_unmoved, in_check, is_crossed_right, is_home, is_taken, is_there, kind_of, king_square, limit, limit_of, mark_unmoved, no_men, none_unmoved, option_of, paralysed, refl, replicate, section_of, squares_of, stands, stipulation_of, strikes, text_word_of, true, unmoved_of, with_man, words_of, ℕ, ◌++◌, ◌∷◌, ◌≡◌}
 use Rattle.chess_core.specs.Squares.{some_square, squares}
 use Rattle.chess_core.specs.Steps.{along}
 use Rattle.chess_core.specs.declared.man.Colour.TheVariants.{White, Black}

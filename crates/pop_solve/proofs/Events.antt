@@ -1,5 +1,6 @@
 -- What a call gives.
-use Rattle.pop_solve.proofs.Words.{AreKnown, ArrayVec, Barred, Before, Behind, Event, Frame, Gives, IsGiven, IsLinked, IsRoomy, IsSound, IsStanding, IsWalking, IsWellFormed, Line, List, MatchOption, Node, None, Option, Phase, Play, Posed, Position, RuleSet, Set, Shown, Stage, StandsOn, Step, Total, Walks, Within, [], append_assoc, arith, begins, cond, counted, drop, eqb, event_of, events, false, flat_map, half_moves, is_barred, is_help, is_set, is_some, keep, left_of, length, length-reverse, min, nat_tests, opening, option_map, path, phase_half, phase_half_moves, phase_paths, phase_start, phase_steps, plan_of, position, refl, reverse, rules, shown_along, shown_last, slice_get, solutions, start, started, step_of, steps_from, suc, take, total, true, zero, ℕ, ◌+◌, ◌-◌, ◌^◌, ◌||◌, ◌∷◌, ◌≡◌, ◌≤◌}
+use Rattle.pop_solve.proofs.Words.{AreKnown, ArrayVec, Barred, Before, Behind, Event, Frame, Gives, IsGiven, IsLinked, IsRoomy, IsSound, IsStanding, IsWalking, IsWellFormed, Line, List, MatchOption, Node, None, Option, Phase, Play, Posed, Position, RuleSet, Set, Shown, Stage, StandsOn, Step, Total, Walks, Within, [], append_assoc, arith, begins, cond, counted, drop, eqb, event_of, events, false, flat_map, half_moves, is_barred}
+use Rattle.pop_solve.proofs.Words.{is_help, is_set, is_some, keep, left_of, length, length-reverse, min, nat_tests, opening, option_map, path, phase_half, phase_half_moves, phase_paths, phase_start, phase_steps, plan_of, position, refl, reverse, rules, shown_along, shown_last, slice_get, solutions, start, started, step_of, steps_from, suc, take, total, true, zero, ℕ, ◌+◌, ◌-◌, ◌^◌, ◌||◌, ◌∷◌, ◌≡◌, ◌≤◌}
 use Rattle.pop_solve.proofs.Sound.{in_range}
 use Rattle.pop_solve.proofs.Paths.{path-length, reach-path}
 

@@ -1,5 +1,6 @@
 -- How many frames a search opens.
-use Rattle.pop_solve.proofs.Words.{Barred, Battle, Before, Behind, Bool, Form, Frame, IsCounted, IsGiven, IsKeys, IsNarrow, IsOpened, IsSound, IsWhites, List, Opens, OpensOn, Phase, Plan, Play, Posed, Position, RuleSet, Set, Stage, Step, Tries, Within, [], arith, battle_of, cond, drop, eqb, false, fewest_from, fewest_left, first_phase, half_moves_of, inl, inr, is_barred, is_help, is_set, is_stop, is_unstopped, left_of, min, not, phase_fewest, phase_half_moves, phase_start, phase_steps, phase_walk, plan_of, position, refl, rest_fewest, rest_open, rules, seeks, suc, to_open, total, true, walk_from, zero, ℕ, ◌&&◌, ◌++◌, ◌+◌, ◌-◌, ◌<◌, ◌^◌, ◌∷◌, ◌≡◌, ◌≤◌, ◌⊎◌}
+use Rattle.pop_solve.proofs.Words.{Barred, Battle, Before, Behind, Bool, Form, Frame, IsCounted, IsGiven, IsKeys, IsNarrow, IsOpened, IsSound, IsWhites, List, Opens, OpensOn, Phase, Plan, Play, Posed, Position, RuleSet, Set, Stage, Step, Tries, Within, [], arith, battle_of, cond, drop, eqb, false, fewest_from, fewest_left, first_phase, half_moves_of, inl, inr}
+use Rattle.pop_solve.proofs.Words.{is_barred, is_help, is_set, is_stop, is_unstopped, left_of, min, not, phase_fewest, phase_half_moves, phase_start, phase_steps, phase_walk, plan_of, position, refl, rest_fewest, rest_open, rules, seeks, suc, to_open, total, true, walk_from, zero, ℕ, ◌&&◌, ◌++◌, ◌+◌, ◌-◌, ◌<◌, ◌^◌, ◌∷◌, ◌≡◌, ◌≤◌, ◌⊎◌}
 use Rattle.pop_solve.proofs.Boards.{behind_start}
 use Rattle.pop_solve.proofs.Sound.{some_way}
 use Rattle.pop_solve.proofs.ToCome.{one, walk_count-start}

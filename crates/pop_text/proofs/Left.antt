@@ -1,5 +1,6 @@
 -- What used bytes take of the words still to come.
-use Rattle.pop_text.proofs.Basics.{Bool, Device, Err, Input, InputTooLong, IsOver, IsRunOver, List, Long, MayFollow, NextWord, None, Ok, Option, Peeks, ReadFault, Reading, RestOfLine, Result, Some, Stands, Tail, Takes, TakesNone, TakesWord, Text, TextLine, Token, TooLong, Uses, UsesAll, UsesLine, UsesRun, UsesWhole, UsesWord, Word, Words, [], after, among, ap, append-nil, append_assoc, arith, behind_word, cond, count_by, drop, drop-append-add, drop-nil, false, inl, inr, is_cut, is_gap, is_in_line, is_in_word, is_line_end, is_short_form, is_text_word, length, length-append, length-map, limit, list_all, nat_eq, refl, starts_with, sum_by-append, tail_of, take, take-append-add, take-nil, tokens_from, true, words_by, words_left, ℕ, ◌&&◌, ◌++◌, ◌+◌, ◌-◌, ◌<◌, ◌∙◌, ◌∷◌, ◌≡◌, ◌≤◌}
+use Rattle.pop_text.proofs.Basics.{Bool, Device, Err, Input, InputTooLong, IsOver, IsRunOver, List, Long, MayFollow, NextWord, None, Ok, Option, Peeks, ReadFault, Reading, RestOfLine, Result, Some, Stands, Tail, Takes, TakesNone, TakesWord, Text, TextLine, Token, TooLong, Uses, UsesAll, UsesLine, UsesRun, UsesWhole, UsesWord, Word, Words, [], after, among, ap, append-nil, append_assoc, arith, behind_word, cond, count_by}
+use Rattle.pop_text.proofs.Basics.{drop, drop-append-add, drop-nil, false, inl, inr, is_cut, is_gap, is_in_line, is_in_word, is_line_end, is_short_form, is_text_word, length, length-append, length-map, limit, list_all, nat_eq, refl, starts_with, sum_by-append, tail_of, take, take-append-add, take-nil, tokens_from, true, words_by, words_left, ℕ, ◌&&◌, ◌++◌, ◌+◌, ◌-◌, ◌<◌, ◌∙◌, ◌∷◌, ◌≡◌, ◌≤◌}
 use Rattle.pop_text.specs.Words.{End as AtEnd, Broken as Failing}
 use Rattle.pop_text.proofs.WordLaws.{skip_gap, take_run, drop_run, take_line, take_last_line, run_tokens, RunEnds, with_view, with_gap, line_lines, solid_line}
 use Rattle.pop_text.specs.declared.word.Word.{Word as Read}

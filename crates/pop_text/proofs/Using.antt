@@ -1,5 +1,6 @@
 -- Bytes used one after another.
-use Rattle.pop_text.proofs.Basics.{Asks, Bool, Consumes, Device, End, Err, InputTooLong, IsRunOver, List, Ok, Open, Option, Peeks, ReadFault, Reading, Result, RunsTo, Stands, Sticks, TooLong, Uses, UsesAll, UsesRun, UsesSolid, UsesWord, [], ap, append-nil, append_assoc, arith, cases_lt, eqb-true, failures_after, false, found_by, found_of, inl, inr, is_gap, is_in_word, is_line_end, le-ltb, length, length-append, length-take, list_all, list_all-append, ltb-false, ltb-true, nat_lt, refl, subst, sum_by-append, sym, take, take-append-add, take-append-le, take_all, true, ℕ, ◌++◌, ◌+◌, ◌<◌, ◌∙◌, ◌∷◌, ◌≡◌, ◌⊎◌}
+use Rattle.pop_text.proofs.Basics.{Asks, Bool, Consumes, Device, End, Err, InputTooLong, IsRunOver, List, Ok, Open, Option, Peeks, ReadFault, Reading, Result, RunsTo, Stands, Sticks, TooLong, Uses, UsesAll, UsesRun, UsesSolid, UsesWord, [], ap, append-nil, append_assoc, arith, cases_lt, eqb-true, failures_after, false, found_by, found_of}
+use Rattle.pop_text.proofs.Basics.{inl, inr, is_gap, is_in_word, is_line_end, le-ltb, length, length-append, length-take, list_all, list_all-append, ltb-false, ltb-true, nat_lt, refl, subst, sum_by-append, sym, take, take-append-add, take-append-le, take_all, true, ℕ, ◌++◌, ◌+◌, ◌<◌, ◌∙◌, ◌∷◌, ◌≡◌, ◌⊎◌}
 use Rattle.pop_text.specs.declared.word.Word.{Word as Read}
 use Rattle.pop_text.proofs.WordLaws.{line_lines, solid_line}
 

@@ -1,5 +1,6 @@
 -- A run, step by step.
-use Rattle.pops.proofs.Basics.{Appends, Bool, Broken, Choice, Clean, Consumes, End, Ended, Ending, Entry, Err, Finished, IfSome, Input, IsSeen, List, MayFollow, None, Ok, Open, Option, OutputFailed, Place, Problem, Reads, Result, Runs, Some, Standing, Steps, TakesItem, Writes, [], after, ap, append-nil, append_assoc, appends_kept, appends_none, appends_then, arith, begins_later, begins_longer, consumes_then, entries_in, entries_left, entry_text, failures_after, false, grew, is_err, is_faulty, length, length-append, length-take, limit, list_any, met, not, refl, report_from, start, status_of, status_with, step_of, sym, take, taken_of, tells_failure, true, ℕ, ◌++◌, ◌+◌, ◌-◌, ◌^◌, ◌||◌, ◌∙◌, ◌∷◌, ◌≡◌, ◌≤◌}
+use Rattle.pops.proofs.Basics.{Appends, Bool, Broken, Choice, Clean, Consumes, End, Ended, Ending, Entry, Err, Finished, IfSome, Input, IsSeen, List, MayFollow, None, Ok, Open, Option, OutputFailed, Place, Problem, Reads, Result, Runs, Some, Standing, Steps, TakesItem, Writes, [], after, ap, append-nil, append_assoc, appends_kept, appends_none, appends_then, arith, begins_later}
+use Rattle.pops.proofs.Basics.{begins_longer, consumes_then, entries_in, entries_left, entry_text, failures_after, false, grew, is_err, is_faulty, length, length-append, length-take, limit, list_any, met, not, refl, report_from, start, status_of, status_with, step_of, sym, take, taken_of, tells_failure, true, ℕ, ◌++◌, ◌+◌, ◌-◌, ◌^◌, ◌||◌, ◌∙◌, ◌∷◌, ◌≡◌, ◌≤◌}
 use Rattle.std.proofs.lemmas.Bool.{lt-ltb}
 use Rattle.std.proofs.Math.Seq.{take-append_seam}
 use Rattle.pop_text.specs.declared.sink.SinkFault.{SinkFault}

@@ -1,5 +1,5 @@
 -- A check that isn't met stays.
-use Rattle.chess_rules.proofs.Basics.{Bool, List, None, Option, Some, and_from, and_left, and_parts, ap, arith, bit_and, bit_at, bit_not, bit_or, eq-eqb, false, false≢true, list_any, list_any-append, not, or_left, or_parts, or_right, refl, rules, subst, sym, true, w64, ℕ, ◌&&◌, ◌<◌, ◌==◌, ◌∙◌, ◌≡◌, ◌≢◌}
+use Rattle.chess_rules.proofs.Basics.{Bool, List, Option, Some, and_from, and_left, and_parts, ap, arith, bit_and, bit_at, bit_not, bit_or, eq-eqb, false, false≢true, list_any, list_any-append, not, or_left, or_parts, or_right, refl, rules, subst, sym, true, w64, ℕ, ◌&&◌, ◌<◌, ◌==◌, ◌∙◌, ◌≡◌, ◌≢◌}
 use Rattle.chess_rules.proofs.Chess.{AreEvasions, AtMostOneKing, Bishop, Colour, Grasshopper, IsWellFormed, Kind, King, Man, Move, Nightrider, Position, Queen, Rook, RuleSet, Step, after, arriving, attacked, check_of, find_first, first_of_and, in_check, is_arrival_free, is_fairy, is_madrasi, is_man, is_plain, is_side, is_square, is_vacant, king_square, man_on, other, paralysed, pseudo, queen_steps, reaches, reaches_as, rides, same_colour, same_kind, second_of_and, some_square_true, squares, squares_both, squares_either, strikes, word}
 use Rattle.chess_rules.specs.ties.Evasions.{is_fairy_man, IsNoEvasion}
 use Rattle.chess_rules.proofs.Bits.{word_has, every_square}

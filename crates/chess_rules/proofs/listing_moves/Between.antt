@@ -1,6 +1,6 @@
 -- The legal moves between two places.
 use Rattle.std.proofs.lemmas.List.{drop-drop}
-use Rattle.chess_rules.proofs.Basics.{List, [], ap, arith, drop, false, filter, filter-append, refl, rules, suc, sym, take, take-append-drop, true, zero, ℕ, ◌++◌, ◌+◌, ◌-◌, ◌<◌, ◌∙◌, ◌∷◌, ◌≡◌, ◌≤◌}
+use Rattle.chess_rules.proofs.Basics.{List, [], ap, arith, drop, false, filter, filter-append, refl, rules, sym, take, take-append-drop, true, ℕ, ◌++◌, ◌+◌, ◌-◌, ◌<◌, ◌∙◌, ◌∷◌, ◌≡◌, ◌≤◌}
 use Rattle.chess_rules.proofs.Chess.{HaveNone, Move, Position, RuleSet, legal, moves, moves_behind, moves_between, triple_at, triples}
 use Rattle.chess_rules.proofs.listing_moves.Places.{drop_triples, drop_triples_past, over}
 

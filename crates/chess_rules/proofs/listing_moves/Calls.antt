@@ -1,5 +1,5 @@
 -- The calls of `next` over one position.
-use Rattle.chess_rules.proofs.Basics.{arith, List, MatchOption, None, Option, Some, [], and_parts, ap, drop, refl, rules, slice_get, suc, sym, true, zero, ℕ, ◌+◌, ◌∙◌, ◌∷◌, ◌≡◌}
+use Rattle.chess_rules.proofs.Basics.{arith, List, MatchOption, None, Option, Some, [], and_parts, ap, drop, refl, slice_get, suc, true, zero, ℕ, ◌+◌, ◌∷◌, ◌≡◌}
 use Rattle.chess_rules.proofs.Chess.{Move, Position, RuleSet, legal, moves, moves_behind, place_of, pseudo}
 use Rattle.chess_rules.proofs.listing_moves.Places.{moves_behind-end}
 

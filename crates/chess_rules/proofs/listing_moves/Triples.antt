@@ -1,6 +1,6 @@
 -- The triples: which moves they are, in which order they stand, and that each legal move is one of them.
-use Rattle.chess_rules.proofs.Basics.{AllPairs, Bool, Contains, List, None, Option, Some, [], and_parts, ap, arith, false≢true, flat_map, inl, inr, length, list_any, map, or_cases, range_with_len, refl, rules, suc, true, zero, ℕ, ◌+◌, ◌-◌, ◌<◌, ◌↔◌, ◌∷◌, ◌≡◌, ◌⊎◌}
-use Rattle.chess_rules.proofs.Chess.{Bishop, Colour, Grasshopper, Kind, King, Knight, Man, Move, Nightrider, Pawn, Position, Queen, Rook, RuleSet, Step, along, along-is, castles, diagonal_steps, hops, is_nil, is_promotion_right, is_square, knight_steps, leaps, man_on, may_castle, may_promote, pawn_captures, promotions, pseudo, queen_steps, reaches, reaches_as, reaches_of, rides, squares, straight_steps, triple_at, triples}
+use Rattle.chess_rules.proofs.Basics.{AllPairs, Bool, Contains, List, Option, Some, [], and_parts, ap, arith, false≢true, flat_map, inl, inr, length, list_any, map, or_cases, range_with_len, refl, rules, suc, true, zero, ℕ, ◌+◌, ◌-◌, ◌<◌, ◌↔◌, ◌∷◌, ◌≡◌, ◌⊎◌}
+use Rattle.chess_rules.proofs.Chess.{Bishop, Colour, Grasshopper, Kind, King, Knight, Man, Move, Nightrider, Pawn, Position, Queen, Rook, RuleSet, Step, along, along-is, castles, hops, is_nil, is_promotion_right, is_square, leaps, man_on, may_castle, may_promote, promotions, pseudo, reaches, reaches_as, reaches_of, rides, squares, triple_at, triples}
 use Rattle.chess_core.specs.MoveOrder.{promotion_place, triple_number}
 use Rattle.chess_rules.proofs.listing_moves.Members.{first_in, none_in_nil, from_flat_map, from_map, from_range, in_flat_map, in_map, in_range, pairs_map, pairs_nil, pairs_of}
 use Rattle.chess_rules.proofs.listing_moves.Places.{triples_numbered}

@@ -1,6 +1,7 @@
 -- A well-formed position stays well formed.
 use Rattle.chess_rules.proofs.Basics.{Bool, List, None, Option, Some, and_from, and_parts, ap, arith, cases_Bool, cases_eq, cases_lt, cond-false, cond-true, eq-eqb, eqb, eqb-true, false, if◌then◌else◌, inl, inr, length, length-set, ne_eqb, not-true, or_cases, refl, rules, set_past, sym, true, ℕ, ◌&&◌, ◌+◌, ◌<◌, ◌||◌, ◌∙◌, ◌≡◌, ◌≢◌, ◌≤◌, ◌⊎◌}
-use Rattle.chess_rules.proofs.Chess.{AtMostOneKing, AtMostOneKing-without, Bishop, Black, CanCastle, Colour, Grasshopper, HasNoKing, IsAt, IsWellFormed, Kind, King, Knight, Man, Move, Nightrider, Pawn, Position, Queen, Rook, RuleSet, White, after, after_by, arriving, by_shade, capture_square, corner, file_of, halfway, has_unmoved, has_unmoved-mark_other, has_unmoved-parts, if_empty, is_castling, is_circe, is_crossed_right, is_double_step, is_home, is_home-none, is_man, is_pawn_inside, is_promotion_right, is_vacant_at, last_rank, man_on, man_on-with_other, man_on-with_same, man_on-without_none, man_on-without_other, man_on-without_same, man_on_at, may_promote, move_man}
+use Rattle.chess_rules.proofs.Chess.{AtMostOneKing, AtMostOneKing-without, CanCastle, Colour, HasNoKing, IsAt, IsWellFormed, Kind, King, Man, Move, Pawn, Position, Rook, RuleSet, after, after_by, arriving, by_shade, capture_square, corner, file_of, halfway, has_unmoved, has_unmoved-mark_other, has_unmoved-parts}
+use Rattle.chess_rules.proofs.Chess.{if_empty, is_castling, is_circe, is_crossed_right, is_double_step, is_home, is_home-none, is_man, is_pawn_inside, is_promotion_right, is_vacant_at, last_rank, man_on, man_on-with_other, man_on-with_same, man_on-without_none, man_on-without_other, man_on-without_same, man_on_at, may_promote, move_man}
 use Rattle.chess_rules.proofs.Chess.{moved_men, other, pseudo, put_at, rank_of, rebirth, reborn_at, reborn_square, same_colour, same_kind, second_rank, square_at, square_at-is, unmoved_after, unmoved_with_rook, unmoved_without_at, was_passed, with_man, without_at, without_man, without_unmoved}
 use Rattle.chess_core.specs.declared.man.Unmoved.{Unmoved}
 use Rattle.chess_rules.proofs.making_moves.Fits.{arrived, arrived_other, can_move, castle_of, corner_stays, no_capture, pawn_is_no_king, taken}

@@ -1,6 +1,6 @@
 -- Squares one after another on a line.
-use Rattle.chess_rules.proofs.Basics.{Some, add-mul, and_from, ap, arith, cases_lt, false, inl, inr, leb-true, mul-add, refl, rules, sym, true, ℕ, ◌&&◌, ◌*◌, ◌+◌, ◌-◌, ◌<◌, ◌∙◌, ◌≡◌, ◌≤◌}
-use Rattle.chess_rules.proofs.Chess.{Direction, East, EastNorthEast, EastSouthEast, North, NorthEast, NorthNorthEast, NorthNorthWest, NorthWest, South, SouthEast, SouthSouthEast, SouthSouthWest, SouthWest, Step, West, WestNorthWest, WestSouthWest, along, file_of, is_on_board, place, rank_of, rises, step_by, step_of}
+use Rattle.chess_rules.proofs.Basics.{Some, add-mul, and_from, ap, arith, cases_lt, false, leb-true, mul-add, refl, rules, true, ℕ, ◌&&◌, ◌*◌, ◌+◌, ◌-◌, ◌<◌, ◌∙◌, ◌≡◌, ◌≤◌}
+use Rattle.chess_rules.proofs.Chess.{Direction, Step, along, file_of, is_on_board, place, rank_of, rises, step_of}
 use Rattle.chess_rules.proofs.rays.Ends.{Placed, cond-on, on_board, placed_from}
 
 further : (f j i r l : ℕ) → 1 ≤ f + j * r - j * l → f + j * r - j * l + i * r - i * l ≡ f + (j + i) * r - (j + i) * l

@@ -1,6 +1,6 @@
 -- Lists of steps that hold each step with its opposite.
 use Rattle.chess_rules.proofs.Basics.{arith, Bool, List, Option, [], and_parts, ap, eqb-true, inl, inr, list_all, list_any, or_cases, or_left, or_right, refl, rules, sym, true, ℕ, ◌&&◌, ◌<◌, ◌==◌, ◌∙◌, ◌∷◌, ◌≡◌}
-use Rattle.chess_rules.proofs.Chess.{Black, Colour, Man, Step, White, diagonal_steps, hopped_from, hops, knight_steps, leaps, other, pawn_captures, queen_steps, rides, same_Bool, straight_steps}
+use Rattle.chess_rules.proofs.Chess.{Colour, Man, Step, diagonal_steps, hopped_from, hops, knight_steps, leaps, other, pawn_captures, queen_steps, rides, same_Bool, straight_steps}
 use Rattle.chess_rules.proofs.rays.Ends.{back, rides-back, returns_to}
 use Rattle.chess_rules.proofs.rays.Hops.{hops-back}
 

@@ -1,5 +1,5 @@
 -- Hops seen from the square of arrival.
-use Rattle.chess_rules.proofs.Basics.{rules, Bool, List, Option, Some, ap, arith, cases_Bool, false, inl, inr, list_all, list_any, range_with_len, refl, sym, true, ℕ, ◌&&◌, ◌-◌, ◌<◌, ◌∙◌, ◌≡◌, ◌≤◌}
+use Rattle.chess_rules.proofs.Basics.{Bool, List, Option, Some, ap, arith, cases_Bool, false, inl, inr, list_all, list_any, range_with_len, sym, true, ℕ, ◌&&◌, ◌-◌, ◌<◌, ◌∙◌, ◌≡◌, ◌≤◌}
 use Rattle.chess_rules.proofs.Chess.{Man, Step, all_at, all_range_true, along, any_range_false, any_range_same, hopped_from, hops, is_clear, is_occupied, is_square, is_vacant, rides_on, same_Bool}
 use Rattle.chess_rules.proofs.rays.Ends.{back, between, returns_to, square_is}
 

@@ -1,5 +1,5 @@
 -- The moves of a position are its legal moves, each once, in the stated order; and what mate and stalemate say of legal moves.
-use Rattle.std.proofs.Common.{rules, ◌≡◌, ◌≢◌, ◌<◌, ◌↔◌, ◌⊎◌, true, false, not, sym, ap, ◌∙◌, arith}
+use Rattle.std.proofs.Common.{◌≡◌, ◌≢◌, ◌<◌, ◌↔◌, ◌⊎◌, true, false, sym, ap, ◌∙◌, arith}
 use Rattle.std.specs.List.{AllPairs, Contains}
 use Rattle.chess_core.specs.MoveOrder.{promotion_place, triple_number}
 use Rattle.chess_core.specs.Position.{Position}
