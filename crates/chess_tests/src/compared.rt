@@ -195,7 +195,10 @@ fn gives_mates<R: Rules>(board: &mut Board, choices: &Choices, passed: usize) ->
 {
     let mut place = place_behind::<R>(board, passed);
     for (number, choice) in choices.iter().enumerate() {
-        if number >= passed && choice.mates && next_mate::<R>(&mut place, board) != Some(choice.by) {
+        if number >= passed
+            && choice.mates
+            && next_mate::<R>(&mut place, board) != Some(choice.by)
+        {
             return false;
         }
     }
