@@ -18,7 +18,7 @@ use Rattle.chess_core.specs.SquareNames.{a1, d1, h1, a2, a3, d3, d6, e5, h7, a8,
 use Rattle.chess_mates.specs.ties.CheckSquares.{AreCheckTargets, enemy, may_check_from}
 use Rattle.chess_rules.proofs.Excluded.{check_after_a_move, opening_capture}
 
--- the capture en passant gives check by the bishop
+-- White Ka1 Bb3 Pe5, Black Kg8 Pd5, which has just passed d6 (`opening_capture`): the capture en passant gives check by the bishop
 en_passant_checks : (legal orthodox opening_capture (go e5 d6) ≡ true)
     × (in_check orthodox (after orthodox opening_capture (go e5 d6)).men Black ≡ true)
 unfolding legal check_after_a_move

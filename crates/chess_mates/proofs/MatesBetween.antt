@@ -53,7 +53,7 @@ checks_elsewhere rule p s w h m at small may off = sym (no_mate_quietly rule p m
 pub mating_origins : (rule : RuleSet) (p : Position) (w : ℕ) → AreCheckOrigins rule p w → AreOrigins (mates rule p) w
 mating_origins rule p w h = grind (arith, no_mate_quietly)
 
--- for that over mates
+-- for the walk over mates up to an end
 pub ruleset until_mates = (legal_of_mate, mates_between-none, mates_between-past, until-mateless)
 
 -- for the next mate

@@ -14,7 +14,9 @@ use chess_core::square::Square;
 /// What an attack sees: the squares that are occupied, and those on which the board's men still stand.
 #[derive(Clone, Copy)]
 pub struct Sight {
+    /// The squares on which a man stands.
     pub occupied: u64,
+    /// The squares on which the board's men count; those elsewhere have gone or been captured.
     pub standing: u64,
 }
 

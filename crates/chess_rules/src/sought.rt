@@ -26,19 +26,19 @@ pub trait Sought {
 
     ghost fits: { Self → RuleSet → Position → Type 0 };
 
-    // The squares from which a move may pass, and perhaps more.
+    /// The squares from which a move may pass, and perhaps more.
     fn origins<R: Rules>(&self, board: &Board) -> u64
         requires well_formed { IsWellFormed board.now }
         requires fits { fits self.now R.rule board.now }
         ensures { AreOrigins (test R.rule board.now) result };
 
-    // The squares to which the man on `from` may go by a move that passes, and perhaps more.
+    /// The squares to which the man on `from` may go by a move that passes, and perhaps more.
     fn candidates<R: Rules>(&self, board: &Board, from: Square) -> u64
         requires well_formed { IsWellFormed board.now }
         requires fits { fits self.now R.rule board.now }
         ensures { AreCandidates R.rule board.now (test R.rule board.now) from result };
 
-    // Whether the move passes. The board is unchanged after it.
+    /// Whether the move passes. The board is unchanged after it.
     fn passes<R: Rules>(&self, board: &mut Board, m: Move) -> bool
         requires well_formed { IsWellFormed board.old }
         requires aimed { IsAimed R.rule board.old m }

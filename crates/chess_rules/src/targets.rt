@@ -21,13 +21,15 @@ use chess_core::square::Square;
 // How many triples have the same origin: 64 arrivals, 7 promotions with none.
 pub(crate) const PER_ORIGIN: u16 = 448;
 
-/// How many triples there are.
+/// How many triples of origin, arrival and promotion there are, none being a promotion too: 64 times 64 times 7.
 pub const TRIPLES: u16 = 28672;
 
 /// The candidates of one origin of a position, kept while its moves are walked.
 #[derive(Clone, Copy)]
 pub struct Kept {
+    /// The origin, once there is one.
     pub origin: Option<Square>,
+    /// The squares to which its man may go by a move that passes, and perhaps more.
     pub squares: u64,
 }
 

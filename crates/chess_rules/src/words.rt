@@ -25,7 +25,7 @@ pub fn contains(word: u64, square: Square) -> bool
     word >> square.index() & 1 == 1
 }
 
-/// The first square of the word from this number on.
+/// The first square of the word from the one with this number on, if there is one (a1 is 0, h8 is 63).
 pub fn next_bit(word: u64, from: u8) -> Option<Square>
     ensures value { result ≡ find (λ s. bit_at word s == 1) (range_with_len from (64 - from)) }
     ensures behind { IfSome result (λ s. from ≤ s) }
