@@ -59,7 +59,6 @@ pub(crate) fn evasion_squares<R: Rules>(board: &Board, colour: Colour, shield_sq
 
 // Whether the move leaves its mover in check, as far as it can be told by the squares to which a move
 // that doesn't must go.
-#[tactic(auto, using(crate::proofs::attacks::StayingInCheck::check_unmet))]
 fn leaves_check<R: Rules>(board: &Board, evasion_squares: u64, m: &Move) -> bool
     requires well_formed { IsWellFormed board.now }
     requires pseudo { pseudo R.rule board.now m.now ≡ true }

@@ -124,7 +124,6 @@ impl<R: Rules> LegalMoves<R> {
 
     /// The first legal move behind the place that doesn't lie behind `end`, on which the place then
     /// stands. The board is unchanged. The place must be one in the board's position.
-    #[tactic(auto, using(crate::proofs::listing_moves::Between::until))]
     pub fn next_until(&mut self, end: Moves<R>, board: &mut Board) -> Option<Move>
         requires well_formed { IsWellFormed board.old }
         requires place { IsPlaceIn R.rule board.old self.old }

@@ -157,7 +157,6 @@ pub(crate) fn attackers(board: &Board, square: Square, colour: Colour) -> u64
 }
 
 // Whether some man of this colour reaches the square, be it paralysed or not.
-#[tactic(auto, using(crate::proofs::attacks::Attacking::is_reached_by))]
 pub(crate) fn is_reached(board: &Board, square: Square, colour: Colour) -> bool
     ensures { result ≡ is_reached board.now.men square colour }
 {

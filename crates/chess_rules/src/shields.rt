@@ -37,7 +37,6 @@ pub fn is_fairy(kind: Kind) -> bool
 }
 
 // Whether a grasshopper or a nightrider of the colour stands on the board.
-#[tactic(auto, using(crate::proofs::attacks::Shielding::some_grasshopper, crate::proofs::attacks::Shielding::some_nightrider))]
 pub(crate) fn has_fairy(board: &Board, colour: Colour) -> bool
     ensures { result ≡ has_fairy board.now.men colour }
 {

@@ -109,7 +109,6 @@ impl<R: Rules, const N: usize> Search<R, N> {
     }
 
     /// The frames in use: after a line or node one more than the moves of its path.
-    #[tactic(auto, using(crate::proofs::Events::frames_in_use))]
     pub fn depth(&self) -> usize
         ensures depth { result ≡ self.now.depth }
         ensures most { result ≤ half_moves self.now.problem.stipulation + 1 }
@@ -131,7 +130,6 @@ impl<R: Rules, const N: usize> Search<R, N> {
     /// The frames opened for a half-move so far, the test of mate apart, up to the greatest u64. In help play, and where
     /// keys alone are shown, no line of moves is walked twice. In battle play no fewer than a smallest tree has positions are
     /// opened for each tested move.
-    #[tactic(auto, using(crate::proofs::Opened::all_opened))]
     pub fn opened(&self) -> u64
         ensures opened { result ≡ self.now.opened }
         ensures most { is_walked_once self.now.problem ≡ true

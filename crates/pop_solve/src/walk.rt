@@ -147,7 +147,6 @@ fn ends_with_mate(plan: Plan, left: usize) -> bool
 
 /// The value of the position that a move has reached, with `left` half-moves left there. It isn't looked at again where
 /// the move was the last one and is known to mate.
-#[tactic(auto, using(crate::proofs::Walking::mated))]
 fn value_after<R: Rules, const N: usize>(
     plan: Plan,
     left: usize,

@@ -9,27 +9,39 @@ walk_on-requires g c = (search rules, (search rules, (c.requires.sound, (c.requi
 
 pub count_with-count-requires-clause-begins : goal.count_with-count-requires-clause-begins
 unfolding IsStanding
-count_with-count-requires-clause-begins g c = search (rules, events.room-given)
+count_with-count-requires-clause-begins g c =
+    let w = rw c.still_to_begin-limit.ensures at c.if-walk_on.ensures.walks in
+    rw c.len.ensures.value (events.room-given g.R.Rules.rule c.args.problem.now c.args.phase c.args.count _ _ _ c.requires.standing.1 w)
 
 pub event_at-event-requires : goal.event_at-event-requires
 unfolding IsStanding
-event_at-event-requires g c = search (rules, events.deep-given, events.shallow-given)
+event_at-event-requires g c =
+    let w = rw c.still_to_begin-limit.ensures at c.if-walk_on.ensures.walks in
+    rw c.as_slice.ensures.value (record {
+      deep = events.deep-given g.R.Rules.rule c.args.problem.now c.args.phase c.args.count _ _ _ c.requires.standing.1 w;
+      shallow = events.shallow-given g.R.Rules.rule c.args.problem.now c.args.phase c.args.count _ _ _ c.requires.standing.1 w c.requires.sound;
+      walking = (_, w.walking);
+      ended = w.closed refl;
+    })
 
 pub returns-then-walk_on-clause-standing : goal.returns-then-walk_on-clause-standing
-returns-then-walk_on-clause-standing g c = search (rules, events.standing-given, events.within-limit)
+returns-then-walk_on-clause-standing g c = search (rules, events.standing-given, events.within-limit) steps 1000000
 
 pub returns-then-walk_on-clause-gives : goal.returns-then-walk_on-clause-gives
 unfolding IsStanding
-returns-then-walk_on-clause-gives g c = search (rules, events.gives-given)
+returns-then-walk_on-clause-gives g c =
+    let w = rw c.still_to_begin-limit.ensures at c.if-walk_on.ensures.walks in
+    events.gives-given g.R.Rules.rule c.args.problem.now c.args.phase c.args.count _ _ _ c.requires.standing.1 w _ _ refl
+    c.event_at-event.ensures.unchanged _ _ (rw c.len.ensures.value at c.count_with-count.ensures) (search rules)
 
 pub returns-clause-standing : goal.returns-clause-standing
-returns-clause-standing g c = search (rules, events.standing-ended)
+returns-clause-standing g c = search (rules, events.standing-ended) steps 1000000
 
 pub returns-clause-gives : goal.returns-clause-gives
-returns-clause-gives g c = search (rules, events.gives-ended)
+returns-clause-gives g c = search (rules, events.gives-ended) steps 1000000
 
 pub returns-then-walk_on-clause-opens : goal.returns-then-walk_on-clause-opens
-returns-then-walk_on-clause-opens g c = search (rules, opened.opens-given)
+returns-then-walk_on-clause-opens g c = search (rules, opened.opens-given) steps 1000000
 
 pub returns-clause-opens : goal.returns-clause-opens
 unfolding IsStanding

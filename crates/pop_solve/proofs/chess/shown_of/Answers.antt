@@ -1,0 +1,7 @@
+use Rattle.pop_solve.proofs.Words.{rules}
+use Rattle.pop_solve.specs.Chess.{shown_of}
+use Rattle.pop_solve.proofs.chess.shown_of.Goals as goal
+
+pub returns : goal.returns
+unfolding shown_of
+returns c = search rules
