@@ -44,7 +44,6 @@ fn far_pawns<R: Rules>(board: &Board, squares: &CheckSquares, lines: u64) -> u64
 
 // Whether the man couldn't come from here to one of his targets on an empty board.
 #[inline(always)]
-#[tactic(auto, using(crate::proofs::FarMen::far_by))]
 fn is_far<R: Rules>(board: &Board, man: Man, from: Square, targets: u64) -> bool
     requires here { man_on board.now.men from ≡ Some man }
     requires targets { AreCheckTargets R.rule board.now from targets }
