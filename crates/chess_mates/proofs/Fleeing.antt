@@ -305,7 +305,11 @@ module _ (rule : RuleSet) (p : Position) (m : Move) (x : Man) (k : ℕ) (i : IsS
           small = there;
           near = ap (λ (c : Colour). is_open rule (after rule p m).men c k t) turn ∙ near.inside t there (on_first n (bit_not w64 r) t on);
         } in
-        let safe : IsSafeStep p.men m.from (capture_square p x m) m.to (arriving x m.promo) k u t king.0 p.turn r = search (rules, is_step king.0 t there king.1, unseen_bit _ n r t seen there on) in
+        let safe : IsSafeStep p.men m.from (capture_square p x m) m.to (arriving x m.promo) k u t king.0 p.turn r = search (
+          rules,
+          is_step king.0 t there king.1,
+          unseen_bit _ n r t seen there on,
+        ) in
         some_square_true (is_flight rule (after rule p m)) t there
         (ap (λ (o : Option ℕ). is_flight_from rule (after rule p m) o t) (ap (king_square (after rule p m).men) turn ∙ at)
         ∙ step_is_legal rule (after rule p m) king.0 k t step

@@ -97,7 +97,21 @@ goes_without_king rule p x m well is small other_man = record {
 pub king_is_after : (rule : RuleSet) (p : Position) (x : Man) (m : Move) → IsWellFormed p → IsMade rule p x m → m.to < 64 → is_castling x m ≡ false
     → king_square (arrived p x m) p.turn ≡ king_after p x m
 king_is_after rule p x m well is small castling =
-    grind (arith, and_from, cases_Bool, colour_self, cond-false, cond-true, goes_without_king, king_is, king_stands, king_stays_king, moved_arrival, moved_plainly, moved_sound)
+    grind (
+      arith,
+      and_from,
+      cases_Bool,
+      colour_self,
+      cond-false,
+      cond-true,
+      goes_without_king,
+      king_is,
+      king_stands,
+      king_stays_king,
+      moved_arrival,
+      moved_plainly,
+      moved_sound,
+    )
 
 pub check_is : (rule : RuleSet) (p : Position) (x : Man) (m : Move) (o : Option ℕ) → IsWellFormed p → IsMade rule p x m → m.to < 64 → IsSimple rule p x m
     → king_after p x m ≡ o → in_check rule (after rule p m).men p.turn ≡ check_of rule (arrived p x m) o (other p.turn)

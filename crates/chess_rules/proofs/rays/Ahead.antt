@@ -14,7 +14,16 @@ onward s b d j i h = search (rules, placed_from)
 -- between two files or ranks of the board lie others of it
 within : (f k i r l : ℕ) → 1 ≤ f → f ≤ 8 → i ≤ k → 1 ≤ f + k * r - k * l → f + k * r - k * l ≤ 8 → (1 ≤ f + i * r - i * l) × (f + i * r - i * l ≤ 8)
 within f k i r l a b le low high =
-    grind (arith, cases_lt r l, mul-add k r (l - r), mul-add i r (l - r), add-mul i (k - i) (l - r), mul-add k l (r - l), mul-add i l (r - l), add-mul i (k - i) (r - l))
+    grind (
+      arith,
+      cases_lt r l,
+      mul-add k r (l - r),
+      mul-add i r (l - r),
+      add-mul i (k - i) (l - r),
+      mul-add k l (r - l),
+      mul-add i l (r - l),
+      add-mul i (k - i) (r - l),
+    )
 
 -- a square before t on its line
 pub record Passed (s : ℕ) (d : Step) (i q : ℕ) : Type 0 where
