@@ -2,4 +2,4 @@ use Rattle.chess_rules.proofs.Basics.{rules}
 use Rattle.chess_mates.proofs.checks.checking_rebirths.Goals as goal
 
 pub returns : goal.returns
-returns g c = search rules steps 300000
+returns g c = search rules

@@ -2,4 +2,4 @@ use Rattle.chess_rules.proofs.Basics.{rules}
 use Rattle.chess_mates.proofs.flights.covered_squares.Goals as goal
 
 pub returns : goal.returns
-returns c = search rules steps 300000
+returns c = search rules

@@ -6,4 +6,4 @@ pub returns-then-attackers_seen-eq0-clause-within : goal.returns-then-attackers_
 returns-then-attackers_seen-eq0-clause-within c = search (rules, find_first)
 
 pub returns-then-attackers_seen-eq0-clause-safe : goal.returns-then-attackers_seen-eq0-clause-safe
-returns-then-attackers_seen-eq0-clause-safe c = search rules steps 300000
+returns-then-attackers_seen-eq0-clause-safe c = search rules

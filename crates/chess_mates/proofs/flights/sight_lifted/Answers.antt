@@ -2,4 +2,4 @@ use Rattle.chess_rules.proofs.Basics.{rules}
 use Rattle.chess_mates.proofs.flights.sight_lifted.Goals as goal
 
 pub returns : goal.returns
-returns c = search rules steps 300000
+returns c = search rules

@@ -3,4 +3,4 @@ use Rattle.chess_mates.proofs.FarMen.{far_by}
 use Rattle.chess_mates.proofs.origins.is_far.Goals as goal
 
 pub returns : goal.returns
-returns g c = search (rules, far_by) steps 300000
+returns g c = search (rules, far_by)

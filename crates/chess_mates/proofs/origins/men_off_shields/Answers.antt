@@ -4,4 +4,4 @@ use Rattle.chess_rules.proofs.listing_moves.Walks.{on_first}
 use Rattle.chess_mates.proofs.origins.men_off_shields.Goals as goal
 
 pub returns-clause-unshielding : goal.returns-clause-unshielding
-returns-clause-unshielding c = search (rules, man_of_word, off_denied, on_first) steps 300000
+returns-clause-unshielding c = search (rules, man_of_word, off_denied, on_first)

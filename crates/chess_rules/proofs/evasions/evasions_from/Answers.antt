@@ -3,4 +3,4 @@ use Rattle.chess_rules.proofs.attacks.EvasionTargets.{evasions_from_all, evasion
 use Rattle.chess_rules.proofs.evasions.evasions_from.Goals as goal
 
 pub returns : goal.returns
-returns g c = search (rules, evasions_from_all, evasions_from_nobody, evasions_from_some) steps 300000
+returns g c = search (rules, evasions_from_all, evasions_from_nobody, evasions_from_some)

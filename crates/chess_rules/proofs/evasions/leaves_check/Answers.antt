@@ -3,4 +3,4 @@ use Rattle.chess_rules.proofs.attacks.StayingInCheck.{check_unmet}
 use Rattle.chess_rules.proofs.evasions.leaves_check.Goals as goal
 
 pub returns-then-not-is : goal.returns-then-not-is
-returns-then-not-is g c = search (rules, check_unmet) steps 300000
+returns-then-not-is g c = search (rules, check_unmet)

@@ -3,4 +3,4 @@ use Rattle.chess_rules.proofs.listing_moves.Arrivals.{aimed}
 use Rattle.chess_rules.proofs.legal.is_pseudo.Goals as goal
 
 pub returns-in-Some-clause-answer : goal.returns-in-Some-clause-answer
-returns-in-Some-clause-answer g c = search (rules, aimed) steps 300000
+returns-in-Some-clause-answer g c = search (rules, aimed)

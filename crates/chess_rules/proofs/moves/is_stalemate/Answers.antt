@@ -4,4 +4,4 @@ use Rattle.chess_rules.proofs.moves.is_stalemate.Goals as goal
 
 pub returns-then-not-checked-clause-answer : goal.returns-then-not-checked-clause-answer
 unfolding is_stalemate
-returns-then-not-checked-clause-answer g c = search rules steps 300000
+returns-then-not-checked-clause-answer g c = search rules

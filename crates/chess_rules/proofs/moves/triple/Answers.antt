@@ -4,4 +4,4 @@ use Rattle.chess_rules.proofs.moves.triple.Goals as goal
 
 pub returns : goal.returns
 unfolding triple_at
-returns c = search rules steps 300000
+returns c = search rules

@@ -3,4 +3,4 @@ use Rattle.chess_rules.proofs.attacks.Attacking.{met, met_none}
 use Rattle.chess_rules.proofs.outward.straight_attackers.Goals as goal
 
 pub returns : goal.returns
-returns c = search (rules, met, met_none) steps 300000
+returns c = search (rules, met, met_none)

@@ -4,12 +4,12 @@ use Rattle.chess_rules.proofs.play.play_by.Goals as goal
 
 pub returns-clause-after : goal.returns-clause-after
 unfolding after_by unmoved_after reborn_square loss_by
-returns-clause-after g c = search rules steps 1000000
+returns-clause-after g c = search rules
 
 pub put_at-requires-clause-empty : goal.put_at-requires-clause-empty
 unfolding after_by unmoved_after reborn_square loss_by
-put_at-requires-clause-empty g c = search rules steps 1000000
+put_at-requires-clause-empty g c = search rules
 
 pub returns-clause-undo : goal.returns-clause-undo
 unfolding after_by unmoved_after reborn_square loss_by
-returns-clause-undo g c = search rules steps 1000000
+returns-clause-undo g c = search rules

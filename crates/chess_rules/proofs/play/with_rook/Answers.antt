@@ -2,4 +2,4 @@ use Rattle.chess_rules.proofs.Basics.{rules}
 use Rattle.chess_rules.proofs.play.with_rook.Goals as goal
 
 pub returns-then-is : goal.returns-then-is
-returns-then-is c = search rules steps 300000
+returns-then-is c = search rules

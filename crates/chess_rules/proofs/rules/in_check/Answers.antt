@@ -4,4 +4,4 @@ use Rattle.chess_rules.proofs.rules.in_check.Goals as goal
 
 pub returns-in-Some : goal.returns-in-Some
 unfolding in_check
-returns-in-Some g c = search rules steps 300000
+returns-in-Some g c = search rules

@@ -3,7 +3,7 @@ use Rattle.chess_rules.proofs.attacks.Shielding.{some_grasshopper, some_nightrid
 use Rattle.chess_rules.proofs.shields.has_fairy.Goals as goal
 
 pub returns-then-squares-ne0 : goal.returns-then-squares-ne0
-returns-then-squares-ne0 c = search (rules, some_grasshopper, some_nightrider) steps 300000
+returns-then-squares-ne0 c = search (rules, some_grasshopper, some_nightrider)
 
 pub returns-else-squares-ne0 : goal.returns-else-squares-ne0
-returns-else-squares-ne0 c = search (rules, some_grasshopper, some_nightrider) steps 300000
+returns-else-squares-ne0 c = search (rules, some_grasshopper, some_nightrider)

@@ -4,4 +4,4 @@ use Rattle.chess_rules.proofs.undoing.go_back.Goals as goal
 
 pub returns : goal.returns
 unfolding before_by returned_men
-returns c = search rules steps 300000
+returns c = search rules

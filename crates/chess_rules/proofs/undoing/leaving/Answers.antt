@@ -2,4 +2,4 @@ use Rattle.chess_rules.proofs.Basics.{rules}
 use Rattle.chess_rules.proofs.undoing.leaving.Goals as goal
 
 pub returns-in-Some : goal.returns-in-Some
-returns-in-Some c = search rules steps 300000
+returns-in-Some c = search rules

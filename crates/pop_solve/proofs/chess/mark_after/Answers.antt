@@ -5,4 +5,4 @@ use Rattle.pop_solve.proofs.chess.mark_after.Goals as goal
 
 pub returns-in-Surely-Stalemate-clause-mark : goal.returns-in-Surely-Stalemate-clause-mark
 unfolding mark_of is_goal is_stalemate
-returns-in-Surely-Stalemate-clause-mark g c = search rules steps 300000
+returns-in-Surely-Stalemate-clause-mark g c = search rules

@@ -2,4 +2,4 @@ use Rattle.pop_solve.proofs.Words.{rules}
 use Rattle.pop_solve.proofs.chess.reaches_goal.Goals as goal
 
 pub returns-in-Stalemate-clause-reached : goal.returns-in-Stalemate-clause-reached
-returns-in-Stalemate-clause-reached g c = search rules steps 300000
+returns-in-Stalemate-clause-reached g c = search rules

@@ -4,4 +4,4 @@ use Rattle.pop_solve.proofs.chess.shown_of.Goals as goal
 
 pub returns : goal.returns
 unfolding shown_of
-returns c = search rules steps 300000
+returns c = search rules

@@ -2,4 +2,4 @@ use Rattle.pop_solve.proofs.Words.{rules}
 use Rattle.pop_solve.proofs.chess.turn_over.Goals as goal
 
 pub returns : goal.returns
-returns c = search rules steps 300000
+returns c = search rules

@@ -8,4 +8,4 @@ returns-in-Barred-clause-opens g c = rw c.in-Barred.is (search (rules, opens-pla
 
 pub returns-in-Barred-clause-gives : goal.returns-in-Barred-clause-gives
 unfolding IsStanding left_of
-returns-in-Barred-clause-gives g c = search rules steps 300000
+returns-in-Barred-clause-gives g c = search rules

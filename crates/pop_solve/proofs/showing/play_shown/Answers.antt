@@ -4,4 +4,4 @@ use Rattle.pop_solve.proofs.showing.play_shown.Goals as goal
 
 pub returns-clause-shown : goal.returns-clause-shown
 unfolding show
-returns-clause-shown g c = search rules steps 300000
+returns-clause-shown g c = search rules

@@ -4,4 +4,4 @@ use Rattle.pop_solve.proofs.value.stretch_behind.Goals as goal
 
 pub returns-in-Earlier-AimedMoves-clause-later : goal.returns-in-Earlier-AimedMoves-clause-later
 unfolding later
-returns-in-Earlier-AimedMoves-clause-later g c = search rules steps 300000
+returns-in-Earlier-AimedMoves-clause-later g c = search rules

@@ -9,7 +9,7 @@ loop-known-init g c = test.begins g.R.Rules.rule c.args.aim _ _ _ _ c.order_of-o
     c.settled.ensures.unchanged (rw c.settled.ensures.unchanged c.requires.well_formed) c.in_default.ensures.value
 
 pub returns-in-Some-turn : goal.returns-in-Some-turn
-returns-in-Some-turn g c = search rules steps 1000000
+returns-in-Some-turn g c = search rules
 
 pub loop-known-preserved : goal.loop-known-preserved
 loop-known-preserved g c = search rules

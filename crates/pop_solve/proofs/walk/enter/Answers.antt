@@ -8,4 +8,4 @@ returns-then-not-value_after-clause-counts g c = search rules
 
 pub returns-clause-counts : goal.returns-clause-counts
 unfolding follows goes_on
-returns-clause-counts g c = search rules steps 1000000
+returns-clause-counts g c = search rules

@@ -2,4 +2,4 @@ use Rattle.pop_solve.proofs.Words.{rules}
 use Rattle.pop_solve.proofs.walk.opened_by.Goals as goal
 
 pub returns-then-not-tested-clause-more : goal.returns-then-not-tested-clause-more
-returns-then-not-tested-clause-more c = search rules steps 300000
+returns-then-not-tested-clause-more c = search rules

@@ -5,4 +5,4 @@ use Rattle.chess_mates.proofs.mating_moves.MatingMoves.next.Goals as goal
 
 pub returns-clause-rest : goal.returns-clause-rest
 unfolding place_of
-returns-clause-rest g c = search (rules, next_mates) steps 300000
+returns-clause-rest g c = search (rules, next_mates)

@@ -6,7 +6,7 @@ pub returns-then-number-last-clause-rest : goal.returns-then-number-last-clause-
 returns-then-number-last-clause-rest g c = search (rules, until-mate)
 
 pub returns-then-self-last-clause-rest : goal.returns-then-self-last-clause-rest
-returns-then-self-last-clause-rest g c = search (rules, until_mates) steps 300000
+returns-then-self-last-clause-rest g c = search (rules, until_mates)
 
 pub returns-clause-rest : goal.returns-clause-rest
-returns-clause-rest g c = search (rules, until_mates) steps 300000
+returns-clause-rest g c = search (rules, until_mates)

@@ -3,7 +3,7 @@ use Rattle.chess_rules.proofs.listing_moves.Between.{until}
 use Rattle.chess_rules.proofs.legal_moves.LegalMoves.next_until.Goals as goal
 
 pub returns-then-number-last-clause-rest : goal.returns-then-number-last-clause-rest
-returns-then-number-last-clause-rest g c = search (rules, until) steps 300000
+returns-then-number-last-clause-rest g c = search (rules, until)
 
 pub returns-clause-rest : goal.returns-clause-rest
-returns-clause-rest g c = search (rules, until) steps 300000
+returns-clause-rest g c = search (rules, until)

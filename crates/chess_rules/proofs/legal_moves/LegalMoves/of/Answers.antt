@@ -2,4 +2,4 @@ use Rattle.chess_rules.proofs.Basics.{rules}
 use Rattle.chess_rules.proofs.legal_moves.LegalMoves.of.Goals as goal
 
 pub returns-clause-place : goal.returns-clause-place
-returns-clause-place g c = search rules steps 1000000
+returns-clause-place g c = search rules

@@ -3,7 +3,7 @@ use Rattle.pop_solve.proofs.Events.{frames_in_use}
 use Rattle.pop_solve.proofs.search.Search.depth.Goals as goal
 
 pub returns-clause-depth : goal.returns-clause-depth
-returns-clause-depth g c = search rules steps 1000000
+returns-clause-depth g c = search rules
 
 pub returns-clause-most : goal.returns-clause-most
-returns-clause-most g c = search (rules, frames_in_use) steps 1000000
+returns-clause-most g c = search (rules, frames_in_use)
