@@ -1,20 +1,20 @@
 -- What a call gives.
-use Rattle.pop_solve.proofs.Words.{AreKnown, ArrayVec, Barred, Before, Behind, Event, Frame, Gives, IsGiven, IsLinked, IsRoomy, IsSound, IsStanding, IsWalking, IsWellFormed, Line, List, MatchOption, Node, None, Option, Phase, Play, Posed, Position, RuleSet, Set, Shown, Stage, StandsOn, Step, Total, Walks, Within, [], append_assoc, arith, begins, cond, counted, drop, eqb, event_of, events, false, flat_map, half_moves, is_barred}
-use Rattle.pop_solve.proofs.Words.{is_help, is_set, is_some, keep, left_of, length, length-reverse, min, nat_tests, opening, option_map, path, phase_half, phase_half_moves, phase_paths, phase_start, phase_steps, plan_of, position, refl, reverse, rules, shown_along, shown_last, slice_get, solutions, start, started, step_of, steps_from, suc, take, total, true, zero, ℕ, ◌+◌, ◌-◌, ◌^◌, ◌||◌, ◌∷◌, ◌≡◌, ◌≤◌}
+use Rattle.pop_solve.proofs.Words.{AreKnown, ArrayVec, BareEvent, Barred, Before, Behind, Event, Frame, Gives, IsGiven, IsLinked, IsRoomy, IsSound, IsStanding, IsWalking, IsWellFormed, Line, List, MatchOption, Node, None, Option, Phase, Play, Posed, Position, RuleSet, Set, Shown, Stage, StandsOn, Total, Walks, Within, [], append_assoc, arith, begins, cond, counted, drop, eqb, event_of, events, events_from, false, flat_map, half_moves, is_barred}
+use Rattle.pop_solve.proofs.Words.{is_help, is_set, is_some, keep, left_of, length, length-reverse, min, nat_tests, opening, option_map, path, path_event, phase_events, phase_half, phase_half_moves, phase_paths, phase_start, plan_of, position, refl, reverse, rules, shown_along, shown_last, slice_get, solutions, start, started, suc, take, total, true, zero, ℕ, ◌+◌, ◌-◌, ◌^◌, ◌||◌, ◌∷◌, ◌≡◌, ◌≤◌}
 use Rattle.pop_solve.proofs.Sound.{in_range}
 use Rattle.pop_solve.proofs.Paths.{path-length, reach-path}
 
 -- the event of a line
 pub line-event : (problem : Posed) (phase : Phase) (frames : List Frame) (half : ℕ) (moves : ArrayVec Shown) → is_help problem.stipulation.form ≡ true
     → half ≡ phase_half problem phase → (rule : RuleSet) → moves.items ≡ shown_along problem.stipulation.goal rule (phase_start problem phase) (path frames)
-    → Line half moves ≡ event_of rule problem (step_of problem phase (path frames))
+    → Line half moves ≡ event_of rule problem (path_event problem phase (path frames))
 line-event problem phase frames half moves help h rule m = grind arith
 
 -- the event of a node
 pub node-event : (problem : Posed) (phase : Phase) (frames : List Frame) (half depth : ℕ) (shown : Shown) → is_help problem.stipulation.form ≡ false
     → half ≡ phase_half problem phase → depth + 2 ≡ length frames → (rule : RuleSet)
     → shown ≡ shown_last problem.stipulation.goal rule (phase_start problem phase) (path (reverse frames))
-    → Node depth (half + depth) shown ≡ event_of rule problem (step_of problem phase (path (reverse frames)))
+    → Node depth (half + depth) shown ≡ event_of rule problem (path_event problem phase (path (reverse frames)))
 node-event problem phase frames half depth shown help h e rule s = grind (arith, path-length, length-reverse)
 
 pub room-length : (h : ℕ) (fs : List Frame) → IsRoomy h fs → length fs ≤ h + 1
@@ -28,21 +28,21 @@ module _ (rule : RuleSet) (problem : Posed) (phase : Phase) (h : ℕ) (frames : 
   pub shallow : h ≤ 32 → length frames ≤ 33
   shallow least = omega (arith, room-length h (reverse frames) r.roomy, length-reverse frames)
 
--- a path is given: the steps to come lose their first
+-- a path is given: the events to come lose their first
 module _ (rule : RuleSet) (problem : Posed) (phase : Phase) (count : ℕ) (old new : List Frame) (board : Position) (most : count ≤ problem.max_solutions)
     (w : Walks rule (plan_of problem) (phase_half_moves problem phase) (phase_start problem phase) (problem.max_solutions - count) old new board true) where
   abbrev more : ℕ
   more = cond (begins (is_help problem.stipulation.form) (path new)) 1 0
 
   pub left-given : (next : ℕ) → next ≡ count + more
-      → left_of rule problem (Within phase count) old ≡ step_of problem phase (path new) ∷ left_of rule problem (Within phase next) new
+      → left_of rule problem (Within phase count) old ≡ path_event problem phase (path new) ∷ left_of rule problem (Within phase next) new
   unfolding left_of
   left-given next e = search rules
 
 -- none is given: the total is left
 pub left-ended : (rule : RuleSet) (problem : Posed) (phase : Phase) (count : ℕ) (old new : List Frame) (board : Position)
     → Walks rule (plan_of problem) (phase_half_moves problem phase) (phase_start problem phase) (problem.max_solutions - count) old new board false
-    → left_of rule problem (Within phase count) old ≡ total count (eqb count problem.max_solutions) ∷ cond (is_set phase) (steps_from rule problem Play) []
+    → left_of rule problem (Within phase count) old ≡ total count (eqb count problem.max_solutions) ∷ cond (is_set phase) (events_from rule problem Play) []
 unfolding left_of
 left-ended rule problem phase count old new board w = search rules
 
@@ -62,7 +62,7 @@ module _ (rule : RuleSet) (problem : Posed) (phase : Phase) (count : ℕ) (old :
   room-given = grind (arith, path-length, length-reverse, deep-given, nat_tests)
 
   gives-here : (next : ℕ) (event : Event) → next ≡ count + cond (is_help problem.stipulation.form || eqb (length frames) 2) 1 0
-      → event ≡ event_of rule problem (step_of problem phase (path (reverse frames)))
+      → event ≡ event_of rule problem (path_event problem phase (path (reverse frames)))
       → Gives rule problem (left_of rule problem (Within phase count) old) (left_of rule problem (Within phase next) (reverse frames)) event board
       (length frames)
   gives-here next event n e = grind (arith, left-given, deep-given, reach-path, path-length, length-reverse, nat_tests)
@@ -75,7 +75,7 @@ module _ (rule : RuleSet) (problem : Posed) (phase : Phase) (count : ℕ) (old :
   -- once board and frames still stand as they were left
   module _ (left : List Frame) (stand : Position) (kept : left ≡ frames) (stays : stand ≡ board) where
     pub gives-given : (next : ℕ) (event : Event) → next ≡ count + cond (is_help problem.stipulation.form || eqb (length frames) 2) 1 0
-        → event ≡ event_of rule problem (step_of problem phase (path (reverse frames)))
+        → event ≡ event_of rule problem (path_event problem phase (path (reverse frames)))
         → Gives rule problem (left_of rule problem (Within phase count) old) (left_of rule problem (Within phase next) (reverse left)) event stand (length left)
     gives-given next event n e = rw (kept, stays) (gives-here next event n e)
 
@@ -92,7 +92,7 @@ module _ (rule : RuleSet) (problem : Posed) (phase : Phase) (count : ℕ) (old :
 
 -- what stands behind a phase
 behind-left : (rule : RuleSet) (problem : Posed) (phase : Phase) (frames : List Frame)
-    → left_of rule problem (cond (is_set phase) (Before Play) Behind) frames ≡ cond (is_set phase) (steps_from rule problem Play) []
+    → left_of rule problem (cond (is_set phase) (Before Play) Behind) frames ≡ cond (is_set phase) (events_from rule problem Play) []
 unfolding left_of
 behind-left rule problem phase frames = search rules
 
@@ -115,7 +115,7 @@ module _ (rule : RuleSet) (problem : Posed) (phase : Phase) (stage : Stage) (new
 -- a phase that isn't possible
 pub left-barred : (rule : RuleSet) (problem : Posed) (phase : Phase) (frames : List Frame) → is_barred rule problem phase ≡ true
     → left_of rule problem (Before phase) frames ≡ opening phase ∷ left_of rule problem Barred frames
-unfolding left_of phase_steps
+unfolding left_of phase_events
 left-barred rule problem phase frames e = search rules
 
 -- a phase begins
@@ -124,7 +124,7 @@ pub left-begun : (rule : RuleSet) (problem : Posed) (phase : Phase) (old new : L
     (take problem.max_solutions (solutions rule problem phase)) → started (is_help problem.stipulation.form) problem.max_solutions
     (phase_paths rule problem phase new) ≡ counted rule problem phase → left_of rule problem (Before phase) old ≡ opening phase ∷ left_of rule problem
     (Within phase 0) new
-unfolding left_of phase_steps
+unfolding left_of phase_events
 left-begun rule problem phase old new e kept begun = search (rules, append_assoc)
 
 pub standing-begun : (rule : RuleSet) (problem : Posed) (phase : Phase) (f : Frame) (board : Position) → f.left ≡ phase_half_moves problem phase
@@ -138,7 +138,7 @@ pub depth-most : (rule : RuleSet) (problem : Posed) (stage : Stage) (frames : Li
 unfolding IsStanding
 depth-most rule problem stage frames board s = search (rules, length-reverse, room-length)
 
--- the steps still to come after a call
+-- the events still to come after a call
 drop-next : {A : Type 0} (k : ℕ) (xs : List A) (y : A) (ys : List A) → y ∷ ys ≡ drop k xs → ys ≡ drop (suc k) xs
 drop-next zero xs y ys e = grind arith
 drop-next (suc k) [] y ys e = absurd cc
@@ -147,30 +147,30 @@ drop-next (suc k) (x ∷ xs) y ys e = drop-next k xs y ys e
 pub given-all : (rule : RuleSet) (problem : Posed) → IsGiven rule problem (events rule problem) 0
 given-all rule problem = search rules
 
-pub given-event : (rule : RuleSet) (problem : Posed) (event : Option Event) (old new : List Step) (board : Position) (depth given given2 : ℕ)
+pub given-event : (rule : RuleSet) (problem : Posed) (event : Option Event) (old new : List BareEvent) (board : Position) (depth given given2 : ℕ)
     → is_some event ≡ true → MatchOption event ((old ≡ []) × (board ≡ start problem) × (new ≡ [])) (λ e. Gives rule problem old new e board depth)
     → given2 ≡ min (given + 1) (2 ^ 64 - 1) → IsGiven rule problem old given → IsGiven rule problem new given2
 given-event rule problem event old new board depth given given2 some x more g = grind (arith, drop-next)
 
-pub given-none : (rule : RuleSet) (problem : Posed) (event : Option Event) (old new : List Step) (board : Position) (depth given : ℕ)
+pub given-none : (rule : RuleSet) (problem : Posed) (event : Option Event) (old new : List BareEvent) (board : Position) (depth given : ℕ)
     → is_some event ≡ false → MatchOption event ((old ≡ []) × (board ≡ start problem) × (new ≡ [])) (λ e. Gives rule problem old new e board depth)
     → IsGiven rule problem old given → IsGiven rule problem new given
 given-none rule problem event old new board depth given none x g = search rules
 
 -- what a call answers, and where it leaves the search
 module _ (rule : RuleSet) (problem : Posed) where
-  abbrev Given : Option Event → List Step → List Step → Position → ℕ → Type 0
+  abbrev Given : Option Event → List BareEvent → List BareEvent → Position → ℕ → Type 0
   Given event old new board depth = MatchOption event ((old ≡ []) × (board ≡ start problem) × (new ≡ [])) (λ e. Gives rule problem old new e board depth)
 
-  pub next-event : (event : Option Event) (old new : List Step) (board : Position) (depth : ℕ) → Given event old new board depth
+  pub next-event : (event : Option Event) (old new : List BareEvent) (board : Position) (depth : ℕ) → Given event old new board depth
       → event ≡ option_map (event_of rule problem) (slice_get old 0)
   next-event event old new board depth x = search rules
 
-  pub next-left : (event : Option Event) (old new : List Step) (board : Position) (depth : ℕ) → Given event old new board depth → new ≡ drop 1 old
+  pub next-left : (event : Option Event) (old new : List BareEvent) (board : Position) (depth : ℕ) → Given event old new board depth → new ≡ drop 1 old
   next-left event old new board depth x = search rules
 
-  pub next-board : (event : Option Event) (old new : List Step) (board : Position) (depth : ℕ) → Given event old new board depth
-      → MatchOption (slice_get old 0) (board ≡ start problem) (λ step. StandsOn rule problem step board depth)
+  pub next-board : (event : Option Event) (old new : List BareEvent) (board : Position) (depth : ℕ) → Given event old new board depth
+      → MatchOption (slice_get old 0) (board ≡ start problem) (λ bare. StandsOn rule problem bare board depth)
   next-board event old new board depth x = search rules
 
 pub ruleset frames_in_use = (depth-most)

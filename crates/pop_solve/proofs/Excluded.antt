@@ -1,8 +1,8 @@
 -- What the clauses of a search exclude: events given after the board was taken back or given twice, totals that say the wrong thing or come too early,
 -- mates passed over, and counts of events and frames that begin or grow otherwise.
-use Rattle.pop_solve.proofs.Words.{ArrayVec, Barred, Before, Bool, Event, Frame, Gives, GoesTo, IsGiven, IsOpened, Line, List, Node, Phase, Plan, Posed, Position, RuleSet, Shown, Step, Total, Triple, Within, [], ap, arith, eqb, event_of, filter, filter-append, first_phase, is_help, is_mating, is_walked_once, keep, left_of, length, map, min, moves_behind, phase_paths, rest_open, step_of, total, true, ℕ, ◌++◌, ◌+◌, ◌-◌, ◌^◌, ◌∷◌, ◌≡◌}
+use Rattle.pop_solve.proofs.Words.{ArrayVec, BareEvent, Barred, Before, Bool, Event, Frame, Gives, GoesTo, IsGiven, IsOpened, Line, List, Node, Phase, Plan, Posed, Position, RuleSet, Shown, Total, Triple, Within, [], ap, arith, eqb, event_of, filter, filter-append, first_phase, is_help, is_mating, is_walked_once, keep, left_of, length, map, min, moves_behind, path_event, phase_paths, rest_open, total, true, ℕ, ◌++◌, ◌+◌, ◌-◌, ◌^◌, ◌∷◌, ◌≡◌}
 
-module _ (rule : RuleSet) (problem : Posed) (old new : List Step) (board : Position) where
+module _ (rule : RuleSet) (problem : Posed) (old new : List BareEvent) (board : Position) where
   -- no line is given with no frame in use, as after all moves were taken back
   pub no_line_without_frames : (half : ℕ) (moves : ArrayVec Shown) → Gives rule problem old new (Line half moves) board 0 → ⊥
   no_line_without_frames half moves g = grind arith
@@ -11,19 +11,19 @@ module _ (rule : RuleSet) (problem : Posed) (old new : List Step) (board : Posit
   pub no_node_without_frames : (depth half : ℕ) (move : Shown) → Gives rule problem old new (Node depth half move) board 0 → ⊥
   no_node_without_frames depth half move g = grind arith
 
-module _ (rule : RuleSet) (problem : Posed) (phase : Phase) (count : ℕ) (frames : List Frame) (new : List Step) (c : ℕ) (s : Bool)
+module _ (rule : RuleSet) (problem : Posed) (phase : Phase) (count : ℕ) (frames : List Frame) (new : List BareEvent) (c : ℕ) (s : Bool)
     (board : Position) (depth : ℕ) where
-  among : (paths : List (List Triple)) (all : ℕ) (rest : List Step) (step : Step)
-      → map (step_of problem phase) paths ++ total all (eqb all problem.max_solutions) ∷ rest ≡ step ∷ new → Total c s ≡ event_of rule problem step
+  among : (paths : List (List Triple)) (all : ℕ) (rest : List BareEvent) (bare : BareEvent)
+      → map (path_event problem phase) paths ++ total all (eqb all problem.max_solutions) ∷ rest ≡ bare ∷ new → Total c s ≡ event_of rule problem bare
       → s ≡ eqb c problem.max_solutions
-  among [] all rest step l e = grind arith
-  among (x ∷ xs) all rest step l e = grind arith
+  among [] all rest bare l e = grind arith
+  among (x ∷ xs) all rest bare l e = grind arith
 
   -- a total says that the limit ended the phase exactly where its count is the limit
   pub total_says_stopped_at_limit : Gives rule problem (left_of rule problem (Within phase count) frames) new (Total c s) board depth
       → s ≡ eqb c problem.max_solutions
   unfolding left_of
-  total_says_stopped_at_limit g = among _ _ _ g.step g.left g.event_is
+  total_says_stopped_at_limit g = among _ _ _ g.bare g.left g.event_is
 
   -- no total is given while a path is still to come
   pub no_total_before_the_last_path : (x : List Triple) (xs : List (List Triple))
@@ -33,21 +33,21 @@ module _ (rule : RuleSet) (problem : Posed) (phase : Phase) (count : ℕ) (frame
   no_total_before_the_last_path x xs k g = grind arith
 
 module _ (rule : RuleSet) (problem : Posed) (event : Event) (board : Position) (depth : ℕ) where
-  -- a step that was given isn't still to come
-  pub no_step_stays : (left : List Step) → Gives rule problem left left event board depth → ⊥
-  no_step_stays left g = absurd (omega (arith, ap length g.left))
+  -- an event that was given isn't still to come
+  pub no_event_stays : (left : List BareEvent) → Gives rule problem left left event board depth → ⊥
+  no_event_stays left g = absurd (omega (arith, ap length g.left))
 
   -- so set play is said to be impossible once
   pub impossible_is_given_once : (old new : List Frame)
       → Gives rule problem (left_of rule problem Barred old) (left_of rule problem Barred new) event board depth → ⊥
   unfolding left_of
-  impossible_is_given_once old new g = no_step_stays _ g
+  impossible_is_given_once old new g = no_event_stays _ g
 
 module _ (rule : RuleSet) (problem : Posed) where
   -- each event given counts one
-  pub one_event_is_counted : (step : Step) (left : List Step) (before after : ℕ) → IsGiven rule problem (step ∷ left) before
+  pub one_event_is_counted : (bare : BareEvent) (left : List BareEvent) (before after : ℕ) → IsGiven rule problem (bare ∷ left) before
       → IsGiven rule problem left after → after ≡ min (before + 1) (2 ^ 64 - 1)
-  one_event_is_counted step left before after g h = omega (arith, g.counts, h.counts, g.within)
+  one_event_is_counted bare left before after g h = omega (arith, g.counts, h.counts, g.within)
 
   -- a search that has given nothing has opened nothing, where no line of moves is walked twice
   pub nothing_is_opened_at_first : (frames : List Frame) (opened : ℕ) → is_walked_once problem ≡ true

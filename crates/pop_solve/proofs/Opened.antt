@@ -1,6 +1,6 @@
 -- How many frames a search opens.
-use Rattle.pop_solve.proofs.Words.{Barred, Battle, Before, Behind, Bool, Form, Frame, IsCounted, IsGiven, IsKeys, IsNarrow, IsOpened, IsSound, IsWhites, List, Opens, OpensOn, Phase, Plan, Play, Posed, Position, RuleSet, Set, Stage, Step, Tries, Within, [], arith, battle_of, cond, drop, eqb, false, fewest_from, fewest_left, first_phase, half_moves_of, inl, inr}
-use Rattle.pop_solve.proofs.Words.{is_barred, is_help, is_set, is_stop, is_unstopped, left_of, min, not, phase_fewest, phase_half_moves, phase_start, phase_steps, phase_walk, plan_of, position, refl, rest_fewest, rest_open, rules, seeks, suc, to_open, total, true, walk_from, zero, ℕ, ◌&&◌, ◌++◌, ◌+◌, ◌-◌, ◌<◌, ◌^◌, ◌∷◌, ◌≡◌, ◌≤◌, ◌⊎◌}
+use Rattle.pop_solve.proofs.Words.{BareEvent, Barred, Battle, Before, Behind, Bool, Form, Frame, IsCounted, IsGiven, IsKeys, IsNarrow, IsOpened, IsSound, IsWhites, List, Opens, OpensOn, Phase, Plan, Play, Posed, Position, RuleSet, Set, Stage, Tries, Within, [], arith, battle_of, cond, drop, eqb, false, fewest_from, fewest_left, first_phase, half_moves_of, inl, inr}
+use Rattle.pop_solve.proofs.Words.{is_barred, is_help, is_set, is_stop, is_unstopped, left_of, min, not, phase_events, phase_fewest, phase_half_moves, phase_start, phase_walk, plan_of, position, refl, rest_fewest, rest_open, rules, seeks, suc, to_open, total, true, walk_from, zero, ℕ, ◌&&◌, ◌++◌, ◌+◌, ◌-◌, ◌<◌, ◌^◌, ◌∷◌, ◌≡◌, ◌≤◌, ◌⊎◌}
 use Rattle.pop_solve.proofs.Boards.{behind_start}
 use Rattle.pop_solve.proofs.Sound.{some_way}
 use Rattle.pop_solve.proofs.ToCome.{one, walk_count-start}
@@ -50,7 +50,7 @@ module _ (rule : RuleSet) (problem : Posed) where
   later_fewest phase = cond (is_set phase) (phase_fewest rule problem Play) 0
 
   -- a phase that isn't possible
-  pub opens-barred : (phase : Phase) (old new : List Frame) (count : ℕ) (left : List Step) → is_barred rule problem phase ≡ true
+  pub opens-barred : (phase : Phase) (old new : List Frame) (count : ℕ) (left : List BareEvent) → is_barred rule problem phase ≡ true
       → OpensOn rule problem (Before phase) Barred old new count count left
   unfolding rest_open rest_fewest IsNarrow
   opens-barred phase old new count left e = search rules
@@ -77,7 +77,7 @@ module _ (rule : RuleSet) (problem : Posed) where
         (eqb f.left 0) 0 1 + (fewest_left rule plan (phase_half_moves problem phase) (phase_start problem phase) (f ∷ []) + later_fewest phase)
     from-fewest = search (rules, root-fewest)
 
-    pub opens-begun : (old : List Frame) (count count2 : ℕ) (left : List Step) → (0 < f.left → count2 ≡ min (count + 1) (2 ^ 64 - 1))
+    pub opens-begun : (old : List Frame) (count count2 : ℕ) (left : List BareEvent) → (0 < f.left → count2 ≡ min (count + 1) (2 ^ 64 - 1))
         → (f.left ≡ 0 → count2 ≡ count) → OpensOn rule problem (Before phase) (Within phase 0) old (f ∷ []) count count2 left
     unfolding rest_open rest_fewest IsNarrow
     opens-begun old count count2 left more same = search (rules, from-open, opened-most, counted_by, from-fewest, whites-root, white-starts, some_way)
@@ -90,24 +90,24 @@ module _ (rule : RuleSet) (problem : Posed) where
         → IsCounted walk after (to_open rule (phase_start problem phase) new + later phase)
     walked-counted h walk c = search (rules, counted-along, counted-apart)
 
-    pub opens-given : (next : ℕ) (left : List Step) (last : List Frame) → last ≡ new
+    pub opens-given : (next : ℕ) (left : List BareEvent) (last : List Frame) → last ≡ new
         → OpensOn rule problem (Within phase count) (Within phase next) old last before after left
     unfolding rest_open rest_fewest IsNarrow
     opens-given next left last kept = grind (arith, walked-counted)
 
     -- its end: where no phase is stopped, nothing is left to open
-    nothing_open : (left : List Step) → is_unstopped (total count (eqb count problem.max_solutions) ∷ left) ≡ true → count ≤ problem.max_solutions
+    nothing_open : (left : List BareEvent) → is_unstopped (total count (eqb count problem.max_solutions) ∷ left) ≡ true → count ≤ problem.max_solutions
         → (new ≡ []) ⊎ (problem.max_solutions - count ≡ 0) → to_open rule (phase_start problem phase) new ≡ 0
     unfolding to_open
     nothing_open left u most e = search rules
 
-    nothing_fewest : (left : List Step) → is_unstopped (total count (eqb count problem.max_solutions) ∷ left) ≡ true → count ≤ problem.max_solutions
+    nothing_fewest : (left : List BareEvent) → is_unstopped (total count (eqb count problem.max_solutions) ∷ left) ≡ true → count ≤ problem.max_solutions
         → (new ≡ []) ⊎ (problem.max_solutions - count ≡ 0)
         → fewest_left rule (plan_of problem) (phase_half_moves problem phase) (phase_start problem phase) new ≡ 0
     unfolding fewest_left
     nothing_fewest left u most e = search rules
 
-    pub opens-ended : (stage : Stage) (last : List Frame) (left : List Step) → stage ≡ cond (is_set phase) (Before Play) Behind
+    pub opens-ended : (stage : Stage) (last : List Frame) (left : List BareEvent) → stage ≡ cond (is_set phase) (Before Play) Behind
         → count ≤ problem.max_solutions → (new ≡ []) ⊎ (problem.max_solutions - count ≡ 0)
         → OpensOn rule problem (Within phase count) stage old last before after (total count (eqb count problem.max_solutions) ∷ left)
     unfolding rest_open rest_fewest IsNarrow
@@ -134,14 +134,14 @@ module _ (rule : RuleSet) (problem : Posed) where
         narrowed Play n = tt
 
   -- a call that walked again from the phase's first position would count what had been opened before twice
-  pub no_second_walk : (old new : Stage) (frames last : List Frame) (before after again walk : ℕ) (left : List Step)
+  pub no_second_walk : (old new : Stage) (frames last : List Frame) (before after again walk : ℕ) (left : List BareEvent)
       → OpensOn rule problem old new frames last before after left → is_help problem.stipulation.form ≡ true → is_unstopped left ≡ true
       → IsCounted walk before (rest_open rule problem old frames) → 0 < before → walk - rest_open rule problem new last ≤ again
       → after ≡ before + again → after < 2 ^ 64 → ⊥
   no_second_walk old new frames last before after again walk left x h u c some whole sum fits = search rules
 
   -- before the play where set play isn't possible, and behind all
-  pub opens-play : (frames : List Frame) (count : ℕ) (left : List Step) → OpensOn rule problem Barred (Before Play) frames frames count count left
+  pub opens-play : (frames : List Frame) (count : ℕ) (left : List BareEvent) → OpensOn rule problem Barred (Before Play) frames frames count count left
   unfolding rest_open rest_fewest IsNarrow
   opens-play frames count left = search rules
 
@@ -150,7 +150,7 @@ module _ (rule : RuleSet) (problem : Posed) where
   unfolding rest_open rest_fewest IsNarrow
   opened-start frames opened none = search rules
 
-  all-drop : (k : ℕ) (xs : List Step) → is_unstopped xs ≡ true → is_unstopped (drop k xs) ≡ true
+  all-drop : (k : ℕ) (xs : List BareEvent) → is_unstopped xs ≡ true → is_unstopped (drop k xs) ≡ true
   all-drop zero xs e = e
   all-drop (suc k) [] e = e
   all-drop (suc k) (x ∷ xs) e = all-drop k xs (second (not (is_stop x)) (is_unstopped xs) e)
@@ -159,31 +159,31 @@ module _ (rule : RuleSet) (problem : Posed) where
       second true b e = e
       second false b e = absurd cc
 
-  pub opened-on : (old new : Stage) (frames last : List Frame) (before after given : ℕ) (left : List Step) → IsGiven rule problem left given
+  pub opened-on : (old new : Stage) (frames last : List Frame) (before after given : ℕ) (left : List BareEvent) → IsGiven rule problem left given
       → OpensOn rule problem old new frames last before after left → IsOpened rule problem old frames before → IsOpened rule problem new last after
   opened-on old new frames last before after given left g x o = search (rules, all-drop)
 
   -- at the end nothing is to be opened
   pub rest-none : (stage : Stage) (frames : List Frame) → left_of rule problem stage frames ≡ [] → rest_open rule problem stage frames ≡ 0
-  unfolding left_of rest_open phase_steps
+  unfolding left_of rest_open phase_events
   rest-none (Before Set) frames e = absurd cc
   rest-none (Before Play) frames e = absurd cc
   rest-none Barred frames e = absurd cc
   rest-none (Within phase count) frames e = absurd (some _ _ _ e)
     where
-      some : (xs : List Step) (y : Step) (ys : List Step) → (xs ++ y ∷ ys) ≡ [] → ⊥
+      some : (xs : List BareEvent) (y : BareEvent) (ys : List BareEvent) → (xs ++ y ∷ ys) ≡ [] → ⊥
       some [] y ys e = cc
       some (x ∷ xs) y ys e = cc
   rest-none Behind frames e = refl
 
   pub fewest-none : (stage : Stage) (frames : List Frame) → left_of rule problem stage frames ≡ [] → rest_fewest rule problem stage frames ≡ 0
-  unfolding left_of rest_fewest phase_steps
+  unfolding left_of rest_fewest phase_events
   fewest-none (Before Set) frames e = absurd cc
   fewest-none (Before Play) frames e = absurd cc
   fewest-none Barred frames e = absurd cc
   fewest-none (Within phase count) frames e = absurd (some _ _ _ e)
     where
-      some : (xs : List Step) (y : Step) (ys : List Step) → (xs ++ y ∷ ys) ≡ [] → ⊥
+      some : (xs : List BareEvent) (y : BareEvent) (ys : List BareEvent) → (xs ++ y ∷ ys) ≡ [] → ⊥
       some [] y ys e = cc
       some (x ∷ xs) y ys e = cc
   fewest-none Behind frames e = refl

@@ -37,8 +37,8 @@ pub use Rattle.pop_input.specs.declared.stipulation.Goal.TheVariants.{Mate}
 pub use Rattle.pop_solve.specs.Aims.{battle_of}
 pub use Rattle.pop_solve.specs.Chess.{chess, is_reached, set_start}
 unfoldable pub use Rattle.pop_solve.specs.Chess.{show}
-pub use Rattle.pop_solve.specs.Events.{Step, counted, event_of, events, first_phase, impossible, is_barred, is_set, line, opening, phase_half, phase_half_moves, phase_start, shown_along, shown_last, start, step_of, steps_from, total, tree_node}
-unfoldable pub use Rattle.pop_solve.specs.Events.{phase_steps, solutions}
+pub use Rattle.pop_solve.specs.Events.{BareEvent, counted, event_of, events, events_from, first_phase, impossible, is_barred, is_set, line, opening, path_event, phase_half, phase_half_moves, phase_start, shown_along, shown_last, start, total, tree_node}
+unfoldable pub use Rattle.pop_solve.specs.Events.{phase_events, solutions}
 pub use Rattle.pop_solve.specs.Game.{Game, can_move, every_move, reach, some_move}
 unfoldable pub use Rattle.pop_solve.specs.Game.{help_lines, lines_to_goal, lost, self_lost, self_wins, wins}
 pub use Rattle.pop_solve.specs.Shown.{Shown}

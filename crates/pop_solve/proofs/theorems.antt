@@ -4,4 +4,4 @@ pub mod Lists
 pub mod HelpLines
 pub mod Trees
 pub mod Solutions
-pub mod Steps
+pub mod Events

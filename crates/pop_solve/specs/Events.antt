@@ -20,13 +20,13 @@ use Rattle.pop_solve.specs.declared.event.Event.TheVariants.{Phase as PhaseEvent
 use Rattle.pop_solve.specs.declared.event.Phase.{Phase}
 use Rattle.pop_solve.specs.declared.event.Phase.TheVariants.{Set, Play}
 
--- what a search gives, before it is shown; a path stands with its phase
-pub data Step : Type 0 where
-  opening : Phase → Step
-  impossible : Step
-  line : Phase → List Triple → Step
-  tree_node : Phase → List Triple → Step
-  total : ℕ → Bool → Step
+-- an event before it is shown: its path in place of moves, with its phase
+pub data BareEvent : Type 0 where
+  opening : Phase → BareEvent
+  impossible : BareEvent
+  line : Phase → List Triple → BareEvent
+  tree_node : Phase → List Triple → BareEvent
+  total : ℕ → Bool → BareEvent
 
 -- the phase is set play
 abbrev pub is_set : Phase → Bool
@@ -66,9 +66,9 @@ solutions rule problem phase =
 abbrev pub is_barred : RuleSet → Posed → Phase → Bool
 is_barred rule problem phase = is_set phase && is_impossible rule (set_start (start problem))
 
--- a path as a step
-abbrev pub step_of : Posed → Phase → List Triple → Step
-step_of problem phase path = if is_help problem.stipulation.form then line phase path
+-- a path as an event
+abbrev pub path_event : Posed → Phase → List Triple → BareEvent
+path_event problem phase path = if is_help problem.stipulation.form then line phase path
     else tree_node phase path
 
 -- how many solutions a phase has, up to the limit
@@ -76,23 +76,23 @@ abbrev pub counted : RuleSet → Posed → Phase → ℕ
 counted rule problem phase = length (take problem.max_solutions (solutions rule problem phase))
 
 -- a phase: its name; then that it is barred, or its first solutions, whole, and their number
-unfoldable pub phase_steps : RuleSet → Posed → Phase → List Step
-phase_steps rule problem phase =
+unfoldable pub phase_events : RuleSet → Posed → Phase → List BareEvent
+phase_events rule problem phase =
     opening phase ∷ (if is_barred rule problem phase then impossible ∷ []
-    else map (step_of problem phase) (flat_map (λ solution. solution)
+    else map (path_event problem phase) (flat_map (λ solution. solution)
     (take problem.max_solutions (solutions rule problem phase)))
     ++ total (counted rule problem phase) (counted rule problem phase == problem.max_solutions)
     ∷ [])
 
--- the steps from a phase on
-abbrev pub steps_from : RuleSet → Posed → Phase → List Step
-steps_from rule problem phase =
-    if is_set phase then phase_steps rule problem Set ++ phase_steps rule problem Play
-    else phase_steps rule problem Play
+-- the events from a phase on
+abbrev pub events_from : RuleSet → Posed → Phase → List BareEvent
+events_from rule problem phase =
+    if is_set phase then phase_events rule problem Set ++ phase_events rule problem Play
+    else phase_events rule problem Play
 
--- all steps of a problem
-abbrev pub events : RuleSet → Posed → List Step
-events rule problem = steps_from rule problem (first_phase problem)
+-- all events of a problem
+abbrev pub events : RuleSet → Posed → List BareEvent
+events rule problem = events_from rule problem (first_phase problem)
 
 -- the moves of a path from p as they are shown, and the last of them
 abbrev pub shown_along : Goal → RuleSet → Position → List Triple → List Shown
@@ -111,8 +111,8 @@ abbrev pub phase_half : Posed → Phase → ℕ
 phase_half problem phase = if is_set phase then first_half problem.stipulation.form + 1
     else first_half problem.stipulation.form
 
--- the event of a step
-abbrev pub event_of : RuleSet → Posed → Step → Event
+-- an event as it is shown
+abbrev pub event_of : RuleSet → Posed → BareEvent → Event
 event_of rule problem (opening phase) = PhaseEvent phase
 event_of rule problem impossible = Impossible
 event_of rule problem (line phase path) =

@@ -4,7 +4,7 @@ ghost use Rattle.arrayvec.specs.ArrayVec.{array_vec_len};
 ghost use Rattle.chess_core.specs.Position.{Position};
 ghost use Rattle.pop_input.specs.Posed.{IsSound};
 ghost use Rattle.pop_input.specs.Stipulations.{half_moves, is_help};
-ghost use Rattle.pop_solve.specs.Events.{first_phase, start, phase_half_moves as half_moves_of_phase, phase_start, phase_half as half_of_phase, event_of, is_barred, step_of, is_set, opening};
+ghost use Rattle.pop_solve.specs.Events.{first_phase, start, phase_half_moves as half_moves_of_phase, phase_start, phase_half as half_of_phase, event_of, is_barred, path_event, is_set, opening};
 ghost use Rattle.pop_solve.specs.ties.Walk.{IsEnded, IsWalking, Opens, Tries, path};
 ghost use Rattle.pop_solve.specs.ties.Plans.{plan_of};
 ghost use Rattle.pop_solve.specs.ties.Phases.{left_of, IsStanding, Walks, Gives, OpensOn};
@@ -145,7 +145,7 @@ fn event_at<R: Rules>(
     requires ended { IsEnded R.rule (plan_of problem.now) (reverse frames.now) board.old }
     ensures unchanged { board.new ≡ board.old }
     ensures event { result ≡ event_of R.rule problem.now
-        (step_of problem.now phase (path (reverse frames.now))) }
+        (path_event problem.now phase (path (reverse frames.now))) }
 {
     let half = phase_half(problem, phase);
     let plan = Plan::of(problem);

@@ -90,7 +90,7 @@ impl<R: Rules, const N: usize> Search<R, N> {
         ensures left { self.new.left ≡ drop 1 self.old.left }
         ensures board { MatchOption (slice_get self.old.left 0)
             (self.new.board ≡ start self.old.problem)
-            (λ step. StandsOn R.rule self.old.problem step self.new.board self.new.depth) }
+            (λ bare. StandsOn R.rule self.old.problem bare self.new.board self.new.depth) }
         ensures problem { self.new.problem ≡ self.old.problem }
         ensures opened { self.old.opened ≤ self.new.opened }
     {

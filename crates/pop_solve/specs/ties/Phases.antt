@@ -8,7 +8,7 @@ use Rattle.pop_input.specs.Posed.{Posed}
 use Rattle.pop_input.specs.Stipulations.{is_help}
 use Rattle.pop_solve.specs.ties.Frames.{Frame, to_open}
 use Rattle.pop_solve.specs.ties.Walk.{fewest_left, path, to_come, IsEnded, IsWalking, IsCounted, IsWhites}
-use Rattle.pop_solve.specs.Events.{Step, impossible, is_set, total, start, steps_from, step_of, phase_start, phase_half_moves, event_of, events}
+use Rattle.pop_solve.specs.Events.{BareEvent, impossible, is_set, total, start, events_from, path_event, phase_start, phase_half_moves, event_of, events}
 use Rattle.pop_solve.specs.ties.Seen.{fewest_from, fewest_tried, is_never_stopped, is_unstopped, is_walked_once, walk_from, whole_walk, StandsOn}
 use Rattle.pop_solve.specs.declared.event.Event.{Event}
 use Rattle.pop_solve.specs.declared.event.Phase.{Phase}
@@ -42,17 +42,17 @@ phase_paths rule problem phase frames =
     to_come rule (plan_of problem) (phase_half_moves problem phase) (phase_start problem phase)
     frames
 
--- the steps still to come
-unfoldable pub left_of : RuleSet → Posed → Stage → List Frame → List Step
-left_of rule problem (Before phase) frames = steps_from rule problem phase
-left_of rule problem Barred frames = impossible ∷ steps_from rule problem Play
+-- the events still to come
+unfoldable pub left_of : RuleSet → Posed → Stage → List Frame → List BareEvent
+left_of rule problem (Before phase) frames = events_from rule problem phase
+left_of rule problem Barred frames = impossible ∷ events_from rule problem Play
 left_of rule problem (Within phase count) frames =
     let paths = phase_paths rule problem phase frames in
     let limit = problem.max_solutions - count in
     let all = count + started (is_help problem.stipulation.form) limit paths in
-    map (step_of problem phase) (keep (is_help problem.stipulation.form) limit paths)
+    map (path_event problem phase) (keep (is_help problem.stipulation.form) limit paths)
     ++ total all (all == problem.max_solutions)
-    ∷ (if is_set phase then steps_from rule problem Play else [])
+    ∷ (if is_set phase then events_from rule problem Play else [])
 left_of rule problem Behind frames = []
 
 -- what holds of board and frames at a stage
@@ -82,13 +82,13 @@ pub record Walks (rule : RuleSet) (plan : Plan) (h : ℕ) (p : Position) (limit 
   pub over : given ≡ false → (new ≡ []) ⊎ (limit ≡ 0)
   pub none : given ≡ false → started (is_help plan.form) limit (to_come rule plan h p old) ≡ 0
 
--- what a call gives: the first step still to come, as an event, with board and frames where that step stands
-pub record Gives (rule : RuleSet) (problem : Posed) (old new : List Step) (event : Event)
+-- what a call gives: the first event still to come, as it is shown, with board and frames where it stands
+pub record Gives (rule : RuleSet) (problem : Posed) (old new : List BareEvent) (event : Event)
     (board : Position) (depth : ℕ) : Type 0 where
-  pub step : Step
-  pub left : old ≡ step ∷ new
-  pub event_is : event ≡ event_of rule problem step
-  pub stands : StandsOn rule problem step board depth
+  pub bare : BareEvent
+  pub left : old ≡ bare ∷ new
+  pub event_is : event ≡ event_of rule problem bare
+  pub stands : StandsOn rule problem bare board depth
 
 -- the frames that can still be opened
 unfoldable pub rest_open : RuleSet → Posed → Stage → List Frame → ℕ
@@ -125,9 +125,9 @@ IsNarrow problem (Within phase count) frames =
     ⊎ (IsKeys problem phase × (IsWhites (battle_of problem.stipulation.form) frames ≡ true))
 IsNarrow problem Behind frames = Unit {0}
 
--- what a call opens, `left` being the steps still to come before it
+-- what a call opens, `left` being the events still to come before it
 pub record OpensOn (rule : RuleSet) (problem : Posed) (old new : Stage) (frames last : List Frame)
-    (before after : ℕ) (left : List Step) : Type 0 where
+    (before after : ℕ) (left : List BareEvent) : Type 0 where
   pub narrow : IsNarrow problem old frames → IsNarrow problem new last
   pub most : IsNarrow problem old frames
       → after + rest_open rule problem new last ≤ before + rest_open rule problem old frames
@@ -152,8 +152,8 @@ pub record IsOpened (rule : RuleSet) (problem : Posed) (stage : Stage) (frames :
       → min (fewest_tried rule problem) (2 ^ 64 - 1)
       ≤ opened + rest_fewest rule problem stage frames
 
--- the events given, counted up to the greatest u64; the steps still to come are an ending of all
-pub record IsGiven (rule : RuleSet) (problem : Posed) (left : List Step) (given : ℕ) : Type 0 where
+-- the events given, counted up to the greatest u64; the events still to come are an ending of all
+pub record IsGiven (rule : RuleSet) (problem : Posed) (left : List BareEvent) (given : ℕ) : Type 0 where
   pub within : length left ≤ length (events rule problem)
   pub ending : left ≡ drop (length (events rule problem) - length left) (events rule problem)
   pub counts : given ≡ min (length (events rule problem) - length left) (2 ^ 64 - 1)

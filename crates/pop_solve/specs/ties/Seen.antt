@@ -1,4 +1,4 @@
--- What contracts see of a search: the steps still to come, the board, the frames in use, and the counts.
+-- What contracts see of a search: the events still to come, the board, the frames in use, and the counts.
 use Rattle.chess_rules.specs.Play.{after as played}
 use Rattle.chess_rules.specs.Legal.{moves as legal_moves}
 use Rattle.std.specs.Prelude.{◌≡◌, ℕ, ◌+◌, Bool, false, not, ◌==◌, ◌&&◌, ◌||◌, true, if◌then◌else◌, List, length}
@@ -13,11 +13,11 @@ use Rattle.pop_input.specs.Posed.{Posed}
 use Rattle.pop_input.specs.Stipulations.{is_help}
 use Rattle.pop_solve.specs.declared.event.Phase.{Phase}
 use Rattle.pop_solve.specs.declared.event.Phase.TheVariants.{Set, Play}
-use Rattle.pop_solve.specs.Events.{Step, events, first_phase, impossible, is_barred, is_set, line, opening, phase_half_moves, phase_start, total, tree_node}
+use Rattle.pop_solve.specs.Events.{BareEvent, events, first_phase, impossible, is_barred, is_set, line, opening, phase_half_moves, phase_start, total, tree_node}
 use Rattle.pop_solve.specs.ties.Plans.{plan_of}
 
--- after a step: the board where its path leads, and one frame more than the path has moves
-abbrev pub StandsOn : RuleSet → Posed → Step → Position → ℕ → Type 0
+-- after an event: the board where its path leads, and one frame more than the path has moves
+abbrev pub StandsOn : RuleSet → Posed → BareEvent → Position → ℕ → Type 0
 StandsOn rule problem (opening phase) board depth = Unit {0}
 StandsOn rule problem impossible board depth = Unit {0}
 StandsOn rule problem (line phase path) board
@@ -66,7 +66,7 @@ abbrev pub fewest_tried : RuleSet → Posed → ℕ
 fewest_tried rule problem = fewest_from rule problem (first_phase problem)
 
 -- whether the limit of solutions ended a phase
-abbrev pub is_stop : Step → Bool
+abbrev pub is_stop : BareEvent → Bool
 is_stop (opening phase) = false
 is_stop impossible = false
 is_stop (line phase path) = false
@@ -74,8 +74,8 @@ is_stop (tree_node phase path) = false
 is_stop (total count stopped) = stopped
 
 -- the limit of solutions ended none of these phases
-abbrev pub is_unstopped : List Step → Bool
-is_unstopped steps = list_all (λ step. not (is_stop step)) steps
+abbrev pub is_unstopped : List BareEvent → Bool
+is_unstopped left = list_all (λ bare. not (is_stop bare)) left
 
 -- it ended no phase of the problem
 abbrev pub is_never_stopped : RuleSet → Posed → Bool
@@ -89,8 +89,8 @@ is_walked_once problem = is_help problem.stipulation.form
 -- what a contract sees of a search
 pub record Seen : Type 0 where
   pub problem : Posed
-  -- the steps still to come
-  pub left : List Step
+  -- the events still to come
+  pub left : List BareEvent
   -- the position on the board, and the frames in use
   pub board : Position
   pub depth : ℕ

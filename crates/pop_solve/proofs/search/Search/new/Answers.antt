@@ -1,4 +1,4 @@
-use Rattle.pop_solve.proofs.Words.{IsStanding, ap, left_of, rules, steps_from}
+use Rattle.pop_solve.proofs.Words.{IsStanding, ap, events_from, left_of, rules}
 use Rattle.pop_solve.proofs.Events.{given-all}
 use Rattle.pop_solve.proofs.Opened.{opened-start}
 use Rattle.pop_solve.proofs.search.Search.new.Goals as goal
@@ -9,4 +9,4 @@ invariant_of-result g c = search (rules, given-all, opened-start)
 
 pub returns-clause-left : goal.returns-clause-left
 unfolding left_of
-returns-clause-left g c = ap (steps_from g.R.Rules.rule c.args.problem.now) c.first_phase.ensures
+returns-clause-left g c = ap (events_from g.R.Rules.rule c.args.problem.now) c.first_phase.ensures
