@@ -51,7 +51,7 @@ impl Text {
     }
 
     /// The bytes without their trailing blanks.
-    pub fn trimmed(mut kept: ArrayVec<u8, 200>) -> Text
+    pub(crate) fn trimmed(mut kept: ArrayVec<u8, 200>) -> Text
         ensures { result ≡ without_trailing kept.items }
     {
         'trim: while let Some(&byte) = kept.as_slice().last() {
@@ -77,7 +77,7 @@ impl Text {
 }
 
 /// Keeps bytes of a line, as far as there is room, without leading blanks.
-pub fn keep_all(kept: &mut ArrayVec<u8, 200>, bytes: &[u8])
+pub(crate) fn keep_all(kept: &mut ArrayVec<u8, 200>, bytes: &[u8])
     ensures { kept.new.items ≡ fold (with_byte 200) kept.old.items bytes.now }
 {
     'bytes: for &byte in bytes {
