@@ -43,17 +43,25 @@ def wait_for(seen: Callable[[], object]) -> None:
         time.sleep(0.02)
 
 
+def _fields(folder: Path) -> List[bytes]:
+    """What the system tells of a process, from its state on; nothing where it is gone."""
+    try:
+        return (folder / "stat").read_bytes().rpartition(b")")[2].split()
+    except OSError:
+        return []
+
+
 def children(process: int) -> List[int]:
     """The processes that a process started."""
-    found = []
-    for folder in Path("/proc").glob("[0-9]*"):
-        try:
-            fields = (folder / "stat").read_bytes().rpartition(b")")[2].split()
-        except OSError:
-            continue
-        if int(fields[1]) == process:
-            found.append(int(folder.name))
-    return found
+    folders = Path("/proc").glob("[0-9]*")
+    wanted = str(process).encode()
+    return [int(folder.name) for folder in folders if _fields(folder)[1:2] == [wanted]]
+
+
+def has_worked(process: int) -> bool:
+    """Whether a process has used a tenth of a second of processor time by itself."""
+    fields = _fields(Path(f"/proc/{process}"))
+    return bool(fields) and int(fields[11]) >= os.sysconf("SC_CLK_TCK") // 10
 
 
 class SixProblems(unittest.TestCase):
@@ -83,9 +91,12 @@ class SixProblems(unittest.TestCase):
         return support.companion("pops-many", *self.words(pops, *more))
 
     def started(
-        self, *words: str, errors: int = subprocess.PIPE, before: Optional[Callable[[], None]] = None
+        self,
+        *words: str,
+        errors: int = subprocess.PIPE,
+        before: Optional[Callable[[], None]] = None,
     ) -> "subprocess.Popen[bytes]":
-        """A run of pops-many that goes on meanwhile; it and its children are ended with the test."""
+        """A run of pops-many that goes on meanwhile; the test ends it with its children."""
         run = subprocess.Popen(
             [sys.executable, str(support.COMPANIONS / "pops-many"), *words],
             stdin=subprocess.DEVNULL,
@@ -103,10 +114,13 @@ class SixProblems(unittest.TestCase):
             run.kill()
         run.communicate()
 
-    def child(self, run: "subprocess.Popen[bytes]") -> int:
-        """The program that a run of pops-many has at work, once it is there."""
-        wait_for(lambda: children(run.pid))
-        return children(run.pid)[0]
+    def programs(self, run: "subprocess.Popen[bytes]", number: int) -> List[int]:
+        """The programs that a run of pops-many has at work, once there are so many."""
+        wait_for(lambda: len(children(run.pid)) == number)
+        found = children(run.pid)
+        for program in found:
+            self.addCleanup(sessions.end, program)
+        return found
 
     def wait_for_end(self, session: int) -> None:
         """Waits until nothing of a session runs."""

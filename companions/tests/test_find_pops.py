@@ -84,7 +84,8 @@ class Places(unittest.TestCase):
         self.assertEqual(self.found(companions, named, {"POPS": variable}), named)
         self.assertEqual(self.found(companions, None, {"POPS": variable}), variable)
         self.assertEqual(
-            self.found(companions, "nowhere", {"POPS": variable}), "missing: there is no program nowhere"
+            self.found(companions, "nowhere", {"POPS": variable}),
+            "missing: there is no program nowhere",
         )
 
     def test_the_built_one_of_a_repository(self) -> None:

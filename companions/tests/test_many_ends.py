@@ -1,4 +1,4 @@
-"""pops-many that is stopped or killed: what goes on, what is left behind, what --resume takes up."""
+"""pops-many that is stopped or killed: what ends, what is left behind, what --resume takes up."""
 
 import os
 import pty
@@ -10,14 +10,18 @@ import unittest
 from pathlib import Path
 
 import support
-from six_problems import SixProblems, children, wait_for
+from six_problems import SixProblems, has_worked, wait_for
 
 from pops_many import sessions
 
 WAITS = "sleep 60 & sleep 61"
 
-# No run on it ends while a test waits.
-LONG = b"BeginProblem\nPieces White Ke1 Qd1 Ra1h1 Black Ke8 Qd8 Ra8h8\nStipulation h#8\nEndProblem\n"
+# No run on it ends while a test waits, and none writes a line: a lone knight never mates.
+LONG = b"""BeginProblem
+Pieces White Ke1 Sb1 Black Ke8
+Stipulation h#8
+EndProblem
+"""
 
 
 def ignore_hangup() -> None:
@@ -36,7 +40,7 @@ class Signals(SixProblems):
         for sign in (signal.SIGTERM, signal.SIGHUP, signal.SIGINT):
             with self.subTest(sign.name):
                 run = self.waiting()
-                child = self.child(run)
+                (child,) = self.programs(run, 1)
                 run.send_signal(sign)
                 error = run.communicate(timeout=30)[1].decode()
                 self.assertEqual(run.returncode, 6)
@@ -59,7 +63,7 @@ class Signals(SixProblems):
         for sign in (signal.SIGKILL, signal.SIGQUIT):
             with self.subTest(sign.name):
                 run = self.waiting()
-                child = self.child(run)
+                (child,) = self.programs(run, 1)
                 wait_for(lambda: len(sessions.members(child)) >= 3)
                 run.send_signal(sign)
                 run.communicate(timeout=30)
@@ -76,8 +80,8 @@ class Signals(SixProblems):
             path.write_bytes(LONG)
         words = ["--pops", support.pops(), "--jobs", "2", "-o", str(self.report)]
         run = self.started(*words, *map(str, paths))
-        wait_for(lambda: len(children(run.pid)) == 2)
-        searches = children(run.pid)
+        searches = self.programs(run, 2)
+        wait_for(lambda: all(map(has_worked, searches)))
         run.kill()
         run.communicate(timeout=30)
         for search in searches:

@@ -1,4 +1,4 @@
-"""pops-many over several FILEs: which item is of which, a report each, and what can't be written."""
+"""pops-many over several FILEs: which item is of which, a report each, files that fail."""
 
 import subprocess
 import sys
