@@ -23,7 +23,7 @@ class Seconds(SixProblems):
     def marked(self, lines: bytes, seconds: bytes) -> bytes:
         where = str(self.input).encode() + b", line 13"
         return (
-            b"problem 4\n" + lines + b"unfinished: stopped after %s seconds (%s)\n\n"
+            b"problem 4\n" + lines + b"unfinished: stopped after %s s (%s)\n\n"
         ) % (seconds, where)
 
     def test_a_problem_that_takes_longer_is_kept_beside_and_taken_up_alone(self) -> None:
@@ -119,8 +119,9 @@ class Seconds(SixProblems):
         words = self.words(support.pops(), "--seconds", "0.5")
         self.assertEqual(support.companion("pops-many", *words).status, 6)
         self.assertEqual(self.report.read_bytes(), b"")
-        lines, mark, _ = self.rest.read_bytes().partition(b"unfinished: stopped after 0.5 seconds")
+        lines, mark, _ = self.rest.read_bytes().partition(b"unfinished: stopped after 0.5 s (")
         self.assertTrue(mark)
+        self.assertIn(b"\nplay\n1.a7-a5 ", lines)
         self.assertEqual(lines, whole_lines(lines))
         with subprocess.Popen([support.pops(), str(self.input)], stdout=subprocess.PIPE) as run:
             assert run.stdout is not None
