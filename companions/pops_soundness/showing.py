@@ -1,0 +1,134 @@
+"""Judgements as text and as CSV."""
+
+import csv
+import io
+import unicodedata
+from collections import Counter
+from typing import Iterator, List, Optional
+
+from pops_soundness.judging import Finding, Judgement, Verdict, Weight
+from pops_texts.report import FaultyItem, Item, SoundItem
+
+# So many moves of a finding are shown where not all are asked for.
+MOST_LINES = 10
+
+COLUMNS = (
+    "number",
+    "title",
+    "author",
+    "stipulation",
+    "condition",
+    "verdict",
+    "solutions",
+    "stopped",
+    "wanted",
+    "short_solutions",
+    "duals_at_the_end",
+    "duals_earlier",
+    "set_solutions",
+    "unprovided_checks",
+    "reasons",
+)
+
+
+def shown(text: Optional[bytes], encoding: str) -> str:
+    """A title or an author as one line of text; what can't be shown becomes U+FFFD."""
+    letters = (text or b"").decode(encoding, "replace")
+    return "".join(
+        "\ufffd" if unicodedata.category(letter) in ("Cc", "Cs", "Cn") else letter
+        for letter in letters
+    )
+
+
+def stipulation_text(item: SoundItem) -> str:
+    """The stipulation with its condition, as the report has them."""
+    condition = "" if item.condition is None else f" {item.condition.value}"
+    return f"{item.stipulation.text}{condition}"
+
+
+def name_text(item: Item, encoding: str) -> str:
+    """Title and author: `Excelsior (Sam Loyd)`; empty where there is neither."""
+    if isinstance(item, FaultyItem):
+        return ""
+    title, author = shown(item.title, encoding), shown(item.author, encoding)
+    return f"{title} ({author})".strip() if author else title
+
+
+def lines_of(finding: Finding, most: Optional[int]) -> List[str]:
+    """The moves of a finding, so many at most, with a line for the rest."""
+    if most is None or len(finding.lines) <= most:
+        return list(finding.lines)
+    return [*finding.lines[:most], f"and {len(finding.lines) - most} more"]
+
+
+def as_text(judgement: Judgement, encoding: str, most: Optional[int]) -> str:
+    """The lines of a problem: its verdict, below it what was found."""
+    item = judgement.item
+    told = [f"problem {item.number}", judgement.verdict.value]
+    if isinstance(item, SoundItem):
+        told.append(", ".join(filter(None, (stipulation_text(item), name_text(item, encoding)))))
+    parts = [": ".join(told)]
+    for finding in judgement.findings:
+        parts.append(f"  {finding.text}")
+        parts.extend(f"    {line}" for line in lines_of(finding, most))
+    return "\n".join(parts) + "\n"
+
+
+def csv_line(values: "tuple[object, ...]") -> str:
+    target = io.StringIO()
+    csv.writer(target, lineterminator="\n").writerow(values)
+    return target.getvalue()
+
+
+def as_csv(judgement: Judgement, encoding: str) -> str:
+    """The row of a problem; what the report doesn't show stays empty."""
+    item = judgement.item
+    reasons = [finding.text for finding in judgement.findings if finding.weight is not Weight.NOTE]
+    sound = item if isinstance(item, SoundItem) else None
+    return csv_line(
+        (
+            item.number,
+            shown(sound and sound.title, encoding),
+            shown(sound and sound.author, encoding),
+            sound.stipulation.text if sound else "",
+            sound.condition.value if sound and sound.condition else "",
+            judgement.verdict.value,
+            judgement.solutions,
+            "" if judgement.solutions is None else "yes" if judgement.stopped else "no",
+            judgement.wanted,
+            judgement.short_solutions,
+            judgement.duals_at_the_end,
+            judgement.duals_earlier,
+            judgement.set_solutions,
+            judgement.unprovided_checks,
+            "; ".join(reasons),
+        )
+    )
+
+
+class Tally:
+    """How many problems have each verdict."""
+
+    def __init__(self) -> None:
+        self._counts: "Counter[Verdict]" = Counter()
+
+    def counted(self, judgements: Iterator[Judgement]) -> Iterator[Judgement]:
+        """Hands judgements on and counts them."""
+        for judgement in judgements:
+            self._counts[judgement.verdict] += 1
+            yield judgement
+
+    @property
+    def all_sound(self) -> bool:
+        return self.total == self._counts[Verdict.SOUND]
+
+    @property
+    def total(self) -> int:
+        return sum(self._counts.values())
+
+    @property
+    def text(self) -> str:
+        """As `3 problems: 1 sound, 0 undecided, 2 unsound, 0 faulty`."""
+        problems = "1 problem" if self.total == 1 else f"{self.total} problems"
+        verdicts = ", ".join(f"{self._counts[verdict]} {verdict.value}" for verdict in Verdict)
+        return f"{problems}: {verdicts}"
