@@ -2,12 +2,12 @@
 
 import csv
 import io
-import unicodedata
 from collections import Counter
 from typing import Iterator, List, Optional
 
-from pops_soundness.judging import Finding, Judgement, Verdict, Weight
-from pops_texts.report import FaultyItem, Item, SoundItem
+from pops_review.judging import Finding, Judgement, Verdict, Weight
+from pops_review.naming import counted, described, shown
+from pops_texts.report import SoundItem
 
 # So many moves of a finding are shown where not all are asked for.
 MOST_LINES = 10
@@ -31,29 +31,6 @@ COLUMNS = (
 )
 
 
-def shown(text: Optional[bytes], encoding: str) -> str:
-    """A title or an author as one line of text; what can't be shown becomes U+FFFD."""
-    letters = (text or b"").decode(encoding, "replace")
-    return "".join(
-        "\ufffd" if unicodedata.category(letter) in ("Cc", "Cs", "Cn") else letter
-        for letter in letters
-    )
-
-
-def stipulation_text(item: SoundItem) -> str:
-    """The stipulation with its condition, as the report has them."""
-    condition = "" if item.condition is None else f" {item.condition.value}"
-    return f"{item.stipulation.text}{condition}"
-
-
-def name_text(item: Item, encoding: str) -> str:
-    """Title and author: `Excelsior (Sam Loyd)`; empty where there is neither."""
-    if isinstance(item, FaultyItem):
-        return ""
-    title, author = shown(item.title, encoding), shown(item.author, encoding)
-    return f"{title} ({author})".strip() if author else title
-
-
 def lines_of(finding: Finding, most: Optional[int]) -> List[str]:
     """The moves of a finding, so many at most, with a line for the rest."""
     if most is None or len(finding.lines) <= most:
@@ -64,10 +41,8 @@ def lines_of(finding: Finding, most: Optional[int]) -> List[str]:
 def as_text(judgement: Judgement, encoding: str, most: Optional[int]) -> str:
     """The lines of a problem: its verdict, below it what was found."""
     item = judgement.item
-    told = [f"problem {item.number}", judgement.verdict.value]
-    if isinstance(item, SoundItem):
-        told.append(", ".join(filter(None, (stipulation_text(item), name_text(item, encoding)))))
-    parts = [": ".join(told)]
+    told = (f"problem {item.number}", judgement.verdict.value, described(item, encoding))
+    parts = [": ".join(filter(None, told))]
     for finding in judgement.findings:
         parts.append(f"  {finding.text}")
         parts.extend(f"    {line}" for line in lines_of(finding, most))
@@ -129,6 +104,5 @@ class Tally:
     @property
     def text(self) -> str:
         """As `3 problems: 1 sound, 0 undecided, 2 unsound, 0 faulty`."""
-        problems = "1 problem" if self.total == 1 else f"{self.total} problems"
         verdicts = ", ".join(f"{self._counts[verdict]} {verdict.value}" for verdict in Verdict)
-        return f"{problems}: {verdicts}"
+        return f"{counted(self.total, 'problem')}: {verdicts}"

@@ -3,8 +3,9 @@
 import html
 from typing import Iterable, List, Optional
 
-from pops_soundness.judging import Finding, Judgement
-from pops_soundness.showing import Tally, lines_of, name_text, stipulation_text
+from pops_review.judgement_text import Tally, lines_of
+from pops_review.judging import Finding, Judgement
+from pops_review.naming import described, name_text, stipulation_text
 from pops_texts import diagram
 from pops_texts.report import SoundItem
 
@@ -75,14 +76,12 @@ def _article(judgement: Judgement, place: int, encoding: str, most: Optional[int
     item = judgement.item
     verdict = judgement.verdict.value
     drawn = ""
-    below = ""
-    if isinstance(item, SoundItem):
-        drawn = diagram.diagram(item.board) if item.board is not None else ""
-        told = filter(None, (stipulation_text(item), name_text(item, encoding)))
-        below = f"<p>{html.escape(', '.join(told))}</p>\n"
+    if isinstance(item, SoundItem) and item.board is not None:
+        drawn = diagram.diagram(item.board)
+    below = html.escape(described(item, encoding))
     findings = "".join(_finding(finding, most) for finding in judgement.findings)
     return (
-        f'<article id="found-{place}">\n<div>\n<h2>problem {item.number}</h2>\n{drawn}\n{below}'
+        f'<article id="found-{place}">\n<div>\n<h2>problem {item.number}</h2>\n{drawn}\n<p>{below}</p>\n'
         f'</div>\n<div>\n<p class="{verdict}">{verdict}</p>\n{findings}</div>\n</article>\n'
     )
 

@@ -5,7 +5,8 @@ from dataclasses import dataclass, field
 from enum import Enum
 from typing import List, Optional, Tuple
 
-from pops_soundness.duals import Dual, Place, last_half, late_partings, tree_duals
+from pops_review.duals import Dual, Place, last_half, late_partings, tree_duals
+from pops_review.naming import counted
 from pops_texts.report import (
     FaultyItem,
     HelpLine,
@@ -104,10 +105,6 @@ def _phase(item: SoundItem, kind: PhaseKind) -> Optional[Phase]:
     return None
 
 
-def _counted(number: int, word: str) -> str:
-    return f"{number} {word}" if number == 1 else f"{number} {word}s"
-
-
 def _texts(phase: Phase) -> Tuple[str, ...]:
     return tuple(solution.text.strip() for solution in phase.solutions)
 
@@ -123,15 +120,15 @@ def _judge_number(judgement: Judgement, stipulation: Stipulation, play: Phase) -
     word = "solution" if stipulation.play is Play.HELP else "key"
     least = "at least " if judgement.stopped else ""
     if found > wanted:
-        text = f"cooked: {least}{_counted(found, word)}, {wanted} wanted"
+        text = f"cooked: {least}{counted(found, word)}, {wanted} wanted"
         judgement.find(Weight.FLAW, text, _texts(play))
     elif judgement.stopped:
-        text = f"stopped: {least}{_counted(found, word)}, {wanted} wanted"
+        text = f"stopped: {least}{counted(found, word)}, {wanted} wanted"
         judgement.find(Weight.OPEN, text, _texts(play))
     elif found == 0:
         judgement.find(Weight.FLAW, "no solution")
     elif found < wanted:
-        text = f"solutions missing: {_counted(found, word)}, {wanted} wanted"
+        text = f"solutions missing: {counted(found, word)}, {wanted} wanted"
         judgement.find(Weight.FLAW, text, _texts(play))
 
 
@@ -149,7 +146,7 @@ def _judge_short_solutions(
         elif length < stipulation.moves and key.text not in lines:
             lines.append(key.text)
     if lines:
-        judgement.find(Weight.FLAW, _counted(len(lines), "short solution"), tuple(lines))
+        judgement.find(Weight.FLAW, counted(len(lines), "short solution"), tuple(lines))
     elif asked is None and not all_shown:
         judgement.find(Weight.OPEN, "short solutions not looked for")
         return
@@ -196,7 +193,7 @@ def _find_duals(judgement: Judgement, where: str, duals: List[Dual]) -> None:
     places = ", ".join(f"{count} on move {move}" for move, count in sorted(moves.items()))
     promotions = sum(dual.by_promotion for dual in duals)
     of_these = f"; {promotions} by promotion alone" if promotions else ""
-    text = f"{_counted(len(duals), 'dual')} {where}: {places}{of_these}"
+    text = f"{counted(len(duals), 'dual')} {where}: {places}{of_these}"
     lines = tuple(
         dual.text if dual.place is Place.AT_THE_END else f"{dual.text} (ends on move {dual.end})"
         for dual in duals
@@ -214,12 +211,12 @@ def _judge_set_play(judgement: Judgement, item: SoundItem, play: Phase) -> None:
     judgement.set_solutions = phase.total.count
     least = "at least " if phase.total.stopped else ""
     if item.stipulation.play is Play.HELP:
-        text = f"set play: {least}{_counted(phase.total.count, 'solution')}"
+        text = f"set play: {least}{counted(phase.total.count, 'solution')}"
         judgement.find(Weight.NOTE, text, _texts(phase))
         return
     provided = _nodes(phase)
     choices = sum(len(node.below) > 1 for node in provided)
-    text = f"set play: {least}{_counted(len(provided), 'move')} of Black provided for"
+    text = f"set play: {least}{counted(len(provided), 'move')} of Black provided for"
     if choices:
         text += f", {choices} with a choice"
     judgement.find(Weight.NOTE, text, tuple(map(_with_continuations, provided)))
@@ -229,7 +226,7 @@ def _judge_set_play(judgement: Judgement, item: SoundItem, play: Phase) -> None:
     unprovided = _unprovided_checks(provided, keys)
     judgement.unprovided_checks = len(unprovided)
     if unprovided:
-        judgement.find(Weight.NOTE, _counted(len(unprovided), "unprovided check"), unprovided)
+        judgement.find(Weight.NOTE, counted(len(unprovided), "unprovided check"), unprovided)
 
 
 def _with_continuations(node: Node) -> str:

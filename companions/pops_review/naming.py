@@ -1,0 +1,41 @@
+"""How problems are named in what is written of them."""
+
+import unicodedata
+from typing import Optional
+
+from pops_texts.report import FaultyItem, Item, SoundItem
+
+
+def shown(text: Optional[bytes], encoding: str) -> str:
+    """A title or an author as one line of text; what can't be shown becomes U+FFFD."""
+    letters = (text or b"").decode(encoding, "replace")
+    return "".join(
+        "\ufffd" if unicodedata.category(letter) in ("Cc", "Cs", "Cn") else letter
+        for letter in letters
+    )
+
+
+def stipulation_text(item: SoundItem) -> str:
+    """The stipulation with its condition, as the report has them."""
+    condition = "" if item.condition is None else f" {item.condition.value}"
+    return f"{item.stipulation.text}{condition}"
+
+
+def name_text(item: Item, encoding: str) -> str:
+    """Title and author: `Excelsior (Sam Loyd)`; empty where there is neither."""
+    if isinstance(item, FaultyItem):
+        return ""
+    title, author = shown(item.title, encoding), shown(item.author, encoding)
+    return f"{title} ({author})".strip() if author else title
+
+
+def described(item: Item, encoding: str) -> str:
+    """Stipulation and name: `#5, Excelsior (Sam Loyd)`; empty of a faulty problem."""
+    if isinstance(item, FaultyItem):
+        return ""
+    return ", ".join(filter(None, (stipulation_text(item), name_text(item, encoding))))
+
+
+def counted(number: int, word: str) -> str:
+    """A number with its word: `1 key`, `2 keys`."""
+    return f"{number} {word}" if number == 1 else f"{number} {word}s"
