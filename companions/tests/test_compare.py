@@ -8,6 +8,7 @@ from typing import List, Optional, Tuple
 
 import run_here
 import support
+import test_soundness
 
 from pops_review.matching import pairs_of
 from pops_texts.report import Item, read_report
@@ -86,7 +87,8 @@ class Matching(unittest.TestCase):
         self.assertEqual(numbers([self.A, self.B], [self.B, other]), [(2, 1), (1, 2)])
 
     def test_another_problem_in_the_same_place(self) -> None:
-        self.assertEqual(numbers([self.A, self.B], [self.A, self.C]), [(1, 1), (None, 2), (2, None)])
+        new = [self.A, self.C]
+        self.assertEqual(numbers([self.A, self.B], new), [(1, 1), (None, 2), (2, None)])
 
     def test_without_titles_and_boards_the_place_counts(self) -> None:
         changed = problem(play="1.Rb1-b8#\n", stipulation="#2")
@@ -282,6 +284,20 @@ class Differences(unittest.TestCase):
             "  solved: no -> yes",
             "1 problem: 1 differs",
         )  # fmt: skip
+
+
+class Documented(unittest.TestCase):
+    def test_the_text_of_the_documents(self) -> None:
+        """The collection with one rook taken away and one square written."""
+        text = (support.COMPANIONS / "data" / "soundness.pop").read_bytes()
+        changed = text.replace(b"Kg6 Ra1b1 ", b"Kg6 Ra1 ").replace(b"Kg6 R Black", b"Kg6 Ra1 Black")
+        old, new = (support.run([support.pops()], one).output for one in (text, changed))
+        with tempfile.TemporaryDirectory() as room:
+            target = Path(room) / "new"
+            target.write_bytes(new)
+            outcome = run_here.companion("pops-compare", "-", str(target), text=old)
+        self.assertEqual(outcome.status, 1)
+        self.assertEqual(outcome.output.decode(), test_soundness.documented("pops-compare"))
 
 
 class Command(unittest.TestCase):

@@ -2,6 +2,7 @@
 
 import csv
 import io
+import re
 import tempfile
 import unittest
 from pathlib import Path
@@ -80,6 +81,12 @@ def judge(one: Item, wanted: int = 1, short: Optional[Tuple[str, ...]] = ()) -> 
 
 def texts(judgement: Judgement) -> List[str]:
     return [finding.text for finding in judgement.findings]
+
+
+def documented(program: str) -> str:
+    """What docs/COMPANIONS.md shows of a program's output."""
+    text = (support.REPOSITORY / "docs" / "COMPANIONS.md").read_text("utf-8")
+    return text.split(f"\n## {program}\n")[1].split("\n```\n")[1] + "\n"
 
 
 class Duals(unittest.TestCase):
@@ -387,6 +394,16 @@ class Collection(unittest.TestCase):
         ):
             self.assertIn(moves, text)
 
+    def test_the_text_of_the_documents(self) -> None:
+        """It shows some of the problems, each as it is, and the last line."""
+        text = self.judged().output.decode()
+        shown = re.split(r"^(?=\S)", documented("pops-test"), flags=re.M)[1:]
+        self.assertEqual(len(shown), 4)
+        places = [("\n" + text).find("\n" + problem) for problem in shown]
+        self.assertNotIn(-1, places)
+        self.assertEqual(places, sorted(places))
+        self.assertTrue(text.endswith(shown[-1]))
+
     def test_csv(self) -> None:
         rows = list(csv.DictReader(io.StringIO(self.judged("--csv").output.decode())))
         self.assertEqual([row["verdict"] for row in rows], [verdict for verdict, _ in self.WANTED])
@@ -399,7 +416,8 @@ class Collection(unittest.TestCase):
         self.assertEqual(
             [row["wanted"] for row in rows], ["1"] * 5 + ["2", "8", "1", ""] + ["1"] * 2
         )
-        self.assertEqual([row["short_solutions"] for row in rows], list("00000100") + ["", "0", "0"])
+        short = [row["short_solutions"] for row in rows]
+        self.assertEqual(short, list("00000100") + ["", "0", "0"])
         third = rows[2]
         self.assertEqual((third["title"], third["stipulation"]), ("A queen or a rook", "#2"))
         self.assertEqual((third["duals_at_the_end"], third["duals_earlier"]), ("1", "0"))
@@ -528,8 +546,11 @@ class Command(unittest.TestCase):
         self.assertIn("R\ufffdti \ufffd[1m&lt;b&gt;", outcome.output.decode())
 
     def test_help_and_version(self) -> None:
-        self.assertIn(b"example:", run_here.companion("pops-test", "--help").output)
-        self.assertTrue(run_here.companion("pops-test", "--version").output.startswith(b"pops-test"))
+        outcome = support.companion("pops-test", "--help")
+        self.assertEqual((outcome.status, outcome.error), (0, ""))
+        self.assertIn(b"example:", outcome.output)
+        version = run_here.companion("pops-test", "--version")
+        self.assertTrue(version.output.startswith(b"pops-test "))
 
 
 if __name__ == "__main__":
