@@ -5,7 +5,7 @@ from typing import Iterable, List, Optional
 
 from pops_review.judgement_text import Tally, lines_of
 from pops_review.judging import Finding, Judgement
-from pops_review.naming import described, name_text, stipulation_text
+from pops_review.naming import described
 from pops_texts import diagram
 from pops_texts.report import SoundItem
 
@@ -16,8 +16,8 @@ h1 { font-size: 1.5em; font-weight: normal; border-bottom: 1px solid #000; }
 h2 { font-size: 1em; margin: 0 0 .3em; }
 table { border-collapse: collapse; width: 100%; }
 th, td { text-align: left; vertical-align: top; padding: .15em .6em .15em 0;
-  border-bottom: 1px solid #ddd; }
-.verdict { white-space: nowrap; }
+  border-bottom: 1px solid #ddd; white-space: nowrap; }
+.name { white-space: normal; width: 100%; }
 .unsound, .faulty { font-weight: bold; }
 .undecided { font-style: italic; }
 article { display: grid; grid-template-columns: 15em minmax(0, 1fr); gap: 0 2em;
@@ -49,7 +49,7 @@ def page(
             f"<title>{title}</title>\n<style>{_STYLE}{diagram.STYLE}</style>\n</head>\n<body>\n",
             diagram.shapes(),
             f"<h1>{title}</h1>\n<p>{tally.text}</p>\n",
-            "<table>\n<tr><th>No.</th><th>Problem</th><th>Stipulation</th><th>Verdict</th></tr>\n",
+            "<table>\n<tr><th>No.</th><th>Problem</th><th>Verdict</th></tr>\n",
             *rows,
             "</table>\n",
             *articles,
@@ -63,12 +63,11 @@ def _row(judgement: Judgement, place: int, encoding: str) -> str:
     number = f"{item.number}"
     if judgement.findings:
         number = f'<a href="#found-{place}">{number}</a>'
-    name = html.escape(name_text(item, encoding))
-    stipulation = stipulation_text(item) if isinstance(item, SoundItem) else ""
+    name = html.escape(described(item, encoding))
     verdict = judgement.verdict.value
     return (
-        f"<tr><td>{number}</td><td>{name}</td><td>{stipulation}</td>"
-        f'<td class="verdict {verdict}">{verdict}</td></tr>\n'
+        f'<tr><td>{number}</td><td class="name">{name}</td>'
+        f'<td class="{verdict}">{verdict}</td></tr>\n'
     )
 
 
@@ -81,7 +80,8 @@ def _article(judgement: Judgement, place: int, encoding: str, most: Optional[int
     below = html.escape(described(item, encoding))
     findings = "".join(_finding(finding, most) for finding in judgement.findings)
     return (
-        f'<article id="found-{place}">\n<div>\n<h2>problem {item.number}</h2>\n{drawn}\n<p>{below}</p>\n'
+        f'<article id="found-{place}">\n<div>\n<h2>problem {item.number}</h2>\n{drawn}\n'
+        f"<p>{below}</p>\n"
         f'</div>\n<div>\n<p class="{verdict}">{verdict}</p>\n{findings}</div>\n</article>\n'
     )
 

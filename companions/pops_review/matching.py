@@ -15,6 +15,7 @@ class Pair:
 
 
 Key = Callable[[Item], Optional[Hashable]]
+Places = Dict[Hashable, List[int]]
 
 
 def pairs_of(old: Sequence[Item], new: Sequence[Item]) -> List[Pair]:
@@ -84,11 +85,10 @@ class _Matching:
             if key(old) is not None and key(old) == key(new):
                 self._pair(place, place)
 
-    def _left(self, items: Sequence[Item], taken: Dict[int, int], key: Key) -> Dict[
-        Hashable, List[int]
-    ]:
+    @staticmethod
+    def _left(items: Sequence[Item], taken: Dict[int, int], key: Key) -> Places:
         """The places of the items that are left over, by their keys."""
-        places: Dict[Hashable, List[int]] = {}
+        places: Places = {}
         for place, item in enumerate(items):
             if place not in taken and key(item) is not None:
                 places.setdefault(key(item), []).append(place)
@@ -118,9 +118,7 @@ class _Matching:
             new = (len(self._new) if last else self._to_new.get(old + 1, 0)) - 1
             self._pair_if_left(old, new, may_be_one)
 
-    def _pair_if_left(
-        self, old: int, new: int, may_be_one: Callable[[Item, Item], bool]
-    ) -> None:
+    def _pair_if_left(self, old: int, new: int, may_be_one: Callable[[Item, Item], bool]) -> None:
         if old in self._to_new or new in self._to_old or not 0 <= new < len(self._new):
             return
         if may_be_one(self._old[old], self._new[new]):

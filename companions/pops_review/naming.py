@@ -21,19 +21,13 @@ def stipulation_text(item: SoundItem) -> str:
     return f"{item.stipulation.text}{condition}"
 
 
-def name_text(item: Item, encoding: str) -> str:
-    """Title and author: `Excelsior (Sam Loyd)`; empty where there is neither."""
+def described(item: Item, encoding: str) -> str:
+    """Stipulation, title and author: `#5, Excelsior (Sam Loyd)`; empty of a faulty problem."""
     if isinstance(item, FaultyItem):
         return ""
     title, author = shown(item.title, encoding), shown(item.author, encoding)
-    return f"{title} ({author})".strip() if author else title
-
-
-def described(item: Item, encoding: str) -> str:
-    """Stipulation and name: `#5, Excelsior (Sam Loyd)`; empty of a faulty problem."""
-    if isinstance(item, FaultyItem):
-        return ""
-    return ", ".join(filter(None, (stipulation_text(item), name_text(item, encoding))))
+    name = f"{title} ({author})".strip() if author else title
+    return f"{stipulation_text(item)}, {name}" if name else stipulation_text(item)
 
 
 def counted(number: int, word: str) -> str:
