@@ -59,11 +59,10 @@ def page(
 
 
 def _row(judgement: Judgement, place: int, encoding: str) -> str:
-    item = judgement.item
-    number = f"{item.number}"
+    number = f"{judgement.number}"
     if judgement.findings:
         number = f'<a href="#found-{place}">{number}</a>'
-    name = html.escape(described(item, encoding))
+    name = html.escape(described(judgement.item, encoding))
     verdict = judgement.verdict.value
     return (
         f'<tr><td>{number}</td><td class="name">{name}</td>'
@@ -74,14 +73,13 @@ def _row(judgement: Judgement, place: int, encoding: str) -> str:
 def _article(judgement: Judgement, place: int, encoding: str, most: Optional[int]) -> str:
     item = judgement.item
     verdict = judgement.verdict.value
-    drawn = ""
-    if isinstance(item, SoundItem) and item.board is not None:
-        drawn = diagram.diagram(item.board)
-    below = html.escape(described(item, encoding))
+    position = ""
+    if isinstance(item, SoundItem):
+        drawn = "" if item.board is None else f"{diagram.diagram(item.board)}\n"
+        position = f"{drawn}<p>{html.escape(described(item, encoding))}</p>\n"
     findings = "".join(_finding(finding, most) for finding in judgement.findings)
     return (
-        f'<article id="found-{place}">\n<div>\n<h2>problem {item.number}</h2>\n{drawn}\n'
-        f"<p>{below}</p>\n"
+        f'<article id="found-{place}">\n<div>\n<h2>problem {judgement.number}</h2>\n{position}'
         f'</div>\n<div>\n<p class="{verdict}">{verdict}</p>\n{findings}</div>\n</article>\n'
     )
 

@@ -40,8 +40,8 @@ def lines_of(finding: Finding, most: Optional[int]) -> List[str]:
 
 def as_text(judgement: Judgement, encoding: str, most: Optional[int]) -> str:
     """The lines of a problem: its verdict, below it what was found."""
-    item = judgement.item
-    told = (f"problem {item.number}", judgement.verdict.value, described(item, encoding))
+    name = described(judgement.item, encoding)
+    told = (f"problem {judgement.number}", judgement.verdict.value, name)
     parts = [": ".join(filter(None, told))]
     for finding in judgement.findings:
         parts.append(f"  {finding.text}")
@@ -57,12 +57,11 @@ def csv_line(values: "tuple[object, ...]") -> str:
 
 def as_csv(judgement: Judgement, encoding: str) -> str:
     """The row of a problem; what the report doesn't show stays empty."""
-    item = judgement.item
     reasons = [finding.text for finding in judgement.findings if finding.weight is not Weight.NOTE]
-    sound = item if isinstance(item, SoundItem) else None
+    sound = judgement.item if isinstance(judgement.item, SoundItem) else None
     return csv_line(
         (
-            item.number,
+            judgement.number,
             shown(sound and sound.title, encoding),
             shown(sound and sound.author, encoding),
             sound.stipulation.text if sound else "",

@@ -50,9 +50,13 @@ class Finding:
 
 @dataclass
 class Judgement:
-    """A problem with all that was found. A number is None where the report doesn't show it."""
+    """A problem with all that was found; without an item the report lacks it.
 
-    item: Item
+    A number is None where the report doesn't show it.
+    """
+
+    number: int
+    item: Optional[Item]
     findings: List[Finding] = field(default_factory=list)
     solutions: Optional[int] = None
     stopped: bool = False
@@ -81,7 +85,7 @@ def judged(item: Item, wanted: int, short: Optional[Tuple[str, ...]]) -> Judgeme
 
     `short` are the short solutions that were found elsewhere, None where none were looked for.
     """
-    judgement = Judgement(item)
+    judgement = Judgement(item.number, item)
     if isinstance(item, FaultyItem):
         fault = item.fault
         judgement.find(Weight.FAULT, f"line {fault.line}: fault {fault.number}: {fault.text}")
@@ -95,6 +99,13 @@ def judged(item: Item, wanted: int, short: Optional[Tuple[str, ...]]) -> Judgeme
     _judge_short_solutions(judgement, item.stipulation, play, short)
     _judge_duals(judgement, item.stipulation, play)
     _judge_set_play(judgement, item, play)
+    return judgement
+
+
+def missing(number: int) -> Judgement:
+    """The judgement of a problem that isn't in the report."""
+    judgement = Judgement(number, None)
+    judgement.find(Weight.OPEN, "not in the report")
     return judgement
 
 

@@ -3,7 +3,7 @@
 import unicodedata
 from typing import Optional
 
-from pops_texts.report import FaultyItem, Item, SoundItem
+from pops_texts.report import Item, SoundItem
 
 
 def shown(text: Optional[bytes], encoding: str) -> str:
@@ -21,9 +21,9 @@ def stipulation_text(item: SoundItem) -> str:
     return f"{item.stipulation.text}{condition}"
 
 
-def described(item: Item, encoding: str) -> str:
-    """Stipulation, title and author: `#5, Excelsior (Sam Loyd)`; empty of a faulty problem."""
-    if isinstance(item, FaultyItem):
+def described(item: Optional[Item], encoding: str) -> str:
+    """Stipulation, title and author: `#5, Excelsior (Sam Loyd)`; empty where none are known."""
+    if not isinstance(item, SoundItem):
         return ""
     title, author = shown(item.title, encoding), shown(item.author, encoding)
     name = f"{title} ({author})".strip() if author else title

@@ -16,6 +16,7 @@ from pops_review.duals import Place, late_partings, tree_duals
 from pops_review.given import given_problems
 from pops_review.judging import Judgement, Verdict, judged
 from pops_review.posing import AnswersError, ShortAnswers, posed_problems, shorter
+from pops_texts.problem_text import text_of_problems
 from pops_texts.report import HelpLine, Item, Node, SoundItem, read_report
 from pops_texts.stipulation import Stipulation
 
@@ -298,6 +299,43 @@ class Inputs(unittest.TestCase):
         )
 
 
+class StoredInputs(unittest.TestCase):
+    """The inputs of all rows and examples, as pops itself reads them."""
+
+    def test_they_are_read_as_pops_reads_them(self) -> None:
+        for path in support.stored_inputs():
+            with self.subTest(path.name):
+                report = list(read_report(io.BytesIO(support.stored_report(path).read_bytes())))
+                given = given_problems(path.read_bytes())
+                self.assertEqual([one.number for one in given], [one.number for one in report])
+                for problem, one in zip(given, report):
+                    if isinstance(one, SoundItem):
+                        self.assertEqual(problem.stipulation, one.stipulation)
+
+    def test_what_is_posed_is_the_same_position(self) -> None:
+        posed: List[List[str]] = []
+        originals: List[SoundItem] = []
+        for path in support.stored_inputs():
+            report = list(read_report(io.BytesIO(support.stored_report(path).read_bytes())))
+            for problem, one in zip(given_problems(path.read_bytes()), report):
+                if isinstance(one, SoundItem):
+                    lines = list(posed_problems([problem]))
+                    self.assertEqual(len(lines), len(shorter(one.stipulation)))
+                    posed.extend(lines)
+                    originals.extend([one] * len(lines))
+        self.assertGreater(len(posed), 50)
+        text = text_of_problems(posed).encode("utf-8", "surrogateescape")
+        outcome = support.run([support.pops(), "--check"], text)
+        self.assertEqual(outcome.status, 0)
+        for original, answer in zip(originals, read_report(io.BytesIO(outcome.output))):
+            assert isinstance(answer, SoundItem)
+            self.assertEqual(answer.board or original.board, original.board or answer.board)
+            self.assertEqual(answer.condition, original.condition)
+            title = f"{answer.stipulation.text} of problem {original.number}"
+            self.assertEqual(answer.title, title.encode())
+            self.assertIn(answer.stipulation, shorter(original.stipulation))
+
+
 class Answers(unittest.TestCase):
     REPORT = (
         "problem 1\ntitle: h#1 of problem 2\nh#1\nplay\n1.Kh8-g8 Ra1-a8#\nsolutions: 1\n\n"
@@ -493,17 +531,47 @@ class Command(unittest.TestCase):
         collection = str(COLLECTION)
         for words, text, said in (
             (["--input", collection], self.REPORT, "problem 1 has another stipulation there"),
-            (["--input", collection], self.REPORT.replace(b"#1", b"#2"), "11 problems, the report"),
-            (["--input", collection], self.REPORT + self.REPORT, "not with several joined"),
+            (["--input", collection], b"problem 1\n#2\nsound\n\n" * 2, "with several joined"),
             (["--short", collection], self.REPORT, "is no report of pops: line 1"),
             (["--short", "nowhere.report"], self.REPORT, "cannot open nowhere.report"),
         ):
             with self.subTest(said):
-                if said.endswith("joined"):
-                    text = text.replace(b"#1\n", b"#2\n").replace(b"8#2", b"8#")
                 outcome = run_here.companion("pops-test", *words, text=text)
                 self.assertEqual(outcome.status, 3)
                 self.assertIn(said, outcome.error)
+
+    def test_an_input_with_fewer_problems(self) -> None:
+        with tempfile.TemporaryDirectory() as room:
+            given = Path(room) / "given.pop"
+            given.write_bytes(b"BeginProblem Stipulation #1 EndProblem")
+            two = self.REPORT + b"problem 2\nline 2: fault 11: no men\n\n"
+            outcome = run_here.companion("pops-test", "--input", str(given), text=two)
+        self.assertEqual(outcome.status, 3)
+        self.assertIn("given.pop isn't the report's input: it has no problem 2", outcome.error)
+
+    def test_problems_that_the_report_lacks_are_undecided(self) -> None:
+        """As those behind the place where a run was interrupted."""
+        with tempfile.TemporaryDirectory() as room:
+            given = Path(room) / "given.pop"
+            given.write_bytes(b"Beg Stipulation #1 Next Stipulation #1 Next Stipulation #2 End")
+            outcome = run_here.companion("pops-test", "--input", str(given), text=self.REPORT)
+        self.assertEqual(
+            outcome.output.decode().splitlines(),
+            [
+                "problem 1: sound: #1",
+                "problem 2: undecided",
+                "  not in the report",
+                "problem 3: undecided",
+                "  not in the report",
+                "3 problems: 1 sound, 2 undecided, 0 unsound, 0 faulty",
+            ],
+        )
+        self.assertEqual((outcome.status, outcome.error), (1, ""))
+
+    def test_reports_one_behind_the_other(self) -> None:
+        outcome = run_here.companion("pops-test", text=self.REPORT * 2)
+        self.assertEqual(outcome.status, 0)
+        self.assertEqual(outcome.output.count(b"problem 1: sound: #1\n"), 2)
 
     def test_answers_without_their_titles(self) -> None:
         with tempfile.TemporaryDirectory() as room:
