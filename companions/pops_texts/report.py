@@ -222,6 +222,18 @@ class _Lines:
         return ReportError(self.number, f"expected {expected}, found {shown!r}")
 
 
+def named_items(items: Iterable[Item]) -> Iterator[Tuple[str, Item]]:
+    """Each item with a name of its own: its number, and from a second report on the report's too.
+
+    Of reports one behind the other the second has `2-1`, `2-2` and so on.
+    """
+    report = 1
+    for place, item in enumerate(items):
+        if place > 0 and item.number == 1:
+            report += 1
+        yield (f"{report}-{item.number}" if report > 1 else str(item.number)), item
+
+
 def read_report(lines: Iterable[bytes]) -> Iterator[Item]:
     """The items of a report, given by its lines with their line ends, as a binary file gives them.
 
