@@ -22,9 +22,9 @@ h2 a { color: inherit; text-decoration: none; }
 h2 a:hover, h2 a:focus { text-decoration: underline; }
 .title { margin: 0; }
 .author { font-style: italic; margin: 0 0 .3em; }
-.below { display: flex; justify-content: space-between; margin: 0 0 0 .65em; }
+.below { display: flex; justify-content: space-between; margin: 0 0 0 5.7%; }
 .stipulation { font-weight: bold; }
-.fairy, .without { font-size: .85em; margin: .2em 0 0 .75em; color: #333; }
+.fairy, .without { font-size: .85em; margin: .2em 0 0 5.7%; color: #333; }
 .diagram { width: 100%; display: block; margin-top: .4em; }
 h3 { font-size: 1em; font-weight: normal; font-style: italic; margin: 0; }
 .phase + .phase { margin-top: .8em; }
