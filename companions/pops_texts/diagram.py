@@ -13,6 +13,7 @@ from xml.sax.saxutils import escape, quoteattr
 
 from pops_texts.chess import Colour, Kind, Square
 from pops_texts.report import Board
+from pops_texts.titles import printable
 
 # The side of a square, in the units of the shapes.
 SIDE = 45
@@ -99,7 +100,8 @@ def diagram_file(board: Board, title: str) -> str:
     return (
         '<svg xmlns="http://www.w3.org/2000/svg" xmlns:xlink="http://www.w3.org/1999/xlink"'
         f' width="{2 * WIDTH}" height="{2 * HEIGHT}" {_frame(board)}>\n'
-        f"<title>{escape(title)}</title>\n{_definitions(kinds)}{_drawing(board)}\n</svg>\n"
+        f"<title>{escape(printable(title))}</title>\n"
+        f"{_definitions(kinds)}{_drawing(board)}\n</svg>\n"
     )
 
 

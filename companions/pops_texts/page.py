@@ -2,12 +2,11 @@
 
 import html
 import re
-from typing import Iterable, List, Optional
+from typing import Iterable, List
 
 from pops_texts import diagram
 from pops_texts.report import FaultyItem, Item, Phase, SoundItem, named_items
-from pops_texts.stipulation import Condition, Stipulation
-from pops_texts.titles import shown
+from pops_texts.titles import printable, shown
 
 _STYLE = """
 body { font: 11pt/1.35 serif; margin: 1.5em auto; max-width: 60em; padding: 0 1em;
@@ -43,15 +42,12 @@ pre.many { columns: 17em auto; column-gap: 2em; }
 # More lines than this are set in columns, as far as the page is wide enough.
 _LINES_OF_A_COLUMN = 20
 
-# What no page may hold: control characters but tab, and characters that stand for none.
-_NO_CHARACTER = re.compile("[\x00-\x08\x0b-\x1f\x7f-\x9f\ud800-\udfff\ufdd0-\ufdef\ufffe\uffff]")
-
 # A word that a browser would break at its hyphen: a move, with its number where it has one.
 _MOVE = re.compile(r"[^\s-]+-\S+")
 
 
 def _safe(text: str) -> str:
-    return html.escape(_NO_CHARACTER.sub("\ufffd", text))
+    return html.escape(printable(text))
 
 
 def page(items: Iterable[Item], heading: str, encoding: str) -> str:
@@ -105,7 +101,7 @@ def _sound(name: str, item: SoundItem, encoding: str) -> str:
 
 
 def _position(item: SoundItem) -> str:
-    stipulation = _stipulation(item.stipulation, item.condition)
+    stipulation = item.asked
     if item.board is None:
         return (
             f'<p class="below"><span class="stipulation">{stipulation}</span></p>\n'
@@ -118,10 +114,6 @@ def _position(item: SoundItem) -> str:
         f' <span class="count">{diagram.count(item.board)}</span></p>\n'
         + "".join(f'<p class="fairy">{name}</p>\n' for name in fairy)
     )
-
-
-def _stipulation(stipulation: Stipulation, condition: Optional[Condition]) -> str:
-    return stipulation.text + (f" {condition.value}" if condition is not None else "")
 
 
 def _phase(phase: Phase) -> str:

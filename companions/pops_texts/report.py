@@ -157,6 +157,12 @@ class SoundItem:
     condition: Optional[Condition]
     phases: Optional[Tuple[Phase, ...]]
 
+    @property
+    def asked(self) -> str:
+        """The line of stipulation and condition, as `h#2.5 Circe`."""
+        condition = f" {self.condition.value}" if self.condition is not None else ""
+        return self.stipulation.text + condition
+
 
 Item = Union[FaultyItem, SoundItem]
 
