@@ -23,7 +23,8 @@ COORDINATES = 17
 # The whole, with half of the frame's line on the sides without names.
 WIDTH = HEIGHT = MARGIN + 8 * SIDE + 1
 
-_UPRIGHT = {Kind.GRASSHOPPER: Kind.QUEEN, Kind.NIGHTRIDER: Kind.KNIGHT}
+# The fairy kinds, each with the kind that is turned upside down for it.
+UPSIDE_DOWN = {Kind.GRASSHOPPER: Kind.QUEEN, Kind.NIGHTRIDER: Kind.KNIGHT}
 _FILLS = {
     Colour.WHITE: 'fill="#fff" color="#000"',
     Colour.BLACK: 'fill="#000" color="#fff"',
@@ -96,7 +97,7 @@ def diagram(board: Board) -> str:
 def diagram_file(board: Board, title: str) -> str:
     """The diagram of a board as a file of its own."""
     kinds = {man.kind for man in board.men.values()}
-    kinds.update(_UPRIGHT[kind] for kind in _UPRIGHT if kind in kinds)
+    kinds.update([UPSIDE_DOWN[kind] for kind in kinds if kind in UPSIDE_DOWN])
     return (
         '<svg xmlns="http://www.w3.org/2000/svg" xmlns:xlink="http://www.w3.org/1999/xlink"'
         f' width="{2 * WIDTH}" height="{2 * HEIGHT}" {_frame(board)}>\n'
@@ -162,7 +163,7 @@ def count(board: Board) -> str:
 def fairy_men(board: Board) -> List[str]:
     """The fairy men of a board by name with their squares, as `Grasshopper e3`."""
     said = []
-    for kind in _UPRIGHT:
+    for kind in UPSIDE_DOWN:
         squares = [square.name for square, man in board.men.items() if man.kind is kind]
         if squares:
             said.append(f"{kind.word.title()} {' '.join(sorted(squares))}")

@@ -3,12 +3,11 @@
 from typing import List
 
 from pops_texts.chess import Colour, Kind
-from pops_texts.diagram import numbers_of_men
+from pops_texts.diagram import UPSIDE_DOWN, numbers_of_men
 from pops_texts.report import Board, Phase, SoundItem
 from pops_texts.titles import printable, shown
 
 _COLOURS = {Colour.WHITE: "w", Colour.BLACK: "s"}
-# U is upside down.
 _KINDS = {
     Kind.KING: "K",
     Kind.QUEEN: "D",
@@ -16,10 +15,8 @@ _KINDS = {
     Kind.BISHOP: "L",
     Kind.KNIGHT: "S",
     Kind.PAWN: "B",
-    Kind.GRASSHOPPER: "DU",
-    Kind.NIGHTRIDER: "SU",
 }
-_FAIRY_KINDS = (Kind.GRASSHOPPER, Kind.NIGHTRIDER)
+_KINDS.update({kind: _KINDS[upright] + "U" for kind, upright in UPSIDE_DOWN.items()})
 _SPECIAL = {
     "\\": r"\textbackslash{}",
     "~": r"\textasciitilde{}",
@@ -77,7 +74,7 @@ def _pieces(board: Board) -> List[str]:
 def _fairy_men(board: Board) -> List[str]:
     """What the fairy men are called, as `{ws}{DU}{Grasshopper}`."""
     named = []
-    for kind in _FAIRY_KINDS:
+    for kind in UPSIDE_DOWN:
         colours = {man.colour for man in board.men.values() if man.kind is kind}
         if colours:
             letters = "".join(_COLOURS[colour] for colour in Colour if colour in colours)

@@ -13,19 +13,10 @@ from pathlib import Path
 from typing import Dict, List, Tuple
 
 import support
+from test_pages import NAMES
 
 SVG = "{http://www.w3.org/2000/svg}"
 HREF = "{http://www.w3.org/1999/xlink}href"
-NAMES = {
-    "k": "king",
-    "q": "queen",
-    "r": "rook",
-    "b": "bishop",
-    "s": "knight",
-    "p": "pawn",
-    "g": "grasshopper",
-    "n": "nightrider",
-}
 # The letters of the package diagram; U is upside down.
 LETTERS = {"K": "k", "D": "q", "T": "r", "L": "b", "S": "s", "B": "p", "DU": "g", "SU": "n"}
 BOARD = (
