@@ -5,7 +5,7 @@ from typing import Iterator, List, NoReturn, Optional
 from pops_review.given import GivenProblem, given_problems
 from pops_review.judging import Judgement, judged, missing
 from pops_review.posing import AnswersError, ShortAnswers
-from pops_review.reading import items_of
+from pops_review.reading import reviewed_report
 from pops_texts import command
 from pops_texts.command import CommandError, Status
 from pops_texts.report import Item, SoundItem
@@ -15,7 +15,9 @@ from pops_texts.stipulation import Play
 class Beside:
     """The input of a report and the report of the shorter stipulations, where they are named."""
 
-    def __init__(self, solutions: int, input_file: Optional[str], short_file: Optional[str]):
+    def __init__(
+        self, companion: str, solutions: int, input_file: Optional[str], short_file: Optional[str]
+    ):
         """Reads both. `solutions` are wanted in help play where the input says nothing."""
         self._solutions = solutions
         self._input_file = input_file
@@ -26,9 +28,9 @@ class Beside:
             with command.opened(input_file) as source:
                 self._given = given_problems(source.read())
         if short_file is not None:
-            with command.opened(short_file) as report:
+            with reviewed_report(companion, short_file, "utf-8") as items:
                 try:
-                    self._answers = ShortAnswers(items_of(short_file, report))
+                    self._answers = ShortAnswers(items)
                 except AnswersError as error:
                     self._refuse_answers(error)
 

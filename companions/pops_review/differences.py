@@ -5,7 +5,7 @@ from typing import List, Optional, Sequence, Set, Tuple
 
 from pops_review.duals import line_text
 from pops_review.matching import Pair
-from pops_review.naming import described, shown, stipulation_text
+from pops_review.naming import described, shown
 from pops_texts.chess import Colour, Man, Square
 from pops_texts.report import (
     Board,
@@ -132,7 +132,7 @@ def _compare_problems(found: Differences, old: SoundItem, new: SoundItem, encodi
             found.lose(text)
         for text in _men(new.board, old.board):
             found.gain(text)
-    found.change("stipulation", stipulation_text(old), stipulation_text(new))
+    found.change("stipulation", old.asked, new.asked)
 
 
 def _men(board: Board, other: Board) -> List[str]:

@@ -46,7 +46,7 @@ def page(
         [
             '<!DOCTYPE html>\n<html lang="en">\n<head>\n<meta charset="utf-8"/>\n',
             '<meta name="viewport" content="width=device-width"/>\n',
-            f"<title>{title}</title>\n<style>{_STYLE}{diagram.STYLE}</style>\n</head>\n<body>\n",
+            f"<title>{title}</title>\n<style>{_STYLE}</style>\n</head>\n<body>\n",
             diagram.shapes(),
             f"<h1>{title}</h1>\n<p>{tally.text}</p>\n",
             "<table>\n<tr><th>No.</th><th>Problem</th><th>Verdict</th></tr>\n",

@@ -1,24 +1,15 @@
 """How problems are named in what is written of them."""
 
-import unicodedata
 from typing import Optional
 
+from pops_texts import titles
 from pops_texts.report import Item, SoundItem
+from pops_texts.titles import printable
 
 
 def shown(text: Optional[bytes], encoding: str) -> str:
-    """A title or an author as one line of text; what can't be shown becomes U+FFFD."""
-    letters = (text or b"").decode(encoding, "replace")
-    return "".join(
-        "\ufffd" if unicodedata.category(letter) in ("Cc", "Cs", "Cn") else letter
-        for letter in letters
-    )
-
-
-def stipulation_text(item: SoundItem) -> str:
-    """The stipulation with its condition, as the report has them."""
-    condition = "" if item.condition is None else f" {item.condition.value}"
-    return f"{item.stipulation.text}{condition}"
+    """A title or an author, where there is one, without what no text may hold."""
+    return printable(titles.shown(text or b"", encoding))
 
 
 def described(item: Optional[Item], encoding: str) -> str:
@@ -27,7 +18,7 @@ def described(item: Optional[Item], encoding: str) -> str:
         return ""
     title, author = shown(item.title, encoding), shown(item.author, encoding)
     name = f"{title} ({author})".strip() if author else title
-    return f"{stipulation_text(item)}, {name}" if name else stipulation_text(item)
+    return f"{item.asked}, {name}" if name else item.asked
 
 
 def counted(number: int, word: str) -> str:

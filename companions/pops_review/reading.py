@@ -1,20 +1,18 @@
-"""Reports as the commands read them: refused where they are none, or empty."""
+"""Reports as these commands take them in: their status 1 is for what they find in a report."""
 
-from typing import BinaryIO, Iterator, Optional
+from contextlib import contextmanager
+from typing import Iterator, Optional
 
 from pops_texts.command import CommandError, Status
-from pops_texts.report import Item, ReportError, read_report
+from pops_texts.report import Item
+from pops_texts.report_source import opened_report
 
 
-def items_of(file: Optional[str], report: BinaryIO) -> Iterator[Item]:
-    """The items of a report, one at least; the file, or else standard input, is its name."""
-    name = file or "standard input"
-    none_yet = True
+@contextmanager
+def reviewed_report(companion: str, file: Optional[str], encoding: str) -> Iterator[Iterator[Item]]:
+    """The items of a report; what ends the companion while it is open ends it as a device would."""
     try:
-        for item in read_report(report):
-            none_yet = False
-            yield item
-    except ReportError as error:
-        raise CommandError(Status.DEVICE, f"{name} is no report of pops: {error}") from None
-    if none_yet:
-        raise CommandError(Status.DEVICE, f"{name} is empty: no report of pops")
+        with opened_report(companion, file, encoding) as items:
+            yield items
+    except CommandError as error:
+        raise CommandError(Status.DEVICE, str(error)) from None
