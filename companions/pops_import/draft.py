@@ -62,7 +62,8 @@ class Options:
 class Draft:
     """A problem with all its twins. Notes say what is left out of it, faults why it can't be posed.
 
-    Without `first` the setting is there for the twins alone.
+    Without `first` the setting is there for the twins alone. `wanted` is the number of solutions that
+    the problem should have.
     """
 
     number: int
@@ -70,6 +71,7 @@ class Draft:
     texts: List[TextLine] = field(default_factory=list)
     setting: Setting = field(default_factory=Setting)
     first: bool = True
+    wanted: Optional[int] = None
     options: Options = field(default_factory=Options)
     twins: List[Twin] = field(default_factory=list)
     notes: List[Told] = field(default_factory=list)

@@ -45,7 +45,7 @@ def read_options(words: Words, draft: Draft) -> None:
         if option is None:
             if meaning(key, words.language.commands) is not None:
                 return
-            raise Unreadable(word.line, f"option {word.text} isn't of this profile")
+            raise Unreadable(word.line, f"pops knows no option {word.text}")
         words.take()
         _read_option(words, option, draft)
 
@@ -61,7 +61,7 @@ def _read_option(words: Words, option: Option, draft: Draft) -> None:
     elif option is Option.EN_PASSANT:
         squares = take_squares(words, option.value)
         if len(squares) > 1:
-            raise Unreadable(line, "EnPassant with several squares isn't of this profile")
+            raise Unreadable(line, "pops knows no EnPassant of several squares")
         options.crossed = squares[0]
     elif option is Option.NO_CASTLING:
         _read_no_castling(words, draft)
@@ -76,7 +76,7 @@ def _read_option(words: Words, option: Option, draft: Draft) -> None:
         text = option.value if value is None else f"{option.value} {value}"
         draft.notes.append(Told(line, f"{text} left out: {_LEFT_OUT[option]}"))
     else:
-        draft.faults.append(Told(line, f"option {option.value} isn't of this profile"))
+        draft.faults.append(Told(line, f"pops knows no option {option.value}"))
 
 
 def _number(words: Words) -> Optional[str]:
@@ -92,7 +92,7 @@ def _solutions(words: Words) -> int:
 
 
 def _read_no_castling(words: Words, draft: Draft) -> None:
-    """Squares in one or more words; those where no man castles are none of this profile."""
+    """Squares in one or more words; those where no man can castle are left out."""
     squares = take_squares(words, Option.NO_CASTLING.value)
     while True:
         word = words.peek()

@@ -20,7 +20,7 @@ _GAME_ARRAY = "rnbqkbnr/pppppppp/8/8/8/8/PPPPPPPP/RNBQKBNR"
 _OUTPUTS = (Command.PROTOCOL, Command.LATEX, Command.LATEX_PIECES, Command.TRACE)
 _UNREADABLE = {
     Command.BEGIN: "a second BeginProblem: NextProblem parts problems",
-    Command.STRUCTURED: "SStipulation isn't of this profile",
+    Command.STRUCTURED: "pops knows no SStipulation",
     Command.INPUT: "InputFile isn't followed: give that file by itself",
     Command.ZERO_POSITION: "ZeroPosition stands behind a twin",
 }

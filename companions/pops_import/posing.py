@@ -45,7 +45,11 @@ def posed(draft: Draft) -> List[Posed]:
     """All problems that a draft holds, as far as pops can read them."""
     if draft.faults:
         return [Posed("", draft.line, [], [], draft.faults)]
-    return [_posed(draft, part) for version in _versions(draft) for part in _parts(version)]
+    made: List[Posed] = []
+    for version in _versions(draft):
+        for part in _parts(version):
+            made.append(_posed(draft, part, not any(one.lines for one in made)))
+    return made
 
 
 def _versions(draft: Draft) -> Iterator[_Version]:
@@ -95,21 +99,18 @@ def _turned(version: _Version) -> _Version:
     options = version.options
     men = {square.mirrored: with_other_colour(man) for square, man in version.setting.men.items()}
     may_not_castle = [square.mirrored for square in options.may_not_castle]
-    notes = [] if options.plain else list(version.notes)
-    if options.crossed is not None:
-        text = f"EnPassant {options.crossed.name} left out: the other side has the first move"
-        notes.append(Told(version.line, text))
+    crossed = None if options.crossed is None else options.crossed.mirrored
     return replace(
         version,
         label=f"{version.label} duplex".strip(),
         setting=replace(version.setting, men=men),
-        options=replace(options, crossed=None, may_not_castle=may_not_castle),
+        options=replace(options, crossed=crossed, may_not_castle=may_not_castle),
         remarks=version.remarks + ["duplex: colours turned round"],
-        notes=notes,
+        notes=[] if options.plain else list(version.notes),
     )
 
 
-def _posed(draft: Draft, version: _Version) -> Posed:
+def _posed(draft: Draft, version: _Version, is_first: bool) -> Posed:
     faults = list(version.faults)
     notes = list(version.notes)
     lines: List[str] = []
@@ -117,7 +118,7 @@ def _posed(draft: Draft, version: _Version) -> Posed:
         checked = _Checked(version, notes)
         faults.extend(Told(version.line, text) for text in checked.faults)
         if not faults:
-            lines = _texts(draft, version, notes) + checked.lines()
+            lines = _texts(draft, version, notes, is_first) + checked.lines()
     return Posed(version.label, version.line, lines, notes, faults)
 
 
@@ -128,6 +129,7 @@ class _Checked:
         self.faults: List[str] = []
         self._version = version
         self._notes = notes
+        self._crossed = version.options.crossed
         self._men = self._own_men()
         self._stipulation = self._own_stipulation()
         self._condition = self._own_condition()
@@ -140,7 +142,7 @@ class _Checked:
             if isinstance(man, Man):
                 men[square] = man
             else:
-                self.faults.append(f"{man} on {square.name} isn't of this profile")
+                self.faults.append(f"pops knows no {man}, on {square.name}")
         return men
 
     def _own_stipulation(self) -> Optional[Stipulation]:
@@ -152,7 +154,7 @@ class _Checked:
         try:
             stipulation = Stipulation.of_text("".join(part or "" for part in parts.groups()))
         except (AttributeError, ValueError):
-            self.faults.append(f"stipulation {text} isn't of this profile")
+            self.faults.append(f"pops knows no stipulation {text}")
             return None
         if self._version.options.white_to_play:
             stipulation = self._with_white_to_play(stipulation)
@@ -179,7 +181,7 @@ class _Checked:
         try:
             return Condition(text)
         except ValueError:
-            self.faults.append(f"condition {text} isn't of this profile")
+            self.faults.append(f"pops knows no condition {text}")
             return None
 
     def _check_men(self) -> None:
@@ -198,9 +200,21 @@ class _Checked:
                 self.faults.append(f"{kings} {colour.value} kings")
             if kings == 0 and colour is mated and stipulation.goal is Goal.MATE and self._men:
                 self.faults.append(f"there is no {colour.value} king")
-        crossed = self._version.options.crossed
-        if crossed is not None and not self._was_crossed(crossed, stipulation.starter):
-            self.faults.append(f"no pawn can just have crossed {crossed.name}")
+        self._check_crossed(stipulation.starter)
+
+    def _check_crossed(self, starter: Colour) -> None:
+        """In a duplex the crossed square may be meant for one side's first move alone."""
+        options = self._version.options
+        if options.crossed is None or self._was_crossed(options.crossed, starter):
+            return
+        name = options.crossed.name
+        duplex = options.plain and options.turned
+        if duplex and self._was_crossed(options.crossed, starter.opponent):
+            text = f"EnPassant {name} left out: it is for the other side's first move"
+            self._notes.append(Told(self._version.line, text))
+            self._crossed = None
+        else:
+            self.faults.append(f"no pawn can just have crossed {name}")
 
     def _was_crossed(self, square: Square, starter: Colour) -> bool:
         rank, step = (6, 1) if starter is Colour.WHITE else (3, -1)
@@ -223,8 +237,8 @@ class _Checked:
         words = list(options.words)
         if options.max_solutions is not None:
             words.append(f"MaxSolutions {options.max_solutions}")
-        if options.crossed is not None:
-            words.append(f"EnPassant {options.crossed.name}")
+        if self._crossed is not None:
+            words.append(f"EnPassant {self._crossed.name}")
         if options.may_not_castle:
             words.append("NoCastling " + "".join(one.name for one in options.may_not_castle))
         if words:
@@ -241,8 +255,11 @@ class _Checked:
         return f" {colour.value.title()}{''.join(words)}" if words else ""
 
 
-def _texts(draft: Draft, version: _Version, notes: List[Told]) -> List[str]:
-    """The lines of text: what pops prints, and Remarks for all else."""
+def _texts(draft: Draft, version: _Version, notes: List[Told], is_first: bool) -> List[str]:
+    """The lines of text: what pops prints, and Remarks for all else.
+
+    The draft's own Remarks stand with the first of its problems alone.
+    """
     lines = []
     remarks = []
     for command, label in ((Command.TITLE, version.label), (Command.AUTHOR, "")):
@@ -253,14 +270,17 @@ def _texts(draft: Draft, version: _Version, notes: List[Told]) -> List[str]:
             notes.append(
                 Told(version.line, f"{command.value} shortened to {LONGEST_TEXT} bytes: see Remark")
             )
-        lines.append(f"{command.value} {text} {label}".strip() if text or label else "")
+        if text or label:
+            lines.append(" ".join(filter(None, (command.value, text, label))))
     for command, text in draft.texts:
         if command is Command.ORIGIN:
             lines.append(f"Origin {text}")
-        elif command is Command.REMARK:
+        elif is_first and command is Command.REMARK:
             remarks.append(text)
-        elif command is Command.AWARD:
+        elif is_first and command is Command.AWARD:
             remarks.append(f"Award {text}")
+    if draft.wanted is not None:
+        remarks.append(f"solutions {draft.wanted}")
     remarks += version.remarks + [note.text for note in draft.notes + notes]
     lines += [f"Remark {remark}" for remark in remarks if remark]
     return [_CONTROL.sub(" ", line) for line in lines if line]

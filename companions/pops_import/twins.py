@@ -70,7 +70,7 @@ def _change(words: Words, twinning: Twinning) -> Change:
         return _mirror(words)
     if twinning is Twinning.POLISH_TYPE:
         return Change(name, line, _polish)
-    raise Unreadable(line, f"the twin's {name} isn't of this profile")
+    raise Unreadable(line, f"pops knows no {name}")
 
 
 def _value(words: Words, what: str) -> str:
@@ -161,7 +161,7 @@ def _substitute(words: Words) -> Change:
     texts = [_value(words, "Substitute") for _ in range(2)]
     kinds = [letters.get(text) for text in texts]
     if None in kinds:
-        raise Unreadable(line, f"Substitute {' '.join(texts).upper()} isn't of this profile")
+        raise Unreadable(line, f"pops knows no Substitute {' '.join(texts).upper()}")
     one, other = [kind for kind in kinds if kind is not None]
 
     def made(setting: Setting, _: List[str]) -> Setting:

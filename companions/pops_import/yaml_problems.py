@@ -115,8 +115,7 @@ def _read_wanted(key: Scalar, value: Node, draft: Draft) -> None:
     """The number of solutions wanted: as it is, or as 2.1.1, of which the product is meant."""
     text = _one_line(value, " ")
     if _NUMBERS.fullmatch(text):
-        wanted = math.prod(int(number) for number in text.split("."))
-        draft.texts.append(TextLine(Command.REMARK, f"solutions {wanted}"))
+        draft.wanted = math.prod(int(number) for number in text.split("."))
     if not text.isdecimal():
         _read_other(key, value, draft)
 
