@@ -62,8 +62,8 @@ class Options:
 class Draft:
     """A problem with all its twins. Notes say what is left out of it, faults why it can't be posed.
 
-    Without `first` the setting is there for the twins alone. `wanted` is the number of solutions that
-    the problem should have.
+    Without `first` the setting is there for the twins alone. `wanted` is the number of solutions
+    that the problem should have.
     """
 
     number: int

@@ -3,7 +3,17 @@
 import unicodedata
 from dataclasses import dataclass
 from enum import Enum
-from typing import AbstractSet, Dict, Iterable, Mapping, Optional, Tuple, TypeVar
+from typing import (
+    AbstractSet,
+    Dict,
+    FrozenSet,
+    Iterable,
+    Iterator,
+    Mapping,
+    Optional,
+    Tuple,
+    TypeVar,
+)
 
 from pops_texts.chess import Kind
 
@@ -215,36 +225,40 @@ _ATTRIBUTES = (
 def folded(word: str) -> str:
     """A word as it is looked up: in small letters, and without the accents that Popeye lacks."""
     word = word.lower()
+    if word.isascii():
+        return word
     for letter, letters in (("ä", "ae"), ("ö", "oe"), ("ü", "ue"), ("ß", "ss")):
         word = word.replace(letter, letters)
     return "".join(one for one in unicodedata.normalize("NFD", word) if ord(one) < 0x300)
 
 
+# What each word, and each beginning of one, may mean.
+Table = Mapping[str, FrozenSet[Meaning]]
+
+
 @dataclass(frozen=True)
 class Language:
-    """A language of Popeye's inputs: what its words mean, by their forms for looking up."""
+    """A language of Popeye's inputs, its words as they are looked up."""
 
     name: str
-    commands: Mapping[str, Command]
-    options: Mapping[str, Option]
-    twinnings: Mapping[str, Twinning]
-    colours: Mapping[str, str]
+    commands: Table[Command]
+    options: Table[Option]
+    twinnings: Table[Twinning]
+    colours: Table[str]
     letters: Mapping[str, Kind]
 
 
 def meaning(
-    word: str, table: Mapping[str, Meaning], preferred: AbstractSet[Meaning] = frozenset()
+    word: str, table: Table[Meaning], preferred: AbstractSet[Meaning] = frozenset()
 ) -> Optional[Meaning]:
     """What a word of a table, or one that is short for it, means. None where that isn't certain.
 
     Where it is short for several, it means the preferred one.
     """
-    if word in table:
-        return table[word]
-    meanings = {one for full, one in table.items() if full.startswith(word)}
+    meanings = table.get(word, frozenset())
     if len(meanings) > 1:
-        meanings &= preferred
-    return meanings.pop() if len(meanings) == 1 else None
+        meanings = meanings & preferred
+    return next(iter(meanings)) if len(meanings) == 1 else None
 
 
 def is_attribute(word: str) -> bool:
@@ -252,22 +266,34 @@ def is_attribute(word: str) -> bool:
     return word in _ATTRIBUTE_FORMS
 
 
-def _table(rows: Iterable[Tuple[Meaning, str, str, str]], place: int) -> Dict[str, Meaning]:
-    table = {}
+def table_of(words: Iterable[Tuple[str, Meaning]]) -> Table[Meaning]:
+    """The table of words with their meanings. A whole word means nothing else."""
+    forms: Dict[str, FrozenSet[Meaning]] = {}
+    whole: Dict[str, FrozenSet[Meaning]] = {}
+    for word, what in words:
+        key = word.lower()
+        whole[key] = frozenset((what,))
+        for length in range(1, len(key)):
+            forms[key[:length]] = forms.get(key[:length], frozenset()) | whole[key]
+    return {**forms, **whole}
+
+
+def _words(
+    rows: Iterable[Tuple[Meaning, str, str, str]], place: int
+) -> Iterator[Tuple[str, Meaning]]:
     for what, *words in rows:
         for word in words[place].split():
-            table[word.lower()] = what
-    return table
+            yield word, what
 
 
 def _language(place: int, name: str) -> Language:
     return Language(
         name,
-        _table(_COMMANDS, place),
-        _table(_OPTIONS, place),
-        _table(_TWINNINGS, place),
-        _table(_COLOURS, place),
-        _table(_LETTERS, place),
+        table_of(_words(_COMMANDS, place)),
+        table_of(_words(_OPTIONS, place)),
+        table_of(_words(_TWINNINGS, place)),
+        table_of(_words(_COLOURS, place)),
+        {letter.lower(): kind for letter, kind in _words(_LETTERS, place)},
     )
 
 

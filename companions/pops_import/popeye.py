@@ -120,8 +120,8 @@ class _Reader:
 
     def _unknown(self, word: Word) -> str:
         own = self._words.language
-        for language in LANGUAGES:
-            if language is not own and word.key in language.commands:
+        for language in LANGUAGES if len(word.key) >= _LEAST_LETTERS else ():
+            if meaning(word.key, language.commands) is not None:
                 return f"{word.text} is {language.name}, and the text began in {own.name}"
         return f"{word.text} isn't known here"
 

@@ -194,8 +194,9 @@ class _Checked:
             if man.kind is Kind.PAWN and square.rank in (1, 8):
                 self.faults.append(f"a pawn stands on {square.name}")
         mated = Colour.WHITE if stipulation.play is Play.SELF else Colour.BLACK
+        men = list(self._men.values())
         for colour in Colour:
-            kings = sum(1 for man in self._men.values() if man == Man(colour, Kind.KING))
+            kings = men.count(Man(colour, Kind.KING))
             if kings > 1:
                 self.faults.append(f"{kings} {colour.value} kings")
             if kings == 0 and colour is mated and stipulation.goal is Goal.MATE and self._men:
@@ -229,8 +230,7 @@ class _Checked:
     def lines(self) -> List[str]:
         """Men, stipulation, condition and options."""
         assert self._stipulation is not None
-        lines = ["Pieces" + "".join(self._men_words(colour) for colour in Colour)]
-        lines.append(f"Stipulation {self._stipulation.text}")
+        lines = [_pieces(self._men), f"Stipulation {self._stipulation.text}"]
         if self._condition is not None:
             lines.append(f"Condition {self._condition.value}")
         options = self._version.options
@@ -245,14 +245,19 @@ class _Checked:
             lines.append("Option " + " ".join(words))
         return lines
 
-    def _men_words(self, colour: Colour) -> str:
-        words = []
-        for kind in Kind:
-            squares = [square for square, man in self._men.items() if man == Man(colour, kind)]
-            squares.sort(key=lambda square: (square.rank, square.file))
-            if squares:
-                words.append(f" {kind.value}" + "".join(square.name for square in squares))
-        return f" {colour.value.title()}{''.join(words)}" if words else ""
+
+def _pieces(men: Dict[Square, Man]) -> str:
+    squares: Dict[Man, List[Square]] = {}
+    for square in sorted(men, key=lambda square: (square.rank, square.file)):
+        squares.setdefault(men[square], []).append(square)
+    words = ["Pieces"]
+    for colour in Colour:
+        own = [man for man in (Man(colour, kind) for kind in Kind) if man in squares]
+        if own:
+            words.append(colour.value.title())
+        for man in own:
+            words.append(man.kind.value + "".join(square.name for square in squares[man]))
+    return " ".join(words)
 
 
 def _texts(draft: Draft, version: _Version, notes: List[Told], is_first: bool) -> List[str]:

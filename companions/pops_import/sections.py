@@ -3,12 +3,12 @@
 import re
 from typing import Tuple
 
-from pops_import.language import meaning
+from pops_import.language import meaning, table_of
 from pops_import.words import Unreadable, Words
 from pops_texts.stipulation import Condition
 
 _LEAST_LETTERS = 3
-_CONDITIONS = {condition.value.lower(): condition.value for condition in Condition}
+_CONDITIONS = table_of((condition.value, condition.value) for condition in Condition)
 
 
 def take_stipulation(words: Words) -> str:

@@ -33,12 +33,9 @@ class Word(NamedTuple):
     """A word, as it stands there and as it is looked up."""
 
     text: str
+    key: str
     line: int
     end: int
-
-    @property
-    def key(self) -> str:
-        return folded(self.text)
 
 
 class TextLine(NamedTuple):
@@ -123,7 +120,7 @@ class Words:
                 return None
             found = _WORD.match(self._text, at)
             if found is not None:
-                return Word(found[0], line, found.end())
+                return Word(found[0], folded(found[0]), line, found.end())
             other = _OTHER.match(self._text, at)
             assert other is not None
             at = other.end()
