@@ -33,7 +33,7 @@ def take_squares(words: Words, what: str) -> List[Square]:
     """The squares of the next word, which belong to `what`."""
     word = words.peek()
     if word is None or not is_of_squares(word):
-        found = "the end" if word is None else f"`{word.text}`"
+        found = "the end" if word is None else word.text
         raise Unreadable(words.line, f"{what} wants squares, as e4, and {found} follows")
     return squares_of(words.take().key)
 
@@ -100,27 +100,31 @@ def read_forsyth(text: str, kinds: Dict[str, Kind]) -> Dict[Square, Placed]:
     before a man of two letters. Where no strokes part the ranks, numbers above 9 are read as such.
     """
     diagram = list(Square.of_diagram())
+    has_strokes = "/" in text
+    one = re.compile(
+        rf"(?P<empty>{'[1-9]' if has_strokes else '[1-9][0-9]?'})|(?P<stroke>/)"
+        r"|(?P<neutral>=?)(?:\.(?P<two>[A-Za-z0-9]{2})|(?P<one>[A-Za-z]))"
+    )
     men: Dict[Square, Placed] = {}
-    number = "[1-9]" if "/" in text else "[1-9][0-9]?"
-    place = at = 0
+    place = at = rank = 0
     while place < len(text):
-        found = re.compile(rf"({number})|(/)|(=?)(?:\.(..)|([A-Za-z]))").match(text, place)
+        found = one.match(text, place)
         if found is None:
-            raise ValueError(f"`{text[place:]}` is no man")
+            raise ValueError(f"{text[place:]} begins with no man")
         place = found.end()
-        empty, stroke, neutral, two, one = found.groups()
-        if stroke:
-            if at % 8:
-                raise ValueError(f"a rank of {at % 8} squares")
-            continue
-        if empty:
-            at += int(empty)
-            continue
-        letters = two or one
-        colour = "neutral" if neutral else "white" if letters[0].isupper() else "black"
-        if at < 64:
-            men[diagram[at]] = _man(colour, "", letters.lower(), kinds)
-        at += 1
+        if found["stroke"]:
+            if at - rank != 8:
+                raise ValueError(f"a rank of {at - rank} squares")
+            rank = at
+        elif found["empty"]:
+            at += int(found["empty"])
+        else:
+            letters = found["two"] or found["one"]
+            colour = "white" if letters[0].isupper() else "black"
+            if at < 64:
+                shown = "neutral" if found["neutral"] else colour
+                men[diagram[at]] = _man(shown, "", letters.lower(), kinds)
+            at += 1
     if at != 64:
         raise ValueError(f"{at} squares instead of 64")
     return men

@@ -43,8 +43,11 @@ class _Version:
 
 def posed(draft: Draft) -> List[Posed]:
     """All problems that a draft holds, as far as pops can read them."""
-    if draft.faults:
-        return [Posed("", draft.line, [], [], draft.faults)]
+    faults = list(draft.faults)
+    if not draft.first and not draft.twins and not faults:
+        faults.append(Told(draft.line, "ZeroPosition without a twin"))
+    if faults:
+        return [Posed("", draft.line, [], [], faults)]
     made: List[Posed] = []
     for version in _versions(draft):
         for part in _parts(version):
