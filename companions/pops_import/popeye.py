@@ -131,7 +131,7 @@ class _Reader:
             words.put_text_line_aside(command)
         elif command in _OUTPUTS:
             text = f"{command.value} {words.take_rest()}".strip()
-            draft.notes.append(Told(words.line, f"{text} left out: the report goes one way"))
+            draft.notes.append(Told(words.line, f"{text} left out: pops writes to standard output alone"))
         elif command is Command.TWIN or (command is Command.ZERO_POSITION and not draft.twins):
             draft.first = draft.first and command is Command.TWIN
             self._twin(command, draft)
@@ -156,7 +156,7 @@ class _Reader:
                 raise Unreadable(words.line, "a second stipulation")
             setting.stipulation = take_stipulation(words)
         elif command is Command.CONDITION:
-            setting.conditions += take_conditions(words)
+            setting.conditions = take_conditions(words, setting.conditions)
         elif command is Command.OPTION:
             read_options(words, draft)
 

@@ -1,7 +1,7 @@
 """Stipulations and conditions among the words of a text."""
 
 import re
-from typing import Tuple
+from typing import List, Tuple
 
 from pops_import.language import meaning, table_of
 from pops_import.words import Unreadable, Words
@@ -25,9 +25,12 @@ def take_stipulation(words: Words) -> str:
     return text
 
 
-def take_conditions(words: Words) -> Tuple[str, ...]:
-    """The words up to the first command, or to the next change of a twin."""
-    conditions = []
+def take_conditions(words: Words, before: Tuple[str, ...] = ()) -> Tuple[str, ...]:
+    """The words up to the first command, or to the next change of a twin, added to those before.
+
+    A condition that stands twice is one.
+    """
+    conditions: List[str] = []
     while True:
         word = words.peek()
         if word is None:
@@ -38,6 +41,5 @@ def take_conditions(words: Words) -> Tuple[str, ...]:
             break
         words.take()
         known = meaning(word.key, _CONDITIONS) if len(word.key) >= _LEAST_LETTERS else None
-        if known is None or known not in conditions:
-            conditions.append(known or word.text)
-    return tuple(conditions)
+        conditions.append(known or word.text)
+    return tuple(dict.fromkeys(before + tuple(conditions)))

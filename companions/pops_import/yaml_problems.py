@@ -163,7 +163,7 @@ def _read_men(key: Scalar, value: Node, draft: Draft) -> None:
 
 def _read_conditions(_: Scalar, value: Node, draft: Draft) -> None:
     def read(words: Words) -> None:
-        draft.setting.conditions += take_conditions(words)
+        draft.setting.conditions = take_conditions(words, draft.setting.conditions)
 
     for text in _texts(value):
         _words_of(text, read, draft)
