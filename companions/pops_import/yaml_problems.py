@@ -38,7 +38,8 @@ def read_yaml(text: str) -> List[Draft]:
                 for key, value in problem.items():
                     _read_key(key, value, draft)
             else:
-                draft.faults.append(Told(draft.line, "there are no keys of a problem"))
+                line = problem.line if isinstance(problem, Scalar) else draft.line
+                draft.faults.append(Told(line, "there are no keys of a problem"))
     return drafts
 
 
@@ -143,12 +144,10 @@ def _words_of(text: Scalar, read: Callable[[Words], None], draft: Draft, before:
     words = Words(f"{before}{text}", ENGLISH, 0, text.line)
     read(words)
     left = words.peek()
-    if left is not None:
-        raise Unreadable(left.line, f"{left.text} isn't known here")
+    for unknown in [left.text] if left is not None else [one.command.value for one in words.texts]:
+        raise Unreadable(text.line, f"{unknown} isn't known here")
     for line, skipped in words.skipped:
         draft.notes.append(Told(line, f"skipped, as by Popeye: {skipped}"))
-    for command, rest in words.texts:
-        draft.notes.append(Told(text.line, f"skipped, as by Popeye: {command.value} {rest}"))
 
 
 def _read_men(key: Scalar, value: Node, draft: Draft) -> None:
