@@ -272,7 +272,7 @@ def _texts(draft: Draft, version: _Version, notes: List[Told], is_first: bool) -
     remarks = []
     for command, label in ((Command.TITLE, version.label), (Command.AUTHOR, "")):
         whole = "; ".join(one.text for one in draft.texts if one.command is command and one.text)
-        text = _shortened(whole, LONGEST_TEXT - len(label) - 1)
+        text = _shortened(whole, LONGEST_TEXT - len(f" {label}".rstrip()))
         if text != whole:
             remarks.append(f"{command.value} {whole}")
             notes.append(
