@@ -1,13 +1,15 @@
 """Problems as other programs give them, before it is asked whether pops can read them."""
 
+import re
 from dataclasses import dataclass, field
 from typing import Callable, Dict, List, NamedTuple, Optional, Tuple, Union
 
-from pops_import.words import TextLine, Told
+from pops_import.words import TextLine, Told, Words
 from pops_texts.chess import Man, Square
 
 # A man, or the name of one that pops doesn't know.
 Placed = Union[Man, str]
+_SQUARE = re.compile("[A-Ha-h][1-8]")
 
 
 @dataclass
@@ -76,3 +78,12 @@ class Draft:
     twins: List[Twin] = field(default_factory=list)
     notes: List[Told] = field(default_factory=list)
     faults: List[Told] = field(default_factory=list)
+
+    def tell_of_skipped(self, words: Words) -> None:
+        """Notes what was skipped among words. With a square in it, it may have been meant."""
+        for line, text in words.skipped:
+            if _SQUARE.search(text):
+                self.faults.append(Told(line, f"Popeye skips {text}, with a square in it"))
+            else:
+                self.notes.append(Told(line, f"skipped, as by Popeye: {text}"))
+        words.skipped = []

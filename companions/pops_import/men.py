@@ -1,7 +1,7 @@
 """Men and squares among the words of a text."""
 
 import re
-from typing import Dict, List, NamedTuple, Tuple
+from typing import Dict, List, Mapping, NamedTuple, Tuple
 
 from pops_import.draft import Placed
 from pops_import.language import is_attribute, meaning
@@ -86,14 +86,14 @@ def _man_word(words: Words, word: Word) -> Tuple[str, List[Square]]:
     return found[1], squares_of(found[2])
 
 
-def _man(colour: str, attributes: str, letters: str, kinds: Dict[str, Kind]) -> Placed:
+def _man(colour: str, attributes: str, letters: str, kinds: Mapping[str, Kind]) -> Placed:
     kind = kinds.get(letters)
     if kind is not None and colour != "neutral" and not attributes:
         return Man(Colour(colour), kind)
     return f"{colour} {attributes}{letters.upper()}"
 
 
-def read_forsyth(text: str, kinds: Dict[str, Kind]) -> Dict[Square, Placed]:
+def read_forsyth(text: str, kinds: Mapping[str, Kind]) -> Dict[Square, Placed]:
     """The men of a position in Popeye's form of Forsyth. ValueError, with why, for another text.
 
     The letters are those of the language, small for Black. `=` stands before a neutral man, a point

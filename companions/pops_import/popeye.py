@@ -3,14 +3,14 @@
 import re
 from typing import Iterable, List, Optional, Tuple
 
-from pops_import.draft import Draft, Placed, Twin
+from pops_import.draft import Draft, Twin
 from pops_import.language import LANGUAGES, TEXT_COMMANDS, Command, Language, folded, meaning
 from pops_import.men import PlacedMan, read_forsyth, read_men
 from pops_import.options import read_options
 from pops_import.sections import take_conditions, take_stipulation
 from pops_import.twins import read_twin
 from pops_import.words import Told, Unreadable, Word, Words
-from pops_texts.chess import Kind, Man, Square
+from pops_texts.chess import Kind, Man
 from pops_texts.fen import read_position
 
 _FIRST_WORD = re.compile(r"^[^\w\n]*([^\W\d_]+)", re.MULTILINE)
@@ -75,10 +75,8 @@ class _Reader:
             drafts.append(draft)
             closed = self._problem(draft)
             draft.texts.extend(self._words.texts)
-            draft.notes.extend(
-                Told(line, f"skipped, as by Popeye: {text}") for line, text in self._words.skipped
-            )
-            self._words.texts, self._words.skipped = [], []
+            self._words.texts = []
+            draft.tell_of_skipped(self._words)
         if closed is Command.END and self._words.take_all().strip():
             drafts[-1].notes.append(Told(self._words.line, "nothing behind EndProblem is read"))
         return drafts
@@ -131,7 +129,8 @@ class _Reader:
             words.put_text_line_aside(command)
         elif command in _OUTPUTS:
             text = f"{command.value} {words.take_rest()}".strip()
-            draft.notes.append(Told(words.line, f"{text} left out: pops writes to standard output alone"))
+            why = "pops writes to standard output alone"
+            draft.notes.append(Told(words.line, f"{text} left out: {why}"))
         elif command is Command.TWIN or (command is Command.ZERO_POSITION and not draft.twins):
             draft.first = draft.first and command is Command.TWIN
             self._twin(command, draft)

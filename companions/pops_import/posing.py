@@ -13,9 +13,6 @@ from pops_texts.stipulation import Condition, Goal, Play, Stipulation
 
 LONGEST_TEXT = 200
 _MOST_MOVES = 16
-_STIPULATION = re.compile(r"([sh]?[#=])0*([0-9]+)(\.5)?")
-# What would end a line of text, or be lost in it.
-_CONTROL = re.compile("[\x00-\x08\x0a-\x1f\x7f]")
 
 
 class Posed(NamedTuple):
@@ -153,10 +150,11 @@ class _Checked:
         if text is None:
             self.faults.append("there is no stipulation")
             return None
-        parts = _STIPULATION.fullmatch(text.lower())
+        # Popeye reads #02 as #2.
+        plain = re.sub("([#=])0+(?=[0-9])", r"\1", text.lower())
         try:
-            stipulation = Stipulation.of_text("".join(part or "" for part in parts.groups()))
-        except (AttributeError, ValueError):
+            stipulation = Stipulation.of_text(plain)
+        except ValueError:
             self.faults.append(f"pops knows no stipulation {text}")
             return None
         if self._version.options.white_to_play:
@@ -291,7 +289,7 @@ def _texts(draft: Draft, version: _Version, notes: List[Told], is_first: bool) -
         remarks.append(f"solutions {draft.wanted}")
     remarks += version.remarks + [note.text for note in draft.notes + notes]
     lines += [f"Remark {remark}" for remark in remarks if remark]
-    return [_CONTROL.sub(" ", line) for line in lines if line]
+    return [line.replace("\n", " ") for line in lines]
 
 
 def _shortened(text: str, most: int) -> str:

@@ -14,7 +14,9 @@ _YAML = re.compile(r"(?:\s*#.*\n|\s*\n)*(?:---(?:\s|$)|%YAML|(?:- )?[A-Za-z-]+:(
 
 def read_drafts(text: str) -> List[Draft]:
     """The problems of a text in one of the forms. Unreadable where it holds none."""
-    text = text.replace("\r\n", "\n").replace("\r", "\n").lstrip("\ufeff")
+    text = text.replace("\r\n", "\n").lstrip("\ufeff")
+    if "\n" not in text:
+        text = text.replace("\r", "\n")
     if not text.strip():
         raise Unreadable(1, "there is no problem: the text is empty")
     if _YAML.match(text) and not begins(text):

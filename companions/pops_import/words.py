@@ -10,6 +10,8 @@ _SIGNS = r"#=+\-.<>/*!~()\[\]&"
 _BLANKS = re.compile("[\\s,\ufeff\u200b]*")
 _WORD = re.compile(rf"(?:[^\W_]|[{_SIGNS}])+")
 _OTHER = re.compile(r"\S+")
+# What is cut off at both ends of a line of text, as pops does.
+_ENDS = " \t\v\f\r"
 # Text lines that stand among the words of a command are known by so many letters.
 _LEAST_TEXT_WORD = 3
 
@@ -83,7 +85,7 @@ class Words:
         stop = len(self._text) if stop < 0 else stop
         rest = self._text[self._at : stop]
         self._at, self._next = stop, None
-        return rest.lstrip(":").strip()
+        return (rest[1:] if rest.startswith(":") else rest).strip(_ENDS)
 
     def take_all(self) -> str:
         """All that stands behind the word taken last."""

@@ -146,8 +146,7 @@ def _words_of(text: Scalar, read: Callable[[Words], None], draft: Draft, before:
     left = words.peek()
     for unknown in [left.text] if left is not None else [one.command.value for one in words.texts]:
         raise Unreadable(text.line, f"{unknown} isn't known here")
-    for line, skipped in words.skipped:
-        draft.notes.append(Told(line, f"skipped, as by Popeye: {skipped}"))
+    draft.tell_of_skipped(words)
 
 
 def _read_men(key: Scalar, value: Node, draft: Draft) -> None:

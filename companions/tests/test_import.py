@@ -14,12 +14,11 @@ import sys
 import tempfile
 import unittest
 from pathlib import Path
-from typing import Any, Dict, List, NamedTuple, Tuple
+from typing import Any, Dict, List, NamedTuple
 
 import support
 
-from pops_import import language
-from pops_import.language import ENGLISH, FRENCH, GERMAN, Command, meaning
+from pops_import.language import ENGLISH, FRENCH, GERMAN, meaning
 from pops_import.yaml_text import YamlError, documents
 
 DATA = Path(__file__).resolve().parent / "data" / "import"
@@ -105,7 +104,7 @@ class MadeFiles(unittest.TestCase):
             self.assertEqual(marked, wanted)
         refused = imported_text((DATA / "german.inp").read_text("utf-8").encode("latin-1"))
         self.assertEqual(
-            refused, (1, b"", ["text, line 3: not in utf-8: give another --encoding"])
+            refused, (1, b"", ["text, line 3: not in utf-8: give --encoding, as latin-1"])
         )
 
 
@@ -295,15 +294,29 @@ class Texts(unittest.TestCase):
 
     def test_a_text_line_stays_one_line(self) -> None:
         made = imported_text(
-            b'title: "two\\nlines\\0\\rand\\fmore"\nstipulation: h#1\n'
+            b'title: "two\\nlines\\tand\\fmore"\nstipulation: h#1\n'
             b"algebraic: {white: [Kg6], black: [Kh8]}\n"
-            b'note: "a\\vb\\x85c"\n'
+            b'"no\\nte": "a\\vb\\n\\x85c"\n'
         )
         self.assertEqual(
             made.output.decode("utf-8"),
-            "BeginProblem\nTitle two lines  and more\nRemark note: a b\x85c\n"
+            "BeginProblem\nTitle two lines\tand\x0cmore\nRemark no te: a\vb\n"
+            "Remark no te: \x85c\n"
             "Pieces White Kg6 Black Kh8\nStipulation h#1\nEndProblem\n",
         )
+
+    def test_texts_stay_as_pops_reads_them(self) -> None:
+        """What pops prints of a title is what it prints of the imported one, byte for byte."""
+        for title in (":-)", "a  b\t c", "a\rb \r", "\v\fa\vb", "\xa0a\xa0", "\x1ba\x1c", "É, ß;"):
+            lines = ["Beg", f"Title {title}", "Pieces White Kg6 Black Kh8", "Stip h#1", "End\n"]
+            text = "\n".join(lines).encode("utf-8")
+            with self.subTest(title):
+                reports = [
+                    support.run([support.pops(), "--check"], one)
+                    for one in (text, imported_text(text).output)
+                ]
+                self.assertEqual(reports[0].status, 0)
+                self.assertEqual(*reports)
 
     def test_remarks_of_a_problem_stand_with_its_first_twin_that_is_posed(self) -> None:
         made = imported_text(
