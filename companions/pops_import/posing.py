@@ -294,6 +294,5 @@ def _texts(draft: Draft, version: _Version, notes: List[Told], is_first: bool) -
 
 def _shortened(text: str, most: int) -> str:
     """As many letters of the text as fit into so many bytes."""
-    while len(text.encode("utf-8")) > most:
-        text = text[:-1].rstrip()
-    return text
+    data = text.encode("utf-8", "replace")
+    return text if len(data) <= most else data[:most].decode("utf-8", "ignore").rstrip()

@@ -381,6 +381,11 @@ class _Flow:
             _unwrapped(text),
             flags=re.DOTALL,
         )
+        try:
+            # Two codes of four digits may be one character.
+            whole = whole.encode("utf-16", "surrogatepass").decode("utf-16")
+        except UnicodeDecodeError:
+            self._fail("a code stands for no character")
         self._at = found.end()
         return Scalar(whole, line)
 
