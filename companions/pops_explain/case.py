@@ -1,5 +1,6 @@
 """A fault with all that is known of its problem, and what an explanation is made of."""
 
+import re
 from dataclasses import dataclass, replace
 from typing import Iterable, List, Optional, Sequence, Tuple
 
@@ -8,6 +9,9 @@ from pops_explain.reading import COMMANDS, CONDITIONS, OPTIONS, Reading, Section
 from pops_explain.words import TEXT_WORDS, Span, TextLine, Word, named
 
 _LONGEST_QUOTED = 48
+# The word before is looked for in so many bytes.
+_NEAR = 400
+_LAST_WORD = re.compile(rb"([^\t\n\x0b\x0c\r ]+)[\t\n\x0b\x0c\r ]+$")
 NAMES = (*COMMANDS, *TEXT_WORDS, *CONDITIONS, *OPTIONS, "White", "Black")
 
 
@@ -46,6 +50,16 @@ class Case:
     @property
     def behind(self) -> Optional[Word]:
         return self.reading.neighbour(1)
+
+    @property
+    def word_before(self) -> Optional[Word]:
+        """The word before the faulty one, also where it ends the problem before."""
+        start = max(self.word.start - _NEAR, 0)
+        found = _LAST_WORD.search(self.text[start : self.word.start])
+        if found is None:
+            return None
+        place = start + found.start()
+        return Word(found[1], place, self.text.count(b"\n", 0, place) + 1)
 
     @property
     def line_above(self) -> Optional[TextLine]:

@@ -66,10 +66,15 @@ def invisible(text: str) -> List[Odd]:
     return [Odd(place, it) for place, it in enumerate(text) if _is_invisible(it)]
 
 
+def is_wide_blank(character: str) -> bool:
+    """Whether it takes room, as a blank does."""
+    return unicodedata.category(character).startswith("Z")
+
+
 def with_blanks(text: str) -> str:
     """The text with a blank for each such character that takes room, and nothing for the others."""
     changed = (
-        (" " if unicodedata.category(it).startswith("Z") else "") if _is_invisible(it) else it
+        (" " if is_wide_blank(it) else "") if _is_invisible(it) else it
         for it in text
     )
     return " ".join("".join(changed).split())

@@ -6,6 +6,7 @@ from typing import Iterator, List, Optional, Tuple
 from pops_explain import wordings
 from pops_explain.case import Case, Explanation, first_of, listed, quoted
 from pops_explain.characters import decoded
+from pops_explain.other_men import man_by_name, two_letters
 from pops_explain.reading import (
     COLOURS,
     COMMANDS,
@@ -66,8 +67,8 @@ def _colour_before_man(case: Case) -> Optional[Explanation]:
 
 def _short_command(case: Case) -> Optional[Explanation]:
     word = case.plain.lower()
-    names = [it for it in (*COMMANDS, *TEXT_WORDS) if len(word) == 2 and it.lower().startswith(word)]
-    if not names:
+    names = [it for it in (*COMMANDS, *TEXT_WORDS) if it.lower().startswith(word)]
+    if len(word) != 2 or not names:
         return None
     return case.says(
         f"{case.quoted} is too short. Write three letters or more: `{names[0][:3]}` or"
@@ -162,7 +163,8 @@ def _causes_of_no_square(case: Case) -> Iterator[Optional[Explanation]]:
     yield wordings.signs(case)
     yield wordings.joined(case)
     yield _line_of_squares(case)
-    yield _two_letters(case)
+    yield man_by_name(case)
+    yield two_letters(case)
     yield _bad_square(case)
 
 
@@ -195,18 +197,6 @@ def _line_of_squares(case: Case) -> Optional[Explanation]:
         return None
     return case.says(
         f"A range of squares isn't read. Name each square, as in `{case.plain[0].upper()}a2b2c2`."
-    )
-
-
-def _two_letters(case: Case) -> Optional[Explanation]:
-    word = case.plain
-    if not re.fullmatch(r"[A-Za-z]{2}(?:[a-h][1-8])+", word, re.IGNORECASE):
-        return None
-    if word[:2].lower() in ("kt", "kn"):
-        return case.says(f"The knight is `S` here. Write `S{word[2:]}`.")
-    return case.says(
-        f"{case.quoted} is a man of two letters, as Popeye has many. pops has king, queen, rook,"
-        " bishop, knight, pawn, grasshopper and nightrider: K Q R B S P G N."
     )
 
 

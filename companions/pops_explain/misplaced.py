@@ -7,7 +7,7 @@ from typing import Iterator, Optional
 from pops_explain import wordings
 from pops_explain.case import Case, Explanation, at, first_of, listed, quoted
 from pops_explain.characters import decoded
-from pops_explain.foreign_men import foreign_letter
+from pops_explain.other_men import foreign_letter, man_by_name, two_letters
 from pops_explain.reading import (
     COLOURS,
     COMMANDS,
@@ -22,7 +22,6 @@ from pops_explain.reading import (
 from pops_explain.stipulations import looks_like_stipulation, solution_numbers
 from pops_explain.vocabulary import unread
 from pops_explain.words import LONGEST_WORD, named
-from pops_texts.chess import Kind
 
 _FILES = (
     (b"%PDF", "a PDF"),
@@ -35,9 +34,6 @@ _FILES = (
     (b"\x7fELF", "a program"),
     (b"<", "a page of HTML or XML"),
 )
-_MEN = {kind.word: kind for kind in Kind}
-_MEN["horse"] = Kind.KNIGHT
-_NUMBER_OF_LETTERS = re.compile(rb"[A-Za-z]{2}(?:[a-h][1-8])+", re.IGNORECASE)
 
 
 def begin_missing(case: Case) -> Explanation:
@@ -67,11 +63,11 @@ def _causes_at_the_beginning(case: Case) -> Iterator[Optional[Explanation]]:
     yield _other_file(case)
     yield _report(case)
     yield wordings.position(case)
+    yield _command_first(case)
     yield wordings.comment(case)
     yield wordings.signs(case)
     yield wordings.parted(case)
     yield wordings.in_another_language(case)
-    yield _command_first(case)
     yield from wordings.spelling(case)
     yield case.says(
         f"The first word of a text has to be `BeginProblem`, and {case.quoted} is another."
@@ -170,10 +166,10 @@ def _causes_among_men(case: Case) -> Iterator[Optional[Explanation]]:
     yield _bishop_or_black(case)
     yield _colour_letter(case)
     yield _letter_for_digit(case)
-    yield _man_by_name(case)
+    yield man_by_name(case)
     yield _pawn_without_letter(case)
     yield foreign_letter(case)
-    yield _two_letters(case)
+    yield two_letters(case)
 
 
 def _bishop_or_black(case: Case) -> Optional[Explanation]:
@@ -204,20 +200,6 @@ def _letter_for_digit(case: Case) -> Optional[Explanation]:
     return case.says(f"A letter stands in {case.quoted} where the digit 1 is meant: `{mended}`.")
 
 
-def _man_by_name(case: Case) -> Optional[Explanation]:
-    word = case.plain.lower()
-    for name in sorted(_MEN, key=len, reverse=True):
-        if word.startswith(name) and (word[len(name) :] in ("", "s") or case.fits(
-            _MEN[name].value + word[len(name) :]
-        )):
-            letter = _MEN[name].value
-            return case.says(
-                f"A man is a letter with its squares, in one word: a {name} is `{letter}`, as in"
-                f" `{letter}d4`."
-            )
-    return None
-
-
 def _pawn_without_letter(case: Case) -> Optional[Explanation]:
     if not squares_of(case.word.bytes):
         return None
@@ -229,15 +211,6 @@ def _pawn_without_letter(case: Case) -> Optional[Explanation]:
             case.before.span,
         )
     return case.says(f"{case.quoted} has no letter. A pawn is `P{case.plain}`.")
-
-
-def _two_letters(case: Case) -> Optional[Explanation]:
-    if not _NUMBER_OF_LETTERS.fullmatch(case.word.bytes):
-        return None
-    return case.says(
-        f"{case.quoted} is a man of two letters, as Popeye has many. pops has king, queen, rook,"
-        " bishop, knight, pawn, grasshopper and nightrider: K Q R B S P G N."
-    )
 
 
 def _value_without_option(case: Case) -> Optional[Explanation]:

@@ -17,7 +17,8 @@ from pops_explain.reading import (
     is_number,
     squares_of,
 )
-from pops_explain.words import named
+from pops_explain.vocabulary import unread
+from pops_explain.words import Word, named
 from pops_texts.chess import Colour
 
 _SIDES = re.compile(r"white|black|w|b|[kq]{1,4}|0-0(-0)?|o-o(-o)?|-|both|yes|no", re.IGNORECASE)
@@ -46,13 +47,8 @@ def _causes_of_no_number(case: Case) -> Iterator[Optional[Explanation]]:
     option = case.reading.option
     assert option is not None
     yield wordings.invisible(case)
-    if named(case.word.bytes, (*COMMANDS, *OPTIONS)):
-        yield case.says(
-            f"The number is missing behind {quoted(option)}, as in `MaxSolutions 5`. It is told"
-            f" at the next word, {case.quoted}.",
-            option.span,
-        )
-    yield wordings.of_popeye(case)
+    yield wordings.parted(case)
+    yield _missing(case, option, "number", "MaxSolutions 5")
     if is_number(case.word.bytes):
         yield case.says(
             f"`MaxSolutions` takes a number from 1 to {MOST_SOLUTIONS:,} (without commas), and"
@@ -68,6 +64,20 @@ def _causes_of_no_number(case: Case) -> Iterator[Optional[Explanation]]:
     )
 
 
+def _missing(case: Case, option: Word, what: str, example: str) -> Optional[Explanation]:
+    """No value at all: the next word is another command or option."""
+    there = unread(case.plain)
+    if there is None and not named(case.word.bytes, (*COMMANDS, *OPTIONS)):
+        return None
+    text = (
+        f"The {what} is missing behind {quoted(option)}, as in `{example}`. It is told at the next"
+        f" word, {case.quoted}."
+    )
+    if there is not None:
+        text = f"{text} And pops doesn't read that word of Popeye. {there.instead}."
+    return case.says(text, option.span)
+
+
 def square_missing(case: Case) -> Explanation:
     """Fault 14 behind EnPassant and NoCastling."""
     return first_of(_causes_of_no_square(case))
@@ -81,13 +91,8 @@ def _causes_of_no_square(case: Case) -> Iterator[Optional[Explanation]]:
     wanted = "the square that the pawn has crossed" if one else "squares of kings and rooks"
     example = "EnPassant d6" if one else "NoCastling e1h8"
     yield wordings.invisible(case)
-    if named(case.word.bytes, (*COMMANDS, *OPTIONS)):
-        yield case.says(
-            f"The square is missing behind {quoted(option)}, as in `{example}`. It is told at the"
-            f" next word, {case.quoted}.",
-            option.span,
-        )
-    yield wordings.of_popeye(case)
+    yield wordings.parted(case)
+    yield _missing(case, option, "square", example)
     if one and len(squares_of(case.word.bytes)) > 1:
         yield case.says(f"`EnPassant` takes one square, {wanted}, and {case.quoted} are more.")
     if one and is_man(case.word.bytes):

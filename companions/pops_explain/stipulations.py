@@ -274,7 +274,8 @@ def _causes_of_a_second(case: Case, given: Word) -> Iterator[Optional[Explanatio
         yield wordings.comment(case)
         yield wordings.signs(case)
     if case.word.bytes.lower() == given.bytes.lower():
-        yield case.says(f"The stipulation {quoted(given)} is given twice. Leave one out.", given.span)
+        text = f"The stipulation {quoted(given)} is given twice. Leave one out."
+        yield case.says(text, given.span)
     yield case.says(
         f"A problem has one stipulation, and {quoted(given)} was given. Write another problem for"
         f" {case.quoted}, behind `NextProblem`.",

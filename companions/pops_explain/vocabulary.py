@@ -100,6 +100,9 @@ _FRENCH = {
 }
 
 
+_COLOURS = ("white", "black")
+
+
 class Foreign(NamedTuple):
     """A word that pops doesn't read, and the English one for it."""
 
@@ -143,7 +146,7 @@ def _found(word: str, table: Dict[str, Unread]) -> Optional[Unread]:
     small = word.lower()
     if small in table:
         return table[small]
-    if len(small) < 3:
+    if len(small) < 3 or small in _COLOURS:
         return None
     return next((it for name, it in table.items() if name.startswith(small)), None)
 

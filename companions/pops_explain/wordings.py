@@ -6,7 +6,7 @@ from typing import Iterator, List, Optional
 from pops_explain import characters
 from pops_explain.case import NAMES, Case, Explanation
 from pops_explain.vocabulary import foreign, unread
-from pops_explain.words import BLANKS, Span
+from pops_explain.words import BLANKS, TEXT_WORDS, Span, named
 
 _SIGNS = {
     ",": "comma",
@@ -55,12 +55,10 @@ def invisible(case: Case) -> Optional[Explanation]:
             f"A byte order mark stands {where} {case.quoted}: three bytes that don't show, and"
             f" that are part of the word. {cure}."
         )
-    mended = characters.with_blanks(case.plain)
-    if " " in mended or len(mended) < len(case.plain) - len(found) + 1:
-        looks = "looks like a blank" if characters.width(odd.character) else "doesn't show"
-    else:
-        looks = "doesn't show"
-    cure = f"Write `{mended}`" if case.fits(mended) else "Type a blank in its place"
+    blanks = characters.with_blanks(case.plain)
+    mended = next((it for it in (blanks, blanks.replace(" ", "")) if case.fits(it)), None)
+    cure = "Type a blank in its place" if mended is None else f"Write `{mended}`"
+    looks = "looks like a blank" if characters.is_wide_blank(odd.character) else "doesn't show"
     return case.says(
         f"The word {case.quoted} holds a {odd.name}, which {looks} and is part of the word. {cure}."
     )
@@ -72,6 +70,8 @@ def look_alike(case: Case) -> Optional[Explanation]:
     if odd is None:
         return None
     mended = characters.plain(case.plain)
+    if not characters.is_figurine(odd.character) and not case.fits(mended):
+        return None
     if characters.is_figurine(odd.character):
         return case.says(
             f"`{odd.character}` is a figurine. pops reads letters: `{mended}`, and the colour as"
@@ -135,10 +135,10 @@ def parted(case: Case) -> Optional[Explanation]:
         whole = word + characters.decoded(case.behind.bytes)
         if case.fits(whole) and _is_name(whole):
             return case.says(f"`{whole}` is one word, without a blank.", case.behind.span)
-    if case.before is not None:
-        whole = characters.decoded(case.before.bytes) + word
-        if _is_name(whole):
-            return case.says(f"`{whole}` is one word, without a blank.", case.before.span)
+    before = case.word_before
+    if before is not None and _is_name(characters.decoded(before.bytes) + word):
+        whole = characters.decoded(before.bytes) + word
+        return case.says(f"`{whole}` is one word, without a blank.", before.span)
     return None
 
 
@@ -149,11 +149,17 @@ def _is_name(word: str) -> bool:
 def joined(case: Case) -> Optional[Explanation]:
     """Two words without a blank between them."""
     word = case.plain
+    if re.fullmatch("endproblembeg[a-z]*", word, re.IGNORECASE):
+        return case.says(
+            "Two texts were joined here, and `EndProblem` ends the first: nothing behind it would"
+            f" be read. Write `NextProblem` in place of {case.quoted}."
+        )
     for place in range(len(word) - 1, 0, -1):
-        if case.fits(f"{word[:place]} {word[place:]}") and not word[place:].isspace():
-            return case.says(
-                f"A blank is missing in {case.quoted}. Write `{word[:place]} {word[place:]}`."
-            )
+        first, second = word[:place], word[place:]
+        if second.islower() and (len(second) < 3 or named(first.encode("utf-8"), TEXT_WORDS)):
+            continue
+        if case.fits(f"{first} {second}"):
+            return case.says(f"A blank is missing in {case.quoted}. Write `{first} {second}`.")
     return None
 
 
@@ -230,6 +236,8 @@ def misspelt(case: Case) -> Optional[Explanation]:
 def _nearness(word: str, name: str) -> float:
     """How many letters of the word have to be changed to make it a short form of the name."""
     small = name.lower()
+    if sorted(word) == sorted(small):
+        return 1
     ends = range(max(3, len(word) - 1), min(len(small), len(word) + 1) + 1)
     whole = _distance(word, small)
     forms = [_distance(word, small[:end]) + 0.1 for end in ends if end < len(small)]
@@ -258,7 +266,7 @@ def rest_of_a_text(case: Case) -> Optional[Explanation]:
     return case.says(
         f"The text of `{above.name}` ends with its line. Write `{above.name}` on one line, or"
         " `Remark` before the next.",
-        above.word.span,
+        above.span,
     )
 
 
@@ -272,9 +280,9 @@ def characters_in(case: Case) -> Iterator[Optional[Explanation]]:
 def spelling(case: Case) -> Iterator[Optional[Explanation]]:
     """The causes that lie in how a word of pops is written."""
     yield accented(case)
+    yield joined(case)
     yield lengthened(case)
     yield too_short(case)
-    yield joined(case)
     yield misspelt(case)
 
 

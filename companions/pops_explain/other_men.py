@@ -1,4 +1,4 @@
-"""Men written with the letters of another language."""
+"""Men written otherwise than pops reads them: by name, by two letters, in another language."""
 
 import re
 from typing import List, Optional
@@ -10,6 +10,7 @@ from pops_explain.vocabulary import Alphabet, alphabets_of, alphabets_with
 from pops_explain.words import Word, named
 from pops_texts.chess import Kind
 
+_NAMES = {kind.word: kind for kind in Kind}
 _CYRILLIC_MEN = "ФЛСКПфлскп"
 
 
@@ -35,15 +36,38 @@ def foreign_letter(case: Case) -> Optional[Explanation]:
         return case.says(f"{text} It is {listed(ways, 'or')}. pops reads K Q R B S P G N.")
     kind = kinds.pop()
     languages = [language for it in possible for language in it.languages]
-    text = (
-        f"{text} It is the {kind.word} in {listed(languages)}, which is {kind.value}:"
-        f" `{kind.value}{squares}`."
-    )
+    text = f"{text} It is the {kind.word} in {listed(languages)}: write `{kind.value}{squares}`."
     if len(fitting) == 1:
         others = _others(men, case.word, fitting[0])
         if others:
-            text = f"{text} Of the other men, {listed(others)}."
+            text = f"{text} Then {listed(others)}."
     return case.says(text)
+
+
+def man_by_name(case: Case) -> Optional[Explanation]:
+    """A man by its English name."""
+    word = case.plain.lower()
+    for name in sorted(_NAMES, key=len, reverse=True):
+        letter, rest = _NAMES[name].value, word[len(name) :]
+        if word.startswith(name) and (rest in ("", "s") or case.fits(letter + rest)):
+            return case.says(
+                f"A man is a letter with its squares, in one word: a {name} is `{letter}`, as in"
+                f" `{letter}d4`."
+            )
+    return None
+
+
+def two_letters(case: Case) -> Optional[Explanation]:
+    """A man of two letters, as Popeye has them."""
+    word = case.plain
+    if not re.fullmatch(r"[a-z]{2}(?:[a-h][1-8])+", word, re.IGNORECASE):
+        return None
+    if word[:2].lower() in ("kt", "kn"):
+        return case.says(f"The knight is `S` here. Write `S{word[2:]}`.")
+    return case.says(
+        f"{case.quoted} is a man of two letters, as Popeye has many. pops has king, queen, rook,"
+        " bishop, knight, pawn, grasshopper and nightrider: K Q R B S P G N."
+    )
 
 
 def _kind(alphabet: Alphabet, letter: str) -> Kind:
@@ -77,5 +101,5 @@ def _others(men: List[Word], faulty: Word, alphabet: Alphabet) -> List[str]:
     for letter in letters_of(men):
         kind = alphabet.kind(letter)
         if kind is not None and kind.value != letter and letter != decoded(faulty.bytes)[0].upper():
-            others.append(f"`{letter}` is then the {kind.word}, {kind.value}")
+            others.append(f"`{letter}` is {kind.value} ({kind.word})")
     return others
