@@ -128,6 +128,35 @@ class Slips(unittest.TestCase):
         self.assertGreater(len(kinds), 10)
 
 
+class Documents(unittest.TestCase):
+    """What is promised of it in the documents."""
+
+    def test_the_example_of_the_companions_document(self) -> None:
+        document = (support.REPOSITORY / "docs" / "COMPANIONS.md").read_text("utf-8")
+        text = (
+            b"BeginProblem\nTitle A mate\nPieces White Kg6 Da1 La2 Bb4 Black Kg8\nStipulation #1\n"
+            b"NextProblem\n\nPieces White Kg6 Ra1 Black Kg8\nStipulation #1\n"
+            b"Option MaxSolutions\nNextProblem\nPieces White Kg6 Ra1 Black Kg8\n"
+            b"Stipulation #1\nEndProblem\n"
+        )
+        said = command(text=text).output.decode().replace("standard input:", "mates.pop:")
+        self.assertIn(re.sub("^(?=.)", "    ", said, flags=re.M), document)
+
+    def test_every_word_of_popeye_in_the_manual_is_known(self) -> None:
+        manual = (support.REPOSITORY / "docs" / "MANUAL.md").read_text("utf-8")
+        rows = re.findall(r"^\| (command|option|words) (`[^|]*) \| fault \d+ \|", manual, re.M)
+        words = [(kind, word) for kind, cell in rows for word in re.findall("`([^`]+)`", cell)]
+        self.assertGreater(len(words), 30)
+        for kind, word in words:
+            with self.subTest(word):
+                lines = [f"Option {word}"] if kind == "option" else [word]
+                if word in ("Be", "AnfangProblem", "DebutProbleme"):
+                    lines.insert(0, "in place of line 1:")
+                (one,) = explained("\n".join(in_base(lines)).encode())
+                known = r"of Popeye|English words alone|three letters or more"
+                self.assertRegex(one.explanation.text, known)
+
+
 class Marks(unittest.TestCase):
     def test_the_line_below_marks_the_word(self) -> None:
         cases = [
