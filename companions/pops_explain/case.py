@@ -52,14 +52,11 @@ class Case:
         return self.reading.neighbour(1)
 
     @property
-    def word_before(self) -> Optional[Word]:
-        """The word before the faulty one, also where it ends the problem before."""
+    def span_before(self) -> Optional[Span]:
+        """Where the word before the faulty one stands, also where it ends the problem before."""
         start = max(self.word.start - _NEAR, 0)
         found = _LAST_WORD.search(self.text[start : self.word.start])
-        if found is None:
-            return None
-        place = start + found.start()
-        return Word(found[1], place, self.text.count(b"\n", 0, place) + 1)
+        return None if found is None else Span(start + found.start(1), start + found.end(1))
 
     @property
     def line_above(self) -> Optional[TextLine]:

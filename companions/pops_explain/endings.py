@@ -130,7 +130,7 @@ def _causes_of_no_end(text: bytes, reading: Reading) -> Iterator[Optional[Explan
 
 
 def _old_mac(text: bytes, reading: Reading) -> Optional[Explanation]:
-    if not reading.text_lines or not wordings.old_mac(text, 0, len(text)):
+    if not reading.text_lines or not wordings.old_mac(text):
         return None
     line = reading.text_lines[0]
     return at(

@@ -4,7 +4,7 @@ import re
 from typing import Iterator, List, Optional, Tuple
 
 from pops_explain import wordings
-from pops_explain.case import Case, Explanation, first_of, listed, quoted
+from pops_explain.case import Case, Explanation, at, first_of, listed, quoted
 from pops_explain.characters import decoded
 from pops_explain.other_men import man_by_name, two_letters
 from pops_explain.reading import (
@@ -86,18 +86,18 @@ def square_taken(case: Case) -> Explanation:
     assert kind is not None and colour is not None
     if before.word is case.word:
         text = f"{case.quoted} names {square.name} twice. Leave one out."
-        return case_at(case, text, first, placed)
+        return at(text, first, placed)
     if (before.man.kind, before.man.colour) == (kind, colour):
         text = (
             f"The {what} on {square.name} was given before, by {quoted(before.word)}. Leave one"
             " out."
         )
-        return case_at(case, text, first, placed)
+        return at(text, first, placed)
     text = (
         f"On {square.name} stands the {what} of {quoted(before.word)} already, and the"
         f" {colour.value} {kind.word} of {case.quoted} can't stand there too."
     )
-    return case_at(case, text, first, placed)
+    return at(text, first, placed)
 
 
 def pawn_outside(case: Case) -> Explanation:
@@ -106,7 +106,7 @@ def pawn_outside(case: Case) -> Explanation:
     text = f"A pawn stands on ranks 2 to 7, and {square.name} is on rank {square.rank}."
     if square.rank == (8 if case.reading.colour is Colour.WHITE else 1):
         text = f"{text} A pawn that has promoted is what it became: `Q{square.name}`."
-    return case_at(case, text, placed)
+    return at(text, placed)
 
 
 def second_king(case: Case) -> Explanation:
@@ -120,7 +120,7 @@ def second_king(case: Case) -> Explanation:
     name = colour.value
     if before.word is case.word:
         text = f"{case.quoted} gives {name.title()} two kings. Each side has one at most."
-        return case_at(case, text, span_of(before), placed)
+        return at(text, span_of(before), placed)
     if colour.opponent not in [it for it, _ in case.reading.colours]:
         other = colour.opponent.name.title()
         text = (
@@ -129,12 +129,7 @@ def second_king(case: Case) -> Explanation:
         )
     else:
         text = f"{name.title()} has the king of {quoted(before.word)} already, and one is all."
-    return case_at(case, text, span_of(before), placed)
-
-
-def case_at(case: Case, text: str, *marks: Span) -> Explanation:
-    """An explanation that marks these places and not all of the word."""
-    return Explanation(text, tuple(sorted(set(marks), key=lambda mark: mark.start)))
+    return at(text, span_of(before), placed)
 
 
 def _square_of(case: Case) -> Tuple[Square, Span]:
@@ -209,14 +204,14 @@ def _bad_square(case: Case) -> Explanation:
     part = bad[:2]
     if re.fullmatch("[a-h]", bad, re.IGNORECASE):
         text = f"The rank of the last square is missing in {case.quoted}."
-    elif re.fullmatch("[1-8].*", bad) and good.end() > 0:
+    elif re.fullmatch("[1-8]", bad) or (good.end() > 0 and bad[0] in "12345678"):
         text = f"The file is missing before `{bad[0]}` in {case.quoted}: a square is two signs."
         part = bad[:1]
     else:
         text = f"`{part}` in {case.quoted} is no square: files are a to h, ranks 1 to 8."
     stop = place + len(part)
     whole = len(decoded(case.word.bytes)) != len(case.word.bytes)
-    return case_at(case, text, case.word.span if whole else case.word.part(place, stop))
+    return at(text, case.word.span if whole else case.word.part(place, stop))
 
 
 def king_missing(case: Case) -> Explanation:

@@ -21,7 +21,7 @@ from pops_explain.reading import (
 )
 from pops_explain.stipulations import looks_like_stipulation, solution_numbers
 from pops_explain.vocabulary import unread
-from pops_explain.words import LONGEST_WORD, named
+from pops_explain.words import LONGEST_WORD, Span, named
 
 _FILES = (
     (b"%PDF", "a PDF"),
@@ -44,12 +44,12 @@ def begin_missing(case: Case) -> Explanation:
 def no_problem(text: bytes, has_text_lines: bool) -> Explanation:
     """Fault 1 at the end of a text."""
     if has_text_lines:
-        if wordings.old_mac(text, 0, len(text)):
+        if wordings.old_mac(text):
             return at(
                 "Carriage returns alone end the lines, as on old Macs, and pops takes them as"
                 " blanks: the first text line takes all the rest. Save the text with the line ends"
                 " of Unix or Windows.",
-                wordings.line_span(text, 1),
+                Span(0, len(text)),
             )
         return at(
             "Nothing but text lines stands here (Title, Author, Origin, Remark), and no problem."

@@ -4,8 +4,8 @@ import re
 from typing import Iterator, Optional
 
 from pops_explain import wordings
-from pops_explain.case import Case, Explanation, first_of, listed, quoted
-from pops_explain.men import case_at, span_of
+from pops_explain.case import Case, Explanation, at, first_of, listed, quoted
+from pops_explain.men import span_of
 from pops_explain.reading import (
     CASTLING_SQUARES,
     COMMANDS,
@@ -148,4 +148,4 @@ def no_castling_square(case: Case) -> Explanation:
         f"`NoCastling` takes the squares where kings and rooks stand before castling,"
         f" {listed(CASTLING_SQUARES)}, and {square.name} is none of them."
     )
-    return case_at(case, text, case.word.part(place, place + 2))
+    return at(text, case.word.part(place, place + 2))

@@ -1,6 +1,8 @@
 """Shows explained faults as text: the place, the lines with their words marked, the words."""
 
 import textwrap
+from bisect import bisect_right
+from itertools import accumulate
 from typing import Dict, List, Tuple
 
 from pops_explain.characters import shown, width
@@ -13,46 +15,52 @@ _TITLE_SHOWN = 60
 _BLANKS = bytes.maketrans(b"\t\x0b\x0c\r", b"    ")
 
 
-def text_of(name: str, text: bytes, explained: ExplainedFault) -> str:
-    """An explained fault as some lines of text."""
-    fault = explained.fault
-    head = f"{name}:{fault.line}: problem {explained.problem}"
-    if explained.title is not None:
-        title = shown(explained.title)
-        head += f' "{title if len(title) <= _TITLE_SHOWN else title[:_TITLE_SHOWN] + ".."}"'
-    lines = [f"{head}: fault {fault.number}: {fault.text}"]
-    lines.extend(_marked_lines(text, explained))
-    lines.extend(
-        textwrap.wrap(
-            explained.explanation.text,
-            _WIDTH,
-            initial_indent="  ",
-            subsequent_indent="  ",
-            break_long_words=False,
-            break_on_hyphens=False,
-        )
-    )
-    return "\n".join(lines) + "\n"
+class Shower:
+    """Shows the faults of one text, under its name."""
 
+    def __init__(self, name: str, text: bytes):
+        self._name = name
+        self._text = text
+        lengths = (len(line) + 1 for line in text.split(b"\n"))
+        self._ends = list(accumulate(lengths))
 
-def _marked_lines(text: bytes, explained: ExplainedFault) -> List[str]:
-    """The lines that hold the marks, in their order; the line of the fault where there are none."""
-    by_line: Dict[Tuple[int, int, int], List[Span]] = {}
-    for mark in explained.explanation.marks:
-        start = text.rfind(b"\n", 0, mark.start) + 1
-        stop = text.find(b"\n", start)
-        stop = len(text) if stop < 0 else stop
-        number = text.count(b"\n", 0, start) + 1
-        by_line.setdefault((number, start, stop), []).append(mark)
-    digits = max((len(str(number)) for number, _, _ in by_line), default=0)
-    lines = []
-    for (number, start, stop), marks in by_line.items():
-        line, signs = marked(
-            text[start:stop], [(mark.start - start, mark.stop - start) for mark in marks]
+    def text_of(self, explained: ExplainedFault) -> str:
+        """An explained fault as some lines of text."""
+        fault = explained.fault
+        head = f"{self._name}:{fault.line}: problem {explained.problem}"
+        if explained.title is not None:
+            title = shown(explained.title)
+            head += f' "{title if len(title) <= _TITLE_SHOWN else title[:_TITLE_SHOWN] + ".."}"'
+        lines = [f"{head}: fault {fault.number}: {fault.text}"]
+        lines.extend(self._marked_lines(explained.explanation.marks))
+        lines.extend(
+            textwrap.wrap(
+                explained.explanation.text,
+                _WIDTH,
+                initial_indent="  ",
+                subsequent_indent="  ",
+                break_long_words=False,
+                break_on_hyphens=False,
+            )
         )
-        lines.append(f"{number:{digits + 4}} | {line}")
-        lines.append(f"{'':{digits + 4}} | {signs}")
-    return lines
+        return "\n".join(lines) + "\n"
+
+    def _marked_lines(self, marks: Tuple[Span, ...]) -> List[str]:
+        """The lines that hold the marks, each with its number and a line of signs below it."""
+        by_line: Dict[int, List[Span]] = {}
+        for mark in marks:
+            by_line.setdefault(bisect_right(self._ends, mark.start), []).append(mark)
+        digits = max((len(str(line + 1)) for line in by_line), default=0)
+        lines = []
+        for line, its_marks in by_line.items():
+            start = self._ends[line - 1] if line else 0
+            text, signs = marked(
+                self._text[start : self._ends[line] - 1],
+                [(mark.start - start, mark.stop - start) for mark in its_marks],
+            )
+            lines.append(f"{line + 1:{digits + 4}} | {text}")
+            lines.append(f"{'':{digits + 4}} | {signs}")
+        return lines
 
 
 def marked(line: bytes, marks: List[Tuple[int, int]]) -> Tuple[str, str]:
@@ -81,9 +89,9 @@ def _part(line: bytes, marks: List[Tuple[int, int]]) -> Tuple[int, int]:
     room = max(_WIDEST - (last - first), 0)
     start = max(first - room // 2, 0)
     stop = min(start + _WIDEST, len(line))
-    start, stop = max(stop - _WIDEST, 0), stop
-    while 0 < start < len(line) and line[start] & 0xC0 == 0x80:
+    start = max(stop - _WIDEST, 0)
+    while 0 < start and line[start] & 0xC0 == 0x80:
         start -= 1
     while stop < len(line) and line[stop] & 0xC0 == 0x80:
         stop += 1
-    return min(start, first), stop
+    return min(start, first), stop if len(marks) == 1 else max(stop, last)

@@ -4,7 +4,7 @@ from typing import Dict, List, NamedTuple, Optional, Tuple
 
 from pops_texts.chess import Kind
 
-_SEARCHES_ALONE = "It has no counterpart here: leave it out"
+_NONE = "It has no counterpart here"
 
 _COMMANDS = {
     "Twin": "Write each twin as a problem of its own, behind `NextProblem`",
@@ -12,8 +12,8 @@ _COMMANDS = {
     "ZeroPosition": "Write each twin as a problem of its own, behind `NextProblem`",
     "Forsyth": "`fen2pop` makes a problem of a position in Forsyth notation",
     "Array": "Write the men of the game array behind `Pieces`",
-    "Trace": "Leave it out",
-    "Protocol": "`pops FILE | tee REPORT` writes the report into a file too",
+    "Trace": "Leave it out: lines show as they are found",
+    "Protocol": "`pops FILE > REPORT` writes the report into a file",
     "Input": "Put the text of that file in its place",
     "LaTeX": "`pops-page` makes diagrams of a report",
     "LaTeXPieces": "`pops-page` makes diagrams of a report",
@@ -25,25 +25,24 @@ _OPTIONS = {
     " missing there refutes it",
     "Defence": "Give the position after the try, with `Option SetPlay`: a move of Black that is"
     " missing there refutes it",
-    "Threat": "No threat is named here: leave it out. `Variation` shows each defence with its"
-    " continuations",
+    "Threat": "Give the position after the key, with one move fewer: its keys are the threats",
     "NoThreat": "No threat is named here: leave it out",
     "Duplex": "Write a second problem with the colours turned, behind `NextProblem`",
     "HalfDuplex": "Turn the colours: White's men are Black's, and rank 1 is rank 8",
     "Intelligent": "Leave it out: the solutions are the same, and take longer",
     "MaxTime": "`timeout 60 pops FILE` stops after 60 seconds and keeps the lines found",
     "WhiteToPlay": "In help play `h#n.5` lets White start: `h#2.5` for `h#3`",
-    "StartMoveNumber": "`MaxSolutions` and fewer moves save time here: leave it out",
-    "MoveNumbers": "Leave it out: each line shows as soon as it is found",
-    "Quodlibet": "Write two problems, one for each goal",
+    "StartMoveNumber": "Leave it out: each line shows as it is found",
+    "MoveNumbers": "Leave it out: each line shows as it is found",
+    "Quodlibet": _NONE,
     "PostKeyPlay": "Give the position after the key, with `Option SetPlay`: Black moves first in"
     " set play",
-    "NonTrivial": _SEARCHES_ALONE,
-    "MaxFlightSquares": _SEARCHES_ALONE,
-    "MaxThreats": _SEARCHES_ALONE,
-    "NoShortVariations": _SEARCHES_ALONE,
+    "NonTrivial": _NONE,
+    "MaxFlightSquares": _NONE,
+    "MaxThreats": _NONE,
+    "NoShortVariations": _NONE,
     "StopOnShortSolutions": "Leave it out: in help play no line shorter than stipulated is shown",
-    "LastCapture": _SEARCHES_ALONE,
+    "LastCapture": _NONE,
     "Beep": "Leave it out",
 }
 _ATTRIBUTES = ("Neutral", "HalfNeutral", "Royal", "Chameleon", "Kamikaze", "Volage", "Paralysing")

@@ -6,7 +6,7 @@ from typing import Iterator, List, Optional
 from pops_explain import characters
 from pops_explain.case import NAMES, Case, Explanation
 from pops_explain.vocabulary import foreign, unread
-from pops_explain.words import BLANKS, TEXT_WORDS, Span, named
+from pops_explain.words import TEXT_WORDS, named
 
 _SIGNS = {
     ",": "comma",
@@ -135,10 +135,11 @@ def parted(case: Case) -> Optional[Explanation]:
         whole = word + characters.decoded(case.behind.bytes)
         if case.fits(whole) and _is_name(whole):
             return case.says(f"`{whole}` is one word, without a blank.", case.behind.span)
-    before = case.word_before
-    if before is not None and _is_name(characters.decoded(before.bytes) + word):
-        whole = characters.decoded(before.bytes) + word
-        return case.says(f"`{whole}` is one word, without a blank.", before.span)
+    before = case.span_before
+    if before is not None:
+        whole = characters.decoded(case.text[before.start : before.stop]) + word
+        if _is_name(whole):
+            return case.says(f"`{whole}` is one word, without a blank.", before)
     return None
 
 
@@ -286,20 +287,6 @@ def spelling(case: Case) -> Iterator[Optional[Explanation]]:
     yield misspelt(case)
 
 
-def old_mac(text: bytes, start: int, stop: int) -> bool:
-    """Whether carriage returns alone stand in this part, in place of line ends."""
-    return b"\r" in text[start:stop] and b"\n" not in text
-
-
-def is_blank(text: bytes) -> bool:
-    """Whether nothing but blanks and line ends stand in a text."""
-    return not text.strip(BLANKS)
-
-
-def line_span(text: bytes, line: int) -> Span:
-    """The bytes of a line of a text."""
-    start = 0
-    for _ in range(line - 1):
-        start = text.find(b"\n", start) + 1
-    stop = text.find(b"\n", start)
-    return Span(start, len(text) if stop < 0 else stop)
+def old_mac(text: bytes) -> bool:
+    """Whether carriage returns alone stand in a text, in place of line ends."""
+    return b"\r" in text and b"\n" not in text

@@ -6,7 +6,6 @@ from typing import Iterator, List, Optional, Sequence, Union
 
 from pops_many.cutting import Piece
 
-BLANKS = b"\t\n\x0b\x0c\r "
 TEXT_WORDS = ("Title", "Author", "Origin", "Remark")
 LONGEST_WORD = 160
 

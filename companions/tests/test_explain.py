@@ -117,7 +117,7 @@ class Slips(unittest.TestCase):
     def test_every_fault_of_made_inputs_is_explained(self) -> None:
         chance = random.Random(34)
         kinds = set()
-        for _ in range(300):
+        for _ in range(150):
             text = made_inputs.made_input(chance)
             with self.subTest(text):
                 for one in explained(text):
