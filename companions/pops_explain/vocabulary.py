@@ -15,6 +15,7 @@ _COMMANDS = {
     "Trace": "Leave it out: lines show as they are found",
     "Protocol": "`pops FILE > REPORT` writes the report into a file",
     "Input": "Put the text of that file in its place",
+    "InputFile": "Put the text of that file in its place",
     "LaTeX": "`pops-page` makes diagrams of a report",
     "LaTeXPieces": "`pops-page` makes diagrams of a report",
     "Award": "Write it behind `Remark`",
@@ -151,20 +152,20 @@ def _found(word: str, table: Dict[str, Unread]) -> Optional[Unread]:
 
 
 class Alphabet(NamedTuple):
-    """The letters of a language for king, queen, rook, bishop, knight and pawn."""
+    """The letters of languages for king, queen, rook, bishop, knight and pawn, and for grasshopper
+    and nightrider where Popeye has them."""
 
     languages: Tuple[str, ...]
     letters: str
 
     def kind(self, letter: str) -> Optional[Kind]:
         place = self.letters.find(letter.upper())
-        return _ORTHODOX[place] if place >= 0 else None
+        return tuple(Kind)[place] if place >= 0 else None
 
 
-_ORTHODOX = (Kind.KING, Kind.QUEEN, Kind.ROOK, Kind.BISHOP, Kind.KNIGHT, Kind.PAWN)
 _ALPHABETS = (
-    Alphabet(("German",), "KDTLSB"),
-    Alphabet(("French",), "RDTFCP"),
+    Alphabet(("German",), "KDTLSBGN"),
+    Alphabet(("French",), "RDTFCPSN"),
     Alphabet(("Italian", "Spanish"), "RDTACP"),
     Alphabet(("Polish",), "KHWGSP"),
     Alphabet(("Czech",), "KDVSJP"),
