@@ -5,7 +5,7 @@ from typing import Iterator, List, Optional, Tuple
 
 from pops_explain import wordings
 from pops_explain.case import Case, Explanation, at, first_of, listed, quoted
-from pops_explain.characters import decoded
+from pops_explain.characters import decoded, shown
 from pops_explain.other_men import man_by_name, two_letters
 from pops_explain.reading import (
     COLOURS,
@@ -221,6 +221,14 @@ def king_missing(case: Case) -> Explanation:
     side = to_be_mated(stipulation)
     name, other = side.name.title(), side.opponent.name.title()
     head = f"In {quoted(given)} {name} is to be mated, and has no king."
+    for line in case.reading.text_lines:
+        kings = [it for it in line.text.split() if is_man(it) and kind_of(it) is Kind.KING]
+        if kings:
+            return case.says(
+                f"{head} `{line.name}` takes the rest of its line, and so `{shown(kings[-1])}`"
+                " there is part of the text. Write it on a line of its own.",
+                line.span,
+            )
     men = [placed for placed in case.reading.men.values() if placed.man.colour is side]
     last = max(case.reading.men.values(), key=lambda placed: placed.word.start).word
     words = [word for colour, word in case.reading.colours if colour is side]

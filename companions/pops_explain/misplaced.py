@@ -231,7 +231,8 @@ def _unknown(case: Case) -> Explanation:
     if section is None:
         return case.says(
             f"{case.quoted} stands before the first section of the problem. A problem has the"
-            f" sections {listed(SECTIONS)}."
+            f" sections {listed(SECTIONS)}; a title stands behind `Title`, a comment behind"
+            " `Remark`."
         )
     if section is Section.PIECES:
         return case.says(
@@ -243,7 +244,7 @@ def _unknown(case: Case) -> Explanation:
         assert given is not None
         return case.says(
             f"The stipulation is the one word {quoted(given)}, and {case.quoted} is none of pops's"
-            " commands."
+            " commands. A comment stands behind `Remark`."
         )
     if section is Section.CONDITION:
         return case.says(f"{case.quoted} is no condition of pops. It has {listed(CONDITIONS)}.")

@@ -210,9 +210,9 @@ def lengthened(case: Case) -> Optional[Explanation]:
 
 
 def too_short(case: Case) -> Optional[Explanation]:
-    """One or two letters of a word of pops."""
+    """Two letters of a word of pops."""
     word = case.plain
-    if len(word) > 2 or not word.isalpha():
+    if len(word) != 2 or not word.isalpha():
         return None
     for name in case.names_here():
         if name.lower().startswith(word.lower()):
