@@ -67,6 +67,9 @@ impl<R: Rules, const N: usize> Search<R, N> {
         requires rule { R.rule ≡ rule_of problem.now.condition }
         ensures problem { result.problem ≡ problem.now }
         ensures left { result.left ≡ events R.rule problem.now }
+        ensures board { result.board ≡ start problem.now }
+        ensures depth { result.depth ≡ 0 }
+        ensures opened { result.opened ≡ 0 }
     {
         Search {
             problem: *problem,
