@@ -1,7 +1,7 @@
 -- The entry of a block is a function of its own words and their lines: no neighbour changes it.
-use Rattle.pop_input.proofs.Words.{Bool, Entry, List, None, Some, Tail, Token, Word, Words, [], ap, append_assoc, block_fault, closed_entry, command_of, entries_by, entries_of, false, flat_map, get_or, get_or_at, inside, length, length-map, list_all, map, no_words, put_before, refl, suc, sym, true, ℕ, ◌++◌, ◌∙◌, ◌∷◌, ◌≡◌}
+use Rattle.pop_input.proofs.Words.{Bool, Entry, List, None, Some, Tail, Token, Word, Words, [], ap, append_assoc, block_fault, closed_entry, command_of, entries_by, entries_of, false, flat_map, get_or, get_or_at, inside, is_open, length, length-map, list_all, map, no_words, put_before, refl, suc, sym, true, ℕ, ◌++◌, ◌∙◌, ◌∷◌, ◌≡◌}
 use Rattle.pop_input.specs.declared.names.Command.TheVariants.{Last, Next}
-use Rattle.pop_input.proofs.Blocks.{ended_entries, is_open, last_entries, next_entries}
+use Rattle.pop_input.proofs.Blocks.{ended_entries, last_entries, next_entries}
 
 -- A block that NextProblem closes: the words and text lines before it, none of which closes a block, and the word, with the line it stands in.
 pub record NextBlock : Type 0 where
