@@ -1,5 +1,5 @@
 //! Frames.
-ghost use Rattle.std.specs.Prelude.{◌≡◌};
+ghost use Rattle.std.specs.Prelude.{◌≡◌, ⊤};
 ghost use Rattle.pop_solve.specs.ties.Frames.{unordered};
 
 use chess_core::man::Move;
@@ -7,6 +7,7 @@ use chess_rules::legal_moves::LegalMoves;
 use chess_rules::moves::Moves;
 use chess_rules::play::Undo;
 use chess_rules::rules::Rules;
+use std::alloc::AllocError;
 use std::marker::Model;
 
 /// Which moves of a position a test tries, one stretch after another; each move belongs to one of them.
@@ -31,7 +32,7 @@ pub enum Early {
 
 /// How a test orders the moves of a position: the places on two killers, whatever stands there, and which moves come
 /// first behind them. Contracts see the record `Order` of the same fields.
-#[derive(Clone, Copy)]
+#[derive(Copy)]
 pub struct Order<R: Rules> {
     pub killer: Moves<R>,
     pub earlier: Moves<R>,
@@ -46,6 +47,16 @@ impl<R: Rules> Model for Order<R> {
     ghost view = { λ o. record { killer = o.killer; earlier = o.earlier; early = o.early } };
 
     ghost inverse = { λ v. record { killer = v.killer; earlier = v.earlier; early = v.early } };
+}
+
+impl<R: Rules> Clone for Order<R> {
+    ghost is_clone = { λ it copy. copy ≡ it };
+
+    ghost is_infallible = { λ _. ⊤ };
+
+    fn clone(&self) -> Result<Self, AllocError> {
+        Ok(*self)
+    }
 }
 
 impl<R: Rules> Order<R> {
@@ -63,7 +74,7 @@ impl<R: Rules> Order<R> {
 
 /// A position on the way from a phase's first position, whose moves are tried in turn. Contracts see the record `Frame`
 /// of the same fields.
-#[derive(Clone, Copy)]
+#[derive(Copy)]
 pub struct Frame<R: Rules> {
     /// The moves up to here have been tried.
     pub place: Moves<R>,
@@ -105,7 +116,24 @@ impl<R: Rules> Model for Frame<R> {
     } };
 }
 
+impl<R: Rules> Clone for Frame<R> {
+    ghost is_clone = { λ it copy. copy ≡ it };
+
+    ghost is_infallible = { λ _. ⊤ };
+
+    fn clone(&self) -> Result<Self, AllocError> {
+        Ok(*self)
+    }
+}
+
 impl<R: Rules> Default for Frame<R> {
+    ghost use Rattle.std.specs.Prelude.{◌≡◌};
+    ghost use Rattle.pop_solve.specs.ties.Frames.{no_frame};
+
+    ghost is_default = { λ f. f ≡ no_frame };
+
+    // The frame of no position.
+    #[tactic(auto, unfolding(chess_core::specs::Castling::none_unmoved))]
     fn default() -> Self {
         Frame {
             place: Moves::start(),

@@ -1,6 +1,7 @@
 -- The tables of lines and leaps, computed.
-use Rattle.chess_rules.proofs.Basics.{List, None, Option, ap, arith, get_or, get_or-map-range_with_len, list_any, map, range_with_len, refl, sym, ℕ, ◌<◌, ◌∙◌, ◌≡◌}
-use Rattle.chess_rules.proofs.Chess.{Black, Direction, East, White, along, diagonal_steps, direction_number, is_advance, is_ahead, is_aside, is_on_some, knight_steps, leaps, pawn_captures, queen_steps, ray, squares, step_of, straight_steps, word, word_of}
+use Rattle.chess_rules.proofs.Basics.{List, [], bit_or, None, Option, ap, arith, get_or, get_or-map-range_with_len, list_any, map, range_with_len, refl, sym, ℕ, ◌<◌, ◌∙◌, ◌≡◌}
+use Rattle.chess_rules.proofs.Chess.{Black, Direction, East, North, NorthEast, NorthWest, South, SouthEast, SouthWest, West, White, along, diagonal_steps, direction_number, is_advance, is_ahead, is_aside, is_on_some, knight_steps, leaps, pawn_captures, queen_steps, ray, squares, step_of, straight_steps, word, word_of}
+use Rattle.chess_rules.proofs.rays.Joining.{four}
 use Rattle.chess_rules.specs.declared.geometry.TheConstants.{ASIDE, BLACK_CAPTURES, BLACK_STEPS, DIAGONAL_LINES, KNIGHT_LEAPS, NEIGHBOURS, RAYS, STRAIGHT_LINES, WHITE_CAPTURES, WHITE_STEPS}
 
 -- a row of the table holds the lines of its direction from all squares
@@ -58,10 +59,26 @@ pub aside_at : (s i d : ℕ) → i ≡ s → i < 64 → get_or ASIDE i d ≡ wor
 unfolding along word word_of squares
 aside_at s i d = entry (λ s. word (is_aside s)) ASIDE s i d refl
 
+-- the entry of a direction's row
+abbrev on : Direction → ℕ → ℕ
+on x s = get_or (get_or RAYS (direction_number x) []) s 0
+
+-- those of four directions in one word
+abbrev joined : Direction → Direction → Direction → Direction → ℕ → ℕ
+joined a b c e s = bit_or (bit_or (bit_or (on a s) (on b s)) (on c s)) (on e s)
+
 pub straight_lines_at : (s i d : ℕ) → i ≡ s → i < 64 → get_or STRAIGHT_LINES i d ≡ word (is_on_some straight_steps s)
-unfolding is_on_some is_ahead along word word_of squares
-straight_lines_at s i d = entry (λ s. word (is_on_some straight_steps s)) STRAIGHT_LINES s i d refl
+unfolding is_on_some ray
+straight_lines_at s i d is small =
+    entry (joined East West North South) STRAIGHT_LINES s i d refl is small
+    ∙ four (λ t x. is_ahead s x t) (step_of East) (step_of West) (step_of North) (step_of South) _ _ _ _
+    (ray_at East s s [] 0 refl (omega arith)) (ray_at West s s [] 0 refl (omega arith))
+    (ray_at North s s [] 0 refl (omega arith)) (ray_at South s s [] 0 refl (omega arith))
 
 pub diagonal_lines_at : (s i d : ℕ) → i ≡ s → i < 64 → get_or DIAGONAL_LINES i d ≡ word (is_on_some diagonal_steps s)
-unfolding is_on_some is_ahead along word word_of squares
-diagonal_lines_at s i d = entry (λ s. word (is_on_some diagonal_steps s)) DIAGONAL_LINES s i d refl
+unfolding is_on_some ray
+diagonal_lines_at s i d is small =
+    entry (joined NorthEast SouthEast NorthWest SouthWest) DIAGONAL_LINES s i d refl is small
+    ∙ four (λ t x. is_ahead s x t) (step_of NorthEast) (step_of SouthEast) (step_of NorthWest) (step_of SouthWest) _ _ _ _
+    (ray_at NorthEast s s [] 0 refl (omega arith)) (ray_at SouthEast s s [] 0 refl (omega arith))
+    (ray_at NorthWest s s [] 0 refl (omega arith)) (ray_at SouthWest s s [] 0 refl (omega arith))

@@ -212,6 +212,38 @@ fn steps_behind_a_failed_write(rt: HostRuntime) {
     }
 }
 
+// Two problems, and words behind them.
+const TWO: &[u8] =
+    b"BeginProblem\nPieces White Kg6 Ra1 Black Kg8\nStipulation #1\nNextProblem\nPieces White Kg6 Ra1 Black Kg8\nStipulation #1\nEndProblem\nPieces White Kh1\nEndProblem\n";
+
+// One byte a call: a step asks for the bytes up to the end of the closing word, for the one behind it, by which the word
+// is over, and for no more. NextProblem is bytes 59 to 69, and EndProblem is bytes 117 to 126.
+#[test]
+fn calls_of_a_step(rt: HostRuntime) {
+    let mut source = Counted::new(TrialSource::new(TWO, 1, None));
+    let mut sink = TrialSink::<ROOM>::new(4096, None);
+    let mut session = Session::new(&settings());
+    let first = session.step(&mut source, &mut sink);
+    let calls_of_first = source.calls;
+    let second = session.step(&mut source, &mut sink);
+    let calls_of_both = source.calls;
+    let third = session.step(&mut source, &mut sink);
+    assert!(rt; first == Ok(Step::Problem { sound: true }));
+    assert!(rt; second == Ok(Step::Problem { sound: true }));
+    assert!(rt; third == Ok(Step::Finished(Status::Sound)));
+    assert!(rt; (calls_of_first, calls_of_both, source.calls) == (71, 128, 128));
+}
+
+// Behind a fault, where words are passed over, the same: the first NextProblem is bytes 91 to 101.
+#[test]
+fn calls_of_a_step_behind_a_fault(rt: HostRuntime) {
+    let mut source = Counted::new(TrialSource::new(THREE, 1, None));
+    let mut sink = TrialSink::<ROOM>::new(4096, None);
+    let mut session = Session::new(&settings());
+    assert!(rt; session.step(&mut source, &mut sink) == Ok(Step::Problem { sound: false }));
+    assert_eq!(rt; source.calls, 103);
+}
+
 // Behind the last item each step answers the status of all, and asks neither device.
 #[test]
 fn steps_behind_the_last_item(rt: HostRuntime) {
