@@ -15,7 +15,7 @@ from typing import Dict, List, NamedTuple, Optional, Sequence
 from pops_many.tasks import Result, Source
 
 _HEAD = b"pops-many journal 1 "
-_RECORD = re.compile(rb"task (\d+) status (\d+)(?: seconds (\S+))? bytes (\d+) sum (\d+)\n")
+_RECORD = re.compile(rb"task (\d+) status (\d+)(?: seconds (\d+\.\d+))? bytes (\d+) sum (\d+)\n")
 _LONGEST_HEAD = 150
 
 
@@ -110,7 +110,7 @@ class Journal:
     def keep(self, result: Result) -> None:
         """Adds a report; it takes the place of an unfinished one of the same problem."""
         place, report = result.task.place, result.report
-        seconds = b"" if result.seconds is None else b" seconds %a" % result.seconds
+        seconds = b"" if result.seconds is None else b" seconds %f" % result.seconds
         head = b"task %d status %d%s bytes %d sum %d\n" % (
             place,
             result.status,

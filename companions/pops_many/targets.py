@@ -38,10 +38,10 @@ class Target:
         try:
             with file:
                 yield file
-            os.replace(self._temporary, self._real)
         except BaseException:
             os.unlink(self._temporary)
             raise
+        os.replace(self._temporary, self._real)
 
     def remove(self) -> None:
         """Removes the file where there is one."""

@@ -135,6 +135,24 @@ class Several(SixProblems):
                 self.assertEqual(self.files(), ["fau lty.in", "folder"])
         self.assertFalse((self.room / "runs").exists())
 
+    def test_nothing_is_written_over_an_input_or_another_file_of_the_run(self) -> None:
+        report = str(self.report)
+        cases = [
+            ["-o", str(self.input)],
+            ["-o", report, "--index", report],
+            ["-o", report, "--index", f"{report}.journal"],
+            ["-o", report, "--index", f"{report}.unfinished", "--seconds", "9"],
+            ["--index", str(self.room / "." / "six.pop")],
+            ["--journal", str(self.faulty)],
+        ]
+        for words in cases:
+            with self.subTest(words):
+                outcome = self.each(*words, *map(str, self.paths))
+                self.assertEqual((outcome.status, outcome.output), (2, b""))
+                self.assertRegex(outcome.error, "^pops-many: .*/(six|fau).* is named twice\n$")
+        self.assertEqual(self.files(), ["fau lty.in"])
+        self.assertEqual(self.input.read_bytes(), SIX)
+
     def test_a_report_that_cannot_be_written_to_its_end_is_kept(self) -> None:
         full = Path("/dev/full")
         words = ["-o", str(full), "--journal", str(self.journal), str(self.input)]
