@@ -105,7 +105,7 @@ class Joined:
         """The lines of an unfinished problem, with one that says so in place of those that lack."""
         assert task.piece is not None
         seconds = self._journal.kept[task.place].seconds
-        mark = f"unfinished: stopped after {seconds:g} seconds ({task.where})\n\n"
+        mark = f"unfinished: stopped after {seconds:g} s ({task.where})\n\n"
         return self._journal.report(task.place) + os.fsencode(mark)
 
 

@@ -17,11 +17,11 @@ class Target:
         self.path = path
         self._real = os.path.realpath(path)
         self._temporary = f"{self._real}.{run.decode('ascii')[:12]}"
-        self._direct = os.path.exists(self._real) and not os.path.isfile(self._real)
+        self._direct = os.path.exists(path) and not os.path.isfile(path)
 
     def try_out(self) -> None:
         """Sweeps what the run left behind. OSError where the file couldn't be written."""
-        if os.path.isdir(self._real):
+        if os.path.isdir(self.path):
             raise IsADirectoryError(None, "Is a directory")
         if not self._direct:
             open(self._temporary, "wb").close()
@@ -31,7 +31,7 @@ class Target:
     def opened(self) -> Iterator[BinaryIO]:
         """The file, open for writing; one that fails leaves what stood there before."""
         if self._direct:
-            with open(self._real, "wb") as device:
+            with open(self.path, "wb") as device:
                 yield device
             return
         file = open(self._temporary, "wb")
