@@ -1,9 +1,16 @@
 -- Calls that take tokens, one after another.
-use Rattle.pop_input.proofs.Words.{Device, Err, GoesOn, Input, List, NextToken, Ok, Option, ReadFault, Reading, RestOfLine, Some, Spot, Takes, TakesNone, TakesWord, TextLine, TextWord, TooLong, [], after, among, append_assoc, arith, behind_word, consumes_then, is_text_word, length-append, limit, refl, subst, text_word_of, true, ℕ, ◌++◌, ◌∷◌, ◌≡◌, ◌≤◌}
+use Rattle.pop_input.proofs.Words.{Clean, Device, Err, GoesOn, Input, List, MayFollow, NextToken, Ok, Option, ReadFault, Reading, RestOfLine, Some, Spot, Takes, TakesNone, TakesWord, TextLine, TextWord, TooLong, [], after, among, append_assoc, arith, behind_word, consumes_then, is_text_word, length-append, limit, refl, subst, text_word_of, true, ℕ, ◌++◌, ◌∷◌, ◌≡◌, ◌≤◌}
 use Rattle.pop_text.specs.Words.{Token as Part}
 use Rattle.pop_text.specs.declared.read_fault.ReadFault.TheVariants.{InputTooLong}
+use Rattle.pop_text.specs.declared.scanner.End.{End}
+use Rattle.pop_text.specs.declared.scanner.End.TheVariants.{Open}
 use Rattle.pop_text.specs.declared.word.Word.{Word as Room}
 use Rattle.pop_input.specs.declared.token.Token.TheVariants.{Line, Cut}
+
+-- a source may go on somehow
+pub some_rest : (end : End) → (rest : Input) × MayFollow end rest
+some_rest Open = (record { bytes = []; ending = Clean }, tt)
+some_rest end = grind arith
 
 pub after_both : (xs ys : List ℕ) (rest : Input) → after (xs ++ ys) rest ≡ after xs (after ys rest)
 after_both xs ys rest = rw (append_assoc xs ys rest.bytes) refl

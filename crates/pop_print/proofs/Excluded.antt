@@ -7,13 +7,14 @@ use Rattle.chess_core.specs.SquareNames.{a1}
 use Rattle.chess_core.specs.declared.man.Colour.TheVariants.{White}
 use Rattle.chess_core.specs.declared.man.Kind.TheVariants.{King}
 use Rattle.chess_core.specs.declared.man.Man.{Man}
-use Rattle.pop_print.specs.Heads.{rank_text}
+use Rattle.pop_print.specs.Heads.{board_text, rank_text}
 
 -- a white king on a1 alone
 abbrev king_on_a1 : List (Option Man)
 king_on_a1 = with_man (repeat 64 (None ∷ [])) a1 (record { colour = White; kind = King })
 
--- the last rank of a board is its own: no other one stands for it
-pub last_rank_is_drawn : (rank_text king_on_a1 0 ≡ codes "1 K.......\n") × (rank_text king_on_a1 1 ≡ codes "2 ........\n")
-unfolding rank_text
-last_rank_is_drawn = (refl, refl)
+-- each rank of a board is drawn, the last one too, and no other one stands for it
+pub all_ranks_are_drawn : board_text king_on_a1
+    ≡ codes "8 ........\n7 ........\n6 ........\n5 ........\n4 ........\n3 ........\n2 ........\n1 K.......\n  abcdefgh\n"
+unfolding board_text rank_text
+all_ranks_are_drawn = refl

@@ -1,10 +1,13 @@
 -- What the clauses of the scanner exclude: a call that uses more than its word or its line, and a word with another number, where the bytes of the
--- source are known; a part of a line that holds a line end; and a text of which a part was left out.
-use Rattle.pop_text.proofs.Basics.{Appends, List, Ok, Reading, Some, Text, Uses, UsesLine, UsesRun, [], ap, append_cancel_right, arith, count_by, inl, inr, is_gap, is_in_line, is_in_word, is_line_end, length, length-append, list_all, refl, sym, true, ℕ, ◌++◌, ◌+◌, ◌∙◌, ◌∷◌, ◌≡◌}
+-- source are known; a word that is cut; a part of a line that holds a line end. And those of sinks and adapters: a text of which a part was left out, a
+-- clean end told as a failure, and a text that was taken told as refused.
+use Rattle.pop_text.proofs.Basics.{Appends, IsRunOver, List, Ok, Open, Reading, Result, Some, Text, Uses, UsesLine, UsesRun, [], ap, append_cancel_right, arith, count_by, inl, inr, is_gap, is_in_line, is_in_word, is_line_end, length, length-append, list_all, refl, sym, true, ℕ, ◌++◌, ◌+◌, ◌∙◌, ◌∷◌, ◌≡◌}
+use Rattle.std.specs.Prelude.{IsErr, ◌<◌}
 use Rattle.pop_text.proofs.WordLaws.{all_parts}
+use Rattle.pop_text.specs.Bytes.{TellsRead, TellsWrite}
 
 -- two ways to use bytes of a known source use the same
-same_bytes : (old new : Reading) (had left xs ys : List ℕ) → Uses old new (Some had) (Some left) xs → Uses old new (Some had) (Some left) ys → xs ≡ ys
+pub same_bytes : (old new : Reading) (had left xs ys : List ℕ) → Uses old new (Some had) (Some left) xs → Uses old new (Some had) (Some left) ys → xs ≡ ys
 same_bytes old new had left xs ys p q = grind (arith, append_cancel_right)
 
 no_more : (xs behind : List ℕ) → xs ≡ xs ++ behind → behind ≡ []
@@ -29,6 +32,13 @@ pub nothing_behind_word : (old new : Reading) (had left : List ℕ) (number : �
 nothing_behind_word old new had left number gap c run behind blank solid used u =
     let same = same_gap gap u.gap c run behind blank u.blank solid (same_bytes old new had left (u.gap ++ c ∷ run) ((gap ++ c ∷ run) ++ behind) u.uses used) in
     (same.1, u.line ∙ ap (λ g. old.line + count_by is_line_end g) (sym same.0))
+
+-- no word is over before a byte that belongs to it, nor where only the window ends
+pub word_is_whole : (new : Reading) (c : ℕ) (rest : List ℕ) → is_in_word c ≡ true → new.window ≡ c ∷ rest → IsRunOver new → ⊥
+word_is_whole new c rest solid at over = grind (arith, gap_or_word)
+
+pub window_ends_no_word : (new : Reading) → new.window ≡ [] → new.end ≡ Open → IsRunOver new → ⊥
+window_ends_no_word new none unknown over = grind arith
 
 -- a line before its line end is the same one, and nothing follows
 same_line : (line other behind : List ℕ) → list_all is_in_line line ≡ true → list_all is_in_line other ≡ true → other ++ 10 ∷ [] ≡ (line ++ 10 ∷ []) ++ behind
@@ -62,3 +72,12 @@ pub nothing_left_out : (before now text behind : List ℕ) → Appends (Some bef
 nothing_left_out before now text [] p q = refl
 nothing_left_out before now text (b ∷ behind) p q =
     absurd (omega (arith, ap length (sym p ∙ q), length-append before text, length-append before (text ++ b ∷ behind), length-append text (b ∷ behind)))
+
+-- a reader's clean end is told as one
+pub end_is_no_failure : {D E : Type 0} (answer : Result ℕ E) (told : Result ℕ D) → answer ≡ Ok 0 → TellsRead answer told → IsErr told → ⊥
+end_is_no_failure answer told end tells failed = grind arith
+
+-- a text that the writer took is told as taken, however long it is
+pub taken_text_is_told : {D E : Type 0} (size n : ℕ) (answer : Result ℕ E) (told : Result ℕ D) → answer ≡ Ok n → 0 < n → TellsWrite size answer told
+    → IsErr told → ⊥
+taken_text_is_told size n answer told took some tells failed = grind arith

@@ -1,40 +1,53 @@
--- What the clauses of a session, a run and the settings exclude: a sound problem told as faulty, another status or another call after the sink failed,
--- flags that weren't given, settings of words that the command refuses, and a refusal of words that it takes.
-use Rattle.pops.proofs.Basics.{Choice, Entry, Err, IfErr, IfOk, Input, IsSettings, List, None, Ok, Option, Place, Problem, Reads, Result, Runs, Some, Sound, Standing, Steps, Text, [], append_cancel_right, arith, codes, command, false, matches_of, one_of, refusals, sym, takes, true, ℕ, ◌+◌, ◌∙◌, ◌∷◌, ◌≡◌, ◌≢◌, ◌≤◌}
-use Rattle.pops.proofs.Meeting.{some_rest}
-use Rattle.pops.specs.declared.settings.ArgFault.{ArgFault}
-use Rattle.pops.specs.declared.settings.ArgFault.TheVariants.{Usage, Memory}
+-- What the clauses of a session, a run and the settings exclude: a sound problem told as faulty, a fault told as sound, another status or another call
+-- after the sink failed, flags that weren't given, flags that were and aren't set, and a refusal of words that the command takes.
+use Rattle.pops.proofs.Basics.{Bool, Choice, Entry, Input, IsSettings, List, None, Ok, Option, OutputFailed, Place, Problem, Reads, Runs, Some, Standing, Steps, Text, [], ap, append_cancel_right, arith, codes, command, false, is_faulty, matches_of, not, one_of, refl, refusals, status_of, sym, takes, true, ℕ, ◌+◌, ◌∙◌, ◌∷◌, ◌≡◌}
+use Rattle.pop_input.proofs.Taking.{some_rest}
+use Rattle.pop_input.specs.Blocks.{Faulty as FaultyEntry, Sound as SoundEntry}
+use Rattle.pop_input.specs.Posed.{Posed}
+use Rattle.pop_input.specs.declared.item.Fault.{Fault}
+use Rattle.pops.specs.CommandLine.{IsMemoryIfTaken, IsUsageIfRefused}
+use Rattle.pops.specs.Run.{FailsOnce}
+use Rattle.pops.specs.declared.settings.ArgFault.TheVariants.{Usage}
 use Rattle.pops.specs.declared.settings.Settings.{Settings}
+use Rattle.pops.specs.declared.status.Status.{Status}
 
 -- one item is read, and no other one
 same_item : (old new : Standing) (had left : List ℕ) (entry other : Entry) → Reads old new (Some had) (Some left) (entry ∷ [])
     → Reads old new (Some had) (Some left) (other ∷ []) → entry ≡ other
 same_item old new had left entry other p q = grind (arith, append_cancel_right p.bytes q.bytes left (sym p.taken ∙ q.taken), some_rest new.at.end)
 
--- a step tells of an item that it is sound, or that it is faulty, and not both
-pub sound_or_faulty : (old new : Place) (had left : List ℕ) (before now : Option (List ℕ)) → Steps old new (Some had) (Some left) before now (Ok (Problem true))
-    → Steps old new (Some had) (Some left) before now (Ok (Problem false)) → ⊥
-sound_or_faulty old new had left before now (entry, p, text, runs, sound) (other, q, text', runs', faulty) =
-    let same : entry ≡ other = same_item old.at new.at had left entry other p.reads q.reads in
-    grind arith
+-- where a sound problem is read a step says that it is sound, and where a fault is read that it isn't
+pub sound_is_told : (old new : Place) (had left : List ℕ) (before now : Option (List ℕ)) (sound : Bool) (posed : Posed)
+    → Reads old.at new.at (Some had) (Some left) (SoundEntry posed ∷ []) → Steps old new (Some had) (Some left) before now (Ok (Problem sound)) → sound ≡ true
+sound_is_told old new had left before now sound posed reads (entry, p, text, runs, told) =
+    told ∙ ap (λ e. not (is_faulty e)) (same_item old.at new.at had left entry (SoundEntry posed) p.reads reads)
 
--- where the sink failed the status says so
-pub failed_sink_is_told : (choice : Choice) (input : Input) (before now : Option (List ℕ)) → Runs choice input before now true Sound → ⊥
-failed_sink_is_told choice input before now (begun, told) = cc
+pub fault_is_told : (old new : Place) (had left : List ℕ) (before now : Option (List ℕ)) (sound : Bool) (fault : Fault)
+    → Reads old.at new.at (Some had) (Some left) (FaultyEntry fault ∷ []) → Steps old new (Some had) (Some left) before now (Ok (Problem sound)) → sound ≡ false
+fault_is_told old new had left before now sound fault reads (entry, p, text, runs, told) =
+    told ∙ ap (λ e. not (is_faulty e)) (same_item old.at new.at had left entry (FaultyEntry fault) p.reads reads)
 
--- a sink that failed isn't asked again where it would fail once more
-pub no_second_failure : (failures : ℕ) → failures + 2 ≤ failures + 1 → ⊥
-no_second_failure failures twice = omega arith
+-- where the sink failed the status says so, and only there
+pub failed_sink_is_told : (choice : Choice) (input : Input) (before now : Option (List ℕ)) (answer : Status) → Runs choice input before now true answer
+    → answer ≡ OutputFailed
+failed_sink_is_told choice input before now answer (begun, told) = told
 
--- --check isn't set where it wasn't given
-pub no_other_flag : (words : List Text) (s : Settings) → one_of (codes "check") (matches_of command words) ≡ None → s.check ≡ true → IsSettings words s → ⊥
-no_other_flag words s absent set is = let unset : s.check ≡ false = is.check.absent absent in cc
+pub sound_sink_is_told : (choice : Choice) (input : Input) (before now : Option (List ℕ)) → Runs choice input before now false OutputFailed → ⊥
+unfolding status_of
+sound_sink_is_told choice input before now (written, told) = grind arith
 
--- words that the command takes aren't told as wrong, and words that it refuses give no settings
-pub taken_words_are_right : (words : List Text) (result : Result Settings ArgFault) → IfErr result (λ e. takes command words ≡ true → e ≡ Memory)
-    → takes command words ≡ true → result ≡ Err Usage → ⊥
-taken_words_are_right words result told right is = grind arith
+-- a device that failed isn't asked again where it would fail once more
+pub no_second_failure : (before : ℕ) → FailsOnce before (before + 2) → ⊥
+no_second_failure before once = omega arith
 
-pub refused_words_set_nothing : (words : List Text) (result : Result Settings ArgFault) → IfOk result (λ s. refusals words ≡ []) → refusals words ≢ []
-    → (s : Settings) → result ≡ Ok s → ⊥
-refused_words_set_nothing words result taken refused t is = grind arith
+-- a flag is set exactly where it was given
+pub no_other_flag : (words : List Text) (s : Settings) → one_of (codes "check") (matches_of command words) ≡ None
+    → one_of (codes "no-board") (matches_of command words) ≡ Some (codes "true") → IsSettings words s → (s.check ≡ false) × (s.no_board ≡ true)
+no_other_flag words s absent given is = (is.check.absent absent, is.no_board.set given)
+
+-- words that the command takes aren't told as wrong, and words that it refuses aren't told as wrong without a cause
+pub taken_words_are_right : (words : List Text) → takes command words ≡ true → IsMemoryIfTaken words Usage → ⊥
+taken_words_are_right words right told = let wrong = told right in cc
+
+pub refused_words_are_wrong : (words : List Text) → refusals words ≡ [] → IsUsageIfRefused words Usage → ⊥
+refused_words_are_wrong words none told = absurd (told refl none)

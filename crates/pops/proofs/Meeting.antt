@@ -2,11 +2,6 @@
 use Rattle.pops.proofs.Basics.{Bool, Broken, Clean, Consumes, End, Ended, Input, IsSeen, List, MayFollow, None, Open, Option, Some, [], after, ap, append-nil, arith, false, length, length-append, met, take, true, ℕ, ◌++◌, ◌-◌, ◌≡◌}
 use Rattle.std.proofs.Math.Seq.{take-append_seam}
 
--- a source may go on somehow
-pub some_rest : (end : End) → (rest : Input) × MayFollow end rest
-some_rest Open = (record { bytes = []; ending = Clean }, tt)
-some_rest end = grind arith
-
 -- whether the input broke off
 abbrev pub is_broken : End → Bool
 is_broken Open = false

@@ -4,7 +4,8 @@ use Rattle.pops.proofs.Basics.{begins_longer, consumes_then, entries_in, entries
 use Rattle.std.proofs.lemmas.Bool.{lt-ltb}
 use Rattle.pop_text.specs.declared.sink.SinkFault.{SinkFault}
 use Rattle.pop_input.specs.ties.Standing.{start as before_all}
-use Rattle.pops.proofs.Meeting.{is_broken, met_after, some_rest}
+use Rattle.pop_input.proofs.Taking.{some_rest}
+use Rattle.pops.proofs.Meeting.{is_broken, met_after}
 use Rattle.pops.proofs.Reached.{Reached, Stopped, item_reached, item_stops, reached_start, still_more, stopped_last, stopped_reads}
 use Rattle.pops.specs.Run.{ReadsUpTo}
 use Rattle.pops.specs.declared.status.Status.{Status}

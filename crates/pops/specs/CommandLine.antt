@@ -1,9 +1,10 @@
 -- The command line `pops [--check] [--no-board] [FILE]`, and the settings of its words (own).
-use Rattle.std.specs.Prelude.{◌≡◌, List, codes, Option, Some, None, Bool, true, false, option_map, string_bytes}
+use Rattle.std.specs.Prelude.{◌≡◌, ◌≢◌, List, [], codes, Option, Some, None, Bool, true, false, option_map, string_bytes}
 use Rattle.clap.specs.Walk.{Rule, Text, first_of, one_of}
 use Rattle.clap.specs.Simple.{App, new_app, new_rule, with_rule, matches_of}
 use Rattle.clap.specs.declared.builder.action.ArgAction.TheVariants.{SetTrue}
 use Rattle.clap.specs.Faults.{fault_of}
+use Rattle.clap.specs.Takes.{takes}
 use Rattle.clap.specs.Kinds.{Kinds}
 use Rattle.clap.specs.declared.error.kind.ErrorKind.{ErrorKind}
 use Rattle.clap.specs.declared.error.kind.ErrorKind.TheVariants.{OutOfMemory}
@@ -47,3 +48,11 @@ refusals words = fault_of command words
 abbrev pub told_of : ErrorKind → ArgFault
 told_of OutOfMemory = Memory
 told_of _ = Usage
+
+-- words that the command takes are refused for want of memory alone
+abbrev pub IsMemoryIfTaken : List Text → ArgFault → Type 0
+IsMemoryIfTaken words fault = takes command words ≡ true → fault ≡ Memory
+
+-- words are told as wrong only where the command refuses them
+abbrev pub IsUsageIfRefused : List Text → ArgFault → Type 0
+IsUsageIfRefused words fault = fault ≡ Usage → refusals words ≢ []

@@ -22,6 +22,10 @@ abbrev pub met : Bool → List ℕ → Option (List ℕ) → Input
 met true had left = record { bytes = taken_of had left; ending = Failed }
 met false had left = record { bytes = had; ending = Clean }
 
+-- at most one call has failed, by the counts of failures before and after
+abbrev pub FailsOnce : ℕ → ℕ → Type 0
+FailsOnce before now = now ≤ before + 1
+
 -- whether a count grew
 abbrev pub grew : ℕ → ℕ → Bool
 grew old new = nat_lt old new

@@ -6,7 +6,7 @@ ghost use Rattle.clap.specs.Matches.{found_of};
 ghost use Rattle.clap.specs.Simple.{matches_of};
 ghost use Rattle.clap.specs.Takes.{takes};
 ghost use Rattle.clap.specs.Kinds.{FailsBy};
-ghost use Rattle.pops.specs.CommandLine.{command, refusals, told_of, IsSettings};
+ghost use Rattle.pops.specs.CommandLine.{command, refusals, told_of, IsMemoryIfTaken, IsSettings, IsUsageIfRefused};
 
 use crate::settings::{ArgFault, Settings};
 use clap::error::ErrorKind;
@@ -19,11 +19,9 @@ use std::alloc::Global;
 /// second FILE, `--help`. `Memory` comes where a growth was refused, whatever the words.
 pub fn settings(alloc: Global, words: &[&str]) -> Result<Settings, ArgFault>
     ensures chosen { IfOk result (IsSettings (map (λ s. s.now) words.now)) }
-    ensures memory { IfErr result (λ e. takes command (map (λ s. s.now) words.now) ≡ true
-        → e ≡ ArgFault.Memory) }
+    ensures memory { IfErr result (IsMemoryIfTaken (map (λ s. s.now) words.now)) }
     ensures taken { IfOk result (λ s. refusals (map (λ s. s.now) words.now) ≡ []) }
-    ensures usage { IfErr result (λ e. e ≡ ArgFault.Usage
-        → refusals (map (λ s. s.now) words.now) ≢ []) }
+    ensures usage { IfErr result (IsUsageIfRefused (map (λ s. s.now) words.now)) }
 {
     let matches = match matched(alloc, words) {
         Ok(matches) => matches,

@@ -2,7 +2,7 @@
 ghost use Rattle.std.specs.Prelude.{◌<◌, ◌≤◌, ◌+◌, ◌^◌, IfSome, length};
 ghost use Rattle.pop_text.specs.Bytes.{greatest};
 ghost use Rattle.pops.specs.Report.{choice_of};
-ghost use Rattle.pops.specs.Run.{ReadsUpTo, Runs, grew, met, taken_of};
+ghost use Rattle.pops.specs.Run.{FailsOnce, ReadsUpTo, Runs, grew, met, taken_of};
 
 use crate::session::Session;
 use crate::settings::Settings;
@@ -26,8 +26,8 @@ pub fn run<S: Source, W: Sink>(settings: &Settings, source: &mut S, sink: &mut W
     ensures reads { IfSome (S.remaining source.old) (λ had.
         ReadsUpTo (met (grew (S.failures source.old) (S.failures source.new))
         had (S.remaining source.new)) (taken_of had (S.remaining source.new))) }
-    ensures once { (S.failures source.new ≤ S.failures source.old + 1)
-        × (W.failures sink.new ≤ W.failures sink.old + 1) }
+    ensures once { FailsOnce (S.failures source.old) (S.failures source.new)
+        × FailsOnce (W.failures sink.old) (W.failures sink.new) }
     ensures taken { IfSome (S.remaining source.old)
         (λ had. length (taken_of had (S.remaining source.new)) ≤ 2 ^ 30 + 4096) }
 {
