@@ -10,7 +10,7 @@ use chess_mates::{MatingMoves, next_mate};
 use chess_rules::{LegalMoves, Moves, Rules, has_legal_move, in_check, is_mate};
 
 // What is asked of a position.
-#[derive(Clone, Copy, PartialEq, Eq, Debug)]
+#[derive(Clone, Copy, Debug)]
 pub(crate) enum Question {
     Moves,
     LegalMoves,
@@ -27,7 +27,7 @@ pub(crate) enum Question {
 }
 
 // A legal move by the plain rules, and whether it mates.
-#[derive(Clone, Copy, PartialEq, Eq, Default)]
+#[derive(Clone, Copy, Default)]
 struct Choice {
     by: Move,
     mates: bool,
