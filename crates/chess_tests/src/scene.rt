@@ -93,7 +93,7 @@ pub(crate) fn put_rider(
 
 // Marks castling squares as unmoved where the men stand at home, most times.
 pub(crate) fn mark_homes(diagram: &mut Diagram, draw: &mut Draw) {
-    for (number, colour, kind) in [
+    for (number, colour, kind) in &[
         (0, Colour::White, Kind::Rook),
         (4, Colour::White, Kind::King),
         (7, Colour::White, Kind::Rook),
@@ -101,8 +101,8 @@ pub(crate) fn mark_homes(diagram: &mut Diagram, draw: &mut Draw) {
         (60, Colour::Black, Kind::King),
         (63, Colour::Black, Kind::Rook),
     ] {
-        let at = Square::numbered(number % 64);
-        if diagram.man_at(at) == Some(man(colour, kind)) && !draw.once_in(8) {
+        let at = Square::numbered(*number % 64);
+        if diagram.man_at(at) == Some(man(*colour, *kind)) && !draw.once_in(8) {
             diagram.unmoved = diagram.unmoved.with(at);
         }
     }

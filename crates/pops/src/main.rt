@@ -8,8 +8,6 @@ pub mod session;
 pub mod settings;
 mod solutions;
 pub mod status;
-#[cfg(test)]
-mod tests;
 
 use program::program as run_program;
 use std::process::ExitCode;

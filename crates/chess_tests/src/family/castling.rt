@@ -14,8 +14,8 @@ pub(crate) fn castling(draw: &mut Draw) -> Diagram {
         Colour::Black => (8u8, (0u8, 255u8)),
     };
     let _king = put(&mut diagram, Square::new(5, rank), man(mover, Kind::King));
-    for corner in [1u8, 8] {
-        let _rook = put(&mut diagram, Square::new(corner, rank), man(mover, Kind::Rook));
+    for corner in &[1u8, 8] {
+        let _rook = put(&mut diagram, Square::new(*corner, rank), man(mover, Kind::Rook));
     }
     for _attacker in 0..draw.below(3) {
         let aim = Square::new(2 + draw.below(6), rank).unwrap_or_default();
@@ -52,8 +52,8 @@ fn put_net(diagram: &mut Diagram, draw: &mut Draw, up: (u8, u8)) {
     let arrival = Square::new(file, home).unwrap_or_default();
     let king = steps(arrival, up, 2 + draw.below(5));
     let _king = put(diagram, king, man(mover.other(), Kind::King));
-    for beside in [file - 1, file + 1] {
-        let at = Square::new(beside, 4 + draw.below(2));
+    for beside in &[file - 1, file + 1] {
+        let at = Square::new(*beside, 4 + draw.below(2));
         let far = steps(at.unwrap_or_default(), up, draw.below(4));
         let guard = if draw.once_in(3) {
             Kind::Queen
@@ -88,13 +88,13 @@ pub(crate) fn home_ranks(draw: &mut Draw) -> Diagram {
     } else {
         Kind::Rook
     };
-    for (file, rank, who) in [
+    for (file, rank, who) in &[
         (5u8, home, man(mover, Kind::King)),
         (corner, home, man(mover, Kind::Rook)),
         (far, home, man(mover.other(), Kind::King)),
         (file, next, man(mover, guard)),
     ] {
-        let _put = put(&mut diagram, Square::new(file, rank), who);
+        let _put = put(&mut diagram, Square::new(*file, *rank), *who);
     }
     let count = draw.below(4);
     scatter(&mut diagram, draw, kinds, count);

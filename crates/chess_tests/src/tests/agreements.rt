@@ -47,20 +47,23 @@ const FAIRY: [(Rule, &str); 5] = [
 
 #[test]
 fn orthodox_positions_agree(rt: HostRuntime) {
-    for (position, length, wanted) in ORTHODOX {
-        let Some(tally) = compare(Rule::Orthodox, position, length) else {
+    for (position, length, wanted) in &ORTHODOX {
+        let Some(tally) = compare(Rule::Orthodox, position, *length) else {
             assert!(rt; false, "{position} is well formed");
             return;
         };
-        let as_wanted = tally.positions == wanted && tally.unlike == 0;
+        let as_wanted = tally.positions == *wanted && tally.unlike == 0;
         assert!(rt; as_wanted, "{position}");
     }
 }
 
 #[test]
 fn fairy_positions_agree(rt: HostRuntime) {
-    for (rule, position) in FAIRY {
-        let unlike = compare(rule, position, 2).is_none_or(|tally| tally.unlike > 0);
-        assert!(rt; !unlike, "{position}");
+    for (rule, position) in &FAIRY {
+        let unlike = match compare(*rule, position, 2) {
+            Some(tally) => tally.unlike,
+            None => 1,
+        };
+        assert!(rt; unlike == 0, "{position}");
     }
 }

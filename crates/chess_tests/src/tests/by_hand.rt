@@ -124,14 +124,14 @@ const MATES: [(Rule, &str, &str); 11] = [
 
 #[test]
 fn legal_moves(rt: HostRuntime) {
-    for (rule, position, wanted) in LEGAL_MOVES {
-        assert!(rt; has_moves(rule, position, wanted), "{position}");
+    for (rule, position, wanted) in &LEGAL_MOVES {
+        assert!(rt; has_moves(*rule, position, wanted), "{position}");
     }
 }
 
 #[test]
 fn mates(rt: HostRuntime) {
-    for (rule, position, wanted) in MATES {
-        assert!(rt; has_mates(rule, position, wanted), "{position}");
+    for (rule, position, wanted) in &MATES {
+        assert!(rt; has_mates(*rule, position, wanted), "{position}");
     }
 }

@@ -70,20 +70,23 @@ const TAKEN_BACK: [(Rule, &str); 4] = [
 
 #[test]
 fn counts(rt: HostRuntime) {
-    for (position, length, wanted) in COUNTS {
-        let Some(walk) = walk_lines(Rule::Orthodox, position, length) else {
+    for (position, length, wanted) in &COUNTS {
+        let Some(walk) = walk_lines(Rule::Orthodox, position, *length) else {
             assert!(rt; false, "{position} is well formed");
             return;
         };
-        let as_wanted = walk.lines == wanted && walk.changed == 0;
+        let as_wanted = walk.lines == *wanted && walk.changed == 0;
         assert!(rt; as_wanted, "{length} moves from {position}");
     }
 }
 
 #[test]
 fn boards_come_back_under_conditions(rt: HostRuntime) {
-    for (rule, position) in TAKEN_BACK {
-        let changed = walk_lines(rule, position, 2).is_none_or(|walk| walk.changed > 0);
-        assert!(rt; !changed, "{position}");
+    for (rule, position) in &TAKEN_BACK {
+        let changed = match walk_lines(*rule, position, 2) {
+            Some(walk) => walk.changed,
+            None => 1,
+        };
+        assert!(rt; changed == 0, "{position}");
     }
 }

@@ -61,14 +61,14 @@ const REBIRTHS: [(&str, &str, &str); 2] = [
 
 #[test]
 fn outcomes(rt: HostRuntime) {
-    for (rule, position, m, wanted) in OUTCOMES {
-        assert!(rt; has_outcome(rule, position, m, wanted), "{m} in {position}");
+    for (rule, position, m, wanted) in &OUTCOMES {
+        assert!(rt; has_outcome(*rule, position, m, *wanted), "{m} in {position}");
     }
 }
 
 #[test]
 fn rebirths(rt: HostRuntime) {
-    for (position, m, wanted) in REBIRTHS {
+    for (position, m, wanted) in &REBIRTHS {
         assert!(rt; leads_in_circe(position, m, wanted), "{m} in {position}");
     }
 }
