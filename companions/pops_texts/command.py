@@ -6,6 +6,7 @@ import sys
 import tempfile
 from contextlib import contextmanager
 from enum import IntEnum
+from pathlib import Path
 from typing import BinaryIO, Callable, Iterator, List, NoReturn, Optional
 
 
@@ -27,14 +28,22 @@ class CommandError(Exception):
         self.status = status
 
 
+def version() -> str:
+    """Number and date of this version, as the file VERSION above the companions tells them."""
+    number, date = (Path(__file__).resolve().parents[2] / "VERSION").read_text().split()
+    return f"{number} ({date})"
+
+
 def parser(name: str, description: str, **more: object) -> argparse.ArgumentParser:
-    """The reader of a companion's arguments."""
-    return argparse.ArgumentParser(
+    """The reader of a companion's arguments; `--version` is among them."""
+    made = argparse.ArgumentParser(
         prog=name,
         description=description,
         formatter_class=argparse.RawDescriptionHelpFormatter,
         **more,  # type: ignore[arg-type]
     )
+    made.add_argument("--version", action="version", version=f"%(prog)s {version()}")
+    return made
 
 
 def run(name: str, command: Callable[[List[str]], int]) -> NoReturn:

@@ -29,6 +29,11 @@ def text_of_problems(problems: Iterable[List[str]]) -> str:
     return "\n".join(parts) + "\n"
 
 
+def is_turned(position: Position, stipulation: Stipulation, wishes: Wishes) -> bool:
+    """Whether the colours are turned round: the side to move isn't the one that starts."""
+    return position.turn not in (None, stipulation.starter) and not wishes.keep_colours
+
+
 def problem_lines(
     position: Position, source: str, stipulation: Stipulation, wishes: Wishes
 ) -> List[str]:
@@ -39,15 +44,13 @@ def problem_lines(
     """
     remarks = [f"FEN {source}"]
     starter = stipulation.starter
-    if position.turn not in (None, starter):
-        if wishes.keep_colours:
-            position = Position(position.men, None, position.rooks, None)
-            remarks.append(f"{_turn(starter.opponent)}, and {_start(starter)}: colours kept")
-        else:
-            position = position.turned
-            remarks.append(
-                f"{_turn(starter.opponent)}, and {_start(starter)}: colours turned round"
-            )
+    sides = f"{_turn(starter.opponent)}, and {_start(starter)}"
+    if is_turned(position, stipulation, wishes):
+        position = position.turned
+        remarks.append(f"{sides}: colours turned round")
+    elif position.turn is starter.opponent:
+        position = Position(position.men, None, position.rooks, None)
+        remarks.append(f"{sides}: colours kept")
     remarks.extend(_rights_without_men(position))
     lines = []
     for word, text in (("Title", wishes.title), ("Author", wishes.author)):

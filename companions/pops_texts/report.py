@@ -157,6 +157,12 @@ class SoundItem:
     condition: Optional[Condition]
     phases: Optional[Tuple[Phase, ...]]
 
+    @property
+    def asked(self) -> str:
+        """The line of stipulation and condition, as `h#2.5 Circe`."""
+        condition = f" {self.condition.value}" if self.condition is not None else ""
+        return self.stipulation.text + condition
+
 
 Item = Union[FaultyItem, SoundItem]
 
@@ -220,6 +226,18 @@ class _Lines:
     def refused(self, expected: str) -> ReportError:
         shown = self.text if len(self.text) <= 60 else self.text[:60] + ".."
         return ReportError(self.number, f"expected {expected}, found {shown!r}")
+
+
+def named_items(items: Iterable[Item]) -> Iterator[Tuple[str, Item]]:
+    """Each item with a name of its own: its number, and from a second report on the report's too.
+
+    Of reports one behind the other the second has `2-1`, `2-2` and so on.
+    """
+    report = 1
+    for place, item in enumerate(items):
+        if place > 0 and item.number == 1:
+            report += 1
+        yield (f"{report}-{item.number}" if report > 1 else str(item.number)), item
 
 
 def read_report(lines: Iterable[bytes]) -> Iterator[Item]:

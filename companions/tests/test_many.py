@@ -134,13 +134,18 @@ class SameAsOneRun(unittest.TestCase):
         outcome = support.companion("pops-many", "--pops", support.pops(), text=text)
         self.assertEqual(outcome, (one.status, one.output, ""))
 
-    def test_what_cannot_be_read_is_left_to_pops(self) -> None:
-        for name in (str(support.REPOSITORY), "nowhere.pop"):
+    def test_what_cannot_be_read_is_named_and_left_to_pops(self) -> None:
+        cases = [
+            (str(support.REPOSITORY), "Is a directory"),
+            ("nowhere.pop", "No such file or directory"),
+        ]
+        for name, reason in cases:
             with self.subTest(name):
                 one = support.run([support.pops(), name])
                 self.assertEqual(one.status, 3)
                 outcome = support.companion("pops-many", "--pops", support.pops(), name)
-                self.assertEqual(outcome, one)
+                self.assertEqual((outcome.status, outcome.output), (3, one.output))
+                self.assertEqual(outcome.error, f"pops-many: cannot open {name}: {reason}\n")
 
 
 SIX = (
@@ -280,13 +285,26 @@ class Interruptions(unittest.TestCase):
 
 class Command(unittest.TestCase):
     def test_mistakes_have_a_line_and_a_status(self) -> None:
-        for words in (["--jobs", "0"], ["--fast"], ["--resume"]):
+        mistakes = [
+            ["--jobs", "0"],
+            ["--fast"],
+            ["--resume"],
+            ["--each"],
+            ["--each", "--index", "table", "a.pop"],
+            ["--each", "--unfinished", "rest", "a.pop"],
+            ["--seconds", "1"],
+            ["--seconds", "0", "-o", "report"],
+            ["--seconds", "nan", "-o", "report"],
+            ["--seconds", "inf", "-o", "report"],
+            ["--seconds", "ten", "-o", "report"],
+        ]
+        for words in mistakes:
             with self.subTest(words):
                 self.assertEqual(support.companion("pops-many", *words).status, 2)
         missing = support.companion("pops-many", "--pops", "nowhere/pops", text=b"")
         self.assertEqual(
             (missing.status, missing.error),
-            (3, "pops-many: there is no program pops: name it with --pops\n"),
+            (3, "pops-many: there is no program nowhere/pops\n"),
         )
         unwritable = support.companion(
             "pops-many", "--pops", support.pops(), "-o", "nowhere/report"

@@ -1,5 +1,5 @@
 -- Blocks token by token.
-use Rattle.pop_input.proofs.Words.{Bool, Command, Fault, List, None, Option, Some, State, Tail, TextLine, TextWord, Token, Word, Words, [], append-nil, append_assoc, arith, at_line, block_entries, block_fault, blocks_of, closed_entry, closes, closing_line, closing_of, command_of, cut_by, entries_by, entries_of, false, fault_of, first_fault, has_begun, inside, last_text, line_of, list_all, no_words, not, or_else, put_before, refl, state_of, text_after, text_word_of, true, words_before, ℕ, ◌++◌, ◌∷◌, ◌≡◌}
+use Rattle.pop_input.proofs.Words.{Bool, Command, Fault, List, None, Option, Some, State, Tail, TextLine, TextWord, Token, Word, Words, [], append-nil, append_assoc, arith, at_line, block_entries, block_fault, blocks_of, closed_entry, closes, closing_line, closing_of, command_of, cut_by, entries_by, entries_of, false, fault_of, first_fault, has_begun, inside, is_open, last_text, line_of, list_all, no_words, or_else, put_before, refl, state_of, text_after, text_word_of, true, words_before, ℕ, ◌++◌, ◌∷◌, ◌≡◌}
 use Rattle.pop_input.specs.declared.names.Command.TheVariants.{Next, Last}
 
 -- One more token.
@@ -84,10 +84,6 @@ text_line wanted old (Word l t ∷ done) line keyword text = text_line wanted ol
 text_line wanted old (TextLine l k t ∷ done) line keyword text = text_line wanted (text_after wanted old (text_word_of k) t) done line keyword text
 
 -- Cutting.
-
--- no word that closes a block
-abbrev pub is_open : Token → Bool
-is_open token = not (closes (closing_of token))
 
 open_parts : (token : Token) (done : List Token) → list_all is_open (token ∷ done) ≡ true → (is_open token ≡ true) × (list_all is_open done ≡ true)
 open_parts token done h = grind arith

@@ -1,9 +1,9 @@
 -- A block as far as it is read, and the item at its end.
-use Rattle.pop_input.proofs.Words.{Block, Bool, Command, IsNew, List, None, Option, Reading, ReadsWord, Some, State, Takes, TakesLine, TakesPart, TextLine, TextWord, Word, WordTooLong, [], among, ap, arith, at_line, block_fault, closes, command_of, false, fault_at, fault_of, has_begun, inr, inside, last_of, last_text, length, list_all, list_all-append, lt-ltb, no_short_form, noted, or_else, refl, section_of, sym, takes_none, text_of_line, text_word_of, true, ℕ, ◌++◌, ◌<◌, ◌∙◌, ◌∷◌, ◌≡◌, ◌≤◌, ◌⊎◌}
+use Rattle.pop_input.proofs.Words.{Block, Bool, Command, IsNew, List, None, Option, Reading, ReadsWord, Some, State, Takes, TakesLine, TakesPart, TextLine, TextWord, Word, WordTooLong, [], among, ap, arith, at_line, block_fault, closes, command_of, false, fault_at, fault_of, has_begun, inr, inside, is_open, last_of, last_text, length, list_all, list_all-append, lt-ltb, no_short_form, noted, or_else, refl, section_of, sym, takes_none, text_of_line, text_word_of, true, ℕ, ◌++◌, ◌<◌, ◌∙◌, ◌∷◌, ◌≡◌, ◌≤◌, ◌⊎◌}
 use Rattle.pop_text.specs.Words.{Token as Part}
 use Rattle.pop_input.specs.declared.names.TextWord.TheVariants.{Title, Author}
 use Rattle.pop_input.proofs.Taking.{takes_then}
-use Rattle.pop_input.proofs.Blocks.{is_open, said, block_more, block_line, begun_word, begun_line, inside_more, inside_none, inside_first, words_more, words_line, text_more, text_line}
+use Rattle.pop_input.proofs.Blocks.{said, block_more, block_line, begun_word, begun_line, inside_more, inside_none, inside_first, words_more, words_line, text_more, text_line}
 
 -- what a block says of its tokens
 pub record Tells (first : Bool) (block : Block) (done : List Part) : Type 0 where

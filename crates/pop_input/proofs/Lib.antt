@@ -3,6 +3,7 @@ pub mod Parsing
 pub mod Putting
 pub mod Posing
 pub mod Taking
+pub mod Used
 pub mod Blocks
 pub mod Items
 pub mod Ends

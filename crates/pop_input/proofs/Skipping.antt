@@ -1,7 +1,7 @@
 -- Plain words behind a fault change nothing.
-use Rattle.pop_input.proofs.Words.{Block, Bool, Fault, List, None, Option, Reading, Skips, Some, [], among, append-nil, append_assoc, arith, block_fault, closes, codes, command_of, false, inl, inr, is_named, is_plain, is_short_form, list_all, list_all-append, plain_no_closing, refl, sym, true, ℕ, ◌++◌, ◌<◌, ◌∙◌, ◌∷◌, ◌≡◌, ◌⊎◌}
+use Rattle.pop_input.proofs.Words.{Block, Bool, Fault, List, None, Option, Reading, Skips, Some, [], among, append-nil, append_assoc, arith, block_fault, closes, codes, command_of, false, inl, inr, is_named, is_open, is_plain, is_short_form, list_all, list_all-append, plain_no_closing, refl, sym, true, ℕ, ◌++◌, ◌<◌, ◌∙◌, ◌∷◌, ◌≡◌, ◌⊎◌}
 use Rattle.pop_text.specs.Words.{Token as Part}
-use Rattle.pop_input.proofs.Blocks.{block_more, is_open}
+use Rattle.pop_input.proofs.Blocks.{block_more}
 use Rattle.pop_input.proofs.Items.{BlockSoFar}
 use Rattle.pop_input.proofs.Taking.{takes_then}
 

@@ -1,5 +1,5 @@
 -- Words and lemmas of the standard library and of the crates that most proofs name.
-pub use Rattle.std.proofs.Common.{Bool, Err, IsSome, List, None, Ok, Option, Result, Some, [], ap, append_assoc, arith, cond, count_by, drop, false, fold, get_or, if◌then◌else◌, inl, inr, is_some, length, length-append, map, not, refl, replicate, subst, suc, sym, take, true, zero, ℕ, ◌&&◌, ◌*◌, ◌++◌, ◌+◌, ◌-◌, ◌<◌, ◌==◌, ◌∙◌, ◌∷◌, ◌≡◌, ◌≤◌, ◌⊎◌}
+pub use Rattle.std.proofs.Common.{Bool, Err, IsSome, List, None, Ok, Option, Result, Some, [], ap, append_assoc, arith, cond, count_by, drop, false, fold, get_or, if◌then◌else◌, inl, inr, is_some, length, length-append, map, not, refl, replicate, rules, subst, suc, sym, take, true, zero, ℕ, ◌&&◌, ◌*◌, ◌++◌, ◌+◌, ◌-◌, ◌<◌, ◌==◌, ◌∙◌, ◌∷◌, ◌≡◌, ◌≤◌, ◌⊎◌}
 pub use Rattle.std.proofs.lemmas.Bool.{and_parts, cases_Bool, cases_eq, cases_lt, cond-false, cond-true, eq-eqb, lt-ltb, ne_eqb}
 pub use Rattle.std.proofs.lemmas.List.{append-nil, drop_all, drop_more, get_or_at, length-map, length-set, set_past}
 pub use Rattle.std.proofs.lemmas.List.Folds.{list_all-append}
@@ -21,15 +21,16 @@ pub use Rattle.chess_core.specs.declared.man.Man.{Man}
 unfoldable pub use Rattle.chess_rules.specs.Attacks.{attacked, faces, faces_its_like, in_check, paralysed, strikes}
 pub use Rattle.pop_text.proofs.Left.{longer, no_short_form}
 pub use Rattle.pop_text.proofs.Plain.{plain_no_closing, takes_none}
-pub use Rattle.pop_text.proofs.Using.{asks_none, asks_then, consumes_then}
+pub use Rattle.pop_text.proofs.Using.{asks_none, asks_then, consumes_then, uses_none, uses_then}
 pub use Rattle.pop_text.specs.Words.{Clean, Ending, Failed, Input, Long, Tail, TextLine, Token, Word, Words, is_cut, is_line_end, is_short_form, is_text_word, lines_tokens, runs_of, text_of_line, tokens_of, words_by, words_from, words_of}
 unfoldable pub use Rattle.pop_text.specs.Words.{limit}
 pub use Rattle.pop_text.specs.declared.read_fault.ReadFault.{ReadFault}
 pub use Rattle.pop_text.specs.declared.read_fault.ReadFault.TheVariants.{Device, TooLong}
 pub use Rattle.pop_text.specs.ties.Left.{GoesOn, IsOver, MayFollow, RestOfLine, Spot, Takes, TakesNone, TakesWord, after, among, behind_word, no_words, put_before, words_left}
 pub use Rattle.pop_text.specs.ties.Plain.{Skips, is_named, is_plain}
-pub use Rattle.pop_text.specs.ties.Reading.{Asks, Reading}
-pub use Rattle.pop_input.specs.Blocks.{Entry, Sound, block_entries, block_fault, blocks_of, closed_entry, closing_line, closing_of, cut_by, entries_by, entries_of, entry_of, first_fault, has_begun, inside, last_text, line_of, more_entries, problem_of, tail_fault, text_after, words_before}
+pub use Rattle.pop_text.specs.ties.Reading.{Asks, Reading, Uses, UsesAll}
+pub use Rattle.pop_text.specs.ties.Runs.{IsRunOver, Peeks, Sticks, UsesLine, UsesRun, UsesWord}
+pub use Rattle.pop_input.specs.Blocks.{Entry, Sound, block_entries, block_fault, blocks_of, closed_entry, closing_line, closing_of, cut_by, entries_by, entries_of, entry_of, first_fault, has_begun, inside, is_open, last_text, line_of, more_entries, problem_of, tail_fault, text_after, words_before}
 pub use Rattle.pop_input.specs.Ends.{ArePut, counts, posed_of, position_fault, setup_fault, setup_of, stated_fault}
 unfoldable pub use Rattle.pop_input.specs.Ends.{end_fault_in, unmoved_of}
 pub use Rattle.pop_input.specs.FaultKinds.{at_line, fault_at, number_of}
@@ -55,4 +56,5 @@ pub use Rattle.pop_input.specs.declared.reader.Next.TheVariants.{First, Later, N
 pub use Rattle.pop_input.specs.declared.stipulation.Stipulation.{Stipulation}
 pub use Rattle.pop_input.specs.ties.Closings.{Closes, IsNew, ReadsWord, TakesLine, closing_fault, cut_fault, ended_by, ended_item, last_of, noted, said_after, text_with, told_of_cut}
 pub use Rattle.pop_input.specs.ties.Standing.{IsNumbered, NextItem, Reads, Standing, entries_at, entries_left, next_behind}
-pub use Rattle.pop_input.specs.ties.Tokens.{CutsOff, NextToken, TakesNothing, TakesPart}
+pub use Rattle.pop_input.specs.ties.Tokens.{CutsOff, NextToken, TakesNothing, TakesPart, UsesSome, UsesToken}
+pub use Rattle.pop_input.specs.ties.Used.{IsClosed, IsInputOver, IsUnclosed, UsesEntry, UsesItem, UsesTokens}

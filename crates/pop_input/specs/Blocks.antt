@@ -2,7 +2,7 @@
 use Rattle.pop_input.specs.declared.fault_kind.FaultKind.{FaultKind}
 use Rattle.pop_input.specs.declared.fault_kind.FaultKind.TheVariants.{BeginProblemMissing, EndProblemMissing, InputTooLong, DeviceFailed}
 use Rattle.pop_input.specs.FaultKinds.{at_line, fault_at}
-use Rattle.std.specs.Prelude.{ℕ, List, [], ◌∷◌, ◌++◌, Bool, true, false, Option, Some, None}
+use Rattle.std.specs.Prelude.{ℕ, List, [], ◌∷◌, ◌++◌, Bool, true, false, not, Option, Some, None}
 use Rattle.std.specs.List.{onto_first}
 use Rattle.pop_text.specs.Words.{Words, Token, Word, TextLine, Tail, End, Long, Broken, text_of_line}
 use Rattle.pop_input.specs.Names.{command_of, text_word_of, closes, or_else}
@@ -59,6 +59,10 @@ block_fault true ((TextLine line keyword text) ∷ tokens) = block_fault true to
 abbrev pub closing_of : Token → Option Command
 closing_of (Word line text) = command_of text
 closing_of (TextLine line keyword text) = None
+
+-- a token that closes no block
+abbrev pub is_open : Token → Bool
+is_open token = not (closes (closing_of token))
 
 -- a token before blocks, the first of which it may close
 abbrev pub cut_by : Option Command → Token → List (List Token) → List (List Token)

@@ -1,3 +1,4 @@
 pub mod Closings
 pub mod Standing
 pub mod Tokens
+pub mod Used

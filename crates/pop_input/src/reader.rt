@@ -7,6 +7,7 @@ ghost use Rattle.pop_text.specs.ties.Plain.{Skips};
 ghost use Rattle.pop_text.specs.declared.scanner.End.{End};
 ghost use Rattle.pop_input.specs.declared.reader.Next.{Next};
 ghost use Rattle.pop_input.specs.ties.Standing.{IsNumbered, NextItem, is_item, next_behind as behind, start, work_left};
+ghost use Rattle.pop_input.specs.ties.Used.{UsesItem};
 ghost use Rattle.pop_input.specs.ties.Closings.{ReadsWord, cut_fault, last_of, told_of_cut};
 ghost use Rattle.pop_input.specs.Names.{command_of};
 
@@ -72,12 +73,17 @@ impl Reader {
     /// none has one, that of its end, in the line of the word that closes it; where the input ends or is cut in a problem
     /// without a fault, that, in the line where it does. Lines are counted from 1.
     ///
+    /// Of the input exactly the bytes up to the end of the word that closes the item are used, and none behind it: the next
+    /// call begins there. Where the input ends or is cut in the item, all up to there are.
+    ///
     /// Behind faults 1 to 18 words are skipped up to the end of the problem; 20 and 21 come there as items of their own.
     /// Behind the last item the source isn't asked, and its count of failures may be any.
     pub fn next_problem<S: Source>(&mut self, source: &mut S) -> Item
         requires { self.old.next ≢ Next.Nothing → self.old.at.end ≡ End.Open
             → S.failures source.old < greatest }
         ensures item { NextItem self.old self.new (S.remaining source.old) (S.remaining source.new)
+            result }
+        ensures used { UsesItem self.old self.new (S.remaining source.old) (S.remaining source.new)
             result }
         ensures within { self.new.at.used ≤ limit }
         ensures waits { length self.new.at.window ≤ 4096 }

@@ -4,7 +4,7 @@ ghost use Rattle.pop_text.specs.Words.{limit};
 ghost use Rattle.pop_text.specs.Bytes.{greatest};
 ghost use Rattle.pop_text.specs.ties.Reading.{Asks};
 ghost use Rattle.pop_text.specs.declared.scanner.End.{End};
-ghost use Rattle.pop_input.specs.ties.Tokens.{NextToken};
+ghost use Rattle.pop_input.specs.ties.Tokens.{NextToken, UsesToken};
 
 use crate::names::{TextWord, text_word_of};
 use pop_text::read_fault::ReadFault;
@@ -38,6 +38,8 @@ pub(crate) fn next_token<S: Source>(
     requires { scanner.old.end ≡ End.Open → S.failures source.old < greatest }
     ensures token { NextToken scanner.old scanner.new (S.remaining source.old)
         (S.remaining source.new) word.new text.new result }
+    ensures used { UsesToken scanner.old scanner.new (S.remaining source.old)
+        (S.remaining source.new) word.new result }
     ensures within { scanner.new.used ≤ limit }
     ensures waits { length scanner.new.window ≤ 4096 }
     ensures asks { Asks scanner.old.end scanner.new.end (S.remaining source.old)

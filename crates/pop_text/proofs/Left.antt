@@ -125,7 +125,7 @@ module _ {old new : Reading} {had left : Option (List ℕ)} {number : ℕ} (run 
 -- what the used bytes and the place behind them say of the next word
 pub next_of : (old new : Reading) (had left : Option (List ℕ)) (result : Result (Option Read) ReadFault) → UsesWord old new had left result → Stands new result
     → NextWord old new had left result
-next_of old new had left (Ok None) p at = (gap_takes p at.2, over new AtEnd (stops_at_end new at), (omega (arith, p.uses.used), at.2))
+next_of old new had left (Ok None) p at = (gap_takes p.0 at.2, over new AtEnd (stops_at_end new at), (omega (arith, p.0.uses.used), at.2))
 next_of old new had left (Ok (Some word)) p some = grind (arith, word_takes, length-append)
 next_of old new had left (Err (TooLong line)) (run, long, p, ends) at =
     let some : 0 < length run = omega (arith, long) in

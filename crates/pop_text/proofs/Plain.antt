@@ -2,7 +2,7 @@
 use Rattle.pop_text.proofs.Basics.{ArePlain, Bool, Input, IsPlain, List, None, Option, Reading, RunsOut, Skips, Takes, Uses, Word, [], among, ap, append_assoc, arith, codes, count_by, drop, drop-drop, drop-take, drop_more, false, get_or, inl, inr, is_cut, is_gap, is_in_word, is_line_end, is_named, is_plain, is_short_form, is_text_word, length, length-append, length-drop, length-take, limit, list_all, list_all-append, refl, suc, take, take-add, take-append-drop, tokens_from, true, zero, ℕ, ◌&&◌, ◌++◌, ◌+◌, ◌-◌, ◌<◌, ◌==◌, ◌||◌, ◌∙◌, ◌∷◌, ◌≡◌, ◌≤◌, ◌⊎◌}
 use Rattle.std.specs.Char.{to_ascii_lowercase}
 use Rattle.pop_text.proofs.WordLaws.{all_parts, line_lines, solid_line, RunEnds, with_gap}
-use Rattle.pop_text.proofs.Using.{keeps_bytes}
+use Rattle.pop_text.proofs.Using.{keeps_bytes, uses_none}
 use Rattle.pop_text.proofs.Excluded.{gap_or_word}
 use Rattle.pop_text.proofs.Left.{and_false, count_then, run_said, tail_at, takes, view_at}
 
@@ -130,6 +130,8 @@ module _ (old new : Reading) (bytes out : List ℕ) (uses : (had : Option (List 
     tokens = plain.tokens old.line;
     plain = plain.plain old.line;
     takes = skip_takes;
+    bytes = bytes;
+    uses = uses;
     on = omega (arith, (uses None).used);
     within = λ before. within;
     waits = waits;
@@ -144,4 +146,14 @@ pub takes_none : (place : Reading) (had : Option (List ℕ)) → Takes (among pl
 takes_none place had = record { bytes = []; amount = omega arith; taken = keeps_bytes had; follows = λ rest may. may; begin = λ rest may. refl }
 
 pub skips_none : (place : Reading) → Skips place place
-skips_none place = record { tokens = []; plain = refl; takes = takes_none place; on = omega arith; within = λ h. h; waits = omega arith; end = refl }
+skips_none place = record {
+  tokens = [];
+  plain = refl;
+  takes = takes_none place;
+  bytes = [];
+  uses = uses_none place;
+  on = omega arith;
+  within = λ h. h;
+  waits = omega arith;
+  end = refl;
+}

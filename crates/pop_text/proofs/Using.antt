@@ -14,12 +14,18 @@ pub uses_then : {a b c : Reading} {had mid left : Option (List ℕ)} {xs ys : Li
 uses_then {a} {b} {c} {had} {mid} {left} {xs} {ys} p q = grind (arith, consumes_then, append_assoc, length-append, sum_by-append)
 
 -- no byte was used
-unfoldable pub no_run : (test : ℕ → Bool) (place : Reading) (had : Option (List ℕ)) → UsesAll test place place had had
-no_run test place had = record {
-  bytes = [];
-  all = refl;
-  uses = record { taken = []; consumed = keeps_bytes had; unread = append-nil place.window; used = omega arith; line = omega arith; still = inr (refl, refl) };
+pub uses_none : (place : Reading) (had : Option (List ℕ)) → Uses place place had had []
+uses_none place had = record {
+  taken = [];
+  consumed = keeps_bytes had;
+  unread = append-nil place.window;
+  used = omega arith;
+  line = omega arith;
+  still = inr (refl, refl);
 }
+
+unfoldable pub no_run : (test : ℕ → Bool) (place : Reading) (had : Option (List ℕ)) → UsesAll test place place had had
+no_run test place had = record { bytes = []; all = refl; uses = uses_none place had }
 
 unfoldable pub all_then : {test : ℕ → Bool} {a b c : Reading} {had mid left : Option (List ℕ)} → UsesAll test a b had mid → UsesAll test b c mid left
     → UsesAll test a c had left

@@ -1,9 +1,10 @@
 //! A reader of the standard library as a source.
 ghost use Rattle.std.specs.Prelude.{◌≡◌, ℕ, List, ◌<◌, ◌+◌, ◌^◌, ◌-◌, Option, IfOk, IsOk, IsErr, OnErr};
 ghost use Rattle.std.specs.Io.{ReadsAtMost};
-ghost use Rattle.pop_text.specs.Bytes.{Keeps, Consumes, ReadConsumes, count_after, greatest};
+ghost use Rattle.pop_text.specs.Bytes.{Keeps, Consumes, ReadConsumes, TellsRead, count_after, greatest};
 
 use crate::source::{Device, Source};
+use std::io;
 use std::io::Read;
 
 /// Any reader of the standard library, with a count of failures. An interrupted call is a failure.
@@ -24,6 +25,22 @@ impl<R: Read + Drop> ReadSource<R> {
             failures: 0,
         }
     }
+
+    // What the reader's answer is told as: so many bytes, none of them at the end, or a failure, which is counted.
+    fn told(&mut self, answer: io::Result<usize>) -> Result<usize, Device>
+        requires { self.old.failures < greatest }
+        ensures answer { TellsRead answer result }
+        ensures counted { self.new.failures ≡ count_after result self.old.failures }
+        ensures reader { self.new.reader ≡ self.old.reader }
+    {
+        match answer {
+            Ok(n) => Ok(n),
+            Err(_) => {
+                self.failures += 1;
+                Err(Device)
+            }
+        }
+    }
 }
 
 impl<R: Read + Drop> Source for ReadSource<R> {
@@ -32,12 +49,7 @@ impl<R: Read + Drop> Source for ReadSource<R> {
     ghost failures = { λ s. s.failures };
 
     fn read(&mut self, buffer: &mut [u8]) -> Result<usize, Device> {
-        match self.reader.read(buffer) {
-            Ok(n) => Ok(n),
-            Err(_) => {
-                self.failures += 1;
-                Err(Device)
-            }
-        }
+        let answer = self.reader.read(buffer);
+        self.told(answer)
     }
 }

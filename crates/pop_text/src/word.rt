@@ -1,4 +1,6 @@
 //! A word of the input.
+ghost use Rattle.std.specs.Prelude.{◌≡◌, []};
+
 use arrayvec::ArrayVec;
 
 /// A word as it was written, and the number of its line, counted from 1.
@@ -9,8 +11,11 @@ pub struct Word {
 }
 
 impl Word {
-    /// No byte yet.
-    pub fn new() -> Word {
+    /// No byte yet, and no line.
+    pub fn new() -> Word
+        ensures bytes { result.bytes.items ≡ [] }
+        ensures line { result.line ≡ 0 }
+    {
         Word {
             bytes: ArrayVec::new(),
             line: 0,

@@ -1,9 +1,10 @@
 //! A writer of the standard library as a sink.
 ghost use Rattle.std.specs.Prelude.{◌≡◌, ℕ, List, ◌<◌, ◌≤◌, ◌+◌, ◌^◌, ◌-◌, Option, IfOk, IsOk, IsErr, OnErr, OnOk, length};
 ghost use Rattle.std.specs.Io.{WritesAtMost};
-ghost use Rattle.pop_text.specs.Bytes.{Keeps, Appends, WriteAppends, count_after, greatest, Writes};
+ghost use Rattle.pop_text.specs.Bytes.{Keeps, Appends, TellsWrite, WriteAppends, count_after, greatest, Writes};
 
 use crate::sink::{Sink, SinkFault};
+use std::io;
 use std::io::Write;
 
 /// Any writer of the standard library, with a count of failures. An interrupted call is a failure,
@@ -36,6 +37,22 @@ impl<W: Write + Drop> WriteSink<W> {
         } = self;
         writer
     }
+
+    // What the writer's answer is told as: so many bytes, or a failure, which is counted. None of a text is one.
+    fn told(&mut self, answer: io::Result<usize>, text: &[u8]) -> Result<usize, SinkFault>
+        requires { self.old.failures < greatest }
+        ensures answer { TellsWrite (length text.now) answer result }
+        ensures counted { self.new.failures ≡ count_after result self.old.failures }
+        ensures writer { self.new.writer ≡ self.old.writer }
+    {
+        match answer {
+            Ok(n) if n > 0 || text.is_empty() => Ok(n),
+            _ => {
+                self.failures += 1;
+                Err(SinkFault)
+            }
+        }
+    }
 }
 
 impl<W: Write + Drop> Sink for WriteSink<W> {
@@ -44,12 +61,7 @@ impl<W: Write + Drop> Sink for WriteSink<W> {
     ghost failures = { λ s. s.failures };
 
     fn write(&mut self, text: &[u8]) -> Result<usize, SinkFault> {
-        match self.writer.write(text) {
-            Ok(n) if n > 0 || text.is_empty() => Ok(n),
-            _ => {
-                self.failures += 1;
-                Err(SinkFault)
-            }
-        }
+        let answer = self.writer.write(text);
+        self.told(answer, text)
     }
 }

@@ -1,13 +1,10 @@
 -- What the clauses of a session, a run and the settings exclude: a sound problem told as faulty, another status or another call after the sink failed,
 -- flags that weren't given, settings of words that the command refuses, and a refusal of words that it takes.
-use Rattle.pops.proofs.Basics.{Choice, Clean, End, Entry, Err, IfErr, IfOk, Input, IsSettings, List, MayFollow, None, Ok, Open, Option, Place, Problem, Reads, Result, Runs, Some, Sound, Standing, Steps, Text, [], append_cancel_right, arith, codes, command, false, matches_of, one_of, refusals, sym, takes, true, ℕ, ◌+◌, ◌∙◌, ◌∷◌, ◌≡◌, ◌≢◌, ◌≤◌}
+use Rattle.pops.proofs.Basics.{Choice, Entry, Err, IfErr, IfOk, Input, IsSettings, List, None, Ok, Option, Place, Problem, Reads, Result, Runs, Some, Sound, Standing, Steps, Text, [], append_cancel_right, arith, codes, command, false, matches_of, one_of, refusals, sym, takes, true, ℕ, ◌+◌, ◌∙◌, ◌∷◌, ◌≡◌, ◌≢◌, ◌≤◌}
+use Rattle.pops.proofs.Meeting.{some_rest}
 use Rattle.pops.specs.declared.settings.ArgFault.{ArgFault}
 use Rattle.pops.specs.declared.settings.ArgFault.TheVariants.{Usage, Memory}
 use Rattle.pops.specs.declared.settings.Settings.{Settings}
-
-some_rest : (end : End) → (rest : Input) × MayFollow end rest
-some_rest Open = (record { bytes = []; ending = Clean }, tt)
-some_rest end = grind arith
 
 -- one item is read, and no other one
 same_item : (old new : Standing) (had left : List ℕ) (entry other : Entry) → Reads old new (Some had) (Some left) (entry ∷ [])

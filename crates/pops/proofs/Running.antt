@@ -1,11 +1,14 @@
 -- A run, step by step.
-use Rattle.pops.proofs.Basics.{Appends, Bool, Broken, Choice, Clean, Consumes, End, Ended, Ending, Entry, Err, Finished, IfSome, Input, IsSeen, List, MayFollow, None, Ok, Open, Option, OutputFailed, Place, Problem, Reads, Result, Runs, Some, Standing, Steps, TakesItem, Writes, [], after, ap, append-nil, append_assoc, appends_kept, appends_none, appends_then, arith, begins_later}
-use Rattle.pops.proofs.Basics.{begins_longer, consumes_then, entries_in, entries_left, entry_text, failures_after, false, grew, is_err, is_faulty, length, length-append, length-take, limit, list_any, met, not, refl, report_from, start, status_of, status_with, step_of, sym, take, taken_of, tells_failure, true, ℕ, ◌++◌, ◌+◌, ◌-◌, ◌^◌, ◌||◌, ◌∙◌, ◌∷◌, ◌≡◌, ◌≤◌}
+use Rattle.pops.proofs.Basics.{Appends, Begins, Bool, Choice, End, Entry, Err, Finished, IfSome, Input, IsSeen, List, None, Ok, Open, Option, OutputFailed, Place, Problem, Reads, Result, Runs, Some, Standing, Steps, TakesItem, Writes, [], ap, append-nil, append_assoc, appends_kept, appends_none, appends_then, arith, begins_later}
+use Rattle.pops.proofs.Basics.{begins_longer, consumes_then, entries_in, entries_left, entry_text, failures_after, false, grew, is_err, is_faulty, length, length-append, length-take, limit, list_any, met, not, refl, report_from, start, status_of, status_with, step_of, sym, taken_of, tells_failure, true, ℕ, ◌++◌, ◌+◌, ◌^◌, ◌||◌, ◌∙◌, ◌∷◌, ◌≡◌, ◌≤◌}
 use Rattle.std.proofs.lemmas.Bool.{lt-ltb}
-use Rattle.std.proofs.Math.Seq.{take-append_seam}
 use Rattle.pop_text.specs.declared.sink.SinkFault.{SinkFault}
 use Rattle.pop_input.specs.ties.Standing.{start as before_all}
+use Rattle.pops.proofs.Meeting.{is_broken, met_after, some_rest}
+use Rattle.pops.proofs.Reached.{Reached, Stopped, item_reached, item_stops, reached_start, still_more, stopped_last, stopped_reads}
+use Rattle.pops.specs.Run.{ReadsUpTo}
 use Rattle.pops.specs.declared.status.Status.{Status}
+use Rattle.pops.specs.ties.Sessions.{ends}
 
 -- an item that was read and printed so is what a step answers of it
 pub item_done : {A : Type 0} (old new : Place) (had left before now : Option (List ℕ)) (entry : Entry) (printed : Result A SinkFault)
@@ -22,6 +25,7 @@ pub record Progress (choice : Choice) (now : Place) (had left before taken : Opt
   pub status : now.status ≡ status_of items
   pub choice_is : now.choice ≡ choice
   pub running : now.stopped ≡ false
+  pub reached : Reached now.at had left
 
 -- one read after another
 pub reads_then : (a b c : Standing) (had mid left : Option (List ℕ)) (xs ys : List Entry) → Reads a b had mid xs → Reads b c mid left ys
@@ -52,7 +56,12 @@ progress_start choice had before = record {
   status = refl;
   choice_is = refl;
   running = refl;
+  reached = reached_start had;
 }
+
+-- where an item was read one was still to come
+more_left : (old new : Place) (had left : Option (List ℕ)) (entry : Entry) → TakesItem old new had left entry → ends old.at.next ≡ false
+more_left old new had left entry t = let r = some_rest new.at.at.end in still_more old.at new.at had left entry r.0 r.1 t.reads
 
 pub progress_step : (choice : Choice) (old new : Place) (had mid left before t now : Option (List ℕ)) (sound : Bool) → Progress choice old had mid before t
     → Steps old new mid left t now (Ok (Problem sound)) → Progress choice new had left before now
@@ -64,42 +73,48 @@ progress_step choice old new had mid left before t now sound p q = record {
   status = q.1.status ∙ ap (λ s. status_with s (tells_failure q.0) (is_faulty q.0)) p.status ∙ sym (status_more p.items q.0);
   choice_is = q.1.choice ∙ p.choice_is;
   running = q.3;
+  reached = item_reached old.at new.at had mid left p.reached (more_left old new mid left q.0 q.1) q.0 q.1.used;
 }
-
--- whether the input broke off
-abbrev pub is_broken : End → Bool
-is_broken Open = false
-is_broken Ended = false
-is_broken Broken = true
-
-input : List ℕ → Ending → Input
-input bytes ending = record { bytes = bytes; ending = ending }
-
-taken_front : (bytes ys : List ℕ) → take (length (bytes ++ ys) - length ys) (bytes ++ ys) ≡ bytes ++ []
-taken_front bytes ys = grind (arith, length-append bytes ys, take-append_seam bytes ys, append-nil bytes)
-
--- what was met is what was taken and what may follow
-met_after : (e : End) (left : Option (List ℕ)) (r bytes : List ℕ) → Consumes (Some r) left bytes → IsSeen e left
-    → (rest : Input) × MayFollow e rest × (met (is_broken e) r left ≡ after bytes rest)
-met_after e None r bytes p seen = absurd p
-met_after Open (Some ys) r bytes p seen = (record { bytes = ys; ending = Clean }, tt, ap (λ bs. let i : Input = record { bytes = bs; ending = Clean } in i) p)
-met_after e (Some ys) r bytes p seen = grind (arith, taken_front)
 
 -- before all items, those that are still to come are all of the input's
 all_to_come : (rest : Input) → entries_left before_all rest ≡ entries_in rest
 unfolding entries_in
 all_to_come rest = grind arith
 
+-- what was read of an input that is over
+module _ (choice : Choice) (old new : Place) (had mid left before t now : Option (List ℕ)) (answer : Status) (p : Progress choice old had mid before t)
+    (q : Steps old new mid left t now (Ok (Finished answer))) where
+  last_reads : Reads before_all new.at had left p.items
+  last_reads = rw (q.1, q.2) p.reads
+
+  last_stops : Stopped new.at had left
+  last_stops = rw (q.1, q.2) (stopped_last p.reached q.0)
+
+  none_left : (rest : Input) → entries_left new.at rest ≡ []
+  none_left rest = grind arith
+
 -- a run that ends
 progress_end : (choice : Choice) (old new : Place) (mid left before t now : Option (List ℕ)) (r : List ℕ) (answer : Status)
     → Progress choice old (Some r) mid before t → Steps old new mid left t now (Ok (Finished answer)) → IsSeen new.at.at.end left
     → Runs choice (met (is_broken new.at.at.end) r left) before now false answer
 progress_end choice old new mid left before t now r answer p q seen =
-    let all = reads_then before_all old.at new.at (Some r) mid left p.items [] p.reads q.0 in
+    let all = last_reads choice old new (Some r) mid left before t now answer p q in
     let m = met_after new.at.at.end left r all.bytes all.taken seen in
+    let none = none_left choice old new (Some r) mid left before t now answer p q m.0 in
     let items : entries_in (met (is_broken new.at.at.end) r left) ≡ p.items =
-    ap entries_in m.2 ∙ sym (all_to_come _) ∙ all.begin m.0 m.1 ∙ rw (q.1 m.0, append-nil, append-nil) refl in
-    (rw items (appends_kept before t now _ p.written q.2), q.3 ∙ p.status ∙ sym (ap status_of items))
+    ap entries_in m.2 ∙ sym (all_to_come _) ∙ all.begin m.0 m.1 ∙ rw (none, append-nil) refl in
+    (rw items (appends_kept before t now _ p.written q.3), q.4 ∙ p.status ∙ sym (ap status_of items))
+
+cut_begins : (choice : Choice) (items : List Entry) (entry : Entry) (more : List Entry) (before t now : Option (List ℕ))
+    → Appends before t (report_from choice 1 items) → Begins t now (entry_text choice (1 + length items) entry)
+    → Begins before now (report_from choice 1 ((items ++ entry ∷ []) ++ more))
+cut_begins choice items entry more before t now written begun =
+    let text = entry_text choice (1 + length items) entry in
+    rw (
+      append_assoc items (entry ∷ []) more,
+      report-append choice 1 items (entry ∷ more),
+      sym (append_assoc (report_from choice 1 items) text (report_from choice (1 + length items + 1) more)),
+    ) (begins_longer _ (begins_later before t now (report_from choice 1 items) text written begun))
 
 -- a run that the sink cuts off
 progress_cut : (choice : Choice) (old new : Place) (mid left before t now : Option (List ℕ)) (r : List ℕ) (fault : SinkFault)
@@ -110,7 +125,7 @@ progress_cut choice old new mid left before t now r fault p q seen =
     let m = met_after new.at.at.end left r all.bytes all.taken seen in
     let items : entries_in (met (is_broken new.at.at.end) r left) ≡ (p.items ++ q.0 ∷ []) ++ entries_left new.at m.0 =
     ap entries_in m.2 ∙ sym (all_to_come _) ∙ all.begin m.0 m.1 in
-    grind (arith, report-append, begins_longer, begins_later)
+    (rw items (cut_begins choice p.items q.0 _ before t now p.written (rw (p.number, p.choice_is) at q.2)), refl)
 
 grew_same : (n : ℕ) → grew n n ≡ false
 grew_same n = grind arith
@@ -138,24 +153,41 @@ run_cut choice old new (Some r) mid left before t now fault n m v w p q seen rea
 
 -- a run takes as many bytes as are used and as wait in the window
 taken_most : (new : Standing) (r : List ℕ) (left : Option (List ℕ)) (items : List Entry) → Reads before_all new (Some r) left items
-    → new.at.used + length new.at.window ≤ limit + 4096 → length (taken_of r left) ≤ 2 ^ 30 + 4096
+    → new.at.used ≤ limit → length new.at.window ≤ 4096 → length (taken_of r left) ≤ 2 ^ 30 + 4096
 unfolding limit
-taken_most new r left items p most = grind (arith, length-append, length-take)
+taken_most new r left items p within waits = grind (arith, length-append, length-take)
 
 -- a source that has failed is not asked again
 pub failed_once : (e : End) (n m : ℕ) → m ≡ failures_after Open e n → m ≤ n + 1
 failed_once e n m is = grind arith
 
 pub ended_most : (choice : Choice) (old new : Place) (had mid left before t now : Option (List ℕ)) (answer : Status) → Progress choice old had mid before t
-    → Steps old new mid left t now (Ok (Finished answer)) → new.at.at.used + length new.at.at.window ≤ limit + 4096
+    → Steps old new mid left t now (Ok (Finished answer)) → new.at.at.used ≤ limit → length new.at.at.window ≤ 4096
     → IfSome had (λ r. length (taken_of r left) ≤ 2 ^ 30 + 4096)
-ended_most choice old new None mid left before t now answer p q most = tt
-ended_most choice old new (Some r) mid left before t now answer p q most = taken_most new.at r left _
-    (reads_then before_all old.at new.at (Some r) mid left p.items [] p.reads q.0) most
+ended_most choice old new None mid left before t now answer p q within waits = tt
+ended_most choice old new (Some r) mid left before t now answer p q within waits =
+    taken_most new.at r left _ (last_reads choice old new (Some r) mid left before t now answer p q) within waits
 
 pub cut_most : (choice : Choice) (old new : Place) (had mid left before t now : Option (List ℕ)) (fault : SinkFault) → Progress choice old had mid before t
-    → Steps old new mid left t now (Err fault) → new.at.at.used + length new.at.at.window ≤ limit + 4096
+    → Steps old new mid left t now (Err fault) → new.at.at.used ≤ limit → length new.at.at.window ≤ 4096
     → IfSome had (λ r. length (taken_of r left) ≤ 2 ^ 30 + 4096)
-cut_most choice old new None mid left before t now fault p q most = tt
-cut_most choice old new (Some r) mid left before t now fault p q most = taken_most new.at r left _
-    (reads_then before_all old.at new.at (Some r) mid left p.items (q.0 ∷ []) p.reads q.1.reads) most
+cut_most choice old new None mid left before t now fault p q within waits = tt
+cut_most choice old new (Some r) mid left before t now fault p q within waits = taken_most new.at r left _
+    (reads_then before_all old.at new.at (Some r) mid left p.items (q.0 ∷ []) p.reads q.1.reads) within waits
+
+-- How far a run reads.
+
+pub ended_reads : (choice : Choice) (old new : Place) (had mid left before t now : Option (List ℕ)) (answer : Status) (n m : ℕ)
+    → Progress choice old had mid before t → Steps old new mid left t now (Ok (Finished answer)) → IsSeen new.at.at.end left
+    → length new.at.at.window ≤ 4096 → m ≡ failures_after Open new.at.at.end n → IfSome had (λ r. ReadsUpTo (met (grew n m) r left) (taken_of r left))
+ended_reads choice old new None mid left before t now answer n m p q seen few reads = tt
+ended_reads choice old new (Some r) mid left before t now answer n m p q seen few reads =
+    rw (grew_broken new.at.at.end n m reads) (stopped_reads new.at r left (last_stops choice old new (Some r) mid left before t now answer p q) seen few)
+
+pub cut_reads : (choice : Choice) (old new : Place) (had mid left before t now : Option (List ℕ)) (fault : SinkFault) (n m : ℕ)
+    → Progress choice old had mid before t → Steps old new mid left t now (Err fault) → IsSeen new.at.at.end left → length new.at.at.window ≤ 4096
+    → m ≡ failures_after Open new.at.at.end n → IfSome had (λ r. ReadsUpTo (met (grew n m) r left) (taken_of r left))
+cut_reads choice old new None mid left before t now fault n m p q seen few reads = tt
+cut_reads choice old new (Some r) mid left before t now fault n m p q seen few reads =
+    let stops = item_stops old.at new.at (Some r) mid left p.reached (more_left old new mid left q.0 q.1) q.0 q.1.used in
+    rw (grew_broken new.at.at.end n m reads) (stopped_reads new.at r left stops seen few)

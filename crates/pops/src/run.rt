@@ -2,7 +2,7 @@
 ghost use Rattle.std.specs.Prelude.{◌<◌, ◌≤◌, ◌+◌, ◌^◌, IfSome, length};
 ghost use Rattle.pop_text.specs.Bytes.{greatest};
 ghost use Rattle.pops.specs.Report.{choice_of};
-ghost use Rattle.pops.specs.Run.{Runs, grew, met, taken_of};
+ghost use Rattle.pops.specs.Run.{ReadsUpTo, Runs, grew, met, taken_of};
 
 use crate::session::Session;
 use crate::settings::Settings;
@@ -14,7 +14,7 @@ use pop_text::source::Source;
 ///
 /// What is written is exactly the report of the input, which settings and input alone decide, or a beginning of it
 /// where the sink fails; then the status is `OutputFailed`, and nothing more is written. At most 2^30 + 4,096 bytes are
-/// taken from the source. Of the calls of each, source and sink, at most one fails.
+/// taken from the source, and at most 4,096 behind the first EndProblem, which are not used. Of the calls of each, source and sink, at most one fails.
 pub fn run<S: Source, W: Sink>(settings: &Settings, source: &mut S, sink: &mut W) -> Status
     requires source { S.failures source.old < greatest }
     requires sink { W.failures sink.old < greatest }
@@ -23,6 +23,9 @@ pub fn run<S: Source, W: Sink>(settings: &Settings, source: &mut S, sink: &mut W
         had (S.remaining source.new))
         (W.taken sink.old) (W.taken sink.new)
         (grew (W.failures sink.old) (W.failures sink.new)) result) }
+    ensures reads { IfSome (S.remaining source.old) (λ had.
+        ReadsUpTo (met (grew (S.failures source.old) (S.failures source.new))
+        had (S.remaining source.new)) (taken_of had (S.remaining source.new))) }
     ensures once { (S.failures source.new ≤ S.failures source.old + 1)
         × (W.failures sink.new ≤ W.failures sink.old + 1) }
     ensures taken { IfSome (S.remaining source.old)

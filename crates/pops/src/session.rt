@@ -50,7 +50,7 @@ impl Model for Session {
     } };
 
     ghost invariant = { λ s. (s.next_number + work_left s.reader ≤ 2 ^ 31)
-        × (s.reader.at.used + length s.reader.at.window ≤ limit + 4096)
+        × (s.reader.at.used ≤ limit) × (length s.reader.at.window ≤ 4096)
         × (ends s.reader.next ≡ says_last s.last) };
 }
 
@@ -72,6 +72,7 @@ impl Session {
     }
 
     /// Reads the next item and writes its report; behind the last item it writes nothing and answers the status of all.
+    /// Of the input it uses the bytes up to the end of the word that closes the item, and none behind it.
     ///
     /// `SinkFault` where the sink fails: a beginning of the item's report is then written. From then on each call
     /// answers `SinkFault`, reads nothing and writes nothing. Behind the last item neither is asked either.
@@ -96,7 +97,8 @@ impl Session {
             ≡ failures_after self.old.at.at.end self.new.at.at.end (S.failures source.old) }
         ensures write_failures { self.old.stopped ≡ false
             → W.failures sink.new ≡ count_after result (W.failures sink.old) }
-        ensures most { self.new.at.at.used + length self.new.at.at.window ≤ limit + 4096 }
+        ensures within { self.new.at.at.used ≤ limit }
+        ensures waits { length self.new.at.at.window ≤ 4096 }
         ensures less { is_problem result ≡ true → work_left self.new.at < work_left self.old.at }
     {
         if self.has_stopped {

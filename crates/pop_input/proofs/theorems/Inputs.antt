@@ -1,29 +1,70 @@
--- Whole lines of an input: their words are their own, up to the numbers of their lines.
-use Rattle.pop_input.proofs.Words.{Input, List, None, Words, ap, arith, count_by, is_line_end, length, limit, put_before, refl, words_from, words_of, ℕ, ◌++◌, ◌+◌, ◌-◌, ◌<◌, ◌∙◌, ◌∷◌, ◌≡◌}
-use Rattle.pop_input.proofs.Pieces.{tokens_at, words_from_behind}
+-- Lines of an input: their words are their own, up to the numbers of their lines.
+use Rattle.pop_input.proofs.Words.{Clean, Input, List, None, Words, [], ap, append-nil, append_assoc, arith, cond, count_by, drop_all, inl, inr, is_line_end, length, length-append, limit, no_words, put_before, refl, sym, words_by, words_from, words_of, ℕ, ◌++◌, ◌+◌, ◌-◌, ◌<◌, ◌∙◌, ◌∷◌, ◌≡◌, ◌≤◌, ◌⊎◌}
+use Rattle.std.proofs.lemmas.List.{take_all}
+use Rattle.pop_text.specs.Words.{End, tail_of}
+use Rattle.std.proofs.lemmas.List.Sums.{sum_by-append}
+use Rattle.pop_input.proofs.Pieces.{tokens_at, words_behind, words_from_behind}
 
--- The words of an input of whole lines, a line end, and more: those of the lines, and then those of what is behind, read from the next line
--- on, with so many bytes less of the limit.
-pub words_of_lines_and_rest : (input : Input) (lines rest : List ℕ) → input.bytes ≡ lines ++ 10 ∷ rest → length lines < limit
-    → words_of input
-    ≡ put_before (tokens_at 1 lines)
-    (words_from None (limit - (length lines + 1)) (1 + (count_by is_line_end lines + 1)) (record { bytes = rest; ending = input.ending }))
-words_of_lines_and_rest input lines rest is less = words_from_behind limit 1 input lines rest is less
+-- Whole lines: none, or bytes that end with a line end.
+abbrev pub AreWholeLines : List ℕ → Type 0
+AreWholeLines lines = (lines ≡ []) ⊎ ((front : List ℕ) × (lines ≡ front ++ 10 ∷ []))
 
--- The number of the line behind whole lines and their line end.
-abbrev pub next_line : List ℕ → ℕ
-next_line lines = 1 + (count_by is_line_end lines + 1)
+-- A line is over before these bytes of an input, its last ones: they begin with a line end, or the input ends cleanly.
+abbrev pub IsLineOver : Input → List ℕ → Type 0
+IsLineOver input behind = ((rest : List ℕ) × (behind ≡ 10 ∷ rest)) ⊎ ((behind ≡ []) × (input.ending ≡ Clean))
 
--- The same of lines, other lines, and more: the words of the other lines are read from the line in which they begin.
-pub words_of_both_and_rest : (input : Input) (lines own rest : List ℕ) → input.bytes ≡ lines ++ 10 ∷ (own ++ 10 ∷ rest)
-    → length lines + 1 + length own < limit
-    → (words : Words) × (words_of input ≡ put_before (tokens_at 1 lines) (put_before (tokens_at (next_line lines) own) words))
-words_of_both_and_rest input lines own rest is less =
-    let room = limit - (length lines + 1) in
-    let behind : Input = record { bytes = own ++ 10 ∷ rest; ending = input.ending } in
-    let last : Input = record { bytes = rest; ending = input.ending } in
-    let words = words_from None (room - (length own + 1)) (next_line lines + (count_by is_line_end own + 1)) last in (
-      words,
-      words_of_lines_and_rest input lines (own ++ 10 ∷ rest) is (omega (arith, less))
-          ∙ ap (put_before (tokens_at 1 lines)) (words_from_behind room (next_line lines) behind own rest refl (omega (arith, less))),
+-- The number of the line behind whole lines.
+abbrev pub line_behind : List ℕ → ℕ
+line_behind lines = 1 + count_by is_line_end lines
+
+-- What stands behind whole lines, as an input of its own.
+abbrev pub rest_of : Input → List ℕ → Input
+rest_of input rest = record { bytes = rest; ending = input.ending }
+
+-- the words of whole lines are those of the lines without their last line end
+last_end : (front : List ℕ) → tokens_at 1 (front ++ 10 ∷ []) ≡ tokens_at 1 front
+last_end front = ap (λ (w : Words). w.tokens) (words_behind 1 front [] End) ∙ append-nil (tokens_at 1 front)
+
+count_end : (front : List ℕ) → count_by is_line_end (front ++ 10 ∷ []) ≡ count_by is_line_end front + 1
+count_end front = sum_by-append (λ b. cond (is_line_end b) 1 0) front (10 ∷ [])
+
+-- The words of an input of whole lines and more: those of the lines, and then those of what is behind, read from the next line on, with so many
+-- bytes less of the limit.
+pub words_of_lines_and_rest : (input : Input) (lines rest : List ℕ) → input.bytes ≡ lines ++ rest → AreWholeLines lines → length lines ≤ limit
+    → words_of input ≡ put_before (tokens_at 1 lines) (words_from None (limit - length lines) (line_behind lines) (rest_of input rest))
+words_of_lines_and_rest input lines rest is (inl none) few = grind arith
+words_of_lines_and_rest input lines rest is (inr (front, whole)) few =
+    let size : length lines ≡ length front + 1 = grind (arith, length-append) in
+    let parts : input.bytes ≡ front ++ 10 ∷ rest = is ∙ rw (whole, append_assoc) refl in
+    let number : 1 + (count_by is_line_end front + 1) ≡ line_behind lines = rw (whole, count_end front) refl in
+    words_from_behind limit 1 input front rest parts (omega (arith, size, few))
+    ∙ rw (number, sym size) (ap (λ tokens. put_before tokens (words_from None (limit - length lines) (line_behind lines) (rest_of input rest)))
+    (sym (ap (tokens_at 1) whole ∙ last_end front)))
+
+-- the words of a line's own bytes, and some behind them
+own_words : (room n : ℕ) (input : Input) (own behind : List ℕ) → input.bytes ≡ own ++ behind → IsLineOver input behind → length own < room
+    → (words : Words) × (words_from None room n input ≡ put_before (tokens_at n own) words)
+own_words room n input own behind is (inl (rest, over)) few = (
+  words_from None (room - (length own + 1)) (n + (count_by is_line_end own + 1)) (rest_of input rest),
+  words_from_behind room n input own rest (is ∙ ap (λ
+      bytes. own ++ bytes) over) few,
+)
+own_words room n input own behind is (inr (over, clean)) few =
+    (no_words End (n + count_by is_line_end own), grind (arith, append-nil, take_all, drop_all))
+
+-- The words of lines in an input: behind those of whole lines before them stand their own, read from the line in which they begin, and then those of
+-- what is behind, if anything is.
+pub words_of_lines_and_own : (input : Input) (lines own behind : List ℕ) → input.bytes ≡ lines ++ (own ++ behind) → AreWholeLines lines
+    → IsLineOver input behind → length lines + length own < limit
+    → (words : Words) × (words_of input ≡ put_before (tokens_at 1 lines) (put_before (tokens_at (line_behind lines) own) words))
+words_of_lines_and_own input lines own behind is whole over few =
+    let room = limit - length lines in
+    let own_ones = own_words room (line_behind lines) (rest_of input (own ++ behind)) own behind refl over (omega (arith, few)) in (
+      own_ones.0,
+      words_of_lines_and_rest input lines (own ++ behind) is whole (omega (arith, few)) ∙ ap (put_before (tokens_at 1 lines)) own_ones.1,
     )
+
+-- The words of bytes with which an input ends so, whichever whole lines stand before: they are those of the bytes alone.
+pub words_of_last : (room n : ℕ) (input : Input) → length input.bytes ≤ room
+    → words_from None room n input ≡ words_by None n input.bytes (tail_of [] input.ending)
+words_of_last room n input few = grind (arith, take_all, drop_all)

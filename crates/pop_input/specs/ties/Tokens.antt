@@ -1,7 +1,8 @@
 -- What next_token does (own).
-use Rattle.std.specs.Prelude.{◌≡◌, ◌<◌, ◌≤◌, ℕ, List, [], ◌∷◌, length, Option, Some}
+use Rattle.std.specs.Prelude.{◌≡◌, ◌<◌, ◌≤◌, ℕ, List, [], ◌∷◌, length, Option, Some, None, Ok, Err}
 use Rattle.pop_text.specs.Words.{Token as Part, Word, TextLine, Tail, End as AtEnd, Long, Broken as Failing, text_of_line}
-use Rattle.pop_text.specs.ties.Reading.{Reading}
+use Rattle.pop_text.specs.ties.Reading.{Reading, Uses}
+use Rattle.pop_text.specs.ties.Runs.{IsRunOver, Peeks, UsesRun}
 use Rattle.pop_text.specs.ties.Left.{Takes, among, IsOver, GoesOn, StaysWithin}
 use Rattle.pop_text.specs.declared.read_fault.ReadFault.{ReadFault}
 use Rattle.pop_text.specs.declared.scanner.End.TheVariants.{Broken}
@@ -27,6 +28,21 @@ CutsOff old new had left (LongWord line) = ⊥
 CutsOff old new had left (InputTooLong line) = TakesNothing old new had left Long line
 CutsOff old new had left (Device line) = TakesNothing old new had left Failing line
     × (new.end ≡ Broken)
+
+-- some bytes were used
+pub record UsesSome (old new : Reading) (had left : Option (List ℕ)) : Type 0 where
+  pub bytes : List ℕ
+  pub uses : Uses old new had left bytes
+
+-- which bytes next_token uses: of a word those up to its end, and none behind it; where the input ends, or is cut, all up to there
+abbrev pub UsesToken : Reading → Reading → Option (List ℕ) → Option (List ℕ) → Room → Token
+    → Type 0
+UsesToken old new had left word AWord = UsesRun old new had left word.line word.bytes.items
+    × IsRunOver new
+UsesToken old new had left word (TooLong line) = UsesSome old new had left
+UsesToken old new had left word (Line keyword) = UsesSome old new had left
+UsesToken old new had left word (Ended line) = UsesSome old new had left × Peeks new (Ok None)
+UsesToken old new had left word (Cut fault) = UsesSome old new had left × Peeks new (Err fault)
 
 -- what next_token does, with the word and the text that it leaves
 abbrev pub NextToken : Reading → Reading → Option (List ℕ) → Option (List ℕ) → Room → List ℕ → Token

@@ -3,7 +3,7 @@ use Rattle.std.specs.Prelude.{◌≡◌, ◌≤◌, ℕ, ◌+◌, ◌==◌, ◌&
 use Rattle.std.specs.List.{list_all}
 use Rattle.std.specs.Char.{to_ascii_lowercase}
 use Rattle.pop_text.specs.Words.{Token, Word, TextLine, is_gap, is_line_end, limit, tokens_from}
-use Rattle.pop_text.specs.ties.Reading.{Reading}
+use Rattle.pop_text.specs.ties.Reading.{Reading, Uses}
 use Rattle.pop_text.specs.ties.Left.{Takes, among}
 
 -- tit, aut, ori, rem, nex, end: the first letters of title, author, origin, remark, nextproblem and endproblem
@@ -52,6 +52,8 @@ pub record Skips (old new : Reading) : Type 0 where
   pub tokens : List Token
   pub plain : list_all is_plain tokens ≡ true
   pub takes : (had : Option (List ℕ)) → Takes (among old) (among new) had had tokens
+  pub bytes : List ℕ
+  pub uses : (had : Option (List ℕ)) → Uses old new had had bytes
   pub on : old.used ≤ new.used
   pub within : old.used ≤ limit → new.used ≤ limit
   pub waits : length new.window ≤ length old.window

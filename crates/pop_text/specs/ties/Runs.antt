@@ -53,10 +53,10 @@ pub record UsesRun (old new : Reading) (had left : Option (List ℕ)) (number : 
   pub uses : Uses old new had left (gap ++ run)
   pub line : number ≡ old.line + count_by is_line_end gap
 
--- which bytes next_word uses: the gap and the word, which is over there; where there is none the gap, and a run that a fault cuts
+-- which bytes next_word uses: the gap and the word, which is over there; where there is none the gap up to the end of the input, and a run that a fault cuts
 abbrev pub UsesWord : Reading → Reading → Option (List ℕ) → Option (List ℕ)
     → Result (Option Word) ReadFault → Type 0
-UsesWord old new had left (Ok None) = UsesAll is_gap old new had left
+UsesWord old new had left (Ok None) = UsesAll is_gap old new had left × Peeks new (Ok None)
 UsesWord old new had left (Ok (Some word)) = UsesRun old new had left word.line word.bytes.items
     × IsRunOver new
 UsesWord old new had left (Err (TooLong line)) = (run : List ℕ) × (160 < length run)

@@ -1,8 +1,16 @@
 -- The report of an input is the texts of its items, each a function of its own block, its number and what is chosen: no neighbour changes it.
-use Rattle.pops.proofs.Basics.{Choice, Entry, Input, List, Words, [], ap, append_assoc, arith, count_by, entries_in, entries_of, entry_text, enumerate_from, false, flat_map, get_or, is_line_end, length, limit, map, put_before, refl, report, report_from, words_of, ℕ, ◌++◌, ◌+◌, ◌<◌, ◌∷◌, ◌≡◌}
-use Rattle.pop_input.proofs.theorems.Entries.{NextBlock, entries_are, is_first, length-own_entries, own_entries, own_entry, tokens_in}
+use Rattle.pops.proofs.Basics.{Choice, Entry, Input, List, None, Words, [], ap, append_assoc, arith, drop, entries_in, entries_of, entry_text, enumerate_from, flat_map, get_or, length, limit, map, put_before, refl, report, report_from, sym, words_from, words_of, ℕ, ◌++◌, ◌+◌, ◌-◌, ◌<◌, ◌∙◌, ◌∷◌, ◌≡◌, ◌≤◌}
+use Rattle.pop_input.proofs.theorems.Entries.{AreNext, ClosedBlock, blocks_first, entries_are, entries_behind, is_first, length-own_entries, own_entries, own_entry, tokens_in}
 use Rattle.pop_input.proofs.Pieces.{tokens_at}
-use Rattle.pop_input.proofs.theorems.Inputs.{next_line, words_of_both_and_rest}
+use Rattle.pop_input.proofs.theorems.Inputs.{AreWholeLines, IsLineOver, line_behind, rest_of, words_of_last, words_of_lines_and_own, words_of_lines_and_rest}
+use Rattle.pop_text.specs.Words.{tail_of, words_by}
+use Rattle.pop_input.specs.Names.{command_of}
+
+same_first : (xs ys : List ClosedBlock) → length xs ≡ length ys → is_first xs ≡ is_first ys
+same_first [] [] e = refl
+same_first (x ∷ xs) (y ∷ ys) e = refl
+same_first [] (y ∷ ys) e = absurd (omega (arith, e))
+same_first (x ∷ xs) [] e = absurd (omega (arith, e))
 
 module _ (choice : Choice) where
   -- The texts of items, the first with this number.
@@ -33,39 +41,80 @@ module _ (choice : Choice) where
   text_behind number [] entry others = let e : number + 0 ≡ number = omega arith in rw e refl
   text_behind number (other ∷ first) entry others = grind (arith, text_behind (number + 1) first entry others)
 
-  -- The report of an input of blocks, one more, and whatever words follow: the report of the blocks before; the text of this one's own entry,
-  -- with its number; and the report of what follows.
-  pub report_around_a_block : (input : Input) (before : List NextBlock) (block : NextBlock) (words : Words)
+  texts_behind : (number : ℕ) (first others : List Entry)
+      → drop (length first) (texts_from number (first ++ others)) ≡ texts_from (number + length first) others
+  texts_behind number [] others = let e : number + 0 ≡ number = omega arith in rw e refl
+  texts_behind number (other ∷ first) others = grind (arith, texts_behind (number + 1) first others)
+
+  -- The report of an input of blocks that NextProblem closes, one more that a word closes, and whatever words follow: the report of the blocks
+  -- before; the text of this one's own entry, with its number; and the report of what follows, which is nothing behind EndProblem.
+  pub report_around_a_block : (input : Input) (before : List ClosedBlock) (block : ClosedBlock) (words : Words) → AreNext before
       → words_of input ≡ put_before (flat_map tokens_in before) (put_before (tokens_in block) words)
       → report choice input
-      ≡ report_from choice 1 (own_entries before)
-      ++ (entry_text choice (1 + length before) (own_entry (is_first before) block) ++ report_from choice (1 + length before + 1) (entries_of false words))
+      ≡ report_from choice 1 (own_entries before) ++ (entry_text choice (1 + length before) (own_entry (is_first before) block)
+      ++ report_from choice (1 + length before + 1) (entries_behind (command_of block.closer) words))
   unfolding entries_in
-  report_around_a_block input before block words are = grind (arith, entries_are, report_of_both, length-own_entries)
+  report_around_a_block input before block words next are = grind (arith, entries_are, report_of_both, length-own_entries)
 
   -- In such an input the text at the block's place is that of its own entry.
-  pub text_of_a_block : (input : Input) (before : List NextBlock) (block : NextBlock) (words : Words)
+  pub text_of_a_block : (input : Input) (before : List ClosedBlock) (block : ClosedBlock) (words : Words) → AreNext before
       → words_of input ≡ put_before (flat_map tokens_in before) (put_before (tokens_in block) words)
       → get_or (texts input) (length before) [] ≡ entry_text choice (1 + length before) (own_entry (is_first before) block)
   unfolding entries_in
-  text_of_a_block input before block words are = grind (arith, entries_are before block words, length-own_entries before, text_behind)
+  text_of_a_block input before block words next are = grind (arith, entries_are before block words next, length-own_entries before, text_behind)
 
   -- No neighbour changes a text: in two inputs with as many blocks before the same block, of the same lines, its text is the same, whatever
   -- the words of the blocks before are, whatever words follow, and however the inputs end.
-  pub text_is_its_own : (input other : Input) (before instead : List NextBlock) (block : NextBlock) (words after : Words)
+  pub text_is_its_own : (input other : Input) (before instead : List ClosedBlock) (block : ClosedBlock) (words after : Words) → AreNext before → AreNext instead
       → words_of input ≡ put_before (flat_map tokens_in before) (put_before (tokens_in block) words)
       → words_of other ≡ put_before (flat_map tokens_in instead) (put_before (tokens_in block) after) → length before ≡ length instead
       → get_or (texts input) (length before) [] ≡ get_or (texts other) (length instead) []
-  text_is_its_own input other before instead block words after are is as_many =
-      grind (arith, text_of_a_block input before block words are, text_of_a_block other instead block after is)
+  text_is_its_own input other before instead block words after next these are is as_many =
+      grind (arith, text_of_a_block input before block words next are, text_of_a_block other instead block after these is)
 
   -- The same in bytes: change the bytes before some lines, which hold a block, and those behind them, as you like, but so that as many blocks
-  -- and as many line ends stand before: the text at the block's place is the same.
-  pub bytes_around_change_nothing : (input other : Input) (lines instead own rest after : List ℕ) (before those : List NextBlock) (block : NextBlock)
-      → input.bytes ≡ lines ++ 10 ∷ (own ++ 10 ∷ rest) → other.bytes ≡ instead ++ 10 ∷ (own ++ 10 ∷ after)
-      → length lines + 1 + length own < limit → length instead + 1 + length own < limit
-      → tokens_at 1 lines ≡ flat_map tokens_in before → tokens_at 1 instead ≡ flat_map tokens_in those
-      → length before ≡ length those → count_by is_line_end lines ≡ count_by is_line_end instead → tokens_at (next_line lines) own ≡ tokens_in block
+  -- and as many line ends stand before: the text at the block's place is the same. The lines may be the first of the input, its last, or all.
+  pub bytes_around_change_nothing : (input other : Input) (lines instead own rest after : List ℕ) (before those : List ClosedBlock) (block : ClosedBlock)
+      → input.bytes ≡ lines ++ (own ++ rest) → other.bytes ≡ instead ++ (own ++ after) → AreWholeLines lines → AreWholeLines instead
+      → IsLineOver input rest → IsLineOver other after → length lines + length own < limit → length instead + length own < limit
+      → AreNext before → AreNext those → tokens_at 1 lines ≡ flat_map tokens_in before → tokens_at 1 instead ≡ flat_map tokens_in those
+      → length before ≡ length those → line_behind lines ≡ line_behind instead → tokens_at (line_behind lines) own ≡ tokens_in block
       → get_or (texts input) (length before) [] ≡ get_or (texts other) (length those) []
-  bytes_around_change_nothing input other lines instead own rest after before those block here there small fits first second as_many level is =
-      grind (arith, words_of_both_and_rest input lines own rest here small, words_of_both_and_rest other instead own after there fits, text_is_its_own)
+  bytes_around_change_nothing input other lines instead own rest after before those block here there whole wholes over overs small fits next these
+      first second as_many level is =
+      let w = words_of_lines_and_own input lines own rest here whole over small in
+      let v = words_of_lines_and_own other instead own after there wholes overs fits in
+      text_is_its_own input other before those block w.0 v.0 next these (w.1 ∙ rw (first, is) refl) (v.1 ∙ rw (second, sym level, is) refl) as_many
+
+  texts_of_rest : (input : Input) (before : List ClosedBlock) (words : Words) → AreNext before → words_of input ≡ put_before (flat_map tokens_in before) words
+      → drop (length before) (texts input) ≡ texts_from (1 + length before) (entries_of (is_first before) words)
+  unfolding entries_in
+  texts_of_rest input before words next are =
+      grind (arith, blocks_first before words next, length-own_entries before, texts_behind 1 (own_entries before))
+
+  -- The texts of all items behind some blocks are theirs alone: in two inputs with as many blocks before the same words, which end alike, they are the
+  -- same, the text of an item among them in which the input ends or breaks off.
+  pub texts_are_their_own : (input other : Input) (before instead : List ClosedBlock) (words : Words) → AreNext before → AreNext instead
+      → words_of input ≡ put_before (flat_map tokens_in before) words → words_of other ≡ put_before (flat_map tokens_in instead) words
+      → length before ≡ length instead → drop (length before) (texts input) ≡ drop (length instead) (texts other)
+  texts_are_their_own input other before instead words next these are is as_many = texts_of_rest input before words next are
+      ∙ rw (as_many, same_first before instead as_many) refl ∙ sym (texts_of_rest other instead words these is)
+
+  -- The same in bytes: change the bytes before the last lines of an input as you like, but so that as many blocks and as many line ends stand
+  -- before: the texts of all items in these lines are the same, however they end.
+  pub bytes_before_change_nothing : (input other : Input) (lines instead own : List ℕ) (before those : List ClosedBlock)
+      → input.bytes ≡ lines ++ own → other.bytes ≡ instead ++ own → input.ending ≡ other.ending → AreWholeLines lines → AreWholeLines instead
+      → length lines + length own ≤ limit → length instead + length own ≤ limit → AreNext before → AreNext those
+      → tokens_at 1 lines ≡ flat_map tokens_in before → tokens_at 1 instead ≡ flat_map tokens_in those → length before ≡ length those
+      → line_behind lines ≡ line_behind instead → drop (length before) (texts input) ≡ drop (length those) (texts other)
+  bytes_before_change_nothing input other lines instead own before those here there alike whole wholes small fits next these first second as_many level =
+      let number = line_behind lines in
+      let w = words_of_lines_and_rest input lines own here whole (omega (arith, small)) in
+      let v = words_of_lines_and_rest other instead own there wholes (omega (arith, fits)) in
+      let here_last = words_of_last (limit - length lines) number (rest_of input own) (omega (arith, small)) in
+      let there_last = words_of_last (limit - length instead) (line_behind instead) (rest_of other own) (omega (arith, fits)) in
+      let last = there_last ∙ ap (λ n. words_by None n own (tail_of [] other.ending)) (sym level)
+      ∙ ap (λ ending. words_by None number own (tail_of [] ending)) (sym alike) ∙ sym here_last in
+      let words = words_from None (limit - length lines) number (rest_of input own) in
+      texts_are_their_own input other before those words next these (w ∙ ap (λ tokens. put_before tokens words) first)
+      (v ∙ ap (put_before (tokens_at 1 instead)) last ∙ ap (λ tokens. put_before tokens words) second) as_many

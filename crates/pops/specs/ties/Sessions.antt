@@ -1,14 +1,14 @@
 -- Where a session stands among the items, and what a step does.
 use Rattle.std.specs.Prelude.{◌≡◌, ℕ, ◌+◌, List, [], ◌∷◌, Option, Result, Ok, Err, Bool, true, false, not}
 use Rattle.pop_text.specs.Bytes.{Appends, Begins, Keeps}
-use Rattle.pop_text.specs.Words.{Input}
 use Rattle.pop_text.specs.declared.sink.SinkFault.{SinkFault}
 use Rattle.pop_input.specs.declared.item.Last.{Last}
 use Rattle.pop_input.specs.declared.item.Last.TheVariants.{Yes, No}
 use Rattle.pop_input.specs.declared.reader.Next.{Next}
 use Rattle.pop_input.specs.declared.reader.Next.TheVariants.{First, Later, Nothing}
 use Rattle.pop_input.specs.Blocks.{Entry}
-use Rattle.pop_input.specs.ties.Standing.{Standing, Reads, entries_left, start as before_all}
+use Rattle.pop_input.specs.ties.Standing.{Standing, Reads, start as before_all}
+use Rattle.pop_input.specs.ties.Used.{UsesEntry}
 use Rattle.pops.specs.Report.{Choice, entry_text, is_faulty, tells_failure}
 use Rattle.pops.specs.declared.status.Status.{Status}
 use Rattle.pops.specs.declared.status.Status.TheVariants.{Sound, Faulty, InputFailed}
@@ -56,13 +56,10 @@ status_with so_far false false = so_far
 status_with Sound false true = Faulty
 status_with so_far false true = so_far
 
--- no item is still to come, however the source goes on
-abbrev pub IsOver : Standing → Type 0
-IsOver standing = (rest : Input) → entries_left standing rest ≡ []
-
--- One item was read, and the number and the status count it in.
+-- One item was read, with the bytes that it uses, and the number and the status count it in.
 pub record TakesItem (old new : Place) (had left : Option (List ℕ)) (entry : Entry) : Type 0 where
   pub reads : Reads old.at new.at had left (entry ∷ [])
+  pub used : UsesEntry old.at new.at had left entry
   pub number : new.number ≡ old.number + 1
   pub status : new.status ≡ status_with old.status (tells_failure entry) (is_faulty entry)
   pub choice : new.choice ≡ old.choice
@@ -75,8 +72,8 @@ Steps old new had left before now (Ok (Problem sound)) =
     × Appends before now (entry_text old.choice old.number entry)
     × (new.stopped ≡ false) × (sound ≡ not (is_faulty entry))
 Steps old new had left before now (Ok (Finished status)) =
-    Reads old.at new.at had left [] × IsOver new.at × Keeps before now × (status ≡ old.status)
-    × (new ≡ record old { at = new.at })
+    (ends old.at.next ≡ true) × (new ≡ old) × (left ≡ had) × Keeps before now
+    × (status ≡ old.status)
 Steps old new had left before now (Err fault) =
     (entry : Entry) × TakesItem old new had left entry
     × Begins before now (entry_text old.choice old.number entry) × (new.stopped ≡ true)

@@ -23,6 +23,20 @@ impl Read for InterruptedReader {
     }
 }
 
+/// A reader that gives so many bytes a call, and counts its calls.
+#[derive(Drop)]
+struct CountingReader {
+    given: usize,
+    calls: u64,
+}
+
+impl Read for CountingReader {
+    fn read(&mut self, buffer: &mut [u8]) -> io::Result<usize> {
+        self.calls = self.calls.saturating_add(1);
+        Ok(self.given.min(buffer.len()))
+    }
+}
+
 /// What the first call of a writer does; each later one would take all.
 #[derive(Clone, Copy, PartialEq, Eq)]
 enum First {
@@ -68,17 +82,37 @@ fn an_interrupted_read_is_a_failure(rt: HostRuntime) {
     assert!(rt; buffer == [b'x', 0, 0, 0]);
 }
 
-// What one call of a sink answers, none for a fault, and how many calls it made.
-fn written(first: First) -> (Option<usize>, u64) {
+// What one call of a source answers, none for a fault, and how many calls of its reader it made.
+fn read(given: usize) -> (Option<usize>, u64) {
+    let mut reader = CountingReader { given, calls: 0 };
+    let mut buffer = [0u8; 4];
+    let answer = ReadSource::new(&mut reader).read(&mut buffer).ok();
+    (answer, reader.calls)
+}
+
+// No byte is the end, and no failure.
+#[test]
+fn a_read_makes_one_call(rt: HostRuntime) {
+    assert!(rt; read(3) == (Some(3), 1));
+    assert!(rt; read(0) == (Some(0), 1));
+}
+
+// What one call of a sink answers, none for a fault, and how many calls of its writer it made.
+fn written_of(text: &[u8], first: First) -> (Option<usize>, u64) {
     let mut sink = WriteSink::new(CountingWriter { first, calls: 0 });
-    let answer = sink.write(b"abc").ok();
+    let answer = sink.write(text).ok();
     (answer, sink.into_inner().calls)
+}
+
+fn written(first: First) -> (Option<usize>, u64) {
+    written_of(b"abc", first)
 }
 
 #[test]
 fn a_write_makes_one_call(rt: HostRuntime) {
     assert!(rt; written(First::TakesAll) == (Some(3), 1));
     assert!(rt; written(First::TakesOneByte) == (Some(1), 1));
+    assert!(rt; written_of(&[b'x'; 5000], First::TakesAll) == (Some(5000), 1));
 }
 
 #[test]

@@ -1,5 +1,6 @@
 use Rattle.pop_input.proofs.Words.{[], ap, is_some, is_text_word, sym, text_word_of, ◌∙◌}
 use Rattle.pop_input.proofs.Taking.{line_token, cut_token, none_within}
+use Rattle.pop_input.proofs.Used.{line_cut, line_some, some_run, some_then}
 use Rattle.pop_input.proofs.token.next_token.Goals as goal
 
 pub returns-in-Ok-clause-token : goal.returns-in-Ok-clause-token
@@ -24,3 +25,14 @@ returns-in-Ok-clause-within g c = (c.in-Ok.ensures.text []).4
 
 pub returns-in-Err-rest_of_line-clause-within : goal.returns-in-Err-rest_of_line-clause-within
 returns-in-Err-rest_of_line-clause-within g c = none_within _ _ _ _ c.in-Err-rest_of_line.fault (c.in-Err-rest_of_line.ensures.text [])
+
+pub returns-in-Ok-clause-used : goal.returns-in-Ok-clause-used
+returns-in-Ok-clause-used g c =
+    let word = rw c.in-Ok-Word.field-0-is at c.in-Ok-Word.ensures.used in
+    some_then (some_run word.0) (line_some c.in-Ok.line c.in-Ok.ensures.used)
+
+pub returns-in-Err-rest_of_line-clause-used : goal.returns-in-Err-rest_of_line-clause-used
+returns-in-Err-rest_of_line-clause-used g c =
+    let word = rw c.in-Ok-Word.field-0-is at c.in-Ok-Word.ensures.used in
+    let line = c.in-Err-rest_of_line.ensures in
+    line_cut _ c.in-Err-rest_of_line.fault (some_run word.0) line.used (line.text []) line.sticks

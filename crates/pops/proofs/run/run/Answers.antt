@@ -1,5 +1,5 @@
 use Rattle.pops.proofs.Basics.{ap, arith, failures_then, inl, refl, ◌+◌, ◌∙◌}
-use Rattle.pops.proofs.Running.{progress_start, progress_step, run_ends, run_cut, ended_most, cut_most, failed_once}
+use Rattle.pops.proofs.Running.{progress_start, progress_step, run_ends, run_cut, ended_most, cut_most, ended_reads, cut_reads, failed_once}
 use Rattle.pops.proofs.run.run.Goals as goal
 
 pub items-init : goal.items-init
@@ -26,13 +26,18 @@ returns-in-Ok-Finished g c =
           c.in-Ok-Finished.status _ _ _ _ i.progress (rw c.in-Ok-Finished.field-0-is at (c.in-Ok-Finished.ensures.does i.progress.running))
           (c.step.ensures.seen i.seen) (failures_then _ _ _ _ _ _ (inl refl) c.step.ensures.ends i.read_failures c.step.ensures.read_failures)
           (c.in-Ok-Finished.ensures.write_failures i.progress.running ∙ i.write_failures);
+      reads = ended_reads _ c.items.session c.step.new.self _ (g.S.Source.remaining c.items.source) (g.S.Source.remaining c.step.new.source) _
+          (g.W.Sink.taken c.items.sink) (g.W.Sink.taken c.step.new.sink)
+          c.in-Ok-Finished.status _ _ i.progress (rw c.in-Ok-Finished.field-0-is at (c.in-Ok-Finished.ensures.does i.progress.running))
+          (c.step.ensures.seen i.seen) c.step.ensures.waits
+          (failures_then _ _ _ _ _ _ (inl refl) c.step.ensures.ends i.read_failures c.step.ensures.read_failures);
       once = (
         failed_once c.step.new.self.at.at.end _ _ (failures_then _ _ _ _ _ _ (inl refl) c.step.ensures.ends i.read_failures c.step.ensures.read_failures),
         omega (arith, c.in-Ok-Finished.ensures.write_failures i.progress.running, i.write_failures),
       );
       taken = ended_most _ c.items.session c.step.new.self _ (g.S.Source.remaining c.items.source) (g.S.Source.remaining c.step.new.source) _
           (g.W.Sink.taken c.items.sink) (g.W.Sink.taken c.step.new.sink)
-          c.in-Ok-Finished.status i.progress (rw c.in-Ok-Finished.field-0-is at (c.in-Ok-Finished.ensures.does i.progress.running)) c.step.ensures.most;
+          c.in-Ok-Finished.status i.progress (rw c.in-Ok-Finished.field-0-is at (c.in-Ok-Finished.ensures.does i.progress.running)) c.step.ensures.within c.step.ensures.waits;
     }
 
 pub returns-in-Err : goal.returns-in-Err
@@ -44,11 +49,15 @@ returns-in-Err g c =
           c.in-Err.field-0 _ _ _ _ i.progress (c.in-Err.ensures.does i.progress.running) (c.step.ensures.seen i.seen)
           (failures_then _ _ _ _ _ _ (inl refl) c.step.ensures.ends i.read_failures c.step.ensures.read_failures)
           (c.in-Err.ensures.write_failures i.progress.running ∙ ap (λ n. n + 1) i.write_failures);
+      reads = cut_reads _ c.items.session c.step.new.self _ (g.S.Source.remaining c.items.source) (g.S.Source.remaining c.step.new.source) _
+          (g.W.Sink.taken c.items.sink) (g.W.Sink.taken c.step.new.sink)
+          c.in-Err.field-0 _ _ i.progress (c.in-Err.ensures.does i.progress.running) (c.step.ensures.seen i.seen) c.step.ensures.waits
+          (failures_then _ _ _ _ _ _ (inl refl) c.step.ensures.ends i.read_failures c.step.ensures.read_failures);
       once = (
         failed_once c.step.new.self.at.at.end _ _ (failures_then _ _ _ _ _ _ (inl refl) c.step.ensures.ends i.read_failures c.step.ensures.read_failures),
         omega (arith, c.in-Err.ensures.write_failures i.progress.running, i.write_failures),
       );
       taken = cut_most _ c.items.session c.step.new.self _ (g.S.Source.remaining c.items.source) (g.S.Source.remaining c.step.new.source) _
           (g.W.Sink.taken c.items.sink) (g.W.Sink.taken c.step.new.sink)
-          c.in-Err.field-0 i.progress (c.in-Err.ensures.does i.progress.running) c.step.ensures.most;
+          c.in-Err.field-0 i.progress (c.in-Err.ensures.does i.progress.running) c.step.ensures.within c.step.ensures.waits;
     }

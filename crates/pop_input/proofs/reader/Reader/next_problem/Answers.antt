@@ -1,7 +1,8 @@
-use Rattle.pop_input.proofs.Words.{None, Nothing, Standing, ap, asks_none, asks_then, command_of, last_of, next_behind, refl, sym, ◌∙◌, ◌≡◌}
+use Rattle.pop_input.proofs.Words.{None, Nothing, Standing, ap, asks_none, asks_then, command_of, inl, inr, last_of, next_behind, refl, rules, sym, ◌∙◌, ◌≡◌}
 use Rattle.pop_input.proofs.Items.{block_starts, line_read, long_read, open_read, not_closing}
 use Rattle.pop_input.proofs.Skipping.{skip_read}
 use Rattle.pop_input.proofs.Ends.{word_closes, input_ends, cut_read}
+use Rattle.pop_input.proofs.Used.{closed_item, cut_takes, end_used, some_none, some_run, some_skipped, some_then, word_used}
 use Rattle.pop_input.proofs.Numbers.{cut_told, ended_numbered}
 use Rattle.pop_input.proofs.Numbered.{block_fault_small, word_numbered}
 use Rattle.pop_input.proofs.reader.Reader.next_problem.Goals as goal
@@ -10,6 +11,7 @@ use Rattle.pop_input.proofs.reader.Reader.next_problem.Goals.{in-First, in-Later
 pub words-init : goal.words-init
 words-init g c = rw (← c.self.view_is) (record {
   block = block_starts c.match-self.first c.self.inside.scanner (g.S.Source.remaining c.args.source.now) c.new-block.result c.new-block.ensures;
+  used = some_none c.self.inside.scanner (g.S.Source.remaining c.args.source.now);
   starts = elim c.match-self.branch [ in-First w ↦ rw w.first-is w.in-First.is | in-Later w ↦ rw w.first-is w.in-Later.is ];
   asks = asks_none c.self.inside.scanner.end (g.S.Source.remaining c.args.source.now) (g.S.Source.failures c.args.source.now);
 })
@@ -20,6 +22,7 @@ words-preserved-in-Line g c =
     let t = c.in-Line.ensures.token in
     record {
       block = line_read _ _ _ _ _ _ _ _ _ i.block t.0 t.1 t.2 c.in-Line.keyword c.next_token.new.text t.3 t.4 t.5 c.note.ensures;
+      used = some_then i.used c.in-Line.ensures.used;
       starts = i.starts;
       asks = asks_then i.asks c.next_token.ensures.asks;
     }
@@ -30,6 +33,7 @@ words-preserved-in-TooLong g c =
     let t = c.in-TooLong.ensures.token in
     record {
       block = long_read _ _ _ _ _ _ _ _ _ i.block c.in-TooLong.line t.0 t.1 t.2 c.read_long.ensures.fault;
+      used = some_then i.used c.in-TooLong.ensures.used;
       starts = i.starts;
       asks = asks_then i.asks c.next_token.ensures.asks;
     }
@@ -44,6 +48,7 @@ words-preserved g c =
     record {
       block = skip_read _ _ _ _ _ _ _ (open_read _ _ _ _ _ _ _ _ _ i.block _ _ r.fault (λ none. r) word.0 (not_closing _ is))
           c.skip_on.ensures.skips c.skip_on.ensures.sound;
+      used = some_skipped (some_then i.used (some_run (rw c.in-Word.is at c.next_token.ensures.used).0)) c.skip_on.ensures.skips;
       starts = i.starts;
       asks = rw c.skip_on.ensures.skips.end (asks_then i.asks c.next_token.ensures.asks);
     }
@@ -54,6 +59,28 @@ returns-in-Some-clause-item g c =
     let new : Standing = record { next = c.next_behind-self-inside.result; at = c.next_token.new.scanner } in
     word_closes _ _ new _ _ i.starts _ _ _ _ i.block _ _ c.in-Word.ensures.token.0 c.read_word.ensures.read c.closed.result c.in-Some.last _
     c.closed.ensures refl (sym c.read_word.ensures.closes ∙ c.in-Some.is) c.next_behind-self-inside.ensures
+
+pub returns-in-Some-clause-used : goal.returns-in-Some-clause-used
+returns-in-Some-clause-used g c =
+    let i = c.words.invariant in
+    let behind : Standing = record { next = c.next_behind-self-inside.result; at = c.next_token.new.scanner } in
+    closed_item _ _ behind _ _ (g.S.Source.remaining c.next_token.new.source) c.read_word.new.block _ _ _ c.closed.ensures
+    (word_used _ _ behind _ _ _ _ _ i.block i.used _ _ c.in-Some.last c.in-Word.ensures.token.0 c.in-Word.ensures.used
+    (sym c.read_word.ensures.closes ∙ c.in-Some.is) c.next_behind-self-inside.ensures) (search rules) (search rules)
+
+pub returns-in-Ended-clause-used : goal.returns-in-Ended-clause-used
+returns-in-Ended-clause-used g c =
+    let i = c.words.invariant in
+    let new : Standing = record { next = Nothing; at = c.next_token.new.scanner } in
+    let u = c.in-Ended.ensures.used in
+    rw c.ended.ensures (inr (end_used _ _ new _ _ _ _ _ i.block i.used c.in-Ended.ensures.token.0 u.0 (inl u.1)))
+
+pub returns-in-Cut-clause-used : goal.returns-in-Cut-clause-used
+returns-in-Cut-clause-used g c =
+    let i = c.words.invariant in
+    let new : Standing = record { next = c.next_behind-self-inside-in-Cut.result; at = c.next_token.new.scanner } in
+    let u = c.in-Cut.ensures.used in
+    inr (end_used _ _ new _ _ _ _ _ i.block i.used (cut_takes c.in-Cut.cut c.in-Cut.ensures.token) u.0 (inr (c.in-Cut.cut, u.1)))
 
 pub returns-in-Ended-clause-item : goal.returns-in-Ended-clause-item
 returns-in-Ended-clause-item g c =

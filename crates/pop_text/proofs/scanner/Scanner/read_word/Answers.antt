@@ -3,8 +3,12 @@ use Rattle.pop_text.proofs.Using.{fault_sticks, found_stands, found_uses, uses_c
 use Rattle.pop_text.proofs.Left.{next_of}
 use Rattle.pop_text.proofs.scanner.Scanner.read_word.Goals as goal
 
+pub returns-in-Ok-None-clause-used : goal.returns-in-Ok-None-clause-used
+returns-in-Ok-None-clause-used g c = (c.skip_gap.ensures.uses, rw c.in-Ok-None.field-0-is at c.in-Ok-None.ensures.at)
+
 pub returns-in-Ok-None-clause-word : goal.returns-in-Ok-None-clause-word
-returns-in-Ok-None-clause-word g c = next_of _ _ _ _ (Ok None) c.skip_gap.ensures.uses (rw c.in-Ok-None.field-0-is at c.in-Ok-None.ensures.at)
+returns-in-Ok-None-clause-word g c =
+    next_of _ _ _ _ (Ok None) (returns-in-Ok-None-clause-used g c) (rw c.in-Ok-None.field-0-is at c.in-Ok-None.ensures.at)
 
 pub returns-in-Ok-Some-clause-used : goal.returns-in-Ok-Some-clause-used
 returns-in-Ok-Some-clause-used g c =
