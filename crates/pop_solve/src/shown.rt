@@ -4,14 +4,14 @@ use chess_core::square::Square;
 use std::marker::Model;
 
 /// The side to which a king castles: the a-file or the h-file.
-#[derive(Clone, Copy, PartialEq, Eq, Debug)]
+#[derive(Clone, Copy, PartialEq, Eq)]
 pub enum Side {
     A,
     H,
 }
 
 /// What a move does to the other side.
-#[derive(Clone, Copy, PartialEq, Eq, Debug)]
+#[derive(Clone, Copy, PartialEq, Eq)]
 pub enum Mark {
     /// No check.
     Plain,

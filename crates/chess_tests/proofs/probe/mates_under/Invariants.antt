@@ -1,7 +1,7 @@
 use Rattle.std.proofs.Common.{◌≡◌, length}
 use Rattle.chess_core.specs.Diagrams.{position_of}
 use Rattle.chess_mates.specs.ties.Mates.{IsMatingPlaceIn, mates_behind}
-use Rattle.chess_tests.proofs.probe.mates_of.Given as goal
+use Rattle.chess_tests.proofs.probe.mates_under.Given as goal
 
 abbrev pub invariant-loop-m : goal.invariant-loop-m
 invariant-loop-m g l = record {
