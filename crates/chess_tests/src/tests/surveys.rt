@@ -60,11 +60,7 @@ const LINES: [Row<'static>; 3] = [
         &EACH,
         Family::DoubleChecks,
         500,
-        &[
-            Motif::DoubleCheck,
-            Motif::InDoubleCheck,
-            Motif::Mates,
-        ],
+        &[Motif::DoubleCheck, Motif::InDoubleCheck, Motif::Mates],
         50,
     ),
 ];
@@ -130,11 +126,7 @@ const KINGS: [Row<'static>; 7] = [
         &EACH,
         Family::HomeRanks,
         300,
-        &[
-            Motif::Castles,
-            Motif::CastlingChecks,
-            Motif::CastlingMates,
-        ],
+        &[Motif::Castles, Motif::CastlingChecks, Motif::CastlingMates],
         20,
     ),
     (
@@ -154,11 +146,7 @@ const KINGS: [Row<'static>; 7] = [
         &EACH,
         Family::Flights,
         300,
-        &[
-            Motif::FlightOpened,
-            Motif::FlightCovered,
-            Motif::Mates,
-        ],
+        &[Motif::FlightOpened, Motif::FlightCovered, Motif::Mates],
         20,
     ),
     (
@@ -193,10 +181,7 @@ const KINGS: [Row<'static>; 7] = [
         &EACH,
         Family::MissingKings,
         400,
-        &[
-            Motif::KinglessMover,
-            Motif::KinglessEnemy,
-        ],
+        &[Motif::KinglessMover, Motif::KinglessEnemy],
         500,
     ),
 ];
@@ -241,10 +226,7 @@ const CONDITIONS: [Row<'static>; 7] = [
         &[Rule::Circe],
         Family::Nets,
         2_000,
-        &[
-            Motif::RebirthMates,
-            Motif::RebirthAnswers,
-        ],
+        &[Motif::RebirthMates, Motif::RebirthAnswers],
         3,
     ),
     (
@@ -265,10 +247,7 @@ const CONDITIONS: [Row<'static>; 7] = [
         &[Rule::Madrasi],
         Family::Nets,
         3_000,
-        &[
-            Motif::ParalysisMates,
-            Motif::ParalysisSaves,
-        ],
+        &[Motif::ParalysisMates, Motif::ParalysisSaves],
         3,
     ),
     (
@@ -276,10 +255,7 @@ const CONDITIONS: [Row<'static>; 7] = [
         &[Rule::Madrasi],
         Family::Castling,
         400,
-        &[
-            Motif::Castles,
-            Motif::CastlingParalysed,
-        ],
+        &[Motif::Castles, Motif::CastlingParalysed],
         5,
     ),
 ];
@@ -319,7 +295,10 @@ fn agree(rt: &impl Abort, rows: &[Row]) {
             if let Some(unlike) = survey.unlike {
                 let (number, half_moves) = (unlike.number, unlike.half_moves);
                 let question = unlike.question;
-                assert!(rt; false, "{name}: {question:?} {half_moves} half-moves behind number {number}");
+                assert!(rt;
+                    false,
+                    "{name}: {question:?} {half_moves} half-moves behind number {number}"
+                );
             }
             for (motif, shown) in survey.shown.iter().enumerate() {
                 let enough = motif >= motifs.len() || *shown >= *least;
