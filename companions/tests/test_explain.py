@@ -282,6 +282,18 @@ class Command(unittest.TestCase):
                 self.assertIn(said, outcome.error)
                 self.assertTrue(outcome.output.decode().startswith(f"{self.input}:3:"))
 
+    def test_a_report_that_lacks_problems(self) -> None:
+        two = self.input.with_name("two.pop")
+        text = FAULTY.replace(b"EndProblem", b"NextProblem", 1) + FAULTY.split(b"\n", 1)[1]
+        two.write_bytes(text)
+        report = support.run([support.pops(), "--check", str(two)]).output
+        report = report[report.index(b"problem 2\n") :]
+        outcome = command(str(two), "-", text=report)
+        self.assertEqual((outcome.status, outcome.error), (1, ""))
+        line = text[: text.rindex(b"Ta1")].count(b"\n") + 1
+        self.assertIn(f"{two}:{line}: problem 2", outcome.output.decode())
+        self.assertTrue(outcome.output.endswith(b"1 problem, 1 faulty\n"))
+
     def test_faults_of_the_device_and_of_length(self) -> None:
         for fault, said in [
             (b"line 5: fault 20: input too long", "2^30 bytes"),
