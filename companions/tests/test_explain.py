@@ -1,4 +1,4 @@
-"""Explanations of faults: two hundred slips with what has to be said of each."""
+"""Explanations of faults: three hundred slips with what has to be said of each."""
 
 import io
 import random
@@ -102,7 +102,7 @@ def explained(text: bytes) -> List[ExplainedFault]:
 class Slips(unittest.TestCase):
     maxDiff = None
 
-    def test_two_hundred_slips(self) -> None:
+    def test_three_hundred_slips(self) -> None:
         count = 0
         for wanted in slips():
             count += 1
@@ -112,7 +112,7 @@ class Slips(unittest.TestCase):
                 self.assertEqual((first.fault.line, first.fault.number), wanted[2:4])
                 marks = [wanted.text[mark.start : mark.stop] for mark in told.marks]
                 self.assertEqual((told.text, marks), (wanted.explanation, wanted.marks))
-        self.assertGreaterEqual(count, 200)
+        self.assertGreaterEqual(count, 300)
 
     def test_every_fault_of_made_inputs_is_explained(self) -> None:
         chance = random.Random(34)
