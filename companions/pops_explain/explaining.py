@@ -28,9 +28,12 @@ class ExplainedFault:
 def explain(text: bytes, items: Iterable[Item]) -> Iterator[ExplainedFault]:
     """The faults of a report, explained one by one. OtherText where it isn't of this text."""
     pieces = cut(text)
-    for number, item in enumerate(items, start=1):
-        if item.number != number:
+    last = 0
+    for item in items:
+        number = item.number
+        if number <= last:
             raise OtherText("it is of several texts: give the report of one")
+        last = number
         if not isinstance(item, FaultyItem):
             if number > len(pieces):
                 raise OtherText(f"it has problem {number}, and the text has {len(pieces)}")

@@ -2,22 +2,24 @@
 
 from typing import Dict, List, NamedTuple, Optional, Tuple
 
+from pops_import.language import ForeignWord, folded, foreign_words
 from pops_texts.chess import Kind
 
 _NONE = "It has no counterpart here"
+_TWIN = "Write each twin as a problem of its own, behind `NextProblem`, as `pops-import` does"
 
 _COMMANDS = {
-    "Twin": "Write each twin as a problem of its own, behind `NextProblem`",
-    "Continued": "Write each twin as a problem of its own, behind `NextProblem`",
-    "ZeroPosition": "Write each twin as a problem of its own, behind `NextProblem`",
-    "Forsyth": "`fen2pop` makes a problem of a position in Forsyth notation",
+    "Twin": _TWIN,
+    "Continued": _TWIN,
+    "ZeroPosition": _TWIN,
+    "Forsyth": "`pops-import` writes the men; `fen2pop` makes a problem of a position alone",
     "Array": "Write the men of the game array behind `Pieces`",
     "Trace": "Leave it out: lines show as they are found",
     "Protocol": "`pops FILE > REPORT` writes the report into a file",
     "Input": "Put the text of that file in its place",
     "InputFile": "Put the text of that file in its place",
-    "LaTeX": "`pops-page` makes diagrams of a report",
-    "LaTeXPieces": "`pops-page` makes diagrams of a report",
+    "LaTeX": "`pops-diagram --latex` writes the diagrams of a report for LaTeX",
+    "LaTeXPieces": "`pops-diagram --latex` writes the diagrams of a report for LaTeX",
     "Award": "Write it behind `Remark`",
     "SStipulation": "pops has `#n`, `s#n`, `h#n`, `h#n.5` and these with `=`, behind `Stipulation`",
 }
@@ -28,7 +30,8 @@ _OPTIONS = {
     " missing there refutes it",
     "Threat": "Give the position after the key, with one move fewer: its keys are the threats",
     "NoThreat": "No threat is named here: leave it out",
-    "Duplex": "Write a second problem with the colours turned, behind `NextProblem`",
+    "Duplex": "Write a second problem with the colours turned, behind `NextProblem`, as"
+    " `pops-import` does",
     "HalfDuplex": "Turn the colours: White's men are Black's, and rank 1 is rank 8",
     "Intelligent": "Leave it out: the solutions are the same, and take longer",
     "MaxTime": "`timeout 60 pops FILE` stops after 60 seconds and keeps the lines found",
@@ -48,66 +51,17 @@ _OPTIONS = {
 }
 _ATTRIBUTES = ("Neutral", "HalfNeutral", "Royal", "Chameleon", "Kamikaze", "Volage", "Paralysing")
 
-_GERMAN = {
-    "AnfangProblem": "BeginProblem",
-    "EndeProblem": "EndProblem",
-    "WeiteresProblem": "NextProblem",
-    "Steine": "Pieces",
-    "Figuren": "Pieces",
-    "Forderung": "Stipulation",
-    "Bedingung": "Condition",
-    "Bedingungen": "Condition",
-    "Optionen": "Option",
-    "Titel": "Title",
-    "Autor": "Author",
-    "Autoren": "Author",
-    "Quelle": "Origin",
-    "Bemerkung": "Remark",
-    "Weiss": "White",
-    "Weisse": "White",
-    "Schwarz": "Black",
-    "Schwarze": "Black",
-    "Satzspiel": "SetPlay",
-    "Varianten": "Variation",
-    "MaxLoesungen": "MaxSolutions",
-    "KeineRochade": "NoCastling",
-    "OhneBrett": "NoBoard",
-    "Zwilling": "Twin",
-    "Nullstellung": "ZeroPosition",
-    "Verfuehrung": "Try",
-    "Drohung": "Threat",
-    "WeissBeginnt": "WhiteToPlay",
-}
-_FRENCH = {
-    "DebutProbleme": "BeginProblem",
-    "FinProbleme": "EndProblem",
-    "ASuivre": "NextProblem",
-    "Blanc": "White",
-    "Blancs": "White",
-    "Noir": "Black",
-    "Noirs": "Black",
-    "Enonce": "Stipulation",
-    "Titre": "Title",
-    "Auteur": "Author",
-    "Source": "Origin",
-    "Remarque": "Remark",
-    "JeuApparent": "SetPlay",
-    "Variantes": "Variation",
-    "Jumeau": "Twin",
-    "Jumeaux": "Twin",
-    "Essais": "Try",
-    "Menace": "Threat",
-}
-
-
+# Forms that Popeye's German and French don't have, but that are written for its words.
+_OTHER_FORMS = (
+    ForeignWord("German", "Figuren", "Pieces"),
+    ForeignWord("German", "Bedingungen", "Condition"),
+    ForeignWord("German", "Optionen", "Option"),
+    ForeignWord("German", "Autoren", "Author"),
+    ForeignWord("German", "Weisse", "White"),
+    ForeignWord("German", "Schwarze", "Black"),
+    ForeignWord("French", "Jumeaux", "Twin"),
+)
 _COLOURS = ("white", "black")
-
-
-class Foreign(NamedTuple):
-    """A word that pops doesn't read, and the English one for it."""
-
-    language: str
-    english: str
 
 
 class Unread(NamedTuple):
@@ -126,10 +80,9 @@ _UNREAD: Dict[str, Unread] = {
         for name in _ATTRIBUTES
     },
 }
-_FOREIGN: Dict[str, Foreign] = {
-    **{name.lower(): Foreign("French", english) for name, english in _FRENCH.items()},
-    **{name.lower(): Foreign("German", english) for name, english in _GERMAN.items()},
-}
+_FOREIGN: Dict[str, ForeignWord] = {}
+for _one in (*foreign_words(), *_OTHER_FORMS):
+    _FOREIGN.setdefault(folded(_one.word), _one)
 
 
 def unread(word: str) -> Optional[Unread]:
@@ -137,9 +90,9 @@ def unread(word: str) -> Optional[Unread]:
     return _found(word, _UNREAD)
 
 
-def foreign(word: str) -> Optional[Foreign]:
-    """The German or French word that this is, in full."""
-    return _FOREIGN.get(word.lower())
+def foreign(word: str) -> Optional[ForeignWord]:
+    """The German or French word that this is, in full; accents may stand or lack."""
+    return _FOREIGN.get(folded(word))
 
 
 def _found(word: str, table: Dict[str, Unread]) -> Optional[Unread]:

@@ -177,8 +177,7 @@ def of_popeye(case: Case) -> Optional[Explanation]:
 
 def in_another_language(case: Case) -> Optional[Explanation]:
     """A German or French word."""
-    plain = characters.without_accents(case.plain.rstrip(":,;."))
-    found = foreign(plain)
+    found = foreign(case.plain.rstrip(":,;."))
     if found is None:
         return None
     text = f"{case.quoted} is {found.language}, and pops reads English words alone."

@@ -10,6 +10,7 @@ from typing import (
     Iterable,
     Iterator,
     Mapping,
+    NamedTuple,
     Optional,
     Tuple,
     TypeVar,
@@ -298,6 +299,32 @@ def _language(place: int, name: str) -> Language:
 
 
 _ATTRIBUTE_FORMS = frozenset(_ATTRIBUTES.lower().split())
+_NAMES = ("English", "German", "French")
 ENGLISH, GERMAN, FRENCH = LANGUAGES = tuple(
-    _language(place, name) for place, name in enumerate(("English", "German", "French"))
+    _language(place, name) for place, name in enumerate(_NAMES)
 )
+
+
+class ForeignWord(NamedTuple):
+    """A German or French word for a command, an option or a colour, and the English one."""
+
+    language: str
+    word: str
+    english: str
+
+
+def foreign_words() -> Iterator[ForeignWord]:
+    """The words that are German or French and not English too, the German ones first."""
+    for place in (1, 2):
+        for rows in (_COMMANDS, _OPTIONS, _COLOURS):
+            yield from _foreign_words(rows, place)
+
+
+def _foreign_words(
+    rows: Iterable[Tuple[Meaning, str, str, str]], place: int
+) -> Iterator[ForeignWord]:
+    for _, *words in rows:
+        english = words[0].split()
+        for word in words[place].split():
+            if word not in english:
+                yield ForeignWord(_NAMES[place], word, english[0])

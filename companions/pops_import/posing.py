@@ -9,6 +9,7 @@ from pops_import.language import Command
 from pops_import.twins import with_other_colour
 from pops_import.words import Told
 from pops_texts.chess import Colour, Kind, Man, Square
+from pops_texts.problem_text import pieces_line
 from pops_texts.stipulation import Condition, Goal, Play, Stipulation
 
 LONGEST_TEXT = 200
@@ -231,7 +232,7 @@ class _Checked:
     def lines(self) -> List[str]:
         """Men, stipulation, condition and options."""
         assert self._stipulation is not None
-        lines = [_pieces(self._men), f"Stipulation {self._stipulation.text}"]
+        lines = [pieces_line(self._men), f"Stipulation {self._stipulation.text}"]
         if self._condition is not None:
             lines.append(f"Condition {self._condition.value}")
         options = self._version.options
@@ -245,20 +246,6 @@ class _Checked:
         if words:
             lines.append("Option " + " ".join(words))
         return lines
-
-
-def _pieces(men: Dict[Square, Man]) -> str:
-    squares: Dict[Man, List[Square]] = {}
-    for square in sorted(men, key=lambda square: (square.rank, square.file)):
-        squares.setdefault(men[square], []).append(square)
-    words = ["Pieces"]
-    for colour in Colour:
-        own = [man for man in (Man(colour, kind) for kind in Kind) if man in squares]
-        if own:
-            words.append(colour.value.title())
-        for man in own:
-            words.append(man.kind.value + "".join(square.name for square in squares[man]))
-    return " ".join(words)
 
 
 def _texts(draft: Draft, version: _Version, notes: List[Told], is_first: bool) -> List[str]:

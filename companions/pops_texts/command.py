@@ -1,6 +1,7 @@
 """What every companion does alike as a command: its texts in and out, its messages, its status."""
 
 import argparse
+import io
 import os
 import sys
 import tempfile
@@ -49,6 +50,7 @@ def parser(name: str, description: str, **more: object) -> argparse.ArgumentPars
 def run(name: str, command: Callable[[List[str]], int]) -> NoReturn:
     """Runs a companion on the program's arguments and ends with its status."""
     try:
+        _buffer_output()
         status = command(sys.argv[1:])
         sys.stdout.flush()
     except CommandError as error:
@@ -68,10 +70,28 @@ def run(name: str, command: Callable[[List[str]], int]) -> NoReturn:
     sys.exit(status)
 
 
+def _buffer_output() -> None:
+    """Buffers standard output where Python doesn't (PYTHONUNBUFFERED).
+
+    An unbuffered write may take a part of its bytes alone, and says nothing of the rest.
+    """
+    if sys.stdout is None:
+        raise CommandError(Status.DEVICE, "standard output is closed")
+    if not isinstance(sys.stdout.buffer, io.BufferedIOBase):
+        sys.stdout = open(
+            sys.stdout.fileno(),
+            "w",
+            encoding=sys.stdout.encoding,
+            errors=sys.stdout.errors,
+            closefd=False,
+        )
+
+
 def _close_output() -> None:
     """Lets go of what an output that failed refused; else Python would fail on it once more."""
     try:
-        sys.stdout.flush()
+        if sys.stdout is not None:
+            sys.stdout.flush()
     except OSError:
         os.dup2(os.open(os.devnull, os.O_WRONLY), sys.stdout.fileno())
 
@@ -98,6 +118,8 @@ def add_encoding(parser: argparse.ArgumentParser) -> None:
 def opened(file: Optional[str]) -> Iterator[BinaryIO]:
     """A file's bytes, or those of standard input where no file is named."""
     if file is None:
+        if sys.stdin is None:
+            raise CommandError(Status.DEVICE, "standard input is closed")
         yield sys.stdin.buffer
         return
     try:

@@ -1,4 +1,4 @@
-"""Explanations of faults: two hundred slips with what has to be said of each."""
+"""Explanations of faults: three hundred slips with what has to be said of each."""
 
 import io
 import random
@@ -102,7 +102,7 @@ def explained(text: bytes) -> List[ExplainedFault]:
 class Slips(unittest.TestCase):
     maxDiff = None
 
-    def test_two_hundred_slips(self) -> None:
+    def test_three_hundred_slips(self) -> None:
         count = 0
         for wanted in slips():
             count += 1
@@ -112,7 +112,7 @@ class Slips(unittest.TestCase):
                 self.assertEqual((first.fault.line, first.fault.number), wanted[2:4])
                 marks = [wanted.text[mark.start : mark.stop] for mark in told.marks]
                 self.assertEqual((told.text, marks), (wanted.explanation, wanted.marks))
-        self.assertGreaterEqual(count, 200)
+        self.assertGreaterEqual(count, 300)
 
     def test_every_fault_of_made_inputs_is_explained(self) -> None:
         chance = random.Random(34)
@@ -281,6 +281,18 @@ class Command(unittest.TestCase):
                 self.assertEqual(outcome.status, 1)
                 self.assertIn(said, outcome.error)
                 self.assertTrue(outcome.output.decode().startswith(f"{self.input}:3:"))
+
+    def test_a_report_that_lacks_problems(self) -> None:
+        two = self.input.with_name("two.pop")
+        text = FAULTY.replace(b"EndProblem", b"NextProblem", 1) + FAULTY.split(b"\n", 1)[1]
+        two.write_bytes(text)
+        report = support.run([support.pops(), "--check", str(two)]).output
+        report = report[report.index(b"problem 2\n") :]
+        outcome = command(str(two), "-", text=report)
+        self.assertEqual((outcome.status, outcome.error), (1, ""))
+        line = text[: text.rindex(b"Ta1")].count(b"\n") + 1
+        self.assertIn(f"{two}:{line}: problem 2", outcome.output.decode())
+        self.assertTrue(outcome.output.endswith(b"1 problem, 1 faulty\n"))
 
     def test_faults_of_the_device_and_of_length(self) -> None:
         for fault, said in [

@@ -568,6 +568,28 @@ class Command(unittest.TestCase):
         )
         self.assertEqual((outcome.status, outcome.error), (1, ""))
 
+    def test_problems_that_pops_many_stopped_are_undecided(self) -> None:
+        report = b"".join(self.REPORT.replace(b"1", b"%d" % number, 1) for number in (2, 4))
+        wanted = [
+            "problem 1: undecided",
+            "  not in the report",
+            "problem 2: sound: #1",
+            "problem 3: undecided",
+            "  not in the report",
+            "problem 4: sound: #1",
+        ]
+        outcome = run_here.companion("pops-test", text=report)
+        total = "4 problems: 2 sound, 2 undecided, 0 unsound, 0 faulty"
+        self.assertEqual(outcome.output.decode().splitlines(), [*wanted, total])
+        self.assertEqual((outcome.status, outcome.error), (1, ""))
+        with tempfile.TemporaryDirectory() as room:
+            given = Path(room) / "given.pop"
+            given.write_text("BeginProblem" + " Sti #1 NextProblem" * 4 + " Sti #1 EndProblem\n")
+            outcome = run_here.companion("pops-test", "--input", str(given), text=report)
+        wanted += ["problem 5: undecided", "  not in the report"]
+        total = "5 problems: 2 sound, 3 undecided, 0 unsound, 0 faulty"
+        self.assertEqual(outcome.output.decode().splitlines(), [*wanted, total])
+
     def test_reports_one_behind_the_other(self) -> None:
         outcome = run_here.companion("pops-test", text=self.REPORT * 2)
         self.assertEqual(outcome.status, 0)
