@@ -186,7 +186,8 @@ impl<'a> Case<'a> {
     pub(crate) fn shows(&self, motif: Motif) -> bool {
         match motif {
             Motif::Exposes(kind) => self.exposes() && self.man.kind == kind,
-            Motif::ExposedTo(kind) => self.exposes() && self.exposing & self.after.of_kind(kind) != 0,
+            Motif::ExposedTo(kind) => self.exposes()
+                && self.exposing & self.after.of_kind(kind) != 0,
             Motif::Uncovers(kind) => self.man.kind == kind && self.uncovers(),
             Motif::UncoveredBy(kind) => self.is_uncovered_by(kind),
             Motif::DoubleCheck => self.legal && self.checkers.count_ones() > 1,

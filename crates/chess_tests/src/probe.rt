@@ -69,8 +69,7 @@ fn shows_men(board: &Board, plain: &Plain, colour: Colour) -> bool {
         Some(square) => bit(square),
         None => 0,
     };
-    board.side(colour) == side
-        && king == plain.of_kind(Kind::King) & plain.of_colour(colour)
+    board.side(colour) == side && king == plain.of_kind(Kind::King) & plain.of_colour(colour)
 }
 
 // The board after this move from the diagram, if it is legal.
@@ -128,8 +127,7 @@ pub(crate) fn has_outcome(rule: Rule, position: &str, m: &str, wanted: Outcome) 
 
 // Whether a legal move from the position in Circe leads to this one.
 pub(crate) fn leads_in_circe(position: &str, m: &str, wanted: &str) -> bool {
-    let (Some(diagram), Some(m), Some(wanted)) = (posed(position), move_of(m), posed(wanted))
-    else {
+    let (Some(diagram), Some(m), Some(wanted)) = (posed(position), move_of(m), posed(wanted)) else {
         return false;
     };
     match after_move::<Circe>(&diagram, m) {

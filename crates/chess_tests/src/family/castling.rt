@@ -15,7 +15,11 @@ pub(crate) fn castling(draw: &mut Draw) -> Diagram {
     };
     let _king = put(&mut diagram, Square::new(5, rank), man(mover, Kind::King));
     for corner in &[1u8, 8] {
-        let _rook = put(&mut diagram, Square::new(*corner, rank), man(mover, Kind::Rook));
+        let _rook = put(
+            &mut diagram,
+            Square::new(*corner, rank),
+            man(mover, Kind::Rook),
+        );
     }
     for _attacker in 0..draw.below(3) {
         let aim = Square::new(2 + draw.below(6), rank).unwrap_or_default();

@@ -6,20 +6,52 @@ use crate::probe::{has_mates, has_moves};
 const LEGAL_MOVES: [(Rule, &str, &str); 28] = [
     // The rook on e2 is pinned by the one on e8: it goes along the file alone, up to the capture. The king has
     // all its squares but the file's.
-    (Rule::Orthodox, "k3r3/8/8/8/8/8/4R3/4K3", "e1d1 e1f1 e1d2 e1f2 e2e3 e2e4 e2e5 e2e6 e2e7 e2e8"),
+    (
+        Rule::Orthodox,
+        "k3r3/8/8/8/8/8/4R3/4K3",
+        "e1d1 e1f1 e1d2 e1f2 e2e3 e2e4 e2e5 e2e6 e2e7 e2e8",
+    ),
     // In Circe the captured rook comes back on a8 (e8 is light), where the king stands: it vanishes.
-    (Rule::Circe, "k3r3/8/8/8/8/8/4R3/4K3", "e1d1 e1f1 e1d2 e1f2 e2e3 e2e4 e2e5 e2e6 e2e7 e2e8"),
+    (
+        Rule::Circe,
+        "k3r3/8/8/8/8/8/4R3/4K3",
+        "e1d1 e1f1 e1d2 e1f2 e2e3 e2e4 e2e5 e2e6 e2e7 e2e8",
+    ),
     // In Madrasi the rooks paralyse each other, and neither moves.
-    (Rule::Madrasi, "k3r3/8/8/8/8/8/4R3/4K3", "e1d1 e1f1 e1d2 e1f2"),
+    (
+        Rule::Madrasi,
+        "k3r3/8/8/8/8/8/4R3/4K3",
+        "e1d1 e1f1 e1d2 e1f2",
+    ),
     // The capture en passant takes both pawns from the rank, and the rook on h5 would attack the king on a5.
     // The square b4 is the black pawn's. In Circe the pawn comes back on c7, off the rank.
-    (Rule::Orthodox, "7k/8/8/KPp4r/8/8/8/8 c6", "a5a4 a5a6 a5b6 b5b6"),
-    (Rule::Circe, "7k/8/8/KPp4r/8/8/8/8 c6", "a5a4 a5a6 a5b6 b5b6"),
-    (Rule::Madrasi, "7k/8/8/KPp4r/8/8/8/8 c6", "a5a4 a5a6 a5b6 b5b6"),
+    (
+        Rule::Orthodox,
+        "7k/8/8/KPp4r/8/8/8/8 c6",
+        "a5a4 a5a6 a5b6 b5b6",
+    ),
+    (
+        Rule::Circe,
+        "7k/8/8/KPp4r/8/8/8/8 c6",
+        "a5a4 a5a6 a5b6 b5b6",
+    ),
+    (
+        Rule::Madrasi,
+        "7k/8/8/KPp4r/8/8/8/8 c6",
+        "a5a4 a5a6 a5b6 b5b6",
+    ),
     // The pawn that has just passed e6 gives check: it may be captured en passant, though e6 is neither its
     // square nor between it and the king. The step to d6 leaves the check.
-    (Rule::Orthodox, "7k/8/8/3Pp3/3K4/8/8/8 e6", "d4c3 d4d3 d4e3 d4c4 d4e4 d4c5 d4e5 d5e6"),
-    (Rule::Circe, "7k/8/8/3Pp3/3K4/8/8/8 e6", "d4c3 d4d3 d4e3 d4c4 d4e4 d4c5 d4e5 d5e6"),
+    (
+        Rule::Orthodox,
+        "7k/8/8/3Pp3/3K4/8/8/8 e6",
+        "d4c3 d4d3 d4e3 d4c4 d4e4 d4c5 d4e5 d5e6",
+    ),
+    (
+        Rule::Circe,
+        "7k/8/8/3Pp3/3K4/8/8/8 e6",
+        "d4c3 d4d3 d4e3 d4c4 d4e4 d4c5 d4e5 d5e6",
+    ),
     // Attacked are f1, so that the king can't castle across it, and b1, which only the rook passes.
     (
         Rule::Orthodox,
@@ -37,19 +69,39 @@ const LEGAL_MOVES: [(Rule, &str, &str); 28] = [
         "2r5/6k1/8/8/8/8/8/R3K2R a1 e1 h1",
         "a1b1 a1c1 a1d1 a1a2 a1a3 a1a4 a1a5 a1a6 a1a7 a1a8 e1d1 e1f1 e1g1 e1d2 e1e2 e1f2 h1f1 h1g1 h1h2 h1h3 h1h4 h1h5 h1h6 h1h7 h1h8",
     ),
-    (Rule::Orthodox, "4r3/6k1/8/8/8/8/8/R3K2R a1 e1 h1", "e1d1 e1f1 e1d2 e1f2"),
+    (
+        Rule::Orthodox,
+        "4r3/6k1/8/8/8/8/8/R3K2R a1 e1 h1",
+        "e1d1 e1f1 e1d2 e1f2",
+    ),
     // The rook on a8 checks along the last rank, and the pawn shuts it by each promotion.
-    (Rule::Orthodox, "r6K/4P3/8/8/8/2k5/8/8", "e7e8Q e7e8R e7e8B e7e8S h8g7 h8h7"),
-    (Rule::Madrasi, "r6K/4P3/8/8/8/2k5/8/8", "e7e8Q e7e8R e7e8B e7e8S h8g7 h8h7"),
+    (
+        Rule::Orthodox,
+        "r6K/4P3/8/8/8/2k5/8/8",
+        "e7e8Q e7e8R e7e8B e7e8S h8g7 h8h7",
+    ),
+    (
+        Rule::Madrasi,
+        "r6K/4P3/8/8/8/2k5/8/8",
+        "e7e8Q e7e8R e7e8B e7e8S h8g7 h8h7",
+    ),
     // Rook and bishop check at once: no queen and no pawn can answer both, and of the king's squares d2 and
     // e2 lie on their lines.
     (Rule::Orthodox, "4r2k/8/8/b7/8/8/2P5/3QK3", "e1f1 e1f2"),
     (Rule::Circe, "4r2k/8/8/b7/8/8/2P5/3QK3", "e1f1 e1f2"),
     // The king can't go along the rook's rank, f4 included, which he hides from the rook himself.
-    (Rule::Orthodox, "k7/8/8/8/r3K3/8/8/8", "e4d3 e4e3 e4f3 e4d5 e4e5 e4f5"),
+    (
+        Rule::Orthodox,
+        "k7/8/8/8/r3K3/8/8/8",
+        "e4d3 e4e3 e4f3 e4d5 e4e5 e4f5",
+    ),
     // The grasshopper on a5 attacks e5 over the king on d5. Once the king has gone there, he is no hurdle any
     // more, so he may; nor does it attack c5.
-    (Rule::Orthodox, "8/8/8/g2K4/8/8/8/7k", "d5c4 d5d4 d5e4 d5c5 d5e5 d5c6 d5d6 d5e6"),
+    (
+        Rule::Orthodox,
+        "8/8/8/g2K4/8/8/8/7k",
+        "d5c4 d5d4 d5e4 d5c5 d5e5 d5c6 d5d6 d5e6",
+    ),
     // The rook may not go to c5, where the grasshopper on a5 would hop over it to the king's square. It may
     // pass there.
     (
@@ -66,8 +118,16 @@ const LEGAL_MOVES: [(Rule, &str, &str); 28] = [
     ),
     // The nightrider on b7 rides by c5 and d3 to e1. A rook on c5 is pinned and can't stay on that line; one
     // on h5 shuts it on c5.
-    (Rule::Orthodox, "7k/1n6/8/2R5/8/8/8/4K3", "e1d1 e1f1 e1d2 e1e2 e1f2"),
-    (Rule::Orthodox, "k7/1n6/8/7R/8/8/8/4K3", "e1d1 e1f1 e1d2 e1e2 e1f2 h5c5"),
+    (
+        Rule::Orthodox,
+        "7k/1n6/8/2R5/8/8/8/4K3",
+        "e1d1 e1f1 e1d2 e1e2 e1f2",
+    ),
+    (
+        Rule::Orthodox,
+        "k7/1n6/8/7R/8/8/8/4K3",
+        "e1d1 e1f1 e1d2 e1e2 e1f2 h5c5",
+    ),
     // Without a king the rook is pinned to nothing.
     (
         Rule::Orthodox,
@@ -93,8 +153,16 @@ const LEGAL_MOVES: [(Rule, &str, &str); 28] = [
     ),
     // The bishop on b4 checks. On f8 the white one attacks it, so that it is paralysed; on d2 it stands
     // between as well.
-    (Rule::Madrasi, "7k/8/7B/8/1b6/8/8/4K3", "e1d1 e1f1 e1e2 e1f2 h6d2 h6f8"),
-    (Rule::Orthodox, "7k/8/7B/8/1b6/8/8/4K3", "e1d1 e1f1 e1e2 e1f2 h6d2"),
+    (
+        Rule::Madrasi,
+        "7k/8/7B/8/1b6/8/8/4K3",
+        "e1d1 e1f1 e1e2 e1f2 h6d2 h6f8",
+    ),
+    (
+        Rule::Orthodox,
+        "7k/8/7B/8/1b6/8/8/4K3",
+        "e1d1 e1f1 e1e2 e1f2 h6d2",
+    ),
 ];
 
 // The same with the legal moves that mate.
@@ -109,7 +177,11 @@ const MATES: [(Rule, &str, &str); 11] = [
     (Rule::Orthodox, "7k/3R3s/6K1/8/8/8/8/8", ""),
     (Rule::Circe, "7k/3R3s/6K1/8/8/8/8/8", "d7h7"),
     // Castling and the rook's move shut the king on f3 up between the rooks' files: both mate.
-    (Rule::Orthodox, "4R1R1/8/8/8/8/5k2/8/4K2R e1 h1", "e1g1 h1f1"),
+    (
+        Rule::Orthodox,
+        "4R1R1/8/8/8/8/5k2/8/4K2R e1 h1",
+        "e1g1 h1f1",
+    ),
     // The rook that castles checks along the rank, through the square that the king left; the other rook has the
     // second rank. A king's step to it shuts that rank.
     (Rule::Orthodox, "8/8/8/8/8/8/7R/k3K2R e1 h1", "e1g1"),

@@ -30,17 +30,47 @@ const OUTCOMES: [(Rule, &str, &str, Outcome); 12] = [
         Outcome::Legal,
     ),
     // En passant is possible where the square was just crossed.
-    (Rule::Orthodox, "7k/8/6K1/3pP3/8/1B6/8/B7", "e5d6", Outcome::Illegal),
-    (Rule::Orthodox, "7k/8/6K1/3pP3/8/1B6/8/B7 d6", "e5d6", Outcome::Mate),
+    (
+        Rule::Orthodox,
+        "7k/8/6K1/3pP3/8/1B6/8/B7",
+        "e5d6",
+        Outcome::Illegal,
+    ),
+    (
+        Rule::Orthodox,
+        "7k/8/6K1/3pP3/8/1B6/8/B7 d6",
+        "e5d6",
+        Outcome::Mate,
+    ),
     // A pawn becomes a nightrider where one stands.
-    (Rule::Orthodox, "n7/4P3/8/8/8/7p/5K1k/7b", "e7e8N", Outcome::Mate),
-    (Rule::Orthodox, "8/4P3/8/8/8/7p/5K1k/7b", "e7e8N", Outcome::Illegal),
+    (
+        Rule::Orthodox,
+        "n7/4P3/8/8/8/7p/5K1k/7b",
+        "e7e8N",
+        Outcome::Mate,
+    ),
+    (
+        Rule::Orthodox,
+        "8/4P3/8/8/8/7p/5K1k/7b",
+        "e7e8N",
+        Outcome::Illegal,
+    ),
     // Captured on a8, a light square, the bishop comes back on c8 and stands between; the rook's home is a8 itself.
     (Rule::Circe, "b5k1/8/6K1/8/8/8/8/R7", "a1a8", Outcome::Legal),
     (Rule::Circe, "r5k1/8/6K1/8/8/8/8/R7", "a1a8", Outcome::Mate),
     // Like rooks paralyse each other.
-    (Rule::Madrasi, "6k1/8/6K1/8/8/8/8/R6r", "a1a8", Outcome::Illegal),
-    (Rule::Orthodox, "6k1/8/6K1/8/8/8/8/R6r", "a1a8", Outcome::Mate),
+    (
+        Rule::Madrasi,
+        "6k1/8/6K1/8/8/8/8/R6r",
+        "a1a8",
+        Outcome::Illegal,
+    ),
+    (
+        Rule::Orthodox,
+        "6k1/8/6K1/8/8/8/8/R6r",
+        "a1a8",
+        Outcome::Mate,
+    ),
 ];
 
 // A position, a move, and the position to which it leads in Circe.
@@ -62,7 +92,10 @@ const REBIRTHS: [(&str, &str, &str); 2] = [
 #[test]
 fn outcomes(rt: HostRuntime) {
     for (rule, position, m, wanted) in &OUTCOMES {
-        assert!(rt; has_outcome(*rule, position, m, *wanted), "{m} in {position}");
+        assert!(rt;
+            has_outcome(*rule, position, m, *wanted),
+            "{m} in {position}"
+        );
     }
 }
 

@@ -62,7 +62,10 @@ const STIPULATIONS: [(&str, &str); 38] = [
 const LONGER: [(&str, [&str; 4]); 6] = [
     ("White Kc7 Rb2 Black Ka8", ["#3", "s#2", "h#2", "h#2.5"]),
     ("White Kg6 Ra1 Black Kh8", ["#3", "s#2", "h#2", "h#2.5"]),
-    ("White Kc6 Pb6a7 Black Ka8 Rb8", ["#3", "s#2", "h#2", "h#2.5"]),
+    (
+        "White Kc6 Pb6a7 Black Ka8 Rb8",
+        ["#3", "s#2", "h#2", "h#2.5"],
+    ),
     ("White Ra5 Black Pa7", ["=3", "s=2", "h=2", "h=2.5"]),
     ("White Pa4 Black Kh8 Pa7", ["=3", "s=2", "h=2", "h=2.5"]),
     ("White Kf5 Pf6 Black Kg8", ["=3", "s=2", "h=2", "h=2.5"]),
