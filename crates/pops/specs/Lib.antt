@@ -1,4 +1,1 @@
 pub mod CommandLine
-pub mod Report
-pub mod Run
-pub mod ties

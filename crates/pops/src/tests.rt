@@ -1,8 +1,2 @@
-//! What is only tested: worked rows, whose reports were written from the rules, and the layout of made events.
-mod counted;
-mod devices;
-mod endless;
-mod goals;
-mod printing;
-mod rows;
+//! What is only tested: the streams of a program.
 mod streams;
