@@ -7,24 +7,4 @@ pub use Rattle.std.specs.Prelude.{IfErr, IfOk, is_err, slice_get, string_bytes}
 pub use Rattle.clap.specs.Simple.{app_of, is_simple, matches_of, new_rule, with_rule}
 pub use Rattle.clap.specs.Takes.{takes}
 pub use Rattle.clap.specs.Walk.{Text, first_of, one_of}
-pub use Rattle.pop_input.specs.Blocks.{Entry, entries_of}
-pub use Rattle.pop_input.specs.ties.Standing.{Reads, Standing, entries_left, work_left}
-pub use Rattle.pop_print.specs.Events.{event_text}
-pub use Rattle.pop_solve.specs.Events.{event_of, events}
-unfoldable pub use Rattle.pop_solve.specs.Events.{events_of}
-pub use Rattle.pop_text.proofs.Appending.{appends_kept, appends_none, appends_then, begins_later, begins_longer, writes_then}
-pub use Rattle.pop_text.proofs.Using.{consumes_then, failures_then}
-pub use Rattle.pop_text.specs.Bytes.{Appends, Begins, Consumes, Writes}
-pub use Rattle.pop_text.specs.Words.{Clean, Ending, Failed, Input, Words, is_line_end, words_from, words_of}
-unfoldable pub use Rattle.pop_text.specs.Words.{limit}
-pub use Rattle.pop_text.specs.declared.scanner.End.{End}
-pub use Rattle.pop_text.specs.declared.scanner.End.TheVariants.{Broken, Ended, Open}
-pub use Rattle.pop_text.specs.ties.Left.{MayFollow, after, put_before}
-pub use Rattle.pop_text.specs.ties.Reading.{IsSeen, failures_after}
 pub use Rattle.pops.specs.CommandLine.{IsSettings, check, command, no_board, refusals}
-pub use Rattle.pops.specs.Report.{Choice, choice_of, is_faulty, report, report_from, tells_failure}
-unfoldable pub use Rattle.pops.specs.Report.{entries_in, entry_text, status_of}
-pub use Rattle.pops.specs.Run.{Runs, grew, met, taken_of}
-pub use Rattle.pops.specs.declared.status.Status.TheVariants.{Faulty, InputFailed, OutputFailed, Sound}
-pub use Rattle.pops.specs.declared.status.Step.TheVariants.{Finished, Problem}
-pub use Rattle.pops.specs.ties.Sessions.{Place, Steps, TakesItem, start, status_with, step_of}

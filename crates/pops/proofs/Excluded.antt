@@ -1,44 +1,8 @@
--- What the clauses of a session, a run and the settings exclude: a sound problem told as faulty, a fault told as sound, another status or another call
--- after the sink failed, flags that weren't given, flags that were and aren't set, and a refusal of words that the command takes.
-use Rattle.pops.proofs.Basics.{Bool, Choice, Entry, Input, IsSettings, List, None, Ok, Option, OutputFailed, Place, Problem, Reads, Runs, Some, Standing, Steps, Text, [], ap, append_cancel_right, arith, codes, command, false, is_faulty, matches_of, not, one_of, refl, refusals, status_of, sym, takes, true, ℕ, ◌+◌, ◌∙◌, ◌∷◌, ◌≡◌}
-use Rattle.pop_input.proofs.Taking.{some_rest}
-use Rattle.pop_input.specs.Blocks.{Faulty as FaultyEntry, Sound as SoundEntry}
-use Rattle.pop_input.specs.Posed.{Posed}
-use Rattle.pop_input.specs.declared.item.Fault.{Fault}
+-- What the clauses of the settings exclude: flags that weren't given, flags that were and aren't set, and a refusal of words that the command takes.
+use Rattle.pops.proofs.Basics.{IsSettings, List, None, Some, Text, [], codes, command, false, matches_of, one_of, refl, refusals, takes, true, ◌≡◌}
 use Rattle.pops.specs.CommandLine.{IsMemoryIfTaken, IsUsageIfRefused}
-use Rattle.pops.specs.Run.{FailsOnce}
 use Rattle.pops.specs.declared.settings.ArgFault.TheVariants.{Usage}
 use Rattle.pops.specs.declared.settings.Settings.{Settings}
-use Rattle.pops.specs.declared.status.Status.{Status}
-
--- one item is read, and no other one
-same_item : (old new : Standing) (had left : List ℕ) (entry other : Entry) → Reads old new (Some had) (Some left) (entry ∷ [])
-    → Reads old new (Some had) (Some left) (other ∷ []) → entry ≡ other
-same_item old new had left entry other p q = grind (arith, append_cancel_right p.bytes q.bytes left (sym p.taken ∙ q.taken), some_rest new.at.end)
-
--- where a sound problem is read a step says that it is sound, and where a fault is read that it isn't
-pub sound_is_told : (old new : Place) (had left : List ℕ) (before now : Option (List ℕ)) (sound : Bool) (posed : Posed)
-    → Reads old.at new.at (Some had) (Some left) (SoundEntry posed ∷ []) → Steps old new (Some had) (Some left) before now (Ok (Problem sound)) → sound ≡ true
-sound_is_told old new had left before now sound posed reads (entry, p, text, runs, told) =
-    told ∙ ap (λ e. not (is_faulty e)) (same_item old.at new.at had left entry (SoundEntry posed) p.reads reads)
-
-pub fault_is_told : (old new : Place) (had left : List ℕ) (before now : Option (List ℕ)) (sound : Bool) (fault : Fault)
-    → Reads old.at new.at (Some had) (Some left) (FaultyEntry fault ∷ []) → Steps old new (Some had) (Some left) before now (Ok (Problem sound)) → sound ≡ false
-fault_is_told old new had left before now sound fault reads (entry, p, text, runs, told) =
-    told ∙ ap (λ e. not (is_faulty e)) (same_item old.at new.at had left entry (FaultyEntry fault) p.reads reads)
-
--- where the sink failed the status says so, and only there
-pub failed_sink_is_told : (choice : Choice) (input : Input) (before now : Option (List ℕ)) (answer : Status) → Runs choice input before now true answer
-    → answer ≡ OutputFailed
-failed_sink_is_told choice input before now answer (begun, told) = told
-
-pub sound_sink_is_told : (choice : Choice) (input : Input) (before now : Option (List ℕ)) → Runs choice input before now false OutputFailed → ⊥
-unfolding status_of
-sound_sink_is_told choice input before now (written, told) = grind arith
-
--- a device that failed isn't asked again where it would fail once more
-pub no_second_failure : (before : ℕ) → FailsOnce before (before + 2) → ⊥
-no_second_failure before once = omega arith
 
 -- a flag is set exactly where it was given
 pub no_other_flag : (words : List Text) (s : Settings) → one_of (codes "check") (matches_of command words) ≡ None

@@ -1,4 +1,2 @@
 pub mod CommandLine
-pub mod Report
-pub mod Run
-pub mod ties
+pub mod ExitStatus

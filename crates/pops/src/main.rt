@@ -3,11 +3,7 @@
 
 pub mod command_line;
 pub mod program;
-pub mod run;
-pub mod session;
 pub mod settings;
-mod solutions;
-pub mod status;
 #[cfg(test)]
 mod tests;
 

@@ -1,11 +1,12 @@
 //! The program: its settings, its files and its exit statuses.
 ghost use Rattle.std.specs.Prelude.{◌≡◌, ◌≤◌};
-ghost use Rattle.pops.specs.Run.{exit_status_of};
+ghost use Rattle.pops.specs.ExitStatus.{exit_status_of};
 
 use crate::command_line::settings;
-use crate::run::run;
 use crate::settings::{ArgFault, Settings};
-use crate::status::Status;
+use pop_run::run::run;
+use pop_run::settings::Settings as Choice;
+use pop_run::status::Status;
 use pop_text::read_source::ReadSource;
 use pop_text::write_sink::WriteSink;
 use std::fs;
@@ -63,7 +64,11 @@ fn report<R: Read + Drop, W: Write + Drop, E: Write + Drop>(
 {
     let mut source = ReadSource::new(input);
     let mut sink = WriteSink::new(output);
-    let status = run(settings, &mut source, &mut sink);
+    let choice = Choice {
+        check: settings.check,
+        no_board: settings.no_board,
+    };
+    let status = run(&choice, &mut source, &mut sink);
     let mut output = sink.into_inner();
     let flushed = output.flush().is_ok();
     match exit_status(status, flushed) {

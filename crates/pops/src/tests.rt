@@ -1,7 +1,2 @@
-//! What is only tested: worked rows, whose reports were written from the rules, and calls of devices.
-mod counted;
-mod devices;
-mod endless;
-mod goals;
-mod rows;
+//! What is only tested: the streams of a program.
 mod streams;

@@ -1,0 +1,7 @@
+pub mod Excluded
+pub mod Findings
+pub mod Meeting
+pub mod Reached
+pub mod Running
+pub mod theorems
+pub mod Basics

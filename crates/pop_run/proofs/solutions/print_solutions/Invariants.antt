@@ -1,0 +1,15 @@
+use Rattle.pop_run.proofs.Basics.{event_of, event_text, events_of, length, map, ◌≡◌}
+use Rattle.pop_run.proofs.Findings.{IsPrinting}
+use Rattle.pop_run.proofs.solutions.print_solutions.Given as goal
+
+-- the events so far are printed, and the search has the others still to give
+abbrev pub invariant-events : goal.invariant-events
+invariant-events g l = record {
+  problem : l.search.problem ≡ l.problem;
+  printing : IsPrinting event_text (events_of l.problem) (map (event_of g.R.Rules.rule l.problem) l.search.left) (g.W.Sink.taken l.fn.sink)
+      (g.W.Sink.taken l.sink);
+  counted : g.W.Sink.failures l.sink ≡ g.W.Sink.failures l.fn.sink;
+}
+
+abbrev pub decreases-events : goal.decreases-events
+decreases-events g l = length l.search.left

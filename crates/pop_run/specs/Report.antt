@@ -1,0 +1,69 @@
+-- The report of an input, and its status (own layout and statuses).
+use Rattle.std.specs.Prelude.{ℕ, ◌+◌, ◌==◌, List, [], ◌∷◌, ◌++◌, Bool, true, false, if◌then◌else◌, codes}
+use Rattle.std.specs.List.{flat_map, list_any}
+use Rattle.std.specs.Prelude.{None}
+use Rattle.pop_text.specs.Words.{Input, words_from, limit}
+use Rattle.pop_input.specs.Blocks.{Entry, Sound as SoundEntry, Faulty as FaultyEntry, entries_of}
+use Rattle.pop_input.specs.FaultKinds.{number_of}
+use Rattle.pop_input.specs.Posed.{Posed}
+use Rattle.pop_input.specs.declared.fault_kind.FaultKind.TheVariants.{DeviceFailed}
+use Rattle.pop_solve.specs.Events.{events_of}
+use Rattle.pop_print.specs.Events.{event_text}
+use Rattle.pop_print.specs.Faults.{fault_text}
+use Rattle.pop_print.specs.Heads.{head_text}
+use Rattle.pop_run.specs.declared.settings.Settings.{Settings}
+use Rattle.pop_run.specs.declared.status.Status.{Status}
+use Rattle.pop_run.specs.declared.status.Status.TheVariants.{Sound, Faulty, InputFailed}
+
+-- what a report takes of the settings: whether problems are tested alone, and whether boards are left out
+pub record Choice : Type 0 where
+  pub check : Bool
+  pub no_board : Bool
+
+-- the same of settings
+abbrev pub choice_of : Settings → Choice
+choice_of settings = record { check = settings.check; no_board = settings.no_board }
+
+-- what stands behind the head of a sound problem: its solutions, or that it is sound where problems are tested alone
+abbrev pub findings : Bool → Posed → List ℕ
+findings true posed = codes "sound\n"
+findings false posed = flat_map event_text (events_of posed)
+
+-- the text of an item
+unfoldable pub entry_text : Choice → ℕ → Entry → List ℕ
+entry_text choice number (SoundEntry posed) = head_text number posed choice.no_board
+    ++ findings choice.check posed ++ codes "\n"
+entry_text choice number (FaultyEntry fault) = fault_text number fault
+
+-- the texts of items, the first with this number
+abbrev pub report_from : Choice → ℕ → List Entry → List ℕ
+report_from choice number [] = []
+report_from choice number (entry ∷ entries) = entry_text choice number entry
+    ++ report_from choice (number + 1) entries
+
+-- all items of an input
+unfoldable pub entries_in : Input → List Entry
+entries_in input = entries_of true (words_from None limit 1 input)
+
+-- the report of an input: the texts of its items, numbered from 1
+abbrev pub report : Choice → Input → List ℕ
+report choice input = report_from choice 1 (entries_in input)
+
+-- whether an item tells of a failed device
+abbrev pub tells_failure : Entry → Bool
+tells_failure (SoundEntry posed) = false
+tells_failure (FaultyEntry fault) = fault.number == number_of DeviceFailed
+
+-- the entry is a fault
+abbrev pub is_faulty : Entry → Bool
+is_faulty (SoundEntry posed) = false
+is_faulty (FaultyEntry fault) = true
+
+-- the status of items
+unfoldable pub status_of : List Entry → Status
+status_of entries = if list_any tells_failure entries then InputFailed
+    else (if list_any is_faulty entries then Faulty else Sound)
+
+-- the status of an input
+abbrev pub status : Input → Status
+status input = status_of (entries_in input)

@@ -1,0 +1,90 @@
+-- Where a session stands among the items, and what a step does.
+use Rattle.std.specs.Prelude.{◌≡◌, ℕ, ◌+◌, List, [], ◌∷◌, Option, Result, Ok, Err, Bool, true, false, not}
+use Rattle.pop_text.specs.Bytes.{Appends, Begins, Keeps}
+use Rattle.pop_text.specs.declared.sink.SinkFault.{SinkFault}
+use Rattle.pop_input.specs.declared.item.Last.{Last}
+use Rattle.pop_input.specs.declared.item.Last.TheVariants.{Yes, No}
+use Rattle.pop_input.specs.declared.reader.Next.{Next}
+use Rattle.pop_input.specs.declared.reader.Next.TheVariants.{First, Later, Nothing}
+use Rattle.pop_input.specs.Blocks.{Entry}
+use Rattle.pop_input.specs.ties.Standing.{Standing, Reads, start as before_all}
+use Rattle.pop_input.specs.ties.Used.{UsesEntry}
+use Rattle.pop_run.specs.Report.{Choice, entry_text, is_faulty, tells_failure}
+use Rattle.pop_run.specs.declared.status.Status.{Status}
+use Rattle.pop_run.specs.declared.status.Status.TheVariants.{Sound, Faulty, InputFailed}
+use Rattle.pop_run.specs.declared.status.Step.{Step}
+use Rattle.pop_run.specs.declared.status.Step.TheVariants.{Problem, Finished}
+
+-- the place among the items, the next item's number, the status so far, whether the sink failed, and what is printed
+pub record Place : Type 0 where
+  pub at : Standing
+  pub number : ℕ
+  pub status : Status
+  pub stopped : Bool
+  pub choice : Choice
+
+-- whether no block is next
+abbrev pub ends : Next → Bool
+ends First = false
+ends Later = false
+ends Nothing = true
+
+-- the item says that it is the last
+abbrev pub says_last : Last → Bool
+says_last Yes = true
+says_last No = false
+
+-- an item is still to come, and the sink hasn't failed
+pub record GoesOn (place : Place) : Type 0 where
+  pub more : ends place.at.next ≡ false
+  pub running : place.stopped ≡ false
+
+-- before all items
+abbrev pub start : Choice → Place
+start choice = record {
+  at = before_all;
+  number = 1;
+  status = Sound;
+  stopped = false;
+  choice = choice;
+}
+
+-- the status after one more item: a failed device outweighs all, and a fault what is sound
+abbrev pub status_with : Status → Bool → Bool → Status
+status_with so_far true faulty = InputFailed
+status_with so_far false false = so_far
+status_with Sound false true = Faulty
+status_with so_far false true = so_far
+
+-- One item was read, with the bytes that it uses, and the number and the status count it in.
+pub record TakesItem (old new : Place) (had left : Option (List ℕ)) (entry : Entry) : Type 0 where
+  pub reads : Reads old.at new.at had left (entry ∷ [])
+  pub used : UsesEntry old.at new.at had left entry
+  pub number : new.number ≡ old.number + 1
+  pub status : new.status ≡ status_with old.status (tells_failure entry) (is_faulty entry)
+  pub choice : new.choice ≡ old.choice
+
+-- what a step does that begins at old
+abbrev pub Steps : Place → Place → Option (List ℕ) → Option (List ℕ) → Option (List ℕ)
+    → Option (List ℕ) → Result Step SinkFault → Type 0
+Steps old new had left before now (Ok (Problem sound)) =
+    (entry : Entry) × TakesItem old new had left entry
+    × Appends before now (entry_text old.choice old.number entry)
+    × (new.stopped ≡ false) × (sound ≡ not (is_faulty entry))
+Steps old new had left before now (Ok (Finished status)) =
+    (ends old.at.next ≡ true) × (new ≡ old) × (left ≡ had) × Keeps before now
+    × (status ≡ old.status)
+Steps old new had left before now (Err fault) =
+    (entry : Entry) × TakesItem old new had left entry
+    × Begins before now (entry_text old.choice old.number entry) × (new.stopped ≡ true)
+
+-- the step is a problem
+abbrev pub is_problem : Result Step SinkFault → Bool
+is_problem (Ok (Problem sound)) = true
+is_problem (Ok (Finished status)) = false
+is_problem (Err fault) = false
+
+-- what a step answers where an item was printed so
+abbrev pub step_of : {A : Type 0} → Result A SinkFault → Bool → Result Step SinkFault
+step_of (Ok done) sound = Ok (Problem sound)
+step_of (Err fault) sound = Err fault

@@ -1,0 +1,158 @@
+//! Sessions: one item in, its report out.
+ghost use Rattle.std.specs.Prelude.{◌≡◌, ◌==◌, ◌<◌, ◌≤◌, ◌+◌, ◌⊎◌, ◌||◌, IsErr, false, true, is_err, length};
+ghost use Rattle.pop_text.specs.Words.{limit};
+ghost use Rattle.pop_text.specs.Bytes.{count_after, greatest};
+ghost use Rattle.pop_text.specs.ties.Reading.{IsSeen, failures_after};
+ghost use Rattle.pop_text.specs.declared.scanner.End.{End};
+ghost use Rattle.pop_input.specs.FaultKinds.{number_of};
+ghost use Rattle.pop_input.specs.declared.fault_kind.FaultKind.TheVariants.{DeviceFailed};
+ghost use Rattle.pop_input.specs.ties.Standing.{work_left};
+ghost use Rattle.pop_run.specs.Report.{choice_of};
+ghost use Rattle.pop_run.specs.ties.Sessions.{GoesOn, Steps, is_problem, start, status_with as with_item, step_of};
+
+use crate::settings::Settings;
+use crate::solutions::print_sound;
+use crate::status::{Status, Step};
+use pop_input::fault_kind::FaultKind;
+use pop_input::item::{Fault, Item, Last};
+use pop_input::reader::Reader;
+use pop_print::print_fault;
+use pop_text::sink::{Sink, SinkFault};
+use pop_text::source::Source;
+use std::marker::Model;
+
+/// A run over the items of an input. Contracts see its place among them.
+#[derive(Drop)]
+pub struct Session {
+    reader: Reader,
+    next_number: u64,
+    so_far: Status,
+    last: Last,
+    has_stopped: bool,
+    check: bool,
+    no_board: bool,
+}
+
+impl Model for Session {
+    ghost use Rattle.std.specs.Prelude.{◌≡◌, ◌≤◌, ◌+◌, ◌^◌, length};
+    ghost use Rattle.pop_text.specs.Words.{limit};
+    ghost use Rattle.pop_input.specs.ties.Standing.{work_left};
+    ghost use Rattle.pop_run.specs.ties.Sessions.{Place, ends, says_last};
+
+    ghost Value = { Place };
+
+    ghost view = { λ s. record {
+      at = s.reader;
+      number = s.next_number;
+      status = s.so_far;
+      stopped = s.has_stopped;
+      choice = record { check = s.check; no_board = s.no_board };
+    } };
+
+    ghost invariant = { λ s. (s.next_number + work_left s.reader ≤ 2 ^ 31)
+        × (s.reader.at.used ≤ limit) × (length s.reader.at.window ≤ 4096)
+        × (ends s.reader.next ≡ says_last s.last) };
+}
+
+impl Session {
+    /// All items are still to come.
+    #[tactic(auto, unfolding(pop_text::specs::Words::limit))]
+    pub fn new(settings: &Settings) -> Session
+        ensures { result ≡ start (choice_of settings.now) }
+    {
+        Session {
+            reader: Reader::new(),
+            next_number: 1,
+            so_far: Status::Sound,
+            last: Last::No,
+            has_stopped: false,
+            check: settings.check,
+            no_board: settings.no_board,
+        }
+    }
+
+    /// Reads the next item and writes its report; behind the last item it writes nothing and answers the status of all.
+    /// Of the input it uses the bytes up to the end of the word that closes the item, and none behind it.
+    ///
+    /// `SinkFault` where the sink fails: a beginning of the item's report is then written. From then on each call
+    /// answers `SinkFault`, reads nothing and writes nothing. Behind the last item neither is asked either.
+    pub fn step<S: Source, W: Sink>(
+        &mut self,
+        source: &mut S,
+        sink: &mut W,
+    ) -> Result<Step, SinkFault>
+        requires source { GoesOn self.old → self.old.at.at.end ≡ End.Open
+            → S.failures source.old < greatest }
+        requires sink { GoesOn self.old → W.failures sink.old < greatest }
+        ensures does { self.old.stopped ≡ false
+            → Steps self.old self.new (S.remaining source.old) (S.remaining source.new)
+            (W.taken sink.old) (W.taken sink.new) result }
+        ensures stopped { self.old.stopped ≡ true
+            → IsErr result × (self.new ≡ self.old) × (source.new ≡ source.old)
+            × (sink.new ≡ sink.old) }
+        ensures seen { IsSeen self.old.at.at.end (S.remaining source.old)
+            → IsSeen self.new.at.at.end (S.remaining source.new) }
+        ensures ends { self.old.at.at.end ≡ End.Open ⊎ self.new.at.at.end ≡ self.old.at.at.end }
+        ensures read_failures { S.failures source.new
+            ≡ failures_after self.old.at.at.end self.new.at.at.end (S.failures source.old) }
+        ensures write_failures { self.old.stopped ≡ false
+            → W.failures sink.new ≡ count_after result (W.failures sink.old) }
+        ensures within { self.new.at.at.used ≤ limit }
+        ensures waits { length self.new.at.at.window ≤ 4096 }
+        ensures less { is_problem result ≡ true → work_left self.new.at < work_left self.old.at }
+    {
+        if self.has_stopped {
+            return Err(SinkFault);
+        }
+        if self.last == Last::Yes {
+            return Ok(Step::Finished(self.so_far));
+        }
+        let number = self.next_number;
+        let item = self.reader.next_problem(source);
+        match &item {
+            Item::End => Ok(Step::Finished(self.so_far)),
+            Item::Sound(problem, last) => {
+                self.next_number += 1;
+                self.last = *last;
+                let printed = print_sound(sink, number, problem, self.check, self.no_board);
+                self.answer(printed, true)
+            }
+            Item::Faulty(fault, last) => {
+                self.next_number += 1;
+                self.last = *last;
+                self.so_far = status_with(self.so_far, fault);
+                let printed = print_fault(sink, number, fault);
+                self.answer(printed, false)
+            }
+        }
+    }
+
+    // Stops where the sink failed.
+    fn answer(&mut self, printed: Result<(), SinkFault>, sound: bool) -> Result<Step, SinkFault>
+        ensures step { result ≡ step_of printed sound }
+        ensures place { self.new ≡ record self.old {
+          stopped = self.old.stopped
+              || is_err printed;
+        } }
+    {
+        match printed {
+            Ok(()) => Ok(Step::Problem { sound }),
+            Err(fault) => {
+                self.has_stopped = true;
+                Err(fault)
+            }
+        }
+    }
+}
+
+// The status with one more fault.
+fn status_with(so_far: Status, fault: &Fault) -> Status
+    ensures { result ≡ with_item so_far (fault.now.number == number_of DeviceFailed) true }
+{
+    let failed = FaultKind::DeviceFailed.number();
+    match so_far {
+        _ if fault.number == failed => Status::InputFailed,
+        Status::Sound => Status::Faulty,
+        so_far => so_far,
+    }
+}

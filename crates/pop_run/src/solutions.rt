@@ -1,0 +1,97 @@
+//! What is printed of a sound problem.
+ghost use Rattle.std.specs.Prelude.{◌≡◌, ◌<◌, ◌++◌, codes, false};
+ghost use Rattle.std.specs.List.{flat_map};
+ghost use Rattle.pop_text.specs.Bytes.{Writes, count_after, greatest};
+ghost use Rattle.pop_input.specs.Blocks.{Sound as SoundEntry};
+ghost use Rattle.pop_input.specs.Posed.{rule_of};
+ghost use Rattle.pop_solve.specs.Events.{events, events_of};
+ghost use Rattle.pop_print.specs.Events.{event_text};
+ghost use Rattle.pop_run.specs.Report.{entry_text, findings};
+
+use chess_rules::{Circe, Madrasi, Orthodox, Rules};
+use pop_input::condition::Condition;
+use pop_input::problem::Problem;
+use pop_print::{print_checked, print_event, print_head};
+use pop_solve::search::Search;
+use pop_text::sink::{Sink, SinkFault, put_all};
+
+// All that is told of a sound problem; where problems are tested alone in one write.
+#[tactic(auto, unfolding(crate::specs::Report::entry_text))]
+pub(crate) fn print_sound<W: Sink>(
+    sink: &mut W,
+    number: u64,
+    problem: &Problem,
+    check: bool,
+    no_board: bool,
+) -> Result<(), SinkFault>
+    requires { W.failures sink.old < greatest }
+    ensures bytes { Writes (W.taken sink.old) (W.taken sink.new)
+        (entry_text (record { check = check; no_board = no_board }) number (SoundEntry problem.now))
+        result }
+    ensures counted { W.failures sink.new ≡ count_after result (W.failures sink.old) }
+{
+    if check {
+        print_checked(sink, number, problem, no_board)
+    } else {
+        print_solved(sink, number, problem, no_board)
+    }
+}
+
+// Head and solutions, and an empty line.
+#[tactic(auto, unfolding(crate::specs::Report::entry_text))]
+fn print_solved<W: Sink>(
+    sink: &mut W,
+    number: u64,
+    problem: &Problem,
+    no_board: bool,
+) -> Result<(), SinkFault>
+    requires { W.failures sink.old < greatest }
+    ensures bytes { Writes (W.taken sink.old) (W.taken sink.new)
+        (entry_text (record { check = false; no_board = no_board }) number (SoundEntry problem.now))
+        result }
+    ensures counted { W.failures sink.new ≡ count_after result (W.failures sink.old) }
+{
+    print_head(sink, number, problem, no_board)?;
+    print_play(sink, problem)?;
+    put_all(sink, b"\n")
+}
+
+// The solutions of a problem, under the rules of its condition.
+fn print_play<W: Sink>(sink: &mut W, problem: &Problem) -> Result<(), SinkFault>
+    requires { W.failures sink.old < greatest }
+    ensures bytes { Writes (W.taken sink.old) (W.taken sink.new) (findings false problem.now)
+        result }
+    ensures counted { W.failures sink.new ≡ count_after result (W.failures sink.old) }
+{
+    match problem.condition() {
+        None => print_solutions::<Orthodox, W>(sink, problem),
+        Some(Condition::Circe) => print_solutions::<Circe, W>(sink, problem),
+        Some(Condition::Madrasi) => print_solutions::<Madrasi, W>(sink, problem),
+    }
+}
+
+// The events of a problem, each as it is found.
+fn print_solutions<R: Rules, W: Sink>(sink: &mut W, problem: &Problem) -> Result<(), SinkFault>
+    requires sink { W.failures sink.old < greatest }
+    requires rules { R.rule ≡ rule_of problem.now.condition }
+    ensures bytes { Writes (W.taken sink.old) (W.taken sink.new)
+        (flat_map event_text (events_of problem.now)) result }
+    ensures counted { W.failures sink.new ≡ count_after result (W.failures sink.old) }
+{
+    let mut search = start_search::<R>(problem);
+    'events: while let Some(event) = search.next() {
+        print_event(sink, &event)?;
+    }
+    Ok(())
+}
+
+// A search with a frame for each half-move of the longest stipulation, and one behind the last.
+fn start_search<R: Rules>(problem: &Problem) -> Search<R, 33>
+    requires { R.rule ≡ rule_of problem.now.condition }
+    ensures problem { result.problem ≡ problem.now }
+    ensures left { result.left ≡ events R.rule problem.now }
+{
+    // For the proof: a stipulation that was read has at most 32 half-moves.
+    let _aim = problem.stipulation();
+    Search::new(problem)
+}

@@ -1,0 +1,258 @@
+//! Inputs longer than the reading window, and sources and sinks that fail.
+ghost use Rattle.std.specs.Prelude.{◌<◌};
+
+use crate::run::run;
+use crate::session::Session;
+use crate::settings::Settings;
+use crate::status::{Status, Step};
+use crate::tests::counted::Counted;
+use pop_text::sink::SinkFault;
+use pop_text::source::Source;
+use pop_text::trial_sink::TrialSink;
+use pop_text::trial_source::TrialSource;
+use std::alloc::AllocError;
+use std::test::Fail;
+
+const PROBLEM: &[u8] =
+    b"BeginProblem\nPieces White Kg6 Ra1 Black Kg8\nStipulation #1\nEndProblem\n";
+
+const REPORT: &[u8] =
+    b"problem 1\n8 ......k.\n7 ........\n6 ......K.\n5 ........\n4 ........\n3 ........\n2 ........\n1 R.......\n  abcdefgh\n#1\nplay\n1.Ra1-a8#\nsolutions: 1\n\n";
+
+// A faulty problem, a sound one, and one that the end of the input cuts off.
+const THREE: &[u8] =
+    b"BeginProblem\nPieces White Kg6 Rg6 Black Kg8\nRemark not yet NextProblem here\nStipulation #1\nNextProblem\nPieces White Kg6 Ra1 Black Kg8\nStipulation #1\nNextProblem\nPieces White K\n";
+
+const THREE_REPORT: &[u8] =
+    b"problem 1\nline 2: fault 5: square given twice\n\nproblem 2\n8 ......k.\n7 ........\n6 ......K.\n5 ........\n4 ........\n3 ........\n2 ........\n1 R.......\n  abcdefgh\n#1\nplay\n1.Ra1-a8#\nsolutions: 1\n\nproblem 3\nline 9: fault 14: square expected\n\n";
+
+// The room of a sink, more than any report here takes.
+const ROOM: usize = 1024;
+
+pub(crate) fn settings() -> Settings {
+    Settings {
+        check: false,
+        no_board: false,
+    }
+}
+
+// The front, so many bytes, and the back.
+fn text(
+    rt: &HostRuntime,
+    front: &[u8],
+    byte: u8,
+    count: usize,
+    back: &[u8],
+) -> Result<Vec<u8>, AllocError> {
+    let mut text = Vec::new(rt.alloc());
+    text.extend_from_slice(front)?;
+    for _byte in 0..count {
+        text.push(byte)?;
+    }
+    text.extend_from_slice(back)?;
+    Ok(text)
+}
+
+fn mates(input: &[u8]) -> bool {
+    let mut source = TrialSource::new(input, 65_536, None);
+    let mut sink = TrialSink::<ROOM>::new(4096, None);
+    let status = run(&settings(), &mut source, &mut sink);
+    status == Status::Sound && sink.text() == REPORT
+}
+
+#[test]
+fn texts_past_a_window(rt: HostRuntime) -> Result<(), Fail> {
+    assert!(rt; mates(text(&rt, b"", b' ', 4090, PROBLEM)?.as_slice()));
+    assert!(rt;
+        mates(text(
+            &rt,
+            b"BeginProblem\nRemark ",
+            b'y',
+            10_000,
+            b"\nPieces White Kg6 Ra1 Black Kg8\nStipulation #1\nEndProblem\n"
+        )?
+        .as_slice())
+    );
+    Ok(())
+}
+
+// What stands behind the last problem is in the window: nothing is left in the source.
+#[test]
+fn blanks_behind_the_end(rt: HostRuntime) -> Result<(), Fail> {
+    let input = text(&rt, PROBLEM, b' ', 1000, b"")?;
+    let mut source = TrialSource::new(input.as_slice(), 65_536, None);
+    let mut sink = TrialSink::<ROOM>::new(4096, None);
+    assert!(rt; run(&settings(), &mut source, &mut sink) == Status::Sound);
+    assert!(rt; sink.text() == REPORT);
+    let mut more = [0; 16];
+    assert!(rt; source.read(&mut more) == Ok(0));
+    Ok(())
+}
+
+// How many bytes a source gives or a sink takes a call changes nothing.
+#[test]
+fn bytes_a_call(rt: HostRuntime) {
+    for given in &[1, 2, 3, 4095, 4096, 4097] {
+        for taken in &[1, 2, 3, 4096] {
+            let mut source = TrialSource::new(THREE, *given, None);
+            let mut sink = TrialSink::<ROOM>::new(*taken, None);
+            let status = run(&settings(), &mut source, &mut sink);
+            assert!(rt;
+                status == Status::Faulty,
+                "{given} bytes given, {taken} taken"
+            );
+            assert!(rt;
+                sink.text() == THREE_REPORT,
+                "{given} bytes given, {taken} taken"
+            );
+        }
+    }
+}
+
+// What stands before the last line of the report where the source fails behind so many bytes. A word counts where the
+// byte behind it was read. The second rook, the man on a square given twice, is bytes 30 to 32; the second NextProblem
+// is bytes 149 to 159; the last K, which has no square, is byte 174. Before the first NextProblem, bytes 91 to 101, the
+// failure is told behind the fault of problem 1 as an item of its own, and behind it as the fault of problem 2.
+fn before_the_failure(bytes: usize) -> &'static [u8] {
+    match bytes {
+        0..=33 => b"problem 1\n",
+        34..=160 => b"problem 1\nline 2: fault 5: square given twice\n\nproblem 2\n",
+        161..=175 => {
+            b"problem 1\nline 2: fault 5: square given twice\n\nproblem 2\n8 ......k.\n7 ........\n6 ......K.\n5 ........\n4 ........\n3 ........\n2 ........\n1 R.......\n  abcdefgh\n#1\nplay\n1.Ra1-a8#\nsolutions: 1\n\nproblem 3\n"
+        }
+        _ => {
+            b"problem 1\nline 2: fault 5: square given twice\n\nproblem 2\n8 ......k.\n7 ........\n6 ......K.\n5 ........\n4 ........\n3 ........\n2 ........\n1 R.......\n  abcdefgh\n#1\nplay\n1.Ra1-a8#\nsolutions: 1\n\nproblem 3\nline 9: fault 14: square expected\n\nproblem 4\n"
+        }
+    }
+}
+
+// The last line of that report: the failure, in the line that the bytes have reached.
+fn failure_in(bytes: &[u8]) -> &'static [u8] {
+    let line_ends = bytes.iter().filter(|byte| **byte == b'\n').count();
+    match line_ends {
+        0 => b"line 1: fault 21: input device failed\n\n",
+        1 => b"line 2: fault 21: input device failed\n\n",
+        2 => b"line 3: fault 21: input device failed\n\n",
+        3 => b"line 4: fault 21: input device failed\n\n",
+        4 => b"line 5: fault 21: input device failed\n\n",
+        5 => b"line 6: fault 21: input device failed\n\n",
+        6 => b"line 7: fault 21: input device failed\n\n",
+        7 => b"line 8: fault 21: input device failed\n\n",
+        8 => b"line 9: fault 21: input device failed\n\n",
+        _ => b"line 10: fault 21: input device failed\n\n",
+    }
+}
+
+// The source fails once, behind each count of bytes. It would work again, and isn't asked again.
+#[test]
+fn a_source_that_fails(rt: HostRuntime) {
+    for bytes in 0..THREE.len() + 1 {
+        for given in &[1, 4096] {
+            let mut source = Counted::new(TrialSource::new(THREE, *given, Some(bytes)));
+            let mut sink = TrialSink::<ROOM>::new(4096, None);
+            let status = run(&settings(), &mut source, &mut sink);
+            assert!(rt; status == Status::InputFailed, "{bytes} bytes");
+            let report = sink.text().strip_prefix(before_the_failure(bytes));
+            assert!(rt;
+                report == Some(failure_in(&THREE[..bytes])),
+                "{bytes} bytes"
+            );
+            assert_eq!(rt; source.calls_after_failure, 0, "{bytes} bytes");
+        }
+    }
+}
+
+// The sink fails once, behind each count of bytes of the report, and holds just those. It would work again, and isn't
+// asked again.
+#[test]
+fn a_sink_that_fails(rt: HostRuntime) {
+    for bytes in 0..THREE_REPORT.len() {
+        for taken in &[1, 4096] {
+            let mut source = TrialSource::new(THREE, 4096, None);
+            let mut sink = Counted::new(TrialSink::<ROOM>::new(*taken, Some(bytes)));
+            let status = run(&settings(), &mut source, &mut sink);
+            assert!(rt; status == Status::OutputFailed, "{bytes} bytes");
+            assert!(rt;
+                sink.device.text() == &THREE_REPORT[..bytes],
+                "{bytes} bytes"
+            );
+            assert_eq!(rt; sink.calls_after_failure, 0, "{bytes} bytes");
+        }
+    }
+}
+
+// Step by step: behind the step that met the failure each further step answers it again, and asks neither device.
+#[test]
+fn steps_behind_a_failed_write(rt: HostRuntime) {
+    for bytes in 0..THREE_REPORT.len() {
+        let mut source = Counted::new(TrialSource::new(THREE, 1, None));
+        let mut sink = Counted::new(TrialSink::<ROOM>::new(4096, Some(bytes)));
+        let mut session = Session::new(&settings());
+        let mut failed = None;
+        'steps: for _step in 0..8u8 {
+            let step = session.step(&mut source, &mut sink);
+            match failed {
+                None => {
+                    if step == Err(SinkFault) {
+                        failed = Some((source.calls, sink.calls));
+                    }
+                }
+                Some(calls) => {
+                    assert!(rt; step == Err(SinkFault), "{bytes} bytes");
+                    assert!(rt; calls == (source.calls, sink.calls), "{bytes} bytes");
+                }
+            }
+        }
+        assert!(rt; failed.is_some(), "{bytes} bytes");
+        assert!(rt;
+            sink.device.text() == &THREE_REPORT[..bytes],
+            "{bytes} bytes"
+        );
+    }
+}
+
+// Two problems, and words behind them.
+const TWO: &[u8] =
+    b"BeginProblem\nPieces White Kg6 Ra1 Black Kg8\nStipulation #1\nNextProblem\nPieces White Kg6 Ra1 Black Kg8\nStipulation #1\nEndProblem\nPieces White Kh1\nEndProblem\n";
+
+// One byte a call: a step asks for the bytes up to the end of the closing word, for the one behind it, by which the word
+// is over, and for no more. NextProblem is bytes 59 to 69, and EndProblem is bytes 117 to 126.
+#[test]
+fn calls_of_a_step(rt: HostRuntime) {
+    let mut source = Counted::new(TrialSource::new(TWO, 1, None));
+    let mut sink = TrialSink::<ROOM>::new(4096, None);
+    let mut session = Session::new(&settings());
+    let first = session.step(&mut source, &mut sink);
+    let calls_of_first = source.calls;
+    let second = session.step(&mut source, &mut sink);
+    let calls_of_both = source.calls;
+    let third = session.step(&mut source, &mut sink);
+    assert!(rt; first == Ok(Step::Problem { sound: true }));
+    assert!(rt; second == Ok(Step::Problem { sound: true }));
+    assert!(rt; third == Ok(Step::Finished(Status::Sound)));
+    assert!(rt; (calls_of_first, calls_of_both, source.calls) == (71, 128, 128));
+}
+
+// Behind a fault, where words are passed over, the same: the first NextProblem is bytes 91 to 101.
+#[test]
+fn calls_of_a_step_behind_a_fault(rt: HostRuntime) {
+    let mut source = Counted::new(TrialSource::new(THREE, 1, None));
+    let mut sink = TrialSink::<ROOM>::new(4096, None);
+    let mut session = Session::new(&settings());
+    assert!(rt; session.step(&mut source, &mut sink) == Ok(Step::Problem { sound: false }));
+    assert_eq!(rt; source.calls, 103);
+}
+
+// Behind the last item each step answers the status of all, and asks neither device.
+#[test]
+fn steps_behind_the_last_item(rt: HostRuntime) {
+    let mut source = Counted::new(TrialSource::new(PROBLEM, 1, None));
+    let mut sink = Counted::new(TrialSink::<ROOM>::new(4096, None));
+    let mut session = Session::new(&settings());
+    assert!(rt; session.step(&mut source, &mut sink) == Ok(Step::Problem { sound: true }));
+    let calls = (source.calls, sink.calls);
+    assert!(rt; session.step(&mut source, &mut sink) == Ok(Step::Finished(Status::Sound)));
+    assert!(rt; session.step(&mut source, &mut sink) == Ok(Step::Finished(Status::Sound)));
+    assert!(rt; calls == (source.calls, sink.calls));
+    assert!(rt; sink.device.text() == REPORT);
+}

@@ -1,0 +1,3 @@
+pub mod Excluded
+pub mod Showing
+pub mod theorems

@@ -1,0 +1,67 @@
+//! A sink in memory.
+ghost use Rattle.std.specs.Prelude.{◌≡◌, ℕ, List, [], ◌<◌, ◌≤◌, ◌+◌, Some, length, IfOk};
+ghost use Rattle.std.specs.Io.{WritesAtMost};
+ghost use Rattle.pop_text.specs.Bytes.{WriteAppends, count_after, greatest};
+
+use arrayvec::ArrayVec;
+use pop_text::sink::{Sink, SinkFault};
+use std::marker::Model;
+
+/// Keeps a text of at most N bytes, and fails only where it is full.
+#[derive(Drop)]
+pub struct KeptSink<const N: usize> {
+    text: ArrayVec<u8, N>,
+    failures: u64,
+}
+
+impl<const N: usize> Model for KeptSink<N> {
+    ghost use Rattle.std.specs.Prelude.{◌≡◌, ◌<◌, length};
+    ghost use Rattle.pop_web.specs.Page.{Kept};
+
+    ghost Value = { Kept };
+
+    ghost view = { λ s. record { taken = s.text.items; failures = s.failures } };
+
+    ghost invariant = { λ s. 0 < s.failures → length s.text.items ≡ N };
+}
+
+impl<const N: usize> KeptSink<N> {
+    /// No byte yet.
+    pub fn new() -> KeptSink<N>
+        ensures { result ≡ record { taken = []; failures = 0 } }
+    {
+        KeptSink {
+            text: ArrayVec::new(),
+            failures: 0,
+        }
+    }
+
+    /// What it keeps. Where a call has failed, these are N bytes.
+    pub fn text(&self) -> &[u8]
+        ensures text { result.now ≡ self.now.taken }
+        ensures room { length result.now ≤ N }
+        ensures full { 0 < self.now.failures → length result.now ≡ N }
+    {
+        self.text.as_slice()
+    }
+}
+
+impl<const N: usize> Sink for KeptSink<N> {
+    ghost use Rattle.std.specs.Prelude.{Some};
+
+    ghost taken = { λ s. Some s.taken };
+
+    ghost failures = { λ s. s.failures };
+
+    fn write(&mut self, text: &[u8]) -> Result<usize, SinkFault> {
+        let count = text.len().min(self.text.remaining_capacity());
+        if count == 0 && !text.is_empty() {
+            self.failures += 1;
+            return Err(SinkFault);
+        }
+        match self.text.try_extend_from_slice(&text[..count]) {
+            Ok(()) => Ok(count),
+            Err(_) => unreachable!("the room is counted"),
+        }
+    }
+}

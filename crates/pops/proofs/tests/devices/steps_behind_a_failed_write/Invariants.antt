@@ -1,9 +1,0 @@
-use Rattle.pops.proofs.Basics.{Open, false, ◌≡◌}
-use Rattle.pops.proofs.tests.devices.steps_behind_a_failed_write.Given as goal
-
--- neither device has failed while it may still be asked
-abbrev pub invariant-steps : goal.invariant-steps
-invariant-steps g l = record {
-  source : l.session.at.at.end ≡ Open → l.source.device.failures ≡ 0;
-  sink : l.session.stopped ≡ false → l.sink.device.failures ≡ 0;
-}
