@@ -1,9 +1,41 @@
-# Completion of `pops` for bash.
+# Completion of `pops` and its companions for bash.
+
+# The long options of a program.
+_pops_options() {
+  local own
+  case $1 in
+    pops) echo --check --no-board; return ;;
+    fen2pop)
+      own='--file --stipulation --title --author --condition --set-play --variation --no-board --max-solutions
+        --keep-colours --output'
+      ;;
+    pops-import | pops-compare) own='--output --encoding' ;;
+    pops-many)
+      own='--output --each --index --jobs --check --no-board --seconds --unfinished --resume --journal --pops --sshlogin
+        --remote-pops --ssh'
+      ;;
+    pops-page) own='--output --heading --encoding' ;;
+    pops-diagram) own='--svg --png --latex --output --width --encoding' ;;
+    pops2json) own='--output --array --schema --encoding' ;;
+    pops-test) own='--input --solutions --pose --short --csv --page --heading --all --output --encoding' ;;
+    pops-explain) own='--output --pops' ;;
+  esac
+  # shellcheck disable=SC2086
+  echo --help --version $own
+}
 _pops() {
-  local word=${COMP_WORDS[COMP_CWORD]}
+  local program=${COMP_WORDS[0]##*/} word=${COMP_WORDS[COMP_CWORD]} before=${COMP_WORDS[COMP_CWORD - 1]}
   case $word in
-    -*) mapfile -t COMPREPLY < <(compgen -W '--check --no-board' -- "$word") ;;
-    *) mapfile -t COMPREPLY < <(compgen -f -X '!*.pop' -- "$word"; compgen -d -- "$word") ;;
+    -*) mapfile -t COMPREPLY < <(compgen -W "$(_pops_options "$program")" -- "$word"); return ;;
+  esac
+  case $program,$before in
+    fen2pop,--condition | fen2pop,-c) mapfile -t COMPREPLY < <(compgen -W 'Circe Madrasi' -- "$word") ;;
+    # Any file is offered for what an option wants, and below where a report or positions are read.
+    pops-*,-*) ;;
+    pops,* | pops-many,* | pops-explain,*)
+      mapfile -t COMPREPLY < <(compgen -f -X '!*.pop' -- "$word"; compgen -d -- "$word")
+      ;;
   esac
 }
-complete -o filenames -o bashdefault -o default -F _pops pops
+complete -o filenames -o bashdefault -o default -F _pops \
+  pops fen2pop pops-import pops-many pops-page pops-diagram pops2json pops-test pops-compare pops-explain

@@ -1,6 +1,7 @@
 """Runs tasks on other machines, through GNU parallel and ssh.
 
-A machine needs pops, sh, base64 and perl (which GNU parallel wants there); nothing is stored on it.
+A machine needs pops, sh, base64 and perl (which GNU parallel wants there), and timeout where
+problems are given so many seconds; nothing is stored on it.
 Problems go out as words of a command line, a few at a login where there are many, and each report
 comes back as a line, both in base64. A machine that fails is told and left out; what it had at hand
 goes to the others.
@@ -18,8 +19,10 @@ import threading
 from pathlib import Path
 from typing import Callable, Dict, Iterable, Iterator, List, Optional, Sequence, Set, Tuple
 
+from pops_many import sessions
+from pops_many.leash import Leashed
 from pops_many.program import FAULTY, SOUND, Program, RunError
-from pops_many.tasks import Result, Task, is_whole
+from pops_many.tasks import UNFINISHED, Result, Task, is_whole
 
 # A longer problem would not fit into a word of a command line; it is solved on this machine.
 _LONGEST_WORD = 60_000
@@ -34,9 +37,12 @@ _PROBE = b"BeginProblem Pieces White Kg6 Ra1 Black Kg8 Stipulation #1 EndProblem
 # The program is $0; the one word behind it holds number and text of each problem in turn.
 _SCRIPT = (
     'set -f; set -- $1; while [ $# -gt 1 ]; do printf "%s " "$1"; '
-    '{{ printf %s "$2" | base64 -d | "$0" {options}; printf %d "$?"; }} | base64 -w 0; '
+    '{{ printf %s "$2" | base64 -d | {limit}"$0" {options}; printf "\\n%d" "$?"; }} | base64 -w 0; '
     "echo; shift 2; done"
 )
+# Without --foreground it would leave the process group, with which GNU parallel ends a run.
+_LIMIT = "timeout --foreground {seconds} "
+_STATUS_OUT_OF_TIME = 124
 # At most so many problems go out at a login, and so few that each place gets this many logins.
 _PROBLEMS_AT_A_LOGIN = 20
 _LOGINS_OF_A_PLACE = 10
@@ -55,12 +61,13 @@ def _decoded(line: bytes) -> Optional[Tuple[int, int, bytes]]:
     """Number, status and report of a line that came back; None where it was cut."""
     number, _, coded = line.rstrip(b"\n").partition(b" ")
     try:
-        text = base64.b64decode(coded, validate=True)
-        head, line_end, status = text.rpartition(b"\n")
-        answer = int(number), int(status), head + line_end
+        report, _, ended = base64.b64decode(coded, validate=True).rpartition(b"\n")
+        place, status = int(number), int(ended)
     except (binascii.Error, ValueError):
         return None
-    return answer if answer[1] in (SOUND, FAULTY) and is_whole(answer[2]) else None
+    if status == _STATUS_OUT_OF_TIME:
+        return place, UNFINISHED, report
+    return (place, status, report) if status in (SOUND, FAULTY) and is_whole(report) else None
 
 
 class _Log:
@@ -110,7 +117,8 @@ class Machines:
             raise MachinesError("--sshlogin needs GNU parallel: install Debian's package parallel")
         self._say = say
         self._program = program
-        self._script = _SCRIPT.format(options=" ".join(options))
+        limit = _LIMIT.format(seconds=program.seconds) if program.seconds else ""
+        self._script = _SCRIPT.format(options=" ".join(options), limit=limit)
         self._jobs = jobs
         self._words = [parallel, "--will-cite"]
         self._words += ["--jobs", str(jobs)] if jobs else []
@@ -217,27 +225,23 @@ class Machines:
             with open(room / "tasks", "w", encoding="ascii") as tasks:
                 tasks.writelines(lines)
             self._write_machines(room, logins)
+            environment = {**os.environ, "PARALLEL_HOME": name, "PARALLEL_SSH": self._ssh}
             with open(self._errors, "wb") as errors:
-                run = subprocess.Popen(
-                    self._command(room),
-                    stdin=subprocess.DEVNULL,
-                    stdout=subprocess.PIPE,
-                    stderr=errors,
-                    start_new_session=True,
-                    env={**os.environ, "PARALLEL_HOME": name, "PARALLEL_SSH": self._ssh},
-                )
-            watch = threading.Thread(target=self._watch, args=(run, room, logins, look))
-            watch.start()
-            try:
-                assert run.stdout is not None
-                for line in run.stdout:
-                    take(line)
-                run.wait()
-            finally:
-                _end(run)
-                watch.join()
-                self._said = self._last_error
-                self._errors = None
+                leashed = Leashed(self._command(room), subprocess.DEVNULL, errors, environment)
+            with sessions.watched(leashed.run.pid, name):
+                looks = threading.Thread(target=self._look, args=(leashed, room, logins, look))
+                looks.start()
+                try:
+                    assert leashed.run.stdout is not None
+                    for line in leashed.run.stdout:
+                        take(line)
+                    leashed.run.wait()
+                finally:
+                    _end(leashed)
+                    looks.join()
+                    leashed.let_go()
+                    self._said = self._last_error
+                    self._errors = None
 
     def _command(self, room: Path) -> List[str]:
         remote = ["sh", "-c", self._script, self._pops]
@@ -256,9 +260,9 @@ class Machines:
         (room / "machines.new").write_text("".join(login + "\n" for login in logins))
         os.replace(room / "machines.new", room / "machines")
 
-    def _watch(
+    def _look(
         self,
-        run: "subprocess.Popen[bytes]",
+        leashed: Leashed,
         room: Path,
         logins: List[str],
         look: "Callable[[_Log], bool]",
@@ -266,9 +270,9 @@ class Machines:
         log = _Log(room / "log")
         before = len(logins)
         while True:
-            ended = run.poll() is not None
+            ended = leashed.run.poll() is not None
             if not look(log):
-                os.killpg(run.pid, signal.SIGKILL)
+                sessions.end(leashed.run.pid)
                 return
             if len(logins) < before:
                 before = len(logins)
@@ -276,7 +280,7 @@ class Machines:
             if ended:
                 return
             try:
-                run.wait(_SECONDS_BETWEEN_LOOKS)
+                leashed.run.wait(_SECONDS_BETWEEN_LOOKS)
             except subprocess.TimeoutExpired:
                 pass
 
@@ -301,13 +305,15 @@ def _add(answers: Dict[int, bytes], line: bytes) -> None:
         answers[answer[0]] = answer[2]
 
 
-def _end(run: "subprocess.Popen[bytes]") -> None:
+def _end(leashed: Leashed) -> None:
     """Ends GNU parallel where it runs still; at its second signal it ends its jobs too."""
-    for sign in (signal.SIGTERM, signal.SIGTERM, signal.SIGKILL):
-        if run.poll() is not None:
+    for _ in range(2):
+        if leashed.run.poll() is not None:
             return
-        os.killpg(run.pid, sign)
+        leashed.send(signal.SIGTERM)
         try:
-            run.wait(_SECONDS_TO_END)
+            leashed.run.wait(_SECONDS_TO_END)
         except subprocess.TimeoutExpired:
             pass
+    sessions.end(leashed.run.pid)
+    leashed.run.wait()

@@ -1,5 +1,6 @@
 """What a person who waits is told, on a terminal alone."""
 
+import os
 import sys
 import time
 
@@ -49,19 +50,28 @@ class Progress:
         return text
 
     def _write(self, text: str) -> None:
-        sys.stderr.write("\r" + text.ljust(self._width))
-        sys.stderr.flush()
+        _tell("\r" + text.ljust(self._width))
         self._width = len(text)
 
     def say(self, message: str) -> None:
         """A message of its own line."""
-        if self._width:
-            sys.stderr.write("\r" + " " * self._width + "\r")
-            self._width = 0
-        print(f"{self._name}: {message}", file=sys.stderr, flush=True)
+        cleared = "\r" + " " * self._width + "\r" if self._width else ""
+        self._width = 0
+        _tell(f"{cleared}{self._name}: {message}\n")
 
     def end(self) -> None:
         """Ends the line."""
         if self._width:
-            sys.stderr.write("\n")
+            _tell("\n")
             self._width = 0
+
+
+def _tell(text: str) -> None:
+    """Writes on standard error. Once nobody is there to read, as behind a terminal that was closed,
+    no later message fails either.
+    """
+    try:
+        sys.stderr.write(text)
+        sys.stderr.flush()
+    except OSError:
+        os.dup2(os.open(os.devnull, os.O_WRONLY), sys.stderr.fileno())

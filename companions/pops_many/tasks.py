@@ -5,10 +5,13 @@ from dataclasses import dataclass
 from typing import List, Optional, Sequence
 
 from pops_many.cutting import LONGEST_INPUT, Piece, cut
+from pops_texts.command import Status
 
 # As many line ends are put before a problem at once. Of a problem further down, the first run goes
 # without them, and only a faulty one is run again with them: sound reports tell no lines.
 LINE_ENDS_AT_ONCE = 4096
+# In place of an exit status of pops: the run was stopped when its time was over.
+UNFINISHED = int(Status.UNFINISHED)
 
 _HEAD = b"problem 1\n"
 _FAULT = re.compile(rb"problem 1\nline \d+: fault ")
@@ -39,7 +42,13 @@ class Task:
         """The problem as messages name it."""
         if self.piece is None:
             return self.source.shown
-        return f"problem {self.piece.number} ({self.source.shown}, line {self.piece.line})"
+        return f"problem {self.piece.number} ({self.where})"
+
+    @property
+    def where(self) -> str:
+        """Where a problem begins. For a problem alone."""
+        assert self.piece is not None
+        return f"{self.source.shown}, line {self.piece.line}"
 
     @property
     def text(self) -> bytes:
@@ -68,16 +77,25 @@ class Task:
 
 @dataclass(frozen=True)
 class Result:
-    """A task's report, with its number, and the exit status of its run."""
+    """A task's report, with its number, and the exit status of its run.
+
+    Of an unfinished one the report is the lines that were written in so many seconds.
+    """
 
     task: Task
     status: int
     report: bytes
+    seconds: Optional[float] = None
 
 
 def is_whole(report: bytes) -> bool:
     """Whether a run on one problem came to its end: its report is one item."""
     return report.startswith(_HEAD) and report.endswith(b"\n\n")
+
+
+def whole_lines(report: bytes) -> bytes:
+    """What a run that was stopped had written, without a last line that was cut."""
+    return report[: report.rfind(b"\n") + 1]
 
 
 def tasks_of(sources: Sequence[Source]) -> List[Task]:

@@ -1,11 +1,18 @@
-"""A report's items as JSON objects; docs/COMPANIONS.md states their schema."""
+"""A report's items as JSON objects; item.schema.json states their schema."""
 
+from pathlib import Path
 from typing import Any, Dict, List, Optional, Union
 
 from pops_texts.report import Board, FaultyItem, HelpLine, Item, Node, Phase, PlayedMove, SoundItem
 from pops_texts.stipulation import Stipulation
+from pops_texts.titles import shown
 
 Json = Dict[str, Any]
+
+
+def schema() -> str:
+    """The schema of an item's object, as JSON Schema."""
+    return Path(__file__).with_name("item.schema.json").read_text("utf-8")
 
 
 def item_object(item: Item, encoding: str) -> Json:
@@ -27,7 +34,7 @@ def item_object(item: Item, encoding: str) -> Json:
 
 
 def _text(text: Optional[bytes], encoding: str) -> Optional[str]:
-    return None if text is None else text.decode(encoding, "replace")
+    return None if text is None else shown(text, encoding)
 
 
 def _board(board: Board) -> Json:

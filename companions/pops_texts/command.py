@@ -1,11 +1,13 @@
 """What every companion does alike as a command: its texts in and out, its messages, its status."""
 
 import argparse
+import io
 import os
 import sys
 import tempfile
 from contextlib import contextmanager
 from enum import IntEnum
+from pathlib import Path
 from typing import BinaryIO, Callable, Iterator, List, NoReturn, Optional
 
 
@@ -27,19 +29,28 @@ class CommandError(Exception):
         self.status = status
 
 
+def version() -> str:
+    """Number and date of this version, as the file VERSION above the companions tells them."""
+    number, date = (Path(__file__).resolve().parents[2] / "VERSION").read_text().split()
+    return f"{number} ({date})"
+
+
 def parser(name: str, description: str, **more: object) -> argparse.ArgumentParser:
-    """The reader of a companion's arguments."""
-    return argparse.ArgumentParser(
+    """The reader of a companion's arguments; `--version` is among them."""
+    made = argparse.ArgumentParser(
         prog=name,
         description=description,
         formatter_class=argparse.RawDescriptionHelpFormatter,
         **more,  # type: ignore[arg-type]
     )
+    made.add_argument("--version", action="version", version=f"%(prog)s {version()}")
+    return made
 
 
 def run(name: str, command: Callable[[List[str]], int]) -> NoReturn:
     """Runs a companion on the program's arguments and ends with its status."""
     try:
+        _buffer_output()
         status = command(sys.argv[1:])
         sys.stdout.flush()
     except CommandError as error:
@@ -59,10 +70,28 @@ def run(name: str, command: Callable[[List[str]], int]) -> NoReturn:
     sys.exit(status)
 
 
+def _buffer_output() -> None:
+    """Buffers standard output where Python doesn't (PYTHONUNBUFFERED).
+
+    An unbuffered write may take a part of its bytes alone, and says nothing of the rest.
+    """
+    if sys.stdout is None:
+        raise CommandError(Status.DEVICE, "standard output is closed")
+    if not isinstance(sys.stdout.buffer, io.BufferedIOBase):
+        sys.stdout = open(
+            sys.stdout.fileno(),
+            "w",
+            encoding=sys.stdout.encoding,
+            errors=sys.stdout.errors,
+            closefd=False,
+        )
+
+
 def _close_output() -> None:
     """Lets go of what an output that failed refused; else Python would fail on it once more."""
     try:
-        sys.stdout.flush()
+        if sys.stdout is not None:
+            sys.stdout.flush()
     except OSError:
         os.dup2(os.open(os.devnull, os.O_WRONLY), sys.stdout.fileno())
 
@@ -89,6 +118,8 @@ def add_encoding(parser: argparse.ArgumentParser) -> None:
 def opened(file: Optional[str]) -> Iterator[BinaryIO]:
     """A file's bytes, or those of standard input where no file is named."""
     if file is None:
+        if sys.stdin is None:
+            raise CommandError(Status.DEVICE, "standard input is closed")
         yield sys.stdin.buffer
         return
     try:

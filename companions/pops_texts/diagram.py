@@ -1,31 +1,49 @@
-"""Diagrams in SVG, as problem magazines print them.
+"""Diagrams in SVG, as problem magazines print them, and what is said below them.
 
-The shapes of the men, in men.svg, are our own. They stand once on a page, and each diagram refers
-to them. A grasshopper is a queen turned upside down, a nightrider a knight turned upside down.
+The shapes of the men, in men.svg, are our own. They stand once on a page or in a file, and each
+diagram refers to them. A grasshopper is a queen turned upside down, a nightrider a knight turned
+upside down.
 """
 
+import re
+from functools import lru_cache
 from pathlib import Path
-from typing import List
-from xml.sax.saxutils import quoteattr
+from typing import Dict, Iterable, List, Tuple
+from xml.sax.saxutils import escape, quoteattr
 
 from pops_texts.chess import Colour, Kind, Square
 from pops_texts.report import Board
+from pops_texts.titles import printable
 
-# The side of a square, in the units of the shapes below.
+# The side of a square, in the units of the shapes.
 SIDE = 45
-# The room beside the board and below it for the names of ranks and files.
-MARGIN = 18
+# The room beside the board and below it for the names of ranks and files, and their size.
+MARGIN = 22
+COORDINATES = 17
+# The whole, with half of the frame's line on the sides without names.
+WIDTH = HEIGHT = MARGIN + 8 * SIDE + 1
 
-_FAIRY_KINDS = (Kind.GRASSHOPPER, Kind.NIGHTRIDER)
+# The fairy kinds, each with the kind that is turned upside down for it.
+UPSIDE_DOWN = {Kind.GRASSHOPPER: Kind.QUEEN, Kind.NIGHTRIDER: Kind.KNIGHT}
+_FILLS = {
+    Colour.WHITE: 'fill="#fff" color="#000"',
+    Colour.BLACK: 'fill="#000" color="#fff"',
+}
 
-STYLE = """
-.diagram .man { stroke-width: 1.5; stroke-linejoin: round; stroke-linecap: round; stroke: #000; }
-.diagram .white { fill: #fff; color: #000; }
-.diagram .black { fill: #000; color: #fff; }
-.inner, .line { fill: none; }
-.inner { stroke: currentColor; }
-.eye { fill: currentColor; stroke: none; }
-"""
+
+@lru_cache(maxsize=None)
+def _men() -> Dict[str, str]:
+    """The shapes of the men by the names of their kinds."""
+    text = Path(__file__).with_name("men.svg").read_text("utf-8")
+    return {shape[1]: shape[0] for shape in re.finditer(r'<g id="(\w+)">.*?</g>\n', text, re.S)}
+
+
+def _left(square: Square) -> int:
+    return MARGIN + SIDE * (square.file - 1)
+
+
+def _top(square: Square) -> int:
+    return SIDE * (8 - square.rank)
 
 
 def _dark_squares() -> str:
@@ -38,55 +56,81 @@ def _dark_squares() -> str:
     return "".join(corners)
 
 
-def _left(square: Square) -> int:
-    return MARGIN + SIDE * (square.file - 1)
-
-
-def _top(square: Square) -> int:
-    return SIDE * (8 - square.rank)
-
-
-def shapes() -> str:
-    """The shapes that the diagrams of a page refer to: each kind of man, and the empty board."""
-    men = Path(__file__).with_name("men.svg").read_text("utf-8")
+def _definitions(kinds: Iterable[Kind]) -> str:
+    """What diagrams refer to: the empty board and the shapes of these kinds."""
+    half = SIDE / 2
     files = "".join(
-        f'<text x="{MARGIN + SIDE * file - SIDE / 2:g}" y="{8 * SIDE + 13}">{name}</text>'
+        f'<text x="{MARGIN + SIDE * file - half:g}" y="{8 * SIDE + MARGIN - 6}">{name}</text>'
         for file, name in enumerate("abcdefgh", start=1)
     )
     ranks = "".join(
-        f'<text x="8" y="{SIDE * (8 - rank) + 27}">{rank}</text>' for rank in range(1, 9)
+        f'<text x="{MARGIN / 2 - 1:g}" y="{SIDE * (8 - rank) + half + 6:g}">{rank}</text>'
+        for rank in range(1, 9)
     )
     frame = f'<rect x="{MARGIN}" y="0" width="{8 * SIDE}" height="{8 * SIDE}"'
     return (
-        f'{men}<svg width="0" height="0" style="position:absolute" aria-hidden="true"><defs>\n'
+        "<defs>\n"
         '<pattern id="hatching" width="5" height="5" patternUnits="userSpaceOnUse">'
         '<path d="M-1 1l2-2M0 5l5-5M4 6l2-2" stroke="#777" stroke-width=".9"/></pattern>\n'
         f'<g id="board">{frame} fill="#fff"/><path d="{_dark_squares()}" fill="url(#hatching)"/>'
         f'{frame} fill="none" stroke="#000" stroke-width="2"/>'
-        '<g font-family="sans-serif" font-size="13" text-anchor="middle" fill="#444">'
-        f"{files}{ranks}</g></g>\n</defs></svg>\n"
+        f'<g font-family="sans-serif" font-size="{COORDINATES}" text-anchor="middle" fill="#444">'
+        f"{files}{ranks}</g></g>\n"
+        + "".join(_men()[kind.word] for kind in Kind if kind in kinds)
+        + "</defs>\n"
+    )
+
+
+def shapes() -> str:
+    """The shapes that the diagrams of a page refer to: each kind of man, and the empty board."""
+    return (
+        '<svg width="0" height="0" style="position:absolute" aria-hidden="true">'
+        f"{_definitions(Kind)}</svg>\n"
     )
 
 
 def diagram(board: Board) -> str:
     """The diagram of a board; it refers to the shapes of its page."""
-    width, height = MARGIN + 8 * SIDE + 1, 8 * SIDE + MARGIN + 1
+    return f'<svg class="diagram" {_frame(board)}>{_drawing(board)}</svg>'
+
+
+def diagram_file(board: Board, title: str) -> str:
+    """The diagram of a board as a file of its own."""
+    kinds = {man.kind for man in board.men.values()}
+    kinds.update([UPSIDE_DOWN[kind] for kind in kinds if kind in UPSIDE_DOWN])
+    return (
+        '<svg xmlns="http://www.w3.org/2000/svg" xmlns:xlink="http://www.w3.org/1999/xlink"'
+        f' width="{2 * WIDTH}" height="{2 * HEIGHT}" {_frame(board)}>\n'
+        f"<title>{escape(printable(title))}</title>\n"
+        f"{_definitions(kinds)}{_drawing(board)}\n</svg>\n"
+    )
+
+
+def _frame(board: Board) -> str:
+    said = quoteattr(position_in_words(board))
+    return f'viewBox="0 -1 {WIDTH} {HEIGHT}" role="img" aria-label={said}'
+
+
+def _drawing(board: Board) -> str:
+    """The board with its men, white ones first."""
     parts = [
-        f'<svg class="diagram" role="img" viewBox="0 -1 {width} {height}"'
-        f" aria-label={quoteattr(_said(board))}>",
-        '<use href="#board"/>',
+        '<use xlink:href="#board"/>'
+        '<g stroke="#000" stroke-width="1.5" stroke-linejoin="round" stroke-linecap="round">'
     ]
-    for square, man in board.men.items():
-        parts.append(
-            f'<use class="man {man.colour.value}" href="#{man.kind.word}"'
-            f' x="{_left(square)}" y="{_top(square)}"/>'
+    for colour, fill in _FILLS.items():
+        parts.append(f'<g class="{colour.value}" {fill}>')
+        parts.extend(
+            f'<use xlink:href="#{man.kind.word}" x="{_left(square)}" y="{_top(square)}"/>'
+            for square, man in board.men.items()
+            if man.colour is colour
         )
-    parts.append("</svg>")
+        parts.append("</g>")
+    parts.append("</g>")
     return "".join(parts)
 
 
-def _said(board: Board) -> str:
-    """The men in words, for those who hear the page: `White Kg6 Ra1, Black Kg8`."""
+def position_in_words(board: Board) -> str:
+    """The men by colour, kind and square: `White Kg6 Ra1, Black Kg8`."""
     sides = []
     for colour in Colour:
         men = _men_of(board, colour)
@@ -103,17 +147,23 @@ def _men_of(board: Board, colour: Colour) -> List[str]:
     return [kinds[kind].value + square.name for kind, square in men]
 
 
-def count(board: Board) -> str:
-    """The numbers of white and black men, as magazines print them below a diagram: `(2+1)`."""
+def numbers_of_men(board: Board) -> Tuple[int, int]:
+    """How many white and how many black men there are."""
     men = list(board.men.values())
     white = sum(1 for man in men if man.colour is Colour.WHITE)
-    return f"({white}+{len(men) - white})"
+    return white, len(men) - white
+
+
+def count(board: Board) -> str:
+    """The numbers of white and black men, as magazines print them below a diagram: `(2+1)`."""
+    white, black = numbers_of_men(board)
+    return f"({white}+{black})"
 
 
 def fairy_men(board: Board) -> List[str]:
     """The fairy men of a board by name with their squares, as `Grasshopper e3`."""
     said = []
-    for kind in _FAIRY_KINDS:
+    for kind in UPSIDE_DOWN:
         squares = [square.name for square, man in board.men.items() if man.kind is kind]
         if squares:
             said.append(f"{kind.word.title()} {' '.join(sorted(squares))}")

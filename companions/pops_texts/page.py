@@ -2,54 +2,52 @@
 
 import html
 import re
-from typing import Iterable, List, Optional
+from typing import Iterable, List
 
 from pops_texts import diagram
-from pops_texts.report import FaultyItem, Item, Phase, SoundItem
-from pops_texts.stipulation import Condition, Stipulation
+from pops_texts.report import FaultyItem, Item, Phase, SoundItem, named_items
+from pops_texts.titles import printable, shown
 
 _STYLE = """
 body { font: 11pt/1.35 serif; margin: 1.5em auto; max-width: 60em; padding: 0 1em;
-  color: #000; background: #fff; }
+  color: #000; background: #fff; overflow-wrap: anywhere; }
 h1 { font-size: 1.5em; font-weight: normal; border-bottom: 1px solid #000; }
-article { display: grid; grid-template-columns: 15em 1fr; gap: 0 2em;
+article { display: grid; grid-template-columns: minmax(0, 17em) minmax(0, 1fr); gap: 0 2em;
   margin: 0 0 1.2em; padding-top: .8em; border-top: 1px solid #bbb; }
 h1 + article { border-top: none; }
 header, .below, .fault { break-inside: avoid; }
 h2 { font-size: 1em; margin: 0 0 .3em; }
+h2 a { color: inherit; text-decoration: none; }
+h2 a:hover, h2 a:focus { text-decoration: underline; }
 .title { margin: 0; }
 .author { font-style: italic; margin: 0 0 .3em; }
-.below { display: flex; justify-content: space-between; margin: 0 0 0 .65em; }
+.below { display: flex; justify-content: space-between; margin: 0 0 0 5.7%; }
 .stipulation { font-weight: bold; }
-.fairy, .without { font-size: .85em; margin: .2em 0 0 .75em; color: #333; }
+.fairy, .without { font-size: .85em; margin: .2em 0 0 5.7%; color: #333; }
 .diagram { width: 100%; display: block; margin-top: .4em; }
 h3 { font-size: 1em; font-weight: normal; font-style: italic; margin: 0; }
 .phase + .phase { margin-top: .8em; }
-pre { font: 9.5pt/1.35 monospace; margin: .1em 0; white-space: pre-wrap; overflow-wrap: anywhere; }
+pre { font: 9.5pt/1.35 monospace; margin: .1em 0; white-space: pre-wrap; }
+pre span { white-space: nowrap; }
 pre.many { columns: 17em auto; column-gap: 2em; }
 .total { margin: 0; font-size: .9em; color: #333; }
 .fault { font-weight: bold; margin: 0; }
 @media print {
   body { margin: 0; max-width: none; padding: 0; }
-  article { grid-template-columns: 12em 1fr; }
+  article { grid-template-columns: minmax(0, 13em) minmax(0, 1fr); }
 }
-@media (max-width: 34em) { article { grid-template-columns: 1fr; } }
+@media (max-width: 36em) { article { grid-template-columns: minmax(0, 1fr); } }
 """
 
 # More lines than this are set in columns, as far as the page is wide enough.
 _LINES_OF_A_COLUMN = 20
 
-# What no page may hold: control characters but tab, and characters that stand for none.
-_NO_CHARACTER = re.compile("[\x00-\x08\x0b-\x1f\x7f-\x9f\ud800-\udfff\ufdd0-\ufdef\ufffe\uffff]")
-
-
-def shown(text: bytes, encoding: str) -> str:
-    """A title or an author as text; each byte that is none in the encoding becomes U+FFFD."""
-    return text.decode(encoding, "replace")
+# A word that a browser would break at its hyphen: a move, with its number where it has one.
+_MOVE = re.compile(r"[^\s-]+-\S+")
 
 
 def _safe(text: str) -> str:
-    return html.escape(_NO_CHARACTER.sub("\ufffd", text))
+    return html.escape(printable(text))
 
 
 def page(items: Iterable[Item], heading: str, encoding: str) -> str:
@@ -57,34 +55,41 @@ def page(items: Iterable[Item], heading: str, encoding: str) -> str:
     parts = [
         '<!DOCTYPE html>\n<html lang="en">\n<head>\n<meta charset="utf-8">\n',
         '<meta name="viewport" content="width=device-width">\n',
-        f"<title>{_safe(heading)}</title>\n<style>{_STYLE}{diagram.STYLE}</style>\n",
+        f"<title>{_safe(heading)}</title>\n<style>{_STYLE}</style>\n",
         "</head>\n<body>\n",
         diagram.shapes(),
         f"<h1>{_safe(heading)}</h1>\n",
     ]
-    for item in items:
+    for name, item in named_items(items):
         if isinstance(item, FaultyItem):
-            parts.append(_faulty(item))
+            parts.append(_faulty(name, item))
         else:
-            parts.append(_sound(item, encoding))
+            parts.append(_sound(name, item, encoding))
     parts.append("</body>\n</html>\n")
     return "".join(parts)
 
 
-def _faulty(item: FaultyItem) -> str:
+def _heading(name: str, item: Item) -> str:
+    """An article's number, which is a link to the article."""
+    return f'<h2><a href="#problem-{name}">problem {item.number}</a></h2>\n'
+
+
+def _faulty(name: str, item: FaultyItem) -> str:
     fault = item.fault
     text = f"line {fault.line}: fault {fault.number}: {fault.text}"
     return (
-        f'<article class="faulty">\n<h2>problem {item.number}</h2>\n'
+        f'<article class="faulty" id="problem-{name}">\n{_heading(name, item)}'
         f'<p class="fault">{_safe(text)}</p>\n</article>\n'
     )
 
 
-def _sound(item: SoundItem, encoding: str) -> str:
-    parts = [f'<article class="sound">\n<div>\n<header>\n<h2>problem {item.number}</h2>\n']
-    for name, text in (("title", item.title), ("author", item.author)):
+def _sound(name: str, item: SoundItem, encoding: str) -> str:
+    parts = [
+        f'<article class="sound" id="problem-{name}">\n<div>\n<header>\n{_heading(name, item)}'
+    ]
+    for label, text in (("title", item.title), ("author", item.author)):
         if text is not None:
-            parts.append(f'<p class="{name}">{_safe(shown(text, encoding))}</p>\n')
+            parts.append(f'<p class="{label}">{_safe(shown(text, encoding))}</p>\n')
     parts.append(_position(item))
     parts.append('</header>\n</div>\n<div class="solutions">\n')
     if item.phases is None:
@@ -96,7 +101,7 @@ def _sound(item: SoundItem, encoding: str) -> str:
 
 
 def _position(item: SoundItem) -> str:
-    stipulation = _stipulation(item.stipulation, item.condition)
+    stipulation = item.asked
     if item.board is None:
         return (
             f'<p class="below"><span class="stipulation">{stipulation}</span></p>\n'
@@ -111,14 +116,10 @@ def _position(item: SoundItem) -> str:
     )
 
 
-def _stipulation(stipulation: Stipulation, condition: Optional[Condition]) -> str:
-    return stipulation.text + (f" {condition.value}" if condition is not None else "")
-
-
 def _phase(phase: Phase) -> str:
-    lines = "\n".join(phase.lines)
+    lines = _MOVE.sub(r"<span>\g<0></span>", _safe("\n".join(phase.lines)))
     many = ' class="many"' if len(phase.lines) > _LINES_OF_A_COLUMN else ""
-    solutions = f"<pre{many}>{_safe(lines)}</pre>\n" if phase.lines else ""
+    solutions = f"<pre{many}>{lines}</pre>\n" if phase.lines else ""
     return (
         f'<section class="phase">\n<h3>{phase.kind.value}</h3>\n{solutions}'
         f'<p class="total">{_safe(phase.last_line)}</p>\n</section>\n'

@@ -29,6 +29,26 @@ def text_of_problems(problems: Iterable[List[str]]) -> str:
     return "\n".join(parts) + "\n"
 
 
+def pieces_line(men: Dict[Square, Man]) -> str:
+    """The line of the men: each colour's kinds in their order, squares from a1 on."""
+    squares: Dict[Man, List[Square]] = {}
+    for square in sorted(men, key=lambda square: (square.rank, square.file)):
+        squares.setdefault(men[square], []).append(square)
+    words = ["Pieces"]
+    for colour in Colour:
+        own = [man for man in (Man(colour, kind) for kind in Kind) if man in squares]
+        if own:
+            words.append(colour.value.title())
+        for man in own:
+            words.append(man.kind.value + "".join(square.name for square in squares[man]))
+    return " ".join(words)
+
+
+def is_turned(position: Position, stipulation: Stipulation, wishes: Wishes) -> bool:
+    """Whether the colours are turned round: the side to move isn't the one that starts."""
+    return position.turn not in (None, stipulation.starter) and not wishes.keep_colours
+
+
 def problem_lines(
     position: Position, source: str, stipulation: Stipulation, wishes: Wishes
 ) -> List[str]:
@@ -39,15 +59,13 @@ def problem_lines(
     """
     remarks = [f"FEN {source}"]
     starter = stipulation.starter
-    if position.turn not in (None, starter):
-        if wishes.keep_colours:
-            position = Position(position.men, None, position.rooks, None)
-            remarks.append(f"{_turn(starter.opponent)}, and {_start(starter)}: colours kept")
-        else:
-            position = position.turned
-            remarks.append(
-                f"{_turn(starter.opponent)}, and {_start(starter)}: colours turned round"
-            )
+    sides = f"{_turn(starter.opponent)}, and {_start(starter)}"
+    if is_turned(position, stipulation, wishes):
+        position = position.turned
+        remarks.append(f"{sides}: colours turned round")
+    elif position.turn is starter.opponent:
+        position = Position(position.men, None, position.rooks, None)
+        remarks.append(f"{sides}: colours kept")
     remarks.extend(_rights_without_men(position))
     lines = []
     for word, text in (("Title", wishes.title), ("Author", wishes.author)):
@@ -55,7 +73,7 @@ def problem_lines(
             lines.append(f"{word} {_one_line(text)}")
     lines.extend(f"Remark {_one_line(remark)}" for remark in remarks)
     if position.men:
-        lines.append("Pieces" + "".join(_men_words(position.men, colour) for colour in Colour))
+        lines.append(pieces_line(position.men))
     lines.append(f"Stipulation {stipulation.text}")
     if wishes.condition is not None:
         lines.append(f"Condition {wishes.condition.value}")
@@ -80,16 +98,6 @@ def _start(colour: Colour) -> str:
 
 def _one_line(text: str) -> str:
     return text.replace("\r", " ").replace("\n", " ")
-
-
-def _men_words(men: Dict[Square, Man], colour: Colour) -> str:
-    words = []
-    for kind in Kind:
-        squares = [square for square, man in men.items() if man == Man(colour, kind)]
-        squares.sort(key=lambda square: (square.rank, square.file))
-        if squares:
-            words.append(" " + kind.value + "".join(square.name for square in squares))
-    return f" {colour.name.title()}{''.join(words)}" if words else ""
 
 
 _HOMES = {

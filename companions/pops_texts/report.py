@@ -1,7 +1,9 @@
 """Reads reports of pops, item by item, by the grammar of its manual.
 
 The reading is strict: a report that departs from the grammar, or that was cut, is refused with the
-line where it does. Several reports one behind the other, each numbered from 1, are read as well.
+line where it does. Read as well are reports with gaps in their numbers, as pops-many leaves them
+where it stopped problems, and several reports one behind the other: a number that doesn't grow
+begins the next one.
 """
 
 import re
@@ -157,9 +159,16 @@ class SoundItem:
     condition: Optional[Condition]
     phases: Optional[Tuple[Phase, ...]]
 
+    @property
+    def asked(self) -> str:
+        """The line of stipulation and condition, as `h#2.5 Circe`."""
+        condition = f" {self.condition.value}" if self.condition is not None else ""
+        return self.stipulation.text + condition
+
 
 Item = Union[FaultyItem, SoundItem]
 
+_PROBLEM = re.compile(r"problem ([1-9][0-9]*)", re.ASCII)
 _FAULT = re.compile(r"line ([1-9][0-9]*): fault ([1-9][0-9]?): (.+)", re.ASCII)
 _BOARD_RANK = re.compile(r"([1-8]) ([KQRBSPGNkqrbspgn.]{8})", re.ASCII)
 _TOTAL = re.compile(r"solutions: ([0-9]+)(, stopped)?", re.ASCII)
@@ -222,19 +231,32 @@ class _Lines:
         return ReportError(self.number, f"expected {expected}, found {shown!r}")
 
 
+def named_items(items: Iterable[Item]) -> Iterator[Tuple[str, Item]]:
+    """Each item with a name of its own: its number, and from a second report on the report's too.
+
+    Of reports one behind the other the second has `2-1`, `2-2` and so on.
+    """
+    report = 1
+    last = 0
+    for item in items:
+        if item.number <= last:
+            report += 1
+        last = item.number
+        yield (f"{report}-{item.number}" if report > 1 else str(item.number)), item
+
+
 def read_report(lines: Iterable[bytes]) -> Iterator[Item]:
     """The items of a report, given by its lines with their line ends, as a binary file gives them.
 
     ReportError where the text departs from the grammar; the items before were given.
     """
     source = _Lines(lines)
-    number = 0
     while not source.at_end:
-        starts = {f"problem {number + 1}": number + 1, "problem 1": 1}
-        if source.text not in starts:
-            raise source.refused(f"'problem {number + 1}'")
-        number = starts[source.take()]
-        item = _read_item(source, number)
+        problem = _PROBLEM.fullmatch(source.text)
+        if problem is None:
+            raise source.refused("a line 'problem' with its number")
+        source.take()
+        item = _read_item(source, int(problem[1]))
         if source.ahead != b"":
             raise source.refused("an empty line")
         source.take()

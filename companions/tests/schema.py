@@ -1,4 +1,4 @@
-"""Holds JSON against a schema: the part of JSON Schema that docs/COMPANIONS.md uses."""
+"""Holds JSON against a schema: the part of JSON Schema that item.schema.json uses."""
 
 import json
 import re
@@ -16,10 +16,9 @@ _TYPES = {
 }
 
 
-def documented() -> Dict[str, Any]:
-    """The schema that stands in docs/COMPANIONS.md."""
-    text = (support.REPOSITORY / "docs" / "COMPANIONS.md").read_text("utf-8")
-    return json.loads(text.split("```json\n")[1].split("```\n")[0])
+def stored() -> Dict[str, Any]:
+    """The schema of pops2json's objects."""
+    return json.loads((support.COMPANIONS / "pops_texts" / "item.schema.json").read_text("utf-8"))
 
 
 class Schema:

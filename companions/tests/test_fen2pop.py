@@ -11,10 +11,16 @@ import support
 Place = Tuple[int, int]
 
 
+TURNED = ": colours turned round, since the other side starts; --keep-colours leaves them"
+
+
 def made(*words: str, text: bytes = b"") -> str:
     outcome = support.companion("fen2pop", *words, text=text)
-    assert outcome.status == 0 and outcome.error == "", outcome
-    return outcome.output.decode("utf-8")
+    problems = outcome.output.decode("utf-8")
+    turned = [TURNED] if ": colours turned round\n" in problems else []
+    told = [line[-len(TURNED) :] for line in outcome.error.splitlines()]
+    assert outcome.status == 0 and told == turned, outcome
+    return problems
 
 
 def report(problems: str, *words: str) -> List[support.PlainItem]:
@@ -83,6 +89,15 @@ class Texts(unittest.TestCase):
                 pieces = "White Kh1 Black Ka8" if not turned else "White Ka1 Black Kh8"
                 self.assertIn(f"Pieces {pieces}\nStipulation {stipulation}\n", problem)
                 self.assertEqual("turned round" in problem, turned)
+
+    def test_turned_colours_are_told(self) -> None:
+        white, black = "k7/8/8/8/8/8/8/7K w - -", "k7/8/8/8/8/8/8/7K b - -"
+        outcome = support.companion("fen2pop", "-s", "#2", white, black)
+        self.assertEqual(outcome.error, f"fen2pop: position 2{TURNED}\n")
+        text = "\n".join([black, white] + [black] * 4).encode()
+        outcome = support.companion("fen2pop", "-s", "#2", text=text)
+        places = "; ".join(f"standard input, line {line}" for line in (1, 3, 4))
+        self.assertEqual(outcome.error, f"fen2pop: {places}; and 2 more{TURNED}\n")
 
     def test_colours_can_be_kept(self) -> None:
         problem = made("-s", "#2", "--keep-colours", "k7/8/8/8/3pP3/8/8/7K b - e3")

@@ -1,6 +1,8 @@
 """JSON: nothing of a report is lost, and the objects are what the schema says."""
 
 import json
+import subprocess
+import sys
 import unittest
 from typing import Any, Dict, List
 
@@ -44,6 +46,20 @@ class Reports(unittest.TestCase):
         report = (support.REPOSITORY / "tests/rows/three_problems.out").read_bytes()
         outcome = support.companion("pops2json", "--array", text=report)
         self.assertEqual(json.loads(outcome.output), objects(report))
+
+    def test_an_array_is_written_while_the_report_comes(self) -> None:
+        """The first of two problems is in the output before the second is in the input."""
+        words = [sys.executable, str(support.COMPANIONS / "pops2json"), "--array"]
+        title = b"problem 1\ntitle: " + b"t" * 200 + b"\n#1\nsound\n\n"
+        with subprocess.Popen(words, stdin=subprocess.PIPE, stdout=subprocess.PIPE) as run:
+            assert run.stdin is not None and run.stdout is not None
+            run.stdin.write(title * 40)
+            run.stdin.flush()
+            begun = run.stdout.read(1000)
+            run.stdin.write(b"problem 2\n#1\nsound\n\n")
+            run.stdin.close()
+            read = json.loads(begun + run.stdout.read())
+        self.assertEqual([one["number"] for one in read], [1] * 40 + [2])
 
     def test_an_object_in_full(self) -> None:
         report = (
@@ -103,20 +119,27 @@ class Reports(unittest.TestCase):
 
     def test_bytes_that_are_no_text(self) -> None:
         report = b"problem 1\ntitle: R\xe9ti\n#1\nsound\n\n"
-        self.assertEqual(objects(report)[0]["title"], "R\ufffdti")
+        outcome = support.companion("pops2json", text=report)
+        self.assertEqual(outcome.status, 0)
+        self.assertEqual(json.loads(outcome.output)["title"], "R\ufffdti")
+        self.assertEqual(
+            outcome.error,
+            "pops2json: standard input: title or author of problem 1 isn't utf-8;"
+            " --encoding names another, as latin-1\n",
+        )
         self.assertEqual(objects(report, "--encoding", "latin-1")[0]["title"], "Réti")
 
 
-class Documented(unittest.TestCase):
-    def test_every_stored_report_has_the_documented_schema(self) -> None:
-        wanted = schema.Schema(schema.documented())
+class Schema(unittest.TestCase):
+    def test_every_stored_report_has_the_stored_schema(self) -> None:
+        wanted = schema.Schema(schema.stored())
         report = b"".join(path.read_bytes() for path in support.stored_reports())
         for one in objects(report):
             self.assertEqual(wanted.faults(one), [])
-        self.assertEqual(set(wanted.used), set(schema.documented()["$defs"]))
+        self.assertEqual(set(wanted.used), set(schema.stored()["$defs"]))
 
     def test_other_objects_have_not(self) -> None:
-        wanted = schema.Schema(schema.documented())
+        wanted = schema.Schema(schema.stored())
         report = (support.REPOSITORY / "examples/mate_in_one.report").read_bytes()
         for change in (
             {"number": 0}, {"number": True}, {"sound": False}, {"title": 1}, {"board": {}},
@@ -128,6 +151,12 @@ class Documented(unittest.TestCase):
                 self.assertNotEqual(wanted.faults({**one, **change}), [])
         self.assertNotEqual(wanted.faults({"number": 1, "sound": False}), [])
 
+    def test_the_schema_is_printed(self) -> None:
+        outcome = support.companion("pops2json", "--schema")
+        self.assertEqual((outcome.status, outcome.error), (0, ""))
+        self.assertEqual(json.loads(outcome.output), schema.stored())
+        self.assertEqual(support.companion("pops2json", "--schema", "x.report").status, 2)
+
 
 class Command(unittest.TestCase):
     def test_mistakes_have_a_line_and_a_status(self) -> None:
@@ -138,6 +167,10 @@ class Command(unittest.TestCase):
             "pops2json: standard input is no report of pops:"
             " line 6: the report is cut inside a problem\n",
         )
+        for words in ([], ["--array"]):
+            empty = support.companion("pops2json", *words)
+            told = "pops2json: standard input is empty: no report of pops\n"
+            self.assertEqual(empty, (1, b"", told))
         self.assertEqual(support.companion("pops2json", "nowhere.report").status, 3)
         self.assertEqual(support.companion("pops2json", "--fast").status, 2)
         self.assertEqual(support.companion("pops2json", "--encoding", "no-such").status, 2)

@@ -4,17 +4,16 @@ import io
 import os
 import pty
 import random
-import signal
 import subprocess
 import sys
 import tempfile
-import time
 import unittest
 from pathlib import Path
 from typing import List, Tuple
 
 import made_inputs
 import support
+from six_problems import SIX, SixProblems
 
 from pops_many.cutting import cut
 from pops_many.progress import Progress, duration
@@ -134,61 +133,21 @@ class SameAsOneRun(unittest.TestCase):
         outcome = support.companion("pops-many", "--pops", support.pops(), text=text)
         self.assertEqual(outcome, (one.status, one.output, ""))
 
-    def test_what_cannot_be_read_is_left_to_pops(self) -> None:
-        for name in (str(support.REPOSITORY), "nowhere.pop"):
+    def test_what_cannot_be_read_is_named_and_left_to_pops(self) -> None:
+        cases = [
+            (str(support.REPOSITORY), "Is a directory"),
+            ("nowhere.pop", "No such file or directory"),
+        ]
+        for name, reason in cases:
             with self.subTest(name):
                 one = support.run([support.pops(), name])
                 self.assertEqual(one.status, 3)
                 outcome = support.companion("pops-many", "--pops", support.pops(), name)
-                self.assertEqual(outcome, one)
+                self.assertEqual((outcome.status, outcome.output), (3, one.output))
+                self.assertEqual(outcome.error, f"pops-many: cannot open {name}: {reason}\n")
 
 
-SIX = (
-    b"BeginProblem"
-    + b"NextProblem".join(
-        b"\nTitle number %d\nPieces White Kg6 R%s1 Black Kg8\nStipulation #1\n" % (number, file)
-        for number, file in enumerate((b"a", b"b", b"c", b"d", b"e", b"g"), start=1)
-    )
-    + b"EndProblem\n"
-)
-
-# A program in the place of pops that notes each run, and fails or waits on one problem.
-STAND_IN = """#!/bin/sh
-text=$(cat)
-echo run >> "{room}/runs"
-case $text in
-  *"number 4"*) {then} ;;
-esac
-printf '%s' "$text" | "{pops}" "$@"
-"""
-
-
-class Interruptions(unittest.TestCase):
-    def setUp(self) -> None:
-        room = tempfile.TemporaryDirectory()
-        self.addCleanup(room.cleanup)
-        self.room = Path(room.name)
-        self.input = self.room / "six.pop"
-        self.input.write_bytes(SIX)
-        self.report = self.room / "six.report"
-        self.journal = self.room / "six.report.journal"
-        self.wanted = support.run([support.pops(), str(self.input)]).output
-
-    def stand_in(self, then: str) -> str:
-        path = self.room / "stand_in"
-        path.write_text(STAND_IN.format(room=self.room, then=then, pops=support.pops()))
-        path.chmod(0o755)
-        return str(path)
-
-    def words(self, pops: str, *more: str) -> List[str]:
-        return ["--pops", pops, "--jobs", "1", "-o", str(self.report), str(self.input), *more]
-
-    def many(self, pops: str, *more: str) -> support.Outcome:
-        return support.companion("pops-many", *self.words(pops, *more))
-
-    def runs(self) -> int:
-        return (self.room / "runs").read_text().count("run")
-
+class Interruptions(SixProblems):
     def test_a_run_that_fails_is_told_and_resumed(self) -> None:
         outcome = self.many(self.stand_in("kill -9 $$"))
         self.assertEqual((outcome.status, outcome.output), (6, b""))
@@ -210,28 +169,6 @@ class Interruptions(unittest.TestCase):
         outcome = self.many(self.stand_in("echo 'problem 1'; exit 0"))
         self.assertEqual(outcome.status, 6)
         self.assertIn("problem 4", outcome.error)
-
-    def test_a_run_that_is_stopped_is_resumed(self) -> None:
-        words = [sys.executable, str(support.COMPANIONS / "pops-many")]
-        run = subprocess.Popen(
-            words + self.words(self.stand_in("exec sleep 60")), stderr=subprocess.PIPE
-        )
-        until = time.monotonic() + 30
-        while self.kept() < 3 and time.monotonic() < until:
-            time.sleep(0.02)
-        run.send_signal(signal.SIGTERM)
-        error = run.communicate(timeout=30)[1].decode()
-        self.assertEqual(run.returncode, 6)
-        self.assertIn("pops-many: stopped\npops-many: 3 of 6 problems are done", error)
-        self.assertFalse(self.report.exists())
-        refused = self.many(support.pops())
-        self.assertEqual(refused.status, 2)
-        self.assertIn("is the journal of a run that stopped", refused.error)
-        self.assertEqual(self.many(support.pops(), "--resume"), (0, b"", ""))
-        self.assertEqual(self.report.read_bytes(), self.wanted)
-
-    def kept(self) -> int:
-        return self.journal.read_bytes().count(b"\ntask ") if self.journal.exists() else 0
 
     def test_a_journal_that_was_cut_is_gone_on_with(self) -> None:
         self.many(self.stand_in("kill -9 $$"))
@@ -280,13 +217,26 @@ class Interruptions(unittest.TestCase):
 
 class Command(unittest.TestCase):
     def test_mistakes_have_a_line_and_a_status(self) -> None:
-        for words in (["--jobs", "0"], ["--fast"], ["--resume"]):
+        mistakes = [
+            ["--jobs", "0"],
+            ["--fast"],
+            ["--resume"],
+            ["--each"],
+            ["--each", "--index", "table", "a.pop"],
+            ["--each", "--unfinished", "rest", "a.pop"],
+            ["--seconds", "1"],
+            ["--seconds", "0", "-o", "report"],
+            ["--seconds", "nan", "-o", "report"],
+            ["--seconds", "inf", "-o", "report"],
+            ["--seconds", "ten", "-o", "report"],
+        ]
+        for words in mistakes:
             with self.subTest(words):
                 self.assertEqual(support.companion("pops-many", *words).status, 2)
         missing = support.companion("pops-many", "--pops", "nowhere/pops", text=b"")
         self.assertEqual(
             (missing.status, missing.error),
-            (3, "pops-many: there is no program pops: name it with --pops\n"),
+            (3, "pops-many: there is no program nowhere/pops\n"),
         )
         unwritable = support.companion(
             "pops-many", "--pops", support.pops(), "-o", "nowhere/report"

@@ -21,10 +21,15 @@ NAMES = {
 TAGS_WITHOUT_END = {"meta"}
 
 
+CHECKED = b"problem 1\n#1\nsound\n\n"
+
+
 class SeenArticle:
     """What stands in one article: its words, and the men of its diagram by place."""
 
-    def __init__(self) -> None:
+    def __init__(self, name: Optional[str]) -> None:
+        self.name = name
+        self.links: List[Optional[str]] = []
         self.words: List[str] = []
         self.diagrams = 0
         self.men: Dict[Tuple[float, float], Tuple[str, str]] = {}
@@ -51,7 +56,9 @@ class SeenPage(HTMLParser):
         if tag not in TAGS_WITHOUT_END:
             self.open.append((tag, values))
         if tag == "article":
-            self.articles.append(SeenArticle())
+            self.articles.append(SeenArticle(values.get("id")))
+        if tag == "pre":
+            self.articles[-1].words.append("")
         self._see(tag, values)
 
     def handle_startendtag(self, tag: str, attributes: list) -> None:
@@ -65,9 +72,11 @@ class SeenPage(HTMLParser):
                 self.shapes.setdefault(str(groups[-1]), []).append({"tag": tag, **values})
         elif tag == "svg":
             article.diagrams += 1
-        elif tag == "use" and values["href"] != "#board":
-            colour = str(values["class"]).split()[1]
-            kind = str(values["href"])[1:]
+        elif tag == "a":
+            article.links.append(values["href"])
+        elif tag == "use" and values["xlink:href"] != "#board":
+            (colour,) = [str(place["class"]) for name, place in self.open if "fill" in place]
+            kind = str(values["xlink:href"])[1:]
             place = (float(str(values["x"])), float(str(values["y"])))
             assert place not in article.men
             article.men[place] = (colour, kind)
@@ -77,8 +86,11 @@ class SeenPage(HTMLParser):
         self.open.pop()
 
     def handle_data(self, data: str) -> None:
-        if self._inside is not None:
-            self._inside.words.append(data)
+        article = self._inside
+        if article is not None and any(tag == "pre" for tag, _ in self.open):
+            article.words[-1] += data
+        elif article is not None:
+            article.words.append(data)
 
 
 def page_of(report: bytes, *words: str) -> SeenPage:
@@ -102,10 +114,10 @@ class Diagrams(unittest.TestCase):
         self.assertGreater(boards, 50)
 
     def squares(self, article: SeenArticle) -> Dict[str, Tuple[str, str]]:
-        """The men by square: the board begins 18 units from the left, a square has 45 units."""
+        """The men by square: the board begins 22 units from the left, a square has 45 units."""
         men = {}
         for (x, y), man in article.men.items():
-            file, rank = (x - 18) / 45, 7 - y / 45
+            file, rank = (x - 22) / 45, 7 - y / 45
             self.assertEqual((file, rank), (int(file), int(rank)))
             men["abcdefgh"[int(file)] + str(int(rank) + 1)] = man
         return men
@@ -121,20 +133,20 @@ class Diagrams(unittest.TestCase):
         return men
 
     def test_fairy_men_are_turned_upside_down(self) -> None:
-        page = page_of(b"")
+        page = page_of(CHECKED)
         for fairy, upright in (("grasshopper", "queen"), ("nightrider", "knight")):
             self.assertIn(
-                {"tag": "use", "href": f"#{upright}", "transform": "rotate(180 22.5 22.5)"},
+                {"tag": "use", "xlink:href": f"#{upright}", "transform": "rotate(180 22.5 22.5)"},
                 page.shapes[fairy],
             )
         self.assertEqual(set(NAMES.values()) - set(page.shapes), set())
 
     def test_a1_is_dark_and_half_the_squares_are(self) -> None:
-        page = page_of(b"")
+        page = page_of(CHECKED)
         (dark,) = [part for part in page.shapes["board"] if part.get("fill") == "url(#hatching)"]
         corners = str(dark["d"]).split("z")[:-1]
         self.assertEqual(len(corners), 32)
-        self.assertIn("M18 315h45v45h-45", corners)
+        self.assertIn("M22 315h45v45h-45", corners)
 
 
 class Words(unittest.TestCase):
@@ -164,13 +176,27 @@ class Words(unittest.TestCase):
 
     def test_titles_in_another_encoding(self) -> None:
         report = b"problem 1\ntitle: R\xe9ti\n#1\nsound\n\n"
-        (article,) = page_of(report).articles
-        self.assertIn("R\ufffdti", article.words)
-        (article,) = page_of(report, "--encoding", "latin-1").articles
+        report += b"problem 2\nauthor: Ko\xbeelj\n#1\nsound\n\n"
+        (article, _) = page_of(report, "--encoding", "latin-1").articles
         self.assertIn("Réti", article.words)
+        outcome = support.companion("pops-page", text=report)
+        self.assertEqual(outcome.status, 0)
+        self.assertIn("R\ufffdti", SeenPage(outcome.output.decode("utf-8")).articles[0].words)
+        self.assertEqual(
+            outcome.error,
+            "pops-page: standard input: title or author of problem 1, and of 1 more, isn't utf-8;"
+            " --encoding names another, as latin-1\n",
+        )
+
+    def test_each_article_has_a_link_to_itself(self) -> None:
+        faulty = b"problem 2\nline 3: fault 11: no men\n\n"
+        articles = page_of((CHECKED + faulty) + CHECKED + (CHECKED + faulty)).articles
+        names = ["problem-1", "problem-2", "problem-2-1", "problem-3-1", "problem-3-2"]
+        self.assertEqual([article.name for article in articles], names)
+        self.assertEqual([article.links for article in articles], [[f"#{name}"] for name in names])
 
     def test_no_board_is_said(self) -> None:
-        (article,) = page_of(b"problem 1\n#1\nsound\n\n").articles
+        (article,) = page_of(CHECKED).articles
         self.assertEqual(article.diagrams, 0)
         self.assertIn("The report shows no board.", article.words)
 
@@ -198,6 +224,15 @@ class Command(unittest.TestCase):
             self.assertIn("standard input is no report of pops: line 3", outcome.error)
             self.assertEqual(target.read_text(), "old")
             self.assertEqual(len(list(Path(room).iterdir())), 1)
+
+    def test_an_empty_report_is_told(self) -> None:
+        with tempfile.TemporaryDirectory() as room:
+            report, target = Path(room) / "empty.report", Path(room) / "page.html"
+            report.touch()
+            outcome = support.companion("pops-page", str(report), "-o", str(target))
+            told = f"pops-page: {report} is empty: no report of pops\n"
+            self.assertEqual(outcome, (1, b"", told))
+            self.assertFalse(target.exists())
 
     def test_mistakes_have_a_line_and_a_status(self) -> None:
         missing = support.companion("pops-page", "nowhere.report")

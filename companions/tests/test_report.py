@@ -17,6 +17,7 @@ from pops_texts.report import (
     PhaseKind,
     ReportError,
     SoundItem,
+    named_items,
     read_report,
 )
 from pops_texts.stipulation import Condition, Goal, Play, Stipulation
@@ -90,6 +91,14 @@ class Items(unittest.TestCase):
     def test_reports_one_behind_the_other(self) -> None:
         one = "problem 1\n#1\nsound\n\nproblem 2\n#1\nsound\n\n"
         self.assertEqual([item.number for item in read(one + one)], [1, 2, 1, 2])
+
+    def test_numbers_with_gaps(self) -> None:
+        """As pops-many --seconds leaves them; a number that doesn't grow begins another report."""
+        numbers = [2, 3, 7, 2, 5, 5, 1]
+        items = read("".join(f"problem {number}\n#1\nsound\n\n" for number in numbers))
+        self.assertEqual([item.number for item in items], numbers)
+        names = [name for name, _ in named_items(items)]
+        self.assertEqual(names, ["2", "3", "7", "2-2", "2-5", "3-5", "4-1"])
 
     def test_an_empty_text_has_no_items(self) -> None:
         self.assertEqual(read(""), [])
@@ -165,7 +174,10 @@ class Refusals(unittest.TestCase):
         battle = "problem 1\n#2\nplay\n1.Ra1-a2\n  1...Kh8-g8\nsolutions: 1\n\n"
         self.assertEqual(len(read(battle)), 1)
         changes = [
-            ("problem 1", "problem 2", 1),
+            ("problem 1", "problem 0", 1),
+            ("problem 1", "problem 01", 1),
+            ("problem 1", "problem one", 1),
+            ("problem 1", "problem 1 ", 1),
             ("#2", "r#2", 2),
             ("#2", "s#2.5", 2),
             ("#2", "#2 Circe Circe", 2),

@@ -66,20 +66,22 @@ pub kind_has_square : squares_of (with_man empty b1 white_king) White King ≡ 2
 unfolding squares_of word word_of squares
 kind_has_square = refl
 
--- a pawn on a2 is seen, and one on a1 is out of place
-pub pawn_is_seen : has_kind (with_man empty a2 white_pawn) Pawn ≡ true
+-- a pawn on a2 is seen, and no king; on a1 a pawn is out of place, and not on a2
+pub pawn_is_seen : (has_kind (with_man empty a2 white_pawn) Pawn ≡ true) × (has_kind (with_man empty a2 white_pawn) King ≡ false)
 unfolding has_kind shows some_square squares
-pawn_is_seen = refl
+pawn_is_seen = (refl, refl)
 
-pub pawn_is_astray : some_square (is_stray_pawn (with_man empty a1 white_pawn)) ≡ true
+pub pawn_is_astray : (some_square (is_stray_pawn (with_man empty a1 white_pawn)) ≡ true)
+    × (some_square (is_stray_pawn (with_man empty a2 white_pawn)) ≡ false)
 unfolding is_stray_pawn some_square squares
-pawn_is_astray = refl
+pawn_is_astray = (refl, refl)
 
--- of two kings the first is found, and the second seen
+-- of two kings the first is found, and the second seen, which one king isn't
 pub first_king_is_found : king_square two_kings White ≡ Some a1
 unfolding king_square squares
 first_king_is_found = refl
 
-pub second_king_is_seen : some_square (is_second_king two_kings White) ≡ true
+pub second_king_is_seen : (some_square (is_second_king two_kings White) ≡ true)
+    × (some_square (is_second_king (with_man empty a1 white_king) White) ≡ false)
 unfolding is_second_king is_other_king some_square squares
-second_king_is_seen = refl
+second_king_is_seen = (refl, refl)

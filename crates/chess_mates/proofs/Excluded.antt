@@ -42,8 +42,9 @@ reborn_hurdle = position (on White King a1 ∷ on White Grasshopper a8 ∷ on Wh
 
 reborn_knight_checks : (legal circe reborn_hurdle (go d1 d3) ≡ true)
     × (in_check circe (after circe reborn_hurdle (go d1 d3)).men Black ≡ true)
+    × (in_check orthodox (after orthodox reborn_hurdle (go d1 d3)).men Black ≡ false)
 unfolding legal check_after_a_move
-reborn_knight_checks = (refl, refl)
+reborn_knight_checks = (refl, refl, refl)
 
 -- so the squares to which the rook must go to give check hold d3, from which it gives none
 pub captures_with_rebirth_may_give_check : (w : ℕ) → AreCheckTargets circe reborn_hurdle d1 w → (bit_at w d3 == 1) ≡ true

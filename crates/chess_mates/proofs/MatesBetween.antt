@@ -54,7 +54,7 @@ pub mating_origins : (rule : RuleSet) (p : Position) (w : ℕ) → AreCheckOrigi
 mating_origins rule p w h = grind (arith, no_mate_quietly)
 
 -- for the walk over mates up to an end
-pub ruleset until_mates = (legal_of_mate, mates_between-none, mates_between-past, until-mateless)
+pub ruleset until_mates = (legal_of_mate, mates_between-none, mates_between-past, place_of_triple, until-mateless)
 
 -- for the next mate
 pub ruleset next_mates = (legal_of_mate, mates_behind-end, mates_behind-none, mates_numbered, next_mate_numbered, place_of_triple)

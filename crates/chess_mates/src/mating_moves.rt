@@ -6,7 +6,7 @@ ghost use Rattle.chess_rules.specs.Attacks.{in_check};
 ghost use Rattle.chess_mates.specs.ties.CheckSquares.{AreCheckSquares};
 ghost use Rattle.chess_rules.specs.Legal.{is_goal, legal, pseudo};
 ghost use Rattle.chess_mates.specs.ties.Mates.{IsMatingPlaceIn, IsNextMate, mates, mates_behind, mates_between};
-ghost use Rattle.chess_rules.specs.ties.Places.{HaveNone, place_of, triple_at};
+ghost use Rattle.chess_rules.specs.ties.Places.{HaveNone, place_of, place_onto, triple_at};
 ghost use Rattle.chess_rules.specs.Play.{after};
 ghost use Rattle.chess_rules.specs.ties.Targets.{AreCandidates, AreKept, AreOrigins, IsAimed};
 
@@ -111,11 +111,16 @@ impl<R: Rules> MatingMoves<R> {
     }
 
     /// The first legal move behind the place that mates and doesn't lie behind `end`, on which the place
-    /// then stands. The board is unchanged. The place must be one in the board's position.
+    /// then stands. Where there is none: `None`, and the place stays. The board is unchanged. The place
+    /// must be one in the board's position.
     #[tactic(auto, using(crate::proofs::MatesBetween::until_mates))]
     pub fn next_until(&mut self, end: Moves<R>, board: &mut Board) -> Option<Move>
         requires well_formed { IsWellFormed board.old }
         requires place { IsMatingPlaceIn R.rule board.old self.old }
+        ensures place { self.new ≡ record self.old {
+          place = place_onto result self.old.place;
+          kept = self.new.kept;
+        } }
         ensures within { IsMatingPlaceIn R.rule board.old self.new }
         ensures rest { MatchOption result (mates_between R.rule board.old self.old.place end ≡ [])
             (λ m. mates_between R.rule board.old self.old.place end
@@ -138,9 +143,10 @@ impl<R: Rules> MatingMoves<R> {
 }
 
 /// The first legal move behind the place that mates, on which the place then stands. Where there is
-/// none: `None`. The board is unchanged.
+/// none: `None`, and the place stands behind all triples. The board is unchanged.
 pub fn next_mate<R: Rules>(place: &mut Moves<R>, board: &mut Board) -> Option<Move>
     requires { IsWellFormed board.old }
+    ensures place { place.new ≡ place_of result }
     ensures rest { MatchOption result (mates_behind R.rule board.old place.old ≡ [])
         (λ m. mates_behind R.rule board.old place.old
         ≡ m ∷ mates_behind R.rule board.old place.new) }

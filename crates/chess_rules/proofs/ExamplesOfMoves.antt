@@ -40,24 +40,26 @@ abbrev guarded : Position
 guarded = record (position (on White King e1 ∷ on White Rook h1 ∷ on White Rook e8 ∷ on White Rook g8 ∷ on Black King f3 ∷ on Black Grasshopper d1 ∷ [])
     White) { unmoved = with_unmoved (with_unmoved none_unmoved e1) h1 }
 
--- so castling isn't legal, and Rh1-f1 isn't mate, since the grasshopper captures there
+-- so castling isn't legal, and Rh1-f1, which mates without it, doesn't, since the grasshopper captures there
 grasshopper_forbids_castling : (legal orthodox guarded (go e1 g1) ≡ false) × (is_goal orthodox (after orthodox guarded (go h1 f1)) ≡ false)
+    × (is_goal orthodox (after orthodox castling (go h1 f1)) ≡ true)
 unfolding reaches reaches_as rides hops leaps is_clear along squares some_square king_square faces_its_like faces strikes paralysed attacked in_check after
     after_by unmoved_after moved_men capture_square reborn_square rebirth castles may_castle pseudo legal none_unmoved has_unmoved mark_unmoved moves triples
     is_goal
-grasshopper_forbids_castling = (refl, refl)
+grasshopper_forbids_castling = (refl, refl, refl)
 
 -- White Kg6 Ba1 Bb3 Pe5, Black Kh8 Pd5, whose pawn has just passed d6
 abbrev passing : Position
 passing = record (position (on White King g6 ∷ on White Bishop a1 ∷ on White Bishop b3 ∷ on White Pawn e5 ∷ on Black King h8 ∷ on Black Pawn d5 ∷ [])
     White) { crossed = Some d6 }
 
--- the capture en passant takes the pawn off d5 and mates
-en_passant_mates : (man_on (after orthodox passing (go e5 d6)).men d5 ≡ None) × (is_goal orthodox (after orthodox passing (go e5 d6)) ≡ true)
+-- the capture en passant is legal, takes the pawn off d5 and mates
+en_passant_mates : (legal orthodox passing (go e5 d6) ≡ true) × (man_on (after orthodox passing (go e5 d6)).men d5 ≡ None)
+    × (is_goal orthodox (after orthodox passing (go e5 d6)) ≡ true)
 unfolding reaches reaches_as rides hops leaps is_clear along squares some_square king_square faces_its_like faces strikes paralysed attacked in_check after
     after_by unmoved_after moved_men capture_square reborn_square rebirth castles may_castle pseudo legal none_unmoved has_unmoved mark_unmoved moves triples
     is_goal
-en_passant_mates = (refl, refl)
+en_passant_mates = (refl, refl, refl)
 
 -- in Circe the pawn is reborn on d7
 en_passant_in_circe : man_on (after circe passing (go e5 d6)).men d7 ≡ Some (man Black Pawn)
@@ -116,12 +118,13 @@ abbrev promotion : Position
 promotion = record (position (on White King f2 ∷ on White Pawn e7 ∷ on Black King h2 ∷ on Black Bishop h1 ∷ on Black Pawn h3 ∷ on Black Nightrider a8 ∷ [])
     White) { nightriders = true }
 
--- promotion to a nightrider mates
-nightrider_mates : is_goal orthodox (after orthodox promotion (promoting e7 e8 Nightrider)) ≡ true
+-- promotion to a nightrider is legal and mates
+nightrider_mates : (legal orthodox promotion (promoting e7 e8 Nightrider) ≡ true)
+    × (is_goal orthodox (after orthodox promotion (promoting e7 e8 Nightrider)) ≡ true)
 unfolding reaches reaches_as rides hops leaps is_clear along squares some_square king_square faces_its_like faces strikes paralysed attacked in_check after
     after_by unmoved_after moved_men capture_square reborn_square rebirth castles may_castle pseudo legal none_unmoved has_unmoved mark_unmoved moves triples
     is_goal
-nightrider_mates = refl
+nightrider_mates = (refl, refl)
 
 -- without one in the diagram there is no such promotion, and a king there is never
 no_nightrider_without_one : (legal orthodox (record promotion { nightriders = false }) (promoting e7 e8 Nightrider) ≡ false)
@@ -135,9 +138,10 @@ no_nightrider_without_one = (refl, refl)
 abbrev like_rooks : Position
 like_rooks = position (on White King g6 ∷ on White Rook a1 ∷ on Black King g8 ∷ on Black Rook h1 ∷ []) White
 
--- the rook mates on a8 in orthodox chess, and may not go there in Madrasi
-paralysed_rook_stays : (is_goal orthodox (after orthodox like_rooks (go a1 a8)) ≡ true) × (legal madrasi like_rooks (go a1 a8) ≡ false)
+-- the rook may go to a8 in orthodox chess and mates there, and may not in Madrasi
+paralysed_rook_stays : (legal orthodox like_rooks (go a1 a8) ≡ true) × (is_goal orthodox (after orthodox like_rooks (go a1 a8)) ≡ true)
+    × (legal madrasi like_rooks (go a1 a8) ≡ false)
 unfolding reaches reaches_as rides hops leaps is_clear along squares some_square king_square faces_its_like faces strikes paralysed attacked in_check after
     after_by unmoved_after moved_men capture_square reborn_square rebirth castles may_castle pseudo legal none_unmoved has_unmoved mark_unmoved moves triples
     is_goal
-paralysed_rook_stays = (refl, refl)
+paralysed_rook_stays = (refl, refl, refl)

@@ -10,7 +10,7 @@ use Rattle.chess_rules.specs.Attacks.{attacked, faces, faces_its_like, in_check,
 use Rattle.chess_rules.specs.Reaches.{hops, is_clear, leaps, reaches, reaches_as, rides}
 use Rattle.chess_rules.specs.RuleSet.{madrasi, orthodox}
 use Rattle.chess_rules.proofs.Typed.{man, on, set_up}
-use Rattle.chess_core.specs.SquareNames.{a1, e1, f1, a3, d3, a4, e4, a5, d5, e5, a6, d7, b8}
+use Rattle.chess_core.specs.SquareNames.{a1, e1, f1, a3, b3, a4, a5, e5, a6, f6, d7, e7, f7, g7, b8}
 
 -- White rook a1 and grasshopper a4, Black king e1
 abbrev three : List (Option Man)
@@ -26,16 +26,17 @@ grasshopper_hops : (reaches three a4 a6 ≡ false) × (reaches (with_man three a
 unfolding reaches reaches_as rides hops leaps is_clear along
 grasshopper_hops = (refl, refl)
 
--- a nightrider rides from a1 over b3 and c5 to d7
-nightrider_rides : reaches (with_man three a1 (man White Nightrider)) a1 d7 ≡ true
+-- a nightrider rides from a1 over b3 and c5 to d7, and not over a man on b3
+nightrider_rides : (reaches (set_up (on White Nightrider a1 ∷ [])) a1 d7 ≡ true)
+    × (reaches (set_up (on White Nightrider a1 ∷ on Black Pawn b3 ∷ [])) a1 d7 ≡ false)
 unfolding reaches reaches_as rides hops leaps is_clear along
-nightrider_rides = refl
+nightrider_rides = (refl, refl)
 
--- a white pawn on e4 reaches d5 and f5, and neither e5 nor d3
-pawn_captures_forward : (reaches (set_up (on White Pawn e4 ∷ [])) e4 d5 ≡ true) × (reaches (set_up (on White Pawn e4 ∷ [])) e4 e5 ≡ false)
-    × (reaches (set_up (on White Pawn e4 ∷ [])) e4 d3 ≡ false)
+-- a white pawn on f6 reaches e7 and g7, and neither f7 nor e5
+pawn_captures_forward : (reaches (set_up (on White Pawn f6 ∷ [])) f6 e7 ≡ true) × (reaches (set_up (on White Pawn f6 ∷ [])) f6 g7 ≡ true)
+    × (reaches (set_up (on White Pawn f6 ∷ [])) f6 f7 ≡ false) × (reaches (set_up (on White Pawn f6 ∷ [])) f6 e5 ≡ false)
 unfolding reaches reaches_as rides hops leaps is_clear along
-pawn_captures_forward = (refl, refl, refl)
+pawn_captures_forward = (refl, refl, refl, refl)
 
 -- the rook gives check to the king; in Madrasi too where a black rook on b8 is far from it
 rook_checks : (in_check orthodox three Black ≡ true) × (in_check madrasi (with_man three b8 (man Black Rook)) Black ≡ true)

@@ -6,7 +6,7 @@ use Rattle.std.specs.List.{range_with_len}
 use Rattle.chess_rules.specs.ties.Places.{IsBarrenFrom, moves_between, promotion_at, triple_at}
 use Rattle.std.proofs.lemmas.Bool.{agree_below_at, and_from, cases_lt, true_from_ne_false, true≢false, false≢true}
 use Rattle.chess_core.specs.Castling.{none_unmoved, has_unmoved, mark_unmoved, with_unmoved}
-use Rattle.chess_core.specs.Position.{Position, is_man, is_side, king_square, man_on, may_promote}
+use Rattle.chess_core.specs.Position.{Position, is_man, is_side, king_square, man_on, may_promote, without_man}
 use Rattle.chess_core.specs.Squares.{squares, some_square}
 use Rattle.chess_core.specs.Steps.{along, step_by, straight_steps}
 use Rattle.chess_core.specs.declared.man.Colour.TheVariants.{White, Black}
@@ -148,11 +148,13 @@ crossing_a_line =
           (with_unmoved none_unmoved e1) h1;
     }
 
+-- he doesn't castle, and would without that rook
 pub no_castling_through_an_attack : (may_go crossing_a_line (man White King) e1 g1 ≡ true)
     × (castles orthodox crossing_a_line (man White King) (go e1 g1) ≡ false)
     × (goes orthodox crossing_a_line (man White King) (go e1 g1) ≡ false)
+    × (castles orthodox (record crossing_a_line { men = without_man crossing_a_line.men f8 }) (man White King) (go e1 g1) ≡ true)
 unfolding may_go steps_to check_after_a_move
-no_castling_through_an_attack = (refl, refl, refl)
+no_castling_through_an_attack = (refl, refl, refl, refl)
 
 -- a pawn goes two squares from its second rank alone, and to no square that is taken, nor over one
 pub pawn_steps_over_empty_squares : (pawn_goes (position [] White) (man White Pawn) a2 a4 ≡ true)
@@ -178,24 +180,36 @@ pub grasshopper_stands_behind_its_hurdle : (hopped_from (set_up (on Black Pawn a
 unfolding hopped_from rides_on along
 grasshopper_stands_behind_its_hurdle = (refl, refl)
 
--- a grasshopper on the board
-pub grasshopper_is_seen : has_fairy (set_up (on Black Grasshopper a1 ∷ [])) Black ≡ true
+-- Black's grasshopper is a fairy man of his, of White's none; a rook is none
+pub grasshopper_is_seen : (has_fairy (set_up (on Black Grasshopper a1 ∷ [])) Black ≡ true)
+    × (has_fairy (set_up (on Black Grasshopper a1 ∷ [])) White ≡ false) × (has_fairy (set_up (on Black Rook a1 ∷ [])) Black ≡ false)
 unfolding has_fairy squares some_square
-grasshopper_is_seen = refl
+grasshopper_is_seen = (refl, refl, refl)
 
--- Black men other than fairy men: there is none
-abbrev orthodox_enemy : ℕ → Bool
-orthodox_enemy s =
-    is_side (man_on (set_up (on Black Grasshopper a1 ∷ [])) s) Black && not (is_fairy_man (man_on (set_up (on Black Grasshopper a1 ∷ [])) s))
+-- White Ka1 Pa2, Black Kh8 Ga8, which gives check over a2: a move to b1 would meet no check of a rook there
+abbrev grasshopper_check : List (Option Man)
+grasshopper_check = set_up (on White King a1 ∷ on White Pawn a2 ∷ on Black King h8 ∷ on Black Grasshopper a8 ∷ [])
+
+pub grasshopper_checks : (in_check orthodox grasshopper_check White ≡ true) × (is_evasion grasshopper_check White a1 a8 b1 ≡ false)
+unfolding check_after_a_move
+grasshopper_checks = (refl, refl)
+
+-- a Black man other than a fairy man gives check: there is none
+abbrev orthodox_checker : ℕ → Bool
+orthodox_checker s =
+    (is_side (man_on grasshopper_check s) Black && reaches grasshopper_check s a1) && not (is_fairy_man (man_on grasshopper_check s))
 
 -- so a grasshopper's check may be met everywhere
-pub any_square_may_meet_a_fairy_check : (w t : ℕ) → t < 64 → AreEvasions orthodox (set_up (on Black Grasshopper a1 ∷ [])) White w → (bit_at w t == 1) ≡ true
+pub any_square_may_meet_a_fairy_check : (w t : ℕ) → t < 64 → AreEvasions orthodox grasshopper_check White w → (bit_at w t == 1) ≡ true
+unfolding check_after_a_move
 any_square_may_meet_a_fairy_check w t small are = true_from_ne_false _ (λ e.
-    let men = set_up (on Black Grasshopper a1 ∷ []) in
     let u = are.elsewhere t small e in
-    let enemy = side_there (man_on men u.checker) Black u.enemy in
-    let inside : u.checker < 64 = on_board men u.checker enemy.0 refl enemy.1.0 in
-    false≢true (sym (agree_below_at orthodox_enemy (λ _. false) 64 u.checker refl inside) ∙ and_from _ _ u.enemy (ap not u.plain)))
+    let enemy = side_there (man_on grasshopper_check u.checker) Black u.enemy in
+    let inside : u.checker < 64 = on_board grasshopper_check u.checker enemy.0 refl enemy.1.0 in
+    let here : Some a1 ≡ Some u.king = u.here in
+    let king : u.king ≡ a1 = cc in
+    false≢true (sym (agree_below_at orthodox_checker (λ _. false) 64 u.checker refl inside)
+    ∙ and_from _ _ (and_from _ _ u.enemy (rw king at u.check)) (ap not u.plain)))
 
 -- an enemy on s gives check to the king on a1, and a man that goes to t doesn't meet it
 abbrev unmet : ℕ → ℕ → Bool
@@ -226,11 +240,12 @@ pub attacked_square_is_no_flight : word (λ s. is_side (man_on (set_up (on Black
 unfolding word word_of squares reaches reaches_as rides hops leaps is_clear along
 attacked_square_is_no_flight = refl
 
--- after a capture en passant from e5 to d6 neither e5 nor d5 shuts a line, and the captured pawn attacks nothing
+-- after a capture en passant from e5 to d6 neither e5 nor d5 shuts a line, and d6 does; the captured pawn attacks nothing, and a man on b3 may
 pub captured_man_is_gone : (bit_at (sight_after opening_capture.men e5 (Some d5) d6).occupied e5 ≡ 0)
-    × (bit_at (sight_after opening_capture.men e5 (Some d5) d6).occupied d5 ≡ 0) × (bit_at (sight_after opening_capture.men e5 (Some d5) d6).standing d5 ≡ 0)
+    × (bit_at (sight_after opening_capture.men e5 (Some d5) d6).occupied d5 ≡ 0) × (bit_at (sight_after opening_capture.men e5 (Some d5) d6).occupied d6 ≡ 1)
+    × (bit_at (sight_after opening_capture.men e5 (Some d5) d6).standing d5 ≡ 0) × (bit_at (sight_after opening_capture.men e5 (Some d5) d6).standing b3 ≡ 1)
 unfolding word word_of squares
-captured_man_is_gone = (refl, refl, refl)
+captured_man_is_gone = (refl, refl, refl, refl, refl)
 
 -- rooks on a1 and h1 paralyse each other: in Madrasi neither attacks d1
 pub paralysed_man_attacks_nothing : (attacked orthodox (set_up (on White Rook a1 ∷ on Black Rook h1 ∷ [])) d1 Black ≡ true)
@@ -258,11 +273,14 @@ pub kings_are_never_paralysed : (faces_its_like (after madrasi king_faces_king (
 unfolding check_after_a_move
 kings_are_never_paralysed = (refl, refl, refl)
 
--- but queens are: White Kh1 Qd1, Black Kb8 Qh3, and the queen goes to d3
-pub queens_are_paralysed : in_check madrasi
-    (after madrasi (position (on White King h1 ∷ on White Queen d1 ∷ on Black King b8 ∷ on Black Queen h3 ∷ []) White) (go d1 d3)).men White ≡ false
+-- but queens are: White Kh1 Qd1, Black Kb8 Qh3, which gives check, and the queen goes to d3
+abbrev queen_faces_queen : Position
+queen_faces_queen = position (on White King h1 ∷ on White Queen d1 ∷ on Black King b8 ∷ on Black Queen h3 ∷ []) White
+
+pub queens_are_paralysed : (in_check madrasi queen_faces_queen.men White ≡ true)
+    × (in_check madrasi (after madrasi queen_faces_queen (go d1 d3)).men White ≡ false)
 unfolding check_after_a_move
-queens_are_paralysed = refl
+queens_are_paralysed = (refl, refl)
 
 -- what the examples of shields compute with beside it
 lines_to_a_king : Unit {0}

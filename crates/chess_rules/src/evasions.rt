@@ -1,5 +1,5 @@
 //! The moves that answer a check.
-ghost use Rattle.std.specs.Prelude.{◌≡◌, ◌==◌, is_some, not, true};
+ghost use Rattle.std.specs.Prelude.{◌≡◌, ◌==◌, if◌then◌else◌, is_some, not, true};
 ghost use Rattle.chess_core.specs.Position.{man_on, other};
 ghost use Rattle.chess_core.specs.WellFormed.{IsWellFormed};
 ghost use Rattle.chess_core.specs.ties.Words.{word};
@@ -77,9 +77,10 @@ fn leaves_check<R: Rules>(board: &Board, evasion_squares: u64, m: &Move) -> bool
     }
 }
 
-/// The squares on which a man may be captured and reborn.
+/// The squares on which a man may be captured and reborn: in Circe all that are occupied, else none.
 pub fn rebirth_captures<R: Rules>(board: &Board) -> u64
-    ensures { is_circe R.rule ≡ true → result ≡ word (λ s. is_some (man_on board.now.men s)) }
+    ensures { result ≡ (if is_circe R.rule then word (λ s. is_some (man_on board.now.men s))
+        else 0) }
 {
     if R::is_circe() { occupied(board) } else { 0 }
 }

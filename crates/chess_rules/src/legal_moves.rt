@@ -5,7 +5,7 @@ ghost use Rattle.chess_core.specs.ties.Words.{word};
 ghost use Rattle.chess_rules.specs.ties.Evasions.{AreEvasions};
 ghost use Rattle.chess_rules.specs.ties.Shields.{may_expose};
 ghost use Rattle.chess_rules.specs.Legal.{legal};
-ghost use Rattle.chess_rules.specs.ties.Places.{HaveNone, IsPlaceIn, first_behind, moves_behind, moves_between, place_of, triple_at};
+ghost use Rattle.chess_rules.specs.ties.Places.{HaveNone, IsPlaceIn, first_behind, moves_behind, moves_between, place_of, place_onto, triple_at};
 ghost use Rattle.chess_rules.specs.ties.Targets.{AreCandidates, AreKept, AreOrigins, IsAimed};
 
 use crate::evasions::{evasion_squares, evasions_from};
@@ -123,10 +123,16 @@ impl<R: Rules> LegalMoves<R> {
     }
 
     /// The first legal move behind the place that doesn't lie behind `end`, on which the place then
-    /// stands. The board is unchanged. The place must be one in the board's position.
+    /// stands. Where there is none: `None`, and the place stays. The board is unchanged. The place must
+    /// be one in the board's position.
+    #[tactic(auto, using(crate::proofs::listing_moves::Places::place_of_triple))]
     pub fn next_until(&mut self, end: Moves<R>, board: &mut Board) -> Option<Move>
         requires well_formed { IsWellFormed board.old }
         requires place { IsPlaceIn R.rule board.old self.old }
+        ensures place { self.new ≡ record self.old {
+          place = place_onto result self.old.place;
+          kept = self.new.kept;
+        } }
         ensures within { IsPlaceIn R.rule board.old self.new }
         ensures rest { MatchOption result (moves_between R.rule board.old self.old.place end ≡ [])
             (λ m. moves_between R.rule board.old self.old.place end

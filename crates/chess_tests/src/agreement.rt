@@ -5,8 +5,9 @@ ghost use Rattle.chess_core.specs.WellFormed.{IsWellFormed};
 
 use crate::compared::first_unlike;
 use crate::plain::Rule;
+use crate::setup::posed;
 use chess_core::{Board, Diagram};
-use chess_rules::{Moves, Rules};
+use chess_rules::{Circe, Madrasi, Moves, Orthodox, Rules};
 
 // What a walk met.
 #[derive(Clone, Copy)]
@@ -17,12 +18,21 @@ pub(crate) struct Tally {
     pub(crate) unlike: u64,
 }
 
-// Compares a diagram, and all positions less than so many moves from it.
-pub(crate) fn compare<R: Rules>(diagram: &Diagram, rule: Rule, length: u32) -> Tally
+fn compare_under<R: Rules>(diagram: &Diagram, rule: Rule, length: u32) -> Tally
     requires { IsWellFormed (position_of diagram.now) }
 {
     let mut board = Board::of(diagram);
     compare_on::<R>(&mut board, rule, length)
+}
+
+// Compares a position, and all less than so many moves from it.
+pub(crate) fn compare(rule: Rule, position: &str, length: u32) -> Option<Tally> {
+    let diagram = posed(position)?;
+    Some(match rule {
+        Rule::Orthodox => compare_under::<Orthodox>(&diagram, rule, length),
+        Rule::Circe => compare_under::<Circe>(&diagram, rule, length),
+        Rule::Madrasi => compare_under::<Madrasi>(&diagram, rule, length),
+    })
 }
 
 // Compares this position, and all less than so many moves from it.

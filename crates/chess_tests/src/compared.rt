@@ -10,7 +10,7 @@ use chess_mates::{MatingMoves, next_mate};
 use chess_rules::{LegalMoves, Moves, Rules, has_legal_move, in_check, is_mate};
 
 // What is asked of a position.
-#[derive(Clone, Copy, PartialEq, Eq, Debug)]
+#[derive(Clone, Copy, Debug)]
 pub(crate) enum Question {
     Moves,
     LegalMoves,
@@ -27,7 +27,7 @@ pub(crate) enum Question {
 }
 
 // A legal move by the plain rules, and whether it mates.
-#[derive(Clone, Copy, PartialEq, Eq, Default)]
+#[derive(Clone, Copy, Default)]
 struct Choice {
     by: Move,
     mates: bool,
@@ -75,14 +75,14 @@ fn unlike_of_men<R: Rules>(board: &Board, plain: &Plain, rule: Rule) -> Option<Q
         if R::paralysed(board, square) != plain.is_paralysed(rule, square) {
             return Some(Question::Paralysis);
         }
-        for colour in [Colour::White, Colour::Black] {
-            if R::attacked(board, square, colour) != plain.is_attacked(rule, square, colour) {
+        for colour in &[Colour::White, Colour::Black] {
+            if R::attacked(board, square, *colour) != plain.is_attacked(rule, square, *colour) {
                 return Some(Question::Attack);
             }
         }
     }
-    for colour in [Colour::White, Colour::Black] {
-        if in_check::<R>(board, colour) != plain.is_in_check(rule, colour) {
+    for colour in &[Colour::White, Colour::Black] {
+        if in_check::<R>(board, *colour) != plain.is_in_check(rule, *colour) {
             return Some(Question::Check);
         }
     }
@@ -104,18 +104,18 @@ fn unlike_of_moves<R: Rules>(board: &mut Board, choices: &Choices) -> Option<Que
         return Some(Question::MatingMoves);
     }
     let third = choices.len() / 3;
-    for (passed, last) in [
+    for (passed, last) in &[
         (0, third),
         (third, choices.len() - third),
         (choices.len() - third, choices.len() + 1),
     ] {
-        if !gives_until::<R>(board, choices, passed, last) {
+        if !gives_until::<R>(board, choices, *passed, *last) {
             return Some(Question::MovesUntil);
         }
-        if !gives_mates::<R>(board, choices, passed) {
+        if !gives_mates::<R>(board, choices, *passed) {
             return Some(Question::NextMate);
         }
-        if !gives_mates_until::<R>(board, choices, passed, last) {
+        if !gives_mates_until::<R>(board, choices, *passed, *last) {
             return Some(Question::MatesUntil);
         }
     }
@@ -257,8 +257,8 @@ fn unlike_after<R: Rules>(board: &mut Board, plain: &Plain, rule: Rule) -> Optio
     if !shows(board, plain) {
         return Some(Question::Play);
     }
-    for colour in [Colour::White, Colour::Black] {
-        if in_check::<R>(board, colour) != plain.is_in_check(rule, colour) {
+    for colour in &[Colour::White, Colour::Black] {
+        if in_check::<R>(board, *colour) != plain.is_in_check(rule, *colour) {
             return Some(Question::Check);
         }
     }

@@ -3,12 +3,14 @@ ghost use Rattle.std.specs.Prelude.{◌≡◌};
 ghost use Rattle.chess_core.specs.Diagrams.{position_of};
 ghost use Rattle.chess_core.specs.WellFormed.{IsWellFormed};
 
+use crate::plain::Rule;
 use crate::probe::is_same;
+use crate::setup::posed;
 use chess_core::{Board, Diagram};
-use chess_rules::{Moves, Rules};
+use chess_rules::{Circe, Madrasi, Moves, Orthodox, Rules};
 
 // What a walk along all lines of moves met.
-#[derive(Clone, Copy, PartialEq, Eq, Debug)]
+#[derive(Clone, Copy)]
 pub(crate) struct Walk {
     // The lines of full length.
     pub(crate) lines: u64,
@@ -16,12 +18,21 @@ pub(crate) struct Walk {
     pub(crate) changed: u64,
 }
 
-// Walks along all lines of so many legal moves from a diagram.
-pub(crate) fn walk_lines<R: Rules>(diagram: &Diagram, length: u32) -> Walk
+fn walk_under<R: Rules>(diagram: &Diagram, length: u32) -> Walk
     requires { IsWellFormed (position_of diagram.now) }
 {
     let mut board = Board::of(diagram);
     walk_on::<R>(&mut board, length)
+}
+
+// Walks along all lines of so many legal moves from a position.
+pub(crate) fn walk_lines(rule: Rule, position: &str, length: u32) -> Option<Walk> {
+    let diagram = posed(position)?;
+    Some(match rule {
+        Rule::Orthodox => walk_under::<Orthodox>(&diagram, length),
+        Rule::Circe => walk_under::<Circe>(&diagram, length),
+        Rule::Madrasi => walk_under::<Madrasi>(&diagram, length),
+    })
 }
 
 // Walks along all lines of so many legal moves from here.

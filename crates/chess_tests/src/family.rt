@@ -10,7 +10,7 @@ use crate::draw::Draw;
 use chess_core::Diagram;
 
 // What a family of positions is made for.
-#[derive(Clone, Copy, PartialEq, Eq, Debug)]
+#[derive(Clone, Copy)]
 pub(crate) enum Family {
     // Men of the side to move between its king and a rider.
     Pins,

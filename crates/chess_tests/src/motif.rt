@@ -1,11 +1,10 @@
 //! What a move shows: so that a family of positions is known to hold what it is made for. All is told by
 //! the plain rules.
-use crate::plain::{LINES, Plain, Rule, next};
-use arrayvec::ArrayVec;
+use crate::plain::{LINES, Plain, Rule, bit, next};
 use chess_core::{Colour, Kind, Man, Move, Square};
 
 // What a move may show.
-#[derive(Clone, Copy, PartialEq, Eq, Debug)]
+#[derive(Clone, Copy)]
 pub(crate) enum Motif {
     // A man of this kind may not go, since its king, not in check yet, would then be.
     Exposes(Kind),
@@ -115,9 +114,6 @@ pub(crate) enum Motif {
     ParalysisSaves,
 }
 
-// Squares of men.
-type Squares = ArrayVec<Square, 64>;
-
 // A move that may be made, but for check to the mover, or a castling that only attack or paralysis forbids.
 #[derive(Drop)]
 pub(crate) struct Case<'a> {
@@ -128,27 +124,33 @@ pub(crate) struct Case<'a> {
     after: Plain,
     legal: bool,
     was_in_check: bool,
-    // The enemies that attack the mover's king after the move.
-    exposing: Squares,
-    // The men of the mover that attack the other king after it.
-    checkers: Squares,
+    // A bit for each enemy that attacks the mover's king after the move.
+    exposing: u64,
+    // For each man of the mover that attacks the other king after it.
+    checkers: u64,
+    // For each man that stood there before.
+    stood: u64,
 }
 
-// The men that attack the colour's king.
-fn checkers(plain: &Plain, rule: Rule, colour: Colour) -> Squares {
-    let mut squares = ArrayVec::new();
+// A bit for each man that attacks the colour's king.
+fn checkers(plain: &Plain, rule: Rule, colour: Colour) -> u64 {
+    let mut squares = 0u64;
     for king in 0..64u8 {
         let king = Square::numbered(king);
         if plain.has(king, colour, Kind::King) {
-            for number in 0..64u8 {
-                let square = Square::numbered(number);
-                let attacks = plain.man(square).is_some_and(|man| man.colour != colour)
-                    && plain.reaches(square, king)
-                    && !plain.is_paralysed(rule, square);
-                if attacks {
-                    let _fits = squares.try_push(square);
-                }
-            }
+            squares |= plain.attackers(rule, king, colour.other());
+        }
+    }
+    squares
+}
+
+// For each man that stood there before the move as well.
+fn stood(before: &Plain, after: &Plain, m: Move) -> u64 {
+    let mut squares = 0u64;
+    for number in 0..64u8 {
+        let square = Square::numbered(number);
+        if square != m.to && before.man(square) == after.man(square) {
+            squares |= bit(square);
         }
     }
     squares
@@ -177,16 +179,18 @@ impl<'a> Case<'a> {
             was_in_check: before.is_in_check(rule, man.colour),
             exposing: checkers(&after, rule, man.colour),
             checkers: checkers(&after, rule, man.colour.other()),
+            stood: stood(before, &after, m),
         }
     }
 
     pub(crate) fn shows(&self, motif: Motif) -> bool {
         match motif {
             Motif::Exposes(kind) => self.exposes() && self.man.kind == kind,
-            Motif::ExposedTo(kind) => self.exposes() && self.has_kind(&self.exposing, kind),
+            Motif::ExposedTo(kind) => self.exposes()
+                && self.exposing & self.after.of_kind(kind) != 0,
             Motif::Uncovers(kind) => self.man.kind == kind && self.uncovers(),
             Motif::UncoveredBy(kind) => self.is_uncovered_by(kind),
-            Motif::DoubleCheck => self.legal && self.checkers.len() > 1,
+            Motif::DoubleCheck => self.legal && self.checkers.count_ones() > 1,
             Motif::InDoubleCheck => self.is_in_double_check(),
             Motif::Mates => self.mates(),
             Motif::Parries(kind) => self.parries() && self.man.kind == kind,
@@ -225,7 +229,7 @@ impl<'a> Case<'a> {
             Motif::EnPassantUncovers => self.is_en_passant() && self.uncovers(),
             Motif::Castles => self.castling().is_some() && self.legal,
             Motif::CastlingChecks => {
-                self.castling().is_some() && self.legal && !self.checkers.is_empty()
+                self.castling().is_some() && self.legal && self.checkers != 0
             }
             Motif::CastlingFromCheck => self.castling().is_some() && self.was_in_check,
             Motif::CastlingAcross => self.castles_across(),
@@ -237,12 +241,12 @@ impl<'a> Case<'a> {
 
     fn shows_fairy(&self, motif: Motif) -> bool {
         match motif {
-            Motif::HurdleArrives => self.legal && self.gets_hurdle(&self.checkers, true),
-            Motif::HurdleLeaves => self.legal && self.gets_hurdle(&self.checkers, false),
-            Motif::OwnHurdleArrives => self.exposes() && self.gets_hurdle(&self.exposing, true),
-            Motif::OwnHurdleLeaves => self.exposes() && self.gets_hurdle(&self.exposing, false),
+            Motif::HurdleArrives => self.legal && self.gets_hurdle(self.checkers, true),
+            Motif::HurdleLeaves => self.legal && self.gets_hurdle(self.checkers, false),
+            Motif::OwnHurdleArrives => self.exposes() && self.gets_hurdle(self.exposing, true),
+            Motif::OwnHurdleLeaves => self.exposes() && self.gets_hurdle(self.exposing, false),
             Motif::RebirthExposes => {
-                !self.unborn().is_in_check(self.rule, self.man.colour) && !self.exposing.is_empty()
+                !self.unborn().is_in_check(self.rule, self.man.colour) && self.exposing != 0
             }
             Motif::RebirthSaves => {
                 self.legal && self.unborn().is_in_check(self.rule, self.man.colour)
@@ -263,8 +267,8 @@ impl<'a> Case<'a> {
             Motif::RebirthAnswers => {
                 self.legal && !self.mates() && self.unborn().is_mate(self.rule)
             }
-            Motif::FreesEnemy => self.exposes() && self.was_paralysed(&self.exposing),
-            Motif::FreesChecker => self.legal && self.was_paralysed(&self.checkers),
+            Motif::FreesEnemy => self.exposes() && self.was_paralysed(self.exposing),
+            Motif::FreesChecker => self.legal && self.was_paralysed(self.checkers),
             Motif::ParalysesChecker => self.parries() && self.paralyses_checker(),
             Motif::ParalysisMates => self.mates() && !self.after.is_mate(Rule::Orthodox),
             Motif::ParalysisSaves => {
@@ -280,7 +284,7 @@ impl<'a> Case<'a> {
 
     // Whether the move is refused for check to a king that wasn't in check.
     fn exposes(&self) -> bool {
-        !self.was_in_check && !self.exposing.is_empty()
+        !self.was_in_check && self.exposing != 0
     }
 
     fn parries(&self) -> bool {
@@ -288,16 +292,7 @@ impl<'a> Case<'a> {
     }
 
     fn mates(&self) -> bool {
-        self.legal && !self.checkers.is_empty() && self.after.is_mate(self.rule)
-    }
-
-    fn has_kind(&self, squares: &Squares, kind: Kind) -> bool {
-        squares.iter().any(|square| self.after.man(*square).is_some_and(|man| man.kind == kind))
-    }
-
-    // Whether the man on the square stood there before the move.
-    fn stood(&self, square: Square) -> bool {
-        square != self.m.to && self.before.man(square) == self.after.man(square)
+        self.legal && self.checkers != 0 && self.after.is_mate(self.rule)
     }
 
     fn gave_no_check(&self) -> bool {
@@ -305,25 +300,21 @@ impl<'a> Case<'a> {
     }
 
     fn uncovers(&self) -> bool {
-        self.legal && self.gave_no_check() && self.checkers.iter().any(|square| self.stood(*square))
+        self.legal && self.gave_no_check() && self.checkers & self.stood != 0
     }
 
     fn is_uncovered_by(&self, kind: Kind) -> bool {
-        self.legal
-            && self.gave_no_check()
-            && self.checkers.iter().any(|square| {
-                self.stood(*square) && self.after.man(*square).is_some_and(|man| man.kind == kind)
-            })
+        self.uncovers() && self.checkers & self.stood & self.after.of_kind(kind) != 0
     }
 
     fn is_in_double_check(&self) -> bool {
         self.man.kind != Kind::King
-            && checkers(self.before, self.rule, self.man.colour).len() > 1
+            && checkers(self.before, self.rule, self.man.colour).count_ones() > 1
             && !self.legal
     }
 
     fn promotes_with_check(&self, kind: Kind) -> bool {
-        self.legal && self.m.promo == Some(kind) && self.checkers.contains(&self.m.to)
+        self.legal && self.m.promo == Some(kind) && self.checkers & bit(self.m.to) != 0
     }
 
     // Whether a pawn mates, stays one and gives check itself.
@@ -331,7 +322,7 @@ impl<'a> Case<'a> {
         self.man.kind == Kind::Pawn
             && self.m.promo.is_none()
             && self.mates()
-            && self.checkers.contains(&self.m.to)
+            && self.checkers & bit(self.m.to) != 0
     }
 
     // Whether the move goes so many ranks along its file.
@@ -350,7 +341,7 @@ impl<'a> Case<'a> {
     }
 
     fn opens_flight(&self) -> bool {
-        if !self.legal || self.checkers.is_empty() || self.after.is_mate(self.rule) {
+        if !self.legal || self.checkers == 0 || self.after.is_mate(self.rule) {
             return false;
         }
         for answer in &self.after.moves_but_for_check(self.rule) {
@@ -365,63 +356,42 @@ impl<'a> Case<'a> {
         true
     }
 
-    // The squares beside the other king on which none of his men stands after the move.
-    fn refuges(&self) -> Squares {
-        let mut squares = ArrayVec::new();
+    // A bit for each square beside the other king on which none of his men stands after the move.
+    fn refuges(&self) -> u64 {
+        let mut squares = 0u64;
         let Some(king) = self.king(self.man.colour.other()) else {
             return squares;
         };
         for way in &LINES {
             if let Some(refuge) = next(king, *way) {
-                let held = self.after.man(refuge);
-                if held.is_none_or(|man| man.colour == self.man.colour) {
-                    let _fits = squares.try_push(refuge);
+                if !self.after.has_colour(refuge, self.man.colour.other()) {
+                    squares |= bit(refuge);
                 }
             }
         }
         squares
     }
 
-    // Whether the mover's men attack the square before the move.
-    fn was_attacked(&self, square: Square) -> bool {
-        self.before.is_attacked(self.rule, square, self.man.colour)
-    }
-
     fn covers_flight(&self) -> bool {
-        self.refuges()
-            .iter()
-            .any(|refuge| !self.was_attacked(*refuge))
+        self.refuges() & !self.before.attacked(self.rule, self.man.colour) != 0
     }
 
     fn bars_flight_behind(&self) -> bool {
-        self.refuges().iter().any(|refuge| !self
-            .after
-            .is_attacked(self.rule, *refuge, self.man.colour))
+        self.refuges() & !self.after.attacked(self.rule, self.man.colour) != 0
     }
 
-    // Whether a man of the mover that stood there attacks the square after the move.
-    fn is_attacked_from_behind(&self, square: Square) -> bool {
+    // Whether a man of the mover that stood there attacks a refuge that none attacked before.
+    fn unmasks_flight(&self) -> bool {
+        let refuges = self.refuges() & !self.before.attacked(self.rule, self.man.colour);
         for number in 0..64u8 {
-            let from = Square::numbered(number);
-            let own = self
-                .after
-                .man(from)
-                .is_some_and(|man| man.colour == self.man.colour);
-            if own
-                && self.stood(from)
-                && !self.after.is_paralysed(self.rule, from)
-                && self.after.reaches(from, square)
+            let square = Square::numbered(number);
+            if refuges & bit(square) != 0
+                && self.after.attackers(self.rule, square, self.man.colour) & self.stood != 0
             {
                 return true;
             }
         }
         false
-    }
-
-    fn unmasks_flight(&self) -> bool {
-        self.refuges().iter().any(|refuge| {
-            !self.was_attacked(*refuge) && self.is_attacked_from_behind(*refuge)
-        })
     }
 
     fn is_en_passant(&self) -> bool {
@@ -435,11 +405,16 @@ impl<'a> Case<'a> {
         let Some(king) = self.king(self.man.colour) else {
             return false;
         };
-        king.rank() == self.m.from.rank()
-            && self
-                .exposing
-                .iter()
-                .any(|square| square.rank() == king.rank())
+        if king.rank() != self.m.from.rank() {
+            return false;
+        }
+        for number in 0..64u8 {
+            let square = Square::numbered(number);
+            if square.rank() == king.rank() && self.exposing & bit(square) != 0 {
+                return true;
+            }
+        }
+        false
     }
 
     // The crossed square, if the move is castling.
@@ -478,22 +453,37 @@ impl<'a> Case<'a> {
     }
 
     // Whether a grasshopper that stood there attacks over the man that arrived, or not over it.
-    fn gets_hurdle(&self, attackers: &Squares, arrives: bool) -> bool {
+    fn gets_hurdle(&self, attackers: u64, arrives: bool) -> bool {
         let mut lifted = self.after;
         lifted.men[self.m.to.index() as usize] = None;
-        attackers.iter().any(|square| {
-            let Some(man) = self.after.man(*square) else {
-                return false;
-            };
-            let Some(king) = king_square(&self.after, man.colour.other()) else {
-                return false;
-            };
-            man.kind == Kind::Grasshopper
-                && self.stood(*square)
-                && king != self.m.to
-                && !self.before.reaches(*square, king)
-                && lifted.reaches(*square, king) != arrives
-        })
+        for number in 0..64u8 {
+            let square = Square::numbered(number);
+            if attackers & self.stood & bit(square) != 0 && self.hops_anew(square) {
+                if let Some(king) = self.aim(square) {
+                    if lifted.reaches(square, king) != arrives {
+                        return true;
+                    }
+                }
+            }
+        }
+        false
+    }
+
+    // The king that the man on the square may attack after the move.
+    fn aim(&self, square: Square) -> Option<Square> {
+        king_square(&self.after, self.after.man(square)?.colour.other())
+    }
+
+    // Whether a grasshopper on the square, which didn't reach the king before the move, attacks one that hasn't moved.
+    fn hops_anew(&self, square: Square) -> bool {
+        match self.aim(square) {
+            Some(king) => {
+                self.after.of_kind(Kind::Grasshopper) & bit(square) != 0
+                    && king != self.m.to
+                    && !self.before.reaches(square, king)
+            }
+            None => false,
+        }
     }
 
     // The position after the move, were no man reborn.
@@ -502,14 +492,14 @@ impl<'a> Case<'a> {
     }
 
     fn is_parried_by_rebirth(&self) -> bool {
-        self.checkers.is_empty()
+        self.checkers == 0
             && self
                 .unborn()
                 .is_in_check(self.rule, self.man.colour.other())
     }
 
     fn checks_by_rebirth(&self) -> bool {
-        !self.checkers.is_empty()
+        self.checkers != 0
             && !self
                 .unborn()
                 .is_in_check(self.rule, self.man.colour.other())
@@ -517,31 +507,44 @@ impl<'a> Case<'a> {
 
     // Whether the mover had a grasshopper before the move.
     fn had_grasshopper(&self) -> bool {
+        self.before.of_kind(Kind::Grasshopper) & self.before.of_colour(self.man.colour) != 0
+    }
+
+    // Whether one of these, who stood there, reached the king before, but was paralysed.
+    fn was_paralysed(&self, attackers: u64) -> bool {
         for number in 0..64u8 {
-            if self.before.has(Square::numbered(number), self.man.colour, Kind::Grasshopper) {
+            let square = Square::numbered(number);
+            if attackers & self.stood & bit(square) != 0
+                && self.before.is_paralysed(self.rule, square)
+                && self.reached_king(square)
+            {
                 return true;
             }
         }
         false
     }
 
-    // Whether one of these, who stood there, reached the king before, but was paralysed.
-    fn was_paralysed(&self, attackers: &Squares) -> bool {
-        attackers.iter().any(|square| {
-            let Some(man) = self.after.man(*square) else {
-                return false;
-            };
-            let Some(king) = self.king(man.colour.other()) else {
-                return false;
-            };
-            self.stood(*square)
-                && self.before.reaches(*square, king)
-                && self.before.is_paralysed(self.rule, *square)
-        })
+    // Whether the man on the square reached the other king before the move.
+    fn reached_king(&self, square: Square) -> bool {
+        let Some(man) = self.before.man(square) else {
+            return false;
+        };
+        match self.king(man.colour.other()) {
+            Some(king) => self.before.reaches(square, king),
+            None => false,
+        }
     }
 
     fn paralyses_checker(&self) -> bool {
-        checkers(self.before, self.rule, self.man.colour).iter().any(|square| self.stood(*square)
-            && self.after.is_paralysed(self.rule, *square))
+        let checkers = checkers(self.before, self.rule, self.man.colour);
+        for number in 0..64u8 {
+            let square = Square::numbered(number);
+            if checkers & self.stood & bit(square) != 0
+                && self.after.is_paralysed(self.rule, square)
+            {
+                return true;
+            }
+        }
+        false
     }
 }

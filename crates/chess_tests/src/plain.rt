@@ -70,6 +70,21 @@ pub(crate) fn next(square: Square, way: (u8, u8)) -> Option<Square> {
     )
 }
 
+// A bit for the square, a1 the lowest.
+pub(crate) fn bit(square: Square) -> u64 {
+    1u64 << square.index()
+}
+
+// Whether one step in one of these directions leads from one square to another.
+fn steps(from: Square, to: Square, ways: &[(u8, u8)]) -> bool {
+    for way in ways {
+        if next(from, *way) == Some(to) {
+            return true;
+        }
+    }
+    false
+}
+
 // How a man's number of ranks goes: up for White, down for Black.
 pub(crate) fn up(colour: Colour) -> u8 {
     match colour {
@@ -101,6 +116,38 @@ impl Plain {
 
     pub(crate) fn has(&self, square: Square, colour: Colour, kind: Kind) -> bool {
         self.man(square) == Some(Man { colour, kind })
+    }
+
+    // Whether a man of the colour stands there.
+    pub(crate) fn has_colour(&self, square: Square, colour: Colour) -> bool {
+        match self.man(square) {
+            Some(man) => man.colour == colour,
+            None => false,
+        }
+    }
+
+    // A bit for each man of the colour.
+    pub(crate) fn of_colour(&self, colour: Colour) -> u64 {
+        let mut squares = 0u64;
+        for number in 0..64u8 {
+            let square = Square::numbered(number);
+            if self.has_colour(square, colour) {
+                squares |= bit(square);
+            }
+        }
+        squares
+    }
+
+    // For each man of the kind.
+    pub(crate) fn of_kind(&self, kind: Kind) -> u64 {
+        let mut squares = 0u64;
+        for number in 0..64u8 {
+            let square = Square::numbered(number);
+            if self.has(square, Colour::White, kind) || self.has(square, Colour::Black, kind) {
+                squares |= bit(square);
+            }
+        }
+        squares
     }
 
     // Whether a rider gets from one square to another in one of these directions.
@@ -149,11 +196,11 @@ impl Plain {
             return false;
         };
         match man.kind {
-            Kind::King => LINES.iter().any(|way| next(from, *way) == Some(to)),
+            Kind::King => steps(from, to, &LINES),
             Kind::Queen => self.rides(from, to, &LINES),
             Kind::Rook => self.rides(from, to, &LINES[..4]),
             Kind::Bishop => self.rides(from, to, &LINES[4..]),
-            Kind::Knight => LEAPS.iter().any(|way| next(from, *way) == Some(to)),
+            Kind::Knight => steps(from, to, &LEAPS),
             Kind::Nightrider => self.rides(from, to, &LEAPS),
             Kind::Grasshopper => self.hops(from, to),
             Kind::Pawn => {
@@ -189,19 +236,44 @@ impl Plain {
         false
     }
 
+    // Whether the man on `from`, if it has the colour, attacks the square.
+    fn attacks(&self, rule: Rule, from: Square, square: Square, colour: Colour) -> bool {
+        self.has_colour(from, colour)
+            && self.reaches(from, square)
+            && !self.is_paralysed(rule, from)
+    }
+
     pub(crate) fn is_attacked(&self, rule: Rule, square: Square, colour: Colour) -> bool {
         for number in 0..64u8 {
-            let from = Square::numbered(number);
-            if let Some(man) = self.man(from) {
-                if man.colour == colour
-                    && self.reaches(from, square)
-                    && !self.is_paralysed(rule, from)
-                {
-                    return true;
-                }
+            if self.attacks(rule, Square::numbered(number), square, colour) {
+                return true;
             }
         }
         false
+    }
+
+    // A bit for each man of the colour that attacks the square.
+    pub(crate) fn attackers(&self, rule: Rule, square: Square, colour: Colour) -> u64 {
+        let mut squares = 0u64;
+        for number in 0..64u8 {
+            let from = Square::numbered(number);
+            if self.attacks(rule, from, square, colour) {
+                squares |= bit(from);
+            }
+        }
+        squares
+    }
+
+    // For each square that the colour's men attack.
+    pub(crate) fn attacked(&self, rule: Rule, colour: Colour) -> u64 {
+        let mut squares = 0u64;
+        for number in 0..64u8 {
+            let square = Square::numbered(number);
+            if self.is_attacked(rule, square, colour) {
+                squares |= bit(square);
+            }
+        }
+        squares
     }
 
     pub(crate) fn is_empty(&self, square: Square) -> bool {
@@ -287,7 +359,10 @@ impl Plain {
         if man.kind != Kind::Pawn || m.to.rank() != last {
             return m.promo.is_none();
         }
-        m.promo.is_some_and(|kind| self.may_promote(kind))
+        match m.promo {
+            Some(kind) => self.may_promote(kind),
+            None => false,
+        }
     }
 
     // Whether the move may be made, check to the mover apart.
@@ -356,8 +431,10 @@ impl Plain {
         for number in 0..64u8 {
             let mut moves = ArrayVec::new();
             self.add_moves_from(rule, Square::numbered(number), &mut moves);
-            if moves.iter().any(|m| self.is_legal(rule, m)) {
-                return true;
+            for m in &moves {
+                if self.is_legal(rule, m) {
+                    return true;
+                }
             }
         }
         false

@@ -3,11 +3,12 @@ ghost use Rattle.std.specs.Prelude.{◌≡◌, IfSome};
 ghost use Rattle.chess_core.specs.Diagrams.{position_of};
 ghost use Rattle.chess_core.specs.WellFormed.{IsWellFormed};
 
-use crate::plain::{self, Plain};
+use crate::plain::{self, Plain, Rule, bit};
+use crate::setup::{move_of, moves_of, posed};
 use arrayvec::ArrayVec;
 use chess_core::{Board, Colour, Diagram, Kind, Move, Square};
 use chess_mates::MatingMoves;
-use chess_rules::{Moves, Rules, is_mate};
+use chess_rules::{Circe, Madrasi, Moves, Orthodox, Rules, is_mate};
 
 // Whether two boards answer every question alike.
 pub(crate) fn is_same(one: &Board, two: &Board) -> bool {
@@ -55,7 +56,7 @@ pub(crate) fn shows(board: &Board, plain: &Plain) -> bool {
 fn shows_men(board: &Board, plain: &Plain, colour: Colour) -> bool {
     let mut side = 0u64;
     for kind in &Kind::all() {
-        let squares = squares(plain, colour, *kind);
+        let squares = plain.of_kind(*kind) & plain.of_colour(colour);
         if board.squares(colour, *kind) != squares {
             return false;
         }
@@ -64,24 +65,16 @@ fn shows_men(board: &Board, plain: &Plain, colour: Colour) -> bool {
         }
         side |= squares;
     }
-    let king = board.king_of(colour).map(|square| 1u64 << square.index());
-    board.side(colour) == side && king.unwrap_or(0) == squares(plain, colour, Kind::King)
-}
-
-// A bit for each square with such a man, a1 the lowest.
-fn squares(plain: &Plain, colour: Colour, kind: Kind) -> u64 {
-    let mut squares = 0u64;
-    for number in 0..64u8 {
-        if plain.has(Square::numbered(number), colour, kind) {
-            squares |= 1u64 << number;
-        }
-    }
-    squares
+    let king = match board.king_of(colour) {
+        Some(square) => bit(square),
+        None => 0,
+    };
+    board.side(colour) == side && king == plain.of_kind(Kind::King) & plain.of_colour(colour)
 }
 
 // The board after this move from the diagram, if it is legal.
 #[tactic(auto, using(chess_rules::proofs::listing_moves::Calls::playing))]
-pub(crate) fn after_move<R: Rules>(diagram: &Diagram, wanted: Move) -> Option<Board>
+fn after_move<R: Rules>(diagram: &Diagram, wanted: Move) -> Option<Board>
     requires { IsWellFormed (position_of diagram.now) }
     ensures { IfSome result (λ q. IsWellFormed q) }
 {
@@ -96,21 +89,55 @@ pub(crate) fn after_move<R: Rules>(diagram: &Diagram, wanted: Move) -> Option<Bo
     None
 }
 
-// Whether this move from the diagram is legal and mates.
-pub(crate) fn mates<R: Rules>(diagram: &Diagram, wanted: Move) -> bool
+// What comes of a move.
+#[derive(Clone, Copy, PartialEq, Eq)]
+pub(crate) enum Outcome {
+    Illegal,
+    Legal,
+    Mate,
+}
+
+fn outcome_under<R: Rules>(diagram: &Diagram, m: Move) -> Outcome
     requires { IsWellFormed (position_of diagram.now) }
 {
-    match after_move::<R>(diagram, wanted) {
-        Some(after) => {
-            let mut board = after;
-            is_mate::<R>(&mut board)
+    match after_move::<R>(diagram, m) {
+        Some(mut after) => {
+            if is_mate::<R>(&mut after) {
+                Outcome::Mate
+            } else {
+                Outcome::Legal
+            }
         }
+        None => Outcome::Illegal,
+    }
+}
+
+// Whether this comes of a move from the position.
+pub(crate) fn has_outcome(rule: Rule, position: &str, m: &str, wanted: Outcome) -> bool {
+    let (Some(diagram), Some(m)) = (posed(position), move_of(m)) else {
+        return false;
+    };
+    wanted
+        == match rule {
+            Rule::Orthodox => outcome_under::<Orthodox>(&diagram, m),
+            Rule::Circe => outcome_under::<Circe>(&diagram, m),
+            Rule::Madrasi => outcome_under::<Madrasi>(&diagram, m),
+        }
+}
+
+// Whether a legal move from the position in Circe leads to this one.
+pub(crate) fn leads_in_circe(position: &str, m: &str, wanted: &str) -> bool {
+    let (Some(diagram), Some(m), Some(wanted)) = (posed(position), move_of(m), posed(wanted)) else {
+        return false;
+    };
+    match after_move::<Circe>(&diagram, m) {
+        Some(after) => is_same(&after, &Board::of(&wanted)),
         None => false,
     }
 }
 
 // The legal moves of a diagram, in order.
-pub(crate) fn moves_of<R: Rules>(diagram: &Diagram) -> plain::Moves
+fn moves_under<R: Rules>(diagram: &Diagram) -> plain::Moves
     requires { IsWellFormed (position_of diagram.now) }
 {
     let mut board = Board::of(diagram);
@@ -122,8 +149,21 @@ pub(crate) fn moves_of<R: Rules>(diagram: &Diagram) -> plain::Moves
     moves
 }
 
-// Those of them that mate.
-pub(crate) fn mates_of<R: Rules>(diagram: &Diagram) -> plain::Moves
+// Whether these are the legal moves of a position.
+pub(crate) fn has_moves(rule: Rule, position: &str, wanted: &str) -> bool {
+    let Some(diagram) = posed(position) else {
+        return false;
+    };
+    let moves = match rule {
+        Rule::Orthodox => moves_under::<Orthodox>(&diagram),
+        Rule::Circe => moves_under::<Circe>(&diagram),
+        Rule::Madrasi => moves_under::<Madrasi>(&diagram),
+    };
+    moves.as_slice() == moves_of(wanted).as_slice()
+}
+
+// The legal moves that mate.
+fn mates_under<R: Rules>(diagram: &Diagram) -> plain::Moves
     requires { IsWellFormed (position_of diagram.now) }
 {
     let mut board = Board::of(diagram);
@@ -133,4 +173,17 @@ pub(crate) fn mates_of<R: Rules>(diagram: &Diagram) -> plain::Moves
         let _fits = moves.try_push(m);
     }
     moves
+}
+
+// Whether these are the mates of a position.
+pub(crate) fn has_mates(rule: Rule, position: &str, wanted: &str) -> bool {
+    let Some(diagram) = posed(position) else {
+        return false;
+    };
+    let mates = match rule {
+        Rule::Orthodox => mates_under::<Orthodox>(&diagram),
+        Rule::Circe => mates_under::<Circe>(&diagram),
+        Rule::Madrasi => mates_under::<Madrasi>(&diagram),
+    };
+    mates.as_slice() == moves_of(wanted).as_slice()
 }

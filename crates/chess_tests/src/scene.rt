@@ -1,7 +1,6 @@
 //! Diagrams put together man by man, so that they stay well formed.
 use crate::draw::{Draw, Kinds};
 use crate::plain::next;
-use crate::setup::square;
 use chess_core::{Colour, Diagram, Kind, Man, Square};
 
 // A man of this colour and kind.
@@ -27,19 +26,10 @@ pub(crate) fn put(diagram: &mut Diagram, square: Option<Square>, man: Man) -> bo
     if man.kind == Kind::Pawn && (square.rank() == 1 || square.rank() == 8) {
         return false;
     }
-    if man.kind == Kind::King && has_king(diagram, man.colour) {
+    if man.kind == Kind::King && diagram.has(man.colour, Kind::King) {
         return false;
     }
     diagram.put(square, man).is_ok()
-}
-
-fn has_king(diagram: &Diagram, colour: Colour) -> bool {
-    for number in 0..64u8 {
-        if diagram.man_at(Square::numbered(number)) == Some(man(colour, Kind::King)) {
-            return true;
-        }
-    }
-    false
 }
 
 // Puts a king on a drawn square, if it is empty, and answers the square.
@@ -103,16 +93,16 @@ pub(crate) fn put_rider(
 
 // Marks castling squares as unmoved where the men stand at home, most times.
 pub(crate) fn mark_homes(diagram: &mut Diagram, draw: &mut Draw) {
-    for (name, colour, kind) in [
-        ("a1", Colour::White, Kind::Rook),
-        ("e1", Colour::White, Kind::King),
-        ("h1", Colour::White, Kind::Rook),
-        ("a8", Colour::Black, Kind::Rook),
-        ("e8", Colour::Black, Kind::King),
-        ("h8", Colour::Black, Kind::Rook),
+    for (number, colour, kind) in &[
+        (0, Colour::White, Kind::Rook),
+        (4, Colour::White, Kind::King),
+        (7, Colour::White, Kind::Rook),
+        (56, Colour::Black, Kind::Rook),
+        (60, Colour::Black, Kind::King),
+        (63, Colour::Black, Kind::Rook),
     ] {
-        let at = square(name);
-        if diagram.man_at(at) == Some(man(colour, kind)) && !draw.once_in(8) {
+        let at = Square::numbered(*number % 64);
+        if diagram.man_at(at) == Some(man(*colour, *kind)) && !draw.once_in(8) {
             diagram.unmoved = diagram.unmoved.with(at);
         }
     }

@@ -1,7 +1,11 @@
-//! Diagrams written row by row.
+//! Positions and moves written down.
+ghost use Rattle.std.specs.Prelude.{IfSome};
+ghost use Rattle.chess_core.specs.Diagrams.{position_of};
+ghost use Rattle.chess_core.specs.WellFormed.{IsWellFormed};
+
 use crate::plain::Moves;
 use arrayvec::ArrayVec;
-use chess_core::{Colour, Diagram, Kind, Man, Move, Square, Unmoved};
+use chess_core::{Colour, Diagram, Kind, Man, Move, Square};
 
 // The man of a letter, small for Black: S is the knight, G the grasshopper, N the nightrider.
 fn man_of(letter: u8) -> Option<Man> {
@@ -25,7 +29,7 @@ fn man_of(letter: u8) -> Option<Man> {
 }
 
 // The diagram of these rows, rank 8 first, with a digit for so many empty squares and White to move.
-pub(crate) fn diagram_of(rows: &str) -> Diagram {
+fn diagram_of(rows: &str) -> Diagram {
     let mut diagram = Diagram::new();
     let mut file = 1u8;
     let mut rank = 8u8;
@@ -33,65 +37,80 @@ pub(crate) fn diagram_of(rows: &str) -> Diagram {
         match *letter {
             b'/' => {
                 file = 1;
-                rank = rank.saturating_sub(1);
+                rank = rank.wrapping_sub(1);
             }
-            b'1'..=b'8' => file = file.saturating_add(*letter - b'0'),
+            b'1'..=b'8' => file = file.wrapping_add(letter.wrapping_sub(b'0')),
             other => {
-                if let Some(man) = man_of(other) {
-                    if let Some(square) = Square::new(file, rank) {
-                        let _ = diagram.put(square, man);
-                    }
+                if let (Some(man), Some(square)) = (man_of(other), Square::new(file, rank)) {
+                    let _ = diagram.put(square, man);
                 }
-                file = file.saturating_add(1);
+                file = file.wrapping_add(1);
             }
         }
     }
     diagram
 }
 
-// The square of a name such as `e4`; a1 for a text that names none.
-pub(crate) fn square(name: &str) -> Square {
-    match name.as_bytes() {
-        [file @ b'a'..=b'h', rank @ b'1'..=b'8'] => {
-            Square::new(*file - b'a' + 1, *rank - b'1' + 1).unwrap_or_default()
+// The well-formed diagram of these rows and of words behind them: the unmoved castling squares, the crossed square, and
+// `b` where Black is to move.
+pub(crate) fn posed(position: &str) -> Option<Diagram>
+    ensures { IfSome result (λ d. IsWellFormed (position_of d)) }
+{
+    let mut words = position.split(' ');
+    let mut diagram = diagram_of(words.next().unwrap_or_default());
+    for word in words {
+        match named(word) {
+            None => diagram.turn = Colour::Black,
+            Some(square) if square.is_castling() => {
+                diagram.unmoved = diagram.unmoved.with(square);
+            }
+            Some(square) => diagram.crossed = Some(square),
         }
-        _ => Square::default(),
+    }
+    if diagram.is_well_formed() {
+        Some(diagram)
+    } else {
+        None
     }
 }
 
-// The castling squares of these names, parted by blanks.
-pub(crate) fn unmoved(names: &str) -> Unmoved {
-    let mut squares = Unmoved::none();
-    for name in names.split(' ') {
-        squares = squares.with(square(name));
-    }
-    squares
+// The square of these letters, a file and a rank.
+fn at(file: u8, rank: u8) -> Option<Square> {
+    Square::new(file.wrapping_sub(b'a' - 1), rank.wrapping_sub(b'0'))
 }
 
-// The move from one square to another, without promotion.
-pub(crate) fn go(from: &str, to: &str) -> Move {
-    Move {
-        from: square(from),
-        to: square(to),
-        promo: None,
+// The square of a name such as `e4`; none of a text that names none.
+pub(crate) fn named(name: &str) -> Option<Square> {
+    match name.as_bytes() {
+        [file, rank] => at(*file, *rank),
+        _ => None,
     }
 }
 
-// The moves of these words, parted by blanks: origin, arrival and the letter of what a pawn becomes.
-pub(crate) fn moves(words: &str) -> Moves {
+// The move of a word: origin, arrival and the letter of what a pawn becomes.
+pub(crate) fn move_of(word: &str) -> Option<Move> {
+    match word.as_bytes() {
+        [a, b, c, d] => Some(Move {
+            from: at(*a, *b)?,
+            to: at(*c, *d)?,
+            promo: None,
+        }),
+        [a, b, c, d, letter] => Some(Move {
+            from: at(*a, *b)?,
+            to: at(*c, *d)?,
+            promo: Some(man_of(*letter)?.kind),
+        }),
+        _ => None,
+    }
+}
+
+// The moves of these words, parted by blanks.
+pub(crate) fn moves_of(words: &str) -> Moves {
     let mut moves = ArrayVec::new();
     for word in words.split(' ') {
-        let (from, to, promo) = match word.as_bytes() {
-            [a, b, c, d] => (at(*a, *b), at(*c, *d), None),
-            [a, b, c, d, kind] => (at(*a, *b), at(*c, *d), man_of(*kind).map(|man| man.kind)),
-            _ => continue,
-        };
-        let _fits = moves.try_push(Move { from, to, promo });
+        if let Some(m) = move_of(word) {
+            let _fits = moves.try_push(m);
+        }
     }
     moves
-}
-
-// The square of these letters.
-fn at(file: u8, rank: u8) -> Square {
-    Square::new(file.wrapping_sub(b'a' - 1), rank.wrapping_sub(b'0')).unwrap_or_default()
 }

@@ -11,12 +11,15 @@ use chess_rules::{Circe, Madrasi, Moves, Orthodox, Rules};
 
 // A position that is told otherwise than by the plain rules: its number in its family, the half-moves that
 // lead to it, and what is told otherwise.
-#[derive(Clone, Copy, PartialEq, Eq, Debug)]
+#[derive(Clone, Copy)]
 pub(crate) struct Unlike {
-    number: u64,
-    half_moves: u8,
-    question: Question,
+    pub(crate) number: u64,
+    pub(crate) half_moves: u8,
+    pub(crate) question: Question,
 }
+
+// More motifs than any survey asks for.
+pub(crate) const MOTIFS: usize = 16;
 
 // What a survey met.
 #[derive(Clone, Copy)]
@@ -24,20 +27,10 @@ pub(crate) struct Survey {
     // The first position that is told otherwise.
     pub(crate) unlike: Option<Unlike>,
     // How many moves show each motif asked for.
-    shown: [u32; 16],
+    pub(crate) shown: [u32; MOTIFS],
 }
 
 impl Survey {
-    // The first motif that fewer moves than so many show, and how many.
-    pub(crate) fn rare(&self, motifs: &[Motif], least: u32) -> Option<(Motif, u32)> {
-        for (motif, shown) in motifs.iter().zip(self.shown.iter()) {
-            if *shown < least {
-                return Some((*motif, *shown));
-            }
-        }
-        None
-    }
-
     // Counts the moves that show a motif.
     fn count(&mut self, plain: &Plain, rule: Rule, motifs: &[Motif]) {
         for m in &plain.moves_but_for_check(rule) {
@@ -79,25 +72,19 @@ fn castlings() -> [Move; 4] {
     [to(4, 2), to(4, 6), to(60, 58), to(60, 62)]
 }
 
-// Compares so many positions of the family under each set of rules.
-pub(crate) fn under_all_rules(family: Family, count: u64, motifs: &[Motif]) -> [Survey; 3] {
-    [
-        surveyed::<Orthodox>(family, Rule::Orthodox, count, motifs),
-        surveyed::<Circe>(family, Rule::Circe, count, motifs),
-        surveyed::<Madrasi>(family, Rule::Madrasi, count, motifs),
-    ]
+// Compares so many positions of the family, and one a half-move on from each.
+pub(crate) fn surveyed(rule: Rule, family: Family, count: u64, motifs: &[Motif]) -> Survey {
+    match rule {
+        Rule::Orthodox => survey_under::<Orthodox>(rule, family, count, motifs),
+        Rule::Circe => survey_under::<Circe>(rule, family, count, motifs),
+        Rule::Madrasi => survey_under::<Madrasi>(rule, family, count, motifs),
+    }
 }
 
-// Compares so many positions of the family, and one a half-move on from each.
-pub(crate) fn surveyed<R: Rules>(
-    family: Family,
-    rule: Rule,
-    count: u64,
-    motifs: &[Motif],
-) -> Survey {
+fn survey_under<R: Rules>(rule: Rule, family: Family, count: u64, motifs: &[Motif]) -> Survey {
     let mut survey = Survey {
         unlike: None,
-        shown: [0; 16],
+        shown: [0; MOTIFS],
     };
     for number in 0..count {
         let mut draw = Draw::of(number);

@@ -1,7 +1,7 @@
 //! Fairy conditions.
 
 /// A condition under which a problem is played (Popeye manual).
-#[derive(Clone, Copy, Debug, PartialEq, Eq)]
+#[derive(Clone, Copy, PartialEq, Eq)]
 pub enum Condition {
     /// Captured men are reborn on their first squares.
     Circe,

@@ -6,7 +6,7 @@ use crate::fault_kind::FaultKind;
 use crate::problem::Problem;
 
 /// Why an item is not sound.
-#[derive(Clone, Copy, Debug, PartialEq, Eq)]
+#[derive(Clone, Copy, PartialEq, Eq)]
 pub struct Fault {
     /// The number of its kind, 1 to 21.
     pub number: u8,
@@ -34,7 +34,7 @@ impl Fault {
 }
 
 /// Whether an item is the last of its input.
-#[derive(Clone, Copy, Debug, PartialEq, Eq)]
+#[derive(Clone, Copy, PartialEq, Eq)]
 pub enum Last {
     /// EndProblem closes it, or the input ends in it.
     Yes,

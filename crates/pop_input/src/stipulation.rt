@@ -5,7 +5,7 @@ ghost use Rattle.pop_input.specs.Stipulations.{first_half, half_moves, is_for_st
 use chess_core::man::Colour;
 
 /// Who plays, and whom the goal is to befall (Codex; words of the Popeye manual). `#` stands for the goal.
-#[derive(Clone, Copy, Debug, PartialEq, Eq)]
+#[derive(Clone, Copy, PartialEq, Eq)]
 pub enum Form {
     /// `#n`: White starts and reaches the goal against every defence.
     Direct,
@@ -18,7 +18,7 @@ pub enum Form {
 }
 
 /// What is to befall a side with the last move.
-#[derive(Clone, Copy, Debug, PartialEq, Eq)]
+#[derive(Clone, Copy, PartialEq, Eq)]
 pub enum Goal {
     /// `#`: mate, check without a legal move (FIDE Laws 5.1.1).
     Mate,
@@ -30,7 +30,7 @@ pub enum Goal {
 pub const MOST_MOVES: u8 = 16;
 
 /// A form, its goal and its number of moves: 1 to 16, with `HelpHalf` 0 to 15.
-#[derive(Clone, Copy, Debug, PartialEq, Eq)]
+#[derive(Clone, Copy, PartialEq, Eq)]
 pub struct Stipulation {
     pub form: Form,
     pub goal: Goal,

@@ -1,5 +1,8 @@
 -- What the calls of the rules say in the words of the search.
-use Rattle.pop_solve.proofs.Words.{Battle, Bool, Goal, List, MatchOption, Mate, None, Option, Position, RuleSet, Some, Triple, [], arith, can_move, chess, cut_mates, cut_moves, eqb, false, filter, is_for_mate, is_goal, is_mating, is_nil, is_reached, is_some, is_stalemate, legal, length, list_any, mates_behind, mates_between, moves, moves_behind, moves_between, nat_tests, not, refl, rules, sym, true, value, walk_count, ℕ, ◌++◌, ◌-◌, ◌<◌, ◌∙◌, ◌∷◌, ◌≡◌, ◌≤◌}
+use Rattle.chess_mates.specs.ties.Mates.{mates}
+use Rattle.chess_rules.specs.ties.Places.{place_of, place_onto}
+use Rattle.pop_solve.specs.ties.Calls.{IsOnMate}
+use Rattle.pop_solve.proofs.Words.{Battle, Bool, Goal, IfSome, List, MatchOption, Mate, None, Option, Position, RuleSet, Some, Triple, [], arith, can_move, chess, cut_mates, cut_moves, eqb, false, filter, is_for_mate, is_goal, is_mating, is_nil, is_reached, is_some, is_stalemate, legal, length, list_any, mates_behind, mates_between, moves, moves_behind, moves_between, nat_tests, not, refl, rules, sym, true, value, walk_count, ℕ, ◌++◌, ◌-◌, ◌<◌, ◌∙◌, ◌∷◌, ◌≡◌, ◌≤◌}
 use Rattle.pop_solve.specs.Game.{some_move as some_good}
 
 pub can_move-is : (goal : Goal) (rule : RuleSet) (p : Position) → not (is_nil (moves rule p)) ≡ can_move (chess goal rule) p
@@ -51,6 +54,17 @@ module _ (rule : RuleSet) (p : Position) where
       → a ≡ 0 → b ≡ b' → q ≡ p → false ≡ is_some o → false ≡ is_some o' → false ≡ some_good (chess Mate rule) (is_reached Mate rule) p
   no_mate a b b' next last q None None behind before start cut same none none' = rw (some_mates b', rw (start, same) at before, rw cut at behind) refl
   no_mate a b b' next last q o o' behind before start cut same none none' = grind arith
+
+  -- and the place that was moved on to it stands on it
+  pub on_mate_behind : (place : ℕ) (o : Option Triple) → true ≡ is_some o → place ≡ place_of o → IfSome o (λ m. mates rule p m ≡ true)
+      → IsOnMate rule p place
+  on_mate_behind place None some at found = absurd cc
+  on_mate_behind place (Some m) some at found = record { by = m; here = at; mates = found }
+
+  pub on_mate_before : (old place : ℕ) (o : Option Triple) → true ≡ is_some o → place ≡ place_onto o old → IfSome o (λ m. mates rule p m ≡ true)
+      → IsOnMate rule p place
+  on_mate_before old place None some at found = absurd cc
+  on_mate_before old place (Some m) some at found = record { by = m; here = at; mates = found }
 
 -- with a half-move left there is something to walk
 pub walk_count-some : {P M : Type 0} (moves : P → List M) (after : P → M → P) (left : ℕ) (p : P) → 0 < left → 1 ≤ walk_count moves after left p

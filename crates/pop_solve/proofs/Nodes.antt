@@ -1,5 +1,5 @@
 -- The paths of trees.
-use Rattle.pop_solve.proofs.Words.{AllPairs, AllPairs-filter, Battle, Bool, Contains, Game, List, [], answers, ap, arith, below, best, cond, false, false≢true, filter, first_in, flat_map, from_filter, from_flat_map, from_map, in_cases, in_filter, in_flat_map, in_map, inl, inr, keeps, later_in, least, list_any, map, node, none_in_nil, or_cases, or_left, or_right, pairs_flat_map, pairs_map, pairs_nil, pairs_of, refl, rules, set_shows, set_tree, subst, suc, sym, tree, true, zero, ℕ, ◌++◌, ◌-◌, ◌↔◌, ◌∙◌, ◌∷◌, ◌≡◌, ◌≢◌, ◌⊎◌}
+use Rattle.pop_solve.proofs.Words.{AllPairs, AllPairs-filter, Battle, Bool, Contains, Game, List, [], answers, ap, arith, below, best, cond, false, false≢true, filter, first_in, flat_map, from_filter, from_flat_map, from_map, in_cases, in_filter, in_flat_map, in_map, inl, inr, keeps, later_in, least, list_any, map, node, none_in_nil, or_cases, or_left, or_right, pairs_flat_map, pairs_map, pairs_nil, pairs_of, refl, rules, set_shows, set_tree, subst, suc, sym, take, take-map, tree, true, zero, ℕ, ◌++◌, ◌-◌, ◌↔◌, ◌∙◌, ◌∷◌, ◌≡◌, ◌≢◌, ◌⊎◌}
 use Rattle.pop_solve.proofs.theorems.Lists.{HasBeginnings, StandsBefore}
 
 -- some element passes a test
@@ -21,6 +21,10 @@ element_from_any test (y ∷ xs) h = elim (or_cases (test y) (list_any test xs) 
 pub joined : {X Y : Type 0} (g : X → List Y) (xs : List X) → flat_map (λ s. s) (map g xs) ≡ flat_map g xs
 joined g [] = refl
 joined g (x ∷ xs) = ap (λ ys. g x ++ ys) (joined g xs)
+
+-- and the first of them
+joined_first : {X Y : Type 0} (g : X → List Y) (k : ℕ) (xs : List X) → flat_map (λ s. s) (take k (map g xs)) ≡ flat_map g (take k xs)
+joined_first g k xs = rw (take-map g k xs) (joined g (take k xs))
 
 -- no path is empty
 abbrev pub HasNoEmpty : {M : Type 0} → List (List M) → Type 0
@@ -263,6 +267,21 @@ module _ {P M : Type 0} (battle : Battle) (game : Game P M) (n : ℕ) where
         → flat_map (λ s. s) (set_tree battle game variation n (suc h) p) ≡ flat_map (λ d. node d (below_set h p d)) (set_moves p)
     unfolding set_tree below_set
     set_tree_paths h p = joined (λ d. node d (below_set h p d)) (set_moves p)
+
+    -- and those of their first k solutions
+    pub first_tree_paths : (k h : ℕ) (p : P)
+        → flat_map (λ s. s) (take k (tree battle game variation n h p)) ≡ flat_map (λ m. node m (below_key h p m)) (take k (kept p))
+    unfolding below_key
+    first_tree_paths k h p = joined_first (λ m. node m (cond variation (below battle game n (h - 1) (game.after p m)) [])) k (kept p)
+
+    pub first_set_tree_none : (k : ℕ) (p : P) → flat_map (λ s. s) (take k (set_tree battle game variation n zero p)) ≡ []
+    unfolding set_tree
+    first_set_tree_none k p = grind arith
+
+    pub first_set_tree_paths : (k h : ℕ) (p : P)
+        → flat_map (λ s. s) (take k (set_tree battle game variation n (suc h) p)) ≡ flat_map (λ d. node d (below_set h p d)) (take k (set_moves p))
+    unfolding set_tree below_set
+    first_set_tree_paths k h p = joined_first (λ d. node d (below_set h p d)) k (set_moves p)
 
 -- the paths of nodes, unless the goal is reached
 module _ {M : Type 0} (f : M → List (List M)) (g : Bool) (ms : List M) (m : M) where

@@ -2,7 +2,7 @@
 pub use Rattle.std.proofs.Common.{Bool, IfNone, IfSome, List, MatchOption, None, Option, Some, [], ap, append_assoc, arith, cond, drop, eqb, false, filter, get_or, inl, inr, is_some, length, length-append, length-take, map, min, not, option_map, refl, reverse, rules, slice_get, subst, suc, sym, take, true, zero, ℕ, ◌%◌, ◌&&◌, ◌*◌, ◌++◌, ◌+◌, ◌-◌, ◌/◌, ◌<◌, ◌^◌, ◌||◌, ◌↔◌, ◌∙◌, ◌∷◌, ◌≡◌, ◌≢◌, ◌≤◌, ◌⊎◌}
 pub use Rattle.std.proofs.lemmas.Bool.{and_from, and_parts, cases_Bool, cases_lt, false≢true, or_cases, or_left, or_right}
 pub use Rattle.std.proofs.lemmas.Bool.Decides.{nat_tests}
-pub use Rattle.std.proofs.lemmas.List.{append-nil, drop-append-le, length-drop, length-reverse, map-append, reverse-append, take-append-drop, take-append-le, take_all, take_more}
+pub use Rattle.std.proofs.lemmas.List.{append-nil, drop-append-le, length-drop, length-reverse, map-append, reverse-append, take-append-drop, take-append-le, take-map, take_all, take_more}
 pub use Rattle.std.proofs.lemmas.List.Concat.{flat_map-append, flat_map_single}
 pub use Rattle.std.proofs.lemmas.List.Elements.{Contains-append_cases, filter-append, filter_agree}
 pub use Rattle.std.proofs.lemmas.List.Kept.{AllPairs-filter}

@@ -9,7 +9,7 @@ ghost use Rattle.chess_rules.specs.ties.Places.{IsPlaceIn, moves_behind, moves_b
 ghost use Rattle.chess_mates.specs.ties.Mates.{IsNextMate, mates_behind};
 ghost use Rattle.pop_input.specs.declared.stipulation.Goal.{Goal};
 ghost use Rattle.pop_input.specs.declared.stipulation.Goal.TheVariants.{Mate};
-ghost use Rattle.pop_solve.specs.ties.Calls.{Finds};
+ghost use Rattle.pop_solve.specs.ties.Calls.{Finds, IsOnMate};
 ghost use Rattle.pop_solve.specs.Chess.{castling_side, chess, is_impossible, mark_of, reborn, set_start, shown_of};
 ghost use Rattle.pop_solve.specs.ties.Marks.{is_for_mate};
 ghost use Rattle.pop_solve.specs.declared.chess.Reached.TheVariants.{Surely};
@@ -127,12 +127,14 @@ pub(crate) fn next_mate<R: Rules>(place: &mut Moves<R>, board: &mut Board) -> Op
     chess_mates::mating_moves::next_mate::<R>(place, board)
 }
 
-/// The place on a legal move that mates, if there is one; the killer is looked at first, then the moves behind it.
+/// The place on a legal move that mates, if there is one. Which one it is costs time alone: the killer is looked at first,
+/// then the moves behind it.
 pub(crate) fn find_mate<R: Rules>(killer: Moves<R>, board: &mut Board) -> Option<Moves<R>>
     requires well_formed { IsWellFormed board.old }
     ensures unchanged { board.new ≡ board.old }
     ensures mates { is_some result
         ≡ some_move (chess Mate R.rule) (chess Mate R.rule).goal board.old }
+    ensures place { IfSome result (λ place. IsOnMate R.rule board.old place) }
 {
     let before = killer.back();
     let mut moves = MatingMoves::<R>::of(board);

@@ -3,7 +3,7 @@ use crate::shown::Shown;
 use arrayvec::ArrayVec;
 
 /// A part of a problem that has solutions of its own: set play, in which the other side starts, or the play itself.
-#[derive(Clone, Copy, PartialEq, Eq, Debug)]
+#[derive(Clone, Copy, PartialEq, Eq)]
 pub enum Phase {
     Set,
     Play,

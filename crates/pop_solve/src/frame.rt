@@ -127,6 +127,13 @@ impl<R: Rules> Clone for Frame<R> {
 }
 
 impl<R: Rules> Default for Frame<R> {
+    ghost use Rattle.std.specs.Prelude.{◌≡◌};
+    ghost use Rattle.pop_solve.specs.ties.Frames.{no_frame};
+
+    ghost is_default = { λ f. f ≡ no_frame };
+
+    // The frame of no position.
+    #[tactic(auto, unfolding(chess_core::specs::Castling::none_unmoved))]
     fn default() -> Self {
         Frame {
             place: Moves::start(),

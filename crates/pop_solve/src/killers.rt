@@ -1,5 +1,6 @@
 //! The moves that decided tests.
-ghost use Rattle.std.specs.Prelude.{◌≡◌, ◌==◌, ◌<◌, if◌then◌else◌, slice_index_or, slice_set};
+ghost use Rattle.std.specs.Prelude.{◌≡◌, ◌==◌, ◌<◌, ◌∷◌, [], if◌then◌else◌, slice_index_or, slice_set};
+ghost use Rattle.std.specs.List.{repeat};
 ghost use Rattle.pop_solve.specs.declared.aim.Battle.TheVariants.{Direct};
 
 use crate::aim::Battle;
@@ -17,7 +18,10 @@ pub struct Killers<R: Rules> {
 
 impl<R: Rules> Killers<R> {
     /// None yet: the places before all triples.
-    pub fn none() -> Killers<R> {
+    pub fn none() -> Killers<R>
+        ensures last { result.places ≡ repeat 32 (0 ∷ []) }
+        ensures earlier { result.earlier ≡ repeat 32 (0 ∷ []) }
+    {
         Killers {
             places: [Moves::start(); 32],
             earlier: [Moves::start(); 32],

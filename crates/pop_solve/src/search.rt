@@ -60,13 +60,16 @@ impl<R: Rules, const N: usize> Search<R, N> {
     ghost use Rattle.pop_solve.specs.Events.{events, event_of, start};
     ghost use Rattle.pop_solve.specs.ties.Seen.{fewest_tried, is_never_stopped, is_walked_once, whole_walk, StandsOn};
 
-    /// A search that has given nothing. `N` is at least the half-moves of the play plus one, and `R` are the rules of the
-    /// problem's condition.
+    /// A search that has given nothing: the play's first position is on its board, and no frame is in use. `N` is at least the
+    /// half-moves of the play plus one, and `R` are the rules of the problem's condition.
     pub fn new(problem: &Problem) -> Self
         requires room { half_moves problem.now.stipulation < N }
         requires rule { R.rule ≡ rule_of problem.now.condition }
         ensures problem { result.problem ≡ problem.now }
         ensures left { result.left ≡ events R.rule problem.now }
+        ensures board { result.board ≡ start problem.now }
+        ensures depth { result.depth ≡ 0 }
+        ensures opened { result.opened ≡ 0 }
     {
         Search {
             problem: *problem,
@@ -128,8 +131,9 @@ impl<R: Rules, const N: usize> Search<R, N> {
     }
 
     /// The frames opened for a half-move so far, the test of mate apart, up to the greatest u64. In help play, and where
-    /// keys alone are shown, no line of moves is walked twice. In battle play no fewer than a smallest tree has positions are
-    /// opened for each tested move.
+    /// keys alone are shown, no line of moves is walked twice. Once nothing is left to give, and if no limit ended a phase,
+    /// each line of help play was walked, and in battle play no fewer were opened than a smallest tree has positions, for
+    /// each tested move.
     pub fn opened(&self) -> u64
         ensures opened { result ≡ self.now.opened }
         ensures most { is_walked_once self.now.problem ≡ true

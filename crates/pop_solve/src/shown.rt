@@ -1,20 +1,19 @@
 //! Moves as they are shown.
-use chess_core::man::{Kind, Man};
+use chess_core::man::{Colour, Kind, Man};
 use chess_core::square::Square;
 use std::marker::Model;
 
 /// The side to which a king castles: the a-file or the h-file.
-#[derive(Clone, Copy, PartialEq, Eq, Debug)]
+#[derive(Clone, Copy, PartialEq, Eq)]
 pub enum Side {
     A,
     H,
 }
 
 /// What a move does to the other side.
-#[derive(Clone, Copy, PartialEq, Eq, Debug, Default)]
+#[derive(Clone, Copy, PartialEq, Eq)]
 pub enum Mark {
     /// No check.
-    #[default]
     Plain,
     /// Check that isn't mate.
     Check,
@@ -26,7 +25,7 @@ pub enum Mark {
 
 /// A move as it is shown, with all that its text says. Contracts see the record `Shown` of the same fields, squares as
 /// their numbers.
-#[derive(Clone, Copy, Default)]
+#[derive(Clone, Copy)]
 pub struct Shown {
     /// The man that moves, before a promotion.
     pub man: Man,
@@ -76,4 +75,29 @@ impl Model for Shown {
       rebirth = v.rebirth;
       mark = v.mark;
     } };
+}
+
+impl Default for Shown {
+    ghost use Rattle.std.specs.Prelude.{◌≡◌};
+    ghost use Rattle.pop_solve.specs.Chess.{nothing_shown};
+
+    ghost is_default = { λ s. s ≡ nothing_shown };
+
+    // The move of no man.
+    fn default() -> Shown {
+        Shown {
+            man: Man {
+                colour: Colour::White,
+                kind: Kind::King,
+            },
+            from: Square::numbered(0),
+            to: Square::numbered(0),
+            capture: false,
+            ep: false,
+            promo: None,
+            castling: None,
+            rebirth: None,
+            mark: Mark::Plain,
+        }
+    }
 }

@@ -24,7 +24,7 @@ const LIMIT: u32 = 1 << 30;
 const WINDOW: usize = 4096;
 
 /// How the input ends, as far as that is known.
-#[derive(Clone, Copy, Debug, PartialEq, Eq)]
+#[derive(Clone, Copy, PartialEq, Eq)]
 pub enum End {
     /// Nothing is known yet.
     Open,
@@ -35,7 +35,7 @@ pub enum End {
 }
 
 /// Whether there is a word.
-#[derive(Clone, Copy, Debug, PartialEq, Eq)]
+#[derive(Clone, Copy, PartialEq, Eq)]
 pub enum Found {
     /// There is one.
     Word,
@@ -210,7 +210,6 @@ impl Scanner {
     }
 
     // Uses blanks and line ends, up to another byte, which is answered.
-    #[tactic(auto, using(crate::proofs::Using::all_seen))]
     fn skip_gap<S: Source>(&mut self, source: &mut S) -> Result<Option<u8>, ReadFault>
         requires { self.old.end ≡ End.Open → S.failures source.old < greatest }
         ensures uses { UsesAll is_gap self.old self.new (S.remaining source.old)

@@ -9,7 +9,7 @@ use Rattle.pop_input.specs.declared.names.Command.{Command}
 use Rattle.pop_input.specs.declared.names.Command.TheVariants.{Begin, Enter, Next, Last}
 use Rattle.pops.specs.Report.{Choice, report, status}
 use Rattle.pops.specs.declared.status.Status.{Status}
-use Rattle.pops.specs.declared.status.Status.TheVariants.{OutputFailed}
+use Rattle.pops.specs.declared.status.Status.TheVariants.{Sound, Faulty, InputFailed, OutputFailed}
 
 -- the bytes that a source had and no longer has
 abbrev pub taken_of : List ℕ → Option (List ℕ) → List ℕ
@@ -80,3 +80,12 @@ Runs choice input before now false answer = Appends before now (report choice in
     × (answer ≡ status input)
 Runs choice input before now true answer = Begins before now (report choice input)
     × (answer ≡ OutputFailed)
+
+-- The exit status of a run whose output was flushed in the end or not. Where a write or the flush failed it has none of its
+-- own: the output's failure is told in its place.
+abbrev pub exit_status_of : Status → Bool → Option ℕ
+exit_status_of status false = None
+exit_status_of Sound true = Some 0
+exit_status_of Faulty true = Some 1
+exit_status_of InputFailed true = Some 3
+exit_status_of OutputFailed true = None

@@ -1,5 +1,6 @@
 //! The program: its settings, its files and its exit statuses.
 ghost use Rattle.std.specs.Prelude.{◌≡◌, ◌≤◌};
+ghost use Rattle.pops.specs.Run.{exit_status_of};
 
 use crate::command_line::settings;
 use crate::run::run;
@@ -65,12 +66,22 @@ fn report<R: Read + Drop, W: Write + Drop, E: Write + Drop>(
     let status = run(settings, &mut source, &mut sink);
     let mut output = sink.into_inner();
     let flushed = output.flush().is_ok();
+    match exit_status(status, flushed) {
+        Some(status) => status,
+        None => refuse(errors, b"pops: output failed\n", 3),
+    }
+}
+
+// The exit status of a run; none where its output failed, the last flush included.
+fn exit_status(status: Status, flushed: bool) -> Option<u8>
+    ensures { result ≡ exit_status_of status flushed }
+{
     match status {
-        Status::OutputFailed => refuse(errors, b"pops: output failed\n", 3),
-        _ if !flushed => refuse(errors, b"pops: output failed\n", 3),
-        Status::InputFailed => 3,
-        Status::Faulty => 1,
-        Status::Sound => 0,
+        _ if !flushed => None,
+        Status::OutputFailed => None,
+        Status::InputFailed => Some(3),
+        Status::Faulty => Some(1),
+        Status::Sound => Some(0),
     }
 }
 

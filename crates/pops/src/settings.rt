@@ -12,7 +12,7 @@ pub struct Settings {
 }
 
 /// Why the words of a command line give no settings.
-#[derive(Clone, Copy, Debug, PartialEq, Eq)]
+#[derive(Clone, Copy)]
 pub enum ArgFault {
     /// They aren't of the form `pops [--check] [--no-board] [FILE]`.
     Usage,

@@ -1,8 +1,7 @@
-//! What is only tested: worked rows, whose reports were written from the rules, and the layout of made events.
+//! What is only tested: worked rows, whose reports were written from the rules, and calls of devices.
 mod counted;
 mod devices;
 mod endless;
 mod goals;
-mod printing;
 mod rows;
 mod streams;

@@ -70,8 +70,8 @@ impl Draft {
         for letter in letters.as_bytes() {
             let file = self.draw(8) as u8;
             let rank = self.draw(8) as u8;
-            for byte in [b' ', *letter, b'a' + file, b'1' + rank] {
-                let _fits = self.text.try_push(byte);
+            for byte in &[b' ', *letter, b'a' + file, b'1' + rank] {
+                let _fits = self.text.try_push(*byte);
             }
         }
     }

@@ -15,7 +15,6 @@ use pop_solve::event::Event;
 use pop_solve::search::Search;
 use pop_text::trial_sink::TrialSink;
 use pop_text::trial_source::TrialSource;
-use std::process::Abort;
 
 /// More events than any row has.
 const ALL: u64 = 1000;
@@ -79,45 +78,63 @@ fn run<R: Rules, const N: usize>(problem: &Problem, most: u64) -> Given
     }
 }
 
-/// A row under its rules: the whole text, then a search dropped after each number of events, then one with N frames,
-/// which are just enough.
-fn try_row<R: Rules, const N: usize>(rt: &impl Abort, problem: &Problem, want: &str) -> u64
+/// A search with just enough frames; nothing where no row has so many half-moves.
+fn run_tight<R: Rules>(problem: &Problem) -> Option<Given>
+    requires { R.rule ≡ rule_of problem.now.condition }
+{
+    Some(match half_moves(problem) {
+        1 => run::<R, 2>(problem, ALL),
+        2 => run::<R, 3>(problem, ALL),
+        3 => run::<R, 4>(problem, ALL),
+        4 => run::<R, 5>(problem, ALL),
+        5 => run::<R, 6>(problem, ALL),
+        31 => run::<R, 32>(problem, ALL),
+        32 => run::<R, 33>(problem, ALL),
+        _ => return None,
+    })
+}
+
+/// Whether a search that was dropped after so many events gave as many of the text, and would have gone on.
+fn begins(part: &Given, events: u64, want: &str) -> bool {
+    part.events == events
+        && part.given == events
+        && part.goes_on
+        && want.as_bytes().starts_with(part.text.as_slice())
+}
+
+/// The frames that a row opened, under its rules: the whole text, then a search dropped after each number of events, then
+/// one with just enough frames. Nothing where one of them isn't as it is to be.
+fn opened_under<R: Rules>(problem: &Problem, want: &str) -> Option<u64>
     requires { R.rule ≡ rule_of problem.now.condition }
 {
     let half_moves = half_moves(problem);
     let whole = run::<R, 33>(problem, ALL);
-    assert!(rt; whole.text.as_slice() == want.as_bytes());
-    assert!(rt; !whole.goes_on);
-    assert_eq!(rt; whole.given, whole.events);
-    assert!(rt; whole.deepest <= half_moves + 1);
+    let tight = run_tight::<R>(problem)?;
+    let right = whole.text.as_slice() == want.as_bytes()
+        && !whole.goes_on
+        && whole.given == whole.events
+        && whole.deepest <= half_moves + 1
+        && tight.text.as_slice() == want.as_bytes()
+        && tight.opened == whole.opened;
+    if !right {
+        return None;
+    }
     for events in 0..whole.events {
-        let part = run::<R, 33>(problem, events);
-        assert_eq!(rt; part.events, events);
-        assert_eq!(rt; part.given, events);
-        assert!(rt; part.goes_on);
-        assert!(rt; want.as_bytes().starts_with(part.text.as_slice()));
+        if !begins(&run::<R, 33>(problem, events), events, want) {
+            return None;
+        }
     }
-    assert_eq!(rt; half_moves + 1, N);
-    if half_moves < N && N <= 33 {
-        let tight = run::<R, N>(problem, ALL);
-        assert!(rt; tight.text.as_slice() == want.as_bytes());
-        assert_eq!(rt; tight.opened, whole.opened);
-    }
-    whole.opened
+    Some(whole.opened)
 }
 
-/// The row of a problem's text; the frames opened.
-pub(crate) fn row<const N: usize>(rt: &impl Abort, text: &str, want: &str) -> u64 {
-    let mut source = TrialSource::new(text.as_bytes(), 4096, None);
-    let mut reader = Reader::new();
-    let Item::Sound(problem, _) = reader.next_problem(&mut source) else {
-        assert!(rt; false, "a sound problem");
-        return 0;
-    };
+/// The frames that the row of a problem's text opened; nothing where the problem isn't sound or its search isn't as it is
+/// to be.
+pub(crate) fn opened(text: &str, want: &str) -> Option<u64> {
+    let problem = read(text.as_bytes())?;
     match problem.condition() {
-        None => try_row::<Orthodox, N>(rt, &problem, want),
-        Some(Condition::Circe) => try_row::<Circe, N>(rt, &problem, want),
-        Some(Condition::Madrasi) => try_row::<Madrasi, N>(rt, &problem, want),
+        None => opened_under::<Orthodox>(&problem, want),
+        Some(Condition::Circe) => opened_under::<Circe>(&problem, want),
+        Some(Condition::Madrasi) => opened_under::<Madrasi>(&problem, want),
     }
 }
 
@@ -147,7 +164,12 @@ pub(crate) fn posed(men: &[u8], stipulation: &str, rest: &str) -> Option<Problem
     for part in parts {
         let _fits = text.try_extend_from_slice(part);
     }
-    let mut source = TrialSource::new(text.as_slice(), 4096, None);
+    read(text.as_slice())
+}
+
+/// The first problem of a text; nothing where it isn't sound.
+fn read(text: &[u8]) -> Option<Problem> {
+    let mut source = TrialSource::new(text, 4096, None);
     let mut reader = Reader::new();
     match reader.next_problem(&mut source) {
         Item::Sound(problem, _) => Some(problem),

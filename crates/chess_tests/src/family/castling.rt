@@ -1,7 +1,6 @@
 //! Castling into lines, out of them and through them.
 use crate::draw::Draw;
 use crate::scene::{man, mark_homes, put, put_rider, scatter, steps};
-use crate::setup::square;
 use chess_core::{Colour, Diagram, Kind, Square};
 
 // King and rooks at home, attackers of the squares between them, and the other king on their files.
@@ -10,15 +9,18 @@ pub(crate) fn castling(draw: &mut Draw) -> Diagram {
     diagram.turn = draw.colour();
     let mover = diagram.turn;
     let kinds = draw.kinds();
-    let (corners, home, up) = match mover {
-        Colour::White => (["a1", "h1"], "e1", (0u8, 1u8)),
-        Colour::Black => (["a8", "h8"], "e8", (0u8, 255u8)),
+    let (rank, up) = match mover {
+        Colour::White => (1u8, (0u8, 1u8)),
+        Colour::Black => (8u8, (0u8, 255u8)),
     };
-    let _king = put(&mut diagram, Some(square(home)), man(mover, Kind::King));
-    for corner in corners {
-        let _rook = put(&mut diagram, Some(square(corner)), man(mover, Kind::Rook));
+    let _king = put(&mut diagram, Square::new(5, rank), man(mover, Kind::King));
+    for corner in &[1u8, 8] {
+        let _rook = put(
+            &mut diagram,
+            Square::new(*corner, rank),
+            man(mover, Kind::Rook),
+        );
     }
-    let rank = square(home).rank();
     for _attacker in 0..draw.below(3) {
         let aim = Square::new(2 + draw.below(6), rank).unwrap_or_default();
         let slant = [0u8, 1, 255][draw.below(3) as usize];
@@ -54,8 +56,8 @@ fn put_net(diagram: &mut Diagram, draw: &mut Draw, up: (u8, u8)) {
     let arrival = Square::new(file, home).unwrap_or_default();
     let king = steps(arrival, up, 2 + draw.below(5));
     let _king = put(diagram, king, man(mover.other(), Kind::King));
-    for beside in [file - 1, file + 1] {
-        let at = Square::new(beside, 4 + draw.below(2));
+    for beside in &[file - 1, file + 1] {
+        let at = Square::new(*beside, 4 + draw.below(2));
         let far = steps(at.unwrap_or_default(), up, draw.below(4));
         let guard = if draw.once_in(3) {
             Kind::Queen
@@ -90,13 +92,13 @@ pub(crate) fn home_ranks(draw: &mut Draw) -> Diagram {
     } else {
         Kind::Rook
     };
-    for (file, rank, who) in [
+    for (file, rank, who) in &[
         (5u8, home, man(mover, Kind::King)),
         (corner, home, man(mover, Kind::Rook)),
         (far, home, man(mover.other(), Kind::King)),
         (file, next, man(mover, guard)),
     ] {
-        let _put = put(&mut diagram, Square::new(file, rank), who);
+        let _put = put(&mut diagram, Square::new(*file, *rank), *who);
     }
     let count = draw.below(4);
     scatter(&mut diagram, draw, kinds, count);

@@ -44,13 +44,13 @@ pub(crate) fn nightrider_lines(draw: &mut Draw) -> Diagram {
     let mover = diagram.turn;
     let own = put_king(&mut diagram, draw, mover);
     let other = put_king(&mut diagram, draw, mover.other());
-    for (king, rear) in [(own, mover.other()), (other, mover)] {
+    for (king, rear) in &[(own, mover.other()), (other, mover)] {
         for _line in 0..2u8 {
             let leap = draw.leap();
             let front = man(mover, draw.kind(Kinds::All));
-            let at = steps(king, leap, 1);
-            let behind = steps(king, leap, 2 + draw.below(2));
-            if put(&mut diagram, behind, man(rear, Kind::Nightrider)) {
+            let at = steps(*king, leap, 1);
+            let behind = steps(*king, leap, 2 + draw.below(2));
+            if put(&mut diagram, behind, man(*rear, Kind::Nightrider)) {
                 let _front = put(&mut diagram, at, front);
             }
         }

@@ -182,8 +182,8 @@ fn shut_in(diagram: &mut Diagram, draw: &mut Draw, king: Square, hole: Square) {
             let _guard = put(diagram, beside, man(mover.other(), guard));
         }
     }
-    for seen in [hole, next(king, draw.line()).unwrap_or(king)] {
+    for seen in &[hole, next(king, draw.line()).unwrap_or(king)] {
         let line = draw.line();
-        let _rider = put_rider(diagram, draw, seen, line, mover);
+        let _rider = put_rider(diagram, draw, *seen, line, mover);
     }
 }

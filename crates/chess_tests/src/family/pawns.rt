@@ -27,8 +27,8 @@ pub(crate) fn en_passant(draw: &mut Draw) -> Diagram {
     let _own = put_king(&mut diagram, draw, mover);
     let _other = put_king(&mut diagram, draw, mover.other());
     if draw.once_in(2) {
-        for kind in [Kind::Queen, Kind::Queen, Kind::Rook] {
-            let _helper = put(&mut diagram, Some(draw.square()), man(mover, kind));
+        for kind in &[Kind::Queen, Kind::Queen, Kind::Rook] {
+            let _helper = put(&mut diagram, Some(draw.square()), man(mover, *kind));
         }
     }
     let count = draw.below(5);

@@ -18,10 +18,10 @@ pub(crate) fn rebirths(draw: &mut Draw) -> Diagram {
         Colour::White => 7u8,
         Colour::Black => 2u8,
     };
-    for colour in [mover, mover.other()] {
+    for colour in &[mover, mover.other()] {
         let rank = if draw.once_in(3) { inward } else { home };
         let at = Square::new(1 + draw.below(8), rank).unwrap_or_default();
-        let _king = put(&mut diagram, Some(at), man(colour, Kind::King));
+        let _king = put(&mut diagram, Some(at), man(*colour, Kind::King));
         let line = draw.line();
         if draw.once_in(2) {
             let _rider = put_rider(&mut diagram, draw, at, line, colour.other());
@@ -144,9 +144,9 @@ pub(crate) fn paralysis(draw: &mut Draw) -> Diagram {
     let kinds = draw.kinds();
     let own = put_king(&mut diagram, draw, mover);
     let other = put_king(&mut diagram, draw, mover.other());
-    for (king, colour) in [(own, mover.other()), (other, mover)] {
+    for (king, colour) in &[(own, mover.other()), (other, mover)] {
         for _aimed in 0..2u8 {
-            put_facing(&mut diagram, draw, king, colour);
+            put_facing(&mut diagram, draw, *king, *colour);
         }
     }
     let count = 2 + draw.below(7);

@@ -1,262 +1,209 @@
 //! Small positions whose legal moves, or mates, are worked out by hand.
-use crate::probe::{mates_of, moves_of};
-use crate::setup::{diagram_of, moves, square, unmoved};
-use chess_rules::{Circe, Madrasi, Orthodox};
+use crate::plain::Rule;
+use crate::probe::{has_mates, has_moves};
 
-// The rook on e2 is pinned by the one on e8: it goes along the file alone, up to the capture. The king has
-// all its squares but the file's.
-#[test]
-fn a_pinned_rook_keeps_to_its_file(rt: HostRuntime) {
-    let diagram = diagram_of("k3r3/8/8/8/8/8/4R3/4K3");
-    assert!(rt; diagram.is_well_formed());
-    let expected = moves("e1d1 e1f1 e1d2 e1f2 e2e3 e2e4 e2e5 e2e6 e2e7 e2e8");
-    assert_eq!(rt; moves_of::<Orthodox>(&diagram), expected);
+// The rules, the position, and the legal moves of White.
+const LEGAL_MOVES: [(Rule, &str, &str); 28] = [
+    // The rook on e2 is pinned by the one on e8: it goes along the file alone, up to the capture. The king has
+    // all its squares but the file's.
+    (
+        Rule::Orthodox,
+        "k3r3/8/8/8/8/8/4R3/4K3",
+        "e1d1 e1f1 e1d2 e1f2 e2e3 e2e4 e2e5 e2e6 e2e7 e2e8",
+    ),
     // In Circe the captured rook comes back on a8 (e8 is light), where the king stands: it vanishes.
-    assert_eq!(rt; moves_of::<Circe>(&diagram), expected);
+    (
+        Rule::Circe,
+        "k3r3/8/8/8/8/8/4R3/4K3",
+        "e1d1 e1f1 e1d2 e1f2 e2e3 e2e4 e2e5 e2e6 e2e7 e2e8",
+    ),
     // In Madrasi the rooks paralyse each other, and neither moves.
-    let expected = moves("e1d1 e1f1 e1d2 e1f2");
-    assert_eq!(rt; moves_of::<Madrasi>(&diagram), expected);
-}
-
-// The capture en passant takes both pawns from the rank, and the rook on h5 would attack the king on a5.
-// The square b4 is the black pawn's. In Circe the pawn comes back on c7, off the rank.
-#[test]
-fn en_passant_opens_a_rank(rt: HostRuntime) {
-    let mut diagram = diagram_of("7k/8/8/KPp4r/8/8/8/8");
-    diagram.crossed = Some(square("c6"));
-    assert!(rt; diagram.is_well_formed());
-    let expected = moves("a5a4 a5a6 a5b6 b5b6");
-    assert_eq!(rt; moves_of::<Orthodox>(&diagram), expected);
-    assert_eq!(rt; moves_of::<Circe>(&diagram), expected);
-    assert_eq!(rt; moves_of::<Madrasi>(&diagram), expected);
-}
-
-// The pawn that has just passed e6 gives check: it may be captured en passant, though e6 is neither its
-// square nor between it and the king. The step to d6 leaves the check.
-#[test]
-fn en_passant_captures_the_checker(rt: HostRuntime) {
-    let mut diagram = diagram_of("7k/8/8/3Pp3/3K4/8/8/8");
-    diagram.crossed = Some(square("e6"));
-    assert!(rt; diagram.is_well_formed());
-    let expected = moves("d4c3 d4d3 d4e3 d4c4 d4e4 d4c5 d4e5 d5e6");
-    assert_eq!(rt; moves_of::<Orthodox>(&diagram), expected);
-    assert_eq!(rt; moves_of::<Circe>(&diagram), expected);
-}
-
-// Attacked are f1, so that the king can't castle across it, and b1, which only the rook passes.
-#[test]
-fn castling_beside_lines(rt: HostRuntime) {
-    let mut diagram = diagram_of("1r3r2/6k1/8/8/8/8/8/R3K2R");
-    diagram.unmoved = unmoved("a1 e1 h1");
-    assert!(rt; diagram.is_well_formed());
-    let expected = moves(
+    (
+        Rule::Madrasi,
+        "k3r3/8/8/8/8/8/4R3/4K3",
+        "e1d1 e1f1 e1d2 e1f2",
+    ),
+    // The capture en passant takes both pawns from the rank, and the rook on h5 would attack the king on a5.
+    // The square b4 is the black pawn's. In Circe the pawn comes back on c7, off the rank.
+    (
+        Rule::Orthodox,
+        "7k/8/8/KPp4r/8/8/8/8 c6",
+        "a5a4 a5a6 a5b6 b5b6",
+    ),
+    (
+        Rule::Circe,
+        "7k/8/8/KPp4r/8/8/8/8 c6",
+        "a5a4 a5a6 a5b6 b5b6",
+    ),
+    (
+        Rule::Madrasi,
+        "7k/8/8/KPp4r/8/8/8/8 c6",
+        "a5a4 a5a6 a5b6 b5b6",
+    ),
+    // The pawn that has just passed e6 gives check: it may be captured en passant, though e6 is neither its
+    // square nor between it and the king. The step to d6 leaves the check.
+    (
+        Rule::Orthodox,
+        "7k/8/8/3Pp3/3K4/8/8/8 e6",
+        "d4c3 d4d3 d4e3 d4c4 d4e4 d4c5 d4e5 d5e6",
+    ),
+    (
+        Rule::Circe,
+        "7k/8/8/3Pp3/3K4/8/8/8 e6",
+        "d4c3 d4d3 d4e3 d4c4 d4e4 d4c5 d4e5 d5e6",
+    ),
+    // Attacked are f1, so that the king can't castle across it, and b1, which only the rook passes.
+    (
+        Rule::Orthodox,
+        "1r3r2/6k1/8/8/8/8/8/R3K2R a1 e1 h1",
         "a1b1 a1c1 a1d1 a1a2 a1a3 a1a4 a1a5 a1a6 a1a7 a1a8 e1c1 e1d1 e1d2 e1e2 h1f1 h1g1 h1h2 h1h3 h1h4 h1h5 h1h6 h1h7 h1h8",
-    );
-    assert_eq!(rt; moves_of::<Orthodox>(&diagram), expected);
-    assert_eq!(rt; moves_of::<Circe>(&diagram), expected);
-}
-
-// Attacked is c1, so that the king can't castle to it; then the king itself, who can't castle at all.
-#[test]
-fn castling_into_lines_and_out_of_them(rt: HostRuntime) {
-    let mut into = diagram_of("2r5/6k1/8/8/8/8/8/R3K2R");
-    into.unmoved = unmoved("a1 e1 h1");
-    assert!(rt; into.is_well_formed());
-    let expected = moves(
+    ),
+    (
+        Rule::Circe,
+        "1r3r2/6k1/8/8/8/8/8/R3K2R a1 e1 h1",
+        "a1b1 a1c1 a1d1 a1a2 a1a3 a1a4 a1a5 a1a6 a1a7 a1a8 e1c1 e1d1 e1d2 e1e2 h1f1 h1g1 h1h2 h1h3 h1h4 h1h5 h1h6 h1h7 h1h8",
+    ),
+    // Attacked is c1, so that the king can't castle to it; then the king itself, who can't castle at all.
+    (
+        Rule::Orthodox,
+        "2r5/6k1/8/8/8/8/8/R3K2R a1 e1 h1",
         "a1b1 a1c1 a1d1 a1a2 a1a3 a1a4 a1a5 a1a6 a1a7 a1a8 e1d1 e1f1 e1g1 e1d2 e1e2 e1f2 h1f1 h1g1 h1h2 h1h3 h1h4 h1h5 h1h6 h1h7 h1h8",
-    );
-    assert_eq!(rt; moves_of::<Orthodox>(&into), expected);
-    let mut out = diagram_of("4r3/6k1/8/8/8/8/8/R3K2R");
-    out.unmoved = unmoved("a1 e1 h1");
-    assert!(rt; out.is_well_formed());
-    assert_eq!(rt; moves_of::<Orthodox>(&out), moves("e1d1 e1f1 e1d2 e1f2"));
-}
-
-// The rook on a8 checks along the last rank, and the pawn shuts it by each promotion.
-#[test]
-fn promotions_shut_a_line(rt: HostRuntime) {
-    let diagram = diagram_of("r6K/4P3/8/8/8/2k5/8/8");
-    assert!(rt; diagram.is_well_formed());
-    let expected = moves("e7e8Q e7e8R e7e8B e7e8S h8g7 h8h7");
-    assert_eq!(rt; moves_of::<Orthodox>(&diagram), expected);
-    assert_eq!(rt;
-        moves_of::<Madrasi>(&diagram),
-        moves("e7e8Q e7e8R e7e8B e7e8S h8g7 h8h7")
-    );
-}
-
-// Rook and bishop check at once: no queen and no pawn can answer both, and of the king's squares d2 and
-// e2 lie on their lines.
-#[test]
-fn a_double_check_is_answered_by_the_king(rt: HostRuntime) {
-    let diagram = diagram_of("4r2k/8/8/b7/8/8/2P5/3QK3");
-    assert!(rt; diagram.is_well_formed());
-    assert_eq!(rt; moves_of::<Orthodox>(&diagram), moves("e1f1 e1f2"));
-    assert_eq!(rt; moves_of::<Circe>(&diagram), moves("e1f1 e1f2"));
-}
-
-// The king can't go along the rook's rank, f4 included, which he hides from the rook himself.
-#[test]
-fn a_king_leaves_his_checkers_line(rt: HostRuntime) {
-    let diagram = diagram_of("k7/8/8/8/r3K3/8/8/8");
-    assert!(rt; diagram.is_well_formed());
-    assert_eq!(rt;
-        moves_of::<Orthodox>(&diagram),
-        moves("e4d3 e4e3 e4f3 e4d5 e4e5 e4f5")
-    );
-}
-
-// The grasshopper on a5 attacks e5 over the king on d5. Once the king has gone there, he is no hurdle any
-// more, so he may; nor does it attack c5.
-#[test]
-fn a_king_is_no_hurdle_where_he_left(rt: HostRuntime) {
-    let diagram = diagram_of("8/8/8/g2K4/8/8/8/7k");
-    assert!(rt; diagram.is_well_formed());
-    let expected = moves("d5c4 d5d4 d5e4 d5c5 d5e5 d5c6 d5d6 d5e6");
-    assert_eq!(rt; moves_of::<Orthodox>(&diagram), expected);
-}
-
-// The rook may not go to c5, where the grasshopper on a5 would hop over it to the king's square. It may
-// pass there.
-#[test]
-fn a_hurdle_may_not_arrive(rt: HostRuntime) {
-    let diagram = diagram_of("8/8/8/g2K4/8/8/7k/2R5");
-    assert!(rt; diagram.is_well_formed());
-    let expected = moves(
+    ),
+    (
+        Rule::Orthodox,
+        "4r3/6k1/8/8/8/8/8/R3K2R a1 e1 h1",
+        "e1d1 e1f1 e1d2 e1f2",
+    ),
+    // The rook on a8 checks along the last rank, and the pawn shuts it by each promotion.
+    (
+        Rule::Orthodox,
+        "r6K/4P3/8/8/8/2k5/8/8",
+        "e7e8Q e7e8R e7e8B e7e8S h8g7 h8h7",
+    ),
+    (
+        Rule::Madrasi,
+        "r6K/4P3/8/8/8/2k5/8/8",
+        "e7e8Q e7e8R e7e8B e7e8S h8g7 h8h7",
+    ),
+    // Rook and bishop check at once: no queen and no pawn can answer both, and of the king's squares d2 and
+    // e2 lie on their lines.
+    (Rule::Orthodox, "4r2k/8/8/b7/8/8/2P5/3QK3", "e1f1 e1f2"),
+    (Rule::Circe, "4r2k/8/8/b7/8/8/2P5/3QK3", "e1f1 e1f2"),
+    // The king can't go along the rook's rank, f4 included, which he hides from the rook himself.
+    (
+        Rule::Orthodox,
+        "k7/8/8/8/r3K3/8/8/8",
+        "e4d3 e4e3 e4f3 e4d5 e4e5 e4f5",
+    ),
+    // The grasshopper on a5 attacks e5 over the king on d5. Once the king has gone there, he is no hurdle any
+    // more, so he may; nor does it attack c5.
+    (
+        Rule::Orthodox,
+        "8/8/8/g2K4/8/8/8/7k",
+        "d5c4 d5d4 d5e4 d5c5 d5e5 d5c6 d5d6 d5e6",
+    ),
+    // The rook may not go to c5, where the grasshopper on a5 would hop over it to the king's square. It may
+    // pass there.
+    (
+        Rule::Orthodox,
+        "8/8/8/g2K4/8/8/7k/2R5",
         "c1a1 c1b1 c1d1 c1e1 c1f1 c1g1 c1h1 c1c2 c1c3 c1c4 c1c6 c1c7 c1c8 d5c4 d5d4 d5e4 d5c5 d5e5 d5c6 d5d6 d5e6",
-    );
-    assert_eq!(rt; moves_of::<Orthodox>(&diagram), expected);
+    ),
+    // The grasshopper on a5 hops over the bishop on b5 to c5. Were the bishop gone, it would hop over the rook
+    // to the king: the bishop doesn't move. The rook is free to.
+    (
+        Rule::Orthodox,
+        "8/8/8/gBRK4/8/8/7k/8",
+        "c5c1 c5c2 c5c3 c5c4 c5c6 c5c7 c5c8 d5c4 d5d4 d5e4 d5e5 d5c6 d5d6 d5e6",
+    ),
+    // The nightrider on b7 rides by c5 and d3 to e1. A rook on c5 is pinned and can't stay on that line; one
+    // on h5 shuts it on c5.
+    (
+        Rule::Orthodox,
+        "7k/1n6/8/2R5/8/8/8/4K3",
+        "e1d1 e1f1 e1d2 e1e2 e1f2",
+    ),
+    (
+        Rule::Orthodox,
+        "k7/1n6/8/7R/8/8/8/4K3",
+        "e1d1 e1f1 e1d2 e1e2 e1f2 h5c5",
+    ),
+    // Without a king the rook is pinned to nothing.
+    (
+        Rule::Orthodox,
+        "4r3/7k/8/8/8/8/4R3/8",
+        "e2e1 e2a2 e2b2 e2c2 e2d2 e2f2 e2g2 e2h2 e2e3 e2e4 e2e5 e2e6 e2e7 e2e8",
+    ),
+    // Captured on b7, which is light, the rook comes back on a8 and would check the king on d8.
+    (
+        Rule::Circe,
+        "3K4/1r6/8/8/8/5B2/7k/8",
+        "f3d1 f3h1 f3e2 f3g2 f3e4 f3g4 f3d5 f3h5 f3c6 d8c8 d8e8",
+    ),
+    (
+        Rule::Orthodox,
+        "3K4/1r6/8/8/8/5B2/7k/8",
+        "f3d1 f3h1 f3e2 f3g2 f3e4 f3g4 f3d5 f3h5 f3c6 f3b7 d8c8 d8e8",
+    ),
+    // The rooks on a8 and e8 paralyse each other, so e8 doesn't check. A bishop on c8 would free it.
+    (
+        Rule::Madrasi,
+        "R3r3/7k/8/8/8/7B/8/4K3",
+        "e1d1 e1f1 e1d2 e1e2 e1f2 h3f1 h3g2 h3g4 h3f5 h3e6 h3d7",
+    ),
+    // The bishop on b4 checks. On f8 the white one attacks it, so that it is paralysed; on d2 it stands
+    // between as well.
+    (
+        Rule::Madrasi,
+        "7k/8/7B/8/1b6/8/8/4K3",
+        "e1d1 e1f1 e1e2 e1f2 h6d2 h6f8",
+    ),
+    (
+        Rule::Orthodox,
+        "7k/8/7B/8/1b6/8/8/4K3",
+        "e1d1 e1f1 e1e2 e1f2 h6d2",
+    ),
+];
+
+// The same with the legal moves that mate.
+const MATES: [(Rule, &str, &str); 11] = [
+    // On c8, d8 and e8 the queen checks and leaves h7, on h3 she leaves g8, on h7 the king takes her. On g7
+    // she is guarded and sees both.
+    (Rule::Orthodox, "7k/3Q4/5K2/8/8/8/8/8", "d7g7"),
+    // A side without a king is not mated.
+    (Rule::Orthodox, "r7/8/6K1/8/8/8/8/R7", ""),
+    // After the rook's capture on h7 the king flees to g8. In Circe the knight, captured on a light square,
+    // has come back there: mate. After Rd8 the knight goes to f8.
+    (Rule::Orthodox, "7k/3R3s/6K1/8/8/8/8/8", ""),
+    (Rule::Circe, "7k/3R3s/6K1/8/8/8/8/8", "d7h7"),
+    // Castling and the rook's move shut the king on f3 up between the rooks' files: both mate.
+    (
+        Rule::Orthodox,
+        "4R1R1/8/8/8/8/5k2/8/4K2R e1 h1",
+        "e1g1 h1f1",
+    ),
+    // The rook that castles checks along the rank, through the square that the king left; the other rook has the
+    // second rank. A king's step to it shuts that rank.
+    (Rule::Orthodox, "8/8/8/8/8/8/7R/k3K2R e1 h1", "e1g1"),
+    (Rule::Circe, "8/8/8/8/8/8/R7/R3K2k a1 e1", "e1c1"),
+    (Rule::Madrasi, "8/8/8/8/8/8/R7/R3K2k a1 e1", "e1c1"),
+    // The capture en passant opens the diagonal from a1 to h8, and the bishop on b3 then sees g8.
+    (Rule::Orthodox, "7k/8/6K1/3pP3/8/1B6/8/B7 d6", "e5d6"),
+    (Rule::Circe, "7k/8/6K1/3pP3/8/1B6/8/B7 d6", "e5d6"),
+    // Queen and rook check along the last rank and see g8, bishop and knight don't check.
+    (Rule::Orthodox, "7k/5P2/6K1/8/8/8/8/8", "f7f8Q f7f8R"),
+];
+
+#[test]
+fn legal_moves(rt: HostRuntime) {
+    for (rule, position, wanted) in &LEGAL_MOVES {
+        assert!(rt; has_moves(*rule, position, wanted), "{position}");
+    }
 }
 
-// The grasshopper on a5 hops over the bishop on b5 to c5. Were the bishop gone, it would hop over the rook
-// to the king: the bishop doesn't move. The rook is free to.
 #[test]
-fn a_hurdle_may_not_leave(rt: HostRuntime) {
-    let diagram = diagram_of("8/8/8/gBRK4/8/8/7k/8");
-    assert!(rt; diagram.is_well_formed());
-    let expected = moves("c5c1 c5c2 c5c3 c5c4 c5c6 c5c7 c5c8 d5c4 d5d4 d5e4 d5e5 d5c6 d5d6 d5e6");
-    assert_eq!(rt; moves_of::<Orthodox>(&diagram), expected);
-}
-
-// The nightrider on b7 rides by c5 and d3 to e1. A rook on c5 is pinned and can't stay on that line; one
-// on h5 shuts it on c5.
-#[test]
-fn a_nightriders_line(rt: HostRuntime) {
-    let pinned = diagram_of("7k/1n6/8/2R5/8/8/8/4K3");
-    assert!(rt; pinned.is_well_formed());
-    assert_eq!(rt;
-        moves_of::<Orthodox>(&pinned),
-        moves("e1d1 e1f1 e1d2 e1e2 e1f2")
-    );
-    let shut = diagram_of("k7/1n6/8/7R/8/8/8/4K3");
-    assert!(rt; shut.is_well_formed());
-    assert_eq!(rt;
-        moves_of::<Orthodox>(&shut),
-        moves("e1d1 e1f1 e1d2 e1e2 e1f2 h5c5")
-    );
-}
-
-// On c8, d8 and e8 the queen checks and leaves h7, on h3 she leaves g8, on h7 the king takes her. On g7
-// she is guarded and sees both.
-#[test]
-fn a_queen_uncovers_a_flight(rt: HostRuntime) {
-    let diagram = diagram_of("7k/3Q4/5K2/8/8/8/8/8");
-    assert!(rt; diagram.is_well_formed());
-    assert_eq!(rt; mates_of::<Orthodox>(&diagram), moves("d7g7"));
-}
-
-// Without a king the rook is pinned to nothing; a side without a king is not mated.
-#[test]
-fn kings_are_missing(rt: HostRuntime) {
-    let mover = diagram_of("4r3/7k/8/8/8/8/4R3/8");
-    assert!(rt; mover.is_well_formed());
-    let expected = moves("e2e1 e2a2 e2b2 e2c2 e2d2 e2f2 e2g2 e2h2 e2e3 e2e4 e2e5 e2e6 e2e7 e2e8");
-    assert_eq!(rt; moves_of::<Orthodox>(&mover), expected);
-    let other = diagram_of("r7/8/6K1/8/8/8/8/R7");
-    assert!(rt; other.is_well_formed());
-    assert_eq!(rt; mates_of::<Orthodox>(&other), moves(""));
-}
-
-// Captured on b7, which is light, the rook comes back on a8 and would check the king on d8.
-#[test]
-fn a_reborn_rook_checks(rt: HostRuntime) {
-    let diagram = diagram_of("3K4/1r6/8/8/8/5B2/7k/8");
-    assert!(rt; diagram.is_well_formed());
-    let expected = moves("f3d1 f3h1 f3e2 f3g2 f3e4 f3g4 f3d5 f3h5 f3c6 d8c8 d8e8");
-    assert_eq!(rt; moves_of::<Circe>(&diagram), expected);
-    let expected = moves("f3d1 f3h1 f3e2 f3g2 f3e4 f3g4 f3d5 f3h5 f3c6 f3b7 d8c8 d8e8");
-    assert_eq!(rt; moves_of::<Orthodox>(&diagram), expected);
-}
-
-// After the rook's capture on h7 the king flees to g8. In Circe the knight, captured on a light square,
-// has come back there: mate. After Rd8 the knight goes to f8.
-#[test]
-fn a_reborn_knight_takes_a_flight(rt: HostRuntime) {
-    let diagram = diagram_of("7k/3R3s/6K1/8/8/8/8/8");
-    assert!(rt; diagram.is_well_formed());
-    assert_eq!(rt; mates_of::<Orthodox>(&diagram), moves(""));
-    assert_eq!(rt; mates_of::<Circe>(&diagram), moves("d7h7"));
-}
-
-// The rooks on a8 and e8 paralyse each other, so e8 doesn't check. A bishop on c8 would free it.
-#[test]
-fn a_rook_is_freed(rt: HostRuntime) {
-    let diagram = diagram_of("R3r3/7k/8/8/8/7B/8/4K3");
-    assert!(rt; diagram.is_well_formed());
-    let expected = moves("e1d1 e1f1 e1d2 e1e2 e1f2 h3f1 h3g2 h3g4 h3f5 h3e6 h3d7");
-    assert_eq!(rt; moves_of::<Madrasi>(&diagram), expected);
-}
-
-// The bishop on b4 checks. On f8 the white one attacks it, so that it is paralysed; on d2 it stands
-// between as well.
-#[test]
-fn a_checking_bishop_is_paralysed(rt: HostRuntime) {
-    let diagram = diagram_of("7k/8/7B/8/1b6/8/8/4K3");
-    assert!(rt; diagram.is_well_formed());
-    let expected = moves("e1d1 e1f1 e1e2 e1f2 h6d2 h6f8");
-    assert_eq!(rt; moves_of::<Madrasi>(&diagram), expected);
-    let expected = moves("e1d1 e1f1 e1e2 e1f2 h6d2");
-    assert_eq!(rt; moves_of::<Orthodox>(&diagram), expected);
-}
-
-// Castling and the rook's move shut the king on f3 up between the rooks' files: both mate.
-#[test]
-fn castling_mates(rt: HostRuntime) {
-    let mut diagram = diagram_of("4R1R1/8/8/8/8/5k2/8/4K2R");
-    diagram.unmoved = unmoved("e1 h1");
-    assert!(rt; diagram.is_well_formed());
-    assert_eq!(rt; mates_of::<Orthodox>(&diagram), moves("e1g1 h1f1"));
-}
-
-// The rook that castles checks along the rank, through the square that the king left; the other rook has the
-// second rank. A king's step to it shuts that rank.
-#[test]
-fn castling_mates_along_the_rank(rt: HostRuntime) {
-    let mut short = diagram_of("8/8/8/8/8/8/7R/k3K2R");
-    short.unmoved = unmoved("e1 h1");
-    assert!(rt; short.is_well_formed());
-    assert_eq!(rt; mates_of::<Orthodox>(&short), moves("e1g1"));
-    let mut long = diagram_of("8/8/8/8/8/8/R7/R3K2k");
-    long.unmoved = unmoved("a1 e1");
-    assert!(rt; long.is_well_formed());
-    assert_eq!(rt; mates_of::<Circe>(&long), moves("e1c1"));
-    assert_eq!(rt; mates_of::<Madrasi>(&long), moves("e1c1"));
-}
-
-// The capture en passant opens the diagonal from a1 to h8, and the bishop on b3 then sees g8.
-#[test]
-fn en_passant_mates(rt: HostRuntime) {
-    let mut diagram = diagram_of("7k/8/6K1/3pP3/8/1B6/8/B7");
-    diagram.crossed = Some(square("d6"));
-    assert!(rt; diagram.is_well_formed());
-    assert_eq!(rt; mates_of::<Orthodox>(&diagram), moves("e5d6"));
-    assert_eq!(rt; mates_of::<Circe>(&diagram), moves("e5d6"));
-}
-
-// Queen and rook check along the last rank and see g8, bishop and knight don't check.
-#[test]
-fn promotions_mate(rt: HostRuntime) {
-    let diagram = diagram_of("7k/5P2/6K1/8/8/8/8/8");
-    assert!(rt; diagram.is_well_formed());
-    assert_eq!(rt; mates_of::<Orthodox>(&diagram), moves("f7f8Q f7f8R"));
+fn mates(rt: HostRuntime) {
+    for (rule, position, wanted) in &MATES {
+        assert!(rt; has_mates(*rule, position, wanted), "{position}");
+    }
 }

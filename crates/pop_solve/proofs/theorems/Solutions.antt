@@ -5,7 +5,7 @@ use Rattle.pop_solve.proofs.PhasePaths.{first_joined, game_of, its_battle, help_
 use Rattle.pop_solve.proofs.Sound.{start_sound}
 use Rattle.pop_solve.proofs.theorems.HelpLines.{IsLegalLine, help_lines_of_chess_are, help_lines_of_chess_in_order}
 use Rattle.pop_solve.proofs.theorems.Lists.{HasBeginnings, StandsBefore, never_before_itself, paths}
-use Rattle.pop_solve.proofs.theorems.Trees.{keys_are, play_has_beginnings, play_in_order, set_play_has_beginnings, set_play_in_order, set_play_is}
+use Rattle.pop_solve.proofs.theorems.Trees.{first_set_solutions_have_beginnings, first_solutions_have_beginnings, keys_are, play_has_beginnings, play_in_order, set_play_has_beginnings, set_play_in_order, set_play_is}
 
 module _ (rule : RuleSet) (problem : Posed) where
   -- Help play: from a sound problem a list of moves is a line of a phase exactly where it has as many moves as the phase has half-moves,
@@ -72,3 +72,9 @@ module _ (rule : RuleSet) (problem : Posed) where
   pub nodes_stand_below_their_parents : (phase : Phase) → is_help problem.stipulation.form ≡ false → HasBeginnings (paths (solutions rule problem phase))
   nodes_stand_below_their_parents Play battle = rw (play_paths rule problem battle) (search (rules, play_has_beginnings))
   nodes_stand_below_their_parents Set battle = rw (set_paths rule problem battle) (search (rules, set_play_has_beginnings))
+
+  -- Nor does one that is shown, where the limit cuts the solutions.
+  pub shown_nodes_stand_below_their_parents : (phase : Phase) → is_help problem.stipulation.form ≡ false
+      → HasBeginnings (paths (take problem.max_solutions (solutions rule problem phase)))
+  shown_nodes_stand_below_their_parents Play battle = rw (play_paths rule problem battle) (search (rules, first_solutions_have_beginnings))
+  shown_nodes_stand_below_their_parents Set battle = rw (set_paths rule problem battle) (search (rules, first_set_solutions_have_beginnings))

@@ -1,6 +1,6 @@
 -- The trees of battle play, over any game: which moves stand in them, that no path stands twice, and in which order the paths stand.
-use Rattle.pop_solve.proofs.Words.{AllPairs, AllPairs-filter, Battle, Bool, Contains, Game, List, [], answers, arith, below, best, false, from_filter, in_filter, keeps, least, none_in_nil, pairs_nil, pairs_weaker, refl, set_shows, set_tree, suc, sym, tree, true, wins_in, zero, ℕ, ◌-◌, ◌↔◌, ◌∙◌, ◌∷◌, ◌≡◌, ◌≢◌, ◌≤◌}
-use Rattle.pop_solve.proofs.Nodes.{any_from_element, element_from_any, answers_more, answers_zero, below_more, below_zero, deeper_unless, nil_has_beginnings, nodes_have_beginnings, nodes_stand, roots_are, roots_unless, deeper_are, tree_paths, set_tree_paths, set_tree_none, from_nodes, below_key, kept, set_moves, below_set, below_key_has_beginnings, below_key_not_empty, below_key_stands, below_set_has_beginnings, below_set_not_empty, below_set_stands}
+use Rattle.pop_solve.proofs.Words.{AllPairs, AllPairs-filter, Battle, Bool, Contains, Game, List, [], answers, arith, below, best, false, from_filter, in_filter, keeps, least, none_in_nil, pairs_nil, pairs_weaker, refl, set_shows, set_tree, suc, sym, take, tree, true, wins_in, zero, ℕ, ◌-◌, ◌↔◌, ◌∙◌, ◌∷◌, ◌≡◌, ◌≢◌, ◌≤◌}
+use Rattle.pop_solve.proofs.Nodes.{any_from_element, element_from_any, answers_more, answers_zero, below_more, below_zero, deeper_unless, nil_has_beginnings, nodes_have_beginnings, nodes_stand, roots_are, roots_unless, deeper_are, tree_paths, set_tree_paths, set_tree_none, first_tree_paths, first_set_tree_none, first_set_tree_paths, from_nodes, below_key, kept, set_moves, below_set, below_key_has_beginnings, below_key_not_empty, below_key_stands, below_set_has_beginnings, below_set_not_empty, below_set_stands}
 use Rattle.pop_solve.proofs.theorems.Lengths.{no_win_in_none, wins_by_a_move, wins_in_least}
 use Rattle.pop_solve.proofs.theorems.Lists.{HasBeginnings, StandsBefore, never_before_itself, paths}
 
@@ -114,6 +114,22 @@ module _ {P M : Type 0} (battle : Battle) (game : Game P M) (n : ℕ) where
             rw (set_tree_paths battle game n variation h p)
             (nodes_have_beginnings (below_set battle game n variation h p) (below_set_has_beginnings battle game n variation h p)
             (set_moves battle game n p))
+
+    -- Nor does a limit of solutions part a path of the play from its beginnings.
+    pub first_solutions_have_beginnings : (k : ℕ) → HasBeginnings (paths (take k (tree battle game variation n h p)))
+    first_solutions_have_beginnings k = rw (first_tree_paths battle game n variation k h p)
+        (nodes_have_beginnings (below_key battle game n variation h p) (below_key_has_beginnings battle game n variation h p)
+        (take k (kept battle game n p)))
+
+    pub first_set_solutions_have_beginnings : (k : ℕ) → HasBeginnings (paths (take k (set_tree battle game variation n h p)))
+    first_set_solutions_have_beginnings k = by_half_moves h
+      where
+        by_half_moves : (h : ℕ) → HasBeginnings (paths (take k (set_tree battle game variation n h p)))
+        by_half_moves zero = rw (first_set_tree_none battle game n variation k p) nil_has_beginnings
+        by_half_moves (suc h) =
+            rw (first_set_tree_paths battle game n variation k h p)
+            (nodes_have_beginnings (below_set battle game n variation h p) (below_set_has_beginnings battle game n variation h p)
+            (take k (set_moves battle game n p)))
 
     -- Where the moves of each position stand in an order, the paths of the play stand in its lexicographic order: each node before
     -- what stands below it, and that before the next of its siblings.

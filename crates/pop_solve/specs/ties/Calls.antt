@@ -4,7 +4,8 @@ use Rattle.chess_core.specs.Triple.{Triple}
 use Rattle.chess_rules.specs.Legal.{legal, moves as legal_moves}
 use Rattle.chess_rules.specs.Play.{after as played}
 use Rattle.chess_rules.specs.RuleSet.{RuleSet}
-use Rattle.chess_rules.specs.ties.Places.{IsPlaceIn, LegalPlace}
+use Rattle.chess_rules.specs.ties.Places.{IsPlaceIn, LegalPlace, place_of}
+use Rattle.chess_mates.specs.ties.Mates.{mates}
 use Rattle.pop_solve.specs.Chess.{chess}
 use Rattle.pop_solve.specs.declared.aim.Aim.{Aim}
 use Rattle.pop_solve.specs.ties.Counts.{HasCounted, smallest_tree, walk_count}
@@ -15,7 +16,7 @@ use Rattle.pop_solve.specs.declared.plan.Plan.{Plan}
 use Rattle.pop_solve.specs.ties.Plans.{varies}
 use Rattle.pop_solve.specs.ties.Walk.{fewest_for}
 use Rattle.pop_solve.specs.ties.Values.{seeks, value}
-use Rattle.std.specs.Prelude.{◌≡◌, ◌+◌, ◌-◌, ◌^◌, ◌<◌, ◌≤◌, min, ℕ, Bool, false, true, List, [], ◌∷◌, Option, MatchOption}
+use Rattle.std.specs.Prelude.{◌≡◌, ◌+◌, ◌-◌, ◌^◌, ◌<◌, ◌≤◌, min, ℕ, Bool, false, true, List, [], ◌∷◌, Option, Some, MatchOption}
 
 -- the first of some moves of p was looked for, which are `untried` before the call and `left` behind the move found: the
 -- board stands on p as before, and what is known is still of its moves
@@ -25,6 +26,12 @@ pub record Finds (rule : RuleSet) (p board : Position) (known : LegalPlace) (fou
   pub within : IsPlaceIn rule p known
   pub next : MatchOption found (untried ≡ [])
       (λ m. (untried ≡ m ∷ left) × (legal rule p m ≡ true))
+
+-- the place stands on a legal move that mates
+pub record IsOnMate (rule : RuleSet) (p : Position) (place : ℕ) : Type 0 where
+  pub by : Triple
+  pub here : place ≡ place_of (Some by)
+  pub mates : mates rule p by ≡ true
 
 -- board and frames are as they were, and the count of opened frames hasn't fallen
 pub record Restores (p now : Position) (old new : List Frame) (before after : ℕ) : Type 0 where

@@ -4,6 +4,7 @@ use Rattle.chess_rules.specs.Legal.{moves as legal_moves}
 use Rattle.pop_solve.specs.declared.aim.Aim.{Aim}
 use Rattle.std.specs.Prelude.{◌≡◌, ◌<◌, IfSome, Bool, true, false, not, ◌&&◌, Option, Some, None, ℕ, zero, suc, ◌+◌, ◌-◌, ◌≤◌, ◌^◌, min, if◌then◌else◌, List, [], ◌∷◌, ◌++◌, ◌==◌, filter, length, take, drop, reverse}
 use Rattle.std.specs.List.{sum_by}
+use Rattle.chess_core.specs.Castling.{none_unmoved}
 use Rattle.chess_core.specs.Position.{Position}
 use Rattle.chess_core.specs.Triple.{Triple}
 use Rattle.chess_core.specs.WellFormed.{IsWellFormed}
@@ -43,6 +44,18 @@ pub record Frame : Type 0 where
   pub order : Order
   pub stretch : Stretch
   pub known : Option LegalPlace
+
+-- the frame of no position
+abbrev pub no_frame : Frame
+no_frame = record {
+  place = 0;
+  by = record { from = 0; to = 0; promo = None };
+  undo = record { captured = None; rebirth = None; unmoved = none_unmoved; crossed = None };
+  left = 0;
+  order = unordered;
+  stretch = Others;
+  known = None;
+}
 
 -- Frames are listed from the top down. The position on the top frame, the lowest being at p
 unfoldable pub position : RuleSet → Position → List Frame → Position

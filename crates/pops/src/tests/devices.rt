@@ -93,10 +93,10 @@ fn blanks_behind_the_end(rt: HostRuntime) -> Result<(), Fail> {
 // How many bytes a source gives or a sink takes a call changes nothing.
 #[test]
 fn bytes_a_call(rt: HostRuntime) {
-    for given in [1, 2, 3, 4095, 4096, 4097] {
-        for taken in [1, 2, 3, 4096] {
-            let mut source = TrialSource::new(THREE, given, None);
-            let mut sink = TrialSink::<ROOM>::new(taken, None);
+    for given in &[1, 2, 3, 4095, 4096, 4097] {
+        for taken in &[1, 2, 3, 4096] {
+            let mut source = TrialSource::new(THREE, *given, None);
+            let mut sink = TrialSink::<ROOM>::new(*taken, None);
             let status = run(&settings(), &mut source, &mut sink);
             assert!(rt;
                 status == Status::Faulty,
@@ -148,8 +148,8 @@ fn failure_in(bytes: &[u8]) -> &'static [u8] {
 #[test]
 fn a_source_that_fails(rt: HostRuntime) {
     for bytes in 0..THREE.len() + 1 {
-        for given in [1, 4096] {
-            let mut source = Counted::new(TrialSource::new(THREE, given, Some(bytes)));
+        for given in &[1, 4096] {
+            let mut source = Counted::new(TrialSource::new(THREE, *given, Some(bytes)));
             let mut sink = TrialSink::<ROOM>::new(4096, None);
             let status = run(&settings(), &mut source, &mut sink);
             assert!(rt; status == Status::InputFailed, "{bytes} bytes");
@@ -168,9 +168,9 @@ fn a_source_that_fails(rt: HostRuntime) {
 #[test]
 fn a_sink_that_fails(rt: HostRuntime) {
     for bytes in 0..THREE_REPORT.len() {
-        for taken in [1, 4096] {
+        for taken in &[1, 4096] {
             let mut source = TrialSource::new(THREE, 4096, None);
-            let mut sink = Counted::new(TrialSink::<ROOM>::new(taken, Some(bytes)));
+            let mut sink = Counted::new(TrialSink::<ROOM>::new(*taken, Some(bytes)));
             let status = run(&settings(), &mut source, &mut sink);
             assert!(rt; status == Status::OutputFailed, "{bytes} bytes");
             assert!(rt;

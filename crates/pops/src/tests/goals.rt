@@ -46,7 +46,7 @@ fn solved_rows(rt: HostRuntime) {
             b"problem 1\n8 k.......\n7 ..K.....\n6 ........\n5 ........\n4 ........\n3 ........\n2 .R......\n1 ........\n  abcdefgh\n#16\nplay\n1.Rb2-b1\nsolutions: 1, stopped\n\n",
         ),
     ];
-    for (name, input, report) in rows {
+    for (name, input, report) in &rows {
         assert!(rt; gives(false, input, report, Status::Sound), "{name}");
     }
 }
@@ -71,7 +71,7 @@ fn checked_rows(rt: HostRuntime) {
             b"problem 1\n8 ......k.\n7 ........\n6 ......K.\n5 ........\n4 ........\n3 ........\n2 ........\n1 R.......\n  abcdefgh\nh#16\nsound\n\n",
         ),
     ];
-    for (name, input, report) in rows {
+    for (name, input, report) in &rows {
         assert!(rt; gives(true, input, report, Status::Sound), "{name}");
     }
 }
@@ -106,7 +106,7 @@ fn fault_rows(rt: HostRuntime) {
             b"problem 1\nline 3: fault 8: bad stipulation\n\n",
         ),
     ];
-    for (name, input, report) in rows {
+    for (name, input, report) in &rows {
         assert!(rt; gives(false, input, report, Status::Faulty), "{name}");
     }
 }

@@ -76,7 +76,7 @@ fn orthodox_rows(rt: HostRuntime) {
             b"problem 1\n8 ........\n7 ....P...\n6 ........\n5 ........\n4 ........\n3 .......p\n2 .....K.k\n1 .......b\n  abcdefgh\n#1\nplay\nsolutions: 0\n\n",
         ),
     ];
-    for (name, input, report) in rows {
+    for (name, input, report) in &rows {
         assert!(rt; gives(input, report, Status::Sound), "{name}");
     }
 }
@@ -131,7 +131,7 @@ fn fairy_rows(rt: HostRuntime) {
             b"problem 1\n8 ....R.R.\n7 ........\n6 ........\n5 ........\n4 ........\n3 .....k..\n2 ........\n1 ...gK..R\n  abcdefgh\n#1\nplay\nsolutions: 0\n\n",
         ),
     ];
-    for (name, input, report) in rows {
+    for (name, input, report) in &rows {
         assert!(rt; gives(input, report, Status::Sound), "{name}");
     }
 }
@@ -186,7 +186,7 @@ fn option_rows(rt: HostRuntime) {
             b"problem 1\ntitle: A first mate\nauthor: N. N.\n#1\nplay\n1.Ra1-a8#\nsolutions: 1\n\n",
         ),
     ];
-    for (name, input, report) in rows {
+    for (name, input, report) in &rows {
         assert!(rt; gives(input, report, Status::Sound), "{name}");
     }
 }
@@ -246,7 +246,7 @@ fn longer_rows(rt: HostRuntime) {
             b"problem 1\n8 ....R.bk\n7 .......p\n6 .......P\n5 ........\n4 ........\n3 pp......\n2 p.......\n1 K.......\n  abcdefgh\ns#1\nset\n1...b3-b2#\nsolutions: 1\nplay\n1.Re8-a8\n1.Re8-c8\n1.Re8-d8\n1.Re8-f8\nsolutions: 4\n\n",
         ),
     ];
-    for (name, input, report) in rows {
+    for (name, input, report) in &rows {
         assert!(rt; gives(input, report, Status::Sound), "{name}");
     }
 }
@@ -306,7 +306,7 @@ fn word_fault_rows(rt: HostRuntime) {
             b"problem 1\nline 4: fault 12: second condition\n\n",
         ),
     ];
-    for (name, input, report) in rows {
+    for (name, input, report) in &rows {
         assert!(rt; gives(input, report, Status::Faulty), "{name}");
     }
 }
@@ -366,7 +366,7 @@ fn problem_fault_rows(rt: HostRuntime) {
             b"problem 1\nline 4: fault 18: side not to move is in check\n\n",
         ),
     ];
-    for (name, input, report) in rows {
+    for (name, input, report) in &rows {
         assert!(rt; gives(input, report, Status::Faulty), "{name}");
     }
 }
@@ -406,7 +406,7 @@ fn several_rows(rt: HostRuntime) {
             b"problem 1\nline 2: fault 3: word too long\n\n",
         ),
     ];
-    for (name, input, report) in rows {
+    for (name, input, report) in &rows {
         assert!(rt; gives(input, report, Status::Faulty), "{name}");
     }
 }
@@ -476,7 +476,7 @@ fn cut_rows(rt: HostRuntime) {
             b"problem 1\nline 2: fault 5: square given twice\n\n",
         ),
     ];
-    for (name, input, report) in rows {
+    for (name, input, report) in &rows {
         assert!(rt; gives(input, report, Status::Faulty), "{name}");
     }
 }

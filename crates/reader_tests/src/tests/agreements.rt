@@ -12,8 +12,8 @@ const THREE: &str =
 fn every_beginning_of_three_problems(rt: HostRuntime) {
     let bytes = THREE.as_bytes();
     for length in 0..bytes.len() + 1 {
-        for at_most in [1, 2, 3, 4095, 4096, 4097] {
-            assert!(rt; agree(&bytes[..length], at_most));
+        for at_most in &[1, 2, 3, 4095, 4096, 4097] {
+            assert!(rt; agree(&bytes[..length], *at_most));
         }
     }
 }

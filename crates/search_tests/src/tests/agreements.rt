@@ -1,6 +1,5 @@
 //! Searches beside the plain solutions, on small positions.
 use crate::row::agrees;
-use std::process::Abort;
 
 /// Men of small positions, with all kinds of men, castling, promotions and en passant.
 const POSITIONS: [&str; 10] = [
@@ -16,104 +15,83 @@ const POSITIONS: [&str; 10] = [
     "White Kg6 Qe4 Black Kg8 Sf8 Bc8",
 ];
 
-/// Every position under one stipulation, with these options; at least six of the ten are sound.
-fn all_agree(rt: &impl Abort, stipulation: &str, rest: &str) {
-    let mut sound = 0u32;
-    for men in POSITIONS {
-        if let Some(agreed) = agrees(men, stipulation, rest) {
-            assert!(rt; agreed, "{men} {stipulation} {rest}");
-            sound = sound.saturating_add(1);
+/// Stipulations, with what stands behind them.
+const STIPULATIONS: [(&str, &str); 38] = [
+    ("#1", ""),
+    ("#1", "Option SetPlay Variation"),
+    ("#1", "Condition Circe"),
+    ("#1", "Condition Madrasi Option SetPlay"),
+    ("#2", ""),
+    ("#2", "Option SetPlay Variation"),
+    ("#2", "Option SetPlay MaxSolutions 2"),
+    ("#2", "Condition Circe Option Variation"),
+    ("s#1", ""),
+    ("s#1", "Option SetPlay Variation"),
+    ("s#1", "Condition Circe Option SetPlay Variation"),
+    ("h#0.5", "Option SetPlay"),
+    ("h#0.5", "Condition Circe Option MaxSolutions 3"),
+    ("h#0.5", "Condition Madrasi Option SetPlay"),
+    ("h#1", "Option SetPlay"),
+    ("h#1", "Condition Circe Option MaxSolutions 3"),
+    ("h#1", "Condition Madrasi Option SetPlay"),
+    ("h#1.5", "Option SetPlay"),
+    ("h#1.5", "Condition Circe Option MaxSolutions 3"),
+    ("h#1.5", "Condition Madrasi Option SetPlay"),
+    ("h#2", "Option MaxSolutions 5"),
+    // In a stalemate problem either king may be missing.
+    ("=1", "Option SetPlay Variation"),
+    ("=1", "Condition Circe Option SetPlay MaxSolutions 3"),
+    ("=1", "Condition Madrasi"),
+    ("s=1", "Option SetPlay Variation"),
+    ("s=1", "Condition Circe Option SetPlay MaxSolutions 3"),
+    ("s=1", "Condition Madrasi"),
+    ("h=0.5", "Option SetPlay Variation"),
+    ("h=0.5", "Condition Circe Option SetPlay MaxSolutions 3"),
+    ("h=0.5", "Condition Madrasi"),
+    ("h=1", "Option SetPlay Variation"),
+    ("h=1", "Condition Circe Option SetPlay MaxSolutions 3"),
+    ("h=1", "Condition Madrasi"),
+    ("h=1.5", "Option SetPlay Variation"),
+    ("h=1.5", "Condition Circe Option SetPlay MaxSolutions 3"),
+    ("h=1.5", "Condition Madrasi"),
+    ("=2", "Option Variation MaxSolutions 4"),
+    ("h=2", "Option MaxSolutions 5"),
+];
+
+/// Men with longer stipulations; those of stalemate have pawns that stop one another, or no kings.
+const LONGER: [(&str, [&str; 4]); 6] = [
+    ("White Kc7 Rb2 Black Ka8", ["#3", "s#2", "h#2", "h#2.5"]),
+    ("White Kg6 Ra1 Black Kh8", ["#3", "s#2", "h#2", "h#2.5"]),
+    (
+        "White Kc6 Pb6a7 Black Ka8 Rb8",
+        ["#3", "s#2", "h#2", "h#2.5"],
+    ),
+    ("White Ra5 Black Pa7", ["=3", "s=2", "h=2", "h=2.5"]),
+    ("White Pa4 Black Kh8 Pa7", ["=3", "s=2", "h=2", "h=2.5"]),
+    ("White Kf5 Pf6 Black Kg8", ["=3", "s=2", "h=2", "h=2.5"]),
+];
+
+// At least six of the ten positions are sound under each stipulation.
+#[test]
+fn short_problems(rt: HostRuntime) {
+    for (stipulation, rest) in &STIPULATIONS {
+        let mut sound = 0u32;
+        for men in &POSITIONS {
+            if let Some(agreed) = agrees(men, stipulation, rest) {
+                assert!(rt; agreed, "{men} {stipulation} {rest}");
+                sound = sound.saturating_add(1);
+            }
         }
+        assert!(rt; sound >= 6, "{sound} sound: {stipulation} {rest}");
     }
-    assert!(rt; sound >= 6, "{sound} sound: {stipulation} {rest}");
-}
-
-#[test]
-fn mates_in_one(rt: HostRuntime) {
-    for rest in [
-        "",
-        "Option SetPlay Variation",
-        "Condition Circe",
-        "Condition Madrasi Option SetPlay",
-    ] {
-        all_agree(&rt, "#1", rest);
-    }
-}
-
-#[test]
-fn mates_in_two(rt: HostRuntime) {
-    for rest in [
-        "",
-        "Option SetPlay Variation",
-        "Option SetPlay MaxSolutions 2",
-        "Condition Circe Option Variation",
-    ] {
-        all_agree(&rt, "#2", rest);
-    }
-}
-
-#[test]
-fn selfmates(rt: HostRuntime) {
-    for rest in [
-        "",
-        "Option SetPlay Variation",
-        "Condition Circe Option SetPlay Variation",
-    ] {
-        all_agree(&rt, "s#1", rest);
-    }
-}
-
-#[test]
-fn helpmates(rt: HostRuntime) {
-    for stipulation in ["h#0.5", "h#1", "h#1.5"] {
-        all_agree(&rt, stipulation, "Option SetPlay");
-        all_agree(&rt, stipulation, "Condition Circe Option MaxSolutions 3");
-        all_agree(&rt, stipulation, "Condition Madrasi Option SetPlay");
-    }
-    all_agree(&rt, "h#2", "Option MaxSolutions 5");
-}
-
-// In a stalemate problem either king may be missing.
-#[test]
-fn stalemates(rt: HostRuntime) {
-    for stipulation in ["=1", "s=1", "h=0.5", "h=1", "h=1.5"] {
-        all_agree(&rt, stipulation, "Option SetPlay Variation");
-        all_agree(
-            &rt,
-            stipulation,
-            "Condition Circe Option SetPlay MaxSolutions 3",
-        );
-        all_agree(&rt, stipulation, "Condition Madrasi");
-    }
-    all_agree(&rt, "=2", "Option Variation MaxSolutions 4");
-    all_agree(&rt, "h=2", "Option MaxSolutions 5");
 }
 
 #[test]
 fn longer_problems(rt: HostRuntime) {
-    for men in [
-        "White Kc7 Rb2 Black Ka8",
-        "White Kg6 Ra1 Black Kh8",
-        "White Kc6 Pb6a7 Black Ka8 Rb8",
-    ] {
-        for stipulation in ["#3", "s#2", "h#2", "h#2.5"] {
-            let agreed = agrees(men, stipulation, "Option SetPlay Variation");
-            assert!(rt; agreed == Some(true), "{men} {stipulation}");
-        }
-    }
-}
-
-// With pawns that stop one another, and without kings.
-#[test]
-fn longer_stalemates(rt: HostRuntime) {
-    for men in [
-        "White Ra5 Black Pa7",
-        "White Pa4 Black Kh8 Pa7",
-        "White Kf5 Pf6 Black Kg8",
-    ] {
-        for stipulation in ["=3", "s=2", "h=2", "h=2.5"] {
-            let agreed = agrees(men, stipulation, "Option SetPlay Variation");
-            assert!(rt; agreed == Some(true), "{men} {stipulation}");
+    for (men, stipulations) in &LONGER {
+        for stipulation in stipulations {
+            let agreed = agrees(men, stipulation, "Option SetPlay Variation") == Some(true);
+            assert!(rt; agreed, "{men} {stipulation}");
         }
     }
 }

@@ -97,8 +97,8 @@ fn try_help(rt: &impl Abort, problem: &Problem, number: u64, tally: &mut Tally) 
     assert_eq!(rt; free.stopped, 0, "a limit that {number} doesn't reach");
     assert_eq!(rt; free.opened, both, "a limit that {number} doesn't reach");
     if seen.most > 0 {
-        for limit in [1, seen.most] {
-            let cut = seen_with(rt, number, true, Some(limit), both);
+        for limit in &[1, seen.most] {
+            let cut = seen_with(rt, number, true, Some(*limit), both);
             assert!(rt; cut.stopped > 0, "a limit that {number} reaches");
             tally.stopped = tally.stopped.saturating_add(cut.stopped);
         }
@@ -114,7 +114,7 @@ fn made_help_problems(rt: HostRuntime) {
             try_help(&rt, &problem, number, &mut tally);
         }
     }
-    for (count, least, what) in [
+    for (count, least, what) in &[
         (tally.problems, 100, "problems"),
         (tally.solved, 40, "solved"),
         (tally.solved_in_set_play, 10, "solved in set play"),
@@ -127,7 +127,7 @@ fn made_help_problems(rt: HostRuntime) {
         (tally.fairy, 20, "with fairy men"),
         (tally.stalemate, 10, "for stalemate"),
     ] {
-        assert!(&rt; count >= least, "{count} {what}");
+        assert!(&rt; *count >= *least, "{count} {what}");
     }
 }
 
@@ -164,13 +164,13 @@ fn known_counts(rt: HostRuntime) {
         ),
         (b"White Kf4 Rh7 Bh6 Black Kb5 Pd5d6", "h#3", 161_349),
     ];
-    for (men, stipulation, want) in rows {
+    for (men, stipulation, want) in &rows {
         let Some(problem) = posed(men, stipulation, "") else {
             assert!(rt; false, "{stipulation} of {want} is sound");
             return;
         };
-        assert_eq!(rt; walk_of(&problem, false), want);
-        assert_eq!(rt; watch(&rt, &problem, want).opened, want);
+        assert_eq!(rt; walk_of(&problem, false), *want);
+        assert_eq!(rt; watch(&rt, &problem, *want).opened, *want);
     }
 }
 
@@ -187,7 +187,7 @@ fn try_battle(rt: &impl Abort, men: &[u8], stipulation: &str) {
     let seen = watch(rt, &problem, walk);
     assert_eq!(rt; seen.solutions, tried.keys, "{stipulation}");
     assert!(rt; tried.positions <= seen.opened, "{stipulation}");
-    for rest in ["Option Variation", "Option Variation SetPlay"] {
+    for rest in &["Option Variation", "Option Variation SetPlay"] {
         let Some(varied) = posed(men, stipulation, rest) else {
             assert!(rt; false, "{stipulation} {rest} is sound");
             return;
@@ -222,13 +222,13 @@ fn battles_by_hand(rt: HostRuntime) {
         (b"White Ph3 Black Ph6", "s=1", 2),
         (b"White Pb3 Black Pa6", "=2", 3),
     ];
-    for (men, stipulation, want) in rows {
+    for (men, stipulation, want) in &rows {
         let Some(problem) = posed(men, stipulation, "") else {
             assert!(rt; false, "{stipulation} is sound");
             return;
         };
-        let seen = watch(&rt, &problem, want);
+        let seen = watch(&rt, &problem, *want);
         assert_eq!(rt; seen.solutions, 1, "{stipulation}");
-        assert_eq!(rt; seen.opened, want, "{stipulation}");
+        assert_eq!(rt; seen.opened, *want, "{stipulation}");
     }
 }

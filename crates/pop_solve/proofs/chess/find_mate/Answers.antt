@@ -1,5 +1,5 @@
 use Rattle.pop_solve.proofs.Words.{MatingPlace, ap, rules}
-use Rattle.pop_solve.proofs.Boards.{mate_before, mate_behind, no_mate}
+use Rattle.pop_solve.proofs.Boards.{mate_before, mate_behind, no_mate, on_mate_before, on_mate_behind}
 use Rattle.pop_solve.proofs.chess.find_mate.Goals as goal
 
 pub returns-then-is_some-clause-mates : goal.returns-then-is_some-clause-mates
@@ -17,3 +17,13 @@ returns-clause-mates g c =
     let place = ap (λ (v : MatingPlace). v.place) c.go_to-2.ensures in
     let cut = ap (λ (v : MatingPlace). v.place) c.go_to.ensures in
     search (rules, none, place, cut)
+
+pub returns-then-is_some-clause-place : goal.returns-then-is_some-clause-place
+returns-then-is_some-clause-place g c =
+    let at = ap (λ (v : MatingPlace). v.place) c.next.ensures.place in
+    search (rules, on_mate_behind, at)
+
+pub returns-then-is_some-2-clause-place : goal.returns-then-is_some-2-clause-place
+returns-then-is_some-2-clause-place g c =
+    let at = ap (λ (v : MatingPlace). v.place) c.next_until.ensures.place in
+    search (rules, on_mate_before, at)

@@ -17,3 +17,12 @@ gap-smaller g c =
     let at = rw c.in-Ok-Some.field-0-is at c.in-Ok-Some.ensures.at in
     let some = c.skip_part.ensures.some c.in-Ok-Some.byte at.0 at.1 (sym c.in_gap.ensures ∙ c.if-in_gap.true) at.2 in
     omega (arith, some, c.skip_part.ensures.within, c.peek.ensures.uses.used)
+
+pub returns-in_default-clause-uses : goal.returns-in_default-clause-uses
+returns-in_default-clause-uses g c = all_seen c.gap.invariant.uses c.peek.ensures.uses
+
+pub returns-in_default-2-clause-uses : goal.returns-in_default-2-clause-uses
+returns-in_default-2-clause-uses g c = all_seen c.gap.invariant.uses c.peek.ensures.uses
+
+pub returns-in_default-3-clause-uses : goal.returns-in_default-3-clause-uses
+returns-in_default-3-clause-uses g c = all_seen c.gap.invariant.uses c.peek.ensures.uses

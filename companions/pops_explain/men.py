@@ -1,0 +1,277 @@
+"""Faults 4 to 7, 14, 17 and 18: men, their colours and squares, and the kings."""
+
+import re
+from typing import Iterator, List, Optional, Tuple
+
+from pops_explain import wordings
+from pops_explain.case import Case, Explanation, at, first_of, listed, quoted
+from pops_explain.characters import decoded, shown
+from pops_explain.other_men import man_by_name, two_letters
+from pops_explain.reading import (
+    COLOURS,
+    COMMANDS,
+    Placed,
+    Section,
+    checkers,
+    is_man,
+    king_of,
+    kind_of,
+    to_be_mated,
+)
+from pops_explain.words import TEXT_WORDS, Span, named
+from pops_texts.chess import Colour, Kind, Square
+from pops_texts.stipulation import Condition, Play
+
+_DIGITS_FIRST = re.compile(r"([KQRBSPGN])((?:[1-8][a-h])+)", re.IGNORECASE)
+
+
+def colour_missing(case: Case) -> Explanation:
+    """Fault 4."""
+    return first_of(_causes_of_no_colour(case))
+
+
+def _causes_of_no_colour(case: Case) -> Iterator[Optional[Explanation]]:
+    opener = case.reading.opener
+    assert opener is not None
+    yield from wordings.characters_in(case)
+    yield _colour_before_man(case)
+    yield _short_command(case)
+    if len(case.openers_of(Section.PIECES)) > 1:
+        yield case.says(
+            f"Each `Pieces` needs its colour anew. Write `White` or `Black` behind"
+            f" {quoted(opener)}.",
+            opener.span,
+        )
+    behind = case.behind
+    if behind is not None and named(behind.bytes, COLOURS, 1):
+        yield case.says(
+            f"A colour stands before its men. Write `{decoded(behind.bytes)}` before"
+            f" {case.quoted}.",
+            behind.span,
+        )
+    yield case.says(
+        f"No colour stands before {case.quoted}. Write `White` or `Black` behind {quoted(opener)}.",
+        opener.span,
+    )
+
+
+def _colour_before_man(case: Case) -> Optional[Explanation]:
+    word = case.word.bytes
+    if word[:1] not in (b"b", b"B") or not is_man(word[1:]):
+        return None
+    return case.says(
+        f"A colour is a word of its own, and holds for all men behind it. Write `Black"
+        f" {case.plain[1:]}` in place of {case.quoted}."
+    )
+
+
+def _short_command(case: Case) -> Optional[Explanation]:
+    word = case.plain.lower()
+    names = [it for it in (*COMMANDS, *TEXT_WORDS) if it.lower().startswith(word)]
+    if len(word) != 2 or not names:
+        return None
+    return case.says(
+        f"{case.quoted} is too short. Write three letters or more: `{names[0][:3]}` or"
+        f" `{names[0]}`."
+    )
+
+
+def square_taken(case: Case) -> Explanation:
+    """Fault 5."""
+    square, placed = _square_of(case)
+    before = case.reading.men[square]
+    first = span_of(before)
+    what = f"{before.man.colour.value} {before.man.kind.word}"
+    kind, colour = kind_of(case.word.bytes), case.reading.colour
+    assert kind is not None and colour is not None
+    if before.word is case.word:
+        text = f"{case.quoted} names {square.name} twice. Leave one out."
+        return at(text, first, placed)
+    if (before.man.kind, before.man.colour) == (kind, colour):
+        text = (
+            f"The {what} on {square.name} was given before, by {quoted(before.word)}. Leave one"
+            " out."
+        )
+        return at(text, first, placed)
+    text = (
+        f"On {square.name} stands the {what} of {quoted(before.word)} already, and the"
+        f" {colour.value} {kind.word} of {case.quoted} can't stand there too."
+    )
+    return at(text, first, placed)
+
+
+def pawn_outside(case: Case) -> Explanation:
+    """Fault 6."""
+    square, placed = _square_of(case)
+    text = f"A pawn stands on ranks 2 to 7, and {square.name} is on rank {square.rank}."
+    if square.rank == (8 if case.reading.colour is Colour.WHITE else 1):
+        text = f"{text} A pawn that has promoted is what it became: `Q{square.name}`."
+    return at(text, placed)
+
+
+def second_king(case: Case) -> Explanation:
+    """Fault 7."""
+    square, placed = _square_of(case)
+    colour = case.reading.colour
+    assert colour is not None
+    king = king_of(case.reading, colour)
+    assert king is not None
+    before = case.reading.men[king]
+    name = colour.value
+    if before.word is case.word:
+        text = f"{case.quoted} gives {name.title()} two kings. Each side has one at most."
+        return at(text, span_of(before), placed)
+    if colour.opponent not in [it for it, _ in case.reading.colours]:
+        other = colour.opponent.name.title()
+        text = (
+            f"{name.title()} has the king of {quoted(before.word)} already. Is `{other}` missing"
+            f" before {case.quoted}?"
+        )
+    else:
+        text = f"{name.title()} has the king of {quoted(before.word)} already, and one is all."
+    return at(text, span_of(before), placed)
+
+
+def _square_of(case: Case) -> Tuple[Square, Span]:
+    """The square of the fault and where in the word it stands."""
+    square, place = case.reading.square, case.reading.square_place
+    assert square is not None
+    return square, case.word.part(place, place + 2)
+
+
+def span_of(placed: Placed) -> Span:
+    """Where the square of a man stands."""
+    return placed.word.part(*placed.square_span)
+
+
+def square_missing(case: Case) -> Explanation:
+    """Fault 14 among men."""
+    return first_of(_causes_of_no_square(case))
+
+
+def _causes_of_no_square(case: Case) -> Iterator[Optional[Explanation]]:
+    yield from wordings.characters_in(case)
+    yield _colour_before_man(case)
+    yield _letter_alone(case)
+    yield _short_command(case)
+    yield _rank_first(case)
+    yield wordings.signs(case)
+    yield wordings.joined(case)
+    yield _line_of_squares(case)
+    yield man_by_name(case)
+    yield two_letters(case)
+    yield _bad_square(case)
+
+
+def _letter_alone(case: Case) -> Optional[Explanation]:
+    if len(case.word.bytes) > 2:
+        return None
+    if case.behind is not None:
+        whole = case.plain + decoded(case.behind.bytes)
+        if case.fits(whole):
+            return case.says(
+                f"The squares belong to the letter. Write `{whole}`, without a blank.",
+                case.behind.span,
+            )
+    if len(case.word.bytes) > 1:
+        return None
+    return case.says(f"No square stands behind the letter {case.quoted}, as in `{case.plain}d4`.")
+
+
+def _rank_first(case: Case) -> Optional[Explanation]:
+    found = _DIGITS_FIRST.fullmatch(case.plain)
+    if found is None:
+        return None
+    mended = found[1] + re.sub("(.)(.)", r"\2\1", found[2])
+    return case.says(f"A square is its file and then its rank. Write `{mended}`.")
+
+
+def _line_of_squares(case: Case) -> Optional[Explanation]:
+    found = re.match(r"[A-Za-z](?:[a-h][1-8])+(?:-|\.\.+|–)[a-h][1-8]", case.plain)
+    if found is None:
+        return None
+    return case.says(
+        f"A range of squares isn't read. Name each square, as in `{case.plain[0].upper()}a2b2c2`."
+    )
+
+
+def _bad_square(case: Case) -> Explanation:
+    rest = case.plain[1:]
+    good = re.match(r"(?:[a-h][1-8])*", rest, re.IGNORECASE)
+    assert good is not None
+    bad = rest[good.end() :]
+    place = 1 + good.end()
+    part = bad[:2]
+    if re.fullmatch("[a-h]", bad, re.IGNORECASE):
+        text = f"The rank of the last square is missing in {case.quoted}."
+    elif re.fullmatch("[1-8]", bad) or (good.end() > 0 and bad[0] in "12345678"):
+        text = f"The file is missing before `{bad[0]}` in {case.quoted}: a square is two signs."
+        part = bad[:1]
+    else:
+        text = f"`{part}` in {case.quoted} is no square: files are a to h, ranks 1 to 8."
+    stop = place + len(part)
+    whole = len(decoded(case.word.bytes)) != len(case.word.bytes)
+    return at(text, case.word.span if whole else case.word.part(place, stop))
+
+
+def king_missing(case: Case) -> Explanation:
+    """Fault 17."""
+    stipulation, given = case.reading.stipulation, case.reading.stipulation_word
+    assert stipulation is not None and given is not None
+    side = to_be_mated(stipulation)
+    name, other = side.name.title(), side.opponent.name.title()
+    head = f"In {quoted(given)} {name} is to be mated, and has no king."
+    for line in case.reading.text_lines:
+        kings = [it for it in line.text.split() if is_man(it) and kind_of(it) is Kind.KING]
+        if kings:
+            return case.says(
+                f"{head} `{line.name}` takes the rest of its line, and so `{shown(kings[-1])}`"
+                " there is part of the text. Write it on a line of its own.",
+                line.span,
+            )
+    men = [placed for placed in case.reading.men.values() if placed.man.colour is side]
+    last = max(case.reading.men.values(), key=lambda placed: placed.word.start).word
+    words = [word for colour, word in case.reading.colours if colour is side]
+    if not words:
+        text = f"{head} No `{name}` stands behind `Pieces`: write it with its king behind"
+        return case.says(f"{text} {quoted(last)}.", last.span)
+    if not men:
+        return case.says(
+            f"{head} No man stands behind {quoted(words[0])}, and all are {other}'s.", words[0].span
+        )
+    rooks = [placed for placed in men if placed.man.kind is Kind.ROOK]
+    here = listed([f"{it.man.kind.value}{_square_name(case, it)}" for it in men])
+    text = f"{head} {name} has {here}. Write the king behind {quoted(words[0])}."
+    if len(rooks) == 1 and stipulation.play is not Play.SELF:
+        text = f"{text} In French R is the king: here it is K."
+    return case.says(text, words[0].span)
+
+
+def _square_name(case: Case, placed: Placed) -> str:
+    return next(square.name for square, it in case.reading.men.items() if it is placed)
+
+
+def in_check(case: Case) -> Explanation:
+    """Fault 18."""
+    reading = case.reading
+    assert reading.stipulation is not None and reading.stipulation_word is not None
+    starter = reading.stipulation.starter
+    waiting = starter.opponent
+    king = king_of(reading, waiting)
+    assert king is not None
+    who: List[str] = []
+    marks = [span_of(reading.men[king])]
+    for square in checkers(reading):
+        placed = reading.men[square]
+        who.append(f"{placed.man.kind.word} on {square.name}")
+        marks.append(span_of(placed))
+    text = (
+        f"In {quoted(reading.stipulation_word)} {starter.name.title()} moves first, and could take"
+        f" the {waiting.value} king on {king.name}: the {listed(who)} attack"
+        f"{'s' if len(who) == 1 else ''} it."
+    )
+    if starter is Colour.BLACK:
+        text = f"{text} In help play Black moves first; `.5` lets White start, as in `h#2.5`."
+    if reading.condition is Condition.CIRCE:
+        text = f"{text} Circe changes nothing of that."
+    return case.says(text, *marks)

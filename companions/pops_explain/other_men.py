@@ -1,0 +1,105 @@
+"""Men written otherwise than pops reads them: by name, by two letters, in another language."""
+
+import re
+from typing import List, Optional
+
+from pops_explain.case import Case, Explanation, listed
+from pops_explain.characters import decoded
+from pops_explain.reading import Section, squares_of
+from pops_explain.vocabulary import Alphabet, alphabets_of, alphabets_with
+from pops_explain.words import Word, named
+from pops_texts.chess import Kind
+
+_NAMES = {kind.word: kind for kind in Kind}
+_CYRILLIC_MEN = "ФЛСКПфлскп"
+
+
+def foreign_letter(case: Case) -> Optional[Explanation]:
+    """A letter that isn't English, with squares."""
+    found = re.fullmatch(r"([^\W\d_]{1,2})((?:[a-h][1-8])+)", case.plain, re.IGNORECASE)
+    if found is None:
+        return None
+    letter, squares = found[1], found[2]
+    if letter[0] in _CYRILLIC_MEN or letter == "Кр":
+        return case.says(f"`{letter}` is a Cyrillic letter. pops reads K Q R B S P G N.")
+    possible = alphabets_with(letter) if len(letter) == 1 else []
+    if not possible:
+        return None
+    men = men_words(case)
+    fitting = [it for it in alphabets_of("".join(letters_of(men))) if it in possible]
+    if len(fitting) == 1:
+        possible = fitting
+    kinds = {_kind(alphabet, letter) for alphabet in possible}
+    text = f"`{letter}` is no man's letter here."
+    if len(kinds) > 1:
+        ways = [f"{_kind(it, letter).word} in {listed(it.languages)}" for it in possible]
+        return case.says(f"{text} It is {listed(ways, 'or')}. pops reads K Q R B S P G N.")
+    kind = kinds.pop()
+    languages = [language for it in possible for language in it.languages]
+    text = f"{text} It is the {kind.word} in {listed(languages)}: write `{kind.value}{squares}`."
+    if len(fitting) == 1:
+        others = _others(men, case.word, fitting[0])
+        if others:
+            text = f"{text} Then {listed(others)}."
+    return case.says(text)
+
+
+def man_by_name(case: Case) -> Optional[Explanation]:
+    """A man by its English name."""
+    word = case.plain.lower()
+    for name in sorted(_NAMES, key=len, reverse=True):
+        letter, rest = _NAMES[name].value, word[len(name) :]
+        if word.startswith(name) and (rest in ("", "s") or case.fits(letter + rest)):
+            return case.says(
+                f"A man is a letter with its squares, in one word: a {name} is `{letter}`, as in"
+                f" `{letter}d4`."
+            )
+    return None
+
+
+def two_letters(case: Case) -> Optional[Explanation]:
+    """A man of two letters, as Popeye has them."""
+    word = case.plain
+    if not re.fullmatch(r"[a-z]{2}(?:[a-h][1-8])+", word, re.IGNORECASE):
+        return None
+    if word[:2].lower() in ("kt", "kn"):
+        return case.says(f"The knight is `S` here. Write `S{word[2:]}`.")
+    return case.says(
+        f"{case.quoted} is a man of two letters, as Popeye has many. pops has king, queen, rook,"
+        " bishop, knight, pawn, grasshopper and nightrider: K Q R B S P G N."
+    )
+
+
+def _kind(alphabet: Alphabet, letter: str) -> Kind:
+    kind = alphabet.kind(letter)
+    assert kind is not None
+    return kind
+
+
+def men_words(case: Case) -> List[Word]:
+    """The words of the problem's Pieces sections that have the form of a man, before and behind
+    the fault."""
+    words = []
+    inside = False
+    for word in case.reading.words:
+        name = named(word.bytes, [section.value for section in Section])
+        if name is not None:
+            inside = name == Section.PIECES.value
+        elif inside and word.bytes[:1].isalpha() and squares_of(word.bytes[1:]):
+            words.append(word)
+    return words
+
+
+def letters_of(men: List[Word]) -> List[str]:
+    """The letters of men, each once."""
+    return list(dict.fromkeys(decoded(man.bytes)[0].upper() for man in men))
+
+
+def _others(men: List[Word], faulty: Word, alphabet: Alphabet) -> List[str]:
+    """What the letters of the other men mean where they mean something else in English."""
+    others = []
+    for letter in letters_of(men):
+        kind = alphabet.kind(letter)
+        if kind is not None and kind.value != letter and letter != decoded(faulty.bytes)[0].upper():
+            others.append(f"`{letter}` is {kind.value} ({kind.word})")
+    return others

@@ -1,0 +1,1 @@
+"""Reads collections of problems in other forms: inputs of Popeye, YAML of Olive and of YACPDB."""

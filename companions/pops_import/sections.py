@@ -1,0 +1,45 @@
+"""Stipulations and conditions among the words of a text."""
+
+import re
+from typing import List, Tuple
+
+from pops_import.language import meaning, table_of
+from pops_import.words import Unreadable, Words
+from pops_texts.stipulation import Condition
+
+_LEAST_LETTERS = 3
+_CONDITIONS = table_of((condition.value, condition.value) for condition in Condition)
+
+
+def take_stipulation(words: Words) -> str:
+    """The word of a stipulation; its number may stand by itself."""
+    word = words.peek()
+    if word is None or (
+        len(word.key) >= _LEAST_LETTERS and meaning(word.key, words.language.commands)
+    ):
+        raise Unreadable(words.line, "the stipulation is missing")
+    text = words.take().text
+    number = words.peek()
+    if text[-1] in "#=" and number is not None and re.fullmatch(r"\d+(\.5)?", number.text):
+        text += words.take().text
+    return text
+
+
+def take_conditions(words: Words, before: Tuple[str, ...] = ()) -> Tuple[str, ...]:
+    """The words up to the first command, or to the next change of a twin, added to those before.
+
+    A condition that stands twice is one.
+    """
+    conditions: List[str] = []
+    while True:
+        word = words.peek()
+        if word is None:
+            break
+        if len(word.key) >= _LEAST_LETTERS and meaning(word.key, words.language.commands):
+            break
+        if conditions and words.of_twin and meaning(word.key, words.language.twinnings):
+            break
+        words.take()
+        known = meaning(word.key, _CONDITIONS) if len(word.key) >= _LEAST_LETTERS else None
+        conditions.append(known or word.text)
+    return tuple(dict.fromkeys(before + tuple(conditions)))

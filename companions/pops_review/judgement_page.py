@@ -1,0 +1,91 @@
+"""A page of HTML with the judgements: a table of all problems, and what was found of each."""
+
+import html
+from typing import Iterable, List, Optional
+
+from pops_review.judgement_text import Tally, lines_of
+from pops_review.judging import Finding, Judgement
+from pops_review.naming import described
+from pops_texts import diagram
+from pops_texts.report import SoundItem
+
+_STYLE = """
+body { font: 11pt/1.35 serif; margin: 1.5em auto; max-width: 60em; padding: 0 1em;
+  color: #000; background: #fff; overflow-wrap: anywhere; }
+h1 { font-size: 1.5em; font-weight: normal; border-bottom: 1px solid #000; }
+h2 { font-size: 1em; margin: 0 0 .3em; }
+table { border-collapse: collapse; width: 100%; }
+th, td { text-align: left; vertical-align: top; padding: .15em .6em .15em 0;
+  border-bottom: 1px solid #ddd; white-space: nowrap; }
+.name { white-space: normal; width: 100%; }
+.unsound, .faulty { font-weight: bold; }
+.undecided { font-style: italic; }
+article { display: grid; grid-template-columns: 15em minmax(0, 1fr); gap: 0 2em;
+  margin: 1.2em 0 0; padding-top: .8em; border-top: 1px solid #bbb; break-inside: avoid; }
+.finding { margin: 0; }
+.flaw, .fault { font-weight: bold; }
+.open { font-style: italic; }
+pre { font: 9.5pt/1.35 monospace; margin: .1em 0 .5em 1em; white-space: pre-wrap; }
+.diagram { width: 100%; display: block; }
+@media (max-width: 34em) { article { grid-template-columns: minmax(0, 1fr); } }
+"""
+
+
+def page(
+    judgements: Iterable[Judgement], tally: Tally, heading: str, encoding: str, most: Optional[int]
+) -> str:
+    """The page; the tally has counted the judgements once they are all taken."""
+    rows: List[str] = []
+    articles: List[str] = []
+    for place, judgement in enumerate(judgements, start=1):
+        rows.append(_row(judgement, place, encoding))
+        if judgement.findings:
+            articles.append(_article(judgement, place, encoding, most))
+    title = html.escape(heading)
+    return "".join(
+        [
+            '<!DOCTYPE html>\n<html lang="en">\n<head>\n<meta charset="utf-8"/>\n',
+            '<meta name="viewport" content="width=device-width"/>\n',
+            f"<title>{title}</title>\n<style>{_STYLE}</style>\n</head>\n<body>\n",
+            diagram.shapes(),
+            f"<h1>{title}</h1>\n<p>{tally.text}</p>\n",
+            "<table>\n<tr><th>No.</th><th>Problem</th><th>Verdict</th></tr>\n",
+            *rows,
+            "</table>\n",
+            *articles,
+            "</body>\n</html>\n",
+        ]
+    )
+
+
+def _row(judgement: Judgement, place: int, encoding: str) -> str:
+    number = f"{judgement.number}"
+    if judgement.findings:
+        number = f'<a href="#found-{place}">{number}</a>'
+    name = html.escape(described(judgement.item, encoding))
+    verdict = judgement.verdict.value
+    return (
+        f'<tr><td>{number}</td><td class="name">{name}</td>'
+        f'<td class="{verdict}">{verdict}</td></tr>\n'
+    )
+
+
+def _article(judgement: Judgement, place: int, encoding: str, most: Optional[int]) -> str:
+    item = judgement.item
+    verdict = judgement.verdict.value
+    position = ""
+    if isinstance(item, SoundItem):
+        drawn = "" if item.board is None else f"{diagram.diagram(item.board)}\n"
+        position = f"{drawn}<p>{html.escape(described(item, encoding))}</p>\n"
+    findings = "".join(_finding(finding, most) for finding in judgement.findings)
+    return (
+        f'<article id="found-{place}">\n<div>\n<h2>problem {judgement.number}</h2>\n{position}'
+        f'</div>\n<div>\n<p class="{verdict}">{verdict}</p>\n{findings}</div>\n</article>\n'
+    )
+
+
+def _finding(finding: Finding, most: Optional[int]) -> str:
+    moves = "\n".join(lines_of(finding, most))
+    below = f"<pre>{html.escape(moves)}</pre>\n" if moves else ""
+    text = html.escape(finding.text)
+    return f'<p class="finding {finding.weight.value}">{text}</p>\n{below}'

@@ -1,0 +1,107 @@
+"""Judgements as text and as CSV."""
+
+import csv
+import io
+from collections import Counter
+from typing import Iterator, List, Optional
+
+from pops_review.judging import Finding, Judgement, Verdict, Weight
+from pops_review.naming import counted, described, shown
+from pops_texts.report import SoundItem
+
+# So many moves of a finding are shown where not all are asked for.
+MOST_LINES = 10
+
+COLUMNS = (
+    "number",
+    "title",
+    "author",
+    "stipulation",
+    "condition",
+    "verdict",
+    "solutions",
+    "stopped",
+    "wanted",
+    "short_solutions",
+    "duals_at_the_end",
+    "duals_earlier",
+    "set_solutions",
+    "unprovided_checks",
+    "reasons",
+)
+
+
+def lines_of(finding: Finding, most: Optional[int]) -> List[str]:
+    """The moves of a finding, so many at most, with a line for the rest."""
+    if most is None or len(finding.lines) <= most:
+        return list(finding.lines)
+    return [*finding.lines[:most], f"and {len(finding.lines) - most} more"]
+
+
+def as_text(judgement: Judgement, encoding: str, most: Optional[int]) -> str:
+    """The lines of a problem: its verdict, below it what was found."""
+    name = described(judgement.item, encoding)
+    told = (f"problem {judgement.number}", judgement.verdict.value, name)
+    parts = [": ".join(filter(None, told))]
+    for finding in judgement.findings:
+        parts.append(f"  {finding.text}")
+        parts.extend(f"    {line}" for line in lines_of(finding, most))
+    return "\n".join(parts) + "\n"
+
+
+def csv_line(values: "tuple[object, ...]") -> str:
+    target = io.StringIO()
+    csv.writer(target, lineterminator="\n").writerow(values)
+    return target.getvalue()
+
+
+def as_csv(judgement: Judgement, encoding: str) -> str:
+    """The row of a problem; what the report doesn't show stays empty."""
+    reasons = [finding.text for finding in judgement.findings if finding.weight is not Weight.NOTE]
+    sound = judgement.item if isinstance(judgement.item, SoundItem) else None
+    return csv_line(
+        (
+            judgement.number,
+            shown(sound and sound.title, encoding),
+            shown(sound and sound.author, encoding),
+            sound.stipulation.text if sound else "",
+            sound.condition.value if sound and sound.condition else "",
+            judgement.verdict.value,
+            judgement.solutions,
+            "" if judgement.solutions is None else "yes" if judgement.stopped else "no",
+            judgement.wanted,
+            judgement.short_solutions,
+            judgement.duals_at_the_end,
+            judgement.duals_earlier,
+            judgement.set_solutions,
+            judgement.unprovided_checks,
+            "; ".join(reasons),
+        )
+    )
+
+
+class Tally:
+    """How many problems have each verdict."""
+
+    def __init__(self) -> None:
+        self._counts: "Counter[Verdict]" = Counter()
+
+    def counted(self, judgements: Iterator[Judgement]) -> Iterator[Judgement]:
+        """Hands judgements on and counts them."""
+        for judgement in judgements:
+            self._counts[judgement.verdict] += 1
+            yield judgement
+
+    @property
+    def all_sound(self) -> bool:
+        return self.total == self._counts[Verdict.SOUND]
+
+    @property
+    def total(self) -> int:
+        return sum(self._counts.values())
+
+    @property
+    def text(self) -> str:
+        """As `3 problems: 1 sound, 0 undecided, 2 unsound, 0 faulty`."""
+        verdicts = ", ".join(f"{self._counts[verdict]} {verdict.value}" for verdict in Verdict)
+        return f"{counted(self.total, 'problem')}: {verdicts}"

@@ -1,0 +1,25 @@
+"""Titles and authors: a report repeats their bytes as a problem gave them, in any encoding."""
+
+import re
+
+# Control characters but tab and line end, and characters that stand for none.
+_NO_CHARACTER = re.compile("[\x00-\x08\x0b-\x1f\x7f-\x9f\ud800-\udfff\ufdd0-\ufdef\ufffe\uffff]")
+
+
+def shown(text: bytes, encoding: str) -> str:
+    """A title or an author as text; each byte that is none in the encoding becomes U+FFFD."""
+    return text.decode(encoding, "replace")
+
+
+def is_text(text: bytes, encoding: str) -> bool:
+    """Whether all bytes of a title or an author are text in the encoding."""
+    try:
+        text.decode(encoding)
+    except UnicodeError:
+        return False
+    return True
+
+
+def printable(text: str) -> str:
+    """A text without what no page and no drawing may hold: U+FFFD stands there instead."""
+    return _NO_CHARACTER.sub("\ufffd", text)

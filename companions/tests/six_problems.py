@@ -1,0 +1,140 @@
+"""Six problems for pops-many, a program in the place of pops, and what of it runs still."""
+
+import os
+import signal
+import subprocess
+import sys
+import tempfile
+import time
+import unittest
+from pathlib import Path
+from typing import Callable, List, Optional
+
+import support
+
+from pops_many import sessions
+
+SIX = (
+    b"BeginProblem"
+    + b"NextProblem".join(
+        b"\nTitle number %d\nPieces White Kg6 R%s1 Black Kg8\nStipulation #1\n" % (number, file)
+        for number, file in enumerate((b"a", b"b", b"c", b"d", b"e", b"g"), start=1)
+    )
+    + b"EndProblem\n"
+)
+
+# A program in the place of pops that notes each run, and does something else on one problem.
+_STAND_IN = """#!/bin/sh
+text=$(cat)
+echo run >> "{room}/runs"
+case $text in
+  *"number 4"*) {then} ;;
+esac
+printf '%s' "$text" | "{pops}" "$@"
+"""
+_SECONDS_OF_PATIENCE = 30
+
+
+def wait_for(seen: Callable[[], object]) -> None:
+    """Waits until something is seen."""
+    until = time.monotonic() + _SECONDS_OF_PATIENCE
+    while not seen():
+        assert time.monotonic() < until, "it never came"
+        time.sleep(0.02)
+
+
+def _fields(folder: Path) -> List[bytes]:
+    """What the system tells of a process, from its state on; nothing where it is gone."""
+    try:
+        return (folder / "stat").read_bytes().rpartition(b")")[2].split()
+    except OSError:
+        return []
+
+
+def children(process: int) -> List[int]:
+    """The processes that a process started."""
+    folders = Path("/proc").glob("[0-9]*")
+    wanted = str(process).encode()
+    return [int(folder.name) for folder in folders if _fields(folder)[1:2] == [wanted]]
+
+
+def has_worked(process: int) -> bool:
+    """Whether a process has used a tenth of a second of processor time by itself."""
+    fields = _fields(Path(f"/proc/{process}"))
+    return bool(fields) and int(fields[11]) >= os.sysconf("SC_CLK_TCK") // 10
+
+
+class SixProblems(unittest.TestCase):
+    """A room with an input of six problems."""
+
+    def setUp(self) -> None:
+        room = tempfile.TemporaryDirectory()
+        self.addCleanup(room.cleanup)
+        self.room = Path(room.name)
+        self.input = self.room / "six.pop"
+        self.input.write_bytes(SIX)
+        self.report = self.room / "six.report"
+        self.journal = self.room / "six.report.journal"
+        self.wanted = support.run([support.pops(), str(self.input)]).output
+
+    def stand_in(self, then: str) -> str:
+        """A program that does so on the fourth problem, and on all others what pops does."""
+        path = self.room / "stand_in"
+        path.write_text(_STAND_IN.format(room=self.room, then=then, pops=support.pops()))
+        path.chmod(0o755)
+        return str(path)
+
+    def words(self, pops: str, *more: str) -> List[str]:
+        return ["--pops", pops, "--jobs", "1", "-o", str(self.report), str(self.input), *more]
+
+    def many(self, pops: str, *more: str) -> support.Outcome:
+        return support.companion("pops-many", *self.words(pops, *more))
+
+    def started(
+        self,
+        *words: str,
+        errors: int = subprocess.PIPE,
+        before: Optional[Callable[[], None]] = None,
+    ) -> "subprocess.Popen[bytes]":
+        """A run of pops-many that goes on meanwhile; the test ends it with its children."""
+        run = subprocess.Popen(
+            [sys.executable, str(support.COMPANIONS / "pops-many"), *words],
+            stdin=subprocess.DEVNULL,
+            stdout=subprocess.DEVNULL,
+            stderr=errors,
+            preexec_fn=before,
+        )
+        self.addCleanup(self.ended, run)
+        return run
+
+    def ended(self, run: "subprocess.Popen[bytes]") -> None:
+        if run.poll() is None:
+            for child in children(run.pid):
+                os.killpg(child, signal.SIGKILL)
+            run.kill()
+        run.communicate()
+
+    def programs(self, run: "subprocess.Popen[bytes]", number: int) -> List[int]:
+        """The programs that a run of pops-many has at work, once there are so many."""
+        wait_for(lambda: len(children(run.pid)) == number)
+        found = children(run.pid)
+        for program in found:
+            self.addCleanup(sessions.end, program)
+        return found
+
+    def wait_for_end(self, session: int) -> None:
+        """Waits until nothing of a session runs."""
+        wait_for(lambda: not sessions.members(session))
+
+    def kept(self) -> int:
+        """How many reports the journal keeps."""
+        return self.journal.read_bytes().count(b"\ntask ") if self.journal.exists() else 0
+
+    def runs(self) -> int:
+        """How many runs the stand-in noted."""
+        return (self.room / "runs").read_text().count("run")
+
+    def files(self) -> List[str]:
+        """What lies in the room beside the input and the stand-in."""
+        own = {"six.pop", "stand_in", "runs"}
+        return sorted(path.name for path in self.room.iterdir() if path.name not in own)

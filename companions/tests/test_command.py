@@ -1,0 +1,55 @@
+"""What all companions do alike as commands: outputs and inputs that go away or are closed."""
+
+import os
+import subprocess
+import sys
+import tempfile
+import unittest
+
+import support
+
+# More than a pipe holds, as a page, as JSON and as problems.
+REPORT = b"problem 1\ntitle: A title\n#1\nplay\n1.Ra1-a8#\nsolutions: 1\n\n" * 2_000
+POSITIONS = b"6k1/8/6K1/8/8/8/8/R7 w - -\n" * 2_000
+
+
+class Streams(unittest.TestCase):
+    def test_a_reader_that_goes_away(self) -> None:
+        for name, words, text in (
+            ("pops-page", [], REPORT),
+            ("pops2json", [], REPORT),
+            ("pops-test", [], REPORT),
+            ("fen2pop", ["-s", "#1"], POSITIONS),
+        ):
+            for unbuffered in ("", "1"):
+                with self.subTest(name, unbuffered=unbuffered):
+                    self.assertEqual(self.status(name, words, text, unbuffered), (3, b""))
+
+    def status(self, name: str, words: list, text: bytes, unbuffered: str) -> tuple:
+        """Status and standard error of a companion whose output is read for ten bytes."""
+        with tempfile.TemporaryFile() as source, tempfile.TemporaryFile() as errors:
+            source.write(text)
+            source.seek(0)
+            run = subprocess.Popen(
+                [sys.executable, str(support.COMPANIONS / name), *words],
+                stdin=source,
+                stdout=subprocess.PIPE,
+                stderr=errors,
+                env={**os.environ, "PYTHONUNBUFFERED": unbuffered},
+            )
+            assert run.stdout is not None
+            self.assertEqual(len(os.read(run.stdout.fileno(), 10)), 10)
+            run.stdout.close()
+            status = run.wait(60)
+            errors.seek(0)
+            return status, errors.read()
+
+    def test_closed_streams_are_told(self) -> None:
+        command = f"'{sys.executable}' '{support.COMPANIONS / 'pops-page'}'"
+        for closed, said in ((">&-", "standard output"), ("<&-", "standard input")):
+            outcome = support.run(["sh", "-c", f"{command} {closed}"], b"problem 1\n#1\nsound\n\n")
+            self.assertEqual(outcome, (3, b"", f"pops-page: {said} is closed\n"))
+
+
+if __name__ == "__main__":
+    unittest.main()

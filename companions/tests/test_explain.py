@@ -1,0 +1,335 @@
+"""Explanations of faults: three hundred slips with what has to be said of each."""
+
+import io
+import random
+import re
+import tempfile
+import unicodedata
+import unittest
+from pathlib import Path
+from typing import Iterator, List, NamedTuple
+
+import made_inputs
+import support
+
+from pops_explain.explaining import ExplainedFault, explain
+from pops_explain.showing import marked
+from pops_texts.report import read_report
+
+BASE = ["BeginProblem", "Pieces White Kg6 Ra1 Black Kg8", "Stipulation #1", "EndProblem"]
+WHOLE = "whole text:"
+CHARACTERS = {
+    "byte order mark": b"\xef\xbb\xbf",
+    "tabulator": b"\t",
+    "carriage return": b"\r",
+    "no line end": b"",
+}
+
+
+class Slip(NamedTuple):
+    """A slip of the list, with what is to be told of it."""
+
+    place: int
+    text: bytes
+    line: int
+    fault: int
+    marks: List[bytes]
+    explanation: str
+
+
+def slips() -> Iterator[Slip]:
+    """The slips of the list, behind its introduction."""
+    lines = (support.COMPANIONS / "data" / "slips.txt").read_text("utf-8").split("\n")
+    first = next(place for place, line in enumerate(lines) if line.startswith("== "))
+    block: List[str] = []
+    for place, line in enumerate(lines[first:] + [""], start=first + 1):
+        if line and not line.startswith("== "):
+            block.append(line)
+        elif block:
+            yield slip(place - len(block), block)
+            block = []
+
+
+def slip(place: int, block: List[str]) -> Slip:
+    own = [line for line in block if not line.startswith("    ")]
+    told, *said = [line[4:] for line in block if line.startswith("    ")]
+    parts = re.fullmatch(r"line (\d+), fault (\d+): ?(.*)", told)
+    assert parts is not None, f"line {place}: {told}"
+    lines = own[1:] if own[0] == WHOLE else in_base(own)
+    text = in_bytes("".join(line + "\n" for line in lines))
+    if own[-1].endswith("{no line end}"):
+        text = text[:-1]
+    marks = [in_bytes(mark) for mark in parts[3].split(" | ") if mark]
+    return Slip(place, text, int(parts[1]), int(parts[2]), marks, " ".join(said))
+
+
+def in_base(own: List[str]) -> List[str]:
+    """The base text with these lines in place of the line that they name, else of the same command,
+    else before EndProblem."""
+    named = re.fullmatch(r"in place of line (\d):", own[0])
+    if named is not None:
+        at = int(named[1]) - 1
+        return [*BASE[:at], *own[1:], *BASE[at + 1 :]]
+    for at, line in enumerate(BASE):
+        if line[:3].lower() == own[0][:3].lower():
+            return [*BASE[:at], *own, *BASE[at + 1 :]]
+    return [*BASE[:-1], *own, BASE[-1]]
+
+
+def in_bytes(text: str) -> bytes:
+    """The bytes of a text of the list, with the characters that it names."""
+    parts = re.split(r"\{([^{}]+)\}", text)
+    return b"".join(
+        part.encode("utf-8") if place % 2 == 0 else character(part)
+        for place, part in enumerate(parts)
+    )
+
+
+def character(name: str) -> bytes:
+    if name in CHARACTERS:
+        return CHARACTERS[name]
+    if name.startswith("byte "):
+        return bytes([int(name[5:], 16)])
+    return unicodedata.lookup(name.upper()).encode("utf-8")
+
+
+def explained(text: bytes) -> List[ExplainedFault]:
+    """The faults that pops tells of a text, explained."""
+    report = support.run([support.pops(), "--check", "--no-board"], text).output
+    return list(explain(text, read_report(io.BytesIO(report))))
+
+
+class Slips(unittest.TestCase):
+    maxDiff = None
+
+    def test_three_hundred_slips(self) -> None:
+        count = 0
+        for wanted in slips():
+            count += 1
+            with self.subTest(f"line {wanted.place} of the list"):
+                first, *_ = explained(wanted.text)
+                told = first.explanation
+                self.assertEqual((first.fault.line, first.fault.number), wanted[2:4])
+                marks = [wanted.text[mark.start : mark.stop] for mark in told.marks]
+                self.assertEqual((told.text, marks), (wanted.explanation, wanted.marks))
+        self.assertGreaterEqual(count, 300)
+
+    def test_every_fault_of_made_inputs_is_explained(self) -> None:
+        chance = random.Random(34)
+        kinds = set()
+        for _ in range(150):
+            text = made_inputs.made_input(chance)
+            with self.subTest(text):
+                for one in explained(text):
+                    kinds.add(one.fault.number)
+                    self.assertIn(one.explanation.text[-1], ".?")
+                    for mark in one.explanation.marks:
+                        self.assertTrue(0 <= mark.start < mark.stop <= len(text))
+        self.assertGreater(len(kinds), 10)
+
+
+class Documents(unittest.TestCase):
+    """What is promised of it in the documents."""
+
+    def test_the_example_of_the_companions_document(self) -> None:
+        document = (support.REPOSITORY / "docs" / "COMPANIONS.md").read_text("utf-8")
+        text = (
+            b"BeginProblem\nTitle A mate\nPieces White Kg6 Da1 La2 Bb4 Black Kg8\nStipulation #1\n"
+            b"NextProblem\n\nPieces White Kg6 Ra1 Black Kg8\nStipulation #1\n"
+            b"Option MaxSolutions\nNextProblem\nPieces White Kg6 Ra1 Black Kg8\n"
+            b"Stipulation #1\nEndProblem\n"
+        )
+        said = command(text=text).output.decode().replace("standard input:", "mates.pop:")
+        self.assertIn(re.sub("^(?=.)", "    ", said, flags=re.M), document)
+
+    def test_every_word_of_popeye_in_the_manual_is_known(self) -> None:
+        manual = (support.REPOSITORY / "docs" / "MANUAL.md").read_text("utf-8")
+        rows = re.findall(r"^\| (command|option|words) (`[^|]*) \| fault \d+ \|", manual, re.M)
+        words = [(kind, word) for kind, cell in rows for word in re.findall("`([^`]+)`", cell)]
+        self.assertGreater(len(words), 30)
+        for kind, word in words:
+            with self.subTest(word):
+                lines = [f"Option {word}"] if kind == "option" else [word]
+                if word in ("Be", "AnfangProblem", "DebutProbleme"):
+                    lines.insert(0, "in place of line 1:")
+                (one,) = explained("\n".join(in_base(lines)).encode())
+                known = r"of Popeye|English words alone|three letters or more"
+                self.assertRegex(one.explanation.text, known)
+
+
+class Marks(unittest.TestCase):
+    def test_the_line_below_marks_the_word(self) -> None:
+        cases = [
+            (b"Pieces White Ta1", [(13, 16)], "Pieces White Ta1", "             ^^^"),
+            (b"a1 b1", [(0, 2), (3, 5)], "a1 b1", "^^ ^^"),
+            (b"\tx\ty\r", [(3, 4)], " x y", "   ^"),
+            ("é x".encode(), [(3, 4)], "é x", "  ^"),
+            (b"\xe9 x", [(2, 3)], "é x", "  ^"),
+            ("\uff2bg6 x".encode(), [(0, 5)], "\uff2bg6 x", "^^^^"),
+            ("a\u00a0b c".encode(), [(0, 4)], "a<U+00A0>b c", "^" * 10),
+        ]
+        for line, marks, text, signs in cases:
+            with self.subTest(line):
+                self.assertEqual(marked(line, marks), (text, signs))
+
+    def test_of_a_long_line_a_part_is_shown(self) -> None:
+        line = b" ".join(b"%04d" % number for number in range(200))
+        text, signs = marked(line, [(500, 504)])
+        self.assertTrue(text.startswith("..") and text.endswith("..") and len(text) <= 100)
+        self.assertEqual(text[signs.index("^") : len(signs)], "0100")
+
+
+def command(*words: str, text: bytes = b"") -> support.Outcome:
+    return support.companion("pops-explain", *words, text=text)
+
+
+FAULTY = b"BeginProblem\nTitle Two\nPieces White Kg6 Ta1 Black Kg8\nStipulation #1\nEndProblem\n"
+SAID = """problem 1 "Two": fault 2: unknown or misplaced word
+    3 | Pieces White Kg6 Ta1 Black Kg8
+      |                  ^^^
+  `T` is no man's letter here. It is the rook in German: write `Ra1`.
+
+1 problem, 1 faulty
+"""
+
+
+class Command(unittest.TestCase):
+    def setUp(self) -> None:
+        room = tempfile.TemporaryDirectory()
+        self.addCleanup(room.cleanup)
+        self.input = Path(room.name) / "two.pop"
+        self.input.write_bytes(FAULTY)
+        self.report = Path(room.name) / "two.report"
+        self.report.write_bytes(support.run([support.pops(), str(self.input)]).output)
+
+    def test_a_file_alone(self) -> None:
+        wanted = f"{self.input}:3: {SAID}".encode()
+        self.assertEqual(command(str(self.input)), (1, wanted, ""))
+
+    def test_standard_input(self) -> None:
+        wanted = f"standard input:3: {SAID}".encode()
+        for words in ((), ("-",), ("-", str(self.report))):
+            with self.subTest(words):
+                self.assertEqual(command(*words, text=FAULTY), (1, wanted, ""))
+
+    def test_a_file_and_its_report(self) -> None:
+        wanted = f"{self.input}:3: {SAID}".encode()
+        file, report = str(self.input), str(self.report)
+        nowhere = ("--pops", "/nowhere/pops")
+        self.assertEqual(command(file, report, *nowhere), (1, wanted, ""))
+        self.assertEqual(
+            command(file, "-", *nowhere, text=self.report.read_bytes()), (1, wanted, "")
+        )
+
+    def test_an_output_file(self) -> None:
+        target = self.input.with_suffix(".txt")
+        self.assertEqual(command(str(self.input), "-o", str(target)), (1, b"", ""))
+        self.assertEqual(target.read_bytes(), f"{self.input}:3: {SAID}".encode())
+
+    def test_sound_problems(self) -> None:
+        path = support.REPOSITORY / "examples" / "several_problems.pop"
+        report = support.stored_report(path)
+        count = len(support.plain_items(report.read_bytes()))
+        wanted = f"{count} problems, none faulty\n".encode()
+        self.assertEqual(command(str(path)), (0, wanted, ""))
+        self.assertEqual(command(str(path), str(report)), (0, wanted, ""))
+
+    def test_every_stored_fault(self) -> None:
+        faults = 0
+        for path in support.stored_inputs():
+            report = io.BytesIO(support.stored_report(path).read_bytes())
+            faults += len(list(explain(path.read_bytes(), read_report(report))))
+        self.assertGreater(faults, 50)
+
+    def test_an_empty_input(self) -> None:
+        outcome = command(text=b"")
+        self.assertEqual(
+            outcome.output.decode(),
+            "standard input:1: problem 1: fault 1: BeginProblem expected\n"
+            "  The text is empty. A problem begins with `BeginProblem`.\n\n1 problem, 1 faulty\n",
+        )
+        self.assertEqual((outcome.status, outcome.error), (1, ""))
+
+    def test_an_empty_report(self) -> None:
+        outcome = command(str(self.input), "-", text=b"")
+        self.assertEqual((outcome.status, outcome.output), (1, b""))
+        said = f"pops-explain: standard input is no report of {self.input}: it is empty\n"
+        self.assertEqual(outcome.error, said)
+
+    def test_a_report_of_another_text(self) -> None:
+        other = self.input.with_name("other.pop")
+        for text, said in [
+            (FAULTY.replace(b"Ta1", b"Ra1"), "has no fault there"),
+            (b"\n" + FAULTY, "has fault 2 in line 4 there"),
+            (FAULTY.replace(b"Kg6", b"Kg6 Rg6"), "has fault 5 in line 3 there"),
+        ]:
+            with self.subTest(text):
+                other.write_bytes(text)
+                outcome = command(str(other), str(self.report))
+                self.assertEqual((outcome.status, outcome.output), (1, b""))
+                self.assertIn(said, outcome.error)
+
+    def test_reports_that_have_more_problems(self) -> None:
+        report = self.report.read_bytes()
+        for more, said in [
+            (report, "it is of several texts"),
+            (report.replace(b"problem 1", b"problem 2"), "it has problem 2, and the text has 1"),
+            (b"problem 2\n", "the report is cut"),
+        ]:
+            with self.subTest(more):
+                outcome = command(str(self.input), "-", text=report + more)
+                self.assertEqual(outcome.status, 1)
+                self.assertIn(said, outcome.error)
+                self.assertTrue(outcome.output.decode().startswith(f"{self.input}:3:"))
+
+    def test_a_report_that_lacks_problems(self) -> None:
+        two = self.input.with_name("two.pop")
+        text = FAULTY.replace(b"EndProblem", b"NextProblem", 1) + FAULTY.split(b"\n", 1)[1]
+        two.write_bytes(text)
+        report = support.run([support.pops(), "--check", str(two)]).output
+        report = report[report.index(b"problem 2\n") :]
+        outcome = command(str(two), "-", text=report)
+        self.assertEqual((outcome.status, outcome.error), (1, ""))
+        line = text[: text.rindex(b"Ta1")].count(b"\n") + 1
+        self.assertIn(f"{two}:{line}: problem 2", outcome.output.decode())
+        self.assertTrue(outcome.output.endswith(b"1 problem, 1 faulty\n"))
+
+    def test_faults_of_the_device_and_of_length(self) -> None:
+        for fault, said in [
+            (b"line 5: fault 20: input too long", "2^30 bytes"),
+            (b"line 5: fault 21: input device failed", "couldn't be read on"),
+        ]:
+            report = b"problem 1\n" + fault + b"\n\n"
+            outcome = command(str(self.input), "-", text=report)
+            self.assertEqual((outcome.status, outcome.error), (1, ""))
+            self.assertIn(said, outcome.output.decode())
+
+    def test_what_cannot_be_opened_or_run(self) -> None:
+        nowhere = str(self.input.with_name("nowhere"))
+        cases = [
+            ((nowhere,), f"cannot open {nowhere}: No such file or directory"),
+            ((str(self.input), nowhere), f"cannot open {nowhere}: No such file or directory"),
+            ((str(self.input), "--pops", nowhere), ""),
+            ((str(self.input), "-o", nowhere + "/x"), f"cannot write {nowhere}/x"),
+        ]
+        for words, said in cases:
+            with self.subTest(words):
+                outcome = command(*words)
+                self.assertEqual((outcome.status, outcome.output), (3, b""))
+                self.assertIn(said, outcome.error)
+                self.assertEqual(outcome.error.count("\n"), 1)
+
+    def test_words_that_it_does_not_take(self) -> None:
+        for words in (("-", "-"), ("--fast",), ("a", "b", "c")):
+            with self.subTest(words):
+                self.assertEqual(command(*words).status, 2)
+
+    def test_help_and_version(self) -> None:
+        for word in ("--help", "--version"):
+            outcome = command(word)
+            self.assertEqual((outcome.status, outcome.error), (0, ""))
+            self.assertIn(b"pops-explain", outcome.output)
+
+
+if __name__ == "__main__":
+    unittest.main()

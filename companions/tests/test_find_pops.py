@@ -1,0 +1,148 @@
+"""Where the companions look for pops; none of them builds it."""
+
+import os
+import shutil
+import subprocess
+import sys
+import tempfile
+import unittest
+from pathlib import Path
+from typing import Dict, Optional
+
+import support
+
+# Prints the program that is found, or what to do.
+FINDS = """
+from pops_many.program import MissingError, find
+try:
+    print(find({named!r}))
+except MissingError as error:
+    print("missing:", error)
+"""
+
+
+class Places(unittest.TestCase):
+    def setUp(self) -> None:
+        room = tempfile.TemporaryDirectory()
+        self.addCleanup(room.cleanup)
+        self.room = Path(room.name).resolve()
+        self.built = self.room / "built"
+        self.elsewhere = self.program(self.room / "path" / "pops")
+
+    def program(self, path: Path) -> Path:
+        """A program that notes that it was run, as no test expects."""
+        path.parent.mkdir(parents=True, exist_ok=True)
+        path.write_text(f"#!/bin/sh\necho run >> {self.built}\n")
+        path.chmod(0o755)
+        return path
+
+    def companions(self, folder: Path) -> Path:
+        for name in ("pops_many", "pops_texts"):
+            shutil.copytree(
+                support.COMPANIONS / name,
+                folder / name,
+                ignore=shutil.ignore_patterns("__pycache__"),
+            )
+        return folder
+
+    def repository(self) -> Path:
+        root = self.room / "repository"
+        self.companions(root / "companions")
+        (root / "crates" / "pops").mkdir(parents=True)
+        self.program(root / "pops")
+        return root
+
+    def found(
+        self,
+        companions: Path,
+        named: Optional[str] = None,
+        more: Optional[Dict[str, str]] = None,
+        path: Optional[Path] = None,
+    ) -> str:
+        environment = {"PATH": str(path or self.elsewhere.parent), **(more or {})}
+        done = subprocess.run(
+            [sys.executable, "-B", "-c", FINDS.format(named=named)],
+            cwd=companions,
+            env=environment,
+            capture_output=True,
+            check=True,
+        )
+        self.assertFalse(self.built.exists(), "a program was run")
+        return done.stdout.decode().strip()
+
+    def unbuilt(self, root: Path) -> str:
+        return (
+            f"missing: pops isn't built: build it by {root}/pops {root}/examples/mate_in_one.pop,"
+            " or name a built one with --pops"
+        )
+
+    def test_the_named_one_comes_first(self) -> None:
+        root = self.repository()
+        self.program(root / "crates" / "pops" / "out" / "pops")
+        named, variable = (str(self.program(self.room / name)) for name in ("named", "variable"))
+        companions = root / "companions"
+        self.assertEqual(self.found(companions, named, {"POPS": variable}), named)
+        self.assertEqual(self.found(companions, None, {"POPS": variable}), variable)
+        self.assertEqual(
+            self.found(companions, "nowhere", {"POPS": variable}),
+            "missing: there is no program nowhere",
+        )
+
+    def test_the_built_one_of_a_repository(self) -> None:
+        root = self.repository()
+        nowhere = self.room / "nowhere"
+        self.assertEqual(self.found(root / "companions"), str(self.elsewhere))
+        self.assertEqual(self.found(root / "companions", path=nowhere), self.unbuilt(root))
+        built = self.program(root / "crates" / "pops" / "out" / "pops")
+        self.assertEqual(self.found(root / "companions"), str(built))
+
+    def test_a_repositorys_script_is_never_run(self) -> None:
+        root = self.repository()
+        linked = self.room / "linked" / "pops"
+        linked.parent.mkdir()
+        linked.symlink_to(root / "pops")
+        away = self.companions(self.room / "away")
+        self.assertEqual(self.found(away, str(root / "pops")), self.unbuilt(root))
+        self.assertEqual(self.found(away, None, {"POPS": str(linked)}), self.unbuilt(root))
+        self.assertEqual(self.found(away, path=linked.parent), self.unbuilt(root))
+        built = self.program(root / "crates" / "pops" / "out" / "pops")
+        self.assertEqual(self.found(away, str(root / "pops")), str(built))
+        self.assertEqual(self.found(away, path=linked.parent), str(built))
+
+    def test_the_one_installed_beside(self) -> None:
+        prefix = self.room / "prefix"
+        companions = self.companions(prefix / "share" / "pops" / "companions")
+        self.assertEqual(self.found(companions), str(self.elsewhere))
+        installed = self.program(prefix / "bin" / "pops")
+        self.assertEqual(self.found(companions), str(installed))
+
+    def test_nowhere(self) -> None:
+        away = self.companions(self.room / "away")
+        self.assertEqual(self.found(away), str(self.elsewhere))
+        self.assertEqual(
+            self.found(away, path=self.room / "nowhere"),
+            "missing: there is no program pops: name it with --pops",
+        )
+
+
+class Told(unittest.TestCase):
+    def test_help_says_where(self) -> None:
+        for name in ("pops-many", "test"):
+            said = " ".join(support.companion(name, "--help").output.decode().split())
+            for place in ("$POPS", "built in this repository", "../../../bin/pops", "on the PATH"):
+                self.assertIn(place, said)
+
+    def test_a_program_that_is_missing_is_told(self) -> None:
+        for name in ("pops-many", "test"):
+            done = subprocess.run(
+                [sys.executable, str(support.COMPANIONS / name)],
+                stdin=subprocess.DEVNULL,
+                capture_output=True,
+                env={**os.environ, "POPS": "nowhere"},
+            )
+            self.assertIn(done.returncode, (2, 3))
+            self.assertEqual(done.stderr.decode(), f"{name}: there is no program nowhere\n")
+
+
+if __name__ == "__main__":
+    unittest.main()

@@ -1,0 +1,545 @@
+"""pops-import: other collections become problems of pops, and what is left out is told.
+
+The made files of data/import have the wanted output (.pop) and the wanted lines on standard error
+(.told) beside them, both written by hand.
+"""
+
+import contextlib
+import io
+import random
+import re
+import signal
+import subprocess
+import sys
+import tempfile
+import unittest
+from pathlib import Path
+from typing import Any, Dict, List, NamedTuple
+
+import support
+
+from pops_import.language import ENGLISH, FRENCH, GERMAN, meaning
+from pops_import.yaml_text import YamlError, documents
+
+DATA = Path(__file__).resolve().parent / "data" / "import"
+IMPORT = support.loaded("pops-import")
+
+
+class Imported(NamedTuple):
+    """What an import in this process left behind; lines of error without the program's name."""
+
+    status: int
+    output: bytes
+    told: List[str]
+
+
+def imported(*words: str) -> Imported:
+    """Imports files, with the options before them."""
+    with tempfile.TemporaryDirectory() as room:
+        target = Path(room) / "made.pop"
+        error = io.StringIO()
+        with contextlib.redirect_stderr(error):
+            status = IMPORT.main([*words, "-o", str(target)])
+        output = target.read_bytes() if target.exists() else b""
+    told = [line[len("pops-import: ") :] for line in error.getvalue().splitlines()]
+    return Imported(int(status), output, told)
+
+
+def imported_text(text: bytes, *words: str) -> Imported:
+    """Imports a text, which is called `text` in what is told."""
+    with tempfile.TemporaryDirectory() as room:
+        source = Path(room) / "text"
+        source.write_bytes(text)
+        made = imported(*words, str(source))
+    return made._replace(told=[line.replace(str(source), "text") for line in made.told])
+
+
+def made_files() -> List[Path]:
+    files = sorted(path for path in DATA.iterdir() if path.suffix in (".inp", ".yaml"))
+    assert len(files) > 15
+    return files
+
+
+class MadeFiles(unittest.TestCase):
+    def test_each_becomes_what_is_wanted(self) -> None:
+        for path in made_files():
+            with self.subTest(path.name):
+                made = imported(str(path))
+                self.assertEqual(
+                    made.output.decode("utf-8"), path.with_suffix(".pop").read_text("utf-8")
+                )
+                wanted = path.with_suffix(".told").read_text("utf-8").splitlines()
+                self.assertEqual(made.told, [f"{path}, {line}" for line in wanted])
+                left_out = any(": left out" in line for line in wanted)
+                self.assertEqual(made.status, 1 if left_out else 0)
+
+    def test_what_is_wanted_is_sound(self) -> None:
+        for path in sorted(DATA.glob("*.pop")):
+            with self.subTest(path.name):
+                outcome = support.run([support.pops(), "--check", str(path)])
+                self.assertEqual((outcome.status, outcome.error), (0, ""), outcome.output)
+
+    def test_what_was_imported_stays_as_it_is(self) -> None:
+        for path in sorted(DATA.glob("*.pop")):
+            with self.subTest(path.name):
+                self.assertEqual(imported(str(path)), (0, path.read_bytes(), []))
+
+    def test_line_ends_of_other_systems(self) -> None:
+        for name in ("twins.inp", "german.inp", "olive.yaml"):
+            text = (DATA / name).read_bytes()
+            wanted = imported_text(text)
+            for end in (b"\r\n", b"\r"):
+                with self.subTest(name, end=end):
+                    self.assertEqual(imported_text(text.replace(b"\n", end)), wanted)
+
+    def test_encodings(self) -> None:
+        for name in ("german.inp", "french.inp"):
+            text = (DATA / name).read_text("utf-8")
+            wanted = imported_text(text.encode("utf-8"))
+            for encoding in ("latin-1", "utf-16"):
+                with self.subTest(name, encoding=encoding):
+                    made = imported_text(text.encode(encoding), "--encoding", encoding)
+                    self.assertEqual(made, wanted)
+            marked = imported_text(b"\xef\xbb\xbf" + text.encode("utf-8"))
+            self.assertEqual(marked, wanted)
+        refused = imported_text((DATA / "german.inp").read_text("utf-8").encode("latin-1"))
+        self.assertEqual(
+            refused, (1, b"", ["text, line 3: not in utf-8: give --encoding, as latin-1"])
+        )
+
+
+class Document(unittest.TestCase):
+    def test_the_example(self) -> None:
+        document = (support.REPOSITORY / "docs" / "COMPANIONS.md").read_text("utf-8")
+        section = document.split("## pops-import", 1)[1]
+        blocks = re.findall(r"\n\n((?:    [^\n]*\n)+)", section)[1:4]
+        given, wanted, told = (re.sub("^    ", "", block, flags=re.M) for block in blocks)
+        made = imported_text(given.encode("utf-8"))
+        self.assertEqual(made.output.decode("utf-8"), wanted)
+        shown = [f"pops-import: {line.replace('text', 'pair.inp', 1)}" for line in made.told]
+        self.assertEqual(shown, told.splitlines())
+
+
+class RoundTrips(unittest.TestCase):
+    """Texts of pops in, the same reports out."""
+
+    def test_sound_rows_and_examples(self) -> None:
+        tried = 0
+        for path in support.stored_inputs():
+            report = support.stored_report(path).read_bytes()
+            if b": fault " in report:
+                continue
+            tried += 1
+            with self.subTest(path.name):
+                made = imported(str(path))
+                self.assertEqual(made.status, 0, made.told)
+                words = ["--check"] * support.is_for_check(path)
+                outcome = support.run([support.pops(), *words], made.output)
+                self.assertEqual(outcome, (0, report, ""))
+        self.assertGreater(tried, 70)
+
+    def test_the_example_of_faults(self) -> None:
+        """Of its seven problems a comma and a lost number are no faults of Popeye's."""
+        made = imported(str(support.REPOSITORY / "examples" / "faults.pop"))
+        self.assertEqual(made.status, 1)
+        self.assertEqual(made.output.count(b"Pieces "), 4)
+        left_out = [line.split(", ", 1)[1] for line in made.told if ": left out: " in line]
+        self.assertEqual(
+            left_out,
+            [
+                "line 8, problem 2: left out: Stipulatoin isn't known here",
+                "line 18, problem 4: left out: MaxSolutions wants a number from 1 to 4,000,000,000",
+                "line 27, problem 7: left out: there is no stipulation",
+            ],
+        )
+
+
+# English words with the words that Popeye has for them in German and French.
+_TRANSLATED = {
+    "BeginProblem": ("AnfangProblem", "DebutProbleme"),
+    "NextProblem": ("WeiteresProblem", "ASuivre"),
+    "EndProblem": ("EndeProblem", "FinProbleme"),
+    "Pieces": ("Steine", "Pieces"),
+    "White": ("Weiss", "Blanc"),
+    "Black": ("Schwarz", "Noir"),
+    "Stipulation": ("Forderung", "Enonce"),
+    "Condition": ("Bedingung", "Condition"),
+    "Title": ("Titel", "Titre"),
+    "Author": ("Autor", "Auteur"),
+    "SetPlay": ("SatzSpiel", "ApparentJeu"),
+    "Variation": ("Variante", "Variantes"),
+    "MaxSolutions": ("MaxLoesungen", "MaxSolutions"),
+}
+_LETTERS = {"K": "KR", "Q": "DD", "R": "TT", "B": "LF", "S": "SC", "P": "BP", "G": "GS", "N": "NN"}
+
+
+def translated(text: str, place: int) -> str:
+    """A text in German (0) or French (1)."""
+    words = []
+    for word in re.split(r"(\s+)", text):
+        if word in _TRANSLATED:
+            word = _TRANSLATED[word][place]
+        elif re.fullmatch("[KQRBSPGN]([a-h][1-8])+", word):
+            word = _LETTERS[word[0]][place] + word[1:]
+        words.append(word)
+    return "".join(words)
+
+
+def made_problems(chance: random.Random) -> str:
+    """Problems of this profile, as pops-import writes them; some have a fault that pops tells."""
+    problems = []
+    for number in range(chance.randrange(1, 5)):
+        squares = [f"{file}{rank}" for file in "abcdefgh" for rank in range(2, 8)]
+        chance.shuffle(squares)
+        lines = [f"Title Number {number}", "Author N. N."]
+        sides = []
+        for colour in ("White", "Black"):
+            men = [f"K{squares.pop()}"]
+            for letter in "QRBSPGN":
+                count = chance.choice([0, 0, 1, 2])
+                own = sorted((squares.pop() for _ in range(count)), key=lambda one: one[::-1])
+                men += [letter + "".join(own)] if own else []
+            sides.append(" ".join([colour, *men]))
+        lines.append("Pieces " + " ".join(sides))
+        lines.append("Stipulation " + chance.choice(["#2", "s#3", "h#2", "h#1.5", "=1", "h=2.5"]))
+        condition = chance.choice(["", "Circe", "Madrasi"])
+        lines += [f"Condition {condition}"] if condition else []
+        options = [word for word in ("SetPlay", "Variation") if chance.random() < 0.5]
+        options += ["MaxSolutions 7"] if chance.random() < 0.5 else []
+        lines += ["Option " + " ".join(options)] if options else []
+        problems.append("\n".join(lines))
+    return "BeginProblem\n" + "\nNextProblem\n".join(problems) + "\nEndProblem\n"
+
+
+class Languages(unittest.TestCase):
+    def test_a_hundred_made_texts_in_three_languages(self) -> None:
+        chance = random.Random(34)
+        for number in range(100):
+            text = made_problems(chance)
+            for place, name in ((None, "English"), (0, "German"), (1, "French")):
+                with self.subTest(number, language=name):
+                    given = text if place is None else translated(text, place)
+                    made = imported_text(given.encode("utf-8"))
+                    self.assertEqual(made.output.decode("utf-8"), text)
+                    self.assertEqual((made.status, made.told), (0, []))
+
+    def test_short_words(self) -> None:
+        text = "anf ste w kg6 s kh8 ford h#1 op sat nae st w kg6 s kh8 ford h#1 ende"
+        self.assertEqual(
+            imported_text(text.encode()).output.decode(),
+            "BeginProblem\nPieces White Kg6 Black Kh8\nStipulation h#1\nOption SetPlay\n"
+            "NextProblem\nPieces White Kg6 Black Kh8\nStipulation h#1\nEndProblem\n",
+        )
+
+    def test_the_words_of_the_document(self) -> None:
+        """Its table names all words that are taken, each with what it means."""
+        document = (support.REPOSITORY / "docs" / "COMPANIONS.md").read_text("utf-8")
+        section = document.split("### Words of Popeye", 1)[1].split("\n## ", 1)[0]
+        for title, places in (
+            ("Command", [one.commands for one in (ENGLISH, GERMAN, FRENCH)]),
+            ("Option", [one.options for one in (ENGLISH, GERMAN, FRENCH)]),
+            ("Twin", [one.twinnings for one in (ENGLISH, GERMAN, FRENCH)]),
+        ):
+            rows = table(section, title)
+            for place, words in enumerate(places):
+                known = {}
+                for row in rows:
+                    wanted = re.findall("`([^`]+)`", row[0])[0]
+                    for word in re.findall("`([^`]+)`", row[place]):
+                        with self.subTest(title, word=word):
+                            found: Any = meaning(word.lower(), words)
+                            self.assertIsNotNone(found)
+                            self.assertEqual(found.value, wanted)
+                        known[word.lower()] = wanted
+                whole = [word for word in words if not is_beginning(word, words)]
+                self.assertEqual(sorted(set(whole) - set(known)), [])
+
+
+def is_beginning(word: str, words: Any) -> bool:
+    """Whether a word is there only as the beginning of others."""
+    return any(other != word and other.startswith(word) for other in words)
+
+
+def table(text: str, title: str) -> List[List[str]]:
+    """The rows of the table whose first column has a title."""
+    lines = text.split("\n")
+    start = next(at for at, line in enumerate(lines) if line.startswith(f"| {title} |")) + 2
+    rows = []
+    for line in lines[start:]:
+        if not line.startswith("|"):
+            break
+        rows.append([cell.strip() for cell in line.strip("|").split("|")])
+    assert rows
+    return rows
+
+
+class Texts(unittest.TestCase):
+    def test_long_titles_are_shortened_between_letters(self) -> None:
+        title = "é" * 150
+        made = imported_text(
+            f"BeginProblem\nTitle {title}\nAuthor {title}\nPieces White Kg6 Black Kh8\n"
+            "Stipulation h#1\nTwin Move g6 g7\nEndProblem\n".encode("utf-8")
+        )
+        lines = made.output.decode("utf-8").split("\n")
+        self.assertEqual(lines[1], f"Title {'é' * 98} a)")
+        self.assertEqual(lines[2], f"Author {'é' * 100}")
+        self.assertEqual(lines[3:5], [f"Remark Title {title}", f"Remark Author {title}"])
+        self.assertEqual(
+            made.told[:2],
+            [
+                "text, line 1, problem 1 a): Title shortened to 200 bytes: see Remark",
+                "text, line 1, problem 1 a): Author shortened to 200 bytes: see Remark",
+            ],
+        )
+
+    def test_a_text_line_stays_one_line(self) -> None:
+        made = imported_text(
+            b'title: "two\\nlines\\tand\\fmore"\nstipulation: h#1\n'
+            b"algebraic: {white: [Kg6], black: [Kh8]}\n"
+            b'"no\\nte": "a\\vb\\n\\x85c"\n'
+        )
+        self.assertEqual(
+            made.output.decode("utf-8"),
+            "BeginProblem\nTitle two lines\tand\x0cmore\nRemark no te: a\vb\n"
+            "Remark no te: \x85c\n"
+            "Pieces White Kg6 Black Kh8\nStipulation h#1\nEndProblem\n",
+        )
+
+    def test_texts_stay_as_pops_reads_them(self) -> None:
+        """What pops prints of a title is what it prints of the imported one, byte for byte."""
+        for title in (":-)", "a  b\t c", "a\rb \r", "\v\fa\vb", "\xa0a\xa0", "\x1ba\x1c", "É, ß;"):
+            lines = ["Beg", f"Title {title}", "Pieces White Kg6 Black Kh8", "Stip h#1", "End\n"]
+            text = "\n".join(lines).encode("utf-8")
+            with self.subTest(title):
+                reports = [
+                    support.run([support.pops(), "--check"], one)
+                    for one in (text, imported_text(text).output)
+                ]
+                self.assertEqual(reports[0].status, 0)
+                self.assertEqual(*reports)
+
+    def test_remarks_of_a_problem_stand_with_its_first_twin_that_is_posed(self) -> None:
+        made = imported_text(
+            b"BeginProblem\nRemark both\nPieces White Kg6 Black Kh8 LEa1\nStipulation h#1\n"
+            b"Twin Remove a1\nTwin Remove a1 Move g6 g7\nEndProblem\n"
+        )
+        self.assertEqual(made.output.count(b"Remark both\n"), 1)
+        self.assertIn(b"Title b)\nRemark both\n", made.output)
+
+
+class Yaml(unittest.TestCase):
+    """The part of YAML that is read, by the definitions of YAML 1.2."""
+
+    def value(self, text: str) -> Any:
+        (document,) = documents(text)
+        return document.node()
+
+    def test_values(self) -> None:
+        for text, wanted in [
+            ("a: b", {"a": "b"}),
+            ("a: b # c", {"a": "b"}),
+            ("a: b#c", {"a": "b#c"}),
+            ("a: #b", {"a": None}),
+            ("a: '#b'", {"a": "#b"}),
+            ("a: ~\nb: null\nc:\nd: ''", {"a": None, "b": None, "c": None, "d": ""}),
+            ("a: 'it''s'", {"a": "it's"}),
+            (r'a: "\"\\\n\t\x41\u00e9\U0001F600\/"', {"a": '"\\\n\tAé\U0001f600/'}),
+            (r'a: "\uD83D\uDE00"', {"a": "\U0001f600"}),
+            ("a: http://b.c/d", {"a": "http://b.c/d"}),
+            ("a:b: c", {"a:b": "c"}),
+            ('"a b": c\n\'d: e\': f', {"a b": "c", "d: e": "f"}),
+            ("a:\n- b\n- c\nd: e", {"a": ["b", "c"], "d": "e"}),
+            ("a:\n  - b\n  -\n    c\n  -\nd: e", {"a": ["b", "c", None], "d": "e"}),
+            ("- a: b\n  c: d\n- e: f", [{"a": "b", "c": "d"}, {"e": "f"}]),
+            ("- - a\n  - b\n- c", [["a", "b"], "c"]),
+            ("a:\n  b:\n    c: d\n  e: f\ng: h", {"a": {"b": {"c": "d"}, "e": "f"}, "g": "h"}),
+            ("a: [b, 'c, d', [e], {f: g}]", {"a": ["b", "c, d", ["e"], {"f": "g"}]}),
+            ("a: [b,\n  c, # d\n  e,\n  ]\nf: g", {"a": ["b", "c", "e"], "f": "g"}),
+            ("a: []\nb: {}", {"a": [], "b": {}}),
+            ("{a: b, c: [d], e: , f}", {"a": "b", "c": ["d"], "e": None, "f": None}),
+            ("{'a':b, \"c\": d}", {"a": "b", "c": "d"}),
+            ("a: b\n  c\n\n  d\ne: f", {"a": "b c\nd", "e": "f"}),
+            ("a: 'b\n  c\n\n  d'", {"a": "b c\nd"}),
+            ('a: "b\n  c \\\n  d"', {"a": "b c d"}),
+            ("a: |\n  b\n    c\n\n  d\ne: f", {"a": "b\n  c\n\nd", "e": "f"}),
+            ("a: |-\n  # b\n  c: d\n", {"a": "# b\nc: d"}),
+            ("a: |2\n    b\n  c", {"a": "  b\nc"}),
+            ("a: |+2\n    b\n", {"a": "  b"}),
+            ("a: >\n  b\n  c\n\n  d\n", {"a": "b c\nd"}),
+            ("a: |\nb: c", {"a": "", "b": "c"}),
+            ("- |\n a\n- b", ["a", "b"]),
+            ("a: !!str b\nc: !x\n  - d", {"a": "b", "c": ["d"]}),
+            ("# a\n\na: b\n  # c\nd: e", {"a": "b", "d": "e"}),
+            ("a: -b\n-c: d", {"a": "-b", "-c": "d"}),
+            ("a: [x y, +]", {"a": ["x y", "+"]}),
+            ("a text\nof two lines", "a text of two lines"),
+            ("- a\n- b", ["a", "b"]),
+        ]:
+            with self.subTest(text):
+                self.assertEqual(self.value(text), wanted)
+
+    def test_faults_have_their_line(self) -> None:
+        for text, line in [
+            ("a: b\nc", 2),
+            ("a: b\n  c: d", 2),
+            ("a:\n   b: c\n  d: e", 3),
+            ("a: [b\nc: d", 2),
+            ("a: {b: c", 1),
+            ("a: 'b", 1),
+            ('a: "b', 1),
+            ('a: "b" c', 1),
+            (r'a: "\q"', 1),
+            (r'a: "\uD8zz"', 1),
+            (r'a: "\uD83D"', 1),
+            ("a: b: c", 1),
+            ("a: b\na: c", 2),
+            ("{a: b, a: c}", 1),
+            ("a: &b c", 1),
+            ("a: [*b]", 1),
+            ("a: @b", 1),
+            ("a: | b", 1),
+            ("a: b\n\tc: d", 2),
+            ("- a\nb: c", 2),
+            ("a: b\n- c", 2),
+            ("[a]: b", 1),
+        ]:
+            with self.subTest(text):
+                with self.assertRaises(YamlError) as caught:
+                    self.value(text)
+                self.assertEqual(caught.exception.line, line)
+
+    def test_documents(self) -> None:
+        text = "%YAML 1.2\n---\na: b\n...\n# c\n--- d\n---\n---\n- e\n"
+        found = [(one.line, one.node()) for one in documents(text)]
+        self.assertEqual(found, [(2, {"a": "b"}), (6, "d"), (8, ["e"])])
+
+    def test_keys_and_texts_know_their_lines(self) -> None:
+        value: Dict[Any, Any] = self.value("a: |\n  b\nc:\n  - d\n  - [e,\n  f]\n")
+        self.assertEqual([key.line for key in value], [1, 3])
+        texts = [value["a"], value["c"][0], *value["c"][1]]
+        self.assertEqual([text.line for text in texts], [1, 4, 5, 6])
+
+    def test_any_cut_or_changed_text_is_read_or_told(self) -> None:
+        """Never an error of another kind, nor a run without end."""
+        chance = random.Random(3)
+        texts = [path.read_text("utf-8") for path in made_files()]
+        for _ in range(1500):
+            text = chance.choice(texts)
+            start = chance.randrange(len(text))
+            text = text[start : start + chance.randrange(400)]
+            place = chance.randrange(len(text) + 1)
+            text = text[:place] + chance.choice("\"'[]{}:#-|>!&*%\n\t ,é\x00") + text[place:]
+            for document in documents(text):
+                with contextlib.suppress(YamlError):
+                    document.node()
+
+
+class Robustness(unittest.TestCase):
+    def test_changed_files_are_posed_or_told(self) -> None:
+        """What is posed is read by pops, but for checks, which are left to it."""
+        chance = random.Random(5)
+        texts = [path.read_text("utf-8") for path in made_files()]
+        words = "Twin Pieces White a1 Kb2 #2 Condition Circe Option Continued Move ; = ] \" - : #"
+        outputs = []
+        for _ in range(400):
+            parts = re.split(r"(\s+)", chance.choice(texts))
+            for _ in range(chance.randrange(1, 6)):
+                place = chance.randrange(len(parts))
+                if chance.random() < 0.5:
+                    del parts[place]
+                else:
+                    parts.insert(place, chance.choice(words.split() + [" ", "\n"]))
+            made = imported_text("".join(parts).encode("utf-8"))
+            self.assertIn(made.status, (0, 1))
+            if made.output:
+                outputs.append(made.output)
+            self.assertTrue(made.output or made.told)
+        told = b"".join(
+            support.run([support.pops(), "--check", "--no-board"], output).output
+            for output in outputs
+        )
+        self.assertEqual(set(re.findall(b": fault ([0-9]+): ", told)) - {b"18"}, set())
+
+
+class NewUser(unittest.TestCase):
+    """A file, a pipe, mistakes, an empty input, an interrupted run."""
+
+    def test_a_pipe_and_a_file_say_the_same(self) -> None:
+        path = DATA / "twins.inp"
+        wanted = path.with_suffix(".pop").read_bytes()
+        piped = support.companion("pops-import", text=path.read_bytes())
+        self.assertEqual((piped.status, piped.output), (0, wanted))
+        self.assertEqual(
+            piped.error,
+            "pops-import: standard input, line 12, problem 1 f): the man on d1 is replaced\n",
+        )
+        named = support.companion("pops-import", str(path))
+        self.assertEqual((named.status, named.output), (0, wanted))
+
+    def test_several_files_become_one_text(self) -> None:
+        paths = [DATA / "white_to_play.inp", DATA / "olive.yaml"]
+        made = imported(*map(str, paths))
+        self.assertEqual(made.status, 1)
+        first, second = (path.with_suffix(".pop").read_bytes() for path in paths)
+        joined = first.replace(b"EndProblem", b"NextProblem") + second.split(b"\n", 1)[1]
+        self.assertEqual(made.output, joined)
+
+    def test_texts_without_a_problem(self) -> None:
+        empty = "there is no problem: the text is empty"
+        for text, why in [
+            (b"", empty),
+            (b"\xef\xbb\xbf \n", empty),
+            (b"---\n# nothing\n", "there is no problem: all documents are empty"),
+            (b"White Kg6", "there is no BeginProblem, AnfangProblem or DebutProbleme"),
+            (b"\x00\x01", "there is no BeginProblem, AnfangProblem or DebutProbleme"),
+        ]:
+            with self.subTest(text):
+                self.assertEqual(imported_text(text), (1, b"", [f"text, line 1: {why}"]))
+
+    def test_nothing_is_written_where_nothing_is_posed(self) -> None:
+        with tempfile.TemporaryDirectory() as room:
+            target = Path(room) / "old.pop"
+            target.write_text("what stood there")
+            outcome = support.companion("pops-import", "-o", str(target), text=b"Begin")
+            self.assertEqual((outcome.status, outcome.output), (1, b""))
+            self.assertEqual(
+                outcome.error,
+                "pops-import: standard input, line 1, problem 1: left out:"
+                " the text ends before EndProblem\n",
+            )
+            self.assertEqual(target.read_text(), "what stood there")
+
+    def test_mistakes_on_the_command_line(self) -> None:
+        lost = support.companion("pops-import", "nowhere.inp")
+        self.assertEqual(
+            (lost.status, lost.error),
+            (3, "pops-import: cannot open nowhere.inp: No such file or directory\n"),
+        )
+        self.assertEqual(support.companion("pops-import", "--twins").status, 2)
+        self.assertEqual(support.companion("pops-import", "--encoding", "runes").status, 2)
+        self.assertEqual(support.companion("pops-import", "--help").status, 0)
+        version = support.companion("pops-import", "--version").output.decode()
+        self.assertEqual(version.split()[0], "pops-import")
+
+    def test_an_interrupted_run(self) -> None:
+        with tempfile.TemporaryDirectory() as room:
+            target = Path(room) / "old.pop"
+            target.write_text("what stood there")
+            program = support.COMPANIONS / "pops-import"
+            words = [sys.executable, str(program), str(DATA / "twins.inp"), "/dev/stdin"]
+            run = subprocess.Popen(
+                [*words, "-o", str(target)], stdin=subprocess.PIPE, stderr=subprocess.PIPE
+            )
+            assert run.stdin is not None and run.stderr is not None
+            self.assertIn(b"replaced", run.stderr.readline())
+            run.send_signal(signal.SIGINT)
+            error = run.stderr.read()
+            run.stdin.close()
+            run.stderr.close()
+            self.assertEqual((run.wait(), error), (6, b"pops-import: stopped\n"))
+            self.assertEqual(list(Path(room).iterdir()), [target])
+            self.assertEqual(target.read_text(), "what stood there")
+
+
+if __name__ == "__main__":
+    unittest.main()

@@ -1,0 +1,203 @@
+"""pops-many that is stopped or killed: what ends, what is left behind, what --resume takes up."""
+
+import os
+import pty
+import signal
+import subprocess
+import sys
+import tempfile
+import unittest
+from pathlib import Path
+
+import support
+from six_problems import SixProblems, has_worked, wait_for
+
+from pops_many import sessions
+
+WAITS = "sleep 60 & sleep 61"
+
+# No run on it ends while a test waits, and none writes a line: a lone knight never mates.
+LONG = b"""BeginProblem
+Pieces White Ke1 Sb1 Black Ke8
+Stipulation h#8
+EndProblem
+"""
+
+
+def ignore_hangup() -> None:
+    """What nohup does."""
+    signal.signal(signal.SIGHUP, signal.SIG_IGN)
+
+
+class Signals(SixProblems):
+    def waiting(self, *more: str, **settings: object) -> "subprocess.Popen[bytes]":
+        """A run that waits on the fourth problem."""
+        run = self.started(*self.words(self.stand_in(WAITS), *more), **settings)  # type: ignore
+        wait_for(lambda: self.kept() == 3)
+        return run
+
+    def test_a_run_that_is_stopped_is_resumed(self) -> None:
+        for sign in (signal.SIGTERM, signal.SIGHUP, signal.SIGINT):
+            with self.subTest(sign.name):
+                run = self.waiting()
+                (child,) = self.programs(run, 1)
+                run.send_signal(sign)
+                error = run.communicate(timeout=30)[1].decode()
+                self.assertEqual(run.returncode, 6)
+                self.assertEqual(
+                    error,
+                    "pops-many: stopped\n"
+                    f"pops-many: 3 of 6 problems are done and kept in {self.journal}:"
+                    f" go on with --resume --journal {self.journal}\n",
+                )
+                self.wait_for_end(child)
+                self.assertEqual(self.files(), ["six.report.journal"])
+                refused = self.many(support.pops())
+                self.assertEqual(refused.status, 2)
+                self.assertIn("is the journal of a run that stopped", refused.error)
+                self.assertEqual(self.many(support.pops(), "--resume"), (0, b"", ""))
+                self.assertEqual(self.report.read_bytes(), self.wanted)
+                self.report.unlink()
+
+    def test_children_end_with_a_run_that_is_killed(self) -> None:
+        for sign in (signal.SIGKILL, signal.SIGQUIT):
+            with self.subTest(sign.name):
+                run = self.waiting()
+                (child,) = self.programs(run, 1)
+                wait_for(lambda: len(sessions.members(child)) >= 3)
+                run.send_signal(sign)
+                run.communicate(timeout=30)
+                self.assertEqual(run.returncode, -sign)
+                self.wait_for_end(child)
+                self.assertEqual(self.files(), ["six.report.journal"])
+                self.assertEqual(self.many(support.pops(), "--resume"), (0, b"", ""))
+                self.assertEqual(self.report.read_bytes(), self.wanted)
+                self.report.unlink()
+
+    def test_all_searches_end_with_a_run_that_is_killed(self) -> None:
+        paths = [self.room / f"{name}.pop" for name in ("one", "two")]
+        for path in paths:
+            path.write_bytes(LONG)
+        words = ["--pops", support.pops(), "--jobs", "2", "-o", str(self.report)]
+        run = self.started(*words, *map(str, paths))
+        searches = self.programs(run, 2)
+        wait_for(lambda: all(map(has_worked, searches)))
+        run.kill()
+        run.communicate(timeout=30)
+        for search in searches:
+            self.wait_for_end(search)
+
+    def test_an_ignored_hangup_stays_ignored(self) -> None:
+        run = self.waiting(before=ignore_hangup)
+        run.send_signal(signal.SIGHUP)
+        with self.assertRaises(subprocess.TimeoutExpired):
+            run.wait(0.3)
+        run.send_signal(signal.SIGTERM)
+        run.communicate(timeout=30)
+        self.assertEqual(run.returncode, 6)
+
+    def test_a_terminal_that_was_closed_takes_no_message_and_harms_nothing(self) -> None:
+        terminal, other_side = pty.openpty()
+        run = self.waiting(errors=other_side)
+        os.close(other_side)
+        os.close(terminal)
+        run.send_signal(signal.SIGHUP)
+        run.communicate(timeout=30)
+        self.assertEqual(run.returncode, 6)
+        self.assertEqual(self.kept(), 3)
+        self.assertEqual(self.files(), ["six.report.journal"])
+
+
+class Journals(SixProblems):
+    def test_resuming_without_a_journal_is_a_mistake(self) -> None:
+        outcome = self.many(support.pops(), "--resume")
+        self.assertEqual(
+            outcome,
+            (2, b"", f"pops-many: there is no journal {self.journal}: nothing to go on with\n"),
+        )
+        self.assertEqual(self.files(), [])
+        for text in (b"", b"no journal\n"):
+            self.journal.write_bytes(text)
+            outcome = self.many(support.pops(), "--resume")
+            self.assertEqual(
+                outcome, (2, b"", f"pops-many: {self.journal} is no journal of pops-many\n")
+            )
+            self.assertEqual(self.journal.read_bytes(), text)
+            self.assertEqual(self.files(), ["six.report.journal"])
+
+    def test_what_a_killed_run_left_behind_is_swept(self) -> None:
+        self.many(self.stand_in("kill -9 $$"))
+        run = self.journal.read_bytes().split()[3].decode()
+        left = self.room / f"six.report.{run[:12]}"
+        others = self.room / "six.report.original"
+        for path in (left, others):
+            path.write_bytes(b"half a repo")
+        outcome = self.many(self.stand_in("kill -9 $$"), "--resume")
+        self.assertEqual(outcome.status, 6)
+        self.assertEqual(self.files(), ["six.report.journal", "six.report.original"])
+
+    def test_two_runs_never_share_a_journal(self) -> None:
+        first = self.started(*self.words(self.stand_in("exec sleep 60")))
+        wait_for(lambda: self.kept() == 3)
+        outcome = self.many(support.pops(), "--resume")
+        self.assertEqual(
+            outcome, (2, b"", f"pops-many: {self.journal} is in use by another run\n")
+        )
+        first.send_signal(signal.SIGTERM)
+        first.communicate(timeout=30)
+        self.assertEqual(self.many(support.pops(), "--resume"), (0, b"", ""))
+
+
+# Watches a session, two of whose processes are in groups of their own, until it is killed.
+WATCHED = """
+import os, subprocess, sys, time
+sys.path.insert(0, {companions!r})
+from pops_many import sessions
+code = "import os, subprocess; " + "subprocess.Popen(['sleep', '60'], preexec_fn=os.setpgrp); " * 2
+run = subprocess.Popen([sys.executable, "-c", code + "import time; time.sleep(60)"],
+    start_new_session=True)
+with sessions.watched(run.pid, {folder!r}):
+    print(run.pid, flush=True)
+    {then}
+"""
+
+
+class Sessions(unittest.TestCase):
+    def watching(self, folder: str, then: str) -> "subprocess.Popen[bytes]":
+        code = WATCHED.format(companions=str(support.COMPANIONS), folder=folder, then=then)
+        return subprocess.Popen([sys.executable, "-c", code], stdout=subprocess.PIPE)
+
+    def session(self, run: "subprocess.Popen[bytes]") -> int:
+        """The session that is watched, once its processes are there."""
+        assert run.stdout is not None
+        session = int(run.stdout.readline())
+        self.addCleanup(sessions.end, session)
+        wait_for(lambda: len(sessions.members(session)) == 3)
+        return session
+
+    def test_a_session_ends_with_the_program_that_is_killed(self) -> None:
+        with tempfile.TemporaryDirectory() as room:
+            folder = Path(room) / "left"
+            folder.mkdir()
+            (folder / "file").write_bytes(b"")
+            run = self.watching(str(folder), "time.sleep(60)")
+            session = self.session(run)
+            run.kill()
+            run.communicate()
+            wait_for(lambda: not sessions.members(session))
+            wait_for(lambda: not folder.exists())
+
+    def test_a_program_that_ends_by_itself_leaves_them(self) -> None:
+        with tempfile.TemporaryDirectory() as room:
+            run = self.watching(room, "pass")
+            session = self.session(run)
+            self.assertEqual(run.wait(30), 0)
+            self.assertEqual(len(sessions.members(session)), 3)
+            self.assertTrue(os.path.exists(room))
+            sessions.end(session)
+            self.assertEqual(sessions.members(session), [])
+            run.communicate()
+
+
+if __name__ == "__main__":
+    unittest.main()

@@ -1,0 +1,175 @@
+"""pops-many over several FILEs: which item is of which, a report each, files that fail."""
+
+import subprocess
+import sys
+import unittest
+from pathlib import Path
+from typing import List
+
+import support
+from six_problems import SIX, SixProblems
+
+FAULTY = b"BeginProblem\nPieces White Kg6\n\n\nNextProblem\nPieces White Ka1 x\nEndProblem\n"
+# Where the problems of FAULTY begin: the second block follows its NextProblem.
+LINES_OF_FAULTY = [1, 5]
+LINES_OF_SIX = [1, 5, 9, 13, 17, 21]
+
+
+class Several(SixProblems):
+    def setUp(self) -> None:
+        super().setUp()
+        self.faulty = self.room / "fau lty.in"
+        self.faulty.write_bytes(FAULTY)
+        self.paths = [self.input, self.faulty]
+        self.reports = [support.run([support.pops(), str(path)]).output for path in self.paths]
+
+    def each(self, *words: str) -> support.Outcome:
+        return support.companion("pops-many", "--pops", support.pops(), *words)
+
+    def test_a_table_tells_the_file_of_each_item(self) -> None:
+        table = self.room / "table"
+        outcome = self.many(support.pops(), str(self.faulty), "--index", str(table))
+        self.assertEqual((outcome.status, outcome.error), (1, ""))
+        report = self.report.read_bytes()
+        self.assertEqual(report, b"".join(self.reports))
+        head, *rows = [line.split("\t") for line in table.read_text().splitlines()]
+        self.assertEqual(head, ["start", "bytes", "status", "problem", "line", "file"])
+        items = [
+            report[int(start) : int(start) + int(length)] for start, length, *_ in rows
+        ]
+        self.assertEqual(b"".join(items), report)
+        for item, row in zip(items, rows):
+            self.assertTrue(item.startswith(b"problem %s\n" % row[3].encode()))
+            self.assertTrue(item.endswith(b"\n\n"))
+            self.assertEqual(row[2], "1" if b": fault " in item else "0")
+        self.assertEqual(
+            [(int(row[3]), int(row[4]), row[5]) for row in rows],
+            [(number, line, str(self.input)) for number, line in enumerate(LINES_OF_SIX, start=1)]
+            + [(n, line, str(self.faulty)) for n, line in enumerate(LINES_OF_FAULTY, start=1)],
+        )
+
+    def test_a_table_beside_standard_output(self) -> None:
+        odd = self.room / "a\tb\\c\nd"
+        odd.write_bytes(SIX)
+        table = self.room / "table"
+        outcome = self.each("--index", str(table), str(odd))
+        self.assertEqual((outcome.status, outcome.output), (0, self.wanted))
+        rows = table.read_text().splitlines()
+        self.assertEqual(len(rows), 7)
+        self.assertTrue(all(row.endswith("/a\\tb\\\\c\\nd") for row in rows[1:]))
+
+    def test_a_run_that_stops_leaves_no_table(self) -> None:
+        table = self.room / "table"
+        stopping = self.many(self.stand_in("kill -9 $$"), "--index", str(table))
+        self.assertEqual(stopping.status, 6)
+        self.assertEqual(self.files(), ["fau lty.in", "six.report.journal"])
+        self.assertEqual(self.many(support.pops(), "--index", str(table), "--resume").status, 0)
+        self.assertEqual(len(table.read_text().splitlines()), 7)
+
+    def check_reports(self, paths: List[Path]) -> None:
+        self.assertEqual([path.read_bytes() for path in paths], self.reports)
+
+    def test_a_report_each(self) -> None:
+        outcome = self.each("--each", *map(str, self.paths))
+        self.assertEqual(outcome, (1, b"", ""))
+        self.check_reports([self.report, self.room / "fau lty.in.report"])
+        folder = self.room / "new" / "folder"
+        outcome = self.each("--each", "-o", f"{folder}/", *map(str, self.paths))
+        self.assertEqual(outcome, (1, b"", ""))
+        self.check_reports([folder / "six.report", folder / "fau lty.in.report"])
+        self.assertEqual(len(list(folder.iterdir())), 2)
+        self.assertEqual(len(list(folder.parent.iterdir())), 1)
+
+    def test_a_report_each_of_a_run_that_is_resumed(self) -> None:
+        folder = self.room / "folder"
+        words = ["--each", "-o", str(folder), *map(str, self.paths), "--pops"]
+        stopping = support.companion("pops-many", *words, self.stand_in("kill -9 $$"))
+        self.assertEqual(stopping.status, 6)
+        self.assertEqual([path.name for path in folder.iterdir()], ["fau lty.in.report"])
+        self.assertTrue((self.room / "folder.journal").exists())
+        resumed = support.companion("pops-many", *words, support.pops(), "--resume")
+        self.assertEqual(resumed, (1, b"", ""))
+        self.check_reports([folder / "six.report", folder / "fau lty.in.report"])
+        self.assertFalse((self.room / "folder.journal").exists())
+
+    def test_two_files_with_one_report_are_refused(self) -> None:
+        outcome = self.each("--each", str(self.input), str(self.input))
+        self.assertEqual(
+            (outcome.status, outcome.error),
+            (2, f"pops-many: two FILEs have the report {self.report}\n"),
+        )
+        self.assertFalse(self.report.exists())
+
+    def test_a_file_that_cannot_be_opened_has_no_report(self) -> None:
+        nowhere = self.room / "nowhere.pop"
+        outcome = self.each("--each", str(nowhere), str(self.input))
+        self.assertEqual(
+            outcome, (3, b"", f"pops-many: cannot open {nowhere}: No such file or directory\n")
+        )
+        self.assertEqual(self.files(), ["fau lty.in", "six.report"])
+        self.assertEqual(self.report.read_bytes(), self.wanted)
+
+    def test_what_cannot_be_written_is_told_before_anything_is_run(self) -> None:
+        stand_in = self.stand_in(":")
+        nowhere, folder = self.room / "nowhere" / "file", self.room / "folder"
+        folder.mkdir()
+        journal = ["--journal", str(self.journal)]
+        cases = [
+            (["-o", str(nowhere)], nowhere, "No such file or directory"),
+            (["-o", str(folder)], folder, "Is a directory"),
+            (["--index", str(nowhere)], nowhere, "No such file or directory"),
+            (
+                ["--seconds", "9", "--unfinished", str(nowhere)],
+                nowhere,
+                "No such file or directory",
+            ),
+        ]
+        for words, path, reason in cases:
+            with self.subTest(words):
+                outcome = support.companion(
+                    "pops-many", "--pops", stand_in, *words, *journal, str(self.input)
+                )
+                self.assertEqual(
+                    outcome, (3, b"", f"pops-many: cannot write {path}: {reason}\n")
+                )
+                self.assertEqual(self.files(), ["fau lty.in", "folder"])
+        self.assertFalse((self.room / "runs").exists())
+
+    def test_nothing_is_written_over_an_input_or_another_file_of_the_run(self) -> None:
+        report = str(self.report)
+        cases = [
+            ["-o", str(self.input)],
+            ["-o", report, "--index", report],
+            ["-o", report, "--index", f"{report}.journal"],
+            ["-o", report, "--index", f"{report}.unfinished", "--seconds", "9"],
+            ["--index", str(self.room / "." / "six.pop")],
+            ["--journal", str(self.faulty)],
+        ]
+        for words in cases:
+            with self.subTest(words):
+                outcome = self.each(*words, *map(str, self.paths))
+                self.assertEqual((outcome.status, outcome.output), (2, b""))
+                self.assertRegex(outcome.error, "^pops-many: .*/(six|fau).* is named twice\n$")
+        self.assertEqual(self.files(), ["fau lty.in"])
+        self.assertEqual(self.input.read_bytes(), SIX)
+
+    def test_a_report_that_cannot_be_written_to_its_end_is_kept(self) -> None:
+        full = Path("/dev/full")
+        words = ["-o", str(full), "--journal", str(self.journal), str(self.input)]
+        outcome = self.each(*words)
+        self.assertEqual((outcome.status, outcome.output), (6, b""))
+        self.assertIn("cannot write: No space left on device", outcome.error)
+        self.assertIn("6 of 6 problems are done and kept in", outcome.error)
+        words = ["-o", str(self.report), "--journal", str(self.journal), str(self.input)]
+        self.assertEqual(self.each(*words, "--resume"), (0, b"", ""))
+        self.assertEqual(self.report.read_bytes(), self.wanted)
+
+    def test_a_pipe_as_the_report(self) -> None:
+        words = [sys.executable, str(support.COMPANIONS / "pops-many"), "--pops", support.pops()]
+        words += ["-o", "/dev/stdout", "--journal", str(self.journal), str(self.input)]
+        done = subprocess.run(words, capture_output=True, timeout=60)
+        self.assertEqual((done.returncode, done.stdout), (0, self.wanted))
+
+
+if __name__ == "__main__":
+    unittest.main()

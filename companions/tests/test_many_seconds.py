@@ -1,0 +1,133 @@
+"""pops-many --seconds: problems that take longer, what is kept of them, and going on with them."""
+
+import subprocess
+import unittest
+
+import support
+from six_problems import SixProblems
+
+from pops_many.tasks import whole_lines
+
+# On the fourth problem: two lines, the beginning of a third, and no end.
+TWO_LINES = "printf 'problem 1\\nline one\\nline two\\nline th'; exec sleep 60"
+NO_LINE = "exec sleep 60"
+
+
+class Seconds(SixProblems):
+    def setUp(self) -> None:
+        super().setUp()
+        items = self.wanted.split(b"\n\n")
+        self.others = b"\n\n".join(items[:3] + items[4:])
+        self.rest = self.room / "six.report.unfinished"
+
+    def marked(self, lines: bytes, seconds: bytes) -> bytes:
+        where = str(self.input).encode() + b", line 13"
+        return (
+            b"problem 4\n" + lines + b"unfinished: stopped after %s s (%s)\n\n"
+        ) % (seconds, where)
+
+    def test_a_problem_that_takes_longer_is_kept_beside_and_taken_up_alone(self) -> None:
+        outcome = self.many(self.stand_in(TWO_LINES), "--seconds", "0.4")
+        self.assertEqual((outcome.status, outcome.output), (6, b""))
+        self.assertEqual(
+            outcome.error,
+            f"pops-many: 1 of 6 problems took longer: what was found of them is in {self.rest}\n"
+            f"pops-many: 5 of 6 problems are done and kept in {self.journal}:"
+            f" go on with --resume --journal {self.journal}, and more --seconds or none\n",
+        )
+        self.assertEqual(self.runs(), 6)
+        self.assertEqual(self.report.read_bytes(), self.others)
+        self.assertEqual(self.rest.read_bytes(), self.marked(b"line one\nline two\n", b"0.4"))
+
+        again = self.many(self.stand_in(NO_LINE), "--resume", "--seconds", "0.5")
+        self.assertEqual(again.status, 6)
+        self.assertEqual(self.runs(), 7)
+        self.assertEqual(self.report.read_bytes(), self.others)
+        self.assertEqual(self.rest.read_bytes(), self.marked(b"", b"0.5"))
+
+        no_longer = self.many(self.stand_in(":"), "--resume", "--seconds", "0.5")
+        self.assertEqual((no_longer.status, no_longer.error), (6, again.error))
+        self.assertEqual(self.runs(), 7)
+
+        self.assertEqual(self.many(self.stand_in(":"), "--resume", "--seconds", "30")[0], 0)
+        self.assertEqual(self.runs(), 8)
+        self.assertEqual(self.report.read_bytes(), self.wanted)
+        self.assertEqual(self.files(), ["six.report"])
+
+    def test_no_limit_takes_them_up_too(self) -> None:
+        self.many(self.stand_in(TWO_LINES), "--seconds", "0.4")
+        self.assertEqual(self.many(self.stand_in(":"), "--resume"), (0, b"", ""))
+        self.assertEqual(self.runs(), 7)
+        self.assertEqual(self.report.read_bytes(), self.wanted)
+        self.assertEqual(self.files(), ["six.report"])
+
+    def test_a_run_in_time_leaves_no_second_file(self) -> None:
+        self.rest.write_bytes(b"of a run before")
+        self.assertEqual(self.many(support.pops(), "--seconds", "30"), (0, b"", ""))
+        self.assertEqual(self.report.read_bytes(), self.wanted)
+        self.assertEqual(self.files(), ["six.report"])
+
+    def test_a_run_that_fails_keeps_the_lines_all_the_same(self) -> None:
+        both = f"{TWO_LINES} ;; *'number 2'*) kill -9 $$"
+        outcome = self.many(self.stand_in(both), "--seconds", "0.4")
+        self.assertEqual(outcome.status, 6)
+        self.assertIn("problem 2 ", outcome.error)
+        self.assertIn("4 of 6 problems are done", outcome.error)
+        self.assertEqual(self.files(), ["six.report.journal", "six.report.unfinished"])
+        self.assertEqual(self.rest.read_bytes(), self.marked(b"line one\nline two\n", b"0.4"))
+        # The fourth had its time: the second alone is run once more, and fails no longer.
+        self.many(self.stand_in(TWO_LINES), "--resume", "--seconds", "0.4")
+        self.assertEqual(self.runs(), 8)
+        self.assertEqual(self.report.read_bytes(), self.others)
+        self.assertEqual(self.rest.read_bytes(), self.marked(b"line one\nline two\n", b"0.4"))
+        self.assertEqual(self.many(support.pops(), "--resume"), (0, b"", ""))
+        self.assertEqual(self.report.read_bytes(), self.wanted)
+        self.assertEqual(self.files(), ["six.report"])
+
+    def test_standard_output_passes_over_them(self) -> None:
+        words = ["--jobs", "1", "--journal", str(self.journal), "--unfinished", str(self.rest)]
+        words += ["--seconds", "0.4", str(self.input), "--pops"]
+        outcome = support.companion("pops-many", *words, self.stand_in(TWO_LINES))
+        self.assertEqual((outcome.status, outcome.output), (6, self.others))
+        self.assertEqual(self.rest.read_bytes(), self.marked(b"line one\nline two\n", b"0.4"))
+        again = support.companion("pops-many", *words, support.pops(), "--resume")
+        self.assertEqual((again.status, again.output), (6, self.others))
+        words[words.index("0.4")] = "30"
+        last = support.companion("pops-many", *words, support.pops(), "--resume")
+        self.assertEqual(last, (0, self.wanted, ""))
+        self.assertEqual(self.files(), [])
+
+    def test_a_report_each_has_its_own_second_file(self) -> None:
+        other = self.room / "other.pop"
+        other.write_bytes(b"BeginProblem\nPieces White Kg6 Ra1 Black Kg8\nStipulation #1\nEnd\n")
+        words = ["--jobs", "2", "--each", "--seconds", "0.4", "--pops", self.stand_in(TWO_LINES)]
+        words += ["--journal", str(self.journal), str(other), str(self.input)]
+        self.assertEqual(support.companion("pops-many", *words).status, 6)
+        self.assertEqual(
+            self.files(),
+            ["other.pop", "other.report"]
+            + ["six.report", "six.report.journal", "six.report.unfinished"],
+        )
+        self.assertEqual(self.report.read_bytes(), self.others)
+        self.assertEqual(self.rest.read_bytes(), self.marked(b"line one\nline two\n", b"0.4"))
+
+    def test_lines_of_a_long_search(self) -> None:
+        """The lines kept are those with which the report of a run without a limit begins."""
+        self.input.write_bytes(
+            b"BeginProblem\nPieces White Kg6 Qa1 Rh1 Black Kg8 Pa7b7\nStipulation h#8\nEndProblem\n"
+        )
+        words = self.words(support.pops(), "--seconds", "0.5")
+        self.assertEqual(support.companion("pops-many", *words).status, 6)
+        self.assertEqual(self.report.read_bytes(), b"")
+        lines, mark, _ = self.rest.read_bytes().partition(b"unfinished: stopped after 0.5 s (")
+        self.assertTrue(mark)
+        self.assertIn(b"\nplay\n1.a7-a5 ", lines)
+        self.assertEqual(lines, whole_lines(lines))
+        with subprocess.Popen([support.pops(), str(self.input)], stdout=subprocess.PIPE) as run:
+            assert run.stdout is not None
+            self.assertEqual(run.stdout.read(len(lines)), lines)
+            run.kill()
+
+
+if __name__ == "__main__":
+    unittest.main()

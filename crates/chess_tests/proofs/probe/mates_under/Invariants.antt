@@ -1,0 +1,13 @@
+use Rattle.std.proofs.Common.{◌≡◌, length}
+use Rattle.chess_core.specs.Diagrams.{position_of}
+use Rattle.chess_mates.specs.ties.Mates.{IsMatingPlaceIn, mates_behind}
+use Rattle.chess_tests.proofs.probe.mates_under.Given as goal
+
+abbrev pub invariant-loop-m : goal.invariant-loop-m
+invariant-loop-m g l = record {
+  board : l.board ≡ position_of l.fn.diagram;
+  place : IsMatingPlaceIn g.R.Rules.rule (position_of l.fn.diagram) l.place;
+}
+
+abbrev pub decreases-loop-m : goal.decreases-loop-m
+decreases-loop-m g l = length (mates_behind g.R.Rules.rule (position_of l.fn.diagram) l.place.place)
