@@ -6,7 +6,9 @@ ghost use Rattle.chess_core.specs.WellFormed.{IsWellFormed};
 use crate::plain::Rule;
 use crate::probe::is_same;
 use crate::setup::posed;
-use chess_core::{Board, Diagram};
+use chess_core::{Board, Diagram, Move};
+use chess_rules::exposure::is_simple;
+use chess_rules::shields::{cannot_expose, shield_squares};
 use chess_rules::{Circe, Madrasi, Moves, Orthodox, Rules};
 
 // What a walk along all lines of moves met.
@@ -14,8 +16,23 @@ use chess_rules::{Circe, Madrasi, Moves, Orthodox, Rules};
 pub(crate) struct Walk {
     // The lines of full length.
     pub(crate) lines: u64,
+    // The last moves of lines that are played before it is known that they are legal.
+    pub(crate) played: u64,
     // The moves after which, taken back, the board was another than before.
     pub(crate) changed: u64,
+}
+
+// Whether the move is told legal by what `LegalMoves` asks first, the squares around the king, and not by playing it.
+fn is_told<R: Rules>(board: &Board, m: &Move) -> bool {
+    let squares = shield_squares(board, board.turn());
+    if cannot_expose::<R>(board, board.turn(), squares, m) {
+        return true;
+    }
+    let captures = board.man_at(m.to).is_some() || board.crossed() == Some(m.to);
+    match board.man_at(m.from) {
+        Some(man) => is_simple::<R>(man, m, captures),
+        None => false,
+    }
 }
 
 fn walk_under<R: Rules>(diagram: &Diagram, length: u32) -> Walk
@@ -44,22 +61,32 @@ fn walk_on<R: Rules>(board: &mut Board, length: u32) -> Walk
     if length == 0 {
         return Walk {
             lines: 1,
+            played: 0,
             changed: 0,
         };
     }
     let before = *board;
     let mut place = Moves::<R>::start();
     let mut lines = 0u64;
+    let mut played = 0u64;
     let mut changed = 0u64;
     while let Some(m) = place.next(board) {
+        if length == 1 && !is_told::<R>(board, &m) {
+            played = played.saturating_add(1);
+        }
         let undo = R::play(board, m);
         let below = walk_on::<R>(board, length - 1);
         R::unplay(board, m, undo);
         lines = lines.saturating_add(below.lines);
+        played = played.saturating_add(below.played);
         changed = changed.saturating_add(below.changed);
         if !is_same(board, &before) {
             changed = changed.saturating_add(1);
         }
     }
-    Walk { lines, changed }
+    Walk {
+        lines,
+        played,
+        changed,
+    }
 }

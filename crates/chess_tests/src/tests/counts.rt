@@ -60,6 +60,30 @@ const COUNTS: [(&str, u32, u64); 12] = [
     ),
 ];
 
+// A position, a number of moves, and how many of the last ones are castlings: the game array, a full board, a check from afar.
+const CASTLINGS: [(&str, u32, u64); 4] = [
+    (
+        "rsbqkbsr/pppppppp/8/8/8/8/PPPPPPPP/RSBQKBSR a1 e1 h1 a8 e8 h8",
+        3,
+        0,
+    ),
+    (
+        "r3k2r/p1ppqpb1/bs2psp1/3PS3/1p2P3/2S2Q1p/PPPBBPPP/R3K2R a1 e1 h1 a8 e8 h8",
+        1,
+        2,
+    ),
+    (
+        "r3k2r/p1ppqpb1/bs2psp1/3PS3/1p2P3/2S2Q1p/PPPBBPPP/R3K2R a1 e1 h1 a8 e8 h8",
+        2,
+        91,
+    ),
+    (
+        "r3k2r/Pppp1ppp/1b3sbS/sP6/BBP1P3/q4S2/Pp1P2PP/R2Q1RK1 a8 e8 h8",
+        2,
+        6,
+    ),
+];
+
 // Positions whose boards are to come back along two moves.
 const TAKEN_BACK: [(Rule, &str); 4] = [
     (Rule::Circe, "7k/8/6K1/3pP3/8/1B6/8/B7 d6"),
@@ -77,6 +101,18 @@ fn counts(rt: HostRuntime) {
         };
         let as_wanted = walk.lines == *wanted && walk.changed == 0;
         assert!(rt; as_wanted, "{length} moves from {position}");
+    }
+}
+
+// In orthodox chess no other move has to be played to be told legal.
+#[test]
+fn castlings_alone_are_played(rt: HostRuntime) {
+    for (position, length, wanted) in &CASTLINGS {
+        let played = match walk_lines(Rule::Orthodox, position, *length) {
+            Some(walk) => walk.played,
+            None => u64::MAX,
+        };
+        assert!(rt; played == *wanted, "{length} moves from {position}");
     }
 }
 
