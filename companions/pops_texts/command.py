@@ -104,6 +104,13 @@ def _close_output() -> None:
         os.dup2(os.open(os.devnull, os.O_WRONLY), sys.stdout.fileno())
 
 
+def number_from_one(text: str) -> int:
+    """The number that an option wants."""
+    if not text.isascii() or not text.isdigit() or int(text) == 0:
+        raise argparse.ArgumentTypeError(f"{text!r} is no number from 1")
+    return int(text)
+
+
 def add_encoding(parser: argparse.ArgumentParser) -> None:
     """Adds the option that says how titles and authors are written."""
 
