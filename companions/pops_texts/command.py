@@ -51,7 +51,7 @@ def run(name: str, command: Callable[[List[str]], int]) -> NoReturn:
     """Runs a companion on the program's arguments and ends with its status."""
     try:
         _buffer_output()
-        status = command(sys.argv[1:])
+        status = _status_of(command)
         sys.stdout.flush()
     except CommandError as error:
         print(f"{name}: {error}", file=sys.stderr)
@@ -68,6 +68,14 @@ def run(name: str, command: Callable[[List[str]], int]) -> NoReturn:
         status = Status.UNFINISHED
     _close_output()
     sys.exit(status)
+
+
+def _status_of(command: Callable[[List[str]], int]) -> int:
+    """A command's status, also where the reader of its arguments ends it, as for `--help`."""
+    try:
+        return command(sys.argv[1:])
+    except SystemExit as end:
+        return int(end.code or 0)
 
 
 def _buffer_output() -> None:
@@ -96,6 +104,13 @@ def _close_output() -> None:
         os.dup2(os.open(os.devnull, os.O_WRONLY), sys.stdout.fileno())
 
 
+def number_from_one(text: str) -> int:
+    """The number that an option wants."""
+    if not text.isascii() or not text.isdigit() or int(text) == 0:
+        raise argparse.ArgumentTypeError(f"{text!r} is no number from 1")
+    return int(text)
+
+
 def add_encoding(parser: argparse.ArgumentParser) -> None:
     """Adds the option that says how titles and authors are written."""
 
@@ -110,6 +125,7 @@ def add_encoding(parser: argparse.ArgumentParser) -> None:
         "--encoding",
         type=encoding,
         default="utf-8",
+        metavar="NAME",
         help="how titles and authors are written (utf-8)",
     )
 

@@ -69,7 +69,8 @@ def read_position(text: str) -> Position:
 def _men(placement: str) -> Dict[Square, Man]:
     ranks = placement.split("/")
     if len(ranks) != 8:
-        raise FenError(f"{len(ranks)} ranks in {placement!r} instead of 8")
+        ranks_given = "1 rank" if len(ranks) == 1 else f"{len(ranks)} ranks"
+        raise FenError(f"{ranks_given} in {placement!r} instead of 8")
     men = {}
     for rank, row in zip(range(8, 0, -1), ranks):
         file = 1

@@ -50,6 +50,19 @@ class Streams(unittest.TestCase):
             outcome = support.run(["sh", "-c", f"{command} {closed}"], b"problem 1\n#1\nsound\n\n")
             self.assertEqual(outcome, (3, b"", f"pops-page: {said} is closed\n"))
 
+    @unittest.skipUnless(os.path.exists("/dev/full"), "no device that is full")
+    def test_a_full_device_is_told(self) -> None:
+        for word in ("--help", "--version"):
+            with self.subTest(word), open("/dev/full", "wb") as full:
+                run = subprocess.run(
+                    [sys.executable, str(support.COMPANIONS / "pops-page"), word],
+                    stdout=full,
+                    stderr=subprocess.PIPE,
+                    timeout=60,
+                )
+                self.assertEqual(run.returncode, 3)
+                self.assertEqual(run.stderr, b"pops-page: No space left on device\n")
+
 
 if __name__ == "__main__":
     unittest.main()

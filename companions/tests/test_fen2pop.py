@@ -169,6 +169,7 @@ class Sources(unittest.TestCase):
     def test_bad_lines_are_told_and_the_good_ones_made(self) -> None:
         bad = [
             ("8/8/8/8/8/8/8 w - -", "7 ranks in '8/8/8/8/8/8/8' instead of 8"),
+            ("no-position", "1 rank in 'no-position' instead of 8"),
             ("9/8/8/8/8/8/8/8 w - -", "'9' in '9' is no man: K Q R B N P or small letters are"),
             ("k6/8/8/8/8/8/8/8 w - -", "7 squares in rank 8, 'k6', instead of 8"),
             ("ppppppppp/8/8/8/8/8/8/8 w - -", "9 squares in rank 8, 'ppppppppp', instead of 8"),
@@ -197,6 +198,10 @@ class Sources(unittest.TestCase):
         self.assertEqual(lacking.status, 1)
         self.assertEqual(lacking.error, "fen2pop: position 1: no stipulation: give --stipulation\n")
         self.assertEqual(support.companion("fen2pop", "-s", "r#2", "x").status, 2)
+        for number in ("0", "-3", "many"):
+            few = support.companion("fen2pop", "-s", "#2", "--max-solutions", number, "k7/8 w")
+            self.assertEqual((few.status, few.output), (2, b""))
+            self.assertIn(f"'{number}' is no number from 1\n", few.error)
         self.assertEqual(support.companion("fen2pop", "-s", "#2", "-f", "nowhere").status, 3)
         self.assertEqual(support.companion("fen2pop", "--help").status, 0)
 
