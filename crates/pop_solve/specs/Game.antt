@@ -22,13 +22,13 @@ module _ {P M : Type 0} where
   abbrev pub every_move : Game P M → (P → Bool) → P → Bool
   every_move game test p = list_all (λ m. test (game.after p m)) (game.moves p)
 
-  -- Direct play. The side to move in q is mated within j further moves of the other side, against every defence
+  -- Direct play. In q the goal is reached, or the other side reaches it within j further moves against every defence
   unfoldable pub lost : Game P M → ℕ → P → Bool
   lost game zero q = game.goal q
   lost game (suc j) q = game.goal q || (can_move game q
       && every_move game (some_move game (lost game j)) q)
 
-  -- the side to move in p mates within k moves
+  -- the side to move in p reaches the goal within k moves
   unfoldable pub wins : Game P M → ℕ → P → Bool
   wins game zero p = false
   wins game (suc k) p = some_move game (lost game k) p

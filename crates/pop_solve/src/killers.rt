@@ -10,7 +10,7 @@ use chess_rules::rules::Rules;
 /// For each number of half-moves below 32 the places on the last two moves that decided a position with so many
 /// half-moves left. In a direct mate they are tried first in the next such position; that any place may stand here costs
 /// time alone. In a selfmate moves are tried in order: there the last one that decided is no good guess.
-#[derive(Clone, Copy)]
+#[derive(Drop)]
 pub struct Killers<R: Rules> {
     places: [Moves<R>; 32],
     earlier: [Moves<R>; 32],

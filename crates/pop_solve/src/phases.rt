@@ -30,7 +30,7 @@ use pop_input::problem::Problem;
 pub enum Stage {
     /// Before a phase.
     Before { phase: Phase },
-    /// In set plan, which isn't possible.
+    /// In set play, which isn't possible.
     Barred,
     /// Within a phase, of which `count` solutions have begun.
     Within { phase: Phase, count: u32 },

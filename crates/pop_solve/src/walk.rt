@@ -68,7 +68,7 @@ fn least_length<R: Rules, const N: usize>(
     tried
 }
 
-/// With how many half-moves the moves of the board's position are shown in battle plan, where `left` are left.
+/// With how many half-moves the moves of the board's position are shown in battle play, where `left` are left.
 #[tactic(auto, unfolding(crate::specs::ties::Walk::open_length))]
 fn length_shown<R: Rules, const N: usize>(
     aim: Aim,
