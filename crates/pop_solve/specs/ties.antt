@@ -2,6 +2,7 @@ pub mod Calls
 pub mod Counts
 pub mod Frames
 pub mod Marks
+pub mod PartsSeen
 pub mod Phases
 pub mod Plans
 pub mod Seen
