@@ -2,6 +2,7 @@
 #![tactic(auto)]
 
 mod aim;
+mod beginnings;
 mod chess;
 pub mod event;
 pub mod frame;
