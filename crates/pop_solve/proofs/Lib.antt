@@ -22,5 +22,6 @@ pub mod Longer
 pub mod HelpPlay
 pub mod Nodes
 pub mod PhasePaths
+pub mod Parts
 pub mod theorems
 pub mod Excluded
