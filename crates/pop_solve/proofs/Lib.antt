@@ -22,6 +22,7 @@ pub mod Longer
 pub mod HelpPlay
 pub mod Nodes
 pub mod PhasePaths
+pub mod PartLists
 pub mod Parts
 pub mod theorems
 pub mod Excluded
