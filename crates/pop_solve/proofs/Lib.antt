@@ -24,5 +24,6 @@ pub mod Nodes
 pub mod PhasePaths
 pub mod PartLists
 pub mod Parts
+pub mod PartsJoined
 pub mod theorems
 pub mod Excluded

@@ -188,3 +188,24 @@ root-part other G m ms order c =
 
     alone : (b : Bool) → filter (begins_so (m ∷ [])) (cond b (((m ∷ []) ∷ G m) ∷ []) []) ≡ cond b (((m ∷ []) ∷ G m) ∷ []) []
     alone b = search (rules, same-number)
+
+-- and these of all moves, one move after another
+pub each-own : {B : Type 0} (other : Triple → Bool) (N : Triple → B) (ms : List Triple)
+    → flat_map (λ x. map N (filter other (x ∷ []))) ms ≡ map N (filter other ms)
+each-own other N [] = refl
+each-own other N (x ∷ ms) = search (rules, each-own other N ms)
+
+-- the first of joined lists are the first of their first
+module _ {A B : Type 0} (F : A → List B) where
+  first-behind : (k n : ℕ) → k ≤ n → (xs ys zs : List B) → ((j : ℕ) → j ≤ k → take j ys ≡ take j zs) → take k (take n xs ++ ys) ≡ take k (xs ++ zs)
+  first-behind k zero most [] ys zs same = same k (omega arith)
+  first-behind k (suc n) most [] ys zs same = same k (omega arith)
+  first-behind zero n most (x ∷ xs) ys zs same = refl
+  first-behind (suc k) zero most (x ∷ xs) ys zs same = absurd (omega (arith, most))
+  first-behind (suc k) (suc n) most (x ∷ xs) ys zs same =
+      ap (λ l. x ∷ l) (first-behind k n (omega (arith, most)) xs ys zs (λ j less. same j (omega (arith, less))))
+
+  pub first-of-firsts : (k n : ℕ) → k ≤ n → (xs : List A) → take k (flat_map (λ x. take n (F x)) xs) ≡ take k (flat_map F xs)
+  first-of-firsts k n most [] = refl
+  first-of-firsts k n most (x ∷ xs) =
+      first-behind k n most (F x) (flat_map (λ x. take n (F x)) xs) (flat_map F xs) (λ j less. first-of-firsts j n (omega (arith, less, most)) xs)
