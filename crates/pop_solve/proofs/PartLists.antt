@@ -1,8 +1,7 @@
 -- Lists of moves that begin as a part does: each stands in one part, and the parts joined are all of them.
-use Rattle.pop_solve.proofs.Words.{AllPairs, Bool, Contains, Game, List, Position, Precedes, Triple, [], and_parts, ap, append-nil, append_assoc, arith, cond, eqb, false, filter, filter-append, flat_map, flat_map-append, first_in, from_flat_map, from_map, in_cases, inl, inr, later_in, length, lines_to_goal, map, map-append, min, nat_tests, none_in_nil, reach, refl, rules, subst, suc, sym, take, true, zero, ℕ, ◌&&◌, ◌++◌, ◌+◌, ◌-◌, ◌<◌, ◌∙◌, ◌∷◌, ◌≡◌, ◌≤◌}
+use Rattle.pop_solve.proofs.Words.{AllPairs, Bool, Contains, Game, List, Position, Precedes, Triple, [], ap, append-nil, arith, cond, eqb, false, filter, filter-append, flat_map, flat_map-append, first_in, from_flat_map, from_map, in_cases, inl, inr, later_in, length, lines_to_goal, map, map-append, nat_tests, none_in_nil, reach, refl, rules, subst, suc, sym, take, true, zero, ℕ, ◌&&◌, ◌++◌, ◌-◌, ◌<◌, ◌∙◌, ◌∷◌, ◌≡◌, ◌≤◌}
 use Rattle.chess_core.specs.MoveOrder.{triple_number}
 use Rattle.chess_rules.proofs.listing_moves.Members.{pairs_first, pairs_later}
-use Rattle.pop_solve.proofs.HelpPlay.{from_lines}
 use Rattle.pop_solve.proofs.Kept.{map-same}
 use Rattle.pop_solve.proofs.theorems.Lists.{IsPlayable}
 use Rattle.pop_solve.proofs.Trees.{flat-same}
@@ -114,7 +113,7 @@ module _ (game : Game Position Triple) (order : (p : Position) → AllPairs Prec
   beginnings-lines (suc d) zero p most = absurd (omega (arith, most))
   beginnings-lines (suc d) (suc h) p most =
       let F : List Triple → List (List Triple) =
-          λ front. map (λ line. front ++ line) (lines_to_goal game (suc h - length front) (reach game.after p front)) in
+      λ front. map (λ line. front ++ line) (lines_to_goal game (suc h - length front) (reach game.after p front)) in
       flat-flat F (λ m. map (λ rest. m ∷ rest) (beginnings game d (game.after p m))) (game.moves p)
       ∙ flat-same _ _ (game.moves p) (λ m. flat-map F (λ rest. m ∷ rest) (beginnings game d (game.after p m))
       ∙ flat-same _ _ (beginnings game d (game.after p m)) (λ rest. behind m rest)

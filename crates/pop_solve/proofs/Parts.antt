@@ -1,5 +1,5 @@
 -- What the walk shows behind a part's first moves is the part's solutions.
-use Rattle.pop_solve.proofs.Words.{Bool, Contains, Game, IsSound, IsWellFormed, List, Phase, Plan, Play, Posed, Position, RuleSet, Set, Triple, [], after_well_formed, and_parts, ap, append-nil, append_assoc, arith, chess, eqb, false, filter, help_lines, is_help, legal, length, length-append, lines_to_goal, map, moves_are_the_legal_moves, moves_in_order, phase_half_moves, phase_start, plan_of, pseudo-from_legal, reach, refl, rules, set_tree, shown, solutions, subst, suc, sym, tree, true, zero, ℕ, ◌++◌, ◌+◌, ◌-◌, ◌∙◌, ◌∷◌, ◌≡◌, ◌≤◌}
+use Rattle.pop_solve.proofs.Words.{Bool, Contains, IsSound, IsWellFormed, List, Phase, Play, Posed, Position, RuleSet, Set, Triple, [], after_well_formed, and_parts, ap, append-nil, append_assoc, arith, chess, eqb, false, filter, help_lines, is_help, legal, length, length-append, lines_to_goal, map, moves_are_the_legal_moves, moves_in_order, phase_half_moves, phase_start, plan_of, pseudo-from_legal, reach, refl, set_tree, shown, solutions, subst, suc, sym, tree, true, zero, ℕ, ◌++◌, ◌+◌, ◌-◌, ◌∙◌, ◌∷◌, ◌≡◌, ◌≤◌}
 use Rattle.chess_rules.specs.Legal.{moves as legal_moves}
 use Rattle.chess_rules.specs.Play.{after as played}
 use Rattle.pop_solve.proofs.Kept.{map-same}
@@ -19,9 +19,10 @@ module _ (rule : RuleSet) (problem : Posed) where
   unfolding are_legal
   legal-playable p well [] may = tt
   legal-playable p well (m ∷ ms) may =
-      let w = and_parts (legal rule p m) (are_legal rule (played rule p m) ms) may in
-      ((moves_are_the_legal_moves rule p m well).1 w.0,
-      legal-playable (played rule p m) (after_well_formed rule p m well (pseudo-from_legal rule p m w.0)) ms w.1)
+      let w = and_parts (legal rule p m) (are_legal rule (played rule p m) ms) may in (
+        (moves_are_the_legal_moves rule p m well).1 w.0,
+        legal-playable (played rule p m) (after_well_formed rule p m well (pseudo-from_legal rule p m w.0)) ms w.1,
+      )
 
   -- help play: the lines that go on behind some moves
   abbrev pub lines-behind : Phase → List Triple → List (List Triple)
@@ -155,10 +156,10 @@ part_cut rule problem sound phase front m room alone may = by_form (is_help prob
     by_form true help = help-cut rule problem help sound phase front m room may (eqb (length front) 0)
     by_form false battle =
         let Cut : List Triple → Type 0 =
-            λ front. length front + 1 ≤ phase_half_moves problem phase → are_legal rule (phase_start problem phase) (front ++ m ∷ []) ≡ true
-            → IsCutInto false problem.max_solutions
-            (map (λ line. front ++ line) (shown (plan_of problem) (chess problem.stipulation.goal rule) (eqb (length front) 0)
-            (phase_half_moves problem phase - length front) (phase_half_moves problem phase - length front)
-            (reach (played rule) (phase_start problem phase) front) (m ∷ [])))
-            (part_solutions rule problem phase (front ++ m ∷ [])) in
+        λ front. length front + 1 ≤ phase_half_moves problem phase → are_legal rule (phase_start problem phase) (front ++ m ∷ []) ≡ true
+        → IsCutInto false problem.max_solutions
+        (map (λ line. front ++ line) (shown (plan_of problem) (chess problem.stipulation.goal rule) (eqb (length front) 0)
+        (phase_half_moves problem phase - length front) (phase_half_moves problem phase - length front)
+        (reach (played rule) (phase_start problem phase) front) (m ∷ [])))
+        (part_solutions rule problem phase (front ++ m ∷ [])) in
         subst Cut (sym (alone battle)) (battle-cut rule problem battle sound phase m) room may

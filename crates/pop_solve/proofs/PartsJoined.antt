@@ -1,10 +1,10 @@
 -- The parts of a phase joined are the phase, and each solution stands in one part.
-use Rattle.pop_solve.proofs.Words.{Bool, Contains, IsSound, List, Phase, Play, Posed, RuleSet, Set, Triple, [], ap, arith, eqb, false, filter, flat_map, flat_map_single, from_filter, from_map, help_lines, is_barred, is_help, length, lines_to_goal, map, min, moves_in_order, nat_tests, none_in_nil, phase_half_moves, phase_start, refl, rules, set_tree, solutions, subst, suc, sym, take, true, zero, ℕ, ◌+◌, ◌-◌, ◌∙◌, ◌∷◌, ◌≡◌, ◌≤◌}
+use Rattle.pop_solve.proofs.Words.{Bool, Contains, IsSound, List, Phase, Play, Posed, RuleSet, Set, Triple, [], ap, arith, eqb, false, filter, flat_map, flat_map_single, from_filter, from_map, help_lines, is_barred, is_help, length, lines_to_goal, map, min, moves_in_order, nat_tests, none_in_nil, phase_half_moves, phase_start, refl, set_tree, solutions, subst, suc, sym, true, zero, ℕ, ◌∙◌, ◌∷◌, ◌≡◌, ◌≤◌}
 use Rattle.chess_rules.specs.Legal.{moves as legal_moves}
 use Rattle.pop_solve.proofs.HelpPlay.{from_lines}
 use Rattle.pop_solve.proofs.PartLists.{beginnings-lines, beginnings-one, beginnings-play, each-own, flat-in, flat-map, map-flat}
 use Rattle.pop_solve.proofs.Parts.{battle-by, battle-part, battle-solutions, help-part, lines-behind}
-use Rattle.pop_solve.proofs.PhasePaths.{game_of, its_battle, set_paths}
+use Rattle.pop_solve.proofs.PhasePaths.{game_of}
 use Rattle.pop_solve.proofs.Sound.{some_way}
 use Rattle.pop_solve.specs.Parts.{beginnings, begins_so, part_solutions, parts}
 

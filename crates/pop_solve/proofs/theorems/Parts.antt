@@ -1,5 +1,5 @@
 -- The parts of a phase, by the moves with which its solutions begin: joined they are the phase, and no solution stands in two of them.
-use Rattle.pop_solve.proofs.Words.{Contains, IsSound, List, Phase, Posed, RuleSet, Triple, ap, arith, counted, false, filter, flat_map, is_barred, length, length-take, min, solutions, sum_by, sym, take, ℕ, ◌∙◌, ◌≡◌}
+use Rattle.pop_solve.proofs.Words.{Contains, IsSound, List, Phase, Posed, RuleSet, Triple, ap, arith, counted, false, flat_map, is_barred, length, length-take, min, solutions, sum_by, sym, take, ℕ, ◌∙◌, ◌≡◌}
 use Rattle.std.proofs.lemmas.List.Concat.{length-flat_map}
 use Rattle.std.proofs.lemmas.List.Sums.{length-filter}
 use Rattle.std.specs.List.{count_by}
