@@ -23,5 +23,8 @@ pub mod Longer
 pub mod HelpPlay
 pub mod Nodes
 pub mod PhasePaths
+pub mod PartLists
+pub mod Parts
+pub mod PartsJoined
 pub mod theorems
 pub mod Excluded

@@ -1,6 +1,6 @@
 -- The parts of a phase: its solutions shared out by the moves with which they begin, so that each part can be searched by
 -- itself, on any machine (own).
-use Rattle.std.specs.Prelude.{ℕ, zero, suc, ◌-◌, ◌==◌, min, Bool, true, false, ◌&&◌, ◌||◌, if◌then◌else◌, List, [], ◌∷◌, ◌++◌, map, take, filter, length, Option, Some, None, slice_get}
+use Rattle.std.specs.Prelude.{ℕ, zero, suc, ◌-◌, ◌==◌, min, Bool, true, false, ◌&&◌, ◌||◌, if◌then◌else◌, List, [], ◌∷◌, ◌++◌, map, take, filter, length, Option, None, slice_get}
 use Rattle.std.specs.List.{flat_map}
 use Rattle.chess_core.specs.MoveOrder.{triple_number}
 use Rattle.chess_core.specs.Triple.{Triple}

@@ -1,8 +1,8 @@
 -- What a contract sees of a search of one part, and how many positions a part's walk opens.
-use Rattle.std.specs.Prelude.{◌≡◌, ℕ, ◌-◌, ◌==◌, Bool, true, false, List, length, take}
+use Rattle.std.specs.Prelude.{ℕ, ◌-◌, ◌==◌, Bool, true, ◌&&◌, List, [], ◌∷◌, length}
 use Rattle.chess_core.specs.Position.{Position}
 use Rattle.chess_core.specs.Triple.{Triple}
-use Rattle.chess_rules.specs.Legal.{moves as legal_moves}
+use Rattle.chess_rules.specs.Legal.{legal, moves as legal_moves}
 use Rattle.chess_rules.specs.Play.{after as played}
 use Rattle.chess_rules.specs.RuleSet.{RuleSet}
 use Rattle.pop_input.specs.Posed.{Posed}
@@ -33,3 +33,8 @@ part_walk rule problem phase front =
 abbrev pub is_part_stopped : RuleSet → Posed → Phase → List Triple → Bool
 is_part_stopped rule problem phase front =
     part_count rule problem phase front == problem.max_solutions
+
+-- each of the moves from p on is legal where it is made
+unfoldable pub are_legal : RuleSet → Position → List Triple → Bool
+are_legal rule p [] = true
+are_legal rule p (m ∷ ms) = legal rule p m && are_legal rule (played rule p m) ms

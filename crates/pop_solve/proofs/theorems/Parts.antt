@@ -1,0 +1,35 @@
+-- The parts of a phase, by the moves with which its solutions begin: joined they are the phase, and no solution stands in two of them.
+use Rattle.pop_solve.proofs.Words.{Contains, IsSound, List, Phase, Posed, RuleSet, Triple, ap, arith, counted, false, flat_map, is_barred, length, length-take, min, solutions, sum_by, sym, take, ℕ, ◌∙◌, ◌≡◌}
+use Rattle.std.proofs.lemmas.List.Concat.{length-flat_map}
+use Rattle.std.proofs.lemmas.List.Sums.{length-filter}
+use Rattle.std.specs.List.{count_by}
+use Rattle.pop_solve.proofs.PartLists.{first-of-firsts}
+use Rattle.pop_solve.proofs.PartsJoined.{joined, once}
+use Rattle.pop_solve.specs.Parts.{begins_so, part_count, part_solutions, parts}
+
+-- A sound problem, one of its phases that isn't barred, and any number of moves to tell its parts apart.
+module _ (rule : RuleSet) (problem : Posed) (phase : Phase) (depth : ℕ) (free : is_barred rule problem phase ≡ false) (sound : IsSound problem) where
+  -- The solutions of the parts, one part after another, are those of the phase, in the same order.
+  pub parts_joined : flat_map (part_solutions rule problem phase) (parts rule problem phase depth) ≡ solutions rule problem phase
+  parts_joined = joined rule problem phase depth free sound
+
+  -- Each solution of the phase begins as exactly one of the parts does.
+  pub in_one_part : (solution : List (List Triple)) → Contains (solutions rule problem phase) solution
+      → count_by (λ front. begins_so front solution) (parts rule problem phase depth) ≡ 1
+  in_one_part solution c = sym (length-filter (λ front. begins_so front solution) (parts rule problem phase depth))
+      ∙ once rule problem phase depth free sound solution c
+
+  -- Where each part is searched up to a limit, the first of what they give, up to that limit, are the first solutions of the phase.
+  pub first_of_parts : (n : ℕ)
+      → take n (flat_map (λ front. take n (part_solutions rule problem phase front)) (parts rule problem phase depth))
+      ≡ take n (solutions rule problem phase)
+  first_of_parts n = first-of-firsts (part_solutions rule problem phase) n n (omega arith) (parts rule problem phase depth) ∙ ap (take n) parts_joined
+
+  -- So the phase's number of solutions, up to the problem's limit, is the sum of the parts' numbers, up to that limit.
+  pub counted_by_parts : counted rule problem phase
+      ≡ min problem.max_solutions (sum_by (part_count rule problem phase) (parts rule problem phase depth))
+  counted_by_parts =
+      let n : ℕ = problem.max_solutions in
+      let firsts = flat_map (λ front. take n (part_solutions rule problem phase front)) (parts rule problem phase depth) in
+      ap length (sym (first_of_parts n)) ∙ length-take n firsts
+      ∙ ap (min n) (length-flat_map (λ front. take n (part_solutions rule problem phase front)) (parts rule problem phase depth))
