@@ -10,7 +10,6 @@ pub mod Least
 pub mod GoingOn
 pub mod ToCome
 pub mod Outcomes
-pub mod Fronts
 pub mod Walking
 pub mod Paths
 pub mod Trees

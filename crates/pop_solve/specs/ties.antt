@@ -1,7 +1,6 @@
 pub mod Calls
 pub mod Counts
 pub mod Frames
-pub mod Fronts
 pub mod Marks
 pub mod PartsSeen
 pub mod Phases

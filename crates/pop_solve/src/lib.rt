@@ -2,7 +2,6 @@
 #![tactic(auto)]
 
 mod aim;
-mod beginnings;
 mod chess;
 pub mod event;
 pub mod frame;
