@@ -11,6 +11,7 @@ pub mod GoingOn
 pub mod ToCome
 pub mod Outcomes
 pub mod Walking
+pub mod Seeking
 pub mod Paths
 pub mod Trees
 pub mod Kept

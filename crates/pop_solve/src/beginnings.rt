@@ -11,6 +11,7 @@ ghost use Rattle.pop_solve.specs.Events.{is_barred, phase_half_moves as half_mov
 ghost use Rattle.pop_solve.specs.Chess.{chess};
 ghost use Rattle.pop_solve.specs.Parts.{beginnings, part_depth as depth_of_parts, part_numbered, parts};
 ghost use Rattle.pop_solve.specs.ties.Beginnings.{beginnings_to_come, IsSeeking, Seeks};
+ghost use Rattle.pop_solve.specs.ties.Frames.{opened};
 ghost use Rattle.pop_solve.specs.ties.Walk.{path};
 
 use crate::chess::next_move;
@@ -22,6 +23,7 @@ use arrayvec::ArrayVec;
 use chess_core::board::Board;
 use chess_core::man::Move;
 use chess_rules::moves::Moves;
+use chess_rules::play::Undo;
 use chess_rules::rules::Rules;
 use pop_input::problem::Problem;
 
@@ -36,14 +38,11 @@ fn part_depth(problem: &Problem, phase: Phase, depth: usize) -> usize
     }
 }
 
-/// Plays a move and puts its frame on the others.
-fn descend<R: Rules, const N: usize>(
-    by: Move,
-    board: &mut Board,
-    frames: &mut ArrayVec<Frame<R>, N>,
-) {
-    let undo = R::play(board, by);
-    frames.push(Frame {
+/// The frame of a position that a move has reached, from which nothing is tried.
+fn idle<R: Rules>(by: Move, undo: Undo) -> Frame<R>
+    ensures { result ≡ opened by undo 0 }
+{
+    Frame {
         place: Moves::start(),
         by,
         undo,
@@ -51,7 +50,7 @@ fn descend<R: Rules, const N: usize>(
         order: Order::unordered(),
         stretch: Stretch::Others,
         known: None,
-    });
+    }
 }
 
 /// One step of the walk over beginnings of `depth` moves: the next move of the top frame is played or found as the last one
@@ -88,7 +87,8 @@ fn seek<R: Rules, const N: usize>(
     if frames.len() == depth {
         return Some(by);
     }
-    descend::<R, N>(by, board, frames);
+    let undo = R::play(board, by);
+    frames.push(idle(by, undo));
     None
 }
 
