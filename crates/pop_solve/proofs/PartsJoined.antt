@@ -1,8 +1,9 @@
 -- The parts of a phase joined are the phase, and each solution stands in one part.
 use Rattle.pop_solve.proofs.Words.{Bool, Contains, IsSound, List, Phase, Play, Posed, RuleSet, Set, Triple, [], ap, arith, eqb, false, filter, flat_map, flat_map_single, from_filter, from_map, help_lines, is_barred, is_help, length, lines_to_goal, map, min, moves_in_order, nat_tests, none_in_nil, phase_half_moves, phase_start, refl, set_tree, solutions, subst, suc, sym, true, zero, ℕ, ◌∙◌, ◌∷◌, ◌≡◌, ◌≤◌}
+use Rattle.std.proofs.lemmas.List.Folds.{flat_map-map}
 use Rattle.chess_rules.specs.Legal.{moves as legal_moves}
 use Rattle.pop_solve.proofs.HelpPlay.{from_lines}
-use Rattle.pop_solve.proofs.PartLists.{beginnings-lines, beginnings-one, beginnings-play, each-own, flat-in, flat-map, map-flat}
+use Rattle.pop_solve.proofs.PartLists.{beginnings-lines, beginnings-one, beginnings-play, each-own, flat-in, map-flat}
 use Rattle.pop_solve.proofs.Parts.{battle-by, battle-part, battle-solutions, help-part, lines-behind}
 use Rattle.pop_solve.proofs.PhasePaths.{game_of}
 use Rattle.pop_solve.proofs.Sound.{some_way}
@@ -26,7 +27,8 @@ module _ (rule : RuleSet) (problem : Posed) (phase : Phase) where
   parts-battle depth free some battle = let e : eqb (phase_half_moves problem phase) 0 ≡ false = grind (arith, nat_tests) in rw (free, e, battle) refl
 
   -- help play
-  help-some : (h : ℕ) → 1 ≤ h → help_lines (game_of rule problem) h (phase_start problem phase) ≡ lines_to_goal (game_of rule problem) h (phase_start problem phase)
+  help-some : (h : ℕ) → 1 ≤ h
+      → help_lines (game_of rule problem) h (phase_start problem phase) ≡ lines_to_goal (game_of rule problem) h (phase_start problem phase)
   unfolding help_lines
   help-some zero some = absurd (omega (arith, some))
   help-some (suc h) some = refl
@@ -42,11 +44,11 @@ module _ (rule : RuleSet) (problem : Posed) (phase : Phase) where
   help-joined help some d most =
       let fronts = beginnings (game_of rule problem) d (phase_start problem phase) in
       flat-in (part_solutions rule problem phase) (λ front. map (λ path. path ∷ []) (lines-behind rule problem phase front)) fronts
-      (λ front c. let w = beginnings-play (game_of rule problem) (moves_in_order rule) d (phase_start problem phase) front c in
+      (λ front c. let w = beginnings-play (game_of rule problem) d (phase_start problem phase) front c in
       help-part rule problem help phase front w.0 (omega (arith, w.1, most)) some)
       ∙ sym (map-flat (λ path. path ∷ []) (lines-behind rule problem phase) fronts)
       ∙ ap (map (λ path. path ∷ []))
-      (beginnings-lines (game_of rule problem) (moves_in_order rule) d (phase_half_moves problem phase) (phase_start problem phase) most)
+      (beginnings-lines (game_of rule problem) d (phase_half_moves problem phase) (phase_start problem phase) most)
       ∙ sym (help-solutions help some)
 
   help-once : is_help problem.stipulation.form ≡ true → 1 ≤ phase_half_moves problem phase → (d : ℕ) → d ≤ phase_half_moves problem phase
@@ -79,7 +81,7 @@ module _ (rule : RuleSet) (problem : Posed) where
   battle-joined battle phase h z =
       let ms = legal_moves rule (phase_start problem phase) in
       ap (flat_map (part_solutions rule problem phase)) (beginnings-each rule problem phase)
-      ∙ flat-map (part_solutions rule problem phase) (λ m. m ∷ []) ms
+      ∙ flat_map-map (part_solutions rule problem phase) (λ m. m ∷ []) ms
       ∙ flat-in (λ m. part_solutions rule problem phase (m ∷ [])) (λ m. battle-by rule problem phase h (m ∷ [])) ms
       (λ m c. battle-part rule problem battle phase h z m c)
       ∙ by-joined phase h ms ∙ sym (battle-solutions rule problem battle phase h z)
