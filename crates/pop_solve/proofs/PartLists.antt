@@ -1,5 +1,5 @@
 -- Lists of moves that begin as a part does: each stands in one part, and the parts joined are all of them.
-use Rattle.pop_solve.proofs.Words.{AllPairs, Bool, Contains, Game, List, Position, Precedes, Triple, [], ap, append-nil, arith, cond, eqb, false, filter, filter-append, flat_map, flat_map-append, first_in, from_flat_map, from_map, in_cases, inl, inr, later_in, length, lines_to_goal, map, map-append, nat_tests, none_in_nil, reach, refl, rules, subst, suc, sym, take, true, zero, ℕ, ◌&&◌, ◌++◌, ◌-◌, ◌<◌, ◌∙◌, ◌∷◌, ◌≡◌, ◌≤◌}
+use Rattle.pop_solve.proofs.Words.{AllPairs, Bool, Contains, Game, List, Position, Precedes, Triple, [], ap, append-nil, arith, cond, eqb, false, filter, filter-append, flat_map, flat_map-append, first_in, from_flat_map, from_map, in_cases, in_flat_map, in_map, inl, inr, later_in, length, lines_to_goal, map, map-append, nat_tests, none_in_nil, reach, refl, rules, subst, suc, sym, take, true, zero, ℕ, ◌&&◌, ◌++◌, ◌-◌, ◌<◌, ◌∙◌, ◌∷◌, ◌≡◌, ◌≤◌}
 use Rattle.std.proofs.lemmas.List.Folds.{flat_map-map}
 use Rattle.std.proofs.lemmas.Simd.{map-map}
 use Rattle.chess_core.specs.MoveOrder.{triple_number}
@@ -112,6 +112,16 @@ module _ (game : Game Position Triple) where
       let r = from_map (λ rest. w.0 ∷ rest) (beginnings game d (game.after p w.0)) front w.2 in
       let i = beginnings-play d (game.after p w.0) r.0 r.1 in
       subst (λ l. IsPlayable game p l × (length l ≡ suc d)) r.2 ((w.1, i.0), omega (arith, i.1))
+
+  -- and each such list is one of them
+  pub in-beginnings : (d : ℕ) (p : Position) (front : List Triple) → IsPlayable game p front → length front ≡ d → Contains (beginnings game d p) front
+  unfolding beginnings
+  in-beginnings zero p [] are long = first_in [] []
+  in-beginnings zero p (m ∷ front) are long = absurd (omega (arith, long))
+  in-beginnings (suc d) p [] are long = absurd (omega (arith, long))
+  in-beginnings (suc d) p (m ∷ front) are long =
+      in_flat_map (λ m. map (λ rest. m ∷ rest) (beginnings game d (game.after p m))) (game.moves p) m (m ∷ front) are.0
+      (in_map (λ rest. m ∷ rest) (beginnings game d (game.after p m)) front (in-beginnings d (game.after p m) front are.1 (omega (arith, long))))
 
 module _ (game : Game Position Triple) (order : (p : Position) → AllPairs Precedes (game.moves p)) where
   -- the lines of help play that begin with moves that can be played
