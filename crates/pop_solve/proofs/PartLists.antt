@@ -1,11 +1,11 @@
 -- Lists of moves that begin as a part does: each stands in one part, and the parts joined are all of them.
-use Rattle.pop_solve.proofs.Words.{AllPairs, Bool, Contains, Game, List, Position, Precedes, Triple, [], ap, append-nil, arith, cond, eqb, false, filter, filter-append, flat_map, flat_map-append, first_in, from_flat_map, from_map, in_cases, in_flat_map, in_map, inl, inr, later_in, length, lines_to_goal, map, map-append, nat_tests, none_in_nil, reach, refl, rules, subst, suc, sym, take, true, zero, ℕ, ◌&&◌, ◌++◌, ◌-◌, ◌<◌, ◌∙◌, ◌∷◌, ◌≡◌, ◌≤◌}
+use Rattle.pop_solve.proofs.Words.{AllPairs, Bool, Contains, Game, List, Position, Precedes, Triple, [], ap, append-nil, arith, cond, eqb, false, filter, filter-append, flat_map, flat_map-append, first_in, from_flat_map, from_map, in_cases, in_flat_map, in_map, inl, inr, later_in, length, lines_to_goal, map, map-append, nat_tests, none_in_nil, pairs_flat_map, pairs_map, pairs_nil, pairs_of, reach, refl, rules, subst, suc, sym, take, true, zero, ℕ, ◌&&◌, ◌++◌, ◌-◌, ◌<◌, ◌∙◌, ◌∷◌, ◌≡◌, ◌≤◌}
 use Rattle.std.proofs.lemmas.List.Folds.{flat_map-map}
 use Rattle.std.proofs.lemmas.Simd.{map-map}
 use Rattle.chess_core.specs.MoveOrder.{triple_number}
 use Rattle.chess_rules.proofs.listing_moves.Members.{pairs_first, pairs_later}
 use Rattle.pop_solve.proofs.Kept.{map-same}
-use Rattle.pop_solve.proofs.theorems.Lists.{IsPlayable}
+use Rattle.pop_solve.proofs.theorems.Lists.{IsPlayable, StandsBefore}
 use Rattle.pop_solve.proofs.Trees.{flat-same}
 use Rattle.pop_solve.specs.Parts.{beginnings, begins_so, is_front}
 
@@ -142,6 +142,21 @@ module _ (game : Game Position Triple) (order : (p : Position) → AllPairs Prec
       ∙ fronts-under m front m true (same-number m) (lines_to_goal game h (game.after p m))
       ∙ ap (map (λ line. m ∷ line)) rest
       ∙ map-map (λ line. m ∷ line) (λ line. front ++ line) (lines_to_goal game (h - length front) (reach game.after (game.after p m) front)))
+
+  -- they stand in the order of the moves
+  pub beginnings-stand : (d : ℕ) (p : Position) → AllPairs (StandsBefore Precedes) (beginnings game d p)
+  unfolding beginnings
+  beginnings-stand zero p = grind (arith, pairs_of, none_in_nil, pairs_nil)
+  beginnings-stand (suc d) p =
+      pairs_flat_map Precedes (StandsBefore Precedes) (λ m. map (λ rest. m ∷ rest) (beginnings game d (game.after p m))) (game.moves p) (order p)
+      (λ m. pairs_map (StandsBefore Precedes) (StandsBefore Precedes) (λ rest. m ∷ rest) (beginnings game d (game.after p m))
+      (λ x y before. inr (refl, before)) (beginnings-stand d (game.after p m)))
+      (λ m n less a b c e. across m n less a b (from_map (λ rest. m ∷ rest) (beginnings game d (game.after p m)) a c)
+      (from_map (λ rest. n ∷ rest) (beginnings game d (game.after p n)) b e))
+    where
+      across : (m n : Triple) → Precedes m n → (a b : List Triple) → ((x : List Triple) × Contains (beginnings game d (game.after p m)) x × (m ∷ x ≡ a))
+          → ((y : List Triple) × Contains (beginnings game d (game.after p n)) y × (n ∷ y ≡ b)) → StandsBefore Precedes a b
+      across m n less a b x y = rw (← x.2, ← y.2) (inl less)
 
   -- of the beginnings a line that can be played begins with one alone
   pub beginnings-one : (d : ℕ) (p : Position) (line : List Triple) → IsPlayable game p line → d ≤ length line

@@ -1,13 +1,13 @@
 -- The parts of a phase joined are the phase, and each solution stands in one part.
-use Rattle.pop_solve.proofs.Words.{Bool, Contains, IsSound, List, Phase, Play, Posed, RuleSet, Set, Triple, [], ap, arith, eqb, false, filter, flat_map, flat_map_single, from_filter, from_map, help_lines, is_barred, is_help, length, lines_to_goal, map, min, moves_in_order, nat_tests, none_in_nil, phase_half_moves, phase_start, refl, set_tree, solutions, subst, suc, sym, true, zero, ℕ, ◌↔◌, ◌∙◌, ◌∷◌, ◌≡◌, ◌≤◌}
+use Rattle.pop_solve.proofs.Words.{AllPairs, Bool, Contains, IsSound, List, Phase, Play, Posed, Precedes, RuleSet, Set, Triple, [], ap, arith, cond, eqb, false, filter, flat_map, flat_map_single, from_filter, from_map, help_lines, is_barred, is_help, length, lines_to_goal, map, min, moves_in_order, nat_tests, none_in_nil, pairs_nil, phase_half_moves, phase_start, refl, set_tree, solutions, subst, suc, sym, true, zero, ℕ, ◌||◌, ◌↔◌, ◌∙◌, ◌∷◌, ◌≡◌, ◌≤◌}
 use Rattle.std.proofs.lemmas.List.Folds.{flat_map-map}
 use Rattle.chess_rules.specs.Legal.{moves as legal_moves}
 use Rattle.pop_solve.proofs.HelpPlay.{from_lines}
-use Rattle.pop_solve.proofs.PartLists.{beginnings-lines, beginnings-one, beginnings-play, each-own, flat-in, in-beginnings, map-flat}
+use Rattle.pop_solve.proofs.PartLists.{beginnings-lines, beginnings-one, beginnings-play, beginnings-stand, each-own, flat-in, in-beginnings, map-flat}
 use Rattle.pop_solve.proofs.Parts.{battle-by, battle-part, battle-solutions, help-part, lines-behind}
 use Rattle.pop_solve.proofs.PhasePaths.{game_of}
 use Rattle.pop_solve.proofs.Sound.{some_way}
-use Rattle.pop_solve.proofs.theorems.Lists.{IsPlayable}
+use Rattle.pop_solve.proofs.theorems.Lists.{IsPlayable, StandsBefore}
 use Rattle.pop_solve.specs.Parts.{beginnings, begins_so, part_depth, part_solutions, parts}
 
 module _ (rule : RuleSet) (problem : Posed) (phase : Phase) where
@@ -42,6 +42,16 @@ module _ (rule : RuleSet) (problem : Posed) (phase : Phase) where
         λ c. let w = beginnings-play (game_of rule problem) d (phase_start problem phase) front (rw e at c) in (omega (arith, z), w.0, w.1),
         λ w. rw e (in-beginnings (game_of rule problem) d (phase_start problem phase) front w.1 w.2),
       )
+
+  -- the parts stand in the order of the moves
+  pub parts-stand : (depth : ℕ) → AllPairs (StandsBefore Precedes) (parts rule problem phase depth)
+  unfolding parts
+  parts-stand depth = by_test (is_barred rule problem phase || eqb (phase_half_moves problem phase) 0)
+    where
+      by_test : (b : Bool) → AllPairs (StandsBefore Precedes)
+          (cond b [] (beginnings (game_of rule problem) (part_depth problem phase depth) (phase_start problem phase)))
+      by_test true = pairs_nil (StandsBefore Precedes)
+      by_test false = beginnings-stand (game_of rule problem) (moves_in_order rule) (part_depth problem phase depth) (phase_start problem phase)
 
   -- help play
   help-some : (h : ℕ) → 1 ≤ h

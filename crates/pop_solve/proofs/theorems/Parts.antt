@@ -1,13 +1,25 @@
 -- The parts of a phase, by the moves with which its solutions begin: joined they are the phase, and no solution stands in two of them.
-use Rattle.pop_solve.proofs.Words.{Contains, IsSound, List, Phase, Posed, RuleSet, Triple, ap, arith, counted, false, flat_map, is_barred, length, length-take, min, phase_half_moves, phase_start, refl, solutions, sum_by, sym, take, ℕ, ◌↔◌, ◌∙◌, ◌≡◌, ◌≤◌}
+use Rattle.pop_solve.proofs.Words.{AllPairs, Contains, IsSound, List, Phase, Posed, Precedes, RuleSet, Triple, ap, arith, counted, false, flat_map, is_barred, length, length-take, min, pairs_weaker, phase_half_moves, phase_start, refl, solutions, sum_by, sym, take, ℕ, ◌↔◌, ◌∙◌, ◌≡◌, ◌≢◌, ◌≤◌}
 use Rattle.std.proofs.lemmas.List.Concat.{length-flat_map}
 use Rattle.std.proofs.lemmas.List.Sums.{length-filter}
 use Rattle.std.specs.List.{count_by}
 use Rattle.pop_solve.proofs.PartLists.{first-of-firsts}
-use Rattle.pop_solve.proofs.PartsJoined.{joined, once, parts-are}
+use Rattle.pop_solve.proofs.PartsJoined.{joined, once, parts-are, parts-stand}
+use Rattle.pop_solve.proofs.PhasePaths.{never_itself}
 use Rattle.pop_solve.proofs.Sound.{start_sound}
 use Rattle.pop_solve.proofs.theorems.HelpLines.{IsLegalLine, playable_is_legal}
+use Rattle.pop_solve.proofs.theorems.Lists.{StandsBefore, never_before_itself}
 use Rattle.pop_solve.specs.Parts.{begins_so, part_count, part_depth, part_solutions, parts}
+
+module _ (rule : RuleSet) (problem : Posed) (phase : Phase) (depth : ℕ) where
+  -- The parts of a phase stand in lexicographic order of the moves.
+  pub parts_in_order : AllPairs (StandsBefore Precedes) (parts rule problem phase depth)
+  parts_in_order = parts-stand rule problem phase depth
+
+  -- No two of them are alike.
+  pub parts_differ : AllPairs (λ a b. a ≢ b) (parts rule problem phase depth)
+  parts_differ = pairs_weaker (StandsBefore Precedes) (λ a b. a ≢ b) (parts rule problem phase depth)
+      (never_before_itself Precedes never_itself) parts_in_order
 
 -- A sound problem, one of its phases that isn't barred, and any number of moves to tell its parts apart.
 module _ (rule : RuleSet) (problem : Posed) (phase : Phase) (depth : ℕ) (free : is_barred rule problem phase ≡ false) (sound : IsSound problem) where
