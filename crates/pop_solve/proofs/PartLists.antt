@@ -1,9 +1,11 @@
 -- Lists of moves that begin as a part does: each stands in one part, and the parts joined are all of them.
-use Rattle.pop_solve.proofs.Words.{AllPairs, Bool, Contains, Game, List, Position, Precedes, Triple, [], ap, append-nil, arith, cond, eqb, false, filter, filter-append, flat_map, flat_map-append, first_in, from_flat_map, from_map, in_cases, inl, inr, later_in, length, lines_to_goal, map, map-append, nat_tests, none_in_nil, reach, refl, rules, subst, suc, sym, take, true, zero, ℕ, ◌&&◌, ◌++◌, ◌-◌, ◌<◌, ◌∙◌, ◌∷◌, ◌≡◌, ◌≤◌}
+use Rattle.pop_solve.proofs.Words.{AllPairs, Bool, Contains, Game, List, Position, Precedes, Triple, [], ap, append-nil, arith, cond, eqb, false, filter, filter-append, flat_map, flat_map-append, first_in, from_flat_map, from_map, in_cases, in_flat_map, in_map, inl, inr, later_in, length, lines_to_goal, map, map-append, nat_tests, none_in_nil, pairs_flat_map, pairs_map, pairs_nil, pairs_of, reach, refl, rules, subst, suc, sym, take, true, zero, ℕ, ◌&&◌, ◌++◌, ◌-◌, ◌<◌, ◌∙◌, ◌∷◌, ◌≡◌, ◌≤◌}
+use Rattle.std.proofs.lemmas.List.Folds.{flat_map-map}
+use Rattle.std.proofs.lemmas.Simd.{map-map}
 use Rattle.chess_core.specs.MoveOrder.{triple_number}
 use Rattle.chess_rules.proofs.listing_moves.Members.{pairs_first, pairs_later}
 use Rattle.pop_solve.proofs.Kept.{map-same}
-use Rattle.pop_solve.proofs.theorems.Lists.{IsPlayable}
+use Rattle.pop_solve.proofs.theorems.Lists.{IsPlayable, StandsBefore}
 use Rattle.pop_solve.proofs.Trees.{flat-same}
 use Rattle.pop_solve.specs.Parts.{beginnings, begins_so, is_front}
 
@@ -29,21 +31,9 @@ module _ {A B : Type 0} where
   flat-flat G F [] = refl
   flat-flat G F (x ∷ xs) = flat_map-append G (F x) (flat_map F xs) ∙ ap (λ ys. flat_map G (F x) ++ ys) (flat-flat G F xs)
 
-  pub map-twice : {C : Type 0} (g : B → C) (f : A → B) (xs : List A) → map g (map f xs) ≡ map (λ x. g (f x)) xs
-  map-twice g f [] = refl
-  map-twice g f (x ∷ xs) = ap (λ ys. g (f x) ∷ ys) (map-twice g f xs)
-
-  pub flat-map : {C : Type 0} (G : B → List C) (f : A → B) (xs : List A) → flat_map G (map f xs) ≡ flat_map (λ x. G (f x)) xs
-  flat-map G f [] = refl
-  flat-map G f (x ∷ xs) = ap (λ ys. G (f x) ++ ys) (flat-map G f xs)
-
   pub map-each : (f g : A → B) (xs : List A) → ((x : A) → f x ≡ g x) → map f xs ≡ map g xs
   map-each f g [] same = refl
   map-each f g (x ∷ xs) same = rw (same x, map-each f g xs same) refl
-
-pub filter-every : {A : Type 0} (xs : List A) → filter (λ x. true) xs ≡ xs
-filter-every [] = refl
-filter-every (x ∷ xs) = ap (λ ys. x ∷ ys) (filter-every xs)
 
 -- of what is joined over moves in order, that of one, where that of every other is empty
 module _ {B : Type 0} (F : Triple → List B) (m : Triple) (apart : (x : Triple) → eqb (triple_number m) (triple_number x) ≡ false → F x ≡ []) where
@@ -83,6 +73,56 @@ unfolding is_front
 front-all [] = refl
 front-all (line ∷ lines) = ap (λ ls. line ∷ ls) (front-all lines)
 
+module _ (game : Game Position Triple) where
+  -- the lines that go on behind each of the beginnings
+  pub beginnings-lines : (d h : ℕ) (p : Position) → d ≤ h
+      → flat_map (λ front. map (λ line. front ++ line) (lines_to_goal game (h - length front) (reach game.after p front))) (beginnings game d p)
+      ≡ lines_to_goal game h p
+  unfolding lines_to_goal beginnings
+  beginnings-lines zero h p most =
+      let e : h - 0 ≡ h = omega arith in rw e (append-nil _ ∙ map-same (lines_to_goal game h p))
+  beginnings-lines (suc d) zero p most = absurd (omega (arith, most))
+  beginnings-lines (suc d) (suc h) p most =
+      let F : List Triple → List (List Triple) =
+      λ front. map (λ line. front ++ line) (lines_to_goal game (suc h - length front) (reach game.after p front)) in
+      flat-flat F (λ m. map (λ rest. m ∷ rest) (beginnings game d (game.after p m))) (game.moves p)
+      ∙ flat-same _ _ (game.moves p) (λ m. flat_map-map F (λ rest. m ∷ rest) (beginnings game d (game.after p m))
+      ∙ flat-same _ _ (beginnings game d (game.after p m)) (λ rest. behind m rest)
+      ∙ sym (map-flat (λ line. m ∷ line) (λ front. map (λ line. front ++ line) (lines_to_goal game (h - length front)
+      (reach game.after (game.after p m) front))) (beginnings game d (game.after p m)))
+      ∙ ap (map (λ line. m ∷ line)) (beginnings-lines d h (game.after p m) (omega (arith, most))))
+    where
+      behind : (m : Triple) (rest : List Triple)
+          → map (λ line. (m ∷ rest) ++ line) (lines_to_goal game (suc h - length (m ∷ rest)) (reach game.after p (m ∷ rest)))
+          ≡ map (λ line. m ∷ line) (map (λ line. rest ++ line) (lines_to_goal game (h - length rest) (reach game.after (game.after p m) rest)))
+      behind m rest =
+          let e : suc h - length (m ∷ rest) ≡ h - length rest = omega arith in
+          rw e (sym (map-map (λ line. m ∷ line) (λ line. rest ++ line) (lines_to_goal game (h - length rest) (reach game.after (game.after p m) rest))))
+
+  -- each of the beginnings can be played and has so many moves
+  pub beginnings-play : (d : ℕ) (p : Position) (front : List Triple) → Contains (beginnings game d p) front
+      → IsPlayable game p front × (length front ≡ d)
+  unfolding beginnings
+  beginnings-play zero p front c = elim (in_cases [] [] front c) [
+    | inl same ↦ subst (λ l. IsPlayable game p l × (length l ≡ 0)) same (tt, refl)
+    | inr none ↦ absurd (none_in_nil front none)
+  ]
+  beginnings-play (suc d) p front c =
+      let w = from_flat_map (λ m. map (λ rest. m ∷ rest) (beginnings game d (game.after p m))) (game.moves p) front c in
+      let r = from_map (λ rest. w.0 ∷ rest) (beginnings game d (game.after p w.0)) front w.2 in
+      let i = beginnings-play d (game.after p w.0) r.0 r.1 in
+      subst (λ l. IsPlayable game p l × (length l ≡ suc d)) r.2 ((w.1, i.0), omega (arith, i.1))
+
+  -- and each such list is one of them
+  pub in-beginnings : (d : ℕ) (p : Position) (front : List Triple) → IsPlayable game p front → length front ≡ d → Contains (beginnings game d p) front
+  unfolding beginnings
+  in-beginnings zero p [] are long = first_in [] []
+  in-beginnings zero p (m ∷ front) are long = absurd (omega (arith, long))
+  in-beginnings (suc d) p [] are long = absurd (omega (arith, long))
+  in-beginnings (suc d) p (m ∷ front) are long =
+      in_flat_map (λ m. map (λ rest. m ∷ rest) (beginnings game d (game.after p m))) (game.moves p) m (m ∷ front) are.0
+      (in_map (λ rest. m ∷ rest) (beginnings game d (game.after p m)) front (in-beginnings d (game.after p m) front are.1 (omega (arith, long))))
+
 module _ (game : Game Position Triple) (order : (p : Position) → AllPairs Precedes (game.moves p)) where
   -- the lines of help play that begin with moves that can be played
   pub front-lines : (h : ℕ) (p : Position) (front : List Triple) → IsPlayable game p front → length front ≤ h
@@ -101,46 +141,22 @@ module _ (game : Game Position Triple) (order : (p : Position) → AllPairs Prec
       (order p) are.0
       ∙ fronts-under m front m true (same-number m) (lines_to_goal game h (game.after p m))
       ∙ ap (map (λ line. m ∷ line)) rest
-      ∙ map-twice (λ line. m ∷ line) (λ line. front ++ line) (lines_to_goal game (h - length front) (reach game.after (game.after p m) front)))
+      ∙ map-map (λ line. m ∷ line) (λ line. front ++ line) (lines_to_goal game (h - length front) (reach game.after (game.after p m) front)))
 
-  -- the lines that go on behind each of the beginnings
-  pub beginnings-lines : (d h : ℕ) (p : Position) → d ≤ h
-      → flat_map (λ front. map (λ line. front ++ line) (lines_to_goal game (h - length front) (reach game.after p front))) (beginnings game d p)
-      ≡ lines_to_goal game h p
-  unfolding lines_to_goal beginnings
-  beginnings-lines zero h p most =
-      let e : h - 0 ≡ h = omega arith in rw e (append-nil _ ∙ map-same (lines_to_goal game h p))
-  beginnings-lines (suc d) zero p most = absurd (omega (arith, most))
-  beginnings-lines (suc d) (suc h) p most =
-      let F : List Triple → List (List Triple) =
-      λ front. map (λ line. front ++ line) (lines_to_goal game (suc h - length front) (reach game.after p front)) in
-      flat-flat F (λ m. map (λ rest. m ∷ rest) (beginnings game d (game.after p m))) (game.moves p)
-      ∙ flat-same _ _ (game.moves p) (λ m. flat-map F (λ rest. m ∷ rest) (beginnings game d (game.after p m))
-      ∙ flat-same _ _ (beginnings game d (game.after p m)) (λ rest. behind m rest)
-      ∙ sym (map-flat (λ line. m ∷ line) (λ front. map (λ line. front ++ line) (lines_to_goal game (h - length front)
-      (reach game.after (game.after p m) front))) (beginnings game d (game.after p m)))
-      ∙ ap (map (λ line. m ∷ line)) (beginnings-lines d h (game.after p m) (omega (arith, most))))
-    where
-      behind : (m : Triple) (rest : List Triple)
-          → map (λ line. (m ∷ rest) ++ line) (lines_to_goal game (suc h - length (m ∷ rest)) (reach game.after p (m ∷ rest)))
-          ≡ map (λ line. m ∷ line) (map (λ line. rest ++ line) (lines_to_goal game (h - length rest) (reach game.after (game.after p m) rest)))
-      behind m rest =
-          let e : suc h - length (m ∷ rest) ≡ h - length rest = omega arith in
-          rw e (sym (map-twice (λ line. m ∷ line) (λ line. rest ++ line) (lines_to_goal game (h - length rest) (reach game.after (game.after p m) rest))))
-
-  -- each of the beginnings can be played and has so many moves
-  pub beginnings-play : (d : ℕ) (p : Position) (front : List Triple) → Contains (beginnings game d p) front
-      → IsPlayable game p front × (length front ≡ d)
+  -- they stand in the order of the moves
+  pub beginnings-stand : (d : ℕ) (p : Position) → AllPairs (StandsBefore Precedes) (beginnings game d p)
   unfolding beginnings
-  beginnings-play zero p front c = elim (in_cases [] [] front c) [
-    | inl same ↦ subst (λ l. IsPlayable game p l × (length l ≡ 0)) same (tt, refl)
-    | inr none ↦ absurd (none_in_nil front none)
-  ]
-  beginnings-play (suc d) p front c =
-      let w = from_flat_map (λ m. map (λ rest. m ∷ rest) (beginnings game d (game.after p m))) (game.moves p) front c in
-      let r = from_map (λ rest. w.0 ∷ rest) (beginnings game d (game.after p w.0)) front w.2 in
-      let i = beginnings-play d (game.after p w.0) r.0 r.1 in
-      subst (λ l. IsPlayable game p l × (length l ≡ suc d)) r.2 ((w.1, i.0), omega (arith, i.1))
+  beginnings-stand zero p = grind (arith, pairs_of, none_in_nil, pairs_nil)
+  beginnings-stand (suc d) p =
+      pairs_flat_map Precedes (StandsBefore Precedes) (λ m. map (λ rest. m ∷ rest) (beginnings game d (game.after p m))) (game.moves p) (order p)
+      (λ m. pairs_map (StandsBefore Precedes) (StandsBefore Precedes) (λ rest. m ∷ rest) (beginnings game d (game.after p m))
+      (λ x y before. inr (refl, before)) (beginnings-stand d (game.after p m)))
+      (λ m n less a b c e. across m n less a b (from_map (λ rest. m ∷ rest) (beginnings game d (game.after p m)) a c)
+      (from_map (λ rest. n ∷ rest) (beginnings game d (game.after p n)) b e))
+    where
+      across : (m n : Triple) → Precedes m n → (a b : List Triple) → ((x : List Triple) × Contains (beginnings game d (game.after p m)) x × (m ∷ x ≡ a))
+          → ((y : List Triple) × Contains (beginnings game d (game.after p n)) y × (n ∷ y ≡ b)) → StandsBefore Precedes a b
+      across m n less a b x y = rw (← x.2, ← y.2) (inl less)
 
   -- of the beginnings a line that can be played begins with one alone
   pub beginnings-one : (d : ℕ) (p : Position) (line : List Triple) → IsPlayable game p line → d ≤ length line

@@ -1,9 +1,10 @@
 -- What the walk shows behind a part's first moves is the part's solutions.
 use Rattle.pop_solve.proofs.Words.{Bool, Contains, IsSound, IsWellFormed, List, Phase, Play, Posed, Position, RuleSet, Set, Triple, [], after_well_formed, and_parts, ap, append-nil, append_assoc, arith, chess, eqb, false, filter, help_lines, is_help, legal, length, length-append, lines_to_goal, map, moves_are_the_legal_moves, moves_in_order, phase_half_moves, phase_start, plan_of, pseudo-from_legal, reach, refl, set_tree, shown, solutions, subst, suc, sym, tree, true, zero, ℕ, ◌++◌, ◌+◌, ◌-◌, ◌∙◌, ◌∷◌, ◌≡◌, ◌≤◌}
+use Rattle.std.proofs.lemmas.Simd.{map-map}
 use Rattle.chess_rules.specs.Legal.{moves as legal_moves}
 use Rattle.chess_rules.specs.Play.{after as played}
 use Rattle.pop_solve.proofs.Kept.{map-same}
-use Rattle.pop_solve.proofs.PartLists.{front-lines, filter-map, map-each, map-twice, root-part}
+use Rattle.pop_solve.proofs.PartLists.{front-lines, filter-map, map-each, root-part}
 use Rattle.pop_solve.proofs.Paths.{reach-append}
 use Rattle.pop_solve.proofs.PhasePaths.{game_of, its_battle, play_paths, set_paths}
 use Rattle.pop_solve.proofs.Solved.{IsCutInto, halves-form, lines-begun, lines-kept, set-cut, set_by, shown-varied, tree-cut, tree_by}
@@ -81,7 +82,7 @@ module _ (rule : RuleSet) (problem : Posed) where
       rw (e, reach-append problem.stipulation.goal rule p front m)
       (ap (map (λ line. front ++ line)) (shown-moves (game_of rule problem) (plan_of problem) help start k (reach (played rule) p front) (m ∷ [])
       ∙ append-nil (map (λ line. m ∷ line) L))
-      ∙ map-twice (λ line. front ++ line) (λ line. m ∷ line) L
+      ∙ map-map (λ line. front ++ line) (λ line. m ∷ line) L
       ∙ map-each _ _ L (λ line. sym (append_assoc front (m ∷ []) line)))
 
   help-cut : is_help problem.stipulation.form ≡ true → IsSound problem → (phase : Phase) (front : List Triple) (m : Triple)

@@ -1,12 +1,14 @@
 -- The parts of a phase joined are the phase, and each solution stands in one part.
-use Rattle.pop_solve.proofs.Words.{Bool, Contains, IsSound, List, Phase, Play, Posed, RuleSet, Set, Triple, [], ap, arith, eqb, false, filter, flat_map, flat_map_single, from_filter, from_map, help_lines, is_barred, is_help, length, lines_to_goal, map, min, moves_in_order, nat_tests, none_in_nil, phase_half_moves, phase_start, refl, set_tree, solutions, subst, suc, sym, true, zero, ℕ, ◌∙◌, ◌∷◌, ◌≡◌, ◌≤◌}
+use Rattle.pop_solve.proofs.Words.{AllPairs, Bool, Contains, IsSound, List, Phase, Play, Posed, Precedes, RuleSet, Set, Triple, [], ap, arith, cond, eqb, false, filter, flat_map, flat_map_single, from_filter, from_map, help_lines, is_barred, is_help, length, lines_to_goal, map, min, moves_in_order, nat_tests, none_in_nil, pairs_nil, phase_half_moves, phase_start, refl, set_tree, solutions, subst, suc, sym, true, zero, ℕ, ◌||◌, ◌↔◌, ◌∙◌, ◌∷◌, ◌≡◌, ◌≤◌}
+use Rattle.std.proofs.lemmas.List.Folds.{flat_map-map}
 use Rattle.chess_rules.specs.Legal.{moves as legal_moves}
 use Rattle.pop_solve.proofs.HelpPlay.{from_lines}
-use Rattle.pop_solve.proofs.PartLists.{beginnings-lines, beginnings-one, beginnings-play, each-own, flat-in, flat-map, map-flat}
+use Rattle.pop_solve.proofs.PartLists.{beginnings-lines, beginnings-one, beginnings-play, beginnings-stand, each-own, flat-in, in-beginnings, map-flat}
 use Rattle.pop_solve.proofs.Parts.{battle-by, battle-part, battle-solutions, help-part, lines-behind}
 use Rattle.pop_solve.proofs.PhasePaths.{game_of}
 use Rattle.pop_solve.proofs.Sound.{some_way}
-use Rattle.pop_solve.specs.Parts.{beginnings, begins_so, part_solutions, parts}
+use Rattle.pop_solve.proofs.theorems.Lists.{IsPlayable, StandsBefore}
+use Rattle.pop_solve.specs.Parts.{beginnings, begins_so, part_depth, part_solutions, parts}
 
 module _ (rule : RuleSet) (problem : Posed) (phase : Phase) where
   -- a phase of no half-moves has no parts and no solutions
@@ -15,18 +17,45 @@ module _ (rule : RuleSet) (problem : Posed) (phase : Phase) where
   parts-none depth free z = let e : eqb (phase_half_moves problem phase) 0 ≡ true = rw z refl in rw (free, e) refl
 
   -- the parts of any other
+  parts-some : (depth : ℕ) → is_barred rule problem phase ≡ false → 1 ≤ phase_half_moves problem phase
+      → parts rule problem phase depth ≡ beginnings (game_of rule problem) (part_depth problem phase depth) (phase_start problem phase)
+  unfolding parts
+  parts-some depth free some = let e : eqb (phase_half_moves problem phase) 0 ≡ false = grind (arith, nat_tests) in rw (free, e) refl
+
   parts-help : (depth : ℕ) → is_barred rule problem phase ≡ false → 1 ≤ phase_half_moves problem phase → is_help problem.stipulation.form ≡ true
       → parts rule problem phase depth ≡ beginnings (game_of rule problem) (min depth (phase_half_moves problem phase)) (phase_start problem phase)
-  unfolding parts
-  parts-help depth free some help = let e : eqb (phase_half_moves problem phase) 0 ≡ false = grind (arith, nat_tests) in rw (free, e, help) refl
+  parts-help depth free some help = rw help at (parts-some depth free some)
 
   parts-battle : (depth : ℕ) → is_barred rule problem phase ≡ false → 1 ≤ phase_half_moves problem phase → is_help problem.stipulation.form ≡ false
       → parts rule problem phase depth ≡ beginnings (game_of rule problem) 1 (phase_start problem phase)
+  parts-battle depth free some battle = rw battle at (parts-some depth free some)
+
+  pub parts-are : (depth : ℕ) → is_barred rule problem phase ≡ false → (h : ℕ) → phase_half_moves problem phase ≡ h → (front : List Triple)
+      → Contains (parts rule problem phase depth) front
+      ↔ ((1 ≤ phase_half_moves problem phase) × IsPlayable (game_of rule problem) (phase_start problem phase) front
+      × (length front ≡ part_depth problem phase depth))
+  parts-are depth free zero z front =
+      (λ c. absurd (none_in_nil front (rw (parts-none depth free z) at c)), λ w. absurd (omega (arith, z, w.0)))
+  parts-are depth free (suc h) z front =
+      let e = parts-some depth free (omega (arith, z)) in
+      let d : ℕ = part_depth problem phase depth in (
+        λ c. let w = beginnings-play (game_of rule problem) d (phase_start problem phase) front (rw e at c) in (omega (arith, z), w.0, w.1),
+        λ w. rw e (in-beginnings (game_of rule problem) d (phase_start problem phase) front w.1 w.2),
+      )
+
+  -- the parts stand in the order of the moves
+  pub parts-stand : (depth : ℕ) → AllPairs (StandsBefore Precedes) (parts rule problem phase depth)
   unfolding parts
-  parts-battle depth free some battle = let e : eqb (phase_half_moves problem phase) 0 ≡ false = grind (arith, nat_tests) in rw (free, e, battle) refl
+  parts-stand depth = by_test (is_barred rule problem phase || eqb (phase_half_moves problem phase) 0)
+    where
+      by_test : (b : Bool) → AllPairs (StandsBefore Precedes)
+          (cond b [] (beginnings (game_of rule problem) (part_depth problem phase depth) (phase_start problem phase)))
+      by_test true = pairs_nil (StandsBefore Precedes)
+      by_test false = beginnings-stand (game_of rule problem) (moves_in_order rule) (part_depth problem phase depth) (phase_start problem phase)
 
   -- help play
-  help-some : (h : ℕ) → 1 ≤ h → help_lines (game_of rule problem) h (phase_start problem phase) ≡ lines_to_goal (game_of rule problem) h (phase_start problem phase)
+  help-some : (h : ℕ) → 1 ≤ h
+      → help_lines (game_of rule problem) h (phase_start problem phase) ≡ lines_to_goal (game_of rule problem) h (phase_start problem phase)
   unfolding help_lines
   help-some zero some = absurd (omega (arith, some))
   help-some (suc h) some = refl
@@ -42,11 +71,11 @@ module _ (rule : RuleSet) (problem : Posed) (phase : Phase) where
   help-joined help some d most =
       let fronts = beginnings (game_of rule problem) d (phase_start problem phase) in
       flat-in (part_solutions rule problem phase) (λ front. map (λ path. path ∷ []) (lines-behind rule problem phase front)) fronts
-      (λ front c. let w = beginnings-play (game_of rule problem) (moves_in_order rule) d (phase_start problem phase) front c in
+      (λ front c. let w = beginnings-play (game_of rule problem) d (phase_start problem phase) front c in
       help-part rule problem help phase front w.0 (omega (arith, w.1, most)) some)
       ∙ sym (map-flat (λ path. path ∷ []) (lines-behind rule problem phase) fronts)
       ∙ ap (map (λ path. path ∷ []))
-      (beginnings-lines (game_of rule problem) (moves_in_order rule) d (phase_half_moves problem phase) (phase_start problem phase) most)
+      (beginnings-lines (game_of rule problem) d (phase_half_moves problem phase) (phase_start problem phase) most)
       ∙ sym (help-solutions help some)
 
   help-once : is_help problem.stipulation.form ≡ true → 1 ≤ phase_half_moves problem phase → (d : ℕ) → d ≤ phase_half_moves problem phase
@@ -79,7 +108,7 @@ module _ (rule : RuleSet) (problem : Posed) where
   battle-joined battle phase h z =
       let ms = legal_moves rule (phase_start problem phase) in
       ap (flat_map (part_solutions rule problem phase)) (beginnings-each rule problem phase)
-      ∙ flat-map (part_solutions rule problem phase) (λ m. m ∷ []) ms
+      ∙ flat_map-map (part_solutions rule problem phase) (λ m. m ∷ []) ms
       ∙ flat-in (λ m. part_solutions rule problem phase (m ∷ [])) (λ m. battle-by rule problem phase h (m ∷ [])) ms
       (λ m c. battle-part rule problem battle phase h z m c)
       ∙ by-joined phase h ms ∙ sym (battle-solutions rule problem battle phase h z)

@@ -171,7 +171,8 @@ module _ (rule : RuleSet) (problem : Posed) (stated : IsSound problem) where
   cut Set false e zero z = search (rules, shown-zero, none-cut)
   cut Set false e (suc h) z =
       rw (shown-varied problem.variation) at (set-cut (chess problem.stipulation.goal rule) plan e problem.stipulation.n h problem.max_solutions
-      (phase_start problem Set) (legal_moves rule (phase_start problem Set)) (sym z ∙ ap (λ x. x - 1) (halves-form problem.stipulation.form problem.stipulation.n e)))
+      (phase_start problem Set) (legal_moves rule (phase_start problem Set))
+      (sym z ∙ ap (λ x. x - 1) (halves-form problem.stipulation.form problem.stipulation.n e)))
   cut Play false e zero z = absurd (omega (arith, z, some_way problem stated))
   cut Play false e (suc h) z =
       rw (shown-varied problem.variation) at (tree-cut (chess problem.stipulation.goal rule) plan e problem.stipulation.n h problem.max_solutions
