@@ -14,7 +14,7 @@ use Rattle.pop_solve.specs.ties.Beginnings.{IsSeeking, Seeks, are_idle, beginnin
 
 -- the beginnings by the next move, and by the others
 by-next : (goal : Goal) (rule : RuleSet) (k : ℕ) (P : Position) (m : Triple) (ms : List Triple)
-    → beginnings_by goal rule (suc k) P (m ∷ ms) ≡ map (λ rest. m ∷ rest) (beginnings (chess goal rule) k (played rule P m)) ++ beginnings_by goal rule (suc k) P ms
+    → beginnings_by goal rule k P (m ∷ ms) ≡ map (λ rest. m ∷ rest) (beginnings (chess goal rule) k (played rule P m)) ++ beginnings_by goal rule k P ms
 unfolding beginnings_by
 by-next goal rule k P m ms = refl
 
@@ -24,7 +24,7 @@ deeper L m xs ys rest = rw (map-append (λ line. L ++ line) (map (λ line. m ∷
     (append_assoc (map (λ line. (L ++ m ∷ []) ++ line) xs) (map (λ line. L ++ line) ys) rest)
 
 beginnings-more : (goal : Goal) (rule : RuleSet) (k : ℕ) (q : Position)
-    → beginnings (chess goal rule) (suc k) q ≡ beginnings_by goal rule (suc k) q (moves_behind rule q 0)
+    → beginnings (chess goal rule) (suc k) q ≡ beginnings_by goal rule k q (moves_behind rule q 0)
 unfolding beginnings beginnings_by
 beginnings-more goal rule k q = rw (behind_start rule q) refl
 
@@ -35,7 +35,7 @@ module _ (goal : Goal) (rule : RuleSet) (d : ℕ) (p : Position) (f : Frame) (ne
       → beginnings_to_come goal rule d p (f ∷ below) ≡ (path (moved f next ∷ below) ++ m ∷ []) ∷ beginnings_to_come goal rule d p (moved f next ∷ below)
   unfolding beginnings_to_come position path beginnings
   come-found last =
-      let k : d - length below ≡ 1 = omega (arith, last) in
+      let k : d - length below - 1 ≡ 0 = omega (arith, last) in
       rw (k, e, by-next goal rule 0 (position rule p (f ∷ below)) m (moves_behind rule (position rule p (f ∷ below)) next)) (search rules)
 
   -- another one
@@ -43,9 +43,8 @@ module _ (goal : Goal) (rule : RuleSet) (d : ℕ) (p : Position) (f : Frame) (ne
       → beginnings_to_come goal rule d p (f ∷ below) ≡ beginnings_to_come goal rule d p (opened_frame m undo 0 ∷ (moved f next ∷ below))
   unfolding beginnings_to_come position path
   come-deeper undo less =
-      let k : d - length below ≡ suc (suc (d - suc (length below) - 1)) = omega (arith, less) in
-      let l : d - suc (length below) ≡ suc (d - suc (length below) - 1) = omega (arith, less) in
-      rw (k, l, e, by-next goal rule (suc (d - suc (length below) - 1)) (position rule p (f ∷ below)) m (moves_behind rule (position rule p (f ∷ below)) next),
+      let k : d - length below - 1 ≡ suc (d - suc (length below) - 1) = omega (arith, less) in
+      rw (k, e, by-next goal rule (suc (d - suc (length below) - 1)) (position rule p (f ∷ below)) m (moves_behind rule (position rule p (f ∷ below)) next),
       beginnings-more goal rule (d - suc (length below) - 1) (played rule (position rule p (f ∷ below)) m))
       (search (rules, deeper))
 
@@ -106,9 +105,9 @@ idle-learned : (f : Frame) (known : Option LegalPlace) (below : List Frame) → 
 unfolding are_idle
 idle-learned f known below e = e
 
-turns-close-idle : (rule : RuleSet) (h : ℕ) (p : Position) (f : Frame) (below : List Frame) → turns rule h p below < turns rule h p (f ∷ below)
+turns-closed : (rule : RuleSet) (h : ℕ) (p : Position) (f : Frame) (below : List Frame) → turns rule h p below < turns rule h p (f ∷ below)
 unfolding turns
-turns-close-idle rule h p f below = omega arith
+turns-closed rule h p f below = omega arith
 
 less_than : (a b : ℕ) → a ≤ b → a ≢ b → a < b
 less_than a b most other = grind arith

@@ -17,18 +17,17 @@ use Rattle.pop_solve.specs.ties.Walk.{IsWalking, path, turns}
 unfoldable pub are_idle : List Frame → Bool
 are_idle frames = list_all (λ f. f.left == 0) frames
 
--- the beginnings of d moves from p that begin with these
+-- the lists of moves from p that begin with these, k moves behind each
 unfoldable pub beginnings_by : Goal → RuleSet → ℕ → Position → List Triple → List (List Triple)
-beginnings_by goal rule d p ms =
-    flat_map (λ m. map (λ rest. m ∷ rest) (beginnings (chess goal rule) (d - 1) (played rule p m)))
-    ms
+beginnings_by goal rule k p ms =
+    flat_map (λ m. map (λ rest. m ∷ rest) (beginnings (chess goal rule) k (played rule p m))) ms
 
 -- the beginnings of d moves still to come from all frames, in order
 unfoldable pub beginnings_to_come : Goal → RuleSet → ℕ → Position → List Frame → List (List Triple)
 beginnings_to_come goal rule d p [] = []
 beginnings_to_come goal rule d p (f ∷ below) =
     map (λ rest. path (f ∷ below) ++ rest)
-    (beginnings_by goal rule (d - length below) (position rule p (f ∷ below))
+    (beginnings_by goal rule (d - length below - 1) (position rule p (f ∷ below))
     (moves_behind rule (position rule p (f ∷ below)) f.place))
     ++ beginnings_to_come goal rule d p below
 
