@@ -10,7 +10,7 @@ ghost use Rattle.pop_input.specs.Stipulations.{half_moves};
 ghost use Rattle.pop_solve.specs.Events.{is_barred, phase_half_moves as half_moves_of_phase, phase_start, start};
 ghost use Rattle.pop_solve.specs.Chess.{chess};
 ghost use Rattle.pop_solve.specs.Parts.{beginnings, part_depth as depth_of_parts, part_numbered, parts};
-ghost use Rattle.pop_solve.specs.ties.Beginnings.{beginnings_to_come, IsSeeking, Seeks};
+ghost use Rattle.pop_solve.specs.ties.Beginnings.{beginnings_to_come, FindsNumbered, IsSeeking, Seeks};
 ghost use Rattle.pop_solve.specs.ties.Frames.{opened};
 ghost use Rattle.pop_solve.specs.ties.Walk.{path};
 
@@ -128,6 +128,8 @@ fn set_out<R: Rules, const N: usize>(
 
 /// Goes to the beginning with a number, counted from 1, and answers its last move, which isn't played yet.
 fn seek_numbered<R: Rules, const N: usize>(
+    problem: &Problem,
+    phase: Phase,
     depth: usize,
     number: u64,
     board: &mut Board,
@@ -135,16 +137,11 @@ fn seek_numbered<R: Rules, const N: usize>(
 ) -> Option<Move>
     requires room { depth < N }
     requires number { 1 ≤ number }
-    requires seeking { (h : ℕ) × (p : Position)
-        × IsSeeking R.rule h depth p (reverse frames.old.items) board.old }
-    ensures found { (h : ℕ) (p : Position) (goal : Goal)
-        → IsSeeking R.rule h depth p (reverse frames.old.items) board.old
-        → MatchOption result (slice_get (beginnings_to_come goal R.rule depth p
-        (reverse frames.old.items)) (number - 1) ≡ None)
-        (λ m. (slice_get (beginnings_to_come goal R.rule depth p (reverse frames.old.items))
-        (number - 1) ≡ Some (path (reverse frames.new.items) ++ m ∷ []))
-        × IsSeeking R.rule h depth p (reverse frames.new.items) board.new
-        × (legal R.rule board.new m ≡ true) × (array_vec_len frames.new ≡ depth)) }
+    requires seeking { IsSeeking R.rule (half_moves_of_phase problem.now phase) depth
+        (phase_start problem.now phase) (reverse frames.old.items) board.old }
+    ensures found { FindsNumbered R.rule (half_moves_of_phase problem.now phase) depth
+        (phase_start problem.now phase) (reverse frames.old.items) (reverse frames.new.items)
+        board.new number result }
 {
     let mut left = number;
     while !frames.is_empty() {
@@ -187,22 +184,22 @@ pub(crate) fn go_to_part<R: Rules, const N: usize>(
         return None;
     }
     let depth = part_depth(problem, phase, depth);
-    seek_numbered::<R, N>(depth, number, board, frames)
+    seek_numbered::<R, N>(problem, phase, depth, number, board, frames)
 }
 
 /// How many beginnings of `depth` moves are to come, up to the greatest u64.
 fn count_to_come<R: Rules, const N: usize>(
+    problem: &Problem,
+    phase: Phase,
     depth: usize,
     board: &mut Board,
     frames: &mut ArrayVec<Frame<R>, N>,
 ) -> u64
     requires room { depth < N }
-    requires seeking { (h : ℕ) × (p : Position)
-        × IsSeeking R.rule h depth p (reverse frames.old.items) board.old }
-    ensures counts { (h : ℕ) (p : Position) (goal : Goal)
-        → IsSeeking R.rule h depth p (reverse frames.old.items) board.old
-        → result ≡ min (length (beginnings_to_come goal R.rule depth p
-        (reverse frames.old.items))) (2 ^ 64 - 1) }
+    requires seeking { IsSeeking R.rule (half_moves_of_phase problem.now phase) depth
+        (phase_start problem.now phase) (reverse frames.old.items) board.old }
+    ensures counts { (goal : Goal) → result ≡ min (length (beginnings_to_come goal R.rule depth
+        (phase_start problem.now phase) (reverse frames.old.items))) (2 ^ 64 - 1) }
 {
     let mut count: u64 = 0;
     while !frames.is_empty() {
@@ -227,5 +224,5 @@ pub fn count_parts<R: Rules, const N: usize>(problem: &Problem, phase: Phase, de
         return 0;
     }
     let depth = part_depth(problem, phase, depth);
-    count_to_come::<R, N>(depth, &mut board, &mut frames)
+    count_to_come::<R, N>(problem, phase, depth, &mut board, &mut frames)
 }
