@@ -1,5 +1,5 @@
 -- The walk over beginnings: what a step leaves of those still to come.
-use Rattle.pop_solve.proofs.Words.{AreKnown, CameFrom, CameFromAt, Frame, IfSome, IsLinked, IsPlaceIn, IsRoomy, IsWalking, LegalPlace, List, Loss, MatchOption, None, Option, Position, RuleSet, Some, Triple, [], after_well_formed, ap, append_assoc, arith, eqb, false, is_some, legal, length, length-append, length-reverse, map, map-append, min, moves_behind, opened, path, position, pseudo-from_legal, refl, reverse, rules, slice_get, steps, steps_behind, subst, suc, sym, true, turns, undo_of, zero, ℕ, ◌++◌, ◌+◌, ◌-◌, ◌<◌, ◌^◌, ◌∙◌, ◌∷◌, ◌≡◌, ◌≢◌, ◌≤◌}
+use Rattle.pop_solve.proofs.Words.{AreKnown, CameFrom, CameFromAt, Frame, IfSome, IsLinked, IsPlaceIn, IsRoomy, IsWalking, IsWellFormed, LegalPlace, List, Loss, MatchOption, None, Option, Position, RuleSet, Some, Triple, [], after_well_formed, ap, append-nil, append_assoc, arith, eqb, false, is_some, legal, length, length-append, length-reverse, map, map-append, min, moves_behind, opened, path, position, pseudo-from_legal, refl, reverse, rules, slice_get, steps, steps_behind, subst, suc, sym, true, turns, undo_of, zero, ℕ, ◌++◌, ◌+◌, ◌-◌, ◌<◌, ◌^◌, ◌∙◌, ◌∷◌, ◌≡◌, ◌≢◌, ◌≤◌}
 use Rattle.chess_rules.specs.Play.{after as played}
 use Rattle.pop_input.specs.declared.stipulation.Goal.{Goal}
 use Rattle.pop_solve.proofs.Boards.{behind_start}
@@ -289,3 +289,20 @@ module _ (rule : RuleSet) (h d : ℕ) (p : Position) where
 pub no-frames : (frames : List Frame) → length frames ≡ 0 → reverse frames ≡ []
 no-frames [] e = refl
 no-frames (f ∷ frames) e = absurd (omega (arith, e))
+
+map-none : (xs : List (List Triple)) → map (λ rest. [] ++ rest) xs ≡ xs
+map-none [] = refl
+map-none (x ∷ xs) = ap (λ ys. x ∷ ys) (map-none xs)
+
+-- before all beginnings
+module _ (rule : RuleSet) (p : Position) (f : Frame) (left : f.left ≡ 0) where
+  pub seeking-begun : (h d : ℕ) (board : Position) → f.known ≡ None → 1 ≤ d → d ≤ h → board ≡ p → IsWellFormed board → IsSeeking rule h d p (f ∷ []) board
+  unfolding IsLinked IsRoomy AreKnown position are_idle
+  seeking-begun h d board unknown some room e sound = search rules
+
+  pub come-begun : (goal : Goal) (d : ℕ) → f.place ≡ 0 → 1 ≤ d → beginnings_to_come goal rule d p (f ∷ []) ≡ beginnings (chess goal rule) d p
+  unfolding beginnings_to_come position path
+  come-begun goal zero at some = absurd (omega (arith, some))
+  come-begun goal (suc k) at some =
+      let less : suc k - 0 - 1 ≡ k = omega arith in
+      rw (at, less, beginnings-more goal rule k p) (search (rules, map-none, append-nil))
