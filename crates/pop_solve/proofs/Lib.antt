@@ -16,6 +16,7 @@ pub mod Paths
 pub mod Trees
 pub mod Kept
 pub mod Sound
+pub mod PartNumbers
 pub mod Events
 pub mod Solved
 pub mod Opened

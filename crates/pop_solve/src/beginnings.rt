@@ -180,7 +180,10 @@ pub(crate) fn go_to_part<R: Rules, const N: usize>(
         × (legal R.rule board.new m ≡ true)
         × (array_vec_len frames.new ≡ depth_of_parts problem.now phase depth)) }
 {
-    if number == 0 || !set_out::<R, N>(problem, phase, board, frames) {
+    if number == 0 {
+        return None;
+    }
+    if !set_out::<R, N>(problem, phase, board, frames) {
         return None;
     }
     let depth = part_depth(problem, phase, depth);
