@@ -1,5 +1,5 @@
 //! Searches of one part of a phase.
-ghost use Rattle.std.specs.Prelude.{◌≡◌, ◌+◌, ◌-◌, ◌<◌, ◌≤◌, ◌==◌, ◌^◌, ℕ, [], ◌∷◌, ◌++◌, length, reverse, true, false, IsTrue, MatchOption, not};
+ghost use Rattle.std.specs.Prelude.{◌≡◌, ◌+◌, ◌-◌, ◌<◌, ◌≤◌, ◌==◌, ◌^◌, ℕ, [], ◌∷◌, ◌++◌, length, reverse, true, false, min};
 ghost use Rattle.arrayvec.specs.ArrayVec.{array_vec_len};
 ghost use Rattle.chess_core.specs.WellFormed.{IsWellFormed};
 ghost use Rattle.chess_core.specs.Triple.{Triple};
@@ -9,7 +9,7 @@ ghost use Rattle.chess_rules.specs.Play.{after as played};
 ghost use Rattle.pop_input.specs.Posed.{IsSound};
 ghost use Rattle.pop_input.specs.Stipulations.{half_moves, is_help};
 ghost use Rattle.pop_solve.specs.Events.{event_of, path_event, phase_half_moves as half_moves_of_phase, phase_start, start};
-ghost use Rattle.pop_solve.specs.Parts.{part_events, part_numbered};
+ghost use Rattle.pop_solve.specs.Parts.{part_events};
 ghost use Rattle.pop_solve.specs.ties.Beginnings.{IsSeeking};
 ghost use Rattle.pop_solve.specs.ties.Marks.{is_for_mate};
 ghost use Rattle.pop_solve.specs.ties.PartStages.{IsPartOpened, part_left, StandsInPart};
@@ -48,6 +48,7 @@ pub enum PartStage {
 #[tactic(auto, using(chess_rules::proofs::listing_moves::Calls::playing))]
 fn may_lead<R: Rules>(plan: Plan, left: usize, by: Move, board: &mut Board) -> bool
     requires well_formed { IsWellFormed board.old }
+    requires few { left ≤ 32 }
     requires legal { legal R.rule board.old by ≡ true }
     ensures unchanged { board.new ≡ board.old }
     ensures mated { result ≡ true → IsMatedAtLast R.rule plan left (played R.rule board.old by) }
@@ -71,7 +72,8 @@ fn front_of<R: Rules, const N: usize>(frames: &ArrayVec<Frame<R>, N>, by: Move) 
     let mut front = ArrayVec::new();
     let mut k = 1;
     while k < frames.len() {
-        front.push(frames[k].by);
+        let frame = &frames[k];
+        front.push(frame.by);
         k += 1;
     }
     front.push(by);
@@ -87,7 +89,22 @@ fn begin<R: Rules, const N: usize>(
     frames: &mut ArrayVec<Frame<R>, N>,
     killers: &mut Killers<R>,
     opened: &mut u64,
-) -> PartStage {
+) -> PartStage
+    requires sound { IsSound problem.now }
+    requires room { half_moves problem.now.stipulation < N }
+    requires seeking { (d : ℕ) × (IsSeeking R.rule (half_moves_of_phase problem.now phase) d
+        (phase_start problem.now phase) (reverse frames.old.items) board.old)
+        × (array_vec_len frames.old ≡ d) }
+    requires legal { legal R.rule board.old by ≡ true }
+    requires battle { is_help problem.now.stipulation.form ≡ false → array_vec_len frames.old ≡ 1 }
+    requires opened { opened.old ≡ 0 }
+    ensures stands { StandsInPart R.rule problem.now phase
+        (path (reverse frames.old.items) ++ by ∷ []) result (reverse frames.new.items) board.new }
+    ensures left { part_left R.rule problem.now phase result (reverse frames.new.items)
+        ≡ part_events R.rule problem.now phase (path (reverse frames.old.items) ++ by ∷ []) }
+    ensures opens { IsPartOpened R.rule problem.now phase
+        (path (reverse frames.old.items) ++ by ∷ []) (reverse frames.new.items) opened.new }
+{
     let plan = Plan::of(problem);
     let depth = frames.len();
     let left = phase_half_moves(problem, phase) - depth;
@@ -108,7 +125,18 @@ fn give_first<R: Rules>(
     frames: &[Frame<R>],
     stage: &mut PartStage,
     board: &mut Board,
-) -> Event {
+) -> Event
+    requires sound { IsSound problem.now }
+    requires stands { (front : List Triple) × StandsInPart R.rule problem.now phase front First
+        (reverse frames.now) board.old }
+    ensures stands { (front : List Triple) → StandsInPart R.rule problem.now phase front First
+        (reverse frames.now) board.old
+        → StandsInPart R.rule problem.now phase front stage.new (reverse frames.now) board.new }
+    ensures gives { Gives R.rule problem.now
+        (part_left R.rule problem.now phase First (reverse frames.now))
+        (part_left R.rule problem.now phase stage.new (reverse frames.now))
+        result board.new (length frames.now) }
+{
     *stage = PartStage::Within {
         count: count_with(problem, frames.len(), 0),
     };
@@ -125,7 +153,25 @@ fn go_on_in_part<R: Rules, const N: usize>(
     frames: &mut ArrayVec<Frame<R>, N>,
     killers: &mut Killers<R>,
     opened: &mut u64,
-) -> Event {
+) -> Event
+    requires sound { IsSound problem.now }
+    requires room { half_moves problem.now.stipulation < N }
+    requires stands { (front : List Triple) × StandsInPart R.rule problem.now phase front
+        (Within count) (reverse frames.old.items) board.old }
+    ensures stands { (front : List Triple) → StandsInPart R.rule problem.now phase front
+        (Within count) (reverse frames.old.items) board.old
+        → StandsInPart R.rule problem.now phase front stage.new (reverse frames.new.items)
+        board.new }
+    ensures gives { Gives R.rule problem.now
+        (part_left R.rule problem.now phase (Within count) (reverse frames.old.items))
+        (part_left R.rule problem.now phase stage.new (reverse frames.new.items))
+        result board.new (array_vec_len frames.new) }
+    ensures opens { (front : List Triple) → StandsInPart R.rule problem.now phase front
+        (Within count) (reverse frames.old.items) board.old
+        → IsPartOpened R.rule problem.now phase front (reverse frames.old.items) opened.old
+        → IsPartOpened R.rule problem.now phase front (reverse frames.new.items) opened.new }
+    ensures grows { min opened.old (2 ^ 64 - 1) ≤ opened.new }
+{
     let limit = still_to_begin(problem, count);
     if walk_on::<R, N>(problem, phase, limit, board, frames, killers, opened) {
         let count = count_with(problem, frames.len(), count);
