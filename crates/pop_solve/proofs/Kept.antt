@@ -32,7 +32,7 @@ module _ {M : Type 0} where
   started-help [] = refl
   started-help (x ∷ xs) = refl
 
-  map-same : (xs : List (List M)) → map (λ line. [] ++ line) xs ≡ xs
+  pub map-same : (xs : List (List M)) → map (λ line. [] ++ line) xs ≡ xs
   map-same [] = refl
   map-same (x ∷ xs) = ap (λ ys. x ∷ ys) (map-same xs)
 

@@ -11,10 +11,12 @@ pub mod GoingOn
 pub mod ToCome
 pub mod Outcomes
 pub mod Walking
+pub mod Seeking
 pub mod Paths
 pub mod Trees
 pub mod Kept
 pub mod Sound
+pub mod PartNumbers
 pub mod Events
 pub mod Solved
 pub mod Opened
@@ -22,5 +24,8 @@ pub mod Longer
 pub mod HelpPlay
 pub mod Nodes
 pub mod PhasePaths
+pub mod PartLists
+pub mod Parts
+pub mod PartsJoined
 pub mod theorems
 pub mod Excluded

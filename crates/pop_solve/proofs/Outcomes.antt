@@ -46,10 +46,10 @@ module _ (rule : RuleSet) (h : ℕ) (p : Position) where
   unfolding IsLinked IsRoomy AreKnown position
   walking-learned f known below board r w = search rules
 
-  pub walking-moved : (plan : Plan) (f : Frame) (next : ℕ) (below : List Frame) (board after : Position) → IsWalking rule h p (f ∷ below) board → after ≡ board
+  pub walking-moved : (f : Frame) (next : ℕ) (below : List Frame) (board after : Position) → IsWalking rule h p (f ∷ below) board → after ≡ board
       → IsWalking rule h p (moved f next ∷ below) after
   unfolding IsRoomy
-  walking-moved plan f next below board after r e = search (rules, IsLinked-moved, known-moved, position-moved)
+  walking-moved f next below board after r e = search (rules, IsLinked-moved, known-moved, position-moved)
 
   walking-enter : (plan : Plan) (f : Frame) (next : ℕ) (m : Triple) (tried : ℕ) (below : List Frame) (board after : Position)
       → IsWalking rule h p (f ∷ below) board → tried < f.left → legal rule board m ≡ true → after ≡ played rule board m
@@ -118,7 +118,7 @@ module _ (rule : RuleSet) (plan : Plan) (h : ℕ) (p : Position) (f : Frame) (be
     steps-pass after opened opened2 b at x =
         let o = open-next rule plan h p f next m below _ t fuel left here in
         record {
-          walking = walking-moved rule h p plan f next below board after r at;
+          walking = walking-moved rule h p f next below board after r at;
           come = come-pass rule plan h p f next m below _ t fuel left here (rw (← after_here) b);
           deep = λ g. absurd cc;
           ended = λ g. absurd cc;
@@ -165,7 +165,7 @@ module _ (rule : RuleSet) (plan : Plan) (h : ℕ) (p : Position) (f : Frame) (be
       → Steps rule plan h p (f ∷ below) below after count count false
   skips-close after count (inl e) lowest before = steps-close rule plan h p f below board r after count (inl e) lowest before
   skips-close after count (inr g) lowest before = steps-skip rule plan h p f below [] g below after count count false
-      (steps-close rule plan h p (moved f g.mid) below board (walking-moved rule h p plan f g.mid below board board r refl) after count
+      (steps-close rule plan h p (moved f g.mid) below board (walking-moved rule h p f g.mid below board board r refl) after count
       (inr (rw r.board_at g.here)) lowest before)
 
 -- what the top frame knows changes nothing of what is to come

@@ -17,7 +17,7 @@ path-length [] = omega arith
 path-length (f ∷ below) = omega (arith, length-path f below)
 
 module _ (goal : Goal) (rule : RuleSet) where
-  reach-append : (p : Position) (xs : List Triple) (m : Triple) → reach (played rule) p (xs ++ m ∷ []) ≡ played rule (reach (played rule) p xs) m
+  pub reach-append : (p : Position) (xs : List Triple) (m : Triple) → reach (played rule) p (xs ++ m ∷ []) ≡ played rule (reach (played rule) p xs) m
   reach-append p [] m = refl
   reach-append p (x ∷ xs) m = reach-append (played rule p x) xs m
 

@@ -1,5 +1,5 @@
 -- What is to come from the root frame of a phase is the phase's solutions.
-use Rattle.pop_solve.proofs.Words.{Battle, Bool, Form, Frame, Game, IsSound, List, Phase, Plan, Play, Posed, RuleSet, Selfmate, Set, [], ap, arith, battle_of, chess, cond, false, filter, flat_map, half_moves_of, help_lines, is_help, is_set, keep, keeps, length, list_all, map, moves_behind, nat_tests, node, phase_half_moves, phase_paths, phase_start, plan_of, refl, rules, seeks, set_shows, set_tree, shown, shows_variations, solutions, started, suc, sym, take, tree, tree_shown, true, value, varies, zero, ℕ, ◌++◌, ◌+◌, ◌-◌, ◌∙◌, ◌∷◌, ◌≡◌}
+use Rattle.pop_solve.proofs.Words.{Battle, Bool, Form, Frame, Game, IsSound, List, Phase, Plan, Play, Posed, RuleSet, Selfmate, Set, [], answers, ap, arith, battle_of, below, best, chess, cond, false, filter, flat_map, half_moves_of, help_lines, is_help, is_set, keep, keeps, length, list_all, map, moves_behind, nat_tests, node, phase_half_moves, phase_paths, phase_start, plan_of, refl, rules, seeks, set_shows, set_tree, shown, shows_variations, solutions, started, suc, sym, take, tree, tree_shown, true, value, varies, zero, ℕ, ◌++◌, ◌+◌, ◌-◌, ◌∙◌, ◌∷◌, ◌≡◌}
 use Rattle.pop_solve.specs.declared.aim.Battle.TheVariants.{Direct}
 use Rattle.chess_rules.specs.Legal.{moves as legal_moves}
 use Rattle.pop_solve.proofs.Sound.{some_way}
@@ -14,14 +14,14 @@ pub record IsCutInto {M : Type 0} (help : Bool) (n : ℕ) (paths : List (List M)
   pub begun : started help n paths ≡ length (take n sols)
 
 -- help play: each path is a solution
-lines-kept : {M : Type 0} (n : ℕ) (xs : List (List M)) → keep true n xs ≡ flat_map (λ solution. solution) (take n (map (λ x. x ∷ []) xs))
+pub lines-kept : {M : Type 0} (n : ℕ) (xs : List (List M)) → keep true n xs ≡ flat_map (λ solution. solution) (take n (map (λ x. x ∷ []) xs))
 unfolding keep
 lines-kept zero [] = refl
 lines-kept zero (x ∷ xs) = refl
 lines-kept (suc n) [] = refl
 lines-kept (suc n) (x ∷ xs) = ap (λ ys. x ∷ ys) (lines-kept n xs)
 
-lines-begun : {M : Type 0} (n : ℕ) (xs : List (List M)) → started true n xs ≡ length (take n (map (λ x. x ∷ []) xs))
+pub lines-begun : {M : Type 0} (n : ℕ) (xs : List (List M)) → started true n xs ≡ length (take n (map (λ x. x ∷ []) xs))
 unfolding started
 lines-begun zero [] = refl
 lines-begun zero (x ∷ xs) = refl
@@ -83,25 +83,37 @@ module _ {P M : Type 0} (game : Game P M) (plan : Plan) where
   shown-full root (suc k) (suc t) p [] = search rules
   shown-full root (suc k) (suc t) p (m ∷ ms) = search (rules, all-append, all-over, shown-full root (suc k) (suc t) p ms)
 
-  -- the root in battle play: its moves that pass the test, each with what stands below it
-  root-cut : (battle : is_help plan.form ≡ false) (h n : ℕ) (p : P) (other : M → Bool) (G : M → List (List M))
+  -- the root in battle play: those of its moves that pass the test, each with what stands below it
+  root-cut : (battle : is_help plan.form ≡ false) (h n : ℕ) (p : P) (ms : List M) (other : M → Bool) (G : M → List (List M))
       → ((m : M) → value (battle_of plan.form) game h (game.after p m) ≡ other m)
       → ((m : M) → value (battle_of plan.form) game h (game.after p m) ≡ true → beneath game plan battle h h (game.after p m) ≡ G m)
-      → IsCutInto false n (shown plan game true (suc h) (suc h) p (game.moves p)) (map (λ m. node m (G m)) (filter other (game.moves p)))
-  root-cut battle h n p other G same each =
+      → IsCutInto false n (shown plan game true (suc h) (suc h) p ms) (map (λ m. node m (G m)) (filter other ms))
+  root-cut battle h n p ms other G same each =
       let T : M → Bool = λ m. value (battle_of plan.form) game h (game.after p m) in
       let X : M → List (List M) = λ m. beneath game plan battle h h (game.after p m) in
-      let a : shown plan game true (suc h) (suc h) p (game.moves p) ≡ flat_map (λ m. node m (X m)) (filter T (game.moves p)) =
-      as_nodes game plan battle true h h p (game.moves p)
-      ∙ flat-filter _ T (λ m. node m (X m)) (λ m. node m (X m)) (game.moves p) (λ m. by_test game plan battle true h (game.after p m) refl) (λ m t. refl) in
-      let b : map (λ m. node m (X m)) (filter T (game.moves p)) ≡ map (λ m. node m (G m)) (filter other (game.moves p)) =
-      map-filter T other _ _ (game.moves p) same (λ m t. ap (node m) (each m t)) in
+      let a : shown plan game true (suc h) (suc h) p ms ≡ flat_map (λ m. node m (X m)) (filter T ms) =
+      as_nodes game plan battle true h h p ms
+      ∙ flat-filter _ T (λ m. node m (X m)) (λ m. node m (X m)) ms (λ m. by_test game plan battle true h (game.after p m) refl) (λ m t. refl) in
+      let b : map (λ m. node m (X m)) (filter T ms) ≡ map (λ m. node m (G m)) (filter other ms) =
+      map-filter T other _ _ ms same (λ m t. ap (node m) (each m t)) in
       let full : (m : M) → list_all some (X m) ≡ true = grind (arith, shown-full) in
-      grind (arith, nodes-kept, game.moves p, nodes-begun X full n (filter T (game.moves p)))
+      grind (arith, nodes-kept, ms, nodes-begun X full n (filter T ms))
 
 -- half-moves of a battle
-halves-form : (form : Form) (n : ℕ) → is_help form ≡ false → half_moves_of form n ≡ halves (battle_of form) n
+pub halves-form : (form : Form) (n : ℕ) → is_help form ≡ false → half_moves_of form n ≡ halves (battle_of form) n
 halves-form form n e = search rules
+
+module _ {P M : Type 0} where
+  -- the solutions that begin with some moves of the root: in the play, and in set play
+  abbrev pub tree_by : Battle → Game P M → Bool → ℕ → ℕ → P → List M → List (List (List M))
+  tree_by battle game variation n h p ms =
+      map (λ m. node m (cond variation (below battle game n (h - 1) (game.after p m)) [])) (filter (λ m. keeps battle game n (game.after p m)) ms)
+
+  abbrev pub set_by : Battle → Game P M → Bool → ℕ → ℕ → P → List M → List (List (List M))
+  set_by battle game variation n h p ms =
+      map (λ d. node d (cond variation (answers battle game n h (game.after p d))
+      (cond (game.goal (game.after p d)) [] (map (λ m. m ∷ []) (best battle game n (game.after p d))))))
+      (filter (λ d. set_shows battle game n (game.after p d)) ms)
 
 module _ {P M : Type 0} (game : Game P M) (plan : Plan) (battle : is_help plan.form ≡ false) where
   set_value : (battle : Battle) (n h : ℕ) (r : P) → suc h ≡ halves battle n - 1 → value battle game h r ≡ set_shows battle game n r
@@ -109,9 +121,9 @@ module _ {P M : Type 0} (game : Game P M) (plan : Plan) (battle : is_help plan.f
   set_value Selfmate n h r e = grind (arith, value-self_wins game (n - 1) r)
 
   -- the play: the tree
-  pub tree-cut : (n h max : ℕ) (p : P) → suc h ≡ halves (battle_of plan.form) n
-      → IsCutInto false max (shown plan game true (suc h) (suc h) p (game.moves p)) (tree (battle_of plan.form) game (varies plan) n (suc h) p)
-  tree-cut n h max p e =
+  pub tree-cut : (n h max : ℕ) (p : P) (ms : List M) → suc h ≡ halves (battle_of plan.form) n
+      → IsCutInto false max (shown plan game true (suc h) (suc h) p ms) (tree_by (battle_of plan.form) game (varies plan) n (suc h) p ms)
+  tree-cut n h max p ms e =
       let k = half-some game (battle_of plan.form) n (omega (arith, e)) in
       let e2 : suc h ≡ halves (battle_of plan.form) (suc k.0) = e ∙ ap (halves (battle_of plan.form)) k.1 in
       let l : halves (battle_of plan.form) (suc k.0) - 1 ≡ h = omega (arith, e2) in
@@ -119,13 +131,12 @@ module _ {P M : Type 0} (game : Game P M) (plan : Plan) (battle : is_help plan.f
       let s : seeks (battle_of plan.form) (suc h) ≡ true = rw e2 (halves-seek game (battle_of plan.form) k.0) in
       let same : (m : M) → value (battle_of plan.form) game h (game.after p m) ≡ keeps (battle_of plan.form) game n (game.after p m) =
       grind (arith, keeps-value) in
-      rw one (root-cut game plan battle h max p _ _ same (λ m v. below-key game plan battle n h (game.after p m) s (grind arith) v))
+      rw one (root-cut game plan battle h max p ms _ _ same (λ m v. below-key game plan battle n h (game.after p m) s (grind arith) v))
 
   -- set play
-  pub set-cut : (n h max : ℕ) (p : P) → suc h ≡ halves (battle_of plan.form) n - 1
-      → IsCutInto false max (shown plan game true (suc h) (suc h) p (game.moves p)) (set_tree (battle_of plan.form) game (varies plan) n (suc h) p)
-  unfolding set_tree
-  set-cut n h max p e =
+  pub set-cut : (n h max : ℕ) (p : P) (ms : List M) → suc h ≡ halves (battle_of plan.form) n - 1
+      → IsCutInto false max (shown plan game true (suc h) (suc h) p ms) (set_by (battle_of plan.form) game (varies plan) n h p ms)
+  set-cut n h max p ms e =
       let k = half-some game (battle_of plan.form) n (omega (arith, e)) in
       let e2 : suc h + 1 ≡ halves (battle_of plan.form) (suc k.0) = omega (arith, e, ap (halves (battle_of plan.form)) k.1) in
       let s : seeks (battle_of plan.form) (suc h + 1) ≡ true = rw e2 (halves-seek game (battle_of plan.form) k.0) in
@@ -133,14 +144,14 @@ module _ {P M : Type 0} (game : Game P M) (plan : Plan) (battle : is_help plan.f
       let one : suc h ≡ h + 1 = omega arith in
       let s2 : seeks (battle_of plan.form) (h + 1) ≡ false = rw (← one) s1 in
       let s3 : seeks (battle_of plan.form) h ≡ true = unflip game _ (sym (seeks-step game (battle_of plan.form) h) ∙ s2) in
-      root-cut game plan battle h max p _ _ (λ m. set_value (battle_of plan.form) n h (game.after p m) e)
+      root-cut game plan battle h max p ms _ _ (λ m. set_value (battle_of plan.form) n h (game.after p m) e)
       (λ m v. below-set game plan battle n h (game.after p m) s3 (grind arith) v)
 
 -- a phase of no half-moves
 none-cut : {M : Type 0} (help : Bool) (n : ℕ) → IsCutInto {M = M} help n [] []
 none-cut {M = M} help n = search (rules, keep-nil, started-nil)
 
-shown-varied : (variation : Bool) → shows_variations (tree_shown variation) ≡ variation
+pub shown-varied : (variation : Bool) → shows_variations (tree_shown variation) ≡ variation
 shown-varied variation = search rules
 
 module _ (rule : RuleSet) (problem : Posed) (stated : IsSound problem) where
@@ -160,11 +171,12 @@ module _ (rule : RuleSet) (problem : Posed) (stated : IsSound problem) where
   cut Set false e zero z = search (rules, shown-zero, none-cut)
   cut Set false e (suc h) z =
       rw (shown-varied problem.variation) at (set-cut (chess problem.stipulation.goal rule) plan e problem.stipulation.n h problem.max_solutions
-      (phase_start problem Set) (sym z ∙ ap (λ x. x - 1) (halves-form problem.stipulation.form problem.stipulation.n e)))
+      (phase_start problem Set) (legal_moves rule (phase_start problem Set))
+      (sym z ∙ ap (λ x. x - 1) (halves-form problem.stipulation.form problem.stipulation.n e)))
   cut Play false e zero z = absurd (omega (arith, z, some_way problem stated))
   cut Play false e (suc h) z =
       rw (shown-varied problem.variation) at (tree-cut (chess problem.stipulation.goal rule) plan e problem.stipulation.n h problem.max_solutions
-      (phase_start problem Play) (sym z ∙ halves-form problem.stipulation.form problem.stipulation.n e))
+      (phase_start problem Play) (legal_moves rule (phase_start problem Play)) (sym z ∙ halves-form problem.stipulation.form problem.stipulation.n e))
 
   -- what is to come from the root frame of a phase
   pub root-solutions : (phase : Phase) (f : Frame) → f.left ≡ phase_half_moves problem phase

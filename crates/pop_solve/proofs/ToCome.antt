@@ -16,7 +16,7 @@ passed-over f test skip (m ∷ over) ms none = search (rules, cases (test m), sk
 abbrev pub given_path : Bool → List Triple → List (List Triple)
 given_path b L = cond b (L ∷ []) []
 
-map-path : (L : List Triple) (m : Triple) (xs : List (List Triple))
+pub map-path : (L : List Triple) (m : Triple) (xs : List (List Triple))
     → map (λ line. L ++ line) (map (λ line. m ∷ line) xs) ≡ map (λ line. (L ++ m ∷ []) ++ line) xs
 map-path L m [] = refl
 map-path L m (x ∷ xs) = rw (append_assoc L (m ∷ []) x, map-path L m xs)
@@ -26,6 +26,16 @@ turn : (b : Bool) (L : List Triple) (m : Triple) (xs ys rest : List (List Triple
     → map (λ line. L ++ line) ((given_path b (m ∷ []) ++ map (λ line. m ∷ line) xs) ++ ys) ++ rest ≡ given_path b (L ++ m ∷ [])
     ++ (map (λ line. (L ++ m ∷ []) ++ line) xs ++ (map (λ line. L ++ line) ys ++ rest))
 turn b L m xs ys rest = search (rules, append_assoc, map-append, map-path)
+
+-- the steps from a place on, by its next move and by the others
+pub steps-start : (rule : RuleSet) (k : ℕ) (q : Position) → steps rule k q ≡ 1 + steps_behind rule k q 0
+unfolding steps steps_behind
+steps-start rule k q = search (rules, behind_start)
+
+pub steps_behind-next : (rule : RuleSet) (k : ℕ) (P : Position) (place next : ℕ) (m : Triple) → moves_behind rule P place ≡ m ∷ moves_behind rule P next
+    → steps_behind rule (suc k) P place ≡ (1 + steps rule k (played rule P m)) + steps_behind rule (suc k) P next
+unfolding steps_behind
+steps_behind-next rule k P place next m e = rw e (sum_by-cons (λ x. 1 + steps rule k (played rule P x)) m (moves_behind rule P next))
 
 module _ (rule : RuleSet) (plan : Plan) where
   -- the paths by the next move, and by the others
@@ -53,15 +63,6 @@ module _ (rule : RuleSet) (plan : Plan) where
       → fewest_walked plan (chess plan.goal rule) root k left P ms ≡ 0
   unfolding fewest_walked
   fewest-none root k left P ms e = search rules
-
-  steps-start : (k : ℕ) (q : Position) → steps rule k q ≡ 1 + steps_behind rule k q 0
-  unfolding steps steps_behind
-  steps-start k q = search (rules, behind_start)
-
-  steps_behind-next : (k : ℕ) (P : Position) (place next : ℕ) (m : Triple) → moves_behind rule P place ≡ m ∷ moves_behind rule P next
-      → steps_behind rule (suc k) P place ≡ (1 + steps rule k (played rule P m)) + steps_behind rule (suc k) P next
-  unfolding steps_behind
-  steps_behind-next k P place next m e = rw e (sum_by-cons (λ x. 1 + steps rule k (played rule P x)) m (moves_behind rule P next))
 
   walk_behind-next : (k : ℕ) (P : Position) (place next : ℕ) (m : Triple) → moves_behind rule P place ≡ m ∷ moves_behind rule P next
       → walk_behind rule (suc k) P place ≡ walk_count (legal_moves rule) (played rule) k (played rule P m) + walk_behind rule (suc k) P next
@@ -118,13 +119,13 @@ module _ (rule : RuleSet) (plan : Plan) where
 
     pub turns-pass : turns rule h p (moved f next ∷ below) < turns rule h p (f ∷ below)
     unfolding turns position
-    turns-pass = rw (fuel, steps_behind-next k (position rule p (f ∷ below)) f.place next m e) (omega arith)
+    turns-pass = rw (fuel, steps_behind-next rule k (position rule p (f ∷ below)) f.place next m e) (omega arith)
 
     pub turns-enter : (undo : Loss) (tried : ℕ) → turns rule h p (opened m undo tried ∷ (moved f next ∷ below)) < turns rule h p (f ∷ below)
     unfolding turns position
     turns-enter undo tried =
         let less : h - suc (length below) ≡ k = omega arith in
-        rw (fuel, less, steps_behind-next k (position rule p (f ∷ below)) f.place next m e, steps-start k q) (omega arith)
+        rw (fuel, less, steps_behind-next rule k (position rule p (f ∷ below)) f.place next m e, steps-start rule k q) (omega arith)
 
     pub open-next : to_open rule p (f ∷ below) ≡ walk_count (legal_moves rule) (played rule) t q + to_open rule p (moved f next ∷ below)
     unfolding to_open position

@@ -51,10 +51,17 @@ module _ {P M : Type 0} (game : Game P M) where
     unfolding goes_on
     goes_on-whole t q = rw help refl
 
-    pub shown-help : (root : Bool) (k : ℕ) (p : P) → shown plan game root (suc k) (suc k) p (game.moves p) ≡ lines_to_goal game (suc k) p
+    -- by some of the moves
+    pub shown-moves : (root : Bool) (k : ℕ) (p : P) (ms : List M)
+        → shown plan game root (suc k) (suc k) p ms ≡ flat_map (λ m. map (λ line. m ∷ line) (lines_to_goal game k (game.after p m))) ms
     unfolding shown follows gives lines_to_goal
-    shown-help root zero p = grind (arith, flat-same, by_move, append-nil)
-    shown-help root (suc k) p = flat-same _ _ (game.moves p) (λ m. grind (arith, by_move, goes_on-whole, nat_tests, shown-help false k (game.after p m)))
+    shown-moves root zero p ms = grind (arith, flat-same, by_move, append-nil)
+    shown-moves root (suc k) p ms =
+        flat-same _ _ ms (λ m. grind (arith, by_move, goes_on-whole, nat_tests, shown-moves false k (game.after p m) (game.moves (game.after p m))))
+
+    pub shown-help : (root : Bool) (k : ℕ) (p : P) → shown plan game root (suc k) (suc k) p (game.moves p) ≡ lines_to_goal game (suc k) p
+    unfolding lines_to_goal
+    shown-help root k p = shown-moves root k p (game.moves p)
 
   -- battle play: parities
   pub seeks-step : (battle : Battle) (t : ℕ) → seeks battle (t + 1) ≡ not (seeks battle t)

@@ -70,7 +70,7 @@ module _ (rule : RuleSet) (plan : Plan) (h : ℕ) (top : Frame) (old new : List 
         let lawful : legal rule now m ≡ true = rw at some.2 in
         let T : Position → Type 0 = λ b. GoesTo rule plan top.left b top.place (m ∷ moves_behind rule b place) in
         let g = subst T (sym at ∙ r2.board_at) some.1 in
-        let r3 = walking-moved rule h p plan f g.mid (reverse new) now now r2 refl in
+        let r3 = walking-moved rule h p f g.mid (reverse new) now now r2 refl in
         let here : moves_behind rule now g.mid ≡ m ∷ moves_behind rule now place = rw r2.board_at g.here in
         elim (cases (follows plan (chess plan.goal rule) root behind arrived)) [
           | inl passed ↦

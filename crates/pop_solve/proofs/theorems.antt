@@ -5,3 +5,4 @@ pub mod HelpLines
 pub mod Trees
 pub mod Solutions
 pub mod Events
+pub mod Parts

@@ -2,10 +2,12 @@
 #![tactic(auto)]
 
 mod aim;
+pub mod beginnings;
 mod chess;
 pub mod event;
 pub mod frame;
 mod killers;
+pub mod part_search;
 mod phases;
 pub mod plan;
 pub mod search;
@@ -14,7 +16,9 @@ pub mod shown;
 mod value;
 mod walk;
 
+pub use beginnings::count_parts;
 pub use event::{Event, Phase};
 pub use frame::{Early, Frame, Order, Stretch};
+pub use part_search::PartSearch;
 pub use search::Search;
 pub use shown::{Mark, Shown, Side};

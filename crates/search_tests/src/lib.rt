@@ -5,6 +5,8 @@
 #[cfg(test)]
 mod counts;
 #[cfg(test)]
+mod joined;
+#[cfg(test)]
 mod made;
 #[cfg(test)]
 mod plain;
