@@ -5,8 +5,6 @@
 #[cfg(test)]
 mod counts;
 #[cfg(test)]
-mod joined;
-#[cfg(test)]
 mod made;
 #[cfg(test)]
 mod plain;
