@@ -1,7 +1,7 @@
 -- How many moves tell the parts of a phase apart, and which phases have parts.
-use Rattle.pop_solve.proofs.Words.{Bool, Frame, IsWalking, List, MatchOption, None, Option, Phase, Posed, Position, RuleSet, Set, Play, Some, Triple, [], arith, chess, cond, eqb, false, half_moves, is_barred, is_help, legal, length, length-reverse, min, not, option_map, path, phase_half_moves, phase_start, refl, reverse, rules, slice_get, true, ℕ, ◌++◌, ◌-◌, ◌<◌, ◌^◌, ◌||◌, ◌∙◌, ◌∷◌, ◌≡◌, ◌≤◌}
+use Rattle.pop_solve.proofs.Words.{Bool, Phase, Posed, Position, RuleSet, Set, Play, [], arith, chess, cond, eqb, false, half_moves, is_barred, is_help, min, not, phase_half_moves, phase_start, refl, true, ℕ, ◌||◌, ◌≡◌, ◌≤◌}
 use Rattle.pop_input.specs.declared.stipulation.Goal.{Goal}
-use Rattle.pop_solve.specs.Parts.{beginnings, part_depth, part_numbered, parts}
+use Rattle.pop_solve.specs.Parts.{beginnings, part_depth, parts}
 
 -- the moves that tell parts apart are some, and no more than the phase has half-moves
 depth-between : (help : Bool) (depth h : ℕ) → 1 ≤ depth → 1 ≤ h → (1 ≤ cond help (min depth h) 1) × (cond help (min depth h) 1 ≤ h)

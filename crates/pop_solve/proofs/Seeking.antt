@@ -1,5 +1,5 @@
 -- The walk over beginnings: what a step leaves of those still to come.
-use Rattle.pop_solve.proofs.Words.{AreKnown, CameFrom, CameFromAt, Frame, IfSome, IsLinked, IsPlaceIn, IsRoomy, IsWalking, IsWellFormed, LegalPlace, List, Loss, MatchOption, None, Option, Position, RuleSet, Some, Triple, [], after_well_formed, ap, append-nil, append_assoc, arith, eqb, false, is_some, legal, length, length-append, length-reverse, map, map-append, min, moves_behind, opened, path, position, pseudo-from_legal, refl, reverse, rules, slice_get, steps, steps_behind, subst, suc, sym, true, turns, undo_of, zero, ℕ, ◌++◌, ◌+◌, ◌-◌, ◌<◌, ◌^◌, ◌∙◌, ◌∷◌, ◌≡◌, ◌≢◌, ◌≤◌}
+use Rattle.pop_solve.proofs.Words.{AreKnown, CameFrom, CameFromAt, Frame, IfSome, IsLinked, IsPlaceIn, IsRoomy, IsWalking, IsWellFormed, LegalPlace, List, Loss, None, Option, Position, RuleSet, Some, Triple, [], after_well_formed, ap, append-nil, append_assoc, arith, false, is_some, legal, length, length-append, length-reverse, map, map-append, min, moves_behind, path, position, pseudo-from_legal, refl, reverse, rules, subst, suc, sym, true, turns, undo_of, zero, ℕ, ◌++◌, ◌+◌, ◌-◌, ◌<◌, ◌^◌, ◌∙◌, ◌∷◌, ◌≡◌, ◌≢◌, ◌≤◌}
 use Rattle.chess_rules.specs.Play.{after as played}
 use Rattle.pop_input.specs.declared.stipulation.Goal.{Goal}
 use Rattle.pop_solve.proofs.Boards.{behind_start}
@@ -10,7 +10,7 @@ use Rattle.pop_solve.proofs.ToCome.{map-path, steps-start, steps_behind-next}
 use Rattle.pop_solve.specs.Chess.{chess}
 use Rattle.pop_solve.specs.Parts.{beginnings}
 use Rattle.pop_solve.specs.ties.Frames.{opened as opened_frame}
-use Rattle.pop_solve.specs.ties.Beginnings.{IsSeeking, Seeks, are_idle, beginnings_by, beginnings_to_come, found_by}
+use Rattle.pop_solve.specs.ties.Beginnings.{IsSeeking, Seeks, are_idle, beginnings_by, beginnings_to_come}
 
 -- the beginnings by the next move, and by the others
 by-next : (goal : Goal) (rule : RuleSet) (k : ℕ) (P : Position) (m : Triple) (ms : List Triple)

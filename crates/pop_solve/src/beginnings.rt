@@ -148,9 +148,10 @@ fn count_to_come<R: Rules, const N: usize>(
 }
 
 /// How many parts a phase has that `depth` moves tell apart, up to the greatest u64. `N` is at least the half-moves of the
-/// play plus one, and `R` are the rules of the problem's condition.
+/// play plus one, and no more than 33, and `R` are the rules of the problem's condition.
 pub fn count_parts<R: Rules, const N: usize>(problem: &Problem, phase: Phase, depth: usize) -> u64
     requires room { half_moves problem.now.stipulation < N }
+    requires few { N ≤ 33 }
     requires rule { R.rule ≡ rule_of problem.now.condition }
     requires depth { 1 ≤ depth }
     ensures { result ≡ min (length (parts R.rule problem.now phase depth)) (2 ^ 64 - 1) }

@@ -1,9 +1,9 @@
-use Rattle.pop_solve.proofs.Words.{arith, nat_tests, refl, rules, ◌<◌, ◌≡◌, ◌≤◌}
+use Rattle.pop_solve.proofs.Words.{arith, refl, rules}
 use Rattle.pop_solve.proofs.PartNumbers as numbers
 use Rattle.pop_solve.proofs.beginnings.count_parts.Goals as goal
 
 pub new-frames-requires : goal.new-frames-requires
-new-frames-requires g c = search rules
+new-frames-requires g c = omega (arith, c.requires.few)
 
 pub set_out-requires : goal.set_out-requires
 set_out-requires g c = (search rules, (search rules, (omega (arith, c.requires.room), search rules)))
@@ -33,4 +33,4 @@ returns g c =
       numbers.all-parts g.R.Rules.rule c.args.problem.now c.args.phase c.args.depth some,
       ← c.set_out.ensures.come c.if-not-set_out.false _ _ fits.0,
       ← c.part_depth-depth.ensures,
-    ) (c.count_to_come.ensures _)
+    ) (c.count_to_come.ensures.counts _)

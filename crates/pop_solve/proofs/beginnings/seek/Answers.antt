@@ -1,4 +1,4 @@
-use Rattle.pop_solve.proofs.Words.{Frame, ap, pseudo-from_legal, refl, rules, ◌≡◌}
+use Rattle.pop_solve.proofs.Words.{Frame, ap, pseudo-from_legal, rules, ◌≡◌}
 use Rattle.pop_solve.proofs.Seeking as seeking
 use Rattle.pop_solve.proofs.beginnings.seek.Goals as goal
 
