@@ -196,7 +196,8 @@ module _ (rule : RuleSet) (h d : ℕ) (p : Position) (top : Frame) (old new : Li
     seeks-deeper undo after last other u a pushed =
         let size = ap length put ∙ length-append new (moved f place ∷ []) in
         let less : length (reverse new) + 1 < d = less_than _ _ deep (λ z. other (omega (arith, z, length-reverse new, size))) in
-        let at_last : reverse last ≡ opened_frame m undo 0 ∷ (moved f place ∷ reverse new) = popped last mid _ pushed ∙ ap (λ fs. opened_frame m undo 0 ∷ fs) at_mid in
+        let at_last : reverse last ≡ opened_frame m undo 0 ∷ (moved f place ∷ reverse new) =
+        popped last mid _ pushed ∙ ap (λ fs. opened_frame m undo 0 ∷ fs) at_mid in
         let u2 : undo ≡ undo_of rule board m = rw e at u in
         rw (at_top, at_last) (record {
           seeking = record {

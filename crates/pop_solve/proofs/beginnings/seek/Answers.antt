@@ -7,7 +7,8 @@ next_move-requires g c =
     let known : c.top.inside.known ≡ c.in-Some.top.known = ap (λ (f : Frame). f.known) c.top.view_is in
     record {
       well_formed = c.requires.seeking.2.walking.sound;
-      known = rw known (seeking.top-known g.R.Rules.rule c.requires.seeking.0 c.args.depth c.requires.seeking.1 _ _ _ c.in-Some.ensures.items _ c.requires.seeking.2);
+      known = rw known
+          (seeking.top-known g.R.Rules.rule c.requires.seeking.0 c.args.depth c.requires.seeking.1 _ _ _ c.in-Some.ensures.items _ c.requires.seeking.2);
     }
 
 pub step_back-requires : goal.step_back-requires
