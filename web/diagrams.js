@@ -8,13 +8,12 @@ const UPSIDE_DOWN = { G: 'Q', N: 'S' };
 const FILLS = { w: 'fill="#fff" color="#000"', b: 'fill="#000" color="#fff"' };
 const LINES_OF_A_COLUMN = 20;
 // Control characters but tab and line end, and characters that stand for none.
-// eslint-disable-next-line no-control-regex
 const NO_CHARACTER = /[\x00-\x08\x0b-\x1f\x7f-\x9f\ud800-\udfff\ufdd0-\ufdef\ufffe\uffff]/gu;
 const ENTITIES = { '&': '&amp;', '<': '&lt;', '>': '&gt;', '"': '&quot;', "'": '&#x27;' };
 const printable = text => text.replace(NO_CHARACTER, '\ufffd');
 const safe = text => printable(text).replace(/[&<>"']/g, sign => ENTITIES[sign]);
 const capital = word => word[0].toUpperCase() + word.slice(1);
-const squaresInOrder = men => [...men].sort(([one], [next]) => (one[1] + one[0] < next[1] + next[0] ? -1 : 1));
+const squaresInOrder = men => [...men].sort(([one], [next]) => byRank(one, next));
 
 // The men by colour, kind and square: `White Kg6 Ra1, Black Kg8`.
 function positionInWords(men) {

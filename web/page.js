@@ -443,16 +443,25 @@ function buildButtons() {
   addButton('walk', 'first', null, () => tree.leave());
   addButton('walk', 'before', '◀', () => tree.backward());
   addButton('walk', 'after', '▶', () => tree.onward());
-  addButton('walk', 'unfold', null, () => tree.foldAll(true));
-  addButton('walk', 'fold', null, () => tree.foldAll(false));
+  addButton('folds', 'unfold', null, () => tree.foldAll(true));
+  addButton('folds', 'fold', null, () => tree.foldAll(false));
   const reached = document.createElement('strong');
   reached.id = 'reached';
   element('walk').append(reached);
   for (const [name, act] of Object.entries(OUTS)) addButton('outs', name, null, act);
 }
 
+// The rows that fields stand in: flags in one, short values in another, and each other field by itself.
+function fieldRows() {
+  return Object.fromEntries(['row', 'values'].map(name => {
+    const made = document.createElement('div');
+    made.className = name;
+    return [name, made];
+  }));
+}
+
 function buildFields() {
-  let row = null;
+  const rows = fieldRows();
   for (const [name, word] of FIELDS) {
     const isFlag = FLAGS.includes(name);
     const label = document.createElement('label');
@@ -464,14 +473,10 @@ function buildFields() {
     else input.type = isFlag ? 'checkbox' : 'text';
     input.onchange = () => fieldChanged(name);
     label.append(...(isFlag ? [input, said] : [said, input]));
-    if (!isFlag) label.className = VALUES.includes(name) ? 'field short' : 'field';
-    if (isFlag && !row) {
-      row = document.createElement('div');
-      row.className = 'row';
-      element('fields').append(row);
-    }
-    (isFlag ? row : element('fields')).append(label);
+    if (!isFlag) label.className = 'field';
+    (isFlag ? rows.row : VALUES.includes(name) ? rows.values : element('fields')).append(label);
   }
+  element('fields').append(rows.row, rows.values);
 }
 
 function addProblem() {
@@ -559,7 +564,7 @@ function begin() {
   buildFields();
   tree = new Tree(showPlace);
   board = new Board({ edit, note });
-  element('text').value = textOfFragment(location.hash) ?? kept('pops') ?? element('first').textContent.trimStart();
+  element('text').value = textOfFragment(location.hash) ?? kept('pops') ?? element('example').textContent.trimStart();
   state.steps = new Steps(textNow());
   listen();
   showKept();

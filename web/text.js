@@ -86,12 +86,14 @@ function readMen(word, colour, found) {
   return colour;
 }
 
+const byRank = (one, next) => (one[1] + one[0] < next[1] + next[0] ? -1 : 1);
+
 // The men in words, as behind Pieces.
 function sidesOf(men) {
   const side = (colour, name) => {
     const words = [];
     for (const kind of KINDS) {
-      const squares = [...men].filter(([, man]) => man === colour + kind).map(([square]) => square).sort();
+      const squares = [...men].filter(([, man]) => man === colour + kind).map(([square]) => square).sort(byRank);
       if (squares.length) words.push(kind + squares.join(''));
     }
     return words.length ? ` ${name} ${words.join(' ')}` : '';

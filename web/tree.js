@@ -149,10 +149,20 @@ class Tree {
     this.current = { row, index };
     const button = row.buttons[index];
     button.setAttribute('aria-current', 'true');
-    button.focus({ preventScroll: true });
-    button.scrollIntoView({ block: 'nearest' });
+    this.bringToSight(button);
     const moves = [...row.path, ...row.moves.slice(0, index + 1)];
     this.showPlace(moves.reduce(after, row.group.men), moves.at(-1), row.group.item);
+  }
+
+  // The tree alone is scrolled for a move, and the page for the board, where a click in the tree asked for it.
+  bringToSight(button) {
+    const box = element('tree');
+    const lower = button.getBoundingClientRect().top - box.getBoundingClientRect().top;
+    if (lower < 0) box.scrollTop += lower - 8;
+    else if (lower > box.clientHeight - 30) box.scrollTop += lower - box.clientHeight + 30;
+    if (!box.contains(document.activeElement)) return;
+    button.focus({ preventScroll: true });
+    element('squares').scrollIntoView({ block: 'nearest' });
   }
 
   unmark() {
@@ -165,7 +175,7 @@ class Tree {
     if (!this.current) return;
     const { row, index } = this.current;
     this.unmark();
-    row.buttons[index].focus({ preventScroll: true });
+    if (element('tree').contains(document.activeElement)) row.buttons[index].focus({ preventScroll: true });
     this.showPlace(null, null, null);
   }
 

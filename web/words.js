@@ -33,7 +33,7 @@ const WORDS = {
     status3: 'the report is cut: it is longer than the page has room for', status4: 'there is too little room for a report',
     noMemory: 'This browser can’t solve here: it has no 64-bit WebAssembly memory. Take Chrome or Edge 133, Firefox 134 or '
       + 'later ones, or the program pops. All but solving works. ({fault})',
-    first: 'diagram', before: 'back', after: 'on', fold: 'fold all', unfold: 'unfold all', walk: 'walk through the solution',
+    first: 'diagram', before: 'back', after: 'on', fold: 'fold all', unfold: 'unfold all', walk: 'walk through the solutions', folds: 'how much is shown',
     openRow: 'unfold', closeRow: 'fold', more: '{count} more', set: 'set play', play: 'play', sound: 'sound',
     impossible: 'not possible', total: 'solutions: {count}', totalStopped: 'solutions: {count}, stopped',
     unfinished: 'solutions so far: {count}', item: 'problem {number}', report: 'report',
