@@ -47,6 +47,7 @@ function keep(key, value) {
 
 // The text is another one: all else follows.
 function setText(text) {
+  tree.leave();
   element('text').value = text;
   state.steps.add(textNow());
   follow();
@@ -59,6 +60,7 @@ function endTyping() {
 }
 
 function typed() {
+  tree.leave();
   clearTimeout(state.typing);
   state.typing = setTimeout(() => {
     endTyping();
@@ -140,6 +142,7 @@ function goSteps(step) {
   endTyping();
   const text = state.steps.go(step);
   if (text === null) return;
+  tree.leave();
   element('text').value = text;
   note('');
   follow();
@@ -162,7 +165,6 @@ function takeFen(text) {
 // Takes a whole text, or a position in FEN.
 function takeText(text) {
   if (takeFen(text)) return;
-  tree.leave();
   state.number = 1;
   setText(text);
   element('text').setSelectionRange(0, 0);
@@ -362,6 +364,7 @@ function saveSvg() {
   const block = blockNow();
   const fields = block ? fieldsOf(textNow(), block) : {};
   const title = ['title', 'author', 'stipulation'].map(name => valueOf(fields, name)).filter(Boolean).join(', ');
+  // Men in the order of a report's board, rank 8 first.
   const men = menOfRanks(ranksOf(board.men));
   save('pops.svg', 'image/svg+xml', diagramFile(men, title, element('men-shapes').textContent));
 }
@@ -410,10 +413,11 @@ function fillPrint() {
     return made;
   };
   const diagram = document.createElement('div');
-  diagram.innerHTML = diagramOf(board.men);
+  const men = block ? menOf(block).men : new Map();
+  diagram.innerHTML = diagramOf(men);
   const below = part('div', 'below', '');
   const asked = item?.asked?.line ?? [valueOf(fields, 'stipulation'), valueOf(fields, 'condition')].filter(Boolean).join(' ');
-  const count = `(${countOf(board.men, 'w')}+${countOf(board.men, 'b')})`;
+  const count = `(${countOf(men, 'w')}+${countOf(men, 'b')})`;
   below.append(part('span', 'asked', asked), part('span', 'count', count));
   const left = document.createElement('div');
   left.append(part('h2', 'title', valueOf(fields, 'title') ?? ''), part('p', 'author', valueOf(fields, 'author') ?? ''), diagram, below);
@@ -484,7 +488,6 @@ function addProblem() {
   const blocks = blocksOf(textNow());
   const text = blocks.length ? withLine(textNow(), blocks.at(-1), 'NextProblem\nStipulation #2') : textNow() + NEW_PROBLEM;
   state.number = blocks.length + 1;
-  tree.leave();
   setText(text);
 }
 

@@ -19,7 +19,7 @@ const WORDS = {
     fen: 'FEN', noFen: 'none: fairy men', badFen: 'this is no FEN of orthodox men',
     fenTaken: 'the position of the FEN was set', fenBlack: '; in it Black is to move: see who starts in the stipulation',
     title: 'Title', author: 'Author', stipulation: 'Stipulation', condition: 'Condition', noCondition: 'none',
-    setPlay: 'set play', variation: 'variations', noBoard: 'no board', maxSolutions: 'at most', enPassant: 'en passant',
+    setPlay: 'set play', variation: 'variations', noBoard: 'no board', maxSolutions: 'most solutions', enPassant: 'en passant',
     noCastling: 'no castling', text: 'text of the problems', open: 'Open a file', next: 'Next problem',
     fileTaken: '{name} was read', fileLatin: '{name} isn’t UTF-8: it was read letter by letter, as Windows-1252',
     fileLong: '{name} is longer than 8 MiB, which the page doesn’t take',
