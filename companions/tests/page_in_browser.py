@@ -1,5 +1,5 @@
 """What `companions/try-browser` does with the page that `./page` builds: a problem entered by mouse, solved, folded, walked
-through, stopped, printed; hostile texts; nothing asked of any server."""
+through, stopped, printed; texts pasted and dropped, hostile ones too; nothing asked of any server."""
 
 import json
 from pathlib import Path
@@ -156,6 +156,60 @@ def hostile(page: Page) -> None:
     page.holds(not browser.run("window.ran"), "something of a text ran")
 
 
+GIVEN = """
+(() => {
+  const given = new DataTransfer();
+  const [kind, said] = %s;
+  if (kind === 'drop') given.items.add(new File([new TextEncoder().encode(said)], 'given.pop'));
+  else given.setData('text/plain', said);
+  const event = { bubbles: true, cancelable: true };
+  document.body.dispatchEvent(kind === 'drop' ? new DragEvent('drop', { ...event, dataTransfer: given })
+    : new ClipboardEvent('paste', { ...event, clipboardData: given }));
+})()
+"""
+
+
+def given(page: Page) -> None:
+    """Positions and texts pasted and dropped, fields typed, and what is kept when the page is opened again."""
+    browser = page.browser
+    page.open("BeginProblem\nRemark stays\nStipulation #1\nEndProblem\n")
+    browser.run(GIVEN % json.dumps(["paste", "6k1/8/6K1/8/8/8/8/R7 w - - 0 1"]))
+    wanted = "BeginProblem\nPieces White Kg6 Ra1 Black Kg8\nRemark stays\nStipulation #1\nEndProblem\n"
+    page.holds(page.text() == wanted, f"a FEN pasted: {page.text()}")
+    browser.click("#field-Title")
+    browser.call("Input.insertText", text="Typed here")
+    browser.key("Tab")
+    page.holds("Title Typed here\n" in page.text(), f"a title typed: {page.text()}")
+    browser.click("#field-SetPlay")
+    page.holds("Option SetPlay\nEndProblem" in page.text(), f"an option ticked: {page.text()}")
+    page.solve()
+    browser.open(page.address, READY)
+    page.holds("Typed here" in page.text() and "Typed here" in page.told("kept-list"), "kept")
+    dropped = "BeginProblem\nPieces White Kb6 Black Kb8\nEndProblem\n"
+    browser.run(GIVEN % json.dumps(["drop", dropped]))
+    browser.wait(f"document.getElementById('text').value === {json.dumps(dropped)}")
+    browser.run("document.getElementById('text').focus(); document.getElementById('text').select()")
+    browser.call("Input.insertText", text="Beg Pie Wh Ka1 Bl Kc1 Ga8 Sti #1 End")
+    browser.wait("document.getElementById('a8').dataset.man === 'bG'")
+    browser.run("document.getElementById('kept').open = true")
+    browser.click("#forget")
+    page.holds(not page.told("kept-list"), "forgotten")
+
+
+def without_memory(page: Page) -> None:
+    """A browser without 64-bit memory, or one that says so."""
+    browser = page.browser
+    refuses = "WebAssembly.compile = () => Promise.reject(new WebAssembly.CompileError('memory64'))"
+    script = browser.call("Page.addScriptToEvaluateOnNewDocument", source=refuses)["identifier"]
+    browser.open(page.address, "document.getElementById('state').textContent.includes('64-bit')")
+    page.holds("Firefox 134" in page.told("state"), f"what to do is told: {page.told('state')}")
+    page.holds(browser.run("document.getElementById('solve').disabled"), "nothing is solved")
+    browser.click("#men [data-tool=wQ]")
+    browser.click("#b4")
+    page.holds("Qb4" in page.text(), "the board works")
+    browser.call("Page.removeScriptToEvaluateOnNewDocument", identifier=script)
+
+
 def narrow(page: Page) -> None:
     """On a telephone nothing stands outside, and each thing to press is large enough."""
     browser = page.browser
@@ -177,7 +231,16 @@ def narrow(page: Page) -> None:
     page.picture("narrow.png")
 
 
-LOOKS: List[Callable[[Page], None]] = [entered, printed, stopped, faulty, hostile, narrow]
+LOOKS: List[Callable[[Page], None]] = [
+    entered,
+    printed,
+    stopped,
+    faulty,
+    given,
+    without_memory,
+    hostile,
+    narrow,
+]
 
 
 def look(program: str, file: Path, pictures: Optional[Path] = None) -> List[str]:
