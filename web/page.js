@@ -1,166 +1,578 @@
-// Board, text and report.
+// The page: text, fields and board follow each other; the worker solves; files and links go in and out.
 'use strict';
-const GLYPHS = { K: '♚', Q: '♛', R: '♜', B: '♝', S: '♞', P: '♟', G: '♛', N: '♞' };
-const NAMES = { K: 'king', Q: 'queen', R: 'rook', B: 'bishop', S: 'knight', P: 'pawn', G: 'grasshopper', N: 'nightrider' };
-const COLOURS = { w: 'white', b: 'black' };
-const ANSWERS = ['every problem is sound', 'a problem is faulty', 'the input failed',
-  'the report is cut: it is longer than the page has room for', 'there is too little room for a report'];
-const element = id => document.getElementById(id);
-const nameOf = man => `${COLOURS[man[0]]} ${NAMES[man[1]]}`;
-let engine = null;
-let worker = null;
-let clock = null;
-// The man that a click sets, or '' where it removes one, and the place in the text whose problem the board shows.
-let chosen = '';
-let place = 0;
+const MARKED_FAULTS = 100;
+const LINE_PIXELS = 20;
+const TYPING_PAUSE = 500;
+const LONG_TEXT = 100000;
+const SOUND_STATUS = 0;
+const FIELDS = [
+  ['Title', 'title'], ['Author', 'author'], ['Stipulation', 'stipulation'], ['Condition', 'condition'],
+  ['SetPlay', 'setPlay'], ['Variation', 'variation'], ['NoBoard', 'noBoard'],
+  ['MaxSolutions', 'maxSolutions'], ['EnPassant', 'enPassant'], ['NoCastling', 'noCastling'],
+];
+const CHANGE_SIGNS = { left: '←', right: '→', up: '↑', down: '↓', mirror: '⇋', turn: '↻' };
+// What is on the page: which problem the board shows, the report of which text, and its parts as they come.
+const state = {
+  number: 1, steps: null, engine: null, worker: null, clock: null, begun: 0, found: 0, solved: '', report: '',
+  isBeginning: false, items: [], typing: null, walked: null,
+};
+let board = null;
+let tree = null;
 
-function drawn(man) {
-  const span = document.createElement('span');
-  span.textContent = GLYPHS[man[1]];
-  span.className = `man ${COLOURS[man[0]]}${'GN'.includes(man[1]) ? ' fairy' : ''}`;
-  return span;
-}
+const textNow = () => element('text').value;
+const blockNow = () => {
+  const blocks = blocksOf(textNow());
+  return blocks[Math.min(state.number, blocks.length) - 1] ?? null;
+};
+const note = text => { element('note').textContent = text; };
 
-function button(label, act) {
-  const made = document.createElement('button');
-  made.type = 'button';
-  made.setAttribute('aria-label', label);
-  made.onclick = act;
-  return made;
-}
-
-function choose(man) {
-  chosen = man;
-  for (const it of element('men').children) it.setAttribute('aria-pressed', String(it.dataset.man === man));
-}
-
-function addChoice(man) {
-  const made = button(man ? nameOf(man) : 'remove', () => choose(man));
-  made.dataset.man = man;
-  made.title = man ? nameOf(man) : 'remove';
-  made.append(man ? drawn(man) : '✕');
-  element('men').append(made);
-}
-
-function buildBoard() {
-  for (let rank = 8; rank >= 1; rank--) {
-    for (let file = 0; file < 8; file++) {
-      const square = 'abcdefgh'[file] + rank;
-      const made = button(square, () => click(square, false));
-      made.id = square;
-      made.className = (file + rank) % 2 ? 'dark' : 'light';
-      made.oncontextmenu = event => {
-        event.preventDefault();
-        click(square, true);
-      };
-      element('board').append(made);
-    }
-  }
-}
-
-// The text changes, and the board follows it.
-function click(square, removes) {
-  const given = element('text').value;
-  const text = blockAt(given, place) ? given : `${given}BeginProblem\nStipulation #1\nEndProblem\n`;
-  const { men, unknown } = menOf(blockAt(text, place));
-  if (unknown.length) {
-    element('count').textContent = `Pieces has a word that the board doesn't know and would lose: ${unknown[0]}`;
-    return;
-  }
-  if (removes || !chosen || men.get(square) === chosen) men.delete(square);
-  else men.set(square, chosen);
-  element('text').value = withMen(text, place, men);
-  follow();
-}
-
-// The board shows the problem at the place in the text.
-function follow() {
-  const text = element('text').value;
-  const block = blockAt(text, place);
-  const men = block ? menOf(block).men : new Map();
-  for (const it of element('board').children) {
-    const man = men.get(it.id);
-    it.replaceChildren(...(man ? [drawn(man)] : []));
-    it.setAttribute('aria-label', `${it.id} ${man ? nameOf(man) : 'empty'}`);
-  }
-  const count = colour => [...men.values()].filter(man => man[0] === colour).length;
-  element('count').textContent = block ? `problem ${block.number}: ${count('w')} + ${count('b')} men` : 'no BeginProblem';
+function kept(key) {
   try {
-    localStorage.setItem('pops', text);
-  } catch {
-    // A browser may keep nothing for a page.
-  }
-}
-
-function keptText() {
-  try {
-    return localStorage.getItem('pops');
+    return localStorage.getItem(key);
   } catch {
     return null;
   }
 }
 
-function stop(state) {
-  if (worker) worker.terminate();
-  worker = null;
-  clearInterval(clock);
-  element('solve').disabled = !engine;
+// Keeps a value, or forgets it where it is null; false where the browser keeps nothing.
+function keep(key, value) {
+  try {
+    if (value === null) localStorage.removeItem(key);
+    else localStorage.setItem(key, value);
+    return true;
+  } catch {
+    return false;
+  }
+}
+
+// The text is another one: all else follows.
+function setText(text) {
+  tree.leave();
+  element('text').value = text;
+  state.steps.add(textNow());
+  follow();
+}
+
+function endTyping() {
+  clearTimeout(state.typing);
+  state.typing = null;
+  state.steps.add(textNow());
+}
+
+function typed() {
+  tree.leave();
+  clearTimeout(state.typing);
+  state.typing = setTimeout(() => {
+    endTyping();
+    follow();
+  }, TYPING_PAUSE);
+  if (textNow().length < LONG_TEXT) follow();
+  unmarkFaults();
+}
+
+// The problem that the cursor stands in is the one on the board.
+function placed() {
+  const number = blockAt(textNow(), element('text').selectionStart)?.number ?? 1;
+  if (number === state.number) return;
+  state.number = number;
+  follow();
+}
+
+function follow() {
+  const block = blockNow();
+  const men = block ? menOf(block).men : new Map();
+  if (!state.walked) board.show(men, []);
+  const all = blocksOf(textNow()).length;
+  element('count').textContent = block
+    ? say('count', { number: block.number, all, white: countOf(men, 'w'), black: countOf(men, 'b') }) : say('none');
+  showFields(block);
+  if (document.activeElement !== element('fen')) {
+    element('fen').value = fenOf(men) ?? '';
+    element('fen').placeholder = say('noFen');
+  }
+  for (const [id, step] of [['undo', -1], ['redo', 1]]) element(id).disabled = !state.steps.has(step);
+  if (textNow().length < LONG_TEXT) keep('pops', textNow());
+}
+
+function showFields(block) {
+  const fields = block ? fieldsOf(textNow(), block) : {};
+  for (const [name] of FIELDS) {
+    const input = element(`field-${name}`);
+    const said = valueOf(fields, name in fields ? name : name.toLowerCase());
+    input.disabled = !block;
+    if (input.type === 'checkbox') input.checked = said !== null;
+    else if (name === 'Condition') input.value = CONDITIONS.find(it => said && isShort(said, it)) ?? '';
+    else if (document.activeElement !== input) input.value = said ?? '';
+  }
+}
+
+function fieldChanged(name) {
+  endTyping();
+  const input = element(`field-${name}`);
+  const block = blockNow();
+  if (!block) return;
+  const isFlag = input.type === 'checkbox';
+  const value = isFlag ? (input.checked ? '' : null) : input.value.trim() || null;
+  setText(withField(textNow(), block.from, name, value));
+}
+
+// Takes new men from the board; while a solution is shown it goes back to the diagram instead.
+function edit(men) {
+  endTyping();
+  if (state.walked) {
+    tree.leave();
+    note(say('back'));
+    return;
+  }
+  note('');
+  if (!blockNow()) element('text').value += NEW_PROBLEM;
+  const block = blockNow();
+  const { unknown } = menOf(block);
+  if (unknown.length) note(say('unknownWord', { word: unknown[0].slice(0, 40) }));
+  else setText(withMen(textNow(), block.from, men));
+}
+
+function changeBoard(name) {
+  const men = name === 'clear' ? new Map() : name === 'exchange' ? exchanged(board.men) : changed(board.men, name);
+  if (men) edit(men);
+  else note(say('leaves'));
+}
+
+function goSteps(step) {
+  endTyping();
+  const text = state.steps.go(step);
+  if (text === null) return;
+  tree.leave();
+  element('text').value = text;
+  note('');
+  follow();
+}
+
+// Takes a position in FEN; false where the text is none.
+function takeFen(text) {
+  const fen = readFen(text);
+  if (!fen) return false;
+  edit(fen.men);
+  const block = blockNow();
+  if (menOf(block).unknown.length) return true;
+  let said = withField(textNow(), block.from, 'EnPassant', fen.crossed);
+  said = withField(said, block.from, 'NoCastling', fen.noCastling.join('') || null);
+  setText(said);
+  note(say('fenTaken') + (fen.turn === 'b' ? say('fenBlack') : ''));
+  return true;
+}
+
+// Takes a whole text, or a position in FEN.
+function takeText(text) {
+  if (takeFen(text)) return;
+  state.number = 1;
+  setText(text);
+  element('text').setSelectionRange(0, 0);
+}
+
+async function takeFile(file) {
+  if (!file) return;
+  if (file.size > MOST_FILE_BYTES) {
+    note(say('fileLong', { name: file.name }));
+    return;
+  }
+  const { text, isUtf8 } = textOfBytes(new Uint8Array(await file.arrayBuffer()));
+  takeText(text);
+  note(say(isUtf8 ? 'fileTaken' : 'fileLatin', { name: file.name }));
+}
+
+function pasted(event) {
+  const text = event.clipboardData?.getData('text/plain') ?? '';
+  const isField = event.target.closest?.('input, select');
+  const isText = event.target === element('text');
+  if (isField || !text) return;
+  if (readFen(text)) takeFen(text);
+  else if (!isText && blocksOf(text).length) takeText(text);
+  else return;
+  event.preventDefault();
+}
+
+function unmarkFaults() {
+  element('gutter').replaceChildren();
+}
+
+// Marks the faults at their lines of the text.
+function markFaults() {
+  unmarkFaults();
+  if (textNow() !== state.solved) return;
+  for (const { fault } of state.items.filter(item => item.fault).slice(0, MARKED_FAULTS)) {
+    const mark = document.createElement('span');
+    mark.textContent = '!';
+    mark.dataset.line = fault.line;
+    element('gutter').append(mark);
+  }
+  placeMarks();
+}
+
+function placeMarks() {
+  const { scrollTop } = element('text');
+  for (const mark of element('gutter').children) {
+    mark.style.top = `${4 + (mark.dataset.line - 1) * LINE_PIXELS - scrollTop}px`;
+  }
+}
+
+function goToLine(line) {
+  const { from, to } = lineAt(textNow(), line);
+  const area = element('text');
+  area.focus();
+  area.setSelectionRange(from, to);
+  area.scrollTop = Math.max(0, (line - 4) * LINE_PIXELS);
+}
+
+function drawnFault({ fault }) {
+  const box = document.createElement('div');
+  box.className = 'fault';
+  const head = document.createElement('p');
+  head.textContent = say('fault', fault);
+  const { from, to } = lineAt(state.solved, fault.line);
+  const quoted = document.createElement('code');
+  quoted.textContent = `${fault.line} | ${state.solved.slice(from, Math.min(to, from + 300))}`;
+  const cause = document.createElement('p');
+  cause.textContent = JSON.parse(element('fault-words').textContent)[fault.number] ?? '';
+  const label = say('goToLine', fault);
+  const button = makeButton(label, () => goToLine(fault.line));
+  button.textContent = label;
+  box.append(head, quoted, cause, button);
+  return box;
+}
+
+// The men of an item's diagram: the report's, or where it shows none the text's.
+function diagramMen(item) {
+  if (item.ranks.length) return menOfRanks(item.ranks);
+  const block = blocksOf(state.solved)[item.number - 1];
+  return block ? menOf(block).men : new Map();
+}
+
+// Shows the position behind a move, or the diagram again.
+function showPlace(men, move, item) {
+  state.walked = men;
+  element('squares').classList.toggle('walking', Boolean(men));
+  element('reached').textContent = move ? labelOf(move) : '';
+  if (men) {
+    state.number = item.number;
+    board.show(men, [move.from, move.to]);
+    note(say('shown', { move: labelOf(move) }));
+  } else {
+    note('');
+    follow();
+  }
+}
+
+function drawReport() {
+  state.items = itemsOf(state.report);
+  element('report').textContent = state.report;
+  element('beginning').hidden = !state.isBeginning;
+  tree.draw(state.items, diagramMen, drawnFault);
+  markFaults();
+}
+
+const secondsPassed = () => Math.round((performance.now() - state.begun) / 1000);
+
+function endSolving(said) {
+  if (state.worker) state.worker.terminate();
+  state.worker = null;
+  clearInterval(state.clock);
+  element('solve').disabled = !state.engine;
   element('stop').disabled = true;
-  element('state').textContent = state;
+  element('state').textContent = said;
+}
+
+function stopSolving() {
+  const seconds = secondsPassed();
+  state.isBeginning = state.report !== '';
+  endSolving(say(state.isBeginning ? 'stopped' : 'stoppedEmpty', { seconds }));
+  drawReport();
+}
+
+// Takes what the worker says: a part of the report, or how it ended.
+function workerSaid(data, decoder) {
+  if (data.failed) {
+    endSolving(say('failed', { fault: data.failed }));
+    drawReport();
+  } else if (data.part) {
+    const part = decoder.decode(data.part, { stream: true });
+    state.report += part;
+    state.found += (part.match(/^[0-9]+\./gm) ?? []).length;
+  } else {
+    state.report += decoder.decode();
+    state.isBeginning = data.status > 2;
+    endSolving(say('done', { answer: say(`status${data.status}`), milliseconds: Math.round(data.milliseconds) }));
+    drawReport();
+    keepProblem();
+  }
 }
 
 function solve() {
-  stop('solving');
+  if (!state.engine || state.worker) return;
+  endTyping();
+  tree.leave();
+  Object.assign(state, { solved: textNow(), report: '', found: 0, isBeginning: false, begun: performance.now() });
+  drawReport();
   element('solve').disabled = true;
   element('stop').disabled = false;
-  element('report').textContent = '';
-  const begun = performance.now();
-  const passed = () => Math.round((performance.now() - begun) / 1000);
-  clock = setInterval(() => { element('state').textContent = `solving, ${passed()} s`; }, 1000);
+  const tell = () => { element('state').textContent = say('solving', { seconds: secondsPassed(), found: state.found }); };
+  tell();
+  state.clock = setInterval(tell, 1000);
   const source = URL.createObjectURL(new Blob([element('worker').textContent], { type: 'text/javascript' }));
-  worker = new Worker(source);
+  state.worker = new Worker(source);
   URL.revokeObjectURL(source);
-  worker.onmessage = ({ data }) => {
-    if (data.failed) {
-      stop(`the engine failed: ${data.failed}`);
-      return;
-    }
-    element('report').textContent = new TextDecoder().decode(data.report);
-    stop(`${ANSWERS[data.status]}; ${Math.round(data.milliseconds)} ms`);
+  const decoder = new TextDecoder();
+  state.worker.onmessage = ({ data }) => workerSaid(data, decoder);
+  state.worker.onerror = fault => endSolving(say('failed', { fault: fault.message }));
+  const text = new TextEncoder().encode(state.solved);
+  state.worker.postMessage({ engine: state.engine, text, check: element('check').checked, noBoard: false });
+}
+
+function keepProblem() {
+  const list = withKept(keptOf(kept('pops.kept') ?? '[]'), state.solved, Date.now());
+  keep('pops.kept', JSON.stringify(list));
+  showKept();
+}
+
+function showKept() {
+  const list = keptOf(kept('pops.kept') ?? '[]');
+  element('kept-where').textContent = list.length ? say('keptWhere', { most: MOST_KEPT }) : `${say('keptNone')}. ${say('keptWhere', { most: MOST_KEPT })}`;
+  element('kept-list').replaceChildren(...list.map((it, index) => {
+    const line = document.createElement('li');
+    const name = nameOfText(it.text);
+    const open = makeButton(name, () => takeText(it.text));
+    open.textContent = `${name} · ${new Date(it.time).toLocaleString(language)}`;
+    const forget = makeButton(`${say('forget')}: ${name}`, () => {
+      keep('pops.kept', JSON.stringify(list.filter((_, at) => at !== index)));
+      showKept();
+    });
+    forget.textContent = '✕';
+    line.append(open, forget);
+    return line;
+  }));
+}
+
+function save(name, type, text) {
+  const link = document.createElement('a');
+  link.href = URL.createObjectURL(new Blob([text], { type }));
+  link.download = name;
+  link.click();
+  setTimeout(() => URL.revokeObjectURL(link.href), 10000);
+}
+
+function saveSvg() {
+  const block = blockNow();
+  const fields = block ? fieldsOf(textNow(), block) : {};
+  const title = ['title', 'author', 'stipulation'].map(name => valueOf(fields, name)).filter(Boolean).join(', ');
+  // Men in the order of a report's board, rank 8 first.
+  const men = menOfRanks(ranksOf(board.men));
+  save('pops.svg', 'image/svg+xml', diagramFile(men, title, element('men-shapes').textContent));
+}
+
+function saveItems(act) {
+  if (!state.items.length) note(say('nothing'));
+  else act(state.items.filter(item => item.isWhole || item.asked || item.fault));
+}
+
+const OUTS = {
+  outText: () => save('pops.pop', 'text/plain', textNow()),
+  outReport: () => saveItems(() => save('pops.report', 'text/plain', state.report)),
+  outPage: () => saveItems(items => save('pops.html', 'text/html',
+    sheetOf(items, say('sheet'), element('men-shapes').textContent, element('sheet-style').textContent))),
+  outSvg: saveSvg,
+  outJson: () => saveItems(items => save('pops.json', 'application/json',
+    items.map(item => `${JSON.stringify(objectOf(item))}\n`).join(''))),
+  outLink: makeLink,
+  outPrint: () => print(),
+};
+
+async function makeLink() {
+  const fragment = fragmentOf(textNow());
+  if (!fragment) {
+    note(say('linkLong'));
+    return;
+  }
+  history.replaceState(null, '', fragment);
+  try {
+    await navigator.clipboard.writeText(location.href);
+    note(say('linked'));
+  } catch {
+    note(say('linkShown'));
+  }
+}
+
+// What is printed: the problem on the board with its solutions.
+function fillPrint() {
+  const block = blockNow();
+  const fields = block ? fieldsOf(textNow(), block) : {};
+  const item = textNow() === state.solved ? state.items.find(it => it.number === state.number) : null;
+  const part = (tag, name, text) => {
+    const made = document.createElement(tag);
+    made.className = name;
+    made.textContent = text;
+    return made;
   };
-  worker.onerror = fault => stop(`the engine failed: ${fault.message}`);
-  worker.postMessage({
-    engine,
-    text: new TextEncoder().encode(element('text').value),
-    check: element('check').checked,
-    noBoard: element('no-board').checked,
+  const diagram = document.createElement('div');
+  const men = block ? menOf(block).men : new Map();
+  diagram.innerHTML = diagramOf(men);
+  const below = part('div', 'below', '');
+  const asked = item?.asked?.line ?? [valueOf(fields, 'stipulation'), valueOf(fields, 'condition')].filter(Boolean).join(' ');
+  const count = `(${countOf(men, 'w')}+${countOf(men, 'b')})`;
+  below.append(part('span', 'asked', asked), part('span', 'count', count));
+  const left = document.createElement('div');
+  left.append(part('h2', 'title', valueOf(fields, 'title') ?? ''), part('p', 'author', valueOf(fields, 'author') ?? ''), diagram, below);
+  const lines = (item?.phases ?? []).flatMap(phase => [phase.kind, ...phase.lines, phase.total ?? say('beginning')]);
+  const many = lines.length > 300 ? 'most' : lines.length > 70 ? 'many' : '';
+  element('print').replaceChildren(left, part('pre', many, lines.join('\n')));
+}
+
+function fillWords() {
+  document.documentElement.lang = language;
+  for (const it of document.querySelectorAll('[data-word]')) it.textContent = say(it.dataset.word);
+  for (const it of document.querySelectorAll('[data-label]')) it.setAttribute('aria-label', say(it.dataset.label));
+}
+
+function addButton(row, name, sign, act) {
+  const made = makeButton(say(name), act);
+  made.id = name;
+  made.textContent = sign ?? say(name);
+  element(row).append(made);
+}
+
+function buildButtons() {
+  addButton('changes', 'undo', '↶', () => goSteps(-1));
+  addButton('changes', 'redo', '↷', () => goSteps(1));
+  for (const [name, sign] of Object.entries(CHANGE_SIGNS)) addButton('changes', name, sign, () => changeBoard(name));
+  for (const name of ['exchange', 'clear']) addButton('changes', name, null, () => changeBoard(name));
+  addButton('walk', 'first', null, () => tree.leave());
+  addButton('walk', 'before', '◀', () => tree.backward());
+  addButton('walk', 'after', '▶', () => tree.onward());
+  addButton('folds', 'unfold', null, () => tree.foldAll(true));
+  addButton('folds', 'fold', null, () => tree.foldAll(false));
+  const reached = document.createElement('strong');
+  reached.id = 'reached';
+  element('walk').append(reached);
+  for (const [name, act] of Object.entries(OUTS)) addButton('outs', name, null, act);
+}
+
+// The rows that fields stand in: flags in one, short values in another, and each other field by itself.
+function fieldRows() {
+  return Object.fromEntries(['row', 'values'].map(name => {
+    const made = document.createElement('div');
+    made.className = name;
+    return [name, made];
+  }));
+}
+
+function buildFields() {
+  const rows = fieldRows();
+  for (const [name, word] of FIELDS) {
+    const isFlag = FLAGS.includes(name);
+    const label = document.createElement('label');
+    const said = document.createElement('span');
+    const input = document.createElement(name === 'Condition' ? 'select' : 'input');
+    input.id = `field-${name}`;
+    said.textContent = say(word);
+    if (name === 'Condition') input.append(new Option(say('noCondition'), ''), ...CONDITIONS.map(it => new Option(it, it)));
+    else input.type = isFlag ? 'checkbox' : 'text';
+    input.onchange = () => fieldChanged(name);
+    label.append(...(isFlag ? [input, said] : [said, input]));
+    if (!isFlag) label.className = 'field';
+    (isFlag ? rows.row : VALUES.includes(name) ? rows.values : element('fields')).append(label);
+  }
+  element('fields').append(rows.row, rows.values);
+}
+
+function addProblem() {
+  endTyping();
+  const blocks = blocksOf(textNow());
+  const text = blocks.length ? withLine(textNow(), blocks.at(-1), 'NextProblem\nStipulation #2') : textNow() + NEW_PROBLEM;
+  state.number = blocks.length + 1;
+  setText(text);
+}
+
+function keyPressed(event) {
+  const key = event.key.toLowerCase();
+  const isField = event.target.closest?.('input:not([type=checkbox])');
+  if (event.key === 'Escape' && state.walked) tree.leave();
+  if (!event.ctrlKey && !event.metaKey) return;
+  if (key === 'enter') solve();
+  else if (isField) return;
+  else if (key === 'z') goSteps(event.shiftKey ? 1 : -1);
+  else if (key === 'y') goSteps(1);
+  else return;
+  event.preventDefault();
+}
+
+function listenToFiles() {
+  element('open').onclick = () => element('file').click();
+  element('file').onchange = () => takeFile(element('file').files[0]).then(() => { element('file').value = ''; });
+  const isFile = event => [...event.dataTransfer?.types ?? []].some(type => type === 'Files' || type === 'text/plain');
+  addEventListener('dragover', event => {
+    if (!isFile(event)) return;
+    event.preventDefault();
+    document.body.classList.add('dropping');
+  });
+  addEventListener('dragleave', () => document.body.classList.remove('dropping'));
+  addEventListener('drop', event => {
+    document.body.classList.remove('dropping');
+    if (!isFile(event)) return;
+    event.preventDefault();
+    if (event.dataTransfer.files.length) takeFile(event.dataTransfer.files[0]);
+    else takeText(event.dataTransfer.getData('text/plain'));
   });
 }
 
-async function begin() {
-  for (const colour of 'wb') for (const kind of KINDS) addChoice(colour + kind);
-  addChoice('');
-  choose('wQ');
-  buildBoard();
-  const linked = new URLSearchParams(location.hash.slice(1)).get('text');
-  element('text').value = linked ?? keptText() ?? element('first').textContent.trimStart();
-  const move = () => {
-    place = element('text').selectionStart;
-    follow();
-  };
-  element('text').oninput = move;
-  element('text').onclick = move;
-  element('text').onkeyup = move;
+function listen() {
+  const area = element('text');
+  area.oninput = typed;
+  area.onclick = placed;
+  area.onkeyup = placed;
+  area.onscroll = placeMarks;
+  element('next').onclick = addProblem;
   element('solve').onclick = solve;
-  element('stop').onclick = () => stop('stopped');
-  follow();
+  element('stop').onclick = stopSolving;
+  element('forget').onclick = () => {
+    keep('pops.kept', null);
+    showKept();
+  };
+  element('fen').onchange = () => {
+    if (!takeFen(element('fen').value)) note(say('badFen'));
+  };
+  addEventListener('paste', pasted);
+  addEventListener('keydown', keyPressed);
+  addEventListener('beforeprint', fillPrint);
+  addEventListener('hashchange', () => {
+    const linked = textOfFragment(location.hash);
+    if (linked !== null && linked !== textNow()) takeText(linked);
+  });
+  listenToFiles();
+}
+
+async function loadEngine() {
+  element('state').textContent = say('loading');
   try {
     const bytes = Uint8Array.from(atob(element('engine').textContent.trim()), letter => letter.charCodeAt(0));
-    engine = await WebAssembly.compile(bytes);
-    stop('ready');
+    state.engine = await WebAssembly.compile(bytes);
+    endSolving(say('ready'));
   } catch (fault) {
-    stop(`This browser can't run the engine: it wants 64-bit WebAssembly memory, as Chrome 133, Firefox 134 and later have it (${fault})`);
+    endSolving(say('noMemory', { fault }));
   }
+}
+
+function begin() {
+  fillWords();
+  element('shapes').innerHTML = element('men-shapes').textContent;
+  buildButtons();
+  buildFields();
+  tree = new Tree(showPlace);
+  board = new Board({ edit, note });
+  element('text').value = textOfFragment(location.hash) ?? kept('pops') ?? element('example').textContent.trimStart();
+  state.steps = new Steps(textNow());
+  listen();
+  showKept();
+  follow();
+  loadEngine();
 }
 
 addEventListener('DOMContentLoaded', begin);

@@ -1,11 +1,16 @@
-// The men of a text: where they stand in it, and the text with others. It judges nothing; the engine judges.
+// A text of problems: the men and fields of one of them, and the text with others in their place. What is not replaced
+// stays byte for byte. It judges nothing; the engine judges.
 'use strict';
 const TEXT_LINES = ['title', 'author', 'origin', 'remark'];
 const COMMANDS = ['beginproblem', 'pieces', 'stipulation', 'condition', 'option', 'nextproblem', 'endproblem',
   ...TEXT_LINES];
 const KINDS = 'KQRBSPGN';
-const commandOf = word =>
-  word.length >= 3 ? COMMANDS.find(command => command.startsWith(word.toLowerCase())) : undefined;
+const FLAGS = ['SetPlay', 'Variation', 'NoBoard'];
+const VALUES = ['MaxSolutions', 'EnPassant', 'NoCastling'];
+const CONDITIONS = ['Circe', 'Madrasi'];
+const NEW_PROBLEM = 'BeginProblem\nStipulation #2\nEndProblem\n';
+const isShort = (word, full) => word.length >= 3 && full.toLowerCase().startsWith(word.toLowerCase());
+const commandOf = word => COMMANDS.find(command => isShort(word, command));
 
 // The words of a text with their places; what stands behind a text command in its line is no word.
 function wordsOf(text) {
@@ -17,75 +22,253 @@ function wordsOf(text) {
     if (TEXT_LINES.includes(command)) {
       const end = text.indexOf('\n', pattern.lastIndex);
       pattern.lastIndex = end < 0 ? text.length : end;
+      words.at(-1).end = pattern.lastIndex;
     }
   }
   return words;
 }
 
-// The words of the problem that the place stands in, from its opening word up to its closing one.
+// The problems of a text: the words of each, from behind its opening word up to its closing one.
+function blocksOf(text) {
+  const blocks = [];
+  let open = null;
+  for (const word of wordsOf(text)) {
+    const closes = word.command === 'nextproblem' || word.command === 'endproblem';
+    if (open && closes) open.end = word.from;
+    const opens = open ? word.command === 'nextproblem' : word.command === 'beginproblem' && !blocks.length;
+    if (opens) {
+      open = { words: [], from: word.from, behind: word.to, end: text.length, number: blocks.length + 1 };
+      blocks.push(open);
+    } else if (closes) open = null;
+    else if (open) open.words.push(word);
+  }
+  return blocks;
+}
+
+// The problem that a place of the text stands in or behind.
 function blockAt(text, place) {
-  const words = wordsOf(text);
-  const opens = ['beginproblem', 'nextproblem'];
-  const closes = ['nextproblem', 'endproblem'];
-  const starts = words.map((_, index) => index).filter(index => opens.includes(words[index].command));
-  if (!starts.length) return null;
-  const number = Math.max(1, starts.filter(index => words[index].from <= place).length);
-  const first = starts[number - 1] + 1;
-  const end = words.findIndex((word, index) => index >= first && closes.includes(word.command));
-  return { words: words.slice(first, end < 0 ? words.length : end), behind: words[first - 1].to, number };
+  const blocks = blocksOf(text);
+  return blocks.findLast(block => block.from <= place) ?? blocks[0] ?? null;
 }
 
 // The men of a problem by square, as 'wK' or 'bS', the parts of the text that say them, and the words of these that
-// say no man.
+// a board can't say.
 function menOf(block) {
-  const men = new Map();
-  const parts = [];
-  const unknown = [];
+  const found = { men: new Map(), parts: [], unknown: [] };
   let colour = null;
-  let open = null;
+  let isOpen = false;
+  let part = null;
   for (const { word, from, to, command } of block.words) {
-    const letters = word.toLowerCase();
-    if (command) {
-      open = null;
-      if (command === 'pieces') {
-        open = { from, to };
-        parts.push(open);
-        colour = null;
-      }
-    } else if (open) {
-      open.to = to;
-      if ('white'.startsWith(letters)) colour = 'w';
-      else if ('black'.startsWith(letters)) colour = 'b';
-      else if (colour && /^[kqrbspgn]([a-h][1-8])+$/.test(letters)) {
-        for (const square of letters.slice(1).match(/../g)) men.set(square, colour + letters[0].toUpperCase());
-      } else unknown.push(word);
+    if (TEXT_LINES.includes(command)) part = null;
+    else if (command) {
+      isOpen = command === 'pieces';
+      colour = null;
+      part = isOpen ? { from, to } : null;
+      if (isOpen) found.parts.push(part);
+    } else if (isOpen) {
+      if (!part) found.parts.push(part = { from, to });
+      part.to = to;
+      colour = readMen(word, colour, found);
     }
   }
-  return { men, parts, unknown };
+  return found;
 }
 
-function piecesText(men) {
+// Takes one word behind Pieces, and answers the colour of the men that follow.
+function readMen(word, colour, found) {
+  const letters = word.toLowerCase();
+  if ('white'.startsWith(letters)) return 'w';
+  if ('black'.startsWith(letters)) return 'b';
+  const squares = /^[kqrbspgn]([a-h][1-8])+$/.test(letters) ? letters.slice(1).match(/../g) : [];
+  const isTwice = squares.some((square, index) => found.men.has(square) || squares.indexOf(square) < index);
+  if (!colour || !squares.length || isTwice) found.unknown.push(word);
+  else for (const square of squares) found.men.set(square, colour + letters[0].toUpperCase());
+  return colour;
+}
+
+const byRank = (one, next) => (one[1] + one[0] < next[1] + next[0] ? -1 : 1);
+
+// The men in words, as behind Pieces.
+function sidesOf(men) {
   const side = (colour, name) => {
     const words = [];
     for (const kind of KINDS) {
-      const squares = [...men].filter(([, man]) => man === colour + kind).map(([square]) => square).sort();
+      const squares = [...men].filter(([, man]) => man === colour + kind).map(([square]) => square).sort(byRank);
       if (squares.length) words.push(kind + squares.join(''));
     }
     return words.length ? ` ${name} ${words.join(' ')}` : '';
   };
-  const all = side('w', 'White') + side('b', 'Black');
-  return all ? 'Pieces' + all : '';
+  return side('w', 'White') + side('b', 'Black');
+}
+
+// A text with some of its parts replaced: places and what stands there, in any order, none over another.
+function replaced(text, parts) {
+  let result = text;
+  for (const { from, to, said } of [...parts].sort((one, other) => other.from - one.from)) {
+    result = result.slice(0, from) + said + result.slice(to);
+  }
+  return result;
+}
+
+// A part of a text with the blanks that parted it from what stands around, its line too where nothing else is in it.
+function withBlanks(text, { from, to }) {
+  let first = from;
+  let last = to;
+  while (' \t'.includes(text[first - 1] ?? '\n')) first--;
+  while (' \t\r'.includes(text[last] ?? '\n')) last++;
+  const isLine = (first === 0 || text[first - 1] === '\n') && (last === text.length || text[last] === '\n');
+  if (isLine) return { from: first, to: Math.min(last + 1, text.length), said: '' };
+  return { from: first, to, said: '' };
+}
+
+// A text with a line more at the end of a problem.
+function withLine(text, block, line) {
+  const at = block.end;
+  const start = at === 0 || text[at - 1] === '\n' ? '' : '\n';
+  return text.slice(0, at) + start + line + '\n' + text.slice(at);
+}
+
+// The text without some of its parts; parts with nothing but blanks between go as one.
+function without(text, parts) {
+  const joined = [];
+  for (const part of [...parts].sort((one, next) => one.from - next.from)) {
+    const last = joined.at(-1);
+    if (last && !text.slice(last.to, part.from).trim()) last.to = part.to;
+    else joined.push({ from: part.from, to: part.to });
+  }
+  return replaced(text, joined.map(part => withBlanks(text, part)));
 }
 
 // The text with these men in place of the problem's own.
 function withMen(text, place, men) {
   const block = blockAt(text, place);
   const { parts } = menOf(block);
-  const said = piecesText(men);
-  if (!parts.length) return said ? `${text.slice(0, block.behind)}\n${said}${text.slice(block.behind)}` : text;
-  let result = text;
-  for (const [index, { from, to }] of [...parts.entries()].reverse()) {
-    result = result.slice(0, from) + (index ? '' : said) + result.slice(to);
+  const sides = sidesOf(men);
+  const said = `Pieces${sides}`;
+  if (!sides) return without(text, parts);
+  if (!parts.length) return `${text.slice(0, block.behind)}\n${said}${text.slice(block.behind)}`;
+  const others = without(text, parts.slice(1));
+  return replaced(others, [{ ...parts[0], said }]);
+}
+
+// What the fields show of a problem, each with the parts of the text that say it, its own name first.
+function fieldsOf(text, block) {
+  const fields = {};
+  const state = { section: null, awaited: null, last: null };
+  for (const word of block.words) {
+    if (word.command === 'title' || word.command === 'author') {
+      const said = text.slice(word.to, word.end).trim();
+      fields[word.command] = { parts: [{ from: word.from, to: word.end }], said, earlier: fields[word.command] };
+    } else if (word.command && !TEXT_LINES.includes(word.command)) {
+      Object.assign(state, { section: word, awaited: null, last: null });
+    } else if (!word.command && state.section) readField(word, fields, state);
   }
-  return result;
+  return fields;
+}
+
+// Takes one word behind a command.
+function readField(word, fields, state) {
+  const { section, awaited, last } = state;
+  const part = { from: word.from, to: word.to };
+  if (awaited) {
+    awaited.parts.push(part);
+    awaited.said = word.word;
+    state.awaited = null;
+  } else if (section.command === 'option') {
+    const name = [...FLAGS, ...VALUES].find(it => isShort(word.word, it));
+    if (name) {
+      state.last = fields[name] = { name, parts: [part], said: '', section, earlier: fields[name] };
+      state.awaited = name === 'MaxSolutions' || name === 'EnPassant' ? fields[name] : null;
+    } else if (last?.name === 'NoCastling' && /^([a-h][1-8])+$/i.test(word.word)) {
+      last.parts.push(part);
+      last.said = `${last.said} ${word.word}`.trim();
+    }
+  } else if ((section.command === 'stipulation' || section.command === 'condition') && !fields[section.command]) {
+    fields[section.command] = { parts: [part], said: word.word, section };
+  }
+}
+
+// What stands in a field, or null: the last word counts, and squares without castling add up.
+function valueOf(fields, name) {
+  const found = fields[name];
+  if (!found) return null;
+  const said = [];
+  for (let field = found; field; field = name === 'NoCastling' ? field.earlier : null) said.unshift(field.said);
+  return said.join(' ').trim();
+}
+
+const oneLine = value => value.replace(/[\r\n]+/g, ' ').trim();
+const behindOpening = (text, block, line) => `${text.slice(0, block.behind)}\n${line}${text.slice(block.behind)}`;
+
+// The text with a title or an author; the last one is the one that counts.
+function withTextLine(text, block, name, value) {
+  const field = fieldsOf(text, block)[name.toLowerCase()];
+  const said = oneLine(value);
+  if (field && said) return replaced(text, [{ ...field.parts[0], said: `${name} ${said}` }]);
+  if (field) return without(text, field.parts);
+  return said ? behindOpening(text, block, `${name} ${said}`) : text;
+}
+
+// The text with another word behind a command: the stipulation or the condition.
+function withWord(text, block, name, value) {
+  const field = fieldsOf(text, block)[name.toLowerCase()];
+  const said = oneLine(value);
+  if (field && said) return replaced(text, [{ ...field.parts[0], said }]);
+  if (field) return without(text, [...(isAlone(block, field) ? [field.section] : []), ...field.parts]);
+  const bare = block.words.find(word => word.command === name.toLowerCase());
+  if (bare && said) return replaced(text, [{ from: bare.to, to: bare.to, said: ` ${said}` }]);
+  return said ? withLine(text, block, `${name} ${said}`) : text;
+}
+
+// Whether nothing else stands behind the command that a field stands behind.
+function isAlone(block, { section, parts }) {
+  const behind = block.words.slice(block.words.indexOf(section) + 1);
+  const next = behind.findIndex(word => word.command && !TEXT_LINES.includes(word.command));
+  const own = next < 0 ? behind : behind.slice(0, next);
+  return own.every(word => word.command || parts.some(part => part.from === word.from));
+}
+
+// The text with an option, its value behind it; without it where the value is null.
+function withOption(text, block, name, value) {
+  const found = fieldsOf(text, block)[name];
+  if (!found) return value === null ? text : withNewOption(text, block, `${name} ${oneLine(value)}`.trim());
+  const gone = [];
+  for (let field = value === null ? found : found.earlier; field; field = field.earlier) {
+    gone.push(...field.parts, ...(isAlone(block, field) ? [field.section] : []));
+  }
+  if (value === null) return without(text, gone);
+  const [own, first, ...more] = found.parts;
+  const said = oneLine(value);
+  const told = first ? { ...first, said } : { from: own.to, to: own.to, said: said && ` ${said}` };
+  const rest = without(text, [...gone.filter(part => part.from > own.to), ...more]);
+  return without(replaced(rest, [told]), gone.filter(part => part.from < own.from));
+}
+
+// The text with one option more, behind the others of the problem where their line ends in no value.
+function withNewOption(text, block, said) {
+  const section = block.words.findLast(word => word.command === 'option');
+  const behind = section ? block.words.slice(block.words.indexOf(section) + 1) : [];
+  const isFull = !behind.length || behind.some(word => word.command) || text.slice(section.to, behind.at(-1).to).includes('\n');
+  const at = isFull ? 0 : behind.at(-1).to;
+  return isFull ? withLine(text, block, `Option ${said}`) : replaced(text, [{ from: at, to: at, said: ` ${said}` }]);
+}
+
+// The text with another value of the field of this name.
+function withField(text, place, name, value) {
+  const block = blockAt(text, place);
+  if (name === 'Title' || name === 'Author') return withTextLine(text, block, name, value ?? '');
+  if (name === 'Stipulation' || name === 'Condition') return withWord(text, block, name, value ?? '');
+  return withOption(text, block, name, value);
+}
+
+// Where a line of a text, counted from 1, begins and ends.
+function lineAt(text, line) {
+  let from = 0;
+  for (let number = 1; number < line; number++) {
+    const end = text.indexOf('\n', from);
+    if (end < 0) break;
+    from = end + 1;
+  }
+  const end = text.indexOf('\n', from);
+  return { from, to: end < 0 ? text.length : end };
 }

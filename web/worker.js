@@ -1,4 +1,5 @@
-// Runs the engine on one text: a message with the text and the settings in, one with the report and its status out.
+// Runs the engine on one text. A message with the text and the settings comes in. Out go any number of messages with a
+// part of the report each, in its order, and one with the status at the end.
 'use strict';
 // The bytes of report that the engine wants room for.
 const ROOM = 1 << 22;
@@ -27,15 +28,25 @@ function report(engine, text, check, noBoard) {
     BigInt(output), BigInt(ROOM), BigInt(length));
   // The call may have grown the memory: a view of before would be empty.
   const written = Number(new DataView(memory.buffer).getBigUint64(length, true));
-  return { status, report: new Uint8Array(memory.buffer, output, written).slice() };
+  return { status, part: new Uint8Array(memory.buffer, output, written).slice() };
+}
+
+// Gives the parts of the report, and answers the status. The engine's one call makes the whole report, so there is one
+// part; a call that makes it by parts has its place here, and nothing else changes.
+function* parts(engine, { text, check, noBoard }) {
+  const { status, part } = report(engine, text, check, noBoard);
+  yield part;
+  return status;
 }
 
 onmessage = async ({ data }) => {
   const begun = performance.now();
   try {
     const { exports } = await WebAssembly.instantiate(data.engine);
-    const answer = report(exports, data.text, data.check, data.noBoard);
-    postMessage({ ...answer, milliseconds: performance.now() - begun });
+    const given = parts(exports, data);
+    let next = given.next();
+    for (; !next.done; next = given.next()) postMessage({ part: next.value });
+    postMessage({ status: next.value, milliseconds: performance.now() - begun });
   } catch (fault) {
     postMessage({ failed: String(fault) });
   }

@@ -8,7 +8,7 @@ from pops_texts import diagram
 from pops_texts.report import FaultyItem, Item, Phase, SoundItem, named_items
 from pops_texts.titles import printable, shown
 
-_STYLE = """
+STYLE = """
 body { font: 11pt/1.35 serif; margin: 1.5em auto; max-width: 60em; padding: 0 1em;
   color: #000; background: #fff; overflow-wrap: anywhere; }
 h1 { font-size: 1.5em; font-weight: normal; border-bottom: 1px solid #000; }
@@ -55,7 +55,7 @@ def page(items: Iterable[Item], heading: str, encoding: str) -> str:
     parts = [
         '<!DOCTYPE html>\n<html lang="en">\n<head>\n<meta charset="utf-8">\n',
         '<meta name="viewport" content="width=device-width">\n',
-        f"<title>{_safe(heading)}</title>\n<style>{_STYLE}</style>\n",
+        f"<title>{_safe(heading)}</title>\n<style>{STYLE}</style>\n",
         "</head>\n<body>\n",
         diagram.shapes(),
         f"<h1>{_safe(heading)}</h1>\n",

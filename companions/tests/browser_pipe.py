@@ -1,0 +1,194 @@
+"""A browser driven through its debugging pipe: pages opened, mouse and keys, pictures."""
+
+import base64
+import json
+import os
+import select
+import subprocess
+import tempfile
+import time
+from pathlib import Path
+from typing import Any, Dict, List, Optional, Tuple
+
+SECONDS_OF_AN_ANSWER = 60
+_FLAGS = (
+    "--headless",
+    "--no-sandbox",
+    "--disable-gpu",
+    "--hide-scrollbars",
+    "--disable-dev-shm-usage",
+    "--remote-debugging-pipe",
+)
+
+
+class BrowserError(Exception):
+    """What a browser refused, or a page's script threw."""
+
+
+class Browser:
+    """A headless Chromium with one page."""
+
+    def __init__(self, program: str):
+        self._room = tempfile.TemporaryDirectory(prefix="pops-browser-", ignore_cleanup_errors=True)
+        ours_in, theirs_out = os.pipe()
+        theirs_in, ours_out = os.pipe()
+
+        def take_pipes() -> None:
+            # First out of the way of 3 and 4, which the browser reads and writes.
+            read, write = os.dup(theirs_in), os.dup(theirs_out)
+            os.dup2(read, 3)
+            os.dup2(write, 4)
+
+        self._process = subprocess.Popen(
+            [program, *_FLAGS, f"--user-data-dir={self._room.name}", "about:blank"],
+            stdin=subprocess.DEVNULL,
+            stdout=subprocess.DEVNULL,
+            stderr=subprocess.DEVNULL,
+            close_fds=False,
+            preexec_fn=take_pipes,
+        )
+        os.close(theirs_in)
+        os.close(theirs_out)
+        self._in, self._out = ours_in, ours_out
+        self._kept = b""
+        self._number = 0
+        self._session: Optional[str] = None
+        self.events: List[Dict[str, Any]] = []
+        target = self.call("Target.createTarget", url="about:blank")["targetId"]
+        attached = self.call("Target.attachToTarget", targetId=target, flatten=True)
+        self._session = attached["sessionId"]
+        for part in ("Page", "Runtime", "Network", "Log"):
+            self.call(f"{part}.enable")
+
+    def close(self) -> None:
+        self._process.terminate()
+        self._process.wait()
+        os.close(self._in)
+        os.close(self._out)
+        self._room.cleanup()
+
+    def _message(self, seconds: float) -> Dict[str, Any]:
+        end = time.monotonic() + seconds
+        while b"\0" not in self._kept:
+            ready, _, _ = select.select([self._in], [], [], max(0, end - time.monotonic()))
+            if not ready:
+                raise BrowserError("the browser doesn't answer")
+            part = os.read(self._in, 1 << 20)
+            if not part:
+                raise BrowserError("the browser has gone")
+            self._kept += part
+        message, self._kept = self._kept.split(b"\0", 1)
+        return json.loads(message)
+
+    def call(self, method: str, **parameters: Any) -> Dict[str, Any]:
+        """Asks the browser for something and answers what it says."""
+        self._number += 1
+        asked: Dict[str, Any] = {"id": self._number, "method": method, "params": parameters}
+        if self._session is not None:
+            asked["sessionId"] = self._session
+        data = json.dumps(asked).encode() + b"\0"
+        while data:
+            data = data[os.write(self._out, data) :]
+        while True:
+            message = self._message(SECONDS_OF_AN_ANSWER)
+            if message.get("id") == self._number:
+                if "error" in message:
+                    raise BrowserError(f"{method}: {message['error']}")
+                return message["result"]
+            self.events.append(message)
+
+    def run(self, script: str) -> Any:
+        """The value of a script in the page."""
+        said = self.call(
+            "Runtime.evaluate", expression=script, returnByValue=True, awaitPromise=True
+        )
+        if "exceptionDetails" in said:
+            raise BrowserError(f"{script}: {said['exceptionDetails']}")
+        return said["result"].get("value")
+
+    def wait(self, script: str, seconds: float = SECONDS_OF_AN_ANSWER) -> None:
+        """Waits until a script's value is true."""
+        end = time.monotonic() + seconds
+        while not self.run(script):
+            if time.monotonic() > end:
+                raise BrowserError(f"it stays untrue: {script}")
+            time.sleep(0.05)
+
+    def open(self, address: str, ready: str = "true") -> None:
+        """Opens a page in place of the one before."""
+        self.call("Page.navigate", url="about:blank")
+        self.call("Page.navigate", url=address)
+        self.wait("document.readyState === 'complete' && location.href !== 'about:blank'")
+        self.wait(ready)
+
+    def size(self, width: int, height: int) -> None:
+        self.call(
+            "Emulation.setDeviceMetricsOverride",
+            width=width,
+            height=height,
+            deviceScaleFactor=1,
+            mobile=False,
+        )
+
+    def middle(self, selector: str) -> Tuple[float, float]:
+        """Where the middle of an element is, after it was scrolled into sight."""
+        found = self.run(
+            f"(() => {{ const it = document.querySelector({json.dumps(selector)});"
+            " it.scrollIntoView({block: 'nearest'}); const box = it.getBoundingClientRect();"
+            " return [box.left + box.width / 2, box.top + box.height / 2]; })()"
+        )
+        return found[0], found[1]
+
+    def mouse(self, kind: str, place: Tuple[float, float], button: str = "left") -> None:
+        self.call(
+            "Input.dispatchMouseEvent",
+            type=kind,
+            x=place[0],
+            y=place[1],
+            button=button,
+            buttons=1 if kind == "mouseMoved" and button == "left" else 0,
+            clickCount=1,
+        )
+
+    def click(self, selector: str, button: str = "left") -> None:
+        place = self.middle(selector)
+        self.mouse("mouseMoved", place, "none")
+        self.mouse("mousePressed", place, button)
+        self.mouse("mouseReleased", place, button)
+
+    def drag(self, start: str, end: str) -> None:
+        """Drags from the middle of one element to the middle of another, with the mouse."""
+        self.middle(end)
+        first, last = self.middle(start), self.middle(end)
+        half = ((first[0] + last[0]) / 2, (first[1] + last[1]) / 2)
+        self.mouse("mouseMoved", first, "none")
+        self.mouse("mousePressed", first)
+        self.mouse("mouseMoved", half)
+        self.mouse("mouseMoved", last)
+        self.mouse("mouseReleased", last)
+
+    def touch(self, selector: str) -> None:
+        x, y = self.middle(selector)
+        self.call("Input.dispatchTouchEvent", type="touchStart", touchPoints=[{"x": x, "y": y}])
+        self.call("Input.dispatchTouchEvent", type="touchEnd", touchPoints=[])
+
+    def key(self, key: str, code: str = "", text: str = "", modifiers: int = 0) -> None:
+        for kind in ("keyDown", "keyUp"):
+            typed = {"text": text} if text and kind == "keyDown" else {}
+            self.call(
+                "Input.dispatchKeyEvent",
+                type=kind,
+                key=key,
+                code=code or key,
+                modifiers=modifiers,
+                **typed,
+            )
+
+    def picture(self, target: Path) -> None:
+        shot = self.call("Page.captureScreenshot", format="png")
+        target.write_bytes(base64.b64decode(shot["data"]))
+
+    def printed(self) -> bytes:
+        """The page as a file for printers, PDF."""
+        said = self.call("Page.printToPDF", preferCSSPageSize=True, printBackground=False)
+        return base64.b64decode(said["data"])

@@ -1,0 +1,264 @@
+"""What `companions/try-browser` does with the page that `./page` builds: a problem entered by mouse, solved, folded, walked
+through, stopped, printed; texts pasted and dropped, hostile ones too; nothing asked of any server."""
+
+import json
+from pathlib import Path
+from typing import Callable, List, Optional
+
+from browser_pipe import Browser, BrowserError
+
+READY = "document.getElementById('solve') && !document.getElementById('solve').disabled"
+IDLE = "document.getElementById('stop').disabled"
+SOLVED = f"{IDLE} && document.getElementById('report').textContent.endsWith('\\n\\n')"
+NARROW = 360
+HOSTILE = "<img src=x onerror='window.ran = 1'><script>window.ran = 1</script>\"'&"
+CONTROL = 2
+
+
+class Page:
+    """The page in a browser, with what was found wrong."""
+
+    def __init__(self, browser: Browser, page: Path, pictures: Optional[Path]):
+        self.browser = browser
+        self.address = page.resolve().as_uri()
+        self.pictures = pictures
+        self.wrong: List[str] = []
+
+    def holds(self, well: bool, what: str) -> None:
+        if not well:
+            self.wrong.append(what)
+
+    def told(self, identity: str) -> str:
+        return self.browser.run(f"document.getElementById('{identity}').textContent")
+
+    def text(self) -> str:
+        return self.browser.run("document.getElementById('text').value")
+
+    def open(self, text: Optional[str] = None) -> None:
+        self.browser.open(self.address, READY)
+        if text is not None:
+            self.browser.run(f"takeText({json.dumps(text)})")
+
+    def solve(self) -> None:
+        self.browser.click("#solve")
+        self.browser.wait(SOLVED)
+
+    def picture(self, name: str) -> None:
+        if self.pictures is not None:
+            self.browser.picture(self.pictures / name)
+
+
+def entered(page: Page) -> None:
+    """A mate in two set by mouse, one man by touch, one by key; moved, taken back; solved and walked through."""
+    browser = page.browser
+    browser.size(1280, 800)
+    page.open("BeginProblem\nStipulation #2\nOption Variation\nEndProblem\n")
+    for tool, square in (("wK", "d6"), ("wQ", "h8"), ("wR", "c6"), ("bK", "e1")):
+        browser.click(f"#men [data-tool={tool}]")
+        browser.click(f"#{square}")
+    browser.click("#men [data-tool=hand]")
+    browser.drag("#c6", "#c7")
+    browser.run("document.getElementById('a5').focus()")
+    browser.key("ArrowUp")
+    browser.key("p", "KeyP")
+    page.holds("Pieces White Kd6 Qh8 Rc7 Black Ke1 Pa6" in page.text(), f"set by mouse: {page.text()}")
+    browser.key("z", "KeyZ", modifiers=CONTROL)
+    page.holds("Pa6" not in page.text(), "undone")
+    browser.click("#redo")
+    page.holds("Pa6" in page.text(), "done again")
+    browser.touch("#h8")
+    browser.touch("#h7")
+    page.holds("Qh7" in page.text(), f"moved by touch: {page.text()}")
+    browser.click("#undo")
+    page.solve()
+    page.holds("1.Qh8-b2" in page.told("tree"), "the key is shown")
+    page.holds("Ke1-d1" not in page.told("tree"), "the tree begins folded")
+    browser.click("#tree .turn")
+    browser.click("#tree .move")
+    browser.key("ArrowRight")
+    browser.key("ArrowRight")
+    page.holds(page.told("reached") == "2.Rc7-c1#", f"walked to {page.told('reached')}")
+    men = browser.run("['c1', 'd1', 'b2', 'e1', 'h8'].map(it => document.getElementById(it).dataset.man).join()")
+    page.holds(men == "wR,bK,wQ,,", f"the position behind three half-moves: {men}")
+    page.picture("page.png")
+    label = browser.run("document.getElementById('d1').getAttribute('aria-label')")
+    page.holds(label == "d1 black king", f"a square is read as {label}")
+    page.holds("rank 2: white queen b2" in page.told("ranks"), "ranks are read")
+    browser.key("ArrowLeft")
+    page.holds(page.told("reached") == "1...Ke1-d1", "a move back")
+    browser.key("Escape")
+    page.holds(browser.run("document.getElementById('h8').dataset.man") == "wQ", "back at the diagram")
+    browser.click("#fold")
+    page.holds(not browser.run("document.querySelector('#tree ul ul').offsetHeight"), "folded")
+
+
+def printed(page: Page) -> None:
+    """What goes to a printer fills one sheet."""
+    sheet = page.browser.printed()
+    pages = sheet.count(b"/Type /Page\n") + sheet.count(b"/Type /Page ")
+    page.holds(pages == 1, f"printed on {pages} sheets")
+    page.holds(page.browser.run("document.querySelectorAll('#print svg use').length") == 6, "the printed men")
+    if page.pictures is not None:
+        (page.pictures / "printed.pdf").write_bytes(sheet)
+
+
+def stopped(page: Page) -> None:
+    """An h#8 that would take years."""
+    page.open("BeginProblem\nPieces White Kd1 Ra1 Bc1 Pa2 Black Ke8 Qd8 Pa7\nStipulation h#8\nEndProblem\n")
+    page.browser.click("#solve")
+    page.browser.wait("document.getElementById('state').textContent.includes('2 s')")
+    page.browser.click("#stop")
+    page.holds("stopped after" in page.told("state"), page.told("state"))
+    page.browser.wait(READY)
+
+
+def faulty(page: Page) -> None:
+    """Faults at their lines, and fields that leave the rest of a text alone."""
+    page.open("BeginProblem\nPieces White Kg6 Ta1 Black Kg8\nStipulation #1\nNextProblem\nRemark odd <b>\nEndProblem\n")
+    page.browser.run("document.getElementById('check').checked = true")
+    page.solve()
+    marks = page.browser.run("[...document.querySelectorAll('#gutter span')].map(it => it.dataset.line).join()")
+    page.holds(marks == "2,6", f"marked lines: {marks}")
+    page.holds("a word that isn't known where it stands" in page.told("tree"), "the manual's words")
+    page.picture("faults.png")
+    page.browser.click("#tree .fault button")
+    selected = page.browser.run("(it => it.value.slice(it.selectionStart, it.selectionEnd))(document.getElementById('text'))")
+    page.holds(selected == "Pieces White Kg6 Ta1 Black Kg8", f"the faulty line: {selected}")
+
+
+def hostile(page: Page) -> None:
+    """Markup, a million words, any bytes, 20,000 lines: the page stays usable, and nothing of them runs."""
+    browser = page.browser
+    page.open(f"BeginProblem\nTitle {HOSTILE}\nAuthor {HOSTILE}\nPieces White Kg6 Ra1 Black Kg8\nStipulation #1\nEndProblem\n")
+    page.solve()
+    browser.run("for (const [name, act] of Object.entries(OUTS)) if (name !== 'outPrint' && name !== 'outLink') act()")
+    browser.run("fillPrint()")
+    page.holds("<img" in page.told("tree"), "a title's markup is shown as it stands")
+    address = browser.run("location.href.split('#')[0] + fragmentOf(textNow())")
+    browser.open(address, READY)
+    page.holds(HOSTILE in page.text(), "a link carries it")
+    for what, script in (
+        ("words", "'BeginProblem\\n' + 'Kg6 '.repeat(262144)"),
+        ("lines", "'BeginProblem\\n' + 'Kg6\\n'.repeat(262144)"),
+        ("bytes", "textOfBytes(Uint8Array.from({ length: 200000 }, (_, at) => at * 7919 >> 3)).text"),
+    ):
+        taken = browser.run(f"(() => {{ const begun = performance.now(); takeText({script}); return performance.now() - begun; }})()")
+        page.holds(taken < 5000, f"{what} took {taken:.0f} ms")
+        page.solve()
+        page.holds("fault" in page.told("tree"), f"{what}: a fault is told")
+    browser.run(
+        "(() => { state.report = 'problem 1\\nh#1\\nplay\\n' + '1.Kg8-h8 Ra1-h1#\\n1.Kg8-f8 Ra1-a8#\\n'.repeat(10000)"
+        " + 'solutions: 20000\\n\\n'; state.solved = ''; })()"
+    )
+    taken = browser.run("(() => { const begun = performance.now(); drawReport(); tree.foldAll(true); return performance.now() - begun; })()")
+    page.holds(taken < 3000, f"a report of 20,000 lines took {taken:.0f} ms")
+    page.holds(browser.run("document.querySelectorAll('#tree li').length") < 3000, "not all rows are drawn at once")
+    page.holds(not browser.run("window.ran"), "something of a text ran")
+
+
+GIVEN = """
+(() => {
+  const given = new DataTransfer();
+  const [kind, said] = %s;
+  if (kind === 'drop') given.items.add(new File([new TextEncoder().encode(said)], 'given.pop'));
+  else given.setData('text/plain', said);
+  const event = { bubbles: true, cancelable: true };
+  document.body.dispatchEvent(kind === 'drop' ? new DragEvent('drop', { ...event, dataTransfer: given })
+    : new ClipboardEvent('paste', { ...event, clipboardData: given }));
+})()
+"""
+
+
+def given(page: Page) -> None:
+    """Positions and texts pasted and dropped, fields typed, and what is kept when the page is opened again."""
+    browser = page.browser
+    page.open("BeginProblem\nRemark stays\nStipulation #1\nEndProblem\n")
+    browser.run(GIVEN % json.dumps(["paste", "6k1/8/6K1/8/8/8/8/R7 w - - 0 1"]))
+    wanted = "BeginProblem\nPieces White Kg6 Ra1 Black Kg8\nRemark stays\nStipulation #1\nEndProblem\n"
+    page.holds(page.text() == wanted, f"a FEN pasted: {page.text()}")
+    browser.click("#field-Title")
+    browser.call("Input.insertText", text="Typed here")
+    browser.key("Tab")
+    page.holds("Title Typed here\n" in page.text(), f"a title typed: {page.text()}")
+    browser.click("#field-SetPlay")
+    page.holds("Option SetPlay\nEndProblem" in page.text(), f"an option ticked: {page.text()}")
+    page.solve()
+    browser.open(page.address, READY)
+    page.holds("Typed here" in page.text() and "Typed here" in page.told("kept-list"), "kept")
+    dropped = "BeginProblem\nPieces White Kb6 Black Kb8\nEndProblem\n"
+    browser.run(GIVEN % json.dumps(["drop", dropped]))
+    browser.wait(f"document.getElementById('text').value === {json.dumps(dropped)}")
+    browser.run("document.getElementById('text').focus(); document.getElementById('text').select()")
+    browser.call("Input.insertText", text="Beg Pie Wh Ka1 Bl Kc1 Ga8 Sti #1 End")
+    browser.wait("document.getElementById('a8').dataset.man === 'bG'")
+    browser.run("document.getElementById('kept').open = true")
+    browser.click("#forget")
+    page.holds(not page.told("kept-list"), "forgotten")
+
+
+def without_memory(page: Page) -> None:
+    """A browser without 64-bit memory, or one that says so."""
+    browser = page.browser
+    refuses = "WebAssembly.compile = () => Promise.reject(new WebAssembly.CompileError('memory64'))"
+    script = browser.call("Page.addScriptToEvaluateOnNewDocument", source=refuses)["identifier"]
+    browser.open(page.address, "document.getElementById('state').textContent.includes('64-bit')")
+    page.holds("Firefox 134" in page.told("state"), f"what to do is told: {page.told('state')}")
+    page.holds(browser.run("document.getElementById('solve').disabled"), "nothing is solved")
+    browser.click("#men [data-tool=wQ]")
+    browser.click("#b4")
+    page.holds("Qb4" in page.text(), "the board works")
+    browser.call("Page.removeScriptToEvaluateOnNewDocument", identifier=script)
+
+
+def narrow(page: Page) -> None:
+    """On a telephone nothing stands outside, and each thing to press is large enough."""
+    browser = page.browser
+    browser.size(NARROW, 780)
+    page.open("BeginProblem\nPieces White Kc1 Ge3 Na4 Black Ka1 Gh5 Ne7\nStipulation h#2\nOption Variation\nEndProblem\n")
+    page.solve()
+    width = browser.run("document.documentElement.scrollWidth")
+    page.holds(width <= NARROW, f"the page is {width} wide")
+    small = browser.run(
+        "[...document.querySelectorAll('button, input, select')].filter(it => it.offsetParent && it.offsetHeight < 18).map(it => it.id)"
+    )
+    page.holds(not small, f"too small to press: {small}")
+    nameless = browser.run(
+        "[...document.querySelectorAll('button, input:not([hidden]), select, textarea')].filter(it =>"
+        " !it.getAttribute('aria-label') && !it.textContent.trim() && !it.labels?.length).map(it => it.id || it.className)"
+    )
+    page.holds(not nameless, f"without a name: {nameless}")
+    browser.run("scrollTo(0, 0)")
+    page.picture("narrow.png")
+
+
+LOOKS: List[Callable[[Page], None]] = [
+    entered,
+    printed,
+    stopped,
+    faulty,
+    given,
+    without_memory,
+    hostile,
+    narrow,
+]
+
+
+def look(program: str, file: Path, pictures: Optional[Path] = None) -> List[str]:
+    """Uses the page in a browser. Answers what is wrong."""
+    browser = Browser(program)
+    page = Page(browser, file, pictures)
+    try:
+        for one in LOOKS:
+            try:
+                one(page)
+            except BrowserError as error:
+                page.wrong.append(f"{one.__name__}: {error}")
+        for event in browser.events:
+            if event["method"] == "Network.requestWillBeSent":
+                address = event["params"]["request"]["url"]
+                page.holds(address.startswith(("file:", "blob:")), f"asked for {address[:80]}")
+            elif event["method"] == "Runtime.exceptionThrown":
+                page.wrong.append(f"thrown: {json.dumps(event['params'])[:300]}")
+    finally:
+        browser.close()
+    return page.wrong

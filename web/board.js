@@ -1,0 +1,226 @@
+// The board and its men on the page, by mouse, touch and keys. What was done goes to the page as new men.
+'use strict';
+const HAND = 'hand';
+const DRAG_PIXELS = 6;
+const SHAPE = 'http://www.w3.org/2000/svg';
+
+function element(id) {
+  return document.getElementById(id);
+}
+
+function drawn(man) {
+  const drawing = document.createElementNS(SHAPE, 'svg');
+  const use = document.createElementNS(SHAPE, 'use');
+  drawing.setAttribute('viewBox', '0 0 45 45');
+  drawing.setAttribute('class', `man ${man[0]}`);
+  drawing.setAttribute('aria-hidden', 'true');
+  use.setAttribute('href', `#${MAN_NAMES[man[1]]}`);
+  drawing.append(use);
+  return drawing;
+}
+
+function makeButton(label, act) {
+  const made = document.createElement('button');
+  made.type = 'button';
+  made.setAttribute('aria-label', label);
+  made.title = label;
+  made.onclick = act;
+  return made;
+}
+
+class Board {
+  // PAGE has edit(men), which takes new men and answers whether it may, and note(text), which tells something.
+  constructor(page) {
+    this.page = page;
+    this.men = new Map();
+    this.tool = HAND;
+    this.held = null;
+    this.drag = null;
+    this.buildSquares();
+    this.buildTools();
+    addEventListener('pointermove', event => this.moved(event));
+    addEventListener('pointerup', event => this.dropped(event));
+    addEventListener('pointercancel', () => this.endDrag());
+  }
+
+  buildSquares() {
+    for (const rank of '87654321') {
+      const row = document.createElement('div');
+      row.setAttribute('role', 'row');
+      for (const file of FILES) row.append(this.builtSquare(file, rank));
+      element('squares').append(row);
+    }
+    element('a8').tabIndex = 0;
+    element('squares').onkeydown = event => this.key(event);
+  }
+
+  builtSquare(file, rank) {
+    const made = document.createElement('button');
+    made.type = 'button';
+    made.id = file + rank;
+    made.tabIndex = -1;
+    made.setAttribute('role', 'gridcell');
+    made.className = (FILES.indexOf(file) + Number(rank)) % 2 ? 'dark' : 'light';
+    if (rank === '1') made.dataset.file = file;
+    if (file === 'a') made.dataset.rank = rank;
+    made.onclick = () => this.click(made.id);
+    made.onpointerdown = event => this.pressed(made.id, event);
+    made.onfocus = () => this.focused(made);
+    made.oncontextmenu = event => {
+      event.preventDefault();
+      this.set(made.id, null);
+    };
+    return made;
+  }
+
+  buildTools() {
+    this.addTool(HAND, say('move'), '☚');
+    for (const kind of KINDS) this.addTool(`w${kind}`, sayMan(`w${kind}`));
+    this.addTool('', say('remove'), '✕');
+    for (const kind of KINDS) this.addTool(`b${kind}`, sayMan(`b${kind}`));
+    this.choose(HAND);
+  }
+
+  addTool(tool, label, sign) {
+    const made = makeButton(label, () => this.choose(tool));
+    made.dataset.tool = tool;
+    made.append(sign ?? drawn(tool));
+    element('men').append(made);
+  }
+
+  choose(tool) {
+    this.tool = tool;
+    this.hold(null);
+    for (const it of element('men').children) it.setAttribute('aria-pressed', String(it.dataset.tool === tool));
+  }
+
+  focused(square) {
+    for (const it of element('squares').querySelectorAll('[tabindex="0"]')) it.tabIndex = -1;
+    square.tabIndex = 0;
+  }
+
+  // Shows these men; the squares of TRACE are marked.
+  show(men, trace) {
+    this.men = men;
+    for (const it of element('squares').querySelectorAll('button')) {
+      const man = men.get(it.id);
+      if (it.dataset.man !== (man ?? '')) it.replaceChildren(...(man ? [drawn(man)] : []));
+      it.dataset.man = man ?? '';
+      it.classList.toggle('holds', Boolean(man));
+      it.classList.toggle('trace', trace.includes(it.id));
+      it.setAttribute('aria-label', say('square', { square: it.id, man: man ? sayMan(man) : say('empty') }));
+    }
+    element('ranks').replaceChildren(...[...'87654321'].map(rank => this.saidRank(rank)));
+  }
+
+  saidRank(rank) {
+    const said = [...FILES].filter(file => this.men.has(file + rank))
+      .map(file => say('placed', { man: sayMan(this.men.get(file + rank)), square: file + rank }));
+    const line = document.createElement('li');
+    line.textContent = say('rank', { rank, men: said.join(', ') || say('emptyRank') });
+    return line;
+  }
+
+  set(square, man) {
+    const men = new Map(this.men);
+    if (man) men.set(square, man);
+    else men.delete(square);
+    this.hold(null);
+    this.page.edit(men);
+  }
+
+  // Moves a man; where there is no arrival it is removed.
+  move(from, to) {
+    const men = new Map(this.men);
+    const man = men.get(from);
+    men.delete(from);
+    if (to) men.set(to, man);
+    this.hold(null);
+    this.page.edit(men);
+  }
+
+  hold(square) {
+    if (this.held) element(this.held).classList.remove('held');
+    this.held = square;
+    if (!square) return;
+    element(square).classList.add('held');
+    this.page.note(say('held', { man: sayMan(this.men.get(square)), square }));
+  }
+
+  click(square) {
+    const man = this.men.get(square);
+    if (this.wasDragged) this.wasDragged = false;
+    else if (this.held) {
+      if (this.held === square) this.hold(null);
+      else this.move(this.held, square);
+    } else if (this.tool !== HAND) this.set(square, man === this.tool ? null : this.tool);
+    else if (man) this.hold(square);
+  }
+
+  pressed(square, event) {
+    this.wasDragged = false;
+    if (event.button !== 0 || !this.men.has(square) || this.held) return;
+    if (event.pointerType === 'touch') event.target.releasePointerCapture?.(event.pointerId);
+    this.drag = { square, x: event.clientX, y: event.clientY, ghost: null };
+  }
+
+  moved(event) {
+    const { drag } = this;
+    if (!drag) return;
+    const isFar = Math.hypot(event.clientX - drag.x, event.clientY - drag.y) > DRAG_PIXELS;
+    if (!drag.ghost && isFar) {
+      drag.ghost = document.createElement('div');
+      drag.ghost.id = 'ghost';
+      drag.ghost.append(drawn(this.men.get(drag.square)));
+      document.body.append(drag.ghost);
+    }
+    if (!drag.ghost) return;
+    drag.ghost.style.left = `${event.clientX}px`;
+    drag.ghost.style.top = `${event.clientY}px`;
+    const aim = this.squareUnder(event);
+    for (const it of element('squares').querySelectorAll('.aim')) it.classList.remove('aim');
+    if (aim) element(aim).classList.add('aim');
+  }
+
+  squareUnder({ clientX, clientY }) {
+    return document.elementFromPoint(clientX, clientY)?.closest('#squares button')?.id ?? null;
+  }
+
+  dropped(event) {
+    const { drag } = this;
+    if (!drag) return;
+    this.endDrag();
+    if (!drag.ghost) return;
+    const to = this.squareUnder(event);
+    // The click that ends a drag on its own square is none.
+    this.wasDragged = to === drag.square;
+    if (to !== drag.square) this.move(drag.square, to);
+  }
+
+  endDrag() {
+    this.drag?.ghost?.remove();
+    this.drag = null;
+    for (const it of element('squares').querySelectorAll('.aim')) it.classList.remove('aim');
+  }
+
+  key(event) {
+    const square = event.target.id;
+    if (!/^[a-h][1-8]$/.test(square) || event.ctrlKey || event.metaKey || event.altKey) return;
+    const [file, rank] = placeOf(square);
+    const steps = { ArrowLeft: [-1, 0], ArrowRight: [1, 0], ArrowUp: [0, 1], ArrowDown: [0, -1] };
+    const step = steps[event.key];
+    const kind = event.key.toUpperCase();
+    if (step) {
+      const inside = number => Math.min(7, Math.max(0, number));
+      element(squareOf(inside(file + step[0]), inside(rank + step[1]))).focus();
+    } else if (event.key === 'Home' || event.key === 'End') element((event.key === 'Home' ? 'a' : 'h') + square[1]).focus();
+    else if (event.key.length === 1 && KINDS.includes(kind)) this.set(square, (event.key === kind ? 'w' : 'b') + kind);
+    else if (['Delete', 'Backspace', '.'].includes(event.key)) this.set(square, null);
+    else if (event.key === 'Escape' && this.held) this.hold(null);
+    else return;
+    event.preventDefault();
+    if (event.key !== 'Escape') return;
+    event.stopPropagation();
+    this.page.note('');
+  }
+}

@@ -1,0 +1,178 @@
+// A report read: items, phases, trees of moves; its items as the companion pops2json writes them. Of a beginning of a
+// report it reads what is there.
+'use strict';
+const MAN_NAMES = {
+  K: 'king', Q: 'queen', R: 'rook', B: 'bishop', S: 'knight', P: 'pawn', G: 'grasshopper', N: 'nightrider',
+};
+const COLOUR_NAMES = { w: 'white', b: 'black' };
+const MARKS = { '+': 'check', '#': 'mate' };
+const MOVE = new RegExp('^(?:(0-0-0|0-0)|([KQRBSGN])?([a-h][1-8])([-*])([a-h][1-8])( ep\\.)?(?:=([QRBSGN]))?'
+  + '(?:\\[\\+([wb])([QRBSPGN])([a-h][1-8])\\])?)([+#=])?$');
+const HALF = /(?:([1-9][0-9]*)(\.\.\.|\.))?((?:[^ ]+)(?: ep\.[^ ]*)?)/g;
+const ASKED = /^([sh]?)([#=])([0-9]+)(\.5)?(?: (Circe|Madrasi))?$/;
+
+// The move that these words say, as half-move so and so of a play.
+function moveOf(said, half, isHelp) {
+  const found = MOVE.exec(said);
+  if (!found) return null;
+  const [, castling, kind, from, sign, to, passing, promotion, colour, reborn, square, mark] = found;
+  const side = (half % 2 === 1) === isHelp ? 'b' : 'w';
+  const rank = side === 'w' ? '1' : '8';
+  return {
+    said, half, colour: side, kind: castling ? 'K' : kind ?? 'P',
+    from: castling ? `e${rank}` : from, to: castling ? (castling === '0-0' ? 'g' : 'c') + rank : to,
+    captures: sign === '*', enPassant: Boolean(passing), castling: castling ?? null, promotion: promotion ?? null,
+    rebirth: square ? { square, man: colour + reborn } : null, mark: mark ?? null,
+  };
+}
+
+// The moves of a line of a report, each with its number where one stands before it; null where it is no line of moves.
+function movesOf(line, isHelp) {
+  const moves = [];
+  let half = 0;
+  for (const [, number, points, said] of line.trim().matchAll(HALF)) {
+    if (number) half = 2 * Number(number) - (points === '.' ? 1 : 0);
+    else half += 1;
+    const move = half ? moveOf(said, half, isHelp) : null;
+    if (!move) return null;
+    moves.push({ ...move, label: (number ?? '') + (points ?? '') + said });
+  }
+  return moves.length ? moves : null;
+}
+
+// What is stipulated, as a report's line says it.
+function askedOf(line) {
+  const found = ASKED.exec(line);
+  if (!found) return null;
+  const [, form, goal, number, half, condition] = found;
+  const moves = Number(number);
+  const isHelp = form === 'h';
+  const halfMoves = isHelp ? 2 * moves + (half ? 1 : 0) : form ? 2 * moves : 2 * moves - 1;
+  const text = line.split(' ')[0];
+  return { line, text, isHelp, play: { '': 'direct', s: 'self', h: 'help' }[form], goal, moves, halfMoves,
+    condition: condition ?? null };
+}
+
+// Takes a line of a phase.
+function readSolution(line, phase, item) {
+  const total = /^solutions: ([0-9]+)(, stopped)?$/.exec(line);
+  if (total) Object.assign(phase, { count: Number(total[1]), isStopped: Boolean(total[2]), total: line });
+  else if (line === 'not possible') Object.assign(phase, { isPossible: false, total: line });
+  else {
+    const moves = movesOf(line, item.asked.isHelp);
+    if (!moves) return false;
+    phase.lines.push(line);
+    phase.solutions.push({ line, moves, level: (line.length - line.trimStart().length) / 2 });
+  }
+  return true;
+}
+
+// Takes a line of an item behind its number; false where it has no place there.
+function readLine(line, item) {
+  const phase = item.phases.at(-1);
+  const fault = /^line ([0-9]+): fault ([0-9]+): (.*)$/.exec(line);
+  if (phase && !phase.total && line !== 'play') return readSolution(line, phase, item);
+  if (item.asked) {
+    if (line === 'sound') item.isChecked = true;
+    else if (line !== 'set' && line !== 'play') return false;
+    else item.phases.push({ kind: line, isPossible: true, lines: [], solutions: [], count: null, total: null });
+  } else if (fault && !item.ranks.length) item.fault = { line: Number(fault[1]), number: Number(fault[2]), text: fault[3] };
+  else if (/^[1-8] [KQRBSPGNkqrbspgn.]{8}$/.test(line)) item.ranks.push(line.slice(2));
+  else if (line !== '  abcdefgh') item.asked = askedOf(line);
+  return Boolean(item.asked || item.fault || item.ranks.length);
+}
+
+// The items of a report, or of a beginning of one. A line that has no place in it ends the reading.
+function itemsOf(report) {
+  const items = [];
+  let item = null;
+  for (const line of report.split('\n')) {
+    const number = /^problem ([1-9][0-9]*)$/.exec(line);
+    if (!item && number) {
+      item = { number: Number(number[1]), title: null, author: null, ranks: [], asked: null, phases: [], fault: null,
+        isChecked: false, isWhole: false };
+      items.push(item);
+    } else if (item && !line) {
+      item.isWhole = true;
+      item = null;
+    } else if (item && !item.author && !item.ranks.length && !item.asked && /^(title|author): ./.test(line)) {
+      item[line.startsWith('title') ? 'title' : 'author'] = line.slice(line.indexOf(':') + 2);
+    } else if (!item ? line : !readLine(line, item)) break;
+  }
+  return items;
+}
+
+const labelOf = move => move.label.replace(/^([0-9]+\.+)?/, (Math.floor((move.half + 1) / 2)) + (move.half % 2 ? '.' : '...'));
+
+// A phase as rows that fold: each row has its moves and the rows below it. Lines of help play that begin alike share the
+// rows of their beginning.
+function rowsOf(phase, isHelp) {
+  return isHelp ? sharedRows(phase.solutions.map(it => it.moves), []) : nestedRows(phase.solutions);
+}
+
+function nestedRows(solutions) {
+  const root = { below: [], path: [] };
+  const open = [root];
+  for (const { moves: [move], level } of solutions) {
+    const parent = open[Math.min(level, open.length - 1)];
+    const row = { moves: [move], path: parent.path, below: [] };
+    const place = open.indexOf(parent);
+    parent.below.push(row);
+    open.splice(place + 1, open.length, { ...row, path: [...parent.path, move], below: row.below });
+  }
+  return root.below;
+}
+
+// How many moves all these lines have alike, from a place on.
+function commonLength(lines, start) {
+  let end = start;
+  while (end < lines[0].length && lines.every(line => line[end]?.said === lines[0][end].said)) end++;
+  return end;
+}
+
+function sharedRows(lines, path) {
+  const rows = [];
+  const start = path.length;
+  for (let first = 0; first < lines.length;) {
+    let next = first + 1;
+    while (next < lines.length && lines[next][start]?.said === lines[first][start].said) next++;
+    const group = lines.slice(first, next);
+    const end = group.length === 1 ? group[0].length : commonLength(group, start);
+    const moves = group[0].slice(start, end);
+    const isParted = group.length > 1 && group.every(line => line.length > end);
+    rows.push({ moves, path, below: isParted ? sharedRows(group, [...path, ...moves]) : [] });
+    first = next;
+  }
+  return rows;
+}
+
+// The objects that pops2json writes of a report, whose title and author are text already.
+function objectOf(item) {
+  if (item.fault) return { number: item.number, sound: false, fault: item.fault };
+  const { asked } = item;
+  const placed = (square, man) => ({ square, colour: COLOUR_NAMES[man[0]], man: MAN_NAMES[man[1]] });
+  const men = [...menOfRanks(item.ranks)].map(([square, man]) => placed(square, man));
+  return {
+    number: item.number, sound: true, title: item.title, author: item.author,
+    board: item.ranks.length ? { ranks: item.ranks, men } : null,
+    stipulation: { text: asked.text, play: asked.play, goal: asked.goal === '#' ? 'mate' : 'stalemate',
+      moves: asked.moves, half_moves: asked.halfMoves },
+    condition: asked.condition,
+    phases: item.isChecked ? null : item.phases.map(phase => phaseObject(phase, asked, placed)),
+  };
+}
+
+function phaseObject(phase, asked, placed) {
+  if (!phase.isPossible) return { phase: phase.kind, possible: false };
+  const move = it => ({
+    text: it.said, half: it.half, side: COLOUR_NAMES[it.colour], man: MAN_NAMES[it.kind], from: it.from, to: it.to,
+    capture: it.captures, en_passant: it.enPassant, castling: it.castling,
+    promotion: it.promotion && MAN_NAMES[it.promotion], rebirth: it.rebirth && placed(it.rebirth.square, it.rebirth.man),
+    mark: it.mark && (MARKS[it.mark] ?? 'stalemate'),
+  });
+  const node = row => ({ text: labelOf(row.moves[0]), move: move(row.moves[0]), below: row.below.map(node) });
+  const solutions = asked.isHelp
+    ? phase.solutions.map(({ line, moves }) => ({ text: line, moves: moves.map(move) }))
+    : nestedRows(phase.solutions).map(node);
+  return { phase: phase.kind, possible: true, count: phase.count, stopped: Boolean(phase.isStopped), solutions };
+}
