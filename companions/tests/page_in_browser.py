@@ -104,7 +104,7 @@ def printed(page: Page) -> None:
 
 def stopped(page: Page) -> None:
     """An h#8 that would take years."""
-    page.open("BeginProblem\nPieces White Kd1 Ra1 Bc1 Pa2 Black Ke8 Qd8 Pa7\nStipulation h#8\nEndProblem\n")
+    page.open("BeginProblem\nPieces White Kd1 Ra1 Bc1 Pa2 Black Ke8 Qb8 Pa7\nStipulation h#8\nEndProblem\n")
     page.browser.click("#solve")
     page.browser.wait("document.getElementById('state').textContent.includes('2 s')")
     page.browser.click("#stop")
