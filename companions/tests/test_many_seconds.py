@@ -100,7 +100,7 @@ class Seconds(SixProblems):
     def test_a_report_each_has_its_own_second_file(self) -> None:
         other = self.room / "other.pop"
         other.write_bytes(b"BeginProblem\nPieces White Kg6 Ra1 Black Kg8\nStipulation #1\nEnd\n")
-        words = ["--jobs", "2", "--each", "--seconds", "0.4", "--pops", self.stand_in(TWO_LINES)]
+        words = ["--jobs", "2", "--each", "--seconds", "2", "--pops", self.stand_in(TWO_LINES)]
         words += ["--journal", str(self.journal), str(other), str(self.input)]
         self.assertEqual(support.companion("pops-many", *words).status, 6)
         self.assertEqual(
@@ -109,7 +109,7 @@ class Seconds(SixProblems):
             + ["six.report", "six.report.journal", "six.report.unfinished"],
         )
         self.assertEqual(self.report.read_bytes(), self.others)
-        self.assertEqual(self.rest.read_bytes(), self.marked(b"line one\nline two\n", b"0.4"))
+        self.assertEqual(self.rest.read_bytes(), self.marked(b"line one\nline two\n", b"2"))
 
     def test_lines_of_a_long_search(self) -> None:
         """The lines kept are those with which the report of a run without a limit begins."""
