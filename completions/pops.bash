@@ -5,14 +5,15 @@ _pops_options() {
   local own
   case $1 in
     pops) echo --check --no-board; return ;;
+    pops-part) echo --list --depth --item --phase --part; return ;;
     fen2pop)
       own='--file --stipulation --title --author --condition --set-play --variation --no-board --max-solutions
         --keep-colours --output'
       ;;
     pops-import | pops-compare) own='--output --encoding' ;;
     pops-many)
-      own='--output --each --index --jobs --check --no-board --seconds --unfinished --resume --journal --pops --sshlogin
-        --remote-pops --ssh'
+      own='--output --each --index --jobs --check --no-board --seconds --unfinished --split --split-after --split-depth
+        --pops-part --resume --journal --pops --sshlogin --remote-pops --remote-pops-part --ssh'
       ;;
     pops-page) own='--output --heading --encoding' ;;
     pops-diagram) own='--svg --png --latex --output --width --encoding' ;;
@@ -30,6 +31,12 @@ _pops() {
   esac
   case $program,$before in
     fen2pop,--condition | fen2pop,-c) mapfile -t COMPREPLY < <(compgen -W 'Circe Madrasi' -- "$word") ;;
+    pops-part,--phase) mapfile -t COMPREPLY < <(compgen -W 'set play' -- "$word") ;;
+    pops-part,--depth) mapfile -t COMPREPLY < <(compgen -W '1 2 3 4' -- "$word") ;;
+    pops-part,--item | pops-part,--part) ;;
+    pops-part,*)
+      mapfile -t COMPREPLY < <(compgen -f -X '!*.pop' -- "$word"; compgen -d -- "$word")
+      ;;
     # Any file is offered for what an option wants, and below where a report or positions are read.
     pops-*,-*) ;;
     pops,* | pops-many,* | pops-explain,*)
@@ -38,4 +45,4 @@ _pops() {
   esac
 }
 complete -o filenames -o bashdefault -o default -F _pops \
-  pops fen2pop pops-import pops-many pops-page pops-diagram pops2json pops-test pops-compare pops-explain
+  pops pops-part fen2pop pops-import pops-many pops-page pops-diagram pops2json pops-test pops-compare pops-explain

@@ -1,10 +1,14 @@
-// The page: text, fields and board follow each other; the worker solves; files and links go in and out.
+// The page: text, fields and board follow each other; workers solve; files and links go in and out.
 'use strict';
 const MARKED_FAULTS = 100;
 const LINE_PIXELS = 20;
 const TYPING_PAUSE = 500;
 const LONG_TEXT = 100000;
-const SOUND_STATUS = 0;
+// The greatest status of a whole report.
+const WHOLE_STATUS = 1;
+// A report that grows is drawn anew once this many times as long has passed as drawing it last took.
+const DRAWING_SHARE = 10;
+const LEAST_PAUSE = 200;
 const FIELDS = [
   ['Title', 'title'], ['Author', 'author'], ['Stipulation', 'stipulation'], ['Condition', 'condition'],
   ['SetPlay', 'setPlay'], ['Variation', 'variation'], ['NoBoard', 'noBoard'],
@@ -13,8 +17,8 @@ const FIELDS = [
 const CHANGE_SIGNS = { left: '←', right: '→', up: '↑', down: '↓', mirror: '⇋', turn: '↻' };
 // What is on the page: which problem the board shows, the report of which text, and its parts as they come.
 const state = {
-  number: 1, steps: null, engine: null, worker: null, clock: null, begun: 0, found: 0, solved: '', report: '',
-  isBeginning: false, items: [], typing: null, walked: null,
+  number: 1, steps: null, engine: null, solving: null, clock: null, begun: 0, solved: '', report: '',
+  isBeginning: false, drawing: null, pause: LEAST_PAUSE, items: [], typing: null, walked: null,
 };
 let board = null;
 let tree = null;
@@ -264,6 +268,7 @@ function showPlace(men, move, item) {
 }
 
 function drawReport() {
+  endDrawing();
   state.items = itemsOf(state.report);
   element('report').textContent = state.report;
   element('beginning').hidden = !state.isBeginning;
@@ -271,61 +276,86 @@ function drawReport() {
   markFaults();
 }
 
+function endDrawing() {
+  clearTimeout(state.drawing);
+  state.drawing = null;
+}
+
+// Draws what came to the report, after a pause.
+function drawSoon() {
+  state.drawing ??= setTimeout(drawGrowth, state.pause);
+}
+
+function drawGrowth() {
+  endDrawing();
+  const begun = performance.now();
+  state.items = itemsOf(state.report);
+  const shown = element('report').textContent.length;
+  if (shown < state.report.length) element('report').append(state.report.slice(shown));
+  element('beginning').hidden = !state.isBeginning;
+  tree.grow(state.items);
+  if (state.items.some(item => item.fault)) markFaults();
+  state.pause = Math.max(LEAST_PAUSE, DRAWING_SHARE * (performance.now() - begun));
+}
+
 const secondsPassed = () => Math.round((performance.now() - state.begun) / 1000);
 
 function endSolving(said) {
-  if (state.worker) state.worker.terminate();
-  state.worker = null;
+  state.solving = null;
   clearInterval(state.clock);
   element('solve').disabled = !state.engine;
   element('stop').disabled = true;
   element('state').textContent = said;
 }
 
-function stopSolving() {
-  const seconds = secondsPassed();
-  state.isBeginning = state.report !== '';
-  endSolving(say(state.isBeginning ? 'stopped' : 'stoppedEmpty', { seconds }));
-  drawReport();
+// Takes what came to a report, or null where it begins anew.
+function reportGrew(text) {
+  if (text === null) {
+    state.report = '';
+    drawReport();
+  } else state.report += text;
+  drawSoon();
 }
 
-// Takes what the worker says: a part of the report, or how it ended.
-function workerSaid(data, decoder) {
-  if (data.failed) {
-    endSolving(say('failed', { fault: data.failed }));
-    drawReport();
-  } else if (data.part) {
-    const part = decoder.decode(data.part, { stream: true });
-    state.report += part;
-    state.found += (part.match(/^[0-9]+\./gm) ?? []).length;
-  } else {
-    state.report += decoder.decode();
-    state.isBeginning = data.status > 2;
-    endSolving(say('done', { answer: say(`status${data.status}`), milliseconds: Math.round(data.milliseconds) }));
-    drawReport();
-    keepProblem();
-  }
+// Takes how solving ended; what is there is kept.
+function solvingEnded({ status, failed, isStopped }) {
+  const seconds = secondsPassed();
+  const milliseconds = Math.round(performance.now() - state.begun);
+  const isWhole = !failed && !isStopped && status <= WHOLE_STATUS;
+  state.isBeginning = !isWhole && state.report !== '';
+  if (failed) endSolving(say('failed', { fault: failed }));
+  else if (isStopped) endSolving(say(state.report ? 'stopped' : 'stoppedEmpty', { seconds }));
+  else endSolving(say('done', { answer: say(`status${status}`), milliseconds }));
+  drawGrowth();
+  if (!failed && !isStopped) keepProblem();
+}
+
+function makeWorker() {
+  const source = URL.createObjectURL(new Blob([element('worker').textContent], { type: 'text/javascript' }));
+  const worker = new Worker(source);
+  URL.revokeObjectURL(source);
+  worker.postMessage({ engine: state.engine });
+  return worker;
+}
+
+function tellProgress() {
+  element('state').textContent = say('solving', { seconds: secondsPassed(), ...state.solving.progress });
 }
 
 function solve() {
-  if (!state.engine || state.worker) return;
+  if (!state.engine || state.solving) return;
   endTyping();
   tree.leave();
-  Object.assign(state, { solved: textNow(), report: '', found: 0, isBeginning: false, begun: performance.now() });
+  Object.assign(state, { solved: textNow(), report: '', isBeginning: false, begun: performance.now(), pause: LEAST_PAUSE });
   drawReport();
   element('solve').disabled = true;
   element('stop').disabled = false;
-  const tell = () => { element('state').textContent = say('solving', { seconds: secondsPassed(), found: state.found }); };
-  tell();
-  state.clock = setInterval(tell, 1000);
-  const source = URL.createObjectURL(new Blob([element('worker').textContent], { type: 'text/javascript' }));
-  state.worker = new Worker(source);
-  URL.revokeObjectURL(source);
-  const decoder = new TextDecoder();
-  state.worker.onmessage = ({ data }) => workerSaid(data, decoder);
-  state.worker.onerror = fault => endSolving(say('failed', { fault: fault.message }));
-  const text = new TextEncoder().encode(state.solved);
-  state.worker.postMessage({ engine: state.engine, text, check: element('check').checked, noBoard: false });
+  const codec = { encode: text => new TextEncoder().encode(text), decode: bytes => new TextDecoder().decode(bytes) };
+  const crew = new Crew(navigator.hardwareConcurrency || 1, makeWorker, codec);
+  state.solving = new Solving(state.solved, { check: element('check').checked }, crew, reportGrew);
+  tellProgress();
+  state.clock = setInterval(tellProgress, 1000);
+  state.solving.solve().then(solvingEnded);
 }
 
 function keepProblem() {
@@ -531,7 +561,7 @@ function listen() {
   area.onscroll = placeMarks;
   element('next').onclick = addProblem;
   element('solve').onclick = solve;
-  element('stop').onclick = stopSolving;
+  element('stop').onclick = () => state.solving?.stop();
   element('forget').onclick = () => {
     keep('pops.kept', null);
     showKept();

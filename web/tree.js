@@ -1,8 +1,32 @@
 // The solutions as rows that fold, and the walk through their moves. Rows are drawn when they are unfolded, so many at
-// a time.
+// a time. While a report grows, what is drawn stays: only its last rows change.
 'use strict';
 const ROWS_AT_ONCE = 200;
 const MOST_UNFOLDED = 2000;
+
+const pathOf = row => [...row.path, ...row.moves].map(move => move.said).join(' ');
+const isOpenRow = row => Boolean(row.list && !row.list.hidden);
+// The paths of the rows that are unfolded, from a row on.
+const openPaths = row => (isOpenRow(row) ? [pathOf(row), ...row.below.flatMap(openPaths)] : []);
+const topOf = row => (row.parent ? topOf(row.parent) : row);
+const movesTo = ({ row, index }) => [...row.path, ...row.moves.slice(0, index + 1)];
+// All that a row and those below it say.
+const saidIn = row => `${pathOf(row)}\n${row.below.map(saidIn).join('')}`;
+
+// Marks the rows on the way to those that were unfolded, which are drawn unfolded.
+function keepOpen(row, paths) {
+  const own = pathOf(row);
+  row.wasOpen = paths.some(path => path === own || path.startsWith(`${own} `));
+  for (const below of row.below) keepOpen(below, paths);
+}
+
+// The place that moves lead to, in a row or below it.
+function placeIn(row, moves) {
+  const index = moves.length - row.path.length - 1;
+  if (index < row.moves.length) return { row, index };
+  const next = moves[row.path.length + row.moves.length];
+  return placeIn(row.below.find(it => it.moves[0].said === next.said), moves);
+}
 
 class Tree {
   // SHOW gets the men of the place walked to, the move that led there, or null, and the item.
@@ -22,38 +46,68 @@ class Tree {
   // Draws the items of a report; START answers the men of an item's diagram, FAULT draws a faulty item.
   draw(items, start, fault) {
     this.clear();
-    const list = document.createElement('div');
-    element('tree').append(list);
-    this.fill(list, items, 0, item => this.drawnItem(item, start, fault));
+    this.start = start;
+    this.list = document.createElement('div');
+    element('tree').append(this.list);
+    this.fill(this.list, [...items], item => this.drawnItem(item, fault));
+  }
+
+  // Draws what came to the report behind what is drawn: the last item goes on, others follow it.
+  grow(items) {
+    const { things, drawn } = this.list.filling;
+    const last = things.length - 1;
+    if (last >= 0) things[last] = items[last];
+    things.push(...items.slice(things.length));
+    if (last >= 0 && last < drawn) this.growItem(this.list.children[last], items[last]);
+    this.refill(this.list);
   }
 
   // Puts so many things of a list into a box, and a button for the others.
-  fill(box, things, first, draw) {
-    const end = Math.min(things.length, first + ROWS_AT_ONCE);
-    for (const thing of things.slice(first, end)) box.append(draw(thing));
-    box.drawMore = null;
-    if (end === things.length) return;
-    const left = say('more', { count: things.length - end });
-    const more = document.createElement(box.tagName === 'UL' ? 'li' : 'p');
-    box.drawMore = () => {
-      more.remove();
-      this.fill(box, things, end, draw);
-    };
-    const button = makeButton(left, () => box.drawMore());
-    button.textContent = left;
-    more.append(button);
-    box.append(more);
+  fill(box, things, draw) {
+    box.filling = { things, draw, drawn: 0, most: ROWS_AT_ONCE, more: null };
+    this.refill(box);
   }
 
-  drawnItem(item, start, fault) {
+  // Draws the things that aren't yet drawn, as far as was asked for.
+  refill(box) {
+    const { filling } = box;
+    const { things, drawn, draw } = filling;
+    filling.drawn = Math.min(things.length, filling.most);
+    filling.more?.remove();
+    for (const thing of things.slice(drawn, filling.drawn)) box.append(draw(thing));
+    filling.more = null;
+    box.drawMore = null;
+    if (filling.drawn === things.length) return;
+    box.drawMore = () => {
+      filling.most += ROWS_AT_ONCE;
+      this.refill(box);
+    };
+    const left = say('more', { count: things.length - filling.drawn });
+    filling.more = document.createElement(box.tagName === 'UL' ? 'li' : 'p');
+    const button = makeButton(left, () => box.drawMore());
+    button.textContent = left;
+    filling.more.append(button);
+    box.append(filling.more);
+  }
+
+  drawnItem(item, fault) {
     const box = document.createElement('section');
+    box.groups = [];
     const head = document.createElement('h2');
     head.textContent = [say('item', item), item.title, item.author, item.asked?.line].filter(Boolean).join(' · ');
     box.append(head);
     if (item.fault) box.append(fault(item));
     else if (item.isChecked) box.append(this.line(say('sound')));
-    for (const phase of item.phases) box.append(...this.drawnPhase(phase, item, start(item)));
+    this.growItem(box, item);
     return box;
+  }
+
+  // Draws the phases of an item as they are now.
+  growItem(box, item) {
+    item.phases.forEach((phase, index) => {
+      if (index < box.groups.length) this.growPhase(box.groups[index], phase, item);
+      else box.append(...this.drawnPhase(phase, item, box));
+    });
   }
 
   line(text) {
@@ -62,20 +116,56 @@ class Tree {
     return line;
   }
 
-  drawnPhase(phase, item, men) {
+  drawnPhase(phase, item, box) {
     const head = document.createElement('h3');
     head.textContent = say(phase.kind);
     const list = document.createElement('ul');
     list.className = 'top';
-    const group = { item, men, rows: rowsOf(phase, item.asked.isHelp), list };
+    const rows = rowsOf(phase, item.asked.isHelp);
+    const group = { item, men: this.start(item), rows, list, lines: phase.lines.length, total: this.line(this.totalOf(phase)) };
     this.groups.push(group);
-    this.prepare(group.rows, null, group);
-    this.fill(list, group.rows, 0, row => this.drawnRow(row));
-    const total = phase.isStopped ? 'totalStopped' : 'total';
-    const said = !phase.isPossible ? say('impossible') : phase.total ? say(total, phase) : say('unfinished', {
-      count: phase.solutions.filter(it => it.level === 0).length,
-    });
-    return [head, list, this.line(said)];
+    box.groups.push(group);
+    this.prepare(rows, null, group);
+    this.fill(list, rows, row => this.drawnRow(row));
+    return [head, list, group.total];
+  }
+
+  totalOf(phase) {
+    if (!phase.isPossible) return say('impossible');
+    if (phase.total) return say(phase.isStopped ? 'totalStopped' : 'total', phase);
+    return say('unfinished', { count: phase.solutions.filter(it => it.level === 0).length });
+  }
+
+  // Draws what came to a phase: the last row may go on, others follow it.
+  growPhase(group, phase, item) {
+    group.item = item;
+    group.total.textContent = this.totalOf(phase);
+    if (phase.lines.length === group.lines) return;
+    group.lines = phase.lines.length;
+    const rows = rowsOf(phase, item.asked.isHelp);
+    const last = group.rows.length - 1;
+    this.prepare(rows, null, group);
+    if (last >= 0 && saidIn(rows[last]) !== saidIn(group.rows[last])) this.replaceRow(group, last, rows[last]);
+    group.rows.push(...rows.slice(last + 1));
+    group.rows.forEach(row => { row.siblings = group.rows; });
+    this.refill(group.list);
+  }
+
+  // Puts a row in the place of one that goes on; what was unfolded stays so, and so does the place walked to.
+  replaceRow(group, index, row) {
+    const old = group.rows[index];
+    const isWalked = this.current && topOf(this.current.row) === old;
+    const moves = isWalked ? movesTo(this.current) : [];
+    const hasFocus = old.line?.contains(document.activeElement);
+    group.rows[index] = row;
+    keepOpen(row, openPaths(old));
+    if (old.line) old.line.replaceWith(this.drawnRow(row));
+    if (!isWalked) return;
+    this.current = placeIn(row, moves);
+    this.reveal(this.current.row);
+    const button = this.current.row.buttons[this.current.index];
+    button.setAttribute('aria-current', 'true');
+    if (hasFocus) button.focus({ preventScroll: true });
   }
 
   prepare(rows, parent, group) {
@@ -113,7 +203,7 @@ class Tree {
     if (isOpen && !row.list) {
       row.list = document.createElement('ul');
       row.line.append(row.list);
-      this.fill(row.list, row.below, 0, it => this.drawnRow(it));
+      this.fill(row.list, row.below, it => this.drawnRow(it));
     }
     if (row.list) row.list.hidden = !isOpen;
     row.turn.textContent = isOpen ? '▾' : '▸';
@@ -150,7 +240,7 @@ class Tree {
     const button = row.buttons[index];
     button.setAttribute('aria-current', 'true');
     this.bringToSight(button);
-    const moves = [...row.path, ...row.moves.slice(0, index + 1)];
+    const moves = movesTo(this.current);
     this.showPlace(moves.reduce(after, row.group.men), moves.at(-1), row.group.item);
   }
 

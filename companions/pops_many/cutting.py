@@ -12,23 +12,32 @@ from typing import List
 # The most bytes that pops reads of an input; a longer one is left to one run of it.
 LONGEST_INPUT = 1 << 30
 
-_BLANKS = rb"\t\n\x0b\x0c\r "
+# What parts words.
+BLANKS = rb"\t\n\x0b\x0c\r "
 _TEXT_WORDS = ("title", "author", "origin", "remark")
 _NEXT = "nextproblem"
 _END = "endproblem"
 
 
-def _short_forms(word: str) -> bytes:
+def short_forms(word: str) -> bytes:
     """A pattern of the word and its short forms, of three letters or more; longer ones first."""
     forms = (word[:length] for length in range(len(word), 2, -1))
     return "|".join(forms).encode("ascii")
 
 
+# A pattern of a word behind which the rest of the line is text, with that rest.
+TEXT_LINES = rb"(?:" + b"|".join(map(short_forms, _TEXT_WORDS)) + rb")(?![^" + BLANKS + rb"])[^\n]*"
 _MARKS = re.compile(
-    rb"(?<![^" + _BLANKS + rb"])"
-    rb"(?:(?:" + b"|".join(map(_short_forms, _TEXT_WORDS)) + rb")(?![^" + _BLANKS + rb"])[^\n]*"
-    rb"|(?P<next>" + _short_forms(_NEXT) + rb")(?![^" + _BLANKS + rb"])"
-    rb"|(?P<end>" + _short_forms(_END) + rb")(?![^" + _BLANKS + rb"]))",
+    rb"(?<![^"
+    + BLANKS
+    + rb"])(?:"
+    + TEXT_LINES
+    + rb"|(?P<next>"
+    + short_forms(_NEXT)
+    + rb")(?![^"
+    + BLANKS
+    + rb"])"
+    rb"|(?P<end>" + short_forms(_END) + rb")(?![^" + BLANKS + rb"]))",
     re.IGNORECASE,
 )
 

@@ -2,7 +2,7 @@
 
 import os
 from dataclasses import dataclass
-from typing import BinaryIO, List, Optional, Sequence
+from typing import BinaryIO, Callable, List, Optional, Sequence, Tuple
 
 from pops_many.journal import Journal
 from pops_many.targets import Target
@@ -44,6 +44,8 @@ class Joined:
         self._unsettled = {id(report): len(report.tasks) for report in reports}
         self._to_write = {id(report) for report in reports if report.tasks}
         self._streamed = 0
+        # What is known of a problem in parts that isn't done, and how far it is.
+        self.in_parts: Callable[[int], Optional[Tuple[bytes, str]]] = lambda place: None
 
     def begin(self) -> None:
         """Writes what is due before the first run."""
@@ -91,7 +93,7 @@ class Joined:
         for report in self._reports:
             if report.unfinished is None:
                 continue
-            tasks = [task for task in report.tasks if self._journal.has_unfinished(task.place)]
+            tasks = [task for task in report.tasks if self.has_unfinished(task.place)]
             if not tasks:
                 report.unfinished.remove()
                 continue
@@ -101,12 +103,21 @@ class Joined:
             written.append(report.unfinished.path)
         return written
 
+    def has_unfinished(self, place: int) -> bool:
+        """Whether something is known of a problem that isn't done."""
+        if self._journal.is_finished(place):
+            return False
+        return self._journal.has_unfinished(place) or self.in_parts(place) is not None
+
     def _marked(self, task: Task) -> bytes:
         """The lines of an unfinished problem, with one that says so in place of those that lack."""
         assert task.piece is not None
-        seconds = self._journal.kept[task.place].seconds
-        mark = f"unfinished: stopped after {seconds:g} s ({task.where})\n\n"
-        return self._journal.report(task.place) + os.fsencode(mark)
+        known = self.in_parts(task.place)
+        if known is None:
+            seconds = self._journal.kept[task.place].seconds
+            known = self._journal.report(task.place), f"stopped after {seconds:g} s"
+        lines, how_far = known
+        return lines + os.fsencode(f"unfinished: {how_far} ({task.where})\n\n")
 
 
 def write_index(target: Target, tasks: Sequence[Task], journal: Journal) -> None:

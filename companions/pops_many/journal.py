@@ -2,7 +2,8 @@
 
 It begins with a line that tells the run's inputs and options by a fingerprint. Each report stands
 behind a line with its task, status, length and checksum, so that one that was cut is noticed; an
-unfinished one has the seconds that its run took too.
+unfinished one has the seconds that its run took too. Parts of a problem stand among them in the
+same way, each with its phase, its number and by how many moves the problem was cut.
 """
 
 import fcntl
@@ -12,11 +13,13 @@ import re
 import zlib
 from typing import Dict, List, NamedTuple, Optional, Sequence
 
+from pops_many.parts import Key, Part
 from pops_many.tasks import Result, Source
 
 _HEAD = b"pops-many journal 1 "
 _RECORD = re.compile(rb"task (\d+) status (\d+)(?: seconds (\d+\.\d+))? bytes (\d+) sum (\d+)\n")
-_LONGEST_HEAD = 150
+_PART = re.compile(rb"part (\d+) (set|play) (\d+) depth (\d+) bytes (\d+) sum (\d+)\n")
+_LONGEST_HEAD = 200
 
 
 class JournalError(Exception):
@@ -52,6 +55,7 @@ class Journal:
         """
         self.path = path
         self.kept: Dict[int, Kept] = {}
+        self.parts: Dict[Key, Kept] = {}
         self._seconds = seconds
         self._head = _HEAD + run + b"\n"
         try:
@@ -92,20 +96,31 @@ class Journal:
         if head != self._head:
             raise JournalError(f"{self.path} belongs to other problems or options")
         end = self._file.tell()
-        while True:
-            parts = _RECORD.fullmatch(self._file.readline(_LONGEST_HEAD))
-            if parts is None:
-                break
-            task, status, length, checksum = (int(part) for part in parts.group(1, 2, 4, 5))
-            seconds = None if parts[3] is None else float(parts[3])
-            start = self._file.tell()
-            report = self._file.read(length)
-            if len(report) != length or zlib.crc32(report) != checksum:
-                break
-            self.kept[task] = Kept(status, seconds, start, length)
+        while self._read_record():
             end = self._file.tell()
         self._file.seek(end)
         self._file.truncate()
+
+    def _read_record(self) -> bool:
+        """Reads a record; False at the end of those that are whole."""
+        line = self._file.readline(_LONGEST_HEAD)
+        of_task, of_part = _RECORD.fullmatch(line), _PART.fullmatch(line)
+        found = of_task or of_part
+        if found is None:
+            return False
+        length, checksum = (int(part) for part in found.groups()[-2:])
+        start = self._file.tell()
+        report = self._file.read(length)
+        if len(report) != length or zlib.crc32(report) != checksum:
+            return False
+        if of_task:
+            seconds = None if of_task[3] is None else float(of_task[3])
+            self.kept[int(of_task[1])] = Kept(int(of_task[2]), seconds, start, length)
+        elif of_part:
+            place, number, depth = (int(part) for part in of_part.group(1, 3, 4))
+            key = Key(place, of_part[2].decode("ascii"), number, depth)
+            self.parts[key] = Kept(0, None, start, length)
+        return True
 
     def keep(self, result: Result) -> None:
         """Adds a report; it takes the place of an unfinished one of the same problem."""
@@ -118,16 +133,40 @@ class Journal:
             len(report),
             zlib.crc32(report),
         )
+        start = self._add(head, report)
+        self.kept[place] = Kept(result.status, result.seconds, start, len(report))
+
+    def keep_part(self, part: Part, report: bytes) -> None:
+        """Adds the report of a part."""
+        place, phase, number, depth = part.key
+        head = b"part %d %s %d depth %d bytes %d sum %d\n" % (
+            place,
+            phase.encode("ascii"),
+            number,
+            depth,
+            len(report),
+            zlib.crc32(report),
+        )
+        self.parts[part.key] = Kept(0, None, self._add(head, report), len(report))
+
+    def _add(self, head: bytes, report: bytes) -> int:
+        """Writes a record. Answers where its report stands."""
         self._file.seek(self._end)
         self._file.write(head + report)
         self._file.flush()
         start = self._end + len(head)
-        self.kept[place] = Kept(result.status, result.seconds, start, len(report))
         self._end = start + len(report)
+        return start
 
     def report(self, place: int) -> bytes:
         """The kept report of a task."""
-        kept = self.kept[place]
+        return self._read(self.kept[place])
+
+    def part(self, part: Part) -> bytes:
+        """The kept report of a part."""
+        return self._read(self.parts[part.key])
+
+    def _read(self, kept: Kept) -> bytes:
         self._file.seek(kept.start)
         return self._file.read(kept.length)
 

@@ -1,4 +1,4 @@
-"""The program pops: where it is, and runs of it on this machine."""
+"""Programs on this machine: where they are, and runs of them."""
 
 import os
 import shutil
@@ -6,7 +6,7 @@ import signal
 import subprocess
 import threading
 from pathlib import Path
-from typing import List, Optional, Sequence, Set, Tuple
+from typing import Optional, Sequence, Set, Tuple
 
 from pops_many.leash import Leashed, Stream
 from pops_many.tasks import UNFINISHED, Result, Task, is_whole, whole_lines
@@ -20,6 +20,7 @@ LOOKED_FOR = (
 )
 _COMPANIONS = Path(__file__).resolve().parent.parent
 _BUILT = Path("crates", "pops", "out", "pops")
+_PARTS_BUILT = Path("crates", "pops_part", "out", "pops_part")
 
 
 class MissingError(Exception):
@@ -50,100 +51,71 @@ def find(named: Optional[str]) -> str:
     raise MissingError("there is no program pops: name it with --pops")
 
 
+def find_part_program(named: Optional[str], pops: str) -> str:
+    """The program of parts: as named, $POPS_PART, beside pops, built with it, or on the PATH."""
+    named = named or os.environ.get("POPS_PART")
+    if named:
+        found = shutil.which(named)
+        if found is None:
+            raise MissingError(f"there is no program {named}")
+        return _without_script(found, _PARTS_BUILT)
+    folder = Path(pops).resolve().parent
+    repository = _COMPANIONS.parent
+    repositories = [*list(folder.parents)[2:3], repository]
+    built = [str(place / _PARTS_BUILT) for place in repositories]
+    for place in (str(folder / "pops-part"), *built, "pops-part"):
+        found = shutil.which(place)
+        if found is not None:
+            return _without_script(found, _PARTS_BUILT)
+    if _is_repository(repository):
+        raise _unbuilt(repository, _PARTS_BUILT)
+    raise MissingError("there is no program pops-part, for --split: name it with --pops-part")
+
+
 def _is_repository(folder: Path) -> bool:
     return (folder / "crates" / "pops").is_dir()
 
 
-def _without_script(found: str) -> str:
+def _without_script(found: str, program: Path = _BUILT) -> str:
     """What was found; for a repository's script, which would build the program, the built one."""
     folder = Path(found).resolve().parent
     if not _is_repository(folder):
         return found
-    built = shutil.which(str(folder / _BUILT))
+    built = shutil.which(str(folder / program))
     if built is None:
-        raise _unbuilt(folder)
+        raise _unbuilt(folder, program)
     return built
 
 
-def _unbuilt(repository: Path) -> MissingError:
-    example = repository / "examples" / "mate_in_one.pop"
+def _unbuilt(repository: Path, program: Path = _BUILT) -> MissingError:
+    script = program.name.replace("_", "-")
+    words = [str(repository / script), str(repository / "examples" / "mate_in_one.pop")]
+    if program != _BUILT:
+        words.insert(1, "--list")
     return MissingError(
-        f"pops isn't built: build it by {repository / 'pops'} {example},"
-        " or name a built one with --pops"
+        f"{script} isn't built: build it by {' '.join(words)}, or name a built one with --{script}"
     )
 
 
-def _reason(status: int, error: bytes) -> str:
-    if status < 0:
-        return f"pops was ended by signal {-status}"
-    said = error.decode("utf-8", "replace").strip()
-    return f"pops ended with status {status}" + (f": {said}" if said else "")
+class Runs:
+    """Runs of a program; `stop` ends those at hand for good."""
 
-
-class Program:
-    """The program with the options of its runs; `stop` ends the runs at hand for good.
-
-    A run on one problem is stopped after so many seconds, where they are given.
-    """
-
-    def __init__(self, path: str, options: Sequence[str], seconds: Optional[float]):
-        self.seconds = seconds
-        self._words: List[str] = [path, *options]
+    def __init__(self, name: str, words: Sequence[str]):
+        self._name = name
+        self._words = list(words)
         self._running: Set[Leashed] = set()
         self._lock = threading.Lock()
         self._stopped = False
 
-    def solve(self, task: Task) -> Result:
-        """Runs a task. RunError where pops didn't come to its end, but for its time."""
-        if task.piece is None:
-            return self._whole(task)
-        return self.told_anew(task, *self._one(task.text))
-
-    def told_anew(self, task: Task, status: int, report: bytes) -> Result:
-        """The result of a first run; the line of a fault is asked for by another one, here."""
-        if task.wants_line_ends(report):
-            status, report = self._one(task.text_with_line_ends)
-        if status == UNFINISHED:
-            return Result(task, status, task.numbered(whole_lines(report)), self.seconds)
-        return Result(task, status, task.numbered(report))
-
-    def report(self, text: bytes) -> bytes:
-        """The report of one problem."""
-        return self._one(text)[1]
-
-    def _one(self, text: bytes) -> Tuple[int, bytes]:
-        """Status and report of a run on one problem; UNFINISHED where its time was over."""
-        leashed = self._started(self._words, subprocess.PIPE, subprocess.PIPE)
-        in_time, report, error = self._ended(leashed, text, self.seconds)
-        status = leashed.run.returncode
-        if status in (SOUND, FAULTY) and is_whole(report):
-            return status, report
-        if not in_time:
-            return UNFINISHED, report
-        raise RunError(_reason(status, error))
-
-    def _whole(self, task: Task) -> Result:
-        """A source that is left to pops: it reads it by itself.
-
-        What it says goes to standard error, but of a file that was told already.
-        """
-        name, text = task.source.name, task.source.text
-        source = subprocess.PIPE if name is None else None
-        errors = subprocess.DEVNULL if text is None else None
-        leashed = self._started(self._words + ([] if name is None else [name]), source, errors)
-        _, report, _ = self._ended(leashed, text if name is None else None, None)
-        if leashed.run.returncode < 0:
-            raise RunError(_reason(leashed.run.returncode, b""))
-        return Result(task, leashed.run.returncode, report)
-
-    def _started(self, words: List[str], source: Stream, errors: Stream) -> Leashed:
+    def _started(self, words: Sequence[str], source: Stream, errors: Stream) -> Leashed:
+        """Starts it with more words."""
         with self._lock:
             if self._stopped:
                 raise RunError("stopped")
             try:
-                leashed = Leashed(words, source, errors)
+                leashed = Leashed([*self._words, *words], source, errors)
             except OSError as error:
-                raise RunError(f"pops can't be run: {error.strerror}") from None
+                raise RunError(f"{self._name} can't be run: {error.strerror}") from None
             self._running.add(leashed)
             return leashed
 
@@ -165,9 +137,70 @@ class Program:
                 self._running.discard(leashed)
             leashed.let_go()
 
+    def _reason(self, status: int, error: bytes) -> str:
+        """Why a run came to no end."""
+        if status < 0:
+            return f"{self._name} was ended by signal {-status}"
+        said = error.decode("utf-8", "replace").strip()
+        return f"{self._name} ended with status {status}" + (f": {said}" if said else "")
+
     def stop(self) -> None:
         """Ends all runs at hand; later ones are refused."""
         with self._lock:
             self._stopped = True
             for leashed in self._running:
                 leashed.send(signal.SIGKILL)
+
+
+class Program(Runs):
+    """pops with the options of its runs.
+
+    A run on one problem is stopped after so many seconds, where they are given.
+    """
+
+    def __init__(self, path: str, options: Sequence[str], seconds: Optional[float]):
+        super().__init__("pops", [path, *options])
+        self.seconds = seconds
+
+    def solve(self, task: Task) -> Result:
+        """Runs a task. RunError where pops didn't come to its end, but for its time."""
+        if task.piece is None:
+            return self._whole(task)
+        return self.told_anew(task, *self._one(task.text))
+
+    def told_anew(self, task: Task, status: int, report: bytes) -> Result:
+        """The result of a first run; the line of a fault is asked for by another one, here."""
+        if task.wants_line_ends(report):
+            status, report = self._one(task.text_with_line_ends)
+        if status == UNFINISHED:
+            return Result(task, status, task.numbered(whole_lines(report)), self.seconds)
+        return Result(task, status, task.numbered(report))
+
+    def report(self, text: bytes) -> bytes:
+        """The report of one problem."""
+        return self._one(text)[1]
+
+    def _one(self, text: bytes) -> Tuple[int, bytes]:
+        """Status and report of a run on one problem; UNFINISHED where its time was over."""
+        leashed = self._started([], subprocess.PIPE, subprocess.PIPE)
+        in_time, report, error = self._ended(leashed, text, self.seconds)
+        status = leashed.run.returncode
+        if status in (SOUND, FAULTY) and is_whole(report):
+            return status, report
+        if not in_time:
+            return UNFINISHED, report
+        raise RunError(self._reason(status, error))
+
+    def _whole(self, task: Task) -> Result:
+        """A source that is left to pops: it reads it by itself.
+
+        What it says goes to standard error, but of a file that was told already.
+        """
+        name, text = task.source.name, task.source.text
+        source = subprocess.PIPE if name is None else None
+        errors = subprocess.DEVNULL if text is None else None
+        leashed = self._started([] if name is None else [name], source, errors)
+        _, report, _ = self._ended(leashed, text if name is None else None, None)
+        if leashed.run.returncode < 0:
+            raise RunError(self._reason(leashed.run.returncode, b""))
+        return Result(task, leashed.run.returncode, report)

@@ -3,6 +3,7 @@
 import os
 import sys
 import time
+from typing import Callable, Tuple
 
 _SECONDS_BETWEEN = 0.5
 
@@ -18,11 +19,17 @@ def duration(seconds: float) -> str:
 
 
 class Progress:
-    """One line that is written anew: how many problems are done, and the time left."""
+    """One line that is written anew: how much is done, and the time left.
+
+    It tells of problems, and once some of them are in parts, of the one of which a part was done
+    last.
+    """
 
     def __init__(self, name: str):
         self._name = name
         self._before = self._done = self._total = 0
+        self._parts_before = self._parts_left = 0
+        self._is_of_parts = False
         self._began = self._next = 0.0
         self._shown = sys.stderr.isatty()
         self._width = 0
@@ -36,10 +43,9 @@ class Progress:
     def one_more(self) -> None:
         """Another problem is done."""
         self._done += 1
-        now = time.monotonic()
-        if self._shown and (now >= self._next or self._done == self._total):
-            self._next = now + _SECONDS_BETWEEN
-            self._write(self.line(now - self._began))
+        is_last = self._done == self._total
+        if is_last or not self._is_of_parts:
+            self._tell(self.line, is_last)
 
     def line(self, seconds: float) -> str:
         """The line after so many seconds of this run."""
@@ -49,9 +55,44 @@ class Progress:
             text += f", about {duration(seconds / (self._done - self._before) * left)} left"
         return text
 
-    def _write(self, text: str) -> None:
-        _tell("\r" + text.ljust(self._width))
-        self._width = len(text)
+    def begin_parts(self, left: int) -> None:
+        """So many parts are to be solved, of all problems that are in parts."""
+        self._is_of_parts = True
+        self._parts_before = self._parts_left = left
+        self._began = self._next = time.monotonic()
+
+    def part(self, problem: str, tally: Tuple[int, int], found: int, left: int) -> None:
+        """How far the problem with this name is, in parts and solutions; so many are left in all."""
+        self._parts_left = left
+
+        def line(seconds: float) -> str:
+            text = self.line_of_parts(problem, tally, found, seconds)
+            # In a narrow terminal without the FILE: a line that is broken can't be written anew.
+            if len(text) < _columns() or not _columns():
+                return text
+            return self.line_of_parts(problem.partition(" (")[0], tally, found, seconds)
+
+        self._tell(line, False)
+
+    def line_of_parts(
+        self, problem: str, tally: Tuple[int, int], found: int, seconds: float
+    ) -> str:
+        """The line of a problem in parts, after so many seconds."""
+        plural = "" if found == 1 else "s"
+        text = f"{self._name}: {problem}: {tally[0]} of {tally[1]} parts, {found} solution{plural}"
+        done = self._parts_before - self._parts_left
+        if done > 0 and self._parts_left > 0:
+            text += f", about {duration(seconds / done * self._parts_left)} left"
+        return text
+
+    def _tell(self, line: Callable[[float], str], is_last: bool) -> None:
+        """Writes a line, but where the one before is new."""
+        now = time.monotonic()
+        if self._shown and (now >= self._next or is_last):
+            self._next = now + _SECONDS_BETWEEN
+            text = line(now - self._began)
+            _tell("\r" + text.ljust(self._width))
+            self._width = len(text)
 
     def say(self, message: str) -> None:
         """A message of its own line."""
@@ -64,6 +105,14 @@ class Progress:
         if self._width:
             _tell("\n")
             self._width = 0
+
+
+def _columns() -> int:
+    """How wide the terminal is; 0 where nobody knows."""
+    try:
+        return os.get_terminal_size(sys.stderr.fileno()).columns
+    except OSError:
+        return 0
 
 
 def _tell(text: str) -> None:

@@ -62,6 +62,12 @@ class Task:
         assert self.piece is not None and self.source.text is not None
         return self.piece.alone(self.source.text, True)
 
+    @property
+    def text_without_line_ends(self) -> bytes:
+        """The shortest input, for a problem that is known to be sound."""
+        assert self.piece is not None and self.source.text is not None
+        return self.piece.alone(self.source.text, False)
+
     def wants_line_ends(self, report: bytes) -> bool:
         """Whether the report of the first run is a fault told with a wrong line."""
         assert self.piece is not None

@@ -112,6 +112,31 @@ def stopped(page: Page) -> None:
     page.browser.wait(READY)
 
 
+def grown(page: Page) -> None:
+    """A report of some seconds and 100,000 lines, by two workers: walked while it grows, then stopped."""
+    browser = page.browser
+    page.open("BeginProblem\nPieces White Ke1 Qd1 Ra1 Black Ke8 Pa7b7\nStipulation h#3.5\nOption SetPlay\nEndProblem\n")
+    browser.run("Object.defineProperty(navigator, 'hardwareConcurrency', { value: 2 })")
+    browser.click("#solve")
+    browser.wait("document.querySelectorAll('#tree .move').length > 3")
+    browser.click("#tree .move")
+    browser.key("ArrowRight")
+    reached = page.told("reached")
+    length = len(page.told("report"))
+    browser.wait(f"document.getElementById('report').textContent.length > {length}")
+    marked = browser.run("document.querySelectorAll('#tree [aria-current]').length")
+    page.holds(reached != "" and page.told("reached") == reached and marked == 1, f"walked to {reached} while the report grew")
+    page.holds(" parts, " in page.told("state"), page.told("state"))
+    browser.click("#stop")
+    page.holds("what is there is a beginning" in page.told("state"), page.told("state"))
+    page.holds(not browser.run("document.getElementById('beginning').hidden"), "a beginning is marked")
+    report = page.told("report")
+    page.holds(report.startswith("problem 1\n") and not report.endswith("\n\n"), "the beginning is kept")
+    drawn = "(tree.foldAll(true), document.getElementById('tree').textContent)"
+    page.holds(browser.run(f"{drawn} === (drawReport(), {drawn})"), "what grew is what is drawn at once")
+    browser.wait(READY)
+
+
 def faulty(page: Page) -> None:
     """Faults at their lines, and fields that leave the rest of a text alone."""
     page.open("BeginProblem\nPieces White Kg6 Ta1 Black Kg8\nStipulation #1\nNextProblem\nRemark odd <b>\nEndProblem\n")
@@ -235,6 +260,7 @@ LOOKS: List[Callable[[Page], None]] = [
     entered,
     printed,
     stopped,
+    grown,
     faulty,
     given,
     without_memory,

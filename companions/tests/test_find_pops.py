@@ -1,4 +1,4 @@
-"""Where the companions look for pops; none of them builds it."""
+"""Where the companions look for pops and pops-part; none of them builds them."""
 
 import os
 import shutil
@@ -13,15 +13,17 @@ import support
 
 # Prints the program that is found, or what to do.
 FINDS = """
-from pops_many.program import MissingError, find
+from pops_many.program import MissingError, find, find_part_program
 try:
-    print(find({named!r}))
+    print({call})
 except MissingError as error:
     print("missing:", error)
 """
 
 
-class Places(unittest.TestCase):
+class Room(unittest.TestCase):
+    """A room with repositories, folders of companions, and a program pops on the PATH."""
+
     def setUp(self) -> None:
         room = tempfile.TemporaryDirectory()
         self.addCleanup(room.cleanup)
@@ -59,9 +61,18 @@ class Places(unittest.TestCase):
         more: Optional[Dict[str, str]] = None,
         path: Optional[Path] = None,
     ) -> str:
+        return self.told(companions, f"find({named!r})", more, path)
+
+    def told(
+        self,
+        companions: Path,
+        call: str,
+        more: Optional[Dict[str, str]] = None,
+        path: Optional[Path] = None,
+    ) -> str:
         environment = {"PATH": str(path or self.elsewhere.parent), **(more or {})}
         done = subprocess.run(
-            [sys.executable, "-B", "-c", FINDS.format(named=named)],
+            [sys.executable, "-B", "-c", FINDS.format(call=call)],
             cwd=companions,
             env=environment,
             capture_output=True,
@@ -70,6 +81,8 @@ class Places(unittest.TestCase):
         self.assertFalse(self.built.exists(), "a program was run")
         return done.stdout.decode().strip()
 
+
+class Places(Room):
     def unbuilt(self, root: Path) -> str:
         return (
             f"missing: pops isn't built: build it by {root}/pops {root}/examples/mate_in_one.pop,"
@@ -122,6 +135,44 @@ class Places(unittest.TestCase):
         self.assertEqual(
             self.found(away, path=self.room / "nowhere"),
             "missing: there is no program pops: name it with --pops",
+        )
+
+
+class PartPrograms(Room):
+    """Where pops-part is looked for."""
+
+    def found_part(self, companions: Path, pops: Path, named: Optional[str] = None) -> str:
+        call = f"find_part_program({named!r}, {str(pops)!r})"
+        return self.told(companions, call, path=self.room / "nowhere")
+
+    def test_the_one_beside_pops_or_built_with_it(self) -> None:
+        root = self.repository()
+        companions = root / "companions"
+        script = f"{root}/pops-part --list {root}/examples/mate_in_one.pop"
+        unbuilt = (
+            f"missing: pops-part isn't built: build it by {script},"
+            " or name a built one with --pops-part"
+        )
+        self.assertEqual(self.found_part(companions, self.elsewhere), unbuilt)
+        own = self.program(root / "crates" / "pops_part" / "out" / "pops_part")
+        self.assertEqual(self.found_part(companions, self.elsewhere), str(own))
+        self.assertEqual(self.found_part(companions, Path("/pops")), str(own))
+        crates = self.room / "other" / "crates"
+        other = self.program(crates / "pops_part" / "out" / "pops_part")
+        pops = self.program(crates / "pops" / "out" / "pops")
+        self.assertEqual(self.found_part(companions, pops), str(other))
+        beside = self.program(self.elsewhere.parent / "pops-part")
+        self.assertEqual(self.found_part(companions, self.elsewhere), str(beside))
+        named = self.program(self.room / "named")
+        self.assertEqual(self.found_part(companions, self.elsewhere, str(named)), str(named))
+        scripts = self.program(root / "pops-part")
+        self.assertEqual(self.found_part(companions, pops, str(scripts)), str(own))
+
+    def test_no_part_program(self) -> None:
+        away = self.companions(self.room / "away")
+        self.assertEqual(
+            self.found_part(away, self.elsewhere),
+            "missing: there is no program pops-part, for --split: name it with --pops-part",
         )
 
 

@@ -6,7 +6,7 @@
 mod events;
 mod faults;
 mod heads;
-mod line;
+pub mod line;
 mod moves;
 mod notation;
 

@@ -10,7 +10,7 @@ use std::marker::Model;
 
 /// Text that is put together piece by piece and then written at once. Contracts see its bytes, at most 1,536.
 #[derive(Drop)]
-pub(crate) struct LineBuffer {
+pub struct LineBuffer {
     text: ArrayVec<u8, 1536>,
 }
 
@@ -24,7 +24,7 @@ impl Model for LineBuffer {
 
 impl LineBuffer {
     /// Room without text.
-    pub(crate) fn new() -> LineBuffer
+    pub fn new() -> LineBuffer
         ensures { result ≡ [] }
     {
         LineBuffer {
@@ -33,7 +33,7 @@ impl LineBuffer {
     }
 
     /// Adds bytes.
-    pub(crate) fn add(&mut self, piece: &[u8])
+    pub fn add(&mut self, piece: &[u8])
         requires { length self.old + length piece.now ≤ room }
         ensures { self.new ≡ self.old ++ piece.now }
     {
@@ -42,7 +42,7 @@ impl LineBuffer {
     }
 
     /// Adds one byte.
-    pub(crate) fn add_byte(&mut self, byte: u8)
+    pub fn add_byte(&mut self, byte: u8)
         requires { length self.old < room }
         ensures { self.new ≡ self.old ++ byte ∷ [] }
     {
@@ -50,7 +50,7 @@ impl LineBuffer {
     }
 
     /// Adds a number in decimal digits, at most twenty.
-    pub(crate) fn add_number(&mut self, number: u64)
+    pub fn add_number(&mut self, number: u64)
         requires { length self.old + 20 ≤ room }
         ensures text { self.new ≡ self.old ++ decimal number }
         ensures short { length self.new ≤ length self.old + 20 }
@@ -60,7 +60,7 @@ impl LineBuffer {
     }
 
     /// Writes the text, or a beginning of it at a fault.
-    pub(crate) fn put<W: Sink>(&self, sink: &mut W) -> Result<(), SinkFault>
+    pub fn put<W: Sink>(&self, sink: &mut W) -> Result<(), SinkFault>
         requires { W.failures sink.old < greatest }
         ensures bytes { Writes (W.taken sink.old) (W.taken sink.new) self.now result }
         ensures counted { W.failures sink.new ≡ count_after result (W.failures sink.old) }

@@ -38,12 +38,12 @@ report-append : (choice : Choice) (n : ℕ) (xs ys : List Entry) → report_from
 report-append choice n [] ys = ap (λ k. report_from choice k ys) (omega arith)
 report-append choice n (x ∷ xs) ys = grind (arith, append_assoc, report-append choice (n + 1) xs ys)
 
-any_more : (test : Entry → Bool) (xs : List Entry) (x : Entry) → list_any test (xs ++ x ∷ []) ≡ (list_any test xs || test x)
+pub any_more : (test : Entry → Bool) (xs : List Entry) (x : Entry) → list_any test (xs ++ x ∷ []) ≡ (list_any test xs || test x)
 any_more test [] x = grind arith
 any_more test (y ∷ xs) x = rw (any_more test xs x) (grind arith)
 
 -- the status of items and one more
-status_more : (xs : List Entry) (x : Entry) → status_of (xs ++ x ∷ []) ≡ status_with (status_of xs) (tells_failure x) (is_faulty x)
+pub status_more : (xs : List Entry) (x : Entry) → status_of (xs ++ x ∷ []) ≡ status_with (status_of xs) (tells_failure x) (is_faulty x)
 unfolding status_of
 status_more xs x = grind (arith, any_more)
 
@@ -78,7 +78,7 @@ progress_step choice old new had mid left before t now sound p q = record {
 }
 
 -- before all items, those that are still to come are all of the input's
-all_to_come : (rest : Input) → entries_left before_all rest ≡ entries_in rest
+pub all_to_come : (rest : Input) → entries_left before_all rest ≡ entries_in rest
 unfolding entries_in
 all_to_come rest = grind arith
 
@@ -128,14 +128,14 @@ progress_cut choice old new mid left before t now r fault p q seen =
     ap entries_in m.2 ∙ sym (all_to_come _) ∙ all.begin m.0 m.1 in
     (rw items (cut_begins choice p.items q.0 _ before t now p.written (rw (p.number, p.choice_is) at q.2)), refl)
 
-grew_same : (n : ℕ) → grew n n ≡ false
+pub grew_same : (n : ℕ) → grew n n ≡ false
 grew_same n = grind arith
 
-grew_more : (n : ℕ) → grew n (n + 1) ≡ true
+pub grew_more : (n : ℕ) → grew n (n + 1) ≡ true
 grew_more n = lt-ltb n (n + 1) (omega arith)
 
 -- the count of failures says whether the input broke off
-grew_broken : (e : End) (n m : ℕ) → m ≡ failures_after Open e n → grew n m ≡ is_broken e
+pub grew_broken : (e : End) (n m : ℕ) → m ≡ failures_after Open e n → grew n m ≡ is_broken e
 grew_broken e n m is = grind (arith, grew_same, grew_more)
 
 pub run_ends : (choice : Choice) (old new : Place) (had mid left before t now : Option (List ℕ)) (answer : Status) (n m v w : ℕ)

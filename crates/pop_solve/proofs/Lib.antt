@@ -18,6 +18,7 @@ pub mod Kept
 pub mod Sound
 pub mod PartNumbers
 pub mod Events
+pub mod PartEvents
 pub mod Solved
 pub mod Opened
 pub mod Longer
@@ -26,6 +27,7 @@ pub mod Nodes
 pub mod PhasePaths
 pub mod PartLists
 pub mod Parts
+pub mod PartBegins
 pub mod PartsJoined
 pub mod theorems
 pub mod Excluded

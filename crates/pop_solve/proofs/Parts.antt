@@ -12,7 +12,7 @@ use Rattle.pop_solve.proofs.Sound.{start_sound}
 use Rattle.pop_solve.proofs.Trees.{shown-moves}
 use Rattle.pop_solve.proofs.theorems.Lists.{IsPlayable}
 use Rattle.pop_solve.specs.Parts.{begins_so, is_front, part_solutions}
-use Rattle.pop_solve.specs.ties.Beginnings.{are_legal}
+use Rattle.pop_solve.specs.ties.PartsSeen.{are_legal}
 
 module _ (rule : RuleSet) (problem : Posed) where
   -- legal moves can be played

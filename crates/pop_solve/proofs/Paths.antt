@@ -16,6 +16,11 @@ unfolding path
 path-length [] = omega arith
 path-length (f ∷ below) = omega (arith, length-path f below)
 
+-- a move more
+pub path-more : (f : Frame) (fs : List Frame) → 0 < length fs → path (f ∷ fs) ≡ path fs ++ f.by ∷ []
+unfolding path
+path-more f fs some = search rules
+
 module _ (goal : Goal) (rule : RuleSet) where
   pub reach-append : (p : Position) (xs : List Triple) (m : Triple) → reach (played rule) p (xs ++ m ∷ []) ≡ played rule (reach (played rule) p xs) m
   reach-append p [] m = refl
@@ -38,18 +43,13 @@ module _ (goal : Goal) (rule : RuleSet) where
   reach-path p (f ∷ []) = search rules
   reach-path p (f ∷ (g ∷ below)) = search (rules, reach-append, reach-path p (g ∷ below))
 
-  -- a move more
-  path-more : (p : Position) (f : Frame) (fs : List Frame) → 0 < length fs → path (f ∷ fs) ≡ path fs ++ f.by ∷ []
-  unfolding path
-  path-more p f fs some = search rules
-
   pub along-more : (p : Position) (f : Frame) (fs : List Frame) → 0 < length fs
       → shown_along goal rule p (path (f ∷ fs)) ≡ shown_along goal rule p (path fs) ++ show goal rule (position rule p fs) f.by ∷ []
   along-more p f fs some = search (rules, path-more, along-append, reach-path)
 
   pub last-more : (p : Position) (f : Frame) (fs : List Frame) → 0 < length fs
       → shown_last goal rule p (path (f ∷ fs)) ≡ show goal rule (position rule p fs) f.by
-  last-more p f fs some = rw (path-more p f fs some, last-append p (path fs) f.by, reach-path p fs) refl
+  last-more p f fs some = rw (path-more f fs some, last-append p (path fs) f.by, reach-path p fs) refl
 
 module _ (rule : RuleSet) where
   pub position-more : (p : Position) (f : Frame) (fs : List Frame) → 0 < length fs → position rule p (f ∷ fs) ≡ played rule (position rule p fs) f.by

@@ -1,5 +1,5 @@
 -- The walk over beginnings: what a step leaves of those still to come.
-use Rattle.pop_solve.proofs.Words.{AreKnown, CameFrom, CameFromAt, Frame, IfSome, IsLinked, IsPlaceIn, IsRoomy, IsWalking, IsWellFormed, LegalPlace, List, Loss, None, Option, Position, RuleSet, Some, Triple, [], after_well_formed, ap, append-nil, append_assoc, arith, false, is_some, legal, length, length-append, length-reverse, map, map-append, min, moves_behind, path, position, pseudo-from_legal, refl, reverse, rules, subst, suc, sym, true, turns, undo_of, zero, ℕ, ◌++◌, ◌+◌, ◌-◌, ◌<◌, ◌^◌, ◌∙◌, ◌∷◌, ◌≡◌, ◌≢◌, ◌≤◌}
+use Rattle.pop_solve.proofs.Words.{AreKnown, CameFrom, CameFromAt, Frame, IfSome, IsLinked, IsPlaceIn, IsRoomy, IsWalking, IsWellFormed, LegalPlace, List, Loss, None, Option, Position, RuleSet, Some, Triple, [], after_well_formed, ap, append-nil, append_assoc, arith, false, is_some, legal, length, length-append, length-reverse, map, map-append, min, moves_behind, path, position, pseudo-from_legal, refl, reverse, rules, slice_get, subst, suc, sym, true, turns, undo_of, zero, ℕ, ◌++◌, ◌+◌, ◌-◌, ◌<◌, ◌^◌, ◌∙◌, ◌∷◌, ◌≡◌, ◌≢◌, ◌≤◌}
 use Rattle.chess_rules.specs.Play.{after as played}
 use Rattle.pop_input.specs.declared.stipulation.Goal.{Goal}
 use Rattle.pop_solve.proofs.Boards.{behind_start}
@@ -10,7 +10,7 @@ use Rattle.pop_solve.proofs.ToCome.{map-path, steps-start, steps_behind-next}
 use Rattle.pop_solve.specs.Chess.{chess}
 use Rattle.pop_solve.specs.Parts.{beginnings}
 use Rattle.pop_solve.specs.ties.Frames.{opened as opened_frame}
-use Rattle.pop_solve.specs.ties.Beginnings.{IsSeeking, Seeks, are_idle, beginnings_by, beginnings_to_come}
+use Rattle.pop_solve.specs.ties.Beginnings.{FindsNumbered, IsSeeking, Seeks, are_idle, beginnings_by, beginnings_to_come}
 
 -- the beginnings by the next move, and by the others
 by-next : (goal : Goal) (rule : RuleSet) (k : ℕ) (P : Position) (m : Triple) (ms : List Triple)
@@ -213,7 +213,13 @@ module _ (rule : RuleSet) (h d : ℕ) (p : Position) (top : Frame) (old new : Li
               (turns-deeper rule h p f place m (reverse new) undo (omega (arith, less, s.room)) behind);
         })
 
--- steps on the way to the last beginning, where `count` were found
+-- steps on the way to the beginning with a number
+pub record SeeksNumbered (rule : RuleSet) (h d : ℕ) (p : Position) (old new : List Frame) (board : Position) (number left : ℕ) : Type 0 where
+  pub seeking : IsSeeking rule h d p new board
+  pub some : 1 ≤ left
+  pub same : (goal : Goal) → slice_get (beginnings_to_come goal rule d p old) (number - 1) ≡ slice_get (beginnings_to_come goal rule d p new) (left - 1)
+
+-- the same on the way to the last one, where `count` were found
 pub record CountsOn (rule : RuleSet) (h d : ℕ) (p : Position) (old new : List Frame) (board : Position) (count : ℕ) : Type 0 where
   pub seeking : IsSeeking rule h d p new board
   pub fewer : (goal : Goal) → length (beginnings_to_come goal rule d p new) ≤ length (beginnings_to_come goal rule d p old)
@@ -221,10 +227,46 @@ pub record CountsOn (rule : RuleSet) (h d : ℕ) (p : Position) (old new : List 
       ≡ min (length (beginnings_to_come goal rule d p old) - length (beginnings_to_come goal rule d p new)) (2 ^ 64 - 1)
 
 module _ (rule : RuleSet) (h d : ℕ) (p : Position) where
+  pub numbered-start : (old : List Frame) (board : Position) (number : ℕ) → IsSeeking rule h d p old board → 1 ≤ number
+      → SeeksNumbered rule h d p old old board number number
+  numbered-start old board number s some = record { seeking = s; some = some; same = λ goal. refl }
+
   pub counts-start : (old : List Frame) (board : Position) → IsSeeking rule h d p old board → CountsOn rule h d p old old board 0
   counts-start old board s = record { seeking = s; fewer = λ goal. omega arith; counts = λ goal. omega arith }
 
   module _ (old mid new : List Frame) (board after : Position) where
+    pub numbered-on : (number left : ℕ) (o : Option Triple) → is_some o ≡ false → SeeksNumbered rule h d p old mid board number left
+        → Seeks rule h d p mid new after o → SeeksNumbered rule h d p old new after number left
+    numbered-on number left None none s x = record {
+      seeking = x.seeking;
+      some = s.some;
+      same = λ goal. s.same goal ∙ ap (λ xs. slice_get xs (left - 1)) (x.come goal);
+    }
+    numbered-on number left (Some m) none s x = absurd cc
+
+    pub numbered-next : (number left next : ℕ) (o : Option Triple) → is_some o ≡ true → next + 1 ≡ left → left ≢ 1
+        → SeeksNumbered rule h d p old mid board number left → Seeks rule h d p mid new after o → SeeksNumbered rule h d p old new after number next
+    numbered-next number left next None some e other s x = absurd cc
+    numbered-next number left zero (Some m) some e other s x = absurd (other (omega (arith, e)))
+    numbered-next number left (suc k) (Some m) some e other s x =
+        let l : left - 1 ≡ suc k = omega (arith, e) in
+        let k1 : suc k - 1 ≡ k = omega arith in
+        record {
+          seeking = x.seeking;
+          some = omega arith;
+          same = λ goal. s.same goal ∙ rw (l, x.come goal, k1) refl;
+        }
+
+    pub numbered-found : (number left : ℕ) (o : Option Triple) → is_some o ≡ true → left ≡ 1 → SeeksNumbered rule h d p old mid board number left
+        → Seeks rule h d p mid new after o → FindsNumbered rule h d p old new after number o
+    numbered-found number left None some one s x = absurd cc
+    numbered-found number left (Some m) some one s x =
+        let l : left - 1 ≡ 0 = omega (arith, one) in
+        record {
+          here = λ goal. s.same goal ∙ rw (l, x.come goal) refl;
+          stands = (x.seeking, x.legal, x.full);
+        }
+
     pub counts-on : (count : ℕ) (o : Option Triple) → is_some o ≡ false → CountsOn rule h d p old mid board count → Seeks rule h d p mid new after o
         → CountsOn rule h d p old new after count
     counts-on count None none s x = record {
@@ -242,6 +284,11 @@ module _ (rule : RuleSet) (h d : ℕ) (p : Position) where
       fewer = λ goal. omega (arith, s.fewer goal, ap length (x.come goal));
       counts = λ goal. omega (arith, s.fewer goal, s.counts goal, ap length (x.come goal), e);
     }
+
+  pub numbered-none : (old mid : List Frame) (board : Position) (number left : ℕ) → mid ≡ [] → SeeksNumbered rule h d p old mid board number left
+      → FindsNumbered rule h d p old mid board number None
+  unfolding beginnings_to_come
+  numbered-none old mid board number left e s = record { here = λ goal. s.same goal ∙ rw e refl; stands = tt }
 
   pub counts-all : (old mid : List Frame) (board : Position) (count : ℕ) → mid ≡ [] → CountsOn rule h d p old mid board count
       → (goal : Goal) → count ≡ min (length (beginnings_to_come goal rule d p old)) (2 ^ 64 - 1)

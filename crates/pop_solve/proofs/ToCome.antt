@@ -22,7 +22,7 @@ map-path L m [] = refl
 map-path L m (x ∷ xs) = rw (append_assoc L (m ∷ []) x, map-path L m xs)
 
 -- the paths by a move and by the others, seen from the path before them
-turn : (b : Bool) (L : List Triple) (m : Triple) (xs ys rest : List (List Triple))
+pub turn : (b : Bool) (L : List Triple) (m : Triple) (xs ys rest : List (List Triple))
     → map (λ line. L ++ line) ((given_path b (m ∷ []) ++ map (λ line. m ∷ line) xs) ++ ys) ++ rest ≡ given_path b (L ++ m ∷ [])
     ++ (map (λ line. (L ++ m ∷ []) ++ line) xs ++ (map (λ line. L ++ line) ys ++ rest))
 turn b L m xs ys rest = search (rules, append_assoc, map-append, map-path)
@@ -191,7 +191,7 @@ module _ (rule : RuleSet) (plan : Plan) where
     unfolding smallest_tree
     fewest_for-last low q a white = search rules
 
-    skipped : (low : Bool) (fuel : ℕ) → seeks_last plan ≡ true → plan.goal ≡ Mate → (m : Triple) (ms : List Triple) → is_mating rule P m ≡ false
+    pub skipped : (low : Bool) (fuel : ℕ) → seeks_last plan ≡ true → plan.goal ≡ Mate → (m : Triple) (ms : List Triple) → is_mating rule P m ≡ false
         → shown plan (chess plan.goal rule) low fuel 1 P (m ∷ ms) ≡ shown plan (chess plan.goal rule) low fuel 1 P ms
     unfolding shown
     skipped low fuel last for m ms misses = search (rules, cases, ends, follows-help, follows-last, gives-last, goes_on-help, shown-next)

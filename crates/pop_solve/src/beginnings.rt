@@ -1,16 +1,18 @@
 //! The beginnings of the parts of a phase, one after another in the order of moves. They are walked over on frames at
 //! which no half-move is left, so that nothing more is tried from these once a part begins.
-ghost use Rattle.std.specs.Prelude.{◌≡◌, ◌<◌, ◌≤◌, ◌==◌, ◌-◌, ◌^◌, ◌||◌, ℕ, min, not, [], length, reverse, true};
+ghost use Rattle.std.specs.Prelude.{◌≡◌, ◌+◌, ◌-◌, ◌<◌, ◌≤◌, ◌==◌, ◌^◌, ◌||◌, ℕ, min, not, [], ◌∷◌, ◌++◌, length, reverse, slice_get, true, false, MatchOption, None, Some};
 ghost use Rattle.arrayvec.specs.ArrayVec.{array_vec_len};
 ghost use Rattle.chess_core.specs.Position.{Position};
+ghost use Rattle.chess_rules.specs.Legal.{legal};
 ghost use Rattle.pop_input.specs.declared.stipulation.Goal.{Goal};
 ghost use Rattle.pop_input.specs.Posed.{IsSound, rule_of};
 ghost use Rattle.pop_input.specs.Stipulations.{half_moves};
 ghost use Rattle.pop_solve.specs.Events.{is_barred, phase_half_moves as half_moves_of_phase, phase_start, start};
 ghost use Rattle.pop_solve.specs.Chess.{chess};
-ghost use Rattle.pop_solve.specs.Parts.{beginnings, part_depth as depth_of_parts, parts};
-ghost use Rattle.pop_solve.specs.ties.Beginnings.{beginnings_to_come, IsSeeking, Seeks};
+ghost use Rattle.pop_solve.specs.Parts.{beginnings, part_depth as depth_of_parts, part_numbered, parts};
+ghost use Rattle.pop_solve.specs.ties.Beginnings.{beginnings_to_come, FindsNumbered, IsSeeking, Seeks};
 ghost use Rattle.pop_solve.specs.ties.Frames.{opened};
+ghost use Rattle.pop_solve.specs.ties.Walk.{path};
 
 use crate::chess::next_move;
 use crate::event::Phase;
@@ -122,6 +124,70 @@ fn set_out<R: Rules, const N: usize>(
         ..Frame::default()
     });
     true
+}
+
+/// Goes to the beginning with a number, counted from 1, and answers its last move, which isn't played yet.
+fn seek_numbered<R: Rules, const N: usize>(
+    problem: &Problem,
+    phase: Phase,
+    depth: usize,
+    number: u64,
+    board: &mut Board,
+    frames: &mut ArrayVec<Frame<R>, N>,
+) -> Option<Move>
+    requires room { depth < N }
+    requires number { 1 ≤ number }
+    requires seeking { IsSeeking R.rule (half_moves_of_phase problem.now phase) depth
+        (phase_start problem.now phase) (reverse frames.old.items) board.old }
+    ensures found { FindsNumbered R.rule (half_moves_of_phase problem.now phase) depth
+        (phase_start problem.now phase) (reverse frames.old.items) (reverse frames.new.items)
+        board.new number result }
+{
+    let mut left = number;
+    while !frames.is_empty() {
+        let found = seek::<R, N>(depth, board, frames);
+        if found.is_some() {
+            if left == 1 {
+                return found;
+            }
+            left -= 1;
+        }
+    }
+    None
+}
+
+/// Goes to the part with a number, counted from 1, among those of a phase that `depth` moves tell apart. Answers the last
+/// of its first moves, which isn't played yet; the path to the top frame has those before it.
+pub(crate) fn go_to_part<R: Rules, const N: usize>(
+    problem: &Problem,
+    phase: Phase,
+    depth: usize,
+    number: u64,
+    board: &mut Board,
+    frames: &mut ArrayVec<Frame<R>, N>,
+) -> Option<Move>
+    requires sound { IsSound problem.now }
+    requires room { half_moves problem.now.stipulation < N }
+    requires depth { 1 ≤ depth }
+    requires board { board.old ≡ start problem.now }
+    requires none { frames.old.items ≡ [] }
+    ensures found { MatchOption result (part_numbered R.rule problem.now phase depth number ≡ None)
+        (λ m. (part_numbered R.rule problem.now phase depth number
+        ≡ Some (path (reverse frames.new.items) ++ m ∷ []))
+        × IsSeeking R.rule (half_moves_of_phase problem.now phase)
+        (depth_of_parts problem.now phase depth) (phase_start problem.now phase)
+        (reverse frames.new.items) board.new
+        × (legal R.rule board.new m ≡ true)
+        × (array_vec_len frames.new ≡ depth_of_parts problem.now phase depth)) }
+{
+    if number == 0 {
+        return None;
+    }
+    if !set_out::<R, N>(problem, phase, board, frames) {
+        return None;
+    }
+    let depth = part_depth(problem, phase, depth);
+    seek_numbered::<R, N>(problem, phase, depth, number, board, frames)
 }
 
 /// How many beginnings of `depth` moves are to come, up to the greatest u64.

@@ -138,7 +138,7 @@ fn seeking_last(plan: Plan) -> bool
 
 /// Whether each path that is given ends with the next half-move, which mates: the last one of play for mate, by a side
 /// that seeks it.
-fn ends_with_mate(plan: Plan, left: usize) -> bool
+pub(crate) fn ends_with_mate(plan: Plan, left: usize) -> bool
     ensures { IsTrue result ↔ ((is_for_mate plan.goal ≡ true) × (seeks_last plan ≡ true)
         × (left ≡ 1)) }
 {
@@ -197,7 +197,7 @@ pub(crate) fn opened_by(opened: u64, tried: usize, tested: bool) -> u64
 /// Plays a legal move, after which `left` half-moves are left, and opens the frame of the position after it where the
 /// walk follows the move. Answers whether its path is given.
 #[tactic(auto, using(chess_rules::proofs::listing_moves::Calls::playing), unfolding(crate::specs::ties::Walk::follows, crate::specs::ties::Walk::goes_on))]
-fn enter<R: Rules, const N: usize>(
+pub(crate) fn enter<R: Rules, const N: usize>(
     plan: Plan,
     root: bool,
     left: usize,

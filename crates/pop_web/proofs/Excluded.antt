@@ -1,31 +1,45 @@
--- What the clause of a page's call excludes: a report that is cut before the room is full, one that is lost, and a faulty text told as sound.
-use Rattle.std.proofs.Common.{Bool, List, Some, [], ap, arith, false, length, refl, sym, true, ℕ, ◌∙◌, ◌≡◌, ◌≢◌}
-use Rattle.pop_run.specs.Report.{Choice, entries_in, report, status}
-use Rattle.pop_run.specs.Run.{Runs}
-use Rattle.pop_run.specs.declared.status.Status.{Status}
+-- What the clauses of a page's calls exclude: a text that is cut before the room is full, one that is lost, a faulty text told as
+-- sound, a missing part told as shown.
+use Rattle.std.proofs.Common.{List, ap, arith, length, refl, ℕ, ◌∙◌, ◌≡◌, ◌≢◌}
+use Rattle.pop_run.specs.Report.{Choice, report, status}
 use Rattle.pop_run.specs.declared.status.Status.TheVariants.{Faulty, OutputFailed, Sound}
-use Rattle.pop_web.proofs.theorems.Page.{other_number}
-use Rattle.pop_web.specs.Page.{Shows, number_of, room, whole}
+use Rattle.pop_parts.specs.Parts.{list_text, outcome_of, text_of}
+use Rattle.pop_parts.specs.declared.asked.Asked.{Asked}
+use Rattle.pop_parts.specs.declared.asked.Outcome.TheVariants.{NoPart, OutputFailed as PartsCut, Shown}
+use Rattle.pop_web.proofs.Filled.{list_full, list_whole, part_full, part_whole, report_full, report_whole}
+use Rattle.pop_web.specs.Page.{Lists, Shows, ShowsParts, number_of, number_of_parts, room, whole}
 
 module _ (choice : Choice) (text shown : List ℕ) where
-  full : (cut : Bool) (ended : Status) → number_of OutputFailed ≡ number_of ended → Runs choice (whole text) (Some []) (Some shown) cut ended
-      → (cut ≡ true → length shown ≡ room) → length shown ≡ room
-  full false ended told (bytes, is) fills = absurd (other_number (entries_in (whole text)) (sym (told ∙ ap number_of is)))
-  full true ended told (begun, is) fills = fills refl
-
-  sound : (cut : Bool) (ended : Status) → number_of Sound ≡ number_of ended → Runs choice (whole text) (Some []) (Some shown) cut ended
-      → (shown ≡ report choice (whole text)) × (number_of Sound ≡ number_of (status (whole text)))
-  sound false ended told (bytes, is) = (bytes, told ∙ ap number_of is)
-  sound true ended told (begun, is) = absurd (let other : number_of Sound ≡ number_of OutputFailed = told ∙ ap number_of is in grind arith)
-
   -- a report isn't cut while there is room
   pub cut_report_fills_the_room : Shows choice text shown (number_of OutputFailed) → length shown ≢ room → ⊥
-  cut_report_fills_the_room s less = less (full s.cut s.status s.told s.runs s.full)
+  cut_report_fills_the_room f less = less (report_full _ _ _ _ f refl)
 
   -- other bytes aren't told as a sound text's report
   pub no_other_report : Shows choice text shown (number_of Sound) → shown ≢ report choice (whole text) → ⊥
-  no_other_report s other = other (sound s.cut s.status s.told s.runs).0
+  no_other_report f other = other (report_whole _ _ _ _ f (grind arith)).0
 
   -- a faulty text isn't told as sound
   pub faulty_text_is_told : Shows choice text shown (number_of Sound) → status (whole text) ≡ Faulty → ⊥
-  faulty_text_is_told s faulty = let same = (sound s.cut s.status s.told s.runs).1 ∙ ap number_of faulty in grind arith
+  faulty_text_is_told f faulty = let same = (report_whole _ _ _ _ f (grind arith)).1 ∙ ap number_of faulty in grind arith
+
+module _ (depth : ℕ) (text shown : List ℕ) where
+  -- a list isn't cut while there is room
+  pub cut_list_fills_the_room : Lists depth text shown (number_of OutputFailed) → length shown ≢ room → ⊥
+  cut_list_fills_the_room f less = less (list_full _ _ _ _ f refl)
+
+  -- other bytes aren't told as the list of a sound text
+  pub no_other_list : Lists depth text shown (number_of Sound) → shown ≢ list_text depth (whole text) → ⊥
+  no_other_list f other = other (list_whole _ _ _ _ f (grind arith)).0
+
+module _ (asked : Asked) (text shown : List ℕ) where
+  -- a part isn't cut while there is room
+  pub cut_part_fills_the_room : ShowsParts asked text shown (number_of_parts PartsCut) → length shown ≢ room → ⊥
+  cut_part_fills_the_room f less = less (part_full _ _ _ _ f refl)
+
+  -- other bytes aren't told as a part's
+  pub no_other_part : ShowsParts asked text shown (number_of_parts Shown) → shown ≢ text_of asked (whole text) → ⊥
+  no_other_part f other = other (part_whole _ _ _ _ f (grind arith)).0
+
+  -- a part that the phase doesn't have isn't told as shown
+  pub missing_part_is_told : ShowsParts asked text shown (number_of_parts Shown) → outcome_of asked (whole text) ≡ NoPart → ⊥
+  missing_part_is_told f missing = let same = (part_whole _ _ _ _ f (grind arith)).1 ∙ ap number_of_parts missing in grind arith

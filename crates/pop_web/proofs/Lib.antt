@@ -1,3 +1,4 @@
 pub mod Excluded
+pub mod Filled
 pub mod Showing
 pub mod theorems

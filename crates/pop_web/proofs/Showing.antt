@@ -1,19 +1,21 @@
--- What a run into memory shows.
-use Rattle.std.proofs.Common.{List, Some, [], arith, length, take, ℕ, ◌++◌, ◌<◌, ◌≡◌}
+-- What a call into memory shows.
+use Rattle.std.proofs.Common.{Bool, List, arith, length, take, ℕ, ◌++◌, ◌<◌, ◌≡◌}
 use Rattle.std.proofs.Math.Seq.{take-append_seam}
-use Rattle.pop_run.specs.Report.{Choice}
-use Rattle.pop_run.specs.Run.{Runs, grew}
-use Rattle.pop_run.specs.declared.status.Status.{Status}
-use Rattle.pop_web.specs.Page.{Kept, Shows, number_of, room, whole}
+use Rattle.pop_run.specs.Run.{grew}
+use Rattle.pop_web.specs.Page.{Fills, room}
 
--- the bytes that a sink kept, copied to the front of some room
-pub run_is_shown : (choice : Choice) (text copied kept rest : List ℕ) (sink : Kept) (answer : ℕ) (ended : Status)
-    → Runs choice (whole text) (Some []) (Some sink.taken) (grew 0 sink.failures) ended → kept ≡ sink.taken → copied ≡ kept
-    → (0 < sink.failures → length kept ≡ room) → answer ≡ number_of ended → Shows choice text (take (length kept) (copied ++ rest)) answer
-run_is_shown choice text copied kept rest sink answer ended runs is same full told = rw (same, take-append_seam kept rest) (record {
-  cut = grew 0 sink.failures;
-  status = ended;
+-- bytes copied to the front of some room
+pub copied_in_front : (copied kept rest : List ℕ) → copied ≡ kept → take (length kept) (copied ++ rest) ≡ kept
+copied_in_front copied kept rest same = rw same (take-append_seam kept rest)
+
+-- what a call wrote into a sink in memory
+pub call_is_shown : (Ending : Type 0) (number : Ending → ℕ) (Does : List ℕ → Bool → Ending → Type 0) (taken shown : List ℕ)
+    (failures answer : ℕ) (ending : Ending) → Does taken (grew 0 failures) ending → shown ≡ taken
+    → (0 < failures → length shown ≡ room) → answer ≡ number ending → Fills Ending number Does shown answer
+call_is_shown Ending number Does taken shown failures answer ending does same full told = record {
+  cut = grew 0 failures;
+  ending = ending;
   told = told;
-  runs = rw is runs;
+  does = rw same does;
   full = λ cut. full (grind arith);
-})
+}

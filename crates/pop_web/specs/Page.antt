@@ -1,10 +1,16 @@
 -- What a page is shown (own).
-use Rattle.std.specs.Prelude.{◌≡◌, ℕ, ◌^◌, List, [], length, Some, Bool, true}
+use Rattle.std.specs.Prelude.{◌≡◌, ℕ, ◌^◌, ◌==◌, List, [], length, Some, Bool, true, false, if◌then◌else◌}
 use Rattle.pop_text.specs.Words.{Input, Clean}
+use Rattle.pop_solve.specs.declared.event.Phase.{Phase}
+use Rattle.pop_solve.specs.declared.event.Phase.TheVariants.{Set, Play}
 use Rattle.pop_run.specs.Report.{Choice}
 use Rattle.pop_run.specs.Run.{Runs}
 use Rattle.pop_run.specs.declared.status.Status.{Status}
 use Rattle.pop_run.specs.declared.status.Status.TheVariants.{Sound, Faulty, InputFailed, OutputFailed}
+use Rattle.pop_parts.specs.Runs.{Lists as ListRuns, Shows as PartsRun}
+use Rattle.pop_parts.specs.declared.asked.Asked.{Asked}
+use Rattle.pop_parts.specs.declared.asked.Outcome.{Outcome}
+use Rattle.pop_parts.specs.declared.asked.Outcome.TheVariants.{Shown, NoItem, FaultyItem, NoPhase, NoPart, InputFailed as PartsBroken, OutputFailed as PartsCut}
 
 -- the bytes that a page has room for
 abbrev pub room : ℕ
@@ -30,11 +36,57 @@ number_of Faulty = 1
 number_of InputFailed = 2
 number_of OutputFailed = 3
 
--- The bytes are the report of the text, and the answer is the number of its status. Where the report is cut, they are its
--- beginning and fill the room, and the answer is the number of a failed output.
-pub record Shows (choice : Choice) (text shown : List ℕ) (answer : ℕ) : Type 0 where
+-- the number of what comes of parts
+abbrev pub number_of_parts : Outcome → ℕ
+number_of_parts Shown = 0
+number_of_parts FaultyItem = 1
+number_of_parts PartsBroken = 2
+number_of_parts PartsCut = 3
+number_of_parts NoItem = 5
+number_of_parts NoPhase = 6
+number_of_parts NoPart = 7
+
+-- the phase asked for
+abbrev pub phase_of : Bool → Phase
+phase_of true = Set
+phase_of false = Play
+
+-- how many moves tell the parts of help play apart: at least one
+abbrev pub depth_of : ℕ → ℕ
+depth_of depth = if depth == 0 then 1 else depth
+
+-- one part of the first item
+abbrev pub part_of : Bool → ℕ → ℕ → Asked
+part_of set_play depth number = record {
+  item = 1;
+  phase = phase_of set_play;
+  first = number;
+  last = number;
+  depth = depth_of depth;
+}
+
+-- A call into memory: the bytes are those that it writes, and the answer is the number of how it ends. Where it is cut,
+-- the bytes fill the room.
+pub record Fills (Ending : Type 0) (number : Ending → ℕ)
+    (Does : List ℕ → Bool → Ending → Type 0) (shown : List ℕ) (answer : ℕ) : Type 0 where
   pub cut : Bool
-  pub status : Status
-  pub told : answer ≡ number_of status
-  pub runs : Runs choice (whole text) (Some []) (Some shown) cut status
+  pub ending : Ending
+  pub told : answer ≡ number ending
+  pub does : Does shown cut ending
   pub full : cut ≡ true → length shown ≡ room
+
+-- The bytes are the report of the text, and the answer is the number of its status; or they are its beginning and fill the
+-- room, and the answer is the number of a failed output.
+abbrev pub Shows : Choice → List ℕ → List ℕ → ℕ → Type 0
+Shows choice text shown answer = Fills Status number_of
+    (λ bytes cut ending. Runs choice (whole text) (Some []) (Some bytes) cut ending) shown answer
+
+-- the same of the list of the text's parts
+abbrev pub Lists : ℕ → List ℕ → List ℕ → ℕ → Type 0
+Lists depth text shown answer = Fills Status number_of
+    (λ bytes cut ending. ListRuns depth (whole text) (Some []) (Some bytes) cut ending) shown answer
+
+-- the same of the text of parts
+abbrev pub ShowsParts : Asked → List ℕ → List ℕ → ℕ → Type 0
+ShowsParts asked text shown answer = Fills Outcome number_of_parts
+    (λ bytes cut ending. PartsRun asked (whole text) (Some []) (Some bytes) cut ending) shown answer

@@ -1,4 +1,4 @@
-//! The engine for a page: the report of a text by one call.
+//! The engine for a page: the report of a text, the list of its parts and one of them, each by one call.
 #![tactic(auto)]
 
 pub mod kept_sink;

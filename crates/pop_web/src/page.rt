@@ -1,14 +1,18 @@
-//! What a page calls.
+//! What a page calls: a text's report, the list of its parts, the solutions of one part.
 ghost use Rattle.std.specs.Prelude.{◌≡◌, ◌<◌, ◌≤◌, length, take};
-ghost use Rattle.pop_web.specs.Page.{Shows, number_of as number, room, too_short};
+ghost use Rattle.pop_web.specs.Page.{Lists, Shows, ShowsParts, depth_of as depth_by, number_of as number, number_of_parts as number_by, part_of as part_by, phase_of as phase_by, room, too_short};
 
 use crate::kept_sink::KeptSink;
 use crate::text_source::TextSource;
+use pop_parts::asked::{Asked, Outcome};
+use pop_parts::list::list_parts;
+use pop_parts::show::show_parts;
 use pop_run::run::run;
 use pop_run::settings::Settings;
 use pop_run::status::Status;
+use pop_solve::event::Phase;
 
-/// The bytes of report that a page has room for.
+/// The bytes that a page has room for.
 const ROOM: usize = 1 << 22;
 
 /// Puts the report of the input at the front of the output, and how many bytes it has into `written`.
@@ -39,17 +43,130 @@ pub extern "C" fn pops_report(
     ensures room { length output.new ≡ length output.old }
 {
     if output.len() < ROOM {
-        *written = 0;
-        return 4;
+        return refuse(written);
     }
     let settings = Settings { check, no_board };
     let mut source = TextSource::new(input);
     let mut sink = KeptSink::<ROOM>::new();
     let status = run(&settings, &mut source, &mut sink);
-    let text = sink.text();
-    output[..text.len()].copy_from_slice(text);
-    *written = text.len();
+    *written = hand_out(&sink, output);
     number_of(status)
+}
+
+/// Puts the list of the input's parts at the front of the output, a line an item, and how many bytes it has into
+/// `written`. `depth` moves tell the parts of help play apart, 0 as well as 1.
+///
+/// The answers are those of `pops_report`.
+#[unsafe(no_mangle)]
+pub extern "C" fn pops_list(
+    depth: usize,
+    input: &[u8],
+    output: &mut [u8],
+    written: &mut usize,
+) -> u32
+    ensures lists { room ≤ length output.old → Lists (depth_by depth) input.now
+        (take written.new output.new) result }
+    ensures short { length output.old < room → (result ≡ too_short) × (written.new ≡ 0)
+        × (output.new ≡ output.old) }
+    ensures inside { written.new ≤ length output.new }
+    ensures room { length output.new ≡ length output.old }
+{
+    if output.len() < ROOM {
+        return refuse(written);
+    }
+    let mut source = TextSource::new(input);
+    let mut sink = KeptSink::<ROOM>::new();
+    let ending = list_parts(depth_of(depth), &mut source, &mut sink);
+    *written = hand_out(&sink, output);
+    number_of(ending)
+}
+
+/// Puts the solutions of one part of the input's first problem, and their number, at the front of the output, and how
+/// many bytes they have into `written`. Parts are counted from 1; `depth` is that of the list.
+///
+/// | Answer | When |
+/// |---|---|
+/// | 0 | the part is there |
+/// | 1 | the problem is faulty |
+/// | 3 | the text is longer than 2^22 bytes: its first 2^22 are there |
+/// | 4 | the output has less room than 2^22 bytes: nothing is read or written |
+/// | 5 | the input has no problem |
+/// | 6 | the problem has no set play, which is asked for |
+/// | 7 | the phase has no such part |
+#[unsafe(no_mangle)]
+pub extern "C" fn pops_part(
+    set_play: bool,
+    depth: usize,
+    number: u64,
+    input: &[u8],
+    output: &mut [u8],
+    written: &mut usize,
+) -> u32
+    ensures shows { room ≤ length output.old → ShowsParts (part_by set_play depth number) input.now
+        (take written.new output.new) result }
+    ensures short { length output.old < room → (result ≡ too_short) × (written.new ≡ 0)
+        × (output.new ≡ output.old) }
+    ensures inside { written.new ≤ length output.new }
+    ensures room { length output.new ≡ length output.old }
+{
+    if output.len() < ROOM {
+        return refuse(written);
+    }
+    let asked = part_of(set_play, depth, number);
+    let mut source = TextSource::new(input);
+    let mut sink = KeptSink::<ROOM>::new();
+    let outcome = show_parts(&asked, &mut source, &mut sink);
+    *written = hand_out(&sink, output);
+    number_of_parts(outcome)
+}
+
+// Says that nothing was written, and answers that there is too little room.
+fn refuse(written: &mut usize) -> u32
+    ensures { (result ≡ too_short) × (written.new ≡ 0) }
+{
+    *written = 0;
+    4
+}
+
+// Puts what a sink kept at the front of the output, and answers how many bytes these are.
+fn hand_out(sink: &KeptSink<ROOM>, output: &mut [u8]) -> usize
+    requires { room ≤ length output.old }
+    ensures text { take result output.new ≡ sink.now.taken }
+    ensures full { 0 < sink.now.failures → length (take result output.new) ≡ room }
+    ensures inside { result ≤ length output.new }
+    ensures room { length output.new ≡ length output.old }
+{
+    let text = sink.text();
+    let count = text.len();
+    output[..count].copy_from_slice(text);
+    count
+}
+
+// How many moves tell parts apart: at least one.
+fn depth_of(depth: usize) -> usize
+    ensures { result ≡ depth_by depth }
+{
+    if depth == 0 { 1 } else { depth }
+}
+
+// One part of the first problem.
+fn part_of(set_play: bool, depth: usize, number: u64) -> Asked
+    ensures { result ≡ part_by set_play depth number }
+{
+    Asked {
+        item: 1,
+        phase: phase_of(set_play),
+        first: number,
+        last: number,
+        depth: depth_of(depth),
+    }
+}
+
+// The phase asked for.
+fn phase_of(set_play: bool) -> Phase
+    ensures { result ≡ phase_by set_play }
+{
+    if set_play { Phase::Set } else { Phase::Play }
 }
 
 // The number of a status.
@@ -61,5 +178,20 @@ fn number_of(status: Status) -> u32
         Status::Faulty => 1,
         Status::InputFailed => 2,
         Status::OutputFailed => 3,
+    }
+}
+
+// The number of what comes of parts.
+fn number_of_parts(outcome: Outcome) -> u32
+    ensures { result ≡ number_by outcome }
+{
+    match outcome {
+        Outcome::Shown => 0,
+        Outcome::FaultyItem => 1,
+        Outcome::InputFailed => 2,
+        Outcome::OutputFailed => 3,
+        Outcome::NoItem => 5,
+        Outcome::NoPhase => 6,
+        Outcome::NoPart => 7,
     }
 }

@@ -1,9 +1,10 @@
 -- What the frames of a walk over the beginnings of parts stand for: no half-move is left at any of them.
-use Rattle.std.specs.Prelude.{◌≡◌, ℕ, ◌-◌, ◌≤◌, ◌<◌, ◌==◌, Bool, true, ◌&&◌, List, [], ◌∷◌, ◌++◌, map, length, Option, Some, None, IfSome}
+use Rattle.std.specs.Prelude.{◌≡◌, ℕ, ◌-◌, ◌≤◌, ◌<◌, ◌==◌, Bool, true, List, [], ◌∷◌, ◌++◌, map, length, Option, Some, None, IfSome, slice_get}
+use Rattle.std.specs.Option.{option_map}
 use Rattle.std.specs.List.{flat_map, list_all}
 use Rattle.chess_core.specs.Position.{Position}
 use Rattle.chess_core.specs.Triple.{Triple}
-use Rattle.chess_rules.specs.Legal.{legal, moves as legal_moves}
+use Rattle.chess_rules.specs.Legal.{legal}
 use Rattle.chess_rules.specs.Play.{after as played}
 use Rattle.chess_rules.specs.RuleSet.{RuleSet}
 use Rattle.chess_rules.specs.ties.Places.{moves_behind}
@@ -54,7 +55,10 @@ pub record Seeks (rule : RuleSet) (h d : ℕ) (p : Position) (old new : List Fra
   pub full : IfSome found (λ m. length new ≡ d)
   pub falls : turns rule h p new < turns rule h p old
 
--- each of the moves from p on is legal where it is made
-unfoldable pub are_legal : RuleSet → Position → List Triple → Bool
-are_legal rule p [] = true
-are_legal rule p (m ∷ ms) = legal rule p m && are_legal rule (played rule p m) ms
+-- of the beginnings to come the one with a number, counted from 1, was found, or there are fewer
+pub record FindsNumbered (rule : RuleSet) (h d : ℕ) (p : Position) (old new : List Frame)
+    (board : Position) (number : ℕ) (found : Option Triple) : Type 0 where
+  pub here : (goal : Goal) → slice_get (beginnings_to_come goal rule d p old) (number - 1)
+      ≡ option_map (λ m. path new ++ m ∷ []) found
+  pub stands : IfSome found (λ m. IsSeeking rule h d p new board × (legal rule board m ≡ true)
+      × (length new ≡ d))

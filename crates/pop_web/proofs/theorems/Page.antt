@@ -1,35 +1,42 @@
--- What a page shows of a text is what the program writes of it: the same bytes, and the same status.
-use Rattle.std.proofs.Common.{Bool, List, Some, [], ap, ap₂, arith, false, length, refl, sym, take, true, ℕ, ◌∙◌, ◌≡◌, ◌≢◌}
-use Rattle.std.proofs.Math.Seq.{take-append_seam}
-use Rattle.pop_input.specs.Blocks.{Entry}
-use Rattle.pop_run.specs.Report.{Choice, entries_in, status_of}
+-- What a page is shown of a text is what the programs write of it: the same bytes, and the same status.
+use Rattle.std.proofs.Common.{List, Some, [], ap, false, sym, take, ℕ, ◌∙◌, ◌≡◌, ◌≢◌}
+use Rattle.pop_run.specs.Report.{Choice}
 use Rattle.pop_run.specs.Run.{Runs}
 use Rattle.pop_run.specs.declared.status.Status.{Status}
 use Rattle.pop_run.specs.declared.status.Status.TheVariants.{OutputFailed}
-use Rattle.pop_web.specs.Page.{Shows, number_of, room, whole}
+use Rattle.pop_parts.specs.Runs.{Lists as ListRuns, Shows as PartsRun}
+use Rattle.pop_parts.specs.declared.asked.Asked.{Asked}
+use Rattle.pop_parts.specs.declared.asked.Outcome.{Outcome}
+use Rattle.pop_parts.specs.declared.asked.Outcome.TheVariants.{OutputFailed as PartsCut}
+use Rattle.pop_web.proofs.Filled.{list_first, list_whole, part_first, part_whole, report_first, report_whole}
+use Rattle.pop_web.specs.Page.{Lists, Shows, ShowsParts, number_of, number_of_parts, room, whole}
 
--- no input has the number of a failed output
-pub other_number : (entries : List Entry) → number_of (status_of entries) ≢ number_of OutputFailed
-unfolding status_of
-other_number entries = grind arith
-
--- a page that was shown bytes of a text, beside a program that wrote its report
-module _ (choice : Choice) (text shown written : List ℕ) (answer : ℕ) (ends : Status) (writes : Runs choice (whole text) (Some []) (Some written) false ends) where
-  same : (cut : Bool) (ended : Status) → answer ≡ number_of ended → Runs choice (whole text) (Some []) (Some shown) cut ended
-      → answer ≢ number_of OutputFailed → (shown ≡ written) × (answer ≡ number_of ends)
-  same false ended told (bytes, is) other = (bytes ∙ sym writes.0, told ∙ ap number_of (is ∙ sym writes.1))
-  same true ended told (begun, is) other = absurd (other (told ∙ ap number_of is))
-
-  first : (cut : Bool) (ended : Status) → answer ≡ number_of ended → Runs choice (whole text) (Some []) (Some shown) cut ended
-      → (cut ≡ true → length shown ≡ room) → answer ≡ number_of OutputFailed → shown ≡ take room written
-  first false ended told (bytes, is) full over = absurd (other_number (entries_in (whole text)) (sym (ap number_of is) ∙ sym told ∙ over))
-  first true ended told (begun, is) full over = begun.taken ∙ sym (take-append_seam begun.front begun.rest)
-      ∙ ap₂ (λ n bytes. take n bytes) (sym (ap length begun.taken) ∙ full refl) (sym (writes.0 ∙ begun.whole))
-
+-- a page that was shown bytes of a text, beside the program pops that wrote its report
+module _ (choice : Choice) (text shown written : List ℕ) (answer : ℕ) (ends : Status)
+    (writes : Runs choice (whole text) (Some []) (Some written) false ends) where
   -- where the report isn't cut, the bytes are those that the program writes, and the answer is the number of its status
   pub same_as_the_program : Shows choice text shown answer → answer ≢ number_of OutputFailed → (shown ≡ written) × (answer ≡ number_of ends)
-  same_as_the_program s other = same s.cut s.status s.told s.runs other
+  same_as_the_program f other = let it = report_whole _ _ _ _ f other in (it.0 ∙ sym writes.0, it.1 ∙ ap number_of (sym writes.1))
 
   -- where it is cut, they are the first of these, as many as the page has room for
   pub first_of_the_program : Shows choice text shown answer → answer ≡ number_of OutputFailed → shown ≡ take room written
-  first_of_the_program s over = first s.cut s.status s.told s.runs s.full over
+  first_of_the_program f over = report_first _ _ _ _ f over ∙ ap (λ now. take room now) (sym writes.0)
+
+-- the same of the list of the text's parts, beside the program pops-part that wrote it
+module _ (depth : ℕ) (text shown written : List ℕ) (answer : ℕ) (ends : Status)
+    (writes : ListRuns depth (whole text) (Some []) (Some written) false ends) where
+  pub same_list_as_the_program : Lists depth text shown answer → answer ≢ number_of OutputFailed → (shown ≡ written) × (answer ≡ number_of ends)
+  same_list_as_the_program f other = let it = list_whole _ _ _ _ f other in (it.0 ∙ sym writes.0, it.1 ∙ ap number_of (sym writes.1))
+
+  pub first_of_the_list : Lists depth text shown answer → answer ≡ number_of OutputFailed → shown ≡ take room written
+  first_of_the_list f over = list_first _ _ _ _ f over ∙ ap (λ now. take room now) (sym writes.0)
+
+-- the same of parts, beside the program pops-part that wrote them
+module _ (asked : Asked) (text shown written : List ℕ) (answer : ℕ) (ends : Outcome)
+    (writes : PartsRun asked (whole text) (Some []) (Some written) false ends) where
+  pub same_part_as_the_program : ShowsParts asked text shown answer → answer ≢ number_of_parts PartsCut
+      → (shown ≡ written) × (answer ≡ number_of_parts ends)
+  same_part_as_the_program f other = let it = part_whole _ _ _ _ f other in (it.0 ∙ sym writes.0, it.1 ∙ ap number_of_parts (sym writes.1))
+
+  pub first_of_the_part : ShowsParts asked text shown answer → answer ≡ number_of_parts PartsCut → shown ≡ take room written
+  first_of_the_part f over = part_first _ _ _ _ f over ∙ ap (λ now. take room now) (sym writes.0)

@@ -1,4 +1,4 @@
-use Rattle.pop_solve.proofs.Words.{refl}
+use Rattle.pop_solve.proofs.Words.{phase_start, refl, rules, ◌≡◌}
 use Rattle.pop_solve.proofs.Seeking as seeking
 use Rattle.pop_solve.proofs.Sound.{start_sound}
 use Rattle.pop_solve.proofs.Walking as walking
@@ -6,7 +6,7 @@ use Rattle.pop_solve.proofs.beginnings.set_out.Goals as goal
 
 pub returns-clause-seeking : goal.returns-clause-seeking
 returns-clause-seeking g c = λ sound there d some room.
-    let set = rw c.if-not-set_up.false at c.set_up.ensures.board in
+    let set : c.set_up.new.board ≡ phase_start c.args.problem.now c.args.phase = search (rules, rw c.if-not-set_up.false at c.set_up.ensures.board) in
     rw (c.push-2.ensures.items, walking.reverse-push, c.requires.none)
     (seeking.seeking-begun g.R.Rules.rule _ _ refl _ d _ refl some room set (rw set (start_sound c.args.problem.now sound c.args.phase)))
 

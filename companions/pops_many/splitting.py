@@ -1,0 +1,188 @@
+"""Solves problems in parts, on this machine and on others, and puts their reports together."""
+
+from concurrent.futures import FIRST_COMPLETED, Future, ThreadPoolExecutor, wait
+from typing import Callable, Dict, Iterator, List, Optional, Sequence, Tuple
+
+from pops_many.in_parts import ProblemInParts, Tally
+from pops_many.journal import Journal
+from pops_many.machines import Machines, MachinesError
+from pops_many.part_program import PartProgram
+from pops_many.parts import Part, PartsError, head_of, limit_of
+from pops_many.parts_there import PartsThere
+from pops_many.program import SOUND, Program, RunError
+from pops_many.progress import Progress
+from pops_many.tasks import Result, Task
+
+# A part that came to no end is tried so many times in all on this machine.
+_TRIES = 2
+
+
+class Splitting:
+    """The problems of a run that took longer than a moment, cut into parts."""
+
+    def __init__(
+        self,
+        checking: Program,
+        program: PartProgram,
+        journal: Journal,
+        progress: Progress,
+        finish: Callable[[Result], None],
+    ):
+        self._checking = checking
+        self._program = program
+        self._journal = journal
+        self._progress = progress
+        self._finish = finish
+        self._problems: Dict[int, ProblemInParts] = {}
+        self._failed: Dict[int, Tuple[Task, str]] = {}
+
+    @property
+    def failed(self) -> List[Tuple[Task, str]]:
+        """The problems that came to no end, with the reasons."""
+        return list(self._failed.values())
+
+    def cut(self, tasks: Sequence[Task]) -> None:
+        """Cuts problems up that aren't yet."""
+        for task in tasks:
+            if task.place not in self._problems:
+                try:
+                    self._cut(task)
+                except (PartsError, RunError) as error:
+                    self._failed[task.place] = (task, str(error))
+
+    def _cut(self, task: Task) -> None:
+        """Lists a problem's parts, and takes up those that the journal has."""
+        checked = self._checking.solve(task)
+        if checked.status != SOUND:
+            self._finish(checked)
+            return
+        text = task.text_without_line_ends
+        head, phases = head_of(checked.report), self._program.phases(text)
+        problem = ProblemInParts(task, head, phases, limit_of(text), self._program.depth)
+        self._problems[task.place] = problem
+        for part in problem.parts():
+            if part.key in self._journal.parts:
+                problem.keep(part, self._journal.part(part))
+        self._join(problem)
+
+    def run(self, there: Optional[PartsThere], jobs: int) -> None:
+        """Solves the parts, so many at a time on this machine, where no others take them."""
+        self._tell()
+        barred: List[Part] = []
+        if there is not None:
+            sent = [part for part in self._left() if Machines.takes(part.task)]
+            try:
+                there.run(sent, self._keep, self._is_needless)
+            except MachinesError as error:
+                barred = sent
+                self._fail(sent, str(error))
+        keys = {part.key for part in barred}
+        self._run_here([part for part in self._left() if part.key not in keys], jobs)
+
+    def _fail(self, parts: Sequence[Part], reason: str) -> None:
+        for part in parts:
+            if not self._is_needless(part):
+                told = f"part {part.number} of the {part.phase}: {reason}"
+                self._failed.setdefault(part.task.place, (part.task, told))
+
+    def _left(self) -> Iterator[Part]:
+        for _, problem in sorted(self._problems.items()):
+            for part in problem.parts():
+                if not problem.is_needless(part):
+                    yield part
+
+    def _tell(self) -> None:
+        """Tells how far the first problem is that isn't done."""
+        for _, problem in sorted(self._problems.items()):
+            if not problem.is_done:
+                self._progress.begin_parts(self._parts_left())
+                self._progress.part(*self._how_far(problem))
+                return
+
+    def _how_far(self, problem: ProblemInParts) -> Tuple[str, Tally, int, int]:
+        return problem.task.shown, problem.tally, problem.found, self._parts_left()
+
+    def _parts_left(self) -> int:
+        tallies = [problem.tally for problem in self._problems.values()]
+        return sum(of_all - done for done, of_all in tallies)
+
+    def _is_needless(self, part: Part) -> bool:
+        return self._problems[part.task.place].is_needless(part)
+
+    def _keep(self, part: Part, report: bytes) -> bool:
+        """Takes a part that is done; the problem's report is made with its last one.
+
+        Whether others matter no more by it.
+        """
+        if self._is_needless(part):
+            return False
+        problem = self._problems[part.task.place]
+        self._journal.keep_part(part, report)
+        fewer = problem.keep(part, report)
+        self._progress.part(*self._how_far(problem))
+        self._join(problem)
+        return fewer
+
+    def _join(self, problem: ProblemInParts) -> None:
+        """Hands on the report of a problem whose parts are done."""
+        task = problem.task
+        if not problem.is_done:
+            return
+        report = problem.report(self._journal.part)
+        # What pops wrote in its first moments is how the report begins.
+        if self._journal.has_unfinished(task.place):
+            if not report.startswith(self._journal.report(task.place)):
+                reason = "its parts don't make the report that pops begins"
+                self._failed[task.place] = (task, reason)
+                return
+        self._finish(Result(task, SOUND, report))
+
+    def _run_here(self, parts: Sequence[Part], jobs: int) -> None:
+        waiting = iter(parts)
+        running: "Dict[Future[bytes], Part]" = {}
+        with ThreadPoolExecutor(jobs) as pool:
+            try:
+                while True:
+                    while len(running) < jobs:
+                        part = next((it for it in waiting if not self._is_needless(it)), None)
+                        if part is None:
+                            break
+                        running[pool.submit(self._tried, part)] = part
+                    if not running:
+                        return
+                    done, _ = wait(running, return_when=FIRST_COMPLETED)
+                    if any([self._take(future, running.pop(future)) for future in done]):
+                        for part in filter(self._is_needless, running.values()):
+                            self._program.drop(part)
+            except BaseException:
+                self._program.stop()
+                raise
+
+    def _take(self, future: "Future[bytes]", part: Part) -> bool:
+        """Takes what came of a part. Whether others matter no more by it."""
+        try:
+            return self._keep(part, future.result())
+        except RunError as error:
+            self._fail([part], str(error))
+            return False
+
+    def _tried(self, part: Part) -> bytes:
+        """The report of a part, which is tried once more where it came to no end."""
+        for tried in range(1, _TRIES + 1):
+            try:
+                return self._program.report(part)
+            except RunError as error:
+                if tried == _TRIES or self._program.is_over(part):
+                    raise
+                self._progress.say(f"{part.shown}: {error}; tried once more")
+        raise AssertionError("a part is tried at least once")
+
+    def lines_found(self, place: int) -> Optional[Tuple[bytes, str]]:
+        """What is known of a problem that isn't done, and how far it is; None of another one."""
+        problem = self._problems.get(place)
+        if problem is None:
+            return None
+        first = self._journal.report(place) if self._journal.has_unfinished(place) else b""
+        lines = problem.lines_found(self._journal.part, self._program.begun, first)
+        done, of_all = problem.tally
+        return lines, f"stopped with {done} of {of_all} parts done"

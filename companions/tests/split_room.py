@@ -1,0 +1,104 @@
+"""A room with a problem in many parts, and programs in the place of pops and pops-part."""
+
+from pathlib import Path
+from typing import List
+
+import parts_told
+import support
+from six_problems import SixProblems
+
+from pops_many.machines import PROBE
+
+# A helpmate of seven first moves, three of which have most solutions; its set play has nineteen.
+PROBLEM = b"""BeginProblem
+Pieces White Kg6 Ra1 Black Kh8 Pa7b7c7
+Stipulation h#2
+Option SetPlay%s
+EndProblem
+"""
+
+# In the place of pops: on the whole problem it is slow, and writes two solutions and no end.
+_POPS = """#!/bin/sh
+case "$*" in *--check*) exec {pops} "$@" ;; esac
+text=$(cat)
+case $text in *Pa7*) printf %s "$text" | {pops} | head -n 34; exec sleep 60 ;; esac
+printf %s "$text" | exec {pops} "$@"
+"""
+# In the place of pops-part: it notes each part that it is asked for, and on some does otherwise.
+_POPS_PART = """#!/bin/sh
+case $(cat) in *Pa7*) of=problem ;; *) of=probe ;; esac
+if [ "$1" = --list ]; then echo $of >> "{room}/lists"; exec cat "{room}/told/$of/list-$3"; fi
+part=$4-$6
+[ $of = probe ] || echo "$part" >> "{room}/parts"
+case $of-$part in {pattern}) {then} ;; esac
+exec cat "{room}/told/$of/$part-$8"
+"""
+
+
+class SplitRoom(SixProblems):
+    """A room with an input of one problem in many parts."""
+
+    def setUp(self) -> None:
+        super().setUp()
+        self.rest = Path(f"{self.report}.unfinished")
+        self.pose(b"")
+
+    def pose(self, options: bytes) -> None:
+        """Poses the problem with more options."""
+        text = PROBLEM % options
+        self.input.write_bytes(text)
+        self.wanted = support.run([support.pops(), str(self.input)]).output
+        self.write("stand_in", _POPS.format(pops=support.pops()))
+        for name, of in (("problem", text.replace(b"EndProblem\n", b"End")), ("probe", PROBE)):
+            self.tell(name, of)
+
+    def write(self, name: str, text: str) -> str:
+        """Writes a program."""
+        path = self.room / name
+        path.write_text(text)
+        path.chmod(0o755)
+        return str(path)
+
+    def tell(self, name: str, text: bytes) -> None:
+        """Writes files of what pops-part tells of a problem."""
+        folder = self.room / "told" / name
+        folder.mkdir(parents=True, exist_ok=True)
+        for depth in (1, 2):
+            told = parts_told.told(text, depth)
+            (folder / f"list-{depth}").write_bytes(told.listed)
+            for phase, reports in told.parts.items():
+                for number, report in enumerate(reports, start=1):
+                    (folder / f"{phase}-{number}-{depth}").write_bytes(report)
+
+    def pops_part(self, pattern: str = "none", then: str = ":") -> str:
+        """A program of parts that does so on these parts, as `problem-play-2`."""
+        return self.write(
+            "pops_part", _POPS_PART.format(room=self.room, pattern=pattern, then=then)
+        )
+
+    def words_of_split(self, pops_part: str, *more: str) -> List[str]:
+        words = ["--split", "--split-after", "0.4", "--pops-part", pops_part]
+        words += ["--pops", str(self.room / "stand_in"), "-o", str(self.report), str(self.input)]
+        return words + list(more)
+
+    def split(self, pops_part: str, *more: str) -> support.Outcome:
+        return support.companion("pops-many", *self.words_of_split(pops_part, *more))
+
+    def parts(self) -> List[str]:
+        """The parts that were asked for, in that order."""
+        path = self.room / "parts"
+        return path.read_text().splitlines() if path.exists() else []
+
+    def lists(self) -> List[str]:
+        """The problems of which a list was asked for."""
+        return (self.room / "lists").read_text().splitlines()
+
+    def forget(self) -> None:
+        """Takes away what a run left."""
+        for path in (self.room / "parts", self.report, self.journal, self.rest):
+            if path.exists():
+                path.unlink()
+
+    def files(self) -> List[str]:
+        own = {"parts", "lists", "pops_part", "told", "failed", "ssh"}
+        return [name for name in super().files() if name not in own]

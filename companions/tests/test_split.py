@@ -1,0 +1,273 @@
+"""pops-many --split: problems in parts have the bytes and the status of one run of pops."""
+
+import io
+import random
+import re
+import tempfile
+import unittest
+from pathlib import Path
+from typing import List, Optional, Sequence, Tuple
+from unittest import mock
+
+import made_inputs
+import parts_told
+import problems_in_parts
+import support
+
+from pops_many.in_parts import ProblemInParts
+from pops_many.part_program import PartProgram
+from pops_many.parts import (
+    Key,
+    Part,
+    PartsError,
+    Phase,
+    count_in,
+    limit_of,
+    phases_listed,
+    solutions_in,
+)
+from pops_many.program import Program
+from pops_many.progress import Progress
+from pops_many.tasks import UNFINISHED, Source, Task, tasks_of
+
+MANY = support.loaded("pops-many")
+# A program that is there; what it tells is asked for within this process.
+NAMED = "/bin/true"
+DATA = support.COMPANIONS / "data"
+
+
+class Slow(Program):
+    """pops, of which every sound problem takes longer than a moment: half of its lines are read."""
+
+    cut = 0
+
+    def _one(self, text: bytes) -> Tuple[int, bytes]:
+        status, report = super()._one(text)
+        if self.seconds is None or status != 0:
+            return status, report
+        Slow.cut += 1
+        return UNFINISHED, report[: len(report) // 2]
+
+
+class Told(PartProgram):
+    """pops-part, asked for all parts of a phase at once."""
+
+    def _answer(
+        self, words: Sequence[str], text: bytes, key: Optional[Key]
+    ) -> Tuple[int, bytes, bytes]:
+        return 0, parts_told.answer(words, text), b""
+
+
+def split(path: Path, *words: str) -> Tuple[int, bytes]:
+    """Status and output of pops-many, each sound problem in parts, within this process."""
+    target = io.BytesIO()
+    settings = MANY.arguments(
+        ["--pops", support.pops(), "--pops-part", NAMED, "--split", "--jobs", "2", *words]
+        + [str(path)]
+    )
+    with mock.patch.multiple(MANY, Program=Slow, PartProgram=Told):
+        status = MANY.solve(settings, target)
+    return status, target.getvalue()
+
+
+class AsPops(unittest.TestCase):
+    @classmethod
+    def setUpClass(cls) -> None:
+        if parts_told.program() is None:
+            print("pops-part: not built, so a stand-in told the parts")
+
+    def setUp(self) -> None:
+        room = tempfile.TemporaryDirectory()
+        self.addCleanup(room.cleanup)
+        self.room = Path(room.name)
+
+    def is_as_pops(self, text: bytes, *words: str) -> int:
+        """One input against one run of pops. How many problems were cut."""
+        path = self.room / "input.pop"
+        path.write_bytes(text)
+        options = [word for word in words if word == "--no-board"]
+        wanted = support.run([support.pops(), *options, str(path)])
+        before = Slow.cut
+        self.assertEqual(split(path, *words), (wanted.status, wanted.output))
+        return Slow.cut - before
+
+    def test_all_forms(self) -> None:
+        cut = 0
+        for number, text in enumerate(problems_in_parts.made_inputs(300)):
+            with self.subTest(number):
+                words = ["--no-board"] * (number % 2)
+                cut += self.is_as_pops(text, "--split-depth", str(1 + number % 3), *words)
+        self.assertGreater(cut, 400)
+
+    def test_every_row_and_example(self) -> None:
+        cut = 0
+        for path in support.stored_inputs():
+            text = path.read_bytes()
+            if support.is_for_check(path):
+                continue
+            for depth in self.depths(text):
+                with self.subTest(path=path.name, depth=depth):
+                    cut += self.is_as_pops(text, "--split-depth", str(depth))
+        self.assertGreater(cut, 80)
+
+    @staticmethod
+    def depths(text: bytes) -> List[int]:
+        """In help play 1 to 3, as long as there aren't too many parts."""
+        if re.search(rb"\bh[#=]", text, re.IGNORECASE) is None:
+            return [1]
+        tasks = tasks_of([Source(None, text)])
+        texts = [task.text_without_line_ends for task in tasks]
+        return [it for it in (1, 2, 3) if sum(parts_told.count(one, it) for one in texts) < 1000]
+
+    def test_problems_that_take_long(self) -> None:
+        self.is_as_pops((DATA / "parts.pop").read_bytes())
+
+    def test_made_texts(self) -> None:
+        chance = random.Random(20)
+        cut = 0
+        for number in range(100):
+            with self.subTest(number):
+                text = made_inputs.made_input(chance)
+                cut += self.is_as_pops(text, "--split-depth", str(1 + number % 3))
+        self.assertGreater(cut, 60)
+
+
+class Texts(unittest.TestCase):
+    def test_lists(self) -> None:
+        self.assertEqual(phases_listed(b"1: play 30\n"), [Phase("play", 30)])
+        self.assertEqual(
+            phases_listed(b"1: set 18, play 31\n"), [Phase("set", 18), Phase("play", 31)]
+        )
+        self.assertEqual(
+            phases_listed(b"1: set not possible, play 0\n"), [Phase("set", None), Phase("play", 0)]
+        )
+        for text in (b"", b"1: faulty\n", b"2: play 1\n", b"1: play 1", b"1: play 1\n2: play 1\n"):
+            with self.subTest(text), self.assertRaises(PartsError):
+                phases_listed(text)
+        with self.assertRaisesRegex(PartsError, "--split-depth"):
+            phases_listed(b"1: play 100001\n")
+
+    def test_limits(self) -> None:
+        cases = [
+            (b"Beg Opt MaxSolutions 5 End", 5),
+            (b"Beg Opt max\n\n 007\nEnd", 7),
+            (b"Beg Opt MAXSOL 5 Opt Var Max 4000000000 End", 4000000000),
+            (b"Beg Opt MaxSol\rAuthor 3\xff\r\ntit 4 End\n5 Rem Max 6\nEnd", 5),
+            (b"Beg Title MaxSolutions 5\nRem Max 2\nEnd", None),
+            (b"Beg Opt Var End", None),
+        ]
+        for text, wanted in cases:
+            with self.subTest(text):
+                self.assertEqual(limit_of(text), wanted)
+        with self.assertRaises(PartsError):
+            limit_of(b"Beg Opt MaxSol Var End")
+
+    def test_solutions(self) -> None:
+        self.assertEqual(solutions_in(b""), [])
+        self.assertEqual(
+            solutions_in(b"1.a\n  1...b\n    2.c\n1.d\n"), [b"1.a\n  1...b\n    2.c\n", b"1.d\n"]
+        )
+        cases = [
+            (b"solutions: 0\n", 0),
+            (b"1.a\n  1...b\n    2.c\n1.d\nsolutions: 2\n", 2),
+            (b"1.a\nsolutions: 1, stopped\n", 1),
+            (b"", None),
+            (b"1.a\n", None),
+            (b"1.a\nsolutions: 1", None),
+            (b"1.a\nsolutions: 2\n", None),
+            (b"1.a\nsolutions: 0\n", None),
+            (b"solutions: 0\n1.a\n", None),
+        ]
+        for report, count in cases:
+            with self.subTest(report):
+                self.assertEqual(count_in(report), count)
+
+    def test_progress(self) -> None:
+        progress = Progress("pops-many")
+        progress.begin_parts(40)
+        name = "problem 14 (x.pop, line 3)"
+        self.assertEqual(
+            progress.line_of_parts(name, (0, 31), 1, 5),
+            f"pops-many: {name}: 0 of 31 parts, 1 solution",
+        )
+        progress.part(name, (10, 31), 3, 30)
+        self.assertEqual(
+            progress.line_of_parts(name, (10, 31), 3, 20),
+            f"pops-many: {name}: 10 of 31 parts, 3 solutions, about 1:00 left",
+        )
+
+
+class Problems(unittest.TestCase):
+    """What is known of a problem, whatever the order in which its parts are done."""
+
+    def problem(self, limit: Optional[int]) -> ProblemInParts:
+        self.task: Task = tasks_of([Source(None, b"")])[0]
+        return ProblemInParts(self.task, b"", [Phase("set", 2), Phase("play", 8)], limit, 1)
+
+    def part(self, number: int, phase: str = "play") -> Part:
+        return Part(self.task, phase, number, 1)
+
+    @staticmethod
+    def report(count: int) -> bytes:
+        return b"1.a\n" * count + b"solutions: %d\n" % count
+
+    def needless(self, problem: ProblemInParts) -> str:
+        return "".join(str(part.number) for part in problem.parts() if problem.is_needless(part))
+
+    def test_parts_behind_enough_solutions_are_needless(self) -> None:
+        problem = self.problem(3)
+        steps = [
+            (6, 2, False, "6"),
+            (1, 0, False, "16"),
+            (7, 1, True, "1678"),
+            (4, 1, True, "14678"),
+            (2, 3, True, "12345678"),
+        ]
+        for number, count, fewer, needless in steps:
+            self.assertFalse(problem.is_needless(self.part(number)))
+            self.assertEqual(problem.keep(self.part(number), self.report(count)), fewer)
+            self.assertEqual(self.needless(problem), needless)
+        self.assertEqual((problem.tally, problem.found), ((2, 4), 3))
+        self.assertFalse(problem.is_done)
+        for number in (1, 2):
+            self.assertFalse(problem.is_needless(self.part(number, "set")))
+            problem.keep(self.part(number, "set"), self.report(0))
+        self.assertTrue(problem.is_done)
+
+    def test_what_is_known_of_an_unfinished_problem(self) -> None:
+        problem = self.problem(4)
+        first = b"1.a\n  1...b\n    2.c\n  1...d\n1.e\n  1...f\n"
+        reports = {
+            self.part(2).key: b"1.e\n  1...f\n    2.g\nsolutions: 1\n",
+            self.part(4).key: b"1.i\n1.j\nsolutions: 2\n",
+        }
+        # Of the first part less is known than pops wrote, of the second one more.
+        begun = {self.part(1).key: b"1.a\n  1...b\n", self.part(3).key: b"1.h\n"}
+        for number in (1, 2):
+            problem.keep(self.part(number, "set"), self.report(0))
+        for number in (2, 4):
+            problem.keep(self.part(number), reports[self.part(number).key])
+
+        def read(part: Part) -> bytes:
+            return reports[part.key]
+
+        whole = b"set\nnot possible\nplay\n" + first
+        self.assertEqual(
+            problem.lines_found(read, begun, whole),
+            b"set\nsolutions: 0\nplay\n"
+            b"1.a\n  1...b\n    2.c\n  1...d\n1.e\n  1...f\n    2.g\n1.h\n1.i\n",
+        )
+        self.assertEqual(
+            problem.lines_found(read, {}, b""),
+            b"set\nsolutions: 0\nplay\n1.e\n  1...f\n    2.g\n1.i\n1.j\n",
+        )
+
+    def test_without_a_limit_all_matter(self) -> None:
+        problem = self.problem(None)
+        for number in range(1, 9):
+            self.assertFalse(problem.keep(self.part(number), self.report(1000)))
+        self.assertEqual((problem.tally, problem.found), ((8, 10), 8000))
+
+
+if __name__ == "__main__":
+    unittest.main()

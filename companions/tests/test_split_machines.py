@@ -1,0 +1,212 @@
+"""pops-many --split on other machines: parts that fail there, limits, and what is found of them."""
+
+import shutil
+import signal
+import time
+import unittest
+from pathlib import Path
+from typing import List
+
+import support
+from six_problems import wait_for
+from split_room import SplitRoom
+
+from pops_many import sessions
+from pops_many.machines import logins_of
+from pops_many.parallel import machine_of
+
+# In the place of ssh: the command runs here, and knows the machine that it was for.
+_SSH = """#!/bin/bash
+while [ $# -gt 0 ]; do case $1 in -o|-l|-p|-S) shift 2 ;; -*) shift ;; *) break ;; esac; done
+export MACHINE=$1; shift
+[ "$1" = -- ] && shift
+exec bash -c "$*"
+"""
+
+
+def has_gnu_parallel() -> bool:
+    parallel = shutil.which("parallel")
+    if parallel is None:
+        return False
+    return b"GNU parallel" in support.run([parallel, "--version"]).output
+
+
+class Machines(SplitRoom):
+    """A run on two machines, one of them with two jobs at a time by its name."""
+
+    def setUp(self) -> None:
+        super().setUp()
+        self.where = f"problem 1 ({self.input}, line 1)"
+
+    def words_there(self, pops_part: str, *more: str, logins: str = "one,2/two") -> List[str]:
+        ssh = self.write("ssh", _SSH)
+        words = self.words_of_split(pops_part, "--sshlogin", logins, "--ssh", ssh, *more)
+        words += ["--remote-pops", str(self.room / "stand_in"), "--remote-pops-part", pops_part]
+        return words
+
+    def there(self, pops_part: str, *more: str, logins: str = "one,2/two") -> support.Outcome:
+        return support.companion("pops-many", *self.words_there(pops_part, *more, logins=logins))
+
+    def is_solved(self, outcome: support.Outcome) -> None:
+        self.assertEqual((outcome.status, outcome.output), (0, b""), outcome.error)
+        self.assertEqual(self.report.read_bytes(), self.wanted)
+        self.assertEqual(self.files(), ["six.report"])
+
+
+class Fails(Machines):
+    def test_a_part_that_fails_on_one_machine_is_tried_on_another(self) -> None:
+        # On whichever machine it comes first.
+        then = f"if mkdir {self.room}/failed; then exit 7; fi 2> /dev/null"
+        outcome = self.there(self.pops_part("problem-play-2", then))
+        self.is_solved(outcome)
+        self.assertRegex(
+            outcome.error,
+            r"^pops-many: part 2 of the play of problem 1 \(.*, line 1\) failed on machine (one|two):"
+            r" tried elsewhere: pops-part ended with status 7\n$",
+        )
+        self.assertEqual(self.parts().count("play-2"), 2)
+        (self.room / "failed").rmdir()
+
+    def test_a_part_that_fails_on_all_machines_is_tried_here(self) -> None:
+        then = 'if [ "$MACHINE" ]; then exit 7; fi'
+        outcome = self.there(self.pops_part("problem-play-2", then))
+        self.is_solved(outcome)
+        for machine in ("one", "two"):
+            self.assertIn(f"failed on machine {machine}: tried elsewhere", outcome.error)
+        self.assertEqual(self.parts().count("play-2"), 3)
+
+    def test_a_login_that_breaks_is_told(self) -> None:
+        then = f"if mkdir {self.room}/failed; then kill -9 0; fi 2> /dev/null"
+        outcome = self.there(self.pops_part("problem-play-2", then))
+        self.is_solved(outcome)
+        self.assertIn(f"part 2 of the play of {self.where} failed on machine ", outcome.error)
+        (self.room / "failed").rmdir()
+
+    def test_a_machine_that_fails_twice_is_left_out(self) -> None:
+        noted = f"{self.room}/failed"
+        # (the other machine waits for that)
+        then = (
+            f'if [ "$MACHINE" = two ]; then echo >> {noted}; exit 7; fi;'
+            f" until [ $(wc -l < {noted}) -ge 2 ]; do sleep 0.1; done 2> /dev/null"
+        )
+        outcome = self.there(self.pops_part("problem-play-*", then))
+        self.is_solved(outcome)
+        self.assertIn("machine 2/two failed and is left out", outcome.error)
+
+    def test_a_machine_without_the_program_is_left_out_at_first(self) -> None:
+        then = 'if [ "$MACHINE" = two ]; then exit 127; fi'
+        outcome = self.there(self.pops_part("*", then))
+        self.is_solved(outcome)
+        self.assertEqual(
+            outcome.error,
+            "pops-many: machine 2/two left out: pops-part ended with status 127\n",
+        )
+
+    def test_without_a_machine_the_rest_stays_for_resume(self) -> None:
+        then = f"touch {self.room}/failed; kill -9 0"
+        outcome = self.there(self.pops_part("problem-play-*", then))
+        self.assertEqual(outcome.status, 6)
+        self.assertIn("no machine is left\n", outcome.error)
+        self.assertIn("play-2", self.parts())
+        before = self.parts()
+        self.is_solved(self.there(self.pops_part(), "--resume"))
+        again = set(self.parts()[len(before) :])
+        self.assertEqual({part for part in again if "set" in part}, set())
+
+
+class Limits(Machines):
+    def setUp(self) -> None:
+        super().setUp()
+        self.pose(b" MaxSolutions 1")
+
+    def test_no_more_parts_are_begun(self) -> None:
+        for logins in ("one", ":"):
+            with self.subTest(logins):
+                program = self.pops_part("problem-play-*", "sleep 0.5")
+                self.is_solved(self.there(program, "--jobs", "1", logins=logins))
+                played = [part for part in self.parts() if "play" in part]
+                # (the next one is begun while the first one's report is on its way)
+                self.assertLess(len(played), 5)
+                self.forget()
+
+    def test_parts_that_cannot_matter_are_stopped_and_others_go_on(self) -> None:
+        # The second part is done at once, the first one that matters goes on and is begun once.
+        # (it waits until a third one is begun)
+        third = f"until grep -q play-3 {self.room}/parts; do sleep 0.1; done"
+        then = (
+            f"case $part in play-1) sleep 3 ;; play-2) {third} ;;"
+            " *) echo 1.x; exec sleep 615 ;; esac"
+        )
+        for logins in ("one,two", ":"):
+            with self.subTest(logins):
+                program = self.pops_part("problem-play-*", then)
+                self.is_solved(self.there(program, "--jobs", "8", logins=logins))
+                self.assertEqual(self.parts().count("play-1"), 1)
+                self.assertIn("play-3", self.parts())
+                self.assertEqual(self.left_running(b"615"), [])
+                self.forget()
+
+    @staticmethod
+    def left_running(word: bytes) -> List[str]:
+        """The processes with this word among theirs."""
+        found = []
+        for path in Path("/proc").glob("[0-9]*/cmdline"):
+            try:
+                if word in path.read_bytes().split(b"\0"):
+                    found.append(str(path))
+            except OSError:
+                pass
+        return found
+
+
+class Ends(Machines):
+    def test_what_was_found_there_is_kept(self) -> None:
+        then = "echo 1.Kh8-g8; echo 1.Kh8-h7; printf 1.Kh; exec sleep 60"
+        program = self.pops_part("problem-play-5", then)
+        run = self.started(*self.words_there(program))
+        wait_for(lambda: "play-5" in self.parts())
+        wait_for(lambda: self.journal.read_bytes().count(b"\npart 0 play") >= 6)
+        # (GNU parallel looks for lines now and then)
+        time.sleep(3)
+        run.send_signal(signal.SIGTERM)
+        run.communicate(timeout=60)
+        self.assertEqual(run.returncode, 6)
+        lines = self.rest.read_bytes()
+        self.assertIn(b"\n1.Kh8-g8\n1.Kh8-h7\n1.c7-c6 ", lines)
+        self.assertIn(b"\nunfinished: stopped with 25 of 26 parts done (", lines)
+        before = self.parts()
+        self.is_solved(self.there(self.pops_part(), "--resume"))
+        self.assertEqual(self.parts()[len(before) :], ["play-5"])
+
+
+class Words(unittest.TestCase):
+    def test_names(self) -> None:
+        for login, name in (
+            ("one", "one"),
+            ("2/one", "one"),
+            ("16//usr/bin/ssh one", "/usr/bin/ssh one"),
+            ("user@one", "user@one"),
+            (":", ":"),
+            ("/x", "/x"),
+        ):
+            with self.subTest(login):
+                self.assertEqual(machine_of(login), name)
+
+    def test_words_at_a_login(self) -> None:
+        words = [str(number) for number in range(1000)]
+        for places, most in ((1, 20), (5, 20), (10, 10), (40, 2), (200, 1)):
+            logins = logins_of(words, places)
+            with self.subTest(places):
+                self.assertEqual([word for login in logins for word in login], words)
+                self.assertEqual({len(login) for login in logins}, {most})
+        long = ["x" * 25_000] * 5
+        self.assertEqual([len(login) for login in logins_of(long * 40, 1)][:3], [2, 2, 2])
+
+
+if not has_gnu_parallel():
+    print("GNU parallel: not here, so parts on other machines were not tried")
+    del Fails, Limits, Ends
+
+
+if __name__ == "__main__":
+    unittest.main()

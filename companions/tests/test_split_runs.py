@@ -1,0 +1,269 @@
+"""pops-many --split on this machine: parts that fail, limits, journals, ends and progress."""
+
+import os
+import pty
+import re
+import signal
+import subprocess
+import sys
+import unittest
+from typing import List, Tuple
+
+import run_here
+import support
+from six_problems import SIX, wait_for
+from split_room import SplitRoom
+
+
+class Runs(SplitRoom):
+    def test_all_parts_once(self) -> None:
+        self.assertEqual(self.split(self.pops_part(), "--jobs", "3"), (0, b"", ""))
+        self.assertEqual(self.report.read_bytes(), self.wanted)
+        asked = self.parts()
+        self.assertEqual(len(asked), len(set(asked)))
+        self.assertGreater(len(asked), 20)
+        self.assertEqual(self.files(), ["six.report"])
+
+    def test_quick_problems_stay_whole(self) -> None:
+        text = SIX.replace(b"EndProblem\n", b"NextProblem\n")
+        self.input.write_bytes(text + self.input.read_bytes()[len(b"BeginProblem") :])
+        wanted = support.run([support.pops(), str(self.input)]).output
+        self.assertEqual(self.split(self.pops_part()), (0, b"", ""))
+        self.assertEqual(self.report.read_bytes(), wanted)
+        self.assertEqual(self.lists(), ["problem"])
+
+    def test_several_problems_and_files(self) -> None:
+        """Two long problems in a FILE and a third one in another, each FILE with its report."""
+        problem = self.input.read_bytes()
+        body = problem[len(b"BeginProblem\n") : -len(b"EndProblem\n")]
+        two = self.room / "two.pop"
+        two.write_bytes(b"BeginProblem\n" + body + b"NextProblem\nx\nNextProblem\n" + body + b"End")
+        folder = self.room / "reports"
+        words = self.words_of_split(self.pops_part(), "--each")
+        words[words.index("-o") + 1] = str(folder)
+        words.insert(words.index(str(self.input)), str(two))
+        self.assertEqual(support.companion("pops-many", *words), (1, b"", ""))
+        for path in (self.input, two):
+            wanted = support.run([support.pops(), str(path)]).output
+            self.assertEqual((folder / f"{path.stem}.report").read_bytes(), wanted)
+        self.assertEqual(self.lists(), ["problem"] * 3)
+        self.assertEqual(self.files(), ["reports", "two.pop"])
+
+    def test_a_part_that_fails_once_is_told_and_tried_again(self) -> None:
+        once = f"if [ ! -e {self.room}/failed ]; then touch {self.room}/failed; exit 4; fi"
+        outcome = self.split(self.pops_part("problem-play-2", once))
+        self.assertEqual((outcome.status, outcome.output), (0, b""))
+        self.assertEqual(
+            outcome.error,
+            f"pops-many: part 2 of the play of problem 1 ({self.input}, line 1):"
+            " pops-part ended with status 4; tried once more\n",
+        )
+        self.assertEqual(self.report.read_bytes(), self.wanted)
+        self.assertEqual(self.parts().count("play-2"), 2)
+
+    def test_a_part_that_fails_twice_leaves_the_others_kept(self) -> None:
+        outcome = self.split(self.pops_part("problem-play-2", "kill -9 $$"))
+        self.assertEqual(outcome.status, 6)
+        where = f"problem 1 ({self.input}, line 1)"
+        ended = "pops-part was ended by signal 9"
+        number = len(self.parts()) - 1
+        self.assertEqual(
+            outcome.error,
+            f"pops-many: part 2 of the play of {where}: {ended}; tried once more\n"
+            f"pops-many: {where}: part 2 of the play: {ended}\n"
+            f"pops-many: 1 of 1 problems aren't done: what was found of them is in {self.rest}\n"
+            f"pops-many: 0 of 1 problems are done and kept in {self.journal}:"
+            f" go on with --resume --journal {self.journal}\n",
+        )
+        mark = f"unfinished: stopped with {number - 1} of {number} parts done"
+        self.assertIn(mark, self.rest.read_text())
+        before = len(self.parts())
+        self.assertEqual(self.split(self.pops_part(), "--resume"), (0, b"", ""))
+        self.assertEqual(self.parts()[before:], ["play-2"])
+        self.assertEqual(self.report.read_bytes(), self.wanted)
+        self.assertEqual(self.files(), ["six.report"])
+
+    def test_a_part_without_its_total_is_no_part(self) -> None:
+        for said in ("", "1.Kh8-g8 Kg6-f6", "solutions: 1", "1.x\\nsolutions: 2"):
+            with self.subTest(said):
+                then = f"printf '{said}\\n'; exit 0"
+                self.assertEqual(self.split(self.pops_part("problem-play-2", then)).status, 6)
+                self.assertFalse(self.report.exists())
+                self.forget()
+
+    def test_parts_that_contradict_pops_are_told(self) -> None:
+        then = "echo 'solutions: 0'; exit 0"
+        outcome = self.split(self.pops_part("problem-*", then))
+        self.assertEqual(outcome.status, 6)
+        self.assertIn("its parts don't make the report that pops begins\n", outcome.error)
+        self.assertFalse(self.report.exists())
+
+    def test_a_list_that_fails_is_told(self) -> None:
+        program = self.write("pops_part", "#!/bin/sh\necho no >&2; exit 4\n")
+        outcome = self.split(program)
+        self.assertEqual(outcome.status, 6)
+        self.assertIn("line 1): pops-part ended with status 4: no\n", outcome.error)
+
+
+class Limits(SplitRoom):
+    def setUp(self) -> None:
+        super().setUp()
+        self.pose(b" MaxSolutions 1")
+
+    def test_no_more_parts_are_begun(self) -> None:
+        self.assertEqual(self.split(self.pops_part(), "--jobs", "1"), (0, b"", ""))
+        self.assertEqual(self.report.read_bytes(), self.wanted)
+        self.assertEqual([part for part in self.parts() if "play" in part], ["play-1"])
+
+    def test_parts_that_cannot_matter_are_stopped(self) -> None:
+        third = f"until grep -q play-3 {self.room}/parts; do sleep 0.1; done"
+        then = f"case $part in play-1) {third} ;; *) echo 1.x; sleep 600 & sleep 600 ;; esac"
+        program = self.pops_part("problem-play-*", then)
+        self.assertEqual(self.split(program, "--jobs", "30"), (0, b"", ""))
+        self.assertEqual(self.report.read_bytes(), self.wanted)
+
+    def test_parts_that_matter_still_go_on(self) -> None:
+        """The second part has the first solution, long before the first one says that it has it."""
+        program = self.pops_part("problem-play-1", "sleep 1.5")
+        self.assertEqual(self.split(program, "--jobs", "30"), (0, b"", ""))
+        self.assertEqual(self.report.read_bytes(), self.wanted)
+        self.assertEqual(self.parts().count("play-1"), 1)
+
+
+class Ends(SplitRoom):
+    def interrupted(self, sign: int, *more: str) -> Tuple[int, str]:
+        """A run that waits at the fifth part of the play and gets a signal there."""
+        program = self.pops_part("problem-play-5", "echo 1.Kh8-g8; exec sleep 60")
+        run = self.started(*self.words_of_split(program, "--jobs", "1", *more))
+        wait_for(lambda: "play-5" in self.parts())
+        run.send_signal(sign)
+        error = run.communicate(timeout=30)[1].decode()
+        return run.returncode, error
+
+    def is_what_was_found(self, lines: bytes) -> None:
+        """The lines are pops' own, but for that of the part at hand and the mark."""
+        self.assertRegex(
+            lines.decode(), r"unfinished: stopped with 23 of 26 parts done \(.*\)\n\n$"
+        )
+        known = lines.splitlines(keepends=True)[:-2]
+        self.assertEqual(known.count(b"1.Kh8-g8\n"), 1)
+        known.remove(b"1.Kh8-g8\n")
+        rest = iter(self.wanted.splitlines(keepends=True))
+        self.assertTrue(all(line in rest for line in known))
+        self.assertGreater(len(known), 100)
+
+    def test_what_was_found_is_kept_and_resumed(self) -> None:
+        for sign in (signal.SIGINT, signal.SIGTERM, signal.SIGKILL):
+            with self.subTest(sign):
+                status, error = self.interrupted(sign)
+                if sign == signal.SIGKILL:
+                    self.assertEqual(status, -sign)
+                else:
+                    self.assertEqual(status, 6)
+                    self.assertIn("pops-many: stopped\n", error)
+                    self.assertIn(f"what was found of them is in {self.rest}\n", error)
+                    self.is_what_was_found(self.rest.read_bytes())
+                before = self.parts()
+                self.assertEqual(self.split(self.pops_part(), "--resume"), (0, b"", ""))
+                self.assertEqual(self.report.read_bytes(), self.wanted)
+                again = set(before) & set(self.parts()[len(before) :])
+                self.assertEqual(again, {"play-5"})
+                self.assertEqual(self.files(), ["six.report"])
+                self.forget()
+
+    def test_without_a_report_it_is_kept_beside_the_journal(self) -> None:
+        program = self.pops_part("problem-play-5", "echo 1.Kh8-g8; exec sleep 60")
+        words = self.words_of_split(program, "--jobs", "1")
+        place = words.index("-o")
+        words[place : place + 2] = ["--journal", str(self.journal)]
+        run = self.started(*words)
+        wait_for(lambda: "play-5" in self.parts())
+        run.send_signal(signal.SIGTERM)
+        error = run.communicate(timeout=30)[1].decode()
+        rest = self.room / "six.report.journal.unfinished"
+        self.assertIn(f"what was found of them is in {rest}\n", error)
+        self.is_what_was_found(rest.read_bytes())
+        words[words.index(program)] = self.pops_part()
+        outcome = support.companion("pops-many", *words, "--resume")
+        self.assertEqual(outcome, (0, self.wanted, ""))
+        self.assertEqual(self.files(), [])
+
+    def test_resuming_without_split_and_with_another_depth(self) -> None:
+        for first, then in (("1", "2"), ("2", "1")):
+            with self.subTest(first):
+                self.interrupted(signal.SIGTERM, "--split-depth", first)
+                before = len(self.parts())
+                outcome = self.split(self.pops_part(), "--resume", "--split-depth", then)
+                self.assertEqual(outcome, (0, b"", ""))
+                self.assertEqual(self.report.read_bytes(), self.wanted)
+                self.assertIn("play-1", self.parts()[before:])
+                self.forget()
+        self.interrupted(signal.SIGTERM)
+        words = ["--pops", support.pops(), "--resume", "-o", str(self.report), str(self.input)]
+        self.assertEqual(support.companion("pops-many", *words), (0, b"", ""))
+        self.assertEqual(self.report.read_bytes(), self.wanted)
+        self.assertEqual(self.files(), ["six.report"])
+
+    def test_a_terminal_shows_the_parts(self) -> None:
+        shown = re.escape(f"problem 1 ({self.input}, line 1)")
+        for columns, name in ((0, shown), (400, shown), (60, "problem 1")):
+            with self.subTest(columns):
+                said = self.on_terminal(columns)
+                self.assertRegex(said, rf"\rpops-many: {name}: 0 of 26 parts, 0 solutions")
+                self.assertRegex(
+                    said,
+                    rf"\rpops-many: {name}: \d+ of 26 parts, \d+ solutions?, about \d:\d\d left",
+                )
+                self.assertTrue(said.rstrip().endswith("\rpops-many: 1 of 1 problems"), said)
+                self.forget()
+
+    def on_terminal(self, columns: int) -> str:
+        """What a run writes on a terminal of that width."""
+        terminal, other_side = pty.openpty()
+        if columns:
+            support.run(["stty", "-F", os.ttyname(other_side), "cols", str(columns)])
+        words: List[str] = [sys.executable, str(support.COMPANIONS / "pops-many")]
+        # The eighth part of the set play waits longer than a line is shown.
+        words += self.words_of_split(self.pops_part("problem-set-8", "sleep 0.6"), "--jobs", "1")
+        done = subprocess.run(words, stdin=subprocess.DEVNULL, stderr=other_side)
+        os.close(other_side)
+        said = os.read(terminal, 100000).decode()
+        os.close(terminal)
+        self.assertEqual(done.returncode, 0)
+        return said
+
+
+class Command(unittest.TestCase):
+    def test_mistakes(self) -> None:
+        mistakes = [
+            ["--split-after", "1"],
+            ["--split-depth", "2"],
+            ["--pops-part", "x"],
+            ["--remote-pops-part", "x"],
+            ["--split", "--split-after", "0"],
+            ["--split", "--split-after", "nan"],
+            ["--split", "--split-depth", "0"],
+            ["--split", "--split-depth", "5"],
+            ["--split", "--split-depth", "two"],
+            ["--split", "--check"],
+            ["--split", "--seconds", "1", "-o", "report"],
+        ]
+        for words in mistakes:
+            with self.subTest(words):
+                self.assertEqual(run_here.companion("pops-many", *words).status, 2)
+        words = ["--pops", support.pops(), "--split", "--pops-part", "nowhere/pops-part"]
+        self.assertEqual(
+            support.companion("pops-many", *words),
+            (3, b"", "pops-many: there is no program nowhere/pops-part\n"),
+        )
+
+    def test_an_empty_input_and_a_pipe(self) -> None:
+        words = ["--pops", support.pops(), "--split", "--pops-part", "/bin/true"]
+        for text in (b"", b"BeginProblem Pieces White Kg6 Ra1 Black Kg8 Stipulation #1 EndProblem"):
+            wanted = support.run([support.pops()], text)
+            with self.subTest(text):
+                self.assertEqual(support.companion("pops-many", *words, text=text), wanted)
+
+
+if __name__ == "__main__":
+    unittest.main()

@@ -1,0 +1,46 @@
+-- What the clauses of a list and of parts exclude: text of parts that are refused, and a failed sink told as another end, or another end as a failed sink.
+use Rattle.std.proofs.Common.{Bool, List, None, Option, Some, [], arith, false, refl, rules, sym, true, ℕ, ◌∙◌, ◌≡◌, ◌≢◌}
+use Rattle.pop_text.specs.Bytes.{Appends}
+use Rattle.pop_text.specs.Words.{Input}
+use Rattle.pop_input.specs.Blocks.{Entry, Faulty, Sound}
+use Rattle.pop_input.specs.FaultKinds.{number_of}
+use Rattle.std.specs.List.{list_any}
+use Rattle.pop_run.specs.Report.{entries_in, tells_failure}
+unfoldable use Rattle.pop_run.specs.Report.{status_of}
+use Rattle.pop_run.specs.declared.status.Status.{Status}
+use Rattle.pop_run.specs.declared.status.Status.TheVariants.{OutputFailed as ListCut}
+use Rattle.pop_parts.specs.Parts.{entry_numbered, outcome_at, outcome_of, text_at, text_of}
+unfoldable use Rattle.pop_parts.specs.Parts.{text_in}
+use Rattle.pop_parts.specs.Runs.{Lists, Shows}
+use Rattle.pop_parts.specs.declared.asked.Asked.{Asked}
+use Rattle.pop_parts.specs.declared.asked.Outcome.{Outcome}
+use Rattle.pop_parts.specs.declared.asked.Outcome.TheVariants.{OutputFailed, Shown}
+
+text_refused : (asked : Asked) (failed : Bool) (entry : Option Entry) → outcome_at asked failed entry ≢ Shown → text_at asked entry ≡ []
+unfolding text_in
+text_refused asked failed None refused = refl
+text_refused asked failed (Some (Faulty fault)) refused = refl
+text_refused asked failed (Some (Sound posed)) refused = grind (arith, refused)
+
+-- where the parts asked for are refused nothing is written
+pub refused_writes_nothing : (asked : Asked) (input : Input) (before now : Option (List ℕ)) (answer : Outcome) → Shows asked input before now false answer
+    → answer ≢ Shown → Appends before now []
+refused_writes_nothing asked input before now answer (written, told) refused =
+    let items = entries_in input in
+    rw (text_refused asked (list_any tells_failure items) (entry_numbered items asked.item) (rw told at refused)) at written
+
+not_cut : (asked : Asked) (failed : Bool) (entry : Option Entry) → OutputFailed ≡ outcome_at asked failed entry → ⊥
+not_cut asked failed entry told = grind (arith, told)
+
+-- where the sink failed the answer says so, and only there
+pub failed_sink_is_told : (asked : Asked) (input : Input) (before now : Option (List ℕ)) (answer : Outcome) → Shows asked input before now true answer
+    → answer ≡ OutputFailed
+failed_sink_is_told asked input before now answer (begun, told) = told
+
+pub sound_sink_is_told : (asked : Asked) (input : Input) (before now : Option (List ℕ)) → Shows asked input before now false OutputFailed → ⊥
+sound_sink_is_told asked input before now (written, told) =
+    let items = entries_in input in not_cut asked (list_any tells_failure items) (entry_numbered items asked.item) told
+
+pub sound_sink_of_a_list_is_told : (depth : ℕ) (input : Input) (before now : Option (List ℕ)) → Lists depth input before now false ListCut → ⊥
+unfolding status_of
+sound_sink_of_a_list_is_told depth input before now (written, told) = grind arith

@@ -1,0 +1,51 @@
+use Rattle.std.proofs.Common.{None, arith, inl, refl, rules, sym, ◌∙◌, ◌≡◌}
+unfoldable use Rattle.pop_text.specs.Words.{limit}
+use Rattle.pop_text.proofs.Using.{failures_then}
+use Rattle.pop_parts.proofs.Listing.{entry_there, item_there, list_cut, list_ends, listed_start, listed_step, none_there}
+use Rattle.pop_parts.specs.ties.Items.{entry_in}
+use Rattle.pop_parts.proofs.list.list_parts.Goals as goal
+
+pub items-init : goal.items-init
+unfolding limit
+items-init g c = rw c.new-reader.ensures (record {
+  listed = listed_start _ _ _;
+  seen = tt;
+  read_failures = refl;
+  write_failures = refl;
+  few = omega arith;
+})
+
+pub returns-then-is_end-clause-headline : goal.returns-then-is_end-clause-headline
+returns-then-is_end-clause-headline g c =
+    let i = c.items.invariant in
+    let next = c.next_problem-item in
+    let none : entry_in next.result ≡ None = none_there _ (sym c.is_end.ensures ∙ c.if-is_end.true) in
+    list_ends _ c.items.reader next.new.self c.items.number c.items.so_far _ (g.S.Source.remaining c.items.source) (g.S.Source.remaining next.new.source) _
+    (g.W.Sink.taken c.items.sink) next.result _ _ _ _ i.listed next.ensures.item none (next.ensures.seen i.seen)
+    (failures_then _ _ _ _ _ _ (inl refl) next.ensures.ends i.read_failures next.ensures.counted) i.write_failures
+
+pub returns-in-Err-clause-headline : goal.returns-in-Err-clause-headline
+returns-in-Err-clause-headline g c =
+    let i = c.items.invariant in
+    let next = c.next_problem-item in
+    let there = entry_there _ (sym c.is_end.ensures ∙ c.if-is_end.false) in
+    list_cut _ c.items.reader next.new.self c.items.number c.items.so_far _ (g.S.Source.remaining c.items.source) (g.S.Source.remaining next.new.source) _
+    (g.W.Sink.taken c.items.sink) (g.W.Sink.taken c.print_item.new.sink) next.result there.0 _ _ _ _ i.listed next.ensures.item there.1
+    (next.ensures.seen i.seen) c.in-Err.ensures.bytes
+    (failures_then _ _ _ _ _ _ (inl refl) next.ensures.ends i.read_failures next.ensures.counted) (rw (← i.write_failures) c.in-Err.ensures.counted)
+
+pub items-preserved : goal.items-preserved
+items-preserved g c =
+    let i = c.items.invariant in
+    let next = c.next_problem-item in
+    let there = entry_there _ (sym c.is_end.ensures ∙ c.if-is_end.false) in
+    let less = next.ensures.less (item_there next.result there.0 there.1) in
+    record {
+      listed = rw c.status_after-so_far.ensures (listed_step _ c.items.reader next.new.self c.items.number c.items.so_far _ (g.S.Source.remaining c.items.source)
+          (g.S.Source.remaining next.new.source) _ (g.W.Sink.taken c.items.sink) (g.W.Sink.taken c.print_item.new.sink) next.result there.0 i.listed
+          next.ensures.item there.1 c.in-Ok.ensures.bytes);
+      seen = next.ensures.seen i.seen;
+      read_failures = failures_then _ _ _ _ _ _ (inl refl) next.ensures.ends i.read_failures next.ensures.counted;
+      write_failures = c.in-Ok.ensures.counted ∙ i.write_failures;
+      few = omega (arith, i.few, less);
+    }

@@ -1,0 +1,20 @@
+use Rattle.std.proofs.Common.{◌+◌, ◌^◌, ◌≡◌, ◌≤◌}
+use Rattle.pop_text.specs.declared.scanner.End.TheVariants.{Open}
+use Rattle.pop_text.specs.ties.Reading.{IsSeen, failures_after}
+use Rattle.pop_input.specs.ties.Standing.{work_left}
+use Rattle.pop_parts.proofs.Listing.{Listed}
+use Rattle.pop_parts.proofs.list.list_parts.Given as goal
+
+-- the items so far are read and listed
+abbrev pub invariant-items : goal.invariant-items
+invariant-items g l = record {
+  listed : Listed l.depth l.reader l.number l.so_far (g.S.Source.remaining l.fn.source) (g.S.Source.remaining l.source) (g.W.Sink.taken l.fn.sink)
+      (g.W.Sink.taken l.sink);
+  seen : IsSeen l.reader.at.end (g.S.Source.remaining l.source);
+  read_failures : g.S.Source.failures l.source ≡ failures_after Open l.reader.at.end (g.S.Source.failures l.fn.source);
+  write_failures : g.W.Sink.failures l.sink ≡ g.W.Sink.failures l.fn.sink;
+  few : l.number + work_left l.reader ≤ 2 ^ 31;
+}
+
+abbrev pub decreases-items : goal.decreases-items
+decreases-items g l = work_left l.reader

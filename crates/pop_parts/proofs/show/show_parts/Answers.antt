@@ -1,0 +1,68 @@
+use Rattle.std.proofs.Common.{None, ap, arith, inl, refl, rules, sym, ◌+◌, ◌∙◌, ◌≡◌, ◌≢◌}
+unfoldable use Rattle.pop_text.specs.Words.{limit}
+use Rattle.std.specs.Prelude.{is_some, true}
+use Rattle.pop_text.proofs.Using.{failures_then}
+use Rattle.pop_parts.proofs.Listing.{entry_there, item_there, none_there}
+use Rattle.pop_parts.proofs.Showing.{item_cut, item_missing, item_shown, passed_start, passed_step}
+use Rattle.pop_parts.specs.ties.Items.{entry_in}
+use Rattle.pop_parts.proofs.show.show_parts.Goals as goal
+
+pub items-init : goal.items-init
+unfolding limit
+items-init g c = rw c.new-reader.ensures (record {
+  passed = passed_start _ _;
+  seen = tt;
+  read_failures = refl;
+  untouched = refl;
+  few = omega arith;
+})
+
+pub returns-then-is_end-clause-headline : goal.returns-then-is_end-clause-headline
+returns-then-is_end-clause-headline g c =
+    let i = c.items.invariant in
+    let next = c.next_problem-item in
+    let none : entry_in next.result ≡ None = none_there _ (sym c.is_end.ensures ∙ c.if-is_end.true) in
+    rw i.untouched (item_missing c.args.asked.now c.items.reader next.new.self c.items.number c.items.failed _ (g.S.Source.remaining c.items.source)
+    (g.S.Source.remaining next.new.source) _ next.result _ _ _ _ _ i.passed next.ensures.item none (next.ensures.seen i.seen) c.missing.ensures
+    (failures_then _ _ _ _ _ _ (inl refl) next.ensures.ends i.read_failures next.ensures.counted) refl)
+
+pub returns-in-Ok-clause-headline : goal.returns-in-Ok-clause-headline
+returns-in-Ok-clause-headline g c =
+    let i = c.items.invariant in
+    let next = c.next_problem-item in
+    let there = entry_there _ (sym c.is_end.ensures ∙ c.if-is_end.false) in
+    let one : c.items.number ≡ c.args.asked.now.item = grind (arith, c.if-number-asked.true) in
+    let some : is_some (entry_in next.result) ≡ true = rw there.1 refl in
+    item_shown c.args.asked.now c.items.reader next.new.self c.items.number c.items.failed _ (g.S.Source.remaining c.items.source)
+    (g.S.Source.remaining next.new.source) _ _ next.result there.0 _ _ _ _ _ i.passed next.ensures.item there.1 (next.ensures.seen i.seen) one
+    (rw i.untouched at c.in-Ok.ensures.bytes) (c.in-Ok.ensures.outcome some)
+    (failures_then _ _ _ _ _ _ (inl refl) next.ensures.ends i.read_failures next.ensures.counted)
+    (c.in-Ok.ensures.counted ∙ ap g.W.Sink.failures i.untouched)
+
+pub returns-in-Err-clause-headline : goal.returns-in-Err-clause-headline
+returns-in-Err-clause-headline g c =
+    let i = c.items.invariant in
+    let next = c.next_problem-item in
+    let there = entry_there _ (sym c.is_end.ensures ∙ c.if-is_end.false) in
+    let one : c.items.number ≡ c.args.asked.now.item = grind (arith, c.if-number-asked.true) in
+    item_cut c.args.asked.now c.items.reader next.new.self c.items.number c.items.failed _ (g.S.Source.remaining c.items.source)
+    (g.S.Source.remaining next.new.source) _ _ next.result there.0 _ _ _ _ i.passed next.ensures.item there.1 (next.ensures.seen i.seen) one
+    (rw i.untouched at c.in-Err.ensures.bytes)
+    (failures_then _ _ _ _ _ _ (inl refl) next.ensures.ends i.read_failures next.ensures.counted)
+    (c.in-Err.ensures.counted ∙ ap (λ s. g.W.Sink.failures s + 1) i.untouched)
+
+pub items-preserved : goal.items-preserved
+items-preserved g c =
+    let i = c.items.invariant in
+    let next = c.next_problem-item in
+    let there = entry_there _ (sym c.is_end.ensures ∙ c.if-is_end.false) in
+    let less = next.ensures.less (item_there next.result there.0 there.1) in
+    let another : c.items.number ≢ c.args.asked.now.item = grind (arith, c.if-number-asked.false) in
+    record {
+      passed = rw c.tells_failure-failed.ensures (passed_step _ c.items.reader next.new.self c.items.number c.items.failed _ (g.S.Source.remaining c.items.source)
+          (g.S.Source.remaining next.new.source) next.result there.0 i.passed next.ensures.item there.1 another);
+      seen = next.ensures.seen i.seen;
+      read_failures = failures_then _ _ _ _ _ _ (inl refl) next.ensures.ends i.read_failures next.ensures.counted;
+      untouched = i.untouched;
+      few = omega (arith, i.few, less);
+    }

@@ -1,0 +1,19 @@
+use Rattle.std.proofs.Common.{◌+◌, ◌^◌, ◌≡◌, ◌≤◌}
+use Rattle.pop_text.specs.declared.scanner.End.TheVariants.{Open}
+use Rattle.pop_text.specs.ties.Reading.{IsSeen, failures_after}
+use Rattle.pop_input.specs.ties.Standing.{work_left}
+use Rattle.pop_parts.proofs.Showing.{Passed}
+use Rattle.pop_parts.proofs.show.show_parts.Given as goal
+
+-- the items so far are read, and none is the one that is asked for
+abbrev pub invariant-items : goal.invariant-items
+invariant-items g l = record {
+  passed : Passed l.asked.item l.reader l.number l.failed (g.S.Source.remaining l.fn.source) (g.S.Source.remaining l.source);
+  seen : IsSeen l.reader.at.end (g.S.Source.remaining l.source);
+  read_failures : g.S.Source.failures l.source ≡ failures_after Open l.reader.at.end (g.S.Source.failures l.fn.source);
+  untouched : l.sink ≡ l.fn.sink;
+  few : l.number + work_left l.reader ≤ 2 ^ 31;
+}
+
+abbrev pub decreases-items : goal.decreases-items
+decreases-items g l = work_left l.reader

@@ -1,0 +1,25 @@
+-- What the calls do (own).
+use Rattle.std.specs.Prelude.{◌≡◌, ℕ, List, Option, Bool, true, false}
+use Rattle.pop_text.specs.Bytes.{Appends, Begins}
+use Rattle.pop_text.specs.Words.{Input}
+use Rattle.pop_run.specs.Report.{status}
+use Rattle.pop_run.specs.declared.status.Status.{Status}
+use Rattle.pop_run.specs.declared.status.Status.TheVariants.{OutputFailed as ListCut}
+use Rattle.pop_parts.specs.Parts.{list_text, outcome_of, text_of}
+use Rattle.pop_parts.specs.declared.asked.Asked.{Asked}
+use Rattle.pop_parts.specs.declared.asked.Outcome.{Outcome}
+use Rattle.pop_parts.specs.declared.asked.Outcome.TheVariants.{OutputFailed}
+
+-- The list of the input is written and its status answered. Where the sink failed, a beginning is written.
+abbrev pub Lists : ℕ → Input → Option (List ℕ) → Option (List ℕ) → Bool → Status → Type 0
+Lists depth input before now false answer = Appends before now (list_text depth input)
+    × (answer ≡ status input)
+Lists depth input before now true answer = Begins before now (list_text depth input)
+    × (answer ≡ ListCut)
+
+-- The text of the parts asked for is written, and what comes of the input answered. Where the sink failed, a beginning is written.
+abbrev pub Shows : Asked → Input → Option (List ℕ) → Option (List ℕ) → Bool → Outcome → Type 0
+Shows asked input before now false answer = Appends before now (text_of asked input)
+    × (answer ≡ outcome_of asked input)
+Shows asked input before now true answer = Begins before now (text_of asked input)
+    × (answer ≡ OutputFailed)

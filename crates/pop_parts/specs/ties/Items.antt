@@ -1,0 +1,39 @@
+-- Items as entries.
+use Rattle.std.specs.Prelude.{ℕ, List, [], Bool, true, false, Option, Some, None}
+use Rattle.pop_input.specs.Blocks.{Entry, Sound as SoundEntry, Faulty as FaultyEntry}
+use Rattle.pop_input.specs.declared.item.Item.{Item}
+use Rattle.pop_input.specs.declared.item.Item.TheVariants.{Sound, Faulty, End}
+use Rattle.chess_core.specs.Triple.{Triple}
+use Rattle.chess_rules.specs.RuleSet.{RuleSet}
+use Rattle.pop_input.specs.Posed.{Posed}
+use Rattle.pop_solve.specs.declared.event.Phase.{Phase}
+use Rattle.pop_run.specs.Report.{is_faulty, tells_failure}
+use Rattle.pop_run.specs.declared.status.Status.{Status}
+use Rattle.pop_run.specs.ties.Sessions.{status_with}
+use Rattle.pop_parts.specs.Parts.{line_of, part_text}
+
+-- the entry that an item is, none behind the last
+abbrev pub entry_in : Item → Option Entry
+entry_in (Sound posed last) = Some (SoundEntry posed)
+entry_in (Faulty fault last) = Some (FaultyEntry fault)
+entry_in End = None
+
+-- its line
+abbrev pub item_line : ℕ → ℕ → Option Entry → List ℕ
+item_line number depth None = []
+item_line number depth (Some entry) = line_of number depth entry
+
+-- the status after one more item
+abbrev pub status_after : Status → Option Entry → Status
+status_after so_far None = so_far
+status_after so_far (Some entry) = status_with so_far (tells_failure entry) (is_faulty entry)
+
+-- whether it tells of a failed device
+abbrev pub is_failure : Option Entry → Bool
+is_failure None = false
+is_failure (Some entry) = tells_failure entry
+
+-- the text of a part, none where there is none
+abbrev pub text_if : RuleSet → Posed → Phase → Option (List Triple) → List ℕ
+text_if rule posed phase None = []
+text_if rule posed phase (Some front) = part_text rule posed phase front

@@ -1,0 +1,176 @@
+//! The list of an input's parts.
+ghost use Rattle.std.specs.Prelude.{◌≡◌, ◌<◌, ◌≤◌, ◌+◌, ◌++◌, IfSome, length};
+ghost use Rattle.pop_text.specs.Bytes.{Writes, count_after, greatest};
+ghost use Rattle.pop_input.specs.Blocks.{Sound as SoundEntry};
+ghost use Rattle.pop_input.specs.Posed.{rule_of};
+ghost use Rattle.pop_solve.specs.Events.{is_barred as barred};
+ghost use Rattle.pop_print.specs.ties.Room.{room};
+ghost use Rattle.pop_run.specs.Run.{FailsOnce, grew, met};
+ghost use Rattle.pop_parts.specs.Parts.{count_of, count_text, line_of, set_text, told_count};
+ghost use Rattle.pop_parts.specs.Runs.{Lists};
+ghost use Rattle.pop_parts.specs.ties.Items.{entry_in, item_line};
+
+use crate::items::{is_end, status_after};
+use crate::searching::parts_in;
+use chess_core::board::Board;
+use chess_rules::rules::in_check;
+use chess_rules::{Circe, Madrasi, Orthodox, Rules};
+use pop_input::condition::Condition;
+use pop_input::item::Item;
+use pop_input::problem::Problem;
+use pop_input::reader::Reader;
+use pop_print::line::LineBuffer;
+use pop_run::status::Status;
+use pop_solve::event::Phase;
+use pop_text::sink::{Sink, SinkFault};
+use pop_text::source::Source;
+
+/// Reads all items of the source and writes into the sink how many parts the phases of each have, one line an item;
+/// `depth` moves tell the parts of help play apart.
+///
+/// What is written is exactly the list of the input, or a beginning of it where the sink fails; then the status is
+/// `OutputFailed`, and nothing more is written. Of the calls of each, source and sink, at most one fails.
+pub fn list_parts<S: Source, W: Sink>(depth: usize, source: &mut S, sink: &mut W) -> Status
+    requires depth { 1 ≤ depth }
+    requires source { S.failures source.old < greatest }
+    requires sink { W.failures sink.old < greatest }
+    ensures headline { IfSome (S.remaining source.old) (λ had.
+        Lists depth (met (grew (S.failures source.old) (S.failures source.new)) had
+        (S.remaining source.new))
+        (W.taken sink.old) (W.taken sink.new)
+        (grew (W.failures sink.old) (W.failures sink.new)) result) }
+    ensures once { FailsOnce (S.failures source.old) (S.failures source.new)
+        × FailsOnce (W.failures sink.old) (W.failures sink.new) }
+{
+    let mut reader = Reader::new();
+    let mut number: u64 = 1;
+    let mut so_far = Status::Sound;
+    'items: loop {
+        let item = reader.next_problem(source);
+        if is_end(&item) {
+            return so_far;
+        }
+        match print_item(sink, number, depth, &item) {
+            Ok(()) => {}
+            Err(_) => return Status::OutputFailed,
+        }
+        so_far = status_after(so_far, &item);
+        number += 1;
+    }
+}
+
+// Writes the line of an item, in one write.
+fn print_item<W: Sink>(
+    sink: &mut W,
+    number: u64,
+    depth: usize,
+    item: &Item,
+) -> Result<(), SinkFault>
+    requires depth { 1 ≤ depth }
+    requires sink { W.failures sink.old < greatest }
+    ensures bytes { Writes (W.taken sink.old) (W.taken sink.new)
+        (item_line number depth (entry_in item.now)) result }
+    ensures counted { W.failures sink.new ≡ count_after result (W.failures sink.old) }
+{
+    let mut line = LineBuffer::new();
+    add_item(&mut line, number, depth, item);
+    line.put(sink)
+}
+
+// Adds the line of an item.
+#[tactic(auto, unfolding(crate::specs::Parts::line_of))]
+fn add_item(line: &mut LineBuffer, number: u64, depth: usize, item: &Item)
+    requires depth { 1 ≤ depth }
+    requires room { length line.old + 100 ≤ room }
+    ensures { line.new ≡ line.old ++ item_line number depth (entry_in item.now) }
+{
+    match item {
+        Item::End => {}
+        Item::Sound(problem, _) => add_sound(line, number, depth, problem),
+        Item::Faulty(_, _) => {
+            line.add_number(number);
+            line.add(b": faulty\n");
+        }
+    }
+}
+
+// Adds the line of a sound problem.
+#[tactic(auto, unfolding(crate::specs::Parts::line_of))]
+fn add_sound(line: &mut LineBuffer, number: u64, depth: usize, problem: &Problem)
+    requires depth { 1 ≤ depth }
+    requires room { length line.old + 100 ≤ room }
+    ensures { line.new ≡ line.old ++ line_of number depth (SoundEntry problem.now) }
+{
+    line.add_number(number);
+    line.add(b": ");
+    add_set(line, depth, problem);
+    line.add(b"play ");
+    add_count(line, count_in(problem, Phase::Play, depth));
+    line.add(b"\n");
+}
+
+// Adds what is said of set play, where the problem has it.
+fn add_set(line: &mut LineBuffer, depth: usize, problem: &Problem)
+    requires depth { 1 ≤ depth }
+    requires room { length line.old + 26 ≤ room }
+    ensures text { line.new ≡ line.old ++ set_text problem.now depth }
+    ensures short { length line.new ≤ length line.old + 26 }
+{
+    if problem.set_play() {
+        line.add(b"set ");
+        add_count(line, count_in(problem, Phase::Set, depth));
+        line.add(b", ");
+    }
+}
+
+// Adds what is said of a phase that has so many parts.
+fn add_count(line: &mut LineBuffer, count: Option<u64>)
+    requires { length line.old + 20 ≤ room }
+    ensures text { line.new ≡ line.old ++ count_text count }
+    ensures short { length line.new ≤ length line.old + 20 }
+{
+    match count {
+        None => line.add(b"not possible"),
+        Some(count) => line.add_number(count),
+    }
+}
+
+// How many parts a phase has, up to the greatest u64; none where it can't stand.
+#[tactic(auto, unfolding(crate::specs::Parts::count_of))]
+fn count_in(problem: &Problem, phase: Phase, depth: usize) -> Option<u64>
+    requires { 1 ≤ depth }
+    ensures { result ≡ count_of problem.now phase depth }
+{
+    match problem.condition() {
+        None => count_under::<Orthodox>(problem, phase, depth),
+        Some(Condition::Circe) => count_under::<Circe>(problem, phase, depth),
+        Some(Condition::Madrasi) => count_under::<Madrasi>(problem, phase, depth),
+    }
+}
+
+// The same under the rules of the problem's condition.
+fn count_under<R: Rules>(problem: &Problem, phase: Phase, depth: usize) -> Option<u64>
+    requires depth { 1 ≤ depth }
+    requires rules { R.rule ≡ rule_of problem.now.condition }
+    ensures { result ≡ told_count R.rule problem.now phase depth }
+{
+    if is_barred::<R>(problem, phase) {
+        None
+    } else {
+        Some(parts_in::<R>(problem, phase, depth))
+    }
+}
+
+// Whether the phase can't stand: the side that isn't to move would be in check.
+#[tactic(auto, unfolding(pop_solve::specs::Chess::is_impossible, chess_core::specs::Diagrams::position_of))]
+fn is_barred<R: Rules>(problem: &Problem, phase: Phase) -> bool
+    ensures { result ≡ barred R.rule problem.now phase }
+{
+    match phase {
+        Phase::Play => false,
+        Phase::Set => {
+            let board = Board::of(&problem.diagram());
+            in_check::<R>(&board, board.turn())
+        }
+    }
+}

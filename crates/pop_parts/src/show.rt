@@ -1,0 +1,230 @@
+//! The solutions of the parts that are asked for.
+ghost use Rattle.std.specs.Prelude.{◌≡◌, ◌<◌, ◌≤◌, ◌==◌, IfOk, IfSome, false, if◌then◌else◌, is_some, map, true};
+ghost use Rattle.std.specs.List.{flat_map};
+ghost use Rattle.pop_text.specs.Bytes.{Writes, count_after, greatest};
+ghost use Rattle.pop_input.specs.FaultKinds.{number_of};
+ghost use Rattle.pop_input.specs.declared.fault_kind.FaultKind.TheVariants.{DeviceFailed};
+ghost use Rattle.pop_parts.specs.declared.asked.Outcome.TheVariants.{FaultyItem, InputFailed, NoItem};
+ghost use Rattle.pop_input.specs.Posed.{rule_of};
+ghost use Rattle.pop_solve.specs.Events.{event_of};
+ghost use Rattle.pop_print.specs.Events.{event_text};
+ghost use Rattle.pop_solve.specs.Parts.{part_numbered};
+ghost use Rattle.pop_run.specs.Run.{FailsOnce, grew, met};
+ghost use Rattle.pop_parts.specs.Parts.{has_parts as has_the_parts, has_phase as has_the_phase, outcome_at, outcome_in, part_text, parts_asked, text_at, text_in};
+ghost use Rattle.pop_parts.specs.Runs.{Shows};
+ghost use Rattle.pop_parts.specs.ties.Items.{entry_in, text_if};
+
+use crate::asked::{Asked, Outcome};
+use crate::items::{is_device_failure, is_end, tells_failure};
+use crate::searching::{part_of, parts_in};
+use chess_rules::{Circe, Madrasi, Orthodox, Rules};
+use pop_input::condition::Condition;
+use pop_input::item::{Fault, Item};
+use pop_input::problem::Problem;
+use pop_input::reader::Reader;
+use pop_print::print_event;
+use pop_solve::event::Phase;
+use pop_solve::part_search::PartSearch;
+use pop_text::sink::{Sink, SinkFault};
+use pop_text::source::Source;
+
+/// Reads items of the source up to the one that is asked for and writes the solutions of its parts into the sink.
+///
+/// What is written is exactly the text of the parts in the input, none where they are refused, or a beginning of it
+/// where the sink fails; then the outcome is `OutputFailed`, and nothing more is written. Of the calls of each, source
+/// and sink, at most one fails.
+pub fn show_parts<S: Source, W: Sink>(asked: &Asked, source: &mut S, sink: &mut W) -> Outcome
+    requires depth { 1 ≤ asked.now.depth }
+    requires source { S.failures source.old < greatest }
+    requires sink { W.failures sink.old < greatest }
+    ensures headline { IfSome (S.remaining source.old) (λ had.
+        Shows asked.now (met (grew (S.failures source.old) (S.failures source.new)) had
+        (S.remaining source.new))
+        (W.taken sink.old) (W.taken sink.new)
+        (grew (W.failures sink.old) (W.failures sink.new)) result) }
+    ensures once { FailsOnce (S.failures source.old) (S.failures source.new)
+        × FailsOnce (W.failures sink.old) (W.failures sink.new) }
+{
+    let mut reader = Reader::new();
+    let mut number: u64 = 1;
+    let mut failed = false;
+    'items: loop {
+        let item = reader.next_problem(source);
+        if is_end(&item) {
+            return missing(failed);
+        }
+        if number == asked.item {
+            match show_item(sink, asked, &item) {
+                Ok(outcome) => return outcome,
+                Err(_) => return Outcome::OutputFailed,
+            }
+        }
+        failed |= tells_failure(&item);
+        number += 1;
+    }
+}
+
+// What comes of an input without the item, by whether its device failed.
+fn missing(failed: bool) -> Outcome
+    ensures { result ≡ (if failed then InputFailed else NoItem) }
+{
+    if failed {
+        Outcome::InputFailed
+    } else {
+        Outcome::NoItem
+    }
+}
+
+// Prints the parts of the item that is asked for.
+fn show_item<W: Sink>(sink: &mut W, asked: &Asked, item: &Item) -> Result<Outcome, SinkFault>
+    requires depth { 1 ≤ asked.now.depth }
+    requires sink { W.failures sink.old < greatest }
+    ensures bytes { Writes (W.taken sink.old) (W.taken sink.new)
+        (text_at asked.now (entry_in item.now)) result }
+    ensures outcome { is_some (entry_in item.now) ≡ true
+        → IfOk result (λ outcome. outcome ≡ outcome_at asked.now false (entry_in item.now)) }
+    ensures counted { W.failures sink.new ≡ count_after result (W.failures sink.old) }
+{
+    match item {
+        Item::End => Ok(Outcome::NoItem),
+        Item::Faulty(fault, _) => Ok(outcome_of_fault(fault)),
+        Item::Sound(problem, _) => show_sound(sink, asked, problem),
+    }
+}
+
+// What comes of a faulty item.
+fn outcome_of_fault(fault: &Fault) -> Outcome
+    ensures { result ≡ (if fault.now.number == number_of DeviceFailed then InputFailed
+        else FaultyItem) }
+{
+    if is_device_failure(fault) {
+        Outcome::InputFailed
+    } else {
+        Outcome::FaultyItem
+    }
+}
+
+// Prints the parts of a sound problem, where it has the phase.
+fn show_sound<W: Sink>(sink: &mut W, asked: &Asked, problem: &Problem) -> Result<Outcome, SinkFault>
+    requires depth { 1 ≤ asked.now.depth }
+    requires sink { W.failures sink.old < greatest }
+    ensures bytes { Writes (W.taken sink.old) (W.taken sink.new)
+        (text_in (rule_of problem.now.condition) asked.now problem.now) result }
+    ensures outcome { IfOk result (λ outcome. outcome
+        ≡ outcome_in (rule_of problem.now.condition) asked.now problem.now) }
+    ensures counted { W.failures sink.new ≡ count_after result (W.failures sink.old) }
+{
+    match problem.condition() {
+        None => show_under::<Orthodox, W>(sink, asked, problem),
+        Some(Condition::Circe) => show_under::<Circe, W>(sink, asked, problem),
+        Some(Condition::Madrasi) => show_under::<Madrasi, W>(sink, asked, problem),
+    }
+}
+
+// The same under the rules of the problem's condition.
+#[tactic(auto, unfolding(crate::specs::Parts::text_in))]
+fn show_under<R: Rules, W: Sink>(
+    sink: &mut W,
+    asked: &Asked,
+    problem: &Problem,
+) -> Result<Outcome, SinkFault>
+    requires depth { 1 ≤ asked.now.depth }
+    requires sink { W.failures sink.old < greatest }
+    requires rules { R.rule ≡ rule_of problem.now.condition }
+    ensures bytes { Writes (W.taken sink.old) (W.taken sink.new)
+        (text_in R.rule asked.now problem.now) result }
+    ensures outcome { IfOk result (λ outcome. outcome
+        ≡ outcome_in R.rule asked.now problem.now) }
+    ensures counted { W.failures sink.new ≡ count_after result (W.failures sink.old) }
+{
+    if !has_phase(problem, asked.phase) {
+        return Ok(Outcome::NoPhase);
+    }
+    if !has_parts::<R>(asked, problem) {
+        return Ok(Outcome::NoPart);
+    }
+    print_parts::<R, W>(sink, asked, problem)?;
+    Ok(Outcome::Shown)
+}
+
+// Whether the problem has the phase.
+fn has_phase(problem: &Problem, phase: Phase) -> bool
+    ensures { result ≡ has_the_phase problem.now phase }
+{
+    match phase {
+        Phase::Set => problem.set_play(),
+        Phase::Play => true,
+    }
+}
+
+// Whether the numbers asked for are those of parts of the phase.
+fn has_parts<R: Rules>(asked: &Asked, problem: &Problem) -> bool
+    requires depth { 1 ≤ asked.now.depth }
+    requires rules { R.rule ≡ rule_of problem.now.condition }
+    ensures { result ≡ has_the_parts R.rule asked.now problem.now }
+{
+    1 <= asked.first
+        && asked.first <= asked.last
+        && asked.last <= parts_in::<R>(problem, asked.phase, asked.depth)
+}
+
+// Prints the parts asked for, one after another.
+fn print_parts<R: Rules, W: Sink>(
+    sink: &mut W,
+    asked: &Asked,
+    problem: &Problem,
+) -> Result<(), SinkFault>
+    requires depth { 1 ≤ asked.now.depth }
+    requires sink { W.failures sink.old < greatest }
+    requires rules { R.rule ≡ rule_of problem.now.condition }
+    requires parts { has_the_parts R.rule asked.now problem.now ≡ true }
+    ensures bytes { Writes (W.taken sink.old) (W.taken sink.new)
+        (flat_map (part_text R.rule problem.now asked.now.phase)
+        (parts_asked R.rule asked.now problem.now)) result }
+    ensures counted { W.failures sink.new ≡ count_after result (W.failures sink.old) }
+{
+    let mut left = asked.last - asked.first + 1;
+    'parts: while left > 0 {
+        left -= 1;
+        print_part::<R, W>(sink, asked, problem, asked.last - left)?;
+    }
+    Ok(())
+}
+
+// Prints the part with a number.
+#[tactic(auto, unfolding(crate::specs::Parts::part_text))]
+fn print_part<R: Rules, W: Sink>(
+    sink: &mut W,
+    asked: &Asked,
+    problem: &Problem,
+    number: u64,
+) -> Result<(), SinkFault>
+    requires depth { 1 ≤ asked.now.depth }
+    requires sink { W.failures sink.old < greatest }
+    requires rules { R.rule ≡ rule_of problem.now.condition }
+    ensures bytes { Writes (W.taken sink.old) (W.taken sink.new)
+        (text_if R.rule problem.now asked.now.phase
+        (part_numbered R.rule problem.now asked.now.phase asked.now.depth number)) result }
+    ensures counted { W.failures sink.new ≡ count_after result (W.failures sink.old) }
+{
+    match part_of::<R>(problem, asked.phase, asked.depth, number) {
+        None => Ok(()),
+        Some(mut search) => print_events::<R, W>(sink, &mut search),
+    }
+}
+
+// Prints the events that a search still has to give, each as it is found.
+fn print_events<R: Rules, W: Sink>(
+    sink: &mut W,
+    search: &mut PartSearch<R, 33>,
+) -> Result<(), SinkFault>
+    requires sink { W.failures sink.old < greatest }
+    ensures bytes { Writes (W.taken sink.old) (W.taken sink.new)
+        (flat_map event_text (map (event_of R.rule search.old.problem) search.old.left)) result }
+    ensures counted { W.failures sink.new ≡ count_after result (W.failures sink.old) }
+{
+    'events: while let Some(event) = search.next() {
+        print_event(sink, &event)?;
+    }
+    Ok(())
+}

@@ -1,0 +1,95 @@
+-- What a call that fills the room has shown: all bytes that it writes, or the first of them.
+use Rattle.std.proofs.Common.{Bool, List, Some, [], ap, ap₂, arith, false, length, refl, sym, take, true, ℕ, ◌∙◌, ◌≡◌, ◌≢◌}
+use Rattle.std.proofs.Math.Seq.{take-append_seam}
+use Rattle.pop_text.specs.Bytes.{Begins}
+use Rattle.pop_input.specs.Blocks.{Entry}
+use Rattle.pop_run.specs.Report.{Choice, entries_in, report, status, status_of}
+use Rattle.pop_run.specs.declared.status.Status.TheVariants.{OutputFailed}
+use Rattle.pop_parts.specs.Parts.{list_text, outcome_of, text_of}
+use Rattle.pop_parts.specs.declared.asked.Asked.{Asked}
+use Rattle.pop_parts.specs.declared.asked.Outcome.TheVariants.{OutputFailed as PartsCut}
+use Rattle.pop_web.specs.Page.{Fills, Lists, Shows, ShowsParts, number_of, number_of_parts, room, whole}
+
+-- no input has the number of a failed output
+pub other_number : (entries : List Entry) → number_of (status_of entries) ≢ number_of OutputFailed
+unfolding status_of
+other_number entries = grind arith
+
+-- nothing that is asked of an input ends as a failed output does
+pub other_outcome : (asked : Asked) (text : List ℕ) → number_of_parts (outcome_of asked (whole text)) ≢ number_of_parts PartsCut
+other_outcome asked text = grind arith
+
+-- A call that writes these bytes and ends well, or a beginning of them and is cut; and what a page is shown of it.
+module _ (Ending : Type 0) (number : Ending → ℕ) (Does : List ℕ → Bool → Ending → Type 0) (bytes : List ℕ) (well cut_short : Ending)
+    (all : (now : List ℕ) (ending : Ending) → Does now false ending → (now ≡ bytes) × (ending ≡ well))
+    (some : (now : List ℕ) (ending : Ending) → Does now true ending → Begins (Some []) (Some now) bytes × (ending ≡ cut_short))
+    (shown : List ℕ) (answer : ℕ) where
+  same : (cut : Bool) (ending : Ending) → answer ≡ number ending → Does shown cut ending → answer ≢ number cut_short
+      → (shown ≡ bytes) × (answer ≡ number well)
+  same false ending told does other = let it = all shown ending does in (it.0, told ∙ ap number it.1)
+  same true ending told does other = absurd (other (told ∙ ap number (some shown ending does).1))
+
+  first : (cut : Bool) (ending : Ending) → answer ≡ number ending → Does shown cut ending → (cut ≡ true → length shown ≡ room)
+      → number well ≢ number cut_short → answer ≡ number cut_short → shown ≡ take room bytes
+  first false ending told does full other over = absurd (other (sym (ap number (all shown ending does).1) ∙ sym told ∙ over))
+  first true ending told does full other over = let begun = (some shown ending does).0 in
+      begun.taken ∙ sym (take-append_seam begun.front begun.rest)
+      ∙ ap₂ (λ n now. take n now) (sym (ap length begun.taken) ∙ full refl) (sym begun.whole)
+
+  filled : (cut : Bool) (ending : Ending) → answer ≡ number ending → Does shown cut ending → (cut ≡ true → length shown ≡ room)
+      → number well ≢ number cut_short → answer ≡ number cut_short → length shown ≡ room
+  filled false ending told does full other over = absurd (other (sym (ap number (all shown ending does).1) ∙ sym told ∙ over))
+  filled true ending told does full other over = full refl
+
+  -- a call that is told as cut has filled the room
+  pub room_is_full : Fills Ending number Does shown answer → number well ≢ number cut_short → answer ≡ number cut_short
+      → length shown ≡ room
+  room_is_full f other over = filled f.cut f.ending f.told f.does f.full other over
+
+  -- a call that isn't cut has shown all
+  pub shown_whole : Fills Ending number Does shown answer → answer ≢ number cut_short → (shown ≡ bytes) × (answer ≡ number well)
+  shown_whole f other = same f.cut f.ending f.told f.does other
+
+  -- one that is cut has shown as many bytes as the page has room for
+  pub shown_first : Fills Ending number Does shown answer → number well ≢ number cut_short → answer ≡ number cut_short
+      → shown ≡ take room bytes
+  shown_first f other over = first f.cut f.ending f.told f.does f.full other over
+
+module _ (choice : Choice) (text shown : List ℕ) (answer : ℕ) (f : Shows choice text shown answer) where
+  pub report_whole : answer ≢ number_of OutputFailed → (shown ≡ report choice (whole text)) × (answer ≡ number_of (status (whole text)))
+  report_whole other = shown_whole _ _ _ (report choice (whole text)) (status (whole text)) OutputFailed (λ now ending does. does)
+      (λ now ending does. does) _ _ f other
+
+  pub report_first : answer ≡ number_of OutputFailed → shown ≡ take room (report choice (whole text))
+  report_first over = shown_first _ _ _ (report choice (whole text)) (status (whole text)) OutputFailed (λ now ending does. does)
+      (λ now ending does. does) _ _ f (other_number (entries_in (whole text))) over
+
+  pub report_full : answer ≡ number_of OutputFailed → length shown ≡ room
+  report_full over = room_is_full _ _ _ (report choice (whole text)) (status (whole text)) OutputFailed (λ now ending does. does)
+      (λ now ending does. does) _ _ f (other_number (entries_in (whole text))) over
+
+module _ (depth : ℕ) (text shown : List ℕ) (answer : ℕ) (f : Lists depth text shown answer) where
+  pub list_whole : answer ≢ number_of OutputFailed → (shown ≡ list_text depth (whole text)) × (answer ≡ number_of (status (whole text)))
+  list_whole other = shown_whole _ _ _ (list_text depth (whole text)) (status (whole text)) OutputFailed (λ now ending does. does)
+      (λ now ending does. does) _ _ f other
+
+  pub list_first : answer ≡ number_of OutputFailed → shown ≡ take room (list_text depth (whole text))
+  list_first over = shown_first _ _ _ (list_text depth (whole text)) (status (whole text)) OutputFailed (λ now ending does. does)
+      (λ now ending does. does) _ _ f (other_number (entries_in (whole text))) over
+
+  pub list_full : answer ≡ number_of OutputFailed → length shown ≡ room
+  list_full over = room_is_full _ _ _ (list_text depth (whole text)) (status (whole text)) OutputFailed (λ now ending does. does)
+      (λ now ending does. does) _ _ f (other_number (entries_in (whole text))) over
+
+module _ (asked : Asked) (text shown : List ℕ) (answer : ℕ) (f : ShowsParts asked text shown answer) where
+  pub part_whole : answer ≢ number_of_parts PartsCut → (shown ≡ text_of asked (whole text)) × (answer ≡ number_of_parts (outcome_of asked (whole text)))
+  part_whole other = shown_whole _ _ _ (text_of asked (whole text)) (outcome_of asked (whole text)) PartsCut (λ now ending does. does)
+      (λ now ending does. does) _ _ f other
+
+  pub part_first : answer ≡ number_of_parts PartsCut → shown ≡ take room (text_of asked (whole text))
+  part_first over = shown_first _ _ _ (text_of asked (whole text)) (outcome_of asked (whole text)) PartsCut (λ now ending does. does)
+      (λ now ending does. does) _ _ f (other_outcome asked text) over
+
+  pub part_full : answer ≡ number_of_parts PartsCut → length shown ≡ room
+  part_full over = room_is_full _ _ _ (text_of asked (whole text)) (outcome_of asked (whole text)) PartsCut (λ now ending does. does)
+      (λ now ending does. does) _ _ f (other_outcome asked text) over

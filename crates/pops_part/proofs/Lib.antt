@@ -1,0 +1,3 @@
+pub mod Basics
+pub mod Excluded
+pub mod Numbers

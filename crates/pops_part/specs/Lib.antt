@@ -1,0 +1,4 @@
+pub mod Numbers
+pub mod CommandLine
+pub mod ExitStatus
+pub mod Runs

@@ -1,0 +1,191 @@
+//! The program: its settings, its files and its exit statuses.
+ghost use Rattle.std.specs.Prelude.{◌≡◌, ◌<◌, ◌≤◌, IfSome};
+ghost use Rattle.pop_text.specs.Bytes.{greatest};
+ghost use Rattle.pop_run.specs.Run.{FailsOnce, grew, met};
+ghost use Rattle.pops_part.specs.CommandLine.{IsDeep};
+ghost use Rattle.pops_part.specs.ExitStatus.{ending_flushed, ending_of_list, ending_of_parts, message_of, status_of};
+ghost use Rattle.pops_part.specs.Runs.{Answers};
+
+use crate::command_line::settings;
+use crate::settings::{ArgFault, Settings, Wanted};
+use pop_parts::asked::Outcome;
+use pop_parts::list::list_parts;
+use pop_parts::show::show_parts;
+use pop_run::status::Status;
+use pop_text::read_source::ReadSource;
+use pop_text::sink::Sink;
+use pop_text::source::Source;
+use pop_text::write_sink::WriteSink;
+use std::fs;
+use std::io::{Read, Write};
+use std::rt::Files;
+
+/// How a run ends.
+#[derive(Clone, Copy, PartialEq, Eq)]
+pub enum Ending {
+    /// All was written, and every item is sound or shown.
+    Done,
+    /// All was written, and some item is faulty.
+    Faulty,
+    /// The parts asked for aren't there.
+    Refused(Outcome),
+    /// The input device failed.
+    InputFailed,
+    /// The output can't be written.
+    OutputFailed,
+}
+
+/// Does all that the words of a command line say, of which the first is the program's name, and answers the exit status.
+///
+/// | Status | When | Written to `errors` |
+/// |---|---|---|
+/// | 0 | the list is written and every problem is sound, or the parts are shown | nothing |
+/// | 1 | the list is written and some problem is faulty | nothing |
+/// | 2 | the words are of neither form | the usage |
+/// | 2 | there is no such item, phase or part, or the item is faulty | which of them |
+/// | 3 | the input device failed | nothing |
+/// | 3 | FILE can't be opened, want of memory included | `pops-part: cannot open the input file` |
+/// | 3 | a write or the last flush failed | `pops-part: output failed` |
+/// | 4 | there was no memory to read the words | `pops-part: out of memory` |
+///
+/// A failure to write to `errors` changes no status.
+pub fn program<T: Files + AllocGlobal, R: Read + Drop, W: Write + Drop, E: Write + Drop>(
+    rt: &T,
+    words: &[&str],
+    input: R,
+    output: W,
+    errors: E,
+) -> u8
+    ensures { result ≤ 4 }
+{
+    let settings = match settings(rt.alloc(), words) {
+        Ok(settings) => settings,
+        Err(ArgFault::Usage) => return refuse(
+            errors,
+            b"pops-part: usage: pops-part --list [--depth D] [FILE]\n       pops-part --item I --phase set|play --part A[..B] [--depth D] [FILE]\n",
+            2,
+        ),
+        Err(ArgFault::Memory) => return refuse(errors, b"pops-part: out of memory\n", 4),
+    };
+    match &settings.file {
+        None => report(&settings.wanted, input, output, errors),
+        Some(path) => match fs::open(rt, path.as_str()) {
+            Ok(file) => report(&settings.wanted, file, output, errors),
+            Err(_) => refuse(errors, b"pops-part: cannot open the input file\n", 3),
+        },
+    }
+}
+
+// Runs over the input, flushes the output, and tells what has come of it.
+fn report<R: Read + Drop, W: Write + Drop, E: Write + Drop>(
+    wanted: &Wanted,
+    input: R,
+    output: W,
+    errors: E,
+) -> u8
+    requires { IsDeep wanted.now }
+    ensures { result ≤ 4 }
+{
+    let mut source = ReadSource::new(input);
+    let mut sink = WriteSink::new(output);
+    let ending = answer(wanted, &mut source, &mut sink);
+    let mut output = sink.into_inner();
+    let ending = flushed(ending, output.flush().is_ok());
+    let text = message_of(ending);
+    if text.is_empty() {
+        status_of(ending)
+    } else {
+        refuse(errors, text, status_of(ending))
+    }
+}
+
+// Writes what is wanted of the source into the sink.
+//
+// What is written is exactly the list of the input or the text of the parts, or a beginning of it where the sink
+// fails. Of the calls of each, source and sink, at most one fails.
+fn answer<S: Source, W: Sink>(wanted: &Wanted, source: &mut S, sink: &mut W) -> Ending
+    requires deep { IsDeep wanted.now }
+    requires source { S.failures source.old < greatest }
+    requires sink { W.failures sink.old < greatest }
+    ensures headline { IfSome (S.remaining source.old) (λ had.
+        Answers wanted.now (met (grew (S.failures source.old) (S.failures source.new)) had
+        (S.remaining source.new))
+        (W.taken sink.old) (W.taken sink.new)
+        (grew (W.failures sink.old) (W.failures sink.new)) result) }
+    ensures once { FailsOnce (S.failures source.old) (S.failures source.new)
+        × FailsOnce (W.failures sink.old) (W.failures sink.new) }
+{
+    match wanted {
+        Wanted::List { depth } => ending_of_list(list_parts(*depth, source, sink)),
+        Wanted::Parts(asked) => ending_of_parts(show_parts(asked, source, sink)),
+    }
+}
+
+// How a run ends that ended so before the output's last flush.
+fn flushed(ending: Ending, is_flushed: bool) -> Ending
+    ensures { result ≡ ending_flushed ending is_flushed }
+{
+    if is_flushed {
+        ending
+    } else {
+        Ending::OutputFailed
+    }
+}
+
+// How a list ends.
+fn ending_of_list(status: Status) -> Ending
+    ensures { result ≡ ending_of_list status }
+{
+    match status {
+        Status::Sound => Ending::Done,
+        Status::Faulty => Ending::Faulty,
+        Status::InputFailed => Ending::InputFailed,
+        Status::OutputFailed => Ending::OutputFailed,
+    }
+}
+
+// How what was asked for ends.
+fn ending_of_parts(outcome: Outcome) -> Ending
+    ensures { result ≡ ending_of_parts outcome }
+{
+    match outcome {
+        Outcome::Shown => Ending::Done,
+        Outcome::InputFailed => Ending::InputFailed,
+        Outcome::OutputFailed => Ending::OutputFailed,
+        other => Ending::Refused(other),
+    }
+}
+
+// The exit status.
+fn status_of(ending: Ending) -> u8
+    ensures { result ≡ status_of ending }
+{
+    match ending {
+        Ending::Done => 0,
+        Ending::Faulty => 1,
+        Ending::Refused(_) => 2,
+        Ending::InputFailed | Ending::OutputFailed => 3,
+    }
+}
+
+// What is told of a run that ends so, nothing where all was written.
+fn message_of(ending: Ending) -> &'static [u8]
+    ensures { result.now ≡ message_of ending }
+{
+    match ending {
+        Ending::Done | Ending::Faulty | Ending::InputFailed => b"",
+        Ending::OutputFailed => b"pops-part: output failed\n",
+        Ending::Refused(Outcome::NoItem) => b"pops-part: the input has no such item\n",
+        Ending::Refused(Outcome::FaultyItem) => b"pops-part: the item is faulty\n",
+        Ending::Refused(Outcome::NoPhase) => b"pops-part: the problem has no such phase\n",
+        Ending::Refused(_) => b"pops-part: the phase has no such part\n",
+    }
+}
+
+// Says why nothing came of the words, and answers the exit status.
+fn refuse<E: Write + Drop>(mut errors: E, text: &[u8], status: u8) -> u8
+    ensures { result ≡ status }
+{
+    let _told = errors.write_all(text);
+    status
+}

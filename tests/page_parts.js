@@ -1,0 +1,236 @@
+// Solves texts as the page does, in Node: the page's modules, and workers that are threads with the page's own worker and
+// engine, or made ones in front of a made engine. This one shares out what the program pops reports: a part for each beginning
+// of its solutions, and parts without any between them; or it has the program pops-part list and solve the parts.
+//
+// Standard input: a line with { worker, engine } in base64 or { program, parts }, then a line for each text with { text } in
+// base64 and { check, noBoard, least, workers, stopAfter, seconds }, for the made engine also { breaks, room }: how it breaks, and
+// for how many bytes it has room. Standard output: a line for each, how solving ended and { report }.
+'use strict';
+const { spawnSync } = require('child_process');
+const { readFileSync } = require('fs');
+const threads = require('worker_threads');
+const CUT_STATUS = 3;
+const SECONDS_A_TEXT = 60;
+const SECONDS_OF_THE_PROGRAM = 3;
+const MODULES = ['words', 'text', 'position', 'report', 'parts', 'crew', 'solving'];
+const NAMES = ['Crew', 'Solving', 'withField', 'limitOf'];
+// Letters are bytes: so any bytes are a text, and back.
+const CODEC = {
+  encode: text => new Uint8Array(Buffer.from(text, 'latin1')),
+  decode: bytes => Buffer.from(bytes).toString('latin1'),
+};
+const THREAD = `
+const { parentPort, workerData } = require('worker_threads');
+globalThis.postMessage = said => parentPort.postMessage(said);
+globalThis.onmessage = null;
+require('vm').runInThisContext(workerData);
+parentPort.on('message', data => globalThis.onmessage({ data }));
+`;
+const page = new Function(`${MODULES.map(name => readFileSync(`${__dirname}/../web/${name}.js`, 'utf8')).join('')}
+return { ${NAMES.join(', ')} };`)();
+
+// A worker of the page in a thread. One that is ended while it has nothing to do is taken again for the next text.
+class ThreadWorker {
+  static idle = [];
+
+  static of(source, engine) {
+    return ThreadWorker.idle.pop() ?? new ThreadWorker(source, engine);
+  }
+
+  constructor(source, engine) {
+    this.isBusy = false;
+    this.thread = new threads.Worker(THREAD, { eval: true, workerData: source });
+    this.thread.on('message', data => {
+      this.isBusy = false;
+      this.onmessage({ data });
+    });
+    this.thread.on('error', fault => this.onerror(fault));
+    this.thread.postMessage({ engine });
+  }
+
+  postMessage(data) {
+    this.isBusy = true;
+    this.thread.postMessage(data);
+  }
+
+  terminate() {
+    if (this.isBusy) this.thread.terminate();
+    else ThreadWorker.idle.push(this);
+  }
+}
+
+// What a program writes of a text, and its status.
+class Program {
+  constructor(path) {
+    Object.assign(this, { path, kept: new Map() });
+  }
+
+  run(words, text) {
+    const key = JSON.stringify([words, text]);
+    if (!this.kept.has(key)) this.kept.set(key, this.ran(words, text));
+    return this.kept.get(key);
+  }
+
+  ran(words, text) {
+    const done = spawnSync(this.path, words, { input: Buffer.from(text, 'latin1'), maxBuffer: 1 << 28,
+      timeout: SECONDS_OF_THE_PROGRAM * 1000 });
+    if (done.error) throw new Error(`${this.path}: ${done.error.message}`);
+    return { status: done.status, text: done.stdout.toString('latin1') };
+  }
+}
+
+// The made engine: the three calls.
+class MadeEngine {
+  constructor(program) {
+    this.program = program;
+  }
+
+  report({ text, check, noBoard }) {
+    return this.program.run([...(check ? ['--check'] : []), ...(noBoard ? ['--no-board'] : [])], text);
+  }
+
+  list({ text, depth }) {
+    const phases = this.phases(text, depth);
+    if (!phases) return { status: 1, text: '1: faulty\n' };
+    const said = Object.entries(phases).map(([name, parts]) => `${name} ${parts ? parts.length : 'not possible'}`);
+    return { status: 0, text: `1: ${said.join(', ')}\n` };
+  }
+
+  part({ text, isSet, depth, number }) {
+    const phases = this.phases(text, depth);
+    if (!phases) return { status: 1, text: '' };
+    const parts = phases[isSet ? 'set' : 'play'];
+    if (parts === undefined) return { status: 6, text: '' };
+    const part = parts?.[number - 1];
+    if (!part) return { status: 7, text: '' };
+    const limit = page.limitOf(text);
+    const shown = part.slice(0, limit);
+    return { status: 0, text: `${shown.join('')}solutions: ${shown.length}${shown.length === limit ? ', stopped' : ''}\n` };
+  }
+
+  // The report of a text whose limit of solutions is taken away, unless that takes too long.
+  withoutLimit(text) {
+    try {
+      return this.program.run(['--no-board'], page.withField(text, 0, 'MaxSolutions', null));
+    } catch {
+      return this.program.run(['--no-board'], text);
+    }
+  }
+
+  // The parts of the phases of a text's first problem, each a list of solutions; null where it is faulty.
+  phases(text, depth) {
+    const { status, text: report } = this.withoutLimit(text);
+    if (status) return null;
+    const phases = {};
+    const isHelp = /\nh[#=][0-9.]+(?: [CM][a-z]+)?\n/.test(report);
+    for (const [, name, lines] of report.matchAll(/^(set|play)\n([^]*?)(?:solutions: .*|not possible)\n/gm)) {
+      const solutions = lines.match(/^[^ ].*\n(?: .*\n)*/gm) ?? [];
+      const isPossible = !report.includes(`${name}\n${lines}not possible\n`);
+      phases[name] = isPossible ? this.shared(solutions, isHelp ? depth : 1) : null;
+    }
+    return phases;
+  }
+
+  // Solutions by their first moves, an empty part before each and behind the last.
+  shared(solutions, depth) {
+    if (!solutions.length) return [];
+    const parts = [[]];
+    let last = null;
+    for (const solution of solutions) {
+      const beginning = solution.replace(/ ep\./g, 'ep.').split('\n')[0].split(' ').slice(0, depth).join(' ');
+      if (beginning === last) parts.at(-2).push(solution);
+      else parts.push([solution], []);
+      last = beginning;
+    }
+    return parts;
+  }
+}
+
+// The same with the parts of pops-part.
+class EngineOfPrograms extends MadeEngine {
+  constructor(program, parts) {
+    super(program);
+    this.parts = parts;
+  }
+
+  list({ text, depth }) {
+    return this.parts.run(['--list', '--depth', String(depth)], text);
+  }
+
+  part({ text, isSet, depth, number }) {
+    const words = ['--item', '1', '--phase', isSet ? 'set' : 'play', '--part', String(number), '--depth', String(depth)];
+    return this.parts.run(words, text);
+  }
+}
+
+function madeEngine({ program, parts }) {
+  if (!program) return null;
+  return parts ? new EngineOfPrograms(new Program(program), new Program(parts)) : new MadeEngine(new Program(program));
+}
+
+// A worker in front of the made engine, which answers after a while; one that is broken fails, one that hangs never answers.
+class MadeWorker {
+  constructor(engine, draw, { breaks, room = Infinity }) {
+    Object.assign(this, { engine, draw, breaks, room, isEnded: false });
+  }
+
+  postMessage(data) {
+    if (this.breaks === 'hangs' && data.call === 'part') return;
+    setTimeout(() => this.isEnded || this.onmessage(this.answer(data)), this.draw() * 4);
+  }
+
+  answer(data) {
+    if (this.breaks === 'fails' && data.call === 'part') return { data: { failed: 'broken' } };
+    try {
+      const { status, text } = this.engine[data.call]({ ...data, text: CODEC.decode(data.text) });
+      const isCut = text.length > this.room;
+      return { data: { status: isCut ? CUT_STATUS : status, bytes: CODEC.encode(isCut ? text.slice(0, this.room) : text) } };
+    } catch (fault) {
+      return { data: { failed: String(fault) } };
+    }
+  }
+
+  terminate() {
+    this.isEnded = true;
+  }
+}
+
+// Numbers from 0 to 1, the same in each run.
+function drawn(seed) {
+  let state = seed;
+  return () => {
+    state = (state * 1103515245 + 12345) % 2147483648;
+    return state / 2147483648;
+  };
+}
+
+// Solves one text; after so many pieces of its report it is stopped.
+async function solved(make, given) {
+  const crew = new page.Crew(given.workers ?? 4, make, CODEC);
+  let report = '';
+  let pieces = 0;
+  const solving = new page.Solving(CODEC.decode(Buffer.from(given.text, 'base64')), given, crew, text => {
+    report = text === null ? '' : report + text;
+    pieces += 1;
+    if (pieces === given.stopAfter) solving.stop();
+  });
+  const late = new Promise(end => { setTimeout(() => end({ failed: 'no end in time' }), (given.seconds ?? SECONDS_A_TEXT) * 1000); });
+  const ended = await Promise.race([solving.solve(), late]);
+  crew.stop();
+  return { ...ended, pieces, progress: solving.progress, report: Buffer.from(report, 'latin1').toString('base64') };
+}
+
+async function main() {
+  const [first, ...texts] = readFileSync(0, 'utf8').trim().split('\n').map(line => JSON.parse(line));
+  const engine = first.engine && await WebAssembly.compile(Buffer.from(first.engine, 'base64'));
+  const made = madeEngine(first);
+  const draw = drawn(1);
+  for (const given of texts) {
+    const make = engine ? () => ThreadWorker.of(first.worker, engine) : () => new MadeWorker(made, draw, given);
+    const line = JSON.stringify(await solved(make, given));
+    await new Promise(written => { process.stdout.write(`${line}\n`, written); });
+  }
+  process.exit(0);
+}
+
+main();

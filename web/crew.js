@@ -1,0 +1,68 @@
+// Workers side by side. Each does one call of the engine at a time; whoever has a call waits until a worker is free.
+'use strict';
+
+class Crew {
+  // So many workers, each made by MAKE when it is first wanted. CODEC makes bytes of a text and a text of bytes.
+  constructor(size, make, codec) {
+    Object.assign(this, { size, make, codec, idle: [], busy: new Set(), waiting: [], isStopped: false });
+  }
+
+  // Ends once a worker is free.
+  async free() {
+    while (!this.idle.length && this.busy.size >= this.size) {
+      await new Promise(wake => { this.waiting.push(wake); });
+    }
+  }
+
+  // Hands a call to a worker. Its answer, once it is there, has status and text.
+  ask(call) {
+    const worker = this.idle.pop() ?? this.make();
+    const task = { worker };
+    this.busy.add(task);
+    task.answer = new Promise((answer, refuse) => {
+      worker.onmessage = ({ data }) => {
+        if (data.failed) this.fail(task, data.failed, refuse);
+        else {
+          this.release(task);
+          answer({ status: data.status, text: this.codec.decode(data.bytes) });
+        }
+      };
+      worker.onerror = fault => this.fail(task, fault.message ?? String(fault), refuse);
+    });
+    worker.postMessage({ ...call, text: this.codec.encode(call.text) });
+    return task;
+  }
+
+  release(task) {
+    if (!this.busy.delete(task)) return;
+    this.idle.push(task.worker);
+    this.wake();
+  }
+
+  // What a failed worker has in its memory is unknown: no other call goes to it.
+  fail(task, fault, refuse) {
+    this.drop(task);
+    refuse(new Error(fault));
+  }
+
+  // Ends a call whose answer isn't wanted any more; the answer never comes.
+  drop(task) {
+    if (!this.busy.delete(task)) return;
+    task.worker.terminate();
+    this.wake();
+  }
+
+  wake() {
+    if (this.isStopped) return;
+    for (const wake of this.waiting.splice(0)) wake();
+  }
+
+  // Ends all calls and all workers; whoever waits for one waits for good.
+  stop() {
+    this.isStopped = true;
+    for (const { worker } of this.busy) worker.terminate();
+    for (const worker of this.idle) worker.terminate();
+    this.busy.clear();
+    this.idle = [];
+  }
+}

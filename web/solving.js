@@ -1,0 +1,193 @@
+// Solves a text with a crew of workers: problem by problem, each phase by parts, several of which are solved at a time. A
+// problem with few half-moves is solved whole, and so is a text that the page can't cut into its problems.
+'use strict';
+const LEAST_HALF_MOVES = 4;
+const PARTS_A_WORKER = 16;
+const MOST_PARTS = 4096;
+const MOST_DEPTH = 4;
+const MOST_REPORT = 1 << 24;
+const CUT_STATUS = 3;
+
+// The text and the report of the engine don't tell of the same problems.
+class CutWrong extends Error {}
+
+class Solving {
+  // CHECK and NOBOARD are the settings; LEAST is how many half-moves a problem has that is solved by parts. SAID takes what
+  // came to the report; it is told null where the report begins anew.
+  constructor(text, { check = false, noBoard = false, least = LEAST_HALF_MOVES }, crew, said) {
+    Object.assign(this, { text, check, noBoard, least, crew, said });
+    Object.assign(this, { report: null, tasks: new Set(), phases: [], length: 0, status: 0, found: 0, whole: 0, wholeDone: 0 });
+    Object.assign(this, { isOver: false, isByOneCall: false });
+  }
+
+  // Ends with { status }, the program's, with { failed } or, after stop(), with { isStopped }.
+  solve() {
+    return new Promise(ended => {
+      this.ended = ended;
+      this.begin().catch(fault => this.fault(fault));
+    });
+  }
+
+  stop() {
+    this.end({ isStopped: true });
+  }
+
+  end(how) {
+    if (this.isOver) return;
+    this.isOver = true;
+    this.crew.stop();
+    this.ended(how);
+  }
+
+  fault(fault) {
+    if (this.isOver) return;
+    if (!(fault instanceof CutWrong)) this.end({ failed: fault.message });
+    else if (!this.isByOneCall) this.solveWhole().catch(other => this.fault(other));
+  }
+
+  // How many parts are done, of how many that are known to be needed; a problem that is solved whole is one.
+  get progress() {
+    const parts = this.phases.map(it => it.last).reduce((sum, last) => sum + last, this.whole);
+    const done = this.phases.map(it => it.countDone()).reduce((sum, count) => sum + count, this.wholeDone);
+    return { done, parts, found: this.found };
+  }
+
+  async begin() {
+    const tested = await this.ask({ call: 'report', check: true, noBoard: this.noBoard }, this.text);
+    if (this.check) {
+      this.give(tested.text);
+      this.end({ status: tested.status });
+      return;
+    }
+    const items = headsOf(tested.text);
+    const texts = itemTexts(this.text);
+    if (tested.status === CUT_STATUS || items.length !== texts.length) throw new CutWrong();
+    this.status = tested.status;
+    this.report = new ReportText(items);
+    this.whole = items.filter(it => it.isSound).length;
+    this.show();
+    for (let index = 0; index < items.length && this.goesOn; index++) {
+      if (items[index].isSound) await this.beginItem(index, items[index], texts[index]);
+    }
+  }
+
+  get goesOn() {
+    return !this.isOver && !this.isByOneCall;
+  }
+
+  // What the engine answers to a call.
+  async ask(call, text) {
+    await this.crew.free();
+    return this.crew.ask({ ...call, text }).answer;
+  }
+
+  // The whole text by one call.
+  async solveWhole() {
+    for (const task of this.tasks) this.crew.drop(task);
+    this.tasks.clear();
+    Object.assign(this, { isByOneCall: true, phases: [], length: 0, found: 0, whole: 1, wholeDone: 0 });
+    this.said(null);
+    const { status, text } = await this.ask({ call: 'report', check: false, noBoard: this.noBoard }, this.text);
+    this.wholeDone = 1;
+    this.give(text);
+    this.end({ status });
+  }
+
+  give(text) {
+    if (this.isOver || !text) return;
+    this.length += text.length;
+    this.said(text);
+  }
+
+  // Shows what has come, and ends where it is all.
+  show() {
+    if (this.isOver || this.isByOneCall) return;
+    this.give(this.report.more());
+    if (this.report.isWhole) this.end({ status: this.status });
+    else if (this.report.isCut || this.length > MOST_REPORT) this.end({ status: CUT_STATUS });
+  }
+
+  // Has a worker do a call whose answer is taken when it comes.
+  hand(call, text, take) {
+    const task = this.crew.ask({ ...call, text });
+    this.tasks.add(task);
+    task.answer.then(answer => {
+      if (!this.tasks.delete(task) || this.isOver) return;
+      take(answer);
+      this.show();
+    }).catch(fault => this.fault(fault));
+    return task;
+  }
+
+  async beginItem(index, item, text) {
+    await this.crew.free();
+    const plan = item.halfMoves < this.least ? null : await this.planned(item, text);
+    if (!this.goesOn) return;
+    if (!plan) {
+      this.beginWhole(index, item, text);
+      return;
+    }
+    const limit = limitOf(text);
+    const phases = plan.phases.map(it => new PhasePiece(it, limit));
+    this.whole -= 1;
+    this.phases.push(...phases);
+    this.report.plan(index, [...phases, new Piece('\n')]);
+    this.show();
+    for (const phase of phases) await this.beginParts(phase, text, plan.depth);
+  }
+
+  // The phases of a problem with the numbers of their parts, and how many moves tell these apart: so many that all
+  // workers have some to do. Null where there is nothing to share out.
+  async planned(item, text) {
+    const alone = await this.ask({ call: 'report', check: true, noBoard: this.noBoard }, text);
+    if (alone.text !== `problem 1\n${behindNumber(item.text)}${SOUND_LINE}`) throw new CutWrong();
+    let found = null;
+    for (let depth = 1; depth <= MOST_DEPTH; depth++) {
+      const { text: list } = await this.ask({ call: 'list', depth }, text);
+      const phases = listOf(list);
+      const most = Math.max(...phases.map(it => it.parts ?? 0));
+      if (found && (most > MOST_PARTS || most <= found.most)) break;
+      found = { phases, depth, most };
+      if (most >= PARTS_A_WORKER * this.crew.size) break;
+    }
+    return found.most > 1 ? found : null;
+  }
+
+  beginWhole(index, item, text) {
+    const rest = new Piece();
+    this.report.plan(index, [rest]);
+    this.hand({ call: 'report', check: false, noBoard: this.noBoard }, text, ({ status, text: said }) => {
+      const head = `problem 1\n${behindNumber(item.text)}`;
+      if (!said.startsWith(head)) throw new CutWrong();
+      rest.text = said.slice(head.length);
+      rest.isCut = status === CUT_STATUS;
+      this.wholeDone += 1;
+      this.found += solutionsIn(rest.text).filter(it => /^[0-9]+\./.test(it)).length;
+    });
+  }
+
+  // Hands out the parts of a phase, in order, up to the last that is needed.
+  async beginParts(phase, text, depth) {
+    const running = new Map();
+    for (let number = 1; number <= phase.last && this.goesOn; number++) {
+      await this.crew.free();
+      if (number > phase.last || !this.goesOn) break;
+      const call = { call: 'part', isSet: phase.kind === 'set', depth, number };
+      running.set(number, this.hand(call, text, answer => this.takePart(phase, number, answer, running)));
+    }
+  }
+
+  takePart(phase, number, { status, text }, running) {
+    if (status !== 0 && status !== CUT_STATUS) throw new Error(`part ${number}: status ${status}`);
+    const solutions = solutionsOf(text, status === CUT_STATUS);
+    running.delete(number);
+    phase.take(number, solutions);
+    this.found += solutions.all.length;
+    for (const [later, task] of running) {
+      if (later <= phase.last) continue;
+      running.delete(later);
+      this.tasks.delete(task);
+      this.crew.drop(task);
+    }
+  }
+}
