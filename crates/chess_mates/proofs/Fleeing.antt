@@ -1,6 +1,6 @@
 -- A flight after a move, told by the men that an attack on it sees.
 use Rattle.chess_rules.proofs.Basics.{Bool, List, None, Option, Some, and_from, and_left, and_parts, and_right, ap, arith, bit_and, bit_at, bit_at-lt, bit_at-zero, bit_at_and, bit_not, bit_or, cases_Bool, cases_eq, cond-false, cond-true, eq-eqb, eqb-true, false, false_from_ne_true, false≢true, inl, inr, is_some, length, list_any, not, not-true, or_left, or_parts, refl, rules, suc, sym, true, w64, zero, ℕ, ◌&&◌, ◌*◌, ◌+◌, ◌<◌, ◌==◌, ◌||◌, ◌∙◌, ◌≡◌, ◌≢◌}
-use Rattle.chess_mates.proofs.Chess.{AreOpen, AreSeen, Colour, IsWellFormed, King, Man, Move, Pawn, Position, RuleSet, after, any_range_cases, any_range_false, arriving, attacked, capture_square, differs, first_of_and, is_arrival_free, is_circe, is_goal, is_man, is_nil, is_side, is_square, king_after, king_square, leaps, legal, man_on, mates, moves}
+use Rattle.chess_mates.proofs.Chess.{AreOpen, AreSeen, Colour, IsWellFormed, King, Man, Move, Pawn, Position, RuleSet, after, any_range_cases, any_range_false, arriving, attacked, capture_square, differs, first_of_and, is_arrival_free, is_circe, is_man, is_mate, is_nil, is_side, is_square, king_after, king_square, leaps, legal, man_on, mates, moves}
 use Rattle.chess_mates.proofs.Chess.{moves_behind, occupied_squares, other, paralysed, pseudo, queen_steps, reaches, reaches_as, reaches_of, same_colour, same_colour-true, same_kind, side_of, sight_lifted, sight_with, some_square, some_square_false, some_square_true, squares, squares_both, squares_either, squares_not}
 use Rattle.chess_mates.proofs.Chess.{squares_of, strikes, triple_at, without_man, word}
 use Rattle.std.proofs.Common.{IfSome}
@@ -50,7 +50,7 @@ flight_there rule p h = elim (any_range_cases (λ t. is_flight_from rule p (king
 ]
 
 pub no_mate_with_flight : (rule : RuleSet) (p : Position) (m : Move) → has_flight rule (after rule p m) ≡ true → false ≡ mates rule p m
-unfolding mates is_goal
+unfolding mates is_mate
 no_mate_with_flight rule p m h = search (rules, flight_there)
 
 no_king_free : (c d : Colour) (o : Option Man) → is_arrival_free c o ≡ true → is_man o d King ≡ false

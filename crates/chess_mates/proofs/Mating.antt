@@ -1,6 +1,6 @@
 -- The moves that mate, by their numbers.
 use Rattle.chess_rules.proofs.Basics.{Bool, [], and_left, and_right, ap, arith, cases_Bool, cases_lt, false, inl, inr, not, refl, rules, suc, sym, true, zero, ℕ, ◌&&◌, ◌+◌, ◌-◌, ◌<◌, ◌∙◌, ◌∷◌, ◌≡◌, ◌≤◌}
-use Rattle.chess_mates.proofs.Chess.{HaveNone, Move, Position, RuleSet, after, after_by, first_of_and, in_check, is_goal, legal, mates, mates_behind, other, pseudo, second_of_and, triple_at}
+use Rattle.chess_mates.proofs.Chess.{HaveNone, Move, Position, RuleSet, after, after_by, first_of_and, in_check, is_mate, legal, mates, mates_behind, other, pseudo, second_of_and, triple_at}
 use Rattle.chess_rules.proofs.listing_moves.Places.{moves_behind-end, moves_behind-here, moves_behind-skip, not_pseudo}
 use Rattle.chess_rules.proofs.making_moves.Stays.{maker}
 use Rattle.chess_rules.proofs.listing_moves.Calls.{pseudo-from_legal}
@@ -50,12 +50,12 @@ turn_after rule p m h = let x = maker rule p m h in rw x.1 refl
 
 pub no_mate_quietly : (rule : RuleSet) (p : Position) (m : Move)
     → (legal rule p m ≡ true → in_check rule (after rule p m).men (other p.turn) ≡ false) → false ≡ mates rule p m
-unfolding mates is_goal
+unfolding mates is_mate
 no_mate_quietly rule p m quiet = grind (arith, cases_Bool, and_left, turn_after, pseudo-from_legal, and_right)
 
 -- a move that may be made, tested in the position after it
 pub mates_after : (rule : RuleSet) (p : Position) (m : Move) → pseudo rule p m ≡ true
-    → (not (in_check rule (after rule p m).men p.turn) && is_goal rule (after rule p m)) ≡ mates rule p m
+    → (not (in_check rule (after rule p m).men p.turn) && is_mate rule (after rule p m)) ≡ mates rule p m
 unfolding mates legal
 mates_after rule p m may = search rules
 

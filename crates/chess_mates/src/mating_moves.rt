@@ -4,7 +4,7 @@ ghost use Rattle.chess_core.specs.Position.{other};
 ghost use Rattle.chess_core.specs.WellFormed.{IsWellFormed};
 ghost use Rattle.chess_rules.specs.Attacks.{in_check};
 ghost use Rattle.chess_mates.specs.ties.CheckSquares.{AreCheckSquares};
-ghost use Rattle.chess_rules.specs.Legal.{is_goal, legal, pseudo};
+ghost use Rattle.chess_rules.specs.Legal.{is_mate, legal, pseudo};
 ghost use Rattle.chess_mates.specs.ties.Mates.{IsMatingPlaceIn, IsNextMate, mates, mates_behind, mates_between};
 ghost use Rattle.chess_rules.specs.ties.Places.{HaveNone, place_of, place_onto, triple_at};
 ghost use Rattle.chess_rules.specs.Play.{after};
@@ -270,11 +270,11 @@ fn gives_mate<R: Rules>(board: &mut Board, m: Move) -> bool
 }
 
 // Whether the side to move is mated and `mover` isn't in check. The board is unchanged.
-#[tactic(auto, unfolding(chess_rules::specs::Legal::is_goal))]
+#[tactic(auto, unfolding(chess_rules::specs::Legal::is_mate))]
 fn is_mated_by<R: Rules>(board: &mut Board, mover: Colour) -> bool
     requires { IsWellFormed board.old }
     ensures answer { result ≡ (not (in_check R.rule board.old.men mover)
-        && is_goal R.rule board.old) }
+        && is_mate R.rule board.old) }
     ensures board { board.new ≡ board.old }
 {
     in_check::<R>(board, board.turn())

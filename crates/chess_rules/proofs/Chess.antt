@@ -29,7 +29,7 @@ pub use Rattle.chess_rules.proofs.Tests.{IsFirst, all_at, any_range_cases, any_r
 pub use Rattle.chess_rules.specs.Attacks.{check_of, is_faced}
 unfoldable pub use Rattle.chess_rules.specs.Attacks.{attacked, faces, faces_its_like, in_check, paralysed, strikes}
 pub use Rattle.chess_rules.specs.Legal.{forward, goes, is_arrival_free, is_nil, is_promotion_right, last_rank, pawn_steps, pawn_takes, promotions, pseudo_of, second_rank, squares_between}
-unfoldable pub use Rattle.chess_rules.specs.Legal.{castles, is_goal, legal, may_castle, moves, pseudo, triples}
+unfoldable pub use Rattle.chess_rules.specs.Legal.{castles, is_mate, legal, may_castle, moves, pseudo, triples}
 pub use Rattle.chess_rules.specs.Play.{arriving, by_shade, corner, halfway, if_empty, is_castling, is_diagonal, is_double_step, man_on_at, move_man, put_at, reborn_at, unmoved_with_rook, unmoved_without_at, without_at}
 unfoldable pub use Rattle.chess_rules.specs.Play.{after, after_by, capture_square, loss_by, moved_men, rebirth, reborn_square, undo_of, unmoved_after}
 pub use Rattle.chess_rules.specs.Reaches.{is_occupied, is_vacant, reaches_of}

@@ -7,7 +7,7 @@ use Rattle.chess_core.specs.Steps.{along}
 use Rattle.chess_core.specs.declared.man.Colour.TheVariants.{White, Black}
 use Rattle.chess_core.specs.declared.man.Kind.TheVariants.{King, Queen, Rook, Bishop, Knight, Pawn}
 use Rattle.chess_rules.specs.Attacks.{attacked, faces, faces_its_like, in_check, paralysed, strikes}
-use Rattle.chess_rules.specs.Legal.{castles, is_goal, is_nil, legal, may_castle, moves, pseudo, triples}
+use Rattle.chess_rules.specs.Legal.{castles, is_mate, is_nil, legal, may_castle, moves, pseudo, triples}
 use Rattle.chess_rules.specs.Play.{after, after_by, capture_square, moved_men, reborn_square, rebirth, unmoved_after}
 use Rattle.chess_rules.specs.Reaches.{hops, is_clear, leaps, reaches, reaches_as, rides}
 use Rattle.chess_rules.specs.RuleSet.{orthodox}
@@ -29,7 +29,7 @@ array = record (position (on White King e1 ∷ on White Queen d1 ∷ on White Ro
 moves_of_the_array : length (moves orthodox array) ≡ 20
 unfolding reaches reaches_as rides hops leaps is_clear along squares some_square king_square faces_its_like faces strikes paralysed attacked in_check after
     after_by unmoved_after moved_men capture_square reborn_square rebirth castles may_castle pseudo legal none_unmoved has_unmoved mark_unmoved moves triples
-    is_goal
+    is_mate
 moves_of_the_array = refl
 
 -- a position with castling on both sides and captures of all sorts
@@ -47,7 +47,7 @@ full = record (position (on White King e1 ∷ on White Rook a1 ∷ on White Rook
 moves_of_the_full_position : length (moves orthodox full) ≡ 48
 unfolding reaches reaches_as rides hops leaps is_clear along squares some_square king_square faces_its_like faces strikes paralysed attacked in_check after
     after_by unmoved_after moved_men capture_square reborn_square rebirth castles may_castle pseudo legal none_unmoved has_unmoved mark_unmoved moves triples
-    is_goal
+    is_mate
 moves_of_the_full_position = refl
 
 -- White Ke1 Rh1, Black Ke8 Rf8: the king would cross an attacked square
@@ -61,7 +61,7 @@ rook_on_f8 = record (position (on White King e1 ∷ on White Rook h1 ∷ on Blac
 no_castling_over_an_attacked_square : length (moves orthodox rook_on_f8) ≡ 12
 unfolding reaches reaches_as rides hops leaps is_clear along squares some_square king_square faces_its_like faces strikes paralysed attacked in_check after
     after_by unmoved_after moved_men capture_square reborn_square rebirth castles may_castle pseudo legal none_unmoved has_unmoved mark_unmoved moves triples
-    is_goal
+    is_mate
 no_castling_over_an_attacked_square = refl
 
 -- White Kg6 Ra8, Black Kg8, Black to move
@@ -69,10 +69,10 @@ abbrev mate : Position
 mate = position (on White King g6 ∷ on White Rook a8 ∷ on Black King g8 ∷ []) Black
 
 -- Black is mated
-mated : is_goal orthodox mate ≡ true
+mated : is_mate orthodox mate ≡ true
 unfolding reaches reaches_as rides hops leaps is_clear along squares some_square king_square faces_its_like faces strikes paralysed attacked in_check after
     after_by unmoved_after moved_men capture_square reborn_square rebirth castles may_castle pseudo legal none_unmoved has_unmoved mark_unmoved moves triples
-    is_goal
+    is_mate
 mated = refl
 
 -- White Kc7 Rb7, Black Ka8, Black to move
@@ -80,8 +80,8 @@ abbrev stalemate : Position
 stalemate = position (on White King c7 ∷ on White Rook b7 ∷ on Black King a8 ∷ []) Black
 
 -- Black has no move and isn't in check, which is no mate
-stalemated : (is_nil (moves orthodox stalemate) ≡ true) × (in_check orthodox stalemate.men Black ≡ false) × (is_goal orthodox stalemate ≡ false)
+stalemated : (is_nil (moves orthodox stalemate) ≡ true) × (in_check orthodox stalemate.men Black ≡ false) × (is_mate orthodox stalemate ≡ false)
 unfolding reaches reaches_as rides hops leaps is_clear along squares some_square king_square faces_its_like faces strikes paralysed attacked in_check after
     after_by unmoved_after moved_men capture_square reborn_square rebirth castles may_castle pseudo legal none_unmoved has_unmoved mark_unmoved moves triples
-    is_goal
+    is_mate
 stalemated = (refl, refl, refl)

@@ -2,7 +2,7 @@
 use Rattle.chess_mates.specs.ties.Mates.{mates}
 use Rattle.chess_rules.specs.ties.Places.{place_of, place_onto}
 use Rattle.pop_solve.specs.ties.Calls.{IsOnMate}
-use Rattle.pop_solve.proofs.Words.{Battle, Bool, Goal, IfSome, List, MatchOption, Mate, None, Option, Position, RuleSet, Some, Triple, [], arith, can_move, chess, cut_mates, cut_moves, eqb, false, filter, is_for_mate, is_goal, is_mating, is_nil, is_reached, is_some, is_stalemate, legal, length, list_any, mates_behind, mates_between, moves, moves_behind, moves_between, nat_tests, not, refl, rules, sym, true, value, walk_count, ℕ, ◌++◌, ◌-◌, ◌<◌, ◌∙◌, ◌∷◌, ◌≡◌, ◌≤◌}
+use Rattle.pop_solve.proofs.Words.{Battle, Bool, Goal, IfSome, List, MatchOption, Mate, None, Option, Position, RuleSet, Some, Triple, [], arith, can_move, chess, cut_mates, cut_moves, eqb, false, filter, is_for_mate, is_mate, is_mating, is_nil, is_reached, is_some, is_stalemate, legal, length, list_any, mates_behind, mates_between, moves, moves_behind, moves_between, nat_tests, not, refl, rules, sym, true, value, walk_count, ℕ, ◌++◌, ◌-◌, ◌<◌, ◌∙◌, ◌∷◌, ◌≡◌, ◌≤◌}
 use Rattle.pop_solve.specs.Game.{some_move as some_good}
 
 pub can_move-is : (goal : Goal) (rule : RuleSet) (p : Position) → not (is_nil (moves rule p)) ≡ can_move (chess goal rule) p
@@ -29,7 +29,7 @@ module _ (rule : RuleSet) (p : Position) where
   any_mating [] = search rules
   any_mating (m ∷ ms) = search (rules, any_mating ms)
 
-  some_mates : (b : ℕ) → some_good (chess Mate rule) (is_goal rule) p ≡ not (is_nil (mates_between rule p 0 b ++ mates_behind rule p b))
+  some_mates : (b : ℕ) → some_good (chess Mate rule) (is_mate rule) p ≡ not (is_nil (mates_between rule p 0 b ++ mates_behind rule p b))
   unfolding mates_behind
   some_mates b = grind (arith, any_mating (moves rule p), behind_start rule p, cut_mates rule p 0 b (omega arith))
 
@@ -92,7 +92,7 @@ module _ (goal : Goal) (rule : RuleSet) (p : Position) where
 
   -- where there is a move the goal isn't reached
   pub unreached : can_move (chess goal rule) p ≡ true → is_reached goal rule p ≡ false
-  unfolding is_goal is_stalemate
+  unfolding is_mate is_stalemate
   unreached e = search rules
 
 pub ruleset settling = (for_mate, mate-value, walk_count-some)

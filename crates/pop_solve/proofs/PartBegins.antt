@@ -1,5 +1,5 @@
 -- How a part begins: behind its first moves stand its solutions.
-use Rattle.pop_solve.proofs.Words.{AreKnown, BareEvent, Bool, Counts, Frame, Game, GoesTo, IsCounted, IsLinked, IsRoomy, IsSound, IsWalking, List, Mate, Phase, Plan, Posed, Position, RuleSet, Triple, [], after_well_formed, ap, append-nil, arith, eqb, false, follows, get_or, gives, goes_on, inl, inr, is_for_mate, is_goal, is_help, legal, length, length-append, length-reverse, map, min, moves_behind, nat_tests, path, phase_half_moves, phase_paths, phase_start, plan_of, position, pseudo-from_legal, reach, refl, reverse, rules, seeks_last, shown, suc, sym, take, to_come, to_open, true, undo_of, walk_count, ℕ, ◌++◌, ◌+◌, ◌-◌, ◌<◌, ◌^◌, ◌∙◌, ◌∷◌, ◌≡◌, ◌≤◌}
+use Rattle.pop_solve.proofs.Words.{AreKnown, BareEvent, Bool, Counts, Frame, Game, GoesTo, IsCounted, IsLinked, IsRoomy, IsSound, IsWalking, List, Mate, Phase, Plan, Posed, Position, RuleSet, Triple, [], after_well_formed, ap, append-nil, arith, eqb, false, follows, get_or, gives, goes_on, inl, inr, is_for_mate, is_help, is_mate, legal, length, length-append, length-reverse, map, min, moves_behind, nat_tests, path, phase_half_moves, phase_paths, phase_start, plan_of, position, pseudo-from_legal, reach, refl, reverse, rules, seeks_last, shown, suc, sym, take, to_come, to_open, true, undo_of, walk_count, ℕ, ◌++◌, ◌+◌, ◌-◌, ◌<◌, ◌^◌, ◌∙◌, ◌∷◌, ◌≡◌, ◌≤◌}
 use Rattle.chess_rules.specs.Legal.{moves as legal_moves}
 use Rattle.chess_rules.specs.Play.{after as played}
 use Rattle.pop_solve.proofs.Boards.{behind_start, for_mate}
@@ -187,7 +187,7 @@ module _ (rule : RuleSet) (problem : Posed) (sound : IsSound problem) (phase : P
       record { stands = in-part (Within 0) old board refl e s.walking; left = rw e events-begun; opens = o }
 
   -- the last move doesn't mate where each path ends with it
-  come-fails : is_for_mate problem.stipulation.goal ≡ true → seeks_last plan ≡ true → left ≡ 0 → is_goal rule q ≡ false → come ≡ []
+  come-fails : is_for_mate problem.stipulation.goal ≡ true → seeks_last plan ≡ true → left ≡ 0 → is_mate rule q ≡ false → come ≡ []
   unfolding shown position moves_behind
   come-fails for last none misses =
       let g : GoesTo rule plan 1 board 0 (moves_behind rule board 0) =
@@ -197,7 +197,7 @@ module _ (rule : RuleSet) (problem : Posed) (sound : IsSound problem) (phase : P
       (skipped rule plan h board (opened_frame m (undo_of rule board m) 1) [] _ g root 1 last (for_mate _ for) m [] misses))
 
   pub begun-fails : (opened : ℕ) (after : Position) → opened ≡ 0 → after ≡ board → is_for_mate problem.stipulation.goal ≡ true → seeks_last plan ≡ true
-      → left ≡ 0 → is_goal rule q ≡ false → HasBegun rule problem phase front (Within 0) old after opened
+      → left ≡ 0 → is_mate rule q ≡ false → HasBegun rule problem phase front (Within 0) old after opened
   unfolding walk_count
   begun-fails opened after z stays for last none misses = rw stays (begun-none opened (come-fails for last none misses)
       (λ help full. rw (walk-is, none, z, idle-open rule plan p old s.idle) (record { within = omega arith; counts = omega arith })))

@@ -1,5 +1,5 @@
 -- What the moves still to come say of paths, turns and counts: the next move, and those passed over.
-use Rattle.pop_solve.proofs.Words.{Bool, Frame, GoesTo, IsWhites, List, Loss, Mate, Plan, Position, RuleSet, Steps, Triple, [], ap, append_assoc, arith, battle_of, chess, cond, eqb, false, fewest_for, fewest_left, fewest_walked, filter, follows, gives, goes_on, inl, inr, is_goal, is_help, is_mating, length, map, map-append, moves_behind, opened, path, position, refl, rules, seeks, seeks_last, shown, smallest_tree, steps, steps_behind, suc, sum_by, sum_by-append, sum_by-cons, to_come, to_open, true, turns, value, walk_behind, walk_count, zero, ℕ, ◌++◌, ◌+◌, ◌-◌, ◌<◌, ◌∙◌, ◌∷◌, ◌≡◌, ◌≤◌, ◌⊎◌}
+use Rattle.pop_solve.proofs.Words.{Bool, Frame, GoesTo, IsWhites, List, Loss, Mate, Plan, Position, RuleSet, Steps, Triple, [], ap, append_assoc, arith, battle_of, chess, cond, eqb, false, fewest_for, fewest_left, fewest_walked, filter, follows, gives, goes_on, inl, inr, is_help, is_mate, is_mating, length, map, map-append, moves_behind, opened, path, position, refl, rules, seeks, seeks_last, shown, smallest_tree, steps, steps_behind, suc, sum_by, sum_by-append, sum_by-cons, to_come, to_open, true, turns, value, walk_behind, walk_count, zero, ℕ, ◌++◌, ◌+◌, ◌-◌, ◌<◌, ◌∙◌, ◌∷◌, ◌≡◌, ◌≤◌, ◌⊎◌}
 use Rattle.chess_rules.specs.Play.{after as played}
 use Rattle.chess_rules.specs.Legal.{moves as legal_moves}
 use Rattle.pop_solve.proofs.Boards.{behind_start}
@@ -176,12 +176,12 @@ module _ (rule : RuleSet) (plan : Plan) where
     unfolding shown
     ends low fuel k m q qs ms = search rules
 
-    gives-last : (q : Position) → is_help plan.form ≡ true → plan.goal ≡ Mate → is_goal rule q ≡ false → gives plan (chess plan.goal rule) 0 q ≡ false
+    gives-last : (q : Position) → is_help plan.form ≡ true → plan.goal ≡ Mate → is_mate rule q ≡ false → gives plan (chess plan.goal rule) 0 q ≡ false
     unfolding gives
     gives-last q a for misses = rw (a, for, misses) refl
 
     -- in direct play a move that doesn't mate isn't followed, and tries nothing
-    follows-last : (low : Bool) (q : Position) → is_help plan.form ≡ false → seeks (battle_of plan.form) 1 ≡ true → plan.goal ≡ Mate → is_goal rule q ≡ false
+    follows-last : (low : Bool) (q : Position) → is_help plan.form ≡ false → seeks (battle_of plan.form) 1 ≡ true → plan.goal ≡ Mate → is_mate rule q ≡ false
         → follows plan (chess plan.goal rule) low 0 q ≡ false
     unfolding follows value
     follows-last low q a white for misses = search rules

@@ -21,7 +21,7 @@ pub use Rattle.chess_rules.proofs.listing_moves.Places.{moves_behind-end, moves_
 pub use Rattle.chess_rules.proofs.making_moves.Stays.{after_well_formed}
 pub use Rattle.chess_rules.proofs.theorems.Moves.{Precedes, moves_are_the_legal_moves, moves_differ, moves_in_order}
 pub use Rattle.chess_rules.specs.Legal.{is_nil}
-unfoldable pub use Rattle.chess_rules.specs.Legal.{is_goal, is_stalemate, legal, moves}
+unfoldable pub use Rattle.chess_rules.specs.Legal.{is_mate, is_stalemate, legal, moves}
 pub use Rattle.chess_rules.specs.Loss.{Loss}
 unfoldable pub use Rattle.chess_rules.specs.Play.{undo_of}
 pub use Rattle.chess_rules.specs.RuleSet.{RuleSet}

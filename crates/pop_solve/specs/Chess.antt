@@ -6,7 +6,7 @@ use Rattle.chess_core.specs.declared.man.Colour.TheVariants.{White}
 use Rattle.chess_core.specs.declared.man.Kind.TheVariants.{King}
 use Rattle.chess_core.specs.declared.man.Man.{Man}
 use Rattle.chess_rules.specs.Attacks.{in_check}
-use Rattle.chess_rules.specs.Legal.{is_goal, is_stalemate, moves}
+use Rattle.chess_rules.specs.Legal.{is_mate, is_stalemate, moves}
 use Rattle.chess_rules.specs.Loss.{Loss}
 use Rattle.chess_rules.specs.Play.{after, is_castling, undo_of}
 use Rattle.chess_rules.specs.RuleSet.{RuleSet}
@@ -22,7 +22,7 @@ use Rattle.pop_solve.specs.declared.shown.Side.TheVariants.{A, H}
 
 -- the goal is reached in q: the side to move is mated, or stalemated
 abbrev pub is_reached : Goal → RuleSet → Position → Bool
-is_reached Mate rule q = is_goal rule q
+is_reached Mate rule q = is_mate rule q
 is_reached Stalemate rule q = is_stalemate rule q
 
 -- chess under a set of rules, played for a goal
@@ -32,7 +32,7 @@ chess goal rule = record { moves = moves rule; after = after rule; goal = is_rea
 -- what a move has done to the side that is to move in q: stalemate is marked where it is the goal alone (own)
 unfoldable pub mark_of : Goal → RuleSet → Position → Mark
 mark_of goal rule q =
-    if is_goal rule q then Mated
+    if is_mate rule q then Mated
     else (if in_check rule q.men q.turn then Check
     else (if is_for_stalemate goal && is_stalemate rule q then Stalemated else Plain))
 

@@ -170,7 +170,7 @@ pub(crate) fn retract<R: Rules>(board: &mut Board, by: Move, undo: Undo)
 }
 
 /// What a move has done to the side that is to move now.
-#[tactic(auto, unfolding(crate::specs::Chess::mark_of, chess_rules::specs::Legal::is_goal, chess_rules::specs::Legal::is_stalemate))]
+#[tactic(auto, unfolding(crate::specs::Chess::mark_of, chess_rules::specs::Legal::is_mate, chess_rules::specs::Legal::is_stalemate))]
 pub(crate) fn mark_of<R: Rules>(goal: Goal, board: &mut Board) -> Mark
     requires well_formed { IsWellFormed board.old }
     ensures unchanged { board.new ≡ board.old }
@@ -198,7 +198,7 @@ pub(crate) enum Reached {
 }
 
 /// The same where it may be known already that the goal is reached.
-#[tactic(auto, unfolding(crate::specs::Chess::mark_of, chess_rules::specs::Legal::is_goal, chess_rules::specs::Legal::is_stalemate))]
+#[tactic(auto, unfolding(crate::specs::Chess::mark_of, chess_rules::specs::Legal::is_mate, chess_rules::specs::Legal::is_stalemate))]
 pub(crate) fn mark_after<R: Rules>(goal: Goal, reached: Reached, board: &mut Board) -> Mark
     requires well_formed { IsWellFormed board.old }
     requires reached { reached ≡ Surely → (chess goal R.rule).goal board.old ≡ true }
@@ -235,7 +235,7 @@ pub(crate) fn reaches_goal<R: Rules>(goal: Goal, board: &mut Board) -> bool
 }
 
 /// Whether the goal is reached in the board's position, which has no legal move.
-#[tactic(auto, unfolding(chess_rules::specs::Legal::is_goal, chess_rules::specs::Legal::is_stalemate))]
+#[tactic(auto, unfolding(chess_rules::specs::Legal::is_mate, chess_rules::specs::Legal::is_stalemate))]
 pub(crate) fn is_reached_without_move<R: Rules>(goal: Goal, board: &Board) -> bool
     requires { has_move (chess goal R.rule) board.now ≡ false }
     ensures { result ≡ (chess goal R.rule).goal board.now }

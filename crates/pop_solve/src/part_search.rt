@@ -4,7 +4,7 @@ ghost use Rattle.arrayvec.specs.ArrayVec.{array_vec_len};
 ghost use Rattle.chess_core.specs.WellFormed.{IsWellFormed};
 ghost use Rattle.chess_core.specs.Triple.{Triple};
 ghost use Rattle.std.specs.Prelude.{List};
-ghost use Rattle.chess_rules.specs.Legal.{is_goal, legal};
+ghost use Rattle.chess_rules.specs.Legal.{is_mate, legal};
 ghost use Rattle.chess_rules.specs.Play.{after as played};
 ghost use Rattle.pop_input.specs.Posed.{IsSound};
 ghost use Rattle.pop_input.specs.Stipulations.{half_moves, is_help};
@@ -53,7 +53,7 @@ fn may_lead<R: Rules>(plan: Plan, left: usize, by: Move, board: &mut Board) -> b
     ensures unchanged { board.new ≡ board.old }
     ensures mated { result ≡ true → IsMatedAtLast R.rule plan left (played R.rule board.old by) }
     ensures fails { result ≡ false → (is_for_mate plan.goal ≡ true) × (seeks_last plan ≡ true)
-        × (left ≡ 0) × (is_goal R.rule (played R.rule board.old by) ≡ false) }
+        × (left ≡ 0) × (is_mate R.rule (played R.rule board.old by) ≡ false) }
 {
     if !ends_with_mate(plan, left + 1) {
         return true;

@@ -6,7 +6,7 @@ use Rattle.chess_core.specs.Position.{Position}
 use Rattle.chess_core.specs.WellFormed.{IsWellFormed}
 use Rattle.chess_core.specs.declared.man.Move.{Move}
 use Rattle.chess_rules.specs.Attacks.{in_check}
-use Rattle.chess_rules.specs.Legal.{is_goal, is_nil, is_stalemate, legal, moves, promotions, triples}
+use Rattle.chess_rules.specs.Legal.{is_mate, is_nil, is_stalemate, legal, moves, promotions, triples}
 use Rattle.chess_rules.specs.RuleSet.{RuleSet}
 use Rattle.chess_rules.proofs.listing_moves.Calls.{pseudo-from_legal}
 use Rattle.chess_rules.proofs.listing_moves.Members.{from_filter, in_filter, pairs_weaker}
@@ -65,8 +65,8 @@ module _ (rule : RuleSet) (p : Position) where
   )
 
   -- Mate: the side to move is in check, and no move is legal.
-  pub mate_is : IsWellFormed p → (is_goal rule p ≡ true) ↔ ((in_check rule p.men p.turn ≡ true) × ((m : Move) → legal rule p m ≡ false))
-  unfolding is_goal
+  pub mate_is : IsWellFormed p → (is_mate rule p ≡ true) ↔ ((in_check rule p.men p.turn ≡ true) × ((m : Move) → legal rule p m ≡ false))
+  unfolding is_mate
   mate_is well = grind (arith, and_parts, no_moves_is, and_from)
 
   -- Stalemate: it is not in check, and no move is legal.

@@ -9,7 +9,7 @@ use Rattle.chess_core.specs.Triple.{Triple}
 use Rattle.chess_core.specs.WellFormed.{IsWellFormed}
 use Rattle.chess_rules.specs.ties.Places.{moves_behind}
 use Rattle.chess_mates.specs.ties.Mates.{is_mating}
-use Rattle.chess_rules.specs.Legal.{is_goal}
+use Rattle.chess_rules.specs.Legal.{is_mate}
 use Rattle.chess_rules.specs.RuleSet.{RuleSet}
 use Rattle.pop_input.specs.Stipulations.{is_help}
 use Rattle.pop_solve.specs.Aims.{battle_of}
@@ -170,7 +170,7 @@ seeks_last plan = is_help plan.form || seeks (battle_of plan.form) 1
 -- mate, it mated
 abbrev pub IsMatedAtLast : RuleSet → Plan → ℕ → Position → Type 0
 IsMatedAtLast rule plan left q =
-    is_for_mate plan.goal ≡ true → seeks_last plan ≡ true → left ≡ 0 → is_goal rule q ≡ true
+    is_for_mate plan.goal ≡ true → seeks_last plan ≡ true → left ≡ 0 → is_mate rule q ≡ true
 
 -- from a place to the moves `rest` behind a later one only moves are passed over whose paths aren't given: with one
 -- half-move left, by a side that seeks mate, those that don't mate
