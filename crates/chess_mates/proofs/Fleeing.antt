@@ -1,7 +1,7 @@
 -- A flight after a move, told by the men that an attack on it sees.
 use Rattle.chess_rules.proofs.Basics.{Bool, List, None, Option, Some, and_from, and_left, and_parts, and_right, ap, arith, bit_and, bit_at, bit_at-lt, bit_at-zero, bit_at_and, bit_not, bit_or, cases_Bool, cases_eq, cond-false, cond-true, eq-eqb, eqb-true, false, false_from_ne_true, false≢true, inl, inr, is_some, length, list_any, not, not-true, or_left, or_parts, refl, rules, suc, sym, true, w64, zero, ℕ, ◌&&◌, ◌*◌, ◌+◌, ◌<◌, ◌==◌, ◌||◌, ◌∙◌, ◌≡◌, ◌≢◌}
-use Rattle.chess_mates.proofs.Chess.{AreOpen, AreSeen, Colour, IsWellFormed, King, Man, Move, Pawn, Position, RuleSet, after, any_range_cases, any_range_false, arriving, attacked, capture_square, differs, first_of_and, is_arrival_free, is_circe, is_man, is_mate, is_nil, is_side, is_square, king_after, king_square, leaps, legal, man_on, mates, moves}
-use Rattle.chess_mates.proofs.Chess.{moves_behind, occupied_squares, other, paralysed, pseudo, queen_steps, reaches, reaches_as, reaches_of, same_colour, same_colour-true, same_kind, side_of, sight_lifted, sight_with, some_square, some_square_false, some_square_true, squares, squares_both, squares_either, squares_not}
+use Rattle.chess_mates.proofs.Chess.{AreOpen, AreSeen, Colour, IsWellFormed, King, Man, Move, Pawn, Position, RuleSet, after, any_range_cases, any_range_false, arriving_man, capture_square, differs, first_of_and, is_arrival_free, is_attacked, is_circe, is_legal, is_man, is_mate, is_nil, is_side, is_square, king_after, king_square, leaps, man_on, mates, moves}
+use Rattle.chess_mates.proofs.Chess.{is_paralysed, is_pseudo_legal, moves_behind, occupied_squares, other, queen_steps, reaches, reaches_as, reaches_of, same_colour, same_colour-true, same_kind, side_of, sight_lifted, sight_with, some_square, some_square_false, some_square_true, squares, squares_both, squares_either, squares_not}
 use Rattle.chess_mates.proofs.Chess.{squares_of, strikes, triple_at, without_man, word}
 use Rattle.std.proofs.Common.{IfSome}
 use Rattle.chess_mates.specs.ties.Flights.{IsSeenFrom, has_flight, is_flight, is_flight_from, is_open}
@@ -21,7 +21,7 @@ use Rattle.chess_mates.proofs.Stepping.{IsStep, arrival_alike, lifted_alike, lif
 use Rattle.chess_rules.proofs.listing_moves.Walks.{on_first}
 
 -- a legal move is one of the moves
-some_left : (rule : RuleSet) (p : Position) (n : ℕ) → n < 28672 → legal rule p (triple_at n) ≡ true → (j a : ℕ) → a + j ≡ n
+some_left : (rule : RuleSet) (p : Position) (n : ℕ) → n < 28672 → is_legal rule p (triple_at n) ≡ true → (j a : ℕ) → a + j ≡ n
     → is_nil (moves_behind rule p a) ≡ false
 some_left rule p n lt h zero a e = search (rules, moves_behind-here)
 some_left rule p n lt h (suc j) a e = grind (arith, cases_Bool, moves_behind-here, moves_behind-skip, some_left rule p n lt h j (a + 1) (omega (arith, e)))
@@ -30,11 +30,11 @@ triple_there : (k t : ℕ) → t < 64 → triple_at (k * 448 + t * 7) ≡ record
 unfolding triple_at
 triple_there k t there = search rules
 
-some_legal : (rule : RuleSet) (p : Position) (k t : ℕ) → k < 64 → t < 64 → legal rule p (record { from = k; to = t; promo = None }) ≡ true
+some_legal : (rule : RuleSet) (p : Position) (k t : ℕ) → k < 64 → t < 64 → is_legal rule p (record { from = k; to = t; promo = None }) ≡ true
     → is_nil (moves rule p) ≡ false
 some_legal rule p k t small there h =
     ap is_nil (sym (moves_behind-start rule p))
-    ∙ some_left rule p (k * 448 + t * 7) (omega (arith, small, there)) (ap (legal rule p) (triple_there k t there) ∙ h) (k * 448 + t * 7) 0 (omega arith)
+    ∙ some_left rule p (k * 448 + t * 7) (omega (arith, small, there)) (ap (is_legal rule p) (triple_there k t there) ∙ h) (k * 448 + t * 7) 0 (omega arith)
 
 -- a side with a flight isn't mated
 flight_is_legal : (rule : RuleSet) (p : Position) (o : Option ℕ) (t : ℕ) → king_square p.men p.turn ≡ o → t < 64 → is_flight_from rule p o t ≡ true
@@ -98,20 +98,20 @@ module _ (rule : RuleSet) (p : Position) (m : Move) (x : Man) (k : ℕ) (i : IsS
   after_seen : (after rule p m).men ≡ arrived p x m
   after_seen = search (rules, simple_after, is_made)
 
-  no_king_arrives : same_kind (arriving x m.promo).kind King ≡ false
+  no_king_arrives : same_kind (arriving_man x m.promo).kind King ≡ false
   no_king_arrives = search (rules, false_from_ne_true, false≢true, arriving_king, is_made)
 
-  no_own_arrives : same_colour (arriving x m.promo).colour (other p.turn) ≡ false
+  no_own_arrives : same_colour (arriving_man x m.promo).colour (other p.turn) ≡ false
   no_own_arrives = ap (λ (c : Colour). same_colour c (other p.turn)) (arriving_colour x m.promo ∙ is_made.mine) ∙ other_differs p.turn
 
   module _ (small : m.to < 64) where
     king_seen : king_square (after rule p m).men (other p.turn) ≡ Some k
     king_seen =
         ap (λ (l : List (Option Man)). king_square l (other p.turn)) after_seen
-        ∙ king_stands p.men m.from (capture_square p x m) m.to (arriving x m.promo) (other p.turn) (record {
+        ∙ king_stands p.men m.from (capture_square p x m) m.to (arriving_man x m.promo) (other p.turn) (record {
           small = omega (arith, small, i.well_formed.size);
           here = ap (λ (o : Option Man). is_man o (other p.turn) King) i.here ∙ and_right (same_colour x.colour (other p.turn)) _ i.mortal;
-          comes = and_right (same_colour (arriving x m.promo).colour (other p.turn)) _ no_king_arrives;
+          comes = and_right (same_colour (arriving_man x m.promo).colour (other p.turn)) _ no_king_arrives;
           arrival = no_king_free p.turn (other p.turn) (man_on p.men m.to) is_made.arrival;
           captured = λ s at.
               let t = taken rule p x m s i.well_formed is_made (is_square-some (capture_square p x m) s at) in
@@ -197,8 +197,8 @@ module _ (men : List (Option Man)) (a : ℕ) (o : Option ℕ) (b : ℕ) (z : Man
   unfolding reaches
   nobody_strikes s small = grind (arith, cases_eq, elsewhere, stands_arrived, taken, and_right, arrival_unseen)
 
-  not_attacked : (rule : RuleSet) → attacked rule now t c ≡ false
-  unfolding attacked strikes
+  not_attacked : (rule : RuleSet) → is_attacked rule now t c ≡ false
+  unfolding is_attacked strikes
   not_attacked rule = search (rules, no_strike, nobody_strikes, some_square_false)
 
 -- the step itself
@@ -234,13 +234,13 @@ step_to k t = record { from = k; to = t; promo = None }
 
 -- a king isn't paralysed
 pub king_is_able : (rule : RuleSet) (men : List (Option Man)) (x : Man) (k : ℕ) → man_on men k ≡ Some x → same_kind x.kind King ≡ true
-    → paralysed rule men k ≡ false
-unfolding paralysed
+    → is_paralysed rule men k ≡ false
+unfolding is_paralysed
 king_is_able rule men x k here king = search (rules, and_right, and_left)
 
 module _ (rule : RuleSet) (q : Position) (x : Man) (k t : ℕ) (i : IsKingStep rule q x k t) where
-  may_step : pseudo rule q (step_to k t) ≡ true
-  unfolding pseudo
+  may_step : is_pseudo_legal rule q (step_to k t) ≡ true
+  unfolding is_pseudo_legal
   may_step = grind (arith, open_parts, king_is_no_pawn, king_is_able, and_left, cond-false, or_left, steps_there, and_from)
 
   simple_step : IsSimple rule q x (step_to k t)
@@ -251,8 +251,8 @@ module _ (rule : RuleSet) (q : Position) (x : Man) (k t : ℕ) (i : IsKingStep r
         rebirth = λ circe. no_capture q x (step_to k t) (way.nobody circe) (and_left (same_kind x.kind Pawn) _ (king_is_no_pawn x.kind i.king));
       }
 
-  step_is_legal : attacked rule (arrived q x (step_to k t)) t (other q.turn) ≡ false → legal rule q (step_to k t) ≡ true
-  unfolding legal
+  step_is_legal : is_attacked rule (arrived q x (step_to k t)) t (other q.turn) ≡ false → is_legal rule q (step_to k t) ≡ true
+  unfolding is_legal
   step_is_legal safe =
       let king : king_after q x (step_to k t) ≡ Some t = cond-true (same_kind x.kind King) _ _ i.king in
       and_from _ _ may_step (ap not (check_is rule q x (step_to k t) (Some t) i.well_formed (made rule q (step_to k t) x may_step i.here) i.small
@@ -283,7 +283,7 @@ module _ (rule : RuleSet) (p : Position) (m : Move) (x : Man) (k : ℕ) (i : IsS
 
   module _ (n r : ℕ) (near : AreOpen rule (after rule p m).men (other p.turn) k n)
       (arrives : (l : List (Option Man)) → (sight_lifted p.men m.from (capture_square p x m) m.to k).occupied ≡ occupied_squares l
-      → r ≡ word (reaches_as l (arriving x m.promo).colour (arriving x m.promo).kind m.to)) where
+      → r ≡ word (reaches_as l (arriving_man x m.promo).colour (arriving_man x m.promo).kind m.to)) where
     has_flight_to : (t : ℕ) → t < 64 → (bit_at (bit_and n (bit_not w64 r)) t == 1) ≡ true
         → ((l : List (Option Man)) → AreSeen p.men l p.turn (sight_with (sight_lifted p.men m.from (capture_square p x m) m.to k) t)
         → 0 ≡ word (λ s. is_side (man_on l s) p.turn && reaches l s t))
@@ -294,9 +294,9 @@ module _ (rule : RuleSet) (p : Position) (m : Move) (x : Man) (k : ℕ) (i : IsS
         let at : king_square (after rule p m).men (other p.turn) ≡ Some k = king_seen rule p m x k i small in
         let king = king_on (after rule p m).men (other p.turn) k at in
         let u : Option ℕ = capture_square (after rule p m) king.0 (step_to k t) in
-        let lifted : List (Option Man) = without_man (gone_to p.men m.from (capture_square p x m) m.to (arriving x m.promo)) k in
-        let seen : r ≡ word (reaches_as lifted (arriving x m.promo).colour (arriving x m.promo).kind m.to) =
-        arrives lifted (occupied_lifted p.men m.from (capture_square p x m) m.to (arriving x m.promo) k (omega (arith, small, i.well_formed.size))) in
+        let lifted : List (Option Man) = without_man (gone_to p.men m.from (capture_square p x m) m.to (arriving_man x m.promo)) k in
+        let seen : r ≡ word (reaches_as lifted (arriving_man x m.promo).colour (arriving_man x m.promo).kind m.to) =
+        arrives lifted (occupied_lifted p.men m.from (capture_square p x m) m.to (arriving_man x m.promo) k (omega (arith, small, i.well_formed.size))) in
         let step : IsKingStep rule (after rule p m) king.0 k t = record {
           well_formed = after_well_formed rule p m i.well_formed i.pseudo;
           here = king.1.here;
@@ -305,7 +305,7 @@ module _ (rule : RuleSet) (p : Position) (m : Move) (x : Man) (k : ℕ) (i : IsS
           small = there;
           near = ap (λ (c : Colour). is_open rule (after rule p m).men c k t) turn ∙ near.inside t there (on_first n (bit_not w64 r) t on);
         } in
-        let safe : IsSafeStep p.men m.from (capture_square p x m) m.to (arriving x m.promo) k u t king.0 p.turn r = search (
+        let safe : IsSafeStep p.men m.from (capture_square p x m) m.to (arriving_man x m.promo) k u t king.0 p.turn r = search (
           rules,
           is_step king.0 t there king.1,
           unseen_bit _ n r t seen there on,
@@ -313,9 +313,9 @@ module _ (rule : RuleSet) (p : Position) (m : Move) (x : Man) (k : ℕ) (i : IsS
         some_square_true (is_flight rule (after rule p m)) t there
         (ap (λ (o : Option ℕ). is_flight_from rule (after rule p m) o t) (ap (king_square (after rule p m).men) turn ∙ at)
         ∙ step_is_legal rule (after rule p m) king.0 k t step
-        (ap (λ (l : List (Option Man)). attacked rule (gone_to l k u t king.0) t (other (after rule p m).turn)) (after_seen rule p m x k i)
-        ∙ ap (attacked rule (stepped p.men m.from (capture_square p x m) m.to (arriving x m.promo) k u t king.0) t) (ap other turn ∙ other_twice p.turn)
-        ∙ not_attacked p.men m.from (capture_square p x m) m.to (arriving x m.promo) k u t king.0 p.turn r safe rule))
+        (ap (λ (l : List (Option Man)). is_attacked rule (gone_to l k u t king.0) t (other (after rule p m).turn)) (after_seen rule p m x k i)
+        ∙ ap (is_attacked rule (stepped p.men m.from (capture_square p x m) m.to (arriving_man x m.promo) k u t king.0) t) (ap other turn ∙ other_twice p.turn)
+        ∙ not_attacked p.men m.from (capture_square p x m) m.to (arriving_man x m.promo) k u t king.0 p.turn r safe rule))
 
     pub has_flight_first : (o : Option ℕ) → IfSome o (λ t. (t < 64) × ((bit_at (bit_and n (bit_not w64 r)) t == 1) ≡ true))
         → IfSome o (λ t. (l : List (Option Man)) → AreSeen p.men l p.turn (sight_with (sight_lifted p.men m.from (capture_square p x m) m.to k) t)

@@ -18,7 +18,7 @@ pub use Rattle.chess_core.specs.declared.man.Colour.{Colour}
 pub use Rattle.chess_core.specs.declared.man.Kind.{Kind}
 pub use Rattle.chess_core.specs.declared.man.Kind.TheVariants.{King, Rook}
 pub use Rattle.chess_core.specs.declared.man.Man.{Man}
-unfoldable pub use Rattle.chess_rules.specs.Attacks.{attacked, faces, faces_its_like, in_check, paralysed, strikes}
+unfoldable pub use Rattle.chess_rules.specs.Attacks.{faces, faces_its_like, in_check, is_attacked, is_paralysed, strikes}
 pub use Rattle.pop_text.proofs.Left.{longer, no_short_form}
 pub use Rattle.pop_text.proofs.Plain.{plain_no_closing, takes_none}
 pub use Rattle.pop_text.proofs.Using.{asks_none, asks_then, consumes_then, uses_none, uses_then}
@@ -30,8 +30,8 @@ pub use Rattle.pop_text.specs.ties.Left.{GoesOn, IsOver, MayFollow, RestOfLine, 
 pub use Rattle.pop_text.specs.ties.Plain.{Skips, is_named, is_plain}
 pub use Rattle.pop_text.specs.ties.Reading.{Asks, Reading, Uses, UsesAll}
 pub use Rattle.pop_text.specs.ties.Runs.{IsRunOver, Peeks, Sticks, UsesLine, UsesRun, UsesWord}
-pub use Rattle.pop_input.specs.Blocks.{Entry, Sound, block_entries, block_fault, blocks_of, closed_entry, closing_line, closing_of, cut_by, entries_by, entries_of, entry_of, first_fault, has_begun, inside, is_open, last_text, line_of, more_entries, problem_of, tail_fault, text_after, words_before}
-pub use Rattle.pop_input.specs.Ends.{ArePut, counts, posed_of, position_fault, setup_fault, setup_of, stated_fault}
+pub use Rattle.pop_input.specs.Blocks.{Entry, Sound, before_blocks, block_entries, block_fault, blocks_of, closed_entry, closing_line, closing_of, entries_by, entries_of, entry_of, first_fault, has_begun, is_open, last_text, line_of, more_entries, problem_of, tail_fault, text_after, tokens_inside, words_before}
+pub use Rattle.pop_input.specs.Ends.{ArePut, counts_as_unmoved, posed_of, position_fault, setup_fault, setup_of, stated_fault}
 unfoldable pub use Rattle.pop_input.specs.Ends.{end_fault_in, unmoved_of}
 pub use Rattle.pop_input.specs.FaultKinds.{at_line, fault_at, number_of}
 unfoldable pub use Rattle.pop_input.specs.FaultKinds.{kind_numbered}
@@ -39,7 +39,7 @@ pub use Rattle.pop_input.specs.Names.{closes, or_else}
 unfoldable pub use Rattle.pop_input.specs.Names.{awaited_of, colour_of, command_of, condition_of, kind_of, option_of, section_of, text_word_of}
 pub use Rattle.pop_input.specs.Posed.{rule_of}
 pub use Rattle.pop_input.specs.State.{State, no_men, put_men, state_of}
-pub use Rattle.pop_input.specs.Stipulations.{has_king_to_mate, starts}
+pub use Rattle.pop_input.specs.Stipulations.{has_king_to_mate, starting_side}
 pub use Rattle.pop_input.specs.Values.{before_squares, is_digit, most_solutions, square_by, squares_from, stipulation_in_small_letters, value_of}
 unfoldable pub use Rattle.pop_input.specs.Values.{limit_of, squares_of, stipulation_of}
 pub use Rattle.pop_input.specs.WordFaults.{barred_fault, begin_fault, condition_fault, control_fault, fault_if, fault_of, letter_fault, man_fault, men_fault, pieces_fault, put_fault, role_fault, stipulation_fault}

@@ -11,7 +11,7 @@ use Rattle.chess_core.specs.declared.man.Unmoved.{Unmoved}
 use Rattle.chess_rules.specs.Attacks.{in_check}
 use Rattle.pop_input.specs.Posed.{Posed, rule_of}
 use Rattle.pop_input.specs.State.{State}
-use Rattle.pop_input.specs.Stipulations.{starts, has_king_to_mate, is_in_range}
+use Rattle.pop_input.specs.Stipulations.{starting_side, has_king_to_mate, is_in_range}
 use Rattle.pop_input.specs.declared.stipulation.Form.{Form}
 use Rattle.pop_input.specs.declared.stipulation.Form.TheVariants.{Direct}
 use Rattle.pop_input.specs.declared.stipulation.Goal.TheVariants.{Mate}
@@ -20,19 +20,21 @@ use Rattle.pop_input.specs.declared.stipulation.Stipulation.{Stipulation}
 -- The diagram.
 
 -- whether a square counts as unmoved: the king or rook that castles from it stands there, and NoCastling does not name it (Codex)
-abbrev pub counts : List (Option Man) → Unmoved → ℕ → Bool
-counts men barred square = is_home (man_on men square) square && not (has_unmoved barred square)
+abbrev pub counts_as_unmoved : List (Option Man) → Unmoved → ℕ → Bool
+counts_as_unmoved men barred square =
+    is_home (man_on men square) square && not (has_unmoved barred square)
 
 -- the castling squares that count as unmoved
 unfoldable pub unmoved_of : List (Option Man) → Unmoved → Unmoved
-unmoved_of men barred = fold (λ set square. mark_unmoved set square (counts men barred square))
+unmoved_of men barred =
+    fold (λ set square. mark_unmoved set square (counts_as_unmoved men barred square))
     none_unmoved castling_squares
 
 -- the diagram that words pose: who starts is said by the form
 abbrev pub setup_of : State → Form → Setup
 setup_of state form = record {
   men = state.men;
-  turn = starts form;
+  turn = starting_side form;
   unmoved = unmoved_of state.men state.barred;
   crossed = state.crossed;
 }

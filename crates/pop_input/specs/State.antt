@@ -9,7 +9,7 @@ use Rattle.chess_core.specs.declared.man.Kind.{Kind}
 use Rattle.chess_core.specs.declared.man.Man.{Man}
 use Rattle.chess_core.specs.declared.man.Unmoved.{Unmoved}
 use Rattle.pop_input.specs.Names.{command_of, colour_of, kind_of, condition_of, option_of, or_else}
-use Rattle.pop_input.specs.Values.{squares_of, only, limit_of, most_solutions, stipulation_of}
+use Rattle.pop_input.specs.Values.{squares_of, only_square, limit_of, most_solutions, stipulation_of}
 use Rattle.pop_input.specs.declared.condition.Condition.{Condition}
 use Rattle.pop_input.specs.declared.place.Role.{Role}
 use Rattle.pop_input.specs.declared.place.Role.TheVariants.{Limit, CrossedSquare, BarredSquares, Control, Within}
@@ -171,7 +171,7 @@ limit_at (text ∷ before) = limit_by (role_at before text) text (limit_at befor
 
 -- the crossed square behind one more word
 abbrev pub crossed_by : Role → List ℕ → Option ℕ → Option ℕ
-crossed_by CrossedSquare text old = or_else (only (squares_of text)) old
+crossed_by CrossedSquare text old = or_else (only_square (squares_of text)) old
 crossed_by _ text old = old
 
 -- the square of the last EnPassant

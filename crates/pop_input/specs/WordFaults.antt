@@ -14,7 +14,7 @@ use Rattle.chess_core.specs.declared.man.Kind.TheVariants.{King}
 use Rattle.chess_core.specs.declared.man.Man.{Man}
 use Rattle.pop_input.specs.Letters.{mate_sign, stalemate_sign}
 use Rattle.pop_input.specs.Names.{command_of, colour_of, kind_of, condition_of, option_of, or_else}
-use Rattle.pop_input.specs.Values.{squares_of, only, is_digit, limit_of, stipulation_of}
+use Rattle.pop_input.specs.Values.{squares_of, only_square, is_digit, limit_of, stipulation_of}
 use Rattle.pop_input.specs.State.{State, role_of}
 use Rattle.pop_input.specs.declared.condition.Condition.{Condition}
 use Rattle.pop_input.specs.declared.place.Role.{Role}
@@ -102,7 +102,7 @@ section_fault state (Some Options) text = fault_if (not (is_some (option_of text
 -- of a word that is this
 abbrev pub role_fault : State → Role → List ℕ → Option FaultKind
 role_fault state Limit text = fault_if (not (is_some (limit_of text))) BadLimit
-role_fault state CrossedSquare text = fault_if (not (is_some (only (squares_of text))))
+role_fault state CrossedSquare text = fault_if (not (is_some (only_square (squares_of text))))
     SquareMissing
 role_fault state BarredSquares text = barred_fault (squares_of text)
 role_fault state (Control command) text = control_fault command

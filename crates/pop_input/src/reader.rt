@@ -1,6 +1,6 @@
 //! Problems and faults, one after another.
 ghost use Rattle.std.specs.Prelude.{◌≡◌, ◌≢◌, ◌<◌, ◌≤◌, ◌⊎◌, None, length, true};
-ghost use Rattle.pop_text.specs.Bytes.{greatest};
+ghost use Rattle.pop_text.specs.Bytes.{greatest_count};
 ghost use Rattle.pop_text.specs.Words.{limit};
 ghost use Rattle.pop_text.specs.ties.Reading.{IsSeen, failures_after};
 ghost use Rattle.pop_text.specs.ties.Plain.{Skips};
@@ -80,7 +80,7 @@ impl Reader {
     /// Behind the last item the source isn't asked, and its count of failures may be any.
     pub fn next_problem<S: Source>(&mut self, source: &mut S) -> Item
         requires { self.old.next ≢ Next.Nothing → self.old.at.end ≡ End.Open
-            → S.failures source.old < greatest }
+            → S.failures source.old < greatest_count }
         ensures item { NextItem self.old self.new (S.remaining source.old) (S.remaining source.new)
             result }
         ensures used { UsesItem self.old self.new (S.remaining source.old) (S.remaining source.new)

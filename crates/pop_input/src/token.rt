@@ -1,7 +1,7 @@
 //! Words and text lines of the source.
 ghost use Rattle.std.specs.Prelude.{◌≡◌, ◌<◌, ◌≤◌, length};
 ghost use Rattle.pop_text.specs.Words.{limit};
-ghost use Rattle.pop_text.specs.Bytes.{greatest};
+ghost use Rattle.pop_text.specs.Bytes.{greatest_count};
 ghost use Rattle.pop_text.specs.ties.Reading.{Asks};
 ghost use Rattle.pop_text.specs.declared.scanner.End.{End};
 ghost use Rattle.pop_input.specs.ties.Tokens.{NextToken, UsesToken};
@@ -35,7 +35,7 @@ pub(crate) fn next_token<S: Source>(
     word: &mut Word,
     text: &mut Text,
 ) -> Token
-    requires { scanner.old.end ≡ End.Open → S.failures source.old < greatest }
+    requires { scanner.old.end ≡ End.Open → S.failures source.old < greatest_count }
     ensures token { NextToken scanner.old scanner.new (S.remaining source.old)
         (S.remaining source.new) word.new text.new result }
     ensures used { UsesToken scanner.old scanner.new (S.remaining source.old)

@@ -15,7 +15,7 @@ use Rattle.pop_run.proofs.Meeting.{is_broken}
 use Rattle.pop_run.proofs.Running.{grew_broken, reads_then, status_more}
 use Rattle.pop_run.specs.Report.{is_faulty, status, tells_failure}
 unfoldable use Rattle.pop_run.specs.Report.{status_of}
-use Rattle.pop_run.specs.Run.{grew, met}
+use Rattle.pop_run.specs.Run.{grew, input_met}
 use Rattle.pop_run.specs.declared.status.Status.{Status}
 use Rattle.pop_run.specs.declared.status.Status.TheVariants.{OutputFailed, Sound}
 use Rattle.pop_run.specs.ties.Sessions.{status_with}
@@ -62,7 +62,7 @@ listed_step depth old new number so_far had mid left before t now item entry p q
 -- the list is whole behind the last item
 pub list_ends : (depth : ℕ) (old new : Standing) (number : ℕ) (so_far : Status) (had mid left before t : Option (List ℕ)) (item : Item) (n m v w : ℕ)
     → Listed depth old number so_far had mid before t → NextItem old new mid left item → entry_in item ≡ None → IsSeen new.at.end left
-    → m ≡ failures_after Open new.at.end n → w ≡ v → IfSome had (λ r. Lists depth (met (grew n m) r left) before t (grew v w) so_far)
+    → m ≡ failures_after Open new.at.end n → w ≡ v → IfSome had (λ r. Lists depth (input_met (grew n m) r left) before t (grew v w) so_far)
 list_ends depth old new number so_far None mid left before t item n m v w p q is seen reads writes = tt
 list_ends depth old new number so_far (Some r) mid left before t item n m v w p q is seen reads writes =
     let items = all_met old new mid left r p.items item p.reads q is seen in
@@ -72,7 +72,7 @@ list_ends depth old new number so_far (Some r) mid left before t item n m v w p 
 pub list_cut : (depth : ℕ) (old new : Standing) (number : ℕ) (so_far : Status) (had mid left before t now : Option (List ℕ)) (item : Item) (entry : Entry)
     (n m v w : ℕ) → Listed depth old number so_far had mid before t → NextItem old new mid left item → entry_in item ≡ Some entry
     → IsSeen new.at.end left → Begins t now (item_line number depth (entry_in item)) → m ≡ failures_after Open new.at.end n → w ≡ v + 1
-    → IfSome had (λ r. Lists depth (met (grew n m) r left) before now (grew v w) OutputFailed)
+    → IfSome had (λ r. Lists depth (input_met (grew n m) r left) before now (grew v w) OutputFailed)
 list_cut depth old new number so_far None mid left before t now item entry n m v w p q is seen begun reads writes = tt
 list_cut depth old new number so_far (Some r) mid left before t now item entry n m v w p q is seen begun reads writes =
     let all = reads_then before_all old new (Some r) mid left p.items (entry ∷ []) p.reads (item_read old new mid left item entry q is) in

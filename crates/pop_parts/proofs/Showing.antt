@@ -13,7 +13,7 @@ use Rattle.pop_input.specs.ties.Standing.{NextItem, Reads, Standing, start as be
 use Rattle.pop_run.proofs.Meeting.{is_broken}
 use Rattle.pop_run.proofs.Running.{any_more, grew_broken, reads_then}
 use Rattle.pop_run.specs.Report.{entries_in, tells_failure}
-use Rattle.pop_run.specs.Run.{grew, met}
+use Rattle.pop_run.specs.Run.{grew, input_met}
 use Rattle.pop_parts.proofs.Reading.{all_met, failure_is_told, item_read, items_met, kept_is_told}
 use Rattle.pop_parts.specs.Parts.{entry_numbered, outcome_at, outcome_of, text_at, text_of}
 use Rattle.pop_parts.specs.Runs.{Shows}
@@ -67,7 +67,7 @@ found_there items entry more wanted is = grind (arith, get_seam items entry more
 pub item_missing : (asked : Asked) (old new : Standing) (number : ℕ) (failed : Bool) (had mid left before : Option (List ℕ)) (item : Item) (answer : Outcome)
     (n m v w : ℕ) → Passed asked.item old number failed had mid → NextItem old new mid left item → entry_in item ≡ None → IsSeen new.at.end left
     → answer ≡ outcome_at asked failed None → m ≡ failures_after Open new.at.end n → w ≡ v
-    → IfSome had (λ r. Shows asked (met (grew n m) r left) before before (grew v w) answer)
+    → IfSome had (λ r. Shows asked (input_met (grew n m) r left) before before (grew v w) answer)
 item_missing asked old new number failed None mid left before item answer n m v w p q is seen told reads writes = tt
 item_missing asked old new number failed (Some r) mid left before item answer n m v w p q is seen told reads writes =
     let items = all_met old new mid left r p.items item p.reads q is seen in
@@ -83,7 +83,7 @@ module _ (asked : Asked) (old new : Standing) (number : ℕ) (failed : Bool) (mi
     (p : Passed asked.item old number failed (Some r) mid) (q : NextItem old new mid left item) (is : entry_in item ≡ Some entry)
     (seen : IsSeen new.at.end left) (one : number ≡ asked.item) where
   -- the item stands in the input at its number
-  entry_met : entry_numbered (entries_in (met (is_broken new.at.end) r left)) asked.item ≡ Some entry
+  entry_met : entry_numbered (entries_in (input_met (is_broken new.at.end) r left)) asked.item ≡ Some entry
   entry_met =
       let all = reads_then before_all old new (Some r) mid left p.items (entry ∷ []) p.reads (item_read old new mid left item entry q is) in
       let behind = items_met new left r (p.items ++ entry ∷ []) all seen in
@@ -94,19 +94,19 @@ pub item_shown : (asked : Asked) (old new : Standing) (number : ℕ) (failed : B
     (answer : Outcome) (n m v w : ℕ) → Passed asked.item old number failed had mid → NextItem old new mid left item → entry_in item ≡ Some entry
     → IsSeen new.at.end left → number ≡ asked.item → Appends before now (text_at asked (entry_in item))
     → answer ≡ outcome_at asked false (entry_in item) → m ≡ failures_after Open new.at.end n → w ≡ v
-    → IfSome had (λ r. Shows asked (met (grew n m) r left) before now (grew v w) answer)
+    → IfSome had (λ r. Shows asked (input_met (grew n m) r left) before now (grew v w) answer)
 item_shown asked old new number failed None mid left before now item entry answer n m v w p q is seen one written told reads writes = tt
 item_shown asked old new number failed (Some r) mid left before now item entry answer n m v w p q is seen one written told reads writes =
     let there = entry_met asked old new number failed mid left r item entry p q is seen one in
     rw (grew_broken new.at.end n m reads, kept_is_told v w writes, there)
-    (rw is at written, (rw is at told) ∙ any_failure asked false (list_any tells_failure (entries_in (met (is_broken new.at.end) r left))) entry)
+    (rw is at written, (rw is at told) ∙ any_failure asked false (list_any tells_failure (entries_in (input_met (is_broken new.at.end) r left))) entry)
 
 -- the sink cuts its text off
 pub item_cut : (asked : Asked) (old new : Standing) (number : ℕ) (failed : Bool) (had mid left before now : Option (List ℕ)) (item : Item) (entry : Entry)
     (n m v w : ℕ) → Passed asked.item old number failed had mid → NextItem old new mid left item → entry_in item ≡ Some entry
     → IsSeen new.at.end left → number ≡ asked.item → Begins before now (text_at asked (entry_in item))
     → m ≡ failures_after Open new.at.end n → w ≡ v + 1
-    → IfSome had (λ r. Shows asked (met (grew n m) r left) before now (grew v w) OutputFailed)
+    → IfSome had (λ r. Shows asked (input_met (grew n m) r left) before now (grew v w) OutputFailed)
 item_cut asked old new number failed None mid left before now item entry n m v w p q is seen one begun reads writes = tt
 item_cut asked old new number failed (Some r) mid left before now item entry n m v w p q is seen one begun reads writes =
     let there = entry_met asked old new number failed mid left r item entry p q is seen one in

@@ -20,7 +20,7 @@ pub use Rattle.pop_text.specs.ties.Left.{MayFollow, after, put_before}
 pub use Rattle.pop_text.specs.ties.Reading.{IsSeen, failures_after}
 pub use Rattle.pop_run.specs.Report.{Choice, choice_of, is_faulty, report, report_from, tells_failure}
 unfoldable pub use Rattle.pop_run.specs.Report.{entries_in, entry_text, status_of}
-pub use Rattle.pop_run.specs.Run.{Runs, grew, met, taken_of}
+pub use Rattle.pop_run.specs.Run.{Runs, grew, input_met, taken_of}
 pub use Rattle.pop_run.specs.declared.status.Status.TheVariants.{Faulty, InputFailed, OutputFailed, Sound}
 pub use Rattle.pop_run.specs.declared.status.Step.TheVariants.{Finished, Problem}
 pub use Rattle.pop_run.specs.ties.Sessions.{Place, Steps, TakesItem, start, status_with, step_of}

@@ -1,5 +1,5 @@
 -- How far a run reads.
-use Rattle.pop_run.proofs.Basics.{Entry, Input, IsSeen, List, MayFollow, None, Option, Reads, Some, Standing, Words, [], after, ap, append-nil, append_assoc, append_cancel_right, arith, count_by, drop, false, inl, is_line_end, length, limit, met, not, refl, sym, take, taken_of, true, words_of, ℕ, ◌++◌, ◌+◌, ◌∙◌, ◌∷◌, ◌≡◌, ◌≤◌}
+use Rattle.pop_run.proofs.Basics.{Entry, Input, IsSeen, List, MayFollow, None, Option, Reads, Some, Standing, Words, [], after, ap, append-nil, append_assoc, append_cancel_right, arith, count_by, drop, false, inl, input_met, is_line_end, length, limit, not, refl, sym, take, taken_of, true, words_of, ℕ, ◌++◌, ◌+◌, ◌∙◌, ◌∷◌, ◌≡◌, ◌≤◌}
 use Rattle.std.proofs.Common.{inr, ◌⊎◌}
 use Rattle.std.proofs.Math.Seq.{drop-append_seam, take-append_seam}
 use Rattle.std.proofs.lemmas.List.{take_all}
@@ -204,7 +204,7 @@ module _ (new : Standing) (r ys : List ℕ) (s : Stopped new (Some r) (Some ys))
     | inr over ↦ inr (record { all = all_used new.at taken s.bytes rest s.used.uses.unread s.used.uses.used over.1 may; none = over.0 })
   ]
 
-  pub reads_known : IsSeen new.at.end (Some ys) → length new.at.window ≤ 4096 → ReadsUpTo (met (is_broken new.at.end) r (Some ys)) (taken_of r (Some ys))
+  pub reads_known : IsSeen new.at.end (Some ys) → length new.at.window ≤ 4096 → ReadsUpTo (input_met (is_broken new.at.end) r (Some ys)) (taken_of r (Some ys))
   reads_known seen few =
       let m = met_after new.at.end (Some ys) r taken s.used.uses.consumed seen in
       rw m.2 (record {
@@ -218,6 +218,6 @@ module _ (new : Standing) (r ys : List ℕ) (s : Stopped new (Some r) (Some ys))
       })
 
 pub stopped_reads : (new : Standing) (r : List ℕ) (left : Option (List ℕ)) → Stopped new (Some r) left → IsSeen new.at.end left
-    → length new.at.window ≤ 4096 → ReadsUpTo (met (is_broken new.at.end) r left) (taken_of r left)
+    → length new.at.window ≤ 4096 → ReadsUpTo (input_met (is_broken new.at.end) r left) (taken_of r left)
 stopped_reads new r None s seen few = absurd s.used.uses.consumed
 stopped_reads new r (Some ys) s seen few = reads_known new r ys s seen few

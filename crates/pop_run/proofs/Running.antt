@@ -1,6 +1,6 @@
 -- A run, step by step.
 use Rattle.pop_run.proofs.Basics.{Appends, Begins, Bool, Choice, End, Entry, Err, Finished, IfSome, Input, IsSeen, List, None, Ok, Open, Option, OutputFailed, Place, Problem, Reads, Result, Runs, Some, Standing, Steps, TakesItem, Writes, [], ap, append-nil, append_assoc, appends_kept, appends_none, appends_then, arith, begins_later}
-use Rattle.pop_run.proofs.Basics.{begins_longer, consumes_then, entries_in, entries_left, entry_text, failures_after, false, grew, is_err, is_faulty, length, length-append, length-take, limit, list_any, met, not, refl, report_from, start, status_of, status_with, step_of, sym, taken_of, tells_failure, true, ℕ, ◌++◌, ◌+◌, ◌^◌, ◌||◌, ◌∙◌, ◌∷◌, ◌≡◌, ◌≤◌}
+use Rattle.pop_run.proofs.Basics.{begins_longer, consumes_then, entries_in, entries_left, entry_text, failures_after, false, grew, input_met, is_err, is_faulty, length, length-append, length-take, limit, list_any, not, refl, report_from, start, status_of, status_with, step_of, sym, taken_of, tells_failure, true, ℕ, ◌++◌, ◌+◌, ◌^◌, ◌||◌, ◌∙◌, ◌∷◌, ◌≡◌, ◌≤◌}
 use Rattle.std.proofs.lemmas.Bool.{lt-ltb}
 use Rattle.pop_text.specs.declared.sink.SinkFault.{SinkFault}
 use Rattle.pop_input.specs.ties.Standing.{start as before_all}
@@ -97,12 +97,12 @@ module _ (choice : Choice) (old new : Place) (had mid left before t now : Option
 -- a run that ends
 progress_end : (choice : Choice) (old new : Place) (mid left before t now : Option (List ℕ)) (r : List ℕ) (answer : Status)
     → Progress choice old (Some r) mid before t → Steps old new mid left t now (Ok (Finished answer)) → IsSeen new.at.at.end left
-    → Runs choice (met (is_broken new.at.at.end) r left) before now false answer
+    → Runs choice (input_met (is_broken new.at.at.end) r left) before now false answer
 progress_end choice old new mid left before t now r answer p q seen =
     let all = last_reads choice old new (Some r) mid left before t now answer p q in
     let m = met_after new.at.at.end left r all.bytes all.taken seen in
     let none = none_left choice old new (Some r) mid left before t now answer p q m.0 in
-    let items : entries_in (met (is_broken new.at.at.end) r left) ≡ p.items =
+    let items : entries_in (input_met (is_broken new.at.at.end) r left) ≡ p.items =
     ap entries_in m.2 ∙ sym (all_to_come _) ∙ all.begin m.0 m.1 ∙ rw (none, append-nil) refl in
     (rw items (appends_kept before t now _ p.written q.3), q.4 ∙ p.status ∙ sym (ap status_of items))
 
@@ -120,11 +120,11 @@ cut_begins choice items entry more before t now written begun =
 -- a run that the sink cuts off
 progress_cut : (choice : Choice) (old new : Place) (mid left before t now : Option (List ℕ)) (r : List ℕ) (fault : SinkFault)
     → Progress choice old (Some r) mid before t → Steps old new mid left t now (Err fault) → IsSeen new.at.at.end left
-    → Runs choice (met (is_broken new.at.at.end) r left) before now true OutputFailed
+    → Runs choice (input_met (is_broken new.at.at.end) r left) before now true OutputFailed
 progress_cut choice old new mid left before t now r fault p q seen =
     let all = reads_then before_all old.at new.at (Some r) mid left p.items (q.0 ∷ []) p.reads q.1.reads in
     let m = met_after new.at.at.end left r all.bytes all.taken seen in
-    let items : entries_in (met (is_broken new.at.at.end) r left) ≡ (p.items ++ q.0 ∷ []) ++ entries_left new.at m.0 =
+    let items : entries_in (input_met (is_broken new.at.at.end) r left) ≡ (p.items ++ q.0 ∷ []) ++ entries_left new.at m.0 =
     ap entries_in m.2 ∙ sym (all_to_come _) ∙ all.begin m.0 m.1 in
     (rw items (cut_begins choice p.items q.0 _ before t now p.written (rw (p.number, p.choice_is) at q.2)), refl)
 
@@ -140,14 +140,14 @@ grew_broken e n m is = grind (arith, grew_same, grew_more)
 
 pub run_ends : (choice : Choice) (old new : Place) (had mid left before t now : Option (List ℕ)) (answer : Status) (n m v w : ℕ)
     → Progress choice old had mid before t → Steps old new mid left t now (Ok (Finished answer)) → IsSeen new.at.at.end left
-    → m ≡ failures_after Open new.at.at.end n → w ≡ v → IfSome had (λ r. Runs choice (met (grew n m) r left) before now (grew v w) answer)
+    → m ≡ failures_after Open new.at.at.end n → w ≡ v → IfSome had (λ r. Runs choice (input_met (grew n m) r left) before now (grew v w) answer)
 run_ends choice old new None mid left before t now answer n m v w p q seen reads writes = tt
 run_ends choice old new (Some r) mid left before t now answer n m v w p q seen reads writes =
     rw (grew_broken new.at.at.end n m reads, writes, grew_same v) (progress_end choice old new mid left before t now r answer p q seen)
 
 pub run_cut : (choice : Choice) (old new : Place) (had mid left before t now : Option (List ℕ)) (fault : SinkFault) (n m v w : ℕ)
     → Progress choice old had mid before t → Steps old new mid left t now (Err fault) → IsSeen new.at.at.end left → m ≡ failures_after Open new.at.at.end n
-    → w ≡ v + 1 → IfSome had (λ r. Runs choice (met (grew n m) r left) before now (grew v w) OutputFailed)
+    → w ≡ v + 1 → IfSome had (λ r. Runs choice (input_met (grew n m) r left) before now (grew v w) OutputFailed)
 run_cut choice old new None mid left before t now fault n m v w p q seen reads writes = tt
 run_cut choice old new (Some r) mid left before t now fault n m v w p q seen reads writes =
     rw (grew_broken new.at.at.end n m reads, writes, grew_more v) (progress_cut choice old new mid left before t now r fault p q seen)
@@ -180,14 +180,14 @@ cut_most choice old new (Some r) mid left before t now fault p q within waits = 
 
 pub ended_reads : (choice : Choice) (old new : Place) (had mid left before t now : Option (List ℕ)) (answer : Status) (n m : ℕ)
     → Progress choice old had mid before t → Steps old new mid left t now (Ok (Finished answer)) → IsSeen new.at.at.end left
-    → length new.at.at.window ≤ 4096 → m ≡ failures_after Open new.at.at.end n → IfSome had (λ r. ReadsUpTo (met (grew n m) r left) (taken_of r left))
+    → length new.at.at.window ≤ 4096 → m ≡ failures_after Open new.at.at.end n → IfSome had (λ r. ReadsUpTo (input_met (grew n m) r left) (taken_of r left))
 ended_reads choice old new None mid left before t now answer n m p q seen few reads = tt
 ended_reads choice old new (Some r) mid left before t now answer n m p q seen few reads =
     rw (grew_broken new.at.at.end n m reads) (stopped_reads new.at r left (last_stops choice old new (Some r) mid left before t now answer p q) seen few)
 
 pub cut_reads : (choice : Choice) (old new : Place) (had mid left before t now : Option (List ℕ)) (fault : SinkFault) (n m : ℕ)
     → Progress choice old had mid before t → Steps old new mid left t now (Err fault) → IsSeen new.at.at.end left → length new.at.at.window ≤ 4096
-    → m ≡ failures_after Open new.at.at.end n → IfSome had (λ r. ReadsUpTo (met (grew n m) r left) (taken_of r left))
+    → m ≡ failures_after Open new.at.at.end n → IfSome had (λ r. ReadsUpTo (input_met (grew n m) r left) (taken_of r left))
 cut_reads choice old new None mid left before t now fault n m p q seen few reads = tt
 cut_reads choice old new (Some r) mid left before t now fault n m p q seen few reads =
     let stops = item_stops old.at new.at (Some r) mid left p.reached (more_left old new mid left q.0 q.1) q.0 q.1.used in

@@ -1,7 +1,7 @@
 //! Sessions: one item in, its report out.
 ghost use Rattle.std.specs.Prelude.{◌≡◌, ◌==◌, ◌<◌, ◌≤◌, ◌+◌, ◌⊎◌, ◌||◌, IsErr, false, true, is_err, length};
 ghost use Rattle.pop_text.specs.Words.{limit};
-ghost use Rattle.pop_text.specs.Bytes.{count_after, greatest};
+ghost use Rattle.pop_text.specs.Bytes.{count_after, greatest_count};
 ghost use Rattle.pop_text.specs.ties.Reading.{IsSeen, failures_after};
 ghost use Rattle.pop_text.specs.declared.scanner.End.{End};
 ghost use Rattle.pop_input.specs.FaultKinds.{number_of};
@@ -82,8 +82,8 @@ impl Session {
         sink: &mut W,
     ) -> Result<Step, SinkFault>
         requires source { GoesOn self.old → self.old.at.at.end ≡ End.Open
-            → S.failures source.old < greatest }
-        requires sink { GoesOn self.old → W.failures sink.old < greatest }
+            → S.failures source.old < greatest_count }
+        requires sink { GoesOn self.old → W.failures sink.old < greatest_count }
         ensures does { self.old.stopped ≡ false
             → Steps self.old self.new (S.remaining source.old) (S.remaining source.new)
             (W.taken sink.old) (W.taken sink.new) result }

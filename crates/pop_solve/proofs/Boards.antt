@@ -2,7 +2,7 @@
 use Rattle.chess_mates.specs.ties.Mates.{mates}
 use Rattle.chess_rules.specs.ties.Places.{place_of, place_onto}
 use Rattle.pop_solve.specs.ties.Calls.{IsOnMate}
-use Rattle.pop_solve.proofs.Words.{Battle, Bool, Goal, IfSome, List, MatchOption, Mate, None, Option, Position, RuleSet, Some, Triple, [], arith, can_move, chess, cut_mates, cut_moves, eqb, false, filter, is_for_mate, is_mate, is_mating, is_nil, is_reached, is_some, is_stalemate, legal, length, list_any, mates_behind, mates_between, moves, moves_behind, moves_between, nat_tests, not, refl, rules, sym, true, value, walk_count, ℕ, ◌++◌, ◌-◌, ◌<◌, ◌∙◌, ◌∷◌, ◌≡◌, ◌≤◌}
+use Rattle.pop_solve.proofs.Words.{Battle, Bool, Goal, IfSome, List, MatchOption, Mate, None, Option, Position, RuleSet, Some, Triple, [], arith, can_move, chess, cut_mates, cut_moves, eqb, false, filter, is_for_mate, is_legal, is_mate, is_mating, is_nil, is_reached, is_some, is_stalemate, length, list_any, mates_behind, mates_between, moves, moves_behind, moves_between, nat_tests, not, refl, rules, sym, true, value, walk_count, ℕ, ◌++◌, ◌-◌, ◌<◌, ◌∙◌, ◌∷◌, ◌≡◌, ◌≤◌}
 use Rattle.pop_solve.specs.Game.{some_move as some_good}
 
 pub can_move-is : (goal : Goal) (rule : RuleSet) (p : Position) → not (is_nil (moves rule p)) ≡ can_move (chess goal rule) p
@@ -80,13 +80,13 @@ module _ (goal : Goal) (rule : RuleSet) (p : Position) where
 
   pub has_killer : (killer place next : ℕ) (o : Option Triple) → place ≡ killer - 1 → is_some o ≡ true
       → MatchOption o (moves_between rule p place killer ≡ []) (λ m. (moves_between rule p place killer ≡ m ∷ moves_between rule p next killer)
-      × (legal rule p m ≡ true)) → true ≡ can_move (chess goal rule) p
+      × (is_legal rule p m ≡ true)) → true ≡ can_move (chess goal rule) p
   has_killer killer place next None at e found = absurd cc
   has_killer killer place next (Some m) at e found = rw (cut_moves rule p place killer (omega (arith, at)))
       (sym (some-within (moves_between rule p 0 place) (moves_between rule p place killer) (moves_behind rule p killer) m _ found.0))
 
   pub has_first : (place next : ℕ) (o : Option Triple) → place ≡ 0
-      → MatchOption o (moves_behind rule p place ≡ []) (λ m. (moves_behind rule p place ≡ m ∷ moves_behind rule p next) × (legal rule p m ≡ true))
+      → MatchOption o (moves_behind rule p place ≡ []) (λ m. (moves_behind rule p place ≡ m ∷ moves_behind rule p next) × (is_legal rule p m ≡ true))
       → is_some o ≡ can_move (chess goal rule) p
   has_first place next o at found = grind (arith, behind_start, nat_tests)
 

@@ -1,7 +1,7 @@
 -- The outcomes of a step, for frames listed from the top down.
-use Rattle.pop_solve.proofs.Words.{AreKnown, Battle, Bool, CameFrom, CameFromAt, Counts, Frame, GoesTo, IfSome, IsCounted, IsLinked, IsPlaceIn, IsRoomy, IsWalking, IsWhites, LegalPlace, List, Loss, Option, Plan, Position, RuleSet, Steps, Triple, [], after_well_formed, ap, arith, chess, eqb, false, fewest_left, follows, gives, goes_on, inl, inr, is_help, legal, length, min, moves_behind, opened, path, position, pseudo-from_legal, refl, rules, seeks, suc, to_come, to_open, true, turns, undo_of, walk_behind, ℕ, ◌+◌, ◌-◌, ◌<◌, ◌^◌, ◌∷◌, ◌≡◌, ◌≤◌, ◌⊎◌}
+use Rattle.pop_solve.proofs.Words.{AreKnown, Battle, Bool, CameFrom, CameFromAt, Counts, Frame, GoesTo, IfSome, IsCounted, IsLinked, IsPlaceIn, IsRoomy, IsWalking, IsWhites, LegalPlace, List, Loss, Option, Plan, Position, RuleSet, Steps, Triple, [], after_well_formed, ap, arith, chess, eqb, false, fewest_left, follows, gives, goes_on, inl, inr, is_help, is_legal, length, min, moves_behind, opened_frame, path, position, is_pseudo_legal-from_legal, refl, rules, seeks, suc, to_come, to_open, true, turns, undo_of, walk_behind, ℕ, ◌+◌, ◌-◌, ◌<◌, ◌^◌, ◌∷◌, ◌≡◌, ◌≤◌, ◌⊎◌}
 use Rattle.chess_rules.specs.Play.{after as played}
-use Rattle.pop_solve.specs.ties.Frames.{opened as opened_frame}
+use Rattle.pop_solve.specs.ties.Frames.{opened_frame}
 use Rattle.pop_solve.proofs.Tests.{learned, moved}
 use Rattle.pop_solve.proofs.GoingOn.{no_zero, goes_on-help, follows-help, goes_on-keys, goes_on-most, ended-reached}
 use Rattle.pop_solve.proofs.ToCome.{one, walk_count-start, walk_behind-none, come-pass, come-enter, tries-pass, tries-enter, turns-pass, turns-enter, open-next, open-enter, come-close, tries-close, turns-close, open-close, steps-skip}
@@ -52,11 +52,11 @@ module _ (rule : RuleSet) (h : ℕ) (p : Position) where
   walking-moved f next below board after r e = search (rules, IsLinked-moved, known-moved, position-moved)
 
   walking-enter : (plan : Plan) (f : Frame) (next : ℕ) (m : Triple) (tried : ℕ) (below : List Frame) (board after : Position)
-      → IsWalking rule h p (f ∷ below) board → tried < f.left → legal rule board m ≡ true → after ≡ played rule board m
-      → IsWalking rule h p (opened m (undo_of rule board m) tried ∷ (moved f next ∷ below)) after
+      → IsWalking rule h p (f ∷ below) board → tried < f.left → is_legal rule board m ≡ true → after ≡ played rule board m
+      → IsWalking rule h p (opened_frame m (undo_of rule board m) tried ∷ (moved f next ∷ below)) after
   unfolding IsLinked IsRoomy AreKnown position
   walking-enter plan f next m tried below board after r less lawful e =
-      grind (arith, after_well_formed rule board m r.sound (pseudo-from_legal rule board m lawful), pseudo-from_legal rule board m lawful)
+      grind (arith, after_well_formed rule board m r.sound (is_pseudo_legal-from_legal rule board m lawful), is_pseudo_legal-from_legal rule board m lawful)
 
 -- where keys alone are shown
 whites-cut : (battle : Battle) (f : Frame) (below : List Frame) → IsWhites battle (f ∷ below) ≡ true → IsWhites battle below ≡ true
@@ -73,7 +73,7 @@ unfolding IsWhites
 whites-moved battle f place below e = e
 
 whites-none : (battle : Battle) (m : Triple) (undo : Loss) (tried : ℕ) (below : List Frame) → tried ≡ 0 → IsWhites battle below ≡ true
-    → IsWhites battle (opened m undo tried ∷ below) ≡ true
+    → IsWhites battle (opened_frame m undo tried ∷ below) ≡ true
 unfolding IsWhites
 whites-none battle m undo tried below z e = rw z e
 
@@ -81,9 +81,9 @@ pub counted_by : (rule : RuleSet) (plan : Plan) (t walk opened opened2 before af
     → (0 < t → opened2 ≡ min (opened + 1) (2 ^ 64 - 1)) → (t ≡ 0 → opened2 ≡ opened) → IsCounted walk opened before → IsCounted walk opened2 after
 counted_by rule plan t walk opened opened2 before after e more same c = search rules
 
-pub opened-most : (rule : RuleSet) (plan : Plan) (t opened opened2 : ℕ) → (0 < t → opened2 ≡ min (opened + 1) (2 ^ 64 - 1)) → (t ≡ 0 → opened2 ≡ opened)
+pub opened_frame-most : (rule : RuleSet) (plan : Plan) (t opened opened2 : ℕ) → (0 < t → opened2 ≡ min (opened + 1) (2 ^ 64 - 1)) → (t ≡ 0 → opened2 ≡ opened)
     → opened2 ≤ opened + one rule plan t
-opened-most rule plan t opened opened2 more same = search rules
+opened_frame-most rule plan t opened opened2 more same = search rules
 
 -- the outcomes of a step, for frames listed from the top down
 module _ (rule : RuleSet) (plan : Plan) (h : ℕ) (p : Position) (f : Frame) (below : List Frame) (board : Position)
@@ -127,7 +127,7 @@ module _ (rule : RuleSet) (plan : Plan) (h : ℕ) (p : Position) (f : Frame) (be
           tries = record { grows = omega (arith, x.tries); fewest = search (rules, x.tries, tries-pass rule plan h p f next m below _ t fuel left here) };
         }
 
-    pub steps-enter : (after : Position) (opened opened2 : ℕ) → legal rule board m ≡ true
+    pub steps-enter : (after : Position) (opened opened2 : ℕ) → is_legal rule board m ≡ true
         → follows plan (chess plan.goal rule) (eqb (length below) 0) t (played rule board m) ≡ true → after ≡ played rule board m
         → Counts rule plan (eqb (length below) 0) t (played rule board m) opened opened2
         → Steps rule plan h p (f ∷ below) (opened_frame m (undo_of rule board m) (goes_on plan (chess plan.goal rule) t (played rule board m)) ∷ (moved f next ∷

@@ -1,12 +1,12 @@
 -- How a part begins: behind its first moves stand its solutions.
-use Rattle.pop_solve.proofs.Words.{AreKnown, BareEvent, Bool, Counts, Frame, Game, GoesTo, IsCounted, IsLinked, IsRoomy, IsSound, IsWalking, List, Mate, Phase, Plan, Posed, Position, RuleSet, Triple, [], after_well_formed, ap, append-nil, arith, eqb, false, follows, get_or, gives, goes_on, inl, inr, is_for_mate, is_help, is_mate, legal, length, length-append, length-reverse, map, min, moves_behind, nat_tests, path, phase_half_moves, phase_paths, phase_start, plan_of, position, pseudo-from_legal, reach, refl, reverse, rules, seeks_last, shown, suc, sym, take, to_come, to_open, true, undo_of, walk_count, ℕ, ◌++◌, ◌+◌, ◌-◌, ◌<◌, ◌^◌, ◌∙◌, ◌∷◌, ◌≡◌, ◌≤◌}
+use Rattle.pop_solve.proofs.Words.{AreKnown, BareEvent, Bool, Counts, Frame, Game, GoesTo, IsCounted, IsLinked, IsRoomy, IsSound, IsWalking, List, Mate, Phase, Plan, Posed, Position, RuleSet, Triple, [], after_well_formed, ap, append-nil, arith, eqb, false, follows, get_or, gives, goes_on, inl, inr, is_for_mate, is_help, is_mate, is_legal, length, length-append, length-reverse, map, min, moves_behind, nat_tests, path, phase_half_moves, phase_paths, phase_start, plan_of, position, is_pseudo_legal-from_legal, path_end, refl, reverse, rules, seeks_last, shown_paths, suc, sym, take, to_come, to_open, true, undo_of, walk_count, ℕ, ◌++◌, ◌+◌, ◌-◌, ◌<◌, ◌^◌, ◌∙◌, ◌∷◌, ◌≡◌, ◌≤◌}
 use Rattle.chess_rules.specs.Legal.{moves as legal_moves}
 use Rattle.chess_rules.specs.Play.{after as played}
 use Rattle.pop_solve.proofs.Boards.{behind_start, for_mate}
 use Rattle.pop_solve.proofs.GoingOn.{cases, ended-reached, follows-help, goes_on-help, goes_on-most}
 use Rattle.pop_solve.proofs.Outcomes.{counted_by}
 use Rattle.pop_solve.proofs.Parts.{part_cut}
-use Rattle.pop_solve.proofs.Paths.{cut-at, path-length, path-more, position-more, reach-append, reach-path, some-taken}
+use Rattle.pop_solve.proofs.Paths.{cut-at, path-length, path-more, position-more, path_end-append, path_end-path, some-taken}
 use Rattle.pop_solve.proofs.PhasePaths.{game_of}
 use Rattle.pop_solve.proofs.Solved.{IsCutInto}
 use Rattle.pop_solve.proofs.ToCome.{come-close, given_path, open-close, skipped, turn, walk_count-start}
@@ -15,7 +15,7 @@ use Rattle.pop_solve.specs.Parts.{part_events, part_solutions}
 use Rattle.pop_solve.specs.declared.part_search.PartStage.{PartStage}
 use Rattle.pop_solve.specs.declared.part_search.PartStage.TheVariants.{Behind, First, Within}
 use Rattle.pop_solve.specs.ties.Beginnings.{IsSeeking, are_idle}
-use Rattle.pop_solve.specs.ties.Frames.{opened as opened_frame}
+use Rattle.pop_solve.specs.ties.Frames.{opened_frame}
 use Rattle.pop_solve.specs.ties.PartStages.{IsInPart, IsPartOpened, StandsInPart, begun_at, events_left, part_left, part_paths}
 use Rattle.pop_solve.specs.ties.PartsSeen.{are_legal, is_part_stopped, part_walk}
 
@@ -32,17 +32,18 @@ front-more frames k f at some less = ap path (popped _ _ f (cut-at frames (k + 1
 
 -- the moves to a walk's top frame are legal
 module _ (rule : RuleSet) where
-  legal-more : (p : Position) (xs : List Triple) (m : Triple) → are_legal rule p xs ≡ true → legal rule (reach (played rule) p xs) m ≡ true
+  is_legal-more : (p : Position) (xs : List Triple) (m : Triple) → are_legal rule p xs ≡ true → is_legal rule (path_end (played rule) p xs) m ≡ true
       → are_legal rule p (xs ++ m ∷ []) ≡ true
   unfolding are_legal
-  legal-more p [] m a l = search rules
-  legal-more p (x ∷ xs) m a l = search (rules, legal-more (played rule p x) xs m)
+  is_legal-more p [] m a l = search rules
+  is_legal-more p (x ∷ xs) m a l = search (rules, is_legal-more (played rule p x) xs m)
 
-  legal-path : (p : Position) (frames : List Frame) → IsLinked rule p frames → are_legal rule p (path frames) ≡ true
+  is_legal-path : (p : Position) (frames : List Frame) → IsLinked rule p frames → are_legal rule p (path frames) ≡ true
   unfolding IsLinked path are_legal
-  legal-path p [] l = refl
-  legal-path p (f ∷ []) l = refl
-  legal-path p (f ∷ (g ∷ below)) l = legal-more p (path (g ∷ below)) f.by (legal-path p (g ∷ below) l.3) (rw (← reach-path Mate rule p (g ∷ below)) l.1)
+  is_legal-path p [] l = refl
+  is_legal-path p (f ∷ []) l = refl
+  is_legal-path p (f ∷ (g ∷ below)) l =
+      is_legal-more p (path (g ∷ below)) f.by (is_legal-path p (g ∷ below) l.3) (rw (← path_end-path Mate rule p (g ∷ below)) l.1)
 
 -- from idle frames nothing is to come
 idle-parts : (f : Frame) (below : List Frame) → are_idle (f ∷ below) ≡ true → (f.left ≡ 0) × (are_idle below ≡ true)
@@ -101,16 +102,16 @@ at-root : (n : ℕ) → 0 < n → eqb (n - 1) 0 ≡ eqb n 1
 at-root n some = grind (arith, nat_tests)
 
 walking-opened : (rule : RuleSet) (h : ℕ) (p : Position) (frames : List Frame) (board : Position) (m : Triple) (tried : ℕ) → 0 < length frames
-    → IsWalking rule h p frames board → legal rule board m ≡ true → tried + length frames ≤ h
+    → IsWalking rule h p frames board → is_legal rule board m ≡ true → tried + length frames ≤ h
     → IsWalking rule h p (opened_frame m (undo_of rule board m) tried ∷ frames) (played rule board m)
 unfolding IsLinked IsRoomy AreKnown position
 walking-opened rule h p [] board m tried some r lawful room = absurd (omega (arith, some))
 walking-opened rule h p (f ∷ below) board m tried some r lawful room =
-    grind (arith, after_well_formed rule board m r.sound (pseudo-from_legal rule board m lawful), pseudo-from_legal rule board m lawful)
+    grind (arith, after_well_formed rule board m r.sound (is_pseudo_legal-from_legal rule board m lawful), is_pseudo_legal-from_legal rule board m lawful)
 
 module _ (rule : RuleSet) (problem : Posed) (sound : IsSound problem) (phase : Phase) (n : ℕ) (frames : List Frame) (board : Position)
     (s : IsSeeking rule (phase_half_moves problem phase) n (phase_start problem phase) (reverse frames) board) (long : n ≡ length frames) (some : 0 < n)
-    (m : Triple) (lawful : legal rule board m ≡ true) (alone : is_help problem.stipulation.form ≡ false → n ≡ 1) where
+    (m : Triple) (lawful : is_legal rule board m ≡ true) (alone : is_help problem.stipulation.form ≡ false → n ≡ 1) where
   -- the frames from the top down
   abbrev old : List Frame
   old = reverse frames
@@ -148,16 +149,16 @@ module _ (rule : RuleSet) (problem : Posed) (sound : IsSound problem) (phase : P
 
   -- what the walk shows by the last of them
   abbrev come : List (List Triple)
-  come = map (λ line. path old ++ line) (shown plan game root (suc left) (suc left) board (m ∷ []))
+  come = map (λ line. path old ++ line) (shown_paths plan game root (suc left) (suc left) board (m ∷ []))
 
-  board-at : board ≡ reach (played rule) p (path old)
-  board-at = s.walking.board_at ∙ reach-path problem.stipulation.goal rule p old
+  board-at : board ≡ path_end (played rule) p (path old)
+  board-at = s.walking.board_at ∙ path_end-path problem.stipulation.goal rule p old
 
   come-cut : IsCutInto (is_help problem.stipulation.form) problem.max_solutions come (part_solutions rule problem phase front)
   come-cut =
       let length-is : length (path old) ≡ n - 1 = omega (arith, path-length old, size) in
       let more : h - (n - 1) ≡ suc left = omega (arith, some, s.room) in
-      let may = legal-more rule p (path old) m (legal-path rule p old s.walking.linked) (rw (← board-at) lawful) in
+      let may = is_legal-more rule p (path old) m (is_legal-path rule p old s.walking.linked) (rw (← board-at) lawful) in
       rw (length-is, more, at-root n some, ← board-at) at (part_cut rule problem sound phase (path old) m (omega (arith, length-is, some, s.room))
       (λ battle. path-one old (size ∙ alone battle)) may)
 
@@ -177,7 +178,7 @@ module _ (rule : RuleSet) (problem : Posed) (sound : IsSound problem) (phase : P
   walk-is : part_walk rule problem phase front ≡ walk_count (legal_moves rule) (played rule) left q
   walk-is =
       let length-is : h - length front ≡ left = omega (arith, length-append (path old) (m ∷ []), path-length old, size, some) in
-      rw (length-is, reach-append problem.stipulation.goal rule p (path old) m, ← board-at) refl
+      rw (length-is, path_end-append problem.stipulation.goal rule p (path old) m, ← board-at) refl
 
   -- none of them is to come
   begun-none : (opened : ℕ) → come ≡ [] → IsPartOpened rule problem phase front old opened → HasBegun rule problem phase front (Within 0) old board opened
@@ -188,7 +189,7 @@ module _ (rule : RuleSet) (problem : Posed) (sound : IsSound problem) (phase : P
 
   -- the last move doesn't mate where each path ends with it
   come-fails : is_for_mate problem.stipulation.goal ≡ true → seeks_last plan ≡ true → left ≡ 0 → is_mate rule q ≡ false → come ≡ []
-  unfolding shown position moves_behind
+  unfolding shown_paths position moves_behind
   come-fails for last none misses =
       let g : GoesTo rule plan 1 board 0 (moves_behind rule board 0) =
       record { mid = 0; over = []; passed = refl; none = inl refl; here = refl } in
@@ -204,7 +205,7 @@ module _ (rule : RuleSet) (problem : Posed) (sound : IsSound problem) (phase : P
 
   -- the move is not followed
   begun-passed : (opened : ℕ) → follows plan game root left q ≡ false → HasBegun rule problem phase front (Within 0) old board opened
-  unfolding shown
+  unfolding shown_paths
   begun-passed opened passed = begun-none opened (rw passed refl) (λ help full. absurd (search (rules, follows-help)))
 
   -- it is followed
@@ -212,7 +213,7 @@ module _ (rule : RuleSet) (problem : Posed) (sound : IsSound problem) (phase : P
   entered = opened_frame m (undo_of rule board m) (goes_on plan game left q) ∷ old
 
   come-entered : follows plan game root left q ≡ true → come ≡ given_path (gives plan game left q) front ++ to_come rule plan h p entered
-  unfolding shown to_come
+  unfolding shown_paths to_come
   come-entered followed =
       let more : eqb (length old) 0 ≡ false = grind (arith, nat_tests, deep) in
       rw (
@@ -225,7 +226,8 @@ module _ (rule : RuleSet) (problem : Posed) (sound : IsSound problem) (phase : P
         ← s.walking.board_at,
         behind_start rule q,
       )
-      (sym (append-nil _) ∙ turn (gives plan game left q) (path old) m (shown plan game false left (goes_on plan game left q) q (legal_moves rule q)) [] [])
+      (sym (append-nil _) ∙ turn (gives plan game left q) (path old) m (shown_paths plan game false left (goes_on plan game left q) q (legal_moves rule q)) []
+      [])
 
   walking-entered : IsWalking rule h p entered q
   walking-entered = walking-opened rule h p old board m _ deep s.walking lawful

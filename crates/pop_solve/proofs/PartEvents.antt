@@ -1,13 +1,13 @@
 -- What a search of one part gives at a call, and what it opens.
-use Rattle.pop_solve.proofs.Words.{BareEvent, Bool, Event, Frame, Gives, IsCounted, IsEnded, IsSound, IsWalking, List, Opens, Phase, Play, Posed, Position, RuleSet, Set, StandsOn, Total, Triple, Walks, [], arith, begins, cond, eqb, event_of, half_moves, is_help, is_set, keep, length, length-reverse, nat_tests, path, path_event, phase_half_moves, phase_paths, phase_start, plan_of, refl, reverse, rules, started, subst, to_open, true, false, ℕ, ◌+◌, ◌-◌, ◌<◌, ◌||◌, ◌∙◌, ◌∷◌, ◌≡◌, ◌≤◌}
+use Rattle.pop_solve.proofs.Words.{BareEvent, Bool, Event, Frame, Gives, IsCounted, IsEnded, IsSound, IsWalking, List, Opens, Phase, Play, Posed, Position, RuleSet, Set, StandsOn, Total, Triple, Walks, [], arith, begins, cond, eqb, event_of, half_moves, is_help, is_set, keep, length, length-reverse, nat_tests, path, path_event, phase_half_moves, phase_paths, phase_start, plan_of, refl, reverse, rules, beginning_count, subst, to_open, true, false, ℕ, ◌+◌, ◌-◌, ◌<◌, ◌||◌, ◌∙◌, ◌∷◌, ◌≡◌, ◌≤◌}
 use Rattle.pop_solve.specs.declared.part_search.PartStage.{PartStage}
 use Rattle.pop_solve.specs.declared.part_search.PartStage.TheVariants.{Behind, First, Within}
 use Rattle.pop_solve.specs.ties.PartStages.{IsPartOpened, events_left}
 unfoldable use Rattle.pop_solve.specs.ties.PartStages.{StandsInPart, part_left, part_paths}
 use Rattle.pop_solve.specs.ties.PartsSeen.{is_part_stopped, part_walk}
 use Rattle.pop_solve.proofs.Events.{room-length}
-use Rattle.pop_solve.proofs.Kept.{keep-next, started-next}
-use Rattle.pop_solve.proofs.Paths.{path-length, reach-path}
+use Rattle.pop_solve.proofs.Kept.{keep-next, beginning_count-next}
+use Rattle.pop_solve.proofs.Paths.{path-length, path_end-path}
 use Rattle.pop_solve.proofs.Sound.{in_range}
 
 module _ (rule : RuleSet) (problem : Posed) (phase : Phase) where
@@ -44,7 +44,8 @@ module _ (rule : RuleSet) (problem : Posed) (phase : Phase) where
   -- a path is given: the events to come lose their first, and the solutions come to as many as before
   module _ (count : ℕ) (paths rest : List (List Triple)) (frames : List Frame) (board : Position) (deep : 2 ≤ length frames)
       (kept : keep help (problem.max_solutions - count) paths ≡ top frames ∷ keep help (problem.max_solutions - count - here frames) rest)
-      (begun : started help (problem.max_solutions - count) paths ≡ here frames + started help (problem.max_solutions - count - here frames) rest)
+      (begun : beginning_count help (problem.max_solutions - count) paths
+      ≡ here frames + beginning_count help (problem.max_solutions - count - here frames) rest)
       (r : Walking frames board) (next : ℕ) (n : next ≡ count + more (length frames)) where
     more-here : more (length frames) ≡ here frames
     more-here = grind (arith, path-length, length-reverse, nat_tests)
@@ -52,11 +53,11 @@ module _ (rule : RuleSet) (problem : Posed) (phase : Phase) where
     left-is : problem.max_solutions - count - here frames ≡ problem.max_solutions - next
     left-is = omega (arith, n, more-here)
 
-    counts-next : next + started help (problem.max_solutions - next) rest ≡ count + started help (problem.max_solutions - count) paths
+    counts-next : next + beginning_count help (problem.max_solutions - next) rest ≡ count + beginning_count help (problem.max_solutions - count) paths
     counts-next = rw (begun, left-is) (omega (arith, n, more-here))
 
     stands-on : StandsOn rule problem (path_event problem phase (top frames)) board (length frames)
-    stands-on = grind (arith, reach-path, path-length, length-reverse)
+    stands-on = grind (arith, path_end-path, path-length, length-reverse)
 
     gives-next : (event : Event) → event ≡ event_of rule problem (path_event problem phase (top frames))
         → Gives rule problem (events_left problem phase count paths) (events_left problem phase next rest) event board (length frames)
@@ -80,9 +81,9 @@ module _ (rule : RuleSet) (problem : Posed) (phase : Phase) where
         ≡ top frames ∷ keep help (problem.max_solutions - 0 - here frames) (phase_paths rule problem phase (reverse frames))
     kept-first = keep-next help _ _ _ _ refl (λ b. some)
 
-    begun-first : started help (problem.max_solutions - 0) (top frames ∷ phase_paths rule problem phase (reverse frames))
-        ≡ here frames + started help (problem.max_solutions - 0 - here frames) (phase_paths rule problem phase (reverse frames))
-    begun-first = started-next help _ _ _ _ refl (λ b. some)
+    begun-first : beginning_count help (problem.max_solutions - 0) (top frames ∷ phase_paths rule problem phase (reverse frames))
+        ≡ here frames + beginning_count help (problem.max_solutions - 0 - here frames) (phase_paths rule problem phase (reverse frames))
+    begun-first = beginning_count-next help _ _ _ _ refl (λ b. some)
 
     module _ (stand : Position) (stays : stand ≡ board) (next : ℕ) (n : next ≡ 0 + more (length frames)) where
       pub first-stands : Stands front (Within next) frames stand

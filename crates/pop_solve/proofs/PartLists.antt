@@ -1,5 +1,5 @@
 -- Lists of moves that begin as a part does: each stands in one part, and the parts joined are all of them.
-use Rattle.pop_solve.proofs.Words.{AllPairs, Bool, Contains, Game, List, Position, Precedes, Triple, [], ap, append-nil, arith, cond, eqb, false, filter, filter-append, flat_map, flat_map-append, first_in, from_flat_map, from_map, in_cases, in_flat_map, in_map, inl, inr, later_in, length, lines_to_goal, map, map-append, nat_tests, none_in_nil, pairs_flat_map, pairs_map, pairs_nil, pairs_of, reach, refl, rules, subst, suc, sym, take, true, zero, ℕ, ◌&&◌, ◌++◌, ◌-◌, ◌<◌, ◌∙◌, ◌∷◌, ◌≡◌, ◌≤◌}
+use Rattle.pop_solve.proofs.Words.{AllPairs, Bool, Contains, Game, List, Position, Precedes, Triple, [], ap, append-nil, arith, cond, eqb, false, filter, filter-append, flat_map, flat_map-append, first_in, from_flat_map, from_map, in_cases, in_flat_map, in_map, inl, inr, later_in, length, lines_to_goal, map, map-append, nat_tests, none_in_nil, pairs_flat_map, pairs_map, pairs_nil, pairs_of, path_end, refl, rules, subst, suc, sym, take, true, zero, ℕ, ◌&&◌, ◌++◌, ◌-◌, ◌<◌, ◌∙◌, ◌∷◌, ◌≡◌, ◌≤◌}
 use Rattle.std.proofs.lemmas.List.Folds.{flat_map-map}
 use Rattle.std.proofs.lemmas.Simd.{map-map}
 use Rattle.chess_core.specs.MoveOrder.{triple_number}
@@ -76,7 +76,7 @@ front-all (line ∷ lines) = ap (λ ls. line ∷ ls) (front-all lines)
 module _ (game : Game Position Triple) where
   -- the lines that go on behind each of the beginnings
   pub beginnings-lines : (d h : ℕ) (p : Position) → d ≤ h
-      → flat_map (λ front. map (λ line. front ++ line) (lines_to_goal game (h - length front) (reach game.after p front))) (beginnings game d p)
+      → flat_map (λ front. map (λ line. front ++ line) (lines_to_goal game (h - length front) (path_end game.after p front))) (beginnings game d p)
       ≡ lines_to_goal game h p
   unfolding lines_to_goal beginnings
   beginnings-lines zero h p most =
@@ -84,20 +84,20 @@ module _ (game : Game Position Triple) where
   beginnings-lines (suc d) zero p most = absurd (omega (arith, most))
   beginnings-lines (suc d) (suc h) p most =
       let F : List Triple → List (List Triple) =
-      λ front. map (λ line. front ++ line) (lines_to_goal game (suc h - length front) (reach game.after p front)) in
+      λ front. map (λ line. front ++ line) (lines_to_goal game (suc h - length front) (path_end game.after p front)) in
       flat-flat F (λ m. map (λ rest. m ∷ rest) (beginnings game d (game.after p m))) (game.moves p)
       ∙ flat-same _ _ (game.moves p) (λ m. flat_map-map F (λ rest. m ∷ rest) (beginnings game d (game.after p m))
       ∙ flat-same _ _ (beginnings game d (game.after p m)) (λ rest. behind m rest)
       ∙ sym (map-flat (λ line. m ∷ line) (λ front. map (λ line. front ++ line) (lines_to_goal game (h - length front)
-      (reach game.after (game.after p m) front))) (beginnings game d (game.after p m)))
+      (path_end game.after (game.after p m) front))) (beginnings game d (game.after p m)))
       ∙ ap (map (λ line. m ∷ line)) (beginnings-lines d h (game.after p m) (omega (arith, most))))
     where
       behind : (m : Triple) (rest : List Triple)
-          → map (λ line. (m ∷ rest) ++ line) (lines_to_goal game (suc h - length (m ∷ rest)) (reach game.after p (m ∷ rest)))
-          ≡ map (λ line. m ∷ line) (map (λ line. rest ++ line) (lines_to_goal game (h - length rest) (reach game.after (game.after p m) rest)))
+          → map (λ line. (m ∷ rest) ++ line) (lines_to_goal game (suc h - length (m ∷ rest)) (path_end game.after p (m ∷ rest)))
+          ≡ map (λ line. m ∷ line) (map (λ line. rest ++ line) (lines_to_goal game (h - length rest) (path_end game.after (game.after p m) rest)))
       behind m rest =
           let e : suc h - length (m ∷ rest) ≡ h - length rest = omega arith in
-          rw e (sym (map-map (λ line. m ∷ line) (λ line. rest ++ line) (lines_to_goal game (h - length rest) (reach game.after (game.after p m) rest))))
+          rw e (sym (map-map (λ line. m ∷ line) (λ line. rest ++ line) (lines_to_goal game (h - length rest) (path_end game.after (game.after p m) rest))))
 
   -- each of the beginnings can be played and has so many moves
   pub beginnings-play : (d : ℕ) (p : Position) (front : List Triple) → Contains (beginnings game d p) front
@@ -127,7 +127,7 @@ module _ (game : Game Position Triple) (order : (p : Position) → AllPairs Prec
   -- the lines of help play that begin with moves that can be played
   pub front-lines : (h : ℕ) (p : Position) (front : List Triple) → IsPlayable game p front → length front ≤ h
       → filter (is_front front) (lines_to_goal game h p)
-      ≡ map (λ line. front ++ line) (lines_to_goal game (h - length front) (reach game.after p front))
+      ≡ map (λ line. front ++ line) (lines_to_goal game (h - length front) (path_end game.after p front))
   unfolding lines_to_goal
   front-lines h p [] are most =
       let e : h - 0 ≡ h = omega arith in rw e (front-all (lines_to_goal game h p) ∙ sym (map-same (lines_to_goal game h p)))
@@ -141,7 +141,7 @@ module _ (game : Game Position Triple) (order : (p : Position) → AllPairs Prec
       (order p) are.0
       ∙ fronts-under m front m true (same-number m) (lines_to_goal game h (game.after p m))
       ∙ ap (map (λ line. m ∷ line)) rest
-      ∙ map-map (λ line. m ∷ line) (λ line. front ++ line) (lines_to_goal game (h - length front) (reach game.after (game.after p m) front)))
+      ∙ map-map (λ line. m ∷ line) (λ line. front ++ line) (lines_to_goal game (h - length front) (path_end game.after (game.after p m) front)))
 
   -- they stand in the order of the moves
   pub beginnings-stand : (d : ℕ) (p : Position) → AllPairs (StandsBefore Precedes) (beginnings game d p)

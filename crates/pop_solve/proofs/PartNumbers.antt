@@ -1,5 +1,5 @@
 -- The parts of a phase by their numbers, and how many there are.
-use Rattle.pop_solve.proofs.Words.{Bool, Frame, List, MatchOption, None, Option, Phase, Posed, Position, RuleSet, Set, Play, Some, Triple, [], arith, chess, cond, eqb, false, half_moves, is_barred, is_help, legal, length, length-reverse, min, not, path, phase_half_moves, phase_start, refl, reverse, slice_get, subst, true, ℕ, ◌++◌, ◌-◌, ◌||◌, ◌∙◌, ◌∷◌, ◌≡◌, ◌≤◌}
+use Rattle.pop_solve.proofs.Words.{Bool, Frame, List, MatchOption, None, Option, Phase, Posed, Position, RuleSet, Set, Play, Some, Triple, [], arith, chess, cond, eqb, false, half_moves, is_barred, is_help, is_legal, length, length-reverse, min, not, path, phase_half_moves, phase_start, refl, reverse, slice_get, subst, true, ℕ, ◌++◌, ◌-◌, ◌||◌, ◌∙◌, ◌∷◌, ◌≡◌, ◌≤◌}
 use Rattle.pop_input.specs.declared.stipulation.Goal.{Goal}
 use Rattle.pop_solve.specs.Parts.{beginnings, part_depth, part_numbered, parts}
 use Rattle.pop_solve.specs.ties.Beginnings.{FindsNumbered, IsSeeking, beginnings_to_come}
@@ -71,14 +71,14 @@ module _ (rule : RuleSet) (problem : Posed) (phase : Phase) (depth : ℕ) where
     of-found : (found : Option Triple) → FindsNumbered rule h d p old (reverse new) board number found
         → MatchOption found (part_numbered rule problem phase depth number ≡ None) (λ m.
         (part_numbered rule problem phase depth number ≡ Some (path (reverse new) ++ m ∷ [])) × IsSeeking rule h d p (reverse new) board
-        × (legal rule board m ≡ true) × (length new ≡ d))
+        × (is_legal rule board m ≡ true) × (length new ≡ d))
     of-found None f = at-number ∙ rw (all-parts some, ← come) (f.here goal)
     of-found (Some m) f = (at-number ∙ rw (all-parts some, ← come) (f.here goal), f.stands.0, f.stands.1, omega (arith, f.stands.2, length-reverse new))
 
     pub numbered : (found : Option Triple) (asked : ℕ) → FindsNumbered rule h d p old (reverse new) board asked found → asked ≡ number
         → MatchOption found (part_numbered rule problem phase depth number ≡ None) (λ m.
         (part_numbered rule problem phase depth number ≡ Some (path (reverse new) ++ m ∷ [])) × IsSeeking rule h d p (reverse new) board
-        × (legal rule board m ≡ true) × (length new ≡ d))
+        × (is_legal rule board m ≡ true) × (length new ≡ d))
     numbered found asked f e = of-found found (subst (λ n. FindsNumbered rule h d p old (reverse new) board n found) e f)
 
 -- whether a phase has parts, by the answer of the call that sets out

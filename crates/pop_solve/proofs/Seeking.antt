@@ -1,5 +1,5 @@
 -- The walk over beginnings: what a step leaves of those still to come.
-use Rattle.pop_solve.proofs.Words.{AreKnown, CameFrom, CameFromAt, Frame, IfSome, IsLinked, IsPlaceIn, IsRoomy, IsWalking, IsWellFormed, LegalPlace, List, Loss, None, Option, Position, RuleSet, Some, Triple, [], after_well_formed, ap, append-nil, append_assoc, arith, false, is_some, legal, length, length-append, length-reverse, map, map-append, min, moves_behind, path, position, pseudo-from_legal, refl, reverse, rules, slice_get, subst, suc, sym, true, turns, undo_of, zero, ℕ, ◌++◌, ◌+◌, ◌-◌, ◌<◌, ◌^◌, ◌∙◌, ◌∷◌, ◌≡◌, ◌≢◌, ◌≤◌}
+use Rattle.pop_solve.proofs.Words.{AreKnown, CameFrom, CameFromAt, Frame, IfSome, IsLinked, IsPlaceIn, IsRoomy, IsWalking, IsWellFormed, LegalPlace, List, Loss, None, Option, Position, RuleSet, Some, Triple, [], after_well_formed, ap, append-nil, append_assoc, arith, false, is_some, is_legal, length, length-append, length-reverse, map, map-append, min, moves_behind, path, position, is_pseudo_legal-from_legal, refl, reverse, rules, slice_get, subst, suc, sym, true, turns, undo_of, zero, ℕ, ◌++◌, ◌+◌, ◌-◌, ◌<◌, ◌^◌, ◌∙◌, ◌∷◌, ◌≡◌, ◌≢◌, ◌≤◌}
 use Rattle.chess_rules.specs.Play.{after as played}
 use Rattle.pop_input.specs.declared.stipulation.Goal.{Goal}
 use Rattle.pop_solve.proofs.Boards.{behind_start}
@@ -9,7 +9,7 @@ use Rattle.pop_solve.proofs.Walking.{popped}
 use Rattle.pop_solve.proofs.ToCome.{map-path, steps-start, steps_behind-next}
 use Rattle.pop_solve.specs.Chess.{chess}
 use Rattle.pop_solve.specs.Parts.{beginnings}
-use Rattle.pop_solve.specs.ties.Frames.{opened as opened_frame}
+use Rattle.pop_solve.specs.ties.Frames.{opened_frame}
 use Rattle.pop_solve.specs.ties.Beginnings.{FindsNumbered, IsSeeking, Seeks, are_idle, beginnings_by, beginnings_to_come}
 
 -- the beginnings by the next move, and by the others
@@ -80,11 +80,11 @@ turns-deeper rule h p f next m below undo less e =
     ) (omega arith)
 
 walking-idle : (rule : RuleSet) (h : ℕ) (p : Position) (f : Frame) (next : ℕ) (m : Triple) (below : List Frame) (board after : Position)
-    → IsWalking rule h p (f ∷ below) board → length below + 1 ≤ h → legal rule board m ≡ true → after ≡ played rule board m
+    → IsWalking rule h p (f ∷ below) board → length below + 1 ≤ h → is_legal rule board m ≡ true → after ≡ played rule board m
     → IsWalking rule h p (opened_frame m (undo_of rule board m) 0 ∷ (moved f next ∷ below)) after
 unfolding IsLinked IsRoomy AreKnown position
 walking-idle rule h p f next m below board after r less lawful e =
-    grind (arith, after_well_formed rule board m r.sound (pseudo-from_legal rule board m lawful), pseudo-from_legal rule board m lawful)
+    grind (arith, after_well_formed rule board m r.sound (is_pseudo_legal-from_legal rule board m lawful), is_pseudo_legal-from_legal rule board m lawful)
 
 idle-below : (f : Frame) (below : List Frame) → are_idle (f ∷ below) ≡ true → are_idle below ≡ true
 unfolding are_idle
@@ -161,7 +161,7 @@ module _ (rule : RuleSet) (h d : ℕ) (p : Position) (top : Frame) (old new : Li
 
   module _ (known : Option LegalPlace) (place : ℕ) (m : Triple) (now : Position) (mid : List Frame) (e : now ≡ board)
       (within : IfSome known (IsPlaceIn rule board))
-      (next : (moves_behind rule board top.place ≡ m ∷ moves_behind rule board place) × (legal rule board m ≡ true))
+      (next : (moves_behind rule board top.place ≡ m ∷ moves_behind rule board place) × (is_legal rule board m ≡ true))
       (put : mid ≡ new ++ moved (learned top known) place ∷ []) where
     abbrev f : Frame
     f = learned top known

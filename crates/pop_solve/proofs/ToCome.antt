@@ -1,5 +1,5 @@
 -- What the moves still to come say of paths, turns and counts: the next move, and those passed over.
-use Rattle.pop_solve.proofs.Words.{Bool, Frame, GoesTo, IsWhites, List, Loss, Mate, Plan, Position, RuleSet, Steps, Triple, [], ap, append_assoc, arith, battle_of, chess, cond, eqb, false, fewest_for, fewest_left, fewest_walked, filter, follows, gives, goes_on, inl, inr, is_help, is_mate, is_mating, length, map, map-append, moves_behind, opened, path, position, refl, rules, seeks, seeks_last, shown, smallest_tree, steps, steps_behind, suc, sum_by, sum_by-append, sum_by-cons, to_come, to_open, true, turns, value, walk_behind, walk_count, zero, ℕ, ◌++◌, ◌+◌, ◌-◌, ◌<◌, ◌∙◌, ◌∷◌, ◌≡◌, ◌≤◌, ◌⊎◌}
+use Rattle.pop_solve.proofs.Words.{Bool, Frame, GoesTo, IsWhites, List, Loss, Mate, Plan, Position, RuleSet, Steps, Triple, [], ap, append_assoc, arith, battle_of, chess, cond, eqb, false, fewest_for, fewest_left, fewest_walked, filter, follows, gives, goes_on, inl, inr, is_help, is_mate, is_mating, length, map, map-append, moves_behind, opened_frame, path, position, refl, rules, seeks, seeks_last, shown_paths, smallest_tree, steps, steps_behind, suc, sum_by, sum_by-append, sum_by-cons, to_come, to_open, true, turns, value, walk_behind, walk_count, zero, ℕ, ◌++◌, ◌+◌, ◌-◌, ◌<◌, ◌∙◌, ◌∷◌, ◌≡◌, ◌≤◌, ◌⊎◌}
 use Rattle.chess_rules.specs.Play.{after as played}
 use Rattle.chess_rules.specs.Legal.{moves as legal_moves}
 use Rattle.pop_solve.proofs.Boards.{behind_start}
@@ -39,17 +39,18 @@ steps_behind-next rule k P place next m e = rw e (sum_by-cons (λ x. 1 + steps r
 
 module _ (rule : RuleSet) (plan : Plan) where
   -- the paths by the next move, and by the others
-  shown-next : (root : Bool) (k t : ℕ) (P : Position) (m : Triple) (ms : List Triple)
-      → shown plan (chess plan.goal rule) root (suc k) (suc t) P (m ∷ ms) ≡ cond (follows plan (chess plan.goal rule) root t (played rule P m))
+  shown_paths-next : (root : Bool) (k t : ℕ) (P : Position) (m : Triple) (ms : List Triple)
+      → shown_paths plan (chess plan.goal rule) root (suc k) (suc t) P (m ∷ ms) ≡ cond (follows plan (chess plan.goal rule) root t (played rule P m))
       (given_path (gives plan (chess plan.goal rule) t (played rule P m)) (m ∷ []) ++ map (λ line. m ∷ line)
-      (shown plan (chess plan.goal rule) false k (goes_on plan (chess plan.goal rule) t (played rule P m)) (played rule P m)
-      (legal_moves rule (played rule P m)))) [] ++ shown plan (chess plan.goal rule) root (suc k) (suc t) P ms
-  unfolding shown
-  shown-next root k t P m ms = refl
+      (shown_paths plan (chess plan.goal rule) false k (goes_on plan (chess plan.goal rule) t (played rule P m)) (played rule P m)
+      (legal_moves rule (played rule P m)))) [] ++ shown_paths plan (chess plan.goal rule) root (suc k) (suc t) P ms
+  unfolding shown_paths
+  shown_paths-next root k t P m ms = refl
 
-  shown-none : (root : Bool) (k left : ℕ) (P : Position) (ms : List Triple) → (left ≡ 0) ⊎ (ms ≡ []) → shown plan (chess plan.goal rule) root k left P ms ≡ []
-  unfolding shown
-  shown-none root k left P ms e = search rules
+  shown_paths-none : (root : Bool) (k left : ℕ) (P : Position) (ms : List Triple) → (left ≡ 0) ⊎ (ms ≡ [])
+      → shown_paths plan (chess plan.goal rule) root k left P ms ≡ []
+  unfolding shown_paths
+  shown_paths-none root k left P ms e = search rules
 
   -- the positions to be tried for the next move, and for the others
   fewest-next : (root : Bool) (k t : ℕ) (P : Position) (m : Triple) (ms : List Triple)
@@ -94,17 +95,19 @@ module _ (rule : RuleSet) (plan : Plan) where
     -- a move that is not followed is passed over
     pub come-pass : follows plan (chess plan.goal rule) root t q ≡ false → to_come rule plan h p (f ∷ below) ≡ to_come rule plan h p (moved f next ∷ below)
     unfolding to_come position path
-    come-pass b = search (rules, shown-next)
+    come-pass b = search (rules, shown_paths-next)
 
     -- a move that is followed: its path, where that is given, and what stands below it
     pub come-enter : (undo : Loss) → follows plan (chess plan.goal rule) root t q ≡ true
-        → to_come rule plan h p (f ∷ below) ≡ given_path (gives plan (chess plan.goal rule) t q) (path (opened m undo (goes_on plan (chess plan.goal rule) t q)
-        ∷ (moved f next ∷ below))) ++ to_come rule plan h p (opened m undo (goes_on plan (chess plan.goal rule) t q) ∷ (moved f next ∷ below))
+        → to_come rule plan h p (f ∷ below) ≡ given_path (gives plan (chess plan.goal rule) t q)
+        (path (opened_frame m undo (goes_on plan (chess plan.goal rule) t q)
+        ∷ (moved f next ∷ below))) ++ to_come rule plan h p (opened_frame m undo (goes_on plan (chess plan.goal rule) t q) ∷ (moved f next ∷ below))
     unfolding to_come position path
     come-enter undo b =
         let less : h - suc (length below) ≡ k = omega arith in
         let P = position rule p (f ∷ below) in
-        rw (fuel, less, left, e, shown-next root k t P m (moves_behind rule P next), b, behind_start rule q, no_zero (length below)) (search (rules, turn))
+        rw (fuel, less, left, e, shown_paths-next root k t P m (moves_behind rule P next), b, behind_start rule q, no_zero (length below))
+        (search (rules, turn))
 
     pub tries-pass : follows plan (chess plan.goal rule) root t q ≡ false
         → fewest_left rule plan h p (f ∷ below) ≡ fewest_for plan (chess plan.goal rule) root t q + fewest_left rule plan h p (moved f next ∷ below)
@@ -113,7 +116,7 @@ module _ (rule : RuleSet) (plan : Plan) where
 
     pub tries-enter : (undo : Loss) → follows plan (chess plan.goal rule) root t q ≡ true → fewest_left rule plan h p (f ∷ below)
         ≡ fewest_for plan (chess plan.goal rule) root t q + fewest_left rule plan h p
-        (opened m undo (goes_on plan (chess plan.goal rule) t q) ∷ (moved f next ∷ below))
+        (opened_frame m undo (goes_on plan (chess plan.goal rule) t q) ∷ (moved f next ∷ below))
     unfolding fewest_left position
     tries-enter undo b = search (rules, behind_start, fewest-next, no_zero)
 
@@ -121,7 +124,7 @@ module _ (rule : RuleSet) (plan : Plan) where
     unfolding turns position
     turns-pass = rw (fuel, steps_behind-next rule k (position rule p (f ∷ below)) f.place next m e) (omega arith)
 
-    pub turns-enter : (undo : Loss) (tried : ℕ) → turns rule h p (opened m undo tried ∷ (moved f next ∷ below)) < turns rule h p (f ∷ below)
+    pub turns-enter : (undo : Loss) (tried : ℕ) → turns rule h p (opened_frame m undo tried ∷ (moved f next ∷ below)) < turns rule h p (f ∷ below)
     unfolding turns position
     turns-enter undo tried =
         let less : h - suc (length below) ≡ k = omega arith in
@@ -132,14 +135,14 @@ module _ (rule : RuleSet) (plan : Plan) where
     open-next = rw (left, walk_behind-next t (position rule p (f ∷ below)) f.place next m e) (omega arith)
 
     pub open-enter : (undo : Loss) (tried : ℕ)
-        → to_open rule p (opened m undo tried ∷ (moved f next ∷ below)) ≡ walk_behind rule tried q 0 + to_open rule p (moved f next ∷ below)
+        → to_open rule p (opened_frame m undo tried ∷ (moved f next ∷ below)) ≡ walk_behind rule tried q 0 + to_open rule p (moved f next ∷ below)
     unfolding to_open position
     open-enter undo tried = refl
 
   pub come-close : (h : ℕ) (p : Position) (f : Frame) (below : List Frame) → (f.left ≡ 0) ⊎ (moves_behind rule (position rule p (f ∷ below)) f.place ≡ [])
       → to_come rule plan h p (f ∷ below) ≡ to_come rule plan h p below
   unfolding to_come
-  come-close h p f below e = search (rules, shown-none)
+  come-close h p f below e = search (rules, shown_paths-none)
 
   pub tries-close : (h : ℕ) (p : Position) (f : Frame) (below : List Frame) → (f.left ≡ 0) ⊎ (moves_behind rule (position rule p (f ∷ below)) f.place ≡ [])
       → fewest_left rule plan h p (f ∷ below) ≡ fewest_left rule plan h p below
@@ -171,9 +174,10 @@ module _ (rule : RuleSet) (plan : Plan) where
     later = moved f g.mid ∷ below
 
     ends : (low : Bool) (fuel k : ℕ) (m : Triple) (q : Position) (qs ms : List Triple)
-        → map (λ line. m ∷ line) (shown plan (chess plan.goal rule) false k 0 q qs) ++ shown plan (chess plan.goal rule) low (suc fuel) 1 P ms ≡ shown plan
+        → map (λ line. m ∷ line) (shown_paths plan (chess plan.goal rule) false k 0 q qs)
+        ++ shown_paths plan (chess plan.goal rule) low (suc fuel) 1 P ms ≡ shown_paths plan
         (chess plan.goal rule) low (suc fuel) 1 P ms
-    unfolding shown
+    unfolding shown_paths
     ends low fuel k m q qs ms = search rules
 
     gives-last : (q : Position) → is_help plan.form ≡ true → plan.goal ≡ Mate → is_mate rule q ≡ false → gives plan (chess plan.goal rule) 0 q ≡ false
@@ -192,9 +196,9 @@ module _ (rule : RuleSet) (plan : Plan) where
     fewest_for-last low q a white = search rules
 
     pub skipped : (low : Bool) (fuel : ℕ) → seeks_last plan ≡ true → plan.goal ≡ Mate → (m : Triple) (ms : List Triple) → is_mating rule P m ≡ false
-        → shown plan (chess plan.goal rule) low fuel 1 P (m ∷ ms) ≡ shown plan (chess plan.goal rule) low fuel 1 P ms
-    unfolding shown
-    skipped low fuel last for m ms misses = search (rules, cases, ends, follows-help, follows-last, gives-last, goes_on-help, shown-next)
+        → shown_paths plan (chess plan.goal rule) low fuel 1 P (m ∷ ms) ≡ shown_paths plan (chess plan.goal rule) low fuel 1 P ms
+    unfolding shown_paths
+    skipped low fuel last for m ms misses = search (rules, cases, ends, follows-help, follows-last, gives-last, goes_on-help, shown_paths-next)
 
     fewest-skipped : (low : Bool) (fuel : ℕ) → seeks_last plan ≡ true → plan.goal ≡ Mate → is_help plan.form ≡ false
         → (m : Triple) (ms : List Triple) → is_mating rule P m ≡ false
@@ -214,7 +218,7 @@ module _ (rule : RuleSet) (plan : Plan) where
     come-skip : to_come rule plan h p (f ∷ below) ≡ to_come rule plan h p later
     unfolding to_come position path
     come-skip = ap (λ lines. map (λ line. path (f ∷ below) ++ line) lines ++ to_come rule plan h p below)
-        (same-later (λ n ms. shown plan (chess plan.goal rule) deepest room n P ms) (skipped deepest room))
+        (same-later (λ n ms. shown_paths plan (chess plan.goal rule) deepest room n P ms) (skipped deepest room))
 
     fewer : (k : ℕ) → steps_behind rule k P g.mid ≤ steps_behind rule k P f.place
     unfolding steps_behind

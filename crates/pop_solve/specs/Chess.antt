@@ -41,9 +41,9 @@ abbrev pub castling_side : Man → Triple → Option Side
 castling_side x m = if is_castling x m then Some (if nat_lt m.from m.to then H else A) else None
 
 -- the reborn man and his square, if he is reborn
-abbrev pub reborn : Option Man → Option ℕ → Option (Man × ℕ)
-reborn (Some y) (Some r) = Some (y, r)
-reborn _ _ = None
+abbrev pub reborn_man : Option Man → Option ℕ → Option (Man × ℕ)
+reborn_man (Some y) (Some r) = Some (y, r)
+reborn_man _ _ = None
 
 -- the move of x, where `there` stands on the arrival before it, `lost` is what the move destroys and `mark` its mark:
 -- en passant a man is captured, but not on the arrival
@@ -56,7 +56,7 @@ shown_by x there m lost mark = record {
   ep = is_some lost.captured && not (is_some there);
   promo = m.promo;
   castling = castling_side x m;
-  rebirth = reborn lost.captured lost.rebirth;
+  rebirth = reborn_man lost.captured lost.rebirth;
   mark = mark;
 }
 

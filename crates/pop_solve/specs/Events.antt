@@ -72,8 +72,8 @@ path_event problem phase path = if is_help problem.stipulation.form then line ph
     else tree_node phase path
 
 -- how many solutions a phase has, up to the limit
-abbrev pub counted : RuleSet → Posed → Phase → ℕ
-counted rule problem phase = length (take problem.max_solutions (solutions rule problem phase))
+abbrev pub phase_count : RuleSet → Posed → Phase → ℕ
+phase_count rule problem phase = length (take problem.max_solutions (solutions rule problem phase))
 
 -- a phase: its name; then that it is barred, or its first solutions, whole, and their number
 unfoldable pub phase_events : RuleSet → Posed → Phase → List BareEvent
@@ -81,7 +81,8 @@ phase_events rule problem phase =
     opening phase ∷ (if is_barred rule problem phase then impossible ∷ []
     else map (path_event problem phase) (flat_map (λ solution. solution)
     (take problem.max_solutions (solutions rule problem phase)))
-    ++ total (counted rule problem phase) (counted rule problem phase == problem.max_solutions)
+    ++ total (phase_count rule problem phase)
+    (phase_count rule problem phase == problem.max_solutions)
     ∷ [])
 
 -- the events from a phase on

@@ -4,7 +4,7 @@ ghost use Rattle.arrayvec.specs.ArrayVec.{array_vec_len};
 ghost use Rattle.chess_core.specs.WellFormed.{IsWellFormed};
 ghost use Rattle.chess_core.specs.Triple.{Triple};
 ghost use Rattle.std.specs.Prelude.{List};
-ghost use Rattle.chess_rules.specs.Legal.{is_mate, legal};
+ghost use Rattle.chess_rules.specs.Legal.{is_legal, is_mate};
 ghost use Rattle.chess_rules.specs.Play.{after as played};
 ghost use Rattle.pop_input.specs.Posed.{IsSound};
 ghost use Rattle.pop_input.specs.Stipulations.{half_moves, is_help};
@@ -49,7 +49,7 @@ pub enum PartStage {
 fn may_lead<R: Rules>(plan: Plan, left: usize, by: Move, board: &mut Board) -> bool
     requires well_formed { IsWellFormed board.old }
     requires few { left ≤ 32 }
-    requires legal { legal R.rule board.old by ≡ true }
+    requires legal { is_legal R.rule board.old by ≡ true }
     ensures unchanged { board.new ≡ board.old }
     ensures mated { result ≡ true → IsMatedAtLast R.rule plan left (played R.rule board.old by) }
     ensures fails { result ≡ false → (is_for_mate plan.goal ≡ true) × (seeks_last plan ≡ true)
@@ -96,7 +96,7 @@ fn begin<R: Rules, const N: usize>(
     requires seeking { (d : ℕ) × (IsSeeking R.rule (half_moves_of_phase problem.now phase) d
         (phase_start problem.now phase) (reverse frames.old.items) board.old)
         × (array_vec_len frames.old ≡ d) }
-    requires legal { legal R.rule board.old by ≡ true }
+    requires legal { is_legal R.rule board.old by ≡ true }
     requires battle { is_help problem.now.stipulation.form ≡ false → array_vec_len frames.old ≡ 1 }
     requires opened { opened.old ≡ 0 }
     ensures stands { StandsInPart R.rule problem.now phase

@@ -2,7 +2,7 @@
 //! played again.
 ghost use Rattle.chess_core.specs.Position.{Position};
 ghost use Rattle.chess_core.specs.WellFormed.{IsWellFormed};
-ghost use Rattle.chess_rules.specs.Legal.{legal};
+ghost use Rattle.chess_rules.specs.Legal.{is_legal};
 ghost use Rattle.chess_rules.specs.Play.{after as played};
 ghost use Rattle.pop_solve.specs.Chess.{chess, show};
 ghost use Rattle.pop_solve.specs.Events.{shown_along, shown_last};
@@ -49,7 +49,7 @@ fn reached_at<R: Rules>(plan: Plan, frame: &Frame<R>) -> Reached
 #[tactic(auto, using(chess_rules::proofs::listing_moves::Calls::playing), unfolding(crate::specs::Chess::show))]
 fn play_shown<R: Rules>(goal: Goal, reached: Reached, frame: &Frame<R>, board: &mut Board) -> Shown
     requires well_formed { IsWellFormed board.old }
-    requires legal { legal R.rule board.old frame.now.by ≡ true }
+    requires legal { is_legal R.rule board.old frame.now.by ≡ true }
     requires reached { reached ≡ Surely
         → (chess goal R.rule).goal (played R.rule board.old frame.now.by) ≡ true }
     ensures shown { result ≡ show goal R.rule board.old frame.now.by }

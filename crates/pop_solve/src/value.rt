@@ -4,7 +4,7 @@ ghost use Rattle.chess_rules.specs.Legal.{moves as legal_moves};
 ghost use Rattle.std.specs.Prelude.{◌≡◌, ◌+◌, ◌<◌, ◌≤◌, ◌%◌, [], ◌∷◌, ◌++◌, filter, IfSome, IfNone, true, false, Option, Some, None, not, MatchOption, MatchBool, ◌⊎◌, ◌&&◌, ◌==◌, ◌-◌};
 ghost use Rattle.chess_core.specs.Position.{Position};
 ghost use Rattle.chess_core.specs.WellFormed.{IsWellFormed};
-ghost use Rattle.chess_rules.specs.Legal.{legal};
+ghost use Rattle.chess_rules.specs.Legal.{is_legal};
 ghost use Rattle.chess_rules.specs.ties.Places.{IsPlaceIn, moves_behind, place_of};
 ghost use Rattle.chess_rules.specs.Play.{undo_of};
 ghost use Rattle.arrayvec.specs.ArrayVec.{array_vec_len};
@@ -15,7 +15,7 @@ ghost use Rattle.pop_solve.specs.ties.Marks.{is_for_mate};
 ghost use Rattle.pop_input.specs.declared.stipulation.Goal.TheVariants.{Mate};
 ghost use Rattle.pop_solve.specs.Game.{can_move as has_move};
 ghost use Rattle.pop_solve.specs.ties.Counts.{HasCounted, smallest_tree, walk_count};
-ghost use Rattle.pop_solve.specs.ties.Values.{seeks, joined, value};
+ghost use Rattle.pop_solve.specs.ties.Values.{seeks, joined_value, value};
 
 use crate::aim::{Aim, Battle};
 use crate::chess::{
@@ -91,7 +91,7 @@ fn settled<R: Rules>(
     ensures unchanged { board.new ≡ board.old }
     ensures value { MatchOption result
         ((0 < left) × (value aim.battle (chess aim.goal R.rule) left board.old
-        ≡ joined aim.battle (chess aim.goal R.rule) left board.old (legal_moves R.rule board.old)))
+        ≡ joined_value aim.battle (chess aim.goal R.rule) left board.old (legal_moves R.rule board.old)))
         (λ v. v ≡ value aim.battle (chess aim.goal R.rule) left board.old) }
     ensures known { IfSome known.new (λ k. IsPlaceIn R.rule board.old k) }
     ensures opened { MatchOption result (opened.new ≡ opened.old)
@@ -319,7 +319,7 @@ fn descend<R: Rules, const N: usize>(
     requires well_formed { IsWellFormed board.old }
     requires some { 0 < top.left }
     requires room { array_vec_len frames.old + top.left ≤ N }
-    requires legal { legal R.rule board.old by ≡ true }
+    requires legal { is_legal R.rule board.old by ≡ true }
     ensures opened { MatchOption answer.new (opened.new ≤ opened.old + 1)
         (λ _. opened.new ≤ opened.old + walk_count (legal_moves R.rule) (played R.rule)
         (top.left - 1) (played R.rule board.old by)) }
@@ -330,7 +330,7 @@ fn descend<R: Rules, const N: usize>(
     ensures answer { MatchOption answer.new
         ((0 < top.left - 1)
         × (value aim.battle (chess aim.goal R.rule) (top.left - 1) (played R.rule board.old by)
-        ≡ joined aim.battle (chess aim.goal R.rule) (top.left - 1) (played R.rule board.old by)
+        ≡ joined_value aim.battle (chess aim.goal R.rule) (top.left - 1) (played R.rule board.old by)
         (legal_moves R.rule (played R.rule board.old by)))
         × (board.new ≡ played R.rule board.old by)
         × IsOpenedOn R.rule (played R.rule board.old by)

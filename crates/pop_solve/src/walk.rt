@@ -4,7 +4,7 @@ ghost use Rattle.chess_rules.specs.Legal.{moves as legal_moves};
 ghost use Rattle.std.specs.Prelude.{◌≡◌, ◌↔◌, ◌+◌, ◌<◌, ◌≤◌, ◌/◌, [], ◌∷◌, ◌++◌, length, reverse, IsTrue, true, false, IfSome, MatchOption, ◌⊎◌, not, ◌&&◌, ◌||◌, ◌==◌, ◌-◌, ◌^◌, min};
 ghost use Rattle.chess_core.specs.Position.{Position};
 ghost use Rattle.chess_core.specs.WellFormed.{IsWellFormed};
-ghost use Rattle.chess_rules.specs.Legal.{legal};
+ghost use Rattle.chess_rules.specs.Legal.{is_legal};
 ghost use Rattle.chess_rules.specs.ties.Places.{IsPlaceIn, moves_behind};
 ghost use Rattle.chess_rules.specs.Play.{undo_of};
 ghost use Rattle.arrayvec.specs.ArrayVec.{array_vec_len};
@@ -12,7 +12,7 @@ ghost use Rattle.pop_input.specs.Stipulations.{is_help};
 ghost use Rattle.pop_solve.specs.Aims.{battle_of};
 ghost use Rattle.pop_solve.specs.ties.Calls.{Counts, Evaluates, Restores};
 ghost use Rattle.pop_solve.specs.ties.Plans.{aim_of, varies};
-ghost use Rattle.pop_solve.specs.ties.Frames.{CameFrom, CameFromAt, opened as opened_frame};
+ghost use Rattle.pop_solve.specs.ties.Frames.{CameFrom, CameFromAt, opened_frame};
 ghost use Rattle.pop_solve.specs.Chess.{chess};
 ghost use Rattle.pop_solve.specs.ties.Marks.{is_for_mate};
 ghost use Rattle.pop_solve.specs.ties.Values.{seeks, value};
@@ -209,7 +209,7 @@ pub(crate) fn enter<R: Rules, const N: usize>(
 ) -> bool
     requires well_formed { IsWellFormed board.old }
     requires room { array_vec_len frames.old + left < N }
-    requires legal { legal R.rule board.old by ≡ true }
+    requires legal { is_legal R.rule board.old by ≡ true }
     requires mated { IsMatedAtLast R.rule plan left (played R.rule board.old by) }
     ensures passes { is_followed plan (chess plan.goal R.rule) root left
         (played R.rule board.old by) ≡ false
@@ -259,7 +259,7 @@ fn next_of<R: Rules>(
     ensures next { MatchOption result ((left ≡ 0) ⊎ GoesTo R.rule plan left board.old place.old [])
         (λ m. (0 < left) × GoesTo R.rule plan left board.old place.old
         (m ∷ moves_behind R.rule board.old place.new)
-        × (legal R.rule board.old m ≡ true)) }
+        × (is_legal R.rule board.old m ≡ true)) }
     ensures mated { IfSome result
         (λ m. IsMatedAtLast R.rule plan (left - 1) (played R.rule board.old m)) }
 {

@@ -1,7 +1,7 @@
 //! A source for tests.
 ghost use Rattle.std.specs.Prelude.{◌≡◌, ◌≢◌, ℕ, List, [], ◌<◌, ◌≤◌, ◌+◌, ◌-◌, Some, drop, length, option_map};
 ghost use Rattle.std.specs.Io.{ReadsAtMost};
-ghost use Rattle.pop_text.specs.Bytes.{ReadConsumes, count_after, greatest};
+ghost use Rattle.pop_text.specs.Bytes.{ReadConsumes, count_after, greatest_count};
 ghost use Rattle.pop_text.specs.ties.Trials.{Gives, cycled, handed_out, repeated, round_of};
 
 use crate::source::{Device, Source};
@@ -146,7 +146,7 @@ impl<'a> Source for TrialSource<'a> {
     ghost failures = { λ s. s.failures };
 
     fn read(&mut self, buffer: &mut [u8]) -> Result<usize, Device>
-        requires { self.old.failures < greatest }
+        requires { self.old.failures < greatest_count }
         ensures bound { ReadsAtMost result buffer.new }
         ensures bytes { ReadConsumes (⟦<TrialSource<'a> as Source>⟧.remaining self.old)
             (⟦<TrialSource<'a> as Source>⟧.remaining self.new) result buffer.new }

@@ -1,8 +1,8 @@
 -- A plain move from a square that a queen on the king's doesn't see opens no line to the king.
 use Rattle.chess_rules.proofs.Basics.{Bool, List, None, Option, Some, [], and_from, and_parts, and_right, ap, arith, bit_at, bit_not, bit_or, cases_Bool, cases_eq, cond-false, cond-true, eq-eqb, false, false_from_ne_true, false≢true, inl, inr, is_some, length, list_any, list_any-append, not, not-true, or_cases, or_left, or_parts, or_right, refl, rules, sym, true, w64, ℕ, ◌&&◌, ◌<◌, ◌==◌, ◌||◌, ◌∙◌, ◌∷◌, ◌≡◌, ◌≢◌}
-use Rattle.chess_rules.proofs.Chess.{AtMostOneKing, Bishop, Colour, Direction, East, Grasshopper, IsWellFormed, Kind, King, Man, Move, Nightrider, North, NorthEast, NorthWest, Position, Queen, Rook, RuleSet, South, SouthEast, SouthWest, Step, Straight, West, after, after_by, arriving, attacked, capture_square, check_of}
+use Rattle.chess_rules.proofs.Chess.{AtMostOneKing, Bishop, Colour, Direction, East, Grasshopper, IsWellFormed, Kind, King, Man, Move, Nightrider, North, NorthEast, NorthWest, Position, Queen, Rook, RuleSet, South, SouthEast, SouthWest, Step, Straight, West, after, after_by, arriving_man, capture_square, is_attacked, is_attacked_at}
 use Rattle.chess_rules.proofs.Chess.{diagonal_steps, differs, find_first, has_fairy, hops, in_check, is_behind, is_castling, is_circe, is_man, is_on_fairy_line, is_on_fairy_line_to, is_on_some, is_plain, is_promotion_right, is_reached, is_shut, is_side, is_square, is_vacant, king_square, knight_steps, man_on, man_on_at}
-use Rattle.chess_rules.proofs.Chess.{may_expose, may_expose_on, may_stand_between, moved_men, other, paralysed, pseudo, queen_steps, reaches, reaches_as, reborn_at, reborn_square, rider_along, rides, same_colour, same_kind, some_square_false, some_square_true, squares, squares_either, squares_of, squares_same, step_of, steps_along, straight_steps, strikes, word}
+use Rattle.chess_rules.proofs.Chess.{is_paralysed, is_pseudo_legal, may_expose, may_expose_on, may_stand_between, moved_men, other, queen_steps, reaches, reaches_as, reborn_at, reborn_square, rider_along, rides, same_colour, same_kind, some_square_false, some_square_true, squares, squares_either, squares_of, squares_same, step_of, steps_along, straight_steps, strikes, word}
 use Rattle.chess_core.proofs.Ranges.{find_square_some}
 use Rattle.chess_rules.specs.ties.Shields.{cannot_expose}
 use Rattle.chess_rules.specs.declared.shields.RiderLines.{RiderLines}
@@ -197,13 +197,13 @@ module _ (men after : List (Option Man)) (a b : ℕ) (z : Man) (i : IsShift men 
         })
 
 -- so none attacks him
-pub not_attacked : (rule : RuleSet) (men : List (Option Man)) (e : Colour) (k : ℕ) → is_reached men k e ≡ false → attacked rule men k e ≡ false
-unfolding attacked strikes is_reached
+pub not_attacked : (rule : RuleSet) (men : List (Option Man)) (e : Colour) (k : ℕ) → is_reached men k e ≡ false → is_attacked rule men k e ≡ false
+unfolding is_attacked strikes is_reached
 not_attacked rule men e k h =
     some_square_false (strikes rule men k e) 64 (omega arith) (record {
       fails = λ s p. false_from_ne_true _ (λ y.
-          let y1 = and_parts (is_side (man_on men s) e && not (paralysed rule men s)) (reaches men s k) y in
-          let y2 = and_parts (is_side (man_on men s) e) (not (paralysed rule men s)) y1.0 in
+          let y1 = and_parts (is_side (man_on men s) e && not (is_paralysed rule men s)) (reaches men s k) y in
+          let y2 = and_parts (is_side (man_on men s) e) (not (is_paralysed rule men s)) y1.0 in
           false≢true (sym h ∙ some_square_true (λ s. is_side (man_on men s) e && reaches men s k) s p (and_from _ _ y2.0 y1.1)));
     })
 
@@ -239,7 +239,7 @@ pub stays_safe : (rule : RuleSet) (men after : List (Option Man)) (a b : ℕ) (z
     → in_check rule after c ≡ false
 unfolding in_check king_square squares may_expose may_stand_between
 stays_safe rule men after a b z c i g = by (king_square after c) refl where
-  by : (o : Option ℕ) → king_square after c ≡ o → check_of rule after o (other c) ≡ false
+  by : (o : Option ℕ) → king_square after c ≡ o → is_attacked_at rule after o (other c) ≡ false
   by None e = refl
   by (Some k) e =
       let f = find_first (λ s. is_man (man_on after s) c King) 0 64 k e in
@@ -298,26 +298,26 @@ pub men_after : (rule : RuleSet) (p : Position) (x : Man) (m : Move) → man_on 
 men_after rule p x m here plain = simple_after rule p x m here plain.castling plain.rebirth
 
 pub arrived_shift : (rule : RuleSet) (p : Position) (x : Man) (m : Move) → IsWellFormed p → IsMade rule p x m → m.to < 64 → IsPlain rule p x m
-    → IsShift p.men (arrived p x m) m.from m.to (arriving x m.promo)
+    → IsShift p.men (arrived p x m) m.from m.to (arriving_man x m.promo)
 arrived_shift rule p x m well is small plain =
-    gone_shift p.men m.from (capture_square p x m) m.to (arriving x m.promo) (omega (arith, small, well.size))
+    gone_shift p.men m.from (capture_square p x m) m.to (arriving_man x m.promo) (omega (arith, small, well.size))
     (λ s at. captures_there p x m s plain.crossed (is_square-some (capture_square p x m) s at))
 
 -- a king that arrives left its own square
 king_came : (p : Position) (x : Man) (m : Move) (c : Colour) → IsWellFormed p → man_on p.men m.from ≡ Some x → is_promotion_right p x m m.promo ≡ true
-    → is_man (Some (arriving x m.promo)) c King ≡ true → king_square p.men c ≡ Some m.from
+    → is_man (Some (arriving_man x m.promo)) c King ≡ true → king_square p.men c ≡ Some m.from
 king_came p x m c well here right h =
-    let same : arriving x m.promo ≡ x = arriving_king p x m m.promo right (and_parts (same_colour (arriving x m.promo).colour c) _ h).1 in
+    let same : arriving_man x m.promo ≡ x = arriving_king p x m m.promo right (and_parts (same_colour (arriving_man x m.promo).colour c) _ h).1 in
     let is : is_man (Some x) c King ≡ true = ap (λ (y : Man). is_man (Some y) c King) (sym same) ∙ h in
     king_is p.men c m.from well.kings (on_board p.men m.from x well.size here) (rw here is)
 
 pub plain_safe : (rule : RuleSet) (p : Position) (x : Man) (m : Move) (c : Colour) → IsWellFormed p → IsMade rule p x m → m.to < 64 → IsPlain rule p x m
     → may_expose p.men c m.from ≡ false → may_stand_between p.men c m.to ≡ false
-    → ((k : ℕ) → king_square p.men c ≡ Some k → IsQuiet p.men c m.from m.to k (arriving x m.promo))
+    → ((k : ℕ) → king_square p.men c ≡ Some k → IsQuiet p.men c m.from m.to k (arriving_man x m.promo))
     → in_check rule (after rule p m).men c ≡ false
 plain_safe rule p x m c well is small plain cannot_expose aside quiet = search (rules, men_after, stays_safe, arrived, arrived_shift, king_came)
 
-pub arriving_colour : (x : Man) (r : Option Kind) → (arriving x r).colour ≡ x.colour
+pub arriving_colour : (x : Man) (r : Option Kind) → (arriving_man x r).colour ≡ x.colour
 arriving_colour x r = grind arith
 
 pub other_twice : (c : Colour) → other (other c) ≡ c
@@ -337,14 +337,15 @@ unfolding cannot_expose
 cannot_expose_parts rule p x c m here h = grind (arith, and_parts, not-true, plain_parts)
 
 -- such a move doesn't leave its mover in check
-pub cannot_expose_own : (rule : RuleSet) (p : Position) (m : Move) → IsWellFormed p → pseudo rule p m ≡ true → m.to < 64 → cannot_expose rule p p.turn m ≡ true
+pub cannot_expose_own : (rule : RuleSet) (p : Position) (m : Move) → IsWellFormed p → is_pseudo_legal rule p m ≡ true → m.to < 64
+    → cannot_expose rule p p.turn m ≡ true
     → in_check rule (after rule p m).men p.turn ≡ false
 cannot_expose_own rule p m well may small h =
     let w = maker rule p m may in
     let x : Man = w.0 in
     let is : IsMade rule p x m = made rule p m x may w.1 in
     let parts = cannot_expose_parts rule p x p.turn m w.1 h in
-    let own : same_colour (arriving x m.promo).colour (other p.turn) ≡ false = search (rules, arriving_colour, other_differs) in
+    let own : same_colour (arriving_man x m.promo).colour (other p.turn) ≡ false = search (rules, arriving_colour, other_differs) in
     plain_safe rule p x m p.turn well is small parts.plain parts.origin parts.aside (λ k at. record {
       quiet = λ enemy. absurd (false≢true (sym own ∙ enemy));
       stood = λ enemy. absurd (false≢true (sym own ∙ enemy));

@@ -1,6 +1,6 @@
 -- A check that isn't met stays.
 use Rattle.chess_rules.proofs.Basics.{Bool, List, Option, Some, and_from, and_left, and_parts, ap, arith, bit_and, bit_at, bit_not, bit_or, eq-eqb, false, false≢true, list_any, list_any-append, not, or_left, or_parts, or_right, refl, rules, subst, sym, true, w64, ℕ, ◌&&◌, ◌<◌, ◌==◌, ◌∙◌, ◌≡◌, ◌≢◌}
-use Rattle.chess_rules.proofs.Chess.{AreEvasions, AtMostOneKing, Bishop, Colour, Grasshopper, IsWellFormed, Kind, King, Man, Move, Nightrider, Position, Queen, Rook, RuleSet, Step, after, arriving, attacked, check_of, find_first, first_of_and, in_check, is_arrival_free, is_fairy, is_madrasi, is_man, is_plain, is_side, is_square, is_vacant, king_square, man_on, other, paralysed, pseudo, queen_steps, reaches, reaches_as, rides, same_colour, same_kind, second_of_and, some_square_true, squares, squares_both, squares_either, strikes, word}
+use Rattle.chess_rules.proofs.Chess.{AreEvasions, AtMostOneKing, Bishop, Colour, Grasshopper, IsWellFormed, Kind, King, Man, Move, Nightrider, Position, Queen, Rook, RuleSet, Step, after, arriving_man, find_first, first_of_and, in_check, is_arrival_free, is_attacked, is_attacked_at, is_fairy, is_madrasi, is_man, is_paralysed, is_plain, is_pseudo_legal, is_side, is_square, is_vacant, king_square, man_on, other, queen_steps, reaches, reaches_as, rides, same_colour, same_kind, second_of_and, some_square_true, squares, squares_both, squares_either, strikes, word}
 use Rattle.chess_rules.specs.ties.Evasions.{is_fairy_man, IsNoEvasion}
 use Rattle.chess_rules.proofs.Bits.{word_has, every_square}
 use Rattle.chess_rules.proofs.attacks.Shielding.{IsPlain, IsShift, arrived_shift, king_is, man_there, men_after, other_differs, plain_parts}
@@ -57,7 +57,7 @@ pub record IsAway (men : List (Option Man)) (c : Colour) (a b : ℕ) : Type 0 wh
 
 no_evasion_stays : (rule : RuleSet) (men after : List (Option Man)) (a b : ℕ) (z : Man) (c : Colour) → IsShift men after a b z → AtMostOneKing after
     → IsAway men c a b → IsNoEvasion rule men c b → in_check rule after c ≡ true
-unfolding in_check attacked strikes paralysed reaches
+unfolding in_check is_attacked strikes is_paralysed reaches
 no_evasion_stays rule men after a b z c i one away u =
     let k : ℕ = u.king in
     let s : ℕ = u.checker in
@@ -79,7 +79,7 @@ no_evasion_stays rule men after a b z c i one away u =
     reaches_after men after a b z c u.king u.checker i small king.0 free.1 y.0.colour y.0.kind plain hit in
     let mine : is_side (man_on after u.checker) (other c) ≡ true = rw y_stays y.1.1 in
     let reach : reaches after u.checker u.king ≡ true = rw y_stays hits in
-    ap (λ (o : Option ℕ). check_of rule after o (other c)) at
+    ap (λ (o : Option ℕ). is_attacked_at rule after o (other c)) at
     ∙ some_square_true (strikes rule after u.king (other c)) u.checker small
     (and_from _ _ (and_from _ _ mine (ap not (and_left (is_madrasi rule) _ u.orthodox))) reach)
 
@@ -91,14 +91,15 @@ free_of_king : (o : Option Man) (c : Colour) → is_arrival_free c o ≡ true �
 free_of_king o c h k = grind (arith, and_parts)
 
 -- a plain move that doesn't meet a check, and isn't the king's, leaves its mover in check
-pub check_stays : (rule : RuleSet) (p : Position) (x : Man) (m : Move) → IsWellFormed p → pseudo rule p m ≡ true → man_on p.men m.from ≡ Some x → m.to < 64
+pub check_stays : (rule : RuleSet) (p : Position) (x : Man) (m : Move) → IsWellFormed p → is_pseudo_legal rule p m ≡ true → man_on p.men m.from ≡ Some x
+    → m.to < 64
     → IsPlain rule p x m → same_kind x.kind King ≡ false → IsNoEvasion rule p.men p.turn m.to → in_check rule (after rule p m).men p.turn ≡ true
 check_stays rule p x m well may here small plain piece u =
     let is = made rule p m x may here in
     let same : (after rule p m).men ≡ arrived p x m = men_after rule p x m here plain in
     let one : AtMostOneKing (arrived p x m) = subst AtMostOneKing same (after_well_formed rule p m well may).kings in
     ap (λ (l : List (Option Man)). in_check rule l p.turn) same
-    ∙ no_evasion_stays rule p.men (arrived p x m) m.from m.to (arriving x m.promo) p.turn (arrived_shift rule p x m well is small plain) one
+    ∙ no_evasion_stays rule p.men (arrived p x m) m.from m.to (arriving_man x m.promo) p.turn (arrived_shift rule p x m well is small plain) one
     (record {
       size = λ s y at. on_board p.men s y well.size at;
       king = λ k at.
@@ -131,7 +132,8 @@ evasion_squares_one rule men c k s w n r t at orthodox plain all small set h i j
     search (rules, first_of_and, second_of_and, squares_both, squares_either, word_has)
 
 -- the same, for a word
-pub check_unmet : (rule : RuleSet) (p : Position) (x : Man) (m : Move) (w t : ℕ) → IsWellFormed p → pseudo rule p m ≡ true → man_on p.men m.from ≡ Some x
+pub check_unmet : (rule : RuleSet) (p : Position) (x : Man) (m : Move) (w t : ℕ) → IsWellFormed p → is_pseudo_legal rule p m ≡ true
+    → man_on p.men m.from ≡ Some x
     → t ≡ m.to → t < 64 → is_plain rule p x m ≡ true → same_kind x.kind King ≡ false → AreEvasions rule p.men p.turn w → (bit_at w t == 1) ≡ false
     → in_check rule (after rule p m).men p.turn ≡ true
 check_unmet rule p x m w t well may here same small plain piece evasion_squares off = search (rules, check_stays, plain_parts)

@@ -5,7 +5,7 @@ ghost use Rattle.chess_core.specs.Diagrams.{position_of};
 ghost use Rattle.chess_core.specs.WellFormed.{IsWellFormed};
 ghost use Rattle.chess_rules.specs.Attacks.{in_check};
 ghost use Rattle.pop_input.specs.Posed.{rule_of};
-ghost use Rattle.pop_input.specs.Ends.{counts, position_fault, setup_fault, setup_of, unmoved_of};
+ghost use Rattle.pop_input.specs.Ends.{counts_as_unmoved, position_fault, setup_fault, setup_of, unmoved_of};
 ghost use Rattle.pop_input.specs.ties.Closings.{Poses};
 ghost use Rattle.pop_input.specs.Stipulations.{has_king_to_mate};
 
@@ -55,7 +55,7 @@ impl Draft {
         ensures { result ≡ setup_of self.now form }
     {
         let mut diagram = self.diagram;
-        diagram.turn = form.starts();
+        diagram.turn = form.starting_side();
         diagram.unmoved = self.unmoved();
         diagram.crossed = self.crossed;
         diagram
@@ -76,7 +76,7 @@ impl Draft {
         }
         let board = Board::of(diagram);
         let has_king = has_king_to_mate(stipulation, &board);
-        let in_check = is_in_check(&board, condition, stipulation.form.starts().other());
+        let in_check = is_in_check(&board, condition, stipulation.form.starting_side().other());
         position_fault(has_king, in_check)
     }
 
@@ -107,7 +107,8 @@ impl Draft {
 
     // The set with the square if it counts as unmoved, else without it.
     fn with_counted(&self, set: Unmoved, square: Square) -> Unmoved
-        ensures { result ≡ mark_unmoved set square (counts self.now.men self.now.barred square) }
+        ensures { result ≡ mark_unmoved set square
+            (counts_as_unmoved self.now.men self.now.barred square) }
     {
         if self.diagram.is_home(square) && !self.barred.has(square) {
             set.with(square)
@@ -135,7 +136,7 @@ fn position_fault(has_king: bool, in_check: bool) -> Option<FaultKind>
 fn has_king_to_mate(stipulation: Stipulation, board: &Board) -> bool
     ensures { result ≡ has_king_to_mate stipulation board.now.men }
 {
-    stipulation.goal.is_stalemate() || board.king_of(stipulation.form.mated()).is_some()
+    stipulation.goal.is_stalemate() || board.king_of(stipulation.form.mated_side()).is_some()
 }
 
 // Whether the colour is in check under the condition.

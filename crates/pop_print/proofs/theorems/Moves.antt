@@ -10,9 +10,9 @@ use Rattle.chess_core.specs.declared.man.Kind.TheVariants.{King, Queen, Rook, Bi
 use Rattle.chess_core.specs.Position.{Position, is_man, man_on, same_kind}
 use Rattle.chess_core.specs.Triple.{Triple}
 use Rattle.chess_core.specs.WellFormed.{IsWellFormed}
-use Rattle.chess_rules.specs.Legal.{is_promotion_right, legal, pseudo}
+use Rattle.chess_rules.specs.Legal.{is_legal, is_promotion_right, is_pseudo_legal}
 use Rattle.chess_rules.specs.RuleSet.{RuleSet}
-use Rattle.chess_rules.proofs.listing_moves.Calls.{pseudo-from_legal}
+use Rattle.chess_rules.proofs.listing_moves.Calls.{is_pseudo_legal-from_legal}
 use Rattle.chess_rules.proofs.making_moves.Pseudo.{IsMade, king_is_no_pawn, made}
 use Rattle.chess_core.proofs.Kept.{same_colour-refl}
 use Rattle.pop_input.specs.declared.stipulation.Goal.{Goal}
@@ -35,8 +35,8 @@ letter_tells k = grind arith
 same_letter : (j k : Kind) → letter_of j ≡ letter_of k → j ≡ k
 same_letter j k e = sym (letter_tells j) ∙ ap kind_written e ∙ letter_tells k
 
-capital : (k : Kind) → letter_of k < 96
-capital k = grind arith
+capital_letter : (k : Kind) → letter_of k < 96
+capital_letter k = grind arith
 
 same_square : (s t : ℕ) → 96 + file_of s ≡ 96 + file_of t → 48 + rank_of s ≡ 48 + rank_of t → s ≡ t
 same_square s t f r = omega (arith, f, r)
@@ -108,7 +108,7 @@ man_case k = grind arith
 
 -- A letter isn't a file: a man who isn't a pawn isn't written as a pawn.
 no_file : (k : Kind) (s : ℕ) → letter_of k ≡ 96 + file_of s → ⊥
-no_file k s e = omega (arith, e, capital k)
+no_file k s e = omega (arith, e, capital_letter k)
 
 -- Two moves of this text, neither castling: the letter tells the man.
 same_going : (a b : Shown) (j k : Kind) → a.man.kind ≡ j → b.man.kind ≡ k
@@ -188,10 +188,10 @@ module _ (goal : Goal) (rule : RuleSet) (p : Position) (well : IsWellFormed p) w
     to : (show goal rule p m).to ≡ m.to
     promo : (show goal rule p m).promo ≡ m.promo
 
-  shown_by_man : (m : Triple) (o : Option Man) → man_on p.men m.from ≡ o → legal rule p m ≡ true → (x : Man) × IsShown m x
-  unfolding show shown_of pseudo
-  shown_by_man m None here h = grind (arith, pseudo-from_legal rule p m h, true≢false)
-  shown_by_man m (Some x) here h = grind (arith, made rule p m x (pseudo-from_legal rule p m h) here, pseudo-from_legal rule p m h, made)
+  shown_by_man : (m : Triple) (o : Option Man) → man_on p.men m.from ≡ o → is_legal rule p m ≡ true → (x : Man) × IsShown m x
+  unfolding show shown_of is_pseudo_legal
+  shown_by_man m None here h = grind (arith, is_pseudo_legal-from_legal rule p m h, true≢false)
+  shown_by_man m (Some x) here h = grind (arith, made rule p m x (is_pseudo_legal-from_legal rule p m h) here, is_pseudo_legal-from_legal rule p m h, made)
 
   -- The move is known by what is written of it, where neither castles or both castle to one side.
   same_move : (m n : Triple) (x y : Man) (c d : Option Side) → IsShown m x → IsShown n y
@@ -208,7 +208,7 @@ module _ (goal : Goal) (rule : RuleSet) (p : Position) (well : IsWellFormed p) w
   same_move m n x y c d a b e f s goes = grind arith
 
   -- No two legal moves of a position are written alike.
-  pub moves_are_written_apart : (m n : Triple) → legal rule p m ≡ true → legal rule p n ≡ true
+  pub moves_are_written_apart : (m n : Triple) → is_legal rule p m ≡ true → is_legal rule p n ≡ true
       → move_text (show goal rule p m) ≡ move_text (show goal rule p n) → m ≡ n
   moves_are_written_apart m n h k e =
       let a = shown_by_man m (man_on p.men m.from) refl h in

@@ -1,5 +1,5 @@
 -- The parts of a phase, by the moves with which its solutions begin: joined they are the phase, and no solution stands in two of them.
-use Rattle.pop_solve.proofs.Words.{AllPairs, Contains, IsSound, List, Phase, Posed, Precedes, RuleSet, Triple, ap, arith, counted, false, flat_map, is_barred, length, length-take, min, pairs_weaker, phase_half_moves, phase_start, refl, solutions, sum_by, sym, take, ℕ, ◌↔◌, ◌∙◌, ◌≡◌, ◌≢◌, ◌≤◌}
+use Rattle.pop_solve.proofs.Words.{AllPairs, Contains, IsSound, List, Phase, Posed, Precedes, RuleSet, Triple, ap, arith, false, flat_map, is_barred, length, length-take, min, pairs_weaker, phase_count, phase_half_moves, phase_start, refl, solutions, sum_by, sym, take, ℕ, ◌↔◌, ◌∙◌, ◌≡◌, ◌≢◌, ◌≤◌}
 use Rattle.std.proofs.lemmas.List.Concat.{length-flat_map}
 use Rattle.std.proofs.lemmas.List.Sums.{length-filter}
 use Rattle.std.specs.List.{count_by}
@@ -49,7 +49,7 @@ module _ (rule : RuleSet) (problem : Posed) (phase : Phase) (depth : ℕ) (free 
   first_of_parts n = first-of-firsts (part_solutions rule problem phase) n n (omega arith) (parts rule problem phase depth) ∙ ap (take n) parts_joined
 
   -- So the phase's number of solutions, up to the problem's limit, is the sum of the parts' numbers, up to that limit.
-  pub counted_by_parts : counted rule problem phase
+  pub counted_by_parts : phase_count rule problem phase
       ≡ min problem.max_solutions (sum_by (part_count rule problem phase) (parts rule problem phase depth))
   counted_by_parts =
       let n : ℕ = problem.max_solutions in

@@ -4,7 +4,7 @@ use Rattle.std.specs.Option.{option_map}
 use Rattle.std.specs.List.{flat_map, list_all}
 use Rattle.chess_core.specs.Position.{Position}
 use Rattle.chess_core.specs.Triple.{Triple}
-use Rattle.chess_rules.specs.Legal.{legal}
+use Rattle.chess_rules.specs.Legal.{is_legal}
 use Rattle.chess_rules.specs.Play.{after as played}
 use Rattle.chess_rules.specs.RuleSet.{RuleSet}
 use Rattle.chess_rules.specs.ties.Places.{moves_behind}
@@ -51,7 +51,7 @@ pub record Seeks (rule : RuleSet) (h d : ℕ) (p : Position) (old new : List Fra
   pub seeking : IsSeeking rule h d p new board
   pub come : (goal : Goal) → beginnings_to_come goal rule d p old
       ≡ found_by new found ++ beginnings_to_come goal rule d p new
-  pub legal : IfSome found (λ m. legal rule board m ≡ true)
+  pub legal : IfSome found (λ m. is_legal rule board m ≡ true)
   pub full : IfSome found (λ m. length new ≡ d)
   pub falls : turns rule h p new < turns rule h p old
 
@@ -60,5 +60,5 @@ pub record FindsNumbered (rule : RuleSet) (h d : ℕ) (p : Position) (old new : 
     (board : Position) (number : ℕ) (found : Option Triple) : Type 0 where
   pub here : (goal : Goal) → slice_get (beginnings_to_come goal rule d p old) (number - 1)
       ≡ option_map (λ m. path new ++ m ∷ []) found
-  pub stands : IfSome found (λ m. IsSeeking rule h d p new board × (legal rule board m ≡ true)
+  pub stands : IfSome found (λ m. IsSeeking rule h d p new board × (is_legal rule board m ≡ true)
       × (length new ≡ d))

@@ -1,7 +1,7 @@
 -- What the calls of a search leave of what they were handed.
 use Rattle.chess_core.specs.Position.{Position}
 use Rattle.chess_core.specs.Triple.{Triple}
-use Rattle.chess_rules.specs.Legal.{legal, moves as legal_moves}
+use Rattle.chess_rules.specs.Legal.{is_legal, moves as legal_moves}
 use Rattle.chess_rules.specs.Play.{after as played}
 use Rattle.chess_rules.specs.RuleSet.{RuleSet}
 use Rattle.chess_rules.specs.ties.Places.{IsPlaceIn, LegalPlace, place_of}
@@ -25,7 +25,7 @@ pub record Finds (rule : RuleSet) (p board : Position) (known : LegalPlace) (fou
   pub unchanged : board ≡ p
   pub within : IsPlaceIn rule p known
   pub next : MatchOption found (untried ≡ [])
-      (λ m. (untried ≡ m ∷ left) × (legal rule p m ≡ true))
+      (λ m. (untried ≡ m ∷ left) × (is_legal rule p m ≡ true))
 
 -- the place stands on a legal move that mates
 pub record IsOnMate (rule : RuleSet) (p : Position) (place : ℕ) : Type 0 where

@@ -8,7 +8,7 @@ use Rattle.chess_core.specs.Castling.{none_unmoved}
 use Rattle.chess_core.specs.Position.{Position}
 use Rattle.chess_core.specs.Triple.{Triple}
 use Rattle.chess_core.specs.WellFormed.{IsWellFormed}
-use Rattle.chess_rules.specs.Legal.{legal}
+use Rattle.chess_rules.specs.Legal.{is_legal}
 use Rattle.chess_rules.specs.Loss.{Loss}
 use Rattle.chess_mates.specs.ties.Aims.{aims_at_king}
 use Rattle.chess_rules.specs.ties.Places.{IsPlaceIn, LegalPlace, moves_behind, moves_between, place_of}
@@ -16,7 +16,7 @@ use Rattle.chess_rules.specs.Play.{undo_of}
 use Rattle.chess_rules.specs.RuleSet.{RuleSet}
 use Rattle.pop_solve.specs.Chess.{chess}
 use Rattle.pop_solve.specs.ties.Counts.{smallest_below, walk_count}
-use Rattle.pop_solve.specs.ties.Values.{decides, seeks, join, joined}
+use Rattle.pop_solve.specs.ties.Values.{decides, seeks, join, joined_value}
 use Rattle.pop_solve.specs.declared.frame.Stretch.{Stretch}
 use Rattle.pop_solve.specs.declared.frame.Stretch.TheVariants.{Killer, Earlier, Aimed, Others}
 use Rattle.pop_solve.specs.declared.frame.Early.{Early}
@@ -69,7 +69,7 @@ IsLinked rule p [] = Unit {0}
 IsLinked rule p (f ∷ []) = Unit {0}
 IsLinked rule p (f ∷ (g ∷ below)) =
     IsWellFormed (position rule p (g ∷ below))
-    × (legal rule (position rule p (g ∷ below)) f.by ≡ true)
+    × (is_legal rule (position rule p (g ∷ below)) f.by ≡ true)
     × (f.undo ≡ undo_of rule (position rule p (g ∷ below)) f.by)
     × IsLinked rule p (g ∷ below)
 
@@ -126,20 +126,20 @@ abbrev pub untried : RuleSet → Position → Frame → List Triple
 untried rule p f = ahead rule p f.order f.stretch f.place
 
 -- what the value of the lowest position will be, once that of the top position is known
-unfoldable pub deliver : RuleSet → Aim → Position → List Frame → Bool → Bool
-deliver rule aim p [] v = v
-deliver rule aim p (f ∷ below) v =
-    deliver rule aim p below (join (seeks aim.battle f.left) v
-    (joined aim.battle (chess aim.goal rule) f.left (position rule p (f ∷ below))
+unfoldable pub delivered_value : RuleSet → Aim → Position → List Frame → Bool → Bool
+delivered_value rule aim p [] v = v
+delivered_value rule aim p (f ∷ below) v =
+    delivered_value rule aim p below (join (seeks aim.battle f.left) v
+    (joined_value aim.battle (chess aim.goal rule) f.left (position rule p (f ∷ below))
     (untried rule (position rule p (f ∷ below)) f)))
 
 -- the same before the next move of the top frame is tried: the answer for its last move may be known
-unfoldable pub pending : RuleSet → Aim → Position → List Frame → Option Bool → Bool
-pending rule aim p [] answer = false
-pending rule aim p (f ∷ below) (Some v) = deliver rule aim p (f ∷ below) v
-pending rule aim p (f ∷ below) None =
-    deliver rule aim p below
-    (joined aim.battle (chess aim.goal rule) f.left (position rule p (f ∷ below))
+unfoldable pub pending_value : RuleSet → Aim → Position → List Frame → Option Bool → Bool
+pending_value rule aim p [] answer = false
+pending_value rule aim p (f ∷ below) (Some v) = delivered_value rule aim p (f ∷ below) v
+pending_value rule aim p (f ∷ below) None =
+    delivered_value rule aim p below
+    (joined_value aim.battle (chess aim.goal rule) f.left (position rule p (f ∷ below))
     (untried rule (position rule p (f ∷ below)) f))
 
 -- the steps that a test takes, which falls at each one
@@ -199,7 +199,7 @@ to_try_with rule aim p (f ∷ below) v =
     else smallest_below aim.battle (chess aim.goal rule) f.left (position rule p (f ∷ below))
     (untried rule (position rule p (f ∷ below)) f))
     + to_try_with rule aim p below (join (seeks aim.battle f.left) v
-    (joined aim.battle (chess aim.goal rule) f.left (position rule p (f ∷ below))
+    (joined_value aim.battle (chess aim.goal rule) f.left (position rule p (f ∷ below))
     (untried rule (position rule p (f ∷ below)) f)))
 
 -- the same before the next move of the top frame is tried
@@ -210,7 +210,7 @@ to_try rule aim p (f ∷ below) None =
     smallest_below aim.battle (chess aim.goal rule) f.left (position rule p (f ∷ below))
     (untried rule (position rule p (f ∷ below)) f)
     + to_try_with rule aim p below
-    (joined aim.battle (chess aim.goal rule) f.left (position rule p (f ∷ below))
+    (joined_value aim.battle (chess aim.goal rule) f.left (position rule p (f ∷ below))
     (untried rule (position rule p (f ∷ below)) f))
 
 -- from the top down each frame has a half-move to make, and one less than the frame below it
@@ -237,7 +237,7 @@ pub record IsTesting (rule : RuleSet) (p : Position) (frames : List Frame) (boar
 -- the move led from the position p to the board, and its undo leads back
 pub record CameBy (rule : RuleSet) (by : Triple) (undo : Loss) (board p : Position) : Type 0 where
   pub sound : IsWellFormed p
-  pub legal : legal rule p by ≡ true
+  pub legal : is_legal rule p by ≡ true
   pub led : board ≡ played rule p by
   pub undone : undo ≡ undo_of rule p by
 
@@ -257,7 +257,8 @@ tests floor frames = reverse (drop floor frames)
 pub record Turns (rule : RuleSet) (aim : Aim) (floor : ℕ) (p : Position) (old new : List Frame)
     (was is : Option Bool) (board : Position) (before after : ℕ) : Type 0 where
   pub testing : IsTesting rule p (tests floor new) board
-  pub same : pending rule aim p (tests floor old) was ≡ pending rule aim p (tests floor new) is
+  pub same : pending_value rule aim p (tests floor old) was
+      ≡ pending_value rule aim p (tests floor new) is
   pub falls : work rule p (tests floor new) < work rule p (tests floor old)
   pub above : floor < length new
   pub base : take floor new ≡ take floor old
@@ -269,15 +270,15 @@ pub record Turns (rule : RuleSet) (aim : Aim) (floor : ℕ) (p : Position) (old 
 -- no fewer than a smallest tree has positions
 pub record Ends (rule : RuleSet) (aim : Aim) (floor : ℕ) (p : Position) (old new : List Frame)
     (was : Option Bool) (board : Position) (before after : ℕ) (v : Bool) : Type 0 where
-  pub value : pending rule aim p (tests floor old) was ≡ v
+  pub value : pending_value rule aim p (tests floor old) was ≡ v
   pub back : board ≡ p
   pub base : new ≡ take floor old
   pub counted : after ≤ before + to_test rule p (tests floor old)
   pub tried : min (before + to_try rule aim p (tests floor old) was) (2 ^ 64 - 1) ≤ after
 
 -- the frame of a position that a move has reached, of which no move has been tried
-abbrev pub opened : Triple → Loss → ℕ → Frame
-opened by undo left = record {
+abbrev pub opened_frame : Triple → Loss → ℕ → Frame
+opened_frame by undo left = record {
   place = 0;
   by = by;
   undo = undo;
@@ -288,8 +289,8 @@ opened by undo left = record {
 }
 
 -- the same in a test, where the killer is tried first
-abbrev pub tested : Order → Triple → Loss → ℕ → Option LegalPlace → Frame
-tested order by undo left known = record {
+abbrev pub tested_frame : Order → Triple → Loss → ℕ → Option LegalPlace → Frame
+tested_frame order by undo left known = record {
   place = order.killer - 1;
   by = by;
   undo = undo;
@@ -305,7 +306,7 @@ pub record IsOpenedOn (rule : RuleSet) (p : Position) (old new : List Frame) (by
   pub order : Order
   pub known : Option LegalPlace
   pub within : IfSome known (IsPlaceIn rule p)
-  pub added : new ≡ old ++ tested order by undo left known ∷ []
+  pub added : new ≡ old ++ tested_frame order by undo left known ∷ []
 
 -- the half-moves left at the top frame
 abbrev pub top_left : List Frame → ℕ

@@ -12,7 +12,7 @@ use Rattle.pop_solve.specs.declared.part_search.PartStage.{PartStage}
 use Rattle.pop_solve.specs.declared.part_search.PartStage.TheVariants.{First, Within, Behind}
 use Rattle.pop_solve.specs.ties.Frames.{Frame, to_open}
 use Rattle.pop_solve.specs.ties.PartsSeen.{is_part_stopped, part_walk}
-use Rattle.pop_solve.specs.ties.Phases.{keep, phase_paths, started}
+use Rattle.pop_solve.specs.ties.Phases.{beginning_count, keep, phase_paths}
 use Rattle.pop_solve.specs.ties.Plans.{plan_of}
 use Rattle.pop_solve.specs.ties.Walk.{IsCounted, IsEnded, IsWalking, path}
 
@@ -31,7 +31,7 @@ part_paths rule problem phase Behind frames = []
 -- how many solutions have begun and are still to begin
 abbrev pub begun_in_all : RuleSet → Posed → Phase → PartStage → List Frame → ℕ
 begun_in_all rule problem phase stage frames =
-    begun_at stage + started (is_help problem.stipulation.form)
+    begun_at stage + beginning_count (is_help problem.stipulation.form)
     (problem.max_solutions - begun_at stage) (part_paths rule problem phase stage frames)
 
 -- the events of some paths, where `count` solutions have begun
@@ -39,10 +39,10 @@ abbrev pub events_left : Posed → Phase → ℕ → List (List Triple) → List
 events_left problem phase count paths =
     map (path_event problem phase)
     (keep (is_help problem.stipulation.form) (problem.max_solutions - count) paths)
-    ++ total (count + started (is_help problem.stipulation.form)
+    ++ total (count + beginning_count (is_help problem.stipulation.form)
     (problem.max_solutions - count) paths)
-    (count + started (is_help problem.stipulation.form) (problem.max_solutions - count) paths
-    == problem.max_solutions) ∷ []
+    (count + beginning_count (is_help problem.stipulation.form)
+    (problem.max_solutions - count) paths == problem.max_solutions) ∷ []
 
 -- the events still to come
 unfoldable pub part_left : RuleSet → Posed → Phase → PartStage → List Frame → List BareEvent

@@ -30,11 +30,11 @@ module _ {M : Type 0} where
   keep help (suc n) (x ∷ xs) = x ∷ (if begins help x then keep help n xs else keep help (suc n) xs)
 
   -- how many solutions begin among them
-  unfoldable pub started : Bool → ℕ → List (List M) → ℕ
-  started help n [] = 0
-  started help zero (x ∷ xs) = if begins help x then 0 else started help zero xs
-  started help (suc n) (x ∷ xs) = if begins help x then 1 + started help n xs
-      else started help (suc n) xs
+  unfoldable pub beginning_count : Bool → ℕ → List (List M) → ℕ
+  beginning_count help n [] = 0
+  beginning_count help zero (x ∷ xs) = if begins help x then 0 else beginning_count help zero xs
+  beginning_count help (suc n) (x ∷ xs) = if begins help x then 1 + beginning_count help n xs
+      else beginning_count help (suc n) xs
 
 -- the paths to come from the frames of a phase
 abbrev pub phase_paths : RuleSet → Posed → Phase → List Frame → List (List Triple)
@@ -49,7 +49,7 @@ left_of rule problem Barred frames = impossible ∷ events_from rule problem Pla
 left_of rule problem (Within phase count) frames =
     let paths = phase_paths rule problem phase frames in
     let limit = problem.max_solutions - count in
-    let all = count + started (is_help problem.stipulation.form) limit paths in
+    let all = count + beginning_count (is_help problem.stipulation.form) limit paths in
     map (path_event problem phase) (keep (is_help problem.stipulation.form) limit paths)
     ++ total all (all == problem.max_solutions)
     ∷ (if is_set phase then events_from rule problem Play else [])
@@ -71,16 +71,18 @@ pub record Walks (rule : RuleSet) (plan : Plan) (h : ℕ) (p : Position) (limit 
   pub come : given ≡ true → keep (is_help plan.form) limit (to_come rule plan h p old)
       ≡ path new ∷ keep (is_help plan.form)
       (limit - (if begins (is_help plan.form) (path new) then 1 else 0)) (to_come rule plan h p new)
-  pub starts : given ≡ true → started (is_help plan.form) limit (to_come rule plan h p old)
+  pub starts : given ≡ true → beginning_count (is_help plan.form) limit (to_come rule plan h p old)
       ≡ (if begins (is_help plan.form) (path new) then 1 else 0)
-      + started (is_help plan.form) (limit - (if begins (is_help plan.form) (path new) then 1
+      + beginning_count (is_help plan.form) (limit -
+      (if begins (is_help plan.form) (path new) then 1
       else 0)) (to_come rule plan h p new)
   pub within : given ≡ true → (if begins (is_help plan.form) (path new) then 1 else 0) ≤ limit
   pub deep : given ≡ true → 2 ≤ length new
   pub closed : given ≡ true → IsEnded rule plan new board
   pub ended : given ≡ false → keep (is_help plan.form) limit (to_come rule plan h p old) ≡ []
   pub over : given ≡ false → (new ≡ []) ⊎ (limit ≡ 0)
-  pub none : given ≡ false → started (is_help plan.form) limit (to_come rule plan h p old) ≡ 0
+  pub none : given ≡ false → beginning_count (is_help plan.form) limit (to_come rule plan h p old)
+      ≡ 0
 
 -- what a call gives: the first event still to come, as it is shown, with board and frames where it stands
 pub record Gives (rule : RuleSet) (problem : Posed) (old new : List BareEvent) (event : Event)

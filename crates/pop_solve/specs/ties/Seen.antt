@@ -5,7 +5,7 @@ use Rattle.std.specs.Prelude.{◌≡◌, ℕ, ◌+◌, Bool, false, not, ◌==�
 use Rattle.std.specs.List.{list_all}
 use Rattle.chess_core.specs.Position.{Position}
 use Rattle.chess_rules.specs.RuleSet.{RuleSet}
-use Rattle.pop_solve.specs.Game.{reach}
+use Rattle.pop_solve.specs.Game.{path_end}
 use Rattle.pop_solve.specs.Chess.{chess}
 use Rattle.pop_solve.specs.ties.Counts.{walk_count}
 use Rattle.pop_solve.specs.ties.Walk.{fewest_walked}
@@ -21,10 +21,10 @@ abbrev pub StandsOn : RuleSet → Posed → BareEvent → Position → ℕ → T
 StandsOn rule problem (opening phase) board depth = Unit {0}
 StandsOn rule problem impossible board depth = Unit {0}
 StandsOn rule problem (line phase path) board
-    depth = (board ≡ reach (played rule) (phase_start problem phase) path)
+    depth = (board ≡ path_end (played rule) (phase_start problem phase) path)
     × (depth ≡ length path + 1)
 StandsOn rule problem (tree_node phase path) board
-    depth = (board ≡ reach (played rule) (phase_start problem phase) path)
+    depth = (board ≡ path_end (played rule) (phase_start problem phase) path)
     × (depth ≡ length path + 1)
 StandsOn rule problem (total count stopped) board depth = Unit {0}
 

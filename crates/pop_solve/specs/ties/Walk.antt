@@ -59,14 +59,14 @@ module _ {P M : Type 0} where
       else open_length (battle_of plan.form) game t q)
 
   -- the paths that the walk gives from P by these moves, with `left` half-moves; `fuel` is at least `left`
-  unfoldable pub shown : Plan → Game P M → Bool → ℕ → ℕ → P → List M → List (List M)
-  shown plan game root zero left p ms = []
-  shown plan game root (suc fuel) zero p ms = []
-  shown plan game root (suc fuel) (suc t) p ms =
+  unfoldable pub shown_paths : Plan → Game P M → Bool → ℕ → ℕ → P → List M → List (List M)
+  shown_paths plan game root zero left p ms = []
+  shown_paths plan game root (suc fuel) zero p ms = []
+  shown_paths plan game root (suc fuel) (suc t) p ms =
       flat_map (λ m. let q = game.after p m in
       if follows plan game root t q
       then (if gives plan game t q then (m ∷ []) ∷ [] else [])
-      ++ map (λ path. m ∷ path) (shown plan game false fuel (goes_on plan game t q) q
+      ++ map (λ path. m ∷ path) (shown_paths plan game false fuel (goes_on plan game t q) q
       (game.moves q))
       else []) ms
 
@@ -99,7 +99,7 @@ unfoldable pub to_come : RuleSet → Plan → ℕ → Position → List Frame �
 to_come rule plan h p [] = []
 to_come rule plan h p (f ∷ below) =
     map (λ line. path (f ∷ below) ++ line)
-    (shown plan (chess plan.goal rule) (length below == 0) (h - length below) f.left
+    (shown_paths plan (chess plan.goal rule) (length below == 0) (h - length below) f.left
     (position rule p (f ∷ below)) (moves_behind rule (position rule p (f ∷ below)) f.place))
     ++ to_come rule plan h p below
 

@@ -21,7 +21,7 @@ play_shown-requires-clause-legal g c =
     let cut = paths.cut-last c.args.frames.now (length c.args.frames.now - 1) c.index-frames-frames.result (omega arith) c.index-frames-frames.is in
     let some = paths.some-taken c.args.frames.now (length c.args.frames.now - 1) (omega arith) (omega arith) in
     let r = paths.back-walking g.R.Rules.rule _ _ _ cut some _ _ _ _ w.2 c.take_back.ensures.before in
-    rw r.board_at (paths.forth-legal g.R.Rules.rule _ _ _ cut some _ w.2.linked)
+    rw r.board_at (paths.forth-is_legal g.R.Rules.rule _ _ _ cut some _ w.2.linked)
 
 pub play_shown-requires-clause-reached : goal.play_shown-requires-clause-reached
 play_shown-requires-clause-reached g c =

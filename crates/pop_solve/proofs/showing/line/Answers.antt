@@ -12,7 +12,7 @@ play_shown-requires-clause-legal g c =
     let cut = paths.cut-at c.args.frames.now (c.loop-k.k + 1) c.loop-k.k c.index-frames-k.result refl c.index-frames-k.is c.loop-k-test.true in
     let some = paths.some-taken c.args.frames.now c.loop-k.k c.loop-k.auto.k (omega arith) in
     let at = c.loop-k.invariant.0 w.0 w.1 w.2 in
-    rw at.1 (paths.forth-legal g.R.Rules.rule _ _ _ cut some w.1 (paths.linked-take g.R.Rules.rule w.1 c.args.frames.now (c.loop-k.k + 1) w.2.linked))
+    rw at.1 (paths.forth-is_legal g.R.Rules.rule _ _ _ cut some w.1 (paths.linked-take g.R.Rules.rule w.1 c.args.frames.now (c.loop-k.k + 1) w.2.linked))
 
 pub loop-k-preserved : goal.loop-k-preserved
 loop-k-preserved g c = (
