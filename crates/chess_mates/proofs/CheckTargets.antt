@@ -1,6 +1,6 @@
 -- A move that goes to no square from which its man may give check gives none.
 use Rattle.chess_rules.proofs.Basics.{None, Option, Some, agree_below_at, and_parts, ap, arith, bit_and, bit_at, bit_not, bit_or, cases_Bool, false, false≢true, inl, inr, is_some, not, refl, rules, sym, true, w64, ℕ, ◌+◌, ◌/◌, ◌<◌, ◌==◌, ◌||◌, ◌∙◌, ◌≡◌}
-use Rattle.chess_mates.proofs.Chess.{AreCastlingTargets, AreCheckSquares, AreCheckTargets, Black, CheckSquares, Colour, IsWellFormed, Kind, King, Man, Move, Pawn, Position, Rook, RuleSet, White, after, are_rebirths_quiet, arrives, arriving_man, check_squares_for, circe, halfway, in_check, is_aside, is_castling, is_circe, is_legal, is_pseudo_legal, is_square, last_rank, man_on, may_check_from, may_expose, may_go, may_stand_between, orthodox, other, rank_of, same_colour, same_kind, word}
+use Rattle.chess_mates.proofs.Chess.{AreCastlingTargets, AreCheckSquares, AreCheckTargets, Black, CheckSquares, Colour, IsWellFormed, Kind, King, Man, Move, Pawn, Position, Rook, RuleSet, White, are_rebirths_quiet, arrives, arriving_man, check_squares_for, circe, halfway, in_check, is_aside, is_castling, is_circe, is_legal, is_pseudo_legal, is_square, last_rank, man_on, may_check_from, may_expose, may_go, may_stand_between, orthodox, other, position_after, rank_of, same_colour, same_kind, word}
 use Rattle.chess_mates.specs.ties.CheckSquares.{enemy}
 use Rattle.chess_rules.specs.ties.Shields.{cannot_expose}
 use Rattle.chess_rules.proofs.listing_moves.Arrivals.{may_go_aimed}
@@ -77,7 +77,7 @@ module _ (rule : RuleSet) (p : Position) (x : Man) (s : CheckSquares) (f : ℕ) 
     origin_stays = rw at (sym (word_has (may_expose p.men (other p.turn)) s.shield_squares f checks.shield_squares inside) ∙ covered)
 
     -- a king that castles: the square halfway is none from which a rook gives check
-    castled : is_castling x m ≡ true → in_check rule (after rule p m).men (other p.turn) ≡ false
+    castled : is_castling x m ≡ true → in_check rule (position_after rule p m).men (other p.turn) ≡ false
     castled y =
         let king : same_kind x.kind King ≡ true = (and_parts _ _ (and_parts _ _ y).0).0 in
         let enemy_of : same_colour x.colour (other p.turn) ≡ false =
@@ -93,7 +93,7 @@ module _ (rule : RuleSet) (p : Position) (x : Man) (s : CheckSquares) (f : ℕ) 
     unfolding cannot_expose
     covering no_castling = grind (arith, plain_elsewhere, off_right, off-ab, off, stands, origin_stays, aside)
 
-    no_check_elsewhere : in_check rule (after rule p m).men (other p.turn) ≡ false
+    no_check_elsewhere : in_check rule (position_after rule p m).men (other p.turn) ≡ false
     no_check_elsewhere = elim (cases_Bool (is_castling x m)) [
       | inl y ↦ castled y
       | inr n ↦
@@ -111,14 +111,14 @@ module _ (rule : RuleSet) (p : Position) (x : Man) (s : CheckSquares) (f : ℕ) 
     (lines : e ≡ word (may_stand_between p.men (other p.turn))) where
   by_rule : (m : Move) → m.from ≡ f → m.to < 64 → is_pseudo_legal rule p m ≡ true
       → (same_kind x.kind King ≡ true → may_check_from p.men (other p.turn) x m.to ≡ false)
-      → (bit_at (bit_or (bit_or (bit_or (bit_or a b) c) d) e) m.to == 1) ≡ false → in_check rule (after rule p m).men (other p.turn) ≡ false
+      → (bit_at (bit_or (bit_or (bit_or (bit_or a b) c) d) e) m.to == 1) ≡ false → in_check rule (position_after rule p m).men (other p.turn) ≡ false
   by_rule m at small may apart off = elim (cases_Bool (are_rebirths_quiet rule p.men p.turn)) [
     | inl quiet ↦
         let parts = quiet_parts rule p.men p.turn quiet in
         let may_so : is_pseudo_legal circe p m ≡ true = ap (λ (r : RuleSet). is_pseudo_legal r p m) (sym parts.0) ∙ may in
         let unpromoted : m.promo ≡ None = unnamed orthodox p x s f well here checks inside covered a b c d e checked_from crossed promotes castles
         (λ bad. absurd (false≢true bad)) lines m at small (pseudo_so p m may_so) apart off m.promo refl in
-        ap (λ (r : RuleSet). in_check r (after r p m).men (other p.turn)) parts.0
+        ap (λ (r : RuleSet). in_check r (position_after r p m).men (other p.turn)) parts.0
         ∙ rebirth_gives_no_check p x m well may_so (ap (man_on p.men) at ∙ here) unpromoted parts.1
         (grind (arith, no_check_elsewhere, false≢true, pseudo_so, off))
     | inr loud ↦

@@ -1,11 +1,11 @@
 -- Lists of legal moves of which one doesn't mate.
 use Rattle.chess_rules.proofs.Basics.{Bool, List, arith, false, list_all, not, refl, sym, true, ◌&&◌, ◌∷◌, ◌≡◌}
-use Rattle.chess_mates.proofs.Chess.{Move, Position, RuleSet, after, in_check, is_legal, is_mating, mates, other}
+use Rattle.chess_mates.proofs.Chess.{Move, Position, RuleSet, in_check, is_legal, is_mating, mates, other, position_after}
 use Rattle.chess_rules.proofs.listing_moves.Calls.{is_pseudo_legal-from_legal}
 use Rattle.chess_mates.proofs.Mating.{no_mate_quietly}
 
 -- a legal move that gives no check doesn't mate
-pub quiet : (rule : RuleSet) (p : Position) (m : Move) → is_legal rule p m ≡ true → in_check rule (after rule p m).men (other p.turn) ≡ false
+pub quiet : (rule : RuleSet) (p : Position) (m : Move) → is_legal rule p m ≡ true → in_check rule (position_after rule p m).men (other p.turn) ≡ false
     → is_mating rule p m ≡ false
 unfolding mates
 quiet rule p m lawful calm = second (is_legal rule p m) (is_mating rule p m) lawful (sym (no_mate_quietly rule p m (λ h. calm)))

@@ -1,6 +1,6 @@
 -- The moves that mate, by their numbers.
 use Rattle.chess_rules.proofs.Basics.{Bool, [], and_left, and_right, ap, arith, cases_Bool, cases_lt, false, inl, inr, not, refl, rules, suc, sym, true, zero, ℕ, ◌&&◌, ◌+◌, ◌-◌, ◌<◌, ◌∙◌, ◌∷◌, ◌≡◌, ◌≤◌}
-use Rattle.chess_mates.proofs.Chess.{HaveNone, Move, Position, RuleSet, after, after_by, first_of_and, in_check, is_legal, is_mate, is_pseudo_legal, mates, mates_behind, other, second_of_and, triple_at}
+use Rattle.chess_mates.proofs.Chess.{HaveNone, Move, Position, RuleSet, after_by, first_of_and, in_check, is_legal, is_mate, is_pseudo_legal, mates, mates_behind, other, position_after, second_of_and, triple_at}
 use Rattle.chess_rules.proofs.listing_moves.Places.{moves_behind-end, moves_behind-here, moves_behind-skip, not_pseudo}
 use Rattle.chess_rules.proofs.making_moves.Stays.{maker}
 use Rattle.chess_rules.proofs.listing_moves.Calls.{is_pseudo_legal-from_legal}
@@ -44,18 +44,18 @@ mates_behind-none rule p a b low high h = elim (cases_lt b a) [
 pub no_mate : (rule : RuleSet) (p : Position) (m : Move) → false ≡ is_pseudo_legal rule p m → false ≡ mates rule p m
 no_mate rule p m h = sym (not_mating rule p m (sym h))
 
-pub turn_after : (rule : RuleSet) (p : Position) (m : Move) → is_pseudo_legal rule p m ≡ true → (after rule p m).turn ≡ other p.turn
-unfolding after after_by
+pub turn_after : (rule : RuleSet) (p : Position) (m : Move) → is_pseudo_legal rule p m ≡ true → (position_after rule p m).turn ≡ other p.turn
+unfolding position_after after_by
 turn_after rule p m h = let x = maker rule p m h in rw x.1 refl
 
 pub no_mate_quietly : (rule : RuleSet) (p : Position) (m : Move)
-    → (is_legal rule p m ≡ true → in_check rule (after rule p m).men (other p.turn) ≡ false) → false ≡ mates rule p m
+    → (is_legal rule p m ≡ true → in_check rule (position_after rule p m).men (other p.turn) ≡ false) → false ≡ mates rule p m
 unfolding mates is_mate
 no_mate_quietly rule p m quiet = grind (arith, cases_Bool, and_left, turn_after, is_pseudo_legal-from_legal, and_right)
 
 -- a move that may be made, tested in the position after it
 pub mates_after : (rule : RuleSet) (p : Position) (m : Move) → is_pseudo_legal rule p m ≡ true
-    → (not (in_check rule (after rule p m).men p.turn) && is_mate rule (after rule p m)) ≡ mates rule p m
+    → (not (in_check rule (position_after rule p m).men p.turn) && is_mate rule (position_after rule p m)) ≡ mates rule p m
 unfolding mates is_legal
 mates_after rule p m may = search rules
 

@@ -1,6 +1,6 @@
 -- A man who is reborn gives his own king no check, but as a grasshopper's hurdle.
 use Rattle.chess_rules.proofs.Basics.{List, None, Option, Some, and_from, and_parts, ap, arith, bit_at, cases_Bool, cond-false, cond-true, false, false_from_ne_true, false≢true, inl, inr, length, list_all, list_any, not-true, range_with_len, refl, sym, true, ℕ, ◌&&◌, ◌-◌, ◌<◌, ◌==◌, ◌∙◌, ◌≡◌, rules}
-use Rattle.chess_mates.proofs.Chess.{AreCheckSquares, AtMostOneKing, CheckSquares, Colour, Grasshopper, IsWellFormed, Kind, King, Man, Move, Position, Queen, RuleSet, Step, after, after_by, along, are_rebirths_quiet, arriving_man, capture_square, castles, check_squares_for, circe, corner, find_first, halfway, is_attacked, is_attacked_at}
+use Rattle.chess_mates.proofs.Chess.{AreCheckSquares, AtMostOneKing, CheckSquares, Colour, Grasshopper, IsWellFormed, Kind, King, Man, Move, Position, Queen, RuleSet, Step, after_by, along, are_rebirths_quiet, arriving_man, capture_square, castles, check_squares_for, circe, corner, find_first, halfway, is_attacked, is_attacked_at, position_after}
 use Rattle.chess_mates.proofs.Chess.{in_check, is_absent, is_castling, is_clear, is_man, is_man-without, is_paralysed, is_pseudo_legal, is_side, is_square, is_vacant, king_square, man_on, man_on_at, may_castle, may_check_from, move_man, moved_men, orthodox, other, put_at, queen_steps, reaches, reaches_as, reaches_of, reborn_square}
 use Rattle.chess_mates.proofs.Chess.{rides, same_colour, same_kind, some_square_false, some_square_true, squares, strikes, with_man, without_at, without_man}
 use Rattle.chess_mates.specs.ties.CheckSquares.{rule_of_checks}
@@ -107,15 +107,15 @@ absent_lacks men e size absent = λ s. false_from_ne_true _ (λ h.
     search (rules, man_there (man_on men s) e Grasshopper h, false≢true, not-true _ absent, some_square_true, on_board))
 
 pub after_is : (rule : RuleSet) (p : Position) (x : Man) (m : Move) → man_on p.men m.from ≡ Some x
-    → (after rule p m).men ≡ put_at (moved_men p x m) (reborn_square rule p x m) (man_on_at p.men (capture_square p x m))
-unfolding after after_by
+    → (position_after rule p m).men ≡ put_at (moved_men p x m) (reborn_square rule p x m) (man_on_at p.men (capture_square p x m))
+unfolding position_after after_by
 after_is rule p x m here = rw here refl
 
 -- where the mover has no grasshopper, a move that gives no check in orthodox chess gives none in Circe, promotions apart
 pub rebirth_gives_no_check : (p : Position) (x : Man) (m : Move) → IsWellFormed p → is_pseudo_legal circe p m ≡ true → man_on p.men m.from ≡ Some x
     → m.promo ≡ None
-    → is_absent p.men (record { colour = p.turn; kind = Grasshopper }) ≡ true → in_check orthodox (after orthodox p m).men (other p.turn) ≡ false
-    → in_check circe (after circe p m).men (other p.turn) ≡ false
+    → is_absent p.men (record { colour = p.turn; kind = Grasshopper }) ≡ true → in_check orthodox (position_after orthodox p m).men (other p.turn) ≡ false
+    → in_check circe (position_after circe p m).men (other p.turn) ≡ false
 rebirth_gives_no_check p x m well may here unpromoted absent safe =
     ap (λ (men : List (Option Man)). in_check circe men (other p.turn)) (after_is circe p x m here)
     ∙ by (reborn_square circe p x m) (man_on_at p.men (capture_square p x m)) refl where
@@ -148,7 +148,7 @@ pub no_check_by_rebirth : (rule : RuleSet) (p : Position) (x : Man) (m : Move) (
     → is_pseudo_legal rule p m ≡ true
     → man_on p.men m.from ≡ Some x → AreCheckSquares p.men (other p.turn) s → y ≡ arriving_man x m.promo → w ≡ check_squares_for s y.kind → t ≡ m.to → t < 64
     → (bit_at w t == 1) ≡ false → (same_kind y.kind King ≡ true → may_check_from p.men (other p.turn) y t ≡ false) → m.promo ≡ None
-    → cannot_expose (rule_of_checks rule p.men p.turn) p (other p.turn) m ≡ true → in_check rule (after rule p m).men (other p.turn) ≡ false
+    → cannot_expose (rule_of_checks rule p.men p.turn) p (other p.turn) m ≡ true → in_check rule (position_after rule p m).men (other p.turn) ≡ false
 no_check_by_rebirth rule p x m s y w t well may here a is h same small off apart unpromoted cover = elim (cases_Bool (are_rebirths_quiet rule p.men p.turn)) [
   | inl quiet ↦ grind (arith, quiet_parts, cond-true, rebirth_gives_no_check, no_check, pseudo_so)
   | inr loud ↦ grind (arith, cond-false, no_check)

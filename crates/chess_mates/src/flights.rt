@@ -10,7 +10,7 @@ ghost use Rattle.chess_core.specs.declared.man.Move.{Move};
 ghost use Rattle.chess_core.specs.declared.man.Kind.TheVariants.{King};
 ghost use Rattle.chess_mates.specs.ties.Flights.{AreOpen, IsSeenFrom, has_flight, sight_lifted, sight_with};
 ghost use Rattle.chess_rules.specs.Legal.{is_pseudo_legal};
-ghost use Rattle.chess_rules.specs.Play.{after, arriving_man, capture_square};
+ghost use Rattle.chess_rules.specs.Play.{arriving_man, capture_square, position_after};
 ghost use Rattle.chess_rules.specs.ties.Lines.{occupied_squares};
 ghost use Rattle.chess_rules.specs.Reaches.{reaches, reaches_as};
 ghost use Rattle.chess_rules.specs.ties.Sight.{AreSeen, is_simple};
@@ -82,7 +82,7 @@ fn covered_squares(occupied: u64, man: Man, promo: Option<Kind>, to: Square) -> 
 fn open_squares<R: Rules>(board: &Board, sight: Sight, king: Square) -> u64
     ensures { (m : Move) (x : Man) → IsSeenFrom R.rule board.now m x king → m.to < 64
         → sight ≡ sight_lifted board.now.men m.from (capture_square board.now x m) m.to king
-        → AreOpen R.rule (after R.rule board.now m).men (other board.now.turn) king result }
+        → AreOpen R.rule (position_after R.rule board.now m).men (other board.now.turn) king result }
 {
     let near = king_leaps(king);
     if R::is_circe() {
@@ -120,7 +120,7 @@ fn has_flight_from<R: Rules>(
 ) -> bool
     requires seen { IsSeenFrom R.rule board.now m.now man king }
     requires captured { captured ≡ capture_square board.now man m.now }
-    ensures { result ≡ true → has_flight R.rule (after R.rule board.now m.now) ≡ true }
+    ensures { result ≡ true → has_flight R.rule (position_after R.rule board.now m.now) ≡ true }
 {
     // For the proof: a square's number is below 64.
     let _small = m.to.index();
@@ -141,7 +141,7 @@ fn is_looked_at<R: Rules>(man: Man, m: &Move, captures: bool) -> bool
 pub(crate) fn has_flight<R: Rules>(board: &Board, m: &Move) -> bool
     requires well_formed { IsWellFormed board.now }
     requires pseudo { is_pseudo_legal R.rule board.now m.now ≡ true }
-    ensures { result ≡ true → has_flight R.rule (after R.rule board.now m.now) ≡ true }
+    ensures { result ≡ true → has_flight R.rule (position_after R.rule board.now m.now) ≡ true }
 {
     let Some(man) = board.man_at(m.from) else {
         return false;

@@ -8,7 +8,7 @@ ghost use Rattle.chess_core.specs.declared.man.Man.{Man};
 ghost use Rattle.chess_core.specs.WellFormed.{IsWellFormed};
 ghost use Rattle.chess_rules.specs.Attacks.{in_check, is_paralysed};
 ghost use Rattle.chess_rules.specs.Legal.{is_pseudo_legal};
-ghost use Rattle.chess_rules.specs.Play.{after};
+ghost use Rattle.chess_rules.specs.Play.{position_after};
 ghost use Rattle.chess_rules.specs.Reaches.{reaches};
 ghost use Rattle.chess_rules.specs.ties.Sight.{AreArrived, AreOthers, is_arriving_as, is_simple, king_after, own_after};
 
@@ -120,7 +120,7 @@ fn some_free_after<R: Rules>(board: &Board, sight: Sight, man: Man, m: &Move, wo
 fn exposes_unplayed<R: Rules>(board: &Board, m: &Move) -> Option<bool>
     requires well_formed { IsWellFormed board.now }
     requires pseudo { is_pseudo_legal R.rule board.now m.now ≡ true }
-    ensures { IfSome result (λ b. b ≡ in_check R.rule (after R.rule board.now m.now).men
+    ensures { IfSome result (λ b. b ≡ in_check R.rule (position_after R.rule board.now m.now).men
         board.now.turn) }
 {
     // For the proof: a square's number is below 64.
@@ -144,7 +144,7 @@ fn exposes_unplayed<R: Rules>(board: &Board, m: &Move) -> Option<bool>
 pub(crate) fn exposes<R: Rules>(board: &mut Board, m: Move) -> bool
     requires well_formed { IsWellFormed board.old }
     requires pseudo { is_pseudo_legal R.rule board.old m ≡ true }
-    ensures answer { result ≡ in_check R.rule (after R.rule board.old m).men board.old.turn }
+    ensures answer { result ≡ in_check R.rule (position_after R.rule board.old m).men board.old.turn }
     ensures board { board.new ≡ board.old }
 {
     match exposes_unplayed::<R>(board, &m) {
@@ -157,7 +157,7 @@ pub(crate) fn exposes<R: Rules>(board: &mut Board, m: Move) -> bool
 fn exposes_played<R: Rules>(board: &mut Board, m: Move) -> bool
     requires well_formed { IsWellFormed board.old }
     requires pseudo { is_pseudo_legal R.rule board.old m ≡ true }
-    ensures answer { result ≡ in_check R.rule (after R.rule board.old m).men board.old.turn }
+    ensures answer { result ≡ in_check R.rule (position_after R.rule board.old m).men board.old.turn }
     ensures board { board.new ≡ board.old }
 {
     let mover = board.turn();

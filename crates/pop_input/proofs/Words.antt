@@ -6,7 +6,7 @@ pub use Rattle.std.proofs.lemmas.List.Folds.{list_all-append}
 pub use Rattle.std.specs.Char.{to_ascii_lowercase}
 pub use Rattle.std.specs.List.{flat_map, list_all, list_any, onto_first, repeat, slice_split, starts_with}
 pub use Rattle.std.specs.Prelude.{MatchResult, codes, nat_eq, option_map}
-pub use Rattle.chess_core.specs.Castling.{castling_squares, is_castling, with_unmoved}
+pub use Rattle.chess_core.specs.Castling.{castling_squares, is_castling_square, with_unmoved}
 unfoldable pub use Rattle.chess_core.specs.Castling.{has_unmoved, mark_unmoved, none_unmoved}
 pub use Rattle.chess_core.specs.Diagrams.{Setup, has_men}
 unfoldable pub use Rattle.chess_core.specs.Diagrams.{is_taken, is_there, position_of, stands}
@@ -26,7 +26,7 @@ pub use Rattle.pop_text.specs.Words.{Clean, Ending, Failed, Input, Long, Tail, T
 unfoldable pub use Rattle.pop_text.specs.Words.{limit}
 pub use Rattle.pop_text.specs.declared.read_fault.ReadFault.{ReadFault}
 pub use Rattle.pop_text.specs.declared.read_fault.ReadFault.TheVariants.{Device, TooLong}
-pub use Rattle.pop_text.specs.ties.Left.{GoesOn, IsOver, MayFollow, RestOfLine, Spot, Takes, TakesNone, TakesWord, after, among, behind_word, no_words, put_before, words_left}
+pub use Rattle.pop_text.specs.ties.Left.{GoesOn, IsOver, MayFollow, RestOfLine, Spot, Takes, TakesNone, TakesWord, among, behind_word, no_words, onto_input, put_before, words_left}
 pub use Rattle.pop_text.specs.ties.Plain.{Skips, is_named, is_plain}
 pub use Rattle.pop_text.specs.ties.Reading.{Asks, Reading, Uses, UsesAll}
 pub use Rattle.pop_text.specs.ties.Runs.{IsRunOver, Peeks, Sticks, UsesLine, UsesRun, UsesWord}

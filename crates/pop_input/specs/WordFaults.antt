@@ -4,7 +4,7 @@ use Rattle.pop_input.specs.declared.fault_kind.FaultKind.TheVariants.{BeginProbl
 use Rattle.std.specs.Prelude.{ℕ, List, [], ◌∷◌, length, nat_le, nat_lt, not, ◌&&◌, ◌||◌, Bool, if◌then◌else◌, Option, Some, None, is_some}
 use Rattle.std.specs.Prelude.{◌==◌}
 use Rattle.std.specs.List.{list_any, list_all}
-use Rattle.chess_core.specs.Castling.{is_castling}
+use Rattle.chess_core.specs.Castling.{is_castling_square}
 use Rattle.chess_core.specs.Diagrams.{stands}
 use Rattle.chess_core.specs.Position.{man_on, same_kind, with_man}
 use Rattle.chess_core.specs.WellFormed.{is_pawn_inside}
@@ -32,7 +32,7 @@ fault_if holds kind = if holds then Some kind else None
 -- of a word of NoCastling: no squares, or one from which none castles
 abbrev pub barred_fault : Option (List ℕ) → Option FaultKind
 barred_fault None = Some SquareMissing
-barred_fault (Some squares) = fault_if (not (list_all is_castling squares)) NoneCastlesThere
+barred_fault (Some squares) = fault_if (not (list_all is_castling_square squares)) NoneCastlesThere
 
 -- of a command: BeginProblem stands before the first problem alone
 abbrev pub control_fault : Command → Option FaultKind

@@ -15,7 +15,7 @@ use pop_text::word::Word;
 
 /// What comes next in the input. The numbers are those of lines, counted from 1.
 #[derive(Clone, Copy, PartialEq, Eq)]
-pub enum Token {
+pub enum ReadToken {
     /// A word.
     Word,
     /// A word of more than 160 bytes.
@@ -46,17 +46,17 @@ pub(crate) fn next_token<S: Source>(
         (S.remaining source.new) (S.failures source.old) (S.failures source.new) }
 {
     match scanner.read_word(source, word) {
-        Ok(Found::Nothing) => Token::Ended(scanner.line()),
-        Err(ReadFault::TooLong(line)) => Token::TooLong(line),
-        Err(fault) => Token::Cut(fault),
+        Ok(Found::Nothing) => ReadToken::Ended(scanner.line()),
+        Err(ReadFault::TooLong(line)) => ReadToken::TooLong(line),
+        Err(fault) => ReadToken::Cut(fault),
         Ok(Found::Word) => match text_word_of(word.bytes.as_slice()) {
-            None => Token::Word,
+            None => ReadToken::Word,
             Some(keyword) => match scanner.rest_of_line(source) {
                 Ok(line) => {
                     *text = line;
-                    Token::Line(keyword)
+                    ReadToken::Line(keyword)
                 }
-                Err(fault) => Token::Cut(fault),
+                Err(fault) => ReadToken::Cut(fault),
             },
         },
     }

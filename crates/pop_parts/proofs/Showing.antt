@@ -9,7 +9,7 @@ use Rattle.pop_text.specs.declared.scanner.End.TheVariants.{Open}
 use Rattle.pop_text.specs.ties.Reading.{IsSeen, failures_after}
 use Rattle.pop_input.specs.Blocks.{Entry, Sound, Faulty}
 use Rattle.pop_input.specs.declared.item.Item.{Item}
-use Rattle.pop_input.specs.ties.Standing.{NextItem, Reads, Standing, start as before_all}
+use Rattle.pop_input.specs.ties.Standing.{NextItem, Reads, Standing, first_standing}
 use Rattle.pop_run.proofs.Meeting.{is_broken}
 use Rattle.pop_run.proofs.Running.{any_more, grew_broken, reads_then}
 use Rattle.pop_run.specs.Report.{entries_in, tells_failure}
@@ -25,12 +25,12 @@ use Rattle.pop_parts.specs.ties.Items.{entry_in, is_failure}
 -- From the beginning to now these items were read, none of which is the one with the number, and some of which tell of a failed device or not.
 pub record Passed (wanted : ℕ) (now : Standing) (number : ℕ) (failed : Bool) (had left : Option (List ℕ)) : Type 0 where
   pub items : List Entry
-  pub reads : Reads before_all now had left items
+  pub reads : Reads first_standing now had left items
   pub number_is : number ≡ 1 + length items
   pub failed_is : failed ≡ list_any tells_failure items
   pub early : 0 < wanted → number ≤ wanted
 
-pub passed_start : (wanted : ℕ) (had : Option (List ℕ)) → Passed wanted before_all 1 false had had
+pub passed_start : (wanted : ℕ) (had : Option (List ℕ)) → Passed wanted first_standing 1 false had had
 passed_start wanted had = record {
   items = [];
   reads = record { bytes = []; taken = grind arith; follows = λ rest may. may; begin = λ rest may. refl; amount = refl };
@@ -45,7 +45,7 @@ pub passed_step : (wanted : ℕ) (old new : Standing) (number : ℕ) (failed : B
     → Passed wanted new (number + 1) (failed || is_failure (entry_in item)) had left
 passed_step wanted old new number failed had mid left item entry p q is another = rw is (record {
   items = p.items ++ entry ∷ [];
-  reads = reads_then before_all old new had mid left p.items (entry ∷ []) p.reads (item_read old new mid left item entry q is);
+  reads = reads_then first_standing old new had mid left p.items (entry ∷ []) p.reads (item_read old new mid left item entry q is);
   number_is = ap (λ n. n + 1) p.number_is ∙ omega (arith, length-append p.items (entry ∷ []));
   failed_is = ap (λ b. b || tells_failure entry) p.failed_is ∙ sym (any_more tells_failure p.items entry);
   early = λ some. let so_far = p.early some in omega (arith, so_far, another);
@@ -85,7 +85,7 @@ module _ (asked : Asked) (old new : Standing) (number : ℕ) (failed : Bool) (mi
   -- the item stands in the input at its number
   entry_met : entry_numbered (entries_in (input_met (is_broken new.at.end) r left)) asked.item ≡ Some entry
   entry_met =
-      let all = reads_then before_all old new (Some r) mid left p.items (entry ∷ []) p.reads (item_read old new mid left item entry q is) in
+      let all = reads_then first_standing old new (Some r) mid left p.items (entry ∷ []) p.reads (item_read old new mid left item entry q is) in
       let behind = items_met new left r (p.items ++ entry ∷ []) all seen in
       ap (λ entries. entry_numbered entries asked.item) behind.1 ∙ found_there p.items entry behind.0 asked.item (sym p.number_is ∙ one)
 

@@ -1,5 +1,5 @@
 -- How far a run reads.
-use Rattle.pop_run.proofs.Basics.{Entry, Input, IsSeen, List, MayFollow, None, Option, Reads, Some, Standing, Words, [], after, ap, append-nil, append_assoc, append_cancel_right, arith, count_by, drop, false, inl, input_met, is_line_end, length, limit, not, refl, sym, take, taken_of, true, words_of, ℕ, ◌++◌, ◌+◌, ◌∙◌, ◌∷◌, ◌≡◌, ◌≤◌}
+use Rattle.pop_run.proofs.Basics.{Entry, Input, IsSeen, List, MayFollow, None, Option, Reads, Some, Standing, Words, [], ap, append-nil, append_assoc, append_cancel_right, arith, count_by, drop, false, inl, input_met, is_line_end, length, limit, not, onto_input, refl, sym, take, taken_of, true, words_of, ℕ, ◌++◌, ◌+◌, ◌∙◌, ◌∷◌, ◌≡◌, ◌≤◌}
 use Rattle.std.proofs.Common.{inr, ◌⊎◌}
 use Rattle.std.proofs.Math.Seq.{drop-append_seam, take-append_seam}
 use Rattle.std.proofs.lemmas.List.{take_all}
@@ -19,7 +19,7 @@ use Rattle.pop_input.specs.declared.names.Command.{Command}
 use Rattle.pop_input.specs.declared.reader.Next.{Next}
 use Rattle.pop_input.specs.declared.reader.Next.TheVariants.{Nothing}
 use Rattle.pop_input.specs.ties.Closings.{last_of}
-use Rattle.pop_input.specs.ties.Standing.{next_behind, start as before_all}
+use Rattle.pop_input.specs.ties.Standing.{first_standing, next_behind}
 use Rattle.pop_input.specs.ties.Used.{IsClosed, IsInputOver, IsUnclosed, UsesEntry, UsesTokens}
 use Rattle.pop_run.proofs.Meeting.{is_broken, met_after, taken_front}
 use Rattle.pop_run.specs.Run.{EndsWithInput, EndsWithItem, ReadsUpTo, goes_on, is_no_end, words_behind}
@@ -73,7 +73,7 @@ pub record Reached (now : Standing) (had left : Option (List ℕ)) : Type 0 wher
   pub goes : ends now.next ≡ false → list_all goes_on tokens ≡ true
   pub stops : ends now.next ≡ true → Stops now.at bytes tokens
 
-pub reached_start : (had : Option (List ℕ)) → Reached before_all had had
+pub reached_start : (had : Option (List ℕ)) → Reached first_standing had had
 reached_start had = record {
   bytes = [];
   tokens = [];
@@ -164,7 +164,7 @@ module _ (place : Reading) (taken bytes : List ℕ) (rest : Input) (unread : tak
   whole = grind (arith, append_assoc)
 
   behind_is : place.used ≡ 0 + length bytes → place.line ≡ 1 + count_by is_line_end bytes
-      → words_left None place rest ≡ words_behind bytes (after taken rest)
+      → words_left None place rest ≡ words_behind bytes (onto_input taken rest)
   behind_is used line =
       let size : place.used ≡ length bytes = omega (arith, used) in
       let back : drop (length bytes) (taken ++ rest.bytes) ≡ place.window ++ rest.bytes = rw whole (drop-append_seam bytes (place.window ++ rest.bytes)) in
@@ -190,15 +190,15 @@ module _ (new : Standing) (r ys : List ℕ) (s : Stopped new (Some r) (Some ys))
   same_taken = append_cancel_right s.used.takes.bytes taken ys (sym s.used.takes.taken ∙ s.used.uses.consumed)
 
   words_are : (rest : Input) → MayFollow new.at.end rest
-      → (words_of (after taken rest)).tokens ≡ s.tokens ++ (words_behind s.bytes (after taken rest)).tokens
+      → (words_of (onto_input taken rest)).tokens ≡ s.tokens ++ (words_behind s.bytes (onto_input taken rest)).tokens
   words_are rest may =
       let begin = s.used.takes.begin rest may in
       let behind = behind_is new.at taken s.bytes rest s.used.uses.unread s.used.uses.used s.used.uses.line in
-      let first = at_beginning (after taken rest) in
-      ap (λ (w : Words). w.tokens) (sym first ∙ ap (λ bytes. words_left None beginning (after bytes rest)) (sym same_taken) ∙ begin)
+      let first = at_beginning (onto_input taken rest) in
+      ap (λ (w : Words). w.tokens) (sym first ∙ ap (λ bytes. words_left None beginning (onto_input bytes rest)) (sym same_taken) ∙ begin)
       ∙ ap (λ (w : Words). s.tokens ++ w.tokens) behind
 
-  stops_are : (rest : Input) → MayFollow new.at.end rest → EndsWithItem s.bytes s.tokens ⊎ EndsWithInput (after taken rest) s.bytes s.tokens
+  stops_are : (rest : Input) → MayFollow new.at.end rest → EndsWithItem s.bytes s.tokens ⊎ EndsWithInput (onto_input taken rest) s.bytes s.tokens
   stops_are rest may = elim s.stops [
     | inl item ↦ inl item
     | inr over ↦ inr (record { all = all_used new.at taken s.bytes rest s.used.uses.unread s.used.uses.used over.1 may; none = over.0 })

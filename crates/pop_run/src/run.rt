@@ -6,7 +6,7 @@ ghost use Rattle.pop_run.specs.Run.{FailsOnce, ReadsUpTo, Runs, grew, input_met,
 
 use crate::session::Session;
 use crate::settings::Settings;
-use crate::status::{Status, Step};
+use crate::status::{Status, StepOutcome};
 use pop_text::sink::Sink;
 use pop_text::source::Source;
 
@@ -34,8 +34,8 @@ pub fn run<S: Source, W: Sink>(settings: &Settings, source: &mut S, sink: &mut W
     let mut session = Session::new(settings);
     'items: loop {
         match session.step(source, sink) {
-            Ok(Step::Problem { sound: _sound }) => {}
-            Ok(Step::Finished(status)) => return status,
+            Ok(StepOutcome::Problem { sound: _sound }) => {}
+            Ok(StepOutcome::Finished(status)) => return status,
             Err(_) => return Status::OutputFailed,
         }
     }

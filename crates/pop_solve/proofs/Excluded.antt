@@ -2,7 +2,7 @@
 -- mates passed over, and counts of events and frames that begin or grow otherwise.
 use Rattle.pop_solve.proofs.Words.{ArrayVec, BareEvent, Barred, Before, Bool, Event, Frame, Gives, GoesTo, IsGiven, IsOpened, Line, List, Node, None, Phase, Plan, Posed, Position, RuleSet, Shown, Some, Total, Triple, Within, [], ap, arith, eqb, event_of, false, filter, filter-append, first_phase, is_help, is_mating, is_walked_once, keep, left_of, length, map, min, moves_behind, path_event, phase_paths, refl, rest_open, slice_get, total, true, ℕ, ◌++◌, ◌+◌, ◌-◌, ◌^◌, ◌∷◌, ◌≡◌}
 use Rattle.chess_core.specs.MoveOrder.{triple_number}
-use Rattle.pop_solve.specs.Parts.{begins_so, is_front, part_numbered, parts}
+use Rattle.pop_solve.specs.Parts.{begins_path, begins_so, part_numbered, parts}
 
 module _ (rule : RuleSet) (problem : Posed) (old new : List BareEvent) (board : Position) where
   -- no line is given with no frame in use, as after all moves were taken back
@@ -81,10 +81,10 @@ module _ (rule : RuleSet) (problem : Posed) (phase : Phase) (depth : ℕ) where
 -- a solution that begins with another move than the part's first isn't the part's
 pub no_other_first_move : (m n : Triple) (front path : List Triple) (paths : List (List Triple)) → eqb (triple_number m) (triple_number n) ≡ false
     → begins_so (m ∷ front) ((n ∷ path) ∷ paths) ≡ false
-unfolding is_front
+unfolding begins_path
 no_other_first_move m n front path paths other = rw other refl
 
 -- nor one that is shorter than the part's moves
 pub no_shorter_path : (m : Triple) (front : List Triple) (paths : List (List Triple)) → begins_so (m ∷ front) ([] ∷ paths) ≡ false
-unfolding is_front
+unfolding begins_path
 no_shorter_path m front paths = refl

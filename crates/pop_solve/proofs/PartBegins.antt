@@ -1,7 +1,7 @@
 -- How a part begins: behind its first moves stand its solutions.
 use Rattle.pop_solve.proofs.Words.{AreKnown, BareEvent, Bool, Counts, Frame, Game, GoesTo, IsCounted, IsLinked, IsRoomy, IsSound, IsWalking, List, Mate, Phase, Plan, Posed, Position, RuleSet, Triple, [], after_well_formed, ap, append-nil, arith, eqb, false, follows, get_or, gives, goes_on, inl, inr, is_for_mate, is_help, is_mate, is_legal, length, length-append, length-reverse, map, min, moves_behind, nat_tests, path, phase_half_moves, phase_paths, phase_start, plan_of, position, is_pseudo_legal-from_legal, path_end, refl, reverse, rules, seeks_last, shown_paths, suc, sym, take, to_come, to_open, true, undo_of, walk_count, ℕ, ◌++◌, ◌+◌, ◌-◌, ◌<◌, ◌^◌, ◌∙◌, ◌∷◌, ◌≡◌, ◌≤◌}
 use Rattle.chess_rules.specs.Legal.{moves as legal_moves}
-use Rattle.chess_rules.specs.Play.{after as played}
+use Rattle.chess_rules.specs.Play.{position_after}
 use Rattle.pop_solve.proofs.Boards.{behind_start, for_mate}
 use Rattle.pop_solve.proofs.GoingOn.{cases, ended-reached, follows-help, goes_on-help, goes_on-most}
 use Rattle.pop_solve.proofs.Outcomes.{counted_by}
@@ -32,11 +32,11 @@ front-more frames k f at some less = ap path (popped _ _ f (cut-at frames (k + 1
 
 -- the moves to a walk's top frame are legal
 module _ (rule : RuleSet) where
-  is_legal-more : (p : Position) (xs : List Triple) (m : Triple) → are_legal rule p xs ≡ true → is_legal rule (path_end (played rule) p xs) m ≡ true
+  is_legal-more : (p : Position) (xs : List Triple) (m : Triple) → are_legal rule p xs ≡ true → is_legal rule (path_end (position_after rule) p xs) m ≡ true
       → are_legal rule p (xs ++ m ∷ []) ≡ true
   unfolding are_legal
   is_legal-more p [] m a l = search rules
-  is_legal-more p (x ∷ xs) m a l = search (rules, is_legal-more (played rule p x) xs m)
+  is_legal-more p (x ∷ xs) m a l = search (rules, is_legal-more (position_after rule p x) xs m)
 
   is_legal-path : (p : Position) (frames : List Frame) → IsLinked rule p frames → are_legal rule p (path frames) ≡ true
   unfolding IsLinked path are_legal
@@ -103,7 +103,7 @@ at-root n some = grind (arith, nat_tests)
 
 walking-opened : (rule : RuleSet) (h : ℕ) (p : Position) (frames : List Frame) (board : Position) (m : Triple) (tried : ℕ) → 0 < length frames
     → IsWalking rule h p frames board → is_legal rule board m ≡ true → tried + length frames ≤ h
-    → IsWalking rule h p (opened_frame m (undo_of rule board m) tried ∷ frames) (played rule board m)
+    → IsWalking rule h p (opened_frame m (undo_of rule board m) tried ∷ frames) (position_after rule board m)
 unfolding IsLinked IsRoomy AreKnown position
 walking-opened rule h p [] board m tried some r lawful room = absurd (omega (arith, some))
 walking-opened rule h p (f ∷ below) board m tried some r lawful room =
@@ -139,7 +139,7 @@ module _ (rule : RuleSet) (problem : Posed) (sound : IsSound problem) (phase : P
   left = h - n
 
   abbrev q : Position
-  q = played rule board m
+  q = position_after rule board m
 
   abbrev root : Bool
   root = eqb n 1
@@ -151,7 +151,7 @@ module _ (rule : RuleSet) (problem : Posed) (sound : IsSound problem) (phase : P
   abbrev come : List (List Triple)
   come = map (λ line. path old ++ line) (shown_paths plan game root (suc left) (suc left) board (m ∷ []))
 
-  board-at : board ≡ path_end (played rule) p (path old)
+  board-at : board ≡ path_end (position_after rule) p (path old)
   board-at = s.walking.board_at ∙ path_end-path problem.stipulation.goal rule p old
 
   come-cut : IsCutInto (is_help problem.stipulation.form) problem.max_solutions come (part_solutions rule problem phase front)
@@ -175,7 +175,7 @@ module _ (rule : RuleSet) (problem : Posed) (sound : IsSound problem) (phase : P
       let all : problem.max_solutions - 0 ≡ problem.max_solutions = omega arith in
       record { walking = walking; most = omega (arith, none); counts = rw (none, e, all, none-before) come-cut.begun }
 
-  walk-is : part_walk rule problem phase front ≡ walk_count (legal_moves rule) (played rule) left q
+  walk-is : part_walk rule problem phase front ≡ walk_count (legal_moves rule) (position_after rule) left q
   walk-is =
       let length-is : h - length front ≡ left = omega (arith, length-append (path old) (m ∷ []), path-length old, size, some) in
       rw (length-is, path_end-append problem.stipulation.goal rule p (path old) m, ← board-at) refl
@@ -236,7 +236,7 @@ module _ (rule : RuleSet) (problem : Posed) (sound : IsSound problem) (phase : P
   opens-entered : (opened : ℕ) → Counts rule plan root left q 0 opened → IsPartOpened rule problem phase front entered opened
   unfolding to_open
   opens-entered opened c help full =
-      let start : IsCounted (walk_count (legal_moves rule) (played rule) left q) 0 (walk_count (legal_moves rule) (played rule) left q) =
+      let start : IsCounted (walk_count (legal_moves rule) (position_after rule) left q) 0 (walk_count (legal_moves rule) (position_after rule) left q) =
       record { within = omega arith; counts = omega arith } in
       rw (
         walk-is,

@@ -7,7 +7,7 @@ use Rattle.chess_rules.proofs.listing_moves.Members.{pairs_first, pairs_later}
 use Rattle.pop_solve.proofs.Kept.{map-same}
 use Rattle.pop_solve.proofs.theorems.Lists.{IsPlayable, StandsBefore}
 use Rattle.pop_solve.proofs.Trees.{flat-same}
-use Rattle.pop_solve.specs.Parts.{beginnings, begins_so, is_front}
+use Rattle.pop_solve.specs.Parts.{beginnings, begins_path, begins_so}
 
 -- lists joined
 module _ {A B : Type 0} where
@@ -58,8 +58,8 @@ module _ {B : Type 0} (F : Triple → List B) (m : Triple) (apart : (x : Triple)
 
 -- a line behind a first move begins as a part does where that move is the part's first and the rest begins as the part goes on
 pub fronts-under : (m : Triple) (front : List Triple) (x : Triple) (b : Bool) → eqb (triple_number m) (triple_number x) ≡ b → (lines : List (List Triple))
-    → filter (is_front (m ∷ front)) (map (λ line. x ∷ line) lines) ≡ cond b (map (λ line. x ∷ line) (filter (is_front front) lines)) []
-unfolding is_front
+    → filter (begins_path (m ∷ front)) (map (λ line. x ∷ line) lines) ≡ cond b (map (λ line. x ∷ line) (filter (begins_path front) lines)) []
+unfolding begins_path
 fronts-under m front x true e [] = refl
 fronts-under m front x false e [] = refl
 fronts-under m front x true e (line ∷ lines) = search (rules, fronts-under m front x true e lines)
@@ -68,8 +68,8 @@ fronts-under m front x false e (line ∷ lines) = search (rules, fronts-under m 
 pub same-number : (m : Triple) → eqb (triple_number m) (triple_number m) ≡ true
 same-number m = grind (arith, nat_tests)
 
-pub front-all : (lines : List (List Triple)) → filter (is_front []) lines ≡ lines
-unfolding is_front
+pub front-all : (lines : List (List Triple)) → filter (begins_path []) lines ≡ lines
+unfolding begins_path
 front-all [] = refl
 front-all (line ∷ lines) = ap (λ ls. line ∷ ls) (front-all lines)
 
@@ -126,7 +126,7 @@ module _ (game : Game Position Triple) where
 module _ (game : Game Position Triple) (order : (p : Position) → AllPairs Precedes (game.moves p)) where
   -- the lines of help play that begin with moves that can be played
   pub front-lines : (h : ℕ) (p : Position) (front : List Triple) → IsPlayable game p front → length front ≤ h
-      → filter (is_front front) (lines_to_goal game h p)
+      → filter (begins_path front) (lines_to_goal game h p)
       ≡ map (λ line. front ++ line) (lines_to_goal game (h - length front) (path_end game.after p front))
   unfolding lines_to_goal
   front-lines h p [] are most =
@@ -136,8 +136,8 @@ module _ (game : Game Position Triple) (order : (p : Position) → AllPairs Prec
       let G : Triple → List (List Triple) = λ x. map (λ line. x ∷ line) (lines_to_goal game h (game.after p x)) in
       let e : suc h - length (m ∷ front) ≡ h - length front = omega arith in
       let rest = front-lines h (game.after p m) front are.1 (omega (arith, most)) in
-      rw e (filter-flat (is_front (m ∷ front)) G (game.moves p)
-      ∙ one-of (λ x. filter (is_front (m ∷ front)) (G x)) m (λ x f. fronts-under m front x false f (lines_to_goal game h (game.after p x))) (game.moves p)
+      rw e (filter-flat (begins_path (m ∷ front)) G (game.moves p)
+      ∙ one-of (λ x. filter (begins_path (m ∷ front)) (G x)) m (λ x f. fronts-under m front x false f (lines_to_goal game h (game.after p x))) (game.moves p)
       (order p) are.0
       ∙ fronts-under m front m true (same-number m) (lines_to_goal game h (game.after p m))
       ∙ ap (map (λ line. m ∷ line)) rest
@@ -160,12 +160,12 @@ module _ (game : Game Position Triple) (order : (p : Position) → AllPairs Prec
 
   -- of the beginnings a line that can be played begins with one alone
   pub beginnings-one : (d : ℕ) (p : Position) (line : List Triple) → IsPlayable game p line → d ≤ length line
-      → filter (λ front. is_front front line) (beginnings game d p) ≡ take d line ∷ []
-  unfolding beginnings is_front
+      → filter (λ front. begins_path front line) (beginnings game d p) ≡ take d line ∷ []
+  unfolding beginnings begins_path
   beginnings-one zero p line are most = refl
   beginnings-one (suc d) p [] are most = absurd (omega (arith, most))
   beginnings-one (suc d) p (x ∷ line) are most =
-      let T : List Triple → Bool = λ front. is_front front (x ∷ line) in
+      let T : List Triple → Bool = λ front. begins_path front (x ∷ line) in
       let F : Triple → List (List Triple) = λ m. map (λ rest. m ∷ rest) (beginnings game d (game.after p m)) in
       filter-flat T F (game.moves p)
       ∙ one-of (λ m. filter T (F m)) x (λ m e. filter-map T (λ rest. m ∷ rest) (beginnings game d (game.after p m)) ∙ none m (grind (arith, nat_tests))
@@ -174,18 +174,18 @@ module _ (game : Game Position Triple) (order : (p : Position) → AllPairs Prec
       ∙ ap (map (λ rest. x ∷ rest)) (here (beginnings game d (game.after p x)) ∙ beginnings-one d (game.after p x) line are.1 (omega (arith, most)))
     where
       none : (m : Triple) → eqb (triple_number m) (triple_number x) ≡ false → (rests : List (List Triple))
-          → map (λ rest. m ∷ rest) (filter (λ rest. eqb (triple_number m) (triple_number x) && is_front rest line) rests) ≡ []
+          → map (λ rest. m ∷ rest) (filter (λ rest. eqb (triple_number m) (triple_number x) && begins_path rest line) rests) ≡ []
       none m e [] = refl
       none m e (r ∷ rests) = search (rules, none m e rests)
 
       here : (rests : List (List Triple))
-          → filter (λ rest. eqb (triple_number x) (triple_number x) && is_front rest line) rests ≡ filter (λ rest. is_front rest line) rests
+          → filter (λ rest. eqb (triple_number x) (triple_number x) && begins_path rest line) rests ≡ filter (λ rest. begins_path rest line) rests
       here rests = rw (same-number x) refl
 
 -- solutions of battle play: those of one move of the root
 pub root-part : (other : Triple → Bool) (G : Triple → List (List Triple)) (m : Triple) (ms : List Triple) → AllPairs Precedes ms → Contains ms m
     → filter (begins_so (m ∷ [])) (map (λ x. (x ∷ []) ∷ G x) (filter other ms)) ≡ map (λ x. (x ∷ []) ∷ G x) (filter other (m ∷ []))
-unfolding is_front
+unfolding begins_path
 root-part other G m ms order c =
     let N : Triple → List (List (List Triple)) = λ x. cond (other x) (((x ∷ []) ∷ G x) ∷ []) [] in
     let T : List (List Triple) → Bool = begins_so (m ∷ []) in

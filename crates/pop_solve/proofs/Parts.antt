@@ -2,7 +2,7 @@
 use Rattle.pop_solve.proofs.Words.{Bool, Contains, IsSound, IsWellFormed, List, Phase, Play, Posed, Position, RuleSet, Set, Triple, [], after_well_formed, and_parts, ap, append-nil, append_assoc, arith, chess, eqb, false, filter, help_lines, is_help, is_legal, length, length-append, lines_to_goal, map, moves_are_the_legal_moves, moves_in_order, phase_half_moves, phase_start, plan_of, is_pseudo_legal-from_legal, path_end, refl, set_tree, shown_paths, solutions, subst, suc, sym, tree, true, zero, ℕ, ◌++◌, ◌+◌, ◌-◌, ◌∙◌, ◌∷◌, ◌≡◌, ◌≤◌}
 use Rattle.std.proofs.lemmas.Simd.{map-map}
 use Rattle.chess_rules.specs.Legal.{moves as legal_moves}
-use Rattle.chess_rules.specs.Play.{after as played}
+use Rattle.chess_rules.specs.Play.{position_after}
 use Rattle.pop_solve.proofs.Kept.{map-same}
 use Rattle.pop_solve.proofs.PartLists.{front-lines, filter-map, map-each, root-part}
 use Rattle.pop_solve.proofs.Paths.{path_end-append}
@@ -11,7 +11,7 @@ use Rattle.pop_solve.proofs.Solved.{IsCutInto, halves-form, lines-begun, lines-k
 use Rattle.pop_solve.proofs.Sound.{start_sound}
 use Rattle.pop_solve.proofs.Trees.{shown_paths-moves}
 use Rattle.pop_solve.proofs.theorems.Lists.{IsPlayable}
-use Rattle.pop_solve.specs.Parts.{begins_so, is_front, part_solutions}
+use Rattle.pop_solve.specs.Parts.{begins_path, begins_so, part_solutions}
 use Rattle.pop_solve.specs.ties.PartsSeen.{are_legal}
 
 module _ (rule : RuleSet) (problem : Posed) where
@@ -20,19 +20,19 @@ module _ (rule : RuleSet) (problem : Posed) where
   unfolding are_legal
   is_legal-playable p well [] may = tt
   is_legal-playable p well (m ∷ ms) may =
-      let w = and_parts (is_legal rule p m) (are_legal rule (played rule p m) ms) may in (
+      let w = and_parts (is_legal rule p m) (are_legal rule (position_after rule p m) ms) may in (
         (moves_are_the_legal_moves rule p m well).1 w.0,
-        is_legal-playable (played rule p m) (after_well_formed rule p m well (is_pseudo_legal-from_legal rule p m w.0)) ms w.1,
+        is_legal-playable (position_after rule p m) (after_well_formed rule p m well (is_pseudo_legal-from_legal rule p m w.0)) ms w.1,
       )
 
   -- help play: the lines that go on behind some moves
   abbrev pub lines-behind : Phase → List Triple → List (List Triple)
   lines-behind phase front = map (λ line. front ++ line) (lines_to_goal (game_of rule problem) (phase_half_moves problem phase - length front)
-      (path_end (played rule) (phase_start problem phase) front))
+      (path_end (position_after rule) (phase_start problem phase) front))
 
   each-alone : (h : ℕ) (p : Position) (front : List Triple) → 1 ≤ h
       → filter (begins_so front) (map (λ path. path ∷ []) (help_lines (game_of rule problem) h p))
-      ≡ map (λ path. path ∷ []) (filter (is_front front) (lines_to_goal (game_of rule problem) h p))
+      ≡ map (λ path. path ∷ []) (filter (begins_path front) (lines_to_goal (game_of rule problem) h p))
   unfolding help_lines
   each-alone zero p front some = absurd (omega (arith, some))
   each-alone (suc h) p front some = filter-map (begins_so front) (λ path. path ∷ []) (lines_to_goal (game_of rule problem) (suc h) p)
@@ -72,15 +72,16 @@ module _ (rule : RuleSet) (problem : Posed) where
   -- what the walk shows behind some moves in help play
   walked : is_help problem.stipulation.form ≡ true → (start : Bool) (h : ℕ) (p : Position) (front : List Triple) (m : Triple) → length front + 1 ≤ h
       → map (λ line. front ++ line) (shown_paths (plan_of problem) (game_of rule problem) start (h - length front) (h - length front)
-      (path_end (played rule) p front) (m ∷ []))
+      (path_end (position_after rule) p front) (m ∷ []))
       ≡ map (λ line. (front ++ m ∷ []) ++ line) (lines_to_goal (game_of rule problem) (h - length (front ++ m ∷ []))
-      (path_end (played rule) p (front ++ m ∷ [])))
+      (path_end (position_after rule) p (front ++ m ∷ [])))
   walked help start h p front m room =
       let k : ℕ = h - length (front ++ m ∷ []) in
       let e : h - length front ≡ suc k = omega (arith, length-append front (m ∷ []), room) in
-      let L : List (List Triple) = lines_to_goal (game_of rule problem) k (played rule (path_end (played rule) p front) m) in
+      let L : List (List Triple) = lines_to_goal (game_of rule problem) k (position_after rule (path_end (position_after rule) p front) m) in
       rw (e, path_end-append problem.stipulation.goal rule p front m)
-      (ap (map (λ line. front ++ line)) (shown_paths-moves (game_of rule problem) (plan_of problem) help start k (path_end (played rule) p front) (m ∷ [])
+      (ap (map (λ line. front ++ line)) (shown_paths-moves (game_of rule problem) (plan_of problem) help start k (path_end (position_after rule) p front)
+      (m ∷ [])
       ∙ append-nil (map (λ line. m ∷ line) L))
       ∙ map-map (λ line. front ++ line) (λ line. m ∷ line) L
       ∙ map-each _ _ L (λ line. sym (append_assoc front (m ∷ []) line)))
@@ -90,7 +91,7 @@ module _ (rule : RuleSet) (problem : Posed) where
       → IsCutInto true problem.max_solutions
       (map (λ line. front ++ line) (shown_paths (plan_of problem) (game_of rule problem) start
       (phase_half_moves problem phase - length front) (phase_half_moves problem phase - length front)
-      (path_end (played rule) (phase_start problem phase) front) (m ∷ [])))
+      (path_end (position_after rule) (phase_start problem phase) front) (m ∷ [])))
       (part_solutions rule problem phase (front ++ m ∷ []))
   help-cut help sound phase front m room may start =
       let most : length (front ++ m ∷ []) ≤ phase_half_moves problem phase = omega (arith, length-append front (m ∷ []), room) in
@@ -144,7 +145,7 @@ pub part_cut : (rule : RuleSet) (problem : Posed) (sound : IsSound problem) (pha
     → IsCutInto (is_help problem.stipulation.form) problem.max_solutions
     (map (λ line. front ++ line) (shown_paths (plan_of problem) (chess problem.stipulation.goal rule) (eqb (length front) 0)
     (phase_half_moves problem phase - length front) (phase_half_moves problem phase - length front)
-    (path_end (played rule) (phase_start problem phase) front) (m ∷ [])))
+    (path_end (position_after rule) (phase_start problem phase) front) (m ∷ [])))
     (part_solutions rule problem phase (front ++ m ∷ []))
 part_cut rule problem sound phase front m room alone may = by_form (is_help problem.stipulation.form) refl
   where
@@ -152,7 +153,7 @@ part_cut rule problem sound phase front m room alone may = by_form (is_help prob
         → IsCutInto b problem.max_solutions
         (map (λ line. front ++ line) (shown_paths (plan_of problem) (chess problem.stipulation.goal rule) (eqb (length front) 0)
         (phase_half_moves problem phase - length front) (phase_half_moves problem phase - length front)
-        (path_end (played rule) (phase_start problem phase) front) (m ∷ [])))
+        (path_end (position_after rule) (phase_start problem phase) front) (m ∷ [])))
         (part_solutions rule problem phase (front ++ m ∷ []))
     by_form true help = help-cut rule problem help sound phase front m room may (eqb (length front) 0)
     by_form false battle =
@@ -161,6 +162,6 @@ part_cut rule problem sound phase front m room alone may = by_form (is_help prob
         → IsCutInto false problem.max_solutions
         (map (λ line. front ++ line) (shown_paths (plan_of problem) (chess problem.stipulation.goal rule) (eqb (length front) 0)
         (phase_half_moves problem phase - length front) (phase_half_moves problem phase - length front)
-        (path_end (played rule) (phase_start problem phase) front) (m ∷ [])))
+        (path_end (position_after rule) (phase_start problem phase) front) (m ∷ [])))
         (part_solutions rule problem phase (front ++ m ∷ [])) in
         subst Cut (sym (alone battle)) (battle-cut rule problem battle sound phase m) room may

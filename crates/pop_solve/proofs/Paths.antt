@@ -1,6 +1,6 @@
 -- The path to the top frame, and what is shown of it.
 use Rattle.pop_solve.proofs.Words.{CameFrom, CameFromAt, Frame, Goal, IsEnded, IsLinked, IsWalking, List, Plan, Position, RuleSet, Triple, [], ap, arith, chess, cond, drop, ends_variation, get_or, is_legal, length, length-append, length-reverse, length-take, path, path_end, position, refl, reverse, reverse-append, rules, show, shown_along, shown_last, subst, sym, take, take-append-drop, take_all, take_more, true, ℕ, ◌++◌, ◌+◌, ◌-◌, ◌<◌, ◌∙◌, ◌∷◌, ◌≡◌, ◌≤◌}
-use Rattle.chess_rules.specs.Play.{after as played}
+use Rattle.chess_rules.specs.Play.{position_after}
 use Rattle.pop_solve.proofs.Outcomes.{CameFrom-deep, walking-close}
 use Rattle.pop_solve.specs.declared.chess.Reached.{Reached}
 use Rattle.pop_solve.specs.declared.chess.Reached.TheVariants.{Perhaps, Surely}
@@ -22,22 +22,23 @@ unfolding path
 path-more f fs some = search rules
 
 module _ (goal : Goal) (rule : RuleSet) where
-  pub path_end-append : (p : Position) (xs : List Triple) (m : Triple) → path_end (played rule) p (xs ++ m ∷ []) ≡ played rule (path_end (played rule) p xs) m
+  pub path_end-append : (p : Position) (xs : List Triple) (m : Triple) → path_end (position_after rule) p (xs ++ m ∷ [])
+      ≡ position_after rule (path_end (position_after rule) p xs) m
   path_end-append p [] m = refl
-  path_end-append p (x ∷ xs) m = path_end-append (played rule p x) xs m
+  path_end-append p (x ∷ xs) m = path_end-append (position_after rule p x) xs m
 
   along-append : (p : Position) (xs : List Triple) (m : Triple)
-      → shown_along goal rule p (xs ++ m ∷ []) ≡ shown_along goal rule p xs ++ show goal rule (path_end (played rule) p xs) m ∷ []
+      → shown_along goal rule p (xs ++ m ∷ []) ≡ shown_along goal rule p xs ++ show goal rule (path_end (position_after rule) p xs) m ∷ []
   along-append p [] m = refl
-  along-append p (x ∷ xs) m = ap (λ ys. show goal rule p x ∷ ys) (along-append (played rule p x) xs m)
+  along-append p (x ∷ xs) m = ap (λ ys. show goal rule p x ∷ ys) (along-append (position_after rule p x) xs m)
 
-  last-append : (p : Position) (xs : List Triple) (m : Triple) → shown_last goal rule p (xs ++ m ∷ []) ≡ show goal rule (path_end (played rule) p xs) m
+  last-append : (p : Position) (xs : List Triple) (m : Triple) → shown_last goal rule p (xs ++ m ∷ []) ≡ show goal rule (path_end (position_after rule) p xs) m
   last-append p [] m = refl
   last-append p (x ∷ []) m = refl
-  last-append p (x ∷ (y ∷ xs)) m = last-append (played rule p x) (y ∷ xs) m
+  last-append p (x ∷ (y ∷ xs)) m = last-append (position_after rule p x) (y ∷ xs) m
 
   -- the path leads to the position
-  pub path_end-path : (p : Position) (frames : List Frame) → position rule p frames ≡ path_end (played rule) p (path frames)
+  pub path_end-path : (p : Position) (frames : List Frame) → position rule p frames ≡ path_end (position_after rule) p (path frames)
   unfolding position path
   path_end-path p [] = search rules
   path_end-path p (f ∷ []) = search rules
@@ -52,7 +53,7 @@ module _ (goal : Goal) (rule : RuleSet) where
   last-more p f fs some = rw (path-more f fs some, last-append p (path fs) f.by, path_end-path p fs) refl
 
 module _ (rule : RuleSet) where
-  pub position-more : (p : Position) (f : Frame) (fs : List Frame) → 0 < length fs → position rule p (f ∷ fs) ≡ played rule (position rule p fs) f.by
+  pub position-more : (p : Position) (f : Frame) (fs : List Frame) → 0 < length fs → position rule p (f ∷ fs) ≡ position_after rule (position rule p fs) f.by
   unfolding position
   position-more p f fs some = search rules
 
@@ -86,17 +87,17 @@ module _ (rule : RuleSet) where
     pub forth-is_legal : (p : Position) → IsLinked rule p (reverse upper) → is_legal rule (position rule p (reverse lower)) f.by ≡ true
     forth-is_legal p l = grind (arith, linked-is_legal, stacked, length-reverse)
 
-    pub forth-position : (p : Position) → position rule p (reverse upper) ≡ played rule (position rule p (reverse lower)) f.by
+    pub forth-position : (p : Position) → position rule p (reverse upper) ≡ position_after rule (position rule p (reverse lower)) f.by
     forth-position p = grind (arith, stacked, position-more, length-reverse)
 
     -- the move of the frame above leads back to its position, and to the goal where a variation ends there
     pub forth-again : (h : ℕ) (p board after : Position) → IsWalking rule h p (reverse upper) board → IsWalking rule h p (reverse lower) after
-        → played rule after f.by ≡ board
-    forth-again h p board after r s = ap (λ b. played rule b f.by) s.board_at ∙ sym (r.board_at ∙ forth-position p)
+        → position_after rule after f.by ≡ board
+    forth-again h p board after r s = ap (λ b. position_after rule b f.by) s.board_at ∙ sym (r.board_at ∙ forth-position p)
 
     pub forth-ended : (plan : Plan) (h : ℕ) (p board after : Position) → IsWalking rule h p (reverse upper) board
         → IsWalking rule h p (reverse lower) after → IsEnded rule plan (reverse upper) board → (b : Reached)
-        → b ≡ cond (ends_variation plan f.left) Surely Perhaps → b ≡ Surely → (chess plan.goal rule).goal (played rule after f.by) ≡ true
+        → b ≡ cond (ends_variation plan f.left) Surely Perhaps → b ≡ Surely → (chess plan.goal rule).goal (position_after rule after f.by) ≡ true
     forth-ended plan h p board after r s ended b e here = search (rules, forth-again, stacked)
 
     pub forth-along : (goal : Goal) (p : Position)

@@ -1,6 +1,6 @@
 -- The walk over beginnings: what a step leaves of those still to come.
-use Rattle.pop_solve.proofs.Words.{AreKnown, CameFrom, CameFromAt, Frame, IfSome, IsLinked, IsPlaceIn, IsRoomy, IsWalking, IsWellFormed, LegalPlace, List, Loss, None, Option, Position, RuleSet, Some, Triple, [], after_well_formed, ap, append-nil, append_assoc, arith, false, is_some, is_legal, length, length-append, length-reverse, map, map-append, min, moves_behind, path, position, is_pseudo_legal-from_legal, refl, reverse, rules, slice_get, subst, suc, sym, true, turns, undo_of, zero, ℕ, ◌++◌, ◌+◌, ◌-◌, ◌<◌, ◌^◌, ◌∙◌, ◌∷◌, ◌≡◌, ◌≢◌, ◌≤◌}
-use Rattle.chess_rules.specs.Play.{after as played}
+use Rattle.pop_solve.proofs.Words.{AreKnown, CameFrom, CameFromAt, Frame, IfSome, IsLinked, IsPlaceIn, IsRoomy, IsWalking, IsWellFormed, LegalPlace, List, Undo, None, Option, Position, RuleSet, Some, Triple, [], after_well_formed, ap, append-nil, append_assoc, arith, false, is_some, is_legal, length, length-append, length-reverse, map, map-append, min, moves_behind, path, position, is_pseudo_legal-from_legal, refl, reverse, rules, slice_get, subst, suc, sym, true, turns, undo_of, zero, ℕ, ◌++◌, ◌+◌, ◌-◌, ◌<◌, ◌^◌, ◌∙◌, ◌∷◌, ◌≡◌, ◌≢◌, ◌≤◌}
+use Rattle.chess_rules.specs.Play.{position_after}
 use Rattle.pop_input.specs.declared.stipulation.Goal.{Goal}
 use Rattle.pop_solve.proofs.Boards.{behind_start}
 use Rattle.pop_solve.proofs.Outcomes.{CameFrom-deep, walking-close, walking-learned, walking-moved}
@@ -14,7 +14,7 @@ use Rattle.pop_solve.specs.ties.Beginnings.{FindsNumbered, IsSeeking, Seeks, are
 
 -- the beginnings by the next move, and by the others
 by-next : (goal : Goal) (rule : RuleSet) (k : ℕ) (P : Position) (m : Triple) (ms : List Triple)
-    → beginnings_by goal rule k P (m ∷ ms) ≡ map (λ rest. m ∷ rest) (beginnings (chess goal rule) k (played rule P m)) ++ beginnings_by goal rule k P ms
+    → beginnings_by goal rule k P (m ∷ ms) ≡ map (λ rest. m ∷ rest) (beginnings (chess goal rule) k (position_after rule P m)) ++ beginnings_by goal rule k P ms
 unfolding beginnings_by
 by-next goal rule k P m ms = refl
 
@@ -39,7 +39,7 @@ module _ (goal : Goal) (rule : RuleSet) (d : ℕ) (p : Position) (f : Frame) (ne
       rw (k, e, by-next goal rule 0 (position rule p (f ∷ below)) m (moves_behind rule (position rule p (f ∷ below)) next)) (search rules)
 
   -- another one
-  come-deeper : (undo : Loss) → length below + 1 < d
+  come-deeper : (undo : Undo) → length below + 1 < d
       → beginnings_to_come goal rule d p (f ∷ below) ≡ beginnings_to_come goal rule d p (opened_frame m undo 0 ∷ (moved f next ∷ below))
   unfolding beginnings_to_come position path
   come-deeper undo less =
@@ -48,7 +48,7 @@ module _ (goal : Goal) (rule : RuleSet) (d : ℕ) (p : Position) (f : Frame) (ne
         k,
         e,
         by-next goal rule (suc (d - suc (length below) - 1)) (position rule p (f ∷ below)) m (moves_behind rule (position rule p (f ∷ below)) next),
-        beginnings-more goal rule (d - suc (length below) - 1) (played rule (position rule p (f ∷ below)) m),
+        beginnings-more goal rule (d - suc (length below) - 1) (position_after rule (position rule p (f ∷ below)) m),
       )
       (search (rules, deeper))
 
@@ -65,7 +65,7 @@ turns-found rule h p f next m below less e =
     let fuel : h - length below ≡ suc (h - length below - 1) = omega (arith, less) in
     rw (fuel, steps_behind-next rule (h - length below - 1) (position rule p (f ∷ below)) f.place next m e) (omega arith)
 
-turns-deeper : (rule : RuleSet) (h : ℕ) (p : Position) (f : Frame) (next : ℕ) (m : Triple) (below : List Frame) (undo : Loss) → length below + 1 < h
+turns-deeper : (rule : RuleSet) (h : ℕ) (p : Position) (f : Frame) (next : ℕ) (m : Triple) (below : List Frame) (undo : Undo) → length below + 1 < h
     → moves_behind rule (position rule p (f ∷ below)) f.place ≡ m ∷ moves_behind rule (position rule p (f ∷ below)) next
     → turns rule h p (opened_frame m undo 0 ∷ (moved f next ∷ below)) < turns rule h p (f ∷ below)
 unfolding turns position
@@ -76,11 +76,11 @@ turns-deeper rule h p f next m below undo less e =
       k,
       l,
       steps_behind-next rule (h - length below - 1) (position rule p (f ∷ below)) f.place next m e,
-      steps-start rule (h - length below - 1) (played rule (position rule p (f ∷ below)) m),
+      steps-start rule (h - length below - 1) (position_after rule (position rule p (f ∷ below)) m),
     ) (omega arith)
 
 walking-idle : (rule : RuleSet) (h : ℕ) (p : Position) (f : Frame) (next : ℕ) (m : Triple) (below : List Frame) (board after : Position)
-    → IsWalking rule h p (f ∷ below) board → length below + 1 ≤ h → is_legal rule board m ≡ true → after ≡ played rule board m
+    → IsWalking rule h p (f ∷ below) board → length below + 1 ≤ h → is_legal rule board m ≡ true → after ≡ position_after rule board m
     → IsWalking rule h p (opened_frame m (undo_of rule board m) 0 ∷ (moved f next ∷ below)) after
 unfolding IsLinked IsRoomy AreKnown position
 walking-idle rule h p f next m below board after r less lawful e =
@@ -94,7 +94,7 @@ idle-moved : (f : Frame) (place : ℕ) (below : List Frame) → are_idle (f ∷ 
 unfolding are_idle
 idle-moved f place below e = e
 
-idle-opened : (m : Triple) (undo : Loss) (below : List Frame) → are_idle below ≡ true → are_idle (opened_frame m undo 0 ∷ below) ≡ true
+idle-opened : (m : Triple) (undo : Undo) (below : List Frame) → are_idle below ≡ true → are_idle (opened_frame m undo 0 ∷ below) ≡ true
 unfolding are_idle
 idle-opened m undo below e = e
 
@@ -191,7 +191,7 @@ module _ (rule : RuleSet) (h d : ℕ) (p : Position) (top : Frame) (old new : Li
           falls = rw (← turns-learned rule h p top known (reverse new)) (turns-found rule h p f place m (reverse new) (omega (arith, deep, s.room)) behind);
         })
 
-    pub seeks-deeper : (undo : Loss) (after : Position) (last : List Frame) → length mid ≢ d → undo ≡ undo_of rule now m → after ≡ played rule now m
+    pub seeks-deeper : (undo : Undo) (after : Position) (last : List Frame) → length mid ≢ d → undo ≡ undo_of rule now m → after ≡ position_after rule now m
         → last ≡ mid ++ opened_frame m undo 0 ∷ [] → Seeks rule h d p (reverse old) (reverse last) after None
     seeks-deeper undo after last other u a pushed =
         let size = ap length put ∙ length-append new (moved f place ∷ []) in

@@ -1,7 +1,7 @@
 -- One turn of a test over frames.
-use Rattle.pop_solve.proofs.Words.{AreKnown, Bool, CameFrom, CameFromAt, Ends, Frame, HasCounted, IfNone, IfSome, IsCut, IsLinked, IsOpenedOn, IsPlaceIn, IsTesting, IsWellFormed, Killer, LegalPlace, List, Loss, MatchOption, None, Option, Order, Position, RuleSet, Some, Triple, Turns, [], after_well_formed, ahead, ap, arith, cases_lt, chess, cond, delivered_value, drop, drop-append-le, inl, inr, is_legal, join, joined_value, least_of, length, length-append, length-drop, length-reverse}
+use Rattle.pop_solve.proofs.Words.{AreKnown, Bool, CameFrom, CameFromAt, Ends, Frame, HasCounted, IfNone, IfSome, IsCut, IsLinked, IsOpenedOn, IsPlaceIn, IsTesting, IsWellFormed, Killer, LegalPlace, List, MatchOption, None, Option, Order, Position, RuleSet, Some, Triple, Turns, Undo, [], after_well_formed, ahead, ap, arith, cases_lt, chess, cond, delivered_value, drop, drop-append-le, inl, inr, is_legal, join, joined_value, least_of, length, length-append, length-drop, length-reverse}
 use Rattle.pop_solve.proofs.Words.{list_all, list_any, min, not, pending_value, position, is_pseudo_legal-from_legal, refl, reverse, reverse-append, rules, seeks, smallest_below, smallest_tree, steps, steps_among, subst, suc, sum_by, sum_by-cons, sym, take, take-append-le, take_all, tested_frame, tests, to_test, to_try, to_try_with, top_left, true, undo_of, untried, value, walk_among, walk_count, work, ℕ, ◌&&◌, ◌++◌, ◌+◌, ◌-◌, ◌<◌, ◌^◌, ◌||◌, ◌∙◌, ◌∷◌, ◌≡◌, ◌≤◌, ◌⊎◌}
-use Rattle.chess_rules.specs.Play.{after as played}
+use Rattle.chess_rules.specs.Play.{position_after}
 use Rattle.chess_rules.specs.Legal.{moves as legal_moves}
 use Rattle.pop_solve.specs.declared.aim.Aim.{Aim}
 use Rattle.pop_solve.proofs.Orders.{same_start}
@@ -48,7 +48,7 @@ module _ (rule : RuleSet) (aim : Aim) where
   rest-none left P ms some e = search rules
 
   rest-next : (t : ℕ) (P : Position) (ms more : List Triple) (m : Triple) → ms ≡ m ∷ more
-      → rest (suc t) P ms ≡ join (seeks aim.battle (suc t)) (value aim.battle (chess aim.goal rule) t (played rule P m)) (rest (suc t) P more)
+      → rest (suc t) P ms ≡ join (seeks aim.battle (suc t)) (value aim.battle (chess aim.goal rule) t (position_after rule P m)) (rest (suc t) P more)
   unfolding joined_value
   rest-next t P ms more m e = search rules
 
@@ -115,18 +115,19 @@ module _ (rule : RuleSet) (aim : Aim) where
   steps-start t q o = search (rules, sum-start)
 
   steps-next : (t : ℕ) (P : Position) (ms more : List Triple) (m : Triple) → ms ≡ m ∷ more
-      → steps_among rule (suc t) P ms ≡ (1 + steps rule t (played rule P m)) + steps_among rule (suc t) P more
+      → steps_among rule (suc t) P ms ≡ (1 + steps rule t (position_after rule P m)) + steps_among rule (suc t) P more
   unfolding steps_among
-  steps-next t P ms more m e = rw e (sum_by-cons (λ x. 1 + steps rule t (played rule P x)) m more)
+  steps-next t P ms more m e = rw e (sum_by-cons (λ x. 1 + steps rule t (position_after rule P x)) m more)
 
-  walk_count-start : (t : ℕ) (q : Position) (o : Order) → 0 < t → walk_count (legal_moves rule) (played rule) t q ≡ 1 + walk_among rule t q (first rule q o)
+  walk_count-start : (t : ℕ) (q : Position) (o : Order) → 0 < t → walk_count (legal_moves rule) (position_after rule) t q
+      ≡ 1 + walk_among rule t q (first rule q o)
   unfolding walk_count walk_among
   walk_count-start t q o some = search (rules, sum-start)
 
   walk-next : (t : ℕ) (P : Position) (ms more : List Triple) (m : Triple) → ms ≡ m ∷ more
-      → walk_among rule (suc t) P ms ≡ walk_count (legal_moves rule) (played rule) t (played rule P m) + walk_among rule (suc t) P more
+      → walk_among rule (suc t) P ms ≡ walk_count (legal_moves rule) (position_after rule) t (position_after rule P m) + walk_among rule (suc t) P more
   unfolding walk_among
-  walk-next t P ms more m e = rw e (sum_by-cons (λ x. walk_count (legal_moves rule) (played rule) t (played rule P x)) m more)
+  walk-next t P ms more m e = rw e (sum_by-cons (λ x. walk_count (legal_moves rule) (position_after rule) t (position_after rule P x)) m more)
 
   module _ (p : Position) (f : Frame) (below : List Frame) (next : ℕ) (s : Stretch) (m : Triple) (t : ℕ) (kn : Option LegalPlace) (left : f.left ≡ suc t)
       (e : untried rule (position rule p (f ∷ below)) f ≡ m ∷ ahead rule (position rule p (f ∷ below)) f.order s next) where
@@ -135,12 +136,13 @@ module _ (rule : RuleSet) (aim : Aim) where
 
     -- the value of the position after the move decides with the moves still untried
     delivered_value-next : delivered_value rule aim p below (rest f.left P (untried rule P f)) ≡ delivered_value rule aim p (passed f next s kn ∷ below)
-        (value aim.battle (chess aim.goal rule) t (played rule P m))
+        (value aim.battle (chess aim.goal rule) t (position_after rule P m))
     unfolding delivered_value position
     delivered_value-next = search (rules, rest-next)
 
     try-next : fewest f.left P (untried rule P f) + to_try_with rule aim p below (rest f.left P (untried rule P f)) ≤ smallest_tree aim.battle (chess aim.goal
-        rule) t (played rule P m) + to_try_with rule aim p (passed f next s kn ∷ below) (value aim.battle (chess aim.goal rule) t (played rule P m))
+        rule) t (position_after rule P m) + to_try_with rule aim p (passed f next s kn ∷ below)
+        (value aim.battle (chess aim.goal rule) t (position_after rule P m))
     unfolding to_try_with position
     try-next = search (rules, trees-next, rest-next)
 
@@ -148,31 +150,34 @@ module _ (rule : RuleSet) (aim : Aim) where
     unfolding work position
     work-settled = rw (left, steps-next t P (untried rule P f) (ahead rule P f.order s next) m e) (omega arith)
 
-    open-settled : walk_count (legal_moves rule) (played rule) t (played rule P m) + to_test rule p (passed f next s kn ∷ below) ≤ to_test rule p
+    open-settled : walk_count (legal_moves rule) (position_after rule) t (position_after rule P m) + to_test rule p (passed f next s kn ∷ below) ≤ to_test rule
+        p
         (f ∷ below)
     unfolding to_test position
     open-settled = rw (left, walk-next t P (untried rule P f) (ahead rule P f.order s next) m e) (omega arith)
 
-    module _ (undo : Loss) (k : Order) (kq : Option LegalPlace) where
-      delivered_value-open : (v : Bool) → v ≡ joined_value aim.battle (chess aim.goal rule) t (played rule P m) (legal_moves rule (played rule P m))
+    module _ (undo : Undo) (k : Order) (kq : Option LegalPlace) where
+      delivered_value-open : (v : Bool) → v ≡ joined_value aim.battle (chess aim.goal rule) t (position_after rule P m)
+          (legal_moves rule (position_after rule P m))
           → delivered_value rule aim p (passed f next s kn ∷ below) v ≡ pending_value rule aim p (tested_frame k m undo t kq ∷ (passed f next s kn ∷ below))
           None
       unfolding pending_value position
       delivered_value-open v d = search (rules, rest-start)
 
-      try-open : (v : Bool) → v ≡ joined_value aim.battle (chess aim.goal rule) t (played rule P m) (legal_moves rule (played rule P m))
-          → smallest_tree aim.battle (chess aim.goal rule) t (played rule P m) + to_try_with rule aim p (passed f next s kn ∷ below) v ≤ 1 + to_try rule aim p
+      try-open : (v : Bool) → v ≡ joined_value aim.battle (chess aim.goal rule) t (position_after rule P m) (legal_moves rule (position_after rule P m))
+          → smallest_tree aim.battle (chess aim.goal rule) t (position_after rule P m) + to_try_with rule aim p (passed f next s kn ∷ below) v ≤ 1 + to_try rule
+          aim p
           (tested_frame k m undo t kq ∷ (passed f next s kn ∷ below)) None
       unfolding to_try position
-      try-open v d = let n = fewest-start t (played rule P m) k in rw (d, sym (rest-start t (played rule P m) k)) (omega (arith, n))
+      try-open v d = let n = fewest-start t (position_after rule P m) k in rw (d, sym (rest-start t (position_after rule P m) k)) (omega (arith, n))
 
       work-open : work rule p (tested_frame k m undo t kq ∷ (passed f next s kn ∷ below)) < work rule p (f ∷ below)
       unfolding work position
-      work-open = rw (left, steps-next t P (untried rule P f) (ahead rule P f.order s next) m e, steps-start t (played rule P m) k) (omega arith)
+      work-open = rw (left, steps-next t P (untried rule P f) (ahead rule P f.order s next) m e, steps-start t (position_after rule P m) k) (omega arith)
 
       open-open : 0 < t → 1 + to_test rule p (tested_frame k m undo t kq ∷ (passed f next s kn ∷ below)) ≤ to_test rule p (f ∷ below)
       unfolding to_test position
-      open-open some = rw (left, walk-next t P (untried rule P f) (ahead rule P f.order s next) m e, walk_count-start t (played rule P m) k some)
+      open-open some = rw (left, walk-next t P (untried rule P f) (ahead rule P f.order s next) m e, walk_count-start t (position_after rule P m) k some)
           (omega arith)
 
   pub open-close : (p : Position) (f : Frame) (below : List Frame) → to_test rule p below ≤ to_test rule p (f ∷ below)
@@ -221,8 +226,8 @@ module _ (rule : RuleSet) (p : Position) where
 
   pub testing-open : (f : Frame) (next : ℕ) (s : Stretch) (m : Triple) (k : Order) (t : ℕ) (kn kq : Option LegalPlace) (below : List Frame) (board : Position)
       → IsTesting rule p (f ∷ below) board → is_legal rule board m ≡ true → 0 < t → f.left ≡ suc t → IfSome kn (IsPlaceIn rule board)
-      → IfSome kq (IsPlaceIn rule (played rule board m))
-      → IsTesting rule p (tested_frame k m (undo_of rule board m) t kq ∷ (passed f next s kn ∷ below)) (played rule board m)
+      → IfSome kq (IsPlaceIn rule (position_after rule board m))
+      → IsTesting rule p (tested_frame k m (undo_of rule board m) t kq ∷ (passed f next s kn ∷ below)) (position_after rule board m)
   unfolding IsLinked IsCut AreKnown position
   testing-open f next s m k t kn kq below board r lawful some left w wq =
       grind (arith, after_well_formed rule board m r.sound (is_pseudo_legal-from_legal rule board m lawful), is_pseudo_legal-from_legal rule board m lawful)
@@ -281,10 +286,11 @@ module _ (rule : RuleSet) (aim : Aim) (floor : ℕ) (top : Frame) (old new : Lis
     -- what `descend` leaves
     abbrev pub Descends : Option Bool → Type 0
     Descends is = MatchOption is ((0 < top.left - 1)
-        × (value aim.battle (chess aim.goal rule) (top.left - 1) (played rule board m) ≡ joined_value aim.battle (chess aim.goal rule) (top.left - 1)
-        (played rule board m) (legal_moves rule (played rule board m))) × (after ≡ played rule board m)
-        × IsOpenedOn rule (played rule board m) (new ++ passed top place s kn ∷ []) last m (undo_of rule board m) (top.left - 1))
-        (λ v. (v ≡ value aim.battle (chess aim.goal rule) (top.left - 1) (played rule board m)) × (after ≡ board) × (last ≡ new ++ passed top place s kn ∷ []))
+        × (value aim.battle (chess aim.goal rule) (top.left - 1) (position_after rule board m) ≡ joined_value aim.battle (chess aim.goal rule) (top.left - 1)
+        (position_after rule board m) (legal_moves rule (position_after rule board m))) × (after ≡ position_after rule board m)
+        × IsOpenedOn rule (position_after rule board m) (new ++ passed top place s kn ∷ []) last m (undo_of rule board m) (top.left - 1))
+        (λ v. (v ≡ value aim.battle (chess aim.goal rule) (top.left - 1) (position_after rule board m)) × (after ≡ board)
+        × (last ≡ new ++ passed top place s kn ∷ []))
 
     left_is : top.left ≡ suc (top.left - 1)
     left_is = omega (arith, some)
@@ -321,21 +327,25 @@ module _ (rule : RuleSet) (aim : Aim) (floor : ℕ) (top : Frame) (old new : Lis
       descend_falls (Some v) d = rw (settled_last v d, popped) (search (rules, here, work-settled, left_is))
 
       descend_counted : (is : Option Bool) → Descends is → (before count : ℕ)
-          → MatchOption is (count ≤ before + 1) (λ _. count ≤ before + walk_count (legal_moves rule) (played rule) (top.left - 1) (played rule board m))
+          → MatchOption is (count ≤ before + 1) (λ _. count ≤ before + walk_count (legal_moves rule) (position_after rule) (top.left - 1)
+          (position_after rule board m))
           → count + to_test rule p (tests floor last) ≤ before + to_test rule p (tests floor old)
       descend_counted None d before count o = rw (opened_last d, popped) (search (rules, at, here, open-open, left_is))
       descend_counted (Some v) d before count o = rw (settled_last v d, popped) (search (rules, at, here, open-settled, left_is))
 
       descend_tried : (is : Option Bool) → Descends is → (before count : ℕ)
-          → MatchOption is (HasCounted before count 1) (λ _. HasCounted before count (smallest_tree aim.battle (chess aim.goal rule) (top.left - 1) (played rule
+          → MatchOption is (HasCounted before count 1) (λ _. HasCounted before count
+          (smallest_tree aim.battle (chess aim.goal rule) (top.left - 1) (position_after rule
           board m))) → min (before + to_try rule aim p (tests floor old) was) (2 ^ 64 - 1) ≤ count + to_try rule aim p (tests floor last) is
       descend_tried None d before count tries = rw (opened_last d, popped) (search (rules, at, here, try-undecided, try-next, try-open, left_is))
       descend_tried (Some v) d before count tries = rw (settled_last v d, popped)
           (let n = try-next rule aim p top (tests floor new) place s m _ kn left_is here in search (rules, at, try-undecided, try-some))
 
     pub descend_turns : (is : Option Bool) → Descends is → (before count : ℕ)
-        → MatchOption is (count ≤ before + 1) (λ _. count ≤ before + walk_count (legal_moves rule) (played rule) (top.left - 1) (played rule board m))
-        → MatchOption is (HasCounted before count 1) (λ _. HasCounted before count (smallest_tree aim.battle (chess aim.goal rule) (top.left - 1) (played rule
+        → MatchOption is (count ≤ before + 1) (λ _. count ≤ before + walk_count (legal_moves rule) (position_after rule) (top.left - 1)
+        (position_after rule board m))
+        → MatchOption is (HasCounted before count 1) (λ _. HasCounted before count
+        (smallest_tree aim.battle (chess aim.goal rule) (top.left - 1) (position_after rule
         board m))) → (p : Position) → IsTesting rule p (tests floor old) board → Turns rule aim floor p old last was is after before count
     descend_turns is d before count o tries p r = record {
       testing = descend_testing p r is d;
@@ -406,12 +416,12 @@ pub record IsUnderway (rule : RuleSet) (aim : Aim) (floor : ℕ) (p : Position) 
   pub base : take floor frames ≡ under
 
 module _ (rule : RuleSet) (aim : Aim) where
-  pub begins : (floor : ℕ) (p : Position) (N left : ℕ) (k : Order) (board : Position) (before count : ℕ) (by : Triple) (undo : Loss) (under frames : List Frame)
+  pub begins : (floor : ℕ) (p : Position) (N left : ℕ) (k : Order) (board : Position) (before count : ℕ) (by : Triple) (undo : Undo) (under frames : List Frame)
       (kn : Option LegalPlace) → floor ≡ length under → frames ≡ under ++ tested_frame k by undo left kn ∷ [] → IfSome kn (IsPlaceIn rule p) → floor + left ≤ N
       → count ≤ before + 1 → HasCounted before count 1 → board ≡ p → IsWellFormed board → (0 < left)
       × (value aim.battle (chess aim.goal rule) left p ≡ joined_value aim.battle (chess aim.goal rule) left p (legal_moves rule p))
       → IsUnderway rule aim floor p N (value aim.battle (chess aim.goal rule) left p) under frames None board count
-      (before + walk_count (legal_moves rule) (played rule) left p) (before + smallest_tree aim.battle (chess aim.goal rule) left p)
+      (before + walk_count (legal_moves rule) (position_after rule) left p) (before + smallest_tree aim.battle (chess aim.goal rule) left p)
   unfolding pending_value delivered_value IsLinked IsCut AreKnown position to_test to_try to_try_with
   begins floor p N left k board before count by undo under frames kn low put within room more one_more at sound d =
       let none : tests floor under ≡ [] = nil_of (tests floor under) (omega (arith, length-tests floor under, low)) in

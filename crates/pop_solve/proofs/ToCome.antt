@@ -1,6 +1,6 @@
 -- What the moves still to come say of paths, turns and counts: the next move, and those passed over.
-use Rattle.pop_solve.proofs.Words.{Bool, Frame, GoesTo, IsWhites, List, Loss, Mate, Plan, Position, RuleSet, Steps, Triple, [], ap, append_assoc, arith, battle_of, chess, cond, eqb, false, fewest_for, fewest_left, fewest_walked, filter, follows, gives, goes_on, inl, inr, is_help, is_mate, is_mating, length, map, map-append, moves_behind, opened_frame, path, position, refl, rules, seeks, seeks_last, shown_paths, smallest_tree, steps, steps_behind, suc, sum_by, sum_by-append, sum_by-cons, to_come, to_open, true, turns, value, walk_behind, walk_count, zero, ℕ, ◌++◌, ◌+◌, ◌-◌, ◌<◌, ◌∙◌, ◌∷◌, ◌≡◌, ◌≤◌, ◌⊎◌}
-use Rattle.chess_rules.specs.Play.{after as played}
+use Rattle.pop_solve.proofs.Words.{Bool, Frame, GoesTo, IsWhites, List, Mate, Plan, Position, RuleSet, Steps, Triple, Undo, [], ap, append_assoc, arith, battle_of, chess, cond, eqb, false, fewest_for, fewest_left, fewest_walked, filter, follows, gives, goes_on, inl, inr, is_help, is_mate, is_mating, length, map, map-append, moves_behind, opened_frame, path, position, refl, rules, seeks, seeks_last, shown_paths, smallest_tree, steps, steps_behind, suc, sum_by, sum_by-append, sum_by-cons, to_come, to_open, true, turns, value, walk_behind, walk_count, zero, ℕ, ◌++◌, ◌+◌, ◌-◌, ◌<◌, ◌∙◌, ◌∷◌, ◌≡◌, ◌≤◌, ◌⊎◌}
+use Rattle.chess_rules.specs.Play.{position_after}
 use Rattle.chess_rules.specs.Legal.{moves as legal_moves}
 use Rattle.pop_solve.proofs.Boards.{behind_start}
 use Rattle.pop_solve.proofs.Tests.{moved}
@@ -33,17 +33,17 @@ unfolding steps steps_behind
 steps-start rule k q = search (rules, behind_start)
 
 pub steps_behind-next : (rule : RuleSet) (k : ℕ) (P : Position) (place next : ℕ) (m : Triple) → moves_behind rule P place ≡ m ∷ moves_behind rule P next
-    → steps_behind rule (suc k) P place ≡ (1 + steps rule k (played rule P m)) + steps_behind rule (suc k) P next
+    → steps_behind rule (suc k) P place ≡ (1 + steps rule k (position_after rule P m)) + steps_behind rule (suc k) P next
 unfolding steps_behind
-steps_behind-next rule k P place next m e = rw e (sum_by-cons (λ x. 1 + steps rule k (played rule P x)) m (moves_behind rule P next))
+steps_behind-next rule k P place next m e = rw e (sum_by-cons (λ x. 1 + steps rule k (position_after rule P x)) m (moves_behind rule P next))
 
 module _ (rule : RuleSet) (plan : Plan) where
   -- the paths by the next move, and by the others
   shown_paths-next : (root : Bool) (k t : ℕ) (P : Position) (m : Triple) (ms : List Triple)
-      → shown_paths plan (chess plan.goal rule) root (suc k) (suc t) P (m ∷ ms) ≡ cond (follows plan (chess plan.goal rule) root t (played rule P m))
-      (given_path (gives plan (chess plan.goal rule) t (played rule P m)) (m ∷ []) ++ map (λ line. m ∷ line)
-      (shown_paths plan (chess plan.goal rule) false k (goes_on plan (chess plan.goal rule) t (played rule P m)) (played rule P m)
-      (legal_moves rule (played rule P m)))) [] ++ shown_paths plan (chess plan.goal rule) root (suc k) (suc t) P ms
+      → shown_paths plan (chess plan.goal rule) root (suc k) (suc t) P (m ∷ ms) ≡ cond (follows plan (chess plan.goal rule) root t (position_after rule P m))
+      (given_path (gives plan (chess plan.goal rule) t (position_after rule P m)) (m ∷ []) ++ map (λ line. m ∷ line)
+      (shown_paths plan (chess plan.goal rule) false k (goes_on plan (chess plan.goal rule) t (position_after rule P m)) (position_after rule P m)
+      (legal_moves rule (position_after rule P m)))) [] ++ shown_paths plan (chess plan.goal rule) root (suc k) (suc t) P ms
   unfolding shown_paths
   shown_paths-next root k t P m ms = refl
 
@@ -54,9 +54,12 @@ module _ (rule : RuleSet) (plan : Plan) where
 
   -- the positions to be tried for the next move, and for the others
   fewest-next : (root : Bool) (k t : ℕ) (P : Position) (m : Triple) (ms : List Triple)
-      → fewest_walked plan (chess plan.goal rule) root (suc k) (suc t) P (m ∷ ms) ≡ (fewest_for plan (chess plan.goal rule) root t (played rule P m) + cond
-      (follows plan (chess plan.goal rule) root t (played rule P m)) (fewest_walked plan (chess plan.goal rule) false k (goes_on plan (chess plan.goal rule) t
-      (played rule P m)) (played rule P m) (legal_moves rule (played rule P m))) 0) + fewest_walked plan (chess plan.goal rule) root (suc k) (suc t) P ms
+      → fewest_walked plan (chess plan.goal rule) root (suc k) (suc t) P (m ∷ ms)
+      ≡ (fewest_for plan (chess plan.goal rule) root t (position_after rule P m) + cond
+      (follows plan (chess plan.goal rule) root t (position_after rule P m))
+      (fewest_walked plan (chess plan.goal rule) false k (goes_on plan (chess plan.goal rule) t
+      (position_after rule P m)) (position_after rule P m) (legal_moves rule (position_after rule P m))) 0) + fewest_walked plan (chess plan.goal rule) root
+      (suc k) (suc t) P ms
   unfolding fewest_walked
   fewest-next root k t P m ms = search (rules, sum_by-cons)
 
@@ -66,9 +69,10 @@ module _ (rule : RuleSet) (plan : Plan) where
   fewest-none root k left P ms e = search rules
 
   walk_behind-next : (k : ℕ) (P : Position) (place next : ℕ) (m : Triple) → moves_behind rule P place ≡ m ∷ moves_behind rule P next
-      → walk_behind rule (suc k) P place ≡ walk_count (legal_moves rule) (played rule) k (played rule P m) + walk_behind rule (suc k) P next
+      → walk_behind rule (suc k) P place ≡ walk_count (legal_moves rule) (position_after rule) k (position_after rule P m) + walk_behind rule (suc k) P next
   unfolding walk_behind
-  walk_behind-next k P place next m e = rw e (sum_by-cons (λ x. walk_count (legal_moves rule) (played rule) k (played rule P x)) m (moves_behind rule P next))
+  walk_behind-next k P place next m e =
+      rw e (sum_by-cons (λ x. walk_count (legal_moves rule) (position_after rule) k (position_after rule P x)) m (moves_behind rule P next))
 
   pub walk_behind-none : (k : ℕ) (P : Position) (place : ℕ) → (k ≡ 0) ⊎ (moves_behind rule P place ≡ []) → walk_behind rule k P place ≡ 0
   unfolding walk_behind
@@ -79,7 +83,7 @@ module _ (rule : RuleSet) (plan : Plan) where
   one zero = 0
   one (suc k) = 1
 
-  pub walk_count-start : (k : ℕ) (q : Position) → walk_count (legal_moves rule) (played rule) k q ≡ one k + walk_behind rule k q 0
+  pub walk_count-start : (k : ℕ) (q : Position) → walk_count (legal_moves rule) (position_after rule) k q ≡ one k + walk_behind rule k q 0
   unfolding walk_count walk_behind
   walk_count-start k q = search (rules, behind_start)
 
@@ -87,7 +91,7 @@ module _ (rule : RuleSet) (plan : Plan) where
       (left : f.left ≡ suc t) (e : moves_behind rule (position rule p (f ∷ below)) f.place ≡ m ∷ moves_behind rule (position rule p (f ∷ below)) next) where
     -- the position after the move
     abbrev q : Position
-    q = played rule (position rule p (f ∷ below)) m
+    q = position_after rule (position rule p (f ∷ below)) m
 
     abbrev root : Bool
     root = eqb (length below) 0
@@ -98,7 +102,7 @@ module _ (rule : RuleSet) (plan : Plan) where
     come-pass b = search (rules, shown_paths-next)
 
     -- a move that is followed: its path, where that is given, and what stands below it
-    pub come-enter : (undo : Loss) → follows plan (chess plan.goal rule) root t q ≡ true
+    pub come-enter : (undo : Undo) → follows plan (chess plan.goal rule) root t q ≡ true
         → to_come rule plan h p (f ∷ below) ≡ given_path (gives plan (chess plan.goal rule) t q)
         (path (opened_frame m undo (goes_on plan (chess plan.goal rule) t q)
         ∷ (moved f next ∷ below))) ++ to_come rule plan h p (opened_frame m undo (goes_on plan (chess plan.goal rule) t q) ∷ (moved f next ∷ below))
@@ -114,7 +118,7 @@ module _ (rule : RuleSet) (plan : Plan) where
     unfolding fewest_left position
     tries-pass b = search (rules, fewest-next)
 
-    pub tries-enter : (undo : Loss) → follows plan (chess plan.goal rule) root t q ≡ true → fewest_left rule plan h p (f ∷ below)
+    pub tries-enter : (undo : Undo) → follows plan (chess plan.goal rule) root t q ≡ true → fewest_left rule plan h p (f ∷ below)
         ≡ fewest_for plan (chess plan.goal rule) root t q + fewest_left rule plan h p
         (opened_frame m undo (goes_on plan (chess plan.goal rule) t q) ∷ (moved f next ∷ below))
     unfolding fewest_left position
@@ -124,17 +128,17 @@ module _ (rule : RuleSet) (plan : Plan) where
     unfolding turns position
     turns-pass = rw (fuel, steps_behind-next rule k (position rule p (f ∷ below)) f.place next m e) (omega arith)
 
-    pub turns-enter : (undo : Loss) (tried : ℕ) → turns rule h p (opened_frame m undo tried ∷ (moved f next ∷ below)) < turns rule h p (f ∷ below)
+    pub turns-enter : (undo : Undo) (tried : ℕ) → turns rule h p (opened_frame m undo tried ∷ (moved f next ∷ below)) < turns rule h p (f ∷ below)
     unfolding turns position
     turns-enter undo tried =
         let less : h - suc (length below) ≡ k = omega arith in
         rw (fuel, less, steps_behind-next rule k (position rule p (f ∷ below)) f.place next m e, steps-start rule k q) (omega arith)
 
-    pub open-next : to_open rule p (f ∷ below) ≡ walk_count (legal_moves rule) (played rule) t q + to_open rule p (moved f next ∷ below)
+    pub open-next : to_open rule p (f ∷ below) ≡ walk_count (legal_moves rule) (position_after rule) t q + to_open rule p (moved f next ∷ below)
     unfolding to_open position
     open-next = rw (left, walk_behind-next t (position rule p (f ∷ below)) f.place next m e) (omega arith)
 
-    pub open-enter : (undo : Loss) (tried : ℕ)
+    pub open-enter : (undo : Undo) (tried : ℕ)
         → to_open rule p (opened_frame m undo tried ∷ (moved f next ∷ below)) ≡ walk_behind rule tried q 0 + to_open rule p (moved f next ∷ below)
     unfolding to_open position
     open-enter undo tried = refl
@@ -232,10 +236,10 @@ module _ (rule : RuleSet) (plan : Plan) where
     unfolding walk_behind
     same k e = search rules
 
-    none_of : (ms : List Triple) → sum_by (λ m. walk_count (legal_moves rule) (played rule) 0 (played rule P m)) ms ≡ 0
+    none_of : (ms : List Triple) → sum_by (λ m. walk_count (legal_moves rule) (position_after rule) 0 (position_after rule P m)) ms ≡ 0
     unfolding walk_count
     none_of [] = refl
-    none_of (m ∷ ms) = sum_by-cons (λ m. walk_count (legal_moves rule) (played rule) 0 (played rule P m)) m ms ∙ omega (arith, none_of ms)
+    none_of (m ∷ ms) = sum_by-cons (λ m. walk_count (legal_moves rule) (position_after rule) 0 (position_after rule P m)) m ms ∙ omega (arith, none_of ms)
 
     nothing : (k place : ℕ) → k ≡ 1 → walk_behind rule k P place ≡ 0
     unfolding walk_behind

@@ -22,7 +22,7 @@ pub use Rattle.chess_rules.proofs.making_moves.Stays.{after_well_formed}
 pub use Rattle.chess_rules.proofs.theorems.Moves.{Precedes, moves_are_the_legal_moves, moves_differ, moves_in_order}
 pub use Rattle.chess_rules.specs.Legal.{is_nil}
 unfoldable pub use Rattle.chess_rules.specs.Legal.{is_legal, is_mate, is_stalemate, moves}
-pub use Rattle.chess_rules.specs.Loss.{Loss}
+pub use Rattle.chess_rules.specs.Undo.{Undo}
 unfoldable pub use Rattle.chess_rules.specs.Play.{undo_of}
 pub use Rattle.chess_rules.specs.RuleSet.{RuleSet}
 pub use Rattle.chess_rules.specs.ties.Places.{IsPlaceIn, LegalPlace}
@@ -37,7 +37,7 @@ pub use Rattle.pop_input.specs.declared.stipulation.Goal.TheVariants.{Mate}
 pub use Rattle.pop_solve.specs.Aims.{battle_of}
 pub use Rattle.pop_solve.specs.Chess.{chess, is_reached, set_start}
 unfoldable pub use Rattle.pop_solve.specs.Chess.{show}
-pub use Rattle.pop_solve.specs.Events.{BareEvent, event_of, events, events_from, first_phase, impossible, is_barred, is_set, line, opening, path_event, phase_count, phase_half, phase_half_moves, phase_start, shown_along, shown_last, start, total, tree_node}
+pub use Rattle.pop_solve.specs.Events.{BareEvent, event_of, events, events_from, first_phase, impossible, is_barred, is_set, line, opening, path_event, phase_count, phase_half, phase_half_moves, phase_start, play_start, shown_along, shown_last, total, tree_node}
 unfoldable pub use Rattle.pop_solve.specs.Events.{phase_events, solutions}
 pub use Rattle.pop_solve.specs.Game.{Game, can_move, every_move, path_end, some_move}
 unfoldable pub use Rattle.pop_solve.specs.Game.{help_lines, is_lost, is_self_lost, lines_to_goal, self_wins, wins}

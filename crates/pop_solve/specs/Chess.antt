@@ -7,8 +7,8 @@ use Rattle.chess_core.specs.declared.man.Kind.TheVariants.{King}
 use Rattle.chess_core.specs.declared.man.Man.{Man}
 use Rattle.chess_rules.specs.Attacks.{in_check}
 use Rattle.chess_rules.specs.Legal.{is_mate, is_stalemate, moves}
-use Rattle.chess_rules.specs.Loss.{Loss}
-use Rattle.chess_rules.specs.Play.{after, is_castling, undo_of}
+use Rattle.chess_rules.specs.Undo.{Undo}
+use Rattle.chess_rules.specs.Play.{is_castling, position_after, undo_of}
 use Rattle.chess_rules.specs.RuleSet.{RuleSet}
 use Rattle.pop_input.specs.Stipulations.{is_for_stalemate}
 use Rattle.pop_input.specs.declared.stipulation.Goal.{Goal}
@@ -27,7 +27,8 @@ is_reached Stalemate rule q = is_stalemate rule q
 
 -- chess under a set of rules, played for a goal
 abbrev pub chess : Goal → RuleSet → Game Position Triple
-chess goal rule = record { moves = moves rule; after = after rule; goal = is_reached goal rule }
+chess goal rule =
+    record { moves = moves rule; after = position_after rule; goal = is_reached goal rule }
 
 -- what a move has done to the side that is to move in q: stalemate is marked where it is the goal alone (own)
 unfoldable pub mark_of : Goal → RuleSet → Position → Mark
@@ -47,7 +48,7 @@ reborn_man _ _ = None
 
 -- the move of x, where `there` stands on the arrival before it, `lost` is what the move destroys and `mark` its mark:
 -- en passant a man is captured, but not on the arrival
-abbrev pub shown_by : Man → Option Man → Triple → Loss → Mark → Shown
+abbrev pub shown_by : Man → Option Man → Triple → Undo → Mark → Shown
 shown_by x there m lost mark = record {
   man = x;
   from = m.from;
@@ -75,14 +76,14 @@ nothing_shown = record {
 }
 
 -- a move as it is shown, by the man on its origin, the one on its arrival, its undo, and its mark
-unfoldable pub shown_of : Option Man → Option Man → Triple → Loss → Mark → Shown
+unfoldable pub shown_of : Option Man → Option Man → Triple → Undo → Mark → Shown
 shown_of None there m lost mark = nothing_shown
 shown_of (Some x) there m lost mark = shown_by x there m lost mark
 
 -- the move m as it is shown, read off the position before it and the position after it
 unfoldable pub show : Goal → RuleSet → Position → Triple → Shown
 show goal rule p m = shown_of (man_on p.men m.from) (man_on p.men m.to) m (undo_of rule p m)
-    (mark_of goal rule (after rule p m))
+    (mark_of goal rule (position_after rule p m))
 
 -- the first position of set play (own): the other side is to move, and no square is crossed
 abbrev pub set_start : Position → Position

@@ -2,7 +2,7 @@
 -- of events are this project's own; half-moves are numbered as in the Popeye manual.
 use Rattle.pop_solve.specs.Aims.{battle_of}
 use Rattle.pop_input.specs.declared.stipulation.Goal.{Goal}
-use Rattle.chess_rules.specs.Play.{after as played}
+use Rattle.chess_rules.specs.Play.{position_after}
 use Rattle.std.specs.Prelude.{ℕ, ◌+◌, ◌-◌, ◌==◌, Bool, true, false, ◌&&◌, if◌then◌else◌, List, [], ◌∷◌, ◌++◌, map, take, length}
 use Rattle.std.specs.List.{flat_map}
 use Rattle.chess_core.specs.Diagrams.{position_of}
@@ -38,12 +38,13 @@ abbrev pub first_phase : Posed → Phase
 first_phase problem = if problem.set_play then Set else Play
 
 -- the first position of the play
-abbrev pub start : Posed → Position
-start problem = position_of problem.diagram
+abbrev pub play_start : Posed → Position
+play_start problem = position_of problem.diagram
 
 -- the first position of a phase
 abbrev pub phase_start : Posed → Phase → Position
-phase_start problem phase = if is_set phase then set_start (start problem) else start problem
+phase_start problem phase =
+    if is_set phase then set_start (play_start problem) else play_start problem
 
 -- its half-moves: set play drops the first
 abbrev pub phase_half_moves : Posed → Phase → ℕ
@@ -64,7 +65,7 @@ solutions rule problem phase =
 
 -- a phase with set play's first position is barred where that can't stand
 abbrev pub is_barred : RuleSet → Posed → Phase → Bool
-is_barred rule problem phase = is_set phase && is_impossible rule (set_start (start problem))
+is_barred rule problem phase = is_set phase && is_impossible rule (set_start (play_start problem))
 
 -- a path as an event
 abbrev pub path_event : Posed → Phase → List Triple → BareEvent
@@ -99,13 +100,13 @@ events rule problem = events_from rule problem (first_phase problem)
 abbrev pub shown_along : Goal → RuleSet → Position → List Triple → List Shown
 shown_along goal rule p [] = []
 shown_along goal rule p (m ∷ path) = show goal rule p m
-    ∷ shown_along goal rule (played rule p m) path
+    ∷ shown_along goal rule (position_after rule p m) path
 
 -- the last move of a path from p as it is shown
 abbrev pub shown_last : Goal → RuleSet → Position → List Triple → Shown
 shown_last goal rule p [] = nothing_shown
 shown_last goal rule p (m ∷ []) = show goal rule p m
-shown_last goal rule p (m ∷ (n ∷ path)) = shown_last goal rule (played rule p m) (n ∷ path)
+shown_last goal rule p (m ∷ (n ∷ path)) = shown_last goal rule (position_after rule p m) (n ∷ path)
 
 -- the number of a phase's first half-move
 abbrev pub phase_half : Posed → Phase → ℕ

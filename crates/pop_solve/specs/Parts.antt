@@ -39,15 +39,15 @@ part_numbered rule problem phase depth number =
     if number == 0 then None else slice_get (parts rule problem phase depth) (number - 1)
 
 -- the path begins with these moves, which are told by their numbers in the order of moves
-unfoldable pub is_front : List Triple → List Triple → Bool
-is_front [] path = true
-is_front (m ∷ front) [] = false
-is_front (m ∷ front) (n ∷ path) = triple_number m == triple_number n && is_front front path
+unfoldable pub begins_path : List Triple → List Triple → Bool
+begins_path [] path = true
+begins_path (m ∷ front) [] = false
+begins_path (m ∷ front) (n ∷ path) = triple_number m == triple_number n && begins_path front path
 
 -- the solution begins so: its first path does
 abbrev pub begins_so : List Triple → List (List Triple) → Bool
 begins_so front [] = false
-begins_so front (path ∷ paths) = is_front front path
+begins_so front (path ∷ paths) = begins_path front path
 
 -- the solutions of a part: those of its phase that begin so
 unfoldable pub part_solutions : RuleSet → Posed → Phase → List Triple → List (List (List Triple))

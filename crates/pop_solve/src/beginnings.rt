@@ -7,7 +7,7 @@ ghost use Rattle.chess_rules.specs.Legal.{is_legal};
 ghost use Rattle.pop_input.specs.declared.stipulation.Goal.{Goal};
 ghost use Rattle.pop_input.specs.Posed.{IsSound, rule_of};
 ghost use Rattle.pop_input.specs.Stipulations.{half_moves};
-ghost use Rattle.pop_solve.specs.Events.{is_barred, phase_half_moves as half_moves_of_phase, phase_start, start};
+ghost use Rattle.pop_solve.specs.Events.{is_barred, phase_half_moves as half_moves_of_phase, phase_start, play_start};
 ghost use Rattle.pop_solve.specs.Chess.{chess};
 ghost use Rattle.pop_solve.specs.Parts.{beginnings, part_depth as depth_of_parts, part_numbered, parts};
 ghost use Rattle.pop_solve.specs.ties.Beginnings.{beginnings_to_come, FindsNumbered, IsSeeking, Seeks};
@@ -100,7 +100,7 @@ fn set_out<R: Rules, const N: usize>(
     board: &mut Board,
     frames: &mut ArrayVec<Frame<R>, N>,
 ) -> bool
-    requires board { board.old ≡ start problem.now }
+    requires board { board.old ≡ play_start problem.now }
     requires room { 0 < N }
     requires none { frames.old.items ≡ [] }
     ensures possible { result ≡ not (is_barred R.rule problem.now phase
@@ -169,7 +169,7 @@ pub(crate) fn go_to_part<R: Rules, const N: usize>(
     requires sound { IsSound problem.now }
     requires room { half_moves problem.now.stipulation < N }
     requires depth { 1 ≤ depth }
-    requires board { board.old ≡ start problem.now }
+    requires board { board.old ≡ play_start problem.now }
     requires none { frames.old.items ≡ [] }
     ensures found { MatchOption result (part_numbered R.rule problem.now phase depth number ≡ None)
         (λ m. (part_numbered R.rule problem.now phase depth number

@@ -5,10 +5,10 @@ ghost use Rattle.chess_core.specs.WellFormed.{IsWellFormed};
 ghost use Rattle.chess_core.specs.Triple.{Triple};
 ghost use Rattle.std.specs.Prelude.{List};
 ghost use Rattle.chess_rules.specs.Legal.{is_legal, is_mate};
-ghost use Rattle.chess_rules.specs.Play.{after as played};
+ghost use Rattle.chess_rules.specs.Play.{position_after};
 ghost use Rattle.pop_input.specs.Posed.{IsSound};
 ghost use Rattle.pop_input.specs.Stipulations.{half_moves, is_help};
-ghost use Rattle.pop_solve.specs.Events.{event_of, path_event, phase_half_moves as half_moves_of_phase, phase_start, start};
+ghost use Rattle.pop_solve.specs.Events.{event_of, path_event, phase_half_moves as half_moves_of_phase, phase_start, play_start};
 ghost use Rattle.pop_solve.specs.Parts.{part_events};
 ghost use Rattle.pop_solve.specs.ties.Beginnings.{IsSeeking};
 ghost use Rattle.pop_solve.specs.ties.Marks.{is_for_mate};
@@ -51,9 +51,10 @@ fn may_lead<R: Rules>(plan: Plan, left: usize, by: Move, board: &mut Board) -> b
     requires few { left ≤ 32 }
     requires legal { is_legal R.rule board.old by ≡ true }
     ensures unchanged { board.new ≡ board.old }
-    ensures mated { result ≡ true → IsMatedAtLast R.rule plan left (played R.rule board.old by) }
+    ensures mated { result ≡ true → IsMatedAtLast R.rule plan left
+        (position_after R.rule board.old by) }
     ensures fails { result ≡ false → (is_for_mate plan.goal ≡ true) × (seeks_last plan ≡ true)
-        × (left ≡ 0) × (is_mate R.rule (played R.rule board.old by) ≡ false) }
+        × (left ≡ 0) × (is_mate R.rule (position_after R.rule board.old by) ≡ false) }
 {
     if !ends_with_mate(plan, left + 1) {
         return true;
@@ -230,7 +231,7 @@ impl<R: Rules, const N: usize> PartSearch<R, N> {
     ghost use Rattle.std.specs.Option.{option_map};
     ghost use Rattle.pop_input.specs.Posed.{rule_of};
     ghost use Rattle.pop_input.specs.Stipulations.{half_moves, is_help};
-    ghost use Rattle.pop_solve.specs.Events.{event_of, start};
+    ghost use Rattle.pop_solve.specs.Events.{event_of, play_start};
     ghost use Rattle.pop_solve.specs.Parts.{part_events, part_numbered};
     ghost use Rattle.pop_solve.specs.ties.PartsSeen.{is_part_stopped, part_walk};
     ghost use Rattle.pop_solve.specs.ties.Seen.{StandsOn};
@@ -283,7 +284,7 @@ impl<R: Rules, const N: usize> PartSearch<R, N> {
             (slice_get self.old.left 0) }
         ensures left { self.new.left ≡ drop 1 self.old.left }
         ensures board { MatchOption (slice_get self.old.left 0)
-            (self.new.board ≡ start self.old.problem)
+            (self.new.board ≡ play_start self.old.problem)
             (λ bare. StandsOn R.rule self.old.problem bare self.new.board self.new.depth) }
         ensures problem { self.new.problem ≡ self.old.problem }
         ensures phase { self.new.phase ≡ self.old.phase }

@@ -3,7 +3,7 @@
 ghost use Rattle.chess_core.specs.Position.{Position};
 ghost use Rattle.chess_core.specs.WellFormed.{IsWellFormed};
 ghost use Rattle.chess_rules.specs.Legal.{is_legal};
-ghost use Rattle.chess_rules.specs.Play.{after as played};
+ghost use Rattle.chess_rules.specs.Play.{position_after};
 ghost use Rattle.pop_solve.specs.Chess.{chess, show};
 ghost use Rattle.pop_solve.specs.Events.{shown_along, shown_last};
 ghost use Rattle.pop_solve.specs.ties.Frames.{CameFrom, CameFromAt};
@@ -51,9 +51,9 @@ fn play_shown<R: Rules>(goal: Goal, reached: Reached, frame: &Frame<R>, board: &
     requires well_formed { IsWellFormed board.old }
     requires legal { is_legal R.rule board.old frame.now.by ≡ true }
     requires reached { reached ≡ Surely
-        → (chess goal R.rule).goal (played R.rule board.old frame.now.by) ≡ true }
+        → (chess goal R.rule).goal (position_after R.rule board.old frame.now.by) ≡ true }
     ensures shown { result ≡ show goal R.rule board.old frame.now.by }
-    ensures after { board.new ≡ played R.rule board.old frame.now.by }
+    ensures after { board.new ≡ position_after R.rule board.old frame.now.by }
     ensures well_formed { IsWellFormed board.new }
 {
     let by = frame.by;

@@ -1,5 +1,5 @@
 //! The tests of battle play.
-ghost use Rattle.chess_rules.specs.Play.{after as played};
+ghost use Rattle.chess_rules.specs.Play.{position_after};
 ghost use Rattle.chess_rules.specs.Legal.{moves as legal_moves};
 ghost use Rattle.std.specs.Prelude.{◌≡◌, ◌+◌, ◌<◌, ◌≤◌, ◌%◌, [], ◌∷◌, ◌++◌, filter, IfSome, IfNone, true, false, Option, Some, None, not, MatchOption, MatchBool, ◌⊎◌, ◌&&◌, ◌==◌, ◌-◌};
 ghost use Rattle.chess_core.specs.Position.{Position};
@@ -95,7 +95,7 @@ fn settled<R: Rules>(
         (λ v. v ≡ value aim.battle (chess aim.goal R.rule) left board.old) }
     ensures known { IfSome known.new (λ k. IsPlaceIn R.rule board.old k) }
     ensures opened { MatchOption result (opened.new ≡ opened.old)
-        (λ _. opened.new ≤ opened.old + walk_count (legal_moves R.rule) (played R.rule) left
+        (λ _. opened.new ≤ opened.old + walk_count (legal_moves R.rule) (position_after R.rule) left
         board.old) }
     ensures tried { IfSome result
         (λ _. HasCounted opened.old opened.new
@@ -321,23 +321,24 @@ fn descend<R: Rules, const N: usize>(
     requires room { array_vec_len frames.old + top.left ≤ N }
     requires legal { is_legal R.rule board.old by ≡ true }
     ensures opened { MatchOption answer.new (opened.new ≤ opened.old + 1)
-        (λ _. opened.new ≤ opened.old + walk_count (legal_moves R.rule) (played R.rule)
-        (top.left - 1) (played R.rule board.old by)) }
+        (λ _. opened.new ≤ opened.old + walk_count (legal_moves R.rule) (position_after R.rule)
+        (top.left - 1) (position_after R.rule board.old by)) }
     ensures tried { MatchOption answer.new (HasCounted opened.old opened.new 1)
         (λ _. HasCounted opened.old opened.new
         (smallest_tree aim.battle (chess aim.goal R.rule) (top.left - 1)
-        (played R.rule board.old by))) }
+        (position_after R.rule board.old by))) }
     ensures answer { MatchOption answer.new
         ((0 < top.left - 1)
-        × (value aim.battle (chess aim.goal R.rule) (top.left - 1) (played R.rule board.old by)
-        ≡ joined_value aim.battle (chess aim.goal R.rule) (top.left - 1) (played R.rule board.old by)
-        (legal_moves R.rule (played R.rule board.old by)))
-        × (board.new ≡ played R.rule board.old by)
-        × IsOpenedOn R.rule (played R.rule board.old by)
+        × (value aim.battle (chess aim.goal R.rule) (top.left - 1)
+        (position_after R.rule board.old by)
+        ≡ joined_value aim.battle (chess aim.goal R.rule) (top.left - 1) (position_after R.rule board.old by)
+        (legal_moves R.rule (position_after R.rule board.old by)))
+        × (board.new ≡ position_after R.rule board.old by)
+        × IsOpenedOn R.rule (position_after R.rule board.old by)
         (frames.old.items ++ top ∷ []) frames.new.items
         by (undo_of R.rule board.old by) (top.left - 1))
         (λ v. (v ≡ value aim.battle (chess aim.goal R.rule) (top.left - 1)
-        (played R.rule board.old by))
+        (position_after R.rule board.old by))
         × (board.new ≡ board.old)
         × (frames.new.items ≡ frames.old.items ++ top ∷ [])) }
 {

@@ -1,5 +1,5 @@
 //! The walk over the moves of a phase, on frames.
-ghost use Rattle.chess_rules.specs.Play.{after as played};
+ghost use Rattle.chess_rules.specs.Play.{position_after};
 ghost use Rattle.chess_rules.specs.Legal.{moves as legal_moves};
 ghost use Rattle.std.specs.Prelude.{◌≡◌, ◌↔◌, ◌+◌, ◌<◌, ◌≤◌, ◌/◌, [], ◌∷◌, ◌++◌, length, reverse, IsTrue, true, false, IfSome, MatchOption, ◌⊎◌, not, ◌&&◌, ◌||◌, ◌==◌, ◌-◌, ◌^◌, min};
 ghost use Rattle.chess_core.specs.Position.{Position};
@@ -210,17 +210,18 @@ pub(crate) fn enter<R: Rules, const N: usize>(
     requires well_formed { IsWellFormed board.old }
     requires room { array_vec_len frames.old + left < N }
     requires legal { is_legal R.rule board.old by ≡ true }
-    requires mated { IsMatedAtLast R.rule plan left (played R.rule board.old by) }
+    requires mated { IsMatedAtLast R.rule plan left (position_after R.rule board.old by) }
     ensures passes { is_followed plan (chess plan.goal R.rule) root left
-        (played R.rule board.old by) ≡ false
+        (position_after R.rule board.old by) ≡ false
         → (result ≡ false) × (board.new ≡ board.old) × (frames.new.items ≡ frames.old.items) }
     ensures enters { is_followed plan (chess plan.goal R.rule) root left
-        (played R.rule board.old by) ≡ true
-        → (result ≡ is_given plan (chess plan.goal R.rule) left (played R.rule board.old by))
-        × (board.new ≡ played R.rule board.old by)
+        (position_after R.rule board.old by) ≡ true
+        → (result ≡ is_given plan (chess plan.goal R.rule) left
+        (position_after R.rule board.old by))
+        × (board.new ≡ position_after R.rule board.old by)
         × (frames.new.items ≡ frames.old.items ++ opened_frame by (undo_of R.rule board.old by)
-        (goes_on plan (chess plan.goal R.rule) left (played R.rule board.old by)) ∷ []) }
-    ensures counts { Counts R.rule plan root left (played R.rule board.old by) opened.old
+        (goes_on plan (chess plan.goal R.rule) left (position_after R.rule board.old by)) ∷ []) }
+    ensures counts { Counts R.rule plan root left (position_after R.rule board.old by) opened.old
         opened.new }
 {
     let undo = R::play(board, by);
@@ -261,7 +262,7 @@ fn next_of<R: Rules>(
         (m ∷ moves_behind R.rule board.old place.new)
         × (is_legal R.rule board.old m ≡ true)) }
     ensures mated { IfSome result
-        (λ m. IsMatedAtLast R.rule plan (left - 1) (played R.rule board.old m)) }
+        (λ m. IsMatedAtLast R.rule plan (left - 1) (position_after R.rule board.old m)) }
 {
     if left == 0 {
         return None;

@@ -1,6 +1,6 @@
 -- Whether a move leaves its mover in check, told by the men that an attack sees after it.
 use Rattle.chess_rules.proofs.Basics.{Bool, List, None, Option, Some, and_from, and_left, and_parts, and_right, ap, arith, bit_at, cases_Bool, cases_eq, cond-false, cond-true, eq-eqb, false, false_from_ne_true, false≢true, inl, inr, is_some, not, not-true, or_parts, rules, sym, true, ℕ, ◌&&◌, ◌<◌, ◌==◌, ◌||◌, ◌∙◌, ◌≡◌}
-use Rattle.chess_rules.proofs.Chess.{AreArrived, AreOthers, AreSeen, Colour, IsWellFormed, Kind, King, Man, Move, Position, RuleSet, after, arriving_man, capture_square, differs, faces, faces_its_like, in_check, is_arrival_free, is_attacked_at, is_castling, is_circe, is_faced, is_madrasi, is_man, is_paralysed, is_promotion_right, is_pseudo_legal, is_side, is_simple, is_square, king_after, king_square, man_on, other, reaches, same_colour, same_colour-true, same_kind, sight_after, some_square, squares_both, squares_either, squares_not, squares_of, squares_same, word}
+use Rattle.chess_rules.proofs.Chess.{AreArrived, AreOthers, AreSeen, Colour, IsWellFormed, Kind, King, Man, Move, Position, RuleSet, arriving_man, capture_square, differs, faces, faces_its_like, in_check, is_arrival_free, is_attacked_at, is_castling, is_circe, is_faced, is_madrasi, is_man, is_paralysed, is_promotion_right, is_pseudo_legal, is_side, is_simple, is_square, king_after, king_square, man_on, other, position_after, reaches, same_colour, same_colour-true, same_kind, sight_after, some_square, squares_both, squares_either, squares_not, squares_of, squares_same, word}
 use Rattle.chess_rules.specs.ties.Sight.{is_arriving_as, own_after}
 use Rattle.chess_rules.specs.declared.sight.Sight.{Sight}
 use Rattle.chess_rules.proofs.attacks.Attacking.{attacked_by}
@@ -114,13 +114,13 @@ king_is_after rule p x m well is small castling =
     )
 
 pub check_is : (rule : RuleSet) (p : Position) (x : Man) (m : Move) (o : Option ℕ) → IsWellFormed p → IsMade rule p x m → m.to < 64 → IsSimple rule p x m
-    → king_after p x m ≡ o → in_check rule (after rule p m).men p.turn ≡ is_attacked_at rule (arrived p x m) o (other p.turn)
+    → king_after p x m ≡ o → in_check rule (position_after rule p m).men p.turn ≡ is_attacked_at rule (arrived p x m) o (other p.turn)
 unfolding in_check
 check_is rule p x m o well is small simple king = search (rules, king_is_after, simple_after)
 
 pub no_king_exposed : (rule : RuleSet) (p : Position) (x : Man) (m : Move) → IsWellFormed p → is_pseudo_legal rule p m ≡ true → m.to < 64
     → man_on p.men m.from ≡ Some x
-    → is_simple rule x m (is_some (capture_square p x m)) ≡ true → king_after p x m ≡ None → false ≡ in_check rule (after rule p m).men p.turn
+    → is_simple rule x m (is_some (capture_square p x m)) ≡ true → king_after p x m ≡ None → false ≡ in_check rule (position_after rule p m).men p.turn
 no_king_exposed rule p x m well may small here simple king =
     sym (check_is rule p x m None well (made rule p m x may here) small (simple_parts rule p x m simple) king)
 
@@ -196,7 +196,7 @@ pub exposed_is : (rule : RuleSet) (p : Position) (x : Man) (m : Move) (k w : ℕ
     → w ≡ word (λ s. is_side (man_on men s) (other p.turn) && reaches men s k))
     → ((men : List (Option Man)) → AreArrived p.men men x m (sight_after p.men m.from (capture_square p x m) m.to) → AreOthers men x.colour w
     → b ≡ some_square (λ s. bit_at w s == 1 && not (is_paralysed rule men s)))
-    → b ≡ in_check rule (after rule p m).men p.turn
+    → b ≡ in_check rule (position_after rule p m).men p.turn
 exposed_is rule p x m k w b well may small here simple king attackers free =
     let is : IsMade rule p x m = made rule p m x may here in
     let parts : IsSimple rule p x m = simple_parts rule p x m simple in

@@ -1,7 +1,7 @@
 -- The position before a move, found again.
 use Rattle.chess_rules.proofs.Basics.{IsSome, List, None, Option, Some, and_parts, ap, arith, cases_Bool, inl, inr, length, length-set, refl, rules, sym, true, ℕ, ◌<◌, ◌∙◌, ◌≡◌}
-use Rattle.chess_rules.proofs.Chess.{CanCastle, CanReturn, IsWellFormed, Kind, Man, Move, Position, RuleSet, after, after_by, arriving_man, before_by, capture_square, corner, halfway, is_castling, is_crossed_right, is_promotion_right, is_pseudo_legal, is_square, leaving_man, loss_by, man_on, man_on-with_same, man_on-without_other, man_on-without_same, man_on_at, moved_men, put_at, reborn_square, returned_men, returns_to, uncastled_men, undo_of, without_at, without_man}
-use Rattle.chess_rules.specs.Loss.{Loss}
+use Rattle.chess_rules.proofs.Chess.{CanCastle, CanReturn, IsWellFormed, Kind, Man, Move, Position, RuleSet, after_by, arriving_man, before_by, capture_square, corner, halfway, is_castling, is_crossed_right, is_promotion_right, is_pseudo_legal, is_square, leaving_man, man_on, man_on-with_same, man_on-without_other, man_on-without_same, man_on_at, moved_men, position_after, put_at, reborn_square, returned_men, returns_to, uncastled_men, undo_by, undo_of, without_at, without_man}
+use Rattle.chess_rules.specs.Undo.{Undo}
 use Rattle.chess_rules.proofs.making_moves.Pseudo.{made}
 use Rattle.chess_rules.proofs.making_moves.Back.{lift_after_place, place_after_lift, unborn, uncastled}
 use Rattle.chess_rules.proofs.making_moves.Castles.{no_king_left, same_colour_self}
@@ -64,9 +64,9 @@ returns_there rule p x m well made = by (capture_square p x m) refl where
   by (Some s) e = let t = taken rule p x m s well made e in rw t.there (returns_some p x m s t.man well e)
 
 -- the captured man is back
-returned : (rule : RuleSet) (p : Position) (x : Man) (m : Move) (u : Loss) → IsWellFormed p → IsMade rule p x m → u ≡ loss_by rule p x m
+returned : (rule : RuleSet) (p : Position) (x : Man) (m : Move) (u : Undo) → IsWellFormed p → IsMade rule p x m → u ≡ undo_by rule p x m
     → returned_men (moved_men p x m) x m u ≡ without_man p.men m.from
-unfolding returned_men loss_by
+unfolding returned_men undo_by
 returned rule p x m u well made lost =
     let back : put_at (cleared p x m) (capture_square p x m) (man_on_at p.men (capture_square p x m))
     ≡ without_man p.men m.from = recapture (capture_square p x m) (λ s e. taken rule p x m s well made e) in
@@ -94,9 +94,9 @@ unfolding moved_men
 castle_back rule p x m well made e =
     grind (arith, can_move, castle_of, corner_stays, length-set, length-without_at, lift_after_place, man_on-with_same, man_on-without_same, rook_stands)
 
-pub can_return : (rule : RuleSet) (p : Position) (x : Man) (m : Move) (u : Loss) → IsWellFormed p → IsMade rule p x m → m.to < 64 → u ≡ loss_by rule p x m
+pub can_return : (rule : RuleSet) (p : Position) (x : Man) (m : Move) (u : Undo) → IsWellFormed p → IsMade rule p x m → m.to < 64 → u ≡ undo_by rule p x m
     → CanReturn (moved_men p x m) x m u
-unfolding loss_by
+unfolding undo_by
 can_return rule p x m u well made small lost =
     search (
       rules,
@@ -124,9 +124,9 @@ unreborn rule p x m = unborn (moved_men p x m) (reborn_square rule p x m) (man_o
 pub goes_back : (rule : RuleSet) (p : Position) (x : Man) (m : Move) → IsMade rule p x m → leaving_man (arriving_man x m.promo) m.promo ≡ x
 goes_back rule p x m made = leaving_arriving p x m m.promo made.promotion
 
-pub before_is : (rule : RuleSet) (p : Position) (x : Man) (m : Move) (u : Loss) → IsWellFormed p → IsMade rule p x m → u ≡ loss_by rule p x m
+pub before_is : (rule : RuleSet) (p : Position) (x : Man) (m : Move) (u : Undo) → IsWellFormed p → IsMade rule p x m → u ≡ undo_by rule p x m
     → before_by (record (after_by rule p x m) { men = moved_men p x m }) x m u ≡ p
-unfolding before_by after_by loss_by
+unfolding before_by after_by undo_by
 before_is rule p x m u well made lost = search (rules, place_after_lift, returned)
 
 -- a reborn man stands on his square
@@ -135,38 +135,40 @@ pub reborn_stands : (rule : RuleSet) (p : Position) (x : Man) (m : Move) (s : �
 reborn_stands rule p x m s well made e =
     grind (arith, reborn_is rule p x m s e, moved_sound rule p x m well made, made, rebirth_small, some_there, man_on-with_same)
 
-pub undo_is : (rule : RuleSet) (p : Position) (x : Man) (m : Move) → man_on p.men m.from ≡ Some x → undo_of rule p m ≡ loss_by rule p x m
+pub undo_is : (rule : RuleSet) (p : Position) (x : Man) (m : Move) → man_on p.men m.from ≡ Some x → undo_of rule p m ≡ undo_by rule p x m
 unfolding undo_of
 undo_is rule p x m here = rw here refl
 
-after_is : (rule : RuleSet) (p : Position) (x : Man) (m : Move) → man_on p.men m.from ≡ Some x → after rule p m ≡ after_by rule p x m
-unfolding after
+after_is : (rule : RuleSet) (p : Position) (x : Man) (m : Move) → man_on p.men m.from ≡ Some x → position_after rule p m ≡ after_by rule p x m
+unfolding position_after
 after_is rule p x m here = rw here refl
 
 -- a reborn man can be taken off
-pub can_take_off : (rule : RuleSet) (q p : Position) (m : Move) (u : Loss) (s : ℕ) → IsWellFormed p → is_pseudo_legal rule p m ≡ true → q ≡ after rule p m
+pub can_take_off : (rule : RuleSet) (q p : Position) (m : Move) (u : Undo) (s : ℕ) → IsWellFormed p → is_pseudo_legal rule p m ≡ true
+    → q ≡ position_after rule p m
     → u ≡ undo_of rule p m → u.rebirth ≡ Some s → IsSome (man_on q.men s)
-unfolding loss_by after_by
+unfolding undo_by after_by
 can_take_off rule q p m u s well may now was e =
     let x = maker rule p m may in
-    let at : reborn_square rule p x.0 m ≡ Some s = ap (λ (v : Loss). v.rebirth) (sym (was ∙ undo_is rule p x.0 m x.1)) ∙ e in
+    let at : reborn_square rule p x.0 m ≡ Some s = ap (λ (v : Undo). v.rebirth) (sym (was ∙ undo_is rule p x.0 m x.1)) ∙ e in
     let men : q.men ≡ put_at (moved_men p x.0 m) (reborn_square rule p x.0 m) (man_on_at p.men (capture_square p x.0 m)) = search (rules, after_is) in
     rw men (reborn_stands rule p x.0 m s well (made rule p m x.0 may x.1) at)
 
 -- the board when the reborn man is off
-off_is : (rule : RuleSet) (q q2 p : Position) (x : Man) (m : Move) (u : Loss) → man_on p.men m.from ≡ Some x → q ≡ after rule p m → u ≡ loss_by rule p x m
+off_is : (rule : RuleSet) (q q2 p : Position) (x : Man) (m : Move) (u : Undo) → man_on p.men m.from ≡ Some x → q ≡ position_after rule p m
+    → u ≡ undo_by rule p x m
     → q2 ≡ record q { men = without_at q.men u.rebirth } → q2 ≡ record (after_by rule p x m) { men = moved_men p x m }
-unfolding loss_by after_by
+unfolding undo_by after_by
 off_is rule q q2 p x m u here now lost off = grind (arith, after_is rule p x m here, unreborn rule p x m)
 
 -- the man found on the arrival, and what taking the move back then needs and gives
-pub record GoesBack (q2 p : Position) (m : Move) (u : Loss) (a : ℕ) (r : Option Kind) : Type 0 where
+pub record GoesBack (q2 p : Position) (m : Move) (u : Undo) (a : ℕ) (r : Option Kind) : Type 0 where
   pub stands : man_on q2.men a ≡ None → ⊥
   pub can : (y : Man) → man_on q2.men a ≡ Some y → CanReturn q2.men (leaving_man y r) m u
   pub gives : (y : Man) → man_on q2.men a ≡ Some y → before_by q2 (leaving_man y r) m u ≡ p
 
-pub restores : (rule : RuleSet) (q q2 p : Position) (m : Move) (u : Loss) (a : ℕ) (r : Option Kind) → IsWellFormed p → is_pseudo_legal rule p m ≡ true
-    → q ≡ after rule p m → u ≡ undo_of rule p m → q2 ≡ record q { men = without_at q.men u.rebirth } → a ≡ m.to → a < 64 → r ≡ m.promo
+pub restores : (rule : RuleSet) (q q2 p : Position) (m : Move) (u : Undo) (a : ℕ) (r : Option Kind) → IsWellFormed p → is_pseudo_legal rule p m ≡ true
+    → q ≡ position_after rule p m → u ≡ undo_of rule p m → q2 ≡ record q { men = without_at q.men u.rebirth } → a ≡ m.to → a < 64 → r ≡ m.promo
     → GoesBack q2 p m u a r
 restores rule q q2 p m u a r well may now was off to small promo =
     let x = maker rule p m may in

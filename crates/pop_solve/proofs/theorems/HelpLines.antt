@@ -1,6 +1,6 @@
 -- The lines of help play: which lists of moves they are, that each stands once, and in which order.
 use Rattle.pop_solve.proofs.Words.{AllPairs, Contains, Game, Goal, IsWellFormed, List, Position, Precedes, RuleSet, Triple, [], after_well_formed, arith, chess, help_lines, is_reached, is_legal, length, moves_are_the_legal_moves, moves_differ, moves_in_order, none_in_nil, pairs_nil, pairs_weaker, is_pseudo_legal-from_legal, path_end, refl, suc, true, zero, ℕ, ◌↔◌, ◌∷◌, ◌≡◌, ◌≢◌, ◌≤◌}
-use Rattle.chess_rules.specs.Play.{after as played}
+use Rattle.chess_rules.specs.Play.{position_after}
 use Rattle.pop_solve.proofs.HelpPlay.{from_lines, in_lines, lines_stand}
 use Rattle.pop_solve.proofs.theorems.Lists.{IsPlayable, StandsBefore, never_before_itself}
 
@@ -31,7 +31,7 @@ module _ (rule : RuleSet) where
   -- Each move of the line is legal in the position in which it is made.
   abbrev pub IsLegalLine : Position → List Triple → Type 0
   IsLegalLine p [] = Unit {0}
-  IsLegalLine p (m ∷ line) = (is_legal rule p m ≡ true) × IsLegalLine (played rule p m) line
+  IsLegalLine p (m ∷ line) = (is_legal rule p m ≡ true) × IsLegalLine (position_after rule p m) line
 
 -- And for a goal.
 module _ (goal : Goal) (rule : RuleSet) where
@@ -41,10 +41,10 @@ module _ (goal : Goal) (rule : RuleSet) where
   playable_is_legal p (m ∷ line) well = (
     λ w.
         let may = (moves_are_the_legal_moves rule p m well).0 w.0 in
-        (may, (playable_is_legal (played rule p m) line (after_well_formed rule p m well (is_pseudo_legal-from_legal rule p m may))).0 w.1),
+        (may, (playable_is_legal (position_after rule p m) line (after_well_formed rule p m well (is_pseudo_legal-from_legal rule p m may))).0 w.1),
     λ w. (
       (moves_are_the_legal_moves rule p m well).1 w.0,
-      (playable_is_legal (played rule p m) line (after_well_formed rule p m well (is_pseudo_legal-from_legal rule p m w.0))).1 w.1,
+      (playable_is_legal (position_after rule p m) line (after_well_formed rule p m well (is_pseudo_legal-from_legal rule p m w.0))).1 w.1,
     ),
   )
 
@@ -52,7 +52,7 @@ module _ (goal : Goal) (rule : RuleSet) where
   -- legal where it is made, and the goal is reached in its last position.
   pub help_lines_of_chess_are : (h : ℕ) (p : Position) (line : List Triple) → IsWellFormed p
       → Contains (help_lines (chess goal rule) h p) line
-      ↔ ((1 ≤ h) × (length line ≡ h) × IsLegalLine rule p line × (is_reached goal rule (path_end (played rule) p line) ≡ true))
+      ↔ ((1 ≤ h) × (length line ≡ h) × IsLegalLine rule p line × (is_reached goal rule (path_end (position_after rule) p line) ≡ true))
   help_lines_of_chess_are h p line well = grind (arith, help_lines_are (chess goal rule) h p line, playable_is_legal p line well)
 
   -- They stand in lexicographic order of the moves.

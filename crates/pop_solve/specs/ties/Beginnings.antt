@@ -5,7 +5,7 @@ use Rattle.std.specs.List.{flat_map, list_all}
 use Rattle.chess_core.specs.Position.{Position}
 use Rattle.chess_core.specs.Triple.{Triple}
 use Rattle.chess_rules.specs.Legal.{is_legal}
-use Rattle.chess_rules.specs.Play.{after as played}
+use Rattle.chess_rules.specs.Play.{position_after}
 use Rattle.chess_rules.specs.RuleSet.{RuleSet}
 use Rattle.chess_rules.specs.ties.Places.{moves_behind}
 use Rattle.pop_input.specs.declared.stipulation.Goal.{Goal}
@@ -21,7 +21,8 @@ are_idle frames = list_all (λ f. f.left == 0) frames
 -- the lists of moves from p that begin with these, k moves behind each
 unfoldable pub beginnings_by : Goal → RuleSet → ℕ → Position → List Triple → List (List Triple)
 beginnings_by goal rule k p ms =
-    flat_map (λ m. map (λ rest. m ∷ rest) (beginnings (chess goal rule) k (played rule p m))) ms
+    flat_map (λ m. map (λ rest. m ∷ rest) (beginnings (chess goal rule) k
+    (position_after rule p m))) ms
 
 -- the beginnings of d moves still to come from all frames, in order
 unfoldable pub beginnings_to_come : Goal → RuleSet → ℕ → Position → List Frame → List (List Triple)

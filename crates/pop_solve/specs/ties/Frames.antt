@@ -1,5 +1,5 @@
 -- What the frames of a search stand for.
-use Rattle.chess_rules.specs.Play.{after as played}
+use Rattle.chess_rules.specs.Play.{position_after}
 use Rattle.chess_rules.specs.Legal.{moves as legal_moves}
 use Rattle.pop_solve.specs.declared.aim.Aim.{Aim}
 use Rattle.std.specs.Prelude.{◌≡◌, ◌<◌, IfSome, Bool, true, false, not, ◌&&◌, Option, Some, None, ℕ, zero, suc, ◌+◌, ◌-◌, ◌≤◌, ◌^◌, min, if◌then◌else◌, List, [], ◌∷◌, ◌++◌, ◌==◌, filter, length, take, drop, reverse}
@@ -9,7 +9,7 @@ use Rattle.chess_core.specs.Position.{Position}
 use Rattle.chess_core.specs.Triple.{Triple}
 use Rattle.chess_core.specs.WellFormed.{IsWellFormed}
 use Rattle.chess_rules.specs.Legal.{is_legal}
-use Rattle.chess_rules.specs.Loss.{Loss}
+use Rattle.chess_rules.specs.Undo.{Undo}
 use Rattle.chess_mates.specs.ties.Aims.{aims_at_king}
 use Rattle.chess_rules.specs.ties.Places.{IsPlaceIn, LegalPlace, moves_behind, moves_between, place_of}
 use Rattle.chess_rules.specs.Play.{undo_of}
@@ -39,7 +39,7 @@ unordered = record { killer = 0; earlier = 0; early = NoMoves }
 pub record Frame : Type 0 where
   pub place : ℕ
   pub by : Triple
-  pub undo : Loss
+  pub undo : Undo
   pub left : ℕ
   pub order : Order
   pub stretch : Stretch
@@ -61,7 +61,7 @@ no_frame = record {
 unfoldable pub position : RuleSet → Position → List Frame → Position
 position rule p [] = p
 position rule p (f ∷ []) = p
-position rule p (f ∷ (g ∷ below)) = played rule (position rule p (g ∷ below)) f.by
+position rule p (f ∷ (g ∷ below)) = position_after rule (position rule p (g ∷ below)) f.by
 
 -- each frame but the lowest is reached by a legal move of the one below, and holds what undoes it
 unfoldable pub IsLinked : RuleSet → Position → List Frame → Type 0
@@ -145,18 +145,19 @@ pending_value rule aim p (f ∷ below) None =
 -- the steps that a test takes, which falls at each one
 unfoldable pub steps : RuleSet → ℕ → Position → ℕ
 steps rule zero p = 1
-steps rule (suc h) p = 1 + sum_by (λ m. 1 + steps rule h (played rule p m)) (legal_moves rule p)
+steps rule (suc h) p =
+    1 + sum_by (λ m. 1 + steps rule h (position_after rule p m)) (legal_moves rule p)
 
 -- the same of the moves behind a place
 unfoldable pub steps_behind : RuleSet → ℕ → Position → ℕ → ℕ
 steps_behind rule zero p place = 0
 steps_behind rule (suc h) p place =
-    sum_by (λ m. 1 + steps rule h (played rule p m)) (moves_behind rule p place)
+    sum_by (λ m. 1 + steps rule h (position_after rule p m)) (moves_behind rule p place)
 
 -- the same of some moves
 unfoldable pub steps_among : RuleSet → ℕ → Position → List Triple → ℕ
 steps_among rule zero p ms = 0
-steps_among rule (suc h) p ms = sum_by (λ m. 1 + steps rule h (played rule p m)) ms
+steps_among rule (suc h) p ms = sum_by (λ m. 1 + steps rule h (position_after rule p m)) ms
 
 -- the steps that are left to all frames of a test
 unfoldable pub work : RuleSet → Position → List Frame → ℕ
@@ -169,7 +170,7 @@ work rule p (f ∷ below) =
 unfoldable pub walk_behind : RuleSet → ℕ → Position → ℕ → ℕ
 walk_behind rule zero p place = 0
 walk_behind rule (suc h) p place =
-    sum_by (λ m. walk_count (legal_moves rule) (played rule) h (played rule p m))
+    sum_by (λ m. walk_count (legal_moves rule) (position_after rule) h (position_after rule p m))
     (moves_behind rule p place)
 
 -- the same of all frames of a walk
@@ -181,8 +182,8 @@ to_open rule p (f ∷ below) =
 -- the same of a test's frames
 unfoldable pub walk_among : RuleSet → ℕ → Position → List Triple → ℕ
 walk_among rule zero p ms = 0
-walk_among rule (suc h) p ms = sum_by (λ m. walk_count (legal_moves rule) (played rule) h
-    (played rule p m)) ms
+walk_among rule (suc h) p ms = sum_by (λ m. walk_count (legal_moves rule) (position_after rule) h
+    (position_after rule p m)) ms
 
 -- the same of all frames of a test
 unfoldable pub to_test : RuleSet → Position → List Frame → ℕ
@@ -235,10 +236,10 @@ pub record IsTesting (rule : RuleSet) (p : Position) (frames : List Frame) (boar
   pub board_at : board ≡ position rule p frames
 
 -- the move led from the position p to the board, and its undo leads back
-pub record CameBy (rule : RuleSet) (by : Triple) (undo : Loss) (board p : Position) : Type 0 where
+pub record CameBy (rule : RuleSet) (by : Triple) (undo : Undo) (board p : Position) : Type 0 where
   pub sound : IsWellFormed p
   pub legal : is_legal rule p by ≡ true
-  pub led : board ≡ played rule p by
+  pub led : board ≡ position_after rule p by
   pub undone : undo ≡ undo_of rule p by
 
 -- the same of the move of a frame
@@ -277,7 +278,7 @@ pub record Ends (rule : RuleSet) (aim : Aim) (floor : ℕ) (p : Position) (old n
   pub tried : min (before + to_try rule aim p (tests floor old) was) (2 ^ 64 - 1) ≤ after
 
 -- the frame of a position that a move has reached, of which no move has been tried
-abbrev pub opened_frame : Triple → Loss → ℕ → Frame
+abbrev pub opened_frame : Triple → Undo → ℕ → Frame
 opened_frame by undo left = record {
   place = 0;
   by = by;
@@ -289,7 +290,7 @@ opened_frame by undo left = record {
 }
 
 -- the same in a test, where the killer is tried first
-abbrev pub tested_frame : Order → Triple → Loss → ℕ → Option LegalPlace → Frame
+abbrev pub tested_frame : Order → Triple → Undo → ℕ → Option LegalPlace → Frame
 tested_frame order by undo left known = record {
   place = order.killer - 1;
   by = by;
@@ -302,7 +303,7 @@ tested_frame order by undo left known = record {
 
 -- to some frames one of a test is added, which knows at most its own position
 pub record IsOpenedOn (rule : RuleSet) (p : Position) (old new : List Frame) (by : Triple)
-    (undo : Loss) (left : ℕ) : Type 0 where
+    (undo : Undo) (left : ℕ) : Type 0 where
   pub order : Order
   pub known : Option LegalPlace
   pub within : IfSome known (IsPlaceIn rule p)

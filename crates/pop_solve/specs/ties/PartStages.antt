@@ -5,7 +5,7 @@ use Rattle.chess_core.specs.Triple.{Triple}
 use Rattle.chess_rules.specs.RuleSet.{RuleSet}
 use Rattle.pop_input.specs.Posed.{Posed}
 use Rattle.pop_input.specs.Stipulations.{is_help}
-use Rattle.pop_solve.specs.Events.{BareEvent, path_event, phase_half_moves, phase_start, start, total}
+use Rattle.pop_solve.specs.Events.{BareEvent, path_event, phase_half_moves, phase_start, play_start, total}
 use Rattle.pop_solve.specs.Parts.{part_count}
 use Rattle.pop_solve.specs.declared.event.Phase.{Phase}
 use Rattle.pop_solve.specs.declared.part_search.PartStage.{PartStage}
@@ -69,7 +69,7 @@ StandsInPart rule problem phase front First frames board =
 StandsInPart rule problem phase front (Within count) frames board =
     IsInPart rule problem phase front (Within count) frames board
 StandsInPart rule problem phase front Behind frames board = (frames ≡ [])
-    × (board ≡ start problem)
+    × (board ≡ play_start problem)
 
 -- in help play, if no limit ends the part, all positions of the part's walk but those still to be opened were opened
 abbrev pub IsPartOpened : RuleSet → Posed → Phase → List Triple → List Frame → ℕ → Type 0

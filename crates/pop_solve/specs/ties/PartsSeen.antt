@@ -3,7 +3,7 @@ use Rattle.std.specs.Prelude.{ℕ, ◌-◌, ◌==◌, Bool, true, ◌&&◌, List
 use Rattle.chess_core.specs.Position.{Position}
 use Rattle.chess_core.specs.Triple.{Triple}
 use Rattle.chess_rules.specs.Legal.{is_legal, moves as legal_moves}
-use Rattle.chess_rules.specs.Play.{after as played}
+use Rattle.chess_rules.specs.Play.{position_after}
 use Rattle.chess_rules.specs.RuleSet.{RuleSet}
 use Rattle.pop_input.specs.Posed.{Posed}
 use Rattle.pop_solve.specs.Events.{BareEvent, phase_half_moves, phase_start}
@@ -26,8 +26,9 @@ pub record PartSeen : Type 0 where
 -- how many lists of fewer moves than are left behind a part's first moves there are there, each legal where it stands
 abbrev pub part_walk : RuleSet → Posed → Phase → List Triple → ℕ
 part_walk rule problem phase front =
-    walk_count (legal_moves rule) (played rule) (phase_half_moves problem phase - length front)
-    (path_end (played rule) (phase_start problem phase) front)
+    walk_count (legal_moves rule) (position_after rule)
+    (phase_half_moves problem phase - length front)
+    (path_end (position_after rule) (phase_start problem phase) front)
 
 -- whether the limit of solutions ended a part
 abbrev pub is_part_stopped : RuleSet → Posed → Phase → List Triple → Bool
@@ -37,4 +38,4 @@ is_part_stopped rule problem phase front =
 -- each of the moves from p on is legal where it is made
 unfoldable pub are_legal : RuleSet → Position → List Triple → Bool
 are_legal rule p [] = true
-are_legal rule p (m ∷ ms) = is_legal rule p m && are_legal rule (played rule p m) ms
+are_legal rule p (m ∷ ms) = is_legal rule p m && are_legal rule (position_after rule p m) ms

@@ -8,7 +8,7 @@ use Rattle.pop_input.specs.Posed.{Posed}
 use Rattle.pop_input.specs.Stipulations.{is_help}
 use Rattle.pop_solve.specs.ties.Frames.{Frame, to_open}
 use Rattle.pop_solve.specs.ties.Walk.{fewest_left, path, to_come, IsEnded, IsWalking, IsCounted, IsWhites}
-use Rattle.pop_solve.specs.Events.{BareEvent, impossible, is_set, total, start, events_from, path_event, phase_start, phase_half_moves, event_of, events}
+use Rattle.pop_solve.specs.Events.{BareEvent, impossible, is_set, total, play_start, events_from, path_event, phase_start, phase_half_moves, event_of, events}
 use Rattle.pop_solve.specs.ties.Seen.{fewest_from, fewest_tried, is_never_stopped, is_unstopped, is_walked_once, walk_from, whole_walk, StandsOn}
 use Rattle.pop_solve.specs.declared.event.Event.{Event}
 use Rattle.pop_solve.specs.declared.event.Phase.{Phase}
@@ -57,12 +57,12 @@ left_of rule problem Behind frames = []
 
 -- what holds of board and frames at a stage
 unfoldable pub IsStanding : RuleSet → Posed → Stage → List Frame → Position → Type 0
-IsStanding rule problem (Before phase) frames board = (frames ≡ []) × (board ≡ start problem)
-IsStanding rule problem Barred frames board = (frames ≡ []) × (board ≡ start problem)
+IsStanding rule problem (Before phase) frames board = (frames ≡ []) × (board ≡ play_start problem)
+IsStanding rule problem Barred frames board = (frames ≡ []) × (board ≡ play_start problem)
 IsStanding rule problem (Within phase count) frames board =
     IsWalking rule (phase_half_moves problem phase) (phase_start problem phase) frames board
     × (count ≤ problem.max_solutions)
-IsStanding rule problem Behind frames board = (frames ≡ []) × (board ≡ start problem)
+IsStanding rule problem Behind frames board = (frames ≡ []) × (board ≡ play_start problem)
 
 -- what walking on in a phase leaves, at most `limit` solutions being still to begin
 pub record Walks (rule : RuleSet) (plan : Plan) (h : ℕ) (p : Position) (limit : ℕ)

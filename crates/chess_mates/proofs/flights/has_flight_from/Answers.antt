@@ -1,5 +1,5 @@
 use Rattle.chess_rules.proofs.Basics.{ap, arith, sym, ◌<◌, ◌∙◌, ◌≡◌}
-use Rattle.chess_mates.proofs.Chess.{AreOpen, Triple, after, capture_square, other, sight_lifted}
+use Rattle.chess_mates.proofs.Chess.{AreOpen, Triple, capture_square, other, position_after, sight_lifted}
 use Rattle.chess_mates.proofs.Fleeing.{has_flight_first}
 use Rattle.chess_mates.proofs.flights.has_flight_from.Goals as goal
 
@@ -13,7 +13,7 @@ returns g c = λ h.
     let small : m.to < 64 = omega (arith, to, c.index-small.ensures.value, c.index-small.ensures.small) in
     let seen : c.sight_lifted-sight.result ≡ sight_lifted p.men m.from (capture_square p x m) m.to c.args.king =
     rw (c.requires.captured, from, to) at c.sight_lifted-sight.ensures in
-    let near : AreOpen g.R.Rules.rule (after g.R.Rules.rule p m).men (other p.turn) c.args.king c.open_squares-near.result =
+    let near : AreOpen g.R.Rules.rule (position_after g.R.Rules.rule p m).men (other p.turn) c.args.king c.open_squares-near.result =
     c.open_squares-near.ensures m x c.requires.seen small seen in
     let promo : c.m.inside.promo ≡ m.promo = ap (λ (v : Triple). v.promo) c.m.view_is in
     has_flight_first g.R.Rules.rule p m x c.args.king c.requires.seen small c.open_squares-near.result c.covered_squares-covered.result near
