@@ -13,7 +13,6 @@ pub use Rattle.chess_core.specs.Squares.{file_of, is_on_board, is_square, rank_o
 unfoldable pub use Rattle.chess_core.specs.Squares.{some_square, squares}
 pub use Rattle.chess_core.specs.Steps.{diagonal_steps, knight_steps, pawn_captures, queen_steps, step_by, straight_steps}
 unfoldable pub use Rattle.chess_core.specs.Steps.{along}
-pub use Rattle.chess_core.specs.Triple.{Triple}
 pub use Rattle.chess_core.specs.WellFormed.{IsWellFormed, is_pawn_inside, is_vacant_at, was_passed}
 unfoldable pub use Rattle.chess_core.specs.WellFormed.{is_crossed_right, is_home}
 pub use Rattle.chess_core.specs.declared.man.Colour.{Colour}

@@ -55,7 +55,7 @@ block_fault true ((Word line text) ∷ tokens) = or_else
     (at_line line (fault_of false (state_of []) text)) (first_fault [] tokens)
 block_fault true ((TextLine line keyword text) ∷ tokens) = block_fault true tokens
 
--- whether a token closes its block
+-- the command that a token is, if it is one
 abbrev pub closing_of : Token → Option Command
 closing_of (Word line text) = command_of text
 closing_of (TextLine line keyword text) = None

@@ -39,7 +39,7 @@ setup_of state form = record {
   crossed = state.crossed;
 }
 
--- for words without one
+-- that of a block without one, whose fault it is: no item shows it
 abbrev pub no_stipulation : Stipulation
 no_stipulation = record { form = Direct; goal = Mate; n = 1 }
 

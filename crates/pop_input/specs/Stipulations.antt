@@ -17,13 +17,6 @@ is_help SelfMate = false
 is_help Help = true
 is_help HelpHalf = true
 
--- the goal is to befall White
-abbrev pub is_selfmate : Form → Bool
-is_selfmate Direct = false
-is_selfmate SelfMate = true
-is_selfmate Help = false
-is_selfmate HelpHalf = false
-
 -- the side that makes the first half-move of the play
 abbrev pub starting_side : Form → Colour
 starting_side Direct = White

@@ -62,7 +62,7 @@ abbrev pub goal_of : ℕ → Option Goal
 goal_of sign = if sign == mate_sign then Some Mate
     else (if sign == stalemate_sign then Some Stalemate else None)
 
--- the number that one digit writes, or two of which the first isn't 0
+-- the number that one digit writes
 abbrev pub one_digit : ℕ → Option ℕ
 one_digit a = if is_digit a then Some (a - digit_0) else None
 

@@ -1,5 +1,5 @@
 -- The moves of a position, stretch by stretch, are all its moves in another order.
-use Rattle.pop_solve.proofs.Words.{Bool, Earlier, Killer, List, Order, Others, Position, RuleSet, Triple, [], ahead, all_of, ap, append-nil, arith, belongs, between-here, between-none, between-past, between-skip, cases_Bool, cases_lt, comes_early, cond, eqb, false, filter, filter_agree, here, inl, inr, is_at, later, moves_behind, moves_behind-end, moves_behind-here, moves_behind-skip, moves_between, nat_tests, not, place_of_triple, refl, rules, suc, sym, true, zero, ℕ, ◌&&◌, ◌++◌, ◌+◌, ◌-◌, ◌<◌, ◌∙◌, ◌∷◌, ◌≡◌, ◌≤◌}
+use Rattle.pop_solve.proofs.Words.{Bool, Earlier, Killer, List, Move, Order, Others, Position, RuleSet, [], ahead, all_of, ap, append-nil, arith, belongs, between-here, between-none, between-past, between-skip, cases_Bool, cases_lt, comes_early, cond, eqb, false, filter, filter_agree, here, inl, inr, is_at, later, moves_behind, moves_behind-end, moves_behind-here, moves_behind-skip, moves_between, nat_tests, not, place_of_triple, refl, rules, suc, sym, true, zero, ℕ, ◌&&◌, ◌++◌, ◌+◌, ◌-◌, ◌<◌, ◌∙◌, ◌∷◌, ◌≡◌, ◌≤◌}
 use Rattle.chess_rules.specs.Legal.{moves as legal_moves}
 use Rattle.pop_solve.specs.declared.frame.Early.TheVariants.{NoMoves}
 use Rattle.pop_solve.proofs.Boards.{behind_start}
@@ -33,7 +33,7 @@ module _ {M C : Type 0} (step : M → C → C) (g : List M → C) (cons : (x : M
   same_parted a b c [] = search rules
   same_parted a b c (m ∷ ms) = search (rules, to_front, past_two, past_three, same_parted a b c ms)
 
-filter-none : (f : Triple → Bool) (none : (m : Triple) → f m ≡ false) → (ms : List Triple) → filter f ms ≡ []
+filter-none : (f : Move → Bool) (none : (m : Move) → f m ≡ false) → (ms : List Move) → filter f ms ≡ []
 filter-none f none [] = refl
 filter-none f none (m ∷ ms) = rw (none m) (filter-none f none ms)
 
@@ -84,8 +84,8 @@ module _ (rule : RuleSet) (p : Position) (order : Order) where
   later_aimed none = search (rules, filter-none, append-nil)
 
   -- to a frame that is opened all moves are left, in another order
-  pub same_start : {C : Type 0} (step : Triple → C → C) (g : List Triple → C) → ((m : Triple) (ms : List Triple) → g (m ∷ ms) ≡ step m (g ms))
-      → ((m n : Triple) (c : C) → step m (step n c) ≡ step n (step m c)) → g (ahead rule p order Killer (order.killer - 1)) ≡ g (legal_moves rule p)
+  pub same_start : {C : Type 0} (step : Move → C → C) (g : List Move → C) → ((m : Move) (ms : List Move) → g (m ∷ ms) ≡ step m (g ms))
+      → ((m n : Move) (c : C) → step m (step n c) ≡ step n (step m c)) → g (ahead rule p order Killer (order.killer - 1)) ≡ g (legal_moves rule p)
   unfolding later belongs
   same_start step g cons swap = ap (λ ms. g (ms ++ later rule p order Killer)) (before_killer (order.killer - 1) refl)
       ∙ same_parted step g cons swap (is_at order.killer) (is_at order.earlier) (comes_early order.early p) (legal_moves rule p)

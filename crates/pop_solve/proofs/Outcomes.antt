@@ -1,5 +1,5 @@
 -- The outcomes of a step, for frames listed from the top down.
-use Rattle.pop_solve.proofs.Words.{AreKnown, Battle, Bool, CameFrom, CameFromAt, Counts, Frame, GoesTo, IfSome, IsCounted, IsLinked, IsPlaceIn, IsRoomy, IsWalking, IsWhites, LegalPlace, List, Undo, Option, Plan, Position, RuleSet, Steps, Triple, [], after_well_formed, ap, arith, chess, eqb, false, fewest_left, follows, gives, goes_on, inl, inr, is_help, is_legal, length, min, moves_behind, opened_frame, path, position, is_pseudo_legal-from_legal, refl, rules, seeks, suc, to_come, to_open, true, turns, undo_of, walk_behind, ℕ, ◌+◌, ◌-◌, ◌<◌, ◌^◌, ◌∷◌, ◌≡◌, ◌≤◌, ◌⊎◌}
+use Rattle.pop_solve.proofs.Words.{AreKnown, Battle, Bool, CameFrom, CameFromAt, Counts, Frame, GoesTo, IfSome, IsCounted, IsLinked, IsPlaceIn, IsRoomy, IsWalking, IsWhites, LegalPlace, List, Undo, Option, Plan, Position, RuleSet, Steps, [], after_well_formed, ap, arith, chess, eqb, false, fewest_left, follows, gives, goes_on, inl, inr, is_help, is_legal, length, min, moves_behind, opened_frame, path, position, is_pseudo_legal-from_legal, refl, rules, seeks, suc, to_come, to_open, true, turns, undo_of, walk_behind, ℕ, ◌+◌, ◌-◌, ◌<◌, ◌^◌, ◌∷◌, ◌≡◌, ◌≤◌, ◌⊎◌, Move}
 use Rattle.chess_rules.specs.Play.{position_after}
 use Rattle.pop_solve.specs.ties.Frames.{opened_frame}
 use Rattle.pop_solve.proofs.Tests.{learned, moved}
@@ -51,7 +51,7 @@ module _ (rule : RuleSet) (h : ℕ) (p : Position) where
   unfolding IsRoomy
   walking-moved f next below board after r e = search (rules, IsLinked-moved, known-moved, position-moved)
 
-  walking-enter : (plan : Plan) (f : Frame) (next : ℕ) (m : Triple) (tried : ℕ) (below : List Frame) (board after : Position)
+  walking-enter : (plan : Plan) (f : Frame) (next : ℕ) (m : Move) (tried : ℕ) (below : List Frame) (board after : Position)
       → IsWalking rule h p (f ∷ below) board → tried < f.left → is_legal rule board m ≡ true → after ≡ position_after rule board m
       → IsWalking rule h p (opened_frame m (undo_of rule board m) tried ∷ (moved f next ∷ below)) after
   unfolding IsLinked IsRoomy AreKnown position
@@ -72,7 +72,7 @@ whites-moved : (battle : Battle) (f : Frame) (place : ℕ) (below : List Frame) 
 unfolding IsWhites
 whites-moved battle f place below e = e
 
-whites-none : (battle : Battle) (m : Triple) (undo : Undo) (tried : ℕ) (below : List Frame) → tried ≡ 0 → IsWhites battle below ≡ true
+whites-none : (battle : Battle) (m : Move) (undo : Undo) (tried : ℕ) (below : List Frame) → tried ≡ 0 → IsWhites battle below ≡ true
     → IsWhites battle (opened_frame m undo tried ∷ below) ≡ true
 unfolding IsWhites
 whites-none battle m undo tried below z e = rw z e
@@ -102,7 +102,7 @@ module _ (rule : RuleSet) (plan : Plan) (h : ℕ) (p : Position) (f : Frame) (be
         tries-close rule plan h p f below here,
       )
 
-  module _ (next : ℕ) (m : Triple) (t : ℕ) (left : f.left ≡ suc t) (e : moves_behind rule board f.place ≡ m ∷ moves_behind rule board next) where
+  module _ (next : ℕ) (m : Move) (t : ℕ) (left : f.left ≡ suc t) (e : moves_behind rule board f.place ≡ m ∷ moves_behind rule board next) where
     here : moves_behind rule (position rule p (f ∷ below)) f.place ≡ m ∷ moves_behind rule (position rule p (f ∷ below)) next
     here = rw (← r.board_at) e
 

@@ -1,5 +1,5 @@
 -- How a part begins: behind its first moves stand its solutions.
-use Rattle.pop_solve.proofs.Words.{AreKnown, BareEvent, Bool, Counts, Frame, Game, GoesTo, IsCounted, IsLinked, IsRoomy, IsSound, IsWalking, List, Mate, Phase, Plan, Posed, Position, RuleSet, Triple, [], after_well_formed, ap, append-nil, arith, eqb, false, follows, get_or, gives, goes_on, inl, inr, is_for_mate, is_help, is_mate, is_legal, length, length-append, length-reverse, map, min, moves_behind, nat_tests, path, phase_half_moves, phase_paths, phase_start, plan_of, position, is_pseudo_legal-from_legal, path_end, refl, reverse, rules, seeks_last, shown_paths, suc, sym, take, to_come, to_open, true, undo_of, walk_count, ℕ, ◌++◌, ◌+◌, ◌-◌, ◌<◌, ◌^◌, ◌∙◌, ◌∷◌, ◌≡◌, ◌≤◌}
+use Rattle.pop_solve.proofs.Words.{AreKnown, BareEvent, Bool, Counts, Frame, Game, GoesTo, IsCounted, IsLinked, IsRoomy, IsSound, IsWalking, List, Mate, Phase, Plan, Posed, Position, RuleSet, [], after_well_formed, ap, append-nil, arith, eqb, false, follows, get_or, gives, goes_on, inl, inr, is_for_mate, is_help, is_mate, is_legal, length, length-append, length-reverse, map, min, moves_behind, nat_tests, path, phase_half_moves, phase_paths, phase_start, plan_of, position, is_pseudo_legal-from_legal, path_end, refl, reverse, rules, seeks_last, shown_paths, suc, sym, take, to_come, to_open, true, undo_of, walk_count, ℕ, ◌++◌, ◌+◌, ◌-◌, ◌<◌, ◌^◌, ◌∙◌, ◌∷◌, ◌≡◌, ◌≤◌, Move}
 use Rattle.chess_rules.specs.Legal.{moves as legal_moves}
 use Rattle.chess_rules.specs.Play.{position_after}
 use Rattle.pop_solve.proofs.Boards.{behind_start, for_mate}
@@ -32,7 +32,7 @@ front-more frames k f at some less = ap path (popped _ _ f (cut-at frames (k + 1
 
 -- the moves to a walk's top frame are legal
 module _ (rule : RuleSet) where
-  is_legal-more : (p : Position) (xs : List Triple) (m : Triple) → are_legal rule p xs ≡ true → is_legal rule (path_end (position_after rule) p xs) m ≡ true
+  is_legal-more : (p : Position) (xs : List Move) (m : Move) → are_legal rule p xs ≡ true → is_legal rule (path_end (position_after rule) p xs) m ≡ true
       → are_legal rule p (xs ++ m ∷ []) ≡ true
   unfolding are_legal
   is_legal-more p [] m a l = search rules
@@ -71,7 +71,7 @@ some-event : (xs : List BareEvent) (y : BareEvent) (ys : List BareEvent) → (xs
 some-event [] y ys e = cc
 some-event (x ∷ xs) y ys e = cc
 
-pub all-opened : (rule : RuleSet) (problem : Posed) (phase : Phase) (front : List Triple) (stage : PartStage) (frames : List Frame) (board : Position)
+pub all-opened : (rule : RuleSet) (problem : Posed) (phase : Phase) (front : List Move) (stage : PartStage) (frames : List Frame) (board : Position)
     (opened : ℕ) → StandsInPart rule problem phase front stage frames board → IsPartOpened rule problem phase front frames opened
     → is_help problem.stipulation.form ≡ true → is_part_stopped rule problem phase front ≡ false → part_left rule problem phase stage frames ≡ []
     → opened ≡ min (part_walk rule problem phase front) (2 ^ 64 - 1)
@@ -82,7 +82,7 @@ all-opened rule problem phase front Behind frames board opened s o help full non
     let c = rw s.0 at (o help full) in omega (arith, c.counts)
 
 -- a part has begun
-pub record HasBegun (rule : RuleSet) (problem : Posed) (phase : Phase) (front : List Triple) (stage : PartStage) (frames : List Frame) (board : Position)
+pub record HasBegun (rule : RuleSet) (problem : Posed) (phase : Phase) (front : List Move) (stage : PartStage) (frames : List Frame) (board : Position)
     (opened : ℕ) : Type 0 where
   pub stands : StandsInPart rule problem phase front stage frames board
   pub left : part_left rule problem phase stage frames ≡ part_events rule problem phase front
@@ -101,7 +101,7 @@ none-before n = omega arith
 at-root : (n : ℕ) → 0 < n → eqb (n - 1) 0 ≡ eqb n 1
 at-root n some = grind (arith, nat_tests)
 
-walking-opened : (rule : RuleSet) (h : ℕ) (p : Position) (frames : List Frame) (board : Position) (m : Triple) (tried : ℕ) → 0 < length frames
+walking-opened : (rule : RuleSet) (h : ℕ) (p : Position) (frames : List Frame) (board : Position) (m : Move) (tried : ℕ) → 0 < length frames
     → IsWalking rule h p frames board → is_legal rule board m ≡ true → tried + length frames ≤ h
     → IsWalking rule h p (opened_frame m (undo_of rule board m) tried ∷ frames) (position_after rule board m)
 unfolding IsLinked IsRoomy AreKnown position
@@ -111,7 +111,7 @@ walking-opened rule h p (f ∷ below) board m tried some r lawful room =
 
 module _ (rule : RuleSet) (problem : Posed) (sound : IsSound problem) (phase : Phase) (n : ℕ) (frames : List Frame) (board : Position)
     (s : IsSeeking rule (phase_half_moves problem phase) n (phase_start problem phase) (reverse frames) board) (long : n ≡ length frames) (some : 0 < n)
-    (m : Triple) (lawful : is_legal rule board m ≡ true) (alone : is_help problem.stipulation.form ≡ false → n ≡ 1) where
+    (m : Move) (lawful : is_legal rule board m ≡ true) (alone : is_help problem.stipulation.form ≡ false → n ≡ 1) where
   -- the frames from the top down
   abbrev old : List Frame
   old = reverse frames
@@ -131,7 +131,7 @@ module _ (rule : RuleSet) (problem : Posed) (sound : IsSound problem) (phase : P
   abbrev plan : Plan
   plan = plan_of problem
 
-  abbrev game : Game Position Triple
+  abbrev game : Game Position Move
   game = game_of rule problem
 
   -- the half-moves left behind the part's first moves, the position there, and whether they are one
@@ -144,11 +144,11 @@ module _ (rule : RuleSet) (problem : Posed) (sound : IsSound problem) (phase : P
   abbrev root : Bool
   root = eqb n 1
 
-  abbrev front : List Triple
+  abbrev front : List Move
   front = path old ++ m ∷ []
 
   -- what the walk shows by the last of them
-  abbrev come : List (List Triple)
+  abbrev come : List (List Move)
   come = map (λ line. path old ++ line) (shown_paths plan game root (suc left) (suc left) board (m ∷ []))
 
   board-at : board ≡ path_end (position_after rule) p (path old)

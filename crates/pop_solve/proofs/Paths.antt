@@ -1,5 +1,5 @@
 -- The path to the top frame, and what is shown of it.
-use Rattle.pop_solve.proofs.Words.{CameFrom, CameFromAt, Frame, Goal, IsEnded, IsLinked, IsWalking, List, Plan, Position, RuleSet, Triple, [], ap, arith, chess, cond, drop, ends_variation, get_or, is_legal, length, length-append, length-reverse, length-take, path, path_end, position, refl, reverse, reverse-append, rules, show, shown_along, shown_last, subst, sym, take, take-append-drop, take_all, take_more, true, ℕ, ◌++◌, ◌+◌, ◌-◌, ◌<◌, ◌∙◌, ◌∷◌, ◌≡◌, ◌≤◌}
+use Rattle.pop_solve.proofs.Words.{CameFrom, CameFromAt, Frame, Goal, IsEnded, IsLinked, IsWalking, List, Move, Plan, Position, RuleSet, [], ap, arith, chess, cond, drop, ends_variation, get_or, is_legal, length, length-append, length-reverse, length-take, path, path_end, position, refl, reverse, reverse-append, rules, show, shown_along, shown_last, subst, sym, take, take-append-drop, take_all, take_more, true, ℕ, ◌++◌, ◌+◌, ◌-◌, ◌<◌, ◌∙◌, ◌∷◌, ◌≡◌, ◌≤◌}
 use Rattle.chess_rules.specs.Play.{position_after}
 use Rattle.pop_solve.proofs.Outcomes.{CameFrom-deep, walking-close}
 use Rattle.pop_solve.specs.declared.chess.Reached.{Reached}
@@ -22,17 +22,17 @@ unfolding path
 path-more f fs some = search rules
 
 module _ (goal : Goal) (rule : RuleSet) where
-  pub path_end-append : (p : Position) (xs : List Triple) (m : Triple) → path_end (position_after rule) p (xs ++ m ∷ [])
+  pub path_end-append : (p : Position) (xs : List Move) (m : Move) → path_end (position_after rule) p (xs ++ m ∷ [])
       ≡ position_after rule (path_end (position_after rule) p xs) m
   path_end-append p [] m = refl
   path_end-append p (x ∷ xs) m = path_end-append (position_after rule p x) xs m
 
-  along-append : (p : Position) (xs : List Triple) (m : Triple)
+  along-append : (p : Position) (xs : List Move) (m : Move)
       → shown_along goal rule p (xs ++ m ∷ []) ≡ shown_along goal rule p xs ++ show goal rule (path_end (position_after rule) p xs) m ∷ []
   along-append p [] m = refl
   along-append p (x ∷ xs) m = ap (λ ys. show goal rule p x ∷ ys) (along-append (position_after rule p x) xs m)
 
-  last-append : (p : Position) (xs : List Triple) (m : Triple) → shown_last goal rule p (xs ++ m ∷ []) ≡ show goal rule (path_end (position_after rule) p xs) m
+  last-append : (p : Position) (xs : List Move) (m : Move) → shown_last goal rule p (xs ++ m ∷ []) ≡ show goal rule (path_end (position_after rule) p xs) m
   last-append p [] m = refl
   last-append p (x ∷ []) m = refl
   last-append p (x ∷ (y ∷ xs)) m = last-append (position_after rule p x) (y ∷ xs) m

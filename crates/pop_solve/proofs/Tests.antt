@@ -1,5 +1,5 @@
 -- One turn of a test over frames.
-use Rattle.pop_solve.proofs.Words.{AreKnown, Bool, CameFrom, CameFromAt, Ends, Frame, HasCounted, IfNone, IfSome, IsCut, IsLinked, IsOpenedOn, IsPlaceIn, IsTesting, IsWellFormed, Killer, LegalPlace, List, MatchOption, None, Option, Order, Position, RuleSet, Some, Triple, Turns, Undo, [], after_well_formed, ahead, ap, arith, cases_lt, chess, cond, delivered_value, drop, drop-append-le, inl, inr, is_legal, join, joined_value, least_of, length, length-append, length-drop, length-reverse}
+use Rattle.pop_solve.proofs.Words.{AreKnown, Bool, CameFrom, CameFromAt, Ends, Frame, HasCounted, IfNone, IfSome, IsCut, IsLinked, IsOpenedOn, IsPlaceIn, IsTesting, IsWellFormed, Killer, LegalPlace, List, MatchOption, Move, None, Option, Order, Position, RuleSet, Some, Turns, Undo, [], after_well_formed, ahead, ap, arith, cases_lt, chess, cond, delivered_value, drop, drop-append-le, inl, inr, is_legal, join, joined_value, least_of, length, length-append, length-drop, length-reverse}
 use Rattle.pop_solve.proofs.Words.{list_all, list_any, min, not, pending_value, position, is_pseudo_legal-from_legal, refl, reverse, reverse-append, rules, seeks, smallest_below, smallest_tree, steps, steps_among, subst, suc, sum_by, sum_by-cons, sym, take, take-append-le, take_all, tested_frame, tests, to_test, to_try, to_try_with, top_left, true, undo_of, untried, value, walk_among, walk_count, work, ℕ, ◌&&◌, ◌++◌, ◌+◌, ◌-◌, ◌<◌, ◌^◌, ◌||◌, ◌∙◌, ◌∷◌, ◌≡◌, ◌≤◌, ◌⊎◌}
 use Rattle.chess_rules.specs.Play.{position_after}
 use Rattle.chess_rules.specs.Legal.{moves as legal_moves}
@@ -22,32 +22,32 @@ passed f place s known = record f { place = place; stretch = s; known = known }
 
 -- the moves of a frame that is opened are all its position's moves, in another order
 module _ (rule : RuleSet) (q : Position) (o : Order) where
-  abbrev pub first : List Triple
+  abbrev pub first : List Move
   first = ahead rule q o Killer (o.killer - 1)
 
-  any-start : (test : Triple → Bool) → list_any test first ≡ list_any test (legal_moves rule q)
+  any-start : (test : Move → Bool) → list_any test first ≡ list_any test (legal_moves rule q)
   any-start test = same_start rule q o (λ m c. test m || c) (list_any test) (λ m ms. refl) (λ m n c. grind arith)
 
-  all-start : (test : Triple → Bool) → list_all test first ≡ list_all test (legal_moves rule q)
+  all-start : (test : Move → Bool) → list_all test first ≡ list_all test (legal_moves rule q)
   all-start test = same_start rule q o (λ m c. test m && c) (list_all test) (λ m ms. refl) (λ m n c. grind arith)
 
-  sum-start : (f : Triple → ℕ) → sum_by f first ≡ sum_by f (legal_moves rule q)
+  sum-start : (f : Move → ℕ) → sum_by f first ≡ sum_by f (legal_moves rule q)
   sum-start f = same_start rule q o (λ m c. f m + c) (sum_by f) (sum_by-cons f) (λ m n c. omega arith)
 
-  least-start : (test : Triple → Bool) (f : Triple → ℕ) (n : ℕ) → least_of test f n first ≡ least_of test f n (legal_moves rule q)
+  least-start : (test : Move → Bool) (f : Move → ℕ) (n : ℕ) → least_of test f n first ≡ least_of test f n (legal_moves rule q)
   unfolding least_of
   least-start test f n = same_start rule q o (λ m c. cond (test m) (min (f m) c) c) (least_of test f n) (λ m ms. refl) (λ m k c. grind arith)
 
 module _ (rule : RuleSet) (aim : Aim) where
   -- the value of some moves of a position
-  abbrev pub rest : ℕ → Position → List Triple → Bool
+  abbrev pub rest : ℕ → Position → List Move → Bool
   rest left P ms = joined_value aim.battle (chess aim.goal rule) left P ms
 
-  rest-none : (left : ℕ) (P : Position) (ms : List Triple) → 0 < left → ms ≡ [] → rest left P ms ≡ not (seeks aim.battle left)
+  rest-none : (left : ℕ) (P : Position) (ms : List Move) → 0 < left → ms ≡ [] → rest left P ms ≡ not (seeks aim.battle left)
   unfolding joined_value
   rest-none left P ms some e = search rules
 
-  rest-next : (t : ℕ) (P : Position) (ms more : List Triple) (m : Triple) → ms ≡ m ∷ more
+  rest-next : (t : ℕ) (P : Position) (ms more : List Move) (m : Move) → ms ≡ m ∷ more
       → rest (suc t) P ms ≡ join (seeks aim.battle (suc t)) (value aim.battle (chess aim.goal rule) t (position_after rule P m)) (rest (suc t) P more)
   unfolding joined_value
   rest-next t P ms more m e = search rules
@@ -80,7 +80,7 @@ module _ (rule : RuleSet) (aim : Aim) where
   delivered_value-none p (g ∷ below) v none = absurd (omega (arith, none))
 
   -- the same of the positions that have to be tried
-  abbrev pub fewest : ℕ → Position → List Triple → ℕ
+  abbrev pub fewest : ℕ → Position → List Move → ℕ
   fewest left P ms = smallest_below aim.battle (chess aim.goal rule) left P ms
 
   same-fewest : (t : ℕ) (q : Position) (o : Order) → fewest t q (first rule q o) ≡ fewest t q (legal_moves rule q)
@@ -114,7 +114,7 @@ module _ (rule : RuleSet) (aim : Aim) where
   unfolding steps steps_among
   steps-start t q o = search (rules, sum-start)
 
-  steps-next : (t : ℕ) (P : Position) (ms more : List Triple) (m : Triple) → ms ≡ m ∷ more
+  steps-next : (t : ℕ) (P : Position) (ms more : List Move) (m : Move) → ms ≡ m ∷ more
       → steps_among rule (suc t) P ms ≡ (1 + steps rule t (position_after rule P m)) + steps_among rule (suc t) P more
   unfolding steps_among
   steps-next t P ms more m e = rw e (sum_by-cons (λ x. 1 + steps rule t (position_after rule P x)) m more)
@@ -124,12 +124,12 @@ module _ (rule : RuleSet) (aim : Aim) where
   unfolding walk_count walk_among
   walk_count-start t q o some = search (rules, sum-start)
 
-  walk-next : (t : ℕ) (P : Position) (ms more : List Triple) (m : Triple) → ms ≡ m ∷ more
+  walk-next : (t : ℕ) (P : Position) (ms more : List Move) (m : Move) → ms ≡ m ∷ more
       → walk_among rule (suc t) P ms ≡ walk_count (legal_moves rule) (position_after rule) t (position_after rule P m) + walk_among rule (suc t) P more
   unfolding walk_among
   walk-next t P ms more m e = rw e (sum_by-cons (λ x. walk_count (legal_moves rule) (position_after rule) t (position_after rule P x)) m more)
 
-  module _ (p : Position) (f : Frame) (below : List Frame) (next : ℕ) (s : Stretch) (m : Triple) (t : ℕ) (kn : Option LegalPlace) (left : f.left ≡ suc t)
+  module _ (p : Position) (f : Frame) (below : List Frame) (next : ℕ) (s : Stretch) (m : Move) (t : ℕ) (kn : Option LegalPlace) (left : f.left ≡ suc t)
       (e : untried rule (position rule p (f ∷ below)) f ≡ m ∷ ahead rule (position rule p (f ∷ below)) f.order s next) where
     abbrev P : Position
     P = position rule p (f ∷ below)
@@ -224,7 +224,7 @@ module _ (rule : RuleSet) (p : Position) where
   unfolding IsLinked IsCut AreKnown position
   testing-settled f next s kn below board r w = search rules
 
-  pub testing-open : (f : Frame) (next : ℕ) (s : Stretch) (m : Triple) (k : Order) (t : ℕ) (kn kq : Option LegalPlace) (below : List Frame) (board : Position)
+  pub testing-open : (f : Frame) (next : ℕ) (s : Stretch) (m : Move) (k : Order) (t : ℕ) (kn kq : Option LegalPlace) (below : List Frame) (board : Position)
       → IsTesting rule p (f ∷ below) board → is_legal rule board m ≡ true → 0 < t → f.left ≡ suc t → IfSome kn (IsPlaceIn rule board)
       → IfSome kq (IsPlaceIn rule (position_after rule board m))
       → IsTesting rule p (tested_frame k m (undo_of rule board m) t kq ∷ (passed f next s kn ∷ below)) (position_after rule board m)
@@ -279,7 +279,7 @@ module _ (rule : RuleSet) (aim : Aim) (floor : ℕ) (top : Frame) (old new : Lis
         → IfNone result (top_left (tests floor new) + length new ≤ N + 1)
     close_room p N r room = grind (arith, cases_lt, room-close, testing_top, length-tests, popped, length-append)
 
-  module _ (place : ℕ) (s : Stretch) (kn : Option LegalPlace) (m : Triple) (board after : Position) (N : ℕ) (was : Option Bool) (last : List Frame)
+  module _ (place : ℕ) (s : Stretch) (kn : Option LegalPlace) (m : Move) (board after : Position) (N : ℕ) (was : Option Bool) (last : List Frame)
       (some : 0 < top.left) (open_yet : (was ≡ None) ⊎ (was ≡ Some (not (seeks aim.battle top.left))))
       (next : untried rule board top ≡ m ∷ ahead rule board top.order s place) (lawful : is_legal rule board m ≡ true)
       (within : IfSome kn (IsPlaceIn rule board)) where
@@ -416,7 +416,7 @@ pub record IsUnderway (rule : RuleSet) (aim : Aim) (floor : ℕ) (p : Position) 
   pub base : take floor frames ≡ under
 
 module _ (rule : RuleSet) (aim : Aim) where
-  pub begins : (floor : ℕ) (p : Position) (N left : ℕ) (k : Order) (board : Position) (before count : ℕ) (by : Triple) (undo : Undo) (under frames : List Frame)
+  pub begins : (floor : ℕ) (p : Position) (N left : ℕ) (k : Order) (board : Position) (before count : ℕ) (by : Move) (undo : Undo) (under frames : List Frame)
       (kn : Option LegalPlace) → floor ≡ length under → frames ≡ under ++ tested_frame k by undo left kn ∷ [] → IfSome kn (IsPlaceIn rule p) → floor + left ≤ N
       → count ≤ before + 1 → HasCounted before count 1 → board ≡ p → IsWellFormed board → (0 < left)
       × (value aim.battle (chess aim.goal rule) left p ≡ joined_value aim.battle (chess aim.goal rule) left p (legal_moves rule p))

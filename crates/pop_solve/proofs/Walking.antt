@@ -1,5 +1,5 @@
 -- The outcomes of a step for frames listed from the bottom up, as the code holds them, and what its calls hand on.
-use Rattle.pop_solve.proofs.Words.{AreKnown, Bool, CameFrom, CameFromAt, Counts, Frame, GoesTo, HasCounted, IfSome, IsNextMate, IsPlaceIn, IsWalking, LegalPlace, List, MatchOption, Mate, Option, Plan, Position, RuleSet, Steps, Triple, [], ap, append-nil, arith, battle_of, chess, eqb, false, follows, gives, goes_on, inl, inr, is_for_mate, is_legal, is_mate, length, length-reverse, mates_behind, moves_behind, moves_behind-end, position, refl, reverse, reverse-append, rules, seeks_last, smallest_tree, subst, suc, sym, true, undo_of, value, ℕ, ◌++◌, ◌+◌, ◌-◌, ◌<◌, ◌∙◌, ◌∷◌, ◌≡◌, ◌≤◌, ◌⊎◌}
+use Rattle.pop_solve.proofs.Words.{AreKnown, Bool, CameFrom, CameFromAt, Counts, Frame, GoesTo, HasCounted, IfSome, IsNextMate, IsPlaceIn, IsWalking, LegalPlace, List, MatchOption, Mate, Move, Option, Plan, Position, RuleSet, Steps, [], ap, append-nil, arith, battle_of, chess, eqb, false, follows, gives, goes_on, inl, inr, is_for_mate, is_legal, is_mate, length, length-reverse, mates_behind, moves_behind, moves_behind-end, position, refl, reverse, reverse-append, rules, seeks_last, smallest_tree, subst, suc, sym, true, undo_of, value, ℕ, ◌++◌, ◌+◌, ◌-◌, ◌<◌, ◌∙◌, ◌∷◌, ◌≡◌, ◌≤◌, ◌⊎◌}
 use Rattle.chess_rules.specs.Play.{position_after}
 use Rattle.pop_solve.proofs.Boards.{for_mate}
 use Rattle.pop_solve.specs.ties.Frames.{opened_frame}
@@ -43,7 +43,7 @@ module _ (rule : RuleSet) (plan : Plan) (h : ℕ) (top : Frame) (old new : List 
   unfolding AreKnown
   top_known p board r = let s = walking_top p board board r refl in rw s.board_at s.known.0
 
-  module _ (place : ℕ) (known : Option LegalPlace) (m : Triple) (board now : Position) (depth : ℕ) (mid last : List Frame) (at : now ≡ board)
+  module _ (place : ℕ) (known : Option LegalPlace) (m : Move) (board now : Position) (depth : ℕ) (mid last : List Frame) (at : now ≡ board)
       (d : depth ≡ length new)
       (some : (0 < top.left) × GoesTo rule plan top.left board top.place (m ∷ moves_behind rule board place) × (is_legal rule board m ≡ true))
       (within : IfSome known (IsPlaceIn rule board)) (put : mid ≡ new ++ moved (learned top known) place ∷ []) where
@@ -106,11 +106,11 @@ walking_back rule h p board (f ∷ frames) r none = absurd (omega (arith, none))
 
 -- what the next move or the next mate says of the moves passed over
 module _ (rule : RuleSet) (plan : Plan) (left : ℕ) (p : Position) (place next : ℕ) where
-  abbrev pub Next : Option Triple → Type 0
+  abbrev pub Next : Option Move → Type 0
   Next o = MatchOption o ((left ≡ 0) ⊎ GoesTo rule plan left p place [])
       (λ m. (0 < left) × GoesTo rule plan left p place (m ∷ moves_behind rule p next) × (is_legal rule p m ≡ true))
 
-  pub next_mating : (o : Option Triple) → plan.goal ≡ Mate → seeks_last plan ≡ true → left ≡ 1
+  pub next_mating : (o : Option Move) → plan.goal ≡ Mate → seeks_last plan ≡ true → left ≡ 1
       → MatchOption o (mates_behind rule p place ≡ []) (λ m. IsNextMate rule p place next m × (is_legal rule p m ≡ true)) → Next o
   unfolding mates_behind
   next_mating o for last single e = grind (arith, moves_behind-end rule p 28672 (omega arith), append-nil)

@@ -10,7 +10,7 @@ pub use Rattle.std.proofs.lemmas.List.Sums.{fails_before_first, passes_at_first,
 pub use Rattle.std.specs.List.{AllPairs, Contains, flat_map, list_all, list_any, position_or_len, range_with_len, sum_by}
 pub use Rattle.arrayvec.specs.ArrayVec.{ArrayVec, array_vec_len}
 pub use Rattle.chess_core.specs.Position.{Position, other}
-pub use Rattle.chess_core.specs.Triple.{Triple}
+pub use Rattle.chess_core.specs.declared.man.Move.{Move}
 pub use Rattle.chess_core.specs.WellFormed.{IsWellFormed}
 unfoldable pub use Rattle.chess_core.specs.WellFormed.{is_crossed_right}
 pub use Rattle.chess_rules.proofs.listing_moves.Between.{between-here, between-none, between-past, between-skip, cut_moves}

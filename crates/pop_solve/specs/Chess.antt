@@ -1,7 +1,7 @@
 -- Chess as a game of two sides, and how its moves are shown (FIDE Laws, appendix C; rebirths by the Popeye manual).
 use Rattle.std.specs.Prelude.{ℕ, Bool, false, not, ◌&&◌, nat_lt, Option, Some, None, is_some, if◌then◌else◌}
 use Rattle.chess_core.specs.Position.{Position, man_on, other}
-use Rattle.chess_core.specs.Triple.{Triple}
+use Rattle.chess_core.specs.declared.man.Move.{Move}
 use Rattle.chess_core.specs.declared.man.Colour.TheVariants.{White}
 use Rattle.chess_core.specs.declared.man.Kind.TheVariants.{King}
 use Rattle.chess_core.specs.declared.man.Man.{Man}
@@ -26,7 +26,7 @@ is_reached Mate rule q = is_mate rule q
 is_reached Stalemate rule q = is_stalemate rule q
 
 -- chess under a set of rules, played for a goal
-abbrev pub chess : Goal → RuleSet → Game Position Triple
+abbrev pub chess : Goal → RuleSet → Game Position Move
 chess goal rule =
     record { moves = moves rule; after = position_after rule; goal = is_reached goal rule }
 
@@ -38,7 +38,7 @@ mark_of goal rule q =
     else (if is_for_stalemate goal && is_stalemate rule q then Stalemated else Plain))
 
 -- to which side the man castles, if it does
-abbrev pub castling_side : Man → Triple → Option Side
+abbrev pub castling_side : Man → Move → Option Side
 castling_side x m = if is_castling x m then Some (if nat_lt m.from m.to then H else A) else None
 
 -- the reborn man and his square, if he is reborn
@@ -48,7 +48,7 @@ reborn_man _ _ = None
 
 -- the move of x, where `there` stands on the arrival before it, `lost` is what the move destroys and `mark` its mark:
 -- en passant a man is captured, but not on the arrival
-abbrev pub shown_by : Man → Option Man → Triple → Undo → Mark → Shown
+abbrev pub shown_by : Man → Option Man → Move → Undo → Mark → Shown
 shown_by x there m lost mark = record {
   man = x;
   from = m.from;
@@ -76,12 +76,12 @@ nothing_shown = record {
 }
 
 -- a move as it is shown, by the man on its origin, the one on its arrival, its undo, and its mark
-unfoldable pub shown_of : Option Man → Option Man → Triple → Undo → Mark → Shown
+unfoldable pub shown_of : Option Man → Option Man → Move → Undo → Mark → Shown
 shown_of None there m lost mark = nothing_shown
 shown_of (Some x) there m lost mark = shown_by x there m lost mark
 
 -- the move m as it is shown, read off the position before it and the position after it
-unfoldable pub show : Goal → RuleSet → Position → Triple → Shown
+unfoldable pub show : Goal → RuleSet → Position → Move → Shown
 show goal rule p m = shown_of (man_on p.men m.from) (man_on p.men m.to) m (undo_of rule p m)
     (mark_of goal rule (position_after rule p m))
 

@@ -7,7 +7,7 @@ use Rattle.std.specs.Prelude.{ℕ, ◌+◌, ◌-◌, ◌==◌, Bool, true, false
 use Rattle.std.specs.List.{flat_map}
 use Rattle.chess_core.specs.Diagrams.{position_of}
 use Rattle.chess_core.specs.Position.{Position}
-use Rattle.chess_core.specs.Triple.{Triple}
+use Rattle.chess_core.specs.declared.man.Move.{Move}
 use Rattle.chess_rules.specs.RuleSet.{RuleSet}
 use Rattle.pop_solve.specs.Game.{help_lines}
 use Rattle.pop_solve.specs.Tree.{tree, set_tree}
@@ -20,12 +20,20 @@ use Rattle.pop_solve.specs.declared.event.Event.TheVariants.{Phase as PhaseEvent
 use Rattle.pop_solve.specs.declared.event.Phase.{Phase}
 use Rattle.pop_solve.specs.declared.event.Phase.TheVariants.{Set, Play}
 
+-- moves one after another: a line, or those that lead to a node of a tree
+abbrev pub Path : Type 0
+Path = List Move
+
+-- a line, or a node with all below it
+abbrev pub Solution : Type 0
+Solution = List Path
+
 -- an event before it is shown: its path in place of moves, with its phase
 pub data BareEvent : Type 0 where
   opening : Phase → BareEvent
   impossible : BareEvent
-  line : Phase → List Triple → BareEvent
-  tree_node : Phase → List Triple → BareEvent
+  line : Phase → Path → BareEvent
+  tree_node : Phase → Path → BareEvent
   total : ℕ → Bool → BareEvent
 
 -- the phase is set play
@@ -51,8 +59,8 @@ abbrev pub phase_half_moves : Posed → Phase → ℕ
 phase_half_moves problem phase = if is_set phase then half_moves problem.stipulation - 1
     else half_moves problem.stipulation
 
--- its solutions, each a list of paths: a line, or a node with all below it
-unfoldable pub solutions : RuleSet → Posed → Phase → List (List (List Triple))
+-- its solutions
+unfoldable pub solutions : RuleSet → Posed → Phase → List Solution
 solutions rule problem phase =
     let h = phase_half_moves problem phase in
     let p = phase_start problem phase in
@@ -68,7 +76,7 @@ abbrev pub is_barred : RuleSet → Posed → Phase → Bool
 is_barred rule problem phase = is_set phase && is_impossible rule (set_start (play_start problem))
 
 -- a path as an event
-abbrev pub path_event : Posed → Phase → List Triple → BareEvent
+abbrev pub path_event : Posed → Phase → Path → BareEvent
 path_event problem phase path = if is_help problem.stipulation.form then line phase path
     else tree_node phase path
 
@@ -96,14 +104,14 @@ events_from rule problem phase =
 abbrev pub events : RuleSet → Posed → List BareEvent
 events rule problem = events_from rule problem (first_phase problem)
 
--- the moves of a path from p as they are shown, and the last of them
-abbrev pub shown_along : Goal → RuleSet → Position → List Triple → List Shown
+-- the moves of a path from p as they are shown
+abbrev pub shown_along : Goal → RuleSet → Position → Path → List Shown
 shown_along goal rule p [] = []
 shown_along goal rule p (m ∷ path) = show goal rule p m
     ∷ shown_along goal rule (position_after rule p m) path
 
 -- the last move of a path from p as it is shown
-abbrev pub shown_last : Goal → RuleSet → Position → List Triple → Shown
+abbrev pub shown_last : Goal → RuleSet → Position → Path → Shown
 shown_last goal rule p [] = nothing_shown
 shown_last goal rule p (m ∷ []) = show goal rule p m
 shown_last goal rule p (m ∷ (n ∷ path)) = shown_last goal rule (position_after rule p m) (n ∷ path)

@@ -2,7 +2,7 @@
 ghost use Rattle.std.specs.Prelude.{◌≡◌, ◌+◌, ◌-◌, ◌<◌, ◌≤◌, ◌==◌, ◌^◌, ℕ, [], ◌∷◌, ◌++◌, length, reverse, true, false, min};
 ghost use Rattle.arrayvec.specs.ArrayVec.{array_vec_len};
 ghost use Rattle.chess_core.specs.WellFormed.{IsWellFormed};
-ghost use Rattle.chess_core.specs.Triple.{Triple};
+ghost use Rattle.chess_core.specs.declared.man.Move.{Move};
 ghost use Rattle.std.specs.Prelude.{List};
 ghost use Rattle.chess_rules.specs.Legal.{is_legal, is_mate};
 ghost use Rattle.chess_rules.specs.Play.{position_after};
@@ -129,9 +129,9 @@ fn give_first<R: Rules>(
     board: &mut Board,
 ) -> Event
     requires sound { IsSound problem.now }
-    requires stands { (front : List Triple) × StandsInPart R.rule problem.now phase front First
+    requires stands { (front : List Move) × StandsInPart R.rule problem.now phase front First
         (reverse frames.now) board.old }
-    ensures stands { (front : List Triple) → StandsInPart R.rule problem.now phase front First
+    ensures stands { (front : List Move) → StandsInPart R.rule problem.now phase front First
         (reverse frames.now) board.old
         → StandsInPart R.rule problem.now phase front stage.new (reverse frames.now) board.new }
     ensures gives { Gives R.rule problem.now
@@ -158,9 +158,9 @@ fn go_on_in_part<R: Rules, const N: usize>(
 ) -> Event
     requires sound { IsSound problem.now }
     requires room { half_moves problem.now.stipulation < N }
-    requires stands { (front : List Triple) × StandsInPart R.rule problem.now phase front
+    requires stands { (front : List Move) × StandsInPart R.rule problem.now phase front
         (Within count) (reverse frames.old.items) board.old }
-    ensures stands { (front : List Triple) → StandsInPart R.rule problem.now phase front
+    ensures stands { (front : List Move) → StandsInPart R.rule problem.now phase front
         (Within count) (reverse frames.old.items) board.old
         → StandsInPart R.rule problem.now phase front stage.new (reverse frames.new.items)
         board.new }
@@ -168,7 +168,7 @@ fn go_on_in_part<R: Rules, const N: usize>(
         (part_left R.rule problem.now phase (Within count) (reverse frames.old.items))
         (part_left R.rule problem.now phase stage.new (reverse frames.new.items))
         result board.new (array_vec_len frames.new) }
-    ensures opens { (front : List Triple) → StandsInPart R.rule problem.now phase front
+    ensures opens { (front : List Move) → StandsInPart R.rule problem.now phase front
         (Within count) (reverse frames.old.items) board.old
         → IsPartOpened R.rule problem.now phase front (reverse frames.old.items) opened.old
         → IsPartOpened R.rule problem.now phase front (reverse frames.new.items) opened.new }

@@ -1,5 +1,5 @@
 -- The lines of help play: which lists of moves they are, that each stands once, and in which order.
-use Rattle.pop_solve.proofs.Words.{AllPairs, Contains, Game, Goal, IsWellFormed, List, Position, Precedes, RuleSet, Triple, [], after_well_formed, arith, chess, help_lines, is_reached, is_legal, length, moves_are_the_legal_moves, moves_differ, moves_in_order, none_in_nil, pairs_nil, pairs_weaker, is_pseudo_legal-from_legal, path_end, refl, suc, true, zero, ℕ, ◌↔◌, ◌∷◌, ◌≡◌, ◌≢◌, ◌≤◌}
+use Rattle.pop_solve.proofs.Words.{AllPairs, Contains, Game, Goal, IsWellFormed, List, Position, Precedes, RuleSet, [], after_well_formed, arith, chess, help_lines, is_reached, is_legal, length, moves_are_the_legal_moves, moves_differ, moves_in_order, none_in_nil, pairs_nil, pairs_weaker, is_pseudo_legal-from_legal, path_end, refl, suc, true, zero, ℕ, ◌↔◌, ◌∷◌, ◌≡◌, ◌≢◌, ◌≤◌, Move}
 use Rattle.chess_rules.specs.Play.{position_after}
 use Rattle.pop_solve.proofs.HelpPlay.{from_lines, in_lines, lines_stand}
 use Rattle.pop_solve.proofs.theorems.Lists.{IsPlayable, StandsBefore, never_before_itself}
@@ -29,14 +29,14 @@ module _ {P M : Type 0} (game : Game P M) where
 -- Chess, under a set of rules.
 module _ (rule : RuleSet) where
   -- Each move of the line is legal in the position in which it is made.
-  abbrev pub IsLegalLine : Position → List Triple → Type 0
+  abbrev pub IsLegalLine : Position → List Move → Type 0
   IsLegalLine p [] = Unit {0}
   IsLegalLine p (m ∷ line) = (is_legal rule p m ≡ true) × IsLegalLine (position_after rule p m) line
 
 -- And for a goal.
 module _ (goal : Goal) (rule : RuleSet) where
   -- From a well-formed position a list can be played exactly where it is such a line.
-  pub playable_is_legal : (p : Position) (line : List Triple) → IsWellFormed p → IsPlayable (chess goal rule) p line ↔ IsLegalLine rule p line
+  pub playable_is_legal : (p : Position) (line : List Move) → IsWellFormed p → IsPlayable (chess goal rule) p line ↔ IsLegalLine rule p line
   playable_is_legal p [] well = (λ w. tt, λ w. tt)
   playable_is_legal p (m ∷ line) well = (
     λ w.
@@ -50,7 +50,7 @@ module _ (goal : Goal) (rule : RuleSet) where
 
   -- From a well-formed position a list stands among the lines of help play in h half-moves, one or more, exactly where it has h moves, each
   -- legal where it is made, and the goal is reached in its last position.
-  pub help_lines_of_chess_are : (h : ℕ) (p : Position) (line : List Triple) → IsWellFormed p
+  pub help_lines_of_chess_are : (h : ℕ) (p : Position) (line : List Move) → IsWellFormed p
       → Contains (help_lines (chess goal rule) h p) line
       ↔ ((1 ≤ h) × (length line ≡ h) × IsLegalLine rule p line × (is_reached goal rule (path_end (position_after rule) p line) ≡ true))
   help_lines_of_chess_are h p line well = grind (arith, help_lines_are (chess goal rule) h p line, playable_is_legal p line well)

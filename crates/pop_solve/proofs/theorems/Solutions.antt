@@ -1,5 +1,5 @@
 -- The solutions of a chess problem: which lines and keys they are, that no path of a phase stands twice, and in which order the paths stand.
-use Rattle.pop_solve.proofs.Words.{AllPairs, Bool, Contains, IsSound, List, Phase, Play, Posed, Precedes, RuleSet, Set, Triple, [], false, is_help, is_legal, is_reached, keeps, length, moves_are_the_legal_moves, moves_in_order, pairs_weaker, path_end, phase_half_moves, phase_start, play_start, refl, rules, set_shows, solutions, take, true, ◌↔◌, ◌∷◌, ◌≡◌, ◌≢◌, ◌≤◌}
+use Rattle.pop_solve.proofs.Words.{AllPairs, Bool, Contains, IsSound, List, Move, Phase, Play, Posed, Precedes, RuleSet, Set, [], false, is_help, is_legal, is_reached, keeps, length, moves_are_the_legal_moves, moves_in_order, pairs_weaker, path_end, phase_half_moves, phase_start, play_start, refl, rules, set_shows, solutions, take, true, ◌↔◌, ◌∷◌, ◌≡◌, ◌≢◌, ◌≤◌}
 use Rattle.chess_rules.specs.Play.{position_after}
 use Rattle.pop_solve.proofs.PhasePaths.{first_joined, game_of, its_battle, help_paths, never_itself, play_paths, set_paths}
 use Rattle.pop_solve.proofs.Sound.{start_sound}
@@ -10,7 +10,7 @@ use Rattle.pop_solve.proofs.theorems.Trees.{first_set_solutions_have_beginnings,
 module _ (rule : RuleSet) (problem : Posed) where
   -- Help play: from a sound problem a list of moves is a line of a phase exactly where it has as many moves as the phase has half-moves,
   -- one or more, each legal where it is made, and the goal is reached in its last position.
-  pub lines_of_a_phase_are : (phase : Phase) (line : List Triple) → IsSound problem → is_help problem.stipulation.form ≡ true
+  pub lines_of_a_phase_are : (phase : Phase) (line : List Move) → IsSound problem → is_help problem.stipulation.form ≡ true
       → Contains (paths (solutions rule problem phase)) line
       ↔ ((1 ≤ phase_half_moves problem phase) × (length line ≡ phase_half_moves problem phase)
       × IsLegalLine rule (phase_start problem phase) line
@@ -18,7 +18,7 @@ module _ (rule : RuleSet) (problem : Posed) where
   lines_of_a_phase_are phase line sound help = rw (help_paths rule problem phase help) (search (rules, help_lines_of_chess_are, start_sound))
 
   -- Battle play: a move is a key of a sound problem exactly where it is legal and keeps the win within the problem's number of moves.
-  pub keys_of_a_problem_are : (m : Triple) → IsSound problem → is_help problem.stipulation.form ≡ false
+  pub keys_of_a_problem_are : (m : Move) → IsSound problem → is_help problem.stipulation.form ≡ false
       → Contains (paths (solutions rule problem Play)) (m ∷ [])
       ↔ ((is_legal rule (play_start problem) m ≡ true)
       × (keeps (its_battle problem) (game_of rule problem) problem.stipulation.n (position_after rule (play_start problem) m) ≡ true))
@@ -30,7 +30,7 @@ module _ (rule : RuleSet) (problem : Posed) where
 
   -- Set play: a move of Black stands among the first moves exactly where set play has half-moves, the move is legal in its first position,
   -- and after it the goal is reached, if that is for Black to do, or White wins with a move less.
-  pub set_moves_of_a_problem_are : (d : Triple) → IsSound problem → is_help problem.stipulation.form ≡ false
+  pub set_moves_of_a_problem_are : (d : Move) → IsSound problem → is_help problem.stipulation.form ≡ false
       → Contains (paths (solutions rule problem Set)) (d ∷ [])
       ↔ ((1 ≤ phase_half_moves problem Set) × (is_legal rule (phase_start problem Set) d ≡ true)
       × (set_shows (its_battle problem) (game_of rule problem) problem.stipulation.n (position_after rule (phase_start problem Set) d) ≡ true))

@@ -1,6 +1,6 @@
 -- What the calls of a search leave of what they were handed.
 use Rattle.chess_core.specs.Position.{Position}
-use Rattle.chess_core.specs.Triple.{Triple}
+use Rattle.chess_core.specs.declared.man.Move.{Move}
 use Rattle.chess_rules.specs.Legal.{is_legal, moves as legal_moves}
 use Rattle.chess_rules.specs.Play.{position_after}
 use Rattle.chess_rules.specs.RuleSet.{RuleSet}
@@ -20,8 +20,8 @@ use Rattle.std.specs.Prelude.{◌≡◌, ◌+◌, ◌-◌, ◌^◌, ◌<◌, ◌
 
 -- the first of some moves of p was looked for, which are `untried` before the call and `left` behind the move found: the
 -- board stands on p as before, and what is known is still of its moves
-pub record Finds (rule : RuleSet) (p board : Position) (known : LegalPlace) (found : Option Triple)
-    (untried left : List Triple) : Type 0 where
+pub record Finds (rule : RuleSet) (p board : Position) (known : LegalPlace) (found : Option Move)
+    (untried left : List Move) : Type 0 where
   pub unchanged : board ≡ p
   pub within : IsPlaceIn rule p known
   pub next : MatchOption found (untried ≡ [])
@@ -29,7 +29,7 @@ pub record Finds (rule : RuleSet) (p board : Position) (known : LegalPlace) (fou
 
 -- the place stands on a legal move that mates
 pub record IsOnMate (rule : RuleSet) (p : Position) (place : ℕ) : Type 0 where
-  pub by : Triple
+  pub by : Move
   pub here : place ≡ place_of (Some by)
   pub mates : mates rule p by ≡ true
 

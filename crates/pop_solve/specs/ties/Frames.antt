@@ -6,7 +6,7 @@ use Rattle.std.specs.Prelude.{◌≡◌, ◌<◌, IfSome, Bool, true, false, not
 use Rattle.std.specs.List.{sum_by}
 use Rattle.chess_core.specs.Castling.{none_unmoved}
 use Rattle.chess_core.specs.Position.{Position}
-use Rattle.chess_core.specs.Triple.{Triple}
+use Rattle.chess_core.specs.declared.man.Move.{Move}
 use Rattle.chess_core.specs.WellFormed.{IsWellFormed}
 use Rattle.chess_rules.specs.Legal.{is_legal}
 use Rattle.chess_rules.specs.Undo.{Undo}
@@ -38,7 +38,7 @@ unordered = record { killer = 0; earlier = 0; early = NoMoves }
 -- place stands; and what is known of the position's legal moves
 pub record Frame : Type 0 where
   pub place : ℕ
-  pub by : Triple
+  pub by : Move
   pub undo : Undo
   pub left : ℕ
   pub order : Order
@@ -74,16 +74,16 @@ IsLinked rule p (f ∷ (g ∷ below)) =
     × IsLinked rule p (g ∷ below)
 
 -- the move comes before others that are no killers either
-abbrev pub comes_early : Early → Position → Triple → Bool
+abbrev pub comes_early : Early → Position → Move → Bool
 comes_early AimedMoves p m = aims_at_king p m
 comes_early NoMoves p m = false
 
 -- the move stands at this place
-abbrev pub is_at : ℕ → Triple → Bool
+abbrev pub is_at : ℕ → Move → Bool
 is_at place m = place_of (Some m) == place
 
 -- the move belongs to the stretch, and so to none before it
-unfoldable pub belongs : Position → Order → Stretch → Triple → Bool
+unfoldable pub belongs : Position → Order → Stretch → Move → Bool
 belongs p order Killer m = is_at order.killer m
 belongs p order Earlier m = not (is_at order.killer m) && is_at order.earlier m
 belongs p order Aimed m =
@@ -92,18 +92,18 @@ belongs p order Others m =
     not (is_at order.killer m) && (not (is_at order.earlier m) && not (comes_early order.early p m))
 
 -- the legal moves of a stretch
-abbrev pub all_of : RuleSet → Position → Order → Stretch → List Triple
+abbrev pub all_of : RuleSet → Position → Order → Stretch → List Move
 all_of rule p order s = filter (belongs p order s) (legal_moves rule p)
 
 -- those behind a place of the stretch
-unfoldable pub here : RuleSet → Position → Order → Stretch → ℕ → List Triple
+unfoldable pub here : RuleSet → Position → Order → Stretch → ℕ → List Move
 here rule p order Killer place = moves_between rule p place order.killer
 here rule p order Earlier place = moves_between rule p place order.earlier
 here rule p order Aimed place = filter (belongs p order Aimed) (moves_behind rule p place)
 here rule p order Others place = filter (belongs p order Others) (moves_behind rule p place)
 
 -- those of the stretches behind it
-unfoldable pub later : RuleSet → Position → Order → Stretch → List Triple
+unfoldable pub later : RuleSet → Position → Order → Stretch → List Move
 later rule p order Killer = all_of rule p order Earlier
     ++ (all_of rule p order Aimed ++ all_of rule p order Others)
 later rule p order Earlier = all_of rule p order Aimed ++ all_of rule p order Others
@@ -111,7 +111,7 @@ later rule p order Aimed = all_of rule p order Others
 later rule p order Others = []
 
 -- the moves that a test has still to try
-abbrev pub ahead : RuleSet → Position → Order → Stretch → ℕ → List Triple
+abbrev pub ahead : RuleSet → Position → Order → Stretch → ℕ → List Move
 ahead rule p order s place = here rule p order s place ++ later rule p order s
 
 -- how many stretches lie behind one
@@ -122,7 +122,7 @@ stretches_behind Aimed = 1
 stretches_behind Others = 0
 
 -- the moves of a frame that a test has still to try
-abbrev pub untried : RuleSet → Position → Frame → List Triple
+abbrev pub untried : RuleSet → Position → Frame → List Move
 untried rule p f = ahead rule p f.order f.stretch f.place
 
 -- what the value of the lowest position will be, once that of the top position is known
@@ -155,7 +155,7 @@ steps_behind rule (suc h) p place =
     sum_by (λ m. 1 + steps rule h (position_after rule p m)) (moves_behind rule p place)
 
 -- the same of some moves
-unfoldable pub steps_among : RuleSet → ℕ → Position → List Triple → ℕ
+unfoldable pub steps_among : RuleSet → ℕ → Position → List Move → ℕ
 steps_among rule zero p ms = 0
 steps_among rule (suc h) p ms = sum_by (λ m. 1 + steps rule h (position_after rule p m)) ms
 
@@ -180,7 +180,7 @@ to_open rule p (f ∷ below) =
     walk_behind rule f.left (position rule p (f ∷ below)) f.place + to_open rule p below
 
 -- the same of a test's frames
-unfoldable pub walk_among : RuleSet → ℕ → Position → List Triple → ℕ
+unfoldable pub walk_among : RuleSet → ℕ → Position → List Move → ℕ
 walk_among rule zero p ms = 0
 walk_among rule (suc h) p ms = sum_by (λ m. walk_count (legal_moves rule) (position_after rule) h
     (position_after rule p m)) ms
@@ -236,7 +236,7 @@ pub record IsTesting (rule : RuleSet) (p : Position) (frames : List Frame) (boar
   pub board_at : board ≡ position rule p frames
 
 -- the move led from the position p to the board, and its undo leads back
-pub record CameBy (rule : RuleSet) (by : Triple) (undo : Undo) (board p : Position) : Type 0 where
+pub record CameBy (rule : RuleSet) (by : Move) (undo : Undo) (board p : Position) : Type 0 where
   pub sound : IsWellFormed p
   pub legal : is_legal rule p by ≡ true
   pub led : board ≡ position_after rule p by
@@ -278,7 +278,7 @@ pub record Ends (rule : RuleSet) (aim : Aim) (floor : ℕ) (p : Position) (old n
   pub tried : min (before + to_try rule aim p (tests floor old) was) (2 ^ 64 - 1) ≤ after
 
 -- the frame of a position that a move has reached, of which no move has been tried
-abbrev pub opened_frame : Triple → Undo → ℕ → Frame
+abbrev pub opened_frame : Move → Undo → ℕ → Frame
 opened_frame by undo left = record {
   place = 0;
   by = by;
@@ -290,7 +290,7 @@ opened_frame by undo left = record {
 }
 
 -- the same in a test, where the killer is tried first
-abbrev pub tested_frame : Order → Triple → Undo → ℕ → Option LegalPlace → Frame
+abbrev pub tested_frame : Order → Move → Undo → ℕ → Option LegalPlace → Frame
 tested_frame order by undo left known = record {
   place = order.killer - 1;
   by = by;
@@ -302,7 +302,7 @@ tested_frame order by undo left known = record {
 }
 
 -- to some frames one of a test is added, which knows at most its own position
-pub record IsOpenedOn (rule : RuleSet) (p : Position) (old new : List Frame) (by : Triple)
+pub record IsOpenedOn (rule : RuleSet) (p : Position) (old new : List Frame) (by : Move)
     (undo : Undo) (left : ℕ) : Type 0 where
   pub order : Order
   pub known : Option LegalPlace

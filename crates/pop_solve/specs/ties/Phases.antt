@@ -2,7 +2,7 @@
 use Rattle.pop_solve.specs.Aims.{battle_of}
 use Rattle.std.specs.Prelude.{◌≡◌, ℕ, zero, suc, ◌+◌, ◌-◌, ◌≤◌, ◌^◌, min, ◌==◌, Bool, true, false, ◌||◌, if◌then◌else◌, List, [], ◌∷◌, ◌++◌, map, length, drop, ◌⊎◌}
 use Rattle.chess_core.specs.Position.{Position}
-use Rattle.chess_core.specs.Triple.{Triple}
+use Rattle.chess_core.specs.declared.man.Move.{Move}
 use Rattle.chess_rules.specs.RuleSet.{RuleSet}
 use Rattle.pop_input.specs.Posed.{Posed}
 use Rattle.pop_input.specs.Stipulations.{is_help}
@@ -37,7 +37,7 @@ module _ {M : Type 0} where
       else beginning_count help (suc n) xs
 
 -- the paths to come from the frames of a phase
-abbrev pub phase_paths : RuleSet → Posed → Phase → List Frame → List (List Triple)
+abbrev pub phase_paths : RuleSet → Posed → Phase → List Frame → List (List Move)
 phase_paths rule problem phase frames =
     to_come rule (plan_of problem) (phase_half_moves problem phase) (phase_start problem phase)
     frames

@@ -5,7 +5,7 @@ use Rattle.pop_input.specs.declared.stipulation.Goal.TheVariants.{Mate}
 use Rattle.std.specs.Prelude.{◌≡◌, ℕ, zero, suc, ◌+◌, ◌-◌, ◌/◌, ◌≤◌, ◌<◌, ◌^◌, min, ◌==◌, Bool, true, false, not, ◌&&◌, ◌||◌, if◌then◌else◌, List, [], ◌∷◌, ◌++◌, map, length, filter, ◌⊎◌}
 use Rattle.std.specs.List.{flat_map, list_all, sum_by}
 use Rattle.chess_core.specs.Position.{Position}
-use Rattle.chess_core.specs.Triple.{Triple}
+use Rattle.chess_core.specs.declared.man.Move.{Move}
 use Rattle.chess_core.specs.WellFormed.{IsWellFormed}
 use Rattle.chess_rules.specs.ties.Places.{moves_behind}
 use Rattle.chess_mates.specs.ties.Mates.{is_mating}
@@ -89,13 +89,13 @@ module _ {P M : Type 0} where
       (goes_on plan game t q) q (game.moves q) else 0)) ms
 
 -- the moves that lead to the top frame
-unfoldable pub path : List Frame → List Triple
+unfoldable pub path : List Frame → List Move
 path [] = []
 path (f ∷ []) = []
 path (f ∷ (g ∷ below)) = path (g ∷ below) ++ f.by ∷ []
 
 -- the paths still to come from all frames, in order
-unfoldable pub to_come : RuleSet → Plan → ℕ → Position → List Frame → List (List Triple)
+unfoldable pub to_come : RuleSet → Plan → ℕ → Position → List Frame → List (List Move)
 to_come rule plan h p [] = []
 to_come rule plan h p (f ∷ below) =
     map (λ line. path (f ∷ below) ++ line)
@@ -175,9 +175,9 @@ IsMatedAtLast rule plan left q =
 -- from a place to the moves `rest` behind a later one only moves are passed over whose paths aren't given: with one
 -- half-move left, by a side that seeks mate, those that don't mate
 pub record GoesTo (rule : RuleSet) (plan : Plan) (left : ℕ) (p : Position) (place : ℕ)
-    (rest : List Triple) : Type 0 where
+    (rest : List Move) : Type 0 where
   pub mid : ℕ
-  pub over : List Triple
+  pub over : List Move
   pub passed : moves_behind rule p place ≡ over ++ moves_behind rule p mid
   pub none : (over ≡ []) ⊎ ((seeks_last plan ≡ true) × (plan.goal ≡ Mate) × (left ≡ 1)
       × (filter (is_mating rule p) over ≡ []))
