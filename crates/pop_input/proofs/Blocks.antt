@@ -1,5 +1,5 @@
 -- Blocks token by token.
-use Rattle.pop_input.proofs.Words.{Bool, Command, Fault, List, None, Option, Some, State, Tail, TextLine, TextWord, Token, Word, Words, [], append-nil, append_assoc, arith, at_line, before_blocks, block_entries, block_fault, blocks_of, closed_entry, closes, closing_line, closing_of, command_of, entries_by, entries_of, false, fault_of, first_fault, has_begun, is_open, last_text, line_of, list_all, no_words, or_else, put_before, refl, state_of, text_after, text_word_of, tokens_inside, true, words_before, ℕ, ◌++◌, ◌∷◌, ◌≡◌}
+use Rattle.pop_input.proofs.Words.{Bool, Command, Fault, List, None, Option, Some, State, Tail, TextLine, TextWord, Token, Word, Words, [], append-nil, append_assoc, arith, at_line, before_blocks, block_entries, block_fault, blocks_of, closed_entry, closes, closes_none, closing_line, closing_of, command_of, entries_by, entries_of, false, fault_of, first_fault, has_begun, last_text, line_of, list_all, no_words, or_else, put_before, refl, state_of, text_after, text_word_of, tokens_inside, true, words_before, ℕ, ◌++◌, ◌∷◌, ◌≡◌}
 use Rattle.pop_input.specs.declared.names.Command.TheVariants.{Next, Last}
 
 -- One more token.
@@ -85,17 +85,17 @@ text_line wanted old (TextLine l k t ∷ done) line keyword text = text_line wan
 
 -- Cutting.
 
-open_parts : (token : Token) (done : List Token) → list_all is_open (token ∷ done) ≡ true → (is_open token ≡ true) × (list_all is_open done ≡ true)
+open_parts : (token : Token) (done : List Token) → list_all closes_none (token ∷ done) ≡ true → (closes_none token ≡ true) × (list_all closes_none done ≡ true)
 open_parts token done h = grind arith
 
 -- open tokens stand in the first block
-pub blocks_open : (done tokens : List Token) → list_all is_open done ≡ true → (b : List Token) (bs : List (List Token)) → blocks_of tokens ≡ b ∷ bs
+pub blocks_open : (done tokens : List Token) → list_all closes_none done ≡ true → (b : List Token) (bs : List (List Token)) → blocks_of tokens ≡ b ∷ bs
     → blocks_of (done ++ tokens) ≡ (done ++ b) ∷ bs
 blocks_open [] tokens h b bs e = e
 blocks_open (token ∷ done) tokens h b bs e = grind (arith, open_parts, blocks_open done tokens (open_parts token done h).1 b bs e)
 
 -- no line closes open tokens
-pub open_line : (done : List Token) → list_all is_open done ≡ true → closing_line done ≡ None
+pub open_line : (done : List Token) → list_all closes_none done ≡ true → closing_line done ≡ None
 open_line [] h = refl
 open_line (token ∷ done) h = grind (arith, open_line done)
 
@@ -106,7 +106,7 @@ closed_line (other ∷ done) token h = grind (arith, closed_line done token h)
 
 -- Entries.
 
-module _ (first : Bool) (done : List Token) (line : ℕ) (text : List ℕ) (plain : list_all is_open done ≡ true) (words : Words) where
+module _ (first : Bool) (done : List Token) (line : ℕ) (text : List ℕ) (plain : list_all closes_none done ≡ true) (words : Words) where
   abbrev block : List Token
   block = done ++ Word line text ∷ []
 
@@ -131,6 +131,6 @@ module _ (first : Bool) (done : List Token) (line : ℕ) (text : List ℕ) (plai
   last_entries is = closing_entries Last is refl [] refl
 
 -- an input that ends in a block
-pub ended_entries : (first : Bool) (done : List Token) (tail : Tail) (line : ℕ) → list_all is_open done ≡ true
+pub ended_entries : (first : Bool) (done : List Token) (tail : Tail) (line : ℕ) → list_all closes_none done ≡ true
     → entries_of first (put_before done (no_words tail line)) ≡ entries_by (block_fault first done) None first tail line done
 ended_entries first done tail line plain = grind (arith, blocks_open done [] plain [] [], append-nil {A = Token}, open_line done plain)

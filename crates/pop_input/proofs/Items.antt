@@ -1,5 +1,5 @@
 -- A block as far as it is read, and the item at its end.
-use Rattle.pop_input.proofs.Words.{Block, Bool, Command, IsNew, List, None, Option, Reading, ReadsWord, Some, State, Takes, TakesLine, TakesPart, TextLine, TextWord, Word, WordTooLong, [], among, ap, arith, at_line, block_fault, closes, command_of, false, fault_at, fault_of, has_begun, inr, is_open, last_of, last_text, length, list_all, list_all-append, lt-ltb, no_short_form, noted, or_else, refl, section_of, sym, takes_none, text_of_line, text_word_of, tokens_inside, true, ℕ, ◌++◌, ◌<◌, ◌∙◌, ◌∷◌, ◌≡◌, ◌≤◌, ◌⊎◌}
+use Rattle.pop_input.proofs.Words.{Block, Bool, Command, IsNew, List, None, Option, Reading, ReadsWord, Some, State, Takes, TakesLine, TakesPart, TextLine, TextWord, Word, WordTooLong, [], among, ap, arith, at_line, block_fault, closes, closes_none, command_of, false, fault_at, fault_of, has_begun, inr, last_of, last_text, length, list_all, list_all-append, lt-ltb, no_short_form, noted, or_else, refl, section_of, sym, takes_none, text_of_line, text_word_of, tokens_inside, true, ℕ, ◌++◌, ◌<◌, ◌∙◌, ◌∷◌, ◌≡◌, ◌≤◌, ◌⊎◌}
 use Rattle.pop_text.specs.Words.{Token}
 use Rattle.pop_input.specs.declared.names.TextWord.TheVariants.{Title, Author}
 use Rattle.pop_input.proofs.Taking.{takes_then}
@@ -16,7 +16,7 @@ pub record Tells (first : Bool) (block : Block) (done : List Token) : Type 0 whe
 pub record BlockSoFar (first : Bool) (old new : Reading) (had left : Option (List ℕ)) (block : Block) : Type 0 where
   pub done : List Token
   pub takes : Takes (among old) (among new) had left done
-  pub plain : list_all is_open done ≡ true
+  pub plain : list_all closes_none done ≡ true
   pub fault : block.fault ≡ block_fault first done
   pub told : block.fault ≡ None → Tells first block done
   pub on : old.used ≤ new.used

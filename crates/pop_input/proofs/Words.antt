@@ -30,7 +30,7 @@ pub use Rattle.pop_text.specs.ties.Left.{GoesOn, IsOver, MayFollow, RestOfLine, 
 pub use Rattle.pop_text.specs.ties.Plain.{Skips, is_named, is_plain}
 pub use Rattle.pop_text.specs.ties.Reading.{Asks, Reading, Uses, UsesAll}
 pub use Rattle.pop_text.specs.ties.Runs.{IsRunOver, Peeks, Sticks, UsesLine, UsesRun, UsesWord}
-pub use Rattle.pop_input.specs.Blocks.{Entry, Sound, before_blocks, block_entries, block_fault, blocks_of, closed_entry, closing_line, closing_of, entries_by, entries_of, entry_of, first_fault, has_begun, is_open, last_text, line_of, more_entries, problem_of, tail_fault, text_after, tokens_inside, words_before}
+pub use Rattle.pop_input.specs.Blocks.{Entry, Sound, before_blocks, block_entries, block_fault, blocks_of, closed_entry, closes_none, closing_line, closing_of, entries_by, entries_of, entry_of, first_fault, has_begun, last_text, line_of, more_entries, problem_of, tail_fault, text_after, tokens_inside, words_before}
 pub use Rattle.pop_input.specs.Ends.{ArePut, counts_as_unmoved, posed_of, position_fault, setup_fault, setup_of, stated_fault}
 unfoldable pub use Rattle.pop_input.specs.Ends.{end_fault_in, unmoved_of}
 pub use Rattle.pop_input.specs.FaultKinds.{at_line, fault_at, number_of}

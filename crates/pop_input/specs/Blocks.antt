@@ -61,8 +61,8 @@ closing_of (Word line text) = command_of text
 closing_of (TextLine line keyword text) = None
 
 -- a token that closes no block
-abbrev pub is_open : Token → Bool
-is_open token = not (closes (closing_of token))
+abbrev pub closes_none : Token → Bool
+closes_none token = not (closes (closing_of token))
 
 -- a token before blocks, the first of which it may close
 abbrev pub before_blocks : Option Command → Token → List (List Token) → List (List Token)

@@ -12,7 +12,7 @@ use Rattle.pop_text.specs.declared.read_fault.ReadFault.TheVariants.{TooLong, In
 use Rattle.pop_text.specs.ties.Left.{among, words_left}
 use Rattle.pop_text.specs.ties.Reading.{Reading, beginning}
 use Rattle.pop_input.proofs.Taking.{takes_then}
-use Rattle.pop_input.specs.Blocks.{Faulty as FaultyEntry, Sound as SoundEntry, is_open}
+use Rattle.pop_input.specs.Blocks.{Faulty as FaultyEntry, Sound as SoundEntry, closes_none}
 use Rattle.pop_input.specs.Names.{closes, command_of}
 use Rattle.pop_input.specs.declared.item.Last.{Last}
 use Rattle.pop_input.specs.declared.names.Command.{Command}
@@ -38,7 +38,7 @@ used_then {a} {b} {c} {had} {mid} {left} {ts = ts} {us = us} p q = record {
 open_goes_on : (command : Option Command) → not (closes command) ≡ true → is_no_end command ≡ true
 open_goes_on command h = grind arith
 
-all_go_on : (tokens : List Token) → list_all is_open tokens ≡ true → list_all goes_on tokens ≡ true
+all_go_on : (tokens : List Token) → list_all closes_none tokens ≡ true → list_all goes_on tokens ≡ true
 all_go_on [] h = refl
 all_go_on (token ∷ tokens) h = grind (arith, open_goes_on, all_go_on tokens)
 

@@ -2,7 +2,7 @@
 use Rattle.chess_mates.specs.ties.Mates.{mates}
 use Rattle.chess_rules.specs.ties.Places.{place_of, place_onto}
 use Rattle.pop_solve.specs.ties.Calls.{IsOnMate}
-use Rattle.pop_solve.proofs.Words.{Battle, Bool, Goal, IfSome, List, MatchOption, Mate, Move, None, Option, Position, RuleSet, Some, [], arith, can_move, chess, cut_mates, cut_moves, eqb, false, filter, is_for_mate, is_legal, is_mate, is_mating, is_nil, is_reached, is_some, is_stalemate, length, list_any, mates_behind, mates_between, moves, moves_behind, moves_between, nat_tests, not, refl, rules, sym, true, value, walk_count, ℕ, ◌++◌, ◌-◌, ◌<◌, ◌∙◌, ◌∷◌, ◌≡◌, ◌≤◌}
+use Rattle.pop_solve.proofs.Words.{Battle, Bool, Goal, IfSome, List, MatchOption, Mate, Move, None, Option, Position, RuleSet, Some, [], arith, can_move, chess, cut_mates, cut_moves, eqb, false, filter, is_for_mate, is_goal_reached, is_legal, is_mate, is_mating, is_nil, is_some, is_stalemate, length, list_any, mates_behind, mates_between, moves, moves_behind, moves_between, nat_tests, not, refl, rules, sym, true, value, walk_count, ℕ, ◌++◌, ◌-◌, ◌<◌, ◌∙◌, ◌∷◌, ◌≡◌, ◌≤◌}
 use Rattle.pop_solve.specs.Game.{some_move as some_good}
 
 pub can_move-is : (goal : Goal) (rule : RuleSet) (p : Position) → not (is_nil (moves rule p)) ≡ can_move (chess goal rule) p
@@ -38,20 +38,20 @@ module _ (rule : RuleSet) (p : Position) where
   mate_within (x ∷ before) behind m more e = refl
 
   pub mate_behind : (b next : ℕ) (o : Option Move) → MatchOption o (mates_behind rule p b ≡ []) (λ m. mates_behind rule p b ≡ m ∷ mates_behind rule p next)
-      → true ≡ is_some o → true ≡ some_good (chess Mate rule) (is_reached Mate rule) p
+      → true ≡ is_some o → true ≡ some_good (chess Mate rule) (is_goal_reached Mate rule) p
   mate_behind b next None found some = absurd cc
   mate_behind b next (Some m) found some = mate_within (mates_between rule p 0 b) (mates_behind rule p b) m _ found ∙ sym (some_mates b)
 
   pub mate_before : (a b next : ℕ) (q : Position) (o : Option Move)
       → MatchOption o (mates_between rule q a b ≡ []) (λ m. mates_between rule q a b ≡ m ∷ mates_between rule q next b)
-      → a ≡ 0 → q ≡ p → true ≡ is_some o → true ≡ some_good (chess Mate rule) (is_reached Mate rule) p
+      → a ≡ 0 → q ≡ p → true ≡ is_some o → true ≡ some_good (chess Mate rule) (is_goal_reached Mate rule) p
   mate_before a b next q None found start same some = absurd cc
   mate_before a b next q (Some m) found start same some = rw (some_mates b, rw (start, same) at found) refl
 
   pub no_mate : (a b b' next last : ℕ) (q : Position) (o o' : Option Move)
       → MatchOption o (mates_behind rule p b ≡ []) (λ m. mates_behind rule p b ≡ m ∷ mates_behind rule p next)
       → MatchOption o' (mates_between rule q a b' ≡ []) (λ m. mates_between rule q a b' ≡ m ∷ mates_between rule q last b')
-      → a ≡ 0 → b ≡ b' → q ≡ p → false ≡ is_some o → false ≡ is_some o' → false ≡ some_good (chess Mate rule) (is_reached Mate rule) p
+      → a ≡ 0 → b ≡ b' → q ≡ p → false ≡ is_some o → false ≡ is_some o' → false ≡ some_good (chess Mate rule) (is_goal_reached Mate rule) p
   no_mate a b b' next last q None None behind before start cut same none none' = rw (some_mates b', rw (start, same) at before, rw cut at behind) refl
   no_mate a b b' next last q o o' behind before start cut same none none' = grind arith
 
@@ -91,7 +91,7 @@ module _ (goal : Goal) (rule : RuleSet) (p : Position) where
   has_first place next o at found = grind (arith, behind_start, nat_tests)
 
   -- where there is a move the goal isn't reached
-  pub unreached : can_move (chess goal rule) p ≡ true → is_reached goal rule p ≡ false
+  pub unreached : can_move (chess goal rule) p ≡ true → is_goal_reached goal rule p ≡ false
   unfolding is_mate is_stalemate
   unreached e = search rules
 

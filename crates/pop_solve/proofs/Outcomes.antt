@@ -1,9 +1,9 @@
 -- The outcomes of a step, for frames listed from the top down.
-use Rattle.pop_solve.proofs.Words.{AreKnown, Battle, Bool, CameFrom, CameFromAt, Counts, Frame, GoesTo, IfSome, IsCounted, IsLinked, IsPlaceIn, IsRoomy, IsWalking, IsWhites, LegalPlace, List, Undo, Option, Plan, Position, RuleSet, Steps, [], after_well_formed, ap, arith, chess, eqb, false, fewest_left, follows, gives, goes_on, inl, inr, is_help, is_legal, length, min, moves_behind, opened_frame, path, position, is_pseudo_legal-from_legal, refl, rules, seeks, suc, to_come, to_open, true, turns, undo_of, walk_behind, ℕ, ◌+◌, ◌-◌, ◌<◌, ◌^◌, ◌∷◌, ◌≡◌, ◌≤◌, ◌⊎◌, Move}
+use Rattle.pop_solve.proofs.Words.{AreKnown, Battle, Bool, CameFrom, CameFromAt, Counts, Frame, GoesTo, IfSome, IsCounted, IsLinked, IsPlaceIn, IsRoomy, IsWalking, IsWhites, LegalPlace, List, Move, Option, Plan, Position, RuleSet, Steps, Undo, [], after_well_formed, ap, arith, chess, eqb, false, fewest_left, follows, gives, half_moves_on, inl, inr, is_help, is_legal, is_pseudo_legal-from_legal, length, min, moves_behind, opened_frame, path, position, refl, rules, seeks, suc, to_come, to_open, true, turns, undo_of, walk_behind, ℕ, ◌+◌, ◌-◌, ◌<◌, ◌^◌, ◌∷◌, ◌≡◌, ◌≤◌, ◌⊎◌}
 use Rattle.chess_rules.specs.Play.{position_after}
 use Rattle.pop_solve.specs.ties.Frames.{opened_frame}
 use Rattle.pop_solve.proofs.Tests.{learned, moved}
-use Rattle.pop_solve.proofs.GoingOn.{no_zero, goes_on-help, follows-help, goes_on-keys, goes_on-most, ended-reached}
+use Rattle.pop_solve.proofs.GoingOn.{no_zero, half_moves_on-help, follows-help, half_moves_on-keys, half_moves_on-most, ended-reached}
 use Rattle.pop_solve.proofs.ToCome.{one, walk_count-start, walk_behind-none, come-pass, come-enter, tries-pass, tries-enter, turns-pass, turns-enter, open-next, open-enter, come-close, tries-close, turns-close, open-close, steps-skip}
 
 module _ (rule : RuleSet) (plan : Plan) where
@@ -132,26 +132,26 @@ module _ (rule : RuleSet) (plan : Plan) (h : ℕ) (p : Position) (f : Frame) (be
         → follows plan (chess plan.goal rule) (eqb (length below) 0) t (position_after rule board m) ≡ true → after ≡ position_after rule board m
         → Counts rule plan (eqb (length below) 0) t (position_after rule board m) opened opened2
         → Steps rule plan h p (f ∷ below) (opened_frame m (undo_of rule board m)
-        (goes_on plan (chess plan.goal rule) t (position_after rule board m)) ∷ (moved f next ∷
+        (half_moves_on plan (chess plan.goal rule) t (position_after rule board m)) ∷ (moved f next ∷
         below)) after opened opened2 (gives plan (chess plan.goal rule) t (position_after rule board m))
     steps-enter after opened opened2 lawful b at x =
         let o = open-next rule plan h p f next m below _ t fuel left here in
         let u = undo_of rule board m in
         let q = position_after rule (position rule p (f ∷ below)) m in
-        let tried = goes_on plan (chess plan.goal rule) t (position_after rule board m) in
+        let tried = half_moves_on plan (chess plan.goal rule) t (position_after rule board m) in
         let n = open-enter rule plan h p f next m below _ t fuel left here u tried in
         let helped : is_help plan.form ≡ true
         → to_open rule p (f ∷ below) ≡ one rule plan t + to_open rule p (opened_frame m u tried ∷ (moved f next ∷ below)) = λ a.
-        let w : walk_behind rule tried q 0 ≡ walk_behind rule t q 0 = ap (λ x. walk_behind rule x q 0) (goes_on-help plan (chess plan.goal rule) t _ a) in
+        let w : walk_behind rule tried q 0 ≡ walk_behind rule t q 0 = ap (λ x. walk_behind rule x q 0) (half_moves_on-help plan (chess plan.goal rule) t _ a) in
         omega (arith, o, n, w, walk_count-start rule plan t q) in
         record {
           walking = walking-enter rule h p plan f next m tried below board after r
-              (omega (arith, left, goes_on-most (chess plan.goal rule) plan t (position_after rule board m))) lawful at;
+              (omega (arith, left, half_moves_on-most (chess plan.goal rule) plan t (position_after rule board m))) lawful at;
           come = rw after_here (come-enter rule plan h p f next m below _ t fuel left here u (rw (← after_here) b));
           deep = λ g. omega arith;
           ended = λ g e. rw at (ended-reached (chess plan.goal rule) plan (eqb (length below) 0) t (position_after rule board m) b e);
           falls = turns-enter rule plan h p f next m below _ t fuel left here u tried;
-          opens = grind (arith, whites-none, goes_on-keys, whites-top, whites-moved, walk_behind-none, after_here, counted_by);
+          opens = grind (arith, whites-none, half_moves_on-keys, whites-top, whites-moved, walk_behind-none, after_here, counted_by);
           tries = record {
             grows = omega (arith, x.tries);
             fewest = λ a. rw after_here

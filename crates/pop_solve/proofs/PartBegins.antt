@@ -1,9 +1,9 @@
 -- How a part begins: behind its first moves stand its solutions.
-use Rattle.pop_solve.proofs.Words.{AreKnown, BareEvent, Bool, Counts, Frame, Game, GoesTo, IsCounted, IsLinked, IsRoomy, IsSound, IsWalking, List, Mate, Phase, Plan, Posed, Position, RuleSet, [], after_well_formed, ap, append-nil, arith, eqb, false, follows, get_or, gives, goes_on, inl, inr, is_for_mate, is_help, is_mate, is_legal, length, length-append, length-reverse, map, min, moves_behind, nat_tests, path, phase_half_moves, phase_paths, phase_start, plan_of, position, is_pseudo_legal-from_legal, path_end, refl, reverse, rules, seeks_last, shown_paths, suc, sym, take, to_come, to_open, true, undo_of, walk_count, ℕ, ◌++◌, ◌+◌, ◌-◌, ◌<◌, ◌^◌, ◌∙◌, ◌∷◌, ◌≡◌, ◌≤◌, Move}
+use Rattle.pop_solve.proofs.Words.{AreKnown, BareEvent, Bool, Counts, Frame, Game, GoesTo, IsCounted, IsLinked, IsRoomy, IsSound, IsWalking, List, Mate, Move, Phase, Plan, Posed, Position, RuleSet, [], after_well_formed, ap, append-nil, arith, eqb, false, follows, get_or, gives, half_moves_on, inl, inr, is_for_mate, is_help, is_legal, is_mate, is_pseudo_legal-from_legal, length, length-append, length-reverse, map, min, moves_behind, nat_tests, path, path_end, phase_half_moves, phase_paths, phase_start, plan_of, position, refl, reverse, rules, seeks_last, shown_paths, suc, sym, take, to_come, to_open, true, undo_of, walk_count, ℕ, ◌++◌, ◌+◌, ◌-◌, ◌<◌, ◌^◌, ◌∙◌, ◌∷◌, ◌≡◌, ◌≤◌}
 use Rattle.chess_rules.specs.Legal.{moves as legal_moves}
 use Rattle.chess_rules.specs.Play.{position_after}
 use Rattle.pop_solve.proofs.Boards.{behind_start, for_mate}
-use Rattle.pop_solve.proofs.GoingOn.{cases, ended-reached, follows-help, goes_on-help, goes_on-most}
+use Rattle.pop_solve.proofs.GoingOn.{cases, ended-reached, follows-help, half_moves_on-help, half_moves_on-most}
 use Rattle.pop_solve.proofs.Outcomes.{counted_by}
 use Rattle.pop_solve.proofs.Parts.{part_cut}
 use Rattle.pop_solve.proofs.Paths.{cut-at, path-length, path-more, position-more, path_end-append, path_end-path, some-taken}
@@ -210,7 +210,7 @@ module _ (rule : RuleSet) (problem : Posed) (sound : IsSound problem) (phase : P
 
   -- it is followed
   abbrev entered : List Frame
-  entered = opened_frame m (undo_of rule board m) (goes_on plan game left q) ∷ old
+  entered = opened_frame m (undo_of rule board m) (half_moves_on plan game left q) ∷ old
 
   come-entered : follows plan game root left q ≡ true → come ≡ given_path (gives plan game left q) front ++ to_come rule plan h p entered
   unfolding shown_paths to_come
@@ -226,12 +226,13 @@ module _ (rule : RuleSet) (problem : Posed) (sound : IsSound problem) (phase : P
         ← s.walking.board_at,
         behind_start rule q,
       )
-      (sym (append-nil _) ∙ turn (gives plan game left q) (path old) m (shown_paths plan game false left (goes_on plan game left q) q (legal_moves rule q)) []
+      (sym (append-nil _) ∙ turn (gives plan game left q) (path old) m (shown_paths plan game false left (half_moves_on plan game left q) q
+      (legal_moves rule q)) []
       [])
 
   walking-entered : IsWalking rule h p entered q
   walking-entered = walking-opened rule h p old board m _ deep s.walking lawful
-      (omega (arith, goes_on-most game plan left q, size, s.room))
+      (omega (arith, half_moves_on-most game plan left q, size, s.room))
 
   opens-entered : (opened : ℕ) → Counts rule plan root left q 0 opened → IsPartOpened rule problem phase front entered opened
   unfolding to_open
@@ -240,7 +241,7 @@ module _ (rule : RuleSet) (problem : Posed) (sound : IsSound problem) (phase : P
       record { within = omega arith; counts = omega arith } in
       rw (
         walk-is,
-        goes_on-help plan game left q help,
+        half_moves_on-help plan game left q help,
         idle-open rule plan p old s.idle,
         position-more rule p _ old deep,
         ← s.walking.board_at,
@@ -266,7 +267,7 @@ module _ (rule : RuleSet) (problem : Posed) (sound : IsSound problem) (phase : P
   pub begun-by : (opened opened2 : ℕ) (low given : Bool) (last : List Frame) (after : Position) → opened ≡ 0
       → (follows plan game low left q ≡ false → (given ≡ false) × (after ≡ board) × (last ≡ frames))
       → (follows plan game low left q ≡ true → (given ≡ gives plan game left q) × (after ≡ q)
-      × (last ≡ frames ++ opened_frame m (undo_of rule board m) (goes_on plan game left q) ∷ []))
+      × (last ≡ frames ++ opened_frame m (undo_of rule board m) (half_moves_on plan game left q) ∷ []))
       → Counts rule plan low left q opened opened2 → low ≡ root → HasBegun rule problem phase front (begins_at given) (reverse last) after opened2
   begun-by opened opened2 low given last after z passes enters counts lowest =
       elim (cases (follows plan game low left q)) [

@@ -1,5 +1,5 @@
 -- What a search of one part gives at a call, and what it opens.
-use Rattle.pop_solve.proofs.Words.{BareEvent, Bool, Event, Frame, Gives, IsCounted, IsEnded, IsSound, IsWalking, List, Opens, Phase, Play, Posed, Position, RuleSet, Set, StandsOn, Total, Walks, [], arith, begins, cond, eqb, event_of, half_moves, is_help, is_set, keep, length, length-reverse, nat_tests, path, path_event, phase_half_moves, phase_paths, phase_start, plan_of, refl, reverse, rules, beginning_count, subst, to_open, true, false, ℕ, ◌+◌, ◌-◌, ◌<◌, ◌||◌, ◌∙◌, ◌∷◌, ◌≡◌, ◌≤◌, Move}
+use Rattle.pop_solve.proofs.Words.{BareEvent, Bool, Event, Frame, Gives, IsCounted, IsEnded, IsSound, IsWalking, List, Move, Opens, Phase, Play, Posed, Position, RuleSet, Set, StandsOn, Total, Walks, [], arith, beginning_count, begins, cond, eqb, event_of, false, half_moves, is_help, is_set, keep, length, length-reverse, nat_tests, path, path_event, phase_half_moves, phase_paths, phase_start, plan_of, refl, reverse, rules, subst, to_open, true, ℕ, ◌+◌, ◌-◌, ◌<◌, ◌||◌, ◌∙◌, ◌∷◌, ◌≡◌, ◌≤◌}
 use Rattle.pop_solve.specs.declared.part_search.PartStage.{PartStage}
 use Rattle.pop_solve.specs.declared.part_search.PartStage.TheVariants.{Behind, First, Within}
 use Rattle.pop_solve.specs.ties.PartStages.{IsPartOpened, events_left}

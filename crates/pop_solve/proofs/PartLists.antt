@@ -1,5 +1,5 @@
 -- Lists of moves that begin as a part does: each stands in one part, and the parts joined are all of them.
-use Rattle.pop_solve.proofs.Words.{AllPairs, Bool, Contains, Game, List, Position, Precedes, [], ap, append-nil, arith, cond, eqb, false, filter, filter-append, flat_map, flat_map-append, first_in, from_flat_map, from_map, in_cases, in_flat_map, in_map, inl, inr, later_in, length, lines_to_goal, map, map-append, nat_tests, none_in_nil, pairs_flat_map, pairs_map, pairs_nil, pairs_of, path_end, refl, rules, subst, suc, sym, take, true, zero, ℕ, ◌&&◌, ◌++◌, ◌-◌, ◌<◌, ◌∙◌, ◌∷◌, ◌≡◌, ◌≤◌, Move}
+use Rattle.pop_solve.proofs.Words.{AllPairs, Bool, Contains, Game, List, Move, Position, Precedes, [], ap, append-nil, arith, cond, eqb, false, filter, filter-append, first_in, flat_map, flat_map-append, from_flat_map, from_map, in_cases, in_flat_map, in_map, inl, inr, later_in, length, lines_to_goal, map, map-append, nat_tests, none_in_nil, pairs_flat_map, pairs_map, pairs_nil, pairs_of, path_end, refl, rules, subst, suc, sym, take, true, zero, ℕ, ◌&&◌, ◌++◌, ◌-◌, ◌<◌, ◌∙◌, ◌∷◌, ◌≡◌, ◌≤◌}
 use Rattle.std.proofs.lemmas.List.Folds.{flat_map-map}
 use Rattle.std.proofs.lemmas.Simd.{map-map}
 use Rattle.chess_core.specs.MoveOrder.{triple_number}

@@ -1,5 +1,5 @@
 -- The parts of a phase by their numbers, and how many there are.
-use Rattle.pop_solve.proofs.Words.{Bool, Frame, List, MatchOption, None, Option, Phase, Posed, Position, RuleSet, Set, Play, Some, [], arith, chess, cond, eqb, false, half_moves, is_barred, is_help, is_legal, length, length-reverse, min, not, path, phase_half_moves, phase_start, refl, reverse, slice_get, subst, true, ℕ, ◌++◌, ◌-◌, ◌||◌, ◌∙◌, ◌∷◌, ◌≡◌, ◌≤◌, Move}
+use Rattle.pop_solve.proofs.Words.{Bool, Frame, List, MatchOption, Move, None, Option, Phase, Play, Posed, Position, RuleSet, Set, Some, [], arith, chess, cond, eqb, false, half_moves, is_barred, is_help, is_legal, length, length-reverse, min, not, path, phase_half_moves, phase_start, refl, reverse, slice_get, subst, true, ℕ, ◌++◌, ◌-◌, ◌||◌, ◌∙◌, ◌∷◌, ◌≡◌, ◌≤◌}
 use Rattle.pop_input.specs.declared.stipulation.Goal.{Goal}
 use Rattle.pop_solve.specs.Parts.{beginnings, part_depth, part_numbered, parts}
 use Rattle.pop_solve.specs.ties.Beginnings.{FindsNumbered, IsSeeking, beginnings_to_come}

@@ -5,7 +5,7 @@ use Rattle.chess_rules.specs.Legal.{moves as legal_moves}
 use Rattle.pop_solve.proofs.Sound.{some_way}
 use Rattle.pop_input.specs.declared.stipulation.Form.TheVariants.{Direct}
 use Rattle.pop_solve.proofs.Battles.{value-wins, value-self_wins}
-use Rattle.pop_solve.proofs.Trees.{flat-filter, shown_paths-zero, shown_paths-help, halves, keeps-value, half-some, halves-seek, seeks-step, flip, unflip, beneath, as_nodes, by_test, nodes_below-key, nodes_below-set}
+use Rattle.pop_solve.proofs.Trees.{as_nodes, beneath, by_test, flat-filter, flip, half-some, halves, halves-seek, keeps-value, nodes_below-key, nodes_below-set, seeks-step, shown_paths-help, shown_paths-zero, unflip}
 use Rattle.pop_solve.proofs.Kept.{keep-nil, beginning_count-nil, to_come-root}
 
 -- what is kept of a list of paths, and the solutions begun: `sols` are its solutions

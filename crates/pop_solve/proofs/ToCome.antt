@@ -1,10 +1,10 @@
 -- What the moves still to come say of paths, turns and counts: the next move, and those passed over.
-use Rattle.pop_solve.proofs.Words.{Bool, Frame, GoesTo, IsWhites, List, Mate, Move, Plan, Position, RuleSet, Steps, Undo, [], ap, append_assoc, arith, battle_of, chess, cond, eqb, false, fewest_for, fewest_left, fewest_walked, filter, follows, gives, goes_on, inl, inr, is_help, is_mate, is_mating, length, map, map-append, moves_behind, opened_frame, path, position, refl, rules, seeks, seeks_last, shown_paths, smallest_tree, steps, steps_behind, suc, sum_by, sum_by-append, sum_by-cons, to_come, to_open, true, turns, value, walk_behind, walk_count, zero, ℕ, ◌++◌, ◌+◌, ◌-◌, ◌<◌, ◌∙◌, ◌∷◌, ◌≡◌, ◌≤◌, ◌⊎◌}
+use Rattle.pop_solve.proofs.Words.{Bool, Frame, GoesTo, IsWhites, List, Mate, Move, Plan, Position, RuleSet, Steps, Undo, [], ap, append_assoc, arith, battle_of, chess, cond, eqb, false, fewest_for, fewest_left, fewest_walked, filter, follows, gives, half_moves_on, inl, inr, is_help, is_mate, is_mating, length, map, map-append, moves_behind, opened_frame, path, position, refl, rules, seeks, seeks_last, shown_paths, smallest_tree, steps, steps_behind, suc, sum_by, sum_by-append, sum_by-cons, to_come, to_open, true, turns, value, walk_behind, walk_count, zero, ℕ, ◌++◌, ◌+◌, ◌-◌, ◌<◌, ◌∙◌, ◌∷◌, ◌≡◌, ◌≤◌, ◌⊎◌}
 use Rattle.chess_rules.specs.Play.{position_after}
 use Rattle.chess_rules.specs.Legal.{moves as legal_moves}
 use Rattle.pop_solve.proofs.Boards.{behind_start}
 use Rattle.pop_solve.proofs.Tests.{moved}
-use Rattle.pop_solve.proofs.GoingOn.{cases, no_zero, goes_on-help, follows-help}
+use Rattle.pop_solve.proofs.GoingOn.{cases, no_zero, half_moves_on-help, follows-help}
 
 -- where the first move counts nothing if it fails a test, all that fail it at the head of a list count nothing
 passed-over : {A : Type 0} (f : List Move → A) (test : Move → Bool) → ((m : Move) (ms : List Move) → test m ≡ false → f (m ∷ ms) ≡ f ms)
@@ -42,7 +42,7 @@ module _ (rule : RuleSet) (plan : Plan) where
   shown_paths-next : (root : Bool) (k t : ℕ) (P : Position) (m : Move) (ms : List Move)
       → shown_paths plan (chess plan.goal rule) root (suc k) (suc t) P (m ∷ ms) ≡ cond (follows plan (chess plan.goal rule) root t (position_after rule P m))
       (given_path (gives plan (chess plan.goal rule) t (position_after rule P m)) (m ∷ []) ++ map (λ line. m ∷ line)
-      (shown_paths plan (chess plan.goal rule) false k (goes_on plan (chess plan.goal rule) t (position_after rule P m)) (position_after rule P m)
+      (shown_paths plan (chess plan.goal rule) false k (half_moves_on plan (chess plan.goal rule) t (position_after rule P m)) (position_after rule P m)
       (legal_moves rule (position_after rule P m)))) [] ++ shown_paths plan (chess plan.goal rule) root (suc k) (suc t) P ms
   unfolding shown_paths
   shown_paths-next root k t P m ms = refl
@@ -57,7 +57,7 @@ module _ (rule : RuleSet) (plan : Plan) where
       → fewest_walked plan (chess plan.goal rule) root (suc k) (suc t) P (m ∷ ms)
       ≡ (fewest_for plan (chess plan.goal rule) root t (position_after rule P m) + cond
       (follows plan (chess plan.goal rule) root t (position_after rule P m))
-      (fewest_walked plan (chess plan.goal rule) false k (goes_on plan (chess plan.goal rule) t
+      (fewest_walked plan (chess plan.goal rule) false k (half_moves_on plan (chess plan.goal rule) t
       (position_after rule P m)) (position_after rule P m) (legal_moves rule (position_after rule P m))) 0) + fewest_walked plan (chess plan.goal rule) root
       (suc k) (suc t) P ms
   unfolding fewest_walked
@@ -104,8 +104,8 @@ module _ (rule : RuleSet) (plan : Plan) where
     -- a move that is followed: its path, where that is given, and what stands below it
     pub come-enter : (undo : Undo) → follows plan (chess plan.goal rule) root t q ≡ true
         → to_come rule plan h p (f ∷ below) ≡ given_path (gives plan (chess plan.goal rule) t q)
-        (path (opened_frame m undo (goes_on plan (chess plan.goal rule) t q)
-        ∷ (moved f next ∷ below))) ++ to_come rule plan h p (opened_frame m undo (goes_on plan (chess plan.goal rule) t q) ∷ (moved f next ∷ below))
+        (path (opened_frame m undo (half_moves_on plan (chess plan.goal rule) t q)
+        ∷ (moved f next ∷ below))) ++ to_come rule plan h p (opened_frame m undo (half_moves_on plan (chess plan.goal rule) t q) ∷ (moved f next ∷ below))
     unfolding to_come position path
     come-enter undo b =
         let less : h - suc (length below) ≡ k = omega arith in
@@ -120,7 +120,7 @@ module _ (rule : RuleSet) (plan : Plan) where
 
     pub tries-enter : (undo : Undo) → follows plan (chess plan.goal rule) root t q ≡ true → fewest_left rule plan h p (f ∷ below)
         ≡ fewest_for plan (chess plan.goal rule) root t q + fewest_left rule plan h p
-        (opened_frame m undo (goes_on plan (chess plan.goal rule) t q) ∷ (moved f next ∷ below))
+        (opened_frame m undo (half_moves_on plan (chess plan.goal rule) t q) ∷ (moved f next ∷ below))
     unfolding fewest_left position
     tries-enter undo b = search (rules, behind_start, fewest-next, no_zero)
 
@@ -202,7 +202,7 @@ module _ (rule : RuleSet) (plan : Plan) where
     pub skipped : (low : Bool) (fuel : ℕ) → seeks_last plan ≡ true → plan.goal ≡ Mate → (m : Move) (ms : List Move) → is_mating rule P m ≡ false
         → shown_paths plan (chess plan.goal rule) low fuel 1 P (m ∷ ms) ≡ shown_paths plan (chess plan.goal rule) low fuel 1 P ms
     unfolding shown_paths
-    skipped low fuel last for m ms misses = search (rules, cases, ends, follows-help, follows-last, gives-last, goes_on-help, shown_paths-next)
+    skipped low fuel last for m ms misses = search (rules, cases, ends, follows-help, follows-last, gives-last, half_moves_on-help, shown_paths-next)
 
     fewest-skipped : (low : Bool) (fuel : ℕ) → seeks_last plan ≡ true → plan.goal ≡ Mate → is_help plan.form ≡ false
         → (m : Move) (ms : List Move) → is_mating rule P m ≡ false

@@ -1,9 +1,9 @@
 -- What the walk shows is the tree that the definitions name.
-use Rattle.pop_solve.proofs.Words.{Battle, Bool, Game, List, Plan, Selfmate, [], answers, ap, append-nil, arith, battle_of, best_moves, cond, eqb, every_move, false, fewest, filter, first_from, flat_map, flat_map_single, follows, gives, goes_on, is_help, keeps, least_moves, lines_to_goal, list_all, map, nat_tests, node, nodes_below, not, open_length, refl, rules, seeks, shown_paths, suc, sym, true, value, varies, zero, ℕ, ◌%◌, ◌&&◌, ◌*◌, ◌++◌, ◌+◌, ◌-◌, ◌/◌, ◌<◌, ◌||◌, ◌∙◌, ◌∷◌, ◌≡◌, ◌≤◌}
+use Rattle.pop_solve.proofs.Words.{Battle, Bool, Game, List, Plan, Selfmate, [], answers, ap, append-nil, arith, battle_of, best_moves, cond, eqb, every_move, false, fewest, filter, first_from, flat_map, flat_map_single, follows, gives, half_moves_on, is_help, keeps, least_moves, lines_to_goal, list_all, map, nat_tests, node, nodes_below, not, open_length, refl, rules, seeks, shown_paths, suc, sym, true, value, varies, zero, ℕ, ◌%◌, ◌&&◌, ◌*◌, ◌++◌, ◌+◌, ◌-◌, ◌/◌, ◌<◌, ◌||◌, ◌∙◌, ◌∷◌, ◌≡◌, ◌≤◌}
 use Rattle.pop_solve.specs.declared.aim.Battle.TheVariants.{Direct}
 use Rattle.pop_solve.proofs.Battles.{value-is_lost, value-is_self_lost}
 use Rattle.pop_solve.proofs.Lengths.{length-more}
-use Rattle.pop_solve.proofs.GoingOn.{length_most, goes_on-keys}
+use Rattle.pop_solve.proofs.GoingOn.{length_most, half_moves_on-keys}
 use Rattle.pop_solve.proofs.Least.{least_moves-direct, least_moves-selfmate}
 
 -- the half-moves of a battle of so many moves
@@ -47,9 +47,9 @@ module _ {P M : Type 0} (game : Game P M) where
         ≡ map (λ line. m ∷ line) ys
     by_move tested b m xs ys e = search rules
 
-    goes_on-whole : (t : ℕ) (q : P) → goes_on plan game t q ≡ t
-    unfolding goes_on
-    goes_on-whole t q = rw help refl
+    half_moves_on-whole : (t : ℕ) (q : P) → half_moves_on plan game t q ≡ t
+    unfolding half_moves_on
+    half_moves_on-whole t q = rw help refl
 
     -- by some of the moves
     pub shown_paths-moves : (root : Bool) (k : ℕ) (p : P) (ms : List M)
@@ -57,7 +57,7 @@ module _ {P M : Type 0} (game : Game P M) where
     unfolding shown_paths follows gives lines_to_goal
     shown_paths-moves root zero p ms = grind (arith, flat-same, by_move, append-nil)
     shown_paths-moves root (suc k) p ms =
-        flat-same _ _ ms (λ m. grind (arith, by_move, goes_on-whole, nat_tests, shown_paths-moves false k (game.after p m) (game.moves (game.after p m))))
+        flat-same _ _ ms (λ m. grind (arith, by_move, half_moves_on-whole, nat_tests, shown_paths-moves false k (game.after p m) (game.moves (game.after p m))))
 
     pub shown_paths-help : (root : Bool) (k : ℕ) (p : P) → shown_paths plan game root (suc k) (suc k) p (game.moves p) ≡ lines_to_goal game (suc k) p
     unfolding lines_to_goal
@@ -136,7 +136,7 @@ module _ {P M : Type 0} (game : Game P M) where
 
     -- what the walk shows by some moves, as nodes
     abbrev pub beneath : ℕ → ℕ → P → List (List M)
-    beneath k t q = shown_paths plan game false k (goes_on plan game t q) q (game.moves q)
+    beneath k t q = shown_paths plan game false k (half_moves_on plan game t q) q (game.moves q)
 
     pub as_nodes : (root : Bool) (k t : ℕ) (p : P) (ms : List M)
         → shown_paths plan game root (suc k) (suc t) p ms
@@ -185,7 +185,7 @@ module _ {P M : Type 0} (game : Game P M) where
 
     module _ (variation : varies plan ≡ true) where
       beneath-is : (k t : ℕ) (q : P) → beneath k t q ≡ shown_paths plan game false k (open_length (battle_of plan.form) game t q) q (game.moves q)
-      unfolding goes_on
+      unfolding half_moves_on
       beneath-is k t q = rw (battle, variation) refl
 
       abbrev pub Tie : ℕ → ℕ → ℕ → P → Type 0
@@ -233,11 +233,11 @@ module _ {P M : Type 0} (game : Game P M) where
 
     -- where no variations are shown, nothing stands below a move of White
     beneath-none : (k t : ℕ) (q : P) → varies plan ≡ false → seeks (battle_of plan.form) (t + 1) ≡ true → beneath k t q ≡ []
-    beneath-none k t q v s = search (rules, goes_on-keys, shown_paths-zero)
+    beneath-none k t q v s = search (rules, half_moves_on-keys, shown_paths-zero)
 
     beneath-set : (k t : ℕ) (q : P) → seeks (battle_of plan.form) (t + 1) ≡ false
         → beneath k t q ≡ shown_paths plan game false k (open_length (battle_of plan.form) game t q) q (game.moves q)
-    unfolding goes_on
+    unfolding half_moves_on
     beneath-set k t q s = search rules
 
     -- below a key

@@ -1,5 +1,5 @@
 -- The outcomes of a step for frames listed from the bottom up, as the code holds them, and what its calls hand on.
-use Rattle.pop_solve.proofs.Words.{AreKnown, Bool, CameFrom, CameFromAt, Counts, Frame, GoesTo, HasCounted, IfSome, IsNextMate, IsPlaceIn, IsWalking, LegalPlace, List, MatchOption, Mate, Move, Option, Plan, Position, RuleSet, Steps, [], ap, append-nil, arith, battle_of, chess, eqb, false, follows, gives, goes_on, inl, inr, is_for_mate, is_legal, is_mate, length, length-reverse, mates_behind, moves_behind, moves_behind-end, position, refl, reverse, reverse-append, rules, seeks_last, smallest_tree, subst, suc, sym, true, undo_of, value, ℕ, ◌++◌, ◌+◌, ◌-◌, ◌<◌, ◌∙◌, ◌∷◌, ◌≡◌, ◌≤◌, ◌⊎◌}
+use Rattle.pop_solve.proofs.Words.{AreKnown, Bool, CameFrom, CameFromAt, Counts, Frame, GoesTo, HasCounted, IfSome, IsNextMate, IsPlaceIn, IsWalking, LegalPlace, List, MatchOption, Mate, Move, Option, Plan, Position, RuleSet, Steps, [], ap, append-nil, arith, battle_of, chess, eqb, false, follows, gives, half_moves_on, inl, inr, is_for_mate, is_legal, is_mate, length, length-reverse, mates_behind, moves_behind, moves_behind-end, position, refl, reverse, reverse-append, rules, seeks_last, smallest_tree, subst, suc, sym, true, undo_of, value, ℕ, ◌++◌, ◌+◌, ◌-◌, ◌<◌, ◌∙◌, ◌∷◌, ◌≡◌, ◌≤◌, ◌⊎◌}
 use Rattle.chess_rules.specs.Play.{position_after}
 use Rattle.pop_solve.proofs.Boards.{for_mate}
 use Rattle.pop_solve.specs.ties.Frames.{opened_frame}
@@ -59,7 +59,7 @@ module _ (rule : RuleSet) (plan : Plan) (h : ℕ) (top : Frame) (old new : List 
     pub enter_steps : (root given : Bool) (after : Position) (opened opened2 : ℕ) → root ≡ eqb depth 0
         → (follows plan (chess plan.goal rule) root behind arrived ≡ false → (given ≡ false) × (after ≡ now) × (last ≡ mid))
         → (follows plan (chess plan.goal rule) root behind arrived ≡ true → (given ≡ gives plan (chess plan.goal rule) behind arrived) × (after ≡ arrived)
-        × (last ≡ mid ++ opened_frame m (undo_of rule now m) (goes_on plan (chess plan.goal rule) behind arrived) ∷ []))
+        × (last ≡ mid ++ opened_frame m (undo_of rule now m) (half_moves_on plan (chess plan.goal rule) behind arrived) ∷ []))
         → Counts rule plan root behind arrived opened opened2
         → (p : Position) → IsWalking rule h p (reverse old) board → Steps rule plan h p (reverse old) (reverse last) after opened opened2 given
     enter_steps root given after opened opened2 flag passes enters counts p r =

@@ -35,7 +35,7 @@ pub use Rattle.pop_input.specs.declared.stipulation.Form.{Form}
 pub use Rattle.pop_input.specs.declared.stipulation.Goal.{Goal}
 pub use Rattle.pop_input.specs.declared.stipulation.Goal.TheVariants.{Mate}
 pub use Rattle.pop_solve.specs.Aims.{battle_of}
-pub use Rattle.pop_solve.specs.Chess.{chess, is_reached, set_start}
+pub use Rattle.pop_solve.specs.Chess.{chess, is_goal_reached, set_start}
 unfoldable pub use Rattle.pop_solve.specs.Chess.{show}
 pub use Rattle.pop_solve.specs.Events.{BareEvent, event_of, events, events_from, first_phase, impossible, is_barred, is_set, line, opening, path_event, phase_count, phase_half, phase_half_moves, phase_start, play_start, shown_along, shown_last, total, tree_node}
 unfoldable pub use Rattle.pop_solve.specs.Events.{phase_events, solutions}
@@ -67,4 +67,4 @@ pub use Rattle.pop_solve.specs.ties.Seen.{StandsOn, fewest_from, is_stop, is_uns
 pub use Rattle.pop_solve.specs.ties.Values.{decides, join, seeks}
 unfoldable pub use Rattle.pop_solve.specs.ties.Values.{joined_value, value}
 pub use Rattle.pop_solve.specs.ties.Walk.{GoesTo, IsCounted, IsEnded, IsWalking, Opens, Steps, Tries, ends_variation, fewest, fewest_for, seeks_last}
-unfoldable pub use Rattle.pop_solve.specs.ties.Walk.{IsRoomy, IsWhites, fewest_left, fewest_walked, first_from, follows, gives, goes_on, open_length, path, shown_paths, to_come, turns}
+unfoldable pub use Rattle.pop_solve.specs.ties.Walk.{IsRoomy, IsWhites, fewest_left, fewest_walked, first_from, follows, gives, half_moves_on, open_length, path, shown_paths, to_come, turns}

@@ -21,14 +21,14 @@ use Rattle.pop_solve.specs.declared.shown.Side.{Side}
 use Rattle.pop_solve.specs.declared.shown.Side.TheVariants.{A, H}
 
 -- the goal is reached in q: the side to move is mated, or stalemated
-abbrev pub is_reached : Goal → RuleSet → Position → Bool
-is_reached Mate rule q = is_mate rule q
-is_reached Stalemate rule q = is_stalemate rule q
+abbrev pub is_goal_reached : Goal → RuleSet → Position → Bool
+is_goal_reached Mate rule q = is_mate rule q
+is_goal_reached Stalemate rule q = is_stalemate rule q
 
 -- chess under a set of rules, played for a goal
 abbrev pub chess : Goal → RuleSet → Game Position Move
 chess goal rule =
-    record { moves = moves rule; after = position_after rule; goal = is_reached goal rule }
+    record { moves = moves rule; after = position_after rule; goal = is_goal_reached goal rule }
 
 -- what a move has done to the side that is to move in q: stalemate is marked where it is the goal alone (own)
 unfoldable pub mark_of : Goal → RuleSet → Position → Mark

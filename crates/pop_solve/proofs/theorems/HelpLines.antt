@@ -1,5 +1,5 @@
 -- The lines of help play: which lists of moves they are, that each stands once, and in which order.
-use Rattle.pop_solve.proofs.Words.{AllPairs, Contains, Game, Goal, IsWellFormed, List, Position, Precedes, RuleSet, [], after_well_formed, arith, chess, help_lines, is_reached, is_legal, length, moves_are_the_legal_moves, moves_differ, moves_in_order, none_in_nil, pairs_nil, pairs_weaker, is_pseudo_legal-from_legal, path_end, refl, suc, true, zero, ℕ, ◌↔◌, ◌∷◌, ◌≡◌, ◌≢◌, ◌≤◌, Move}
+use Rattle.pop_solve.proofs.Words.{AllPairs, Contains, Game, Goal, IsWellFormed, List, Move, Position, Precedes, RuleSet, [], after_well_formed, arith, chess, help_lines, is_goal_reached, is_legal, is_pseudo_legal-from_legal, length, moves_are_the_legal_moves, moves_differ, moves_in_order, none_in_nil, pairs_nil, pairs_weaker, path_end, refl, suc, true, zero, ℕ, ◌↔◌, ◌∷◌, ◌≡◌, ◌≢◌, ◌≤◌}
 use Rattle.chess_rules.specs.Play.{position_after}
 use Rattle.pop_solve.proofs.HelpPlay.{from_lines, in_lines, lines_stand}
 use Rattle.pop_solve.proofs.theorems.Lists.{IsPlayable, StandsBefore, never_before_itself}
@@ -52,7 +52,7 @@ module _ (goal : Goal) (rule : RuleSet) where
   -- legal where it is made, and the goal is reached in its last position.
   pub help_lines_of_chess_are : (h : ℕ) (p : Position) (line : List Move) → IsWellFormed p
       → Contains (help_lines (chess goal rule) h p) line
-      ↔ ((1 ≤ h) × (length line ≡ h) × IsLegalLine rule p line × (is_reached goal rule (path_end (position_after rule) p line) ≡ true))
+      ↔ ((1 ≤ h) × (length line ≡ h) × IsLegalLine rule p line × (is_goal_reached goal rule (path_end (position_after rule) p line) ≡ true))
   help_lines_of_chess_are h p line well = grind (arith, help_lines_are (chess goal rule) h p line, playable_is_legal p line well)
 
   -- They stand in lexicographic order of the moves.

@@ -1,6 +1,6 @@
 -- Longer never harms, and the least length is the least.
 use Rattle.pop_solve.proofs.Words.{Battle, Game, arith, cases_lt, false, false≢true, is_lost, is_self_lost, keeps, least_moves, self_wins, some_move, suc, true, wins, wins_in, zero, ℕ, ◌<◌, ◌↔◌, ◌≡◌, ◌≤◌}
-use Rattle.pop_solve.proofs.Longer.{climbs, is_lost-more, wins-more, self_wins-more, is_self_lost-more, first_at_most, first_is_first, first_passes}
+use Rattle.pop_solve.proofs.Longer.{climbs, first_at_most, first_is_first, first_passes, is_lost-more, is_self_lost-more, self_wins-more, wins-more}
 
 module _ {P M : Type 0} (game : Game P M) where
   -- Who is brought to the goal within j further moves of the other side is so within any greater number.

@@ -1,5 +1,5 @@
 -- The solutions of a chess problem: which lines and keys they are, that no path of a phase stands twice, and in which order the paths stand.
-use Rattle.pop_solve.proofs.Words.{AllPairs, Bool, Contains, IsSound, List, Move, Phase, Play, Posed, Precedes, RuleSet, Set, [], false, is_help, is_legal, is_reached, keeps, length, moves_are_the_legal_moves, moves_in_order, pairs_weaker, path_end, phase_half_moves, phase_start, play_start, refl, rules, set_shows, solutions, take, true, ◌↔◌, ◌∷◌, ◌≡◌, ◌≢◌, ◌≤◌}
+use Rattle.pop_solve.proofs.Words.{AllPairs, Bool, Contains, IsSound, List, Move, Phase, Play, Posed, Precedes, RuleSet, Set, [], false, is_goal_reached, is_help, is_legal, keeps, length, moves_are_the_legal_moves, moves_in_order, pairs_weaker, path_end, phase_half_moves, phase_start, play_start, refl, rules, set_shows, solutions, take, true, ◌↔◌, ◌∷◌, ◌≡◌, ◌≢◌, ◌≤◌}
 use Rattle.chess_rules.specs.Play.{position_after}
 use Rattle.pop_solve.proofs.PhasePaths.{first_joined, game_of, its_battle, help_paths, never_itself, play_paths, set_paths}
 use Rattle.pop_solve.proofs.Sound.{start_sound}
@@ -14,7 +14,7 @@ module _ (rule : RuleSet) (problem : Posed) where
       → Contains (paths (solutions rule problem phase)) line
       ↔ ((1 ≤ phase_half_moves problem phase) × (length line ≡ phase_half_moves problem phase)
       × IsLegalLine rule (phase_start problem phase) line
-      × (is_reached problem.stipulation.goal rule (path_end (position_after rule) (phase_start problem phase) line) ≡ true))
+      × (is_goal_reached problem.stipulation.goal rule (path_end (position_after rule) (phase_start problem phase) line) ≡ true))
   lines_of_a_phase_are phase line sound help = rw (help_paths rule problem phase help) (search (rules, help_lines_of_chess_are, start_sound))
 
   -- Battle play: a move is a key of a sound problem exactly where it is legal and keeps the win within the problem's number of moves.

@@ -52,8 +52,8 @@ module _ {P M : Type 0} where
   gives plan game t q = not (is_help plan.form) || (t == 0 && game.goal q)
 
   -- with how many half-moves the walk goes on from q
-  unfoldable pub goes_on : Plan → Game P M → ℕ → P → ℕ
-  goes_on plan game t q =
+  unfoldable pub half_moves_on : Plan → Game P M → ℕ → P → ℕ
+  half_moves_on plan game t q =
       if is_help plan.form then t
       else (if not (varies plan) && seeks (battle_of plan.form) (t + 1) then 0
       else open_length (battle_of plan.form) game t q)
@@ -66,7 +66,7 @@ module _ {P M : Type 0} where
       flat_map (λ m. let q = game.after p m in
       if follows plan game root t q
       then (if gives plan game t q then (m ∷ []) ∷ [] else [])
-      ++ map (λ path. m ∷ path) (shown_paths plan game false fuel (goes_on plan game t q) q
+      ++ map (λ path. m ∷ path) (shown_paths plan game false fuel (half_moves_on plan game t q) q
       (game.moves q))
       else []) ms
 
@@ -76,7 +76,7 @@ module _ {P M : Type 0} where
   fewest_for plan game root t q =
       if not (is_help plan.form) && (root || seeks (battle_of plan.form) (t + 1))
       then smallest_tree (battle_of plan.form) game t q
-      else (if goes_on plan game t q == 0 then 0 else 1)
+      else (if half_moves_on plan game t q == 0 then 0 else 1)
 
   -- the same for these moves of p, with `left` half-moves, and for all that the walk gives below them
   unfoldable pub fewest_walked : Plan → Game P M → Bool → ℕ → ℕ → P → List M → ℕ
@@ -86,7 +86,7 @@ module _ {P M : Type 0} where
       sum_by (λ m. let q = game.after p m in
       fewest_for plan game root t q
       + (if follows plan game root t q then fewest_walked plan game false fuel
-      (goes_on plan game t q) q (game.moves q) else 0)) ms
+      (half_moves_on plan game t q) q (game.moves q) else 0)) ms
 
 -- the moves that lead to the top frame
 unfoldable pub path : List Frame → List Move
