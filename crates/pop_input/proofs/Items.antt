@@ -1,5 +1,5 @@
 -- A block as far as it is read, and the item at its end.
-use Rattle.pop_input.proofs.Words.{Block, Bool, Command, IsNew, List, None, Option, Reading, ReadsWord, Some, State, Takes, TakesLine, TakesPart, TextLine, TextWord, Word, WordTooLong, [], among, ap, arith, at_line, block_fault, closes, closes_none, command_of, false, fault_at, fault_of, has_begun, inr, last_of, last_text, length, list_all, list_all-append, lt-ltb, no_short_form, noted, or_else, refl, section_of, sym, takes_none, text_of_line, text_word_of, tokens_inside, true, ℕ, ◌++◌, ◌<◌, ◌∙◌, ◌∷◌, ◌≡◌, ◌≤◌, ◌⊎◌}
+use Rattle.pop_input.proofs.Words.{Block, Bool, Command, IsNew, List, None, Option, Reading, ReadsWord, Some, State, Takes, TakesLine, TakesPart, TextLine, TextWord, Word, WordTooLong, [], among, ap, arith, at_line, block_fault, closes, closes_none, command_of, false, fault_at, fault_of, has_begun, inr, last_of, last_text, length, list_all, list_all-append, lt-ltb, no_short_form, noted_text, or_else, refl, section_of, sym, takes_none, text_of_line, text_word_of, tokens_inside, true, ℕ, ◌++◌, ◌<◌, ◌∙◌, ◌∷◌, ◌≡◌, ◌≤◌, ◌⊎◌}
 use Rattle.pop_text.specs.Words.{Token}
 use Rattle.pop_input.specs.declared.names.TextWord.TheVariants.{Title, Author}
 use Rattle.pop_input.proofs.Taking.{takes_then}
@@ -40,12 +40,12 @@ long_fault begun state text long = rw (lt-ltb 160 (length text) long) refl
 
 title_line : (first : Bool) (done : List Token) (line : ℕ) (name rest : List ℕ) (keyword : TextWord) (text had : List ℕ) (begun : Bool)
     → begun ≡ has_begun first done → text_word_of name ≡ Some keyword → text ≡ text_of_line rest → had ≡ last_text Title [] (tokens_inside first done)
-    → noted begun Title had keyword text ≡ last_text Title [] (tokens_inside first (done ++ TextLine line name rest ∷ []))
+    → noted_text begun Title had keyword text ≡ last_text Title [] (tokens_inside first (done ++ TextLine line name rest ∷ []))
 title_line first done line name rest keyword text had begun at is bytes before = grind (arith, text_line, inside_more, inside_none, inside_first)
 
 author_line : (first : Bool) (done : List Token) (line : ℕ) (name rest : List ℕ) (keyword : TextWord) (text had : List ℕ) (begun : Bool)
     → begun ≡ has_begun first done → text_word_of name ≡ Some keyword → text ≡ text_of_line rest → had ≡ last_text Author [] (tokens_inside first done)
-    → noted begun Author had keyword text ≡ last_text Author [] (tokens_inside first (done ++ TextLine line name rest ∷ []))
+    → noted_text begun Author had keyword text ≡ last_text Author [] (tokens_inside first (done ++ TextLine line name rest ∷ []))
 author_line first done line name rest keyword text had begun at is bytes before = grind (arith, text_line, inside_more, inside_none, inside_first)
 
 words_inside : (first : Bool) (done : List Token) (line : ℕ) (name rest : List ℕ) (begun : Bool) → begun ≡ has_begun first done

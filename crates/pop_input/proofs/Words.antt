@@ -54,7 +54,7 @@ pub use Rattle.pop_input.specs.declared.names.Command.TheVariants.{Enter}
 pub use Rattle.pop_input.specs.declared.names.TextWord.{TextWord}
 pub use Rattle.pop_input.specs.declared.reader.Next.TheVariants.{First, Later, Nothing}
 pub use Rattle.pop_input.specs.declared.stipulation.Stipulation.{Stipulation}
-pub use Rattle.pop_input.specs.ties.Closings.{Closes, IsNew, ReadsWord, TakesLine, closing_fault, cut_fault, ended_by, ended_item, last_of, noted, said_after, text_with, told_of_cut}
+pub use Rattle.pop_input.specs.ties.Closings.{Closes, IsNew, ReadsWord, TakesLine, closing_fault, cut_fault, ended_by, ended_item, last_of, noted_text, said_after, text_with, told_of_cut}
 pub use Rattle.pop_input.specs.ties.Standing.{IsNumbered, NextItem, Reads, Standing, entries_at, entries_left, next_behind}
 pub use Rattle.pop_input.specs.ties.Tokens.{CutsOff, NextToken, TakesNothing, TakesPart, UsesSome, UsesToken}
 pub use Rattle.pop_input.specs.ties.Used.{IsClosed, IsInputOver, IsUnclosed, UsesEntry, UsesItem, UsesTokens}

@@ -1,6 +1,6 @@
 -- One turn of a test over frames.
-use Rattle.pop_solve.proofs.Words.{AreKnown, Bool, CameFrom, CameFromAt, Ends, Frame, HasCounted, IfNone, IfSome, IsCut, IsLinked, IsOpenedOn, IsPlaceIn, IsTesting, IsWellFormed, Killer, LegalPlace, List, MatchOption, Move, None, Option, Order, Position, RuleSet, Some, Turns, Undo, [], after_well_formed, ahead, ap, arith, cases_lt, chess, cond, delivered_value, drop, drop-append-le, inl, inr, is_legal, join, joined_value, least_of, length, length-append, length-drop, length-reverse}
-use Rattle.pop_solve.proofs.Words.{is_pseudo_legal-from_legal, list_all, list_any, min, not, pending_value, position, refl, reverse, reverse-append, rules, seeks, smallest_below, smallest_tree, steps, steps_among, subst, suc, sum_by, sum_by-cons, sym, take, take-append-le, take_all, tested_frame, tests, to_test, to_try, to_try_with, top_left, true, undo_of, untried, value, walk_among, walk_count, work, ℕ, ◌&&◌, ◌++◌, ◌+◌, ◌-◌, ◌<◌, ◌^◌, ◌||◌, ◌∙◌, ◌∷◌, ◌≡◌, ◌≤◌, ◌⊎◌}
+use Rattle.pop_solve.proofs.Words.{AreKnown, Bool, CameFrom, CameFromAt, Ends, Frame, HasCounted, IfNone, IfSome, IsCut, IsLinked, IsOpenedOn, IsPlaceIn, IsTesting, IsWellFormed, Killer, LegalPlace, List, MatchOption, Move, None, Option, Order, Position, RuleSet, Some, Turns, Undo, [], after_well_formed, ap, arith, cases_lt, chess, cond, delivered_value, drop, drop-append-le, inl, inr, is_legal, join, joined_value, least_of, length, length-append, length-drop, length-reverse, moves_ahead}
+use Rattle.pop_solve.proofs.Words.{is_pseudo_legal-from_legal, list_all, list_any, min, not, pending_value, position, refl, reverse, reverse-append, rules, seeks, smallest_below, smallest_tree, steps, steps_among, subst, suc, sum_by, sum_by-cons, sym, take, take-append-le, take_all, tested_frame, tests, to_test, to_try, to_try_with, top_left, true, undo_of, untried_moves, value, walk_among, walk_count, work, ℕ, ◌&&◌, ◌++◌, ◌+◌, ◌-◌, ◌<◌, ◌^◌, ◌||◌, ◌∙◌, ◌∷◌, ◌≡◌, ◌≤◌, ◌⊎◌}
 use Rattle.chess_rules.specs.Play.{position_after}
 use Rattle.chess_rules.specs.Legal.{moves as legal_moves}
 use Rattle.pop_solve.specs.declared.aim.Aim.{Aim}
@@ -23,7 +23,7 @@ passed f place s known = record f { place = place; stretch = s; known = known }
 -- the moves of a frame that is opened are all its position's moves, in another order
 module _ (rule : RuleSet) (q : Position) (o : Order) where
   abbrev pub first : List Move
-  first = ahead rule q o Killer (o.killer - 1)
+  first = moves_ahead rule q o Killer (o.killer - 1)
 
   any-start : (test : Move → Bool) → list_any test first ≡ list_any test (legal_moves rule q)
   any-start test = same_start rule q o (λ m c. test m || c) (list_any test) (λ m ms. refl) (λ m n c. grind arith)
@@ -65,7 +65,7 @@ module _ (rule : RuleSet) (aim : Aim) where
   pub pending_value-undecided : (p : Position) (f : Frame) (below : List Frame) (answer : Option Bool)
       → (answer ≡ None) ⊎ (answer ≡ Some (not (seeks aim.battle f.left)))
       → pending_value rule aim p (f ∷ below) answer ≡ delivered_value rule aim p below
-      (rest f.left (position rule p (f ∷ below)) (untried rule (position rule p (f ∷ below)) f))
+      (rest f.left (position rule p (f ∷ below)) (untried_moves rule (position rule p (f ∷ below)) f))
   unfolding pending_value delivered_value
   pending_value-undecided p f below answer e = search rules
 
@@ -96,8 +96,9 @@ module _ (rule : RuleSet) (aim : Aim) where
   try-decided p f below answer e = grind arith
 
   pub try-undecided : (p : Position) (f : Frame) (below : List Frame) (answer : Option Bool) → (answer ≡ None) ⊎ (answer ≡ Some (not (seeks aim.battle f.left)))
-      → to_try rule aim p (f ∷ below) answer ≡ fewest f.left (position rule p (f ∷ below)) (untried rule (position rule p (f ∷ below)) f) + to_try_with rule aim
-      p below (rest f.left (position rule p (f ∷ below)) (untried rule (position rule p (f ∷ below)) f))
+      → to_try rule aim p (f ∷ below) answer ≡ fewest f.left (position rule p (f ∷ below)) (untried_moves rule (position rule p (f ∷ below)) f) + to_try_with
+      rule aim
+      p below (rest f.left (position rule p (f ∷ below)) (untried_moves rule (position rule p (f ∷ below)) f))
   unfolding to_try to_try_with
   try-undecided p f below answer e = search rules
 
@@ -130,17 +131,18 @@ module _ (rule : RuleSet) (aim : Aim) where
   walk-next t P ms more m e = rw e (sum_by-cons (λ x. walk_count (legal_moves rule) (position_after rule) t (position_after rule P x)) m more)
 
   module _ (p : Position) (f : Frame) (below : List Frame) (next : ℕ) (s : Stretch) (m : Move) (t : ℕ) (kn : Option LegalPlace) (left : f.left ≡ suc t)
-      (e : untried rule (position rule p (f ∷ below)) f ≡ m ∷ ahead rule (position rule p (f ∷ below)) f.order s next) where
+      (e : untried_moves rule (position rule p (f ∷ below)) f ≡ m ∷ moves_ahead rule (position rule p (f ∷ below)) f.order s next) where
     abbrev P : Position
     P = position rule p (f ∷ below)
 
     -- the value of the position after the move decides with the moves still untried
-    delivered_value-next : delivered_value rule aim p below (rest f.left P (untried rule P f)) ≡ delivered_value rule aim p (passed f next s kn ∷ below)
+    delivered_value-next : delivered_value rule aim p below (rest f.left P (untried_moves rule P f)) ≡ delivered_value rule aim p (passed f next s kn ∷ below)
         (value aim.battle (chess aim.goal rule) t (position_after rule P m))
     unfolding delivered_value position
     delivered_value-next = search (rules, rest-next)
 
-    try-next : fewest f.left P (untried rule P f) + to_try_with rule aim p below (rest f.left P (untried rule P f)) ≤ smallest_tree aim.battle (chess aim.goal
+    try-next : fewest f.left P (untried_moves rule P f) + to_try_with rule aim p below (rest f.left P (untried_moves rule P f)) ≤ smallest_tree aim.battle
+        (chess aim.goal
         rule) t (position_after rule P m) + to_try_with rule aim p (passed f next s kn ∷ below)
         (value aim.battle (chess aim.goal rule) t (position_after rule P m))
     unfolding to_try_with position
@@ -148,13 +150,13 @@ module _ (rule : RuleSet) (aim : Aim) where
 
     work-settled : work rule p (passed f next s kn ∷ below) < work rule p (f ∷ below)
     unfolding work position
-    work-settled = rw (left, steps-next t P (untried rule P f) (ahead rule P f.order s next) m e) (omega arith)
+    work-settled = rw (left, steps-next t P (untried_moves rule P f) (moves_ahead rule P f.order s next) m e) (omega arith)
 
     open-settled : walk_count (legal_moves rule) (position_after rule) t (position_after rule P m) + to_test rule p (passed f next s kn ∷ below) ≤ to_test rule
         p
         (f ∷ below)
     unfolding to_test position
-    open-settled = rw (left, walk-next t P (untried rule P f) (ahead rule P f.order s next) m e) (omega arith)
+    open-settled = rw (left, walk-next t P (untried_moves rule P f) (moves_ahead rule P f.order s next) m e) (omega arith)
 
     module _ (undo : Undo) (k : Order) (kq : Option LegalPlace) where
       delivered_value-open : (v : Bool) → v ≡ joined_value aim.battle (chess aim.goal rule) t (position_after rule P m)
@@ -173,11 +175,13 @@ module _ (rule : RuleSet) (aim : Aim) where
 
       work-open : work rule p (tested_frame k m undo t kq ∷ (passed f next s kn ∷ below)) < work rule p (f ∷ below)
       unfolding work position
-      work-open = rw (left, steps-next t P (untried rule P f) (ahead rule P f.order s next) m e, steps-start t (position_after rule P m) k) (omega arith)
+      work-open =
+          rw (left, steps-next t P (untried_moves rule P f) (moves_ahead rule P f.order s next) m e, steps-start t (position_after rule P m) k) (omega arith)
 
       open-open : 0 < t → 1 + to_test rule p (tested_frame k m undo t kq ∷ (passed f next s kn ∷ below)) ≤ to_test rule p (f ∷ below)
       unfolding to_test position
-      open-open some = rw (left, walk-next t P (untried rule P f) (ahead rule P f.order s next) m e, walk_count-start t (position_after rule P m) k some)
+      open-open some =
+          rw (left, walk-next t P (untried_moves rule P f) (moves_ahead rule P f.order s next) m e, walk_count-start t (position_after rule P m) k some)
           (omega arith)
 
   pub open-close : (p : Position) (f : Frame) (below : List Frame) → to_test rule p below ≤ to_test rule p (f ∷ below)
@@ -281,7 +285,7 @@ module _ (rule : RuleSet) (aim : Aim) (floor : ℕ) (top : Frame) (old new : Lis
 
   module _ (place : ℕ) (s : Stretch) (kn : Option LegalPlace) (m : Move) (board after : Position) (N : ℕ) (was : Option Bool) (last : List Frame)
       (some : 0 < top.left) (open_yet : (was ≡ None) ⊎ (was ≡ Some (not (seeks aim.battle top.left))))
-      (next : untried rule board top ≡ m ∷ ahead rule board top.order s place) (lawful : is_legal rule board m ≡ true)
+      (next : untried_moves rule board top ≡ m ∷ moves_ahead rule board top.order s place) (lawful : is_legal rule board m ≡ true)
       (within : IfSome kn (IsPlaceIn rule board)) where
     -- what `descend` leaves
     abbrev pub Descends : Option Bool → Type 0
@@ -306,7 +310,7 @@ module _ (rule : RuleSet) (aim : Aim) (floor : ℕ) (top : Frame) (old new : Lis
       at : board ≡ position rule p (top ∷ tests floor new)
       at = (testing_top p board r).board_at
 
-      here : untried rule (position rule p (top ∷ tests floor new)) top ≡ m ∷ ahead rule (position rule p (top ∷ tests floor new)) top.order s place
+      here : untried_moves rule (position rule p (top ∷ tests floor new)) top ≡ m ∷ moves_ahead rule (position rule p (top ∷ tests floor new)) top.order s place
       here = rw (← at) next
 
       descend_testing : (is : Option Bool) → Descends is → IsTesting rule p (tests floor last) after
@@ -377,7 +381,7 @@ module _ (rule : RuleSet) (aim : Aim) (floor : ℕ) (top : Frame) (old new : Lis
   decided_value p was e = pending_value-decided rule aim p top (tests floor new) was e
 
   pub exhausted_value : (p board : Position) (was : Option Bool) → IsTesting rule p (tests floor old) board
-      → (was ≡ None) ⊎ (was ≡ Some (not (seeks aim.battle top.left))) → untried rule board top ≡ []
+      → (was ≡ None) ⊎ (was ≡ Some (not (seeks aim.battle top.left))) → untried_moves rule board top ≡ []
       → pending_value rule aim p (top ∷ tests floor new) was ≡ delivered_value rule aim p (tests floor new) (not (seeks aim.battle top.left))
   exhausted_value p board was r u e = grind (arith, testing_top p board r, pending_value-undecided rule aim p top (tests floor new) was u, rest-none, top_some)
 
@@ -387,11 +391,11 @@ module _ (rule : RuleSet) (aim : Aim) (floor : ℕ) (top : Frame) (old new : Lis
   decided_left p was e = try-decided rule aim p top (tests floor new) was e
 
   pub exhausted_left : (p board : Position) (was : Option Bool) → IsTesting rule p (tests floor old) board
-      → (was ≡ None) ⊎ (was ≡ Some (not (seeks aim.battle top.left))) → untried rule board top ≡ []
+      → (was ≡ None) ⊎ (was ≡ Some (not (seeks aim.battle top.left))) → untried_moves rule board top ≡ []
       → to_try rule aim p (top ∷ tests floor new) was ≡ to_try_with rule aim p (tests floor new) (not (seeks aim.battle top.left))
   exhausted_left p board was r u e =
       let at : board ≡ position rule p (top ∷ tests floor new) = (testing_top p board r).board_at in
-      let none : untried rule (position rule p (top ∷ tests floor new)) top ≡ [] = rw (← at) e in
+      let none : untried_moves rule (position rule p (top ∷ tests floor new)) top ≡ [] = rw (← at) e in
       let v = rest-none rule aim top.left (position rule p (top ∷ tests floor new)) _ (top_some p board r) none in
       grind (arith, try-undecided, trees-end)
 

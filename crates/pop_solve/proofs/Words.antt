@@ -57,8 +57,8 @@ pub use Rattle.pop_solve.specs.declared.plan.Plan.{Plan}
 pub use Rattle.pop_solve.specs.ties.Calls.{Counts}
 pub use Rattle.pop_solve.specs.ties.Counts.{HasCounted, decided_by}
 unfoldable pub use Rattle.pop_solve.specs.ties.Counts.{least_of, smallest_below, smallest_tree, walk_count}
-pub use Rattle.pop_solve.specs.ties.Frames.{CameFrom, CameFromAt, Ends, Frame, IsOpenedOn, IsTesting, Order, Turns, ahead, all_of, comes_early, is_at, opened_frame, stretches_behind, tested_frame, top_left, untried}
-unfoldable pub use Rattle.pop_solve.specs.ties.Frames.{AreKnown, IsCut, IsLinked, belongs, delivered_value, here, later, pending_value, position, steps, steps_among, steps_behind, tests, to_open, to_test, to_try, to_try_with, walk_among, walk_behind, work}
+pub use Rattle.pop_solve.specs.ties.Frames.{CameFrom, CameFromAt, Ends, Frame, IsOpenedOn, IsTesting, Order, Turns, all_moves_of, comes_early, is_at, moves_ahead, opened_frame, stretches_behind, tested_frame, top_left, untried_moves}
+unfoldable pub use Rattle.pop_solve.specs.ties.Frames.{AreKnown, IsCut, IsLinked, belongs, delivered_value, moves_here, moves_later, pending_value, position, steps, steps_among, steps_behind, tests, to_open, to_test, to_try, to_try_with, walk_among, walk_behind, work}
 pub use Rattle.pop_solve.specs.ties.Marks.{is_for_mate}
 pub use Rattle.pop_solve.specs.ties.Phases.{Gives, IsGiven, IsKeys, IsOpened, OpensOn, Walks, begins, phase_paths}
 unfoldable pub use Rattle.pop_solve.specs.ties.Phases.{IsNarrow, IsStanding, beginning_count, keep, left_of, rest_fewest, rest_open}

@@ -19,4 +19,4 @@ pub use Rattle.pop_text.specs.ties.Left.{GoesOn, IsOver, MayFollow, NextWord, Re
 pub use Rattle.pop_text.specs.ties.Plain.{ArePlain, IsPlain, RunsOut, Skips, is_named, is_plain}
 pub use Rattle.pop_text.specs.ties.Reading.{AreFirst, Asks, IsFront, IsView, Leads, Reading, Uses, UsesAll, failures_after}
 pub use Rattle.pop_text.specs.ties.Runs.{IsRunOver, Peeks, RunsTo, Stands, Sticks, UsesLine, UsesRun, UsesSolid, UsesWhole, UsesWord}
-pub use Rattle.pop_text.specs.ties.Texts.{IsPadded, padded, with_byte}
+pub use Rattle.pop_text.specs.ties.Texts.{IsPadded, padded_cells, with_byte}

@@ -92,27 +92,28 @@ belongs p order Others m =
     not (is_at order.killer m) && (not (is_at order.earlier m) && not (comes_early order.early p m))
 
 -- the legal moves of a stretch
-abbrev pub all_of : RuleSet → Position → Order → Stretch → List Move
-all_of rule p order s = filter (belongs p order s) (legal_moves rule p)
+abbrev pub all_moves_of : RuleSet → Position → Order → Stretch → List Move
+all_moves_of rule p order s = filter (belongs p order s) (legal_moves rule p)
 
 -- those behind a place of the stretch
-unfoldable pub here : RuleSet → Position → Order → Stretch → ℕ → List Move
-here rule p order Killer place = moves_between rule p place order.killer
-here rule p order Earlier place = moves_between rule p place order.earlier
-here rule p order Aimed place = filter (belongs p order Aimed) (moves_behind rule p place)
-here rule p order Others place = filter (belongs p order Others) (moves_behind rule p place)
+unfoldable pub moves_here : RuleSet → Position → Order → Stretch → ℕ → List Move
+moves_here rule p order Killer place = moves_between rule p place order.killer
+moves_here rule p order Earlier place = moves_between rule p place order.earlier
+moves_here rule p order Aimed place = filter (belongs p order Aimed) (moves_behind rule p place)
+moves_here rule p order Others place = filter (belongs p order Others) (moves_behind rule p place)
 
 -- those of the stretches behind it
-unfoldable pub later : RuleSet → Position → Order → Stretch → List Move
-later rule p order Killer = all_of rule p order Earlier
-    ++ (all_of rule p order Aimed ++ all_of rule p order Others)
-later rule p order Earlier = all_of rule p order Aimed ++ all_of rule p order Others
-later rule p order Aimed = all_of rule p order Others
-later rule p order Others = []
+unfoldable pub moves_later : RuleSet → Position → Order → Stretch → List Move
+moves_later rule p order Killer = all_moves_of rule p order Earlier
+    ++ (all_moves_of rule p order Aimed ++ all_moves_of rule p order Others)
+moves_later rule p order Earlier =
+    all_moves_of rule p order Aimed ++ all_moves_of rule p order Others
+moves_later rule p order Aimed = all_moves_of rule p order Others
+moves_later rule p order Others = []
 
 -- the moves that a test has still to try
-abbrev pub ahead : RuleSet → Position → Order → Stretch → ℕ → List Move
-ahead rule p order s place = here rule p order s place ++ later rule p order s
+abbrev pub moves_ahead : RuleSet → Position → Order → Stretch → ℕ → List Move
+moves_ahead rule p order s place = moves_here rule p order s place ++ moves_later rule p order s
 
 -- how many stretches lie behind one
 abbrev pub stretches_behind : Stretch → ℕ
@@ -122,8 +123,8 @@ stretches_behind Aimed = 1
 stretches_behind Others = 0
 
 -- the moves of a frame that a test has still to try
-abbrev pub untried : RuleSet → Position → Frame → List Move
-untried rule p f = ahead rule p f.order f.stretch f.place
+abbrev pub untried_moves : RuleSet → Position → Frame → List Move
+untried_moves rule p f = moves_ahead rule p f.order f.stretch f.place
 
 -- what the value of the lowest position will be, once that of the top position is known
 unfoldable pub delivered_value : RuleSet → Aim → Position → List Frame → Bool → Bool
@@ -131,7 +132,7 @@ delivered_value rule aim p [] v = v
 delivered_value rule aim p (f ∷ below) v =
     delivered_value rule aim p below (join (seeks aim.battle f.left) v
     (joined_value aim.battle (chess aim.goal rule) f.left (position rule p (f ∷ below))
-    (untried rule (position rule p (f ∷ below)) f)))
+    (untried_moves rule (position rule p (f ∷ below)) f)))
 
 -- the same before the next move of the top frame is tried: the answer for its last move may be known
 unfoldable pub pending_value : RuleSet → Aim → Position → List Frame → Option Bool → Bool
@@ -140,7 +141,7 @@ pending_value rule aim p (f ∷ below) (Some v) = delivered_value rule aim p (f 
 pending_value rule aim p (f ∷ below) None =
     delivered_value rule aim p below
     (joined_value aim.battle (chess aim.goal rule) f.left (position rule p (f ∷ below))
-    (untried rule (position rule p (f ∷ below)) f))
+    (untried_moves rule (position rule p (f ∷ below)) f))
 
 -- the steps that a test takes, which falls at each one
 unfoldable pub steps : RuleSet → ℕ → Position → ℕ
@@ -164,7 +165,7 @@ unfoldable pub work : RuleSet → Position → List Frame → ℕ
 work rule p [] = 0
 work rule p (f ∷ below) =
     1 + steps_among rule f.left (position rule p (f ∷ below))
-    (untried rule (position rule p (f ∷ below)) f) + work rule p below
+    (untried_moves rule (position rule p (f ∷ below)) f) + work rule p below
 
 -- the most frames that the moves behind the places can still open
 unfoldable pub walk_behind : RuleSet → ℕ → Position → ℕ → ℕ
@@ -190,7 +191,7 @@ unfoldable pub to_test : RuleSet → Position → List Frame → ℕ
 to_test rule p [] = 0
 to_test rule p (f ∷ below) =
     walk_among rule f.left (position rule p (f ∷ below))
-    (untried rule (position rule p (f ∷ below)) f) + to_test rule p below
+    (untried_moves rule (position rule p (f ∷ below)) f) + to_test rule p below
 
 -- the fewest positions that a test has still to try, once v is the value of the position after the top frame's last move
 unfoldable pub to_try_with : RuleSet → Aim → Position → List Frame → Bool → ℕ
@@ -198,10 +199,10 @@ to_try_with rule aim p [] v = 0
 to_try_with rule aim p (f ∷ below) v =
     (if decides (seeks aim.battle f.left) v then 0
     else smallest_below aim.battle (chess aim.goal rule) f.left (position rule p (f ∷ below))
-    (untried rule (position rule p (f ∷ below)) f))
+    (untried_moves rule (position rule p (f ∷ below)) f))
     + to_try_with rule aim p below (join (seeks aim.battle f.left) v
     (joined_value aim.battle (chess aim.goal rule) f.left (position rule p (f ∷ below))
-    (untried rule (position rule p (f ∷ below)) f)))
+    (untried_moves rule (position rule p (f ∷ below)) f)))
 
 -- the same before the next move of the top frame is tried
 unfoldable pub to_try : RuleSet → Aim → Position → List Frame → Option Bool → ℕ
@@ -209,10 +210,10 @@ to_try rule aim p [] answer = 0
 to_try rule aim p (f ∷ below) (Some v) = to_try_with rule aim p (f ∷ below) v
 to_try rule aim p (f ∷ below) None =
     smallest_below aim.battle (chess aim.goal rule) f.left (position rule p (f ∷ below))
-    (untried rule (position rule p (f ∷ below)) f)
+    (untried_moves rule (position rule p (f ∷ below)) f)
     + to_try_with rule aim p below
     (joined_value aim.battle (chess aim.goal rule) f.left (position rule p (f ∷ below))
-    (untried rule (position rule p (f ∷ below)) f))
+    (untried_moves rule (position rule p (f ∷ below)) f))
 
 -- from the top down each frame has a half-move to make, and one less than the frame below it
 unfoldable pub IsCut : List Frame → Type 0
