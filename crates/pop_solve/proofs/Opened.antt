@@ -4,7 +4,7 @@ use Rattle.pop_solve.proofs.Words.{is_barred, is_help, is_set, is_stop, is_unsto
 use Rattle.pop_solve.proofs.Boards.{behind_start}
 use Rattle.pop_solve.proofs.Sound.{some_way}
 use Rattle.pop_solve.proofs.ToCome.{one, walk_count-start}
-use Rattle.pop_solve.proofs.Outcomes.{counted_by, opened_frame-most}
+use Rattle.pop_solve.proofs.Outcomes.{counted_by, opened-most}
 
 -- one part of a walk after another
 module _ (rule : RuleSet) (plan : Plan) (p : Position) where
@@ -80,7 +80,7 @@ module _ (rule : RuleSet) (problem : Posed) where
     pub opens-begun : (old : List Frame) (count count2 : ℕ) (left : List BareEvent) → (0 < f.left → count2 ≡ min (count + 1) (2 ^ 64 - 1))
         → (f.left ≡ 0 → count2 ≡ count) → OpensOn rule problem (Before phase) (Within phase 0) old (f ∷ []) count count2 left
     unfolding rest_open rest_fewest IsNarrow
-    opens-begun old count count2 left more same = search (rules, from-open, opened_frame-most, counted_by, from-fewest, whites-root, white-starts, some_way)
+    opens-begun old count count2 left more same = search (rules, from-open, opened-most, counted_by, from-fewest, whites-root, white-starts, some_way)
 
   -- within a phase
   module _ (phase : Phase) (count : ℕ) (old new : List Frame) (before after : ℕ)

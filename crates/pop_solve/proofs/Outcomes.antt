@@ -81,9 +81,9 @@ pub counted_by : (rule : RuleSet) (plan : Plan) (t walk opened opened2 before af
     → (0 < t → opened2 ≡ min (opened + 1) (2 ^ 64 - 1)) → (t ≡ 0 → opened2 ≡ opened) → IsCounted walk opened before → IsCounted walk opened2 after
 counted_by rule plan t walk opened opened2 before after e more same c = search rules
 
-pub opened_frame-most : (rule : RuleSet) (plan : Plan) (t opened opened2 : ℕ) → (0 < t → opened2 ≡ min (opened + 1) (2 ^ 64 - 1)) → (t ≡ 0 → opened2 ≡ opened)
+pub opened-most : (rule : RuleSet) (plan : Plan) (t opened opened2 : ℕ) → (0 < t → opened2 ≡ min (opened + 1) (2 ^ 64 - 1)) → (t ≡ 0 → opened2 ≡ opened)
     → opened2 ≤ opened + one rule plan t
-opened_frame-most rule plan t opened opened2 more same = search rules
+opened-most rule plan t opened opened2 more same = search rules
 
 -- the outcomes of a step, for frames listed from the top down
 module _ (rule : RuleSet) (plan : Plan) (h : ℕ) (p : Position) (f : Frame) (below : List Frame) (board : Position)

@@ -92,7 +92,7 @@ fn settled<R: Rules>(
     ensures value { MatchOption result
         ((0 < left) × (value aim.battle (chess aim.goal R.rule) left board.old
         ≡ joined_value aim.battle (chess aim.goal R.rule) left board.old
-            (legal_moves R.rule board.old)))
+        (legal_moves R.rule board.old)))
         (λ v. v ≡ value aim.battle (chess aim.goal R.rule) left board.old) }
     ensures known { IfSome known.new (λ k. IsPlaceIn R.rule board.old k) }
     ensures opened { MatchOption result (opened.new ≡ opened.old)
@@ -335,7 +335,7 @@ fn descend<R: Rules, const N: usize>(
         × (value aim.battle (chess aim.goal R.rule) (top.left - 1)
         (position_after R.rule board.old by)
         ≡ joined_value aim.battle (chess aim.goal R.rule) (top.left - 1)
-            (position_after R.rule board.old by)
+        (position_after R.rule board.old by)
         (legal_moves R.rule (position_after R.rule board.old by)))
         × (board.new ≡ position_after R.rule board.old by)
         × IsOpenedOn R.rule (position_after R.rule board.old by)

@@ -220,7 +220,8 @@ pub(crate) fn enter<R: Rules, const N: usize>(
         (position_after R.rule board.old by))
         × (board.new ≡ position_after R.rule board.old by)
         × (frames.new.items ≡ frames.old.items ++ opened_frame by (undo_of R.rule board.old by)
-        (half_moves_on plan (chess plan.goal R.rule) left (position_after R.rule board.old by)) ∷ []) }
+        (half_moves_on plan (chess plan.goal R.rule) left (position_after R.rule board.old by))
+        ∷ []) }
     ensures counts { Counts R.rule plan root left (position_after R.rule board.old by) opened.old
         opened.new }
 {
