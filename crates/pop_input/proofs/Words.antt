@@ -8,7 +8,7 @@ pub use Rattle.std.specs.List.{flat_map, list_all, list_any, onto_first, repeat,
 pub use Rattle.std.specs.Prelude.{MatchResult, codes, nat_eq, option_map}
 pub use Rattle.chess_core.specs.Castling.{castling_squares, is_castling_square, with_unmoved}
 unfoldable pub use Rattle.chess_core.specs.Castling.{has_unmoved, mark_unmoved, none_unmoved}
-pub use Rattle.chess_core.specs.Diagrams.{Setup, has_men}
+pub use Rattle.chess_core.specs.Diagrams.{Diagram, has_men}
 unfoldable pub use Rattle.chess_core.specs.Diagrams.{is_taken, is_there, position_of, stands}
 pub use Rattle.chess_core.specs.Position.{HasNoKing, is_man, man_on, other, same_kind, with_man}
 unfoldable pub use Rattle.chess_core.specs.Position.{king_square}
@@ -31,7 +31,7 @@ pub use Rattle.pop_text.specs.ties.Plain.{Skips, is_named, is_plain}
 pub use Rattle.pop_text.specs.ties.Reading.{Asks, Reading, Uses, UsesAll}
 pub use Rattle.pop_text.specs.ties.Runs.{IsRunOver, Peeks, Sticks, UsesLine, UsesRun, UsesWord}
 pub use Rattle.pop_input.specs.Blocks.{Entry, Sound, before_blocks, block_entries, block_fault, blocks_of, closed_entry, closes_none, closing_line, closing_of, entries_by, entries_of, entry_of, first_fault, has_begun, last_text, line_of, more_entries, problem_of, tail_fault, text_after, tokens_inside, words_before}
-pub use Rattle.pop_input.specs.Ends.{ArePut, counts_as_unmoved, posed_of, position_fault, setup_fault, setup_of, stated_fault}
+pub use Rattle.pop_input.specs.Ends.{ArePut, counts_as_unmoved, diagram_fault, diagram_of, posed_of, position_fault, stated_fault}
 unfoldable pub use Rattle.pop_input.specs.Ends.{end_fault_in, unmoved_of}
 pub use Rattle.pop_input.specs.FaultKinds.{at_line, fault_at, number_of}
 unfoldable pub use Rattle.pop_input.specs.FaultKinds.{kind_numbered}

@@ -3,7 +3,7 @@ use Rattle.pop_input.specs.declared.fault_kind.FaultKind.{FaultKind}
 use Rattle.pop_input.specs.declared.fault_kind.FaultKind.TheVariants.{StipulationMissing, NoMen, EnPassantImpossible, KingMissing, WaitingSideInCheck}
 use Rattle.std.specs.Prelude.{◌≡◌, ℕ, List, length, fold, not, ◌&&◌, Bool, true, if◌then◌else◌, Option, Some, None, unwrap_or}
 use Rattle.chess_core.specs.Castling.{castling_squares, has_unmoved, mark_unmoved, none_unmoved}
-use Rattle.chess_core.specs.Diagrams.{Setup, has_men}
+use Rattle.chess_core.specs.Diagrams.{Diagram, has_men}
 use Rattle.chess_core.specs.Position.{AtMostOneKing, man_on, other}
 use Rattle.chess_core.specs.WellFormed.{is_crossed_right, is_home, is_pawn_inside}
 use Rattle.chess_core.specs.declared.man.Man.{Man}
@@ -31,8 +31,8 @@ unmoved_of men barred =
     none_unmoved castling_squares
 
 -- the diagram that words pose: who starts is said by the form
-abbrev pub setup_of : State → Form → Setup
-setup_of state form = record {
+abbrev pub diagram_of : State → Form → Diagram
+diagram_of state form = record {
   men = state.men;
   turn = starting_side form;
   unmoved = unmoved_of state.men state.barred;
@@ -46,7 +46,7 @@ no_stipulation = record { form = Direct; goal = Mate; n = 1 }
 -- the problem that words pose with this stipulation
 abbrev pub posed_by : State → Stipulation → List ℕ → List ℕ → Posed
 posed_by state stipulation title author = record {
-  diagram = setup_of state stipulation.form;
+  diagram = diagram_of state stipulation.form;
   stipulation = stipulation;
   condition = state.condition;
   set_play = state.switches.set_play;
@@ -70,18 +70,19 @@ position_fault has_king in_check = if not has_king then Some KingMissing
     else (if in_check then Some WaitingSideInCheck else None)
 
 -- no men, en passant not possible, and the faults of the position
-abbrev pub setup_fault : State → Stipulation → Setup → Option FaultKind
-setup_fault state stipulation setup =
-    if not (has_men setup.men) then Some NoMen
-    else (if not (is_crossed_right setup.men setup.turn setup.crossed) then Some EnPassantImpossible
-    else position_fault (has_king_to_mate stipulation setup.men)
-    (in_check (rule_of state.condition) setup.men (other setup.turn)))
+abbrev pub diagram_fault : State → Stipulation → Diagram → Option FaultKind
+diagram_fault state stipulation diagram =
+    if not (has_men diagram.men) then Some NoMen
+    else (if not (is_crossed_right diagram.men diagram.turn diagram.crossed)
+    then Some EnPassantImpossible
+    else position_fault (has_king_to_mate stipulation diagram.men)
+    (in_check (rule_of state.condition) diagram.men (other diagram.turn)))
 
 -- no stipulation, or a fault of the diagram
 abbrev pub stated_fault : State → Option Stipulation → Option FaultKind
 stated_fault state None = Some StipulationMissing
-stated_fault state (Some stipulation) = setup_fault state stipulation
-    (setup_of state stipulation.form)
+stated_fault state (Some stipulation) = diagram_fault state stipulation
+    (diagram_of state stipulation.form)
 
 -- the fault at the end of a block whose words have none
 unfoldable pub end_fault_in : State → Option FaultKind

@@ -1,6 +1,6 @@
 -- A problem as it is posed.
 use Rattle.std.specs.Prelude.{◌≡◌, ◌≤◌, ℕ, Bool, true, false, List, Option, Some, None}
-use Rattle.chess_core.specs.Diagrams.{Setup, position_of}
+use Rattle.chess_core.specs.Diagrams.{Diagram, position_of}
 use Rattle.chess_core.specs.Position.{other}
 use Rattle.chess_core.specs.WellFormed.{IsWellFormed}
 use Rattle.chess_rules.specs.Attacks.{in_check}
@@ -12,7 +12,7 @@ use Rattle.pop_input.specs.declared.stipulation.Stipulation.{Stipulation}
 
 -- all that a problem says
 pub record Posed : Type 0 where
-  pub diagram : Setup
+  pub diagram : Diagram
   pub stipulation : Stipulation
   pub condition : Option Condition
   pub set_play : Bool

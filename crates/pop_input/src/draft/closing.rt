@@ -5,7 +5,7 @@ ghost use Rattle.chess_core.specs.Diagrams.{position_of};
 ghost use Rattle.chess_core.specs.WellFormed.{IsWellFormed};
 ghost use Rattle.chess_rules.specs.Attacks.{in_check};
 ghost use Rattle.pop_input.specs.Posed.{rule_of};
-ghost use Rattle.pop_input.specs.Ends.{counts_as_unmoved, position_fault, setup_fault, setup_of, unmoved_of};
+ghost use Rattle.pop_input.specs.Ends.{counts_as_unmoved, diagram_fault, diagram_of, position_fault, unmoved_of};
 ghost use Rattle.pop_input.specs.ties.Closings.{Poses};
 ghost use Rattle.pop_input.specs.Stipulations.{has_king_to_mate};
 
@@ -33,7 +33,7 @@ impl Draft {
             return Item::Faulty(Fault::at(FaultKind::StipulationMissing, line), last);
         };
         let diagram = self.diagram_for(stipulation.form);
-        match self.setup_fault(&diagram, stipulation) {
+        match self.diagram_fault(&diagram, stipulation) {
             Some(fault) => Item::Faulty(Fault::at(fault, line), last),
             None => Item::Sound(
                 Problem::new(
@@ -52,7 +52,7 @@ impl Draft {
 
     // The diagram, where the problem has this form.
     fn diagram_for(&self, form: Form) -> Diagram
-        ensures { result ≡ setup_of self.now form }
+        ensures { result ≡ diagram_of self.now form }
     {
         let mut diagram = self.diagram;
         diagram.turn = form.starting_side();
@@ -62,9 +62,9 @@ impl Draft {
     }
 
     // The fault of that diagram.
-    fn setup_fault(&self, diagram: &Diagram, stipulation: Stipulation) -> Option<FaultKind>
-        requires { diagram.now ≡ setup_of self.now stipulation.form }
-        ensures fault { result ≡ setup_fault self.now stipulation diagram.now }
+    fn diagram_fault(&self, diagram: &Diagram, stipulation: Stipulation) -> Option<FaultKind>
+        requires { diagram.now ≡ diagram_of self.now stipulation.form }
+        ensures fault { result ≡ diagram_fault self.now stipulation diagram.now }
         ensures well_formed { result ≡ None → IsWellFormed (position_of diagram.now) }
     {
         let condition = self.condition;
@@ -82,7 +82,7 @@ impl Draft {
 
     // Whether that diagram is well formed: only the crossed square may be wrong in it.
     fn is_well_formed(&self, diagram: &Diagram, form: Form) -> bool
-        requires { diagram.now ≡ setup_of self.now form }
+        requires { diagram.now ≡ diagram_of self.now form }
         ensures { MatchBool result (IsWellFormed (position_of diagram.now))
             (IsWellFormed (position_of diagram.now) → ⊥) }
     {

@@ -1,6 +1,6 @@
 use Rattle.pop_input.proofs.Words.{ArePut, ap, has_king_to_mate, in_check, other, rule_of, starting_side, sym, ◌∙◌, ◌≡◌}
 use Rattle.pop_input.proofs.Posing.{ill_fault, position_told, shown_men}
-use Rattle.pop_input.proofs.draft.Draft.setup_fault.Goals as goal
+use Rattle.pop_input.proofs.draft.Draft.diagram_fault.Goals as goal
 
 pub returns-then-not-is_well_formed-clause-fault : goal.returns-then-not-is_well_formed-clause-fault
 returns-then-not-is_well_formed-clause-fault c =
