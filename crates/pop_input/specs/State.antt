@@ -46,9 +46,9 @@ abbrev pub role_of : Place → List ℕ → Role
 role_of place text = role_by place.awaited place text
 
 -- the section that is open behind a word
-abbrev pub opened_by : Option Section → Role → Option Section
-opened_by section (Control (Enter opened)) = Some opened
-opened_by section _ = section
+abbrev pub section_by : Option Section → Role → Option Section
+section_by section (Control (Enter opened)) = Some opened
+section_by section _ = section
 
 -- what an option awaits
 abbrev pub awaited_by : Option OptionWord → Option Awaited
@@ -64,7 +64,7 @@ awaited_after _ text = None
 -- the place behind one more word
 abbrev pub place_after : Role → Place → List ℕ → Place
 place_after role place text = record {
-  section = opened_by place.section role;
+  section = section_by place.section role;
   awaited = awaited_after role text;
 }
 

@@ -1,5 +1,5 @@
 -- The path to the top frame, and what is shown of it.
-use Rattle.pop_solve.proofs.Words.{CameFrom, CameFromAt, Frame, Goal, IsEnded, IsLinked, IsWalking, List, Move, Plan, Position, RuleSet, [], ap, arith, chess, cond, drop, ends_variation, get_or, is_legal, length, length-append, length-reverse, length-take, path, path_end, position, refl, reverse, reverse-append, rules, show, shown_along, shown_last, subst, sym, take, take-append-drop, take_all, take_more, true, ℕ, ◌++◌, ◌+◌, ◌-◌, ◌<◌, ◌∙◌, ◌∷◌, ◌≡◌, ◌≤◌}
+use Rattle.pop_solve.proofs.Words.{CameFrom, CameFromAt, Frame, Goal, IsEnded, IsLinked, IsWalking, List, Move, Plan, Position, RuleSet, [], ap, arith, chess, cond, drop, ends_variation, get_or, is_legal, length, length-append, length-reverse, length-take, path, path_end, position, refl, reverse, reverse-append, rules, shown_along, shown_last, shown_move, subst, sym, take, take-append-drop, take_all, take_more, true, ℕ, ◌++◌, ◌+◌, ◌-◌, ◌<◌, ◌∙◌, ◌∷◌, ◌≡◌, ◌≤◌}
 use Rattle.chess_rules.specs.Play.{position_after}
 use Rattle.pop_solve.proofs.Outcomes.{CameFrom-deep, walking-close}
 use Rattle.pop_solve.specs.declared.chess.Reached.{Reached}
@@ -28,11 +28,12 @@ module _ (goal : Goal) (rule : RuleSet) where
   path_end-append p (x ∷ xs) m = path_end-append (position_after rule p x) xs m
 
   along-append : (p : Position) (xs : List Move) (m : Move)
-      → shown_along goal rule p (xs ++ m ∷ []) ≡ shown_along goal rule p xs ++ show goal rule (path_end (position_after rule) p xs) m ∷ []
+      → shown_along goal rule p (xs ++ m ∷ []) ≡ shown_along goal rule p xs ++ shown_move goal rule (path_end (position_after rule) p xs) m ∷ []
   along-append p [] m = refl
-  along-append p (x ∷ xs) m = ap (λ ys. show goal rule p x ∷ ys) (along-append (position_after rule p x) xs m)
+  along-append p (x ∷ xs) m = ap (λ ys. shown_move goal rule p x ∷ ys) (along-append (position_after rule p x) xs m)
 
-  last-append : (p : Position) (xs : List Move) (m : Move) → shown_last goal rule p (xs ++ m ∷ []) ≡ show goal rule (path_end (position_after rule) p xs) m
+  last-append : (p : Position) (xs : List Move) (m : Move) → shown_last goal rule p (xs ++ m ∷ [])
+      ≡ shown_move goal rule (path_end (position_after rule) p xs) m
   last-append p [] m = refl
   last-append p (x ∷ []) m = refl
   last-append p (x ∷ (y ∷ xs)) m = last-append (position_after rule p x) (y ∷ xs) m
@@ -45,11 +46,11 @@ module _ (goal : Goal) (rule : RuleSet) where
   path_end-path p (f ∷ (g ∷ below)) = search (rules, path_end-append, path_end-path p (g ∷ below))
 
   pub along-more : (p : Position) (f : Frame) (fs : List Frame) → 0 < length fs
-      → shown_along goal rule p (path (f ∷ fs)) ≡ shown_along goal rule p (path fs) ++ show goal rule (position rule p fs) f.by ∷ []
+      → shown_along goal rule p (path (f ∷ fs)) ≡ shown_along goal rule p (path fs) ++ shown_move goal rule (position rule p fs) f.by ∷ []
   along-more p f fs some = search (rules, path-more, along-append, path_end-path)
 
   pub last-more : (p : Position) (f : Frame) (fs : List Frame) → 0 < length fs
-      → shown_last goal rule p (path (f ∷ fs)) ≡ show goal rule (position rule p fs) f.by
+      → shown_last goal rule p (path (f ∷ fs)) ≡ shown_move goal rule (position rule p fs) f.by
   last-more p f fs some = rw (path-more f fs some, last-append p (path fs) f.by, path_end-path p fs) refl
 
 module _ (rule : RuleSet) where
@@ -101,11 +102,11 @@ module _ (rule : RuleSet) where
     forth-ended plan h p board after r s ended b e here = search (rules, forth-again, stacked)
 
     pub forth-along : (goal : Goal) (p : Position)
-        → shown_along goal rule p (path (reverse upper)) ≡ shown_along goal rule p (path (reverse lower)) ++ show goal rule
+        → shown_along goal rule p (path (reverse upper)) ≡ shown_along goal rule p (path (reverse lower)) ++ shown_move goal rule
         (position rule p (reverse lower)) f.by ∷ []
     forth-along goal p = grind (arith, stacked, along-more, length-reverse)
 
-    pub forth-last : (goal : Goal) (p : Position) → shown_last goal rule p (path (reverse upper)) ≡ show goal rule (position rule p (reverse lower)) f.by
+    pub forth-last : (goal : Goal) (p : Position) → shown_last goal rule p (path (reverse upper)) ≡ shown_move goal rule (position rule p (reverse lower)) f.by
     forth-last goal p = grind (arith, stacked, last-more, length-reverse)
 
   -- with one frame left, or none, the board stands on the first position

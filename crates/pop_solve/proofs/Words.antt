@@ -36,7 +36,7 @@ pub use Rattle.pop_input.specs.declared.stipulation.Goal.{Goal}
 pub use Rattle.pop_input.specs.declared.stipulation.Goal.TheVariants.{Mate}
 pub use Rattle.pop_solve.specs.Aims.{battle_of}
 pub use Rattle.pop_solve.specs.Chess.{chess, is_goal_reached, set_start}
-unfoldable pub use Rattle.pop_solve.specs.Chess.{show}
+unfoldable pub use Rattle.pop_solve.specs.Chess.{shown_move}
 pub use Rattle.pop_solve.specs.Events.{BareEvent, event_of, events, events_from, first_phase, impossible, is_barred, is_set, line, opening, path_event, phase_count, phase_half, phase_half_moves, phase_start, play_start, shown_along, shown_last, total, tree_node}
 unfoldable pub use Rattle.pop_solve.specs.Events.{phase_events, solutions}
 pub use Rattle.pop_solve.specs.Game.{Game, can_move, every_move, path_end, some_move}

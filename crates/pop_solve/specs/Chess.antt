@@ -81,8 +81,8 @@ shown_of None there m lost mark = nothing_shown
 shown_of (Some x) there m lost mark = shown_by x there m lost mark
 
 -- the move m as it is shown, read off the position before it and the position after it
-unfoldable pub show : Goal → RuleSet → Position → Move → Shown
-show goal rule p m = shown_of (man_on p.men m.from) (man_on p.men m.to) m (undo_of rule p m)
+unfoldable pub shown_move : Goal → RuleSet → Position → Move → Shown
+shown_move goal rule p m = shown_of (man_on p.men m.from) (man_on p.men m.to) m (undo_of rule p m)
     (mark_of goal rule (position_after rule p m))
 
 -- the first position of set play (own): the other side is to move, and no square is crossed

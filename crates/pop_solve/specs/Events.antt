@@ -13,7 +13,7 @@ use Rattle.pop_solve.specs.Game.{help_lines}
 use Rattle.pop_solve.specs.Tree.{tree, set_tree}
 use Rattle.pop_input.specs.Posed.{Posed, rule_of}
 use Rattle.pop_input.specs.Stipulations.{is_help, first_half, half_moves}
-use Rattle.pop_solve.specs.Chess.{chess, is_impossible, nothing_shown, set_start, show}
+use Rattle.pop_solve.specs.Chess.{chess, is_impossible, nothing_shown, set_start, shown_move}
 use Rattle.pop_solve.specs.Shown.{Shown}
 use Rattle.pop_solve.specs.declared.event.Event.{Event}
 use Rattle.pop_solve.specs.declared.event.Event.TheVariants.{Phase as PhaseEvent, Line, Node, Impossible, Total}
@@ -107,13 +107,13 @@ events rule problem = events_from rule problem (first_phase problem)
 -- the moves of a path from p as they are shown
 abbrev pub shown_along : Goal → RuleSet → Position → Path → List Shown
 shown_along goal rule p [] = []
-shown_along goal rule p (m ∷ path) = show goal rule p m
+shown_along goal rule p (m ∷ path) = shown_move goal rule p m
     ∷ shown_along goal rule (position_after rule p m) path
 
 -- the last move of a path from p as it is shown
 abbrev pub shown_last : Goal → RuleSet → Position → Path → Shown
 shown_last goal rule p [] = nothing_shown
-shown_last goal rule p (m ∷ []) = show goal rule p m
+shown_last goal rule p (m ∷ []) = shown_move goal rule p m
 shown_last goal rule p (m ∷ (n ∷ path)) = shown_last goal rule (position_after rule p m) (n ∷ path)
 
 -- the number of a phase's first half-move

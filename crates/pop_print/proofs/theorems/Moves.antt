@@ -16,7 +16,7 @@ use Rattle.chess_rules.proofs.listing_moves.Calls.{is_pseudo_legal-from_legal}
 use Rattle.chess_rules.proofs.making_moves.Pseudo.{IsMade, king_is_no_pawn, made}
 use Rattle.chess_core.proofs.Kept.{same_colour-refl}
 use Rattle.pop_input.specs.declared.stipulation.Goal.{Goal}
-use Rattle.pop_solve.specs.Chess.{castling_side, show, shown_of}
+use Rattle.pop_solve.specs.Chess.{castling_side, shown_move, shown_of}
 use Rattle.pop_solve.specs.declared.shown.Side.{Side}
 use Rattle.pop_solve.specs.declared.shown.Side.TheVariants.{A, H}
 use Rattle.pop_solve.specs.declared.shown.Mark.{Mark}
@@ -183,20 +183,20 @@ module _ (goal : Goal) (rule : RuleSet) (p : Position) (well : IsWellFormed p) w
   -- A legal move's man, and what is shown of it.
   record IsShown (m : Move) (x : Man) : Type 0 where
     made : IsMade rule p x m
-    castling : (show goal rule p m).castling ≡ castling_side x m
-    from : (show goal rule p m).from ≡ m.from
-    to : (show goal rule p m).to ≡ m.to
-    promo : (show goal rule p m).promo ≡ m.promo
+    castling : (shown_move goal rule p m).castling ≡ castling_side x m
+    from : (shown_move goal rule p m).from ≡ m.from
+    to : (shown_move goal rule p m).to ≡ m.to
+    promo : (shown_move goal rule p m).promo ≡ m.promo
 
   shown_by_man : (m : Move) (o : Option Man) → man_on p.men m.from ≡ o → is_legal rule p m ≡ true → (x : Man) × IsShown m x
-  unfolding show shown_of is_pseudo_legal
+  unfolding shown_move shown_of is_pseudo_legal
   shown_by_man m None here h = grind (arith, is_pseudo_legal-from_legal rule p m h, true≢false)
   shown_by_man m (Some x) here h = grind (arith, made rule p m x (is_pseudo_legal-from_legal rule p m h) here, is_pseudo_legal-from_legal rule p m h, made)
 
   -- The move is known by what is written of it, where neither castles or both castle to one side.
   same_move : (m n : Move) (x y : Man) (c d : Option Side) → IsShown m x → IsShown n y
       → castling_side x m ≡ c → castling_side y n ≡ d → c ≡ d
-      → (c ≡ None → GoAlike (show goal rule p m) (show goal rule p n)) → m ≡ n
+      → (c ≡ None → GoAlike (shown_move goal rule p m) (shown_move goal rule p n)) → m ≡ n
   same_move m n x y None None a b e f s goes = grind (arith, same_triple)
   same_move m n x y (Some side) (Some other) a b e f s goes =
       let v = castled x m side e in
@@ -209,10 +209,10 @@ module _ (goal : Goal) (rule : RuleSet) (p : Position) (well : IsWellFormed p) w
 
   -- No two legal moves of a position are written alike.
   pub moves_are_written_apart : (m n : Move) → is_legal rule p m ≡ true → is_legal rule p n ≡ true
-      → move_text (show goal rule p m) ≡ move_text (show goal rule p n) → m ≡ n
+      → move_text (shown_move goal rule p m) ≡ move_text (shown_move goal rule p n) → m ≡ n
   moves_are_written_apart m n h k e =
       let a = shown_by_man m (man_on p.men m.from) refl h in
       let b = shown_by_man n (man_on p.men n.from) refl k in
-      let told = written_alike (show goal rule p m) (show goal rule p n) e in
+      let told = written_alike (shown_move goal rule p m) (shown_move goal rule p n) e in
       same_move m n a.0 b.0 (castling_side a.0 m) (castling_side b.0 n) a.1 b.1 refl refl
       (sym a.1.castling ∙ told.0 ∙ b.1.castling) (λ none. told.1 (a.1.castling ∙ none))
