@@ -1,7 +1,6 @@
 -- The outcomes of a step, for frames listed from the top down.
 use Rattle.pop_solve.proofs.Words.{AreKnown, Battle, Bool, CameFrom, CameFromAt, Counts, Frame, GoesTo, IfSome, IsCounted, IsLinked, IsPlaceIn, IsRoomy, IsWalking, IsWhites, LegalPlace, List, Move, Option, Plan, Position, RuleSet, Steps, Undo, [], after_well_formed, ap, arith, chess, eqb, false, fewest_left, follows, gives, half_moves_on, inl, inr, is_help, is_legal, is_pseudo_legal-from_legal, length, min, moves_behind, opened_frame, path, position, refl, rules, seeks, suc, to_come, to_open, true, turns, undo_of, walk_behind, ℕ, ◌+◌, ◌-◌, ◌<◌, ◌^◌, ◌∷◌, ◌≡◌, ◌≤◌, ◌⊎◌}
 use Rattle.chess_rules.specs.Play.{position_after}
-use Rattle.pop_solve.specs.ties.Frames.{opened_frame}
 use Rattle.pop_solve.proofs.Tests.{learned, moved}
 use Rattle.pop_solve.proofs.GoingOn.{no_zero, half_moves_on-help, follows-help, half_moves_on-keys, half_moves_on-most, ended-reached}
 use Rattle.pop_solve.proofs.ToCome.{one, walk_count-start, walk_behind-none, come-pass, come-enter, tries-pass, tries-enter, turns-pass, turns-enter, open-next, open-enter, come-close, tries-close, turns-close, open-close, steps-skip}
