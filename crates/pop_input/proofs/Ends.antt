@@ -18,7 +18,7 @@ abbrev pub block_of : Bool → Next
 block_of true = First
 block_of false = Later
 
-module _ (first : Bool) (old new : Standing) (had left : Option (List ℕ)) (starting_side : old.next ≡ block_of first) where
+module _ (first : Bool) (old new : Standing) (had left : Option (List ℕ)) (starts : old.next ≡ block_of first) where
   -- items of tokens that were taken
   reads_by : (done : List Token) → Takes (among old.at) (among new.at) had left done → (entries : List Entry) → ((rest : Input) → MayFollow new.at.end rest
       → entries_of first (put_before done (words_left None new.at rest)) ≡ entries ++ entries_left new rest) → Reads old new had left entries

@@ -12,7 +12,7 @@ pub words-init : goal.words-init
 words-init g c = rw (← c.self.view_is) (record {
   block = block_starts c.match-self.first c.self.inside.scanner (g.S.Source.remaining c.args.source.now) c.new-block.result c.new-block.ensures;
   used = some_none c.self.inside.scanner (g.S.Source.remaining c.args.source.now);
-  starting_side = elim c.match-self.branch [ in-First w ↦ rw w.first-is w.in-First.is | in-Later w ↦ rw w.first-is w.in-Later.is ];
+  starts = elim c.match-self.branch [ in-First w ↦ rw w.first-is w.in-First.is | in-Later w ↦ rw w.first-is w.in-Later.is ];
   asks = asks_none c.self.inside.scanner.end (g.S.Source.remaining c.args.source.now) (g.S.Source.failures c.args.source.now);
 })
 
@@ -23,7 +23,7 @@ words-preserved-in-Line g c =
     record {
       block = line_read _ _ _ _ _ _ _ _ _ i.block t.0 t.1 t.2 c.in-Line.keyword c.next_token.new.text t.3 t.4 t.5 c.note.ensures;
       used = some_then i.used c.in-Line.ensures.used;
-      starting_side = i.starting_side;
+      starts = i.starts;
       asks = asks_then i.asks c.next_token.ensures.asks;
     }
 
@@ -34,7 +34,7 @@ words-preserved-in-TooLong g c =
     record {
       block = long_read _ _ _ _ _ _ _ _ _ i.block c.in-TooLong.line t.0 t.1 t.2 c.read_long.ensures.fault;
       used = some_then i.used c.in-TooLong.ensures.used;
-      starting_side = i.starting_side;
+      starts = i.starts;
       asks = asks_then i.asks c.next_token.ensures.asks;
     }
 
@@ -49,7 +49,7 @@ words-preserved g c =
       block = skip_read _ _ _ _ _ _ _ (open_read _ _ _ _ _ _ _ _ _ i.block _ _ r.fault (λ none. r) word.0 (not_closing _ is))
           c.skip_on.ensures.skips c.skip_on.ensures.sound;
       used = some_skipped (some_then i.used (some_run (rw c.in-Word.is at c.next_token.ensures.used).0)) c.skip_on.ensures.skips;
-      starting_side = i.starting_side;
+      starts = i.starts;
       asks = rw c.skip_on.ensures.skips.end (asks_then i.asks c.next_token.ensures.asks);
     }
 
@@ -57,7 +57,7 @@ pub returns-in-Some-clause-item : goal.returns-in-Some-clause-item
 returns-in-Some-clause-item g c =
     let i = c.words.invariant in
     let new : Standing = record { next = c.next_behind-self-inside.result; at = c.next_token.new.scanner } in
-    word_closes _ _ new _ _ i.starting_side _ _ _ _ i.block _ _ c.in-Word.ensures.token.0 c.read_word.ensures.read c.closed.result c.in-Some.last _
+    word_closes _ _ new _ _ i.starts _ _ _ _ i.block _ _ c.in-Word.ensures.token.0 c.read_word.ensures.read c.closed.result c.in-Some.last _
     c.closed.ensures refl (sym c.read_word.ensures.closes ∙ c.in-Some.is) c.next_behind-self-inside.ensures
 
 pub returns-in-Some-clause-used : goal.returns-in-Some-clause-used
@@ -86,14 +86,14 @@ pub returns-in-Ended-clause-item : goal.returns-in-Ended-clause-item
 returns-in-Ended-clause-item g c =
     let i = c.words.invariant in
     let new : Standing = record { next = Nothing; at = c.next_token.new.scanner } in
-    rw c.ended.ensures (input_ends _ _ new _ _ i.starting_side _ _ _ i.block c.in-Ended.line c.in-Ended.ensures.token refl)
+    rw c.ended.ensures (input_ends _ _ new _ _ i.starts _ _ _ i.block c.in-Ended.line c.in-Ended.ensures.token refl)
 
 pub returns-in-Cut-clause-item : goal.returns-in-Cut-clause-item
 returns-in-Cut-clause-item g c =
     let i = c.words.invariant in
     let told = c.told_of_cut-last.ensures in
     let new : Standing = record { next = c.next_behind-self-inside-in-Cut.result; at = c.next_token.new.scanner } in
-    rw told (cut_read _ _ new _ _ i.starting_side _ _ _ i.block c.words.block.fault c.in-Cut.cut refl c.in-Cut.ensures.token
+    rw told (cut_read _ _ new _ _ i.starts _ _ _ i.block c.words.block.fault c.in-Cut.cut refl c.in-Cut.ensures.token
     (c.next_behind-self-inside-in-Cut.ensures ∙ ap (λ t. next_behind t.1) told))
 
 pub returns-in-Some-clause-numbered : goal.returns-in-Some-clause-numbered

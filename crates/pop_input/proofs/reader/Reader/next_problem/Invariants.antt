@@ -8,7 +8,7 @@ abbrev pub invariant-words : goal.invariant-words
 invariant-words g l = record {
   block : BlockSoFar l.first l.fn.self.at l.self-inside.scanner (g.S.Source.remaining l.fn.source) (g.S.Source.remaining l.source) l.block;
   used : UsesSome l.fn.self.at l.self-inside.scanner (g.S.Source.remaining l.fn.source) (g.S.Source.remaining l.source);
-  starting_side : l.fn.self.next ≡ block_of l.first;
+  starts : l.fn.self.next ≡ block_of l.first;
   asks : Asks l.fn.self.at.end l.self-inside.scanner.end (g.S.Source.remaining l.fn.source) (g.S.Source.remaining l.source)
       (g.S.Source.failures l.fn.source) (g.S.Source.failures l.source);
 }
