@@ -227,8 +227,7 @@ module _ (rule : RuleSet) (problem : Posed) (sound : IsSound problem) (phase : P
         behind_start rule q,
       )
       (sym (append-nil _) ∙ turn (gives plan game left q) (path old) m (shown_paths plan game false left (half_moves_on plan game left q) q
-      (legal_moves rule q)) []
-      [])
+      (legal_moves rule q)) [] [])
 
   walking-entered : IsWalking rule h p entered q
   walking-entered = walking-opened rule h p old board m _ deep s.walking lawful

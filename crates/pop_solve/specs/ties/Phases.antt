@@ -73,9 +73,8 @@ pub record Walks (rule : RuleSet) (plan : Plan) (h : ℕ) (p : Position) (limit 
       (limit - (if begins (is_help plan.form) (path new) then 1 else 0)) (to_come rule plan h p new)
   pub starts : given ≡ true → beginning_count (is_help plan.form) limit (to_come rule plan h p old)
       ≡ (if begins (is_help plan.form) (path new) then 1 else 0)
-      + beginning_count (is_help plan.form) (limit -
-      (if begins (is_help plan.form) (path new) then 1
-      else 0)) (to_come rule plan h p new)
+      + beginning_count (is_help plan.form)
+      (limit - (if begins (is_help plan.form) (path new) then 1 else 0)) (to_come rule plan h p new)
   pub within : given ≡ true → (if begins (is_help plan.form) (path new) then 1 else 0) ≤ limit
   pub deep : given ≡ true → 2 ≤ length new
   pub closed : given ≡ true → IsEnded rule plan new board
