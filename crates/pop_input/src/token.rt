@@ -34,7 +34,7 @@ pub(crate) fn next_token<S: Source>(
     source: &mut S,
     word: &mut Word,
     text: &mut Text,
-) -> Token
+) -> ReadToken
     requires { scanner.old.end ≡ End.Open → S.failures source.old < greatest_count }
     ensures token { NextToken scanner.old scanner.new (S.remaining source.old)
         (S.remaining source.new) word.new text.new result }
