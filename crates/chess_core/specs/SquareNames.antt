@@ -1,4 +1,5 @@
--- The squares by name: a letter for the file, a figure for the rank (FIDE Laws, appendix C).
+-- The squares by name: a letter for the file, a figure for the rank (FIDE Laws, appendix C). Named are those
+-- of which definitions and examples speak.
 use Rattle.std.specs.Prelude.{ℕ}
 
 abbrev pub a1 : ℕ

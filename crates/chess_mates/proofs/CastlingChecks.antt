@@ -1,6 +1,6 @@
 -- Castling that uncovers no king gives check by its rook alone.
 use Rattle.chess_rules.proofs.Basics.{Bool, List, None, Option, Some, [], agree_below, agree_below_at, and_from, and_left, and_parts, ap, arith, bit_and, bit_at, bit_or, cases_eq, cond-false, cond-true, eq-eqb, eqb-true, false, false_from_ne_true, false≢true, inl, inr, is_some, length, length-set, list_all, list_any, not, or_cases, or_left, or_parts, range_with_len, refl, rules, sym, true, ℕ, ◌%◌, ◌&&◌, ◌*◌, ◌+◌, ◌-◌, ◌/◌, ◌<◌, ◌==◌, ◌^◌, ◌||◌, ◌∙◌, ◌∷◌, ◌≡◌, ◌≢◌, ◌≤◌, ◌⊎◌}
-use Rattle.chess_mates.proofs.Chess.{AreCastlingTargets, Bishop, CheckSquares, Colour, Direction, East, Grasshopper, IsWellFormed, Kind, King, Man, Move, Nightrider, North, NorthEast, NorthWest, Pawn, Position, Queen, Rook, RuleSet, South, SouthEast, SouthWest, Step, Straight, West, after, all_at, along, along-is, capture_square, castles, check_of}
+use Rattle.chess_mates.proofs.Chess.{AreCastlingTargets, Bishop, CheckSquares, Colour, Direction, East, Grasshopper, IsWellFormed, Kind, King, Man, Move, Nightrider, North, NorthEast, NorthWest, Pawn, Position, Queen, Rook, RuleSet, South, SouthEast, SouthWest, Step, Straight, West, all_at, along, along-is, capture_square, castles, is_attacked_at, position_after}
 use Rattle.chess_mates.proofs.Chess.{corner, find_first, halfway, hops, in_check, is_ahead, is_aside, is_castling, is_clear, is_diagonal, is_man, is_on_fairy_line, is_on_fairy_line_to, is_on_some, is_reached, is_side, is_square, is_vacant_at, king_square, man_on, man_on-with_same, may_castle, may_check_from, may_expose}
 use Rattle.chess_mates.proofs.Chess.{may_expose_on, may_stand_between, moved_men, other, queen_steps, reaches, reaches_as, rides, same_colour, same_kind, some_square_false, some_square_true, squares, squares_between, step_of, steps_to, straight_steps, with_man, without_man, word}
 use Rattle.chess_mates.specs.ties.CheckSquares.{enemy}
@@ -77,27 +77,28 @@ half_no_hurdle x h s k half inside small ne1 ne2 = λ n at low le. false_from_ne
     grind (arith, implied (is_half h) (is_beside_alone h (step_of x)) (half_alone x h inside) half, half_alone x h inside, or_cases, false≢true, eqb-true))
 
 -- when a man has left a corner, riders get where they got
-module _ (men after : List (Option Man)) (b s k : ℕ) (free : Frees after men b) (edge : is_corner b ≡ true) (inside : b < 64) (small : s < 64) where
-  rode : (xs : List Direction) → list_any (λ x. rides after s k (step_of x)) xs ≡ true → list_any (λ x. rides men s k (step_of x)) xs ≡ true
-  rode xs h = grind (arith, any_kept, ride_kept, corner_beside)
+module _ (men position_after : List (Option Man)) (b s k : ℕ) (free : Frees position_after men b) (edge : is_corner b ≡ true) (inside : b < 64) (small : s < 64)
+  where
+    rode : (xs : List Direction) → list_any (λ x. rides position_after s k (step_of x)) xs ≡ true → list_any (λ x. rides men s k (step_of x)) xs ≡ true
+    rode xs h = grind (arith, any_kept, ride_kept, corner_beside)
 
-  reached : (e : Colour) (j : Kind)
-      → (same_kind j Grasshopper ≡ true → list_any (hops after s k) queen_steps ≡ true → list_any (hops men s k) queen_steps ≡ true)
-      → reaches_as after e j s k ≡ true → reaches_as men e j s k ≡ true
-  unfolding reaches_as
-  reached e Queen hop h = rode queen_directions h
-  reached e Rook hop h = rode (East ∷ West ∷ North ∷ South ∷ []) h
-  reached e Bishop hop h = rode (NorthEast ∷ SouthEast ∷ NorthWest ∷ SouthWest ∷ []) h
-  reached e Grasshopper hop h = hop refl h
-  reached e Nightrider hop h = rode knight_directions h
-  reached e j hop h = h
+    reached : (e : Colour) (j : Kind)
+        → (same_kind j Grasshopper ≡ true → list_any (hops position_after s k) queen_steps ≡ true → list_any (hops men s k) queen_steps ≡ true)
+        → reaches_as position_after e j s k ≡ true → reaches_as men e j s k ≡ true
+    unfolding reaches_as
+    reached e Queen hop h = rode queen_directions h
+    reached e Rook hop h = rode (East ∷ West ∷ North ∷ South ∷ []) h
+    reached e Bishop hop h = rode (NorthEast ∷ SouthEast ∷ NorthWest ∷ SouthWest ∷ []) h
+    reached e Grasshopper hop h = hop refl h
+    reached e Nightrider hop h = rode knight_directions h
+    reached e j hop h = h
 
-  -- and grasshoppers too, if the man went to no square right before k
-  hopped : (t : ℕ) → Holds after men t → ((x : Direction) → IsNoHurdle t s k (step_of x))
-      → list_any (hops after s k) queen_steps ≡ true → list_any (hops men s k) queen_steps ≡ true
-  hopped t holds none h =
-      any_kept (λ x. hops after s k (step_of x)) (λ x. hops men s k (step_of x)) queen_directions
-      (λ x hop. hop_kept men after b t s k (step_of x) free holds (corner_beside x b s k edge inside small) (none x) hop) h
+    -- and grasshoppers too, if the man went to no square right before k
+    hopped : (t : ℕ) → Holds position_after men t → ((x : Direction) → IsNoHurdle t s k (step_of x))
+        → list_any (hops position_after s k) queen_steps ≡ true → list_any (hops men s k) queen_steps ≡ true
+    hopped t holds none h =
+        any_kept (λ x. hops position_after s k (step_of x)) (λ x. hops men s k (step_of x)) queen_directions
+        (λ x hop. hop_kept men position_after b t s k (step_of x) free holds (corner_beside x b s k edge inside small) (none x) hop) h
 
 -- king and rook castle: a king on a goes to t, the rook from c to h
 abbrev CastlingSquares : ℕ → ℕ → ℕ → ℕ → Type 0
@@ -249,7 +250,7 @@ module _ (rule : RuleSet) (p : Position) (x : Man) (m : Move) (well : IsWellForm
   unfolding moved_men
   moved_is = grind (arith, arrived, rook, corner_stays, castle, cond-true, arrived_is)
 
-  after_is : (after rule p m).men ≡ castled
+  after_is : (position_after rule p m).men ≡ castled
   after_is = unreborn_after rule p x m is.here (λ circe. nobody) ∙ moved_is
 
   stepped_size : length stepped ≡ 64
@@ -348,10 +349,10 @@ module _ (rule : RuleSet) (p : Position) (x : Man) (m : Move) (well : IsWellForm
         false≢true (sym enemy_of ∙ ap (λ (w : Man). same_colour w.colour c) (sym same) ∙ (and_parts _ _ is_one).0) in
         ap (λ (o : Option Man). is_man o c King) (king_shift.others k y.0 one off_to) ∙ is_one
 
-    pub castling_gives_no_check : in_check rule (after rule p m).men c ≡ false
+    pub castling_gives_no_check : in_check rule (position_after rule p m).men c ≡ false
     unfolding in_check king_square squares
     castling_gives_no_check = ap (λ (men : List (Option Man)). in_check rule men c) after_is ∙ by (king_square castled c) refl where
-      by : (o : Option ℕ) → king_square castled c ≡ o → check_of rule castled o (other c) ≡ false
+      by : (o : Option ℕ) → king_square castled c ≡ o → is_attacked_at rule castled o (other c) ≡ false
       by None e = refl
       by (Some k) e =
           let f = find_first (λ s. is_man (man_on castled s) c King) 0 64 k e in

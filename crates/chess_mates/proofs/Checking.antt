@@ -1,6 +1,6 @@
 -- The squares from which a move may give check, by kinds.
 use Rattle.chess_rules.proofs.Basics.{or_parts, rules, List, None, Option, Some, ap, arith, bit_at, bit_not, bit_or, cases_Bool, false, false≢true, inl, inr, list_any-append, or_left, sym, true, w64, ℕ, ◌&&◌, ◌<◌, ◌==◌, ◌||◌, ◌∙◌, ◌≡◌}
-use Rattle.chess_mates.proofs.Chess.{AreCheckSquares, Bishop, CheckSquares, Colour, IsWellFormed, Kind, King, Man, Move, Position, Queen, Rook, RuleSet, after, arriving, check_squares_for, in_check, is_absent, is_fairy, king_square, man_on, may_check_from, may_check_from_on, other, pseudo, reaches_as, same_kind, squares_either, squares_of, squares_same, word}
+use Rattle.chess_mates.proofs.Chess.{AreCheckSquares, Bishop, CheckSquares, Colour, IsWellFormed, Kind, King, Man, Move, Position, Queen, Rook, RuleSet, arriving_man, check_squares_for, in_check, is_absent, is_fairy, is_pseudo_legal, king_square, man_on, may_check_from, may_check_from_on, other, position_after, reaches_as, same_kind, squares_either, squares_of, squares_same, word}
 use Rattle.chess_mates.specs.ties.CheckSquares.{enemy}
 use Rattle.chess_rules.specs.ties.Shields.{cannot_expose}
 use Rattle.chess_rules.proofs.Bits.{not_zero, word_empty, word_has, every_square}
@@ -8,9 +8,10 @@ use Rattle.chess_rules.proofs.attacks.Shielding.{other_twice, arriving_colour, c
 use Rattle.chess_rules.proofs.making_moves.Pseudo.{made, on_board}
 
 -- a move that can't expose the enemy's king, and whose man doesn't strike him where he arrives, gives no check
-pub gives_no_check : (rule : RuleSet) (p : Position) (x : Man) (m : Move) → IsWellFormed p → pseudo rule p m ≡ true → m.to < 64 → man_on p.men m.from ≡ Some x
-    → m.promo ≡ None → cannot_expose rule p (other p.turn) m ≡ true → may_check_from p.men (other p.turn) (arriving x m.promo) m.to ≡ false
-    → in_check rule (after rule p m).men (other p.turn) ≡ false
+pub gives_no_check : (rule : RuleSet) (p : Position) (x : Man) (m : Move) → IsWellFormed p → is_pseudo_legal rule p m ≡ true → m.to < 64
+    → man_on p.men m.from ≡ Some x
+    → m.promo ≡ None → cannot_expose rule p (other p.turn) m ≡ true → may_check_from p.men (other p.turn) (arriving_man x m.promo) m.to ≡ false
+    → in_check rule (position_after rule p m).men (other p.turn) ≡ false
 unfolding may_check_from
 gives_no_check rule p x m well may small here unpromoted h off =
     let parts = cannot_expose_parts rule p x (other p.turn) m here h in
@@ -66,10 +67,10 @@ off_check_squares men e s y w t a colour h small off apart = elim (cases_Bool (s
       grind (arith, is_enemy, word_has)
 ]
 
-pub no_check : (rule : RuleSet) (p : Position) (x : Man) (m : Move) (s : CheckSquares) (y : Man) (w t : ℕ) → IsWellFormed p → pseudo rule p m ≡ true
-    → man_on p.men m.from ≡ Some x → AreCheckSquares p.men (other p.turn) s → y ≡ arriving x m.promo → w ≡ check_squares_for s y.kind → t ≡ m.to → t < 64
+pub no_check : (rule : RuleSet) (p : Position) (x : Man) (m : Move) (s : CheckSquares) (y : Man) (w t : ℕ) → IsWellFormed p → is_pseudo_legal rule p m ≡ true
+    → man_on p.men m.from ≡ Some x → AreCheckSquares p.men (other p.turn) s → y ≡ arriving_man x m.promo → w ≡ check_squares_for s y.kind → t ≡ m.to → t < 64
     → (bit_at w t == 1) ≡ false → (same_kind y.kind King ≡ true → may_check_from p.men (other p.turn) y t ≡ false) → m.promo ≡ None
-    → cannot_expose rule p (other p.turn) m ≡ true → in_check rule (after rule p m).men (other p.turn) ≡ false
+    → cannot_expose rule p (other p.turn) m ≡ true → in_check rule (position_after rule p m).men (other p.turn) ≡ false
 no_check rule p x m s y w t well may here a is h same small off apart unpromoted cover =
     let colour : y.colour ≡ p.turn = ap (λ (z : Man). z.colour) is ∙ arriving_colour x m.promo ∙ (made rule p m x may here).mine in
     grind (arith, off_check_squares, gives_no_check)

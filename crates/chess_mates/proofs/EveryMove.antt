@@ -1,14 +1,14 @@
 -- Lists of legal moves of which one doesn't mate.
 use Rattle.chess_rules.proofs.Basics.{Bool, List, arith, false, list_all, not, refl, sym, true, ◌&&◌, ◌∷◌, ◌≡◌}
-use Rattle.chess_mates.proofs.Chess.{Move, Position, RuleSet, after, in_check, is_mating, legal, mates, other}
-use Rattle.chess_rules.proofs.listing_moves.Calls.{pseudo-from_legal}
+use Rattle.chess_mates.proofs.Chess.{Move, Position, RuleSet, in_check, is_legal, is_mating, mates, other, position_after}
+use Rattle.chess_rules.proofs.listing_moves.Calls.{is_pseudo_legal-from_legal}
 use Rattle.chess_mates.proofs.Mating.{no_mate_quietly}
 
 -- a legal move that gives no check doesn't mate
-pub quiet : (rule : RuleSet) (p : Position) (m : Move) → legal rule p m ≡ true → in_check rule (after rule p m).men (other p.turn) ≡ false
+pub quiet : (rule : RuleSet) (p : Position) (m : Move) → is_legal rule p m ≡ true → in_check rule (position_after rule p m).men (other p.turn) ≡ false
     → is_mating rule p m ≡ false
 unfolding mates
-quiet rule p m lawful calm = second (legal rule p m) (is_mating rule p m) lawful (sym (no_mate_quietly rule p m (λ h. calm)))
+quiet rule p m lawful calm = second (is_legal rule p m) (is_mating rule p m) lawful (sym (no_mate_quietly rule p m (λ h. calm)))
   where
     second : (a b : Bool) → a ≡ true → (a && b) ≡ false → b ≡ false
     second true b e h = h
@@ -20,4 +20,4 @@ fails-here test ms more m e h = rw (e, h) refl
 pub none-all : (none all : Bool) → all ≡ false → false ≡ (not none && all)
 none-all none all p = grind arith
 
-pub ruleset quietly = (pseudo-from_legal, quiet)
+pub ruleset quietly = (is_pseudo_legal-from_legal, quiet)

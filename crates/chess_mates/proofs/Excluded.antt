@@ -8,8 +8,8 @@ use Rattle.chess_core.specs.declared.man.Colour.TheVariants.{White, Black}
 use Rattle.chess_core.specs.declared.man.Kind.TheVariants.{King, Queen, Rook, Knight, Grasshopper, Pawn}
 use Rattle.chess_core.specs.declared.man.Man.{Man}
 use Rattle.chess_rules.specs.Attacks.{in_check}
-use Rattle.chess_rules.specs.Legal.{legal}
-use Rattle.chess_rules.specs.Play.{after}
+use Rattle.chess_rules.specs.Legal.{is_legal}
+use Rattle.chess_rules.specs.Play.{position_after}
 use Rattle.chess_rules.specs.RuleSet.{circe, orthodox}
 use Rattle.chess_rules.specs.ties.Shields.{is_behind, is_reached, is_shut, may_expose, is_on_fairy_line}
 use Rattle.chess_rules.specs.ties.Lines.{is_ahead}
@@ -19,9 +19,9 @@ use Rattle.chess_mates.specs.ties.CheckSquares.{AreCheckTargets, enemy, may_chec
 use Rattle.chess_rules.proofs.Excluded.{check_after_a_move, opening_capture}
 
 -- White Ka1 Bb3 Pe5, Black Kg8 Pd5, which has just passed d6 (`opening_capture`): the capture en passant gives check by the bishop
-en_passant_checks : (legal orthodox opening_capture (go e5 d6) ≡ true)
-    × (in_check orthodox (after orthodox opening_capture (go e5 d6)).men Black ≡ true)
-unfolding legal check_after_a_move
+en_passant_checks : (is_legal orthodox opening_capture (go e5 d6) ≡ true)
+    × (in_check orthodox (position_after orthodox opening_capture (go e5 d6)).men Black ≡ true)
+unfolding is_legal check_after_a_move
 en_passant_checks = (refl, refl)
 
 -- so the squares to which the pawn must go to give check hold d6, from which a pawn gives none
@@ -40,10 +40,10 @@ no_pawn_checks_from_there = (refl, refl)
 abbrev reborn_hurdle : Position
 reborn_hurdle = position (on White King a1 ∷ on White Grasshopper a8 ∷ on White Rook d1 ∷ on Black King h8 ∷ on Black Knight d3 ∷ []) White
 
-reborn_knight_checks : (legal circe reborn_hurdle (go d1 d3) ≡ true)
-    × (in_check circe (after circe reborn_hurdle (go d1 d3)).men Black ≡ true)
-    × (in_check orthodox (after orthodox reborn_hurdle (go d1 d3)).men Black ≡ false)
-unfolding legal check_after_a_move
+reborn_knight_checks : (is_legal circe reborn_hurdle (go d1 d3) ≡ true)
+    × (in_check circe (position_after circe reborn_hurdle (go d1 d3)).men Black ≡ true)
+    × (in_check orthodox (position_after orthodox reborn_hurdle (go d1 d3)).men Black ≡ false)
+unfolding is_legal check_after_a_move
 reborn_knight_checks = (refl, refl, refl)
 
 -- so the squares to which the rook must go to give check hold d3, from which it gives none

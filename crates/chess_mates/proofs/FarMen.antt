@@ -1,6 +1,6 @@
 -- Men who couldn't come to a check square give no check.
 use Rattle.chess_rules.proofs.Basics.{Option, Some, arith, bit_and, bit_at, bit_at-lt, bit_at_and, bit_at_or, bit_not, bit_or, cases_Bool, eq-eqb, eqb-true, false, false≢true, sym, true, w64, ℕ, ◌<◌, ◌==◌, ◌^◌, ◌∙◌, ◌≡◌}
-use Rattle.chess_mates.proofs.Chess.{AreApproaches, AreCheckOrigins, AreCheckTargets, Colour, Kind, Man, Move, Position, RuleSet, is_man, is_square, man_on, may_go, pseudo, same_colour-true, same_kind-is, side_of, squares_of, word}
+use Rattle.chess_mates.proofs.Chess.{AreApproaches, AreCheckOrigins, AreCheckTargets, Colour, Kind, Man, Move, Position, RuleSet, is_man, is_pseudo_legal, is_square, man_on, may_go, same_colour-true, same_kind-is, side_of, squares_of, word}
 use Rattle.std.proofs.Common.{rules}
 use Rattle.std.proofs.lemmas.Nat.Bits.{bit_at_not}
 use Rattle.chess_rules.proofs.listing_moves.Arrivals.{may_go_aimed}
@@ -8,7 +8,7 @@ use Rattle.chess_rules.proofs.Bits.{word_has}
 use Rattle.chess_mates.proofs.CheckTargets.{check_targets_there}
 use Rattle.chess_rules.proofs.listing_moves.Targeting.{arrival_needed, false_by, own_moves}
 use Rattle.chess_rules.proofs.listing_moves.Walks.{off_zero, on_first}
-use Rattle.chess_rules.proofs.listing_moves.Calls.{pseudo-from_legal}
+use Rattle.chess_rules.proofs.listing_moves.Calls.{is_pseudo_legal-from_legal}
 
 -- the man on a square of his kind
 man_is : (o : Option Man) (c : Colour) (k : Kind) → is_man o c k ≡ true → o ≡ Some (record { colour = c; kind = k })
@@ -54,7 +54,7 @@ far_unreached : (rule : RuleSet) (p : Position) (x : Man) (s w : ℕ) → man_on
     → ((t : ℕ) → t < 64 → may_go p x s t ≡ true → (bit_at w t == 1) ≡ false) → AreCheckTargets rule p s 0
 far_unreached rule p x s w here are off = record {
   elsewhere = λ m at small lawful none.
-      grind (arith, arrival_needed rule p m small (pseudo-from_legal rule p m lawful), pseudo-from_legal rule p m lawful, may_go_aimed);
+      grind (arith, arrival_needed rule p m small (is_pseudo_legal-from_legal rule p m lawful), is_pseudo_legal-from_legal rule p m lawful, may_go_aimed);
 }
 
 -- men off the squares from which they could come to a target
@@ -75,18 +75,25 @@ off_without o f i fits small off on =
     grind (arith, eqb-true _ _ on, bit_at_not w64 f i fits small, bit_at_and o (bit_not w64 f) i, eq-eqb, bit_at-lt f i)
 
 -- a move that may be made goes from a square of its side
-from_own : (rule : RuleSet) (p : Position) (o : ℕ) (m : Move) → o ≡ side_of p.men p.turn → m.from < 64 → pseudo rule p m ≡ true → (bit_at o m.from == 1) ≡ true
+from_own : (rule : RuleSet) (p : Position) (o : ℕ) (m : Move) → o ≡ side_of p.men p.turn → m.from < 64 → is_pseudo_legal rule p m ≡ true
+    → (bit_at o m.from == 1) ≡ true
 unfolding side_of
 from_own rule p o m own inside may = grind (arith, cases_Bool, own_moves, word_has)
 
 pub check_origins_own : (rule : RuleSet) (p : Position) (o : ℕ) → o ≡ side_of p.men p.turn → AreCheckOrigins rule p o
 check_origins_own rule p o own = record {
-  elsewhere = λ m inside small lawful off. absurd (let mine = from_own rule p o m own inside (pseudo-from_legal rule p m lawful) in cc);
+  elsewhere = λ m inside small lawful off. absurd (let mine = from_own rule p o m own inside (is_pseudo_legal-from_legal rule p m lawful) in cc);
 }
 
 pub check_origins_are : (rule : RuleSet) (p : Position) (o f : ℕ) → o ≡ side_of p.men p.turn → f < 2 ^ 64 → AreFar rule p f
     → AreCheckOrigins rule p (bit_and o (bit_not w64 f))
 check_origins_are rule p o f own fits are = record {
   elsewhere = λ m inside small lawful off.
-      grind (arith, from_own rule p o m own inside (pseudo-from_legal rule p m lawful), pseudo-from_legal rule p m lawful, off_without, off_zero m.to);
+      grind (
+        arith,
+        from_own rule p o m own inside (is_pseudo_legal-from_legal rule p m lawful),
+        is_pseudo_legal-from_legal rule p m lawful,
+        off_without,
+        off_zero m.to,
+      );
 }

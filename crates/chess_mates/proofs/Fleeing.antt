@@ -1,7 +1,7 @@
 -- A flight after a move, told by the men that an attack on it sees.
 use Rattle.chess_rules.proofs.Basics.{Bool, List, None, Option, Some, and_from, and_left, and_parts, and_right, ap, arith, bit_and, bit_at, bit_at-lt, bit_at-zero, bit_at_and, bit_not, bit_or, cases_Bool, cases_eq, cond-false, cond-true, eq-eqb, eqb-true, false, false_from_ne_true, false≢true, inl, inr, is_some, length, list_any, not, not-true, or_left, or_parts, refl, rules, suc, sym, true, w64, zero, ℕ, ◌&&◌, ◌*◌, ◌+◌, ◌<◌, ◌==◌, ◌||◌, ◌∙◌, ◌≡◌, ◌≢◌}
-use Rattle.chess_mates.proofs.Chess.{AreOpen, AreSeen, Colour, IsWellFormed, King, Man, Move, Pawn, Position, RuleSet, after, any_range_cases, any_range_false, arriving, attacked, capture_square, differs, first_of_and, is_arrival_free, is_circe, is_goal, is_man, is_nil, is_side, is_square, king_after, king_square, leaps, legal, man_on, mates, moves}
-use Rattle.chess_mates.proofs.Chess.{moves_behind, occupied_squares, other, paralysed, pseudo, queen_steps, reaches, reaches_as, reaches_of, same_colour, same_colour-true, same_kind, side_of, sight_lifted, sight_with, some_square, some_square_false, some_square_true, squares, squares_both, squares_either, squares_not}
+use Rattle.chess_mates.proofs.Chess.{AreOpen, AreSeen, Colour, IsWellFormed, King, Man, Move, Pawn, Position, RuleSet, any_range_cases, any_range_false, arriving_man, capture_square, differs, first_of_and, is_arrival_free, is_attacked, is_circe, is_legal, is_man, is_mate, is_nil, is_side, is_square, king_after, king_square, leaps, man_on, mates, moves, position_after}
+use Rattle.chess_mates.proofs.Chess.{is_paralysed, is_pseudo_legal, moves_behind, occupied_squares, other, queen_steps, reaches, reaches_as, reaches_of, same_colour, same_colour-true, same_kind, side_of, sight_lifted, sight_with, some_square, some_square_false, some_square_true, squares, squares_both, squares_either, squares_not}
 use Rattle.chess_mates.proofs.Chess.{squares_of, strikes, triple_at, without_man, word}
 use Rattle.std.proofs.Common.{IfSome}
 use Rattle.chess_mates.specs.ties.Flights.{IsSeenFrom, has_flight, is_flight, is_flight_from, is_open}
@@ -21,7 +21,7 @@ use Rattle.chess_mates.proofs.Stepping.{IsStep, arrival_alike, lifted_alike, lif
 use Rattle.chess_rules.proofs.listing_moves.Walks.{on_first}
 
 -- a legal move is one of the moves
-some_left : (rule : RuleSet) (p : Position) (n : ℕ) → n < 28672 → legal rule p (triple_at n) ≡ true → (j a : ℕ) → a + j ≡ n
+some_left : (rule : RuleSet) (p : Position) (n : ℕ) → n < 28672 → is_legal rule p (triple_at n) ≡ true → (j a : ℕ) → a + j ≡ n
     → is_nil (moves_behind rule p a) ≡ false
 some_left rule p n lt h zero a e = search (rules, moves_behind-here)
 some_left rule p n lt h (suc j) a e = grind (arith, cases_Bool, moves_behind-here, moves_behind-skip, some_left rule p n lt h j (a + 1) (omega (arith, e)))
@@ -30,11 +30,11 @@ triple_there : (k t : ℕ) → t < 64 → triple_at (k * 448 + t * 7) ≡ record
 unfolding triple_at
 triple_there k t there = search rules
 
-some_legal : (rule : RuleSet) (p : Position) (k t : ℕ) → k < 64 → t < 64 → legal rule p (record { from = k; to = t; promo = None }) ≡ true
+some_legal : (rule : RuleSet) (p : Position) (k t : ℕ) → k < 64 → t < 64 → is_legal rule p (record { from = k; to = t; promo = None }) ≡ true
     → is_nil (moves rule p) ≡ false
 some_legal rule p k t small there h =
     ap is_nil (sym (moves_behind-start rule p))
-    ∙ some_left rule p (k * 448 + t * 7) (omega (arith, small, there)) (ap (legal rule p) (triple_there k t there) ∙ h) (k * 448 + t * 7) 0 (omega arith)
+    ∙ some_left rule p (k * 448 + t * 7) (omega (arith, small, there)) (ap (is_legal rule p) (triple_there k t there) ∙ h) (k * 448 + t * 7) 0 (omega arith)
 
 -- a side with a flight isn't mated
 flight_is_legal : (rule : RuleSet) (p : Position) (o : Option ℕ) (t : ℕ) → king_square p.men p.turn ≡ o → t < 64 → is_flight_from rule p o t ≡ true
@@ -49,8 +49,8 @@ flight_there rule p h = elim (any_range_cases (λ t. is_flight_from rule p (king
   | inr none ↦ absurd (false≢true (sym (any_range_false (λ t. is_flight_from rule p (king_square p.men p.turn) t) 0 64 none) ∙ h))
 ]
 
-pub no_mate_with_flight : (rule : RuleSet) (p : Position) (m : Move) → has_flight rule (after rule p m) ≡ true → false ≡ mates rule p m
-unfolding mates is_goal
+pub no_mate_with_flight : (rule : RuleSet) (p : Position) (m : Move) → has_flight rule (position_after rule p m) ≡ true → false ≡ mates rule p m
+unfolding mates is_mate
 no_mate_with_flight rule p m h = search (rules, flight_there)
 
 no_king_free : (c d : Colour) (o : Option Man) → is_arrival_free c o ≡ true → is_man o d King ≡ false
@@ -95,23 +95,23 @@ module _ (rule : RuleSet) (p : Position) (m : Move) (x : Man) (k : ℕ) (i : IsS
   is_made : IsMade rule p x m
   is_made = made rule p m x i.pseudo i.here
 
-  after_seen : (after rule p m).men ≡ arrived p x m
+  after_seen : (position_after rule p m).men ≡ arrived p x m
   after_seen = search (rules, simple_after, is_made)
 
-  no_king_arrives : same_kind (arriving x m.promo).kind King ≡ false
+  no_king_arrives : same_kind (arriving_man x m.promo).kind King ≡ false
   no_king_arrives = search (rules, false_from_ne_true, false≢true, arriving_king, is_made)
 
-  no_own_arrives : same_colour (arriving x m.promo).colour (other p.turn) ≡ false
+  no_own_arrives : same_colour (arriving_man x m.promo).colour (other p.turn) ≡ false
   no_own_arrives = ap (λ (c : Colour). same_colour c (other p.turn)) (arriving_colour x m.promo ∙ is_made.mine) ∙ other_differs p.turn
 
   module _ (small : m.to < 64) where
-    king_seen : king_square (after rule p m).men (other p.turn) ≡ Some k
+    king_seen : king_square (position_after rule p m).men (other p.turn) ≡ Some k
     king_seen =
         ap (λ (l : List (Option Man)). king_square l (other p.turn)) after_seen
-        ∙ king_stands p.men m.from (capture_square p x m) m.to (arriving x m.promo) (other p.turn) (record {
+        ∙ king_stands p.men m.from (capture_square p x m) m.to (arriving_man x m.promo) (other p.turn) (record {
           small = omega (arith, small, i.well_formed.size);
           here = ap (λ (o : Option Man). is_man o (other p.turn) King) i.here ∙ and_right (same_colour x.colour (other p.turn)) _ i.mortal;
-          comes = and_right (same_colour (arriving x m.promo).colour (other p.turn)) _ no_king_arrives;
+          comes = and_right (same_colour (arriving_man x m.promo).colour (other p.turn)) _ no_king_arrives;
           arrival = no_king_free p.turn (other p.turn) (man_on p.men m.to) is_made.arrival;
           captured = λ s at.
               let t = taken rule p x m s i.well_formed is_made (is_square-some (capture_square p x m) s at) in
@@ -127,13 +127,13 @@ module _ (rule : RuleSet) (p : Position) (m : Move) (x : Man) (k : ℕ) (i : IsS
     pub open_squares : (w l h : ℕ) → is_circe rule ≡ false → w ≡ word (λ t. list_any (leaps k t) queen_steps)
         → l ≡ (sight_lifted p.men m.from (capture_square p x m) m.to k).standing
         → h ≡ bit_or (bit_and (side_of p.men (other p.turn)) l) (squares_of p.men p.turn King)
-        → AreOpen rule (after rule p m).men (other p.turn) k (bit_and w (bit_not w64 h))
+        → AreOpen rule (position_after rule p m).men (other p.turn) k (bit_and w (bit_not w64 h))
     unfolding is_open
     open_squares w l h circe near standing held =
         let closed = held ∙ closed_words p m.from (capture_square p x m) p.turn _ _ refl refl l standing in
         record {
           inside = λ t lt on.
-              and_from _ _ (and_from _ _ (reached_near (after rule p m).men (other p.turn) k w t near lt (on_first w _ t on))
+              and_from _ _ (and_from _ _ (reached_near (position_after rule p m).men (other p.turn) k w t near lt (on_first w _ t on))
               (ap (λ (l : List (Option Man)). is_arrival_free (other p.turn) (man_on l t)) after_seen
               ∙ free_there t (sym (word_has _ h t closed lt) ∙ unseen_bit _ w h t closed lt on)))
               (ap not (and_left (is_circe rule) _ circe));
@@ -141,13 +141,13 @@ module _ (rule : RuleSet) (p : Position) (m : Move) (x : Man) (k : ℕ) (i : IsS
 
     pub open_squares_in_circe : (w l : ℕ) → w ≡ word (λ t. list_any (leaps k t) queen_steps)
         → l ≡ (sight_lifted p.men m.from (capture_square p x m) m.to k).occupied
-        → AreOpen rule (after rule p m).men (other p.turn) k (bit_and w (bit_not w64 l))
+        → AreOpen rule (position_after rule p m).men (other p.turn) k (bit_and w (bit_not w64 l))
     unfolding is_open
     open_squares_in_circe w l near occupied =
         let held = occupied ∙ lifted_words p.men m.from (capture_square p x m) m.to k in
         record {
           inside = λ t lt on.
-              let reached = reached_near (after rule p m).men (other p.turn) k w t near lt (on_first w _ t on) in
+              let reached = reached_near (position_after rule p m).men (other p.turn) k w t near lt (on_first w _ t on) in
               let off : (is_occupied_after p.men m.from (capture_square p x m) m.to t && not (k == t)) ≡ false = sym (word_has _ l t held lt)
               ∙ unseen_bit _ w l t held lt on in
               grind (arith, differs, false≢true, no_step_there, none_from_is_some, occupied_now, first_false, after_seen, and_from, and_right);
@@ -197,8 +197,8 @@ module _ (men : List (Option Man)) (a : ℕ) (o : Option ℕ) (b : ℕ) (z : Man
   unfolding reaches
   nobody_strikes s small = grind (arith, cases_eq, elsewhere, stands_arrived, taken, and_right, arrival_unseen)
 
-  not_attacked : (rule : RuleSet) → attacked rule now t c ≡ false
-  unfolding attacked strikes
+  not_attacked : (rule : RuleSet) → is_attacked rule now t c ≡ false
+  unfolding is_attacked strikes
   not_attacked rule = search (rules, no_strike, nobody_strikes, some_square_false)
 
 -- the step itself
@@ -234,13 +234,13 @@ step_to k t = record { from = k; to = t; promo = None }
 
 -- a king isn't paralysed
 pub king_is_able : (rule : RuleSet) (men : List (Option Man)) (x : Man) (k : ℕ) → man_on men k ≡ Some x → same_kind x.kind King ≡ true
-    → paralysed rule men k ≡ false
-unfolding paralysed
+    → is_paralysed rule men k ≡ false
+unfolding is_paralysed
 king_is_able rule men x k here king = search (rules, and_right, and_left)
 
 module _ (rule : RuleSet) (q : Position) (x : Man) (k t : ℕ) (i : IsKingStep rule q x k t) where
-  may_step : pseudo rule q (step_to k t) ≡ true
-  unfolding pseudo
+  may_step : is_pseudo_legal rule q (step_to k t) ≡ true
+  unfolding is_pseudo_legal
   may_step = grind (arith, open_parts, king_is_no_pawn, king_is_able, and_left, cond-false, or_left, steps_there, and_from)
 
   simple_step : IsSimple rule q x (step_to k t)
@@ -251,8 +251,8 @@ module _ (rule : RuleSet) (q : Position) (x : Man) (k t : ℕ) (i : IsKingStep r
         rebirth = λ circe. no_capture q x (step_to k t) (way.nobody circe) (and_left (same_kind x.kind Pawn) _ (king_is_no_pawn x.kind i.king));
       }
 
-  step_is_legal : attacked rule (arrived q x (step_to k t)) t (other q.turn) ≡ false → legal rule q (step_to k t) ≡ true
-  unfolding legal
+  step_is_legal : is_attacked rule (arrived q x (step_to k t)) t (other q.turn) ≡ false → is_legal rule q (step_to k t) ≡ true
+  unfolding is_legal
   step_is_legal safe =
       let king : king_after q x (step_to k t) ≡ Some t = cond-true (same_kind x.kind King) _ _ i.king in
       and_from _ _ may_step (ap not (check_is rule q x (step_to k t) (Some t) i.well_formed (made rule q (step_to k t) x may_step i.here) i.small
@@ -275,50 +275,50 @@ pub no_king_square : (men : List (Option Man)) (c d : Colour) (k b : ℕ) → ki
 no_king_square men c d k b at free e = grind (arith, false≢true, no_king_free c d (man_on men b) free, king_there men d k)
 
 module _ (rule : RuleSet) (p : Position) (m : Move) (x : Man) (k : ℕ) (i : IsSeenFrom rule p m x k) (small : m.to < 64) where
-  is_step : (y : Man) (t : ℕ) → t < 64 → IsKingOn (after rule p m).men (other p.turn) k y
-      → IsStep p.men m.from (capture_square p x m) m.to k (capture_square (after rule p m) y (step_to k t)) t y p.turn
+  is_step : (y : Man) (t : ℕ) → t < 64 → IsKingOn (position_after rule p m).men (other p.turn) k y
+      → IsStep p.men m.from (capture_square p x m) m.to k (capture_square (position_after rule p m) y (step_to k t)) t y p.turn
   is_step y t there king =
       let free = (is_made rule p m x k i).arrival in
       grind (arith, taken, capture_of_piece, king_is_no_pawn, is_square-some, king_is_other, other_side, king_there, no_own_free, no_king_square)
 
-  module _ (n r : ℕ) (near : AreOpen rule (after rule p m).men (other p.turn) k n)
+  module _ (n r : ℕ) (near : AreOpen rule (position_after rule p m).men (other p.turn) k n)
       (arrives : (l : List (Option Man)) → (sight_lifted p.men m.from (capture_square p x m) m.to k).occupied ≡ occupied_squares l
-      → r ≡ word (reaches_as l (arriving x m.promo).colour (arriving x m.promo).kind m.to)) where
+      → r ≡ word (reaches_as l (arriving_man x m.promo).colour (arriving_man x m.promo).kind m.to)) where
     has_flight_to : (t : ℕ) → t < 64 → (bit_at (bit_and n (bit_not w64 r)) t == 1) ≡ true
         → ((l : List (Option Man)) → AreSeen p.men l p.turn (sight_with (sight_lifted p.men m.from (capture_square p x m) m.to k) t)
         → 0 ≡ word (λ s. is_side (man_on l s) p.turn && reaches l s t))
-        → has_flight rule (after rule p m) ≡ true
+        → has_flight rule (position_after rule p m) ≡ true
     unfolding has_flight is_flight
     has_flight_to t there on others =
-        let turn : (after rule p m).turn ≡ other p.turn = turn_after rule p m i.pseudo in
-        let at : king_square (after rule p m).men (other p.turn) ≡ Some k = king_seen rule p m x k i small in
-        let king = king_on (after rule p m).men (other p.turn) k at in
-        let u : Option ℕ = capture_square (after rule p m) king.0 (step_to k t) in
-        let lifted : List (Option Man) = without_man (gone_to p.men m.from (capture_square p x m) m.to (arriving x m.promo)) k in
-        let seen : r ≡ word (reaches_as lifted (arriving x m.promo).colour (arriving x m.promo).kind m.to) =
-        arrives lifted (occupied_lifted p.men m.from (capture_square p x m) m.to (arriving x m.promo) k (omega (arith, small, i.well_formed.size))) in
-        let step : IsKingStep rule (after rule p m) king.0 k t = record {
+        let turn : (position_after rule p m).turn ≡ other p.turn = turn_after rule p m i.pseudo in
+        let at : king_square (position_after rule p m).men (other p.turn) ≡ Some k = king_seen rule p m x k i small in
+        let king = king_on (position_after rule p m).men (other p.turn) k at in
+        let u : Option ℕ = capture_square (position_after rule p m) king.0 (step_to k t) in
+        let lifted : List (Option Man) = without_man (gone_to p.men m.from (capture_square p x m) m.to (arriving_man x m.promo)) k in
+        let seen : r ≡ word (reaches_as lifted (arriving_man x m.promo).colour (arriving_man x m.promo).kind m.to) =
+        arrives lifted (occupied_lifted p.men m.from (capture_square p x m) m.to (arriving_man x m.promo) k (omega (arith, small, i.well_formed.size))) in
+        let step : IsKingStep rule (position_after rule p m) king.0 k t = record {
           well_formed = after_well_formed rule p m i.well_formed i.pseudo;
           here = king.1.here;
           mine = ap (same_colour king.0.colour) turn ∙ king.1.mine;
           king = king.1.king;
           small = there;
-          near = ap (λ (c : Colour). is_open rule (after rule p m).men c k t) turn ∙ near.inside t there (on_first n (bit_not w64 r) t on);
+          near = ap (λ (c : Colour). is_open rule (position_after rule p m).men c k t) turn ∙ near.inside t there (on_first n (bit_not w64 r) t on);
         } in
-        let safe : IsSafeStep p.men m.from (capture_square p x m) m.to (arriving x m.promo) k u t king.0 p.turn r = search (
+        let safe : IsSafeStep p.men m.from (capture_square p x m) m.to (arriving_man x m.promo) k u t king.0 p.turn r = search (
           rules,
           is_step king.0 t there king.1,
           unseen_bit _ n r t seen there on,
         ) in
-        some_square_true (is_flight rule (after rule p m)) t there
-        (ap (λ (o : Option ℕ). is_flight_from rule (after rule p m) o t) (ap (king_square (after rule p m).men) turn ∙ at)
-        ∙ step_is_legal rule (after rule p m) king.0 k t step
-        (ap (λ (l : List (Option Man)). attacked rule (gone_to l k u t king.0) t (other (after rule p m).turn)) (after_seen rule p m x k i)
-        ∙ ap (attacked rule (stepped p.men m.from (capture_square p x m) m.to (arriving x m.promo) k u t king.0) t) (ap other turn ∙ other_twice p.turn)
-        ∙ not_attacked p.men m.from (capture_square p x m) m.to (arriving x m.promo) k u t king.0 p.turn r safe rule))
+        some_square_true (is_flight rule (position_after rule p m)) t there
+        (ap (λ (o : Option ℕ). is_flight_from rule (position_after rule p m) o t) (ap (king_square (position_after rule p m).men) turn ∙ at)
+        ∙ step_is_legal rule (position_after rule p m) king.0 k t step
+        (ap (λ (l : List (Option Man)). is_attacked rule (gone_to l k u t king.0) t (other (position_after rule p m).turn)) (after_seen rule p m x k i)
+        ∙ ap (is_attacked rule (stepped p.men m.from (capture_square p x m) m.to (arriving_man x m.promo) k u t king.0) t) (ap other turn ∙ other_twice p.turn)
+        ∙ not_attacked p.men m.from (capture_square p x m) m.to (arriving_man x m.promo) k u t king.0 p.turn r safe rule))
 
     pub has_flight_first : (o : Option ℕ) → IfSome o (λ t. (t < 64) × ((bit_at (bit_and n (bit_not w64 r)) t == 1) ≡ true))
         → IfSome o (λ t. (l : List (Option Man)) → AreSeen p.men l p.turn (sight_with (sight_lifted p.men m.from (capture_square p x m) m.to k) t)
         → 0 ≡ word (λ s. is_side (man_on l s) p.turn && reaches l s t))
-        → is_some o ≡ true → has_flight rule (after rule p m) ≡ true
+        → is_some o ≡ true → has_flight rule (position_after rule p m) ≡ true
     has_flight_first o within safe h = grind (arith, false≢true, has_flight_to)

@@ -1,7 +1,7 @@
 -- A king who goes next to the other king is in check there: no legal move does so.
 use Rattle.chess_rules.proofs.Basics.{Bool, List, None, Option, Some, and_from, and_left, and_parts, ap, arith, cases_Bool, false, false_from_ne_true, false≢true, inl, inr, not-true, refl, sym, true, ℕ, ◌<◌, ◌||◌, ◌∙◌, ◌≡◌, ◌≢◌}
-use Rattle.chess_mates.proofs.Chess.{CanCastle, Colour, IsWellFormed, King, Man, Move, Position, RuleSet, after, attacked, capture_square, check_of, corner, halfway, in_check, is_absent, is_castling, is_fairy, is_man, king_square, legal, man_on, man_on-with_other, man_on-without_other, man_on_at, may_check_from, may_check_from_on, moved_men, other, pseudo, put_at, reaches_as, reborn_square, same_colour, same_kind, some_square_true, strikes}
-use Rattle.chess_rules.proofs.listing_moves.Calls.{pseudo-from_legal}
+use Rattle.chess_mates.proofs.Chess.{CanCastle, Colour, IsWellFormed, King, Man, Move, Position, RuleSet, capture_square, corner, halfway, in_check, is_absent, is_attacked, is_attacked_at, is_castling, is_fairy, is_legal, is_man, is_pseudo_legal, king_square, man_on, man_on-with_other, man_on-without_other, man_on_at, may_check_from, may_check_from_on, moved_men, other, position_after, put_at, reaches_as, reborn_square, same_colour, same_kind, some_square_true, strikes}
+use Rattle.chess_rules.proofs.listing_moves.Calls.{is_pseudo_legal-from_legal}
 use Rattle.chess_rules.proofs.attacks.Exposing.{king_stays_king}
 use Rattle.chess_rules.proofs.making_moves.Fits.{arrived, arrived_other, can_move, kind_is_king, taken}
 use Rattle.chess_mates.proofs.Fleeing.{IsKingOn, king_is_able, king_on, no_king_square, steps_there}
@@ -19,7 +19,7 @@ stays_put men None w s z free there = there
 stays_put men (Some r) w s z free there = grind (arith, man_on-with_other)
 
 module _ (rule : RuleSet) (p : Position) (x : Man) (m : Move) (well : IsWellFormed p) (is : IsMade rule p x m) where
-  stays_after : (s : ℕ) (z : Man) → man_on (moved_men p x m) s ≡ Some z → man_on (after rule p m).men s ≡ Some z
+  stays_after : (s : ℕ) (z : Man) → man_on (moved_men p x m) s ≡ Some z → man_on (position_after rule p m).men s ≡ Some z
   stays_after s z there =
       ap (λ (men : List (Option Man)). man_on men s) (after_is rule p x m is.here)
       ∙ stays_put (moved_men p x m) (reborn_square rule p x m) (man_on_at p.men (capture_square p x m)) s z
@@ -52,40 +52,40 @@ module _ (rule : RuleSet) (p : Position) (x : Man) (m : Move) (well : IsWellForm
 
     -- so he attacks the king who came next to him
     module _ (small : m.to < 64) (king : same_kind x.kind King ≡ true) (near : reaches_as p.men x.colour x.kind m.to k ≡ true) where
-      came : man_on (after rule p m).men m.to ≡ Some x
+      came : man_on (position_after rule p m).men m.to ≡ Some x
       came =
           stays_after m.to x (grind (arith, moved_arrival, king_stays_king))
 
-      back : reaches_as (after rule p m).men (other p.turn) King k m.to ≡ true
+      back : reaches_as (position_after rule p m).men (other p.turn) King k m.to ≡ true
       unfolding reaches_as
       back =
           let kind : x.kind ≡ King = kind_is_king x.kind king in
           grind (arith, king-back)
 
-      strikes_him : strikes rule (after rule p m).men m.to (other p.turn) k ≡ true
+      strikes_him : strikes rule (position_after rule p m).men m.to (other p.turn) k ≡ true
       unfolding strikes
       strikes_him =
           let there = stays_after k y moved_there in
           grind (arith, and_from, king_is_able, steps_there, back)
 
-      in_check_there : pseudo rule p m ≡ true → in_check rule (after rule p m).men p.turn ≡ true
-      unfolding in_check attacked
+      in_check_there : is_pseudo_legal rule p m ≡ true → in_check rule (position_after rule p m).men p.turn ≡ true
+      unfolding in_check is_attacked
       in_check_there may =
           let own : is_man (Some x) p.turn King ≡ true =
           and_from _ _ (ap (λ (c : Colour). same_colour c p.turn) is.mine ∙ colour_self p.turn) king in
-          let square : king_square (after rule p m).men p.turn ≡ Some m.to =
-          king_is (after rule p m).men p.turn m.to (after_well_formed rule p m well may).kings small
+          let square : king_square (position_after rule p m).men p.turn ≡ Some m.to =
+          king_is (position_after rule p m).men p.turn m.to (after_well_formed rule p m well may).kings small
           (ap (λ (o : Option Man). is_man o p.turn King) came ∙ own) in
-          ap (λ (o : Option ℕ). check_of rule (after rule p m).men o (other p.turn)) square
-          ∙ some_square_true (strikes rule (after rule p m).men m.to (other p.turn)) k stood.small strikes_him
+          ap (λ (o : Option ℕ). is_attacked_at rule (position_after rule p m).men o (other p.turn)) square
+          ∙ some_square_true (strikes rule (position_after rule p m).men m.to (other p.turn)) k stood.small strikes_him
 
 -- a king gives no check himself by a legal move
-pub kings_apart : (rule : RuleSet) (p : Position) (x : Man) (m : Move) → IsWellFormed p → man_on p.men m.from ≡ Some x → m.to < 64 → legal rule p m ≡ true
+pub kings_apart : (rule : RuleSet) (p : Position) (x : Man) (m : Move) → IsWellFormed p → man_on p.men m.from ≡ Some x → m.to < 64 → is_legal rule p m ≡ true
     → same_kind x.kind King ≡ true → may_check_from p.men (other p.turn) x m.to ≡ false
-unfolding may_check_from legal
+unfolding may_check_from is_legal
 kings_apart rule p x m well here small lawful king = by (king_square p.men (other p.turn)) refl where
-  may : pseudo rule p m ≡ true
-  may = pseudo-from_legal rule p m lawful
+  may : is_pseudo_legal rule p m ≡ true
+  may = is_pseudo_legal-from_legal rule p m lawful
 
   by : (o : Option ℕ) → king_square p.men (other p.turn) ≡ o → may_check_from_on p.men o x m.to ≡ false
   by None at = refl
@@ -94,6 +94,6 @@ kings_apart rule p x m well here small lawful king = by (king_square p.men (othe
       let stood = king_on p.men (other p.turn) k at in
       let apart : reaches_as p.men x.colour x.kind m.to k ≡ false = false_from_ne_true _ (λ near.
       let check = in_check_there rule p x m well (made rule p m x may here) k at stood.0 stood.1 small king near may in
-      false≢true (sym (not-true _ (and_parts (pseudo rule p m) _ lawful).1) ∙ check)) in
+      false≢true (sym (not-true _ (and_parts (is_pseudo_legal rule p m) _ lawful).1) ∙ check)) in
       let present : is_absent p.men x ≡ false = and_left (is_fairy x.kind) _ (ap is_fairy kind) in
       ap (λ (b : Bool). b || reaches_as p.men x.colour x.kind m.to k) present ∙ apart

@@ -1,6 +1,6 @@
 -- The mates between two places, and the walk that finds them.
 use Rattle.chess_rules.proofs.Basics.{List, [], append_cancel_right, arith, bit_at, cases_lt, false, filter-append, length-append, refl, sym, true, ℕ, ◌++◌, ◌+◌, ◌-◌, ◌<◌, ◌==◌, ◌∷◌, ◌≡◌, ◌≤◌}
-use Rattle.chess_mates.proofs.Chess.{AreCheckOrigins, AreCheckTargets, AreOrigins, HaveNone, IsNextMate, Move, Position, RuleSet, first_of_and, is_mating, mates, mates_behind, mates_between, moves_behind, moves_between, pseudo, second_of_and, triple_at}
+use Rattle.chess_mates.proofs.Chess.{AreCheckOrigins, AreCheckTargets, AreOrigins, HaveNone, IsNextMate, Move, Position, RuleSet, first_of_and, is_mating, is_pseudo_legal, mates, mates_behind, mates_between, moves_behind, moves_between, second_of_and, triple_at}
 use Rattle.chess_rules.proofs.listing_moves.Between.{behind_cut, between-none, between-past}
 use Rattle.chess_rules.proofs.listing_moves.Places.{moves_behind-here, place_of_triple}
 use Rattle.chess_rules.proofs.listing_moves.Walks.{candidates, no_candidates}
@@ -45,7 +45,8 @@ unfolding mates_between
 mates_between-past rule p a b ge = rw (between-past rule p a b ge) refl
 
 -- a move to no square that gives check doesn't mate
-pub checks_elsewhere : (rule : RuleSet) (p : Position) (s w : ℕ) → AreCheckTargets rule p s w → (m : Move) → m.from ≡ s → m.to < 64 → pseudo rule p m ≡ true
+pub checks_elsewhere : (rule : RuleSet) (p : Position) (s w : ℕ) → AreCheckTargets rule p s w → (m : Move) → m.from ≡ s → m.to < 64
+    → is_pseudo_legal rule p m ≡ true
     → (bit_at w m.to == 1) ≡ false → mates rule p m ≡ false
 checks_elsewhere rule p s w h m at small may off = sym (no_mate_quietly rule p m (λ lawful. h.elsewhere m at small lawful off))
 

@@ -1,9 +1,9 @@
 -- The moves that mate, by their numbers.
 use Rattle.chess_rules.proofs.Basics.{Bool, [], and_left, and_right, ap, arith, cases_Bool, cases_lt, false, inl, inr, not, refl, rules, suc, sym, true, zero, ℕ, ◌&&◌, ◌+◌, ◌-◌, ◌<◌, ◌∙◌, ◌∷◌, ◌≡◌, ◌≤◌}
-use Rattle.chess_mates.proofs.Chess.{HaveNone, Move, Position, RuleSet, after, after_by, first_of_and, in_check, is_goal, legal, mates, mates_behind, other, pseudo, second_of_and, triple_at}
+use Rattle.chess_mates.proofs.Chess.{HaveNone, Move, Position, RuleSet, after_by, first_of_and, in_check, is_legal, is_mate, is_pseudo_legal, mates, mates_behind, other, position_after, second_of_and, triple_at}
 use Rattle.chess_rules.proofs.listing_moves.Places.{moves_behind-end, moves_behind-here, moves_behind-skip, not_pseudo}
 use Rattle.chess_rules.proofs.making_moves.Stays.{maker}
-use Rattle.chess_rules.proofs.listing_moves.Calls.{pseudo-from_legal}
+use Rattle.chess_rules.proofs.listing_moves.Calls.{is_pseudo_legal-from_legal}
 
 pub mates_behind-here : (rule : RuleSet) (p : Position) (n : ℕ) → n < 28672 → mates rule p (triple_at n) ≡ true
     → mates_behind rule p n ≡ (triple_at n ∷ mates_behind rule p (n + 1))
@@ -18,7 +18,7 @@ pub mates_behind-skip : (rule : RuleSet) (p : Position) (n : ℕ) → n < 28672 
 unfolding mates_behind mates
 mates_behind-skip rule p n lt h = search (rules, false_second, moves_behind-here, moves_behind-skip)
 
-pub not_mating : (rule : RuleSet) (p : Position) (m : Move) → pseudo rule p m ≡ false → mates rule p m ≡ false
+pub not_mating : (rule : RuleSet) (p : Position) (m : Move) → is_pseudo_legal rule p m ≡ false → mates rule p m ≡ false
 unfolding mates
 not_mating rule p m h = and_left _ _ (not_pseudo rule p m h)
 
@@ -41,22 +41,22 @@ mates_behind-none rule p a b low high h = elim (cases_lt b a) [
 ]
 
 -- a move that can't be made doesn't mate, nor one that gives no check if it is legal
-pub no_mate : (rule : RuleSet) (p : Position) (m : Move) → false ≡ pseudo rule p m → false ≡ mates rule p m
+pub no_mate : (rule : RuleSet) (p : Position) (m : Move) → false ≡ is_pseudo_legal rule p m → false ≡ mates rule p m
 no_mate rule p m h = sym (not_mating rule p m (sym h))
 
-pub turn_after : (rule : RuleSet) (p : Position) (m : Move) → pseudo rule p m ≡ true → (after rule p m).turn ≡ other p.turn
-unfolding after after_by
+pub turn_after : (rule : RuleSet) (p : Position) (m : Move) → is_pseudo_legal rule p m ≡ true → (position_after rule p m).turn ≡ other p.turn
+unfolding position_after after_by
 turn_after rule p m h = let x = maker rule p m h in rw x.1 refl
 
 pub no_mate_quietly : (rule : RuleSet) (p : Position) (m : Move)
-    → (legal rule p m ≡ true → in_check rule (after rule p m).men (other p.turn) ≡ false) → false ≡ mates rule p m
-unfolding mates is_goal
-no_mate_quietly rule p m quiet = grind (arith, cases_Bool, and_left, turn_after, pseudo-from_legal, and_right)
+    → (is_legal rule p m ≡ true → in_check rule (position_after rule p m).men (other p.turn) ≡ false) → false ≡ mates rule p m
+unfolding mates is_mate
+no_mate_quietly rule p m quiet = grind (arith, cases_Bool, and_left, turn_after, is_pseudo_legal-from_legal, and_right)
 
 -- a move that may be made, tested in the position after it
-pub mates_after : (rule : RuleSet) (p : Position) (m : Move) → pseudo rule p m ≡ true
-    → (not (in_check rule (after rule p m).men p.turn) && is_goal rule (after rule p m)) ≡ mates rule p m
-unfolding mates legal
+pub mates_after : (rule : RuleSet) (p : Position) (m : Move) → is_pseudo_legal rule p m ≡ true
+    → (not (in_check rule (position_after rule p m).men p.turn) && is_mate rule (position_after rule p m)) ≡ mates rule p m
+unfolding mates is_legal
 mates_after rule p m may = search rules
 
 -- the first move that mates from a place on, by its number
@@ -64,6 +64,6 @@ pub mates_numbered : (rule : RuleSet) (p : Position) (start n : ℕ) → n < 286
     → mates rule p (triple_at n) ≡ true → mates_behind rule p start ≡ (triple_at n ∷ mates_behind rule p (n + 1))
 mates_numbered rule p start n lt same h = sym same ∙ mates_behind-here rule p n lt h
 
-pub legal_of_mate : (rule : RuleSet) (p : Position) (m : Move) → mates rule p m ≡ true → legal rule p m ≡ true
+pub legal_of_mate : (rule : RuleSet) (p : Position) (m : Move) → mates rule p m ≡ true → is_legal rule p m ≡ true
 unfolding mates
 legal_of_mate rule p m h = first_of_and _ _ h

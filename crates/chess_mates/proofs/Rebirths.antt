@@ -1,7 +1,7 @@
 -- A man who is reborn gives his own king no check, but as a grasshopper's hurdle.
 use Rattle.chess_rules.proofs.Basics.{List, None, Option, Some, and_from, and_parts, ap, arith, bit_at, cases_Bool, cond-false, cond-true, false, false_from_ne_true, false≢true, inl, inr, length, list_all, list_any, not-true, range_with_len, refl, sym, true, ℕ, ◌&&◌, ◌-◌, ◌<◌, ◌==◌, ◌∙◌, ◌≡◌, rules}
-use Rattle.chess_mates.proofs.Chess.{AreCheckSquares, AtMostOneKing, CheckSquares, Colour, Grasshopper, IsWellFormed, Kind, King, Man, Move, Position, Queen, RuleSet, Step, after, after_by, along, are_rebirths_quiet, arriving, attacked, capture_square, castles, check_of, check_squares_for, circe, corner, find_first, halfway}
-use Rattle.chess_mates.proofs.Chess.{in_check, is_absent, is_castling, is_clear, is_man, is_man-without, is_side, is_square, is_vacant, king_square, man_on, man_on_at, may_castle, may_check_from, move_man, moved_men, orthodox, other, paralysed, pseudo, put_at, queen_steps, reaches, reaches_as, reaches_of, reborn_square}
+use Rattle.chess_mates.proofs.Chess.{AreCheckSquares, AtMostOneKing, CheckSquares, Colour, Grasshopper, IsWellFormed, Kind, King, Man, Move, Position, Queen, RuleSet, Step, after_by, along, are_rebirths_quiet, arriving_man, capture_square, castles, check_squares_for, circe, corner, find_first, halfway, is_attacked, is_attacked_at, position_after}
+use Rattle.chess_mates.proofs.Chess.{in_check, is_absent, is_castling, is_clear, is_man, is_man-without, is_paralysed, is_pseudo_legal, is_side, is_square, is_vacant, king_square, man_on, man_on_at, may_castle, may_check_from, move_man, moved_men, orthodox, other, put_at, queen_steps, reaches, reaches_as, reaches_of, reborn_square}
 use Rattle.chess_mates.proofs.Chess.{rides, same_colour, same_kind, some_square_false, some_square_true, squares, strikes, with_man, without_at, without_man}
 use Rattle.chess_mates.specs.ties.CheckSquares.{rule_of_checks}
 use Rattle.chess_rules.specs.ties.Shields.{cannot_expose}
@@ -41,7 +41,7 @@ module _ (men : List (Option Man)) (r : ℕ) (y : Man) where
       (one : AtMostOneKing men) where
     struck_by : (k s : ℕ) (o : Option Man) → man_on men s ≡ o → is_side o (other c) ≡ true → reaches_of (with_man men r y) o s k ≡ true
         → strikes orthodox men k (other c) s ≡ true
-    unfolding strikes reaches paralysed
+    unfolding strikes reaches is_paralysed
     struck_by k s o here side h = grind (arith, false≢true, false_from_ne_true, and_from, reached)
 
     struck : (k s : ℕ) → strikes circe (with_man men r y) k (other c) s ≡ true → strikes orthodox men k (other c) s ≡ true
@@ -52,30 +52,30 @@ module _ (men : List (Option Man)) (r : ℕ) (y : Man) where
     king_stood k h = grind (arith, man_on-with_cases, false≢true, and_parts)
 
     reborn_quietly : in_check orthodox men c ≡ false → in_check circe (with_man men r y) c ≡ false
-    unfolding in_check king_square squares attacked
+    unfolding in_check king_square squares is_attacked
     reborn_quietly safe = by (king_square (with_man men r y) c) refl where
-      by : (o : Option ℕ) → king_square (with_man men r y) c ≡ o → check_of circe (with_man men r y) o (other c) ≡ false
+      by : (o : Option ℕ) → king_square (with_man men r y) c ≡ o → is_attacked_at circe (with_man men r y) o (other c) ≡ false
       by None e = refl
       by (Some k) e =
           let f = find_first (λ s. is_man (man_on (with_man men r y) s) c King) 0 64 k e in
           let inside : k < 64 = omega (arith, f.high) in
           let at : king_square men c ≡ Some k = king_is men c k one inside (king_stood k f.here) in
-          let none : check_of orthodox men (Some k) (other c) ≡ false = ap (λ (o : Option ℕ). check_of orthodox men o (other c)) (sym at) ∙ safe in
+          let none : is_attacked_at orthodox men (Some k) (other c) ≡ false = ap (λ (o : Option ℕ). is_attacked_at orthodox men o (other c)) (sym at) ∙ safe in
           some_square_false (strikes circe (with_man men r y) k (other c)) 64 (omega arith) (record {
             fails = λ s lt. false_from_ne_true _ (search (rules, false≢true, some_square_true, struck));
           })
 
 -- rebirths apart, Circe is as orthodox chess
 pub same_check : (men : List (Option Man)) (c : Colour) → in_check circe men c ≡ in_check orthodox men c
-unfolding in_check attacked strikes paralysed
+unfolding in_check is_attacked strikes is_paralysed
 same_check men c = grind arith
 
 same_castles : (p : Position) (x : Man) (m : Move) → castles circe p x m ≡ castles orthodox p x m
-unfolding castles may_castle paralysed
+unfolding castles may_castle is_paralysed
 same_castles p x m = grind (arith, same_check)
 
-pub pseudo_so : (p : Position) (m : Move) → pseudo circe p m ≡ true → pseudo orthodox p m ≡ true
-unfolding pseudo paralysed
+pub pseudo_so : (p : Position) (m : Move) → is_pseudo_legal circe p m ≡ true → is_pseudo_legal orthodox p m ≡ true
+unfolding is_pseudo_legal is_paralysed
 pseudo_so p m h = grind (arith, same_castles)
 
 -- nobody becomes a grasshopper but by promotion
@@ -97,7 +97,7 @@ moved_lacks : (p : Position) (x : Man) (m : Move) (e : Colour) → man_on p.men 
     → LacksGrasshopper (moved_men p x m) e
 unfolding moved_men
 moved_lacks p x m e here unpromoted none =
-    let comes : is_man (Some (arriving x m.promo)) e Grasshopper ≡ false = search rules in
+    let comes : is_man (Some (arriving_man x m.promo)) e Grasshopper ≡ false = search rules in
     let arrived_lacks : LacksGrasshopper (arrived p x m) e = search (rules, lacks_with, lacks_without_at, lacks_without) in
     grind (arith, cases_Bool (is_castling x m), lacks_moved (arrived p x m) (corner m) (halfway m) (man_on (arrived p x m) (corner m)) e refl arrived_lacks)
 
@@ -107,14 +107,15 @@ absent_lacks men e size absent = λ s. false_from_ne_true _ (λ h.
     search (rules, man_there (man_on men s) e Grasshopper h, false≢true, not-true _ absent, some_square_true, on_board))
 
 pub after_is : (rule : RuleSet) (p : Position) (x : Man) (m : Move) → man_on p.men m.from ≡ Some x
-    → (after rule p m).men ≡ put_at (moved_men p x m) (reborn_square rule p x m) (man_on_at p.men (capture_square p x m))
-unfolding after after_by
+    → (position_after rule p m).men ≡ put_at (moved_men p x m) (reborn_square rule p x m) (man_on_at p.men (capture_square p x m))
+unfolding position_after after_by
 after_is rule p x m here = rw here refl
 
 -- where the mover has no grasshopper, a move that gives no check in orthodox chess gives none in Circe, promotions apart
-pub rebirth_gives_no_check : (p : Position) (x : Man) (m : Move) → IsWellFormed p → pseudo circe p m ≡ true → man_on p.men m.from ≡ Some x → m.promo ≡ None
-    → is_absent p.men (record { colour = p.turn; kind = Grasshopper }) ≡ true → in_check orthodox (after orthodox p m).men (other p.turn) ≡ false
-    → in_check circe (after circe p m).men (other p.turn) ≡ false
+pub rebirth_gives_no_check : (p : Position) (x : Man) (m : Move) → IsWellFormed p → is_pseudo_legal circe p m ≡ true → man_on p.men m.from ≡ Some x
+    → m.promo ≡ None
+    → is_absent p.men (record { colour = p.turn; kind = Grasshopper }) ≡ true → in_check orthodox (position_after orthodox p m).men (other p.turn) ≡ false
+    → in_check circe (position_after circe p m).men (other p.turn) ≡ false
 rebirth_gives_no_check p x m well may here unpromoted absent safe =
     ap (λ (men : List (Option Man)). in_check circe men (other p.turn)) (after_is circe p x m here)
     ∙ by (reborn_square circe p x m) (man_on_at p.men (capture_square p x m)) refl where
@@ -143,10 +144,11 @@ unfolding are_rebirths_quiet
 quiet_parts rule men e h = grind (arith, false≢true)
 
 -- a move that gives no check by the rules of checks gives none
-pub no_check_by_rebirth : (rule : RuleSet) (p : Position) (x : Man) (m : Move) (s : CheckSquares) (y : Man) (w t : ℕ) → IsWellFormed p → pseudo rule p m ≡ true
-    → man_on p.men m.from ≡ Some x → AreCheckSquares p.men (other p.turn) s → y ≡ arriving x m.promo → w ≡ check_squares_for s y.kind → t ≡ m.to → t < 64
+pub no_check_by_rebirth : (rule : RuleSet) (p : Position) (x : Man) (m : Move) (s : CheckSquares) (y : Man) (w t : ℕ) → IsWellFormed p
+    → is_pseudo_legal rule p m ≡ true
+    → man_on p.men m.from ≡ Some x → AreCheckSquares p.men (other p.turn) s → y ≡ arriving_man x m.promo → w ≡ check_squares_for s y.kind → t ≡ m.to → t < 64
     → (bit_at w t == 1) ≡ false → (same_kind y.kind King ≡ true → may_check_from p.men (other p.turn) y t ≡ false) → m.promo ≡ None
-    → cannot_expose (rule_of_checks rule p.men p.turn) p (other p.turn) m ≡ true → in_check rule (after rule p m).men (other p.turn) ≡ false
+    → cannot_expose (rule_of_checks rule p.men p.turn) p (other p.turn) m ≡ true → in_check rule (position_after rule p m).men (other p.turn) ≡ false
 no_check_by_rebirth rule p x m s y w t well may here a is h same small off apart unpromoted cover = elim (cases_Bool (are_rebirths_quiet rule p.men p.turn)) [
   | inl quiet ↦ grind (arith, quiet_parts, cond-true, rebirth_gives_no_check, no_check, pseudo_so)
   | inr loud ↦ grind (arith, cond-false, no_check)

@@ -8,8 +8,8 @@ ghost use Rattle.chess_core.specs.ties.Words.{word};
 ghost use Rattle.chess_rules.specs.Attacks.{in_check};
 ghost use Rattle.chess_mates.specs.ties.CheckSquares.{AreCastlingTargets, AreCheckSquares, AreCheckTargets, enemy, is_absent, may_check_from, check_squares_for, own_man, are_rebirths_quiet, rule_of_checks};
 ghost use Rattle.chess_rules.specs.ties.Shields.{cannot_expose, may_stand_between};
-ghost use Rattle.chess_rules.specs.Legal.{legal, pseudo};
-ghost use Rattle.chess_rules.specs.Play.{after};
+ghost use Rattle.chess_rules.specs.Legal.{is_legal, is_pseudo_legal};
+ghost use Rattle.chess_rules.specs.Play.{position_after};
 ghost use Rattle.chess_rules.specs.RuleSet.{is_circe};
 
 use crate::open_board::open_targets;
@@ -229,10 +229,11 @@ fn keeps_its_kind(m: &Move) -> bool
 // may see through the square that the pawn left, so a promotion always may.
 pub(crate) fn may_check<R: Rules>(board: &Board, squares: &CheckSquares, m: &Move) -> bool
     requires well_formed { IsWellFormed board.now }
-    requires pseudo { pseudo R.rule board.now m.now ≡ true }
+    requires pseudo { is_pseudo_legal R.rule board.now m.now ≡ true }
     requires squares { AreCheckSquares board.now.men (other board.now.turn) squares.now }
-    ensures { result ≡ false → legal R.rule board.now m.now ≡ true
-        → in_check R.rule (after R.rule board.now m.now).men (other board.now.turn) ≡ false }
+    ensures { result ≡ false → is_legal R.rule board.now m.now ≡ true
+        → in_check R.rule (position_after R.rule board.now m.now).men (other board.now.turn)
+        ≡ false }
 {
     let Some(man) = board.man_at(m.from) else {
         return true;

@@ -4,7 +4,7 @@ ghost use Rattle.std.specs.List.{list_all};
 ghost use Rattle.chess_core.specs.Position.{other};
 ghost use Rattle.chess_core.specs.WellFormed.{IsWellFormed};
 ghost use Rattle.chess_mates.specs.ties.CheckSquares.{AreCheckSquares};
-ghost use Rattle.chess_rules.specs.Legal.{is_nil, legal, moves};
+ghost use Rattle.chess_rules.specs.Legal.{is_legal, is_nil, moves};
 ghost use Rattle.chess_mates.specs.ties.Mates.{is_mating};
 ghost use Rattle.chess_rules.specs.ties.Places.{IsPlaceIn, moves_behind};
 
@@ -57,7 +57,7 @@ fn has_quiet_move<R: Rules>(
 #[tactic(auto, using(crate::proofs::EveryMove::quietly))]
 fn is_quiet<R: Rules>(board: &Board, squares: &CheckSquares, m: &Move) -> bool
     requires well_formed { IsWellFormed board.now }
-    requires legal { legal R.rule board.now m.now ≡ true }
+    requires legal { is_legal R.rule board.now m.now ≡ true }
     requires squares { AreCheckSquares board.now.men (other board.now.turn) squares.now }
     ensures { result ≡ true → is_mating R.rule board.now m.now ≡ false }
 {
@@ -86,7 +86,7 @@ fn has_mates_alone<R: Rules>(board: &mut Board, mut moves: LegalMoves<R>) -> boo
 #[tactic(auto, using(chess_rules::proofs::listing_moves::Calls::playing))]
 fn mates_by<R: Rules>(board: &mut Board, m: Move) -> bool
     requires well_formed { IsWellFormed board.old }
-    requires legal { legal R.rule board.old m ≡ true }
+    requires legal { is_legal R.rule board.old m ≡ true }
     ensures answer { result ≡ is_mating R.rule board.old m }
     ensures board { board.new ≡ board.old }
 {

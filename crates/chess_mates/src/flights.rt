@@ -9,8 +9,8 @@ ghost use Rattle.chess_core.specs.declared.man.Man.{Man};
 ghost use Rattle.chess_core.specs.declared.man.Move.{Move};
 ghost use Rattle.chess_core.specs.declared.man.Kind.TheVariants.{King};
 ghost use Rattle.chess_mates.specs.ties.Flights.{AreOpen, IsSeenFrom, has_flight, sight_lifted, sight_with};
-ghost use Rattle.chess_rules.specs.Legal.{pseudo};
-ghost use Rattle.chess_rules.specs.Play.{after, arriving, capture_square};
+ghost use Rattle.chess_rules.specs.Legal.{is_pseudo_legal};
+ghost use Rattle.chess_rules.specs.Play.{arriving_man, capture_square, position_after};
 ghost use Rattle.chess_rules.specs.ties.Lines.{occupied_squares};
 ghost use Rattle.chess_rules.specs.Reaches.{reaches, reaches_as};
 ghost use Rattle.chess_rules.specs.ties.Sight.{AreSeen, is_simple};
@@ -21,7 +21,7 @@ use chess_core::square::Square;
 use chess_rules::exposure::is_simple;
 use chess_rules::leaps::king_leaps;
 use chess_rules::outward::attackers_seen;
-use chess_rules::play::{arriving, capture_square};
+use chess_rules::play::{arriving_man, capture_square};
 use chess_rules::reach::reach_over;
 use chess_rules::rules::Rules;
 use chess_rules::sight::{Sight, sight_after};
@@ -69,9 +69,10 @@ fn held_squares(board: &Board, standing: u64) -> u64
 // The squares that the man sees from where it arrives, as what it is then.
 fn covered_squares(occupied: u64, man: Man, promo: Option<Kind>, to: Square) -> u64
     ensures { (men : List (Option Man)) → occupied ≡ occupied_squares men
-        → result ≡ word (reaches_as men (arriving man promo).colour (arriving man promo).kind to) }
+        → result ≡ word (reaches_as men (arriving_man man promo).colour
+        (arriving_man man promo).kind to) }
 {
-    let arrived = arriving(man, promo);
+    let arrived = arriving_man(man, promo);
     reach_over(occupied, arrived.colour, arrived.kind, to)
 }
 
@@ -81,7 +82,7 @@ fn covered_squares(occupied: u64, man: Man, promo: Option<Kind>, to: Square) -> 
 fn open_squares<R: Rules>(board: &Board, sight: Sight, king: Square) -> u64
     ensures { (m : Move) (x : Man) → IsSeenFrom R.rule board.now m x king → m.to < 64
         → sight ≡ sight_lifted board.now.men m.from (capture_square board.now x m) m.to king
-        → AreOpen R.rule (after R.rule board.now m).men (other board.now.turn) king result }
+        → AreOpen R.rule (position_after R.rule board.now m).men (other board.now.turn) king result }
 {
     let near = king_leaps(king);
     if R::is_circe() {
@@ -119,7 +120,7 @@ fn has_flight_from<R: Rules>(
 ) -> bool
     requires seen { IsSeenFrom R.rule board.now m.now man king }
     requires captured { captured ≡ capture_square board.now man m.now }
-    ensures { result ≡ true → has_flight R.rule (after R.rule board.now m.now) ≡ true }
+    ensures { result ≡ true → has_flight R.rule (position_after R.rule board.now m.now) ≡ true }
 {
     // For the proof: a square's number is below 64.
     let _small = m.to.index();
@@ -139,8 +140,8 @@ fn is_looked_at<R: Rules>(man: Man, m: &Move, captures: bool) -> bool
 // Whether the side that is to move after this move is seen to have a flight then.
 pub(crate) fn has_flight<R: Rules>(board: &Board, m: &Move) -> bool
     requires well_formed { IsWellFormed board.now }
-    requires pseudo { pseudo R.rule board.now m.now ≡ true }
-    ensures { result ≡ true → has_flight R.rule (after R.rule board.now m.now) ≡ true }
+    requires pseudo { is_pseudo_legal R.rule board.now m.now ≡ true }
+    ensures { result ≡ true → has_flight R.rule (position_after R.rule board.now m.now) ≡ true }
 {
     let Some(man) = board.man_at(m.from) else {
         return false;

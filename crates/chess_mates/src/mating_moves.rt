@@ -4,10 +4,10 @@ ghost use Rattle.chess_core.specs.Position.{other};
 ghost use Rattle.chess_core.specs.WellFormed.{IsWellFormed};
 ghost use Rattle.chess_rules.specs.Attacks.{in_check};
 ghost use Rattle.chess_mates.specs.ties.CheckSquares.{AreCheckSquares};
-ghost use Rattle.chess_rules.specs.Legal.{is_goal, legal, pseudo};
+ghost use Rattle.chess_rules.specs.Legal.{is_legal, is_mate, is_pseudo_legal};
 ghost use Rattle.chess_mates.specs.ties.Mates.{IsMatingPlaceIn, IsNextMate, mates, mates_behind, mates_between};
 ghost use Rattle.chess_rules.specs.ties.Places.{HaveNone, place_of, place_onto, triple_at};
-ghost use Rattle.chess_rules.specs.Play.{after};
+ghost use Rattle.chess_rules.specs.Play.{position_after};
 ghost use Rattle.chess_rules.specs.ties.Targets.{AreCandidates, AreKept, AreOrigins, IsAimed};
 
 use crate::checks::{CheckSquares, check_squares, may_check, near_check_targets};
@@ -16,7 +16,7 @@ use crate::origins::check_origins;
 use chess_core::board::Board;
 use chess_core::man::{Colour, Move};
 use chess_core::square::Square;
-use chess_rules::legal::is_pseudo;
+use chess_rules::legal::is_pseudo_legal;
 use chess_rules::moves::{Moves, has_legal_move, triple};
 use chess_rules::rules::{Rules, in_check};
 use chess_rules::sought::{Sought, next_passing};
@@ -97,7 +97,7 @@ impl<R: Rules> MatingMoves<R> {
         ensures next { IfSome result (λ m. IsNextMate R.rule board.old self.old.place self.new.place
             m) }
         ensures mates { IfSome result (λ m. mates R.rule board.old m ≡ true) }
-        ensures legal { IfSome result (λ m. legal R.rule board.old m ≡ true) }
+        ensures legal { IfSome result (λ m. is_legal R.rule board.old m ≡ true) }
         ensures onward { IfSome result (λ m. self.old.place < self.new.place) }
         ensures board { board.new ≡ board.old }
     {
@@ -126,7 +126,7 @@ impl<R: Rules> MatingMoves<R> {
             (λ m. mates_between R.rule board.old self.old.place end
             ≡ m ∷ mates_between R.rule board.old self.new.place end) }
         ensures mates { IfSome result (λ m. mates R.rule board.old m ≡ true) }
-        ensures legal { IfSome result (λ m. legal R.rule board.old m ≡ true) }
+        ensures legal { IfSome result (λ m. is_legal R.rule board.old m ≡ true) }
         ensures board { board.new ≡ board.old }
     {
         let last = end.number().min(TRIPLES);
@@ -151,7 +151,7 @@ pub fn next_mate<R: Rules>(place: &mut Moves<R>, board: &mut Board) -> Option<Mo
         (λ m. mates_behind R.rule board.old place.old
         ≡ m ∷ mates_behind R.rule board.old place.new) }
     ensures next { IfSome result (λ m. IsNextMate R.rule board.old place.old place.new m) }
-    ensures legal { IfSome result (λ m. legal R.rule board.old m ≡ true) }
+    ensures legal { IfSome result (λ m. is_legal R.rule board.old m ≡ true) }
     ensures board { board.new ≡ board.old }
 {
     let mut moves = MatingMoves::<R>::of(board);
@@ -242,7 +242,7 @@ fn is_mating<R: Rules>(board: &mut Board, squares: &CheckSquares, m: Move) -> bo
     ensures answer { result ≡ mates R.rule board.old m }
     ensures board { board.new ≡ board.old }
 {
-    if !is_pseudo::<R>(board, &m) {
+    if !is_pseudo_legal::<R>(board, &m) {
         return false;
     }
     if !may_check::<R>(board, squares, &m) {
@@ -258,7 +258,7 @@ fn is_mating<R: Rules>(board: &mut Board, squares: &CheckSquares, m: Move) -> bo
 #[tactic(auto, using(crate::proofs::Mating::mates_after))]
 fn gives_mate<R: Rules>(board: &mut Board, m: Move) -> bool
     requires well_formed { IsWellFormed board.old }
-    requires pseudo { pseudo R.rule board.old m ≡ true }
+    requires pseudo { is_pseudo_legal R.rule board.old m ≡ true }
     ensures answer { result ≡ mates R.rule board.old m }
     ensures board { board.new ≡ board.old }
 {
@@ -270,11 +270,11 @@ fn gives_mate<R: Rules>(board: &mut Board, m: Move) -> bool
 }
 
 // Whether the side to move is mated and `mover` isn't in check. The board is unchanged.
-#[tactic(auto, unfolding(chess_rules::specs::Legal::is_goal))]
+#[tactic(auto, unfolding(chess_rules::specs::Legal::is_mate))]
 fn is_mated_by<R: Rules>(board: &mut Board, mover: Colour) -> bool
     requires { IsWellFormed board.old }
     ensures answer { result ≡ (not (in_check R.rule board.old.men mover)
-        && is_goal R.rule board.old) }
+        && is_mate R.rule board.old) }
     ensures board { board.new ≡ board.old }
 {
     in_check::<R>(board, board.turn())

@@ -13,7 +13,6 @@ pub use Rattle.chess_core.specs.Squares.{file_of, is_on_board, is_square, rank_o
 unfoldable pub use Rattle.chess_core.specs.Squares.{some_square, squares}
 pub use Rattle.chess_core.specs.Steps.{diagonal_steps, knight_steps, pawn_captures, queen_steps, step_by, straight_steps}
 unfoldable pub use Rattle.chess_core.specs.Steps.{along}
-pub use Rattle.chess_core.specs.Triple.{Triple}
 pub use Rattle.chess_core.specs.WellFormed.{IsWellFormed, is_pawn_inside, is_vacant_at, was_passed}
 unfoldable pub use Rattle.chess_core.specs.WellFormed.{is_crossed_right, is_home}
 pub use Rattle.chess_core.specs.declared.man.Colour.{Colour}
@@ -26,12 +25,12 @@ pub use Rattle.chess_core.specs.declared.step.Step.{Step}
 pub use Rattle.chess_core.specs.ties.Words.{bit_of}
 unfoldable pub use Rattle.chess_core.specs.ties.Words.{side_of, squares_of, word, word_of}
 pub use Rattle.chess_rules.proofs.Tests.{IsFirst, all_at, any_range_cases, any_range_same, differs, find_first, find_no, first_of_and, same_Bool, second_of_and, skipped, skipped_all, some_is}
-pub use Rattle.chess_rules.specs.Attacks.{check_of, is_faced}
-unfoldable pub use Rattle.chess_rules.specs.Attacks.{attacked, faces, faces_its_like, in_check, paralysed, strikes}
-pub use Rattle.chess_rules.specs.Legal.{forward, goes, is_arrival_free, is_nil, is_promotion_right, last_rank, pawn_steps, pawn_takes, promotions, pseudo_of, second_rank, squares_between}
-unfoldable pub use Rattle.chess_rules.specs.Legal.{castles, is_goal, legal, may_castle, moves, pseudo, triples}
-pub use Rattle.chess_rules.specs.Play.{arriving, by_shade, corner, halfway, if_empty, is_castling, is_diagonal, is_double_step, man_on_at, move_man, put_at, reborn_at, unmoved_with_rook, unmoved_without_at, without_at}
-unfoldable pub use Rattle.chess_rules.specs.Play.{after, after_by, capture_square, loss_by, moved_men, rebirth, reborn_square, undo_of, unmoved_after}
+pub use Rattle.chess_rules.specs.Attacks.{is_attacked_at, is_faced}
+unfoldable pub use Rattle.chess_rules.specs.Attacks.{faces, faces_its_like, in_check, is_attacked, is_paralysed, strikes}
+pub use Rattle.chess_rules.specs.Legal.{forward, goes, is_arrival_free, is_nil, is_promotion_right, is_pseudo_legal_of, last_rank, pawn_steps, pawn_takes, promotions, second_rank, squares_between}
+unfoldable pub use Rattle.chess_rules.specs.Legal.{castles, is_legal, is_mate, is_pseudo_legal, may_castle, moves, triples}
+pub use Rattle.chess_rules.specs.Play.{arriving_man, by_shade, corner, halfway, if_empty, is_castling, is_diagonal, is_double_step, man_on_at, move_man, put_at, reborn_at, unmoved_with_rook, unmoved_without_at, without_at}
+unfoldable pub use Rattle.chess_rules.specs.Play.{after_by, capture_square, moved_men, position_after, rebirth, reborn_square, undo_by, undo_of, unmoved_after}
 pub use Rattle.chess_rules.specs.Reaches.{is_occupied, is_vacant, reaches_of}
 unfoldable pub use Rattle.chess_rules.specs.Reaches.{hops, is_clear, leaps, reaches, reaches_as, rides}
 pub use Rattle.chess_rules.specs.RuleSet.{RuleSet, circe, is_circe, is_madrasi, orthodox}
@@ -50,5 +49,5 @@ unfoldable pub use Rattle.chess_rules.specs.ties.Shields.{has_fairy, is_behind, 
 pub use Rattle.chess_rules.specs.ties.Sight.{AreArrived, AreOthers, AreSeen, is_simple, king_after, sight_after}
 pub use Rattle.chess_rules.specs.ties.Targets.{AreCandidates, AreKept, AreOrigins, IsAimed, arrives, is_arrival_of, pawn_goes}
 unfoldable pub use Rattle.chess_rules.specs.ties.Targets.{is_arrival, may_go, steps_to}
-pub use Rattle.chess_rules.specs.ties.Undoing.{CanReturn, leaving, returns_to}
+pub use Rattle.chess_rules.specs.ties.Undoing.{CanReturn, leaving_man, returns_to}
 unfoldable pub use Rattle.chess_rules.specs.ties.Undoing.{before_by, returned_men, uncastled_men}

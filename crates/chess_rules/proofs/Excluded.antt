@@ -13,11 +13,11 @@ use Rattle.chess_core.specs.declared.man.Colour.TheVariants.{White, Black}
 use Rattle.chess_core.specs.declared.man.Kind.TheVariants.{King, Queen, Rook, Bishop, Knight, Grasshopper, Nightrider, Pawn}
 use Rattle.chess_core.specs.declared.man.Kind.{Kind}
 use Rattle.chess_core.specs.declared.man.Man.{Man}
-use Rattle.chess_rules.specs.Attacks.{attacked, faces, faces_its_like, in_check, paralysed, strikes}
+use Rattle.chess_rules.specs.Attacks.{faces, faces_its_like, in_check, is_attacked, is_paralysed, strikes}
 use Rattle.chess_rules.specs.ties.Evasions.{is_fairy_man, AreEvasions, AreEvasionsFrom, is_evasion}
-use Rattle.chess_rules.specs.Legal.{castles, goes, is_arrival_free, legal, may_castle, pseudo, triples}
+use Rattle.chess_rules.specs.Legal.{castles, goes, is_arrival_free, is_legal, is_pseudo_legal, may_castle, triples}
 use Rattle.chess_rules.specs.ties.Outward.{hopped_from, is_met, rides_on}
-use Rattle.chess_rules.specs.Play.{after, after_by, capture_square, moved_men, reborn_square, rebirth, unmoved_after}
+use Rattle.chess_rules.specs.Play.{position_after, after_by, capture_square, moved_men, reborn_square, rebirth, unmoved_after}
 use Rattle.chess_rules.specs.Reaches.{hops, is_clear, leaps, reaches, reaches_as, rides}
 use Rattle.chess_rules.specs.RuleSet.{RuleSet, madrasi, orthodox}
 use Rattle.chess_rules.specs.ties.Shields.{cannot_expose, has_fairy, is_behind, is_plain, is_reached, is_shut, may_expose, may_stand_between, is_on_fairy_line}
@@ -58,8 +58,9 @@ grasshopper_lands_behind_its_hurdle = (refl, refl)
 
 -- what these examples compute with
 unfoldable pub check_after_a_move : Unit {0}
-unfolding reaches reaches_as rides hops leaps is_clear along squares some_square king_square faces_its_like faces strikes paralysed attacked
-    in_check after after_by unmoved_after moved_men capture_square reborn_square rebirth castles may_castle pseudo none_unmoved has_unmoved mark_unmoved
+unfolding reaches reaches_as rides hops leaps is_clear along squares some_square king_square faces_its_like faces strikes is_paralysed is_attacked in_check
+    position_after after_by unmoved_after moved_men capture_square reborn_square rebirth castles may_castle is_pseudo_legal none_unmoved has_unmoved
+    mark_unmoved
 check_after_a_move = tt
 
 -- White Ka1 Bb3 Pe5, Black Kg8 Pd5, which has just passed d6: the capture en passant opens the bishop's line
@@ -71,8 +72,8 @@ opening_capture =
 abbrev passing_check : Position
 passing_check = record (position (on White King e4 ∷ on White Pawn e5 ∷ on Black King h8 ∷ on Black Pawn d5 ∷ []) White) { crossed = Some d6 }
 
-en_passant_meets : (in_check orthodox passing_check.men White ≡ true) × (pseudo orthodox passing_check (go e5 d6) ≡ true)
-    × (in_check orthodox (after orthodox passing_check (go e5 d6)).men White ≡ false)
+en_passant_meets : (in_check orthodox passing_check.men White ≡ true) × (is_pseudo_legal orthodox passing_check (go e5 d6) ≡ true)
+    × (in_check orthodox (position_after orthodox passing_check (go e5 d6)).men White ≡ false)
 unfolding check_after_a_move
 en_passant_meets = (refl, refl, refl)
 
@@ -89,8 +90,8 @@ no_evasion_there = refl
 abbrev rook_check : Position
 rook_check = position (on White King a1 ∷ on Black King h8 ∷ on Black Rook a8 ∷ []) White
 
-king_goes : (in_check orthodox rook_check.men White ≡ true) × (pseudo orthodox rook_check (go a1 b1) ≡ true)
-    × (in_check orthodox (after orthodox rook_check (go a1 b1)).men White ≡ false)
+king_goes : (in_check orthodox rook_check.men White ≡ true) × (is_pseudo_legal orthodox rook_check (go a1 b1) ≡ true)
+    × (in_check orthodox (position_after orthodox rook_check (go a1 b1)).men White ≡ false)
 unfolding check_after_a_move
 king_goes = (refl, refl, refl)
 
@@ -121,7 +122,7 @@ pub earlier_squares_are_passed : find (λ s. bit_at 3 s == 1) (range_with_len 1 
 earlier_squares_are_passed = refl
 
 -- with rooks on a1 and b1 the second moves too
-pub next_origin_moves : pseudo orthodox (position (on White Rook a1 ∷ on White Rook b1 ∷ []) White) (go b1 b3) ≡ true
+pub next_origin_moves : is_pseudo_legal orthodox (position (on White Rook a1 ∷ on White Rook b1 ∷ []) White) (go b1 b3) ≡ true
 unfolding check_after_a_move
 next_origin_moves = refl
 
@@ -248,8 +249,8 @@ unfolding word word_of squares
 captured_man_is_gone = (refl, refl, refl, refl, refl)
 
 -- rooks on a1 and h1 paralyse each other: in Madrasi neither attacks d1
-pub paralysed_man_attacks_nothing : (attacked orthodox (set_up (on White Rook a1 ∷ on Black Rook h1 ∷ [])) d1 Black ≡ true)
-    × (attacked madrasi (set_up (on White Rook a1 ∷ on Black Rook h1 ∷ [])) d1 Black ≡ false)
+pub paralysed_man_attacks_nothing : (is_attacked orthodox (set_up (on White Rook a1 ∷ on Black Rook h1 ∷ [])) d1 Black ≡ true)
+    × (is_attacked madrasi (set_up (on White Rook a1 ∷ on Black Rook h1 ∷ [])) d1 Black ≡ false)
 unfolding check_after_a_move
 paralysed_man_attacks_nothing = (refl, refl)
 
@@ -257,9 +258,9 @@ paralysed_man_attacks_nothing = (refl, refl)
 abbrev rook_faces_rook : Position
 rook_faces_rook = position (on White King h1 ∷ on White Rook d1 ∷ on Black King b8 ∷ on Black Rook h3 ∷ []) White
 
-pub arriving_man_paralyses : (in_check madrasi rook_faces_rook.men White ≡ true) × (pseudo madrasi rook_faces_rook (go d1 d3) ≡ true)
-    × (in_check madrasi (after madrasi rook_faces_rook (go d1 d3)).men White ≡ false)
-    × (in_check orthodox (after orthodox rook_faces_rook (go d1 d3)).men White ≡ true)
+pub arriving_man_paralyses : (in_check madrasi rook_faces_rook.men White ≡ true) × (is_pseudo_legal madrasi rook_faces_rook (go d1 d3) ≡ true)
+    × (in_check madrasi (position_after madrasi rook_faces_rook (go d1 d3)).men White ≡ false)
+    × (in_check orthodox (position_after orthodox rook_faces_rook (go d1 d3)).men White ≡ true)
 unfolding check_after_a_move
 arriving_man_paralyses = (refl, refl, refl, refl)
 
@@ -267,9 +268,9 @@ arriving_man_paralyses = (refl, refl, refl, refl)
 abbrev king_faces_king : Position
 king_faces_king = position (on White King a1 ∷ on Black King c3 ∷ []) White
 
-pub kings_are_never_paralysed : (faces_its_like (after madrasi king_faces_king (go a1 b2)).men (man Black King) c3 ≡ true)
-    × (paralysed madrasi (after madrasi king_faces_king (go a1 b2)).men c3 ≡ false)
-    × (in_check madrasi (after madrasi king_faces_king (go a1 b2)).men White ≡ true)
+pub kings_are_never_paralysed : (faces_its_like (position_after madrasi king_faces_king (go a1 b2)).men (man Black King) c3 ≡ true)
+    × (is_paralysed madrasi (position_after madrasi king_faces_king (go a1 b2)).men c3 ≡ false)
+    × (in_check madrasi (position_after madrasi king_faces_king (go a1 b2)).men White ≡ true)
 unfolding check_after_a_move
 kings_are_never_paralysed = (refl, refl, refl)
 
@@ -278,7 +279,7 @@ abbrev queen_faces_queen : Position
 queen_faces_queen = position (on White King h1 ∷ on White Queen d1 ∷ on Black King b8 ∷ on Black Queen h3 ∷ []) White
 
 pub queens_are_paralysed : (in_check madrasi queen_faces_queen.men White ≡ true)
-    × (in_check madrasi (after madrasi queen_faces_queen (go d1 d3)).men White ≡ false)
+    × (in_check madrasi (position_after madrasi queen_faces_queen (go d1 d3)).men White ≡ false)
 unfolding check_after_a_move
 queens_are_paralysed = (refl, refl)
 
@@ -294,8 +295,8 @@ hurdle_comes = position (on White King a1 ∷ on White Rook h2 ∷ on Black King
 
 pub arriving_man_is_a_hurdle : (may_expose hurdle_comes.men White h2 ≡ false) × (may_stand_between hurdle_comes.men White h2 ≡ false)
     × (may_stand_between hurdle_comes.men White a2 ≡ true) × (cannot_expose orthodox hurdle_comes White (go h2 a2) ≡ false)
-    × (pseudo orthodox hurdle_comes (go h2 a2) ≡ true) × (in_check orthodox hurdle_comes.men White ≡ false)
-    × (in_check orthodox (after orthodox hurdle_comes (go h2 a2)).men White ≡ true)
+    × (is_pseudo_legal orthodox hurdle_comes (go h2 a2) ≡ true) × (in_check orthodox hurdle_comes.men White ≡ false)
+    × (in_check orthodox (position_after orthodox hurdle_comes (go h2 a2)).men White ≡ true)
 unfolding lines_to_a_king check_after_a_move
 arriving_man_is_a_hurdle = (refl, refl, refl, refl, refl, refl, refl)
 
@@ -305,8 +306,8 @@ hurdle_goes = position (on White King a1 ∷ on White Rook a2 ∷ on White Knigh
 
 pub leaving_man_opens_a_hop : (is_shut hurdle_goes.men Black Rook straight_steps a1 a4 ≡ false)
     × (may_stand_between hurdle_goes.men Black a4 ≡ false) × (may_expose hurdle_goes.men White a4 ≡ true)
-    × (pseudo orthodox hurdle_goes (go a4 b6) ≡ true) × (in_check orthodox hurdle_goes.men White ≡ false)
-    × (in_check orthodox (after orthodox hurdle_goes (go a4 b6)).men White ≡ true)
+    × (is_pseudo_legal orthodox hurdle_goes (go a4 b6) ≡ true) × (in_check orthodox hurdle_goes.men White ≡ false)
+    × (in_check orthodox (position_after orthodox hurdle_goes (go a4 b6)).men White ≡ true)
 unfolding lines_to_a_king check_after_a_move
 leaving_man_opens_a_hop = (refl, refl, refl, refl, refl, refl)
 
@@ -316,14 +317,14 @@ shut_nightrider k = position (on White King c1 ∷ on White Bishop d3 ∷ on Bla
 
 pub nightriders_line_is_shut : (may_stand_between (shut_nightrider Nightrider).men White d3 ≡ true)
     × (may_stand_between (shut_nightrider Knight).men White d3 ≡ false)
-    × (pseudo orthodox (shut_nightrider Nightrider) (go d3 e4) ≡ true) × (in_check orthodox (shut_nightrider Nightrider).men White ≡ false)
-    × (in_check orthodox (after orthodox (shut_nightrider Nightrider) (go d3 e4)).men White ≡ true)
+    × (is_pseudo_legal orthodox (shut_nightrider Nightrider) (go d3 e4) ≡ true) × (in_check orthodox (shut_nightrider Nightrider).men White ≡ false)
+    × (in_check orthodox (position_after orthodox (shut_nightrider Nightrider) (go d3 e4)).men White ≡ true)
 unfolding lines_to_a_king check_after_a_move
 nightriders_line_is_shut = (refl, refl, refl, refl, refl)
 
 -- a stretch without a move ends before a move to one of the word's squares
 ends_at : (p : Position) (s w k b : ℕ) → (bit_at w (k / 7) == 1) ≡ true
-    → pseudo orthodox p (record { from = s; to = k / 7; promo = promotion_at (k % 7) }) ≡ true
+    → is_pseudo_legal orthodox p (record { from = s; to = k / 7; promo = promotion_at (k % 7) }) ≡ true
     → IsBarrenFrom p s w 0 b → b ≤ k
 ends_at p s w k b on may barren = grind (arith, cases_lt, false≢true)
 
@@ -339,4 +340,4 @@ stretch_ends_at_a_promotion w b there barren = ends_at (position (on White Pawn 
 -- no move lies between a place and itself
 pub no_move_lies_between : (rule : RuleSet) (p : Position) (a : ℕ) → moves_between rule p a a ≡ []
 unfolding moves_between
-no_move_lies_between rule p a = let none : a - a ≡ 0 = omega arith in ap (λ n. filter (legal rule p) (take n (drop a triples))) none
+no_move_lies_between rule p a = let none : a - a ≡ 0 = omega arith in ap (λ n. filter (is_legal rule p) (take n (drop a triples))) none

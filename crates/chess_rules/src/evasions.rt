@@ -6,8 +6,8 @@ ghost use Rattle.chess_core.specs.ties.Words.{word};
 ghost use Rattle.chess_rules.specs.Attacks.{in_check};
 ghost use Rattle.chess_rules.specs.ties.Evasions.{AreEvasionsFrom, AreEvasions, is_fairy_man};
 ghost use Rattle.chess_rules.specs.ties.Shields.{cannot_expose, is_plain, may_expose};
-ghost use Rattle.chess_rules.specs.Legal.{pseudo};
-ghost use Rattle.chess_rules.specs.Play.{after};
+ghost use Rattle.chess_rules.specs.Legal.{is_pseudo_legal};
+ghost use Rattle.chess_rules.specs.Play.{position_after};
 ghost use Rattle.chess_rules.specs.RuleSet.{is_circe};
 
 use crate::exposure::exposes;
@@ -61,9 +61,10 @@ pub(crate) fn evasion_squares<R: Rules>(board: &Board, colour: Colour, shield_sq
 // that doesn't must go.
 fn leaves_check<R: Rules>(board: &Board, evasion_squares: u64, m: &Move) -> bool
     requires well_formed { IsWellFormed board.now }
-    requires pseudo { pseudo R.rule board.now m.now ≡ true }
+    requires pseudo { is_pseudo_legal R.rule board.now m.now ≡ true }
     requires evasion_squares { AreEvasions R.rule board.now.men board.now.turn evasion_squares }
-    ensures { result ≡ true → in_check R.rule (after R.rule board.now m.now).men board.now.turn
+    ensures { result ≡ true → in_check R.rule (position_after R.rule board.now m.now).men
+        board.now.turn
         ≡ true }
 {
     // For the proof: a square's number is below 64.
@@ -116,10 +117,11 @@ pub(crate) fn is_safe<R: Rules>(
     m: Move,
 ) -> bool
     requires well_formed { IsWellFormed board.old }
-    requires pseudo { pseudo R.rule board.old m ≡ true }
+    requires pseudo { is_pseudo_legal R.rule board.old m ≡ true }
     requires squares { squares ≡ word (may_expose board.old.men board.old.turn) }
     requires evasion_squares { AreEvasions R.rule board.old.men board.old.turn evasion_squares }
-    ensures answer { result ≡ not (in_check R.rule (after R.rule board.old m).men board.old.turn) }
+    ensures answer { result ≡ not (in_check R.rule (position_after R.rule board.old m).men
+        board.old.turn) }
     ensures board { board.new ≡ board.old }
 {
     // For the proof: a square's number is below 64.

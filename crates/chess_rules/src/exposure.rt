@@ -6,14 +6,14 @@ ghost use Rattle.chess_core.specs.Squares.{some_square};
 ghost use Rattle.chess_core.specs.ties.Words.{word};
 ghost use Rattle.chess_core.specs.declared.man.Man.{Man};
 ghost use Rattle.chess_core.specs.WellFormed.{IsWellFormed};
-ghost use Rattle.chess_rules.specs.Attacks.{in_check, paralysed};
-ghost use Rattle.chess_rules.specs.Legal.{pseudo};
-ghost use Rattle.chess_rules.specs.Play.{after};
+ghost use Rattle.chess_rules.specs.Attacks.{in_check, is_paralysed};
+ghost use Rattle.chess_rules.specs.Legal.{is_pseudo_legal};
+ghost use Rattle.chess_rules.specs.Play.{position_after};
 ghost use Rattle.chess_rules.specs.Reaches.{reaches};
 ghost use Rattle.chess_rules.specs.ties.Sight.{AreArrived, AreOthers, is_arriving_as, is_simple, king_after, own_after};
 
 use crate::outward::{attackers_seen, those_reaching};
-use crate::play::{arriving, capture_square, is_castling};
+use crate::play::{arriving_man, capture_square, is_castling};
 use crate::rules::{Rules, in_check};
 use crate::sight::{Sight, sight_after};
 use crate::words::{next_bit, only};
@@ -44,7 +44,7 @@ pub fn is_simple<R: Rules>(man: Man, m: &Move, captures: bool) -> bool
 fn arrival_as(man: Man, m: &Move, kind: Kind) -> u64
     ensures { result ≡ word (is_arriving_as man m.now kind) }
 {
-    if arriving(man, m.promo).kind.is(kind) {
+    if arriving_man(man, m.promo).kind.is(kind) {
         only(Some(m.to))
     } else {
         0
@@ -86,7 +86,7 @@ fn is_paralysed_after<R: Rules>(
 ) -> bool
     ensures { (men : List (Option Man)) → AreArrived board.now.men men man m.now sight
         → is_side (man_on men square) (other man.colour) ≡ true
-        → result ≡ paralysed R.rule men square }
+        → result ≡ is_paralysed R.rule men square }
 {
     if !R::is_madrasi() {
         return false;
@@ -103,7 +103,7 @@ fn is_paralysed_after<R: Rules>(
 fn some_free_after<R: Rules>(board: &Board, sight: Sight, man: Man, m: &Move, word: u64) -> bool
     ensures { (men : List (Option Man)) → AreArrived board.now.men men man m.now sight
         → AreOthers men man.colour word
-        → result ≡ some_square (λ s. bit_at word s == 1 && not (paralysed R.rule men s)) }
+        → result ≡ some_square (λ s. bit_at word s == 1 && not (is_paralysed R.rule men s)) }
 {
     let mut number = 0u8;
     while let Some(square) = next_bit(word, number) {
@@ -119,8 +119,8 @@ fn some_free_after<R: Rules>(board: &Board, sight: Sight, man: Man, m: &Move, wo
 // will be. `None` where more changes than is seen there.
 fn exposes_unplayed<R: Rules>(board: &Board, m: &Move) -> Option<bool>
     requires well_formed { IsWellFormed board.now }
-    requires pseudo { pseudo R.rule board.now m.now ≡ true }
-    ensures { IfSome result (λ b. b ≡ in_check R.rule (after R.rule board.now m.now).men
+    requires pseudo { is_pseudo_legal R.rule board.now m.now ≡ true }
+    ensures { IfSome result (λ b. b ≡ in_check R.rule (position_after R.rule board.now m.now).men
         board.now.turn) }
 {
     // For the proof: a square's number is below 64.
@@ -143,8 +143,8 @@ fn exposes_unplayed<R: Rules>(board: &Board, m: &Move) -> Option<bool>
 // Whether the move leaves its mover in check. The board is unchanged after it.
 pub(crate) fn exposes<R: Rules>(board: &mut Board, m: Move) -> bool
     requires well_formed { IsWellFormed board.old }
-    requires pseudo { pseudo R.rule board.old m ≡ true }
-    ensures answer { result ≡ in_check R.rule (after R.rule board.old m).men board.old.turn }
+    requires pseudo { is_pseudo_legal R.rule board.old m ≡ true }
+    ensures answer { result ≡ in_check R.rule (position_after R.rule board.old m).men board.old.turn }
     ensures board { board.new ≡ board.old }
 {
     match exposes_unplayed::<R>(board, &m) {
@@ -156,8 +156,8 @@ pub(crate) fn exposes<R: Rules>(board: &mut Board, m: Move) -> bool
 // The same, told by playing it and taking it back.
 fn exposes_played<R: Rules>(board: &mut Board, m: Move) -> bool
     requires well_formed { IsWellFormed board.old }
-    requires pseudo { pseudo R.rule board.old m ≡ true }
-    ensures answer { result ≡ in_check R.rule (after R.rule board.old m).men board.old.turn }
+    requires pseudo { is_pseudo_legal R.rule board.old m ≡ true }
+    ensures answer { result ≡ in_check R.rule (position_after R.rule board.old m).men board.old.turn }
     ensures board { board.new ≡ board.old }
 {
     let mover = board.turn();

@@ -4,7 +4,7 @@ ghost use Rattle.chess_core.specs.WellFormed.{IsWellFormed};
 ghost use Rattle.chess_core.specs.ties.Words.{word};
 ghost use Rattle.chess_rules.specs.ties.Evasions.{AreEvasions};
 ghost use Rattle.chess_rules.specs.ties.Shields.{may_expose};
-ghost use Rattle.chess_rules.specs.Legal.{legal};
+ghost use Rattle.chess_rules.specs.Legal.{is_legal};
 ghost use Rattle.chess_rules.specs.ties.Places.{HaveNone, IsPlaceIn, first_behind, moves_behind, moves_between, place_of, place_onto, triple_at};
 ghost use Rattle.chess_rules.specs.ties.Targets.{AreCandidates, AreKept, AreOrigins, IsAimed};
 
@@ -102,7 +102,7 @@ impl<R: Rules> LegalMoves<R> {
         ensures rest { MatchOption result (moves_behind R.rule board.old self.old.place ≡ [])
             (λ m. moves_behind R.rule board.old self.old.place
             ≡ m ∷ moves_behind R.rule board.old self.new.place) }
-        ensures legal { IfSome result (λ m. legal R.rule board.old m ≡ true) }
+        ensures legal { IfSome result (λ m. is_legal R.rule board.old m ≡ true) }
         ensures onward { IfSome result (λ m. self.old.place < self.new.place) }
         ensures board { board.new ≡ board.old }
     {
@@ -137,7 +137,7 @@ impl<R: Rules> LegalMoves<R> {
         ensures rest { MatchOption result (moves_between R.rule board.old self.old.place end ≡ [])
             (λ m. moves_between R.rule board.old self.old.place end
             ≡ m ∷ moves_between R.rule board.old self.new.place end) }
-        ensures legal { IfSome result (λ m. legal R.rule board.old m ≡ true) }
+        ensures legal { IfSome result (λ m. is_legal R.rule board.old m ≡ true) }
         ensures board { board.new ≡ board.old }
     {
         let last = end.number().min(TRIPLES);
@@ -171,13 +171,13 @@ pub(crate) fn next_legal<R: Rules>(
     requires well_formed { IsWellFormed board.old }
     requires squares { squares ≡ word (may_expose board.old.men board.old.turn) }
     requires evasion_squares { AreEvasions R.rule board.old.men board.old.turn evasion_squares }
-    requires kept { AreKept R.rule board.old (legal R.rule board.old) kept.old }
+    requires kept { AreKept R.rule board.old (is_legal R.rule board.old) kept.old }
     requires end { end ≤ 28672 }
     ensures low { result < end → start ≤ result }
     ensures high { result ≤ end }
-    ensures none { HaveNone (legal R.rule board.old) start result }
-    ensures legal { result < end → legal R.rule board.old (triple_at result) ≡ true }
-    ensures kept { AreKept R.rule board.old (legal R.rule board.old) kept.new }
+    ensures none { HaveNone (is_legal R.rule board.old) start result }
+    ensures legal { result < end → is_legal R.rule board.old (triple_at result) ≡ true }
+    ensures kept { AreKept R.rule board.old (is_legal R.rule board.old) kept.new }
     ensures board { board.new ≡ board.old }
 {
     let known = Known {
@@ -198,11 +198,11 @@ impl Sought for Known {
     ghost use Rattle.std.specs.Prelude.{◌≡◌};
     ghost use Rattle.chess_core.specs.ties.Words.{word};
     ghost use Rattle.chess_rules.specs.ties.Evasions.{AreEvasions};
-    ghost use Rattle.chess_rules.specs.Legal.{legal};
+    ghost use Rattle.chess_rules.specs.Legal.{is_legal};
     ghost use Rattle.chess_rules.specs.ties.Shields.{may_expose};
-    ghost use Rattle.chess_rules.specs.ties.Idle.{legal-idle};
+    ghost use Rattle.chess_rules.specs.ties.Idle.{is_legal-idle};
 
-    ghost test = { legal };
+    ghost test = { is_legal };
 
     ghost fits = { λ s rule p. (s.shield_squares ≡ word (may_expose p.men p.turn))
         × AreEvasions rule p.men p.turn s.evasion_squares };
@@ -219,12 +219,12 @@ impl Sought for Known {
         is_legal::<R>(board, self.shield_squares, self.evasion_squares, m)
     }
 
-    ghost idle = { λ rule p m h. legal-idle rule p m h };
+    ghost idle = { λ rule p m h. is_legal-idle rule p m h };
 }
 
 // The squares from which the side to move has a legal move, and perhaps more: those of its men.
 fn own_origins<R: Rules>(board: &Board) -> u64
-    ensures { AreOrigins (legal R.rule board.now) result }
+    ensures { AreOrigins (is_legal R.rule board.now) result }
 {
     board.side(board.turn())
 }
@@ -234,7 +234,7 @@ fn own_origins<R: Rules>(board: &Board) -> u64
 fn candidates<R: Rules>(board: &Board, evasion_squares: u64, from: Square) -> u64
     requires well_formed { IsWellFormed board.now }
     requires evasion_squares { AreEvasions R.rule board.now.men board.now.turn evasion_squares }
-    ensures { AreCandidates R.rule board.now (legal R.rule board.now) from result }
+    ensures { AreCandidates R.rule board.now (is_legal R.rule board.now) from result }
 {
     arrivals::<R>(board, from) & evasions_from::<R>(board, evasion_squares, from)
 }

@@ -7,7 +7,7 @@ ghost use Rattle.chess_rules.specs.ties.Lines.{occupied_squares};
 ghost use Rattle.chess_rules.specs.ties.Sight.{AreSeen};
 ghost use Rattle.chess_core.specs.Squares.{some_square};
 ghost use Rattle.chess_core.specs.ties.Words.{squares_of, word};
-ghost use Rattle.chess_rules.specs.Attacks.{paralysed};
+ghost use Rattle.chess_rules.specs.Attacks.{is_paralysed};
 ghost use Rattle.chess_rules.specs.ties.Outward.{is_met};
 ghost use Rattle.chess_rules.specs.ties.Shields.{is_reached};
 ghost use Rattle.chess_rules.specs.Reaches.{reaches, reaches_as};
@@ -166,11 +166,11 @@ pub(crate) fn is_reached(board: &Board, square: Square, colour: Colour) -> bool
 // Whether a man on one of the word's squares isn't paralysed, or no man stands there.
 pub(crate) fn some_free<R: Rules>(board: &Board, word: u64) -> bool
     ensures { result ≡ some_square (λ s. bit_at word s == 1
-        && not (paralysed R.rule board.now.men s)) }
+        && not (is_paralysed R.rule board.now.men s)) }
 {
     let mut number = 0u8;
     while let Some(square) = next_bit(word, number) {
-        if !R::paralysed(board, square) {
+        if !R::is_paralysed(board, square) {
             return true;
         }
         number = square.index() + 1;

@@ -20,7 +20,7 @@ pub trait Sought {
     ghost use Rattle.chess_core.specs.Position.{Position};
     ghost use Rattle.chess_core.specs.declared.man.Move.{Move};
     ghost use Rattle.chess_rules.specs.RuleSet.{RuleSet};
-    ghost use Rattle.chess_rules.specs.Legal.{pseudo};
+    ghost use Rattle.chess_rules.specs.Legal.{is_pseudo_legal};
 
     ghost test: { RuleSet → Position → Move → Bool };
 
@@ -46,7 +46,7 @@ pub trait Sought {
         ensures answer { result ≡ test R.rule board.old m }
         ensures board { board.new ≡ board.old };
 
-    ghost idle: { (rule : RuleSet) (p : Position) (m : Move) → pseudo rule p m ≡ false
+    ghost idle: { (rule : RuleSet) (p : Position) (m : Move) → is_pseudo_legal rule p m ≡ false
         → test rule p m ≡ false };
 }
 

@@ -104,7 +104,7 @@ pub fn arrivals<R: Rules>(board: &Board, from: Square) -> u64
     if !man.colour.is(board.turn()) {
         return 0;
     }
-    if R::paralysed(board, from) {
+    if R::is_paralysed(board, from) {
         return 0;
     }
     free_squares(board, board.turn()) & goes_to(board, man, from)

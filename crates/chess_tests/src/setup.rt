@@ -61,7 +61,7 @@ pub(crate) fn posed(position: &str) -> Option<Diagram>
     for word in words {
         match named(word) {
             None => diagram.turn = Colour::Black,
-            Some(square) if square.is_castling() => {
+            Some(square) if square.is_castling_square() => {
                 diagram.unmoved = diagram.unmoved.with(square);
             }
             Some(square) => diagram.crossed = Some(square),

@@ -1,5 +1,5 @@
 -- Blocks token by token.
-use Rattle.pop_input.proofs.Words.{Bool, Command, Fault, List, None, Option, Some, State, Tail, TextLine, TextWord, Token, Word, Words, [], append-nil, append_assoc, arith, at_line, block_entries, block_fault, blocks_of, closed_entry, closes, closing_line, closing_of, command_of, cut_by, entries_by, entries_of, false, fault_of, first_fault, has_begun, inside, is_open, last_text, line_of, list_all, no_words, or_else, put_before, refl, state_of, text_after, text_word_of, true, words_before, ℕ, ◌++◌, ◌∷◌, ◌≡◌}
+use Rattle.pop_input.proofs.Words.{Bool, Command, Fault, List, None, Option, Some, State, Tail, TextLine, TextWord, Token, Word, Words, [], append-nil, append_assoc, arith, at_line, before_blocks, block_entries, block_fault, blocks_of, closed_entry, closes, closes_none, closing_line, closing_of, command_of, entries_by, entries_of, false, fault_of, first_fault, has_begun, last_text, line_of, list_all, no_words, or_else, put_before, refl, state_of, text_after, text_word_of, tokens_inside, true, words_before, ℕ, ◌++◌, ◌∷◌, ◌≡◌}
 use Rattle.pop_input.specs.declared.names.Command.TheVariants.{Next, Last}
 
 -- One more token.
@@ -22,7 +22,7 @@ fault_line before (TextLine l k t ∷ done) line keyword text = fault_line befor
 
 -- the state behind the tokens of a block
 abbrev pub said : Bool → List Token → State
-said first done = state_of (words_before [] (inside first done))
+said first done = state_of (words_before [] (tokens_inside first done))
 
 -- one more word of a block
 pub block_more : (first : Bool) (done : List Token) (line : ℕ) (text : List ℕ)
@@ -46,16 +46,16 @@ begun_line first (token ∷ done) line keyword text = grind (arith, begun_line f
 
 -- in a problem each token stands inside
 pub inside_more : (first : Bool) (done : List Token) (token : Token) → has_begun first done ≡ true
-    → inside first (done ++ token ∷ []) ≡ inside first done ++ token ∷ []
+    → tokens_inside first (done ++ token ∷ []) ≡ tokens_inside first done ++ token ∷ []
 inside_more first [] token h = grind arith
 inside_more first (other ∷ done) token h = grind (arith, inside_more first done token)
 
 -- before the first problem none does, nor does its first word
-pub inside_none : (first : Bool) (done : List Token) → has_begun first done ≡ false → inside first done ≡ []
+pub inside_none : (first : Bool) (done : List Token) → has_begun first done ≡ false → tokens_inside first done ≡ []
 inside_none first [] h = grind arith
 inside_none first (token ∷ done) h = grind (arith, inside_none first done)
 
-pub inside_first : (first : Bool) (done : List Token) (token : Token) → has_begun first done ≡ false → inside first (done ++ token ∷ []) ≡ []
+pub inside_first : (first : Bool) (done : List Token) (token : Token) → has_begun first done ≡ false → tokens_inside first (done ++ token ∷ []) ≡ []
 inside_first first [] token h = grind arith
 inside_first first (other ∷ done) token h = grind (arith, inside_first first done token)
 
@@ -85,17 +85,17 @@ text_line wanted old (TextLine l k t ∷ done) line keyword text = text_line wan
 
 -- Cutting.
 
-open_parts : (token : Token) (done : List Token) → list_all is_open (token ∷ done) ≡ true → (is_open token ≡ true) × (list_all is_open done ≡ true)
+open_parts : (token : Token) (done : List Token) → list_all closes_none (token ∷ done) ≡ true → (closes_none token ≡ true) × (list_all closes_none done ≡ true)
 open_parts token done h = grind arith
 
 -- open tokens stand in the first block
-pub blocks_open : (done tokens : List Token) → list_all is_open done ≡ true → (b : List Token) (bs : List (List Token)) → blocks_of tokens ≡ b ∷ bs
+pub blocks_open : (done tokens : List Token) → list_all closes_none done ≡ true → (b : List Token) (bs : List (List Token)) → blocks_of tokens ≡ b ∷ bs
     → blocks_of (done ++ tokens) ≡ (done ++ b) ∷ bs
 blocks_open [] tokens h b bs e = e
 blocks_open (token ∷ done) tokens h b bs e = grind (arith, open_parts, blocks_open done tokens (open_parts token done h).1 b bs e)
 
 -- no line closes open tokens
-pub open_line : (done : List Token) → list_all is_open done ≡ true → closing_line done ≡ None
+pub open_line : (done : List Token) → list_all closes_none done ≡ true → closing_line done ≡ None
 open_line [] h = refl
 open_line (token ∷ done) h = grind (arith, open_line done)
 
@@ -106,31 +106,31 @@ closed_line (other ∷ done) token h = grind (arith, closed_line done token h)
 
 -- Entries.
 
-module _ (first : Bool) (done : List Token) (line : ℕ) (text : List ℕ) (plain : list_all is_open done ≡ true) (words : Words) where
+module _ (first : Bool) (done : List Token) (line : ℕ) (text : List ℕ) (plain : list_all closes_none done ≡ true) (words : Words) where
   abbrev block : List Token
   block = done ++ Word line text ∷ []
 
   closing_blocks : (c : Command) → command_of text ≡ Some c → closes (Some c) ≡ true → (bs : List (List Token))
-      → cut_by (Some c) (Word line text) (blocks_of words.tokens) ≡ (Word line text ∷ []) ∷ bs → blocks_of (block ++ words.tokens) ≡ block ∷ bs
+      → before_blocks (Some c) (Word line text) (blocks_of words.tokens) ≡ (Word line text ∷ []) ∷ bs → blocks_of (block ++ words.tokens) ≡ block ∷ bs
   closing_blocks c is h bs e = grind (arith, append_assoc, blocks_open done (Word line text ∷ words.tokens) plain (Word line text ∷ []) bs)
 
   closing_entries : (c : Command) → command_of text ≡ Some c → closes (Some c) ≡ true → (bs : List (List Token))
-      → cut_by (Some c) (Word line text) (blocks_of words.tokens) ≡ (Word line text ∷ []) ∷ bs
-      → entries_of first (put_before block words) ≡ closed_entry (block_fault first block) line (inside first block)
+      → before_blocks (Some c) (Word line text) (blocks_of words.tokens) ≡ (Word line text ∷ []) ∷ bs
+      → entries_of first (put_before block words) ≡ closed_entry (block_fault first block) line (tokens_inside first block)
       ∷ block_entries false words.tail words.tail_line bs
   closing_entries c is h bs e = grind (arith, closing_blocks c is h bs e, closed_line done (Word line text))
 
   -- NextProblem ends a block, and the next one follows
   pub next_entries : command_of text ≡ Some Next → entries_of first (put_before block words)
-      ≡ closed_entry (block_fault first block) line (inside first block) ∷ entries_of false words
+      ≡ closed_entry (block_fault first block) line (tokens_inside first block) ∷ entries_of false words
   next_entries is = closing_entries Next is refl (blocks_of words.tokens) refl
 
   -- EndProblem ends the last
   pub last_entries : command_of text ≡ Some Last → entries_of first (put_before block words)
-      ≡ closed_entry (block_fault first block) line (inside first block) ∷ []
+      ≡ closed_entry (block_fault first block) line (tokens_inside first block) ∷ []
   last_entries is = closing_entries Last is refl [] refl
 
 -- an input that ends in a block
-pub ended_entries : (first : Bool) (done : List Token) (tail : Tail) (line : ℕ) → list_all is_open done ≡ true
+pub ended_entries : (first : Bool) (done : List Token) (tail : Tail) (line : ℕ) → list_all closes_none done ≡ true
     → entries_of first (put_before done (no_words tail line)) ≡ entries_by (block_fault first done) None first tail line done
 ended_entries first done tail line plain = grind (arith, blocks_open done [] plain [] [], append-nil {A = Token}, open_line done plain)

@@ -1,7 +1,7 @@
 -- The item at the end of a block.
 use Rattle.pop_input.proofs.Words.{Block, Bool, Closes, Command, CutsOff, Device, DeviceFailed, Entry, Fault, FaultKind, First, Input, IsOver, Item, Later, List, Long, MayFollow, NextItem, No, None, Nothing, Option, ReadFault, Reading, Reads, ReadsWord, Some, Standing, Tail, Takes, TakesNothing, TakesPart, TooLong, Word, Yes, [], among}
-use Rattle.pop_input.proofs.Words.{append-nil, arith, block_fault, closed_entry, command_of, cut_fault, ended_by, ended_item, entries_by, entries_left, entries_of, false, fault_at, inside, last_of, more_entries, next_behind, no_words, put_before, refl, subst, tail_fault, told_of_cut, true, words_left, ℕ, ◌++◌, ◌∷◌, ◌≡◌}
-use Rattle.pop_text.specs.Words.{Token as Part, End as AtEnd, Broken as Failing}
+use Rattle.pop_input.proofs.Words.{append-nil, arith, block_fault, closed_entry, command_of, cut_fault, ended_by, ended_item, entries_by, entries_left, entries_of, false, fault_at, last_of, more_entries, next_behind, no_words, put_before, refl, subst, tail_fault, tokens_inside, told_of_cut, true, words_left, ℕ, ◌++◌, ◌∷◌, ◌≡◌}
+use Rattle.pop_text.specs.Words.{Token, End as AtEnd, Broken as Failing}
 use Rattle.pop_text.specs.declared.read_fault.ReadFault.TheVariants.{InputTooLong as PastLimit}
 use Rattle.pop_input.specs.Blocks.{Faulty as FaultyEntry}
 use Rattle.pop_input.specs.declared.item.Item.TheVariants.{Faulty as FaultyItem}
@@ -20,7 +20,7 @@ block_of false = Later
 
 module _ (first : Bool) (old new : Standing) (had left : Option (List ℕ)) (starts : old.next ≡ block_of first) where
   -- items of tokens that were taken
-  reads_by : (done : List Part) → Takes (among old.at) (among new.at) had left done → (entries : List Entry) → ((rest : Input) → MayFollow new.at.end rest
+  reads_by : (done : List Token) → Takes (among old.at) (among new.at) had left done → (entries : List Entry) → ((rest : Input) → MayFollow new.at.end rest
       → entries_of first (put_before done (words_left None new.at rest)) ≡ entries ++ entries_left new rest) → Reads old new had left entries
   reads_by done t entries is = grind arith
 
@@ -30,14 +30,14 @@ module _ (first : Bool) (old new : Standing) (had left : Option (List ℕ)) (sta
 
   module _ (mid : Reading) (met : Option (List ℕ)) (block next : Block) (b : BlockSoFar first old.at mid had met block) (line : ℕ) (text : List ℕ)
       (t : TakesPart mid new.at met left (Word line text)) (r : ReadsWord block next line text) where
-    abbrev full : List Part
+    abbrev full : List Token
     full = b.done ++ Word line text ∷ []
 
     taken : Takes (among old.at) (among new.at) had left full
     taken = takes_more first old.at mid new.at had met left block next b (Word line text) t
 
     closed_reads : (item : Item) (last : Last) → Closes next line last item → new.next ≡ next_behind last
-        → Reads old new had left (closed_entry (block_fault first full) line (inside first full) ∷ []) → NextItem old new had left item
+        → Reads old new had left (closed_entry (block_fault first full) line (tokens_inside first full) ∷ []) → NextItem old new had left item
     closed_reads item last c is reads = let w = word_read first old.at mid new.at had met left block next b line text r.fault (λ none. r) in
         grind arith
 

@@ -1,6 +1,6 @@
 -- What the clauses exclude: bytes that an item doesn't use, a cut that isn't told, and words of which the definitions say otherwise than a wrong body
 -- would.
-use Rattle.pop_input.proofs.Words.{Bool, Command, EnPassantImpossible, Entry, Fault, Input, IsClosed, List, Long, MayFollow, NextItem, None, Option, Setup, Some, Standing, State, Stipulation, Takes, Token, Uses, Word, WordMisplaced, Words, Yes, [], after, among, ap, arith, codes, command_of, entries_by, entries_left, false, fault_at, first_fault, has_men, is_crossed_right, is_open, is_plain, last_of, length, length-append, list_all, list_all-append, refl, section_of, setup_fault, sym, true, words_left, ℕ, ◌++◌, ◌<◌, ◌∙◌, ◌∷◌, ◌≡◌}
+use Rattle.pop_input.proofs.Words.{Bool, Command, Diagram, EnPassantImpossible, Entry, Fault, Input, IsClosed, List, Long, MayFollow, NextItem, None, Option, Some, Standing, State, Stipulation, Takes, Token, Uses, Word, WordMisplaced, Words, Yes, [], among, ap, arith, closes_none, codes, command_of, diagram_fault, entries_by, entries_left, false, fault_at, first_fault, has_men, is_crossed_right, is_plain, last_of, length, length-append, list_all, list_all-append, onto_input, refl, section_of, sym, true, words_left, ℕ, ◌++◌, ◌<◌, ◌∙◌, ◌∷◌, ◌≡◌}
 use Rattle.std.proofs.lemmas.List.{append_cancel_right}
 use Rattle.pop_text.proofs.Excluded.{gap_or_word, same_bytes}
 use Rattle.pop_text.specs.Words.{is_gap, is_in_word}
@@ -37,23 +37,24 @@ same_tokens : (old new : Standing) (had left : List ℕ) (ts us : List Token) �
 same_tokens old new had left ts us p q =
     let r = some_rest new.at.end in
     let bytes : p.bytes ≡ q.bytes = append_cancel_right p.bytes q.bytes left (sym p.taken ∙ q.taken) in
-    let whole = sym (p.begin r.0 r.1) ∙ ap (λ taken. words_left None old.at (after taken r.0)) bytes ∙ q.begin r.0 r.1 in
+    let whole = sym (p.begin r.0 r.1) ∙ ap (λ taken. words_left None old.at (onto_input taken r.0)) bytes ∙ q.begin r.0 r.1 in
     append_cancel_right ts us (words_left None new.at r.0).tokens (ap (λ (w : Words). w.tokens) whole)
 
-closer_is_last : (xs ys : List Token) (x y : Token) (more : List Token) → list_all is_open xs ≡ true → list_all is_open ys ≡ true → is_open x ≡ false
-    → is_open y ≡ false → xs ++ x ∷ [] ≡ ys ++ y ∷ more → more ≡ []
+closer_is_last : (xs ys : List Token) (x y : Token) (more : List Token) → list_all closes_none xs ≡ true → list_all closes_none ys ≡ true
+    → closes_none x ≡ false
+    → closes_none y ≡ false → xs ++ x ∷ [] ≡ ys ++ y ∷ more → more ≡ []
 closer_is_last [] [] x y more p q a b e = cc
 closer_is_last [] (z ∷ ys) x y more p q a b e = grind arith
 closer_is_last (z ∷ xs) [] x y more p q a b e = grind arith
 closer_is_last (z ∷ xs) (w ∷ ys) x y more p q a b e = closer_is_last xs ys x y more (grind arith) (grind arith) a b cc
 
 closer_closes : (command : Option Command) (last : Last) (line : ℕ) (word : List ℕ) → command_of word ≡ command → last_of command ≡ Some last
-    → is_open (Word line word) ≡ false
+    → closes_none (Word line word) ≡ false
 closer_closes command last line word is closes = grind arith
 
 -- no word behind the one that closes an item is taken
 pub no_word_behind : (old new : Standing) (had left : List ℕ) (front : List Token) (line : ℕ) (word : List ℕ) (last : Last) (more : List Token)
-    → list_all is_open front ≡ true → last_of (command_of word) ≡ Some last
+    → list_all closes_none front ≡ true → last_of (command_of word) ≡ Some last
     → Takes (among old.at) (among new.at) (Some had) (Some left) (front ++ Word line word ∷ more) → IsClosed old new (Some had) (Some left) → more ≡ []
 no_word_behind old new had left front line word last more plain is taken c =
     closer_is_last c.front front (Word c.line c.word) (Word line word) more c.plain plain (closer_closes _ c.last c.line c.word refl c.closes)
@@ -70,7 +71,7 @@ cut_is_an_item fault first line block = refl
 -- so the fault isn't told as the last item while one more is to come
 pub cut_is_to_come : (old new : Standing) (had left : Option (List ℕ)) (fault : Fault) (did : NextItem old new had left (Faulty fault Yes)) (rest : Input)
     (other : Entry) (more : List Entry)
-    → MayFollow new.at.end rest → entries_left old (after did.0.bytes rest) ≡ FaultyEntry fault ∷ other ∷ more → ⊥
+    → MayFollow new.at.end rest → entries_left old (onto_input did.0.bytes rest) ≡ FaultyEntry fault ∷ other ∷ more → ⊥
 cut_is_to_come old new had left fault did rest other more may two =
     let begin = did.0.begin rest may in
     let none : entries_left new rest ≡ [] = rw did.1 refl in
@@ -83,6 +84,6 @@ unfolding command_of section_of
 plain_word_is_a_fault = (refl, refl, refl)
 
 -- where men stand and no pawn can have passed the crossed square, this is the fault, and not that there are no men
-pub en_passant_is_told : (state : State) (stipulation : Stipulation) (setup : Setup) → has_men setup.men ≡ true
-    → is_crossed_right setup.men setup.turn setup.crossed ≡ false → setup_fault state stipulation setup ≡ Some EnPassantImpossible
+pub en_passant_is_told : (state : State) (stipulation : Stipulation) (setup : Diagram) → has_men setup.men ≡ true
+    → is_crossed_right setup.men setup.turn setup.crossed ≡ false → diagram_fault state stipulation setup ≡ Some EnPassantImpossible
 en_passant_is_told state stipulation setup some wrong = rw (some, wrong) refl

@@ -1,22 +1,22 @@
 -- A block as far as it is read, and the item at its end.
-use Rattle.pop_input.proofs.Words.{Block, Bool, Command, IsNew, List, None, Option, Reading, ReadsWord, Some, State, Takes, TakesLine, TakesPart, TextLine, TextWord, Word, WordTooLong, [], among, ap, arith, at_line, block_fault, closes, command_of, false, fault_at, fault_of, has_begun, inr, inside, is_open, last_of, last_text, length, list_all, list_all-append, lt-ltb, no_short_form, noted, or_else, refl, section_of, sym, takes_none, text_of_line, text_word_of, true, ℕ, ◌++◌, ◌<◌, ◌∙◌, ◌∷◌, ◌≡◌, ◌≤◌, ◌⊎◌}
-use Rattle.pop_text.specs.Words.{Token as Part}
+use Rattle.pop_input.proofs.Words.{Block, Bool, Command, IsNew, List, None, Option, Reading, ReadsWord, Some, State, Takes, TakesLine, TakesPart, TextLine, TextWord, Word, WordTooLong, [], among, ap, arith, at_line, block_fault, closes, closes_none, command_of, false, fault_at, fault_of, has_begun, inr, last_of, last_text, length, list_all, list_all-append, lt-ltb, no_short_form, noted_text, or_else, refl, section_of, sym, takes_none, text_of_line, text_word_of, tokens_inside, true, ℕ, ◌++◌, ◌<◌, ◌∙◌, ◌∷◌, ◌≡◌, ◌≤◌, ◌⊎◌}
+use Rattle.pop_text.specs.Words.{Token}
 use Rattle.pop_input.specs.declared.names.TextWord.TheVariants.{Title, Author}
 use Rattle.pop_input.proofs.Taking.{takes_then}
 use Rattle.pop_input.proofs.Blocks.{said, block_more, block_line, begun_word, begun_line, inside_more, inside_none, inside_first, words_more, words_line, text_more, text_line}
 
 -- what a block says of its tokens
-pub record Tells (first : Bool) (block : Block) (done : List Part) : Type 0 where
+pub record Tells (first : Bool) (block : Block) (done : List Token) : Type 0 where
   pub begun : block.begun ≡ has_begun first done
   pub draft : block.draft ≡ said first done
-  pub title : block.title ≡ last_text Title [] (inside first done)
-  pub author : block.author ≡ last_text Author [] (inside first done)
+  pub title : block.title ≡ last_text Title [] (tokens_inside first done)
+  pub author : block.author ≡ last_text Author [] (tokens_inside first done)
 
 -- these tokens of the block are read, and it says what they say
 pub record BlockSoFar (first : Bool) (old new : Reading) (had left : Option (List ℕ)) (block : Block) : Type 0 where
-  pub done : List Part
+  pub done : List Token
   pub takes : Takes (among old) (among new) had left done
-  pub plain : list_all is_open done ≡ true
+  pub plain : list_all closes_none done ≡ true
   pub fault : block.fault ≡ block_fault first done
   pub told : block.fault ≡ None → Tells first block done
   pub on : old.used ≤ new.used
@@ -38,25 +38,25 @@ long_fault begun state text long = rw (lt-ltb 160 (length text) long) refl
 
 -- Texts behind one more token.
 
-title_line : (first : Bool) (done : List Part) (line : ℕ) (name rest : List ℕ) (keyword : TextWord) (text had : List ℕ) (begun : Bool)
-    → begun ≡ has_begun first done → text_word_of name ≡ Some keyword → text ≡ text_of_line rest → had ≡ last_text Title [] (inside first done)
-    → noted begun Title had keyword text ≡ last_text Title [] (inside first (done ++ TextLine line name rest ∷ []))
+title_line : (first : Bool) (done : List Token) (line : ℕ) (name rest : List ℕ) (keyword : TextWord) (text had : List ℕ) (begun : Bool)
+    → begun ≡ has_begun first done → text_word_of name ≡ Some keyword → text ≡ text_of_line rest → had ≡ last_text Title [] (tokens_inside first done)
+    → noted_text begun Title had keyword text ≡ last_text Title [] (tokens_inside first (done ++ TextLine line name rest ∷ []))
 title_line first done line name rest keyword text had begun at is bytes before = grind (arith, text_line, inside_more, inside_none, inside_first)
 
-author_line : (first : Bool) (done : List Part) (line : ℕ) (name rest : List ℕ) (keyword : TextWord) (text had : List ℕ) (begun : Bool)
-    → begun ≡ has_begun first done → text_word_of name ≡ Some keyword → text ≡ text_of_line rest → had ≡ last_text Author [] (inside first done)
-    → noted begun Author had keyword text ≡ last_text Author [] (inside first (done ++ TextLine line name rest ∷ []))
+author_line : (first : Bool) (done : List Token) (line : ℕ) (name rest : List ℕ) (keyword : TextWord) (text had : List ℕ) (begun : Bool)
+    → begun ≡ has_begun first done → text_word_of name ≡ Some keyword → text ≡ text_of_line rest → had ≡ last_text Author [] (tokens_inside first done)
+    → noted_text begun Author had keyword text ≡ last_text Author [] (tokens_inside first (done ++ TextLine line name rest ∷ []))
 author_line first done line name rest keyword text had begun at is bytes before = grind (arith, text_line, inside_more, inside_none, inside_first)
 
-words_inside : (first : Bool) (done : List Part) (line : ℕ) (name rest : List ℕ) (begun : Bool) → begun ≡ has_begun first done
+words_inside : (first : Bool) (done : List Token) (line : ℕ) (name rest : List ℕ) (begun : Bool) → begun ≡ has_begun first done
     → said first done ≡ said first (done ++ TextLine line name rest ∷ [])
 words_inside first done line name rest begun at = grind (arith, words_line, inside_more, inside_none, inside_first)
 
 module _ (first : Bool) (old mid new : Reading) (had met left : Option (List ℕ)) (block next : Block) (b : BlockSoFar first old mid had met block) where
-  pub takes_more : (part : Part) → TakesPart mid new met left part → Takes (among old) (among new) had left (b.done ++ part ∷ [])
+  pub takes_more : (part : Token) → TakesPart mid new met left part → Takes (among old) (among new) had left (b.done ++ part ∷ [])
   takes_more part t = takes_then (among old) (among mid) (among new) had met left b.done (part ∷ []) b.takes t.0
 
-  goes_on : (part : Part) → TakesPart mid new met left part → old.used < new.used
+  goes_on : (part : Token) → TakesPart mid new met left part → old.used < new.used
   goes_on part t = let on = b.on in let step = t.1.0 in omega (arith, on, step)
 
   -- a text line

@@ -1,5 +1,5 @@
 -- Men that are put without a fault.
-use Rattle.pop_input.proofs.Words.{ArePut, Bool, Colour, Err, HasNoKing, IsSome, King, List, Man, MatchResult, None, Ok, Option, PawnOnOuterRank, Result, SecondKing, Setup, Some, SquareTaken, [], arith, cases_Bool, cases_eq, cases_lt, false, fault_if, get_or, if◌then◌else◌, inl, inr, is_man, is_pawn_inside, is_some, is_there, length, length-set, man_fault, man_on, no_men, not, refl, repeat, same_kind, set_past, stands, suc, true, with_man, zero, ℕ, ◌&&◌, ◌∙◌, ◌∷◌, ◌≡◌}
+use Rattle.pop_input.proofs.Words.{ArePut, Bool, Colour, Diagram, Err, HasNoKing, IsSome, King, List, Man, MatchResult, None, Ok, Option, PawnOnOuterRank, Result, SecondKing, Some, SquareTaken, [], arith, cases_Bool, cases_eq, cases_lt, false, fault_if, get_or, if◌then◌else◌, inl, inr, is_man, is_pawn_inside, is_some, is_there, length, length-set, man_fault, man_on, no_men, not, refl, repeat, same_kind, set_past, stands, suc, true, with_man, zero, ℕ, ◌&&◌, ◌∙◌, ◌∷◌, ◌≡◌}
 use Rattle.std.proofs.Math.ListN.{get_or-eq_default}
 use Rattle.chess_core.specs.declared.diagram.Taken.{Taken}
 use Rattle.chess_core.proofs.Men.{AtMostOneKing-with, man_on-with_same, man_on-with_other}
@@ -43,7 +43,7 @@ fits_by : (taken inside king second : Bool) → (if taken then Some SquareTaken
 fits_by taken inside king second h = grind arith
 
 -- a man that is put without a fault, or not put
-pub put_keeps : (r : Result (Unit {0}) Taken) (old new : Setup) (square : ℕ) (man : Man)
+pub put_keeps : (r : Result (Unit {0}) Taken) (old new : Diagram) (square : ℕ) (man : Man)
     → MatchResult r (λ _. (man_on old.men square ≡ None) × (new ≡ record old { men = with_man old.men square man })) (λ _. IsSome (man_on old.men square) × (new
     ≡ old)) → man_fault old.men man square ≡ None → ArePut old.men → ArePut new.men
 put_keeps (Ok done) old new square man did none put =

@@ -1,6 +1,6 @@
 -- Plain words behind a fault change nothing.
-use Rattle.pop_input.proofs.Words.{Block, Bool, Fault, List, None, Option, Reading, Skips, Some, [], among, append-nil, append_assoc, arith, block_fault, closes, codes, command_of, false, inl, inr, is_named, is_open, is_plain, is_short_form, list_all, list_all-append, plain_no_closing, refl, sym, true, ℕ, ◌++◌, ◌<◌, ◌∙◌, ◌∷◌, ◌≡◌, ◌⊎◌}
-use Rattle.pop_text.specs.Words.{Token as Part}
+use Rattle.pop_input.proofs.Words.{Block, Bool, Fault, List, None, Option, Reading, Skips, Some, [], among, append-nil, append_assoc, arith, block_fault, closes, closes_none, codes, command_of, false, inl, inr, is_named, is_plain, is_short_form, list_all, list_all-append, plain_no_closing, refl, sym, true, ℕ, ◌++◌, ◌<◌, ◌∙◌, ◌∷◌, ◌≡◌, ◌⊎◌}
+use Rattle.pop_text.specs.Words.{Token}
 use Rattle.pop_input.proofs.Blocks.{block_more}
 use Rattle.pop_input.proofs.Items.{BlockSoFar}
 use Rattle.pop_input.proofs.Taking.{takes_then}
@@ -10,17 +10,17 @@ unfolding command_of
 no_closing text begins is plain = grind (arith, plain_no_closing)
 
 -- a plain word closes no block
-plain_open : (token : Part) → is_plain token ≡ true → is_open token ≡ true
+plain_open : (token : Token) → is_plain token ≡ true → closes_none token ≡ true
 plain_open token h = grind (arith, no_closing)
 
-plain_all : (tokens : List Part) → list_all is_plain tokens ≡ true → list_all is_open tokens ≡ true
+plain_all : (tokens : List Token) → list_all is_plain tokens ≡ true → list_all closes_none tokens ≡ true
 plain_all [] h = refl
 plain_all (token ∷ tokens) h = grind (arith, plain_open, plain_all tokens)
 
 -- the first fault stays
-fault_stays : (first : Bool) (fault : Fault) (done tokens : List Part) → list_all is_plain tokens ≡ true → block_fault first done ≡ Some fault
+fault_stays : (first : Bool) (fault : Fault) (done tokens : List Token) → list_all is_plain tokens ≡ true → block_fault first done ≡ Some fault
     → block_fault first (done ++ tokens) ≡ Some fault
-fault_stays first fault done [] h is = grind (arith, append-nil {A = Part})
+fault_stays first fault done [] h is = grind (arith, append-nil {A = Token})
 fault_stays first fault done (token ∷ tokens) h is = grind (arith, append_assoc, block_more, fault_stays first fault (done ++ token ∷ []) tokens)
 
 module _ (first : Bool) (old mid new : Reading) (had left : Option (List ℕ)) (block : Block) (b : BlockSoFar first old mid had left block)
@@ -29,7 +29,7 @@ module _ (first : Bool) (old mid new : Reading) (had left : Option (List ℕ)) (
   behind_fault fault is = record {
     done = b.done ++ s.tokens;
     takes = takes_then (among old) (among mid) (among new) had left left b.done s.tokens b.takes (s.takes left);
-    plain = list_all-append is_open b.done s.tokens ∙ rw (b.plain, plain_all s.tokens s.plain) refl;
+    plain = list_all-append closes_none b.done s.tokens ∙ rw (b.plain, plain_all s.tokens s.plain) refl;
     fault = is ∙ sym (fault_stays first fault b.done s.tokens s.plain (sym b.fault ∙ is));
     told = λ none. absurd (let two : Some fault ≡ None = sym is ∙ none in cc);
     on = omega (arith, b.on, s.on);

@@ -1,27 +1,27 @@
 -- Calls that take tokens, one after another.
-use Rattle.pop_input.proofs.Words.{Clean, Device, Err, GoesOn, Input, List, MayFollow, NextToken, Ok, Option, ReadFault, Reading, RestOfLine, Some, Spot, Takes, TakesNone, TakesWord, TextLine, TextWord, TooLong, [], after, among, append_assoc, arith, behind_word, consumes_then, is_text_word, length-append, limit, refl, subst, text_word_of, true, ℕ, ◌++◌, ◌∷◌, ◌≡◌, ◌≤◌}
-use Rattle.pop_text.specs.Words.{Token as Part}
+use Rattle.pop_input.proofs.Words.{Clean, Device, Err, GoesOn, Input, List, MayFollow, NextToken, Ok, Option, ReadFault, Reading, RestOfLine, Some, Spot, Takes, TakesNone, TakesWord, TextLine, TextWord, TooLong, [], among, append_assoc, arith, behind_word, consumes_then, is_text_word, length-append, limit, onto_input, refl, subst, text_word_of, true, ℕ, ◌++◌, ◌∷◌, ◌≡◌, ◌≤◌}
+use Rattle.pop_text.specs.Words.{Token}
 use Rattle.pop_text.specs.declared.read_fault.ReadFault.TheVariants.{InputTooLong}
 use Rattle.pop_text.specs.declared.scanner.End.{End}
 use Rattle.pop_text.specs.declared.scanner.End.TheVariants.{Open}
 use Rattle.pop_text.specs.declared.word.Word.{Word as Room}
-use Rattle.pop_input.specs.declared.token.Token.TheVariants.{Line, Cut}
+use Rattle.pop_input.specs.declared.token.ReadToken.TheVariants.{Line, Cut}
 
 -- a source may go on somehow
 pub some_rest : (end : End) → (rest : Input) × MayFollow end rest
 some_rest Open = (record { bytes = []; ending = Clean }, tt)
 some_rest end = grind arith
 
-pub after_both : (xs ys : List ℕ) (rest : Input) → after (xs ++ ys) rest ≡ after xs (after ys rest)
+pub after_both : (xs ys : List ℕ) (rest : Input) → onto_input (xs ++ ys) rest ≡ onto_input xs (onto_input ys rest)
 after_both xs ys rest = rw (append_assoc xs ys rest.bytes) refl
 
-pub takes_then : (a b c : Spot) (had mid left : Option (List ℕ)) (xs ys : List Part) → Takes a b had mid xs → Takes b c mid left ys
+pub takes_then : (a b c : Spot) (had mid left : Option (List ℕ)) (xs ys : List Token) → Takes a b had mid xs → Takes b c mid left ys
     → Takes a c had left (xs ++ ys)
 takes_then a b c had mid left xs ys p q = record {
   bytes = p.bytes ++ q.bytes;
   taken = consumes_then had mid left p.bytes q.bytes p.taken q.taken;
   amount = omega (arith, p.amount, q.amount, length-append p.bytes q.bytes);
-  follows = λ rest may. rw (after_both p.bytes q.bytes rest) (p.follows (after q.bytes rest) (q.follows rest may));
+  follows = λ rest may. rw (after_both p.bytes q.bytes rest) (p.follows (onto_input q.bytes rest) (q.follows rest may));
   begin = λ rest may. grind (arith, append_assoc);
 }
 

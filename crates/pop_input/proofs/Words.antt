@@ -6,9 +6,9 @@ pub use Rattle.std.proofs.lemmas.List.Folds.{list_all-append}
 pub use Rattle.std.specs.Char.{to_ascii_lowercase}
 pub use Rattle.std.specs.List.{flat_map, list_all, list_any, onto_first, repeat, slice_split, starts_with}
 pub use Rattle.std.specs.Prelude.{MatchResult, codes, nat_eq, option_map}
-pub use Rattle.chess_core.specs.Castling.{castling_squares, is_castling, with_unmoved}
+pub use Rattle.chess_core.specs.Castling.{castling_squares, is_castling_square, with_unmoved}
 unfoldable pub use Rattle.chess_core.specs.Castling.{has_unmoved, mark_unmoved, none_unmoved}
-pub use Rattle.chess_core.specs.Diagrams.{Setup, has_men}
+pub use Rattle.chess_core.specs.Diagrams.{Diagram, has_men}
 unfoldable pub use Rattle.chess_core.specs.Diagrams.{is_taken, is_there, position_of, stands}
 pub use Rattle.chess_core.specs.Position.{HasNoKing, is_man, man_on, other, same_kind, with_man}
 unfoldable pub use Rattle.chess_core.specs.Position.{king_square}
@@ -18,7 +18,7 @@ pub use Rattle.chess_core.specs.declared.man.Colour.{Colour}
 pub use Rattle.chess_core.specs.declared.man.Kind.{Kind}
 pub use Rattle.chess_core.specs.declared.man.Kind.TheVariants.{King, Rook}
 pub use Rattle.chess_core.specs.declared.man.Man.{Man}
-unfoldable pub use Rattle.chess_rules.specs.Attacks.{attacked, faces, faces_its_like, in_check, paralysed, strikes}
+unfoldable pub use Rattle.chess_rules.specs.Attacks.{faces, faces_its_like, in_check, is_attacked, is_paralysed, strikes}
 pub use Rattle.pop_text.proofs.Left.{longer, no_short_form}
 pub use Rattle.pop_text.proofs.Plain.{plain_no_closing, takes_none}
 pub use Rattle.pop_text.proofs.Using.{asks_none, asks_then, consumes_then, uses_none, uses_then}
@@ -26,12 +26,12 @@ pub use Rattle.pop_text.specs.Words.{Clean, Ending, Failed, Input, Long, Tail, T
 unfoldable pub use Rattle.pop_text.specs.Words.{limit}
 pub use Rattle.pop_text.specs.declared.read_fault.ReadFault.{ReadFault}
 pub use Rattle.pop_text.specs.declared.read_fault.ReadFault.TheVariants.{Device, TooLong}
-pub use Rattle.pop_text.specs.ties.Left.{GoesOn, IsOver, MayFollow, RestOfLine, Spot, Takes, TakesNone, TakesWord, after, among, behind_word, no_words, put_before, words_left}
+pub use Rattle.pop_text.specs.ties.Left.{GoesOn, IsOver, MayFollow, RestOfLine, Spot, Takes, TakesNone, TakesWord, among, behind_word, no_words, onto_input, put_before, words_left}
 pub use Rattle.pop_text.specs.ties.Plain.{Skips, is_named, is_plain}
 pub use Rattle.pop_text.specs.ties.Reading.{Asks, Reading, Uses, UsesAll}
 pub use Rattle.pop_text.specs.ties.Runs.{IsRunOver, Peeks, Sticks, UsesLine, UsesRun, UsesWord}
-pub use Rattle.pop_input.specs.Blocks.{Entry, Sound, block_entries, block_fault, blocks_of, closed_entry, closing_line, closing_of, cut_by, entries_by, entries_of, entry_of, first_fault, has_begun, inside, is_open, last_text, line_of, more_entries, problem_of, tail_fault, text_after, words_before}
-pub use Rattle.pop_input.specs.Ends.{ArePut, counts, posed_of, position_fault, setup_fault, setup_of, stated_fault}
+pub use Rattle.pop_input.specs.Blocks.{Entry, Sound, before_blocks, block_entries, block_fault, blocks_of, closed_entry, closes_none, closing_line, closing_of, entries_by, entries_of, entry_of, first_fault, has_begun, last_text, line_of, more_entries, problem_of, tail_fault, text_after, tokens_inside, words_before}
+pub use Rattle.pop_input.specs.Ends.{ArePut, counts_as_unmoved, diagram_fault, diagram_of, posed_of, position_fault, stated_fault}
 unfoldable pub use Rattle.pop_input.specs.Ends.{end_fault_in, unmoved_of}
 pub use Rattle.pop_input.specs.FaultKinds.{at_line, fault_at, number_of}
 unfoldable pub use Rattle.pop_input.specs.FaultKinds.{kind_numbered}
@@ -39,7 +39,7 @@ pub use Rattle.pop_input.specs.Names.{closes, or_else}
 unfoldable pub use Rattle.pop_input.specs.Names.{awaited_of, colour_of, command_of, condition_of, kind_of, option_of, section_of, text_word_of}
 pub use Rattle.pop_input.specs.Posed.{rule_of}
 pub use Rattle.pop_input.specs.State.{State, no_men, put_men, state_of}
-pub use Rattle.pop_input.specs.Stipulations.{has_king_to_mate, starts}
+pub use Rattle.pop_input.specs.Stipulations.{has_king_to_mate, starting_side}
 pub use Rattle.pop_input.specs.Values.{before_squares, is_digit, most_solutions, square_by, squares_from, stipulation_in_small_letters, value_of}
 unfoldable pub use Rattle.pop_input.specs.Values.{limit_of, squares_of, stipulation_of}
 pub use Rattle.pop_input.specs.WordFaults.{barred_fault, begin_fault, condition_fault, control_fault, fault_if, fault_of, letter_fault, man_fault, men_fault, pieces_fault, put_fault, role_fault, stipulation_fault}
@@ -54,7 +54,7 @@ pub use Rattle.pop_input.specs.declared.names.Command.TheVariants.{Enter}
 pub use Rattle.pop_input.specs.declared.names.TextWord.{TextWord}
 pub use Rattle.pop_input.specs.declared.reader.Next.TheVariants.{First, Later, Nothing}
 pub use Rattle.pop_input.specs.declared.stipulation.Stipulation.{Stipulation}
-pub use Rattle.pop_input.specs.ties.Closings.{Closes, IsNew, ReadsWord, TakesLine, closing_fault, cut_fault, ended_by, ended_item, last_of, noted, said_after, text_with, told_of_cut}
+pub use Rattle.pop_input.specs.ties.Closings.{Closes, IsNew, ReadsWord, TakesLine, closing_fault, cut_fault, ended_by, ended_item, last_of, noted_text, said_after, text_with, told_of_cut}
 pub use Rattle.pop_input.specs.ties.Standing.{IsNumbered, NextItem, Reads, Standing, entries_at, entries_left, next_behind}
 pub use Rattle.pop_input.specs.ties.Tokens.{CutsOff, NextToken, TakesNothing, TakesPart, UsesSome, UsesToken}
 pub use Rattle.pop_input.specs.ties.Used.{IsClosed, IsInputOver, IsUnclosed, UsesEntry, UsesItem, UsesTokens}

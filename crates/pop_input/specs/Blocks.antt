@@ -32,11 +32,11 @@ has_begun true ((Word line text) ∷ tokens) = true
 has_begun true ((TextLine line keyword text) ∷ tokens) = has_begun true tokens
 
 -- the tokens of the problem itself
-abbrev pub inside : Bool → List Token → List Token
-inside false tokens = tokens
-inside true [] = []
-inside true ((Word line text) ∷ tokens) = tokens
-inside true ((TextLine line keyword text) ∷ tokens) = inside true tokens
+abbrev pub tokens_inside : Bool → List Token → List Token
+tokens_inside false tokens = tokens
+tokens_inside true [] = []
+tokens_inside true ((Word line text) ∷ tokens) = tokens
+tokens_inside true ((TextLine line keyword text) ∷ tokens) = tokens_inside true tokens
 
 -- The first fault of the words of a problem after the words before, and of those of a block.
 
@@ -55,27 +55,27 @@ block_fault true ((Word line text) ∷ tokens) = or_else
     (at_line line (fault_of false (state_of []) text)) (first_fault [] tokens)
 block_fault true ((TextLine line keyword text) ∷ tokens) = block_fault true tokens
 
--- whether a token closes its block
+-- the command that a token is, if it is one
 abbrev pub closing_of : Token → Option Command
 closing_of (Word line text) = command_of text
 closing_of (TextLine line keyword text) = None
 
 -- a token that closes no block
-abbrev pub is_open : Token → Bool
-is_open token = not (closes (closing_of token))
+abbrev pub closes_none : Token → Bool
+closes_none token = not (closes (closing_of token))
 
 -- a token before blocks, the first of which it may close
-abbrev pub cut_by : Option Command → Token → List (List Token) → List (List Token)
-cut_by (Some Next) token blocks = (token ∷ []) ∷ blocks
-cut_by (Some Last) token blocks = (token ∷ []) ∷ []
-cut_by (Some Begin) token blocks = onto_first token blocks
-cut_by (Some (Enter section)) token blocks = onto_first token blocks
-cut_by None token blocks = onto_first token blocks
+abbrev pub before_blocks : Option Command → Token → List (List Token) → List (List Token)
+before_blocks (Some Next) token blocks = (token ∷ []) ∷ blocks
+before_blocks (Some Last) token blocks = (token ∷ []) ∷ []
+before_blocks (Some Begin) token blocks = onto_first token blocks
+before_blocks (Some (Enter section)) token blocks = onto_first token blocks
+before_blocks None token blocks = onto_first token blocks
 
 -- cut after each NextProblem and EndProblem, up to the first EndProblem
 abbrev pub blocks_of : List Token → List (List Token)
 blocks_of [] = [] ∷ []
-blocks_of (token ∷ tokens) = cut_by (closing_of token) token (blocks_of tokens)
+blocks_of (token ∷ tokens) = before_blocks (closing_of token) token (blocks_of tokens)
 
 -- the line in which a token stands
 abbrev pub line_of : Token → ℕ
@@ -145,7 +145,7 @@ closed_entry fault line tokens = entry_of
 -- by the word fault, and the line of the closing word
 abbrev pub entries_by : Option Fault → Option ℕ → Bool → Tail → ℕ → List Token → List Entry
 entries_by fault (Some line) first tail tail_line block = closed_entry fault line
-    (inside first block) ∷ []
+    (tokens_inside first block) ∷ []
 entries_by (Some fault) None first tail tail_line block = Faulty fault ∷ more_entries tail tail_line
 entries_by None None first tail tail_line block = Faulty
     (fault_at (tail_fault (has_begun first block) tail) tail_line) ∷ []

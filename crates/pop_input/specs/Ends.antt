@@ -3,7 +3,7 @@ use Rattle.pop_input.specs.declared.fault_kind.FaultKind.{FaultKind}
 use Rattle.pop_input.specs.declared.fault_kind.FaultKind.TheVariants.{StipulationMissing, NoMen, EnPassantImpossible, KingMissing, WaitingSideInCheck}
 use Rattle.std.specs.Prelude.{◌≡◌, ℕ, List, length, fold, not, ◌&&◌, Bool, true, if◌then◌else◌, Option, Some, None, unwrap_or}
 use Rattle.chess_core.specs.Castling.{castling_squares, has_unmoved, mark_unmoved, none_unmoved}
-use Rattle.chess_core.specs.Diagrams.{Setup, has_men}
+use Rattle.chess_core.specs.Diagrams.{Diagram, has_men}
 use Rattle.chess_core.specs.Position.{AtMostOneKing, man_on, other}
 use Rattle.chess_core.specs.WellFormed.{is_crossed_right, is_home, is_pawn_inside}
 use Rattle.chess_core.specs.declared.man.Man.{Man}
@@ -11,7 +11,7 @@ use Rattle.chess_core.specs.declared.man.Unmoved.{Unmoved}
 use Rattle.chess_rules.specs.Attacks.{in_check}
 use Rattle.pop_input.specs.Posed.{Posed, rule_of}
 use Rattle.pop_input.specs.State.{State}
-use Rattle.pop_input.specs.Stipulations.{starts, has_king_to_mate, is_in_range}
+use Rattle.pop_input.specs.Stipulations.{starting_side, has_king_to_mate, is_in_range}
 use Rattle.pop_input.specs.declared.stipulation.Form.{Form}
 use Rattle.pop_input.specs.declared.stipulation.Form.TheVariants.{Direct}
 use Rattle.pop_input.specs.declared.stipulation.Goal.TheVariants.{Mate}
@@ -20,31 +20,33 @@ use Rattle.pop_input.specs.declared.stipulation.Stipulation.{Stipulation}
 -- The diagram.
 
 -- whether a square counts as unmoved: the king or rook that castles from it stands there, and NoCastling does not name it (Codex)
-abbrev pub counts : List (Option Man) → Unmoved → ℕ → Bool
-counts men barred square = is_home (man_on men square) square && not (has_unmoved barred square)
+abbrev pub counts_as_unmoved : List (Option Man) → Unmoved → ℕ → Bool
+counts_as_unmoved men barred square =
+    is_home (man_on men square) square && not (has_unmoved barred square)
 
 -- the castling squares that count as unmoved
 unfoldable pub unmoved_of : List (Option Man) → Unmoved → Unmoved
-unmoved_of men barred = fold (λ set square. mark_unmoved set square (counts men barred square))
+unmoved_of men barred =
+    fold (λ set square. mark_unmoved set square (counts_as_unmoved men barred square))
     none_unmoved castling_squares
 
 -- the diagram that words pose: who starts is said by the form
-abbrev pub setup_of : State → Form → Setup
-setup_of state form = record {
+abbrev pub diagram_of : State → Form → Diagram
+diagram_of state form = record {
   men = state.men;
-  turn = starts form;
+  turn = starting_side form;
   unmoved = unmoved_of state.men state.barred;
   crossed = state.crossed;
 }
 
--- for words without one
+-- that of a block without one, whose fault it is: no item shows it
 abbrev pub no_stipulation : Stipulation
 no_stipulation = record { form = Direct; goal = Mate; n = 1 }
 
 -- the problem that words pose with this stipulation
 abbrev pub posed_by : State → Stipulation → List ℕ → List ℕ → Posed
 posed_by state stipulation title author = record {
-  diagram = setup_of state stipulation.form;
+  diagram = diagram_of state stipulation.form;
   stipulation = stipulation;
   condition = state.condition;
   set_play = state.switches.set_play;
@@ -68,18 +70,19 @@ position_fault has_king in_check = if not has_king then Some KingMissing
     else (if in_check then Some WaitingSideInCheck else None)
 
 -- no men, en passant not possible, and the faults of the position
-abbrev pub setup_fault : State → Stipulation → Setup → Option FaultKind
-setup_fault state stipulation setup =
-    if not (has_men setup.men) then Some NoMen
-    else (if not (is_crossed_right setup.men setup.turn setup.crossed) then Some EnPassantImpossible
-    else position_fault (has_king_to_mate stipulation setup.men)
-    (in_check (rule_of state.condition) setup.men (other setup.turn)))
+abbrev pub diagram_fault : State → Stipulation → Diagram → Option FaultKind
+diagram_fault state stipulation diagram =
+    if not (has_men diagram.men) then Some NoMen
+    else (if not (is_crossed_right diagram.men diagram.turn diagram.crossed)
+    then Some EnPassantImpossible
+    else position_fault (has_king_to_mate stipulation diagram.men)
+    (in_check (rule_of state.condition) diagram.men (other diagram.turn)))
 
 -- no stipulation, or a fault of the diagram
 abbrev pub stated_fault : State → Option Stipulation → Option FaultKind
 stated_fault state None = Some StipulationMissing
-stated_fault state (Some stipulation) = setup_fault state stipulation
-    (setup_of state stipulation.form)
+stated_fault state (Some stipulation) = diagram_fault state stipulation
+    (diagram_of state stipulation.form)
 
 -- the fault at the end of a block whose words have none
 unfoldable pub end_fault_in : State → Option FaultKind

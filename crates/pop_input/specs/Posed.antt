@@ -1,18 +1,18 @@
 -- A problem as it is posed.
 use Rattle.std.specs.Prelude.{◌≡◌, ◌≤◌, ℕ, Bool, true, false, List, Option, Some, None}
-use Rattle.chess_core.specs.Diagrams.{Setup, position_of}
+use Rattle.chess_core.specs.Diagrams.{Diagram, position_of}
 use Rattle.chess_core.specs.Position.{other}
 use Rattle.chess_core.specs.WellFormed.{IsWellFormed}
 use Rattle.chess_rules.specs.Attacks.{in_check}
 use Rattle.chess_rules.specs.RuleSet.{RuleSet, orthodox, circe, madrasi}
-use Rattle.pop_input.specs.Stipulations.{starts, has_king_to_mate, is_in_range}
+use Rattle.pop_input.specs.Stipulations.{starting_side, has_king_to_mate, is_in_range}
 use Rattle.pop_input.specs.declared.condition.Condition.{Condition}
 use Rattle.pop_input.specs.declared.condition.Condition.TheVariants.{Circe, Madrasi}
 use Rattle.pop_input.specs.declared.stipulation.Stipulation.{Stipulation}
 
 -- all that a problem says
 pub record Posed : Type 0 where
-  pub diagram : Setup
+  pub diagram : Diagram
   pub stipulation : Stipulation
   pub condition : Option Condition
   pub set_play : Bool
@@ -33,7 +33,7 @@ rule_of (Some Madrasi) = madrasi
 -- no check to the side that isn't to move (FIDE Laws 3.9), under the problem's condition.
 pub record IsSound (posed : Posed) : Type 0 where
   pub well_formed : IsWellFormed (position_of posed.diagram)
-  pub turn : posed.diagram.turn ≡ starts posed.stipulation.form
+  pub turn : posed.diagram.turn ≡ starting_side posed.stipulation.form
   pub range : is_in_range posed.stipulation ≡ true
   pub some_solution : 1 ≤ posed.max_solutions
   pub limit : posed.max_solutions ≤ 4000000000

@@ -9,7 +9,7 @@ use Rattle.chess_core.specs.declared.man.Kind.{Kind}
 use Rattle.chess_core.specs.declared.man.Man.{Man}
 use Rattle.chess_core.specs.declared.man.Unmoved.{Unmoved}
 use Rattle.pop_input.specs.Names.{command_of, colour_of, kind_of, condition_of, option_of, or_else}
-use Rattle.pop_input.specs.Values.{squares_of, only, limit_of, most_solutions, stipulation_of}
+use Rattle.pop_input.specs.Values.{squares_of, only_square, limit_of, most_solutions, stipulation_of}
 use Rattle.pop_input.specs.declared.condition.Condition.{Condition}
 use Rattle.pop_input.specs.declared.place.Role.{Role}
 use Rattle.pop_input.specs.declared.place.Role.TheVariants.{Limit, CrossedSquare, BarredSquares, Control, Within}
@@ -46,9 +46,9 @@ abbrev pub role_of : Place → List ℕ → Role
 role_of place text = role_by place.awaited place text
 
 -- the section that is open behind a word
-abbrev pub opened_by : Option Section → Role → Option Section
-opened_by section (Control (Enter opened)) = Some opened
-opened_by section _ = section
+abbrev pub section_by : Option Section → Role → Option Section
+section_by section (Control (Enter opened)) = Some opened
+section_by section _ = section
 
 -- what an option awaits
 abbrev pub awaited_by : Option OptionWord → Option Awaited
@@ -64,7 +64,7 @@ awaited_after _ text = None
 -- the place behind one more word
 abbrev pub place_after : Role → Place → List ℕ → Place
 place_after role place text = record {
-  section = opened_by place.section role;
+  section = section_by place.section role;
   awaited = awaited_after role text;
 }
 
@@ -171,7 +171,7 @@ limit_at (text ∷ before) = limit_by (role_at before text) text (limit_at befor
 
 -- the crossed square behind one more word
 abbrev pub crossed_by : Role → List ℕ → Option ℕ → Option ℕ
-crossed_by CrossedSquare text old = or_else (only (squares_of text)) old
+crossed_by CrossedSquare text old = or_else (only_square (squares_of text)) old
 crossed_by _ text old = old
 
 -- the square of the last EnPassant

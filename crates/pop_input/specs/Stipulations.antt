@@ -17,26 +17,19 @@ is_help SelfMate = false
 is_help Help = true
 is_help HelpHalf = true
 
--- the goal is to befall White
-abbrev pub is_selfmate : Form → Bool
-is_selfmate Direct = false
-is_selfmate SelfMate = true
-is_selfmate Help = false
-is_selfmate HelpHalf = false
-
 -- the side that makes the first half-move of the play
-abbrev pub starts : Form → Colour
-starts Direct = White
-starts SelfMate = White
-starts Help = Black
-starts HelpHalf = White
+abbrev pub starting_side : Form → Colour
+starting_side Direct = White
+starting_side SelfMate = White
+starting_side Help = Black
+starting_side HelpHalf = White
 
 -- the side that is to be mated or stalemated
-abbrev pub mated : Form → Colour
-mated Direct = Black
-mated SelfMate = White
-mated Help = Black
-mated HelpHalf = Black
+abbrev pub mated_side : Form → Colour
+mated_side Direct = Black
+mated_side SelfMate = White
+mated_side Help = Black
+mated_side HelpHalf = Black
 
 -- the number of the play's first half-move: 2 where Black's half of the first move is left out
 abbrev pub first_half : Form → ℕ
@@ -64,7 +57,7 @@ is_for_stalemate Stalemate = true
 -- among these men stands the king that is to be mated; stalemate asks for none
 abbrev pub has_king_to_mate : Stipulation → List (Option Man) → Bool
 has_king_to_mate stipulation men = is_for_stalemate stipulation.goal
-    || is_some (king_square men (mated stipulation.form))
+    || is_some (king_square men (mated_side stipulation.form))
 
 -- the most moves of a stipulation
 abbrev pub most_moves : ℕ

@@ -33,11 +33,11 @@ squares_of [] = None
 squares_of (b ∷ text) = squares_from (b ∷ text)
 
 -- the one square of a word of a single square
-abbrev pub only : Option (List ℕ) → Option ℕ
-only (Some (square ∷ [])) = Some square
-only (Some []) = None
-only (Some (square ∷ other ∷ squares)) = None
-only None = None
+abbrev pub only_square : Option (List ℕ) → Option ℕ
+only_square (Some (square ∷ [])) = Some square
+only_square (Some []) = None
+only_square (Some (square ∷ other ∷ squares)) = None
+only_square None = None
 
 -- a digit in ASCII
 abbrev pub is_digit : ℕ → Bool
@@ -62,7 +62,7 @@ abbrev pub goal_of : ℕ → Option Goal
 goal_of sign = if sign == mate_sign then Some Mate
     else (if sign == stalemate_sign then Some Stalemate else None)
 
--- the number that one digit writes, or two of which the first isn't 0
+-- the number that one digit writes
 abbrev pub one_digit : ℕ → Option ℕ
 one_digit a = if is_digit a then Some (a - digit_0) else None
 
@@ -72,30 +72,30 @@ two_digits a b = if (is_digit a && not (a == digit_0))
     && is_digit b then Some (10 * (a - digit_0) + (b - digit_0)) else None
 
 -- a form with its goal and its number of moves, if it has both and may have the number
-abbrev pub stated : Form → Option Goal → Option ℕ → Option Stipulation
-stated form (Some goal) (Some n) = if may_have form n
+abbrev pub stipulation_with : Form → Option Goal → Option ℕ → Option Stipulation
+stipulation_with form (Some goal) (Some n) = if may_have form n
     then Some (record { form = form; goal = goal; n = n }) else None
-stated form None _ = None
-stated form (Some goal) None = None
+stipulation_with form None _ = None
+stipulation_with form (Some goal) None = None
 
 -- `#n`, `s#n`, `h#n` and `h#n.5`, and the same with `=`, in small letters
 abbrev pub stipulation_in_small_letters : List ℕ → Option Stipulation
 stipulation_in_small_letters [] = None
 stipulation_in_small_letters (a ∷ []) = None
-stipulation_in_small_letters (a ∷ n ∷ []) = stated Direct (goal_of a) (one_digit n)
+stipulation_in_small_letters (a ∷ n ∷ []) = stipulation_with Direct (goal_of a) (one_digit n)
 stipulation_in_small_letters (a ∷ b ∷ n ∷ []) =
-    if a == selfmate_letter then stated SelfMate (goal_of b) (one_digit n)
-    else (if a == help_letter then stated Help (goal_of b) (one_digit n)
-    else stated Direct (goal_of a) (two_digits b n))
+    if a == selfmate_letter then stipulation_with SelfMate (goal_of b) (one_digit n)
+    else (if a == help_letter then stipulation_with Help (goal_of b) (one_digit n)
+    else stipulation_with Direct (goal_of a) (two_digits b n))
 stipulation_in_small_letters (a ∷ b ∷ m ∷ n ∷ []) =
-    if a == selfmate_letter then stated SelfMate (goal_of b) (two_digits m n)
-    else (if a == help_letter then stated Help (goal_of b) (two_digits m n) else None)
+    if a == selfmate_letter then stipulation_with SelfMate (goal_of b) (two_digits m n)
+    else (if a == help_letter then stipulation_with Help (goal_of b) (two_digits m n) else None)
 stipulation_in_small_letters (a ∷ b ∷ n ∷ c ∷ d ∷ []) =
     if (a == help_letter) && ((c == point) && (d == digit_5))
-    then stated HelpHalf (goal_of b) (one_digit n) else None
+    then stipulation_with HelpHalf (goal_of b) (one_digit n) else None
 stipulation_in_small_letters (a ∷ b ∷ m ∷ n ∷ c ∷ d ∷ []) =
     if (a == help_letter) && ((c == point) && (d == digit_5))
-    then stated HelpHalf (goal_of b) (two_digits m n) else None
+    then stipulation_with HelpHalf (goal_of b) (two_digits m n) else None
 stipulation_in_small_letters (a ∷ b ∷ m ∷ n ∷ c ∷ d ∷ e ∷ text) = None
 
 -- the stipulation that a word states

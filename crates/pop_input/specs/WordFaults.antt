@@ -4,7 +4,7 @@ use Rattle.pop_input.specs.declared.fault_kind.FaultKind.TheVariants.{BeginProbl
 use Rattle.std.specs.Prelude.{ℕ, List, [], ◌∷◌, length, nat_le, nat_lt, not, ◌&&◌, ◌||◌, Bool, if◌then◌else◌, Option, Some, None, is_some}
 use Rattle.std.specs.Prelude.{◌==◌}
 use Rattle.std.specs.List.{list_any, list_all}
-use Rattle.chess_core.specs.Castling.{is_castling}
+use Rattle.chess_core.specs.Castling.{is_castling_square}
 use Rattle.chess_core.specs.Diagrams.{stands}
 use Rattle.chess_core.specs.Position.{man_on, same_kind, with_man}
 use Rattle.chess_core.specs.WellFormed.{is_pawn_inside}
@@ -14,7 +14,7 @@ use Rattle.chess_core.specs.declared.man.Kind.TheVariants.{King}
 use Rattle.chess_core.specs.declared.man.Man.{Man}
 use Rattle.pop_input.specs.Letters.{mate_sign, stalemate_sign}
 use Rattle.pop_input.specs.Names.{command_of, colour_of, kind_of, condition_of, option_of, or_else}
-use Rattle.pop_input.specs.Values.{squares_of, only, is_digit, limit_of, stipulation_of}
+use Rattle.pop_input.specs.Values.{squares_of, only_square, is_digit, limit_of, stipulation_of}
 use Rattle.pop_input.specs.State.{State, role_of}
 use Rattle.pop_input.specs.declared.condition.Condition.{Condition}
 use Rattle.pop_input.specs.declared.place.Role.{Role}
@@ -32,7 +32,7 @@ fault_if holds kind = if holds then Some kind else None
 -- of a word of NoCastling: no squares, or one from which none castles
 abbrev pub barred_fault : Option (List ℕ) → Option FaultKind
 barred_fault None = Some SquareMissing
-barred_fault (Some squares) = fault_if (not (list_all is_castling squares)) NoneCastlesThere
+barred_fault (Some squares) = fault_if (not (list_all is_castling_square squares)) NoneCastlesThere
 
 -- of a command: BeginProblem stands before the first problem alone
 abbrev pub control_fault : Command → Option FaultKind
@@ -102,7 +102,7 @@ section_fault state (Some Options) text = fault_if (not (is_some (option_of text
 -- of a word that is this
 abbrev pub role_fault : State → Role → List ℕ → Option FaultKind
 role_fault state Limit text = fault_if (not (is_some (limit_of text))) BadLimit
-role_fault state CrossedSquare text = fault_if (not (is_some (only (squares_of text))))
+role_fault state CrossedSquare text = fault_if (not (is_some (only_square (squares_of text))))
     SquareMissing
 role_fault state BarredSquares text = barred_fault (squares_of text)
 role_fault state (Control command) text = control_fault command

@@ -1,12 +1,12 @@
 //! Problems and faults, one after another.
 ghost use Rattle.std.specs.Prelude.{◌≡◌, ◌≢◌, ◌<◌, ◌≤◌, ◌⊎◌, None, length, true};
-ghost use Rattle.pop_text.specs.Bytes.{greatest};
+ghost use Rattle.pop_text.specs.Bytes.{greatest_count};
 ghost use Rattle.pop_text.specs.Words.{limit};
 ghost use Rattle.pop_text.specs.ties.Reading.{IsSeen, failures_after};
 ghost use Rattle.pop_text.specs.ties.Plain.{Skips};
 ghost use Rattle.pop_text.specs.declared.scanner.End.{End};
 ghost use Rattle.pop_input.specs.declared.reader.Next.{Next};
-ghost use Rattle.pop_input.specs.ties.Standing.{IsNumbered, NextItem, is_item, next_behind as behind, start, work_left};
+ghost use Rattle.pop_input.specs.ties.Standing.{IsNumbered, NextItem, first_standing, is_item, next_behind as behind, work_left};
 ghost use Rattle.pop_input.specs.ties.Used.{UsesItem};
 ghost use Rattle.pop_input.specs.ties.Closings.{ReadsWord, cut_fault, last_of, told_of_cut};
 ghost use Rattle.pop_input.specs.Names.{command_of};
@@ -16,7 +16,7 @@ use crate::fault_kind::FaultKind;
 use crate::item::{Fault, Item, Last};
 use crate::names::Command;
 use crate::short_word::ShortWord;
-use crate::token::{Token, next_token};
+use crate::token::{ReadToken, next_token};
 use pop_text::read_fault::ReadFault;
 use pop_text::scanner::Scanner;
 use pop_text::source::Source;
@@ -59,7 +59,7 @@ impl Model for Reader {
 impl Reader {
     /// The place before the first item.
     pub fn new() -> Reader
-        ensures { result ≡ start }
+        ensures { result ≡ first_standing }
     {
         Reader {
             scanner: Scanner::new(),
@@ -80,7 +80,7 @@ impl Reader {
     /// Behind the last item the source isn't asked, and its count of failures may be any.
     pub fn next_problem<S: Source>(&mut self, source: &mut S) -> Item
         requires { self.old.next ≢ Next.Nothing → self.old.at.end ≡ End.Open
-            → S.failures source.old < greatest }
+            → S.failures source.old < greatest_count }
         ensures item { NextItem self.old self.new (S.remaining source.old) (S.remaining source.new)
             result }
         ensures used { UsesItem self.old self.new (S.remaining source.old) (S.remaining source.new)
@@ -105,20 +105,20 @@ impl Reader {
         let mut text = Text::empty();
         'words: loop {
             match next_token(&mut self.scanner, source, &mut word, &mut text) {
-                Token::Line(keyword) => block.note(keyword, &text),
-                Token::TooLong(line) => block.read_long(line),
-                Token::Word => match read_word(&mut block, &word) {
+                ReadToken::Line(keyword) => block.note(keyword, &text),
+                ReadToken::TooLong(line) => block.read_long(line),
+                ReadToken::Word => match read_word(&mut block, &word) {
                     Some(last) => {
                         self.next_block = next_behind(last);
                         return block.closed(word.line, last);
                     }
                     None => skip_on(&mut self.scanner, block.fault),
                 },
-                Token::Ended(line) => {
+                ReadToken::Ended(line) => {
                     self.next_block = Next::Nothing;
                     return block.ended(line);
                 }
-                Token::Cut(cut) => {
+                ReadToken::Cut(cut) => {
                     let (fault, last) = told_of_cut(block.fault, cut);
                     self.next_block = next_behind(last);
                     return Item::Faulty(fault, last);

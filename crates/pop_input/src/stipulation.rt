@@ -1,6 +1,6 @@
 //! What a problem asks for.
 ghost use Rattle.std.specs.Prelude.{◌≡◌};
-ghost use Rattle.pop_input.specs.Stipulations.{first_half, half_moves, is_for_stalemate, is_help, mated, starts};
+ghost use Rattle.pop_input.specs.Stipulations.{first_half, half_moves, is_for_stalemate, is_help, mated_side, starting_side};
 
 use chess_core::man::Colour;
 
@@ -71,8 +71,8 @@ impl Form {
     }
 
     /// The side that makes the first half-move of the play.
-    pub fn starts(self) -> Colour
-        ensures { result ≡ starts self }
+    pub fn starting_side(self) -> Colour
+        ensures { result ≡ starting_side self }
     {
         match self {
             Form::Help => Colour::Black,
@@ -81,8 +81,8 @@ impl Form {
     }
 
     /// The side that is to be mated or stalemated.
-    pub fn mated(self) -> Colour
-        ensures { result ≡ mated self }
+    pub fn mated_side(self) -> Colour
+        ensures { result ≡ mated_side self }
     {
         match self {
             Form::SelfMate => Colour::White,

@@ -1,7 +1,7 @@
 //! Words and text lines of the source.
 ghost use Rattle.std.specs.Prelude.{◌≡◌, ◌<◌, ◌≤◌, length};
 ghost use Rattle.pop_text.specs.Words.{limit};
-ghost use Rattle.pop_text.specs.Bytes.{greatest};
+ghost use Rattle.pop_text.specs.Bytes.{greatest_count};
 ghost use Rattle.pop_text.specs.ties.Reading.{Asks};
 ghost use Rattle.pop_text.specs.declared.scanner.End.{End};
 ghost use Rattle.pop_input.specs.ties.Tokens.{NextToken, UsesToken};
@@ -15,7 +15,7 @@ use pop_text::word::Word;
 
 /// What comes next in the input. The numbers are those of lines, counted from 1.
 #[derive(Clone, Copy, PartialEq, Eq)]
-pub enum Token {
+pub enum ReadToken {
     /// A word.
     Word,
     /// A word of more than 160 bytes.
@@ -34,8 +34,8 @@ pub(crate) fn next_token<S: Source>(
     source: &mut S,
     word: &mut Word,
     text: &mut Text,
-) -> Token
-    requires { scanner.old.end ≡ End.Open → S.failures source.old < greatest }
+) -> ReadToken
+    requires { scanner.old.end ≡ End.Open → S.failures source.old < greatest_count }
     ensures token { NextToken scanner.old scanner.new (S.remaining source.old)
         (S.remaining source.new) word.new text.new result }
     ensures used { UsesToken scanner.old scanner.new (S.remaining source.old)
@@ -46,17 +46,17 @@ pub(crate) fn next_token<S: Source>(
         (S.remaining source.new) (S.failures source.old) (S.failures source.new) }
 {
     match scanner.read_word(source, word) {
-        Ok(Found::Nothing) => Token::Ended(scanner.line()),
-        Err(ReadFault::TooLong(line)) => Token::TooLong(line),
-        Err(fault) => Token::Cut(fault),
+        Ok(Found::Nothing) => ReadToken::Ended(scanner.line()),
+        Err(ReadFault::TooLong(line)) => ReadToken::TooLong(line),
+        Err(fault) => ReadToken::Cut(fault),
         Ok(Found::Word) => match text_word_of(word.bytes.as_slice()) {
-            None => Token::Word,
+            None => ReadToken::Word,
             Some(keyword) => match scanner.rest_of_line(source) {
                 Ok(line) => {
                     *text = line;
-                    Token::Line(keyword)
+                    ReadToken::Line(keyword)
                 }
-                Err(fault) => Token::Cut(fault),
+                Err(fault) => ReadToken::Cut(fault),
             },
         },
     }

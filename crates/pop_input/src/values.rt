@@ -2,7 +2,7 @@
 ghost use Rattle.std.specs.Prelude.{◌≡◌, ◌≤◌, ℕ, IfSome, length, map, option_map, true};
 ghost use Rattle.std.specs.Char.{to_ascii_lowercase};
 ghost use Rattle.pop_input.specs.Ends.{is_stated};
-ghost use Rattle.pop_input.specs.Values.{goal_of, is_digit, limit_of, most_solutions, one_digit, only, square_by, squares_of, stated, stipulation_of, two_digits};
+ghost use Rattle.pop_input.specs.Values.{goal_of, is_digit, limit_of, most_solutions, one_digit, only_square, square_by, squares_of, stipulation_of, stipulation_with, two_digits};
 
 use crate::stipulation::{Form, Goal, MOST_MOVES, Stipulation};
 use arrayvec::ArrayVec;
@@ -48,7 +48,7 @@ pub(crate) fn squares_of(word: &[u8]) -> Option<ArrayVec<Square, 80>>
 /// The square of a word that is one square and nothing else.
 pub(crate) fn square_of(word: &[u8]) -> Option<Square>
     requires { length word.now ≤ 160 }
-    ensures { result ≡ only (squares_of word.now) }
+    ensures { result ≡ only_square (squares_of word.now) }
 {
     match squares_of(word) {
         Some(squares) if squares.len() == 1 => Some(squares.as_slice()[0]),
@@ -119,8 +119,8 @@ fn two_digits(tens: u8, ones: u8) -> Option<u8>
 }
 
 // A form with its goal and its number of moves.
-fn stated(form: Form, goal: Option<Goal>, n: Option<u8>) -> Option<Stipulation>
-    ensures value { result ≡ stated form goal n }
+fn stipulation_with(form: Form, goal: Option<Goal>, n: Option<u8>) -> Option<Stipulation>
+    ensures value { result ≡ stipulation_with form goal n }
     ensures range { is_stated result ≡ true }
 {
     let Some(goal) = goal else {
@@ -151,14 +151,18 @@ pub(crate) fn stipulation_of(word: &[u8]) -> Option<Stipulation>
     }
     let letters = small_letters(word);
     match letters.as_slice() {
-        [sign, n] => stated(Form::Direct, goal_of(*sign), one_digit(*n)),
-        [b's', sign, n] => stated(Form::SelfMate, goal_of(*sign), one_digit(*n)),
-        [b'h', sign, n] => stated(Form::Help, goal_of(*sign), one_digit(*n)),
-        [sign, m, n] => stated(Form::Direct, goal_of(*sign), two_digits(*m, *n)),
-        [b's', sign, m, n] => stated(Form::SelfMate, goal_of(*sign), two_digits(*m, *n)),
-        [b'h', sign, m, n] => stated(Form::Help, goal_of(*sign), two_digits(*m, *n)),
-        [b'h', sign, n, b'.', b'5'] => stated(Form::HelpHalf, goal_of(*sign), one_digit(*n)),
-        [b'h', sign, m, n, b'.', b'5'] => stated(
+        [sign, n] => stipulation_with(Form::Direct, goal_of(*sign), one_digit(*n)),
+        [b's', sign, n] => stipulation_with(Form::SelfMate, goal_of(*sign), one_digit(*n)),
+        [b'h', sign, n] => stipulation_with(Form::Help, goal_of(*sign), one_digit(*n)),
+        [sign, m, n] => stipulation_with(Form::Direct, goal_of(*sign), two_digits(*m, *n)),
+        [b's', sign, m, n] => stipulation_with(Form::SelfMate, goal_of(*sign), two_digits(*m, *n)),
+        [b'h', sign, m, n] => stipulation_with(Form::Help, goal_of(*sign), two_digits(*m, *n)),
+        [b'h', sign, n, b'.', b'5'] => stipulation_with(
+            Form::HelpHalf,
+            goal_of(*sign),
+            one_digit(*n),
+        ),
+        [b'h', sign, m, n, b'.', b'5'] => stipulation_with(
             Form::HelpHalf,
             goal_of(*sign),
             two_digits(*m, *n),

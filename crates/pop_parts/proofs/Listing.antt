@@ -10,12 +10,12 @@ use Rattle.pop_text.specs.declared.scanner.End.TheVariants.{Open}
 use Rattle.pop_text.specs.ties.Reading.{IsSeen, failures_after}
 use Rattle.pop_input.specs.Blocks.{Entry}
 use Rattle.pop_input.specs.declared.item.Item.{Item}
-use Rattle.pop_input.specs.ties.Standing.{NextItem, Reads, Standing, is_item, start as before_all}
+use Rattle.pop_input.specs.ties.Standing.{NextItem, Reads, Standing, first_standing, is_item}
 use Rattle.pop_run.proofs.Meeting.{is_broken}
 use Rattle.pop_run.proofs.Running.{grew_broken, reads_then, status_more}
 use Rattle.pop_run.specs.Report.{is_faulty, status, tells_failure}
 unfoldable use Rattle.pop_run.specs.Report.{status_of}
-use Rattle.pop_run.specs.Run.{grew, met}
+use Rattle.pop_run.specs.Run.{grew, input_met}
 use Rattle.pop_run.specs.declared.status.Status.{Status}
 use Rattle.pop_run.specs.declared.status.Status.TheVariants.{OutputFailed, Sound}
 use Rattle.pop_run.specs.ties.Sessions.{status_with}
@@ -27,12 +27,12 @@ use Rattle.pop_parts.specs.ties.Items.{entry_in, item_line, status_after}
 -- From the beginning to now these items were read, and their lines were written.
 pub record Listed (depth : ℕ) (now : Standing) (number : ℕ) (so_far : Status) (had left before taken : Option (List ℕ)) : Type 0 where
   pub items : List Entry
-  pub reads : Reads before_all now had left items
+  pub reads : Reads first_standing now had left items
   pub written : Appends before taken (lines_from depth 1 items)
   pub number_is : number ≡ 1 + length items
   pub status_is : so_far ≡ status_of items
 
-pub listed_start : (depth : ℕ) (had before : Option (List ℕ)) → Listed depth before_all 1 Sound had had before before
+pub listed_start : (depth : ℕ) (had before : Option (List ℕ)) → Listed depth first_standing 1 Sound had had before before
 unfolding status_of
 listed_start depth had before = record {
   items = [];
@@ -53,7 +53,7 @@ pub listed_step : (depth : ℕ) (old new : Standing) (number : ℕ) (so_far : St
     → Listed depth new (number + 1) (status_after so_far (entry_in item)) had left before now
 listed_step depth old new number so_far had mid left before t now item entry p q is w = rw is (record {
   items = p.items ++ entry ∷ [];
-  reads = reads_then before_all old new had mid left p.items (entry ∷ []) p.reads (item_read old new mid left item entry q is);
+  reads = reads_then first_standing old new had mid left p.items (entry ∷ []) p.reads (item_read old new mid left item entry q is);
   written = rw (lines-append depth 1 p.items (entry ∷ []), append-nil) (appends_then before t now _ _ p.written (rw (is, p.number_is) at w));
   number_is = ap (λ n. n + 1) p.number_is ∙ omega (arith, length-append p.items (entry ∷ []));
   status_is = ap (λ s. status_with s (tells_failure entry) (is_faulty entry)) p.status_is ∙ sym (status_more p.items entry);
@@ -62,7 +62,7 @@ listed_step depth old new number so_far had mid left before t now item entry p q
 -- the list is whole behind the last item
 pub list_ends : (depth : ℕ) (old new : Standing) (number : ℕ) (so_far : Status) (had mid left before t : Option (List ℕ)) (item : Item) (n m v w : ℕ)
     → Listed depth old number so_far had mid before t → NextItem old new mid left item → entry_in item ≡ None → IsSeen new.at.end left
-    → m ≡ failures_after Open new.at.end n → w ≡ v → IfSome had (λ r. Lists depth (met (grew n m) r left) before t (grew v w) so_far)
+    → m ≡ failures_after Open new.at.end n → w ≡ v → IfSome had (λ r. Lists depth (input_met (grew n m) r left) before t (grew v w) so_far)
 list_ends depth old new number so_far None mid left before t item n m v w p q is seen reads writes = tt
 list_ends depth old new number so_far (Some r) mid left before t item n m v w p q is seen reads writes =
     let items = all_met old new mid left r p.items item p.reads q is seen in
@@ -72,10 +72,10 @@ list_ends depth old new number so_far (Some r) mid left before t item n m v w p 
 pub list_cut : (depth : ℕ) (old new : Standing) (number : ℕ) (so_far : Status) (had mid left before t now : Option (List ℕ)) (item : Item) (entry : Entry)
     (n m v w : ℕ) → Listed depth old number so_far had mid before t → NextItem old new mid left item → entry_in item ≡ Some entry
     → IsSeen new.at.end left → Begins t now (item_line number depth (entry_in item)) → m ≡ failures_after Open new.at.end n → w ≡ v + 1
-    → IfSome had (λ r. Lists depth (met (grew n m) r left) before now (grew v w) OutputFailed)
+    → IfSome had (λ r. Lists depth (input_met (grew n m) r left) before now (grew v w) OutputFailed)
 list_cut depth old new number so_far None mid left before t now item entry n m v w p q is seen begun reads writes = tt
 list_cut depth old new number so_far (Some r) mid left before t now item entry n m v w p q is seen begun reads writes =
-    let all = reads_then before_all old new (Some r) mid left p.items (entry ∷ []) p.reads (item_read old new mid left item entry q is) in
+    let all = reads_then first_standing old new (Some r) mid left p.items (entry ∷ []) p.reads (item_read old new mid left item entry q is) in
     let met_items = items_met new left r (p.items ++ entry ∷ []) all seen in
     let text = line_of (1 + length p.items) depth entry in
     rw (grew_broken new.at.end n m reads, failure_is_told v w writes) (

@@ -3,7 +3,7 @@ use Rattle.std.proofs.Common.{List, None, Option, Some, [], ap, arith, drop, if�
 use Rattle.std.specs.List.{flat_map}
 use Rattle.std.specs.Prelude.{◌==◌, slice_get, suc, zero}
 use Rattle.chess_rules.specs.RuleSet.{RuleSet}
-use Rattle.chess_core.specs.Triple.{Triple}
+use Rattle.chess_core.specs.declared.man.Move.{Move}
 use Rattle.pop_text.specs.Bytes.{Appends, Begins}
 use Rattle.pop_input.specs.Posed.{Posed}
 use Rattle.pop_run.proofs.Findings.{IsPrinting, printing_breaks_off, printing_goes_on, printing_starts}
@@ -45,7 +45,7 @@ next_part xs last left some within there =
       ap (λ n. take n (drop (last - left) xs)) whole ∙ first.2 ∙ ap (λ n. first.0 ∷ take (left - 1) (drop n xs)) next,
     )
 
-module _ (rule : RuleSet) (posed : Posed) (phase : Phase) (depth : ℕ) (all : List (List Triple)) (last left : ℕ) (before mid now : Option (List ℕ))
+module _ (rule : RuleSet) (posed : Posed) (phase : Phase) (depth : ℕ) (all : List (List Move)) (last left : ℕ) (before mid now : Option (List ℕ))
     (p : IsPrinting (part_text rule posed phase) all (take left (drop (last - left) (parts rule posed phase depth))) before mid)
     (some : 0 < left) (within : left ≤ last) (there : last ≤ length (parts rule posed phase depth)) where
   pub parts_go_on : Appends mid now (text_if rule posed phase (part_numbered rule posed phase depth (last - (left - 1))))

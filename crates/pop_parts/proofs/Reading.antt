@@ -12,11 +12,11 @@ use Rattle.pop_input.specs.Blocks.{Entry, entries_of, Sound as SoundEntry, Fault
 use Rattle.pop_input.specs.declared.item.Item.{Item}
 use Rattle.pop_input.specs.declared.item.Item.TheVariants.{Sound, Faulty, End as NoItem}
 use Rattle.pop_input.specs.declared.reader.Next.TheVariants.{Nothing}
-use Rattle.pop_input.specs.ties.Standing.{NextItem, Reads, Standing, entries_left, start as before_all}
+use Rattle.pop_input.specs.ties.Standing.{NextItem, Reads, Standing, entries_left, first_standing}
 use Rattle.pop_run.proofs.Meeting.{is_broken, met_after}
 use Rattle.pop_run.proofs.Running.{all_to_come, grew_more, grew_same, reads_then}
 use Rattle.pop_run.specs.Report.{entries_in}
-use Rattle.pop_run.specs.Run.{grew, met}
+use Rattle.pop_run.specs.Run.{grew, input_met}
 use Rattle.pop_parts.specs.ties.Items.{entry_in}
 
 -- an item that is one was read
@@ -25,8 +25,8 @@ pub item_read : (old new : Standing) (had left : Option (List ℕ)) (item : Item
 item_read old new had left item entry p is = grind arith
 
 -- the items of the input that was met are those read and others behind them
-pub items_met : (now : Standing) (left : Option (List ℕ)) (r : List ℕ) (items : List Entry) → Reads before_all now (Some r) left items
-    → IsSeen now.at.end left → (more : List Entry) × (entries_in (met (is_broken now.at.end) r left) ≡ items ++ more)
+pub items_met : (now : Standing) (left : Option (List ℕ)) (r : List ℕ) (items : List Entry) → Reads first_standing now (Some r) left items
+    → IsSeen now.at.end left → (more : List Entry) × (entries_in (input_met (is_broken now.at.end) r left) ≡ items ++ more)
 items_met now left r items all seen =
     let m = met_after now.at.end left r all.bytes all.taken seen in
     (entries_left now m.0, ap entries_in m.2 ∙ sym (all_to_come _) ∙ all.begin m.0 m.1)
@@ -36,10 +36,10 @@ none_behind place rest is = grind arith
 
 -- behind the last item no other one is to come
 pub all_met : (old now : Standing) (mid left : Option (List ℕ)) (r : List ℕ) (items : List Entry) (item : Item)
-    → Reads before_all old (Some r) mid items → NextItem old now mid left item → entry_in item ≡ None
-    → IsSeen now.at.end left → entries_in (met (is_broken now.at.end) r left) ≡ items
+    → Reads first_standing old (Some r) mid items → NextItem old now mid left item → entry_in item ≡ None
+    → IsSeen now.at.end left → entries_in (input_met (is_broken now.at.end) r left) ≡ items
 all_met old now mid left r items NoItem all (nothing, same, over) none seen =
-    let whole = reads_then before_all old now (Some r) mid left items [] all over in
+    let whole = reads_then first_standing old now (Some r) mid left items [] all over in
     let m = met_after now.at.end left r whole.bytes whole.taken seen in
     let over_is : entries_left now m.0 ≡ [] = none_behind now m.0 (ap (λ s. s.next) same ∙ nothing) in
     ap entries_in m.2 ∙ sym (all_to_come _) ∙ whole.begin m.0 m.1 ∙ rw (over_is, append-nil, append-nil) refl

@@ -9,11 +9,11 @@ use Rattle.pop_text.specs.declared.scanner.End.TheVariants.{Open}
 use Rattle.pop_text.specs.ties.Reading.{IsSeen, failures_after}
 use Rattle.pop_input.specs.Blocks.{Entry, Sound, Faulty}
 use Rattle.pop_input.specs.declared.item.Item.{Item}
-use Rattle.pop_input.specs.ties.Standing.{NextItem, Reads, Standing, start as before_all}
+use Rattle.pop_input.specs.ties.Standing.{NextItem, Reads, Standing, first_standing}
 use Rattle.pop_run.proofs.Meeting.{is_broken}
 use Rattle.pop_run.proofs.Running.{any_more, grew_broken, reads_then}
 use Rattle.pop_run.specs.Report.{entries_in, tells_failure}
-use Rattle.pop_run.specs.Run.{grew, met}
+use Rattle.pop_run.specs.Run.{grew, input_met}
 use Rattle.pop_parts.proofs.Reading.{all_met, failure_is_told, item_read, items_met, kept_is_told}
 use Rattle.pop_parts.specs.Parts.{entry_numbered, outcome_at, outcome_of, text_at, text_of}
 use Rattle.pop_parts.specs.Runs.{Shows}
@@ -25,12 +25,12 @@ use Rattle.pop_parts.specs.ties.Items.{entry_in, is_failure}
 -- From the beginning to now these items were read, none of which is the one with the number, and some of which tell of a failed device or not.
 pub record Passed (wanted : ℕ) (now : Standing) (number : ℕ) (failed : Bool) (had left : Option (List ℕ)) : Type 0 where
   pub items : List Entry
-  pub reads : Reads before_all now had left items
+  pub reads : Reads first_standing now had left items
   pub number_is : number ≡ 1 + length items
   pub failed_is : failed ≡ list_any tells_failure items
   pub early : 0 < wanted → number ≤ wanted
 
-pub passed_start : (wanted : ℕ) (had : Option (List ℕ)) → Passed wanted before_all 1 false had had
+pub passed_start : (wanted : ℕ) (had : Option (List ℕ)) → Passed wanted first_standing 1 false had had
 passed_start wanted had = record {
   items = [];
   reads = record { bytes = []; taken = grind arith; follows = λ rest may. may; begin = λ rest may. refl; amount = refl };
@@ -45,7 +45,7 @@ pub passed_step : (wanted : ℕ) (old new : Standing) (number : ℕ) (failed : B
     → Passed wanted new (number + 1) (failed || is_failure (entry_in item)) had left
 passed_step wanted old new number failed had mid left item entry p q is another = rw is (record {
   items = p.items ++ entry ∷ [];
-  reads = reads_then before_all old new had mid left p.items (entry ∷ []) p.reads (item_read old new mid left item entry q is);
+  reads = reads_then first_standing old new had mid left p.items (entry ∷ []) p.reads (item_read old new mid left item entry q is);
   number_is = ap (λ n. n + 1) p.number_is ∙ omega (arith, length-append p.items (entry ∷ []));
   failed_is = ap (λ b. b || tells_failure entry) p.failed_is ∙ sym (any_more tells_failure p.items entry);
   early = λ some. let so_far = p.early some in omega (arith, so_far, another);
@@ -67,7 +67,7 @@ found_there items entry more wanted is = grind (arith, get_seam items entry more
 pub item_missing : (asked : Asked) (old new : Standing) (number : ℕ) (failed : Bool) (had mid left before : Option (List ℕ)) (item : Item) (answer : Outcome)
     (n m v w : ℕ) → Passed asked.item old number failed had mid → NextItem old new mid left item → entry_in item ≡ None → IsSeen new.at.end left
     → answer ≡ outcome_at asked failed None → m ≡ failures_after Open new.at.end n → w ≡ v
-    → IfSome had (λ r. Shows asked (met (grew n m) r left) before before (grew v w) answer)
+    → IfSome had (λ r. Shows asked (input_met (grew n m) r left) before before (grew v w) answer)
 item_missing asked old new number failed None mid left before item answer n m v w p q is seen told reads writes = tt
 item_missing asked old new number failed (Some r) mid left before item answer n m v w p q is seen told reads writes =
     let items = all_met old new mid left r p.items item p.reads q is seen in
@@ -83,9 +83,9 @@ module _ (asked : Asked) (old new : Standing) (number : ℕ) (failed : Bool) (mi
     (p : Passed asked.item old number failed (Some r) mid) (q : NextItem old new mid left item) (is : entry_in item ≡ Some entry)
     (seen : IsSeen new.at.end left) (one : number ≡ asked.item) where
   -- the item stands in the input at its number
-  entry_met : entry_numbered (entries_in (met (is_broken new.at.end) r left)) asked.item ≡ Some entry
+  entry_met : entry_numbered (entries_in (input_met (is_broken new.at.end) r left)) asked.item ≡ Some entry
   entry_met =
-      let all = reads_then before_all old new (Some r) mid left p.items (entry ∷ []) p.reads (item_read old new mid left item entry q is) in
+      let all = reads_then first_standing old new (Some r) mid left p.items (entry ∷ []) p.reads (item_read old new mid left item entry q is) in
       let behind = items_met new left r (p.items ++ entry ∷ []) all seen in
       ap (λ entries. entry_numbered entries asked.item) behind.1 ∙ found_there p.items entry behind.0 asked.item (sym p.number_is ∙ one)
 
@@ -94,19 +94,19 @@ pub item_shown : (asked : Asked) (old new : Standing) (number : ℕ) (failed : B
     (answer : Outcome) (n m v w : ℕ) → Passed asked.item old number failed had mid → NextItem old new mid left item → entry_in item ≡ Some entry
     → IsSeen new.at.end left → number ≡ asked.item → Appends before now (text_at asked (entry_in item))
     → answer ≡ outcome_at asked false (entry_in item) → m ≡ failures_after Open new.at.end n → w ≡ v
-    → IfSome had (λ r. Shows asked (met (grew n m) r left) before now (grew v w) answer)
+    → IfSome had (λ r. Shows asked (input_met (grew n m) r left) before now (grew v w) answer)
 item_shown asked old new number failed None mid left before now item entry answer n m v w p q is seen one written told reads writes = tt
 item_shown asked old new number failed (Some r) mid left before now item entry answer n m v w p q is seen one written told reads writes =
     let there = entry_met asked old new number failed mid left r item entry p q is seen one in
     rw (grew_broken new.at.end n m reads, kept_is_told v w writes, there)
-    (rw is at written, (rw is at told) ∙ any_failure asked false (list_any tells_failure (entries_in (met (is_broken new.at.end) r left))) entry)
+    (rw is at written, (rw is at told) ∙ any_failure asked false (list_any tells_failure (entries_in (input_met (is_broken new.at.end) r left))) entry)
 
 -- the sink cuts its text off
 pub item_cut : (asked : Asked) (old new : Standing) (number : ℕ) (failed : Bool) (had mid left before now : Option (List ℕ)) (item : Item) (entry : Entry)
     (n m v w : ℕ) → Passed asked.item old number failed had mid → NextItem old new mid left item → entry_in item ≡ Some entry
     → IsSeen new.at.end left → number ≡ asked.item → Begins before now (text_at asked (entry_in item))
     → m ≡ failures_after Open new.at.end n → w ≡ v + 1
-    → IfSome had (λ r. Shows asked (met (grew n m) r left) before now (grew v w) OutputFailed)
+    → IfSome had (λ r. Shows asked (input_met (grew n m) r left) before now (grew v w) OutputFailed)
 item_cut asked old new number failed None mid left before now item entry n m v w p q is seen one begun reads writes = tt
 item_cut asked old new number failed (Some r) mid left before now item entry n m v w p q is seen one begun reads writes =
     let there = entry_met asked old new number failed mid left r item entry p q is seen one in

@@ -1,12 +1,11 @@
 -- The list of an input's parts, and the text of the parts that are asked for (own layout).
 use Rattle.std.specs.Prelude.{ℕ, ◌+◌, ◌-◌, ◌^◌, ◌==◌, nat_le, min, Bool, true, false, not, ◌&&◌, if◌then◌else◌, List, [], ◌∷◌, ◌++◌, map, take, drop, length, slice_get, codes, decimal, Option, Some, None}
 use Rattle.std.specs.List.{flat_map, list_any}
-use Rattle.chess_core.specs.Triple.{Triple}
 use Rattle.chess_rules.specs.RuleSet.{RuleSet}
 use Rattle.pop_text.specs.Words.{Input}
 use Rattle.pop_input.specs.Blocks.{Entry, Sound, Faulty}
 use Rattle.pop_input.specs.Posed.{Posed, rule_of}
-use Rattle.pop_solve.specs.Events.{event_of, is_barred}
+use Rattle.pop_solve.specs.Events.{Path, event_of, is_barred}
 use Rattle.pop_solve.specs.Parts.{parts, part_events}
 use Rattle.pop_solve.specs.declared.event.Phase.{Phase}
 use Rattle.pop_solve.specs.declared.event.Phase.TheVariants.{Set, Play}
@@ -66,12 +65,12 @@ has_parts rule asked posed = nat_le 1 asked.first && nat_le asked.first asked.la
     && nat_le asked.last (length (parts rule posed asked.phase asked.depth))
 
 -- the text of a part: its events
-unfoldable pub part_text : RuleSet → Posed → Phase → List Triple → List ℕ
+unfoldable pub part_text : RuleSet → Posed → Phase → Path → List ℕ
 part_text rule posed phase front = flat_map event_text
     (map (event_of rule posed) (part_events rule posed phase front))
 
 -- the parts with the numbers asked for, in order
-abbrev pub parts_asked : RuleSet → Asked → Posed → List (List Triple)
+abbrev pub parts_asked : RuleSet → Asked → Posed → List Path
 parts_asked rule asked posed = take (asked.last - asked.first + 1)
     (drop (asked.first - 1) (parts rule posed asked.phase asked.depth))
 

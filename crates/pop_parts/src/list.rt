@@ -1,11 +1,11 @@
 //! The list of an input's parts.
 ghost use Rattle.std.specs.Prelude.{◌≡◌, ◌<◌, ◌≤◌, ◌+◌, ◌++◌, IfSome, length};
-ghost use Rattle.pop_text.specs.Bytes.{Writes, count_after, greatest};
+ghost use Rattle.pop_text.specs.Bytes.{Writes, count_after, greatest_count};
 ghost use Rattle.pop_input.specs.Blocks.{Sound as SoundEntry};
 ghost use Rattle.pop_input.specs.Posed.{rule_of};
 ghost use Rattle.pop_solve.specs.Events.{is_barred as barred};
 ghost use Rattle.pop_print.specs.ties.Room.{room};
-ghost use Rattle.pop_run.specs.Run.{FailsOnce, grew, met};
+ghost use Rattle.pop_run.specs.Run.{FailsOnce, grew, input_met};
 ghost use Rattle.pop_parts.specs.Parts.{count_of, count_text, line_of, set_text, told_count};
 ghost use Rattle.pop_parts.specs.Runs.{Lists};
 ghost use Rattle.pop_parts.specs.ties.Items.{entry_in, item_line};
@@ -32,10 +32,10 @@ use pop_text::source::Source;
 /// `OutputFailed`, and nothing more is written. Of the calls of each, source and sink, at most one fails.
 pub fn list_parts<S: Source, W: Sink>(depth: usize, source: &mut S, sink: &mut W) -> Status
     requires depth { 1 ≤ depth }
-    requires source { S.failures source.old < greatest }
-    requires sink { W.failures sink.old < greatest }
+    requires source { S.failures source.old < greatest_count }
+    requires sink { W.failures sink.old < greatest_count }
     ensures headline { IfSome (S.remaining source.old) (λ had.
-        Lists depth (met (grew (S.failures source.old) (S.failures source.new)) had
+        Lists depth (input_met (grew (S.failures source.old) (S.failures source.new)) had
         (S.remaining source.new))
         (W.taken sink.old) (W.taken sink.new)
         (grew (W.failures sink.old) (W.failures sink.new)) result) }
@@ -67,7 +67,7 @@ fn print_item<W: Sink>(
     item: &Item,
 ) -> Result<(), SinkFault>
     requires depth { 1 ≤ depth }
-    requires sink { W.failures sink.old < greatest }
+    requires sink { W.failures sink.old < greatest_count }
     ensures bytes { Writes (W.taken sink.old) (W.taken sink.new)
         (item_line number depth (entry_in item.now)) result }
     ensures counted { W.failures sink.new ≡ count_after result (W.failures sink.old) }

@@ -1,7 +1,7 @@
 //! The solutions of the parts that are asked for.
 ghost use Rattle.std.specs.Prelude.{◌≡◌, ◌<◌, ◌≤◌, ◌==◌, IfOk, IfSome, false, if◌then◌else◌, is_some, map, true};
 ghost use Rattle.std.specs.List.{flat_map};
-ghost use Rattle.pop_text.specs.Bytes.{Writes, count_after, greatest};
+ghost use Rattle.pop_text.specs.Bytes.{Writes, count_after, greatest_count};
 ghost use Rattle.pop_input.specs.FaultKinds.{number_of};
 ghost use Rattle.pop_input.specs.declared.fault_kind.FaultKind.TheVariants.{DeviceFailed};
 ghost use Rattle.pop_parts.specs.declared.asked.Outcome.TheVariants.{FaultyItem, InputFailed, NoItem};
@@ -9,7 +9,7 @@ ghost use Rattle.pop_input.specs.Posed.{rule_of};
 ghost use Rattle.pop_solve.specs.Events.{event_of};
 ghost use Rattle.pop_print.specs.Events.{event_text};
 ghost use Rattle.pop_solve.specs.Parts.{part_numbered};
-ghost use Rattle.pop_run.specs.Run.{FailsOnce, grew, met};
+ghost use Rattle.pop_run.specs.Run.{FailsOnce, grew, input_met};
 ghost use Rattle.pop_parts.specs.Parts.{has_parts as has_the_parts, has_phase as has_the_phase, outcome_at, outcome_in, part_text, parts_asked, text_at, text_in};
 ghost use Rattle.pop_parts.specs.Runs.{Shows};
 ghost use Rattle.pop_parts.specs.ties.Items.{entry_in, text_if};
@@ -35,10 +35,10 @@ use pop_text::source::Source;
 /// and sink, at most one fails.
 pub fn show_parts<S: Source, W: Sink>(asked: &Asked, source: &mut S, sink: &mut W) -> Outcome
     requires depth { 1 ≤ asked.now.depth }
-    requires source { S.failures source.old < greatest }
-    requires sink { W.failures sink.old < greatest }
+    requires source { S.failures source.old < greatest_count }
+    requires sink { W.failures sink.old < greatest_count }
     ensures headline { IfSome (S.remaining source.old) (λ had.
-        Shows asked.now (met (grew (S.failures source.old) (S.failures source.new)) had
+        Shows asked.now (input_met (grew (S.failures source.old) (S.failures source.new)) had
         (S.remaining source.new))
         (W.taken sink.old) (W.taken sink.new)
         (grew (W.failures sink.old) (W.failures sink.new)) result) }
@@ -78,7 +78,7 @@ fn missing(failed: bool) -> Outcome
 // Prints the parts of the item that is asked for.
 fn show_item<W: Sink>(sink: &mut W, asked: &Asked, item: &Item) -> Result<Outcome, SinkFault>
     requires depth { 1 ≤ asked.now.depth }
-    requires sink { W.failures sink.old < greatest }
+    requires sink { W.failures sink.old < greatest_count }
     ensures bytes { Writes (W.taken sink.old) (W.taken sink.new)
         (text_at asked.now (entry_in item.now)) result }
     ensures outcome { is_some (entry_in item.now) ≡ true
@@ -107,7 +107,7 @@ fn outcome_of_fault(fault: &Fault) -> Outcome
 // Prints the parts of a sound problem, where it has the phase.
 fn show_sound<W: Sink>(sink: &mut W, asked: &Asked, problem: &Problem) -> Result<Outcome, SinkFault>
     requires depth { 1 ≤ asked.now.depth }
-    requires sink { W.failures sink.old < greatest }
+    requires sink { W.failures sink.old < greatest_count }
     ensures bytes { Writes (W.taken sink.old) (W.taken sink.new)
         (text_in (rule_of problem.now.condition) asked.now problem.now) result }
     ensures outcome { IfOk result (λ outcome. outcome
@@ -129,7 +129,7 @@ fn show_under<R: Rules, W: Sink>(
     problem: &Problem,
 ) -> Result<Outcome, SinkFault>
     requires depth { 1 ≤ asked.now.depth }
-    requires sink { W.failures sink.old < greatest }
+    requires sink { W.failures sink.old < greatest_count }
     requires rules { R.rule ≡ rule_of problem.now.condition }
     ensures bytes { Writes (W.taken sink.old) (W.taken sink.new)
         (text_in R.rule asked.now problem.now) result }
@@ -175,7 +175,7 @@ fn print_parts<R: Rules, W: Sink>(
     problem: &Problem,
 ) -> Result<(), SinkFault>
     requires depth { 1 ≤ asked.now.depth }
-    requires sink { W.failures sink.old < greatest }
+    requires sink { W.failures sink.old < greatest_count }
     requires rules { R.rule ≡ rule_of problem.now.condition }
     requires parts { has_the_parts R.rule asked.now problem.now ≡ true }
     ensures bytes { Writes (W.taken sink.old) (W.taken sink.new)
@@ -200,7 +200,7 @@ fn print_part<R: Rules, W: Sink>(
     number: u64,
 ) -> Result<(), SinkFault>
     requires depth { 1 ≤ asked.now.depth }
-    requires sink { W.failures sink.old < greatest }
+    requires sink { W.failures sink.old < greatest_count }
     requires rules { R.rule ≡ rule_of problem.now.condition }
     ensures bytes { Writes (W.taken sink.old) (W.taken sink.new)
         (text_if R.rule problem.now asked.now.phase
@@ -218,7 +218,7 @@ fn print_events<R: Rules, W: Sink>(
     sink: &mut W,
     search: &mut PartSearch<R, 33>,
 ) -> Result<(), SinkFault>
-    requires sink { W.failures sink.old < greatest }
+    requires sink { W.failures sink.old < greatest_count }
     ensures bytes { Writes (W.taken sink.old) (W.taken sink.new)
         (flat_map event_text (map (event_of R.rule search.old.problem) search.old.left)) result }
     ensures counted { W.failures sink.new ≡ count_after result (W.failures sink.old) }

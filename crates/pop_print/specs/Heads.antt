@@ -14,12 +14,12 @@ use Rattle.pop_input.specs.declared.stipulation.Stipulation.{Stipulation}
 use Rattle.pop_input.specs.declared.condition.Condition.{Condition}
 use Rattle.pop_input.specs.declared.condition.Condition.TheVariants.{Circe, Madrasi}
 use Rattle.pop_input.specs.Letters.{digit_0, point}
-use Rattle.pop_print.specs.Notation.{blank, letter_of, small}
+use Rattle.pop_print.specs.Notation.{blank, letter_of, small_letter}
 
 -- a man's letter on the board: a capital one for White, the small one for Black
 abbrev pub cell_by : Colour → ℕ → ℕ
 cell_by White letter = letter
-cell_by Black letter = small letter
+cell_by Black letter = small_letter letter
 
 -- a square of the board: its man, or a point where it is empty
 abbrev pub cell_of : Option Man → ℕ
@@ -38,9 +38,9 @@ board_text men = flat_map (rank_text men) (7 ∷ 6 ∷ 5 ∷ 4 ∷ 3 ∷ 2 ∷ 1
     ++ codes "  abcdefgh\n"
 
 -- a title or an author behind its label, where there is one
-abbrev pub labelled : List ℕ → List ℕ → List ℕ
-labelled label [] = []
-labelled label (byte ∷ text) = label ++ (byte ∷ text) ++ codes "\n"
+abbrev pub labelled_text : List ℕ → List ℕ → List ℕ
+labelled_text label [] = []
+labelled_text label (byte ∷ text) = label ++ (byte ∷ text) ++ codes "\n"
 
 -- what stands before and behind the goal's sign and the number in the stipulation's word
 abbrev pub form_text : Form → List ℕ
@@ -79,8 +79,8 @@ item_line number = codes "problem " ++ decimal number ++ codes "\n"
 
 -- title and author
 unfoldable pub names_text : Posed → List ℕ
-names_text posed = labelled (codes "title: ") posed.title
-    ++ labelled (codes "author: ") posed.author
+names_text posed = labelled_text (codes "title: ") posed.title
+    ++ labelled_text (codes "author: ") posed.author
 
 -- the line of the stipulation
 unfoldable pub task_line : Posed → List ℕ

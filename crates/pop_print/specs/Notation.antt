@@ -16,23 +16,23 @@ abbrev pub square_text : ℕ → List ℕ
 square_text s = (letter_a - 1 + file_of s) ∷ (digit_0 + rank_of s) ∷ []
 
 -- the capital letter of a small one
-abbrev pub capital : ℕ → ℕ
-capital letter = letter - 32
+abbrev pub capital_letter : ℕ → ℕ
+capital_letter letter = letter - 32
 
 -- the small letter of a capital one
-abbrev pub small : ℕ → ℕ
-small letter = letter + 32
+abbrev pub small_letter : ℕ → ℕ
+small_letter letter = letter + 32
 
 -- the capital letter of a kind of man
 abbrev pub letter_of : Kind → ℕ
-letter_of King = capital king_letter
-letter_of Queen = capital queen_letter
-letter_of Rook = capital rook_letter
-letter_of Bishop = capital bishop_letter
-letter_of Knight = capital knight_letter
-letter_of Pawn = capital pawn_letter
-letter_of Grasshopper = capital grasshopper_letter
-letter_of Nightrider = capital nightrider_letter
+letter_of King = capital_letter king_letter
+letter_of Queen = capital_letter queen_letter
+letter_of Rook = capital_letter rook_letter
+letter_of Bishop = capital_letter bishop_letter
+letter_of Knight = capital_letter knight_letter
+letter_of Pawn = capital_letter pawn_letter
+letter_of Grasshopper = capital_letter grasshopper_letter
+letter_of Nightrider = capital_letter nightrider_letter
 
 -- a man's letter before its origin: none for a pawn
 abbrev pub man_text : Kind → List ℕ

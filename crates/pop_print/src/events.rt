@@ -1,6 +1,6 @@
 //! Events as they are written.
 ghost use Rattle.std.specs.Prelude.{◌≡◌, ◌<◌, ◌≤◌, ◌+◌, ◌++◌, [], ◌∷◌, ◌^◌, length, replicate, codes, true};
-ghost use Rattle.pop_text.specs.Bytes.{Writes, count_after, greatest};
+ghost use Rattle.pop_text.specs.Bytes.{Writes, count_after, greatest_count};
 ghost use Rattle.pop_print.specs.ties.Room.{room};
 ghost use Rattle.pop_print.specs.Moves.{move_text};
 ghost use Rattle.pop_print.specs.Notation.{blank};
@@ -14,7 +14,7 @@ use pop_text::sink::{Sink, SinkFault, put_all};
 /// Writes an event: one line, in one write.
 #[tactic(auto, unfolding(crate::specs::Events::event_text))]
 pub fn print_event<W: Sink>(sink: &mut W, event: &Event) -> Result<(), SinkFault>
-    requires { W.failures sink.old < greatest }
+    requires { W.failures sink.old < greatest_count }
     ensures bytes { Writes (W.taken sink.old) (W.taken sink.new) (event_text event.now) result }
     ensures counted { W.failures sink.new ≡ count_after result (W.failures sink.old) }
 {
@@ -30,7 +30,7 @@ pub fn print_event<W: Sink>(sink: &mut W, event: &Event) -> Result<(), SinkFault
 
 // The moves of a help line.
 fn print_line<W: Sink>(sink: &mut W, half: u32, moves: &[Shown]) -> Result<(), SinkFault>
-    requires sink { W.failures sink.old < greatest }
+    requires sink { W.failures sink.old < greatest_count }
     requires room { length moves.now ≤ 32 }
     ensures bytes { Writes (W.taken sink.old) (W.taken sink.new) (line_text half moves.now) result }
     ensures counted { W.failures sink.new ≡ count_after result (W.failures sink.old) }
@@ -42,7 +42,7 @@ fn print_line<W: Sink>(sink: &mut W, half: u32, moves: &[Shown]) -> Result<(), S
 
 // A node of battle play. Blanks past those of any problem's deepest node are written apart.
 fn print_node<W: Sink>(sink: &mut W, depth: u32, half: u32, shown: &Shown) -> Result<(), SinkFault>
-    requires { W.failures sink.old < greatest }
+    requires { W.failures sink.old < greatest_count }
     ensures bytes { Writes (W.taken sink.old) (W.taken sink.new) (node_text depth half shown.now)
         result }
     ensures counted { W.failures sink.new ≡ count_after result (W.failures sink.old) }
@@ -56,7 +56,7 @@ fn print_node<W: Sink>(sink: &mut W, depth: u32, half: u32, shown: &Shown) -> Re
 }
 
 fn put_blanks<W: Sink>(sink: &mut W, count: u64) -> Result<(), SinkFault>
-    requires { W.failures sink.old < greatest }
+    requires { W.failures sink.old < greatest_count }
     ensures bytes { Writes (W.taken sink.old) (W.taken sink.new) (replicate count blank) result }
     ensures counted { W.failures sink.new ≡ count_after result (W.failures sink.old) }
 {
@@ -67,7 +67,7 @@ fn put_blanks<W: Sink>(sink: &mut W, count: u64) -> Result<(), SinkFault>
 }
 
 fn print_total<W: Sink>(sink: &mut W, count: u32, stopped: bool) -> Result<(), SinkFault>
-    requires { W.failures sink.old < greatest }
+    requires { W.failures sink.old < greatest_count }
     ensures bytes { Writes (W.taken sink.old) (W.taken sink.new) (total_text count stopped) result }
     ensures counted { W.failures sink.new ≡ count_after result (W.failures sink.old) }
 {

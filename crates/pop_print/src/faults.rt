@@ -1,6 +1,6 @@
 //! Faults as they are written.
 ghost use Rattle.std.specs.Prelude.{◌≡◌, ◌<◌, ◌≤◌, ◌+◌, ◌++◌, length};
-ghost use Rattle.pop_text.specs.Bytes.{Writes, count_after, greatest};
+ghost use Rattle.pop_text.specs.Bytes.{Writes, count_after, greatest_count};
 ghost use Rattle.pop_print.specs.ties.Room.{room};
 ghost use Rattle.pop_print.specs.Faults.{fault_text, message_if as text_if, message_of as text_of_kind};
 
@@ -11,7 +11,7 @@ use pop_text::sink::{Sink, SinkFault};
 
 /// Writes a faulty item, in one write: its number, the fault with its line, and an empty line.
 pub fn print_fault<W: Sink>(sink: &mut W, number: u64, fault: &Fault) -> Result<(), SinkFault>
-    requires sink { W.failures sink.old < greatest }
+    requires sink { W.failures sink.old < greatest_count }
     requires known { (1 ≤ fault.now.number) × (fault.now.number ≤ 21) }
     ensures bytes { Writes (W.taken sink.old) (W.taken sink.new) (fault_text number fault.now)
         result }

@@ -1,9 +1,9 @@
 //! The head of a sound problem as it is written.
 ghost use Rattle.std.specs.Prelude.{◌≡◌, ◌<◌, ◌≤◌, ◌+◌, ◌++◌, ◌||◌, List, ℕ, [], length, codes, if◌then◌else◌};
 ghost use Rattle.chess_core.specs.Position.{man_on};
-ghost use Rattle.pop_text.specs.Bytes.{Writes, count_after, greatest};
+ghost use Rattle.pop_text.specs.Bytes.{Writes, count_after, greatest_count};
 ghost use Rattle.pop_print.specs.ties.Room.{room};
-ghost use Rattle.pop_print.specs.Heads.{board_text, cell_of as letter_on, condition_text as text_of_condition, form_text as text_of_form, goal_text as text_of_goal, checked_text, half_text as text_of_half, head_text, item_line, labelled, names_text, rank_text, stipulation_text, task_line};
+ghost use Rattle.pop_print.specs.Heads.{board_text, cell_of as letter_on, condition_text as text_of_condition, form_text as text_of_form, goal_text as text_of_goal, checked_text, half_text as text_of_half, head_text, item_line, labelled_text, names_text, rank_text, stipulation_text, task_line};
 
 use crate::line::LineBuffer;
 use crate::notation::letter_of;
@@ -24,7 +24,7 @@ pub fn print_head<W: Sink>(
     problem: &Problem,
     no_board: bool,
 ) -> Result<(), SinkFault>
-    requires { W.failures sink.old < greatest }
+    requires { W.failures sink.old < greatest_count }
     ensures bytes { Writes (W.taken sink.old) (W.taken sink.new)
         (head_text number problem.now no_board) result }
     ensures counted { W.failures sink.new ≡ count_after result (W.failures sink.old) }
@@ -41,7 +41,7 @@ pub fn print_checked<W: Sink>(
     problem: &Problem,
     no_board: bool,
 ) -> Result<(), SinkFault>
-    requires { W.failures sink.old < greatest }
+    requires { W.failures sink.old < greatest_count }
     ensures bytes { Writes (W.taken sink.old) (W.taken sink.new)
         (checked_text number problem.now no_board) result }
     ensures counted { W.failures sink.new ≡ count_after result (W.failures sink.old) }
@@ -112,7 +112,7 @@ impl LineBuffer {
     // Adds a title or an author, where there is one.
     fn add_labelled(&mut self, label: &[u8], text: &Text)
         requires { length self.old + length label.now + 201 ≤ room }
-        ensures text { self.new ≡ self.old ++ labelled label.now text.now }
+        ensures text { self.new ≡ self.old ++ labelled_text label.now text.now }
         ensures short { length self.new ≤ length self.old + length label.now + 201 }
     {
         let bytes = text.bytes();

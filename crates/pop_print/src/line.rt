@@ -1,6 +1,6 @@
 //! Fixed room in which lines are put together.
 ghost use Rattle.std.specs.Prelude.{◌≡◌, ◌<◌, ◌≤◌, ◌+◌, ◌++◌, [], ◌∷◌, length, decimal};
-ghost use Rattle.pop_text.specs.Bytes.{Writes, count_after, greatest};
+ghost use Rattle.pop_text.specs.Bytes.{Writes, count_after, greatest_count};
 ghost use Rattle.pop_print.specs.ties.Room.{room};
 
 use arrayvec::ArrayVec;
@@ -61,7 +61,7 @@ impl LineBuffer {
 
     /// Writes the text, or a beginning of it at a fault.
     pub fn put<W: Sink>(&self, sink: &mut W) -> Result<(), SinkFault>
-        requires { W.failures sink.old < greatest }
+        requires { W.failures sink.old < greatest_count }
         ensures bytes { Writes (W.taken sink.old) (W.taken sink.new) self.now result }
         ensures counted { W.failures sink.new ≡ count_after result (W.failures sink.old) }
     {

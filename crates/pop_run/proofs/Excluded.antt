@@ -1,6 +1,6 @@
 -- What the clauses of a session and a run exclude: a sound problem told as faulty, a fault told as sound, and another status or another call after the
 -- sink failed.
-use Rattle.pop_run.proofs.Basics.{Bool, Choice, Entry, Input, List, Ok, Option, OutputFailed, Place, Problem, Reads, Runs, Some, Standing, Steps, [], ap, append_cancel_right, arith, false, is_faulty, not, status_of, sym, true, ℕ, ◌+◌, ◌∙◌, ◌∷◌, ◌≡◌}
+use Rattle.pop_run.proofs.Basics.{Bool, Choice, Entry, Input, List, Ok, Option, OutputFailed, Problem, Reads, RunState, Runs, Some, Standing, Steps, [], ap, append_cancel_right, arith, false, is_faulty, not, status_of, sym, true, ℕ, ◌+◌, ◌∙◌, ◌∷◌, ◌≡◌}
 use Rattle.pop_input.proofs.Taking.{some_rest}
 use Rattle.pop_input.specs.Blocks.{Faulty as FaultyEntry, Sound as SoundEntry}
 use Rattle.pop_input.specs.Posed.{Posed}
@@ -14,12 +14,12 @@ same_item : (old new : Standing) (had left : List ℕ) (entry other : Entry) →
 same_item old new had left entry other p q = grind (arith, append_cancel_right p.bytes q.bytes left (sym p.taken ∙ q.taken), some_rest new.at.end)
 
 -- where a sound problem is read a step says that it is sound, and where a fault is read that it isn't
-pub sound_is_told : (old new : Place) (had left : List ℕ) (before now : Option (List ℕ)) (sound : Bool) (posed : Posed)
+pub sound_is_told : (old new : RunState) (had left : List ℕ) (before now : Option (List ℕ)) (sound : Bool) (posed : Posed)
     → Reads old.at new.at (Some had) (Some left) (SoundEntry posed ∷ []) → Steps old new (Some had) (Some left) before now (Ok (Problem sound)) → sound ≡ true
 sound_is_told old new had left before now sound posed reads (entry, p, text, runs, told) =
     told ∙ ap (λ e. not (is_faulty e)) (same_item old.at new.at had left entry (SoundEntry posed) p.reads reads)
 
-pub fault_is_told : (old new : Place) (had left : List ℕ) (before now : Option (List ℕ)) (sound : Bool) (fault : Fault)
+pub fault_is_told : (old new : RunState) (had left : List ℕ) (before now : Option (List ℕ)) (sound : Bool) (fault : Fault)
     → Reads old.at new.at (Some had) (Some left) (FaultyEntry fault ∷ []) → Steps old new (Some had) (Some left) before now (Ok (Problem sound)) → sound ≡ false
 fault_is_told old new had left before now sound fault reads (entry, p, text, runs, told) =
     told ∙ ap (λ e. not (is_faulty e)) (same_item old.at new.at had left entry (FaultyEntry fault) p.reads reads)

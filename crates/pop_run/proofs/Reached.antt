@@ -1,5 +1,5 @@
 -- How far a run reads.
-use Rattle.pop_run.proofs.Basics.{Entry, Input, IsSeen, List, MayFollow, None, Option, Reads, Some, Standing, Words, [], after, ap, append-nil, append_assoc, append_cancel_right, arith, count_by, drop, false, inl, is_line_end, length, limit, met, not, refl, sym, take, taken_of, true, words_of, ℕ, ◌++◌, ◌+◌, ◌∙◌, ◌∷◌, ◌≡◌, ◌≤◌}
+use Rattle.pop_run.proofs.Basics.{Entry, Input, IsSeen, List, MayFollow, None, Option, Reads, Some, Standing, Words, [], ap, append-nil, append_assoc, append_cancel_right, arith, count_by, drop, false, inl, input_met, is_line_end, length, limit, not, onto_input, refl, sym, take, taken_of, true, words_of, ℕ, ◌++◌, ◌+◌, ◌∙◌, ◌∷◌, ◌≡◌, ◌≤◌}
 use Rattle.std.proofs.Common.{inr, ◌⊎◌}
 use Rattle.std.proofs.Math.Seq.{drop-append_seam, take-append_seam}
 use Rattle.std.proofs.lemmas.List.{take_all}
@@ -12,14 +12,14 @@ use Rattle.pop_text.specs.declared.read_fault.ReadFault.TheVariants.{TooLong, In
 use Rattle.pop_text.specs.ties.Left.{among, words_left}
 use Rattle.pop_text.specs.ties.Reading.{Reading, beginning}
 use Rattle.pop_input.proofs.Taking.{takes_then}
-use Rattle.pop_input.specs.Blocks.{Faulty as FaultyEntry, Sound as SoundEntry, is_open}
+use Rattle.pop_input.specs.Blocks.{Faulty as FaultyEntry, Sound as SoundEntry, closes_none}
 use Rattle.pop_input.specs.Names.{closes, command_of}
 use Rattle.pop_input.specs.declared.item.Last.{Last}
 use Rattle.pop_input.specs.declared.names.Command.{Command}
 use Rattle.pop_input.specs.declared.reader.Next.{Next}
 use Rattle.pop_input.specs.declared.reader.Next.TheVariants.{Nothing}
 use Rattle.pop_input.specs.ties.Closings.{last_of}
-use Rattle.pop_input.specs.ties.Standing.{next_behind, start as before_all}
+use Rattle.pop_input.specs.ties.Standing.{first_standing, next_behind}
 use Rattle.pop_input.specs.ties.Used.{IsClosed, IsInputOver, IsUnclosed, UsesEntry, UsesTokens}
 use Rattle.pop_run.proofs.Meeting.{is_broken, met_after, taken_front}
 use Rattle.pop_run.specs.Run.{EndsWithInput, EndsWithItem, ReadsUpTo, goes_on, is_no_end, words_behind}
@@ -38,7 +38,7 @@ used_then {a} {b} {c} {had} {mid} {left} {ts = ts} {us = us} p q = record {
 open_goes_on : (command : Option Command) → not (closes command) ≡ true → is_no_end command ≡ true
 open_goes_on command h = grind arith
 
-all_go_on : (tokens : List Token) → list_all is_open tokens ≡ true → list_all goes_on tokens ≡ true
+all_go_on : (tokens : List Token) → list_all closes_none tokens ≡ true → list_all goes_on tokens ≡ true
 all_go_on [] h = refl
 all_go_on (token ∷ tokens) h = grind (arith, open_goes_on, all_go_on tokens)
 
@@ -73,7 +73,7 @@ pub record Reached (now : Standing) (had left : Option (List ℕ)) : Type 0 wher
   pub goes : ends now.next ≡ false → list_all goes_on tokens ≡ true
   pub stops : ends now.next ≡ true → Stops now.at bytes tokens
 
-pub reached_start : (had : Option (List ℕ)) → Reached before_all had had
+pub reached_start : (had : Option (List ℕ)) → Reached first_standing had had
 reached_start had = record {
   bytes = [];
   tokens = [];
@@ -164,7 +164,7 @@ module _ (place : Reading) (taken bytes : List ℕ) (rest : Input) (unread : tak
   whole = grind (arith, append_assoc)
 
   behind_is : place.used ≡ 0 + length bytes → place.line ≡ 1 + count_by is_line_end bytes
-      → words_left None place rest ≡ words_behind bytes (after taken rest)
+      → words_left None place rest ≡ words_behind bytes (onto_input taken rest)
   behind_is used line =
       let size : place.used ≡ length bytes = omega (arith, used) in
       let back : drop (length bytes) (taken ++ rest.bytes) ≡ place.window ++ rest.bytes = rw whole (drop-append_seam bytes (place.window ++ rest.bytes)) in
@@ -190,21 +190,21 @@ module _ (new : Standing) (r ys : List ℕ) (s : Stopped new (Some r) (Some ys))
   same_taken = append_cancel_right s.used.takes.bytes taken ys (sym s.used.takes.taken ∙ s.used.uses.consumed)
 
   words_are : (rest : Input) → MayFollow new.at.end rest
-      → (words_of (after taken rest)).tokens ≡ s.tokens ++ (words_behind s.bytes (after taken rest)).tokens
+      → (words_of (onto_input taken rest)).tokens ≡ s.tokens ++ (words_behind s.bytes (onto_input taken rest)).tokens
   words_are rest may =
       let begin = s.used.takes.begin rest may in
       let behind = behind_is new.at taken s.bytes rest s.used.uses.unread s.used.uses.used s.used.uses.line in
-      let first = at_beginning (after taken rest) in
-      ap (λ (w : Words). w.tokens) (sym first ∙ ap (λ bytes. words_left None beginning (after bytes rest)) (sym same_taken) ∙ begin)
+      let first = at_beginning (onto_input taken rest) in
+      ap (λ (w : Words). w.tokens) (sym first ∙ ap (λ bytes. words_left None beginning (onto_input bytes rest)) (sym same_taken) ∙ begin)
       ∙ ap (λ (w : Words). s.tokens ++ w.tokens) behind
 
-  stops_are : (rest : Input) → MayFollow new.at.end rest → EndsWithItem s.bytes s.tokens ⊎ EndsWithInput (after taken rest) s.bytes s.tokens
+  stops_are : (rest : Input) → MayFollow new.at.end rest → EndsWithItem s.bytes s.tokens ⊎ EndsWithInput (onto_input taken rest) s.bytes s.tokens
   stops_are rest may = elim s.stops [
     | inl item ↦ inl item
     | inr over ↦ inr (record { all = all_used new.at taken s.bytes rest s.used.uses.unread s.used.uses.used over.1 may; none = over.0 })
   ]
 
-  pub reads_known : IsSeen new.at.end (Some ys) → length new.at.window ≤ 4096 → ReadsUpTo (met (is_broken new.at.end) r (Some ys)) (taken_of r (Some ys))
+  pub reads_known : IsSeen new.at.end (Some ys) → length new.at.window ≤ 4096 → ReadsUpTo (input_met (is_broken new.at.end) r (Some ys)) (taken_of r (Some ys))
   reads_known seen few =
       let m = met_after new.at.end (Some ys) r taken s.used.uses.consumed seen in
       rw m.2 (record {
@@ -218,6 +218,6 @@ module _ (new : Standing) (r ys : List ℕ) (s : Stopped new (Some r) (Some ys))
       })
 
 pub stopped_reads : (new : Standing) (r : List ℕ) (left : Option (List ℕ)) → Stopped new (Some r) left → IsSeen new.at.end left
-    → length new.at.window ≤ 4096 → ReadsUpTo (met (is_broken new.at.end) r left) (taken_of r left)
+    → length new.at.window ≤ 4096 → ReadsUpTo (input_met (is_broken new.at.end) r left) (taken_of r left)
 stopped_reads new r None s seen few = absurd s.used.uses.consumed
 stopped_reads new r (Some ys) s seen few = reads_known new r ys s seen few

@@ -1,9 +1,9 @@
 -- A run, step by step.
-use Rattle.pop_run.proofs.Basics.{Appends, Begins, Bool, Choice, End, Entry, Err, Finished, IfSome, Input, IsSeen, List, None, Ok, Open, Option, OutputFailed, Place, Problem, Reads, Result, Runs, Some, Standing, Steps, TakesItem, Writes, [], ap, append-nil, append_assoc, appends_kept, appends_none, appends_then, arith, begins_later}
-use Rattle.pop_run.proofs.Basics.{begins_longer, consumes_then, entries_in, entries_left, entry_text, failures_after, false, grew, is_err, is_faulty, length, length-append, length-take, limit, list_any, met, not, refl, report_from, start, status_of, status_with, step_of, sym, taken_of, tells_failure, true, ℕ, ◌++◌, ◌+◌, ◌^◌, ◌||◌, ◌∙◌, ◌∷◌, ◌≡◌, ◌≤◌}
+use Rattle.pop_run.proofs.Basics.{Appends, Begins, Bool, Choice, End, Entry, Err, Finished, IfSome, Input, IsSeen, List, None, Ok, Open, Option, OutputFailed, Problem, Reads, Result, RunState, Runs, Some, Standing, Steps, TakesItem, Writes, [], ap, append-nil, append_assoc, appends_kept, appends_none, appends_then, arith, begins_later}
+use Rattle.pop_run.proofs.Basics.{begins_longer, consumes_then, entries_in, entries_left, entry_text, failures_after, false, first_state, grew, input_met, is_err, is_faulty, length, length-append, length-take, limit, list_any, not, refl, report_from, status_of, status_with, step_outcome, sym, taken_of, tells_failure, true, ℕ, ◌++◌, ◌+◌, ◌^◌, ◌||◌, ◌∙◌, ◌∷◌, ◌≡◌, ◌≤◌}
 use Rattle.std.proofs.lemmas.Bool.{lt-ltb}
 use Rattle.pop_text.specs.declared.sink.SinkFault.{SinkFault}
-use Rattle.pop_input.specs.ties.Standing.{start as before_all}
+use Rattle.pop_input.specs.ties.Standing.{first_standing}
 use Rattle.pop_input.proofs.Taking.{some_rest}
 use Rattle.pop_run.proofs.Meeting.{is_broken, met_after}
 use Rattle.pop_run.proofs.Reached.{Reached, Stopped, item_reached, item_stops, reached_start, still_more, stopped_last, stopped_reads}
@@ -12,15 +12,15 @@ use Rattle.pop_run.specs.declared.status.Status.{Status}
 use Rattle.pop_run.specs.ties.Sessions.{ends}
 
 -- an item that was read and printed so is what a step answers of it
-pub item_done : {A : Type 0} (old new : Place) (had left before now : Option (List ℕ)) (entry : Entry) (printed : Result A SinkFault)
+pub item_done : {A : Type 0} (old new : RunState) (had left before now : Option (List ℕ)) (entry : Entry) (printed : Result A SinkFault)
     → TakesItem old new had left entry → new.stopped ≡ is_err printed → Writes before now (entry_text old.choice old.number entry) printed
-    → Steps old new had left before now (step_of printed (not (is_faulty entry)))
+    → Steps old new had left before now (step_outcome printed (not (is_faulty entry)))
 item_done old new had left before now entry printed takes stopped written = grind arith
 
 -- From the beginning to now these items were read, and their report was written.
-pub record Progress (choice : Choice) (now : Place) (had left before taken : Option (List ℕ)) : Type 0 where
+pub record Progress (choice : Choice) (now : RunState) (had left before taken : Option (List ℕ)) : Type 0 where
   pub items : List Entry
-  pub reads : Reads before_all now.at had left items
+  pub reads : Reads first_standing now.at had left items
   pub written : Appends before taken (report_from choice 1 items)
   pub number : now.number ≡ 1 + length items
   pub status : now.status ≡ status_of items
@@ -47,7 +47,7 @@ pub status_more : (xs : List Entry) (x : Entry) → status_of (xs ++ x ∷ []) �
 unfolding status_of
 status_more xs x = grind (arith, any_more)
 
-pub progress_start : (choice : Choice) (had before : Option (List ℕ)) → Progress choice (start choice) had had before before
+pub progress_start : (choice : Choice) (had before : Option (List ℕ)) → Progress choice (first_state choice) had had before before
 unfolding status_of
 progress_start choice had before = record {
   items = [];
@@ -61,14 +61,14 @@ progress_start choice had before = record {
 }
 
 -- where an item was read one was still to come
-more_left : (old new : Place) (had left : Option (List ℕ)) (entry : Entry) → TakesItem old new had left entry → ends old.at.next ≡ false
+more_left : (old new : RunState) (had left : Option (List ℕ)) (entry : Entry) → TakesItem old new had left entry → ends old.at.next ≡ false
 more_left old new had left entry t = let r = some_rest new.at.at.end in still_more old.at new.at had left entry r.0 r.1 t.reads
 
-pub progress_step : (choice : Choice) (old new : Place) (had mid left before t now : Option (List ℕ)) (sound : Bool) → Progress choice old had mid before t
+pub progress_step : (choice : Choice) (old new : RunState) (had mid left before t now : Option (List ℕ)) (sound : Bool) → Progress choice old had mid before t
     → Steps old new mid left t now (Ok (Problem sound)) → Progress choice new had left before now
 progress_step choice old new had mid left before t now sound p q = record {
   items = p.items ++ q.0 ∷ [];
-  reads = reads_then before_all old.at new.at had mid left p.items (q.0 ∷ []) p.reads q.1.reads;
+  reads = reads_then first_standing old.at new.at had mid left p.items (q.0 ∷ []) p.reads q.1.reads;
   written = rw (report-append choice 1 p.items (q.0 ∷ []), append-nil) (appends_then before t now _ _ p.written (rw (p.number, p.choice_is) at q.2));
   number = q.1.number ∙ ap (λ n. n + 1) p.number ∙ omega (arith, length-append p.items (q.0 ∷ []));
   status = q.1.status ∙ ap (λ s. status_with s (tells_failure q.0) (is_faulty q.0)) p.status ∙ sym (status_more p.items q.0);
@@ -78,14 +78,14 @@ progress_step choice old new had mid left before t now sound p q = record {
 }
 
 -- before all items, those that are still to come are all of the input's
-pub all_to_come : (rest : Input) → entries_left before_all rest ≡ entries_in rest
+pub all_to_come : (rest : Input) → entries_left first_standing rest ≡ entries_in rest
 unfolding entries_in
 all_to_come rest = grind arith
 
 -- what was read of an input that is over
-module _ (choice : Choice) (old new : Place) (had mid left before t now : Option (List ℕ)) (answer : Status) (p : Progress choice old had mid before t)
+module _ (choice : Choice) (old new : RunState) (had mid left before t now : Option (List ℕ)) (answer : Status) (p : Progress choice old had mid before t)
     (q : Steps old new mid left t now (Ok (Finished answer))) where
-  last_reads : Reads before_all new.at had left p.items
+  last_reads : Reads first_standing new.at had left p.items
   last_reads = rw (q.1, q.2) p.reads
 
   last_stops : Stopped new.at had left
@@ -95,14 +95,14 @@ module _ (choice : Choice) (old new : Place) (had mid left before t now : Option
   none_left rest = grind arith
 
 -- a run that ends
-progress_end : (choice : Choice) (old new : Place) (mid left before t now : Option (List ℕ)) (r : List ℕ) (answer : Status)
+progress_end : (choice : Choice) (old new : RunState) (mid left before t now : Option (List ℕ)) (r : List ℕ) (answer : Status)
     → Progress choice old (Some r) mid before t → Steps old new mid left t now (Ok (Finished answer)) → IsSeen new.at.at.end left
-    → Runs choice (met (is_broken new.at.at.end) r left) before now false answer
+    → Runs choice (input_met (is_broken new.at.at.end) r left) before now false answer
 progress_end choice old new mid left before t now r answer p q seen =
     let all = last_reads choice old new (Some r) mid left before t now answer p q in
     let m = met_after new.at.at.end left r all.bytes all.taken seen in
     let none = none_left choice old new (Some r) mid left before t now answer p q m.0 in
-    let items : entries_in (met (is_broken new.at.at.end) r left) ≡ p.items =
+    let items : entries_in (input_met (is_broken new.at.at.end) r left) ≡ p.items =
     ap entries_in m.2 ∙ sym (all_to_come _) ∙ all.begin m.0 m.1 ∙ rw (none, append-nil) refl in
     (rw items (appends_kept before t now _ p.written q.3), q.4 ∙ p.status ∙ sym (ap status_of items))
 
@@ -118,13 +118,13 @@ cut_begins choice items entry more before t now written begun =
     ) (begins_longer _ (begins_later before t now (report_from choice 1 items) text written begun))
 
 -- a run that the sink cuts off
-progress_cut : (choice : Choice) (old new : Place) (mid left before t now : Option (List ℕ)) (r : List ℕ) (fault : SinkFault)
+progress_cut : (choice : Choice) (old new : RunState) (mid left before t now : Option (List ℕ)) (r : List ℕ) (fault : SinkFault)
     → Progress choice old (Some r) mid before t → Steps old new mid left t now (Err fault) → IsSeen new.at.at.end left
-    → Runs choice (met (is_broken new.at.at.end) r left) before now true OutputFailed
+    → Runs choice (input_met (is_broken new.at.at.end) r left) before now true OutputFailed
 progress_cut choice old new mid left before t now r fault p q seen =
-    let all = reads_then before_all old.at new.at (Some r) mid left p.items (q.0 ∷ []) p.reads q.1.reads in
+    let all = reads_then first_standing old.at new.at (Some r) mid left p.items (q.0 ∷ []) p.reads q.1.reads in
     let m = met_after new.at.at.end left r all.bytes all.taken seen in
-    let items : entries_in (met (is_broken new.at.at.end) r left) ≡ (p.items ++ q.0 ∷ []) ++ entries_left new.at m.0 =
+    let items : entries_in (input_met (is_broken new.at.at.end) r left) ≡ (p.items ++ q.0 ∷ []) ++ entries_left new.at m.0 =
     ap entries_in m.2 ∙ sym (all_to_come _) ∙ all.begin m.0 m.1 in
     (rw items (cut_begins choice p.items q.0 _ before t now p.written (rw (p.number, p.choice_is) at q.2)), refl)
 
@@ -138,22 +138,22 @@ grew_more n = lt-ltb n (n + 1) (omega arith)
 pub grew_broken : (e : End) (n m : ℕ) → m ≡ failures_after Open e n → grew n m ≡ is_broken e
 grew_broken e n m is = grind (arith, grew_same, grew_more)
 
-pub run_ends : (choice : Choice) (old new : Place) (had mid left before t now : Option (List ℕ)) (answer : Status) (n m v w : ℕ)
+pub run_ends : (choice : Choice) (old new : RunState) (had mid left before t now : Option (List ℕ)) (answer : Status) (n m v w : ℕ)
     → Progress choice old had mid before t → Steps old new mid left t now (Ok (Finished answer)) → IsSeen new.at.at.end left
-    → m ≡ failures_after Open new.at.at.end n → w ≡ v → IfSome had (λ r. Runs choice (met (grew n m) r left) before now (grew v w) answer)
+    → m ≡ failures_after Open new.at.at.end n → w ≡ v → IfSome had (λ r. Runs choice (input_met (grew n m) r left) before now (grew v w) answer)
 run_ends choice old new None mid left before t now answer n m v w p q seen reads writes = tt
 run_ends choice old new (Some r) mid left before t now answer n m v w p q seen reads writes =
     rw (grew_broken new.at.at.end n m reads, writes, grew_same v) (progress_end choice old new mid left before t now r answer p q seen)
 
-pub run_cut : (choice : Choice) (old new : Place) (had mid left before t now : Option (List ℕ)) (fault : SinkFault) (n m v w : ℕ)
+pub run_cut : (choice : Choice) (old new : RunState) (had mid left before t now : Option (List ℕ)) (fault : SinkFault) (n m v w : ℕ)
     → Progress choice old had mid before t → Steps old new mid left t now (Err fault) → IsSeen new.at.at.end left → m ≡ failures_after Open new.at.at.end n
-    → w ≡ v + 1 → IfSome had (λ r. Runs choice (met (grew n m) r left) before now (grew v w) OutputFailed)
+    → w ≡ v + 1 → IfSome had (λ r. Runs choice (input_met (grew n m) r left) before now (grew v w) OutputFailed)
 run_cut choice old new None mid left before t now fault n m v w p q seen reads writes = tt
 run_cut choice old new (Some r) mid left before t now fault n m v w p q seen reads writes =
     rw (grew_broken new.at.at.end n m reads, writes, grew_more v) (progress_cut choice old new mid left before t now r fault p q seen)
 
 -- a run takes as many bytes as are used and as wait in the window
-taken_most : (new : Standing) (r : List ℕ) (left : Option (List ℕ)) (items : List Entry) → Reads before_all new (Some r) left items
+taken_most : (new : Standing) (r : List ℕ) (left : Option (List ℕ)) (items : List Entry) → Reads first_standing new (Some r) left items
     → new.at.used ≤ limit → length new.at.window ≤ 4096 → length (taken_of r left) ≤ 2 ^ 30 + 4096
 unfolding limit
 taken_most new r left items p within waits = grind (arith, length-append, length-take)
@@ -162,32 +162,32 @@ taken_most new r left items p within waits = grind (arith, length-append, length
 pub failed_once : (e : End) (n m : ℕ) → m ≡ failures_after Open e n → m ≤ n + 1
 failed_once e n m is = grind arith
 
-pub ended_most : (choice : Choice) (old new : Place) (had mid left before t now : Option (List ℕ)) (answer : Status) → Progress choice old had mid before t
+pub ended_most : (choice : Choice) (old new : RunState) (had mid left before t now : Option (List ℕ)) (answer : Status) → Progress choice old had mid before t
     → Steps old new mid left t now (Ok (Finished answer)) → new.at.at.used ≤ limit → length new.at.at.window ≤ 4096
     → IfSome had (λ r. length (taken_of r left) ≤ 2 ^ 30 + 4096)
 ended_most choice old new None mid left before t now answer p q within waits = tt
 ended_most choice old new (Some r) mid left before t now answer p q within waits =
     taken_most new.at r left _ (last_reads choice old new (Some r) mid left before t now answer p q) within waits
 
-pub cut_most : (choice : Choice) (old new : Place) (had mid left before t now : Option (List ℕ)) (fault : SinkFault) → Progress choice old had mid before t
+pub cut_most : (choice : Choice) (old new : RunState) (had mid left before t now : Option (List ℕ)) (fault : SinkFault) → Progress choice old had mid before t
     → Steps old new mid left t now (Err fault) → new.at.at.used ≤ limit → length new.at.at.window ≤ 4096
     → IfSome had (λ r. length (taken_of r left) ≤ 2 ^ 30 + 4096)
 cut_most choice old new None mid left before t now fault p q within waits = tt
 cut_most choice old new (Some r) mid left before t now fault p q within waits = taken_most new.at r left _
-    (reads_then before_all old.at new.at (Some r) mid left p.items (q.0 ∷ []) p.reads q.1.reads) within waits
+    (reads_then first_standing old.at new.at (Some r) mid left p.items (q.0 ∷ []) p.reads q.1.reads) within waits
 
 -- How far a run reads.
 
-pub ended_reads : (choice : Choice) (old new : Place) (had mid left before t now : Option (List ℕ)) (answer : Status) (n m : ℕ)
+pub ended_reads : (choice : Choice) (old new : RunState) (had mid left before t now : Option (List ℕ)) (answer : Status) (n m : ℕ)
     → Progress choice old had mid before t → Steps old new mid left t now (Ok (Finished answer)) → IsSeen new.at.at.end left
-    → length new.at.at.window ≤ 4096 → m ≡ failures_after Open new.at.at.end n → IfSome had (λ r. ReadsUpTo (met (grew n m) r left) (taken_of r left))
+    → length new.at.at.window ≤ 4096 → m ≡ failures_after Open new.at.at.end n → IfSome had (λ r. ReadsUpTo (input_met (grew n m) r left) (taken_of r left))
 ended_reads choice old new None mid left before t now answer n m p q seen few reads = tt
 ended_reads choice old new (Some r) mid left before t now answer n m p q seen few reads =
     rw (grew_broken new.at.at.end n m reads) (stopped_reads new.at r left (last_stops choice old new (Some r) mid left before t now answer p q) seen few)
 
-pub cut_reads : (choice : Choice) (old new : Place) (had mid left before t now : Option (List ℕ)) (fault : SinkFault) (n m : ℕ)
+pub cut_reads : (choice : Choice) (old new : RunState) (had mid left before t now : Option (List ℕ)) (fault : SinkFault) (n m : ℕ)
     → Progress choice old had mid before t → Steps old new mid left t now (Err fault) → IsSeen new.at.at.end left → length new.at.at.window ≤ 4096
-    → m ≡ failures_after Open new.at.at.end n → IfSome had (λ r. ReadsUpTo (met (grew n m) r left) (taken_of r left))
+    → m ≡ failures_after Open new.at.at.end n → IfSome had (λ r. ReadsUpTo (input_met (grew n m) r left) (taken_of r left))
 cut_reads choice old new None mid left before t now fault n m p q seen few reads = tt
 cut_reads choice old new (Some r) mid left before t now fault n m p q seen few reads =
     let stops = item_stops old.at new.at (Some r) mid left p.reached (more_left old new mid left q.0 q.1) q.0 q.1.used in

@@ -1,8 +1,7 @@
 -- The report of an input, and its status (own layout and statuses).
 use Rattle.std.specs.Prelude.{ℕ, ◌+◌, ◌==◌, List, [], ◌∷◌, ◌++◌, Bool, true, false, if◌then◌else◌, codes}
 use Rattle.std.specs.List.{flat_map, list_any}
-use Rattle.std.specs.Prelude.{None}
-use Rattle.pop_text.specs.Words.{Input, words_from, limit}
+use Rattle.pop_text.specs.Words.{Input, words_of}
 use Rattle.pop_input.specs.Blocks.{Entry, Sound as SoundEntry, Faulty as FaultyEntry, entries_of}
 use Rattle.pop_input.specs.FaultKinds.{number_of}
 use Rattle.pop_input.specs.Posed.{Posed}
@@ -43,7 +42,7 @@ report_from choice number (entry ∷ entries) = entry_text choice number entry
 
 -- all items of an input
 unfoldable pub entries_in : Input → List Entry
-entries_in input = entries_of true (words_from None limit 1 input)
+entries_in input = entries_of true (words_of input)
 
 -- the report of an input: the texts of its items, numbered from 1
 abbrev pub report : Choice → Input → List ℕ

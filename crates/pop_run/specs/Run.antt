@@ -18,9 +18,9 @@ taken_of had (Some left) = take (length had - length left) had
 
 -- The input that a run met: where the source's count of failures didn't grow, all bytes with the clean ending, else
 -- those that were taken before the failure with the failed one.
-abbrev pub met : Bool → List ℕ → Option (List ℕ) → Input
-met true had left = record { bytes = taken_of had left; ending = Failed }
-met false had left = record { bytes = had; ending = Clean }
+abbrev pub input_met : Bool → List ℕ → Option (List ℕ) → Input
+input_met true had left = record { bytes = taken_of had left; ending = Failed }
+input_met false had left = record { bytes = had; ending = Clean }
 
 -- at most one call has failed, by the counts of failures before and after
 abbrev pub FailsOnce : ℕ → ℕ → Type 0

@@ -1,12 +1,12 @@
 //! A whole run.
 ghost use Rattle.std.specs.Prelude.{◌<◌, ◌≤◌, ◌+◌, ◌^◌, IfSome, length};
-ghost use Rattle.pop_text.specs.Bytes.{greatest};
+ghost use Rattle.pop_text.specs.Bytes.{greatest_count};
 ghost use Rattle.pop_run.specs.Report.{choice_of};
-ghost use Rattle.pop_run.specs.Run.{FailsOnce, ReadsUpTo, Runs, grew, met, taken_of};
+ghost use Rattle.pop_run.specs.Run.{FailsOnce, ReadsUpTo, Runs, grew, input_met, taken_of};
 
 use crate::session::Session;
 use crate::settings::Settings;
-use crate::status::{Status, Step};
+use crate::status::{Status, StepOutcome};
 use pop_text::sink::Sink;
 use pop_text::source::Source;
 
@@ -16,15 +16,15 @@ use pop_text::source::Source;
 /// where the sink fails; then the status is `OutputFailed`, and nothing more is written. At most 2^30 + 4,096 bytes are
 /// taken from the source, and at most 4,096 behind the first EndProblem, which are not used. Of the calls of each, source and sink, at most one fails.
 pub fn run<S: Source, W: Sink>(settings: &Settings, source: &mut S, sink: &mut W) -> Status
-    requires source { S.failures source.old < greatest }
-    requires sink { W.failures sink.old < greatest }
+    requires source { S.failures source.old < greatest_count }
+    requires sink { W.failures sink.old < greatest_count }
     ensures headline { IfSome (S.remaining source.old) (λ had.
-        Runs (choice_of settings.now) (met (grew (S.failures source.old) (S.failures source.new))
-        had (S.remaining source.new))
+        Runs (choice_of settings.now)
+        (input_met (grew (S.failures source.old) (S.failures source.new)) had (S.remaining source.new))
         (W.taken sink.old) (W.taken sink.new)
         (grew (W.failures sink.old) (W.failures sink.new)) result) }
     ensures reads { IfSome (S.remaining source.old) (λ had.
-        ReadsUpTo (met (grew (S.failures source.old) (S.failures source.new))
+        ReadsUpTo (input_met (grew (S.failures source.old) (S.failures source.new))
         had (S.remaining source.new)) (taken_of had (S.remaining source.new))) }
     ensures once { FailsOnce (S.failures source.old) (S.failures source.new)
         × FailsOnce (W.failures sink.old) (W.failures sink.new) }
@@ -34,8 +34,8 @@ pub fn run<S: Source, W: Sink>(settings: &Settings, source: &mut S, sink: &mut W
     let mut session = Session::new(settings);
     'items: loop {
         match session.step(source, sink) {
-            Ok(Step::Problem { sound: _sound }) => {}
-            Ok(Step::Finished(status)) => return status,
+            Ok(StepOutcome::Problem { sound: _sound }) => {}
+            Ok(StepOutcome::Finished(status)) => return status,
             Err(_) => return Status::OutputFailed,
         }
     }

@@ -1,18 +1,18 @@
 //! Sessions: one item in, its report out.
 ghost use Rattle.std.specs.Prelude.{◌≡◌, ◌==◌, ◌<◌, ◌≤◌, ◌+◌, ◌⊎◌, ◌||◌, IsErr, false, true, is_err, length};
 ghost use Rattle.pop_text.specs.Words.{limit};
-ghost use Rattle.pop_text.specs.Bytes.{count_after, greatest};
+ghost use Rattle.pop_text.specs.Bytes.{count_after, greatest_count};
 ghost use Rattle.pop_text.specs.ties.Reading.{IsSeen, failures_after};
 ghost use Rattle.pop_text.specs.declared.scanner.End.{End};
 ghost use Rattle.pop_input.specs.FaultKinds.{number_of};
 ghost use Rattle.pop_input.specs.declared.fault_kind.FaultKind.TheVariants.{DeviceFailed};
 ghost use Rattle.pop_input.specs.ties.Standing.{work_left};
 ghost use Rattle.pop_run.specs.Report.{choice_of};
-ghost use Rattle.pop_run.specs.ties.Sessions.{GoesOn, Steps, is_problem, start, status_with as with_item, step_of};
+ghost use Rattle.pop_run.specs.ties.Sessions.{GoesOn, Steps, first_state, is_problem, status_with as with_item, step_outcome};
 
 use crate::settings::Settings;
 use crate::solutions::print_sound;
-use crate::status::{Status, Step};
+use crate::status::{Status, StepOutcome};
 use pop_input::fault_kind::FaultKind;
 use pop_input::item::{Fault, Item, Last};
 use pop_input::reader::Reader;
@@ -37,9 +37,9 @@ impl Model for Session {
     ghost use Rattle.std.specs.Prelude.{◌≡◌, ◌≤◌, ◌+◌, ◌^◌, length};
     ghost use Rattle.pop_text.specs.Words.{limit};
     ghost use Rattle.pop_input.specs.ties.Standing.{work_left};
-    ghost use Rattle.pop_run.specs.ties.Sessions.{Place, ends, says_last};
+    ghost use Rattle.pop_run.specs.ties.Sessions.{RunState, ends, says_last};
 
-    ghost Value = { Place };
+    ghost Value = { RunState };
 
     ghost view = { λ s. record {
       at = s.reader;
@@ -58,7 +58,7 @@ impl Session {
     /// All items are still to come.
     #[tactic(auto, unfolding(pop_text::specs::Words::limit))]
     pub fn new(settings: &Settings) -> Session
-        ensures { result ≡ start (choice_of settings.now) }
+        ensures { result ≡ first_state (choice_of settings.now) }
     {
         Session {
             reader: Reader::new(),
@@ -80,10 +80,10 @@ impl Session {
         &mut self,
         source: &mut S,
         sink: &mut W,
-    ) -> Result<Step, SinkFault>
+    ) -> Result<StepOutcome, SinkFault>
         requires source { GoesOn self.old → self.old.at.at.end ≡ End.Open
-            → S.failures source.old < greatest }
-        requires sink { GoesOn self.old → W.failures sink.old < greatest }
+            → S.failures source.old < greatest_count }
+        requires sink { GoesOn self.old → W.failures sink.old < greatest_count }
         ensures does { self.old.stopped ≡ false
             → Steps self.old self.new (S.remaining source.old) (S.remaining source.new)
             (W.taken sink.old) (W.taken sink.new) result }
@@ -105,12 +105,12 @@ impl Session {
             return Err(SinkFault);
         }
         if self.last == Last::Yes {
-            return Ok(Step::Finished(self.so_far));
+            return Ok(StepOutcome::Finished(self.so_far));
         }
         let number = self.next_number;
         let item = self.reader.next_problem(source);
         match &item {
-            Item::End => Ok(Step::Finished(self.so_far)),
+            Item::End => Ok(StepOutcome::Finished(self.so_far)),
             Item::Sound(problem, last) => {
                 self.next_number += 1;
                 self.last = *last;
@@ -128,15 +128,19 @@ impl Session {
     }
 
     // Stops where the sink failed.
-    fn answer(&mut self, printed: Result<(), SinkFault>, sound: bool) -> Result<Step, SinkFault>
-        ensures step { result ≡ step_of printed sound }
+    fn answer(
+        &mut self,
+        printed: Result<(), SinkFault>,
+        sound: bool,
+    ) -> Result<StepOutcome, SinkFault>
+        ensures step { result ≡ step_outcome printed sound }
         ensures place { self.new ≡ record self.old {
           stopped = self.old.stopped
               || is_err printed;
         } }
     {
         match printed {
-            Ok(()) => Ok(Step::Problem { sound }),
+            Ok(()) => Ok(StepOutcome::Problem { sound }),
             Err(fault) => {
                 self.has_stopped = true;
                 Err(fault)

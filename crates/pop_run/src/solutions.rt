@@ -1,7 +1,7 @@
 //! What is printed of a sound problem.
 ghost use Rattle.std.specs.Prelude.{◌≡◌, ◌<◌, ◌++◌, codes, false};
 ghost use Rattle.std.specs.List.{flat_map};
-ghost use Rattle.pop_text.specs.Bytes.{Writes, count_after, greatest};
+ghost use Rattle.pop_text.specs.Bytes.{Writes, count_after, greatest_count};
 ghost use Rattle.pop_input.specs.Blocks.{Sound as SoundEntry};
 ghost use Rattle.pop_input.specs.Posed.{rule_of};
 ghost use Rattle.pop_solve.specs.Events.{events, events_of};
@@ -24,7 +24,7 @@ pub(crate) fn print_sound<W: Sink>(
     check: bool,
     no_board: bool,
 ) -> Result<(), SinkFault>
-    requires { W.failures sink.old < greatest }
+    requires { W.failures sink.old < greatest_count }
     ensures bytes { Writes (W.taken sink.old) (W.taken sink.new)
         (entry_text (record { check = check; no_board = no_board }) number (SoundEntry problem.now))
         result }
@@ -45,7 +45,7 @@ fn print_solved<W: Sink>(
     problem: &Problem,
     no_board: bool,
 ) -> Result<(), SinkFault>
-    requires { W.failures sink.old < greatest }
+    requires { W.failures sink.old < greatest_count }
     ensures bytes { Writes (W.taken sink.old) (W.taken sink.new)
         (entry_text (record { check = false; no_board = no_board }) number (SoundEntry problem.now))
         result }
@@ -58,7 +58,7 @@ fn print_solved<W: Sink>(
 
 // The solutions of a problem, under the rules of its condition.
 fn print_play<W: Sink>(sink: &mut W, problem: &Problem) -> Result<(), SinkFault>
-    requires { W.failures sink.old < greatest }
+    requires { W.failures sink.old < greatest_count }
     ensures bytes { Writes (W.taken sink.old) (W.taken sink.new) (findings false problem.now)
         result }
     ensures counted { W.failures sink.new ≡ count_after result (W.failures sink.old) }
@@ -72,7 +72,7 @@ fn print_play<W: Sink>(sink: &mut W, problem: &Problem) -> Result<(), SinkFault>
 
 // The events of a problem, each as it is found.
 fn print_solutions<R: Rules, W: Sink>(sink: &mut W, problem: &Problem) -> Result<(), SinkFault>
-    requires sink { W.failures sink.old < greatest }
+    requires sink { W.failures sink.old < greatest_count }
     requires rules { R.rule ≡ rule_of problem.now.condition }
     ensures bytes { Writes (W.taken sink.old) (W.taken sink.new)
         (flat_map event_text (events_of problem.now)) result }

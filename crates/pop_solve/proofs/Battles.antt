@@ -1,5 +1,5 @@
 -- The value by half-moves is what the battle definitions say.
-use Rattle.pop_solve.proofs.Words.{Battle, Game, Selfmate, ap, arith, can_move, every_move, lost, refl, rules, self_lost, self_wins, some_move, suc, value, wins, zero, ℕ, ◌%◌, ◌&&◌, ◌*◌, ◌||◌, ◌∙◌, ◌≡◌}
+use Rattle.pop_solve.proofs.Words.{Battle, Game, Selfmate, ap, arith, can_move, every_move, is_lost, is_self_lost, refl, rules, self_wins, some_move, suc, value, wins, zero, ℕ, ◌%◌, ◌&&◌, ◌*◌, ◌||◌, ◌∙◌, ◌≡◌}
 use Rattle.pop_solve.specs.declared.aim.Battle.TheVariants.{Direct}
 
 module _ {P M : Type 0} (game : Game P M) where
@@ -16,18 +16,18 @@ module _ {P M : Type 0} (game : Game P M) where
   unfolding value
   value-zero battle q = refl
 
-  pub value-lost : (j : ℕ) (q : P) → value Direct game (2 * j) q ≡ lost game j q
-  unfolding lost
-  value-lost zero q = value-zero Direct q
-  value-lost (suc j) q =
+  pub value-is_lost : (j : ℕ) (q : P) → value Direct game (2 * j) q ≡ is_lost game j q
+  unfolding is_lost
+  value-is_lost zero q = value-zero Direct q
+  value-is_lost (suc j) q =
       let two : 2 * suc j ≡ suc (suc (2 * j)) = omega arith in
-      let white : (r : P) → value Direct game (suc (2 * j)) r ≡ some_move game (lost game j) r =
-      λ r. direct-odd (2 * j) r (omega arith) ∙ ap (λ test. some_move game test r) (λ i x. value-lost j x i) in
+      let white : (r : P) → value Direct game (suc (2 * j)) r ≡ some_move game (is_lost game j) r =
+      λ r. direct-odd (2 * j) r (omega arith) ∙ ap (λ test. some_move game test r) (λ i x. value-is_lost j x i) in
       rw (two, direct-even (suc (2 * j)) q (omega arith)) (ap (λ test. game.goal q || (can_move game q && every_move game test q)) (λ i r. white r i))
 
   pub value-wins : (k : ℕ) (p : P) → value Direct game (suc (2 * k)) p ≡ wins game (suc k) p
   unfolding wins
-  value-wins k p = direct-odd (2 * k) p (omega arith) ∙ ap (λ test. some_move game test p) (λ i x. value-lost k x i)
+  value-wins k p = direct-odd (2 * k) p (omega arith) ∙ ap (λ test. some_move game test p) (λ i x. value-is_lost k x i)
 
   -- battle: White needs one good move at an even number of half-moves
   self-even : (t : ℕ) (p : P) → suc t % 2 ≡ 0 → value Selfmate game (suc t) p ≡ (game.goal p || some_move game (value Selfmate game t) p)
@@ -47,6 +47,6 @@ module _ {P M : Type 0} (game : Game P M) where
       λ q. self-odd (2 * k) q (omega arith) ∙ ap (λ test. can_move game q && every_move game test q) (λ i x. value-self_wins k x i) in
       rw (two, self-even (suc (2 * k)) r (omega arith)) (ap (λ test. game.goal r || some_move game test r) (λ i q. black q i))
 
-  pub value-self_lost : (k : ℕ) (q : P) → value Selfmate game (suc (2 * k)) q ≡ self_lost game (suc k) q
-  unfolding self_lost
-  value-self_lost k q = search (rules, self-odd, value-self_wins)
+  pub value-is_self_lost : (k : ℕ) (q : P) → value Selfmate game (suc (2 * k)) q ≡ is_self_lost game (suc k) q
+  unfolding is_self_lost
+  value-is_self_lost k q = search (rules, self-odd, value-self_wins)

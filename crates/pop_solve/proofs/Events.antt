@@ -1,8 +1,8 @@
 -- What a call gives.
-use Rattle.pop_solve.proofs.Words.{AreKnown, ArrayVec, BareEvent, Barred, Before, Behind, Event, Frame, Gives, IsGiven, IsLinked, IsRoomy, IsSound, IsStanding, IsWalking, IsWellFormed, Line, List, MatchOption, Node, None, Option, Phase, Play, Posed, Position, RuleSet, Set, Shown, Stage, StandsOn, Total, Walks, Within, [], append_assoc, arith, begins, cond, counted, drop, eqb, event_of, events, events_from, false, flat_map, half_moves, is_barred}
-use Rattle.pop_solve.proofs.Words.{is_help, is_set, is_some, keep, left_of, length, length-reverse, min, nat_tests, opening, option_map, path, path_event, phase_events, phase_half, phase_half_moves, phase_paths, phase_start, plan_of, position, refl, reverse, rules, shown_along, shown_last, slice_get, solutions, start, started, suc, take, total, true, zero, ℕ, ◌+◌, ◌-◌, ◌^◌, ◌||◌, ◌∷◌, ◌≡◌, ◌≤◌}
+use Rattle.pop_solve.proofs.Words.{AreKnown, ArrayVec, BareEvent, Barred, Before, Behind, Event, Frame, Gives, IsGiven, IsLinked, IsRoomy, IsSound, IsStanding, IsWalking, IsWellFormed, Line, List, MatchOption, Node, None, Option, Phase, Play, Posed, Position, RuleSet, Set, Shown, Stage, StandsOn, Total, Walks, Within, [], append_assoc, arith, begins, cond, drop, eqb, event_of, events, events_from, false, flat_map, half_moves, is_barred, phase_count}
+use Rattle.pop_solve.proofs.Words.{beginning_count, is_help, is_set, is_some, keep, left_of, length, length-reverse, min, nat_tests, opening, option_map, path, path_event, phase_events, phase_half, phase_half_moves, phase_paths, phase_start, plan_of, play_start, position, refl, reverse, rules, shown_along, shown_last, slice_get, solutions, suc, take, total, true, zero, ℕ, ◌+◌, ◌-◌, ◌^◌, ◌||◌, ◌∷◌, ◌≡◌, ◌≤◌}
 use Rattle.pop_solve.proofs.Sound.{in_range}
-use Rattle.pop_solve.proofs.Paths.{path-length, reach-path}
+use Rattle.pop_solve.proofs.Paths.{path-length, path_end-path}
 
 -- the event of a line
 pub line-event : (problem : Posed) (phase : Phase) (frames : List Frame) (half : ℕ) (moves : ArrayVec Shown) → is_help problem.stipulation.form ≡ true
@@ -65,7 +65,7 @@ module _ (rule : RuleSet) (problem : Posed) (phase : Phase) (count : ℕ) (old :
       → event ≡ event_of rule problem (path_event problem phase (path (reverse frames)))
       → Gives rule problem (left_of rule problem (Within phase count) old) (left_of rule problem (Within phase next) (reverse frames)) event board
       (length frames)
-  gives-here next event n e = grind (arith, left-given, deep-given, reach-path, path-length, length-reverse, nat_tests)
+  gives-here next event n e = grind (arith, left-given, deep-given, path_end-path, path-length, length-reverse, nat_tests)
 
   stands-here : (next : ℕ) → next ≡ count + cond (is_help problem.stipulation.form || eqb (length frames) 2) 1 0
       → IsStanding rule problem (Within phase next) (reverse frames) board
@@ -96,7 +96,7 @@ behind-left : (rule : RuleSet) (problem : Posed) (phase : Phase) (frames : List 
 unfolding left_of
 behind-left rule problem phase frames = search rules
 
-behind-standing : (rule : RuleSet) (problem : Posed) (phase : Phase) (board : Position) → board ≡ start problem
+behind-standing : (rule : RuleSet) (problem : Posed) (phase : Phase) (board : Position) → board ≡ play_start problem
     → IsStanding rule problem (cond (is_set phase) (Before Play) Behind) [] board
 unfolding IsStanding
 behind-standing rule problem phase board e = search rules
@@ -109,7 +109,7 @@ module _ (rule : RuleSet) (problem : Posed) (phase : Phase) (stage : Stage) (new
       (Total count (eqb count problem.max_solutions)) board depth
   gives-ended count depth old mid now w = search (rules, left-ended, behind-left)
 
-  pub standing-ended : board ≡ start problem → IsStanding rule problem stage (reverse new) board
+  pub standing-ended : board ≡ play_start problem → IsStanding rule problem stage (reverse new) board
   standing-ended e = rw (at, none) (behind-standing rule problem phase board e)
 
 -- a phase that isn't possible
@@ -121,8 +121,8 @@ left-barred rule problem phase frames e = search rules
 -- a phase begins
 pub left-begun : (rule : RuleSet) (problem : Posed) (phase : Phase) (old new : List Frame) → is_barred rule problem phase ≡ false
     → keep (is_help problem.stipulation.form) problem.max_solutions (phase_paths rule problem phase new) ≡ flat_map (λ solution. solution)
-    (take problem.max_solutions (solutions rule problem phase)) → started (is_help problem.stipulation.form) problem.max_solutions
-    (phase_paths rule problem phase new) ≡ counted rule problem phase → left_of rule problem (Before phase) old ≡ opening phase ∷ left_of rule problem
+    (take problem.max_solutions (solutions rule problem phase)) → beginning_count (is_help problem.stipulation.form) problem.max_solutions
+    (phase_paths rule problem phase new) ≡ phase_count rule problem phase → left_of rule problem (Before phase) old ≡ opening phase ∷ left_of rule problem
     (Within phase 0) new
 unfolding left_of phase_events
 left-begun rule problem phase old new e kept begun = search (rules, append_assoc)
@@ -148,19 +148,19 @@ pub given-all : (rule : RuleSet) (problem : Posed) → IsGiven rule problem (eve
 given-all rule problem = search rules
 
 pub given-event : (rule : RuleSet) (problem : Posed) (event : Option Event) (old new : List BareEvent) (board : Position) (depth given given2 : ℕ)
-    → is_some event ≡ true → MatchOption event ((old ≡ []) × (board ≡ start problem) × (new ≡ [])) (λ e. Gives rule problem old new e board depth)
+    → is_some event ≡ true → MatchOption event ((old ≡ []) × (board ≡ play_start problem) × (new ≡ [])) (λ e. Gives rule problem old new e board depth)
     → given2 ≡ min (given + 1) (2 ^ 64 - 1) → IsGiven rule problem old given → IsGiven rule problem new given2
 given-event rule problem event old new board depth given given2 some x more g = grind (arith, drop-next)
 
 pub given-none : (rule : RuleSet) (problem : Posed) (event : Option Event) (old new : List BareEvent) (board : Position) (depth given : ℕ)
-    → is_some event ≡ false → MatchOption event ((old ≡ []) × (board ≡ start problem) × (new ≡ [])) (λ e. Gives rule problem old new e board depth)
+    → is_some event ≡ false → MatchOption event ((old ≡ []) × (board ≡ play_start problem) × (new ≡ [])) (λ e. Gives rule problem old new e board depth)
     → IsGiven rule problem old given → IsGiven rule problem new given
 given-none rule problem event old new board depth given none x g = search rules
 
 -- what a call answers, and where it leaves the search
 module _ (rule : RuleSet) (problem : Posed) where
   abbrev Given : Option Event → List BareEvent → List BareEvent → Position → ℕ → Type 0
-  Given event old new board depth = MatchOption event ((old ≡ []) × (board ≡ start problem) × (new ≡ [])) (λ e. Gives rule problem old new e board depth)
+  Given event old new board depth = MatchOption event ((old ≡ []) × (board ≡ play_start problem) × (new ≡ [])) (λ e. Gives rule problem old new e board depth)
 
   pub next-event : (event : Option Event) (old new : List BareEvent) (board : Position) (depth : ℕ) → Given event old new board depth
       → event ≡ option_map (event_of rule problem) (slice_get old 0)
@@ -170,7 +170,7 @@ module _ (rule : RuleSet) (problem : Posed) where
   next-left event old new board depth x = search rules
 
   pub next-board : (event : Option Event) (old new : List BareEvent) (board : Position) (depth : ℕ) → Given event old new board depth
-      → MatchOption (slice_get old 0) (board ≡ start problem) (λ bare. StandsOn rule problem bare board depth)
+      → MatchOption (slice_get old 0) (board ≡ play_start problem) (λ bare. StandsOn rule problem bare board depth)
   next-board event old new board depth x = search rules
 
 pub ruleset frames_in_use = (depth-most)

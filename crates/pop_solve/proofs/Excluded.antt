@@ -1,8 +1,8 @@
 -- What the clauses of a search exclude: events given after the board was taken back or given twice, totals that say the wrong thing or come too early,
 -- mates passed over, and counts of events and frames that begin or grow otherwise.
-use Rattle.pop_solve.proofs.Words.{ArrayVec, BareEvent, Barred, Before, Bool, Event, Frame, Gives, GoesTo, IsGiven, IsOpened, Line, List, Node, None, Phase, Plan, Posed, Position, RuleSet, Shown, Some, Total, Triple, Within, [], ap, arith, eqb, event_of, false, filter, filter-append, first_phase, is_help, is_mating, is_walked_once, keep, left_of, length, map, min, moves_behind, path_event, phase_paths, refl, rest_open, slice_get, total, true, ℕ, ◌++◌, ◌+◌, ◌-◌, ◌^◌, ◌∷◌, ◌≡◌}
+use Rattle.pop_solve.proofs.Words.{ArrayVec, BareEvent, Barred, Before, Bool, Event, Frame, Gives, GoesTo, IsGiven, IsOpened, Line, List, Move, Node, None, Phase, Plan, Posed, Position, RuleSet, Shown, Some, Total, Within, [], ap, arith, eqb, event_of, false, filter, filter-append, first_phase, is_help, is_mating, is_walked_once, keep, left_of, length, map, min, moves_behind, path_event, phase_paths, refl, rest_open, slice_get, total, true, ℕ, ◌++◌, ◌+◌, ◌-◌, ◌^◌, ◌∷◌, ◌≡◌}
 use Rattle.chess_core.specs.MoveOrder.{triple_number}
-use Rattle.pop_solve.specs.Parts.{begins_so, is_front, part_numbered, parts}
+use Rattle.pop_solve.specs.Parts.{begins_path, begins_so, part_numbered, parts}
 
 module _ (rule : RuleSet) (problem : Posed) (old new : List BareEvent) (board : Position) where
   -- no line is given with no frame in use, as after all moves were taken back
@@ -15,7 +15,7 @@ module _ (rule : RuleSet) (problem : Posed) (old new : List BareEvent) (board : 
 
 module _ (rule : RuleSet) (problem : Posed) (phase : Phase) (count : ℕ) (frames : List Frame) (new : List BareEvent) (c : ℕ) (s : Bool)
     (board : Position) (depth : ℕ) where
-  among : (paths : List (List Triple)) (all : ℕ) (rest : List BareEvent) (bare : BareEvent)
+  among : (paths : List (List Move)) (all : ℕ) (rest : List BareEvent) (bare : BareEvent)
       → map (path_event problem phase) paths ++ total all (eqb all problem.max_solutions) ∷ rest ≡ bare ∷ new → Total c s ≡ event_of rule problem bare
       → s ≡ eqb c problem.max_solutions
   among [] all rest bare l e = grind arith
@@ -28,7 +28,7 @@ module _ (rule : RuleSet) (problem : Posed) (phase : Phase) (count : ℕ) (frame
   total_says_stopped_at_limit g = among _ _ _ g.bare g.left g.event_is
 
   -- no total is given while a path is still to come
-  pub no_total_before_the_last_path : (x : List Triple) (xs : List (List Triple))
+  pub no_total_before_the_last_path : (x : List Move) (xs : List (List Move))
       → keep (is_help problem.stipulation.form) (problem.max_solutions - count) (phase_paths rule problem phase frames) ≡ x ∷ xs
       → Gives rule problem (left_of rule problem (Within phase count) frames) new (Total c s) board depth → ⊥
   unfolding left_of
@@ -59,12 +59,12 @@ module _ (rule : RuleSet) (problem : Posed) where
 
 module _ (rule : RuleSet) (plan : Plan) (left place : ℕ) (p : Position) where
   -- no mate behind the place is passed over
-  pub no_mate_is_passed_over : (rest : List Triple) → GoesTo rule plan left p place rest
+  pub no_mate_is_passed_over : (rest : List Move) → GoesTo rule plan left p place rest
       → filter (is_mating rule p) (moves_behind rule p place) ≡ filter (is_mating rule p) rest
   no_mate_is_passed_over rest t = grind (arith, filter-append)
 
   -- so where the next move mates, it is the next solution
-  pub first_mate_is_next : (m n : Triple) (more rest : List Triple) → moves_behind rule p place ≡ m ∷ more → is_mating rule p m ≡ true
+  pub first_mate_is_next : (m n : Move) (more rest : List Move) → moves_behind rule p place ≡ m ∷ more → is_mating rule p m ≡ true
       → is_mating rule p n ≡ true → GoesTo rule plan left p place (n ∷ rest) → n ≡ m
   first_mate_is_next m n more rest here mates too t = grind (arith, no_mate_is_passed_over (n ∷ rest) t)
 
@@ -74,17 +74,17 @@ module _ (rule : RuleSet) (problem : Posed) (phase : Phase) (depth : ℕ) where
   no_part_is_numbered_0 = refl
 
   -- and 1 is the first, so the last bears the number of all
-  pub first_part_is_numbered_1 : (front : List Triple) (fronts : List (List Triple)) → parts rule problem phase depth ≡ front ∷ fronts
+  pub first_part_is_numbered_1 : (front : List Move) (fronts : List (List Move)) → parts rule problem phase depth ≡ front ∷ fronts
       → part_numbered rule problem phase depth 1 ≡ Some front
   first_part_is_numbered_1 front fronts are = ap (λ all. slice_get all 0) are
 
 -- a solution that begins with another move than the part's first isn't the part's
-pub no_other_first_move : (m n : Triple) (front path : List Triple) (paths : List (List Triple)) → eqb (triple_number m) (triple_number n) ≡ false
+pub no_other_first_move : (m n : Move) (front path : List Move) (paths : List (List Move)) → eqb (triple_number m) (triple_number n) ≡ false
     → begins_so (m ∷ front) ((n ∷ path) ∷ paths) ≡ false
-unfolding is_front
+unfolding begins_path
 no_other_first_move m n front path paths other = rw other refl
 
 -- nor one that is shorter than the part's moves
-pub no_shorter_path : (m : Triple) (front : List Triple) (paths : List (List Triple)) → begins_so (m ∷ front) ([] ∷ paths) ≡ false
-unfolding is_front
+pub no_shorter_path : (m : Move) (front : List Move) (paths : List (List Move)) → begins_so (m ∷ front) ([] ∷ paths) ≡ false
+unfolding begins_path
 no_shorter_path m front paths = refl

@@ -1,5 +1,5 @@
 -- How many half-moves a line goes on below a move, and what is reached where it ends.
-use Rattle.pop_solve.proofs.Words.{Battle, Bool, Game, Plan, arith, battle_of, cond, ends_variation, eqb, false, fewest, first_from, follows, goes_on, is_help, nat_tests, open_length, refl, rules, seeks, suc, true, value, varies, zero, ℕ, ◌*◌, ◌+◌, ◌-◌, ◌/◌, ◌<◌, ◌||◌, ◌≡◌, ◌≤◌, ◌⊎◌}
+use Rattle.pop_solve.proofs.Words.{Battle, Bool, Game, Plan, arith, battle_of, cond, ends_variation, eqb, false, fewest, first_from, follows, half_moves_on, is_help, nat_tests, open_length, refl, rules, seeks, suc, true, value, varies, zero, ℕ, ◌*◌, ◌+◌, ◌-◌, ◌/◌, ◌<◌, ◌||◌, ◌≡◌, ◌≤◌, ◌⊎◌}
 
 pub cases : (b : Bool) → (b ≡ false) ⊎ (b ≡ true)
 cases b = search rules
@@ -22,9 +22,9 @@ module _ {P M : Type 0} (game : Game P M) where
   unfolding open_length
   open_length-most battle t q = length_most battle t q (eqb t 0) (seeks battle t) (game.goal q) refl refl
 
-  pub goes_on-most : (plan : Plan) (t : ℕ) (q : P) → goes_on plan game t q ≤ t
-  unfolding goes_on
-  goes_on-most plan t q = search (rules, open_length-most)
+  pub half_moves_on-most : (plan : Plan) (t : ℕ) (q : P) → half_moves_on plan game t q ≤ t
+  unfolding half_moves_on
+  half_moves_on-most plan t q = search (rules, open_length-most)
 
 module _ {P M : Type 0} (game : Game P M) where
   -- a line goes on with no half-move only where none is left or the goal is reached
@@ -33,9 +33,10 @@ module _ {P M : Type 0} (game : Game P M) where
   first_from-some battle q zero a some = some
   first_from-some battle q (suc n) a some = search (rules, first_from-some battle q n)
 
-  goes_on-none : (plan : Plan) (t : ℕ) (q : P) → is_help plan.form ≡ false → varies plan ≡ true → goes_on plan game t q ≡ 0 → (t ≡ 0) ⊎ (game.goal q ≡ true)
-  unfolding goes_on open_length
-  goes_on-none plan t q a shown l = grind (arith, first_from-some, nat_tests)
+  half_moves_on-none : (plan : Plan) (t : ℕ) (q : P) → is_help plan.form ≡ false → varies plan ≡ true → half_moves_on plan game t q ≡ 0 → (t ≡ 0)
+      ⊎ (game.goal q ≡ true)
+  unfolding half_moves_on open_length
+  half_moves_on-none plan t q a shown l = grind (arith, first_from-some, nat_tests)
 
   followed-last : (plan : Plan) (root : Bool) (q : P) → is_help plan.form ≡ false → seeks (battle_of plan.form) 1 ≡ true
       → follows plan game root 0 q ≡ true → game.goal q ≡ true
@@ -44,18 +45,18 @@ module _ {P M : Type 0} (game : Game P M) where
 
   -- where a variation ends that is followed, the goal is reached
   pub ended-reached : (plan : Plan) (root : Bool) (t : ℕ) (q : P) → follows plan game root t q ≡ true
-      → ends_variation plan (goes_on plan game t q) ≡ true → game.goal q ≡ true
-  ended-reached plan root t q f e = search (rules, followed-last, goes_on-none, nat_tests)
+      → ends_variation plan (half_moves_on plan game t q) ≡ true → game.goal q ≡ true
+  ended-reached plan root t q f e = search (rules, followed-last, half_moves_on-none, nat_tests)
 
-pub goes_on-help : {P M : Type 0} (plan : Plan) (game : Game P M) (t : ℕ) (q : P) → is_help plan.form ≡ true → goes_on plan game t q ≡ t
-unfolding goes_on
-goes_on-help plan game t q a = rw a refl
+pub half_moves_on-help : {P M : Type 0} (plan : Plan) (game : Game P M) (t : ℕ) (q : P) → is_help plan.form ≡ true → half_moves_on plan game t q ≡ t
+unfolding half_moves_on
+half_moves_on-help plan game t q a = rw a refl
 
 pub follows-help : {P M : Type 0} (plan : Plan) (game : Game P M) (root : Bool) (t : ℕ) (q : P) → is_help plan.form ≡ true → follows plan game root t q ≡ true
 unfolding follows
 follows-help plan game root t q a = rw a refl
 
-pub goes_on-keys : {P M : Type 0} (plan : Plan) (game : Game P M) (t : ℕ) (q : P) → is_help plan.form ≡ false → varies plan ≡ false
-    → seeks (battle_of plan.form) (t + 1) ≡ true → goes_on plan game t q ≡ 0
-unfolding goes_on
-goes_on-keys plan game t q a b c = rw (a, b, c) refl
+pub half_moves_on-keys : {P M : Type 0} (plan : Plan) (game : Game P M) (t : ℕ) (q : P) → is_help plan.form ≡ false → varies plan ≡ false
+    → seeks (battle_of plan.form) (t + 1) ≡ true → half_moves_on plan game t q ≡ 0
+unfolding half_moves_on
+half_moves_on-keys plan game t q a b c = rw (a, b, c) refl

@@ -1,13 +1,13 @@
 -- The lists of help play.
-use Rattle.pop_solve.proofs.Words.{AllPairs, Contains, Game, List, [], arith, false≢true, first_in, from_flat_map, from_map, in_cases, in_flat_map, in_map, inl, inr, length, lines_to_goal, map, none_in_nil, pairs_flat_map, pairs_map, pairs_nil, pairs_of, reach, refl, suc, true, zero, ℕ, ◌∷◌, ◌≡◌}
+use Rattle.pop_solve.proofs.Words.{AllPairs, Contains, Game, List, [], arith, false≢true, first_in, from_flat_map, from_map, in_cases, in_flat_map, in_map, inl, inr, length, lines_to_goal, map, none_in_nil, pairs_flat_map, pairs_map, pairs_nil, pairs_of, path_end, refl, suc, true, zero, ℕ, ◌∷◌, ◌≡◌}
 use Rattle.pop_solve.proofs.theorems.Lists.{IsPlayable, StandsBefore}
 
 module _ {P M : Type 0} (game : Game P M) where
   abbrev IsLineToGoal : ℕ → P → List M → Type 0
-  IsLineToGoal h p line = (length line ≡ h) × IsPlayable game p line × (game.goal (reach game.after p line) ≡ true)
+  IsLineToGoal h p line = (length line ≡ h) × IsPlayable game p line × (game.goal (path_end game.after p line) ≡ true)
 
   pub from_lines : (h : ℕ) (p : P) (line : List M) → Contains (lines_to_goal game h p) line
-      → (length line ≡ h) × IsPlayable game p line × (game.goal (reach game.after p line) ≡ true)
+      → (length line ≡ h) × IsPlayable game p line × (game.goal (path_end game.after p line) ≡ true)
   unfolding lines_to_goal
   from_lines zero p line c = grind (arith, in_cases, none_in_nil)
   from_lines (suc h) p line c =
@@ -15,7 +15,7 @@ module _ {P M : Type 0} (game : Game P M) where
       let r = from_map (λ line. w.0 ∷ line) (lines_to_goal game h (game.after p w.0)) line w.2 in
       grind (arith, from_lines h (game.after p w.0) r.0 r.1)
 
-  pub in_lines : (h : ℕ) (p : P) (line : List M) → length line ≡ h → IsPlayable game p line → game.goal (reach game.after p line) ≡ true
+  pub in_lines : (h : ℕ) (p : P) (line : List M) → length line ≡ h → IsPlayable game p line → game.goal (path_end game.after p line) ≡ true
       → Contains (lines_to_goal game h p) line
   unfolding lines_to_goal
   in_lines zero p [] long are g = grind (arith, first_in, false≢true)

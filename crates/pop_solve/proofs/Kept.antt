@@ -1,10 +1,10 @@
 -- The first solutions of a phase, by the paths that begin them.
-use Rattle.pop_solve.proofs.Words.{Bool, Frame, Game, IsWalking, List, Plan, Position, RuleSet, Steps, Walks, [], ap, append-nil, arith, begins, chess, cond, eqb, false, gives, is_help, keep, length, map, moves_behind, nat_tests, path, position, refl, rules, shown, started, suc, to_come, true, zero, ℕ, ◌&&◌, ◌++◌, ◌+◌, ◌-◌, ◌<◌, ◌||◌, ◌∙◌, ◌∷◌, ◌≡◌}
+use Rattle.pop_solve.proofs.Words.{Bool, Frame, Game, IsWalking, List, Plan, Position, RuleSet, Steps, Walks, [], ap, append-nil, arith, beginning_count, begins, chess, cond, eqb, false, gives, is_help, keep, length, map, moves_behind, nat_tests, path, position, refl, rules, shown_paths, suc, to_come, true, zero, ℕ, ◌&&◌, ◌++◌, ◌+◌, ◌-◌, ◌<◌, ◌||◌, ◌∙◌, ◌∷◌, ◌≡◌}
 use Rattle.pop_solve.proofs.Paths.{path-length}
 
-pub started-nil : (M : Type 0) (help : Bool) (n : ℕ) → started {M = M} help n [] ≡ 0
-unfolding started
-started-nil M help n = search rules
+pub beginning_count-nil : (M : Type 0) (help : Bool) (n : ℕ) → beginning_count {M = M} help n [] ≡ 0
+unfolding beginning_count
+beginning_count-nil M help n = search rules
 
 module _ {M : Type 0} where
   pub keep-nil : (help : Bool) (n : ℕ) → keep {M = M} help n [] ≡ []
@@ -16,10 +16,10 @@ module _ {M : Type 0} where
   unfolding keep
   keep-next help n x xs b e some = search rules
 
-  pub started-next : (help : Bool) (n : ℕ) (x : List M) (xs : List (List M)) (b : Bool) → begins help x ≡ b → (b ≡ true → 0 < n)
-      → started help n (x ∷ xs) ≡ cond b 1 0 + started help (n - cond b 1 0) xs
-  unfolding started
-  started-next help n x xs b e some = search rules
+  pub beginning_count-next : (help : Bool) (n : ℕ) (x : List M) (xs : List (List M)) (b : Bool) → begins help x ≡ b → (b ≡ true → 0 < n)
+      → beginning_count help n (x ∷ xs) ≡ cond b 1 0 + beginning_count help (n - cond b 1 0) xs
+  unfolding beginning_count
+  beginning_count-next help n x xs b e some = search rules
 
   -- where every path begins a solution, none is kept with none to begin
   pub keep-help : (xs : List (List M)) → keep true 0 xs ≡ []
@@ -27,10 +27,10 @@ module _ {M : Type 0} where
   keep-help [] = refl
   keep-help (x ∷ xs) = refl
 
-  pub started-help : (xs : List (List M)) → started true 0 xs ≡ 0
-  unfolding started
-  started-help [] = refl
-  started-help (x ∷ xs) = refl
+  pub beginning_count-help : (xs : List (List M)) → beginning_count true 0 xs ≡ 0
+  unfolding beginning_count
+  beginning_count-help [] = refl
+  beginning_count-help (x ∷ xs) = refl
 
   pub map-same : (xs : List (List M)) → map (λ line. [] ++ line) xs ≡ xs
   map-same [] = refl
@@ -45,19 +45,19 @@ module _ {P M : Type 0} (plan : Plan) (game : Game P M) (battle : is_help plan.f
   unfolding gives
   gives-battle t q = rw battle refl
 
-  keep-shown : (root : Bool) (k left : ℕ) (p : P) (ms : List M) → keep false 0 (shown plan game root k left p ms) ≡ []
-  unfolding shown keep
-  keep-shown root zero left p ms = search (rules, keep-nil)
-  keep-shown root (suc k) zero p ms = search (rules, keep-nil)
-  keep-shown root (suc k) (suc t) p [] = search (rules, keep-nil)
-  keep-shown root (suc k) (suc t) p (m ∷ ms) = search (rules, gives-battle, keep-shown root (suc k) (suc t) p ms)
+  keep-shown_paths : (root : Bool) (k left : ℕ) (p : P) (ms : List M) → keep false 0 (shown_paths plan game root k left p ms) ≡ []
+  unfolding shown_paths keep
+  keep-shown_paths root zero left p ms = search (rules, keep-nil)
+  keep-shown_paths root (suc k) zero p ms = search (rules, keep-nil)
+  keep-shown_paths root (suc k) (suc t) p [] = search (rules, keep-nil)
+  keep-shown_paths root (suc k) (suc t) p (m ∷ ms) = search (rules, gives-battle, keep-shown_paths root (suc k) (suc t) p ms)
 
-  started-shown : (root : Bool) (k left : ℕ) (p : P) (ms : List M) → started false 0 (shown plan game root k left p ms) ≡ 0
-  unfolding shown started
-  started-shown root zero left p ms = search (rules, started-nil)
-  started-shown root (suc k) zero p ms = search (rules, started-nil)
-  started-shown root (suc k) (suc t) p [] = search (rules, started-nil)
-  started-shown root (suc k) (suc t) p (m ∷ ms) = search (rules, gives-battle, started-shown root (suc k) (suc t) p ms)
+  beginning_count-shown_paths : (root : Bool) (k left : ℕ) (p : P) (ms : List M) → beginning_count false 0 (shown_paths plan game root k left p ms) ≡ 0
+  unfolding shown_paths beginning_count
+  beginning_count-shown_paths root zero left p ms = search (rules, beginning_count-nil)
+  beginning_count-shown_paths root (suc k) zero p ms = search (rules, beginning_count-nil)
+  beginning_count-shown_paths root (suc k) (suc t) p [] = search (rules, beginning_count-nil)
+  beginning_count-shown_paths root (suc k) (suc t) p (m ∷ ms) = search (rules, gives-battle, beginning_count-shown_paths root (suc k) (suc t) p ms)
 
 one_frame : (frames : List Frame) → eqb (length frames) 1 ≡ true → (f : Frame) × (frames ≡ f ∷ [])
 one_frame [] e = absurd (grind (arith, nat_tests))
@@ -69,14 +69,14 @@ no_frame [] e = refl
 no_frame (f ∷ below) e = absurd (omega (arith, e))
 
 module _ (rule : RuleSet) (plan : Plan) (h : ℕ) (p : Position) where
-  pub to_come-root : (f : Frame) → to_come rule plan h p (f ∷ []) ≡ shown plan (chess plan.goal rule) true (h - 0) f.left p (moves_behind rule p f.place)
+  pub to_come-root : (f : Frame) → to_come rule plan h p (f ∷ []) ≡ shown_paths plan (chess plan.goal rule) true (h - 0) f.left p (moves_behind rule p f.place)
   unfolding to_come path position
   to_come-root f = root-same _
 
   -- with none to begin, and none on the way
   full : (frames : List Frame) → (is_help plan.form || eqb (length frames) 1) ≡ true
-      → (keep (is_help plan.form) 0 (to_come rule plan h p frames) ≡ []) × (started (is_help plan.form) 0 (to_come rule plan h p frames) ≡ 0)
-  full frames e = search (rules, keep-help, started-help, one_frame, to_come-root, keep-shown, started-shown)
+      → (keep (is_help plan.form) 0 (to_come rule plan h p frames) ≡ []) × (beginning_count (is_help plan.form) 0 (to_come rule plan h p frames) ≡ 0)
+  full frames e = search (rules, keep-help, beginning_count-help, one_frame, to_come-root, keep-shown_paths, beginning_count-shown_paths)
 
   none : (frames : List Frame) → length frames ≡ 0 → to_come rule plan h p frames ≡ []
   unfolding to_come
@@ -85,7 +85,7 @@ module _ (rule : RuleSet) (plan : Plan) (h : ℕ) (p : Position) where
 
   module _ (old mid : List Frame) (same : to_come rule plan h p old ≡ to_come rule plan h p mid) where
     pub walks_none : (limit : ℕ) (board : Position) → IsWalking rule h p mid board → length mid ≡ 0 → Walks rule plan h p limit old mid board false
-    walks_none limit board r e = search (rules, none, keep-nil, no_frame, started-nil)
+    walks_none limit board r e = search (rules, none, keep-nil, no_frame, beginning_count-nil)
 
     both_true : (a b : Bool) → (a && b) ≡ true → (a ≡ true) × (b ≡ true)
     both_true a b e = search rules
@@ -99,4 +99,4 @@ module _ (rule : RuleSet) (plan : Plan) (h : ℕ) (p : Position) where
 
     pub walks_given : (limit : ℕ) (new : List Frame) (board : Position) (before after : ℕ) (given : Bool) → Steps rule plan h p mid new board before after given
         → given ≡ true → 0 < length mid → (eqb limit 0 && (is_help plan.form || eqb (length mid) 1)) ≡ false → Walks rule plan h p limit old new board true
-    walks_given limit new board before after given made is some e = grind (arith, path-length, room, keep-next, started-next, none)
+    walks_given limit new board before after given made is some e = grind (arith, path-length, room, keep-next, beginning_count-next, none)

@@ -1,5 +1,5 @@
 -- The least length by half-moves is the least number of moves.
-use Rattle.pop_solve.proofs.Words.{Bool, Game, Selfmate, arith, cond, false, first_from, least, position_or_len, range_with_len, refl, rules, self_wins, suc, wins, zero, ℕ, ◌*◌, ◌+◌, ◌≡◌}
+use Rattle.pop_solve.proofs.Words.{Bool, Game, Selfmate, arith, cond, false, first_from, least_moves, position_or_len, range_with_len, refl, rules, self_wins, suc, wins, zero, ℕ, ◌*◌, ◌+◌, ◌≡◌}
 use Rattle.pop_solve.specs.declared.aim.Battle.TheVariants.{Direct}
 use Rattle.pop_solve.proofs.Battles.{value-wins, value-self_wins}
 
@@ -29,8 +29,8 @@ module _ {P M : Type 0} (game : Game P M) (q : P) where
   zero_loses n = refl
 
   -- the half-moves of the first test that holds are those of the least number of moves
-  pub least-direct : (n : ℕ) → first_from Direct game q n 1 + 1 ≡ 2 * least Direct game (suc n) q
-  least-direct n = search (rules, first_number, by_twos n 0, first_number-shift, first_number-is, zero_loses n)
+  pub least_moves-direct : (n : ℕ) → first_from Direct game q n 1 + 1 ≡ 2 * least_moves Direct game (suc n) q
+  least_moves-direct n = search (rules, first_number, by_twos n 0, first_number-shift, first_number-is, zero_loses n)
 
   -- the same in selfmates, where the goal isn't reached
   module _ (open_yet : game.goal q ≡ false) where
@@ -43,5 +43,5 @@ module _ {P M : Type 0} (game : Game P M) (q : P) where
     unfolding first_number self_wins
     zero_loses_self n = refl
 
-    pub least-selfmate : (n : ℕ) → first_from Selfmate game q n 2 ≡ 2 * least Selfmate game (suc n) q
-    least-selfmate n = search (rules, first_number, by_twos_self n 1, first_number-is, zero_loses_self n)
+    pub least_moves-selfmate : (n : ℕ) → first_from Selfmate game q n 2 ≡ 2 * least_moves Selfmate game (suc n) q
+    least_moves-selfmate n = search (rules, first_number, by_twos_self n 1, first_number-is, zero_loses_self n)

@@ -1,5 +1,5 @@
 -- One more move never harms.
-use Rattle.pop_solve.proofs.Words.{Bool, Game, List, [], and_from, and_parts, ap, arith, can_move, cases_lt, every_move, fails_before_first, false, get_or, inl, inr, length, list_all, list_any, lost, not, or_cases, or_left, or_right, passes_at_first, position_or_len, prefix_len-le-length, range_with_len, refl, rules, self_lost, self_wins, some_move, suc, sym, true, wins, zero, ℕ, ◌&&◌, ◌+◌, ◌-◌, ◌<◌, ◌||◌, ◌∙◌, ◌∷◌, ◌≡◌, ◌≤◌}
+use Rattle.pop_solve.proofs.Words.{Bool, Game, List, [], and_from, and_parts, ap, arith, can_move, cases_lt, every_move, fails_before_first, false, get_or, inl, inr, is_lost, is_self_lost, length, list_all, list_any, not, or_cases, or_left, or_right, passes_at_first, position_or_len, prefix_len-le-length, range_with_len, refl, rules, self_wins, some_move, suc, sym, true, wins, zero, ℕ, ◌&&◌, ◌+◌, ◌-◌, ◌<◌, ◌||◌, ◌∙◌, ◌∷◌, ◌≡◌, ◌≤◌}
 use Rattle.std.proofs.lemmas.List.FromFn.{get_or-range_with_len, length-range_with_len}
 
 module _ {X : Type 0} (f g : X → Bool) (weaker : (x : X) → f x ≡ true → g x ≡ true) where
@@ -27,16 +27,16 @@ module _ {P M : Type 0} (game : Game P M) where
   every_weaker : (f g : P → Bool) → ((q : P) → f q ≡ true → g q ≡ true) → (p : P) → every_move game f p ≡ true → every_move game g p ≡ true
   every_weaker f g w p h = all_weaker (λ m. f (game.after p m)) (λ m. g (game.after p m)) (λ m. w (game.after p m)) (game.moves p) h
 
-  pub lost-more : (j : ℕ) (q : P) → lost game j q ≡ true → lost game (suc j) q ≡ true
-  unfolding lost
-  lost-more zero q h = or_left (game.goal q) _ h
-  lost-more (suc j) q h =
-      or_weaker (game.goal q) _ _ (and_weaker (can_move game q) _ _ (every_weaker (some_move game (lost game j)) (some_move game (lost game (suc j)))
-      (some_weaker (lost game j) (lost game (suc j)) (λ r. lost-more j r)) q)) h
+  pub is_lost-more : (j : ℕ) (q : P) → is_lost game j q ≡ true → is_lost game (suc j) q ≡ true
+  unfolding is_lost
+  is_lost-more zero q h = or_left (game.goal q) _ h
+  is_lost-more (suc j) q h =
+      or_weaker (game.goal q) _ _ (and_weaker (can_move game q) _ _ (every_weaker (some_move game (is_lost game j)) (some_move game (is_lost game (suc j)))
+      (some_weaker (is_lost game j) (is_lost game (suc j)) (λ r. is_lost-more j r)) q)) h
 
   pub wins-more : (k : ℕ) (p : P) → wins game k p ≡ true → wins game (suc k) p ≡ true
   unfolding wins
-  wins-more k p h = search (rules, some_weaker, lost-more)
+  wins-more k p h = search (rules, some_weaker, is_lost-more)
 
   -- after Black's move White wins, or Black has reached the goal
   won-more : (f g : P → Bool) → ((r : P) → f r ≡ true → g r ≡ true) → (q : P)
@@ -50,10 +50,10 @@ module _ {P M : Type 0} (game : Game P M) where
       (λ q. can_move game q && every_move game (λ r. game.goal r || self_wins game (suc k) r) q)
       (won-more (self_wins game k) (self_wins game (suc k)) (λ r. self_wins-more k r)) p h
 
-  pub self_lost-more : (j : ℕ) (q : P) → self_lost game j q ≡ true → self_lost game (suc j) q ≡ true
-  unfolding self_lost
-  self_lost-more zero q h = h
-  self_lost-more (suc j) q h =
+  pub is_self_lost-more : (j : ℕ) (q : P) → is_self_lost game j q ≡ true → is_self_lost game (suc j) q ≡ true
+  unfolding is_self_lost
+  is_self_lost-more zero q h = h
+  is_self_lost-more (suc j) q h =
       let a : suc j - 1 ≡ j = omega arith in
       grind (arith, won-more (self_wins game j) (self_wins game (suc j)) (self_wins-more j) q (rw a at h))
 

@@ -1,5 +1,5 @@
 -- The paths of trees.
-use Rattle.pop_solve.proofs.Words.{AllPairs, AllPairs-filter, Battle, Bool, Contains, Game, List, [], answers, ap, arith, below, best, cond, false, false≢true, filter, first_in, flat_map, from_filter, from_flat_map, from_map, in_cases, in_filter, in_flat_map, in_map, inl, inr, keeps, later_in, least, list_any, map, node, none_in_nil, or_cases, or_left, or_right, pairs_flat_map, pairs_map, pairs_nil, pairs_of, refl, rules, set_shows, set_tree, subst, suc, sym, take, take-map, tree, true, zero, ℕ, ◌++◌, ◌-◌, ◌↔◌, ◌∙◌, ◌∷◌, ◌≡◌, ◌≢◌, ◌⊎◌}
+use Rattle.pop_solve.proofs.Words.{AllPairs, AllPairs-filter, Battle, Bool, Contains, Game, List, [], answers, ap, arith, best_moves, cond, false, false≢true, filter, first_in, flat_map, from_filter, from_flat_map, from_map, in_cases, in_filter, in_flat_map, in_map, inl, inr, keeps, later_in, least_moves, list_any, map, node, nodes_below, none_in_nil, or_cases, or_left, or_right, pairs_flat_map, pairs_map, pairs_nil, pairs_of, refl, rules, set_shows, set_tree, subst, suc, sym, take, take-map, tree, true, zero, ℕ, ◌++◌, ◌-◌, ◌↔◌, ◌∙◌, ◌∷◌, ◌≡◌, ◌≢◌, ◌⊎◌}
 use Rattle.pop_solve.proofs.theorems.Lists.{HasBeginnings, StandsBefore}
 
 -- some element passes a test
@@ -144,46 +144,48 @@ module _ {M : Type 0} where
   singles_stand before ms order = pairs_map before (StandsBefore before) (λ m. m ∷ []) ms (λ x y less. inl less) order
 
 module _ {P M : Type 0} (battle : Battle) (game : Game P M) (n : ℕ) where
-  pub below_zero : (q : P) → below battle game n zero q ≡ []
-  unfolding below answers
+  pub below_zero : (q : P) → nodes_below battle game n zero q ≡ []
+  unfolding nodes_below answers
   below_zero q = refl
 
   pub answers_zero : (r : P) → answers battle game n zero r ≡ []
-  unfolding below answers
+  unfolding nodes_below answers
   answers_zero r = refl
 
   pub below_more : (h : ℕ) (q : P)
-      → below battle game n (suc h) q ≡ cond (game.goal q) [] (flat_map (λ d. node d (answers battle game n h (game.after q d))) (game.moves q))
-  unfolding below answers
+      → nodes_below battle game n (suc h) q ≡ cond (game.goal q) [] (flat_map (λ d. node d (answers battle game n h (game.after q d))) (game.moves q))
+  unfolding nodes_below answers
   below_more h q = refl
 
   pub answers_more : (h : ℕ) (r : P)
-      → answers battle game n (suc h) r ≡ cond (game.goal r) [] (flat_map (λ m. node m (below battle game n h (game.after r m))) (best battle game n r))
-  unfolding below answers
+      → answers battle game n (suc h) r ≡ cond (game.goal r) [] (flat_map (λ m. node m (nodes_below battle game n h (game.after r m)))
+      (best_moves battle game n r))
+  unfolding nodes_below answers
   answers_more h r = refl
 
-  pub trees_not_empty : (h : ℕ) → ((q : P) → HasNoEmpty (below battle game n h q)) × ((r : P) → HasNoEmpty (answers battle game n h r))
+  pub trees_not_empty : (h : ℕ) → ((q : P) → HasNoEmpty (nodes_below battle game n h q)) × ((r : P) → HasNoEmpty (answers battle game n h r))
   trees_not_empty zero = (λ q. rw (below_zero q) nil_not_empty, λ r. rw (answers_zero r) nil_not_empty)
   trees_not_empty (suc h) = (
     λ q. rw (below_more h q) (unless_not_empty (game.goal q) _ (nodes_not_empty (λ d. answers battle game n h (game.after q d)) (game.moves q))),
-    λ r. rw (answers_more h r) (unless_not_empty (game.goal r) _ (nodes_not_empty (λ m. below battle game n h (game.after r m)) (best battle game n r))),
+    λ r. rw (answers_more h r) (unless_not_empty (game.goal r) _ (nodes_not_empty (λ m. nodes_below battle game n h (game.after r m))
+        (best_moves battle game n r))),
   )
 
-  pub trees_have_beginnings : (h : ℕ) → ((q : P) → HasBeginnings (below battle game n h q)) × ((r : P) → HasBeginnings (answers battle game n h r))
+  pub trees_have_beginnings : (h : ℕ) → ((q : P) → HasBeginnings (nodes_below battle game n h q)) × ((r : P) → HasBeginnings (answers battle game n h r))
   trees_have_beginnings zero = (λ q. rw (below_zero q) nil_has_beginnings, λ r. rw (answers_zero r) nil_has_beginnings)
   trees_have_beginnings (suc h) =
       let both = trees_have_beginnings h in (
         λ q. rw (below_more h q) (unless_has_beginnings (game.goal q) _
             (nodes_have_beginnings (λ d. answers battle game n h (game.after q d)) (λ d. both.1 (game.after q d)) (game.moves q))),
         λ r. rw (answers_more h r) (unless_has_beginnings (game.goal r) _
-            (nodes_have_beginnings (λ m. below battle game n h (game.after r m)) (λ m. both.0 (game.after r m)) (best battle game n r))),
+            (nodes_have_beginnings (λ m. nodes_below battle game n h (game.after r m)) (λ m. both.0 (game.after r m)) (best_moves battle game n r))),
       )
 
   module _ (before : M → M → Type 0) (order : (p : P) → AllPairs before (game.moves p)) where
-    pub best_stand : (r : P) → AllPairs before (best battle game n r)
-    best_stand r = AllPairs-filter before (λ m. keeps battle game (least battle game n r) (game.after r m)) (game.moves r) (order r)
+    pub best_stand : (r : P) → AllPairs before (best_moves battle game n r)
+    best_stand r = AllPairs-filter before (λ m. keeps battle game (least_moves battle game n r) (game.after r m)) (game.moves r) (order r)
 
-    pub trees_stand : (h : ℕ) → ((q : P) → AllPairs (StandsBefore before) (below battle game n h q))
+    pub trees_stand : (h : ℕ) → ((q : P) → AllPairs (StandsBefore before) (nodes_below battle game n h q))
         × ((r : P) → AllPairs (StandsBefore before) (answers battle game n h r))
     trees_stand zero = (λ q. rw (below_zero q) (pairs_nil (StandsBefore before)), λ r. rw (answers_zero r) (pairs_nil (StandsBefore before)))
     trees_stand (suc h) =
@@ -193,7 +195,7 @@ module _ {P M : Type 0} (battle : Battle) (game : Game P M) (n : ℕ) where
               (nodes_stand (λ d. answers battle game n h (game.after q d)) before (game.moves q) (order q)
               (λ d. both.1 (game.after q d)) (λ d. full.1 (game.after q d)))),
           λ r. rw (answers_more h r) (unless_stands (StandsBefore before) (game.goal r) _
-              (nodes_stand (λ m. below battle game n h (game.after r m)) before (best battle game n r) (best_stand r)
+              (nodes_stand (λ m. nodes_below battle game n h (game.after r m)) before (best_moves battle game n r) (best_stand r)
               (λ m. both.0 (game.after r m)) (λ m. full.0 (game.after r m)))),
         )
 
@@ -206,12 +208,12 @@ module _ {P M : Type 0} (battle : Battle) (game : Game P M) (n : ℕ) where
 
   -- the answers of set play without variations
   abbrev single_answers : P → List (List M)
-  single_answers r = cond (game.goal r) [] (map (λ m. m ∷ []) (best battle game n r))
+  single_answers r = cond (game.goal r) [] (map (λ m. m ∷ []) (best_moves battle game n r))
 
   -- what stands below the first moves of a play and of set play
   module _ (variation : Bool) where
     unfoldable pub below_key : ℕ → P → M → List (List M)
-    below_key h p m = cond variation (below battle game n (h - 1) (game.after p m)) []
+    below_key h p m = cond variation (nodes_below battle game n (h - 1) (game.after p m)) []
 
     unfoldable pub below_set : ℕ → P → M → List (List M)
     below_set h p d = cond variation (answers battle game n h (game.after p d)) (single_answers (game.after p d))
@@ -219,19 +221,21 @@ module _ {P M : Type 0} (battle : Battle) (game : Game P M) (n : ℕ) where
     pub below_key_not_empty : (h : ℕ) (p : P) (m : M) → HasNoEmpty (below_key h p m)
     unfolding below_key
     below_key_not_empty h p m =
-        either_way (HasNoEmpty {M = M}) variation (below battle game n (h - 1) (game.after p m)) [] ((trees_not_empty (h - 1)).0 (game.after p m)) nil_not_empty
+        either_way (HasNoEmpty {M = M}) variation (nodes_below battle game n (h - 1) (game.after p m)) [] ((trees_not_empty (h - 1)).0 (game.after p m))
+        nil_not_empty
 
     pub below_set_not_empty : (h : ℕ) (p : P) (d : M) → HasNoEmpty (below_set h p d)
     unfolding below_set
     below_set_not_empty h p d =
         let r = game.after p d in
         either_way (HasNoEmpty {M = M}) variation (answers battle game n h r) (single_answers r) ((trees_not_empty h).1 r)
-        (unless_not_empty (game.goal r) (map (λ m. m ∷ []) (best battle game n r)) (singles_not_empty (best battle game n r)))
+        (unless_not_empty (game.goal r) (map (λ m. m ∷ []) (best_moves battle game n r)) (singles_not_empty (best_moves battle game n r)))
 
     pub below_key_has_beginnings : (h : ℕ) (p : P) (m : M) → HasBeginnings (below_key h p m)
     unfolding below_key
     below_key_has_beginnings h p m =
-        either_way (HasBeginnings {M = M}) variation (below battle game n (h - 1) (game.after p m)) [] ((trees_have_beginnings (h - 1)).0 (game.after p m))
+        either_way (HasBeginnings {M = M}) variation (nodes_below battle game n (h - 1) (game.after p m)) []
+        ((trees_have_beginnings (h - 1)).0 (game.after p m))
         nil_has_beginnings
 
     pub below_set_has_beginnings : (h : ℕ) (p : P) (d : M) → HasBeginnings (below_set h p d)
@@ -239,12 +243,12 @@ module _ {P M : Type 0} (battle : Battle) (game : Game P M) (n : ℕ) where
     below_set_has_beginnings h p d =
         let r = game.after p d in
         either_way (HasBeginnings {M = M}) variation (answers battle game n h r) (single_answers r) ((trees_have_beginnings h).1 r)
-        (unless_has_beginnings (game.goal r) (map (λ m. m ∷ []) (best battle game n r)) (singles_have_beginnings (best battle game n r)))
+        (unless_has_beginnings (game.goal r) (map (λ m. m ∷ []) (best_moves battle game n r)) (singles_have_beginnings (best_moves battle game n r)))
 
     module _ (before : M → M → Type 0) (order : (p : P) → AllPairs before (game.moves p)) where
       pub below_key_stands : (h : ℕ) (p : P) (m : M) → AllPairs (StandsBefore before) (below_key h p m)
       unfolding below_key
-      below_key_stands h p m = either_way (AllPairs (StandsBefore before)) variation (below battle game n (h - 1) (game.after p m)) []
+      below_key_stands h p m = either_way (AllPairs (StandsBefore before)) variation (nodes_below battle game n (h - 1) (game.after p m)) []
           ((trees_stand before order (h - 1)).0 (game.after p m)) (pairs_nil (StandsBefore before))
 
       pub below_set_stands : (h : ℕ) (p : P) (d : M) → AllPairs (StandsBefore before) (below_set h p d)
@@ -257,7 +261,7 @@ module _ {P M : Type 0} (battle : Battle) (game : Game P M) (n : ℕ) where
     -- all paths of a play and of set play
     pub tree_paths : (h : ℕ) (p : P) → flat_map (λ s. s) (tree battle game variation n h p) ≡ flat_map (λ m. node m (below_key h p m)) (kept p)
     unfolding below_key
-    tree_paths h p = joined (λ m. node m (cond variation (below battle game n (h - 1) (game.after p m)) [])) (kept p)
+    tree_paths h p = joined (λ m. node m (cond variation (nodes_below battle game n (h - 1) (game.after p m)) [])) (kept p)
 
     pub set_tree_none : (p : P) → flat_map (λ s. s) (set_tree battle game variation n zero p) ≡ []
     unfolding set_tree
@@ -272,7 +276,7 @@ module _ {P M : Type 0} (battle : Battle) (game : Game P M) (n : ℕ) where
     pub first_tree_paths : (k h : ℕ) (p : P)
         → flat_map (λ s. s) (take k (tree battle game variation n h p)) ≡ flat_map (λ m. node m (below_key h p m)) (take k (kept p))
     unfolding below_key
-    first_tree_paths k h p = joined_first (λ m. node m (cond variation (below battle game n (h - 1) (game.after p m)) [])) k (kept p)
+    first_tree_paths k h p = joined_first (λ m. node m (cond variation (nodes_below battle game n (h - 1) (game.after p m)) [])) k (kept p)
 
     pub first_set_tree_none : (k : ℕ) (p : P) → flat_map (λ s. s) (take k (set_tree battle game variation n zero p)) ≡ []
     unfolding set_tree

@@ -1,5 +1,5 @@
 -- The moves of a position, stretch by stretch, are all its moves in another order.
-use Rattle.pop_solve.proofs.Words.{Bool, Earlier, Killer, List, Order, Others, Position, RuleSet, Triple, [], ahead, all_of, ap, append-nil, arith, belongs, between-here, between-none, between-past, between-skip, cases_Bool, cases_lt, comes_early, cond, eqb, false, filter, filter_agree, here, inl, inr, is_at, later, moves_behind, moves_behind-end, moves_behind-here, moves_behind-skip, moves_between, nat_tests, not, place_of_triple, refl, rules, suc, sym, true, zero, ℕ, ◌&&◌, ◌++◌, ◌+◌, ◌-◌, ◌<◌, ◌∙◌, ◌∷◌, ◌≡◌, ◌≤◌}
+use Rattle.pop_solve.proofs.Words.{Bool, Earlier, Killer, List, Move, Order, Others, Position, RuleSet, [], all_moves_of, ap, append-nil, arith, belongs, between-here, between-none, between-past, between-skip, cases_Bool, cases_lt, comes_early, cond, eqb, false, filter, filter_agree, inl, inr, is_at, moves_ahead, moves_behind, moves_behind-end, moves_behind-here, moves_behind-skip, moves_between, moves_here, moves_later, nat_tests, not, place_of_triple, refl, rules, suc, sym, true, zero, ℕ, ◌&&◌, ◌++◌, ◌+◌, ◌-◌, ◌<◌, ◌∙◌, ◌∷◌, ◌≡◌, ◌≤◌}
 use Rattle.chess_rules.specs.Legal.{moves as legal_moves}
 use Rattle.pop_solve.specs.declared.frame.Early.TheVariants.{NoMoves}
 use Rattle.pop_solve.proofs.Boards.{behind_start}
@@ -33,7 +33,7 @@ module _ {M C : Type 0} (step : M → C → C) (g : List M → C) (cons : (x : M
   same_parted a b c [] = search rules
   same_parted a b c (m ∷ ms) = search (rules, to_front, past_two, past_three, same_parted a b c ms)
 
-filter-none : (f : Triple → Bool) (none : (m : Triple) → f m ≡ false) → (ms : List Triple) → filter f ms ≡ []
+filter-none : (f : Move → Bool) (none : (m : Move) → f m ≡ false) → (ms : List Move) → filter f ms ≡ []
 filter-none f none [] = refl
 filter-none f none (m ∷ ms) = rw (none m) (filter-none f none ms)
 
@@ -64,30 +64,30 @@ module _ (rule : RuleSet) (p : Position) (k : ℕ) where
 
 module _ (rule : RuleSet) (p : Position) (order : Order) where
   -- the place before a stretch
-  pub before_killer : (place : ℕ) → place ≡ order.killer - 1 → here rule p order Killer place ≡ all_of rule p order Killer
-  unfolding here belongs
+  pub before_killer : (place : ℕ) → place ≡ order.killer - 1 → moves_here rule p order Killer place ≡ all_moves_of rule p order Killer
+  unfolding moves_here belongs
   before_killer place at = rw at (one_place rule p order.killer)
 
   pub before_earlier : (place : ℕ) → place ≡ order.earlier - 1 → eqb order.earlier order.killer ≡ false
-      → here rule p order Earlier place ≡ all_of rule p order Earlier
-  unfolding here belongs
+      → moves_here rule p order Earlier place ≡ all_moves_of rule p order Earlier
+  unfolding moves_here belongs
   before_earlier place at other = search (rules, one_place, filter_agree, nat_tests)
 
   pub behind_earlier : (place : ℕ) → place ≡ order.earlier → eqb order.earlier order.killer ≡ true
-      → here rule p order Earlier place ≡ all_of rule p order Earlier
-  unfolding here belongs
+      → moves_here rule p order Earlier place ≡ all_moves_of rule p order Earlier
+  unfolding moves_here belongs
   behind_earlier place at same = search (rules, between-none, filter-none, nat_tests)
 
   -- the stretches behind one
-  pub later_aimed : order.early ≡ NoMoves → later rule p order Earlier ≡ all_of rule p order Others ++ later rule p order Others
-  unfolding later belongs
+  pub later_aimed : order.early ≡ NoMoves → moves_later rule p order Earlier ≡ all_moves_of rule p order Others ++ moves_later rule p order Others
+  unfolding moves_later belongs
   later_aimed none = search (rules, filter-none, append-nil)
 
   -- to a frame that is opened all moves are left, in another order
-  pub same_start : {C : Type 0} (step : Triple → C → C) (g : List Triple → C) → ((m : Triple) (ms : List Triple) → g (m ∷ ms) ≡ step m (g ms))
-      → ((m n : Triple) (c : C) → step m (step n c) ≡ step n (step m c)) → g (ahead rule p order Killer (order.killer - 1)) ≡ g (legal_moves rule p)
-  unfolding later belongs
-  same_start step g cons swap = ap (λ ms. g (ms ++ later rule p order Killer)) (before_killer (order.killer - 1) refl)
+  pub same_start : {C : Type 0} (step : Move → C → C) (g : List Move → C) → ((m : Move) (ms : List Move) → g (m ∷ ms) ≡ step m (g ms))
+      → ((m n : Move) (c : C) → step m (step n c) ≡ step n (step m c)) → g (moves_ahead rule p order Killer (order.killer - 1)) ≡ g (legal_moves rule p)
+  unfolding moves_later belongs
+  same_start step g cons swap = ap (λ ms. g (ms ++ moves_later rule p order Killer)) (before_killer (order.killer - 1) refl)
       ∙ same_parted step g cons swap (is_at order.killer) (is_at order.earlier) (comes_early order.early p) (legal_moves rule p)
 
 pub ruleset first_place = (before_killer, before_earlier, behind_earlier, behind_start)

@@ -1,9 +1,8 @@
 -- The outcomes of a step, for frames listed from the top down.
-use Rattle.pop_solve.proofs.Words.{AreKnown, Battle, Bool, CameFrom, CameFromAt, Counts, Frame, GoesTo, IfSome, IsCounted, IsLinked, IsPlaceIn, IsRoomy, IsWalking, IsWhites, LegalPlace, List, Loss, Option, Plan, Position, RuleSet, Steps, Triple, [], after_well_formed, ap, arith, chess, eqb, false, fewest_left, follows, gives, goes_on, inl, inr, is_help, legal, length, min, moves_behind, opened, path, position, pseudo-from_legal, refl, rules, seeks, suc, to_come, to_open, true, turns, undo_of, walk_behind, ℕ, ◌+◌, ◌-◌, ◌<◌, ◌^◌, ◌∷◌, ◌≡◌, ◌≤◌, ◌⊎◌}
-use Rattle.chess_rules.specs.Play.{after as played}
-use Rattle.pop_solve.specs.ties.Frames.{opened as opened_frame}
+use Rattle.pop_solve.proofs.Words.{AreKnown, Battle, Bool, CameFrom, CameFromAt, Counts, Frame, GoesTo, IfSome, IsCounted, IsLinked, IsPlaceIn, IsRoomy, IsWalking, IsWhites, LegalPlace, List, Move, Option, Plan, Position, RuleSet, Steps, Undo, [], after_well_formed, ap, arith, chess, eqb, false, fewest_left, follows, gives, half_moves_on, inl, inr, is_help, is_legal, is_pseudo_legal-from_legal, length, min, moves_behind, opened_frame, path, position, refl, rules, seeks, suc, to_come, to_open, true, turns, undo_of, walk_behind, ℕ, ◌+◌, ◌-◌, ◌<◌, ◌^◌, ◌∷◌, ◌≡◌, ◌≤◌, ◌⊎◌}
+use Rattle.chess_rules.specs.Play.{position_after}
 use Rattle.pop_solve.proofs.Tests.{learned, moved}
-use Rattle.pop_solve.proofs.GoingOn.{no_zero, goes_on-help, follows-help, goes_on-keys, goes_on-most, ended-reached}
+use Rattle.pop_solve.proofs.GoingOn.{no_zero, half_moves_on-help, follows-help, half_moves_on-keys, half_moves_on-most, ended-reached}
 use Rattle.pop_solve.proofs.ToCome.{one, walk_count-start, walk_behind-none, come-pass, come-enter, tries-pass, tries-enter, turns-pass, turns-enter, open-next, open-enter, come-close, tries-close, turns-close, open-close, steps-skip}
 
 module _ (rule : RuleSet) (plan : Plan) where
@@ -51,12 +50,12 @@ module _ (rule : RuleSet) (h : ℕ) (p : Position) where
   unfolding IsRoomy
   walking-moved f next below board after r e = search (rules, IsLinked-moved, known-moved, position-moved)
 
-  walking-enter : (plan : Plan) (f : Frame) (next : ℕ) (m : Triple) (tried : ℕ) (below : List Frame) (board after : Position)
-      → IsWalking rule h p (f ∷ below) board → tried < f.left → legal rule board m ≡ true → after ≡ played rule board m
-      → IsWalking rule h p (opened m (undo_of rule board m) tried ∷ (moved f next ∷ below)) after
+  walking-enter : (plan : Plan) (f : Frame) (next : ℕ) (m : Move) (tried : ℕ) (below : List Frame) (board after : Position)
+      → IsWalking rule h p (f ∷ below) board → tried < f.left → is_legal rule board m ≡ true → after ≡ position_after rule board m
+      → IsWalking rule h p (opened_frame m (undo_of rule board m) tried ∷ (moved f next ∷ below)) after
   unfolding IsLinked IsRoomy AreKnown position
   walking-enter plan f next m tried below board after r less lawful e =
-      grind (arith, after_well_formed rule board m r.sound (pseudo-from_legal rule board m lawful), pseudo-from_legal rule board m lawful)
+      grind (arith, after_well_formed rule board m r.sound (is_pseudo_legal-from_legal rule board m lawful), is_pseudo_legal-from_legal rule board m lawful)
 
 -- where keys alone are shown
 whites-cut : (battle : Battle) (f : Frame) (below : List Frame) → IsWhites battle (f ∷ below) ≡ true → IsWhites battle below ≡ true
@@ -72,8 +71,8 @@ whites-moved : (battle : Battle) (f : Frame) (place : ℕ) (below : List Frame) 
 unfolding IsWhites
 whites-moved battle f place below e = e
 
-whites-none : (battle : Battle) (m : Triple) (undo : Loss) (tried : ℕ) (below : List Frame) → tried ≡ 0 → IsWhites battle below ≡ true
-    → IsWhites battle (opened m undo tried ∷ below) ≡ true
+whites-none : (battle : Battle) (m : Move) (undo : Undo) (tried : ℕ) (below : List Frame) → tried ≡ 0 → IsWhites battle below ≡ true
+    → IsWhites battle (opened_frame m undo tried ∷ below) ≡ true
 unfolding IsWhites
 whites-none battle m undo tried below z e = rw z e
 
@@ -102,18 +101,19 @@ module _ (rule : RuleSet) (plan : Plan) (h : ℕ) (p : Position) (f : Frame) (be
         tries-close rule plan h p f below here,
       )
 
-  module _ (next : ℕ) (m : Triple) (t : ℕ) (left : f.left ≡ suc t) (e : moves_behind rule board f.place ≡ m ∷ moves_behind rule board next) where
+  module _ (next : ℕ) (m : Move) (t : ℕ) (left : f.left ≡ suc t) (e : moves_behind rule board f.place ≡ m ∷ moves_behind rule board next) where
     here : moves_behind rule (position rule p (f ∷ below)) f.place ≡ m ∷ moves_behind rule (position rule p (f ∷ below)) next
     here = rw (← r.board_at) e
 
-    after_here : played rule board m ≡ played rule (position rule p (f ∷ below)) m
-    after_here = ap (λ b. played rule b m) r.board_at
+    after_here : position_after rule board m ≡ position_after rule (position rule p (f ∷ below)) m
+    after_here = ap (λ b. position_after rule b m) r.board_at
 
     fuel : h - length below ≡ suc (h - length below - 1)
     fuel = omega (arith, top_room rule h p f below board r, left)
 
-    pub steps-pass : (after : Position) (opened opened2 : ℕ) → follows plan (chess plan.goal rule) (eqb (length below) 0) t (played rule board m) ≡ false
-        → after ≡ board → Counts rule plan (eqb (length below) 0) t (played rule board m) opened opened2
+    pub steps-pass : (after : Position) (opened opened2 : ℕ) → follows plan (chess plan.goal rule) (eqb (length below) 0) t (position_after rule board m)
+        ≡ false
+        → after ≡ board → Counts rule plan (eqb (length below) 0) t (position_after rule board m) opened opened2
         → Steps rule plan h p (f ∷ below) (moved f next ∷ below) after opened opened2 false
     steps-pass after opened opened2 b at x =
         let o = open-next rule plan h p f next m below _ t fuel left here in
@@ -127,29 +127,30 @@ module _ (rule : RuleSet) (plan : Plan) (h : ℕ) (p : Position) (f : Frame) (be
           tries = record { grows = omega (arith, x.tries); fewest = search (rules, x.tries, tries-pass rule plan h p f next m below _ t fuel left here) };
         }
 
-    pub steps-enter : (after : Position) (opened opened2 : ℕ) → legal rule board m ≡ true
-        → follows plan (chess plan.goal rule) (eqb (length below) 0) t (played rule board m) ≡ true → after ≡ played rule board m
-        → Counts rule plan (eqb (length below) 0) t (played rule board m) opened opened2
-        → Steps rule plan h p (f ∷ below) (opened_frame m (undo_of rule board m) (goes_on plan (chess plan.goal rule) t (played rule board m)) ∷ (moved f next ∷
-        below)) after opened opened2 (gives plan (chess plan.goal rule) t (played rule board m))
+    pub steps-enter : (after : Position) (opened opened2 : ℕ) → is_legal rule board m ≡ true
+        → follows plan (chess plan.goal rule) (eqb (length below) 0) t (position_after rule board m) ≡ true → after ≡ position_after rule board m
+        → Counts rule plan (eqb (length below) 0) t (position_after rule board m) opened opened2
+        → Steps rule plan h p (f ∷ below) (opened_frame m (undo_of rule board m)
+        (half_moves_on plan (chess plan.goal rule) t (position_after rule board m)) ∷ (moved f next ∷
+        below)) after opened opened2 (gives plan (chess plan.goal rule) t (position_after rule board m))
     steps-enter after opened opened2 lawful b at x =
         let o = open-next rule plan h p f next m below _ t fuel left here in
         let u = undo_of rule board m in
-        let q = played rule (position rule p (f ∷ below)) m in
-        let tried = goes_on plan (chess plan.goal rule) t (played rule board m) in
+        let q = position_after rule (position rule p (f ∷ below)) m in
+        let tried = half_moves_on plan (chess plan.goal rule) t (position_after rule board m) in
         let n = open-enter rule plan h p f next m below _ t fuel left here u tried in
         let helped : is_help plan.form ≡ true
         → to_open rule p (f ∷ below) ≡ one rule plan t + to_open rule p (opened_frame m u tried ∷ (moved f next ∷ below)) = λ a.
-        let w : walk_behind rule tried q 0 ≡ walk_behind rule t q 0 = ap (λ x. walk_behind rule x q 0) (goes_on-help plan (chess plan.goal rule) t _ a) in
+        let w : walk_behind rule tried q 0 ≡ walk_behind rule t q 0 = ap (λ x. walk_behind rule x q 0) (half_moves_on-help plan (chess plan.goal rule) t _ a) in
         omega (arith, o, n, w, walk_count-start rule plan t q) in
         record {
           walking = walking-enter rule h p plan f next m tried below board after r
-              (omega (arith, left, goes_on-most (chess plan.goal rule) plan t (played rule board m))) lawful at;
+              (omega (arith, left, half_moves_on-most (chess plan.goal rule) plan t (position_after rule board m))) lawful at;
           come = rw after_here (come-enter rule plan h p f next m below _ t fuel left here u (rw (← after_here) b));
           deep = λ g. omega arith;
-          ended = λ g e. rw at (ended-reached (chess plan.goal rule) plan (eqb (length below) 0) t (played rule board m) b e);
+          ended = λ g e. rw at (ended-reached (chess plan.goal rule) plan (eqb (length below) 0) t (position_after rule board m) b e);
           falls = turns-enter rule plan h p f next m below _ t fuel left here u tried;
-          opens = grind (arith, whites-none, goes_on-keys, whites-top, whites-moved, walk_behind-none, after_here, counted_by);
+          opens = grind (arith, whites-none, half_moves_on-keys, whites-top, whites-moved, walk_behind-none, after_here, counted_by);
           tries = record {
             grows = omega (arith, x.tries);
             fewest = λ a. rw after_here

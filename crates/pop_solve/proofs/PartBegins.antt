@@ -1,12 +1,12 @@
 -- How a part begins: behind its first moves stand its solutions.
-use Rattle.pop_solve.proofs.Words.{AreKnown, BareEvent, Bool, Counts, Frame, Game, GoesTo, IsCounted, IsLinked, IsRoomy, IsSound, IsWalking, List, Mate, Phase, Plan, Posed, Position, RuleSet, Triple, [], after_well_formed, ap, append-nil, arith, eqb, false, follows, get_or, gives, goes_on, inl, inr, is_for_mate, is_goal, is_help, legal, length, length-append, length-reverse, map, min, moves_behind, nat_tests, path, phase_half_moves, phase_paths, phase_start, plan_of, position, pseudo-from_legal, reach, refl, reverse, rules, seeks_last, shown, suc, sym, take, to_come, to_open, true, undo_of, walk_count, ℕ, ◌++◌, ◌+◌, ◌-◌, ◌<◌, ◌^◌, ◌∙◌, ◌∷◌, ◌≡◌, ◌≤◌}
+use Rattle.pop_solve.proofs.Words.{AreKnown, BareEvent, Bool, Counts, Frame, Game, GoesTo, IsCounted, IsLinked, IsRoomy, IsSound, IsWalking, List, Mate, Move, Phase, Plan, Posed, Position, RuleSet, [], after_well_formed, ap, append-nil, arith, eqb, false, follows, get_or, gives, half_moves_on, inl, inr, is_for_mate, is_help, is_legal, is_mate, is_pseudo_legal-from_legal, length, length-append, length-reverse, map, min, moves_behind, nat_tests, path, path_end, phase_half_moves, phase_paths, phase_start, plan_of, position, refl, reverse, rules, seeks_last, shown_paths, suc, sym, take, to_come, to_open, true, undo_of, walk_count, ℕ, ◌++◌, ◌+◌, ◌-◌, ◌<◌, ◌^◌, ◌∙◌, ◌∷◌, ◌≡◌, ◌≤◌}
 use Rattle.chess_rules.specs.Legal.{moves as legal_moves}
-use Rattle.chess_rules.specs.Play.{after as played}
+use Rattle.chess_rules.specs.Play.{position_after}
 use Rattle.pop_solve.proofs.Boards.{behind_start, for_mate}
-use Rattle.pop_solve.proofs.GoingOn.{cases, ended-reached, follows-help, goes_on-help, goes_on-most}
+use Rattle.pop_solve.proofs.GoingOn.{cases, ended-reached, follows-help, half_moves_on-help, half_moves_on-most}
 use Rattle.pop_solve.proofs.Outcomes.{counted_by}
 use Rattle.pop_solve.proofs.Parts.{part_cut}
-use Rattle.pop_solve.proofs.Paths.{cut-at, path-length, path-more, position-more, reach-append, reach-path, some-taken}
+use Rattle.pop_solve.proofs.Paths.{cut-at, path-length, path-more, position-more, path_end-append, path_end-path, some-taken}
 use Rattle.pop_solve.proofs.PhasePaths.{game_of}
 use Rattle.pop_solve.proofs.Solved.{IsCutInto}
 use Rattle.pop_solve.proofs.ToCome.{come-close, given_path, open-close, skipped, turn, walk_count-start}
@@ -15,7 +15,7 @@ use Rattle.pop_solve.specs.Parts.{part_events, part_solutions}
 use Rattle.pop_solve.specs.declared.part_search.PartStage.{PartStage}
 use Rattle.pop_solve.specs.declared.part_search.PartStage.TheVariants.{Behind, First, Within}
 use Rattle.pop_solve.specs.ties.Beginnings.{IsSeeking, are_idle}
-use Rattle.pop_solve.specs.ties.Frames.{opened as opened_frame}
+use Rattle.pop_solve.specs.ties.Frames.{opened_frame}
 use Rattle.pop_solve.specs.ties.PartStages.{IsInPart, IsPartOpened, StandsInPart, begun_at, events_left, part_left, part_paths}
 use Rattle.pop_solve.specs.ties.PartsSeen.{are_legal, is_part_stopped, part_walk}
 
@@ -32,17 +32,18 @@ front-more frames k f at some less = ap path (popped _ _ f (cut-at frames (k + 1
 
 -- the moves to a walk's top frame are legal
 module _ (rule : RuleSet) where
-  legal-more : (p : Position) (xs : List Triple) (m : Triple) → are_legal rule p xs ≡ true → legal rule (reach (played rule) p xs) m ≡ true
+  is_legal-more : (p : Position) (xs : List Move) (m : Move) → are_legal rule p xs ≡ true → is_legal rule (path_end (position_after rule) p xs) m ≡ true
       → are_legal rule p (xs ++ m ∷ []) ≡ true
   unfolding are_legal
-  legal-more p [] m a l = search rules
-  legal-more p (x ∷ xs) m a l = search (rules, legal-more (played rule p x) xs m)
+  is_legal-more p [] m a l = search rules
+  is_legal-more p (x ∷ xs) m a l = search (rules, is_legal-more (position_after rule p x) xs m)
 
-  legal-path : (p : Position) (frames : List Frame) → IsLinked rule p frames → are_legal rule p (path frames) ≡ true
+  is_legal-path : (p : Position) (frames : List Frame) → IsLinked rule p frames → are_legal rule p (path frames) ≡ true
   unfolding IsLinked path are_legal
-  legal-path p [] l = refl
-  legal-path p (f ∷ []) l = refl
-  legal-path p (f ∷ (g ∷ below)) l = legal-more p (path (g ∷ below)) f.by (legal-path p (g ∷ below) l.3) (rw (← reach-path Mate rule p (g ∷ below)) l.1)
+  is_legal-path p [] l = refl
+  is_legal-path p (f ∷ []) l = refl
+  is_legal-path p (f ∷ (g ∷ below)) l =
+      is_legal-more p (path (g ∷ below)) f.by (is_legal-path p (g ∷ below) l.3) (rw (← path_end-path Mate rule p (g ∷ below)) l.1)
 
 -- from idle frames nothing is to come
 idle-parts : (f : Frame) (below : List Frame) → are_idle (f ∷ below) ≡ true → (f.left ≡ 0) × (are_idle below ≡ true)
@@ -70,7 +71,7 @@ some-event : (xs : List BareEvent) (y : BareEvent) (ys : List BareEvent) → (xs
 some-event [] y ys e = cc
 some-event (x ∷ xs) y ys e = cc
 
-pub all-opened : (rule : RuleSet) (problem : Posed) (phase : Phase) (front : List Triple) (stage : PartStage) (frames : List Frame) (board : Position)
+pub all-opened : (rule : RuleSet) (problem : Posed) (phase : Phase) (front : List Move) (stage : PartStage) (frames : List Frame) (board : Position)
     (opened : ℕ) → StandsInPart rule problem phase front stage frames board → IsPartOpened rule problem phase front frames opened
     → is_help problem.stipulation.form ≡ true → is_part_stopped rule problem phase front ≡ false → part_left rule problem phase stage frames ≡ []
     → opened ≡ min (part_walk rule problem phase front) (2 ^ 64 - 1)
@@ -81,7 +82,7 @@ all-opened rule problem phase front Behind frames board opened s o help full non
     let c = rw s.0 at (o help full) in omega (arith, c.counts)
 
 -- a part has begun
-pub record HasBegun (rule : RuleSet) (problem : Posed) (phase : Phase) (front : List Triple) (stage : PartStage) (frames : List Frame) (board : Position)
+pub record HasBegun (rule : RuleSet) (problem : Posed) (phase : Phase) (front : List Move) (stage : PartStage) (frames : List Frame) (board : Position)
     (opened : ℕ) : Type 0 where
   pub stands : StandsInPart rule problem phase front stage frames board
   pub left : part_left rule problem phase stage frames ≡ part_events rule problem phase front
@@ -100,17 +101,17 @@ none-before n = omega arith
 at-root : (n : ℕ) → 0 < n → eqb (n - 1) 0 ≡ eqb n 1
 at-root n some = grind (arith, nat_tests)
 
-walking-opened : (rule : RuleSet) (h : ℕ) (p : Position) (frames : List Frame) (board : Position) (m : Triple) (tried : ℕ) → 0 < length frames
-    → IsWalking rule h p frames board → legal rule board m ≡ true → tried + length frames ≤ h
-    → IsWalking rule h p (opened_frame m (undo_of rule board m) tried ∷ frames) (played rule board m)
+walking-opened : (rule : RuleSet) (h : ℕ) (p : Position) (frames : List Frame) (board : Position) (m : Move) (tried : ℕ) → 0 < length frames
+    → IsWalking rule h p frames board → is_legal rule board m ≡ true → tried + length frames ≤ h
+    → IsWalking rule h p (opened_frame m (undo_of rule board m) tried ∷ frames) (position_after rule board m)
 unfolding IsLinked IsRoomy AreKnown position
 walking-opened rule h p [] board m tried some r lawful room = absurd (omega (arith, some))
 walking-opened rule h p (f ∷ below) board m tried some r lawful room =
-    grind (arith, after_well_formed rule board m r.sound (pseudo-from_legal rule board m lawful), pseudo-from_legal rule board m lawful)
+    grind (arith, after_well_formed rule board m r.sound (is_pseudo_legal-from_legal rule board m lawful), is_pseudo_legal-from_legal rule board m lawful)
 
 module _ (rule : RuleSet) (problem : Posed) (sound : IsSound problem) (phase : Phase) (n : ℕ) (frames : List Frame) (board : Position)
     (s : IsSeeking rule (phase_half_moves problem phase) n (phase_start problem phase) (reverse frames) board) (long : n ≡ length frames) (some : 0 < n)
-    (m : Triple) (lawful : legal rule board m ≡ true) (alone : is_help problem.stipulation.form ≡ false → n ≡ 1) where
+    (m : Move) (lawful : is_legal rule board m ≡ true) (alone : is_help problem.stipulation.form ≡ false → n ≡ 1) where
   -- the frames from the top down
   abbrev old : List Frame
   old = reverse frames
@@ -130,7 +131,7 @@ module _ (rule : RuleSet) (problem : Posed) (sound : IsSound problem) (phase : P
   abbrev plan : Plan
   plan = plan_of problem
 
-  abbrev game : Game Position Triple
+  abbrev game : Game Position Move
   game = game_of rule problem
 
   -- the half-moves left behind the part's first moves, the position there, and whether they are one
@@ -138,26 +139,26 @@ module _ (rule : RuleSet) (problem : Posed) (sound : IsSound problem) (phase : P
   left = h - n
 
   abbrev q : Position
-  q = played rule board m
+  q = position_after rule board m
 
   abbrev root : Bool
   root = eqb n 1
 
-  abbrev front : List Triple
+  abbrev front : List Move
   front = path old ++ m ∷ []
 
   -- what the walk shows by the last of them
-  abbrev come : List (List Triple)
-  come = map (λ line. path old ++ line) (shown plan game root (suc left) (suc left) board (m ∷ []))
+  abbrev come : List (List Move)
+  come = map (λ line. path old ++ line) (shown_paths plan game root (suc left) (suc left) board (m ∷ []))
 
-  board-at : board ≡ reach (played rule) p (path old)
-  board-at = s.walking.board_at ∙ reach-path problem.stipulation.goal rule p old
+  board-at : board ≡ path_end (position_after rule) p (path old)
+  board-at = s.walking.board_at ∙ path_end-path problem.stipulation.goal rule p old
 
   come-cut : IsCutInto (is_help problem.stipulation.form) problem.max_solutions come (part_solutions rule problem phase front)
   come-cut =
       let length-is : length (path old) ≡ n - 1 = omega (arith, path-length old, size) in
       let more : h - (n - 1) ≡ suc left = omega (arith, some, s.room) in
-      let may = legal-more rule p (path old) m (legal-path rule p old s.walking.linked) (rw (← board-at) lawful) in
+      let may = is_legal-more rule p (path old) m (is_legal-path rule p old s.walking.linked) (rw (← board-at) lawful) in
       rw (length-is, more, at-root n some, ← board-at) at (part_cut rule problem sound phase (path old) m (omega (arith, length-is, some, s.room))
       (λ battle. path-one old (size ∙ alone battle)) may)
 
@@ -174,10 +175,10 @@ module _ (rule : RuleSet) (problem : Posed) (sound : IsSound problem) (phase : P
       let all : problem.max_solutions - 0 ≡ problem.max_solutions = omega arith in
       record { walking = walking; most = omega (arith, none); counts = rw (none, e, all, none-before) come-cut.begun }
 
-  walk-is : part_walk rule problem phase front ≡ walk_count (legal_moves rule) (played rule) left q
+  walk-is : part_walk rule problem phase front ≡ walk_count (legal_moves rule) (position_after rule) left q
   walk-is =
       let length-is : h - length front ≡ left = omega (arith, length-append (path old) (m ∷ []), path-length old, size, some) in
-      rw (length-is, reach-append problem.stipulation.goal rule p (path old) m, ← board-at) refl
+      rw (length-is, path_end-append problem.stipulation.goal rule p (path old) m, ← board-at) refl
 
   -- none of them is to come
   begun-none : (opened : ℕ) → come ≡ [] → IsPartOpened rule problem phase front old opened → HasBegun rule problem phase front (Within 0) old board opened
@@ -187,8 +188,8 @@ module _ (rule : RuleSet) (problem : Posed) (sound : IsSound problem) (phase : P
       record { stands = in-part (Within 0) old board refl e s.walking; left = rw e events-begun; opens = o }
 
   -- the last move doesn't mate where each path ends with it
-  come-fails : is_for_mate problem.stipulation.goal ≡ true → seeks_last plan ≡ true → left ≡ 0 → is_goal rule q ≡ false → come ≡ []
-  unfolding shown position moves_behind
+  come-fails : is_for_mate problem.stipulation.goal ≡ true → seeks_last plan ≡ true → left ≡ 0 → is_mate rule q ≡ false → come ≡ []
+  unfolding shown_paths position moves_behind
   come-fails for last none misses =
       let g : GoesTo rule plan 1 board 0 (moves_behind rule board 0) =
       record { mid = 0; over = []; passed = refl; none = inl refl; here = refl } in
@@ -197,22 +198,22 @@ module _ (rule : RuleSet) (problem : Posed) (sound : IsSound problem) (phase : P
       (skipped rule plan h board (opened_frame m (undo_of rule board m) 1) [] _ g root 1 last (for_mate _ for) m [] misses))
 
   pub begun-fails : (opened : ℕ) (after : Position) → opened ≡ 0 → after ≡ board → is_for_mate problem.stipulation.goal ≡ true → seeks_last plan ≡ true
-      → left ≡ 0 → is_goal rule q ≡ false → HasBegun rule problem phase front (Within 0) old after opened
+      → left ≡ 0 → is_mate rule q ≡ false → HasBegun rule problem phase front (Within 0) old after opened
   unfolding walk_count
   begun-fails opened after z stays for last none misses = rw stays (begun-none opened (come-fails for last none misses)
       (λ help full. rw (walk-is, none, z, idle-open rule plan p old s.idle) (record { within = omega arith; counts = omega arith })))
 
   -- the move is not followed
   begun-passed : (opened : ℕ) → follows plan game root left q ≡ false → HasBegun rule problem phase front (Within 0) old board opened
-  unfolding shown
+  unfolding shown_paths
   begun-passed opened passed = begun-none opened (rw passed refl) (λ help full. absurd (search (rules, follows-help)))
 
   -- it is followed
   abbrev entered : List Frame
-  entered = opened_frame m (undo_of rule board m) (goes_on plan game left q) ∷ old
+  entered = opened_frame m (undo_of rule board m) (half_moves_on plan game left q) ∷ old
 
   come-entered : follows plan game root left q ≡ true → come ≡ given_path (gives plan game left q) front ++ to_come rule plan h p entered
-  unfolding shown to_come
+  unfolding shown_paths to_come
   come-entered followed =
       let more : eqb (length old) 0 ≡ false = grind (arith, nat_tests, deep) in
       rw (
@@ -225,20 +226,21 @@ module _ (rule : RuleSet) (problem : Posed) (sound : IsSound problem) (phase : P
         ← s.walking.board_at,
         behind_start rule q,
       )
-      (sym (append-nil _) ∙ turn (gives plan game left q) (path old) m (shown plan game false left (goes_on plan game left q) q (legal_moves rule q)) [] [])
+      (sym (append-nil _) ∙ turn (gives plan game left q) (path old) m (shown_paths plan game false left (half_moves_on plan game left q) q
+      (legal_moves rule q)) [] [])
 
   walking-entered : IsWalking rule h p entered q
   walking-entered = walking-opened rule h p old board m _ deep s.walking lawful
-      (omega (arith, goes_on-most game plan left q, size, s.room))
+      (omega (arith, half_moves_on-most game plan left q, size, s.room))
 
   opens-entered : (opened : ℕ) → Counts rule plan root left q 0 opened → IsPartOpened rule problem phase front entered opened
   unfolding to_open
   opens-entered opened c help full =
-      let start : IsCounted (walk_count (legal_moves rule) (played rule) left q) 0 (walk_count (legal_moves rule) (played rule) left q) =
+      let start : IsCounted (walk_count (legal_moves rule) (position_after rule) left q) 0 (walk_count (legal_moves rule) (position_after rule) left q) =
       record { within = omega arith; counts = omega arith } in
       rw (
         walk-is,
-        goes_on-help plan game left q help,
+        half_moves_on-help plan game left q help,
         idle-open rule plan p old s.idle,
         position-more rule p _ old deep,
         ← s.walking.board_at,
@@ -264,7 +266,7 @@ module _ (rule : RuleSet) (problem : Posed) (sound : IsSound problem) (phase : P
   pub begun-by : (opened opened2 : ℕ) (low given : Bool) (last : List Frame) (after : Position) → opened ≡ 0
       → (follows plan game low left q ≡ false → (given ≡ false) × (after ≡ board) × (last ≡ frames))
       → (follows plan game low left q ≡ true → (given ≡ gives plan game left q) × (after ≡ q)
-      × (last ≡ frames ++ opened_frame m (undo_of rule board m) (goes_on plan game left q) ∷ []))
+      × (last ≡ frames ++ opened_frame m (undo_of rule board m) (half_moves_on plan game left q) ∷ []))
       → Counts rule plan low left q opened opened2 → low ≡ root → HasBegun rule problem phase front (begins_at given) (reverse last) after opened2
   begun-by opened opened2 low given last after z passes enters counts lowest =
       elim (cases (follows plan game low left q)) [

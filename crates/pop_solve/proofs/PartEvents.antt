@@ -1,13 +1,13 @@
 -- What a search of one part gives at a call, and what it opens.
-use Rattle.pop_solve.proofs.Words.{BareEvent, Bool, Event, Frame, Gives, IsCounted, IsEnded, IsSound, IsWalking, List, Opens, Phase, Play, Posed, Position, RuleSet, Set, StandsOn, Total, Triple, Walks, [], arith, begins, cond, eqb, event_of, half_moves, is_help, is_set, keep, length, length-reverse, nat_tests, path, path_event, phase_half_moves, phase_paths, phase_start, plan_of, refl, reverse, rules, started, subst, to_open, true, false, ℕ, ◌+◌, ◌-◌, ◌<◌, ◌||◌, ◌∙◌, ◌∷◌, ◌≡◌, ◌≤◌}
+use Rattle.pop_solve.proofs.Words.{BareEvent, Bool, Event, Frame, Gives, IsCounted, IsEnded, IsSound, IsWalking, List, Move, Opens, Phase, Play, Posed, Position, RuleSet, Set, StandsOn, Total, Walks, [], arith, beginning_count, begins, cond, eqb, event_of, false, half_moves, is_help, is_set, keep, length, length-reverse, nat_tests, path, path_event, phase_half_moves, phase_paths, phase_start, plan_of, refl, reverse, rules, subst, to_open, true, ℕ, ◌+◌, ◌-◌, ◌<◌, ◌||◌, ◌∙◌, ◌∷◌, ◌≡◌, ◌≤◌}
 use Rattle.pop_solve.specs.declared.part_search.PartStage.{PartStage}
 use Rattle.pop_solve.specs.declared.part_search.PartStage.TheVariants.{Behind, First, Within}
 use Rattle.pop_solve.specs.ties.PartStages.{IsPartOpened, events_left}
 unfoldable use Rattle.pop_solve.specs.ties.PartStages.{StandsInPart, part_left, part_paths}
 use Rattle.pop_solve.specs.ties.PartsSeen.{is_part_stopped, part_walk}
 use Rattle.pop_solve.proofs.Events.{room-length}
-use Rattle.pop_solve.proofs.Kept.{keep-next, started-next}
-use Rattle.pop_solve.proofs.Paths.{path-length, reach-path}
+use Rattle.pop_solve.proofs.Kept.{keep-next, beginning_count-next}
+use Rattle.pop_solve.proofs.Paths.{path-length, path_end-path}
 use Rattle.pop_solve.proofs.Sound.{in_range}
 
 module _ (rule : RuleSet) (problem : Posed) (phase : Phase) where
@@ -15,13 +15,13 @@ module _ (rule : RuleSet) (problem : Posed) (phase : Phase) where
   help = is_help problem.stipulation.form
 
   -- the frames left are listed from the bottom up, as the code holds them
-  abbrev top : List Frame → List Triple
+  abbrev top : List Frame → List Move
   top frames = path (reverse frames)
 
   abbrev Walking : List Frame → Position → Type 0
   Walking frames board = IsWalking rule (phase_half_moves problem phase) (phase_start problem phase) (reverse frames) board
 
-  abbrev Stands : List Triple → PartStage → List Frame → Position → Type 0
+  abbrev Stands : List Move → PartStage → List Frame → Position → Type 0
   Stands front stage frames board = StandsInPart rule problem phase front stage (reverse frames) board
 
   abbrev left_at : PartStage → List Frame → List BareEvent
@@ -42,9 +42,10 @@ module _ (rule : RuleSet) (problem : Posed) (phase : Phase) where
       at_most Play = in_range problem s
 
   -- a path is given: the events to come lose their first, and the solutions come to as many as before
-  module _ (count : ℕ) (paths rest : List (List Triple)) (frames : List Frame) (board : Position) (deep : 2 ≤ length frames)
+  module _ (count : ℕ) (paths rest : List (List Move)) (frames : List Frame) (board : Position) (deep : 2 ≤ length frames)
       (kept : keep help (problem.max_solutions - count) paths ≡ top frames ∷ keep help (problem.max_solutions - count - here frames) rest)
-      (begun : started help (problem.max_solutions - count) paths ≡ here frames + started help (problem.max_solutions - count - here frames) rest)
+      (begun : beginning_count help (problem.max_solutions - count) paths
+      ≡ here frames + beginning_count help (problem.max_solutions - count - here frames) rest)
       (r : Walking frames board) (next : ℕ) (n : next ≡ count + more (length frames)) where
     more-here : more (length frames) ≡ here frames
     more-here = grind (arith, path-length, length-reverse, nat_tests)
@@ -52,11 +53,11 @@ module _ (rule : RuleSet) (problem : Posed) (phase : Phase) where
     left-is : problem.max_solutions - count - here frames ≡ problem.max_solutions - next
     left-is = omega (arith, n, more-here)
 
-    counts-next : next + started help (problem.max_solutions - next) rest ≡ count + started help (problem.max_solutions - count) paths
+    counts-next : next + beginning_count help (problem.max_solutions - next) rest ≡ count + beginning_count help (problem.max_solutions - count) paths
     counts-next = rw (begun, left-is) (omega (arith, n, more-here))
 
     stands-on : StandsOn rule problem (path_event problem phase (top frames)) board (length frames)
-    stands-on = grind (arith, reach-path, path-length, length-reverse)
+    stands-on = grind (arith, path_end-path, path-length, length-reverse)
 
     gives-next : (event : Event) → event ≡ event_of rule problem (path_event problem phase (top frames))
         → Gives rule problem (events_left problem phase count paths) (events_left problem phase next rest) event board (length frames)
@@ -68,7 +69,7 @@ module _ (rule : RuleSet) (problem : Posed) (phase : Phase) where
     }
 
   -- the part's own path; the board stands as it was left
-  module _ (front : List Triple) (frames : List Frame) (board : Position) (sound : IsSound problem) (s : Stands front First frames board) where
+  module _ (front : List Move) (frames : List Frame) (board : Position) (sound : IsSound problem) (s : Stands front First frames board) where
     pub first-asks : (2 ≤ length frames) × (length frames ≤ 33) × Walking frames board × IsEnded rule (plan_of problem) (reverse frames) board
     unfolding StandsInPart
     first-asks = search (rules, length-reverse, few)
@@ -80,9 +81,9 @@ module _ (rule : RuleSet) (problem : Posed) (phase : Phase) where
         ≡ top frames ∷ keep help (problem.max_solutions - 0 - here frames) (phase_paths rule problem phase (reverse frames))
     kept-first = keep-next help _ _ _ _ refl (λ b. some)
 
-    begun-first : started help (problem.max_solutions - 0) (top frames ∷ phase_paths rule problem phase (reverse frames))
-        ≡ here frames + started help (problem.max_solutions - 0 - here frames) (phase_paths rule problem phase (reverse frames))
-    begun-first = started-next help _ _ _ _ refl (λ b. some)
+    begun-first : beginning_count help (problem.max_solutions - 0) (top frames ∷ phase_paths rule problem phase (reverse frames))
+        ≡ here frames + beginning_count help (problem.max_solutions - 0 - here frames) (phase_paths rule problem phase (reverse frames))
+    begun-first = beginning_count-next help _ _ _ _ refl (λ b. some)
 
     module _ (stand : Position) (stays : stand ≡ board) (next : ℕ) (n : next ≡ 0 + more (length frames)) where
       pub first-stands : Stands front (Within next) frames stand
@@ -98,7 +99,7 @@ module _ (rule : RuleSet) (problem : Posed) (phase : Phase) where
       unfolding part_left part_paths
       first-gives event e = rw stays (gives-next 0 _ _ frames board first-asks.0 kept-first begun-first first-asks.2 next n event e)
 
-  module _ (count : ℕ) (own : List Triple) (old : List Frame) (from : Position) (in_part : StandsInPart rule problem phase own (Within count) old from) where
+  module _ (count : ℕ) (own : List Move) (old : List Frame) (from : Position) (in_part : StandsInPart rule problem phase own (Within count) old from) where
     pub most : count ≤ problem.max_solutions
     unfolding StandsInPart
     most = in_part.most
@@ -123,7 +124,7 @@ module _ (rule : RuleSet) (problem : Posed) (phase : Phase) where
       few-here s = few frames board s w.walking
 
       module _ (left : List Frame) (stand : Position) (same : left ≡ frames) (stays : stand ≡ board) where
-        pub given-stands : (front : List Triple) → StandsInPart rule problem phase front (Within count) old from
+        pub given-stands : (front : List Move) → StandsInPart rule problem phase front (Within count) old from
             → (next : ℕ) → next ≡ count + more (length frames) → Stands front (Within next) left stand
         unfolding StandsInPart part_paths
         given-stands front s next n = rw (same, stays) (record {
@@ -146,7 +147,7 @@ module _ (rule : RuleSet) (problem : Posed) (phase : Phase) where
       unfolding part_left part_paths
       ended-gives new board depth event e = search rules
 
-      module _ (front : List Triple) (s : StandsInPart rule problem phase front (Within count) old from) where
+      module _ (front : List Move) (s : StandsInPart rule problem phase front (Within count) old from) where
         stopped : problem.max_solutions - count ≡ 0 → is_part_stopped rule problem phase front ≡ true
         unfolding StandsInPart part_paths
         stopped e = search rules

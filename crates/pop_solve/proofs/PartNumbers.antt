@@ -1,5 +1,5 @@
 -- The parts of a phase by their numbers, and how many there are.
-use Rattle.pop_solve.proofs.Words.{Bool, Frame, List, MatchOption, None, Option, Phase, Posed, Position, RuleSet, Set, Play, Some, Triple, [], arith, chess, cond, eqb, false, half_moves, is_barred, is_help, legal, length, length-reverse, min, not, path, phase_half_moves, phase_start, refl, reverse, slice_get, subst, true, ℕ, ◌++◌, ◌-◌, ◌||◌, ◌∙◌, ◌∷◌, ◌≡◌, ◌≤◌}
+use Rattle.pop_solve.proofs.Words.{Bool, Frame, List, MatchOption, Move, None, Option, Phase, Play, Posed, Position, RuleSet, Set, Some, [], arith, chess, cond, eqb, false, half_moves, is_barred, is_help, is_legal, length, length-reverse, min, not, path, phase_half_moves, phase_start, refl, reverse, slice_get, subst, true, ℕ, ◌++◌, ◌-◌, ◌||◌, ◌∙◌, ◌∷◌, ◌≡◌, ◌≤◌}
 use Rattle.pop_input.specs.declared.stipulation.Goal.{Goal}
 use Rattle.pop_solve.specs.Parts.{beginnings, part_depth, part_numbered, parts}
 use Rattle.pop_solve.specs.ties.Beginnings.{FindsNumbered, IsSeeking, beginnings_to_come}
@@ -45,7 +45,7 @@ module _ (rule : RuleSet) (problem : Posed) (phase : Phase) (depth : ℕ) where
   pub none-numbered : (number : ℕ) → (is_barred rule problem phase || eqb h 0) ≡ true → part_numbered rule problem phase depth number ≡ None
   none-numbered number none = nothing (eqb number 0) (number - 1) _ (no-parts none)
     where
-      nothing : (b : Bool) (n : ℕ) (xs : List (List Triple)) → xs ≡ [] → cond b None (slice_get xs n) ≡ None
+      nothing : (b : Bool) (n : ℕ) (xs : List (List Move)) → xs ≡ [] → cond b None (slice_get xs n) ≡ None
       nothing true n xs e = refl
       nothing false n xs e = rw e refl
 
@@ -53,7 +53,7 @@ module _ (rule : RuleSet) (problem : Posed) (phase : Phase) (depth : ℕ) where
   none-numbered-0 number e = rw e refl
 
   -- a part is told by some moves
-  pub some-depth : (number : ℕ) (front : List Triple) → 1 ≤ depth → part_numbered rule problem phase depth number ≡ Some front → 1 ≤ d
+  pub some-depth : (number : ℕ) (front : List Move) → 1 ≤ depth → part_numbered rule problem phase depth number ≡ Some front → 1 ≤ d
   some-depth number front some found = by_parts (is_barred rule problem phase || eqb h 0) refl
     where
       by_parts : (b : Bool) → (is_barred rule problem phase || eqb h 0) ≡ b → 1 ≤ d
@@ -68,17 +68,17 @@ module _ (rule : RuleSet) (problem : Posed) (phase : Phase) (depth : ℕ) where
         counting : (n : ℕ) → 1 ≤ n → eqb n 0 ≡ false
         counting n some = grind arith
 
-    of-found : (found : Option Triple) → FindsNumbered rule h d p old (reverse new) board number found
+    of-found : (found : Option Move) → FindsNumbered rule h d p old (reverse new) board number found
         → MatchOption found (part_numbered rule problem phase depth number ≡ None) (λ m.
         (part_numbered rule problem phase depth number ≡ Some (path (reverse new) ++ m ∷ [])) × IsSeeking rule h d p (reverse new) board
-        × (legal rule board m ≡ true) × (length new ≡ d))
+        × (is_legal rule board m ≡ true) × (length new ≡ d))
     of-found None f = at-number ∙ rw (all-parts some, ← come) (f.here goal)
     of-found (Some m) f = (at-number ∙ rw (all-parts some, ← come) (f.here goal), f.stands.0, f.stands.1, omega (arith, f.stands.2, length-reverse new))
 
-    pub numbered : (found : Option Triple) (asked : ℕ) → FindsNumbered rule h d p old (reverse new) board asked found → asked ≡ number
+    pub numbered : (found : Option Move) (asked : ℕ) → FindsNumbered rule h d p old (reverse new) board asked found → asked ≡ number
         → MatchOption found (part_numbered rule problem phase depth number ≡ None) (λ m.
         (part_numbered rule problem phase depth number ≡ Some (path (reverse new) ++ m ∷ [])) × IsSeeking rule h d p (reverse new) board
-        × (legal rule board m ≡ true) × (length new ≡ d))
+        × (is_legal rule board m ≡ true) × (length new ≡ d))
     numbered found asked f e = of-found found (subst (λ n. FindsNumbered rule h d p old (reverse new) board n found) e f)
 
 -- whether a phase has parts, by the answer of the call that sets out

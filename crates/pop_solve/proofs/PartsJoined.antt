@@ -1,5 +1,5 @@
 -- The parts of a phase joined are the phase, and each solution stands in one part.
-use Rattle.pop_solve.proofs.Words.{AllPairs, Bool, Contains, IsSound, List, Phase, Play, Posed, Precedes, RuleSet, Set, Triple, [], ap, arith, cond, eqb, false, filter, flat_map, flat_map_single, from_filter, from_map, help_lines, is_barred, is_help, length, lines_to_goal, map, min, moves_in_order, nat_tests, none_in_nil, pairs_nil, phase_half_moves, phase_start, refl, set_tree, solutions, subst, suc, sym, true, zero, ℕ, ◌||◌, ◌↔◌, ◌∙◌, ◌∷◌, ◌≡◌, ◌≤◌}
+use Rattle.pop_solve.proofs.Words.{AllPairs, Bool, Contains, IsSound, List, Move, Phase, Play, Posed, Precedes, RuleSet, Set, [], ap, arith, cond, eqb, false, filter, flat_map, flat_map_single, from_filter, from_map, help_lines, is_barred, is_help, length, lines_to_goal, map, min, moves_in_order, nat_tests, none_in_nil, pairs_nil, phase_half_moves, phase_start, refl, set_tree, solutions, subst, suc, sym, true, zero, ℕ, ◌||◌, ◌↔◌, ◌∙◌, ◌∷◌, ◌≡◌, ◌≤◌}
 use Rattle.std.proofs.lemmas.List.Folds.{flat_map-map}
 use Rattle.chess_rules.specs.Legal.{moves as legal_moves}
 use Rattle.pop_solve.proofs.HelpPlay.{from_lines}
@@ -30,7 +30,7 @@ module _ (rule : RuleSet) (problem : Posed) (phase : Phase) where
       → parts rule problem phase depth ≡ beginnings (game_of rule problem) 1 (phase_start problem phase)
   parts-battle depth free some battle = rw battle at (parts-some depth free some)
 
-  pub parts-are : (depth : ℕ) → is_barred rule problem phase ≡ false → (h : ℕ) → phase_half_moves problem phase ≡ h → (front : List Triple)
+  pub parts-are : (depth : ℕ) → is_barred rule problem phase ≡ false → (h : ℕ) → phase_half_moves problem phase ≡ h → (front : List Move)
       → Contains (parts rule problem phase depth) front
       ↔ ((1 ≤ phase_half_moves problem phase) × IsPlayable (game_of rule problem) (phase_start problem phase) front
       × (length front ≡ part_depth problem phase depth))
@@ -79,7 +79,7 @@ module _ (rule : RuleSet) (problem : Posed) (phase : Phase) where
       ∙ sym (help-solutions help some)
 
   help-once : is_help problem.stipulation.form ≡ true → 1 ≤ phase_half_moves problem phase → (d : ℕ) → d ≤ phase_half_moves problem phase
-      → (s : List (List Triple)) → Contains (solutions rule problem phase) s
+      → (s : List (List Move)) → Contains (solutions rule problem phase) s
       → length (filter (λ front. begins_so front s) (beginnings (game_of rule problem) d (phase_start problem phase))) ≡ 1
   help-once help some d most s c =
       let w = from_map (λ path. path ∷ []) (lines_to_goal (game_of rule problem) (phase_half_moves problem phase) (phase_start problem phase)) s
@@ -94,12 +94,12 @@ module _ (rule : RuleSet) (problem : Posed) (phase : Phase) where
   beginnings-each = flat_map_single (λ m. m ∷ []) (legal_moves rule (phase_start problem phase))
 
 module _ (rule : RuleSet) (problem : Posed) where
-  by-joined : (phase : Phase) (h : ℕ) (ms : List Triple) → flat_map (λ m. battle-by rule problem phase h (m ∷ [])) ms ≡ battle-by rule problem phase h ms
+  by-joined : (phase : Phase) (h : ℕ) (ms : List Move) → flat_map (λ m. battle-by rule problem phase h (m ∷ [])) ms ≡ battle-by rule problem phase h ms
   by-joined Set h ms = each-own _ _ ms
   by-joined Play h ms = each-own _ _ ms
 
-  by-roots : (phase : Phase) (h : ℕ) (ms : List Triple) (s : List (List Triple)) → Contains (battle-by rule problem phase h ms) s
-      → (m : Triple) × (below : List (List Triple)) × Contains ms m × ((m ∷ []) ∷ below ≡ s)
+  by-roots : (phase : Phase) (h : ℕ) (ms : List Move) (s : List (List Move)) → Contains (battle-by rule problem phase h ms) s
+      → (m : Move) × (below : List (List Move)) × Contains ms m × ((m ∷ []) ∷ below ≡ s)
   by-roots Set h ms s c = let w = from_map _ _ s c in let f = from_filter _ ms w.0 w.1 in (w.0, _, f.0, w.2)
   by-roots Play h ms s c = let w = from_map _ _ s c in let f = from_filter _ ms w.0 w.1 in (w.0, _, f.0, w.2)
 
@@ -114,7 +114,7 @@ module _ (rule : RuleSet) (problem : Posed) where
       ∙ by-joined phase h ms ∙ sym (battle-solutions rule problem battle phase h z)
 
   battle-once : is_help problem.stipulation.form ≡ false → (phase : Phase) (h : ℕ) → phase_half_moves problem phase ≡ suc h
-      → (s : List (List Triple)) → Contains (solutions rule problem phase) s
+      → (s : List (List Move)) → Contains (solutions rule problem phase) s
       → length (filter (λ front. begins_so front s) (beginnings (game_of rule problem) 1 (phase_start problem phase))) ≡ 1
   battle-once battle phase h z s c =
       let w = by-roots phase h (legal_moves rule (phase_start problem phase)) s (rw (battle-solutions rule problem battle phase h z) at c) in
@@ -145,7 +145,7 @@ module _ (rule : RuleSet) (problem : Posed) where
     joined = all-joined (phase_half_moves problem phase) refl (is_help problem.stipulation.form) refl
 
     all-once : (h : ℕ) → phase_half_moves problem phase ≡ h → (b : Bool) → is_help problem.stipulation.form ≡ b
-        → (s : List (List Triple)) → Contains (solutions rule problem phase) s
+        → (s : List (List Move)) → Contains (solutions rule problem phase) s
         → length (filter (λ front. begins_so front s) (parts rule problem phase depth)) ≡ 1
     all-once zero z b e s c = absurd (none_in_nil s (rw (none-solved sound phase z) at c))
     all-once (suc h) z true help s c =
@@ -155,6 +155,6 @@ module _ (rule : RuleSet) (problem : Posed) where
         ap (λ fronts. length (filter (λ front. begins_so front s) fronts)) (parts-battle rule problem phase depth free (omega (arith, z)) battle)
         ∙ battle-once battle phase h z s c
 
-    pub once : (s : List (List Triple)) → Contains (solutions rule problem phase) s
+    pub once : (s : List (List Move)) → Contains (solutions rule problem phase) s
         → length (filter (λ front. begins_so front s) (parts rule problem phase depth)) ≡ 1
     once s c = all-once (phase_half_moves problem phase) refl (is_help problem.stipulation.form) refl s c

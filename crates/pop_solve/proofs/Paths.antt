@@ -1,6 +1,6 @@
 -- The path to the top frame, and what is shown of it.
-use Rattle.pop_solve.proofs.Words.{CameFrom, CameFromAt, Frame, Goal, IsEnded, IsLinked, IsWalking, List, Plan, Position, RuleSet, Triple, [], ap, arith, chess, cond, drop, ends_variation, get_or, legal, length, length-append, length-reverse, length-take, path, position, reach, refl, reverse, reverse-append, rules, show, shown_along, shown_last, subst, sym, take, take-append-drop, take_all, take_more, true, ℕ, ◌++◌, ◌+◌, ◌-◌, ◌<◌, ◌∙◌, ◌∷◌, ◌≡◌, ◌≤◌}
-use Rattle.chess_rules.specs.Play.{after as played}
+use Rattle.pop_solve.proofs.Words.{CameFrom, CameFromAt, Frame, Goal, IsEnded, IsLinked, IsWalking, List, Move, Plan, Position, RuleSet, [], ap, arith, chess, cond, drop, ends_variation, get_or, is_legal, length, length-append, length-reverse, length-take, path, path_end, position, refl, reverse, reverse-append, rules, shown_along, shown_last, shown_move, subst, sym, take, take-append-drop, take_all, take_more, true, ℕ, ◌++◌, ◌+◌, ◌-◌, ◌<◌, ◌∙◌, ◌∷◌, ◌≡◌, ◌≤◌}
+use Rattle.chess_rules.specs.Play.{position_after}
 use Rattle.pop_solve.proofs.Outcomes.{CameFrom-deep, walking-close}
 use Rattle.pop_solve.specs.declared.chess.Reached.{Reached}
 use Rattle.pop_solve.specs.declared.chess.Reached.TheVariants.{Perhaps, Surely}
@@ -22,43 +22,45 @@ unfolding path
 path-more f fs some = search rules
 
 module _ (goal : Goal) (rule : RuleSet) where
-  pub reach-append : (p : Position) (xs : List Triple) (m : Triple) → reach (played rule) p (xs ++ m ∷ []) ≡ played rule (reach (played rule) p xs) m
-  reach-append p [] m = refl
-  reach-append p (x ∷ xs) m = reach-append (played rule p x) xs m
+  pub path_end-append : (p : Position) (xs : List Move) (m : Move) → path_end (position_after rule) p (xs ++ m ∷ [])
+      ≡ position_after rule (path_end (position_after rule) p xs) m
+  path_end-append p [] m = refl
+  path_end-append p (x ∷ xs) m = path_end-append (position_after rule p x) xs m
 
-  along-append : (p : Position) (xs : List Triple) (m : Triple)
-      → shown_along goal rule p (xs ++ m ∷ []) ≡ shown_along goal rule p xs ++ show goal rule (reach (played rule) p xs) m ∷ []
+  along-append : (p : Position) (xs : List Move) (m : Move)
+      → shown_along goal rule p (xs ++ m ∷ []) ≡ shown_along goal rule p xs ++ shown_move goal rule (path_end (position_after rule) p xs) m ∷ []
   along-append p [] m = refl
-  along-append p (x ∷ xs) m = ap (λ ys. show goal rule p x ∷ ys) (along-append (played rule p x) xs m)
+  along-append p (x ∷ xs) m = ap (λ ys. shown_move goal rule p x ∷ ys) (along-append (position_after rule p x) xs m)
 
-  last-append : (p : Position) (xs : List Triple) (m : Triple) → shown_last goal rule p (xs ++ m ∷ []) ≡ show goal rule (reach (played rule) p xs) m
+  last-append : (p : Position) (xs : List Move) (m : Move) → shown_last goal rule p (xs ++ m ∷ [])
+      ≡ shown_move goal rule (path_end (position_after rule) p xs) m
   last-append p [] m = refl
   last-append p (x ∷ []) m = refl
-  last-append p (x ∷ (y ∷ xs)) m = last-append (played rule p x) (y ∷ xs) m
+  last-append p (x ∷ (y ∷ xs)) m = last-append (position_after rule p x) (y ∷ xs) m
 
   -- the path leads to the position
-  pub reach-path : (p : Position) (frames : List Frame) → position rule p frames ≡ reach (played rule) p (path frames)
+  pub path_end-path : (p : Position) (frames : List Frame) → position rule p frames ≡ path_end (position_after rule) p (path frames)
   unfolding position path
-  reach-path p [] = search rules
-  reach-path p (f ∷ []) = search rules
-  reach-path p (f ∷ (g ∷ below)) = search (rules, reach-append, reach-path p (g ∷ below))
+  path_end-path p [] = search rules
+  path_end-path p (f ∷ []) = search rules
+  path_end-path p (f ∷ (g ∷ below)) = search (rules, path_end-append, path_end-path p (g ∷ below))
 
   pub along-more : (p : Position) (f : Frame) (fs : List Frame) → 0 < length fs
-      → shown_along goal rule p (path (f ∷ fs)) ≡ shown_along goal rule p (path fs) ++ show goal rule (position rule p fs) f.by ∷ []
-  along-more p f fs some = search (rules, path-more, along-append, reach-path)
+      → shown_along goal rule p (path (f ∷ fs)) ≡ shown_along goal rule p (path fs) ++ shown_move goal rule (position rule p fs) f.by ∷ []
+  along-more p f fs some = search (rules, path-more, along-append, path_end-path)
 
   pub last-more : (p : Position) (f : Frame) (fs : List Frame) → 0 < length fs
-      → shown_last goal rule p (path (f ∷ fs)) ≡ show goal rule (position rule p fs) f.by
-  last-more p f fs some = rw (path-more f fs some, last-append p (path fs) f.by, reach-path p fs) refl
+      → shown_last goal rule p (path (f ∷ fs)) ≡ shown_move goal rule (position rule p fs) f.by
+  last-more p f fs some = rw (path-more f fs some, last-append p (path fs) f.by, path_end-path p fs) refl
 
 module _ (rule : RuleSet) where
-  pub position-more : (p : Position) (f : Frame) (fs : List Frame) → 0 < length fs → position rule p (f ∷ fs) ≡ played rule (position rule p fs) f.by
+  pub position-more : (p : Position) (f : Frame) (fs : List Frame) → 0 < length fs → position rule p (f ∷ fs) ≡ position_after rule (position rule p fs) f.by
   unfolding position
   position-more p f fs some = search rules
 
-  linked-legal : (p : Position) (f : Frame) (fs : List Frame) → 0 < length fs → IsLinked rule p (f ∷ fs) → legal rule (position rule p fs) f.by ≡ true
+  linked-is_legal : (p : Position) (f : Frame) (fs : List Frame) → 0 < length fs → IsLinked rule p (f ∷ fs) → is_legal rule (position rule p fs) f.by ≡ true
   unfolding IsLinked
-  linked-legal p f fs some l = search rules
+  linked-is_legal p f fs some l = search rules
 
   linked-cut : (p : Position) (xs ys : List Frame) → IsLinked rule p (xs ++ ys) → IsLinked rule p ys
   unfolding IsLinked
@@ -83,28 +85,28 @@ module _ (rule : RuleSet) where
         let T : List Frame → Type 0 = λ fs. IsWalking rule h p fs board in
         walking-close rule h p f (reverse lower) board after (subst T stacked r) (λ z. absurd (grind (arith, length-reverse))) (λ q z cf. before q cf)
 
-    pub forth-legal : (p : Position) → IsLinked rule p (reverse upper) → legal rule (position rule p (reverse lower)) f.by ≡ true
-    forth-legal p l = grind (arith, linked-legal, stacked, length-reverse)
+    pub forth-is_legal : (p : Position) → IsLinked rule p (reverse upper) → is_legal rule (position rule p (reverse lower)) f.by ≡ true
+    forth-is_legal p l = grind (arith, linked-is_legal, stacked, length-reverse)
 
-    pub forth-position : (p : Position) → position rule p (reverse upper) ≡ played rule (position rule p (reverse lower)) f.by
+    pub forth-position : (p : Position) → position rule p (reverse upper) ≡ position_after rule (position rule p (reverse lower)) f.by
     forth-position p = grind (arith, stacked, position-more, length-reverse)
 
     -- the move of the frame above leads back to its position, and to the goal where a variation ends there
     pub forth-again : (h : ℕ) (p board after : Position) → IsWalking rule h p (reverse upper) board → IsWalking rule h p (reverse lower) after
-        → played rule after f.by ≡ board
-    forth-again h p board after r s = ap (λ b. played rule b f.by) s.board_at ∙ sym (r.board_at ∙ forth-position p)
+        → position_after rule after f.by ≡ board
+    forth-again h p board after r s = ap (λ b. position_after rule b f.by) s.board_at ∙ sym (r.board_at ∙ forth-position p)
 
     pub forth-ended : (plan : Plan) (h : ℕ) (p board after : Position) → IsWalking rule h p (reverse upper) board
         → IsWalking rule h p (reverse lower) after → IsEnded rule plan (reverse upper) board → (b : Reached)
-        → b ≡ cond (ends_variation plan f.left) Surely Perhaps → b ≡ Surely → (chess plan.goal rule).goal (played rule after f.by) ≡ true
+        → b ≡ cond (ends_variation plan f.left) Surely Perhaps → b ≡ Surely → (chess plan.goal rule).goal (position_after rule after f.by) ≡ true
     forth-ended plan h p board after r s ended b e here = search (rules, forth-again, stacked)
 
     pub forth-along : (goal : Goal) (p : Position)
-        → shown_along goal rule p (path (reverse upper)) ≡ shown_along goal rule p (path (reverse lower)) ++ show goal rule
+        → shown_along goal rule p (path (reverse upper)) ≡ shown_along goal rule p (path (reverse lower)) ++ shown_move goal rule
         (position rule p (reverse lower)) f.by ∷ []
     forth-along goal p = grind (arith, stacked, along-more, length-reverse)
 
-    pub forth-last : (goal : Goal) (p : Position) → shown_last goal rule p (path (reverse upper)) ≡ show goal rule (position rule p (reverse lower)) f.by
+    pub forth-last : (goal : Goal) (p : Position) → shown_last goal rule p (path (reverse upper)) ≡ shown_move goal rule (position rule p (reverse lower)) f.by
     forth-last goal p = grind (arith, stacked, last-more, length-reverse)
 
   -- with one frame left, or none, the board stands on the first position

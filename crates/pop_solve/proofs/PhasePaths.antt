@@ -1,5 +1,5 @@
 -- The paths of a phase's solutions.
-use Rattle.pop_solve.proofs.Words.{AllPairs, Battle, Game, List, Phase, Play, Posed, Position, RuleSet, Set, Triple, [], ap, arith, battle_of, chess, drop, false, flat_map, flat_map-append, help_lines, is_help, map, pairs_front, phase_half_moves, phase_start, refl, set_tree, solutions, take, take-append-drop, tree, true, ℕ, ◌<◌, ◌∷◌, ◌≡◌}
+use Rattle.pop_solve.proofs.Words.{AllPairs, Battle, Game, List, Move, Phase, Play, Posed, Position, RuleSet, Set, [], ap, arith, battle_of, chess, drop, false, flat_map, flat_map-append, help_lines, is_help, map, pairs_front, phase_half_moves, phase_start, refl, set_tree, solutions, take, take-append-drop, tree, true, ℕ, ◌<◌, ◌∷◌, ◌≡◌}
 use Rattle.chess_core.specs.MoveOrder.{triple_number}
 
 -- each list by itself, joined
@@ -13,11 +13,11 @@ pub first_joined : {X : Type 0} (R : X → X → Type 0) (n : ℕ) (xss : List (
 first_joined R n xss pairs = pairs_front R (flat_map (λ s. s) (take n xss)) (flat_map (λ s. s) (drop n xss))
     (rw (← flat_map-append (λ s. s) (take n xss) (drop n xss), take-append-drop n xss) pairs)
 
-pub never_itself : (m : Triple) → triple_number m < triple_number m → ⊥
+pub never_itself : (m : Move) → triple_number m < triple_number m → ⊥
 never_itself m less = omega (arith, less)
 
 -- the game of a problem, and its battle
-abbrev pub game_of : RuleSet → Posed → Game Position Triple
+abbrev pub game_of : RuleSet → Posed → Game Position Move
 game_of rule problem = chess problem.stipulation.goal rule
 
 abbrev pub its_battle : Posed → Battle

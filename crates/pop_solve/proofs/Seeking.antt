@@ -1,6 +1,6 @@
 -- The walk over beginnings: what a step leaves of those still to come.
-use Rattle.pop_solve.proofs.Words.{AreKnown, CameFrom, CameFromAt, Frame, IfSome, IsLinked, IsPlaceIn, IsRoomy, IsWalking, IsWellFormed, LegalPlace, List, Loss, None, Option, Position, RuleSet, Some, Triple, [], after_well_formed, ap, append-nil, append_assoc, arith, false, is_some, legal, length, length-append, length-reverse, map, map-append, min, moves_behind, path, position, pseudo-from_legal, refl, reverse, rules, slice_get, subst, suc, sym, true, turns, undo_of, zero, ℕ, ◌++◌, ◌+◌, ◌-◌, ◌<◌, ◌^◌, ◌∙◌, ◌∷◌, ◌≡◌, ◌≢◌, ◌≤◌}
-use Rattle.chess_rules.specs.Play.{after as played}
+use Rattle.pop_solve.proofs.Words.{AreKnown, CameFrom, CameFromAt, Frame, IfSome, IsLinked, IsPlaceIn, IsRoomy, IsWalking, IsWellFormed, LegalPlace, List, Move, None, Option, Position, RuleSet, Some, Undo, [], after_well_formed, ap, append-nil, append_assoc, arith, false, is_legal, is_pseudo_legal-from_legal, is_some, length, length-append, length-reverse, map, map-append, min, moves_behind, path, position, refl, reverse, rules, slice_get, subst, suc, sym, true, turns, undo_of, zero, ℕ, ◌++◌, ◌+◌, ◌-◌, ◌<◌, ◌^◌, ◌∙◌, ◌∷◌, ◌≡◌, ◌≢◌, ◌≤◌}
+use Rattle.chess_rules.specs.Play.{position_after}
 use Rattle.pop_input.specs.declared.stipulation.Goal.{Goal}
 use Rattle.pop_solve.proofs.Boards.{behind_start}
 use Rattle.pop_solve.proofs.Outcomes.{CameFrom-deep, walking-close, walking-learned, walking-moved}
@@ -9,16 +9,16 @@ use Rattle.pop_solve.proofs.Walking.{popped}
 use Rattle.pop_solve.proofs.ToCome.{map-path, steps-start, steps_behind-next}
 use Rattle.pop_solve.specs.Chess.{chess}
 use Rattle.pop_solve.specs.Parts.{beginnings}
-use Rattle.pop_solve.specs.ties.Frames.{opened as opened_frame}
+use Rattle.pop_solve.specs.ties.Frames.{opened_frame}
 use Rattle.pop_solve.specs.ties.Beginnings.{FindsNumbered, IsSeeking, Seeks, are_idle, beginnings_by, beginnings_to_come}
 
 -- the beginnings by the next move, and by the others
-by-next : (goal : Goal) (rule : RuleSet) (k : ℕ) (P : Position) (m : Triple) (ms : List Triple)
-    → beginnings_by goal rule k P (m ∷ ms) ≡ map (λ rest. m ∷ rest) (beginnings (chess goal rule) k (played rule P m)) ++ beginnings_by goal rule k P ms
+by-next : (goal : Goal) (rule : RuleSet) (k : ℕ) (P : Position) (m : Move) (ms : List Move)
+    → beginnings_by goal rule k P (m ∷ ms) ≡ map (λ rest. m ∷ rest) (beginnings (chess goal rule) k (position_after rule P m)) ++ beginnings_by goal rule k P ms
 unfolding beginnings_by
 by-next goal rule k P m ms = refl
 
-deeper : (L : List Triple) (m : Triple) (xs ys rest : List (List Triple))
+deeper : (L : List Move) (m : Move) (xs ys rest : List (List Move))
     → map (λ line. L ++ line) (map (λ line. m ∷ line) xs ++ ys) ++ rest ≡ map (λ line. (L ++ m ∷ []) ++ line) xs ++ (map (λ line. L ++ line) ys ++ rest)
 deeper L m xs ys rest = rw (map-append (λ line. L ++ line) (map (λ line. m ∷ line) xs) ys, map-path L m xs)
     (append_assoc (map (λ line. (L ++ m ∷ []) ++ line) xs) (map (λ line. L ++ line) ys) rest)
@@ -28,7 +28,7 @@ beginnings-more : (goal : Goal) (rule : RuleSet) (k : ℕ) (q : Position)
 unfolding beginnings beginnings_by
 beginnings-more goal rule k q = rw (behind_start rule q) refl
 
-module _ (goal : Goal) (rule : RuleSet) (d : ℕ) (p : Position) (f : Frame) (next : ℕ) (m : Triple) (below : List Frame)
+module _ (goal : Goal) (rule : RuleSet) (d : ℕ) (p : Position) (f : Frame) (next : ℕ) (m : Move) (below : List Frame)
     (e : moves_behind rule (position rule p (f ∷ below)) f.place ≡ m ∷ moves_behind rule (position rule p (f ∷ below)) next) where
   -- the last move of a beginning
   come-found : length below + 1 ≡ d
@@ -39,7 +39,7 @@ module _ (goal : Goal) (rule : RuleSet) (d : ℕ) (p : Position) (f : Frame) (ne
       rw (k, e, by-next goal rule 0 (position rule p (f ∷ below)) m (moves_behind rule (position rule p (f ∷ below)) next)) (search rules)
 
   -- another one
-  come-deeper : (undo : Loss) → length below + 1 < d
+  come-deeper : (undo : Undo) → length below + 1 < d
       → beginnings_to_come goal rule d p (f ∷ below) ≡ beginnings_to_come goal rule d p (opened_frame m undo 0 ∷ (moved f next ∷ below))
   unfolding beginnings_to_come position path
   come-deeper undo less =
@@ -48,7 +48,7 @@ module _ (goal : Goal) (rule : RuleSet) (d : ℕ) (p : Position) (f : Frame) (ne
         k,
         e,
         by-next goal rule (suc (d - suc (length below) - 1)) (position rule p (f ∷ below)) m (moves_behind rule (position rule p (f ∷ below)) next),
-        beginnings-more goal rule (d - suc (length below) - 1) (played rule (position rule p (f ∷ below)) m),
+        beginnings-more goal rule (d - suc (length below) - 1) (position_after rule (position rule p (f ∷ below)) m),
       )
       (search (rules, deeper))
 
@@ -57,7 +57,7 @@ come-closed : (goal : Goal) (rule : RuleSet) (d : ℕ) (p : Position) (f : Frame
 unfolding beginnings_to_come beginnings_by
 come-closed goal rule d p f below e = rw e refl
 
-turns-found : (rule : RuleSet) (h : ℕ) (p : Position) (f : Frame) (next : ℕ) (m : Triple) (below : List Frame) → length below < h
+turns-found : (rule : RuleSet) (h : ℕ) (p : Position) (f : Frame) (next : ℕ) (m : Move) (below : List Frame) → length below < h
     → moves_behind rule (position rule p (f ∷ below)) f.place ≡ m ∷ moves_behind rule (position rule p (f ∷ below)) next
     → turns rule h p (moved f next ∷ below) < turns rule h p (f ∷ below)
 unfolding turns position
@@ -65,7 +65,7 @@ turns-found rule h p f next m below less e =
     let fuel : h - length below ≡ suc (h - length below - 1) = omega (arith, less) in
     rw (fuel, steps_behind-next rule (h - length below - 1) (position rule p (f ∷ below)) f.place next m e) (omega arith)
 
-turns-deeper : (rule : RuleSet) (h : ℕ) (p : Position) (f : Frame) (next : ℕ) (m : Triple) (below : List Frame) (undo : Loss) → length below + 1 < h
+turns-deeper : (rule : RuleSet) (h : ℕ) (p : Position) (f : Frame) (next : ℕ) (m : Move) (below : List Frame) (undo : Undo) → length below + 1 < h
     → moves_behind rule (position rule p (f ∷ below)) f.place ≡ m ∷ moves_behind rule (position rule p (f ∷ below)) next
     → turns rule h p (opened_frame m undo 0 ∷ (moved f next ∷ below)) < turns rule h p (f ∷ below)
 unfolding turns position
@@ -76,15 +76,15 @@ turns-deeper rule h p f next m below undo less e =
       k,
       l,
       steps_behind-next rule (h - length below - 1) (position rule p (f ∷ below)) f.place next m e,
-      steps-start rule (h - length below - 1) (played rule (position rule p (f ∷ below)) m),
+      steps-start rule (h - length below - 1) (position_after rule (position rule p (f ∷ below)) m),
     ) (omega arith)
 
-walking-idle : (rule : RuleSet) (h : ℕ) (p : Position) (f : Frame) (next : ℕ) (m : Triple) (below : List Frame) (board after : Position)
-    → IsWalking rule h p (f ∷ below) board → length below + 1 ≤ h → legal rule board m ≡ true → after ≡ played rule board m
+walking-idle : (rule : RuleSet) (h : ℕ) (p : Position) (f : Frame) (next : ℕ) (m : Move) (below : List Frame) (board after : Position)
+    → IsWalking rule h p (f ∷ below) board → length below + 1 ≤ h → is_legal rule board m ≡ true → after ≡ position_after rule board m
     → IsWalking rule h p (opened_frame m (undo_of rule board m) 0 ∷ (moved f next ∷ below)) after
 unfolding IsLinked IsRoomy AreKnown position
 walking-idle rule h p f next m below board after r less lawful e =
-    grind (arith, after_well_formed rule board m r.sound (pseudo-from_legal rule board m lawful), pseudo-from_legal rule board m lawful)
+    grind (arith, after_well_formed rule board m r.sound (is_pseudo_legal-from_legal rule board m lawful), is_pseudo_legal-from_legal rule board m lawful)
 
 idle-below : (f : Frame) (below : List Frame) → are_idle (f ∷ below) ≡ true → are_idle below ≡ true
 unfolding are_idle
@@ -94,7 +94,7 @@ idle-moved : (f : Frame) (place : ℕ) (below : List Frame) → are_idle (f ∷ 
 unfolding are_idle
 idle-moved f place below e = e
 
-idle-opened : (m : Triple) (undo : Loss) (below : List Frame) → are_idle below ≡ true → are_idle (opened_frame m undo 0 ∷ below) ≡ true
+idle-opened : (m : Move) (undo : Undo) (below : List Frame) → are_idle below ≡ true → are_idle (opened_frame m undo 0 ∷ below) ≡ true
 unfolding are_idle
 idle-opened m undo below e = e
 
@@ -159,9 +159,9 @@ module _ (rule : RuleSet) (h d : ℕ) (p : Position) (top : Frame) (old new : Li
     falls = turns-closed rule h p top (reverse new);
   })
 
-  module _ (known : Option LegalPlace) (place : ℕ) (m : Triple) (now : Position) (mid : List Frame) (e : now ≡ board)
+  module _ (known : Option LegalPlace) (place : ℕ) (m : Move) (now : Position) (mid : List Frame) (e : now ≡ board)
       (within : IfSome known (IsPlaceIn rule board))
-      (next : (moves_behind rule board top.place ≡ m ∷ moves_behind rule board place) × (legal rule board m ≡ true))
+      (next : (moves_behind rule board top.place ≡ m ∷ moves_behind rule board place) × (is_legal rule board m ≡ true))
       (put : mid ≡ new ++ moved (learned top known) place ∷ []) where
     abbrev f : Frame
     f = learned top known
@@ -191,7 +191,7 @@ module _ (rule : RuleSet) (h d : ℕ) (p : Position) (top : Frame) (old new : Li
           falls = rw (← turns-learned rule h p top known (reverse new)) (turns-found rule h p f place m (reverse new) (omega (arith, deep, s.room)) behind);
         })
 
-    pub seeks-deeper : (undo : Loss) (after : Position) (last : List Frame) → length mid ≢ d → undo ≡ undo_of rule now m → after ≡ played rule now m
+    pub seeks-deeper : (undo : Undo) (after : Position) (last : List Frame) → length mid ≢ d → undo ≡ undo_of rule now m → after ≡ position_after rule now m
         → last ≡ mid ++ opened_frame m undo 0 ∷ [] → Seeks rule h d p (reverse old) (reverse last) after None
     seeks-deeper undo after last other u a pushed =
         let size = ap length put ∙ length-append new (moved f place ∷ []) in
@@ -235,7 +235,7 @@ module _ (rule : RuleSet) (h d : ℕ) (p : Position) where
   counts-start old board s = record { seeking = s; fewer = λ goal. omega arith; counts = λ goal. omega arith }
 
   module _ (old mid new : List Frame) (board after : Position) where
-    pub numbered-on : (number left : ℕ) (o : Option Triple) → is_some o ≡ false → SeeksNumbered rule h d p old mid board number left
+    pub numbered-on : (number left : ℕ) (o : Option Move) → is_some o ≡ false → SeeksNumbered rule h d p old mid board number left
         → Seeks rule h d p mid new after o → SeeksNumbered rule h d p old new after number left
     numbered-on number left None none s x = record {
       seeking = x.seeking;
@@ -244,7 +244,7 @@ module _ (rule : RuleSet) (h d : ℕ) (p : Position) where
     }
     numbered-on number left (Some m) none s x = absurd cc
 
-    pub numbered-next : (number left next : ℕ) (o : Option Triple) → is_some o ≡ true → next + 1 ≡ left → left ≢ 1
+    pub numbered-next : (number left next : ℕ) (o : Option Move) → is_some o ≡ true → next + 1 ≡ left → left ≢ 1
         → SeeksNumbered rule h d p old mid board number left → Seeks rule h d p mid new after o → SeeksNumbered rule h d p old new after number next
     numbered-next number left next None some e other s x = absurd cc
     numbered-next number left zero (Some m) some e other s x = absurd (other (omega (arith, e)))
@@ -257,7 +257,7 @@ module _ (rule : RuleSet) (h d : ℕ) (p : Position) where
           same = λ goal. s.same goal ∙ rw (l, x.come goal, k1) refl;
         }
 
-    pub numbered-found : (number left : ℕ) (o : Option Triple) → is_some o ≡ true → left ≡ 1 → SeeksNumbered rule h d p old mid board number left
+    pub numbered-found : (number left : ℕ) (o : Option Move) → is_some o ≡ true → left ≡ 1 → SeeksNumbered rule h d p old mid board number left
         → Seeks rule h d p mid new after o → FindsNumbered rule h d p old new after number o
     numbered-found number left None some one s x = absurd cc
     numbered-found number left (Some m) some one s x =
@@ -267,7 +267,7 @@ module _ (rule : RuleSet) (h d : ℕ) (p : Position) where
           stands = (x.seeking, x.legal, x.full);
         }
 
-    pub counts-on : (count : ℕ) (o : Option Triple) → is_some o ≡ false → CountsOn rule h d p old mid board count → Seeks rule h d p mid new after o
+    pub counts-on : (count : ℕ) (o : Option Move) → is_some o ≡ false → CountsOn rule h d p old mid board count → Seeks rule h d p mid new after o
         → CountsOn rule h d p old new after count
     counts-on count None none s x = record {
       seeking = x.seeking;
@@ -276,7 +276,7 @@ module _ (rule : RuleSet) (h d : ℕ) (p : Position) where
     }
     counts-on count (Some m) none s x = absurd cc
 
-    pub counts-one : (count next : ℕ) (o : Option Triple) → is_some o ≡ true → next ≡ min (count + 1) (2 ^ 64 - 1) → CountsOn rule h d p old mid board count
+    pub counts-one : (count next : ℕ) (o : Option Move) → is_some o ≡ true → next ≡ min (count + 1) (2 ^ 64 - 1) → CountsOn rule h d p old mid board count
         → Seeks rule h d p mid new after o → CountsOn rule h d p old new after next
     counts-one count next None some e s x = absurd cc
     counts-one count next (Some m) some e s x = record {
@@ -299,7 +299,7 @@ pub no-frames : (frames : List Frame) → length frames ≡ 0 → reverse frames
 no-frames [] e = refl
 no-frames (f ∷ frames) e = absurd (omega (arith, e))
 
-map-none : (xs : List (List Triple)) → map (λ rest. [] ++ rest) xs ≡ xs
+map-none : (xs : List (List Move)) → map (λ rest. [] ++ rest) xs ≡ xs
 map-none [] = refl
 map-none (x ∷ xs) = ap (λ ys. x ∷ ys) (map-none xs)
 

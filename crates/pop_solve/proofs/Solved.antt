@@ -1,17 +1,17 @@
 -- What is to come from the root frame of a phase is the phase's solutions.
-use Rattle.pop_solve.proofs.Words.{Battle, Bool, Form, Frame, Game, IsSound, List, Phase, Plan, Play, Posed, RuleSet, Selfmate, Set, [], answers, ap, arith, battle_of, below, best, chess, cond, false, filter, flat_map, half_moves_of, help_lines, is_help, is_set, keep, keeps, length, list_all, map, moves_behind, nat_tests, node, phase_half_moves, phase_paths, phase_start, plan_of, refl, rules, seeks, set_shows, set_tree, shown, shows_variations, solutions, started, suc, sym, take, tree, tree_shown, true, value, varies, zero, ℕ, ◌++◌, ◌+◌, ◌-◌, ◌∙◌, ◌∷◌, ◌≡◌}
+use Rattle.pop_solve.proofs.Words.{Battle, Bool, Form, Frame, Game, IsSound, List, Phase, Plan, Play, Posed, RuleSet, Selfmate, Set, [], answers, ap, arith, battle_of, beginning_count, best_moves, chess, cond, false, filter, flat_map, half_moves_of, help_lines, is_help, is_set, keep, keeps, length, list_all, map, moves_behind, nat_tests, node, nodes_below, phase_half_moves, phase_paths, phase_start, plan_of, refl, rules, seeks, set_shows, set_tree, shown_paths, shows_variations, solutions, suc, sym, take, tree, tree_shown, true, value, varies, zero, ℕ, ◌++◌, ◌+◌, ◌-◌, ◌∙◌, ◌∷◌, ◌≡◌}
 use Rattle.pop_solve.specs.declared.aim.Battle.TheVariants.{Direct}
 use Rattle.chess_rules.specs.Legal.{moves as legal_moves}
 use Rattle.pop_solve.proofs.Sound.{some_way}
 use Rattle.pop_input.specs.declared.stipulation.Form.TheVariants.{Direct}
 use Rattle.pop_solve.proofs.Battles.{value-wins, value-self_wins}
-use Rattle.pop_solve.proofs.Trees.{flat-filter, shown-zero, shown-help, halves, keeps-value, half-some, halves-seek, seeks-step, flip, unflip, beneath, as_nodes, by_test, below-key, below-set}
-use Rattle.pop_solve.proofs.Kept.{keep-nil, started-nil, to_come-root}
+use Rattle.pop_solve.proofs.Trees.{as_nodes, beneath, by_test, flat-filter, flip, half-some, halves, halves-seek, keeps-value, nodes_below-key, nodes_below-set, seeks-step, shown_paths-help, shown_paths-zero, unflip}
+use Rattle.pop_solve.proofs.Kept.{keep-nil, beginning_count-nil, to_come-root}
 
 -- what is kept of a list of paths, and the solutions begun: `sols` are its solutions
 pub record IsCutInto {M : Type 0} (help : Bool) (n : ℕ) (paths : List (List M)) (sols : List (List (List M))) : Type 0 where
   pub kept : keep help n paths ≡ flat_map (λ solution. solution) (take n sols)
-  pub begun : started help n paths ≡ length (take n sols)
+  pub begun : beginning_count help n paths ≡ length (take n sols)
 
 -- help play: each path is a solution
 pub lines-kept : {M : Type 0} (n : ℕ) (xs : List (List M)) → keep true n xs ≡ flat_map (λ solution. solution) (take n (map (λ x. x ∷ []) xs))
@@ -21,8 +21,8 @@ lines-kept zero (x ∷ xs) = refl
 lines-kept (suc n) [] = refl
 lines-kept (suc n) (x ∷ xs) = ap (λ ys. x ∷ ys) (lines-kept n xs)
 
-pub lines-begun : {M : Type 0} (n : ℕ) (xs : List (List M)) → started true n xs ≡ length (take n (map (λ x. x ∷ []) xs))
-unfolding started
+pub lines-begun : {M : Type 0} (n : ℕ) (xs : List (List M)) → beginning_count true n xs ≡ length (take n (map (λ x. x ∷ []) xs))
+unfolding beginning_count
 lines-begun zero [] = refl
 lines-begun zero (x ∷ xs) = refl
 lines-begun (suc n) [] = refl
@@ -40,8 +40,9 @@ module _ {M : Type 0} where
   over-kept n m [] rest a = search rules
   over-kept n m (y ∷ ys) rest a = search (rules, nat_tests, over-kept n m ys rest)
 
-  over-begun : (n : ℕ) (m : M) (ys rest : List (List M)) → list_all some ys ≡ true → started false n (map (λ path. m ∷ path) ys ++ rest) ≡ started false n rest
-  unfolding started
+  over-begun : (n : ℕ) (m : M) (ys rest : List (List M)) → list_all some ys ≡ true
+      → beginning_count false n (map (λ path. m ∷ path) ys ++ rest) ≡ beginning_count false n rest
+  unfolding beginning_count
   over-begun n m [] rest a = refl
   over-begun n m (y ∷ ys) rest a = search (rules, nat_tests, over-begun n m ys rest)
 
@@ -54,8 +55,8 @@ module _ {M : Type 0} where
   nodes-kept X full (suc n) (m ∷ ms) = search (rules, over-kept, nodes-kept X full n ms)
 
   nodes-begun : (X : M → List (List M)) → ((m : M) → list_all some (X m) ≡ true) → (n : ℕ) (ms : List M)
-      → started false n (flat_map (λ m. node m (X m)) ms) ≡ length (take n (map (λ m. node m (X m)) ms))
-  unfolding started
+      → beginning_count false n (flat_map (λ m. node m (X m)) ms) ≡ length (take n (map (λ m. node m (X m)) ms))
+  unfolding beginning_count
   nodes-begun X full zero [] = refl
   nodes-begun X full zero (m ∷ ms) = refl
   nodes-begun X full (suc n) [] = refl
@@ -76,27 +77,27 @@ module _ {M : Type 0} where
 
 module _ {P M : Type 0} (game : Game P M) (plan : Plan) where
   -- no path that the walk gives is empty
-  shown-full : (root : Bool) (k left : ℕ) (p : P) (ms : List M) → list_all some (shown plan game root k left p ms) ≡ true
-  unfolding shown
-  shown-full root zero left p ms = search rules
-  shown-full root (suc k) zero p ms = search rules
-  shown-full root (suc k) (suc t) p [] = search rules
-  shown-full root (suc k) (suc t) p (m ∷ ms) = search (rules, all-append, all-over, shown-full root (suc k) (suc t) p ms)
+  shown_paths-full : (root : Bool) (k left : ℕ) (p : P) (ms : List M) → list_all some (shown_paths plan game root k left p ms) ≡ true
+  unfolding shown_paths
+  shown_paths-full root zero left p ms = search rules
+  shown_paths-full root (suc k) zero p ms = search rules
+  shown_paths-full root (suc k) (suc t) p [] = search rules
+  shown_paths-full root (suc k) (suc t) p (m ∷ ms) = search (rules, all-append, all-over, shown_paths-full root (suc k) (suc t) p ms)
 
   -- the root in battle play: those of its moves that pass the test, each with what stands below it
   root-cut : (battle : is_help plan.form ≡ false) (h n : ℕ) (p : P) (ms : List M) (other : M → Bool) (G : M → List (List M))
       → ((m : M) → value (battle_of plan.form) game h (game.after p m) ≡ other m)
       → ((m : M) → value (battle_of plan.form) game h (game.after p m) ≡ true → beneath game plan battle h h (game.after p m) ≡ G m)
-      → IsCutInto false n (shown plan game true (suc h) (suc h) p ms) (map (λ m. node m (G m)) (filter other ms))
+      → IsCutInto false n (shown_paths plan game true (suc h) (suc h) p ms) (map (λ m. node m (G m)) (filter other ms))
   root-cut battle h n p ms other G same each =
       let T : M → Bool = λ m. value (battle_of plan.form) game h (game.after p m) in
       let X : M → List (List M) = λ m. beneath game plan battle h h (game.after p m) in
-      let a : shown plan game true (suc h) (suc h) p ms ≡ flat_map (λ m. node m (X m)) (filter T ms) =
+      let a : shown_paths plan game true (suc h) (suc h) p ms ≡ flat_map (λ m. node m (X m)) (filter T ms) =
       as_nodes game plan battle true h h p ms
       ∙ flat-filter _ T (λ m. node m (X m)) (λ m. node m (X m)) ms (λ m. by_test game plan battle true h (game.after p m) refl) (λ m t. refl) in
       let b : map (λ m. node m (X m)) (filter T ms) ≡ map (λ m. node m (G m)) (filter other ms) =
       map-filter T other _ _ ms same (λ m t. ap (node m) (each m t)) in
-      let full : (m : M) → list_all some (X m) ≡ true = grind (arith, shown-full) in
+      let full : (m : M) → list_all some (X m) ≡ true = grind (arith, shown_paths-full) in
       grind (arith, nodes-kept, ms, nodes-begun X full n (filter T ms))
 
 -- half-moves of a battle
@@ -107,12 +108,12 @@ module _ {P M : Type 0} where
   -- the solutions that begin with some moves of the root: in the play, and in set play
   abbrev pub tree_by : Battle → Game P M → Bool → ℕ → ℕ → P → List M → List (List (List M))
   tree_by battle game variation n h p ms =
-      map (λ m. node m (cond variation (below battle game n (h - 1) (game.after p m)) [])) (filter (λ m. keeps battle game n (game.after p m)) ms)
+      map (λ m. node m (cond variation (nodes_below battle game n (h - 1) (game.after p m)) [])) (filter (λ m. keeps battle game n (game.after p m)) ms)
 
   abbrev pub set_by : Battle → Game P M → Bool → ℕ → ℕ → P → List M → List (List (List M))
   set_by battle game variation n h p ms =
       map (λ d. node d (cond variation (answers battle game n h (game.after p d))
-      (cond (game.goal (game.after p d)) [] (map (λ m. m ∷ []) (best battle game n (game.after p d))))))
+      (cond (game.goal (game.after p d)) [] (map (λ m. m ∷ []) (best_moves battle game n (game.after p d))))))
       (filter (λ d. set_shows battle game n (game.after p d)) ms)
 
 module _ {P M : Type 0} (game : Game P M) (plan : Plan) (battle : is_help plan.form ≡ false) where
@@ -122,7 +123,7 @@ module _ {P M : Type 0} (game : Game P M) (plan : Plan) (battle : is_help plan.f
 
   -- the play: the tree
   pub tree-cut : (n h max : ℕ) (p : P) (ms : List M) → suc h ≡ halves (battle_of plan.form) n
-      → IsCutInto false max (shown plan game true (suc h) (suc h) p ms) (tree_by (battle_of plan.form) game (varies plan) n (suc h) p ms)
+      → IsCutInto false max (shown_paths plan game true (suc h) (suc h) p ms) (tree_by (battle_of plan.form) game (varies plan) n (suc h) p ms)
   tree-cut n h max p ms e =
       let k = half-some game (battle_of plan.form) n (omega (arith, e)) in
       let e2 : suc h ≡ halves (battle_of plan.form) (suc k.0) = e ∙ ap (halves (battle_of plan.form)) k.1 in
@@ -131,11 +132,11 @@ module _ {P M : Type 0} (game : Game P M) (plan : Plan) (battle : is_help plan.f
       let s : seeks (battle_of plan.form) (suc h) ≡ true = rw e2 (halves-seek game (battle_of plan.form) k.0) in
       let same : (m : M) → value (battle_of plan.form) game h (game.after p m) ≡ keeps (battle_of plan.form) game n (game.after p m) =
       grind (arith, keeps-value) in
-      rw one (root-cut game plan battle h max p ms _ _ same (λ m v. below-key game plan battle n h (game.after p m) s (grind arith) v))
+      rw one (root-cut game plan battle h max p ms _ _ same (λ m v. nodes_below-key game plan battle n h (game.after p m) s (grind arith) v))
 
   -- set play
   pub set-cut : (n h max : ℕ) (p : P) (ms : List M) → suc h ≡ halves (battle_of plan.form) n - 1
-      → IsCutInto false max (shown plan game true (suc h) (suc h) p ms) (set_by (battle_of plan.form) game (varies plan) n h p ms)
+      → IsCutInto false max (shown_paths plan game true (suc h) (suc h) p ms) (set_by (battle_of plan.form) game (varies plan) n h p ms)
   set-cut n h max p ms e =
       let k = half-some game (battle_of plan.form) n (omega (arith, e)) in
       let e2 : suc h + 1 ≡ halves (battle_of plan.form) (suc k.0) = omega (arith, e, ap (halves (battle_of plan.form)) k.1) in
@@ -145,37 +146,37 @@ module _ {P M : Type 0} (game : Game P M) (plan : Plan) (battle : is_help plan.f
       let s2 : seeks (battle_of plan.form) (h + 1) ≡ false = rw (← one) s1 in
       let s3 : seeks (battle_of plan.form) h ≡ true = unflip game _ (sym (seeks-step game (battle_of plan.form) h) ∙ s2) in
       root-cut game plan battle h max p ms _ _ (λ m. set_value (battle_of plan.form) n h (game.after p m) e)
-      (λ m v. below-set game plan battle n h (game.after p m) s3 (grind arith) v)
+      (λ m v. nodes_below-set game plan battle n h (game.after p m) s3 (grind arith) v)
 
 -- a phase of no half-moves
 none-cut : {M : Type 0} (help : Bool) (n : ℕ) → IsCutInto {M = M} help n [] []
-none-cut {M = M} help n = search (rules, keep-nil, started-nil)
+none-cut {M = M} help n = search (rules, keep-nil, beginning_count-nil)
 
-pub shown-varied : (variation : Bool) → shows_variations (tree_shown variation) ≡ variation
-shown-varied variation = search rules
+pub shown_paths-varied : (variation : Bool) → shows_variations (tree_shown variation) ≡ variation
+shown_paths-varied variation = search rules
 
 module _ (rule : RuleSet) (problem : Posed) (stated : IsSound problem) where
   abbrev plan : Plan
   plan = plan_of problem
 
   cut : (phase : Phase) (help : Bool) → is_help problem.stipulation.form ≡ help → (h : ℕ) → phase_half_moves problem phase ≡ h
-      → IsCutInto help problem.max_solutions (shown plan (chess problem.stipulation.goal rule) true h h (phase_start problem phase) (legal_moves rule
+      → IsCutInto help problem.max_solutions (shown_paths plan (chess problem.stipulation.goal rule) true h h (phase_start problem phase) (legal_moves rule
       (phase_start problem phase))) (cond help (map (λ path. path ∷ []) (help_lines (chess problem.stipulation.goal rule) h (phase_start problem phase))) (cond
       (is_set phase) (set_tree (battle_of problem.stipulation.form) (chess problem.stipulation.goal rule) problem.variation problem.stipulation.n h (phase_start
       problem phase)) (tree (battle_of problem.stipulation.form) (chess problem.stipulation.goal rule) problem.variation problem.stipulation.n h (phase_start
       problem phase))))
   unfolding help_lines set_tree
-  cut phase true e zero z = search (rules, shown-zero, none-cut)
-  cut phase true e (suc h) z = rw (shown-help (chess problem.stipulation.goal rule) plan e true h (phase_start problem phase))
+  cut phase true e zero z = search (rules, shown_paths-zero, none-cut)
+  cut phase true e (suc h) z = rw (shown_paths-help (chess problem.stipulation.goal rule) plan e true h (phase_start problem phase))
       (record { kept = lines-kept problem.max_solutions _; begun = lines-begun problem.max_solutions _ })
-  cut Set false e zero z = search (rules, shown-zero, none-cut)
+  cut Set false e zero z = search (rules, shown_paths-zero, none-cut)
   cut Set false e (suc h) z =
-      rw (shown-varied problem.variation) at (set-cut (chess problem.stipulation.goal rule) plan e problem.stipulation.n h problem.max_solutions
+      rw (shown_paths-varied problem.variation) at (set-cut (chess problem.stipulation.goal rule) plan e problem.stipulation.n h problem.max_solutions
       (phase_start problem Set) (legal_moves rule (phase_start problem Set))
       (sym z ∙ ap (λ x. x - 1) (halves-form problem.stipulation.form problem.stipulation.n e)))
   cut Play false e zero z = absurd (omega (arith, z, some_way problem stated))
   cut Play false e (suc h) z =
-      rw (shown-varied problem.variation) at (tree-cut (chess problem.stipulation.goal rule) plan e problem.stipulation.n h problem.max_solutions
+      rw (shown_paths-varied problem.variation) at (tree-cut (chess problem.stipulation.goal rule) plan e problem.stipulation.n h problem.max_solutions
       (phase_start problem Play) (legal_moves rule (phase_start problem Play)) (sym z ∙ halves-form problem.stipulation.form problem.stipulation.n e))
 
   -- what is to come from the root frame of a phase

@@ -1,7 +1,7 @@
 -- One turn of a test over frames.
-use Rattle.pop_solve.proofs.Words.{AreKnown, Bool, CameFrom, CameFromAt, Ends, Frame, HasCounted, IfNone, IfSome, IsCut, IsLinked, IsOpenedOn, IsPlaceIn, IsTesting, IsWellFormed, Killer, LegalPlace, List, Loss, MatchOption, None, Option, Order, Position, RuleSet, Some, Triple, Turns, [], after_well_formed, ahead, ap, arith, cases_lt, chess, cond, deliver, drop, drop-append-le, inl, inr, join, joined, least_of, legal, length, length-append, length-drop, length-reverse}
-use Rattle.pop_solve.proofs.Words.{list_all, list_any, min, not, pending, position, pseudo-from_legal, refl, reverse, reverse-append, rules, seeks, smallest_below, smallest_tree, steps, steps_among, subst, suc, sum_by, sum_by-cons, sym, take, take-append-le, take_all, tested, tests, to_test, to_try, to_try_with, top_left, true, undo_of, untried, value, walk_among, walk_count, work, ℕ, ◌&&◌, ◌++◌, ◌+◌, ◌-◌, ◌<◌, ◌^◌, ◌||◌, ◌∙◌, ◌∷◌, ◌≡◌, ◌≤◌, ◌⊎◌}
-use Rattle.chess_rules.specs.Play.{after as played}
+use Rattle.pop_solve.proofs.Words.{AreKnown, Bool, CameFrom, CameFromAt, Ends, Frame, HasCounted, IfNone, IfSome, IsCut, IsLinked, IsOpenedOn, IsPlaceIn, IsTesting, IsWellFormed, Killer, LegalPlace, List, MatchOption, Move, None, Option, Order, Position, RuleSet, Some, Turns, Undo, [], after_well_formed, ap, arith, cases_lt, chess, cond, delivered_value, drop, drop-append-le, inl, inr, is_legal, join, joined_value, least_of, length, length-append, length-drop, length-reverse, moves_ahead}
+use Rattle.pop_solve.proofs.Words.{is_pseudo_legal-from_legal, list_all, list_any, min, not, pending_value, position, refl, reverse, reverse-append, rules, seeks, smallest_below, smallest_tree, steps, steps_among, subst, suc, sum_by, sum_by-cons, sym, take, take-append-le, take_all, tested_frame, tests, to_test, to_try, to_try_with, top_left, true, undo_of, untried_moves, value, walk_among, walk_count, work, ℕ, ◌&&◌, ◌++◌, ◌+◌, ◌-◌, ◌<◌, ◌^◌, ◌||◌, ◌∙◌, ◌∷◌, ◌≡◌, ◌≤◌, ◌⊎◌}
+use Rattle.chess_rules.specs.Play.{position_after}
 use Rattle.chess_rules.specs.Legal.{moves as legal_moves}
 use Rattle.pop_solve.specs.declared.aim.Aim.{Aim}
 use Rattle.pop_solve.proofs.Orders.{same_start}
@@ -22,64 +22,65 @@ passed f place s known = record f { place = place; stretch = s; known = known }
 
 -- the moves of a frame that is opened are all its position's moves, in another order
 module _ (rule : RuleSet) (q : Position) (o : Order) where
-  abbrev pub first : List Triple
-  first = ahead rule q o Killer (o.killer - 1)
+  abbrev pub first : List Move
+  first = moves_ahead rule q o Killer (o.killer - 1)
 
-  any-start : (test : Triple → Bool) → list_any test first ≡ list_any test (legal_moves rule q)
+  any-start : (test : Move → Bool) → list_any test first ≡ list_any test (legal_moves rule q)
   any-start test = same_start rule q o (λ m c. test m || c) (list_any test) (λ m ms. refl) (λ m n c. grind arith)
 
-  all-start : (test : Triple → Bool) → list_all test first ≡ list_all test (legal_moves rule q)
+  all-start : (test : Move → Bool) → list_all test first ≡ list_all test (legal_moves rule q)
   all-start test = same_start rule q o (λ m c. test m && c) (list_all test) (λ m ms. refl) (λ m n c. grind arith)
 
-  sum-start : (f : Triple → ℕ) → sum_by f first ≡ sum_by f (legal_moves rule q)
+  sum-start : (f : Move → ℕ) → sum_by f first ≡ sum_by f (legal_moves rule q)
   sum-start f = same_start rule q o (λ m c. f m + c) (sum_by f) (sum_by-cons f) (λ m n c. omega arith)
 
-  least-start : (test : Triple → Bool) (f : Triple → ℕ) (n : ℕ) → least_of test f n first ≡ least_of test f n (legal_moves rule q)
+  least-start : (test : Move → Bool) (f : Move → ℕ) (n : ℕ) → least_of test f n first ≡ least_of test f n (legal_moves rule q)
   unfolding least_of
   least-start test f n = same_start rule q o (λ m c. cond (test m) (min (f m) c) c) (least_of test f n) (λ m ms. refl) (λ m k c. grind arith)
 
 module _ (rule : RuleSet) (aim : Aim) where
   -- the value of some moves of a position
-  abbrev pub rest : ℕ → Position → List Triple → Bool
-  rest left P ms = joined aim.battle (chess aim.goal rule) left P ms
+  abbrev pub rest : ℕ → Position → List Move → Bool
+  rest left P ms = joined_value aim.battle (chess aim.goal rule) left P ms
 
-  rest-none : (left : ℕ) (P : Position) (ms : List Triple) → 0 < left → ms ≡ [] → rest left P ms ≡ not (seeks aim.battle left)
-  unfolding joined
+  rest-none : (left : ℕ) (P : Position) (ms : List Move) → 0 < left → ms ≡ [] → rest left P ms ≡ not (seeks aim.battle left)
+  unfolding joined_value
   rest-none left P ms some e = search rules
 
-  rest-next : (t : ℕ) (P : Position) (ms more : List Triple) (m : Triple) → ms ≡ m ∷ more
-      → rest (suc t) P ms ≡ join (seeks aim.battle (suc t)) (value aim.battle (chess aim.goal rule) t (played rule P m)) (rest (suc t) P more)
-  unfolding joined
+  rest-next : (t : ℕ) (P : Position) (ms more : List Move) (m : Move) → ms ≡ m ∷ more
+      → rest (suc t) P ms ≡ join (seeks aim.battle (suc t)) (value aim.battle (chess aim.goal rule) t (position_after rule P m)) (rest (suc t) P more)
+  unfolding joined_value
   rest-next t P ms more m e = search rules
 
   rest-start : (t : ℕ) (q : Position) (o : Order) → rest t q (first rule q o) ≡ rest t q (legal_moves rule q)
-  unfolding joined
+  unfolding joined_value
   rest-start t q o = search (rules, any-start, all-start)
 
   -- a frame that its last answer decides, and one that it doesn't
-  pub pending-decided : (p : Position) (f : Frame) (below : List Frame) (answer : Option Bool) → answer ≡ Some (seeks aim.battle f.left)
-      → pending rule aim p (f ∷ below) answer ≡ deliver rule aim p below (seeks aim.battle f.left)
-  unfolding pending deliver
-  pending-decided p f below answer e = grind arith
+  pub pending_value-decided : (p : Position) (f : Frame) (below : List Frame) (answer : Option Bool) → answer ≡ Some (seeks aim.battle f.left)
+      → pending_value rule aim p (f ∷ below) answer ≡ delivered_value rule aim p below (seeks aim.battle f.left)
+  unfolding pending_value delivered_value
+  pending_value-decided p f below answer e = grind arith
 
-  pub pending-undecided : (p : Position) (f : Frame) (below : List Frame) (answer : Option Bool)
+  pub pending_value-undecided : (p : Position) (f : Frame) (below : List Frame) (answer : Option Bool)
       → (answer ≡ None) ⊎ (answer ≡ Some (not (seeks aim.battle f.left)))
-      → pending rule aim p (f ∷ below) answer ≡ deliver rule aim p below
-      (rest f.left (position rule p (f ∷ below)) (untried rule (position rule p (f ∷ below)) f))
-  unfolding pending deliver
-  pending-undecided p f below answer e = search rules
+      → pending_value rule aim p (f ∷ below) answer ≡ delivered_value rule aim p below
+      (rest f.left (position rule p (f ∷ below)) (untried_moves rule (position rule p (f ∷ below)) f))
+  unfolding pending_value delivered_value
+  pending_value-undecided p f below answer e = search rules
 
-  pub deliver-some : (p : Position) (below : List Frame) (v : Bool) → 0 < length below → deliver rule aim p below v ≡ pending rule aim p below (Some v)
-  unfolding pending
-  deliver-some p below v some = search rules
+  pub delivered_value-some : (p : Position) (below : List Frame) (v : Bool) → 0 < length below
+      → delivered_value rule aim p below v ≡ pending_value rule aim p below (Some v)
+  unfolding pending_value
+  delivered_value-some p below v some = search rules
 
-  pub deliver-none : (p : Position) (below : List Frame) (v : Bool) → length below ≡ 0 → deliver rule aim p below v ≡ v
-  unfolding deliver
-  deliver-none p [] v none = refl
-  deliver-none p (g ∷ below) v none = absurd (omega (arith, none))
+  pub delivered_value-none : (p : Position) (below : List Frame) (v : Bool) → length below ≡ 0 → delivered_value rule aim p below v ≡ v
+  unfolding delivered_value
+  delivered_value-none p [] v none = refl
+  delivered_value-none p (g ∷ below) v none = absurd (omega (arith, none))
 
   -- the same of the positions that have to be tried
-  abbrev pub fewest : ℕ → Position → List Triple → ℕ
+  abbrev pub fewest : ℕ → Position → List Move → ℕ
   fewest left P ms = smallest_below aim.battle (chess aim.goal rule) left P ms
 
   same-fewest : (t : ℕ) (q : Position) (o : Order) → fewest t q (first rule q o) ≡ fewest t q (legal_moves rule q)
@@ -95,8 +96,9 @@ module _ (rule : RuleSet) (aim : Aim) where
   try-decided p f below answer e = grind arith
 
   pub try-undecided : (p : Position) (f : Frame) (below : List Frame) (answer : Option Bool) → (answer ≡ None) ⊎ (answer ≡ Some (not (seeks aim.battle f.left)))
-      → to_try rule aim p (f ∷ below) answer ≡ fewest f.left (position rule p (f ∷ below)) (untried rule (position rule p (f ∷ below)) f) + to_try_with rule aim
-      p below (rest f.left (position rule p (f ∷ below)) (untried rule (position rule p (f ∷ below)) f))
+      → to_try rule aim p (f ∷ below) answer ≡ fewest f.left (position rule p (f ∷ below)) (untried_moves rule (position rule p (f ∷ below)) f) + to_try_with
+      rule aim
+      p below (rest f.left (position rule p (f ∷ below)) (untried_moves rule (position rule p (f ∷ below)) f))
   unfolding to_try to_try_with
   try-undecided p f below answer e = search rules
 
@@ -113,64 +115,73 @@ module _ (rule : RuleSet) (aim : Aim) where
   unfolding steps steps_among
   steps-start t q o = search (rules, sum-start)
 
-  steps-next : (t : ℕ) (P : Position) (ms more : List Triple) (m : Triple) → ms ≡ m ∷ more
-      → steps_among rule (suc t) P ms ≡ (1 + steps rule t (played rule P m)) + steps_among rule (suc t) P more
+  steps-next : (t : ℕ) (P : Position) (ms more : List Move) (m : Move) → ms ≡ m ∷ more
+      → steps_among rule (suc t) P ms ≡ (1 + steps rule t (position_after rule P m)) + steps_among rule (suc t) P more
   unfolding steps_among
-  steps-next t P ms more m e = rw e (sum_by-cons (λ x. 1 + steps rule t (played rule P x)) m more)
+  steps-next t P ms more m e = rw e (sum_by-cons (λ x. 1 + steps rule t (position_after rule P x)) m more)
 
-  walk_count-start : (t : ℕ) (q : Position) (o : Order) → 0 < t → walk_count (legal_moves rule) (played rule) t q ≡ 1 + walk_among rule t q (first rule q o)
+  walk_count-start : (t : ℕ) (q : Position) (o : Order) → 0 < t → walk_count (legal_moves rule) (position_after rule) t q
+      ≡ 1 + walk_among rule t q (first rule q o)
   unfolding walk_count walk_among
   walk_count-start t q o some = search (rules, sum-start)
 
-  walk-next : (t : ℕ) (P : Position) (ms more : List Triple) (m : Triple) → ms ≡ m ∷ more
-      → walk_among rule (suc t) P ms ≡ walk_count (legal_moves rule) (played rule) t (played rule P m) + walk_among rule (suc t) P more
+  walk-next : (t : ℕ) (P : Position) (ms more : List Move) (m : Move) → ms ≡ m ∷ more
+      → walk_among rule (suc t) P ms ≡ walk_count (legal_moves rule) (position_after rule) t (position_after rule P m) + walk_among rule (suc t) P more
   unfolding walk_among
-  walk-next t P ms more m e = rw e (sum_by-cons (λ x. walk_count (legal_moves rule) (played rule) t (played rule P x)) m more)
+  walk-next t P ms more m e = rw e (sum_by-cons (λ x. walk_count (legal_moves rule) (position_after rule) t (position_after rule P x)) m more)
 
-  module _ (p : Position) (f : Frame) (below : List Frame) (next : ℕ) (s : Stretch) (m : Triple) (t : ℕ) (kn : Option LegalPlace) (left : f.left ≡ suc t)
-      (e : untried rule (position rule p (f ∷ below)) f ≡ m ∷ ahead rule (position rule p (f ∷ below)) f.order s next) where
+  module _ (p : Position) (f : Frame) (below : List Frame) (next : ℕ) (s : Stretch) (m : Move) (t : ℕ) (kn : Option LegalPlace) (left : f.left ≡ suc t)
+      (e : untried_moves rule (position rule p (f ∷ below)) f ≡ m ∷ moves_ahead rule (position rule p (f ∷ below)) f.order s next) where
     abbrev P : Position
     P = position rule p (f ∷ below)
 
     -- the value of the position after the move decides with the moves still untried
-    deliver-next : deliver rule aim p below (rest f.left P (untried rule P f)) ≡ deliver rule aim p (passed f next s kn ∷ below)
-        (value aim.battle (chess aim.goal rule) t (played rule P m))
-    unfolding deliver position
-    deliver-next = search (rules, rest-next)
+    delivered_value-next : delivered_value rule aim p below (rest f.left P (untried_moves rule P f)) ≡ delivered_value rule aim p (passed f next s kn ∷ below)
+        (value aim.battle (chess aim.goal rule) t (position_after rule P m))
+    unfolding delivered_value position
+    delivered_value-next = search (rules, rest-next)
 
-    try-next : fewest f.left P (untried rule P f) + to_try_with rule aim p below (rest f.left P (untried rule P f)) ≤ smallest_tree aim.battle (chess aim.goal
-        rule) t (played rule P m) + to_try_with rule aim p (passed f next s kn ∷ below) (value aim.battle (chess aim.goal rule) t (played rule P m))
+    try-next : fewest f.left P (untried_moves rule P f) + to_try_with rule aim p below (rest f.left P (untried_moves rule P f)) ≤ smallest_tree aim.battle
+        (chess aim.goal
+        rule) t (position_after rule P m) + to_try_with rule aim p (passed f next s kn ∷ below)
+        (value aim.battle (chess aim.goal rule) t (position_after rule P m))
     unfolding to_try_with position
     try-next = search (rules, trees-next, rest-next)
 
     work-settled : work rule p (passed f next s kn ∷ below) < work rule p (f ∷ below)
     unfolding work position
-    work-settled = rw (left, steps-next t P (untried rule P f) (ahead rule P f.order s next) m e) (omega arith)
+    work-settled = rw (left, steps-next t P (untried_moves rule P f) (moves_ahead rule P f.order s next) m e) (omega arith)
 
-    open-settled : walk_count (legal_moves rule) (played rule) t (played rule P m) + to_test rule p (passed f next s kn ∷ below) ≤ to_test rule p
+    open-settled : walk_count (legal_moves rule) (position_after rule) t (position_after rule P m) + to_test rule p (passed f next s kn ∷ below) ≤ to_test rule
+        p
         (f ∷ below)
     unfolding to_test position
-    open-settled = rw (left, walk-next t P (untried rule P f) (ahead rule P f.order s next) m e) (omega arith)
+    open-settled = rw (left, walk-next t P (untried_moves rule P f) (moves_ahead rule P f.order s next) m e) (omega arith)
 
-    module _ (undo : Loss) (k : Order) (kq : Option LegalPlace) where
-      deliver-open : (v : Bool) → v ≡ joined aim.battle (chess aim.goal rule) t (played rule P m) (legal_moves rule (played rule P m))
-          → deliver rule aim p (passed f next s kn ∷ below) v ≡ pending rule aim p (tested k m undo t kq ∷ (passed f next s kn ∷ below)) None
-      unfolding pending position
-      deliver-open v d = search (rules, rest-start)
+    module _ (undo : Undo) (k : Order) (kq : Option LegalPlace) where
+      delivered_value-open : (v : Bool) → v ≡ joined_value aim.battle (chess aim.goal rule) t (position_after rule P m)
+          (legal_moves rule (position_after rule P m))
+          → delivered_value rule aim p (passed f next s kn ∷ below) v ≡ pending_value rule aim p (tested_frame k m undo t kq ∷ (passed f next s kn ∷ below))
+          None
+      unfolding pending_value position
+      delivered_value-open v d = search (rules, rest-start)
 
-      try-open : (v : Bool) → v ≡ joined aim.battle (chess aim.goal rule) t (played rule P m) (legal_moves rule (played rule P m))
-          → smallest_tree aim.battle (chess aim.goal rule) t (played rule P m) + to_try_with rule aim p (passed f next s kn ∷ below) v ≤ 1 + to_try rule aim p
-          (tested k m undo t kq ∷ (passed f next s kn ∷ below)) None
+      try-open : (v : Bool) → v ≡ joined_value aim.battle (chess aim.goal rule) t (position_after rule P m) (legal_moves rule (position_after rule P m))
+          → smallest_tree aim.battle (chess aim.goal rule) t (position_after rule P m) + to_try_with rule aim p (passed f next s kn ∷ below) v ≤ 1 + to_try rule
+          aim p
+          (tested_frame k m undo t kq ∷ (passed f next s kn ∷ below)) None
       unfolding to_try position
-      try-open v d = let n = fewest-start t (played rule P m) k in rw (d, sym (rest-start t (played rule P m) k)) (omega (arith, n))
+      try-open v d = let n = fewest-start t (position_after rule P m) k in rw (d, sym (rest-start t (position_after rule P m) k)) (omega (arith, n))
 
-      work-open : work rule p (tested k m undo t kq ∷ (passed f next s kn ∷ below)) < work rule p (f ∷ below)
+      work-open : work rule p (tested_frame k m undo t kq ∷ (passed f next s kn ∷ below)) < work rule p (f ∷ below)
       unfolding work position
-      work-open = rw (left, steps-next t P (untried rule P f) (ahead rule P f.order s next) m e, steps-start t (played rule P m) k) (omega arith)
+      work-open =
+          rw (left, steps-next t P (untried_moves rule P f) (moves_ahead rule P f.order s next) m e, steps-start t (position_after rule P m) k) (omega arith)
 
-      open-open : 0 < t → 1 + to_test rule p (tested k m undo t kq ∷ (passed f next s kn ∷ below)) ≤ to_test rule p (f ∷ below)
+      open-open : 0 < t → 1 + to_test rule p (tested_frame k m undo t kq ∷ (passed f next s kn ∷ below)) ≤ to_test rule p (f ∷ below)
       unfolding to_test position
-      open-open some = rw (left, walk-next t P (untried rule P f) (ahead rule P f.order s next) m e, walk_count-start t (played rule P m) k some)
+      open-open some =
+          rw (left, walk-next t P (untried_moves rule P f) (moves_ahead rule P f.order s next) m e, walk_count-start t (position_after rule P m) k some)
           (omega arith)
 
   pub open-close : (p : Position) (f : Frame) (below : List Frame) → to_test rule p below ≤ to_test rule p (f ∷ below)
@@ -217,13 +228,13 @@ module _ (rule : RuleSet) (p : Position) where
   unfolding IsLinked IsCut AreKnown position
   testing-settled f next s kn below board r w = search rules
 
-  pub testing-open : (f : Frame) (next : ℕ) (s : Stretch) (m : Triple) (k : Order) (t : ℕ) (kn kq : Option LegalPlace) (below : List Frame) (board : Position)
-      → IsTesting rule p (f ∷ below) board → legal rule board m ≡ true → 0 < t → f.left ≡ suc t → IfSome kn (IsPlaceIn rule board)
-      → IfSome kq (IsPlaceIn rule (played rule board m))
-      → IsTesting rule p (tested k m (undo_of rule board m) t kq ∷ (passed f next s kn ∷ below)) (played rule board m)
+  pub testing-open : (f : Frame) (next : ℕ) (s : Stretch) (m : Move) (k : Order) (t : ℕ) (kn kq : Option LegalPlace) (below : List Frame) (board : Position)
+      → IsTesting rule p (f ∷ below) board → is_legal rule board m ≡ true → 0 < t → f.left ≡ suc t → IfSome kn (IsPlaceIn rule board)
+      → IfSome kq (IsPlaceIn rule (position_after rule board m))
+      → IsTesting rule p (tested_frame k m (undo_of rule board m) t kq ∷ (passed f next s kn ∷ below)) (position_after rule board m)
   unfolding IsLinked IsCut AreKnown position
   testing-open f next s m k t kn kq below board r lawful some left w wq =
-      grind (arith, after_well_formed rule board m r.sound (pseudo-from_legal rule board m lawful), pseudo-from_legal rule board m lawful)
+      grind (arith, after_well_formed rule board m r.sound (is_pseudo_legal-from_legal rule board m lawful), is_pseudo_legal-from_legal rule board m lawful)
 
 -- the frames from the floor up, once a frame is put on or taken off
 pub tests-push : (floor : ℕ) (xs : List Frame) (x : Frame) → floor ≤ length xs → tests floor (xs ++ x ∷ []) ≡ x ∷ tests floor xs
@@ -251,44 +262,45 @@ module _ (rule : RuleSet) (aim : Aim) (floor : ℕ) (top : Frame) (old new : Lis
       (lowest : depth ≤ floor → (result ≡ Some v) × (after ≡ board)) (above : floor < depth → (result ≡ None) × (is ≡ Some v))
       (before : (q : Position) → floor < depth → CameFromAt rule top board q → after ≡ q) where
     pub close_turns : (count : ℕ) (p : Position) → IsTesting rule p (tests floor old) board
-        → pending rule aim p (top ∷ tests floor new) was ≡ deliver rule aim p (tests floor new) v
+        → pending_value rule aim p (top ∷ tests floor new) was ≡ delivered_value rule aim p (tests floor new) v
         → to_try rule aim p (top ∷ tests floor new) was ≡ to_try_with rule aim p (tests floor new) v → MatchOption result
         (Turns rule aim floor p old new was is after count count) (λ w. Ends rule aim floor p old new was after count count w)
     close_turns count p r e left = elim (cases_lt floor depth) [
       | inl deep ↦ rw (above deep).0 (record {
         testing = testing-close rule p top (tests floor new) board after (testing_top p board r)
             (omega (arith, length-tests floor new, d)) (λ q cf. before q deep cf);
-        same = grind (arith, popped, deliver-some, length-tests);
+        same = grind (arith, popped, delivered_value-some, length-tests);
         falls = rw popped (work-close rule aim p top (tests floor new));
         above = omega (arith, d);
         base = base_new;
         counted = rw popped (omega (arith, open-close rule aim p top (tests floor new)));
         tried = rw (popped, (above deep).1) (omega (arith, left, try-some rule aim p (tests floor new) v (omega (arith, length-tests floor new, d))));
       })
-      | inr low ↦ grind (arith, popped, deliver-none, length-tests, lowest-back, take_all, base_new, try-none)
+      | inr low ↦ grind (arith, popped, delivered_value-none, length-tests, lowest-back, take_all, base_new, try-none)
     ]
 
     pub close_room : (p : Position) (N : ℕ) → IsTesting rule p (tests floor old) board → top_left (tests floor old) + length old ≤ N + 1
         → IfNone result (top_left (tests floor new) + length new ≤ N + 1)
     close_room p N r room = grind (arith, cases_lt, room-close, testing_top, length-tests, popped, length-append)
 
-  module _ (place : ℕ) (s : Stretch) (kn : Option LegalPlace) (m : Triple) (board after : Position) (N : ℕ) (was : Option Bool) (last : List Frame)
+  module _ (place : ℕ) (s : Stretch) (kn : Option LegalPlace) (m : Move) (board after : Position) (N : ℕ) (was : Option Bool) (last : List Frame)
       (some : 0 < top.left) (open_yet : (was ≡ None) ⊎ (was ≡ Some (not (seeks aim.battle top.left))))
-      (next : untried rule board top ≡ m ∷ ahead rule board top.order s place) (lawful : legal rule board m ≡ true)
+      (next : untried_moves rule board top ≡ m ∷ moves_ahead rule board top.order s place) (lawful : is_legal rule board m ≡ true)
       (within : IfSome kn (IsPlaceIn rule board)) where
     -- what `descend` leaves
     abbrev pub Descends : Option Bool → Type 0
     Descends is = MatchOption is ((0 < top.left - 1)
-        × (value aim.battle (chess aim.goal rule) (top.left - 1) (played rule board m) ≡ joined aim.battle (chess aim.goal rule) (top.left - 1)
-        (played rule board m) (legal_moves rule (played rule board m))) × (after ≡ played rule board m)
-        × IsOpenedOn rule (played rule board m) (new ++ passed top place s kn ∷ []) last m (undo_of rule board m) (top.left - 1))
-        (λ v. (v ≡ value aim.battle (chess aim.goal rule) (top.left - 1) (played rule board m)) × (after ≡ board) × (last ≡ new ++ passed top place s kn ∷ []))
+        × (value aim.battle (chess aim.goal rule) (top.left - 1) (position_after rule board m) ≡ joined_value aim.battle (chess aim.goal rule) (top.left - 1)
+        (position_after rule board m) (legal_moves rule (position_after rule board m))) × (after ≡ position_after rule board m)
+        × IsOpenedOn rule (position_after rule board m) (new ++ passed top place s kn ∷ []) last m (undo_of rule board m) (top.left - 1))
+        (λ v. (v ≡ value aim.battle (chess aim.goal rule) (top.left - 1) (position_after rule board m)) × (after ≡ board)
+        × (last ≡ new ++ passed top place s kn ∷ []))
 
     left_is : top.left ≡ suc (top.left - 1)
     left_is = omega (arith, some)
 
     opened_last : (d : Descends None)
-        → tests floor last ≡ tested d.3.order m (undo_of rule board m) (top.left - 1) d.3.known ∷ (passed top place s kn ∷ tests floor new)
+        → tests floor last ≡ tested_frame d.3.order m (undo_of rule board m) (top.left - 1) d.3.known ∷ (passed top place s kn ∷ tests floor new)
     opened_last d = grind (arith, tests-push, length-append)
 
     settled_last : (v : Bool) → Descends (Some v) → tests floor last ≡ passed top place s kn ∷ tests floor new
@@ -298,7 +310,7 @@ module _ (rule : RuleSet) (aim : Aim) (floor : ℕ) (top : Frame) (old new : Lis
       at : board ≡ position rule p (top ∷ tests floor new)
       at = (testing_top p board r).board_at
 
-      here : untried rule (position rule p (top ∷ tests floor new)) top ≡ m ∷ ahead rule (position rule p (top ∷ tests floor new)) top.order s place
+      here : untried_moves rule (position rule p (top ∷ tests floor new)) top ≡ m ∷ moves_ahead rule (position rule p (top ∷ tests floor new)) top.order s place
       here = rw (← at) next
 
       descend_testing : (is : Option Bool) → Descends is → IsTesting rule p (tests floor last) after
@@ -306,34 +318,38 @@ module _ (rule : RuleSet) (aim : Aim) (floor : ℕ) (top : Frame) (old new : Lis
           (testing-open rule p top place s m d.3.order _ kn d.3.known _ board (testing_top p board r) lawful d.0 left_is within d.3.within)
       descend_testing (Some v) d = rw (settled_last v d, d.1) (testing-settled rule p top place s kn _ board (testing_top p board r) within)
 
-      descend_same : (is : Option Bool) → Descends is → pending rule aim p (tests floor old) was ≡ pending rule aim p (tests floor last) is
+      descend_same : (is : Option Bool) → Descends is → pending_value rule aim p (tests floor old) was ≡ pending_value rule aim p (tests floor last) is
       descend_same None d = rw (opened_last d, popped)
-          (pending-undecided rule aim p top (tests floor new) was open_yet ∙ deliver-next rule aim p top _ place s m _ kn left_is here
-          ∙ deliver-open rule aim p top _ place s m _ kn left_is here _ d.3.order d.3.known _ (rw (← at) d.1))
+          (pending_value-undecided rule aim p top (tests floor new) was open_yet ∙ delivered_value-next rule aim p top _ place s m _ kn left_is here
+          ∙ delivered_value-open rule aim p top _ place s m _ kn left_is here _ d.3.order d.3.known _ (rw (← at) d.1))
       descend_same (Some v) d = rw (settled_last v d, popped)
-          (pending-undecided rule aim p top (tests floor new) was open_yet ∙ deliver-next rule aim p top _ place s m _ kn left_is here
-          ∙ ap (deliver rule aim p _) (rw (← at) (sym d.0)) ∙ deliver-some rule aim p _ v (omega arith))
+          (pending_value-undecided rule aim p top (tests floor new) was open_yet ∙ delivered_value-next rule aim p top _ place s m _ kn left_is here
+          ∙ ap (delivered_value rule aim p _) (rw (← at) (sym d.0)) ∙ delivered_value-some rule aim p _ v (omega arith))
 
       descend_falls : (is : Option Bool) → Descends is → work rule p (tests floor last) < work rule p (tests floor old)
       descend_falls None d = rw (opened_last d, popped) (search (rules, here, work-open, left_is))
       descend_falls (Some v) d = rw (settled_last v d, popped) (search (rules, here, work-settled, left_is))
 
       descend_counted : (is : Option Bool) → Descends is → (before count : ℕ)
-          → MatchOption is (count ≤ before + 1) (λ _. count ≤ before + walk_count (legal_moves rule) (played rule) (top.left - 1) (played rule board m))
+          → MatchOption is (count ≤ before + 1) (λ _. count ≤ before + walk_count (legal_moves rule) (position_after rule) (top.left - 1)
+          (position_after rule board m))
           → count + to_test rule p (tests floor last) ≤ before + to_test rule p (tests floor old)
       descend_counted None d before count o = rw (opened_last d, popped) (search (rules, at, here, open-open, left_is))
       descend_counted (Some v) d before count o = rw (settled_last v d, popped) (search (rules, at, here, open-settled, left_is))
 
       descend_tried : (is : Option Bool) → Descends is → (before count : ℕ)
-          → MatchOption is (HasCounted before count 1) (λ _. HasCounted before count (smallest_tree aim.battle (chess aim.goal rule) (top.left - 1) (played rule
+          → MatchOption is (HasCounted before count 1) (λ _. HasCounted before count
+          (smallest_tree aim.battle (chess aim.goal rule) (top.left - 1) (position_after rule
           board m))) → min (before + to_try rule aim p (tests floor old) was) (2 ^ 64 - 1) ≤ count + to_try rule aim p (tests floor last) is
       descend_tried None d before count tries = rw (opened_last d, popped) (search (rules, at, here, try-undecided, try-next, try-open, left_is))
       descend_tried (Some v) d before count tries = rw (settled_last v d, popped)
           (let n = try-next rule aim p top (tests floor new) place s m _ kn left_is here in search (rules, at, try-undecided, try-some))
 
     pub descend_turns : (is : Option Bool) → Descends is → (before count : ℕ)
-        → MatchOption is (count ≤ before + 1) (λ _. count ≤ before + walk_count (legal_moves rule) (played rule) (top.left - 1) (played rule board m))
-        → MatchOption is (HasCounted before count 1) (λ _. HasCounted before count (smallest_tree aim.battle (chess aim.goal rule) (top.left - 1) (played rule
+        → MatchOption is (count ≤ before + 1) (λ _. count ≤ before + walk_count (legal_moves rule) (position_after rule) (top.left - 1)
+        (position_after rule board m))
+        → MatchOption is (HasCounted before count 1) (λ _. HasCounted before count
+        (smallest_tree aim.battle (chess aim.goal rule) (top.left - 1) (position_after rule
         board m))) → (p : Position) → IsTesting rule p (tests floor old) board → Turns rule aim floor p old last was is after before count
     descend_turns is d before count o tries p r = record {
       testing = descend_testing p r is d;
@@ -361,13 +377,13 @@ module _ (rule : RuleSet) (aim : Aim) (floor : ℕ) (top : Frame) (old new : Lis
 
   -- the value of a frame that its answer decides, and of one with no move left
   pub decided_value : (p : Position) (was : Option Bool) → was ≡ Some (seeks aim.battle top.left)
-      → pending rule aim p (top ∷ tests floor new) was ≡ deliver rule aim p (tests floor new) (seeks aim.battle top.left)
-  decided_value p was e = pending-decided rule aim p top (tests floor new) was e
+      → pending_value rule aim p (top ∷ tests floor new) was ≡ delivered_value rule aim p (tests floor new) (seeks aim.battle top.left)
+  decided_value p was e = pending_value-decided rule aim p top (tests floor new) was e
 
   pub exhausted_value : (p board : Position) (was : Option Bool) → IsTesting rule p (tests floor old) board
-      → (was ≡ None) ⊎ (was ≡ Some (not (seeks aim.battle top.left))) → untried rule board top ≡ []
-      → pending rule aim p (top ∷ tests floor new) was ≡ deliver rule aim p (tests floor new) (not (seeks aim.battle top.left))
-  exhausted_value p board was r u e = grind (arith, testing_top p board r, pending-undecided rule aim p top (tests floor new) was u, rest-none, top_some)
+      → (was ≡ None) ⊎ (was ≡ Some (not (seeks aim.battle top.left))) → untried_moves rule board top ≡ []
+      → pending_value rule aim p (top ∷ tests floor new) was ≡ delivered_value rule aim p (tests floor new) (not (seeks aim.battle top.left))
+  exhausted_value p board was r u e = grind (arith, testing_top p board r, pending_value-undecided rule aim p top (tests floor new) was u, rest-none, top_some)
 
   -- and the positions that are to be tried then
   pub decided_left : (p : Position) (was : Option Bool) → was ≡ Some (seeks aim.battle top.left)
@@ -375,11 +391,11 @@ module _ (rule : RuleSet) (aim : Aim) (floor : ℕ) (top : Frame) (old new : Lis
   decided_left p was e = try-decided rule aim p top (tests floor new) was e
 
   pub exhausted_left : (p board : Position) (was : Option Bool) → IsTesting rule p (tests floor old) board
-      → (was ≡ None) ⊎ (was ≡ Some (not (seeks aim.battle top.left))) → untried rule board top ≡ []
+      → (was ≡ None) ⊎ (was ≡ Some (not (seeks aim.battle top.left))) → untried_moves rule board top ≡ []
       → to_try rule aim p (top ∷ tests floor new) was ≡ to_try_with rule aim p (tests floor new) (not (seeks aim.battle top.left))
   exhausted_left p board was r u e =
       let at : board ≡ position rule p (top ∷ tests floor new) = (testing_top p board r).board_at in
-      let none : untried rule (position rule p (top ∷ tests floor new)) top ≡ [] = rw (← at) e in
+      let none : untried_moves rule (position rule p (top ∷ tests floor new)) top ≡ [] = rw (← at) e in
       let v = rest-none rule aim top.left (position rule p (top ∷ tests floor new)) _ (top_some p board r) none in
       grind (arith, try-undecided, trees-end)
 
@@ -398,19 +414,19 @@ pub record IsUnderway (rule : RuleSet) (aim : Aim) (floor : ℕ) (p : Position) 
   pub counted : opened + to_test rule p (tests floor frames) ≤ most
   pub tried : min fewest (2 ^ 64 - 1) ≤ opened + to_try rule aim p (tests floor frames) answer
   pub testing : IsTesting rule p (tests floor frames) board
-  pub same : pending rule aim p (tests floor frames) answer ≡ v
+  pub same : pending_value rule aim p (tests floor frames) answer ≡ v
   pub above : floor < length frames
   pub room : top_left (tests floor frames) + length frames ≤ N + 1
   pub base : take floor frames ≡ under
 
 module _ (rule : RuleSet) (aim : Aim) where
-  pub begins : (floor : ℕ) (p : Position) (N left : ℕ) (k : Order) (board : Position) (before count : ℕ) (by : Triple) (undo : Loss) (under frames : List Frame)
-      (kn : Option LegalPlace) → floor ≡ length under → frames ≡ under ++ tested k by undo left kn ∷ [] → IfSome kn (IsPlaceIn rule p) → floor + left ≤ N
+  pub begins : (floor : ℕ) (p : Position) (N left : ℕ) (k : Order) (board : Position) (before count : ℕ) (by : Move) (undo : Undo) (under frames : List Frame)
+      (kn : Option LegalPlace) → floor ≡ length under → frames ≡ under ++ tested_frame k by undo left kn ∷ [] → IfSome kn (IsPlaceIn rule p) → floor + left ≤ N
       → count ≤ before + 1 → HasCounted before count 1 → board ≡ p → IsWellFormed board → (0 < left)
-      × (value aim.battle (chess aim.goal rule) left p ≡ joined aim.battle (chess aim.goal rule) left p (legal_moves rule p))
+      × (value aim.battle (chess aim.goal rule) left p ≡ joined_value aim.battle (chess aim.goal rule) left p (legal_moves rule p))
       → IsUnderway rule aim floor p N (value aim.battle (chess aim.goal rule) left p) under frames None board count
-      (before + walk_count (legal_moves rule) (played rule) left p) (before + smallest_tree aim.battle (chess aim.goal rule) left p)
-  unfolding pending deliver IsLinked IsCut AreKnown position to_test to_try to_try_with
+      (before + walk_count (legal_moves rule) (position_after rule) left p) (before + smallest_tree aim.battle (chess aim.goal rule) left p)
+  unfolding pending_value delivered_value IsLinked IsCut AreKnown position to_test to_try to_try_with
   begins floor p N left k board before count by undo under frames kn low put within room more one_more at sound d =
       let none : tests floor under ≡ [] = nil_of (tests floor under) (omega (arith, length-tests floor under, low)) in
       grind (arith, tests-push, length-append, walk_count-start, fewest-start, rest-start, take-append-le, take_all)

@@ -1,28 +1,28 @@
 -- What the moves still to come say of paths, turns and counts: the next move, and those passed over.
-use Rattle.pop_solve.proofs.Words.{Bool, Frame, GoesTo, IsWhites, List, Loss, Mate, Plan, Position, RuleSet, Steps, Triple, [], ap, append_assoc, arith, battle_of, chess, cond, eqb, false, fewest_for, fewest_left, fewest_walked, filter, follows, gives, goes_on, inl, inr, is_goal, is_help, is_mating, length, map, map-append, moves_behind, opened, path, position, refl, rules, seeks, seeks_last, shown, smallest_tree, steps, steps_behind, suc, sum_by, sum_by-append, sum_by-cons, to_come, to_open, true, turns, value, walk_behind, walk_count, zero, ℕ, ◌++◌, ◌+◌, ◌-◌, ◌<◌, ◌∙◌, ◌∷◌, ◌≡◌, ◌≤◌, ◌⊎◌}
-use Rattle.chess_rules.specs.Play.{after as played}
+use Rattle.pop_solve.proofs.Words.{Bool, Frame, GoesTo, IsWhites, List, Mate, Move, Plan, Position, RuleSet, Steps, Undo, [], ap, append_assoc, arith, battle_of, chess, cond, eqb, false, fewest_for, fewest_left, fewest_walked, filter, follows, gives, half_moves_on, inl, inr, is_help, is_mate, is_mating, length, map, map-append, moves_behind, opened_frame, path, position, refl, rules, seeks, seeks_last, shown_paths, smallest_tree, steps, steps_behind, suc, sum_by, sum_by-append, sum_by-cons, to_come, to_open, true, turns, value, walk_behind, walk_count, zero, ℕ, ◌++◌, ◌+◌, ◌-◌, ◌<◌, ◌∙◌, ◌∷◌, ◌≡◌, ◌≤◌, ◌⊎◌}
+use Rattle.chess_rules.specs.Play.{position_after}
 use Rattle.chess_rules.specs.Legal.{moves as legal_moves}
 use Rattle.pop_solve.proofs.Boards.{behind_start}
 use Rattle.pop_solve.proofs.Tests.{moved}
-use Rattle.pop_solve.proofs.GoingOn.{cases, no_zero, goes_on-help, follows-help}
+use Rattle.pop_solve.proofs.GoingOn.{cases, no_zero, half_moves_on-help, follows-help}
 
 -- where the first move counts nothing if it fails a test, all that fail it at the head of a list count nothing
-passed-over : {A : Type 0} (f : List Triple → A) (test : Triple → Bool) → ((m : Triple) (ms : List Triple) → test m ≡ false → f (m ∷ ms) ≡ f ms)
-    → (over ms : List Triple) → filter test over ≡ [] → f (over ++ ms) ≡ f ms
+passed-over : {A : Type 0} (f : List Move → A) (test : Move → Bool) → ((m : Move) (ms : List Move) → test m ≡ false → f (m ∷ ms) ≡ f ms)
+    → (over ms : List Move) → filter test over ≡ [] → f (over ++ ms) ≡ f ms
 passed-over f test skip [] ms none = refl
 passed-over f test skip (m ∷ over) ms none = search (rules, cases (test m), skip m (over ++ ms), passed-over f test skip over ms)
 
 -- a path, where it is given
-abbrev pub given_path : Bool → List Triple → List (List Triple)
+abbrev pub given_path : Bool → List Move → List (List Move)
 given_path b L = cond b (L ∷ []) []
 
-pub map-path : (L : List Triple) (m : Triple) (xs : List (List Triple))
+pub map-path : (L : List Move) (m : Move) (xs : List (List Move))
     → map (λ line. L ++ line) (map (λ line. m ∷ line) xs) ≡ map (λ line. (L ++ m ∷ []) ++ line) xs
 map-path L m [] = refl
 map-path L m (x ∷ xs) = rw (append_assoc L (m ∷ []) x, map-path L m xs)
 
 -- the paths by a move and by the others, seen from the path before them
-pub turn : (b : Bool) (L : List Triple) (m : Triple) (xs ys rest : List (List Triple))
+pub turn : (b : Bool) (L : List Move) (m : Move) (xs ys rest : List (List Move))
     → map (λ line. L ++ line) ((given_path b (m ∷ []) ++ map (λ line. m ∷ line) xs) ++ ys) ++ rest ≡ given_path b (L ++ m ∷ [])
     ++ (map (λ line. (L ++ m ∷ []) ++ line) xs ++ (map (λ line. L ++ line) ys ++ rest))
 turn b L m xs ys rest = search (rules, append_assoc, map-append, map-path)
@@ -32,42 +32,47 @@ pub steps-start : (rule : RuleSet) (k : ℕ) (q : Position) → steps rule k q �
 unfolding steps steps_behind
 steps-start rule k q = search (rules, behind_start)
 
-pub steps_behind-next : (rule : RuleSet) (k : ℕ) (P : Position) (place next : ℕ) (m : Triple) → moves_behind rule P place ≡ m ∷ moves_behind rule P next
-    → steps_behind rule (suc k) P place ≡ (1 + steps rule k (played rule P m)) + steps_behind rule (suc k) P next
+pub steps_behind-next : (rule : RuleSet) (k : ℕ) (P : Position) (place next : ℕ) (m : Move) → moves_behind rule P place ≡ m ∷ moves_behind rule P next
+    → steps_behind rule (suc k) P place ≡ (1 + steps rule k (position_after rule P m)) + steps_behind rule (suc k) P next
 unfolding steps_behind
-steps_behind-next rule k P place next m e = rw e (sum_by-cons (λ x. 1 + steps rule k (played rule P x)) m (moves_behind rule P next))
+steps_behind-next rule k P place next m e = rw e (sum_by-cons (λ x. 1 + steps rule k (position_after rule P x)) m (moves_behind rule P next))
 
 module _ (rule : RuleSet) (plan : Plan) where
   -- the paths by the next move, and by the others
-  shown-next : (root : Bool) (k t : ℕ) (P : Position) (m : Triple) (ms : List Triple)
-      → shown plan (chess plan.goal rule) root (suc k) (suc t) P (m ∷ ms) ≡ cond (follows plan (chess plan.goal rule) root t (played rule P m))
-      (given_path (gives plan (chess plan.goal rule) t (played rule P m)) (m ∷ []) ++ map (λ line. m ∷ line)
-      (shown plan (chess plan.goal rule) false k (goes_on plan (chess plan.goal rule) t (played rule P m)) (played rule P m)
-      (legal_moves rule (played rule P m)))) [] ++ shown plan (chess plan.goal rule) root (suc k) (suc t) P ms
-  unfolding shown
-  shown-next root k t P m ms = refl
+  shown_paths-next : (root : Bool) (k t : ℕ) (P : Position) (m : Move) (ms : List Move)
+      → shown_paths plan (chess plan.goal rule) root (suc k) (suc t) P (m ∷ ms) ≡ cond (follows plan (chess plan.goal rule) root t (position_after rule P m))
+      (given_path (gives plan (chess plan.goal rule) t (position_after rule P m)) (m ∷ []) ++ map (λ line. m ∷ line)
+      (shown_paths plan (chess plan.goal rule) false k (half_moves_on plan (chess plan.goal rule) t (position_after rule P m)) (position_after rule P m)
+      (legal_moves rule (position_after rule P m)))) [] ++ shown_paths plan (chess plan.goal rule) root (suc k) (suc t) P ms
+  unfolding shown_paths
+  shown_paths-next root k t P m ms = refl
 
-  shown-none : (root : Bool) (k left : ℕ) (P : Position) (ms : List Triple) → (left ≡ 0) ⊎ (ms ≡ []) → shown plan (chess plan.goal rule) root k left P ms ≡ []
-  unfolding shown
-  shown-none root k left P ms e = search rules
+  shown_paths-none : (root : Bool) (k left : ℕ) (P : Position) (ms : List Move) → (left ≡ 0) ⊎ (ms ≡ [])
+      → shown_paths plan (chess plan.goal rule) root k left P ms ≡ []
+  unfolding shown_paths
+  shown_paths-none root k left P ms e = search rules
 
   -- the positions to be tried for the next move, and for the others
-  fewest-next : (root : Bool) (k t : ℕ) (P : Position) (m : Triple) (ms : List Triple)
-      → fewest_walked plan (chess plan.goal rule) root (suc k) (suc t) P (m ∷ ms) ≡ (fewest_for plan (chess plan.goal rule) root t (played rule P m) + cond
-      (follows plan (chess plan.goal rule) root t (played rule P m)) (fewest_walked plan (chess plan.goal rule) false k (goes_on plan (chess plan.goal rule) t
-      (played rule P m)) (played rule P m) (legal_moves rule (played rule P m))) 0) + fewest_walked plan (chess plan.goal rule) root (suc k) (suc t) P ms
+  fewest-next : (root : Bool) (k t : ℕ) (P : Position) (m : Move) (ms : List Move)
+      → fewest_walked plan (chess plan.goal rule) root (suc k) (suc t) P (m ∷ ms)
+      ≡ (fewest_for plan (chess plan.goal rule) root t (position_after rule P m) + cond
+      (follows plan (chess plan.goal rule) root t (position_after rule P m))
+      (fewest_walked plan (chess plan.goal rule) false k (half_moves_on plan (chess plan.goal rule) t
+      (position_after rule P m)) (position_after rule P m) (legal_moves rule (position_after rule P m))) 0) + fewest_walked plan (chess plan.goal rule) root
+      (suc k) (suc t) P ms
   unfolding fewest_walked
   fewest-next root k t P m ms = search (rules, sum_by-cons)
 
-  fewest-none : (root : Bool) (k left : ℕ) (P : Position) (ms : List Triple) → (left ≡ 0) ⊎ (ms ≡ [])
+  fewest-none : (root : Bool) (k left : ℕ) (P : Position) (ms : List Move) → (left ≡ 0) ⊎ (ms ≡ [])
       → fewest_walked plan (chess plan.goal rule) root k left P ms ≡ 0
   unfolding fewest_walked
   fewest-none root k left P ms e = search rules
 
-  walk_behind-next : (k : ℕ) (P : Position) (place next : ℕ) (m : Triple) → moves_behind rule P place ≡ m ∷ moves_behind rule P next
-      → walk_behind rule (suc k) P place ≡ walk_count (legal_moves rule) (played rule) k (played rule P m) + walk_behind rule (suc k) P next
+  walk_behind-next : (k : ℕ) (P : Position) (place next : ℕ) (m : Move) → moves_behind rule P place ≡ m ∷ moves_behind rule P next
+      → walk_behind rule (suc k) P place ≡ walk_count (legal_moves rule) (position_after rule) k (position_after rule P m) + walk_behind rule (suc k) P next
   unfolding walk_behind
-  walk_behind-next k P place next m e = rw e (sum_by-cons (λ x. walk_count (legal_moves rule) (played rule) k (played rule P x)) m (moves_behind rule P next))
+  walk_behind-next k P place next m e =
+      rw e (sum_by-cons (λ x. walk_count (legal_moves rule) (position_after rule) k (position_after rule P x)) m (moves_behind rule P next))
 
   pub walk_behind-none : (k : ℕ) (P : Position) (place : ℕ) → (k ≡ 0) ⊎ (moves_behind rule P place ≡ []) → walk_behind rule k P place ≡ 0
   unfolding walk_behind
@@ -78,15 +83,15 @@ module _ (rule : RuleSet) (plan : Plan) where
   one zero = 0
   one (suc k) = 1
 
-  pub walk_count-start : (k : ℕ) (q : Position) → walk_count (legal_moves rule) (played rule) k q ≡ one k + walk_behind rule k q 0
+  pub walk_count-start : (k : ℕ) (q : Position) → walk_count (legal_moves rule) (position_after rule) k q ≡ one k + walk_behind rule k q 0
   unfolding walk_count walk_behind
   walk_count-start k q = search (rules, behind_start)
 
-  module _ (h : ℕ) (p : Position) (f : Frame) (next : ℕ) (m : Triple) (below : List Frame) (k t : ℕ) (fuel : h - length below ≡ suc k)
+  module _ (h : ℕ) (p : Position) (f : Frame) (next : ℕ) (m : Move) (below : List Frame) (k t : ℕ) (fuel : h - length below ≡ suc k)
       (left : f.left ≡ suc t) (e : moves_behind rule (position rule p (f ∷ below)) f.place ≡ m ∷ moves_behind rule (position rule p (f ∷ below)) next) where
     -- the position after the move
     abbrev q : Position
-    q = played rule (position rule p (f ∷ below)) m
+    q = position_after rule (position rule p (f ∷ below)) m
 
     abbrev root : Bool
     root = eqb (length below) 0
@@ -94,26 +99,28 @@ module _ (rule : RuleSet) (plan : Plan) where
     -- a move that is not followed is passed over
     pub come-pass : follows plan (chess plan.goal rule) root t q ≡ false → to_come rule plan h p (f ∷ below) ≡ to_come rule plan h p (moved f next ∷ below)
     unfolding to_come position path
-    come-pass b = search (rules, shown-next)
+    come-pass b = search (rules, shown_paths-next)
 
     -- a move that is followed: its path, where that is given, and what stands below it
-    pub come-enter : (undo : Loss) → follows plan (chess plan.goal rule) root t q ≡ true
-        → to_come rule plan h p (f ∷ below) ≡ given_path (gives plan (chess plan.goal rule) t q) (path (opened m undo (goes_on plan (chess plan.goal rule) t q)
-        ∷ (moved f next ∷ below))) ++ to_come rule plan h p (opened m undo (goes_on plan (chess plan.goal rule) t q) ∷ (moved f next ∷ below))
+    pub come-enter : (undo : Undo) → follows plan (chess plan.goal rule) root t q ≡ true
+        → to_come rule plan h p (f ∷ below) ≡ given_path (gives plan (chess plan.goal rule) t q)
+        (path (opened_frame m undo (half_moves_on plan (chess plan.goal rule) t q)
+        ∷ (moved f next ∷ below))) ++ to_come rule plan h p (opened_frame m undo (half_moves_on plan (chess plan.goal rule) t q) ∷ (moved f next ∷ below))
     unfolding to_come position path
     come-enter undo b =
         let less : h - suc (length below) ≡ k = omega arith in
         let P = position rule p (f ∷ below) in
-        rw (fuel, less, left, e, shown-next root k t P m (moves_behind rule P next), b, behind_start rule q, no_zero (length below)) (search (rules, turn))
+        rw (fuel, less, left, e, shown_paths-next root k t P m (moves_behind rule P next), b, behind_start rule q, no_zero (length below))
+        (search (rules, turn))
 
     pub tries-pass : follows plan (chess plan.goal rule) root t q ≡ false
         → fewest_left rule plan h p (f ∷ below) ≡ fewest_for plan (chess plan.goal rule) root t q + fewest_left rule plan h p (moved f next ∷ below)
     unfolding fewest_left position
     tries-pass b = search (rules, fewest-next)
 
-    pub tries-enter : (undo : Loss) → follows plan (chess plan.goal rule) root t q ≡ true → fewest_left rule plan h p (f ∷ below)
+    pub tries-enter : (undo : Undo) → follows plan (chess plan.goal rule) root t q ≡ true → fewest_left rule plan h p (f ∷ below)
         ≡ fewest_for plan (chess plan.goal rule) root t q + fewest_left rule plan h p
-        (opened m undo (goes_on plan (chess plan.goal rule) t q) ∷ (moved f next ∷ below))
+        (opened_frame m undo (half_moves_on plan (chess plan.goal rule) t q) ∷ (moved f next ∷ below))
     unfolding fewest_left position
     tries-enter undo b = search (rules, behind_start, fewest-next, no_zero)
 
@@ -121,25 +128,25 @@ module _ (rule : RuleSet) (plan : Plan) where
     unfolding turns position
     turns-pass = rw (fuel, steps_behind-next rule k (position rule p (f ∷ below)) f.place next m e) (omega arith)
 
-    pub turns-enter : (undo : Loss) (tried : ℕ) → turns rule h p (opened m undo tried ∷ (moved f next ∷ below)) < turns rule h p (f ∷ below)
+    pub turns-enter : (undo : Undo) (tried : ℕ) → turns rule h p (opened_frame m undo tried ∷ (moved f next ∷ below)) < turns rule h p (f ∷ below)
     unfolding turns position
     turns-enter undo tried =
         let less : h - suc (length below) ≡ k = omega arith in
         rw (fuel, less, steps_behind-next rule k (position rule p (f ∷ below)) f.place next m e, steps-start rule k q) (omega arith)
 
-    pub open-next : to_open rule p (f ∷ below) ≡ walk_count (legal_moves rule) (played rule) t q + to_open rule p (moved f next ∷ below)
+    pub open-next : to_open rule p (f ∷ below) ≡ walk_count (legal_moves rule) (position_after rule) t q + to_open rule p (moved f next ∷ below)
     unfolding to_open position
     open-next = rw (left, walk_behind-next t (position rule p (f ∷ below)) f.place next m e) (omega arith)
 
-    pub open-enter : (undo : Loss) (tried : ℕ)
-        → to_open rule p (opened m undo tried ∷ (moved f next ∷ below)) ≡ walk_behind rule tried q 0 + to_open rule p (moved f next ∷ below)
+    pub open-enter : (undo : Undo) (tried : ℕ)
+        → to_open rule p (opened_frame m undo tried ∷ (moved f next ∷ below)) ≡ walk_behind rule tried q 0 + to_open rule p (moved f next ∷ below)
     unfolding to_open position
     open-enter undo tried = refl
 
   pub come-close : (h : ℕ) (p : Position) (f : Frame) (below : List Frame) → (f.left ≡ 0) ⊎ (moves_behind rule (position rule p (f ∷ below)) f.place ≡ [])
       → to_come rule plan h p (f ∷ below) ≡ to_come rule plan h p below
   unfolding to_come
-  come-close h p f below e = search (rules, shown-none)
+  come-close h p f below e = search (rules, shown_paths-none)
 
   pub tries-close : (h : ℕ) (p : Position) (f : Frame) (below : List Frame) → (f.left ≡ 0) ⊎ (moves_behind rule (position rule p (f ∷ below)) f.place ≡ [])
       → fewest_left rule plan h p (f ∷ below) ≡ fewest_left rule plan h p below
@@ -156,7 +163,7 @@ module _ (rule : RuleSet) (plan : Plan) where
   open-close p f below e = omega (arith, walk_behind-none f.left (position rule p (f ∷ below)) f.place e)
 
   -- moves passed over that don't mate at the last half-move, by a side that seeks mate
-  module _ (h : ℕ) (p : Position) (f : Frame) (below : List Frame) (rest : List Triple)
+  module _ (h : ℕ) (p : Position) (f : Frame) (below : List Frame) (rest : List Move)
       (g : GoesTo rule plan f.left (position rule p (f ∷ below)) f.place rest) where
     abbrev P : Position
     P = position rule p (f ∷ below)
@@ -170,18 +177,19 @@ module _ (rule : RuleSet) (plan : Plan) where
     abbrev later : List Frame
     later = moved f g.mid ∷ below
 
-    ends : (low : Bool) (fuel k : ℕ) (m : Triple) (q : Position) (qs ms : List Triple)
-        → map (λ line. m ∷ line) (shown plan (chess plan.goal rule) false k 0 q qs) ++ shown plan (chess plan.goal rule) low (suc fuel) 1 P ms ≡ shown plan
+    ends : (low : Bool) (fuel k : ℕ) (m : Move) (q : Position) (qs ms : List Move)
+        → map (λ line. m ∷ line) (shown_paths plan (chess plan.goal rule) false k 0 q qs)
+        ++ shown_paths plan (chess plan.goal rule) low (suc fuel) 1 P ms ≡ shown_paths plan
         (chess plan.goal rule) low (suc fuel) 1 P ms
-    unfolding shown
+    unfolding shown_paths
     ends low fuel k m q qs ms = search rules
 
-    gives-last : (q : Position) → is_help plan.form ≡ true → plan.goal ≡ Mate → is_goal rule q ≡ false → gives plan (chess plan.goal rule) 0 q ≡ false
+    gives-last : (q : Position) → is_help plan.form ≡ true → plan.goal ≡ Mate → is_mate rule q ≡ false → gives plan (chess plan.goal rule) 0 q ≡ false
     unfolding gives
     gives-last q a for misses = rw (a, for, misses) refl
 
     -- in direct play a move that doesn't mate isn't followed, and tries nothing
-    follows-last : (low : Bool) (q : Position) → is_help plan.form ≡ false → seeks (battle_of plan.form) 1 ≡ true → plan.goal ≡ Mate → is_goal rule q ≡ false
+    follows-last : (low : Bool) (q : Position) → is_help plan.form ≡ false → seeks (battle_of plan.form) 1 ≡ true → plan.goal ≡ Mate → is_mate rule q ≡ false
         → follows plan (chess plan.goal rule) low 0 q ≡ false
     unfolding follows value
     follows-last low q a white for misses = search rules
@@ -191,19 +199,19 @@ module _ (rule : RuleSet) (plan : Plan) where
     unfolding smallest_tree
     fewest_for-last low q a white = search rules
 
-    pub skipped : (low : Bool) (fuel : ℕ) → seeks_last plan ≡ true → plan.goal ≡ Mate → (m : Triple) (ms : List Triple) → is_mating rule P m ≡ false
-        → shown plan (chess plan.goal rule) low fuel 1 P (m ∷ ms) ≡ shown plan (chess plan.goal rule) low fuel 1 P ms
-    unfolding shown
-    skipped low fuel last for m ms misses = search (rules, cases, ends, follows-help, follows-last, gives-last, goes_on-help, shown-next)
+    pub skipped : (low : Bool) (fuel : ℕ) → seeks_last plan ≡ true → plan.goal ≡ Mate → (m : Move) (ms : List Move) → is_mating rule P m ≡ false
+        → shown_paths plan (chess plan.goal rule) low fuel 1 P (m ∷ ms) ≡ shown_paths plan (chess plan.goal rule) low fuel 1 P ms
+    unfolding shown_paths
+    skipped low fuel last for m ms misses = search (rules, cases, ends, follows-help, follows-last, gives-last, half_moves_on-help, shown_paths-next)
 
     fewest-skipped : (low : Bool) (fuel : ℕ) → seeks_last plan ≡ true → plan.goal ≡ Mate → is_help plan.form ≡ false
-        → (m : Triple) (ms : List Triple) → is_mating rule P m ≡ false
+        → (m : Move) (ms : List Move) → is_mating rule P m ≡ false
         → fewest_walked plan (chess plan.goal rule) low fuel 1 P (m ∷ ms) ≡ fewest_walked plan (chess plan.goal rule) low fuel 1 P ms
     unfolding fewest_walked
     fewest-skipped low fuel last for a m ms misses = search (rules, fewest-next, fewest_for-last, follows-last)
 
     -- what such moves count nothing in is the same from the later place on
-    same-later : {A : Type 0} (F : ℕ → List Triple → A) → (seeks_last plan ≡ true → plan.goal ≡ Mate → (m : Triple) (ms : List Triple)
+    same-later : {A : Type 0} (F : ℕ → List Move → A) → (seeks_last plan ≡ true → plan.goal ≡ Mate → (m : Move) (ms : List Move)
         → is_mating rule P m ≡ false → F 1 (m ∷ ms) ≡ F 1 ms) → F f.left (moves_behind rule P f.place) ≡ F f.left (moves_behind rule P g.mid)
     unfolding position
     same-later F skip = elim g.none [
@@ -214,7 +222,7 @@ module _ (rule : RuleSet) (plan : Plan) where
     come-skip : to_come rule plan h p (f ∷ below) ≡ to_come rule plan h p later
     unfolding to_come position path
     come-skip = ap (λ lines. map (λ line. path (f ∷ below) ++ line) lines ++ to_come rule plan h p below)
-        (same-later (λ n ms. shown plan (chess plan.goal rule) deepest room n P ms) (skipped deepest room))
+        (same-later (λ n ms. shown_paths plan (chess plan.goal rule) deepest room n P ms) (skipped deepest room))
 
     fewer : (k : ℕ) → steps_behind rule k P g.mid ≤ steps_behind rule k P f.place
     unfolding steps_behind
@@ -228,10 +236,10 @@ module _ (rule : RuleSet) (plan : Plan) where
     unfolding walk_behind
     same k e = search rules
 
-    none_of : (ms : List Triple) → sum_by (λ m. walk_count (legal_moves rule) (played rule) 0 (played rule P m)) ms ≡ 0
+    none_of : (ms : List Move) → sum_by (λ m. walk_count (legal_moves rule) (position_after rule) 0 (position_after rule P m)) ms ≡ 0
     unfolding walk_count
     none_of [] = refl
-    none_of (m ∷ ms) = sum_by-cons (λ m. walk_count (legal_moves rule) (played rule) 0 (played rule P m)) m ms ∙ omega (arith, none_of ms)
+    none_of (m ∷ ms) = sum_by-cons (λ m. walk_count (legal_moves rule) (position_after rule) 0 (position_after rule P m)) m ms ∙ omega (arith, none_of ms)
 
     nothing : (k place : ℕ) → k ≡ 1 → walk_behind rule k P place ≡ 0
     unfolding walk_behind

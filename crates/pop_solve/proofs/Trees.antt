@@ -1,10 +1,10 @@
 -- What the walk shows is the tree that the definitions name.
-use Rattle.pop_solve.proofs.Words.{Battle, Bool, Game, List, Plan, Selfmate, [], answers, ap, append-nil, arith, battle_of, below, best, cond, eqb, every_move, false, fewest, filter, first_from, flat_map, flat_map_single, follows, gives, goes_on, is_help, keeps, least, lines_to_goal, list_all, map, nat_tests, node, not, open_length, refl, rules, seeks, shown, suc, sym, true, value, varies, zero, ℕ, ◌%◌, ◌&&◌, ◌*◌, ◌++◌, ◌+◌, ◌-◌, ◌/◌, ◌<◌, ◌||◌, ◌∙◌, ◌∷◌, ◌≡◌, ◌≤◌}
+use Rattle.pop_solve.proofs.Words.{Battle, Bool, Game, List, Plan, Selfmate, [], answers, ap, append-nil, arith, battle_of, best_moves, cond, eqb, every_move, false, fewest, filter, first_from, flat_map, flat_map_single, follows, gives, half_moves_on, is_help, keeps, least_moves, lines_to_goal, list_all, map, nat_tests, node, nodes_below, not, open_length, refl, rules, seeks, shown_paths, suc, sym, true, value, varies, zero, ℕ, ◌%◌, ◌&&◌, ◌*◌, ◌++◌, ◌+◌, ◌-◌, ◌/◌, ◌<◌, ◌||◌, ◌∙◌, ◌∷◌, ◌≡◌, ◌≤◌}
 use Rattle.pop_solve.specs.declared.aim.Battle.TheVariants.{Direct}
-use Rattle.pop_solve.proofs.Battles.{value-lost, value-self_lost}
+use Rattle.pop_solve.proofs.Battles.{value-is_lost, value-is_self_lost}
 use Rattle.pop_solve.proofs.Lengths.{length-more}
-use Rattle.pop_solve.proofs.GoingOn.{length_most, goes_on-keys}
-use Rattle.pop_solve.proofs.Least.{least-direct, least-selfmate}
+use Rattle.pop_solve.proofs.GoingOn.{length_most, half_moves_on-keys}
+use Rattle.pop_solve.proofs.Least.{least_moves-direct, least_moves-selfmate}
 
 -- the half-moves of a battle of so many moves
 abbrev pub halves : Battle → ℕ → ℕ
@@ -35,9 +35,9 @@ module _ {A B : Type 0} where
   flat-filter test other F G (x ∷ xs) s e = search (rules, flat-filter test other F G xs s e)
 
 module _ {P M : Type 0} (game : Game P M) where
-  pub shown-zero : (plan : Plan) (root : Bool) (k : ℕ) (p : P) (ms : List M) → shown plan game root k 0 p ms ≡ []
-  unfolding shown
-  shown-zero plan root k p ms = search rules
+  pub shown_paths-zero : (plan : Plan) (root : Bool) (k : ℕ) (p : P) (ms : List M) → shown_paths plan game root k 0 p ms ≡ []
+  unfolding shown_paths
+  shown_paths-zero plan root k p ms = search rules
 
   -- help play
   module _ (plan : Plan) (help : is_help plan.form ≡ true) where
@@ -47,21 +47,21 @@ module _ {P M : Type 0} (game : Game P M) where
         ≡ map (λ line. m ∷ line) ys
     by_move tested b m xs ys e = search rules
 
-    goes_on-whole : (t : ℕ) (q : P) → goes_on plan game t q ≡ t
-    unfolding goes_on
-    goes_on-whole t q = rw help refl
+    half_moves_on-whole : (t : ℕ) (q : P) → half_moves_on plan game t q ≡ t
+    unfolding half_moves_on
+    half_moves_on-whole t q = rw help refl
 
     -- by some of the moves
-    pub shown-moves : (root : Bool) (k : ℕ) (p : P) (ms : List M)
-        → shown plan game root (suc k) (suc k) p ms ≡ flat_map (λ m. map (λ line. m ∷ line) (lines_to_goal game k (game.after p m))) ms
-    unfolding shown follows gives lines_to_goal
-    shown-moves root zero p ms = grind (arith, flat-same, by_move, append-nil)
-    shown-moves root (suc k) p ms =
-        flat-same _ _ ms (λ m. grind (arith, by_move, goes_on-whole, nat_tests, shown-moves false k (game.after p m) (game.moves (game.after p m))))
+    pub shown_paths-moves : (root : Bool) (k : ℕ) (p : P) (ms : List M)
+        → shown_paths plan game root (suc k) (suc k) p ms ≡ flat_map (λ m. map (λ line. m ∷ line) (lines_to_goal game k (game.after p m))) ms
+    unfolding shown_paths follows gives lines_to_goal
+    shown_paths-moves root zero p ms = grind (arith, flat-same, by_move, append-nil)
+    shown_paths-moves root (suc k) p ms =
+        flat-same _ _ ms (λ m. grind (arith, by_move, half_moves_on-whole, nat_tests, shown_paths-moves false k (game.after p m) (game.moves (game.after p m))))
 
-    pub shown-help : (root : Bool) (k : ℕ) (p : P) → shown plan game root (suc k) (suc k) p (game.moves p) ≡ lines_to_goal game (suc k) p
+    pub shown_paths-help : (root : Bool) (k : ℕ) (p : P) → shown_paths plan game root (suc k) (suc k) p (game.moves p) ≡ lines_to_goal game (suc k) p
     unfolding lines_to_goal
-    shown-help root k p = shown-moves root k p (game.moves p)
+    shown_paths-help root k p = shown_paths-moves root k p (game.moves p)
 
   -- battle play: parities
   pub seeks-step : (battle : Battle) (t : ℕ) → seeks battle (t + 1) ≡ not (seeks battle t)
@@ -73,16 +73,17 @@ module _ {P M : Type 0} (game : Game P M) where
 
   -- the test of a move of White
   pub keeps-value : (battle : Battle) (k : ℕ) (q : P) → keeps battle game (suc k) q ≡ value battle game (halves battle (suc k) - 1) q
-  keeps-value Direct k q = let n : suc k - 1 ≡ k = omega arith in let h : 2 * suc k - 1 - 1 ≡ 2 * k = omega arith in rw (n, h) (sym (value-lost game k q))
-  keeps-value Selfmate k q = let h : 2 * suc k - 1 ≡ suc (2 * k) = omega arith in rw h (sym (value-self_lost game k q))
+  keeps-value Direct k q = let n : suc k - 1 ≡ k = omega arith in let h : 2 * suc k - 1 - 1 ≡ 2 * k = omega arith in rw (n, h) (sym (value-is_lost game k q))
+  keeps-value Selfmate k q = let h : 2 * suc k - 1 ≡ suc (2 * k) = omega arith in rw h (sym (value-is_self_lost game k q))
 
   -- the least length by half-moves is that of the least number of moves
-  least-halves : (battle : Battle) (n t : ℕ) (q : P) → seeks battle t ≡ true → 0 < t → t ≤ 2 * n → game.goal q ≡ false → value battle game t q ≡ true
-      → first_from battle game q ((t - fewest battle) / 2) (fewest battle) ≡ halves battle (least battle game n q)
-  least-halves Selfmate zero t q s some most open_yet v = absurd (omega (arith, some, most))
-  least-halves Selfmate (suc n) t q s some most open_yet v = grind (arith, seeks-halves Selfmate t s some, length-more, least-selfmate game q open_yet n)
-  least-halves Direct zero t q s some most open_yet v = absurd (omega (arith, some, most))
-  least-halves Direct (suc n) t q s some most open_yet v = grind (arith, seeks-halves Direct t s some, length-more, least-direct game q n)
+  least_moves-halves : (battle : Battle) (n t : ℕ) (q : P) → seeks battle t ≡ true → 0 < t → t ≤ 2 * n → game.goal q ≡ false → value battle game t q ≡ true
+      → first_from battle game q ((t - fewest battle) / 2) (fewest battle) ≡ halves battle (least_moves battle game n q)
+  least_moves-halves Selfmate zero t q s some most open_yet v = absurd (omega (arith, some, most))
+  least_moves-halves Selfmate (suc n) t q s some most open_yet v =
+      grind (arith, seeks-halves Selfmate t s some, length-more, least_moves-selfmate game q open_yet n)
+  least_moves-halves Direct zero t q s some most open_yet v = absurd (omega (arith, some, most))
+  least_moves-halves Direct (suc n) t q s some most open_yet v = grind (arith, seeks-halves Direct t s some, length-more, least_moves-direct game q n)
 
   pub half-some : (battle : Battle) (k : ℕ) → 0 < halves battle k → (j : ℕ) × (k ≡ suc j)
   half-some Selfmate k some = (k - 1, omega (arith, some))
@@ -95,14 +96,14 @@ module _ {P M : Type 0} (game : Game P M) where
   value-black battle t q g s v = search rules
 
   -- nothing stands below the goal
-  nothing : (n k : ℕ) (q : P) → game.goal q ≡ true → (battle : Battle) (s : Bool) → cond s (answers battle game n k q) (below battle game n k q) ≡ []
-  unfolding answers below
+  nothing : (n k : ℕ) (q : P) → game.goal q ≡ true → (battle : Battle) (s : Bool) → cond s (answers battle game n k q) (nodes_below battle game n k q) ≡ []
+  unfolding answers nodes_below
   nothing n k q g battle s = search rules
 
-  first_from-least : (battle : Battle) (q : P) (n a : ℕ) → a ≤ first_from battle game q n a
+  first_from-least_moves : (battle : Battle) (q : P) (n a : ℕ) → a ≤ first_from battle game q n a
   unfolding first_from
-  first_from-least battle q zero a = search rules
-  first_from-least battle q (suc n) a = search (rules, first_from-least battle q n (a + 2))
+  first_from-least_moves battle q zero a = search rules
+  first_from-least_moves battle q (suc n) a = search (rules, first_from-least_moves battle q n (a + 2))
 
   pub halves-seek : (battle : Battle) (k : ℕ) → seeks battle (halves battle (suc k)) ≡ true
   halves-seek battle k = search rules
@@ -135,25 +136,26 @@ module _ {P M : Type 0} (game : Game P M) where
 
     -- what the walk shows by some moves, as nodes
     abbrev pub beneath : ℕ → ℕ → P → List (List M)
-    beneath k t q = shown plan game false k (goes_on plan game t q) q (game.moves q)
+    beneath k t q = shown_paths plan game false k (half_moves_on plan game t q) q (game.moves q)
 
     pub as_nodes : (root : Bool) (k t : ℕ) (p : P) (ms : List M)
-        → shown plan game root (suc k) (suc t) p ms
+        → shown_paths plan game root (suc k) (suc t) p ms
         ≡ flat_map (λ m. cond (follows plan game root t (game.after p m)) (node m (beneath k t (game.after p m))) []) ms
-    unfolding shown
+    unfolding shown_paths
     as_nodes root k t p ms = search (rules, flat-same, given_always)
 
     -- the moves of White in his least length, over anything
     white : (n k t : ℕ) (q : P) (G : M → List (List M)) → seeks (battle_of plan.form) t ≡ true → 0 < t → t ≤ 2 * n → t ≤ suc k → game.goal q ≡ false
         → value (battle_of plan.form) game t q ≡ true → ((l : ℕ) (m : M) → seeks (battle_of plan.form) (l + 1) ≡ true → l + 1 ≤ t
         → value (battle_of plan.form) game l (game.after q m) ≡ true → node m (beneath k l (game.after q m)) ≡ G m)
-        → shown plan game false (suc k) (open_length (battle_of plan.form) game t q) q (game.moves q) ≡ flat_map G (best (battle_of plan.form) game n q)
+        → shown_paths plan game false (suc k) (open_length (battle_of plan.form) game t q) q (game.moves q)
+        ≡ flat_map G (best_moves (battle_of plan.form) game n q)
     unfolding open_length
     white n k zero q G s some most room open_yet v each = absurd (omega (arith, some))
     white n k (suc t) q G s some most room open_yet v each =
         let z : eqb (suc t) 0 ≡ false = grind arith in
         let L = first_from (battle_of plan.form) game q ((suc t - fewest (battle_of plan.form)) / 2) (fewest (battle_of plan.form)) in
-        let h : L ≡ halves (battle_of plan.form) (least (battle_of plan.form) game n q) = grind (arith, least-halves) in
+        let h : L ≡ halves (battle_of plan.form) (least_moves (battle_of plan.form) game n q) = grind (arith, least_moves-halves) in
         rw (z, open_yet, s) (go L refl h)
       where
         z0 : eqb (suc t) 0 ≡ false
@@ -162,37 +164,37 @@ module _ {P M : Type 0} (game : Game P M) where
         L0 : ℕ
         L0 = first_from (battle_of plan.form) game q ((suc t - fewest (battle_of plan.form)) / 2) (fewest (battle_of plan.form))
 
-        go : (x : ℕ) → L0 ≡ x → x ≡ halves (battle_of plan.form) (least (battle_of plan.form) game n q)
-            → shown plan game false (suc k) x q (game.moves q) ≡ flat_map G (best (battle_of plan.form) game n q)
-        go zero e h = absurd (grind (arith, first_from-least))
+        go : (x : ℕ) → L0 ≡ x → x ≡ halves (battle_of plan.form) (least_moves (battle_of plan.form) game n q)
+            → shown_paths plan game false (suc k) x q (game.moves q) ≡ flat_map G (best_moves (battle_of plan.form) game n q)
+        go zero e h = absurd (grind (arith, first_from-least_moves))
         go (suc l) e h =
-            let j = half-some (battle_of plan.form) (least (battle_of plan.form) game n q) (omega (arith, h)) in
+            let j = half-some (battle_of plan.form) (least_moves (battle_of plan.form) game n q) (omega (arith, h)) in
             let h2 : suc l ≡ halves (battle_of plan.form) (suc j.0) = h ∙ ap (halves (battle_of plan.form)) j.1 in
             let n2 : l + 1 ≡ halves (battle_of plan.form) (suc j.0) = omega (arith, h2) in
             let l2 : halves (battle_of plan.form) (suc j.0) - 1 ≡ l = omega (arith, h2) in
             let s2 : seeks (battle_of plan.form) (l + 1) ≡ true = rw n2 (halves-seek (battle_of plan.form) j.0) in
             let most2 : L0 ≤ suc t = length_most game (battle_of plan.form) (suc t) q false true false z0 s in
             as_nodes false k l q (game.moves q)
-            ∙ flat-filter _ (λ m. keeps (battle_of plan.form) game (least (battle_of plan.form) game n q) (game.after q m)) _ G (game.moves q)
+            ∙ flat-filter _ (λ m. keeps (battle_of plan.form) game (least_moves (battle_of plan.form) game n q) (game.after q m)) _ G (game.moves q)
             (grind (arith, by_test, keeps-value))
             (λ m v2. each l m s2 (omega (arith, e, most2)) (sym (by_test false l (game.after q m) s2) ∙ v2))
 
-    open-goal : (k : ℕ) (q : P) → game.goal q ≡ true → shown plan game false k (open_length (battle_of plan.form) game k q) q (game.moves q) ≡ []
+    open-goal : (k : ℕ) (q : P) → game.goal q ≡ true → shown_paths plan game false k (open_length (battle_of plan.form) game k q) q (game.moves q) ≡ []
     unfolding open_length
-    open-goal k q g = search (rules, shown-zero)
+    open-goal k q g = search (rules, shown_paths-zero)
 
     module _ (variation : varies plan ≡ true) where
-      beneath-is : (k t : ℕ) (q : P) → beneath k t q ≡ shown plan game false k (open_length (battle_of plan.form) game t q) q (game.moves q)
-      unfolding goes_on
+      beneath-is : (k t : ℕ) (q : P) → beneath k t q ≡ shown_paths plan game false k (open_length (battle_of plan.form) game t q) q (game.moves q)
+      unfolding half_moves_on
       beneath-is k t q = rw (battle, variation) refl
 
       abbrev pub Tie : ℕ → ℕ → ℕ → P → Type 0
-      Tie n k t q = shown plan game false k (open_length (battle_of plan.form) game t q) q (game.moves q) ≡ cond (seeks (battle_of plan.form) t)
-          (answers (battle_of plan.form) game n k q) (below (battle_of plan.form) game n k q)
+      Tie n k t q = shown_paths plan game false k (open_length (battle_of plan.form) game t q) q (game.moves q) ≡ cond (seeks (battle_of plan.form) t)
+          (answers (battle_of plan.form) game n k q) (nodes_below (battle_of plan.form) game n k q)
 
       tie-goal : (n k t : ℕ) (q : P) → game.goal q ≡ true → Tie n k t q
       unfolding open_length
-      tie-goal n k t q g = search (rules, shown-zero, nothing)
+      tie-goal n k t q g = search (rules, shown_paths-zero, nothing)
 
       tie-white : (n k t : ℕ) (q : P) → ((l : ℕ) (r : P) → value (battle_of plan.form) game l r ≡ true → l ≤ k → l ≤ 2 * n → Tie n k l r)
           → value (battle_of plan.form) game (suc t) q ≡ true → suc t ≤ suc k → suc t ≤ 2 * n → game.goal q ≡ false
@@ -203,7 +205,7 @@ module _ {P M : Type 0} (game : Game P M) where
       tie-black : (n k t : ℕ) (q : P) → ((l : ℕ) (r : P) → value (battle_of plan.form) game l r ≡ true → l ≤ k → l ≤ 2 * n → Tie n k l r)
           → value (battle_of plan.form) game (suc t) q ≡ true → suc t ≤ suc k → suc t ≤ 2 * n → game.goal q ≡ false
           → seeks (battle_of plan.form) (suc t) ≡ false → Tie n (suc k) (suc t) q
-      unfolding below open_length
+      unfolding nodes_below open_length
       tie-black n k t q ih v room most g s =
           let z : eqb (suc t) 0 ≡ false = grind arith in
           let one : suc t ≡ t + 1 = omega arith in
@@ -231,51 +233,51 @@ module _ {P M : Type 0} (game : Game P M) where
 
     -- where no variations are shown, nothing stands below a move of White
     beneath-none : (k t : ℕ) (q : P) → varies plan ≡ false → seeks (battle_of plan.form) (t + 1) ≡ true → beneath k t q ≡ []
-    beneath-none k t q v s = search (rules, goes_on-keys, shown-zero)
+    beneath-none k t q v s = search (rules, half_moves_on-keys, shown_paths-zero)
 
     beneath-set : (k t : ℕ) (q : P) → seeks (battle_of plan.form) (t + 1) ≡ false
-        → beneath k t q ≡ shown plan game false k (open_length (battle_of plan.form) game t q) q (game.moves q)
-    unfolding goes_on
+        → beneath k t q ≡ shown_paths plan game false k (open_length (battle_of plan.form) game t q) q (game.moves q)
+    unfolding half_moves_on
     beneath-set k t q s = search rules
 
     -- below a key
-    pub below-key : (n h : ℕ) (q : P) → seeks (battle_of plan.form) (suc h) ≡ true → suc h ≤ 2 * n → value (battle_of plan.form) game h q ≡ true
-        → beneath h h q ≡ cond (varies plan) (below (battle_of plan.form) game n h q) []
-    below-key n h q s most v = go (varies plan) refl
+    pub nodes_below-key : (n h : ℕ) (q : P) → seeks (battle_of plan.form) (suc h) ≡ true → suc h ≤ 2 * n → value (battle_of plan.form) game h q ≡ true
+        → beneath h h q ≡ cond (varies plan) (nodes_below (battle_of plan.form) game n h q) []
+    nodes_below-key n h q s most v = go (varies plan) refl
       where
         s1 : seeks (battle_of plan.form) (h + 1) ≡ true
         s1 = let one : suc h ≡ h + 1 = omega arith in rw (← one) s
 
-        go : (b : Bool) → varies plan ≡ b → beneath h h q ≡ cond b (below (battle_of plan.form) game n h q) []
+        go : (b : Bool) → varies plan ≡ b → beneath h h q ≡ cond b (nodes_below (battle_of plan.form) game n h q) []
         go true e =
             beneath-is e h h q ∙ tie e n h h q v (omega arith) (omega (arith, most))
-            ∙ ap (λ x. cond x (answers (battle_of plan.form) game n h q) (below (battle_of plan.form) game n h q))
+            ∙ ap (λ x. cond x (answers (battle_of plan.form) game n h q) (nodes_below (battle_of plan.form) game n h q))
             (flip _ (sym (seeks-step (battle_of plan.form) h) ∙ s1))
         go false e = beneath-none h h q e s1
 
     -- below a first move of Black in set play
-    pub below-set : (n h : ℕ) (r : P) → seeks (battle_of plan.form) h ≡ true → h ≤ 2 * n → value (battle_of plan.form) game h r ≡ true
+    pub nodes_below-set : (n h : ℕ) (r : P) → seeks (battle_of plan.form) h ≡ true → h ≤ 2 * n → value (battle_of plan.form) game h r ≡ true
         → beneath h h r ≡ cond (varies plan) (answers (battle_of plan.form) game n h r)
-        (cond (game.goal r) [] (map (λ m. m ∷ []) (best (battle_of plan.form) game n r)))
-    below-set n h r s most v = go (varies plan) refl
+        (cond (game.goal r) [] (map (λ m. m ∷ []) (best_moves (battle_of plan.form) game n r)))
+    nodes_below-set n h r s most v = go (varies plan) refl
       where
         s1 : seeks (battle_of plan.form) (h + 1) ≡ false
         s1 = seeks-step (battle_of plan.form) h ∙ ap not s
 
         no_variation : varies plan ≡ false → (h2 : ℕ) → h ≡ h2 → (g : Bool) → game.goal r ≡ g
-            → shown plan game false h2 (open_length (battle_of plan.form) game h2 r) r (game.moves r) ≡ cond g []
-            (map (λ m. m ∷ []) (best (battle_of plan.form) game n r))
+            → shown_paths plan game false h2 (open_length (battle_of plan.form) game h2 r) r (game.moves r) ≡ cond g []
+            (map (λ m. m ∷ []) (best_moves (battle_of plan.form) game n r))
         no_variation e h2 i true g = open-goal h2 r g
         no_variation e zero i false g = absurd (grind (arith, value-end-zero))
         no_variation e (suc k) i false g =
             white n k (suc k) r (λ m. (m ∷ []) ∷ []) (rw i at s) (omega arith) (rw i at most) (omega arith) g (rw i at v)
             (λ l m s2 less v2. ap (node m) (beneath-none k l (game.after r m) e s2))
-            ∙ flat_map_single (λ m. m ∷ []) (best (battle_of plan.form) game n r)
+            ∙ flat_map_single (λ m. m ∷ []) (best_moves (battle_of plan.form) game n r)
 
         go : (b : Bool) → varies plan ≡ b
             → beneath h h r ≡ cond b (answers (battle_of plan.form) game n h r)
-            (cond (game.goal r) [] (map (λ m. m ∷ []) (best (battle_of plan.form) game n r)))
+            (cond (game.goal r) [] (map (λ m. m ∷ []) (best_moves (battle_of plan.form) game n r)))
         go true e =
             beneath-is e h h r ∙ tie e n h h r v (omega arith) most
-            ∙ ap (λ x. cond x (answers (battle_of plan.form) game n h r) (below (battle_of plan.form) game n h r)) s
+            ∙ ap (λ x. cond x (answers (battle_of plan.form) game n h r) (nodes_below (battle_of plan.form) game n h r)) s
         go false e = beneath-set h h r s1 ∙ no_variation e h refl (game.goal r) refl

@@ -1,5 +1,5 @@
 -- The value of a position by what its tests say.
-use Rattle.pop_solve.proofs.Words.{Battle, Bool, Game, List, Selfmate, [], arith, can_move, cond, every_move, false, joined, length, list_any, not, refl, rules, seeks, some_move, suc, true, value, zero, ℕ, ◌%◌, ◌&&◌, ◌<◌, ◌||◌, ◌∷◌, ◌≡◌}
+use Rattle.pop_solve.proofs.Words.{Battle, Bool, Game, List, Selfmate, [], arith, can_move, cond, every_move, false, joined_value, length, list_any, not, refl, rules, seeks, some_move, suc, true, value, zero, ℕ, ◌%◌, ◌&&◌, ◌<◌, ◌||◌, ◌∷◌, ◌≡◌}
 use Rattle.pop_solve.specs.declared.aim.Battle.TheVariants.{Direct}
 use Rattle.std.specs.Prelude.{◌==◌}
 
@@ -20,18 +20,18 @@ module _ {P M : Type 0} (battle : Battle) (game : Game P M) where
   unfolding value
   value-forced p is = rw is refl
 
-  value-joined : (t : ℕ) (p : P) → 0 < t → (t % 2 == 0 && game.goal p) ≡ false → (seeks battle t || can_move game p) ≡ true
-      → value battle game t p ≡ joined battle game t p (game.moves p)
-  unfolding value joined
-  value-joined t p some e k = search rules
+  value-joined_value : (t : ℕ) (p : P) → 0 < t → (t % 2 == 0 && game.goal p) ≡ false → (seeks battle t || can_move game p) ≡ true
+      → value battle game t p ≡ joined_value battle game t p (game.moves p)
+  unfolding value joined_value
+  value-joined_value t p some e k = search rules
 
   -- White with a half-move that nothing ends before
-  pub value-free : (t : ℕ) (p : P) → 0 < t → (t % 2 == 1 && seeks battle t) ≡ true → value battle game t p ≡ joined battle game t p (game.moves p)
-  value-free t p some e = grind (arith, both, value-joined)
+  pub value-free : (t : ℕ) (p : P) → 0 < t → (t % 2 == 1 && seeks battle t) ≡ true → value battle game t p ≡ joined_value battle game t p (game.moves p)
+  value-free t p some e = grind (arith, both, value-joined_value)
 
   -- with a move, and the goal not reached
-  pub value-open : (t : ℕ) (p : P) → 0 < t → can_move game p ≡ true → game.goal p ≡ false → value battle game t p ≡ joined battle game t p (game.moves p)
-  value-open t p some k e = search (rules, value-joined)
+  pub value-open : (t : ℕ) (p : P) → 0 < t → can_move game p ≡ true → game.goal p ≡ false → value battle game t p ≡ joined_value battle game t p (game.moves p)
+  value-open t p some k e = search (rules, value-joined_value)
 
   -- without a move
   pub value-stuck : (t : ℕ) (p : P) → 0 < t → can_move game p ≡ false → value battle game t p ≡ (t % 2 == 0 && game.goal p)

@@ -1,8 +1,8 @@
 -- The outcomes of a step for frames listed from the bottom up, as the code holds them, and what its calls hand on.
-use Rattle.pop_solve.proofs.Words.{AreKnown, Bool, CameFrom, CameFromAt, Counts, Frame, GoesTo, HasCounted, IfSome, IsNextMate, IsPlaceIn, IsWalking, LegalPlace, List, MatchOption, Mate, Option, Plan, Position, RuleSet, Steps, Triple, [], ap, append-nil, arith, battle_of, chess, eqb, false, follows, gives, goes_on, inl, inr, is_for_mate, is_goal, legal, length, length-reverse, mates_behind, moves_behind, moves_behind-end, position, refl, reverse, reverse-append, rules, seeks_last, smallest_tree, subst, suc, sym, true, undo_of, value, ℕ, ◌++◌, ◌+◌, ◌-◌, ◌<◌, ◌∙◌, ◌∷◌, ◌≡◌, ◌≤◌, ◌⊎◌}
-use Rattle.chess_rules.specs.Play.{after as played}
+use Rattle.pop_solve.proofs.Words.{AreKnown, Bool, CameFrom, CameFromAt, Counts, Frame, GoesTo, HasCounted, IfSome, IsNextMate, IsPlaceIn, IsWalking, LegalPlace, List, MatchOption, Mate, Move, Option, Plan, Position, RuleSet, Steps, [], ap, append-nil, arith, battle_of, chess, eqb, false, follows, gives, half_moves_on, inl, inr, is_for_mate, is_legal, is_mate, length, length-reverse, mates_behind, moves_behind, moves_behind-end, position, refl, reverse, reverse-append, rules, seeks_last, smallest_tree, subst, suc, sym, true, undo_of, value, ℕ, ◌++◌, ◌+◌, ◌-◌, ◌<◌, ◌∙◌, ◌∷◌, ◌≡◌, ◌≤◌, ◌⊎◌}
+use Rattle.chess_rules.specs.Play.{position_after}
 use Rattle.pop_solve.proofs.Boards.{for_mate}
-use Rattle.pop_solve.specs.ties.Frames.{opened as opened_frame}
+use Rattle.pop_solve.specs.ties.Frames.{opened_frame}
 use Rattle.pop_solve.proofs.Tests.{learned, moved}
 use Rattle.pop_solve.proofs.GoingOn.{cases}
 use Rattle.pop_solve.proofs.Outcomes.{CameFrom-deep, walking-close, walking-learned, top_room, steps-learned, skips-close, steps-pass, steps-enter, walking-moved}
@@ -43,15 +43,15 @@ module _ (rule : RuleSet) (plan : Plan) (h : ℕ) (top : Frame) (old new : List 
   unfolding AreKnown
   top_known p board r = let s = walking_top p board board r refl in rw s.board_at s.known.0
 
-  module _ (place : ℕ) (known : Option LegalPlace) (m : Triple) (board now : Position) (depth : ℕ) (mid last : List Frame) (at : now ≡ board)
+  module _ (place : ℕ) (known : Option LegalPlace) (m : Move) (board now : Position) (depth : ℕ) (mid last : List Frame) (at : now ≡ board)
       (d : depth ≡ length new)
-      (some : (0 < top.left) × GoesTo rule plan top.left board top.place (m ∷ moves_behind rule board place) × (legal rule board m ≡ true))
+      (some : (0 < top.left) × GoesTo rule plan top.left board top.place (m ∷ moves_behind rule board place) × (is_legal rule board m ≡ true))
       (within : IfSome known (IsPlaceIn rule board)) (put : mid ≡ new ++ moved (learned top known) place ∷ []) where
     abbrev behind : ℕ
     behind = top.left - 1
 
     abbrev arrived : Position
-    arrived = played rule now m
+    arrived = position_after rule now m
 
     mid_is : reverse mid ≡ moved (learned top known) place ∷ reverse new
     mid_is = popped mid new _ put
@@ -59,7 +59,7 @@ module _ (rule : RuleSet) (plan : Plan) (h : ℕ) (top : Frame) (old new : List 
     pub enter_steps : (root given : Bool) (after : Position) (opened opened2 : ℕ) → root ≡ eqb depth 0
         → (follows plan (chess plan.goal rule) root behind arrived ≡ false → (given ≡ false) × (after ≡ now) × (last ≡ mid))
         → (follows plan (chess plan.goal rule) root behind arrived ≡ true → (given ≡ gives plan (chess plan.goal rule) behind arrived) × (after ≡ arrived)
-        × (last ≡ mid ++ opened_frame m (undo_of rule now m) (goes_on plan (chess plan.goal rule) behind arrived) ∷ []))
+        × (last ≡ mid ++ opened_frame m (undo_of rule now m) (half_moves_on plan (chess plan.goal rule) behind arrived) ∷ []))
         → Counts rule plan root behind arrived opened opened2
         → (p : Position) → IsWalking rule h p (reverse old) board → Steps rule plan h p (reverse old) (reverse last) after opened opened2 given
     enter_steps root given after opened opened2 flag passes enters counts p r =
@@ -67,7 +67,7 @@ module _ (rule : RuleSet) (plan : Plan) (h : ℕ) (top : Frame) (old new : List 
         let f = learned top known in
         let r2 = walking-learned rule h p top known (reverse new) now (walking_top p board now r at) (rw at within) in
         let flag2 : eqb (length (reverse new)) 0 ≡ root = ap (λ x. eqb x 0) (depth_is ∙ sym d) ∙ sym flag in
-        let lawful : legal rule now m ≡ true = rw at some.2 in
+        let lawful : is_legal rule now m ≡ true = rw at some.2 in
         let T : Position → Type 0 = λ b. GoesTo rule plan top.left b top.place (m ∷ moves_behind rule b place) in
         let g = subst T (sym at ∙ r2.board_at) some.1 in
         let r3 = walking-moved rule h p f g.mid (reverse new) now now r2 refl in
@@ -106,17 +106,17 @@ walking_back rule h p board (f ∷ frames) r none = absurd (omega (arith, none))
 
 -- what the next move or the next mate says of the moves passed over
 module _ (rule : RuleSet) (plan : Plan) (left : ℕ) (p : Position) (place next : ℕ) where
-  abbrev pub Next : Option Triple → Type 0
+  abbrev pub Next : Option Move → Type 0
   Next o = MatchOption o ((left ≡ 0) ⊎ GoesTo rule plan left p place [])
-      (λ m. (0 < left) × GoesTo rule plan left p place (m ∷ moves_behind rule p next) × (legal rule p m ≡ true))
+      (λ m. (0 < left) × GoesTo rule plan left p place (m ∷ moves_behind rule p next) × (is_legal rule p m ≡ true))
 
-  pub next_mating : (o : Option Triple) → plan.goal ≡ Mate → seeks_last plan ≡ true → left ≡ 1
-      → MatchOption o (mates_behind rule p place ≡ []) (λ m. IsNextMate rule p place next m × (legal rule p m ≡ true)) → Next o
+  pub next_mating : (o : Option Move) → plan.goal ≡ Mate → seeks_last plan ≡ true → left ≡ 1
+      → MatchOption o (mates_behind rule p place ≡ []) (λ m. IsNextMate rule p place next m × (is_legal rule p m ≡ true)) → Next o
   unfolding mates_behind
   next_mating o for last single e = grind (arith, moves_behind-end rule p 28672 (omega arith), append-nil)
 
 -- after a mating last half-move the value is known, and nothing has to be tried for it
-pub value-mated : (rule : RuleSet) (plan : Plan) (left : ℕ) (q : Position) → is_for_mate plan.goal ≡ true → left + 1 ≡ 1 → is_goal rule q ≡ true
+pub value-mated : (rule : RuleSet) (plan : Plan) (left : ℕ) (q : Position) → is_for_mate plan.goal ≡ true → left + 1 ≡ 1 → is_mate rule q ≡ true
     → true ≡ value (battle_of plan.form) (chess plan.goal rule) left q
 unfolding value
 value-mated rule plan left q for last mated = search (rules, for_mate)

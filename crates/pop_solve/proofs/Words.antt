@@ -10,19 +10,19 @@ pub use Rattle.std.proofs.lemmas.List.Sums.{fails_before_first, passes_at_first,
 pub use Rattle.std.specs.List.{AllPairs, Contains, flat_map, list_all, list_any, position_or_len, range_with_len, sum_by}
 pub use Rattle.arrayvec.specs.ArrayVec.{ArrayVec, array_vec_len}
 pub use Rattle.chess_core.specs.Position.{Position, other}
-pub use Rattle.chess_core.specs.Triple.{Triple}
+pub use Rattle.chess_core.specs.declared.man.Move.{Move}
 pub use Rattle.chess_core.specs.WellFormed.{IsWellFormed}
 unfoldable pub use Rattle.chess_core.specs.WellFormed.{is_crossed_right}
 pub use Rattle.chess_rules.proofs.listing_moves.Between.{between-here, between-none, between-past, between-skip, cut_moves}
 pub use Rattle.chess_mates.proofs.MatesBetween.{cut_mates}
-pub use Rattle.chess_rules.proofs.listing_moves.Calls.{pseudo-from_legal}
+pub use Rattle.chess_rules.proofs.listing_moves.Calls.{is_pseudo_legal-from_legal}
 pub use Rattle.chess_rules.proofs.listing_moves.Members.{first_in, from_filter, from_flat_map, from_map, in_cases, in_filter, in_flat_map, in_map, later_in, none_in_nil, pairs_append, pairs_flat_map, pairs_front, pairs_map, pairs_nil, pairs_of, pairs_weaker}
 pub use Rattle.chess_rules.proofs.listing_moves.Places.{moves_behind-end, moves_behind-here, moves_behind-skip, place_of_triple}
 pub use Rattle.chess_rules.proofs.making_moves.Stays.{after_well_formed}
 pub use Rattle.chess_rules.proofs.theorems.Moves.{Precedes, moves_are_the_legal_moves, moves_differ, moves_in_order}
 pub use Rattle.chess_rules.specs.Legal.{is_nil}
-unfoldable pub use Rattle.chess_rules.specs.Legal.{is_goal, is_stalemate, legal, moves}
-pub use Rattle.chess_rules.specs.Loss.{Loss}
+unfoldable pub use Rattle.chess_rules.specs.Legal.{is_legal, is_mate, is_stalemate, moves}
+pub use Rattle.chess_rules.specs.Undo.{Undo}
 unfoldable pub use Rattle.chess_rules.specs.Play.{undo_of}
 pub use Rattle.chess_rules.specs.RuleSet.{RuleSet}
 pub use Rattle.chess_rules.specs.ties.Places.{IsPlaceIn, LegalPlace}
@@ -35,15 +35,15 @@ pub use Rattle.pop_input.specs.declared.stipulation.Form.{Form}
 pub use Rattle.pop_input.specs.declared.stipulation.Goal.{Goal}
 pub use Rattle.pop_input.specs.declared.stipulation.Goal.TheVariants.{Mate}
 pub use Rattle.pop_solve.specs.Aims.{battle_of}
-pub use Rattle.pop_solve.specs.Chess.{chess, is_reached, set_start}
-unfoldable pub use Rattle.pop_solve.specs.Chess.{show}
-pub use Rattle.pop_solve.specs.Events.{BareEvent, counted, event_of, events, events_from, first_phase, impossible, is_barred, is_set, line, opening, path_event, phase_half, phase_half_moves, phase_start, shown_along, shown_last, start, total, tree_node}
+pub use Rattle.pop_solve.specs.Chess.{chess, is_goal_reached, set_start}
+unfoldable pub use Rattle.pop_solve.specs.Chess.{shown_move}
+pub use Rattle.pop_solve.specs.Events.{BareEvent, event_of, events, events_from, first_phase, impossible, is_barred, is_set, line, opening, path_event, phase_count, phase_half, phase_half_moves, phase_start, play_start, shown_along, shown_last, total, tree_node}
 unfoldable pub use Rattle.pop_solve.specs.Events.{phase_events, solutions}
-pub use Rattle.pop_solve.specs.Game.{Game, can_move, every_move, reach, some_move}
-unfoldable pub use Rattle.pop_solve.specs.Game.{help_lines, lines_to_goal, lost, self_lost, self_wins, wins}
+pub use Rattle.pop_solve.specs.Game.{Game, can_move, every_move, path_end, some_move}
+unfoldable pub use Rattle.pop_solve.specs.Game.{help_lines, is_lost, is_self_lost, lines_to_goal, self_wins, wins}
 pub use Rattle.pop_solve.specs.Shown.{Shown}
-pub use Rattle.pop_solve.specs.Tree.{best, keeps, least, node, set_shows, tree, wins_in}
-unfoldable pub use Rattle.pop_solve.specs.Tree.{answers, below, set_tree}
+pub use Rattle.pop_solve.specs.Tree.{best_moves, keeps, least_moves, node, set_shows, tree, wins_in}
+unfoldable pub use Rattle.pop_solve.specs.Tree.{answers, nodes_below, set_tree}
 pub use Rattle.pop_solve.specs.declared.aim.Battle.{Battle}
 pub use Rattle.pop_solve.specs.declared.aim.Battle.TheVariants.{Selfmate}
 pub use Rattle.pop_solve.specs.declared.event.Event.{Event}
@@ -57,14 +57,14 @@ pub use Rattle.pop_solve.specs.declared.plan.Plan.{Plan}
 pub use Rattle.pop_solve.specs.ties.Calls.{Counts}
 pub use Rattle.pop_solve.specs.ties.Counts.{HasCounted, decided_by}
 unfoldable pub use Rattle.pop_solve.specs.ties.Counts.{least_of, smallest_below, smallest_tree, walk_count}
-pub use Rattle.pop_solve.specs.ties.Frames.{CameFrom, CameFromAt, Ends, Frame, IsOpenedOn, IsTesting, Order, Turns, ahead, all_of, comes_early, is_at, opened, stretches_behind, tested, top_left, untried}
-unfoldable pub use Rattle.pop_solve.specs.ties.Frames.{AreKnown, IsCut, IsLinked, belongs, deliver, here, later, pending, position, steps, steps_among, steps_behind, tests, to_open, to_test, to_try, to_try_with, walk_among, walk_behind, work}
+pub use Rattle.pop_solve.specs.ties.Frames.{CameFrom, CameFromAt, Ends, Frame, IsOpenedOn, IsTesting, Order, Turns, all_moves_of, comes_early, is_at, moves_ahead, opened_frame, stretches_behind, tested_frame, top_left, untried_moves}
+unfoldable pub use Rattle.pop_solve.specs.ties.Frames.{AreKnown, IsCut, IsLinked, belongs, delivered_value, moves_here, moves_later, pending_value, position, steps, steps_among, steps_behind, tests, to_open, to_test, to_try, to_try_with, walk_among, walk_behind, work}
 pub use Rattle.pop_solve.specs.ties.Marks.{is_for_mate}
 pub use Rattle.pop_solve.specs.ties.Phases.{Gives, IsGiven, IsKeys, IsOpened, OpensOn, Walks, begins, phase_paths}
-unfoldable pub use Rattle.pop_solve.specs.ties.Phases.{IsNarrow, IsStanding, keep, left_of, rest_fewest, rest_open, started}
+unfoldable pub use Rattle.pop_solve.specs.ties.Phases.{IsNarrow, IsStanding, beginning_count, keep, left_of, rest_fewest, rest_open}
 pub use Rattle.pop_solve.specs.ties.Plans.{plan_of, shows_variations, tree_shown, varies}
 pub use Rattle.pop_solve.specs.ties.Seen.{StandsOn, fewest_from, is_stop, is_unstopped, is_walked_once, phase_fewest, phase_walk, walk_from}
 pub use Rattle.pop_solve.specs.ties.Values.{decides, join, seeks}
-unfoldable pub use Rattle.pop_solve.specs.ties.Values.{joined, value}
+unfoldable pub use Rattle.pop_solve.specs.ties.Values.{joined_value, value}
 pub use Rattle.pop_solve.specs.ties.Walk.{GoesTo, IsCounted, IsEnded, IsWalking, Opens, Steps, Tries, ends_variation, fewest, fewest_for, seeks_last}
-unfoldable pub use Rattle.pop_solve.specs.ties.Walk.{IsRoomy, IsWhites, fewest_left, fewest_walked, first_from, follows, gives, goes_on, open_length, path, shown, to_come, turns}
+unfoldable pub use Rattle.pop_solve.specs.ties.Walk.{IsRoomy, IsWhites, fewest_left, fewest_walked, first_from, follows, gives, half_moves_on, open_length, path, shown_paths, to_come, turns}

@@ -2,30 +2,38 @@
 -- of events are this project's own; half-moves are numbered as in the Popeye manual.
 use Rattle.pop_solve.specs.Aims.{battle_of}
 use Rattle.pop_input.specs.declared.stipulation.Goal.{Goal}
-use Rattle.chess_rules.specs.Play.{after as played}
+use Rattle.chess_rules.specs.Play.{position_after}
 use Rattle.std.specs.Prelude.{ℕ, ◌+◌, ◌-◌, ◌==◌, Bool, true, false, ◌&&◌, if◌then◌else◌, List, [], ◌∷◌, ◌++◌, map, take, length}
 use Rattle.std.specs.List.{flat_map}
 use Rattle.chess_core.specs.Diagrams.{position_of}
 use Rattle.chess_core.specs.Position.{Position}
-use Rattle.chess_core.specs.Triple.{Triple}
+use Rattle.chess_core.specs.declared.man.Move.{Move}
 use Rattle.chess_rules.specs.RuleSet.{RuleSet}
 use Rattle.pop_solve.specs.Game.{help_lines}
 use Rattle.pop_solve.specs.Tree.{tree, set_tree}
 use Rattle.pop_input.specs.Posed.{Posed, rule_of}
 use Rattle.pop_input.specs.Stipulations.{is_help, first_half, half_moves}
-use Rattle.pop_solve.specs.Chess.{chess, is_impossible, nothing_shown, set_start, show}
+use Rattle.pop_solve.specs.Chess.{chess, is_impossible, nothing_shown, set_start, shown_move}
 use Rattle.pop_solve.specs.Shown.{Shown}
 use Rattle.pop_solve.specs.declared.event.Event.{Event}
 use Rattle.pop_solve.specs.declared.event.Event.TheVariants.{Phase as PhaseEvent, Line, Node, Impossible, Total}
 use Rattle.pop_solve.specs.declared.event.Phase.{Phase}
 use Rattle.pop_solve.specs.declared.event.Phase.TheVariants.{Set, Play}
 
+-- moves one after another: a line, or those that lead to a node of a tree
+abbrev pub Path : Type 0
+Path = List Move
+
+-- a line, or a node with all below it
+abbrev pub Solution : Type 0
+Solution = List Path
+
 -- an event before it is shown: its path in place of moves, with its phase
 pub data BareEvent : Type 0 where
   opening : Phase → BareEvent
   impossible : BareEvent
-  line : Phase → List Triple → BareEvent
-  tree_node : Phase → List Triple → BareEvent
+  line : Phase → Path → BareEvent
+  tree_node : Phase → Path → BareEvent
   total : ℕ → Bool → BareEvent
 
 -- the phase is set play
@@ -38,20 +46,21 @@ abbrev pub first_phase : Posed → Phase
 first_phase problem = if problem.set_play then Set else Play
 
 -- the first position of the play
-abbrev pub start : Posed → Position
-start problem = position_of problem.diagram
+abbrev pub play_start : Posed → Position
+play_start problem = position_of problem.diagram
 
 -- the first position of a phase
 abbrev pub phase_start : Posed → Phase → Position
-phase_start problem phase = if is_set phase then set_start (start problem) else start problem
+phase_start problem phase =
+    if is_set phase then set_start (play_start problem) else play_start problem
 
 -- its half-moves: set play drops the first
 abbrev pub phase_half_moves : Posed → Phase → ℕ
 phase_half_moves problem phase = if is_set phase then half_moves problem.stipulation - 1
     else half_moves problem.stipulation
 
--- its solutions, each a list of paths: a line, or a node with all below it
-unfoldable pub solutions : RuleSet → Posed → Phase → List (List (List Triple))
+-- its solutions
+unfoldable pub solutions : RuleSet → Posed → Phase → List Solution
 solutions rule problem phase =
     let h = phase_half_moves problem phase in
     let p = phase_start problem phase in
@@ -64,16 +73,16 @@ solutions rule problem phase =
 
 -- a phase with set play's first position is barred where that can't stand
 abbrev pub is_barred : RuleSet → Posed → Phase → Bool
-is_barred rule problem phase = is_set phase && is_impossible rule (set_start (start problem))
+is_barred rule problem phase = is_set phase && is_impossible rule (set_start (play_start problem))
 
 -- a path as an event
-abbrev pub path_event : Posed → Phase → List Triple → BareEvent
+abbrev pub path_event : Posed → Phase → Path → BareEvent
 path_event problem phase path = if is_help problem.stipulation.form then line phase path
     else tree_node phase path
 
 -- how many solutions a phase has, up to the limit
-abbrev pub counted : RuleSet → Posed → Phase → ℕ
-counted rule problem phase = length (take problem.max_solutions (solutions rule problem phase))
+abbrev pub phase_count : RuleSet → Posed → Phase → ℕ
+phase_count rule problem phase = length (take problem.max_solutions (solutions rule problem phase))
 
 -- a phase: its name; then that it is barred, or its first solutions, whole, and their number
 unfoldable pub phase_events : RuleSet → Posed → Phase → List BareEvent
@@ -81,7 +90,8 @@ phase_events rule problem phase =
     opening phase ∷ (if is_barred rule problem phase then impossible ∷ []
     else map (path_event problem phase) (flat_map (λ solution. solution)
     (take problem.max_solutions (solutions rule problem phase)))
-    ++ total (counted rule problem phase) (counted rule problem phase == problem.max_solutions)
+    ++ total (phase_count rule problem phase)
+    (phase_count rule problem phase == problem.max_solutions)
     ∷ [])
 
 -- the events from a phase on
@@ -94,17 +104,17 @@ events_from rule problem phase =
 abbrev pub events : RuleSet → Posed → List BareEvent
 events rule problem = events_from rule problem (first_phase problem)
 
--- the moves of a path from p as they are shown, and the last of them
-abbrev pub shown_along : Goal → RuleSet → Position → List Triple → List Shown
+-- the moves of a path from p as they are shown
+abbrev pub shown_along : Goal → RuleSet → Position → Path → List Shown
 shown_along goal rule p [] = []
-shown_along goal rule p (m ∷ path) = show goal rule p m
-    ∷ shown_along goal rule (played rule p m) path
+shown_along goal rule p (m ∷ path) = shown_move goal rule p m
+    ∷ shown_along goal rule (position_after rule p m) path
 
 -- the last move of a path from p as it is shown
-abbrev pub shown_last : Goal → RuleSet → Position → List Triple → Shown
+abbrev pub shown_last : Goal → RuleSet → Position → Path → Shown
 shown_last goal rule p [] = nothing_shown
-shown_last goal rule p (m ∷ []) = show goal rule p m
-shown_last goal rule p (m ∷ (n ∷ path)) = shown_last goal rule (played rule p m) (n ∷ path)
+shown_last goal rule p (m ∷ []) = shown_move goal rule p m
+shown_last goal rule p (m ∷ (n ∷ path)) = shown_last goal rule (position_after rule p m) (n ∷ path)
 
 -- the number of a phase's first half-move
 abbrev pub phase_half : Posed → Phase → ℕ

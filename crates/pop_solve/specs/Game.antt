@@ -23,15 +23,15 @@ module _ {P M : Type 0} where
   every_move game test p = list_all (λ m. test (game.after p m)) (game.moves p)
 
   -- Direct play. In q the goal is reached, or the other side reaches it within j further moves against every defence
-  unfoldable pub lost : Game P M → ℕ → P → Bool
-  lost game zero q = game.goal q
-  lost game (suc j) q = game.goal q || (can_move game q
-      && every_move game (some_move game (lost game j)) q)
+  unfoldable pub is_lost : Game P M → ℕ → P → Bool
+  is_lost game zero q = game.goal q
+  is_lost game (suc j) q = game.goal q || (can_move game q
+      && every_move game (some_move game (is_lost game j)) q)
 
   -- the side to move in p reaches the goal within k moves
   unfoldable pub wins : Game P M → ℕ → P → Bool
   wins game zero p = false
-  wins game (suc k) p = some_move game (lost game k) p
+  wins game (suc k) p = some_move game (is_lost game k) p
 
   -- Selfmate. The side to move in p forces the other side to reach the goal within k moves
   unfoldable pub self_wins : Game P M → ℕ → P → Bool
@@ -41,8 +41,8 @@ module _ {P M : Type 0} where
       && every_move game (λ r. game.goal r || self_wins game k r) q) p
 
   -- after a move of that side to q, j moves with it: there is a move, and each one reaches the goal or leaves a win
-  unfoldable pub self_lost : Game P M → ℕ → P → Bool
-  self_lost game j q = can_move game q && every_move game
+  unfoldable pub is_self_lost : Game P M → ℕ → P → Bool
+  is_self_lost game j q = can_move game q && every_move game
       (λ r. game.goal r || self_wins game (j - 1) r) q
 
   -- Help play. In the order of moves, all lists of h moves, each legal where it stands, whose last position has the goal
@@ -57,6 +57,6 @@ module _ {P M : Type 0} where
   help_lines game (suc h) p = lines_to_goal game (suc h) p
 
   -- the position to which a path leads
-  abbrev pub reach : (P → M → P) → P → List M → P
-  reach after p [] = p
-  reach after p (m ∷ path) = reach after (after p m) path
+  abbrev pub path_end : (P → M → P) → P → List M → P
+  path_end after p [] = p
+  path_end after p (m ∷ path) = path_end after (after p m) path

@@ -3,12 +3,11 @@
 use Rattle.std.specs.Prelude.{ℕ, zero, suc, ◌-◌, ◌==◌, min, Bool, true, false, ◌&&◌, ◌||◌, if◌then◌else◌, List, [], ◌∷◌, ◌++◌, map, take, filter, length, Option, None, slice_get}
 use Rattle.std.specs.List.{flat_map}
 use Rattle.chess_core.specs.MoveOrder.{triple_number}
-use Rattle.chess_core.specs.Triple.{Triple}
 use Rattle.chess_rules.specs.RuleSet.{RuleSet}
 use Rattle.pop_input.specs.Posed.{Posed}
 use Rattle.pop_input.specs.Stipulations.{is_help}
 use Rattle.pop_solve.specs.Chess.{chess}
-use Rattle.pop_solve.specs.Events.{BareEvent, is_barred, path_event, phase_half_moves, phase_start, solutions, total}
+use Rattle.pop_solve.specs.Events.{BareEvent, Path, Solution, is_barred, path_event, phase_half_moves, phase_start, solutions, total}
 use Rattle.pop_solve.specs.Game.{Game}
 use Rattle.pop_solve.specs.declared.event.Phase.{Phase}
 
@@ -27,40 +26,40 @@ part_depth problem phase depth =
 
 -- the parts of a phase, each told by its first moves, in the order of moves; none where the phase can't stand or has no
 -- half-move
-unfoldable pub parts : RuleSet → Posed → Phase → ℕ → List (List Triple)
+unfoldable pub parts : RuleSet → Posed → Phase → ℕ → List Path
 parts rule problem phase depth =
     if is_barred rule problem phase || (phase_half_moves problem phase == 0) then []
     else beginnings (chess problem.stipulation.goal rule) (part_depth problem phase depth)
     (phase_start problem phase)
 
 -- the part with a number, counted from 1
-abbrev pub part_numbered : RuleSet → Posed → Phase → ℕ → ℕ → Option (List Triple)
+abbrev pub part_numbered : RuleSet → Posed → Phase → ℕ → ℕ → Option Path
 part_numbered rule problem phase depth number =
     if number == 0 then None else slice_get (parts rule problem phase depth) (number - 1)
 
 -- the path begins with these moves, which are told by their numbers in the order of moves
-unfoldable pub is_front : List Triple → List Triple → Bool
-is_front [] path = true
-is_front (m ∷ front) [] = false
-is_front (m ∷ front) (n ∷ path) = triple_number m == triple_number n && is_front front path
+unfoldable pub begins_path : Path → Path → Bool
+begins_path [] path = true
+begins_path (m ∷ front) [] = false
+begins_path (m ∷ front) (n ∷ path) = triple_number m == triple_number n && begins_path front path
 
 -- the solution begins so: its first path does
-abbrev pub begins_so : List Triple → List (List Triple) → Bool
+abbrev pub begins_so : Path → Solution → Bool
 begins_so front [] = false
-begins_so front (path ∷ paths) = is_front front path
+begins_so front (path ∷ paths) = begins_path front path
 
 -- the solutions of a part: those of its phase that begin so
-unfoldable pub part_solutions : RuleSet → Posed → Phase → List Triple → List (List (List Triple))
+unfoldable pub part_solutions : RuleSet → Posed → Phase → Path → List Solution
 part_solutions rule problem phase front =
     filter (begins_so front) (solutions rule problem phase)
 
 -- how many solutions a part has, up to the limit
-abbrev pub part_count : RuleSet → Posed → Phase → List Triple → ℕ
+abbrev pub part_count : RuleSet → Posed → Phase → Path → ℕ
 part_count rule problem phase front =
     length (take problem.max_solutions (part_solutions rule problem phase front))
 
 -- the events of a part: its first solutions, whole, and their number
-unfoldable pub part_events : RuleSet → Posed → Phase → List Triple → List BareEvent
+unfoldable pub part_events : RuleSet → Posed → Phase → Path → List BareEvent
 part_events rule problem phase front =
     map (path_event problem phase) (flat_map (λ solution. solution)
     (take problem.max_solutions (part_solutions rule problem phase front)))

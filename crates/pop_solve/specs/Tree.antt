@@ -4,7 +4,7 @@ use Rattle.pop_solve.specs.declared.aim.Battle.{Battle}
 use Rattle.pop_solve.specs.declared.aim.Battle.TheVariants.{Direct, Selfmate}
 use Rattle.std.specs.Prelude.{ℕ, zero, suc, ◌-◌, Bool, ◌||◌, if◌then◌else◌, List, [], ◌∷◌, map}
 use Rattle.std.specs.List.{filter, flat_map, position_or_len, range_with_len}
-use Rattle.pop_solve.specs.Game.{Game, lost, wins, self_wins, self_lost}
+use Rattle.pop_solve.specs.Game.{Game, is_lost, wins, self_wins, is_self_lost}
 
 module _ {M : Type 0} where
   -- Trees are lists of paths, each node before what stands below it. The node m over the nodes below it
@@ -14,8 +14,8 @@ module _ {M : Type 0} where
 module _ {P M : Type 0} where
   -- after a move of White to q he still wins within n moves, that one counted
   abbrev pub keeps : Battle → Game P M → ℕ → P → Bool
-  keeps Direct game n q = lost game (n - 1) q
-  keeps Selfmate game n q = self_lost game n q
+  keeps Direct game n q = is_lost game (n - 1) q
+  keeps Selfmate game n q = is_self_lost game n q
 
   -- White to move wins p within k moves
   abbrev pub wins_in : Battle → Game P M → ℕ → P → Bool
@@ -23,19 +23,20 @@ module _ {P M : Type 0} where
   wins_in Selfmate game k p = self_wins game k p
 
   -- the smallest number of moves, up to n, within which White to move wins p
-  abbrev pub least : Battle → Game P M → ℕ → P → ℕ
-  least battle game n p = position_or_len (λ k. wins_in battle game k p) (range_with_len 0 n)
+  abbrev pub least_moves : Battle → Game P M → ℕ → P → ℕ
+  least_moves battle game n p = position_or_len (λ k. wins_in battle game k p) (range_with_len 0 n)
 
   -- the moves to a win in the least number of moves, up to n
-  abbrev pub best : Battle → Game P M → ℕ → P → List M
-  best battle game n r = filter (λ m. keeps battle game (least battle game n r) (game.after r m))
+  abbrev pub best_moves : Battle → Game P M → ℕ → P → List M
+  best_moves battle game n r =
+      filter (λ m. keeps battle game (least_moves battle game n r) (game.after r m))
       (game.moves r)
 
   unfoldable mutual
     -- the nodes below a position in which Black moves, with h half-moves left: every defence
-    pub below : Battle → Game P M → ℕ → ℕ → P → List (List M)
-    below battle game n zero q = []
-    below battle game n (suc h) q =
+    pub nodes_below : Battle → Game P M → ℕ → ℕ → P → List (List M)
+    nodes_below battle game n zero q = []
+    nodes_below battle game n (suc h) q =
         if game.goal q then [] else flat_map
         (λ d. node d (answers battle game n h (game.after q d))) (game.moves q)
 
@@ -43,13 +44,15 @@ module _ {P M : Type 0} where
     pub answers : Battle → Game P M → ℕ → ℕ → P → List (List M)
     answers battle game n zero r = []
     answers battle game n (suc h) r =
-        if game.goal r then [] else flat_map (λ m. node m (below battle game n h (game.after r m)))
-        (best battle game n r)
+        if game.goal r then []
+        else flat_map (λ m. node m (nodes_below battle game n h (game.after r m)))
+        (best_moves battle game n r)
 
   -- the play of a problem of n moves and h half-moves: a list of nodes for each key
   abbrev pub tree : Battle → Game P M → Bool → ℕ → ℕ → P → List (List (List M))
   tree battle game variation n h p =
-      map (λ m. node m (if variation then below battle game n (h - 1) (game.after p m) else []))
+      map (λ m. node m (if variation then nodes_below battle game n (h - 1) (game.after p m)
+      else []))
       (filter (λ m. keeps battle game n (game.after p m)) (game.moves p))
 
   -- the moves of Black that set play shows
@@ -63,5 +66,5 @@ module _ {P M : Type 0} where
   set_tree battle game variation n (suc h) p =
       map (λ d. let r = game.after p d in
       node d (if variation then answers battle game n h r
-      else (if game.goal r then [] else map (λ m. m ∷ []) (best battle game n r))))
+      else (if game.goal r then [] else map (λ m. m ∷ []) (best_moves battle game n r))))
       (filter (λ d. set_shows battle game n (game.after p d)) (game.moves p))

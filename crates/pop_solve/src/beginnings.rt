@@ -3,15 +3,15 @@
 ghost use Rattle.std.specs.Prelude.{◌≡◌, ◌+◌, ◌-◌, ◌<◌, ◌≤◌, ◌==◌, ◌^◌, ◌||◌, ℕ, min, not, [], ◌∷◌, ◌++◌, length, reverse, slice_get, true, false, MatchOption, None, Some};
 ghost use Rattle.arrayvec.specs.ArrayVec.{array_vec_len};
 ghost use Rattle.chess_core.specs.Position.{Position};
-ghost use Rattle.chess_rules.specs.Legal.{legal};
+ghost use Rattle.chess_rules.specs.Legal.{is_legal};
 ghost use Rattle.pop_input.specs.declared.stipulation.Goal.{Goal};
 ghost use Rattle.pop_input.specs.Posed.{IsSound, rule_of};
 ghost use Rattle.pop_input.specs.Stipulations.{half_moves};
-ghost use Rattle.pop_solve.specs.Events.{is_barred, phase_half_moves as half_moves_of_phase, phase_start, start};
+ghost use Rattle.pop_solve.specs.Events.{is_barred, phase_half_moves as half_moves_of_phase, phase_start, play_start};
 ghost use Rattle.pop_solve.specs.Chess.{chess};
 ghost use Rattle.pop_solve.specs.Parts.{beginnings, part_depth as depth_of_parts, part_numbered, parts};
 ghost use Rattle.pop_solve.specs.ties.Beginnings.{beginnings_to_come, FindsNumbered, IsSeeking, Seeks};
-ghost use Rattle.pop_solve.specs.ties.Frames.{opened};
+ghost use Rattle.pop_solve.specs.ties.Frames.{opened_frame};
 ghost use Rattle.pop_solve.specs.ties.Walk.{path};
 
 use crate::chess::next_move;
@@ -40,7 +40,7 @@ fn part_depth(problem: &Problem, phase: Phase, depth: usize) -> usize
 
 /// The frame of a position that a move has reached, from which nothing is tried.
 fn idle<R: Rules>(by: Move, undo: Undo) -> Frame<R>
-    ensures { result ≡ opened by undo 0 }
+    ensures { result ≡ opened_frame by undo 0 }
 {
     Frame {
         place: Moves::start(),
@@ -100,7 +100,7 @@ fn set_out<R: Rules, const N: usize>(
     board: &mut Board,
     frames: &mut ArrayVec<Frame<R>, N>,
 ) -> bool
-    requires board { board.old ≡ start problem.now }
+    requires board { board.old ≡ play_start problem.now }
     requires room { 0 < N }
     requires none { frames.old.items ≡ [] }
     ensures possible { result ≡ not (is_barred R.rule problem.now phase
@@ -169,7 +169,7 @@ pub(crate) fn go_to_part<R: Rules, const N: usize>(
     requires sound { IsSound problem.now }
     requires room { half_moves problem.now.stipulation < N }
     requires depth { 1 ≤ depth }
-    requires board { board.old ≡ start problem.now }
+    requires board { board.old ≡ play_start problem.now }
     requires none { frames.old.items ≡ [] }
     ensures found { MatchOption result (part_numbered R.rule problem.now phase depth number ≡ None)
         (λ m. (part_numbered R.rule problem.now phase depth number
@@ -177,7 +177,7 @@ pub(crate) fn go_to_part<R: Rules, const N: usize>(
         × IsSeeking R.rule (half_moves_of_phase problem.now phase)
         (depth_of_parts problem.now phase depth) (phase_start problem.now phase)
         (reverse frames.new.items) board.new
-        × (legal R.rule board.new m ≡ true)
+        × (is_legal R.rule board.new m ≡ true)
         × (array_vec_len frames.new ≡ depth_of_parts problem.now phase depth)) }
 {
     if number == 0 {

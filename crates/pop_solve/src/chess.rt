@@ -4,13 +4,13 @@ ghost use Rattle.chess_core.specs.Diagrams.{position_of};
 ghost use Rattle.chess_core.specs.Position.{Position};
 ghost use Rattle.chess_core.specs.WellFormed.{IsWellFormed};
 ghost use Rattle.chess_rules.specs.Attacks.{in_check};
-ghost use Rattle.chess_rules.specs.Legal.{legal};
+ghost use Rattle.chess_rules.specs.Legal.{is_legal};
 ghost use Rattle.chess_rules.specs.ties.Places.{IsPlaceIn, moves_behind, moves_between, place_of};
 ghost use Rattle.chess_mates.specs.ties.Mates.{IsNextMate, mates_behind};
 ghost use Rattle.pop_input.specs.declared.stipulation.Goal.{Goal};
 ghost use Rattle.pop_input.specs.declared.stipulation.Goal.TheVariants.{Mate};
 ghost use Rattle.pop_solve.specs.ties.Calls.{Finds, IsOnMate};
-ghost use Rattle.pop_solve.specs.Chess.{castling_side, chess, is_impossible, mark_of, reborn, set_start, shown_of};
+ghost use Rattle.pop_solve.specs.Chess.{castling_side, chess, is_impossible, mark_of, reborn_man, set_start, shown_of};
 ghost use Rattle.pop_solve.specs.ties.Marks.{is_for_mate};
 ghost use Rattle.pop_solve.specs.declared.chess.Reached.TheVariants.{Surely};
 ghost use Rattle.pop_solve.specs.ties.Frames.{CameBy};
@@ -72,7 +72,7 @@ pub(crate) fn next_move<R: Rules>(
     ensures next { MatchOption result (moves_behind R.rule board.old place.old ≡ [])
         (λ m. (moves_behind R.rule board.old place.old
         ≡ m ∷ moves_behind R.rule board.old place.new)
-        × (legal R.rule board.old m ≡ true)) }
+        × (is_legal R.rule board.old m ≡ true)) }
 {
     let mut moves = moves_at::<R>(*known, *place, board);
     let found = next_behind::<R>(&mut moves, board);
@@ -122,7 +122,7 @@ pub(crate) fn next_mate<R: Rules>(place: &mut Moves<R>, board: &mut Board) -> Op
     ensures unchanged { board.new ≡ board.old }
     ensures next { MatchOption result (mates_behind R.rule board.old place.old ≡ [])
         (λ m. IsNextMate R.rule board.old place.old place.new m
-        × (legal R.rule board.old m ≡ true)) }
+        × (is_legal R.rule board.old m ≡ true)) }
 {
     chess_mates::mating_moves::next_mate::<R>(place, board)
 }
@@ -170,7 +170,7 @@ pub(crate) fn retract<R: Rules>(board: &mut Board, by: Move, undo: Undo)
 }
 
 /// What a move has done to the side that is to move now.
-#[tactic(auto, unfolding(crate::specs::Chess::mark_of, chess_rules::specs::Legal::is_goal, chess_rules::specs::Legal::is_stalemate))]
+#[tactic(auto, unfolding(crate::specs::Chess::mark_of, chess_rules::specs::Legal::is_mate, chess_rules::specs::Legal::is_stalemate))]
 pub(crate) fn mark_of<R: Rules>(goal: Goal, board: &mut Board) -> Mark
     requires well_formed { IsWellFormed board.old }
     ensures unchanged { board.new ≡ board.old }
@@ -198,7 +198,7 @@ pub(crate) enum Reached {
 }
 
 /// The same where it may be known already that the goal is reached.
-#[tactic(auto, unfolding(crate::specs::Chess::mark_of, chess_rules::specs::Legal::is_goal, chess_rules::specs::Legal::is_stalemate))]
+#[tactic(auto, unfolding(crate::specs::Chess::mark_of, chess_rules::specs::Legal::is_mate, chess_rules::specs::Legal::is_stalemate))]
 pub(crate) fn mark_after<R: Rules>(goal: Goal, reached: Reached, board: &mut Board) -> Mark
     requires well_formed { IsWellFormed board.old }
     requires reached { reached ≡ Surely → (chess goal R.rule).goal board.old ≡ true }
@@ -235,7 +235,7 @@ pub(crate) fn reaches_goal<R: Rules>(goal: Goal, board: &mut Board) -> bool
 }
 
 /// Whether the goal is reached in the board's position, which has no legal move.
-#[tactic(auto, unfolding(chess_rules::specs::Legal::is_goal, chess_rules::specs::Legal::is_stalemate))]
+#[tactic(auto, unfolding(chess_rules::specs::Legal::is_mate, chess_rules::specs::Legal::is_stalemate))]
 pub(crate) fn is_reached_without_move<R: Rules>(goal: Goal, board: &Board) -> bool
     requires { has_move (chess goal R.rule) board.now ≡ false }
     ensures { result ≡ (chess goal R.rule).goal board.now }
@@ -254,8 +254,8 @@ fn castling_side(man: Man, by: &Move) -> Option<Side>
 }
 
 /// The reborn man and his square, if he is reborn.
-fn reborn(man: Option<Man>, square: Option<Square>) -> Option<(Man, Square)>
-    ensures { result ≡ reborn man square }
+fn reborn_man(man: Option<Man>, square: Option<Square>) -> Option<(Man, Square)>
+    ensures { result ≡ reborn_man man square }
 {
     match (man, square) {
         (Some(man), Some(square)) => Some((man, square)),
@@ -286,7 +286,7 @@ pub(crate) fn shown_of(
         ep: capture && there.is_none(),
         promo: by.promo,
         castling: castling_side(man, by),
-        rebirth: reborn(undo.captured, undo.rebirth),
+        rebirth: reborn_man(undo.captured, undo.rebirth),
         mark,
     }
 }

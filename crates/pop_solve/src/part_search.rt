@@ -2,13 +2,13 @@
 ghost use Rattle.std.specs.Prelude.{◌≡◌, ◌+◌, ◌-◌, ◌<◌, ◌≤◌, ◌==◌, ◌^◌, ℕ, [], ◌∷◌, ◌++◌, length, reverse, true, false, min};
 ghost use Rattle.arrayvec.specs.ArrayVec.{array_vec_len};
 ghost use Rattle.chess_core.specs.WellFormed.{IsWellFormed};
-ghost use Rattle.chess_core.specs.Triple.{Triple};
+ghost use Rattle.chess_core.specs.declared.man.Move.{Move};
 ghost use Rattle.std.specs.Prelude.{List};
-ghost use Rattle.chess_rules.specs.Legal.{is_goal, legal};
-ghost use Rattle.chess_rules.specs.Play.{after as played};
+ghost use Rattle.chess_rules.specs.Legal.{is_legal, is_mate};
+ghost use Rattle.chess_rules.specs.Play.{position_after};
 ghost use Rattle.pop_input.specs.Posed.{IsSound};
 ghost use Rattle.pop_input.specs.Stipulations.{half_moves, is_help};
-ghost use Rattle.pop_solve.specs.Events.{event_of, path_event, phase_half_moves as half_moves_of_phase, phase_start, start};
+ghost use Rattle.pop_solve.specs.Events.{event_of, path_event, phase_half_moves as half_moves_of_phase, phase_start, play_start};
 ghost use Rattle.pop_solve.specs.Parts.{part_events};
 ghost use Rattle.pop_solve.specs.ties.Beginnings.{IsSeeking};
 ghost use Rattle.pop_solve.specs.ties.Marks.{is_for_mate};
@@ -49,11 +49,12 @@ pub enum PartStage {
 fn may_lead<R: Rules>(plan: Plan, left: usize, by: Move, board: &mut Board) -> bool
     requires well_formed { IsWellFormed board.old }
     requires few { left ≤ 32 }
-    requires legal { legal R.rule board.old by ≡ true }
+    requires legal { is_legal R.rule board.old by ≡ true }
     ensures unchanged { board.new ≡ board.old }
-    ensures mated { result ≡ true → IsMatedAtLast R.rule plan left (played R.rule board.old by) }
+    ensures mated { result ≡ true → IsMatedAtLast R.rule plan left
+        (position_after R.rule board.old by) }
     ensures fails { result ≡ false → (is_for_mate plan.goal ≡ true) × (seeks_last plan ≡ true)
-        × (left ≡ 0) × (is_goal R.rule (played R.rule board.old by) ≡ false) }
+        × (left ≡ 0) × (is_mate R.rule (position_after R.rule board.old by) ≡ false) }
 {
     if !ends_with_mate(plan, left + 1) {
         return true;
@@ -96,7 +97,7 @@ fn begin<R: Rules, const N: usize>(
     requires seeking { (d : ℕ) × (IsSeeking R.rule (half_moves_of_phase problem.now phase) d
         (phase_start problem.now phase) (reverse frames.old.items) board.old)
         × (array_vec_len frames.old ≡ d) }
-    requires legal { legal R.rule board.old by ≡ true }
+    requires legal { is_legal R.rule board.old by ≡ true }
     requires battle { is_help problem.now.stipulation.form ≡ false → array_vec_len frames.old ≡ 1 }
     requires opened { opened.old ≡ 0 }
     ensures stands { StandsInPart R.rule problem.now phase
@@ -128,9 +129,9 @@ fn give_first<R: Rules>(
     board: &mut Board,
 ) -> Event
     requires sound { IsSound problem.now }
-    requires stands { (front : List Triple) × StandsInPart R.rule problem.now phase front First
+    requires stands { (front : List Move) × StandsInPart R.rule problem.now phase front First
         (reverse frames.now) board.old }
-    ensures stands { (front : List Triple) → StandsInPart R.rule problem.now phase front First
+    ensures stands { (front : List Move) → StandsInPart R.rule problem.now phase front First
         (reverse frames.now) board.old
         → StandsInPart R.rule problem.now phase front stage.new (reverse frames.now) board.new }
     ensures gives { Gives R.rule problem.now
@@ -157,9 +158,9 @@ fn go_on_in_part<R: Rules, const N: usize>(
 ) -> Event
     requires sound { IsSound problem.now }
     requires room { half_moves problem.now.stipulation < N }
-    requires stands { (front : List Triple) × StandsInPart R.rule problem.now phase front
+    requires stands { (front : List Move) × StandsInPart R.rule problem.now phase front
         (Within count) (reverse frames.old.items) board.old }
-    ensures stands { (front : List Triple) → StandsInPart R.rule problem.now phase front
+    ensures stands { (front : List Move) → StandsInPart R.rule problem.now phase front
         (Within count) (reverse frames.old.items) board.old
         → StandsInPart R.rule problem.now phase front stage.new (reverse frames.new.items)
         board.new }
@@ -167,7 +168,7 @@ fn go_on_in_part<R: Rules, const N: usize>(
         (part_left R.rule problem.now phase (Within count) (reverse frames.old.items))
         (part_left R.rule problem.now phase stage.new (reverse frames.new.items))
         result board.new (array_vec_len frames.new) }
-    ensures opens { (front : List Triple) → StandsInPart R.rule problem.now phase front
+    ensures opens { (front : List Move) → StandsInPart R.rule problem.now phase front
         (Within count) (reverse frames.old.items) board.old
         → IsPartOpened R.rule problem.now phase front (reverse frames.old.items) opened.old
         → IsPartOpened R.rule problem.now phase front (reverse frames.new.items) opened.new }
@@ -230,7 +231,7 @@ impl<R: Rules, const N: usize> PartSearch<R, N> {
     ghost use Rattle.std.specs.Option.{option_map};
     ghost use Rattle.pop_input.specs.Posed.{rule_of};
     ghost use Rattle.pop_input.specs.Stipulations.{half_moves, is_help};
-    ghost use Rattle.pop_solve.specs.Events.{event_of, start};
+    ghost use Rattle.pop_solve.specs.Events.{event_of, play_start};
     ghost use Rattle.pop_solve.specs.Parts.{part_events, part_numbered};
     ghost use Rattle.pop_solve.specs.ties.PartsSeen.{is_part_stopped, part_walk};
     ghost use Rattle.pop_solve.specs.ties.Seen.{StandsOn};
@@ -283,7 +284,7 @@ impl<R: Rules, const N: usize> PartSearch<R, N> {
             (slice_get self.old.left 0) }
         ensures left { self.new.left ≡ drop 1 self.old.left }
         ensures board { MatchOption (slice_get self.old.left 0)
-            (self.new.board ≡ start self.old.problem)
+            (self.new.board ≡ play_start self.old.problem)
             (λ bare. StandsOn R.rule self.old.problem bare self.new.board self.new.depth) }
         ensures problem { self.new.problem ≡ self.old.problem }
         ensures phase { self.new.phase ≡ self.old.phase }

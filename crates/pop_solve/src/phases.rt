@@ -4,7 +4,7 @@ ghost use Rattle.arrayvec.specs.ArrayVec.{array_vec_len};
 ghost use Rattle.chess_core.specs.Position.{Position};
 ghost use Rattle.pop_input.specs.Posed.{IsSound};
 ghost use Rattle.pop_input.specs.Stipulations.{half_moves, is_help};
-ghost use Rattle.pop_solve.specs.Events.{first_phase, start, phase_half_moves as half_moves_of_phase, phase_start, phase_half as half_of_phase, event_of, is_barred, path_event, is_set, opening};
+ghost use Rattle.pop_solve.specs.Events.{first_phase, play_start, phase_half_moves as half_moves_of_phase, phase_start, phase_half as half_of_phase, event_of, is_barred, path_event, is_set, opening};
 ghost use Rattle.pop_solve.specs.ties.Walk.{IsEnded, IsWalking, Opens, Tries, path};
 ghost use Rattle.pop_solve.specs.ties.Plans.{plan_of};
 ghost use Rattle.pop_solve.specs.ties.Phases.{left_of, IsStanding, Walks, Gives, OpensOn};
@@ -165,10 +165,10 @@ pub(crate) fn event_at<R: Rules>(
 
 /// Puts the first position of a phase on the board, or finds that it isn't possible and leaves the board.
 pub(crate) fn set_up<R: Rules>(problem: &Problem, phase: Phase, board: &mut Board) -> bool
-    requires { board.old ≡ start problem.now }
+    requires { board.old ≡ play_start problem.now }
     ensures possible { result ≡ not (is_barred R.rule problem.now phase) }
     ensures board { board.new ≡ (if result then phase_start problem.now phase
-        else start problem.now) }
+        else play_start problem.now) }
 {
     if phase == Phase::Play {
         return true;
@@ -229,7 +229,7 @@ pub(crate) fn end<R: Rules, const N: usize>(
         (reverse frames.old.items) board.old }
     ensures stage { result ≡ (if is_set phase then Before Play else Behind) }
     ensures none { frames.new.items ≡ [] }
-    ensures board { board.new ≡ start problem.now }
+    ensures board { board.new ≡ play_start problem.now }
 {
     close_all::<R, N>(phase_half_moves(problem, phase), board, frames);
     match phase {
@@ -331,7 +331,7 @@ pub(crate) fn advance<R: Rules, const N: usize>(
         board.new }
     ensures gives { MatchOption result
         ((left_of R.rule problem.now stage.old (reverse frames.old.items) ≡ [])
-        × (board.new ≡ start problem.now)
+        × (board.new ≡ play_start problem.now)
         × (left_of R.rule problem.now stage.new (reverse frames.new.items) ≡ []))
         (λ event. Gives R.rule problem.now
         (left_of R.rule problem.now stage.old (reverse frames.old.items))

@@ -57,7 +57,7 @@ impl<R: Rules, const N: usize> Search<R, N> {
     ghost use Rattle.std.specs.Option.{option_map};
     ghost use Rattle.pop_input.specs.Posed.{rule_of};
     ghost use Rattle.pop_input.specs.Stipulations.{half_moves, is_help};
-    ghost use Rattle.pop_solve.specs.Events.{events, event_of, start};
+    ghost use Rattle.pop_solve.specs.Events.{events, event_of, play_start};
     ghost use Rattle.pop_solve.specs.ties.Seen.{fewest_tried, is_never_stopped, is_walked_once, whole_walk, StandsOn};
 
     /// A search that has given nothing: the play's first position is on its board, and no frame is in use. `N` is at least the
@@ -67,7 +67,7 @@ impl<R: Rules, const N: usize> Search<R, N> {
         requires rule { R.rule ≡ rule_of problem.now.condition }
         ensures problem { result.problem ≡ problem.now }
         ensures left { result.left ≡ events R.rule problem.now }
-        ensures board { result.board ≡ start problem.now }
+        ensures board { result.board ≡ play_start problem.now }
         ensures depth { result.depth ≡ 0 }
         ensures opened { result.opened ≡ 0 }
     {
@@ -92,7 +92,7 @@ impl<R: Rules, const N: usize> Search<R, N> {
             (slice_get self.old.left 0) }
         ensures left { self.new.left ≡ drop 1 self.old.left }
         ensures board { MatchOption (slice_get self.old.left 0)
-            (self.new.board ≡ start self.old.problem)
+            (self.new.board ≡ play_start self.old.problem)
             (λ bare. StandsOn R.rule self.old.problem bare self.new.board self.new.depth) }
         ensures problem { self.new.problem ≡ self.old.problem }
         ensures opened { self.old.opened ≤ self.new.opened }

@@ -2,9 +2,9 @@
 //! played again.
 ghost use Rattle.chess_core.specs.Position.{Position};
 ghost use Rattle.chess_core.specs.WellFormed.{IsWellFormed};
-ghost use Rattle.chess_rules.specs.Legal.{legal};
-ghost use Rattle.chess_rules.specs.Play.{after as played};
-ghost use Rattle.pop_solve.specs.Chess.{chess, show};
+ghost use Rattle.chess_rules.specs.Legal.{is_legal};
+ghost use Rattle.chess_rules.specs.Play.{position_after};
+ghost use Rattle.pop_solve.specs.Chess.{chess, shown_move};
 ghost use Rattle.pop_solve.specs.Events.{shown_along, shown_last};
 ghost use Rattle.pop_solve.specs.ties.Frames.{CameFrom, CameFromAt};
 ghost use Rattle.pop_solve.specs.ties.Walk.{ends_variation, IsEnded, IsWalking, path};
@@ -46,14 +46,14 @@ fn reached_at<R: Rules>(plan: Plan, frame: &Frame<R>) -> Reached
 }
 
 /// Plays the move of a frame again, and answers it as it is shown. It may be known that it reaches the goal.
-#[tactic(auto, using(chess_rules::proofs::listing_moves::Calls::playing), unfolding(crate::specs::Chess::show))]
+#[tactic(auto, using(chess_rules::proofs::listing_moves::Calls::playing), unfolding(crate::specs::Chess::shown_move))]
 fn play_shown<R: Rules>(goal: Goal, reached: Reached, frame: &Frame<R>, board: &mut Board) -> Shown
     requires well_formed { IsWellFormed board.old }
-    requires legal { legal R.rule board.old frame.now.by ≡ true }
+    requires legal { is_legal R.rule board.old frame.now.by ≡ true }
     requires reached { reached ≡ Surely
-        → (chess goal R.rule).goal (played R.rule board.old frame.now.by) ≡ true }
-    ensures shown { result ≡ show goal R.rule board.old frame.now.by }
-    ensures after { board.new ≡ played R.rule board.old frame.now.by }
+        → (chess goal R.rule).goal (position_after R.rule board.old frame.now.by) ≡ true }
+    ensures shown { result ≡ shown_move goal R.rule board.old frame.now.by }
+    ensures after { board.new ≡ position_after R.rule board.old frame.now.by }
     ensures well_formed { IsWellFormed board.new }
 {
     let by = frame.by;

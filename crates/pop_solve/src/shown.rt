@@ -48,9 +48,9 @@ pub struct Shown {
 }
 
 impl Model for Shown {
-    ghost use Rattle.pop_solve.specs.Shown.{Shown as Sight};
+    ghost use Rattle.pop_solve.specs.Shown.{Shown};
 
-    ghost Value = { Sight };
+    ghost Value = { Shown };
 
     ghost view = { λ s. record {
       man = s.man;

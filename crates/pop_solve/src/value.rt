@@ -1,21 +1,21 @@
 //! The tests of battle play.
-ghost use Rattle.chess_rules.specs.Play.{after as played};
+ghost use Rattle.chess_rules.specs.Play.{position_after};
 ghost use Rattle.chess_rules.specs.Legal.{moves as legal_moves};
 ghost use Rattle.std.specs.Prelude.{◌≡◌, ◌+◌, ◌<◌, ◌≤◌, ◌%◌, [], ◌∷◌, ◌++◌, filter, IfSome, IfNone, true, false, Option, Some, None, not, MatchOption, MatchBool, ◌⊎◌, ◌&&◌, ◌==◌, ◌-◌};
 ghost use Rattle.chess_core.specs.Position.{Position};
 ghost use Rattle.chess_core.specs.WellFormed.{IsWellFormed};
-ghost use Rattle.chess_rules.specs.Legal.{legal};
+ghost use Rattle.chess_rules.specs.Legal.{is_legal};
 ghost use Rattle.chess_rules.specs.ties.Places.{IsPlaceIn, moves_behind, place_of};
 ghost use Rattle.chess_rules.specs.Play.{undo_of};
 ghost use Rattle.arrayvec.specs.ArrayVec.{array_vec_len};
-ghost use Rattle.pop_solve.specs.ties.Frames.{IsTesting, IsOpenedOn, CameFrom, CameFromAt, Turns, Ends, tests, top_left, ahead, all_of, belongs, comes_early, here, later, stretches_behind};
+ghost use Rattle.pop_solve.specs.ties.Frames.{IsTesting, IsOpenedOn, CameFrom, CameFromAt, Turns, Ends, tests, top_left, moves_ahead, all_moves_of, belongs, comes_early, moves_here, moves_later, stretches_behind};
 ghost use Rattle.pop_solve.specs.Chess.{chess};
 ghost use Rattle.pop_solve.specs.ties.Calls.{Evaluates, Finds};
 ghost use Rattle.pop_solve.specs.ties.Marks.{is_for_mate};
 ghost use Rattle.pop_input.specs.declared.stipulation.Goal.TheVariants.{Mate};
 ghost use Rattle.pop_solve.specs.Game.{can_move as has_move};
 ghost use Rattle.pop_solve.specs.ties.Counts.{HasCounted, smallest_tree, walk_count};
-ghost use Rattle.pop_solve.specs.ties.Values.{seeks, joined, value};
+ghost use Rattle.pop_solve.specs.ties.Values.{seeks, joined_value, value};
 
 use crate::aim::{Aim, Battle};
 use crate::chess::{
@@ -91,11 +91,12 @@ fn settled<R: Rules>(
     ensures unchanged { board.new ≡ board.old }
     ensures value { MatchOption result
         ((0 < left) × (value aim.battle (chess aim.goal R.rule) left board.old
-        ≡ joined aim.battle (chess aim.goal R.rule) left board.old (legal_moves R.rule board.old)))
+        ≡ joined_value aim.battle (chess aim.goal R.rule) left board.old
+        (legal_moves R.rule board.old)))
         (λ v. v ≡ value aim.battle (chess aim.goal R.rule) left board.old) }
     ensures known { IfSome known.new (λ k. IsPlaceIn R.rule board.old k) }
     ensures opened { MatchOption result (opened.new ≡ opened.old)
-        (λ _. opened.new ≤ opened.old + walk_count (legal_moves R.rule) (played R.rule) left
+        (λ _. opened.new ≤ opened.old + walk_count (legal_moves R.rule) (position_after R.rule) left
         board.old) }
     ensures tried { IfSome result
         (λ _. HasCounted opened.old opened.new
@@ -207,7 +208,7 @@ fn next_of_stretch<R: Rules>(
 }
 
 /// The next move of the stretch on which the place stands.
-#[tactic(auto, unfolding(crate::specs::ties::Frames::here))]
+#[tactic(auto, unfolding(crate::specs::ties::Frames::moves_here))]
 fn next_here<R: Rules>(
     order: Order<R>,
     stretch: Stretch,
@@ -217,8 +218,8 @@ fn next_here<R: Rules>(
     requires well_formed { IsWellFormed board.old }
     requires known { IsPlaceIn R.rule board.old moves.old }
     ensures { Finds R.rule board.old board.new moves.new result
-        (here R.rule board.old order stretch moves.old.place)
-        (here R.rule board.old order stretch moves.new.place) }
+        (moves_here R.rule board.old order stretch moves.old.place)
+        (moves_here R.rule board.old order stretch moves.new.place) }
 {
     match stretch {
         Stretch::Killer => next_until::<R>(moves, order.killer, board),
@@ -228,10 +229,11 @@ fn next_here<R: Rules>(
 }
 
 /// The stretch behind one, if there is one: that of aimed moves only where these come first.
-#[tactic(auto, using(crate::proofs::Orders::next_stretch), unfolding(crate::specs::ties::Frames::later))]
+#[tactic(auto, using(crate::proofs::Orders::next_stretch), unfolding(crate::specs::ties::Frames::moves_later))]
 fn stretch_behind<R: Rules>(order: Order<R>, stretch: Stretch) -> Option<Stretch>
-    ensures later { (p : Position) → MatchOption result (later R.rule p order stretch ≡ [])
-        (λ s. later R.rule p order stretch ≡ all_of R.rule p order s ++ later R.rule p order s) }
+    ensures later { (p : Position) → MatchOption result (moves_later R.rule p order stretch ≡ [])
+        (λ s. moves_later R.rule p order stretch ≡ all_moves_of R.rule p order s
+        ++ moves_later R.rule p order s) }
     ensures falls { IfSome result (λ s. stretches_behind s < stretches_behind stretch) }
 {
     match (stretch, order.early) {
@@ -243,9 +245,10 @@ fn stretch_behind<R: Rules>(order: Order<R>, stretch: Stretch) -> Option<Stretch
 }
 
 /// The place before the first move of a stretch: where both killers are one, the earlier has none.
-#[tactic(auto, using(crate::proofs::Orders::first_place), unfolding(crate::specs::ties::Frames::here))]
+#[tactic(auto, using(crate::proofs::Orders::first_place), unfolding(crate::specs::ties::Frames::moves_here))]
 fn place_before<R: Rules>(order: Order<R>, stretch: Stretch) -> Moves<R>
-    ensures { (p : Position) → here R.rule p order stretch result ≡ all_of R.rule p order stretch }
+    ensures { (p : Position) → moves_here R.rule p order stretch result
+        ≡ all_moves_of R.rule p order stretch }
 {
     match stretch {
         Stretch::Killer => order.killer.back(),
@@ -265,8 +268,8 @@ fn next_tried<R: Rules>(
     requires well_formed { IsWellFormed board.old }
     requires known { IsPlaceIn R.rule board.old moves.old }
     ensures { Finds R.rule board.old board.new moves.new result
-        (ahead R.rule board.old order stretch.old moves.old.place)
-        (ahead R.rule board.old order stretch.new moves.new.place) }
+        (moves_ahead R.rule board.old order stretch.old moves.old.place)
+        (moves_ahead R.rule board.old order stretch.new moves.new.place) }
 {
     loop {
         if let Some(by) = next_here::<R>(order, *stretch, moves, board) {
@@ -319,25 +322,27 @@ fn descend<R: Rules, const N: usize>(
     requires well_formed { IsWellFormed board.old }
     requires some { 0 < top.left }
     requires room { array_vec_len frames.old + top.left ≤ N }
-    requires legal { legal R.rule board.old by ≡ true }
+    requires legal { is_legal R.rule board.old by ≡ true }
     ensures opened { MatchOption answer.new (opened.new ≤ opened.old + 1)
-        (λ _. opened.new ≤ opened.old + walk_count (legal_moves R.rule) (played R.rule)
-        (top.left - 1) (played R.rule board.old by)) }
+        (λ _. opened.new ≤ opened.old + walk_count (legal_moves R.rule) (position_after R.rule)
+        (top.left - 1) (position_after R.rule board.old by)) }
     ensures tried { MatchOption answer.new (HasCounted opened.old opened.new 1)
         (λ _. HasCounted opened.old opened.new
         (smallest_tree aim.battle (chess aim.goal R.rule) (top.left - 1)
-        (played R.rule board.old by))) }
+        (position_after R.rule board.old by))) }
     ensures answer { MatchOption answer.new
         ((0 < top.left - 1)
-        × (value aim.battle (chess aim.goal R.rule) (top.left - 1) (played R.rule board.old by)
-        ≡ joined aim.battle (chess aim.goal R.rule) (top.left - 1) (played R.rule board.old by)
-        (legal_moves R.rule (played R.rule board.old by)))
-        × (board.new ≡ played R.rule board.old by)
-        × IsOpenedOn R.rule (played R.rule board.old by)
+        × (value aim.battle (chess aim.goal R.rule) (top.left - 1)
+        (position_after R.rule board.old by)
+        ≡ joined_value aim.battle (chess aim.goal R.rule) (top.left - 1)
+        (position_after R.rule board.old by)
+        (legal_moves R.rule (position_after R.rule board.old by)))
+        × (board.new ≡ position_after R.rule board.old by)
+        × IsOpenedOn R.rule (position_after R.rule board.old by)
         (frames.old.items ++ top ∷ []) frames.new.items
         by (undo_of R.rule board.old by) (top.left - 1))
         (λ v. (v ≡ value aim.battle (chess aim.goal R.rule) (top.left - 1)
-        (played R.rule board.old by))
+        (position_after R.rule board.old by))
         × (board.new ≡ board.old)
         × (frames.new.items ≡ frames.old.items ++ top ∷ [])) }
 {

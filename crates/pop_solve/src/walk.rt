@@ -1,10 +1,10 @@
 //! The walk over the moves of a phase, on frames.
-ghost use Rattle.chess_rules.specs.Play.{after as played};
+ghost use Rattle.chess_rules.specs.Play.{position_after};
 ghost use Rattle.chess_rules.specs.Legal.{moves as legal_moves};
 ghost use Rattle.std.specs.Prelude.{◌≡◌, ◌↔◌, ◌+◌, ◌<◌, ◌≤◌, ◌/◌, [], ◌∷◌, ◌++◌, length, reverse, IsTrue, true, false, IfSome, MatchOption, ◌⊎◌, not, ◌&&◌, ◌||◌, ◌==◌, ◌-◌, ◌^◌, min};
 ghost use Rattle.chess_core.specs.Position.{Position};
 ghost use Rattle.chess_core.specs.WellFormed.{IsWellFormed};
-ghost use Rattle.chess_rules.specs.Legal.{legal};
+ghost use Rattle.chess_rules.specs.Legal.{is_legal};
 ghost use Rattle.chess_rules.specs.ties.Places.{IsPlaceIn, moves_behind};
 ghost use Rattle.chess_rules.specs.Play.{undo_of};
 ghost use Rattle.arrayvec.specs.ArrayVec.{array_vec_len};
@@ -12,11 +12,11 @@ ghost use Rattle.pop_input.specs.Stipulations.{is_help};
 ghost use Rattle.pop_solve.specs.Aims.{battle_of};
 ghost use Rattle.pop_solve.specs.ties.Calls.{Counts, Evaluates, Restores};
 ghost use Rattle.pop_solve.specs.ties.Plans.{aim_of, varies};
-ghost use Rattle.pop_solve.specs.ties.Frames.{CameFrom, CameFromAt, opened as opened_frame};
+ghost use Rattle.pop_solve.specs.ties.Frames.{CameFrom, CameFromAt, opened_frame};
 ghost use Rattle.pop_solve.specs.Chess.{chess};
 ghost use Rattle.pop_solve.specs.ties.Marks.{is_for_mate};
 ghost use Rattle.pop_solve.specs.ties.Values.{seeks, value};
-ghost use Rattle.pop_solve.specs.ties.Walk.{fewest as fewest_of, first_from, open_length, follows as is_followed, gives as is_given, goes_on, GoesTo, IsMatedAtLast, IsWalking, seeks_last, Steps};
+ghost use Rattle.pop_solve.specs.ties.Walk.{fewest as fewest_of, first_from, open_length, follows as is_followed, gives as is_given, half_moves_on, GoesTo, IsMatedAtLast, IsWalking, seeks_last, Steps};
 
 use crate::aim::{Aim, Battle};
 use crate::chess::{is_for_mate, next_mate, next_move, reaches_goal, retract};
@@ -94,7 +94,7 @@ fn length_shown<R: Rules, const N: usize>(
 }
 
 /// With how many half-moves the walk goes on from the board's position, where `left` are left.
-#[tactic(auto, unfolding(crate::specs::ties::Walk::goes_on))]
+#[tactic(auto, unfolding(crate::specs::ties::Walk::half_moves_on))]
 fn length_below<R: Rules, const N: usize>(
     plan: Plan,
     left: usize,
@@ -105,7 +105,7 @@ fn length_below<R: Rules, const N: usize>(
 ) -> usize
     requires well_formed { IsWellFormed board.old }
     requires room { array_vec_len frames.old + left ≤ N }
-    ensures length { result ≡ goes_on plan (chess plan.goal R.rule) left board.old }
+    ensures length { result ≡ half_moves_on plan (chess plan.goal R.rule) left board.old }
     ensures rest { Restores board.old board.new frames.old.items frames.new.items opened.old
         opened.new }
     ensures opened { is_help plan.form ≡ true → opened.new ≡ opened.old }
@@ -196,7 +196,7 @@ pub(crate) fn opened_by(opened: u64, tried: usize, tested: bool) -> u64
 
 /// Plays a legal move, after which `left` half-moves are left, and opens the frame of the position after it where the
 /// walk follows the move. Answers whether its path is given.
-#[tactic(auto, using(chess_rules::proofs::listing_moves::Calls::playing), unfolding(crate::specs::ties::Walk::follows, crate::specs::ties::Walk::goes_on))]
+#[tactic(auto, using(chess_rules::proofs::listing_moves::Calls::playing), unfolding(crate::specs::ties::Walk::follows, crate::specs::ties::Walk::half_moves_on))]
 pub(crate) fn enter<R: Rules, const N: usize>(
     plan: Plan,
     root: bool,
@@ -209,18 +209,20 @@ pub(crate) fn enter<R: Rules, const N: usize>(
 ) -> bool
     requires well_formed { IsWellFormed board.old }
     requires room { array_vec_len frames.old + left < N }
-    requires legal { legal R.rule board.old by ≡ true }
-    requires mated { IsMatedAtLast R.rule plan left (played R.rule board.old by) }
+    requires legal { is_legal R.rule board.old by ≡ true }
+    requires mated { IsMatedAtLast R.rule plan left (position_after R.rule board.old by) }
     ensures passes { is_followed plan (chess plan.goal R.rule) root left
-        (played R.rule board.old by) ≡ false
+        (position_after R.rule board.old by) ≡ false
         → (result ≡ false) × (board.new ≡ board.old) × (frames.new.items ≡ frames.old.items) }
     ensures enters { is_followed plan (chess plan.goal R.rule) root left
-        (played R.rule board.old by) ≡ true
-        → (result ≡ is_given plan (chess plan.goal R.rule) left (played R.rule board.old by))
-        × (board.new ≡ played R.rule board.old by)
+        (position_after R.rule board.old by) ≡ true
+        → (result ≡ is_given plan (chess plan.goal R.rule) left
+        (position_after R.rule board.old by))
+        × (board.new ≡ position_after R.rule board.old by)
         × (frames.new.items ≡ frames.old.items ++ opened_frame by (undo_of R.rule board.old by)
-        (goes_on plan (chess plan.goal R.rule) left (played R.rule board.old by)) ∷ []) }
-    ensures counts { Counts R.rule plan root left (played R.rule board.old by) opened.old
+        (half_moves_on plan (chess plan.goal R.rule) left (position_after R.rule board.old by))
+        ∷ []) }
+    ensures counts { Counts R.rule plan root left (position_after R.rule board.old by) opened.old
         opened.new }
 {
     let undo = R::play(board, by);
@@ -259,9 +261,9 @@ fn next_of<R: Rules>(
     ensures next { MatchOption result ((left ≡ 0) ⊎ GoesTo R.rule plan left board.old place.old [])
         (λ m. (0 < left) × GoesTo R.rule plan left board.old place.old
         (m ∷ moves_behind R.rule board.old place.new)
-        × (legal R.rule board.old m ≡ true)) }
+        × (is_legal R.rule board.old m ≡ true)) }
     ensures mated { IfSome result
-        (λ m. IsMatedAtLast R.rule plan (left - 1) (played R.rule board.old m)) }
+        (λ m. IsMatedAtLast R.rule plan (left - 1) (position_after R.rule board.old m)) }
 {
     if left == 0 {
         return None;

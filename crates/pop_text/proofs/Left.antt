@@ -1,5 +1,5 @@
 -- What used bytes take of the words still to come.
-use Rattle.pop_text.proofs.Basics.{Bool, Device, Err, Input, InputTooLong, IsOver, IsRunOver, List, Long, MayFollow, NextWord, None, Ok, Option, Peeks, ReadFault, Reading, RestOfLine, Result, Some, Stands, Tail, Takes, TakesNone, TakesWord, Text, TextLine, Token, TooLong, Uses, UsesAll, UsesLine, UsesRun, UsesWhole, UsesWord, Word, Words, [], after, among, ap, append-nil, append_assoc, arith, behind_word, cond, count_by}
+use Rattle.pop_text.proofs.Basics.{Bool, Device, Err, Input, InputTooLong, IsOver, IsRunOver, List, Long, MayFollow, NextWord, None, Ok, Option, Peeks, ReadFault, Reading, RestOfLine, Result, Some, Stands, Tail, Takes, TakesNone, TakesWord, Text, TextLine, Token, TooLong, Uses, UsesAll, UsesLine, UsesRun, UsesWhole, UsesWord, Word, Words, [], among, ap, append-nil, append_assoc, arith, behind_word, cond, count_by, onto_input}
 use Rattle.pop_text.proofs.Basics.{drop, drop-append-add, drop-nil, false, inl, inr, is_cut, is_gap, is_in_line, is_in_word, is_line_end, is_short_form, is_text_word, length, length-append, length-map, limit, list_all, nat_eq, refl, starts_with, sum_by-append, tail_of, take, take-append-add, take-nil, tokens_from, true, words_by, words_left, ℕ, ◌&&◌, ◌++◌, ◌+◌, ◌-◌, ◌<◌, ◌∙◌, ◌∷◌, ◌≡◌, ◌≤◌}
 use Rattle.pop_text.specs.Words.{End as AtEnd, Broken as Failing}
 use Rattle.pop_text.proofs.WordLaws.{skip_gap, take_run, drop_run, take_line, take_last_line, run_tokens, RunEnds, with_view, with_gap, line_lines, solid_line}
@@ -38,7 +38,7 @@ count_then line xs ys = omega (arith, sum_by-append (λ x. cond (is_line_end x) 
 module _ {old new : Reading} {had left : Option (List ℕ)} {used : List ℕ} (u : Uses old new had left used) (within : new.used ≤ limit)
     (b c : Option (List ℕ)) where
   -- used bytes stand first in the view
-  left_is : (rest : Input) → words_left b old (after u.taken rest) ≡ words_by b old.line (used ++ view_at new rest) (tail_at new rest)
+  left_is : (rest : Input) → words_left b old (onto_input u.taken rest) ≡ words_by b old.line (used ++ view_at new rest) (tail_at new rest)
   left_is rest = grind (arith, append_assoc, take-append-add, drop-append-add)
 
   -- they take the tokens that they say, whatever stands behind them

@@ -1,7 +1,7 @@
 //! A reader of the standard library as a source.
 ghost use Rattle.std.specs.Prelude.{◌≡◌, ℕ, List, ◌<◌, ◌+◌, ◌^◌, ◌-◌, Option, IfOk, IsOk, IsErr, OnErr};
 ghost use Rattle.std.specs.Io.{ReadsAtMost};
-ghost use Rattle.pop_text.specs.Bytes.{Keeps, Consumes, ReadConsumes, TellsRead, count_after, greatest};
+ghost use Rattle.pop_text.specs.Bytes.{Keeps, Consumes, ReadConsumes, TellsRead, count_after, greatest_count};
 
 use crate::source::{Device, Source};
 use std::io;
@@ -28,7 +28,7 @@ impl<R: Read + Drop> ReadSource<R> {
 
     // What the reader's answer is told as: so many bytes, none of them at the end, or a failure, which is counted.
     fn told(&mut self, answer: io::Result<usize>) -> Result<usize, Device>
-        requires { self.old.failures < greatest }
+        requires { self.old.failures < greatest_count }
         ensures answer { TellsRead answer result }
         ensures counted { self.new.failures ≡ count_after result self.old.failures }
         ensures reader { self.new.reader ≡ self.old.reader }

@@ -1,6 +1,6 @@
 //! Words and text lines of a source.
 ghost use Rattle.std.specs.Prelude.{◌≡◌, ◌<◌, ◌+◌, ◌-◌, ◌^◌, ◌++◌, ◌⊎◌, ◌≢◌, [], ◌∷◌, List, ℕ, count_by, drop, length, nat_lt, slice_index, Some, None, Ok, take, Option, Err, IfErr, IfOk, IfSome, false, true, ◌≤◌};
-ghost use Rattle.pop_text.specs.Bytes.{greatest};
+ghost use Rattle.pop_text.specs.Bytes.{greatest_count};
 ghost use Rattle.std.specs.List.{list_all};
 ghost use Rattle.pop_text.specs.Words.{limit, is_gap, is_in_line, is_in_word, is_line_end};
 ghost use Rattle.pop_text.specs.ties.Reading.{beginning, AreFirst, IsView, Leads, Asks, IsFront, Uses, UsesAll, IsSeen, failures_after};
@@ -96,7 +96,7 @@ impl Scanner {
     // Fills the window where no byte waits and the end is not known.
     #[tactic(auto, unfolding(crate::specs::Words::limit))]
     fn refill<S: Source>(&mut self, source: &mut S)
-        requires { self.old.end ≡ End.Open → S.failures source.old < greatest }
+        requires { self.old.end ≡ End.Open → S.failures source.old < greatest_count }
         ensures uses { Uses self.old self.new (S.remaining source.old) (S.remaining source.new) [] }
         ensures known { self.new.window ≡ [] → self.new.end ≢ End.Open }
         ensures waits { length self.new.window ≤ 4096 }
@@ -122,7 +122,7 @@ impl Scanner {
     // The byte at the place, which stays unread.
     #[tactic(auto, unfolding(crate::specs::Words::limit))]
     fn peek<S: Source>(&mut self, source: &mut S) -> Result<Option<u8>, ReadFault>
-        requires { self.old.end ≡ End.Open → S.failures source.old < greatest }
+        requires { self.old.end ≡ End.Open → S.failures source.old < greatest_count }
         ensures uses { Uses self.old self.new (S.remaining source.old) (S.remaining source.new) [] }
         ensures at { Peeks self.new result }
         ensures waits { length self.new.window ≤ 4096 }
@@ -211,7 +211,7 @@ impl Scanner {
 
     // Uses blanks and line ends, up to another byte, which is answered.
     fn skip_gap<S: Source>(&mut self, source: &mut S) -> Result<Option<u8>, ReadFault>
-        requires { self.old.end ≡ End.Open → S.failures source.old < greatest }
+        requires { self.old.end ≡ End.Open → S.failures source.old < greatest_count }
         ensures uses { UsesAll is_gap self.old self.new (S.remaining source.old)
             (S.remaining source.new) }
         ensures at { Peeks self.new result }
@@ -236,7 +236,7 @@ impl Scanner {
         source: &mut S,
         word: &mut ArrayVec<u8, 160>,
     ) -> Result<bool, ReadFault>
-        requires failures { self.old.end ≡ End.Open → S.failures source.old < greatest }
+        requires failures { self.old.end ≡ End.Open → S.failures source.old < greatest_count }
         requires empty { word.old.items ≡ [] }
         ensures run { RunsTo self.old self.new (S.remaining source.old) (S.remaining source.new)
             word.new.items result }
@@ -269,7 +269,7 @@ impl Scanner {
     /// The next word, or none at the end of the input. The byte behind it is not used yet.
     /// A word that the limit of the input or a failure cuts is none: that fault is answered in its place.
     pub fn next_word<S: Source>(&mut self, source: &mut S) -> Result<Option<Word>, ReadFault>
-        requires { self.old.end ≡ End.Open → S.failures source.old < greatest }
+        requires { self.old.end ≡ End.Open → S.failures source.old < greatest_count }
         ensures word { NextWord self.old self.new (S.remaining source.old) (S.remaining source.new)
             result }
         ensures used { UsesWord self.old self.new (S.remaining source.old) (S.remaining source.new)
@@ -298,7 +298,7 @@ impl Scanner {
         source: &mut S,
         word: &mut Word,
     ) -> Result<Found, ReadFault>
-        requires { self.old.end ≡ End.Open → S.failures source.old < greatest }
+        requires { self.old.end ≡ End.Open → S.failures source.old < greatest_count }
         ensures word { NextWord self.old self.new (S.remaining source.old) (S.remaining source.new)
             (found_by word.new result) }
         ensures used { UsesWord self.old self.new (S.remaining source.old) (S.remaining source.new)
@@ -329,7 +329,7 @@ impl Scanner {
     /// The rest of the line, whose line end is used too: at most 200 bytes behind its leading blanks, without trailing ones.
     /// A line that the limit of the input or a failure cuts gives that fault, and never `TooLong`.
     pub fn rest_of_line<S: Source>(&mut self, source: &mut S) -> Result<Text, ReadFault>
-        requires { self.old.end ≡ End.Open → S.failures source.old < greatest }
+        requires { self.old.end ≡ End.Open → S.failures source.old < greatest_count }
         ensures text { (keyword : List ℕ)
             → RestOfLine keyword self.old self.new (S.remaining source.old) (S.remaining source.new)
             result }

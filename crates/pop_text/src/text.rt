@@ -16,7 +16,7 @@ pub struct Text {
 impl Model for Text {
     ghost use Rattle.std.specs.Prelude.{ℕ, List, length, take};
     ghost use Rattle.std.proofs.Common.{ap₂};
-    ghost use Rattle.pop_text.specs.ties.Texts.{IsPadded, padded};
+    ghost use Rattle.pop_text.specs.ties.Texts.{IsPadded, padded_cells};
 
     ghost Value = { List ℕ };
 
@@ -25,7 +25,7 @@ impl Model for Text {
     // The cells behind the bytes are 0, so that the bytes say all.
     ghost invariant = { λ t. IsPadded t.cells t.size };
 
-    ghost inverse = { λ bytes. record { cells = padded bytes; size = length bytes } };
+    ghost inverse = { λ bytes. record { cells = padded_cells bytes; size = length bytes } };
 
     ghost inverse_ok = { λ t kept. ap₂ (λ (cells : List ℕ) (size : ℕ).
         record { cells = cells; size = size }) kept.cells_are kept.size_is };

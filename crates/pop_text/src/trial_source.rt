@@ -1,8 +1,8 @@
 //! A source for tests.
 ghost use Rattle.std.specs.Prelude.{◌≡◌, ◌≢◌, ℕ, List, [], ◌<◌, ◌≤◌, ◌+◌, ◌-◌, Some, drop, length, option_map};
 ghost use Rattle.std.specs.Io.{ReadsAtMost};
-ghost use Rattle.pop_text.specs.Bytes.{ReadConsumes, count_after, greatest};
-ghost use Rattle.pop_text.specs.ties.Trials.{Gives, cycled, handed_out, repeated, round_of};
+ghost use Rattle.pop_text.specs.Bytes.{ReadConsumes, count_after, greatest_count};
+ghost use Rattle.pop_text.specs.ties.Trials.{Gives, bytes_handed_out, cycled_bytes, repeated_bytes, round_of};
 
 use crate::source::{Device, Source};
 use std::marker::Model;
@@ -70,7 +70,7 @@ impl<'a> TrialSource<'a> {
     ) -> TrialSource<'a>
         requires { 0 < at_most }
         ensures remaining { ⟦<TrialSource<'a> as Source>⟧.remaining result
-            ≡ Some (repeated text.now length) }
+            ≡ Some (repeated_bytes text.now length) }
         ensures failures { ⟦<TrialSource<'a> as Source>⟧.failures result ≡ 0 }
         ensures trial { result ≡ record {
           text = text.now;
@@ -94,8 +94,8 @@ impl<'a> TrialSource<'a> {
     // What comes next of the text: the rest, or behind it the text anew.
     fn round(&self) -> &'a [u8]
         ensures round { result.now ≡ round_of self.now }
-        ensures same { (n : ℕ) → cycled self.now.text result.now n
-            ≡ cycled self.now.text self.now.rest n }
+        ensures same { (n : ℕ) → cycled_bytes self.now.text result.now n
+            ≡ cycled_bytes self.now.text self.now.rest n }
         ensures some { length result.now ≡ 0 → self.now.text ≡ [] }
     {
         if self.rest.is_empty() {
@@ -123,7 +123,7 @@ impl<'a> TrialSource<'a> {
     fn reach(&self, rest: usize, room: usize) -> usize
         requires round { rest ≡ length (round_of self.now) }
         requires sound { self.now.until_failure ≢ Some 0 }
-        ensures amount { result ≡ handed_out self.now room }
+        ensures amount { result ≡ bytes_handed_out self.now room }
         ensures rest { result ≤ rest }
         ensures room { result ≤ room }
         ensures left { result ≤ self.now.left }
@@ -139,14 +139,14 @@ impl<'a> TrialSource<'a> {
 
 impl<'a> Source for TrialSource<'a> {
     ghost use Rattle.std.specs.Prelude.{Some};
-    ghost use Rattle.pop_text.specs.ties.Trials.{cycled};
+    ghost use Rattle.pop_text.specs.ties.Trials.{cycled_bytes};
 
-    ghost remaining = { λ s. Some (cycled s.text s.rest s.left) };
+    ghost remaining = { λ s. Some (cycled_bytes s.text s.rest s.left) };
 
     ghost failures = { λ s. s.failures };
 
     fn read(&mut self, buffer: &mut [u8]) -> Result<usize, Device>
-        requires { self.old.failures < greatest }
+        requires { self.old.failures < greatest_count }
         ensures bound { ReadsAtMost result buffer.new }
         ensures bytes { ReadConsumes (⟦<TrialSource<'a> as Source>⟧.remaining self.old)
             (⟦<TrialSource<'a> as Source>⟧.remaining self.new) result buffer.new }

@@ -1,7 +1,7 @@
 //! A writer of the standard library as a sink.
 ghost use Rattle.std.specs.Prelude.{◌≡◌, ℕ, List, ◌<◌, ◌≤◌, ◌+◌, ◌^◌, ◌-◌, Option, IfOk, IsOk, IsErr, OnErr, OnOk, length};
 ghost use Rattle.std.specs.Io.{WritesAtMost};
-ghost use Rattle.pop_text.specs.Bytes.{Keeps, Appends, TellsWrite, WriteAppends, count_after, greatest, Writes};
+ghost use Rattle.pop_text.specs.Bytes.{Keeps, Appends, TellsWrite, WriteAppends, count_after, greatest_count, Writes};
 
 use crate::sink::{Sink, SinkFault};
 use std::io;
@@ -40,7 +40,7 @@ impl<W: Write + Drop> WriteSink<W> {
 
     // What the writer's answer is told as: so many bytes, or a failure, which is counted. None of a text is one.
     fn told(&mut self, answer: io::Result<usize>, text: &[u8]) -> Result<usize, SinkFault>
-        requires { self.old.failures < greatest }
+        requires { self.old.failures < greatest_count }
         ensures answer { TellsWrite (length text.now) answer result }
         ensures counted { self.new.failures ≡ count_after result self.old.failures }
         ensures writer { self.new.writer ≡ self.old.writer }

@@ -8,7 +8,7 @@ use Rattle.pop_run.specs.declared.status.Status.TheVariants.{OutputFailed}
 use Rattle.pop_parts.specs.Parts.{list_text, outcome_of, text_of}
 use Rattle.pop_parts.specs.declared.asked.Asked.{Asked}
 use Rattle.pop_parts.specs.declared.asked.Outcome.TheVariants.{OutputFailed as PartsCut}
-use Rattle.pop_web.specs.Page.{Fills, Lists, Shows, ShowsParts, number_of, number_of_parts, room, whole}
+use Rattle.pop_web.specs.Page.{Fills, Lists, Shows, ShowsParts, number_of, number_of_parts, room, whole_input}
 
 -- no input has the number of a failed output
 pub other_number : (entries : List Entry) → number_of (status_of entries) ≢ number_of OutputFailed
@@ -16,7 +16,7 @@ unfolding status_of
 other_number entries = grind arith
 
 -- nothing that is asked of an input ends as a failed output does
-pub other_outcome : (asked : Asked) (text : List ℕ) → number_of_parts (outcome_of asked (whole text)) ≢ number_of_parts PartsCut
+pub other_outcome : (asked : Asked) (text : List ℕ) → number_of_parts (outcome_of asked (whole_input text)) ≢ number_of_parts PartsCut
 other_outcome asked text = grind arith
 
 -- A call that writes these bytes and ends well, or a beginning of them and is cut; and what a page is shown of it.
@@ -56,40 +56,41 @@ module _ (Ending : Type 0) (number : Ending → ℕ) (Does : List ℕ → Bool �
   shown_first f other over = first f.cut f.ending f.told f.does f.full other over
 
 module _ (choice : Choice) (text shown : List ℕ) (answer : ℕ) (f : Shows choice text shown answer) where
-  pub report_whole : answer ≢ number_of OutputFailed → (shown ≡ report choice (whole text)) × (answer ≡ number_of (status (whole text)))
-  report_whole other = shown_whole _ _ _ (report choice (whole text)) (status (whole text)) OutputFailed (λ now ending does. does)
+  pub report_whole : answer ≢ number_of OutputFailed → (shown ≡ report choice (whole_input text)) × (answer ≡ number_of (status (whole_input text)))
+  report_whole other = shown_whole _ _ _ (report choice (whole_input text)) (status (whole_input text)) OutputFailed (λ now ending does. does)
       (λ now ending does. does) _ _ f other
 
-  pub report_first : answer ≡ number_of OutputFailed → shown ≡ take room (report choice (whole text))
-  report_first over = shown_first _ _ _ (report choice (whole text)) (status (whole text)) OutputFailed (λ now ending does. does)
-      (λ now ending does. does) _ _ f (other_number (entries_in (whole text))) over
+  pub report_first : answer ≡ number_of OutputFailed → shown ≡ take room (report choice (whole_input text))
+  report_first over = shown_first _ _ _ (report choice (whole_input text)) (status (whole_input text)) OutputFailed (λ now ending does. does)
+      (λ now ending does. does) _ _ f (other_number (entries_in (whole_input text))) over
 
   pub report_full : answer ≡ number_of OutputFailed → length shown ≡ room
-  report_full over = room_is_full _ _ _ (report choice (whole text)) (status (whole text)) OutputFailed (λ now ending does. does)
-      (λ now ending does. does) _ _ f (other_number (entries_in (whole text))) over
+  report_full over = room_is_full _ _ _ (report choice (whole_input text)) (status (whole_input text)) OutputFailed (λ now ending does. does)
+      (λ now ending does. does) _ _ f (other_number (entries_in (whole_input text))) over
 
 module _ (depth : ℕ) (text shown : List ℕ) (answer : ℕ) (f : Lists depth text shown answer) where
-  pub list_whole : answer ≢ number_of OutputFailed → (shown ≡ list_text depth (whole text)) × (answer ≡ number_of (status (whole text)))
-  list_whole other = shown_whole _ _ _ (list_text depth (whole text)) (status (whole text)) OutputFailed (λ now ending does. does)
+  pub list_whole : answer ≢ number_of OutputFailed → (shown ≡ list_text depth (whole_input text)) × (answer ≡ number_of (status (whole_input text)))
+  list_whole other = shown_whole _ _ _ (list_text depth (whole_input text)) (status (whole_input text)) OutputFailed (λ now ending does. does)
       (λ now ending does. does) _ _ f other
 
-  pub list_first : answer ≡ number_of OutputFailed → shown ≡ take room (list_text depth (whole text))
-  list_first over = shown_first _ _ _ (list_text depth (whole text)) (status (whole text)) OutputFailed (λ now ending does. does)
-      (λ now ending does. does) _ _ f (other_number (entries_in (whole text))) over
+  pub list_first : answer ≡ number_of OutputFailed → shown ≡ take room (list_text depth (whole_input text))
+  list_first over = shown_first _ _ _ (list_text depth (whole_input text)) (status (whole_input text)) OutputFailed (λ now ending does. does)
+      (λ now ending does. does) _ _ f (other_number (entries_in (whole_input text))) over
 
   pub list_full : answer ≡ number_of OutputFailed → length shown ≡ room
-  list_full over = room_is_full _ _ _ (list_text depth (whole text)) (status (whole text)) OutputFailed (λ now ending does. does)
-      (λ now ending does. does) _ _ f (other_number (entries_in (whole text))) over
+  list_full over = room_is_full _ _ _ (list_text depth (whole_input text)) (status (whole_input text)) OutputFailed (λ now ending does. does)
+      (λ now ending does. does) _ _ f (other_number (entries_in (whole_input text))) over
 
 module _ (asked : Asked) (text shown : List ℕ) (answer : ℕ) (f : ShowsParts asked text shown answer) where
-  pub part_whole : answer ≢ number_of_parts PartsCut → (shown ≡ text_of asked (whole text)) × (answer ≡ number_of_parts (outcome_of asked (whole text)))
-  part_whole other = shown_whole _ _ _ (text_of asked (whole text)) (outcome_of asked (whole text)) PartsCut (λ now ending does. does)
+  pub part_whole : answer ≢ number_of_parts PartsCut → (shown ≡ text_of asked (whole_input text))
+      × (answer ≡ number_of_parts (outcome_of asked (whole_input text)))
+  part_whole other = shown_whole _ _ _ (text_of asked (whole_input text)) (outcome_of asked (whole_input text)) PartsCut (λ now ending does. does)
       (λ now ending does. does) _ _ f other
 
-  pub part_first : answer ≡ number_of_parts PartsCut → shown ≡ take room (text_of asked (whole text))
-  part_first over = shown_first _ _ _ (text_of asked (whole text)) (outcome_of asked (whole text)) PartsCut (λ now ending does. does)
+  pub part_first : answer ≡ number_of_parts PartsCut → shown ≡ take room (text_of asked (whole_input text))
+  part_first over = shown_first _ _ _ (text_of asked (whole_input text)) (outcome_of asked (whole_input text)) PartsCut (λ now ending does. does)
       (λ now ending does. does) _ _ f (other_outcome asked text) over
 
   pub part_full : answer ≡ number_of_parts PartsCut → length shown ≡ room
-  part_full over = room_is_full _ _ _ (text_of asked (whole text)) (outcome_of asked (whole text)) PartsCut (λ now ending does. does)
+  part_full over = room_is_full _ _ _ (text_of asked (whole_input text)) (outcome_of asked (whole_input text)) PartsCut (λ now ending does. does)
       (λ now ending does. does) _ _ f (other_outcome asked text) over

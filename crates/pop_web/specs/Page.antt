@@ -26,8 +26,8 @@ pub record Kept : Type 0 where
   pub failures : ℕ
 
 -- a text as an input that ends cleanly
-abbrev pub whole : List ℕ → Input
-whole text = record { bytes = text; ending = Clean }
+abbrev pub whole_input : List ℕ → Input
+whole_input text = record { bytes = text; ending = Clean }
 
 -- the number of a status
 abbrev pub number_of : Status → ℕ
@@ -79,14 +79,17 @@ pub record Fills (Ending : Type 0) (number : Ending → ℕ)
 -- room, and the answer is the number of a failed output.
 abbrev pub Shows : Choice → List ℕ → List ℕ → ℕ → Type 0
 Shows choice text shown answer = Fills Status number_of
-    (λ bytes cut ending. Runs choice (whole text) (Some []) (Some bytes) cut ending) shown answer
+    (λ bytes cut ending. Runs choice (whole_input text) (Some []) (Some bytes) cut ending) shown
+    answer
 
 -- the same of the list of the text's parts
 abbrev pub Lists : ℕ → List ℕ → List ℕ → ℕ → Type 0
 Lists depth text shown answer = Fills Status number_of
-    (λ bytes cut ending. ListRuns depth (whole text) (Some []) (Some bytes) cut ending) shown answer
+    (λ bytes cut ending. ListRuns depth (whole_input text) (Some []) (Some bytes) cut ending) shown
+    answer
 
 -- the same of the text of parts
 abbrev pub ShowsParts : Asked → List ℕ → List ℕ → ℕ → Type 0
 ShowsParts asked text shown answer = Fills Outcome number_of_parts
-    (λ bytes cut ending. PartsRun asked (whole text) (Some []) (Some bytes) cut ending) shown answer
+    (λ bytes cut ending. PartsRun asked (whole_input text) (Some []) (Some bytes) cut ending) shown
+    answer

@@ -1,7 +1,7 @@
 //! A sink in memory.
 ghost use Rattle.std.specs.Prelude.{◌≡◌, ℕ, List, [], ◌<◌, ◌≤◌, ◌+◌, Some, length, IfOk};
 ghost use Rattle.std.specs.Io.{WritesAtMost};
-ghost use Rattle.pop_text.specs.Bytes.{WriteAppends, count_after, greatest};
+ghost use Rattle.pop_text.specs.Bytes.{WriteAppends, count_after, greatest_count};
 
 use arrayvec::ArrayVec;
 use pop_text::sink::{Sink, SinkFault};

@@ -1,7 +1,7 @@
 //! A text as a source.
 ghost use Rattle.std.specs.Prelude.{◌≡◌, ℕ, List, ◌<◌, ◌≤◌, ◌+◌, Some, IfOk};
 ghost use Rattle.std.specs.Io.{ReadsAtMost};
-ghost use Rattle.pop_text.specs.Bytes.{ReadConsumes, count_after, greatest};
+ghost use Rattle.pop_text.specs.Bytes.{ReadConsumes, count_after, greatest_count};
 
 use pop_text::source::{Device, Source};
 

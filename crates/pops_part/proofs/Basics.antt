@@ -5,5 +5,5 @@ pub use Rattle.std.specs.Prelude.{string_bytes}
 pub use Rattle.clap.specs.Simple.{app_of, is_simple, matches_of, new_rule, with_rule}
 pub use Rattle.clap.specs.Takes.{takes}
 pub use Rattle.clap.specs.Walk.{Text, first_of}
-pub use Rattle.pops_part.specs.CommandLine.{IsSettings, flag, refusals, valued}
+pub use Rattle.pops_part.specs.CommandLine.{IsSettings, flag, option_with_value, refusals}
 unfoldable pub use Rattle.pops_part.specs.CommandLine.{command, wanted_by}

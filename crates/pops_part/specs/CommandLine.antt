@@ -24,14 +24,16 @@ abbrev pub flag : Text → Rule
 flag name = record (new_rule name) { long = Some name; action = Some SetTrue }
 
 -- an option that takes a value
-abbrev pub valued : Text → Rule
-valued name = record (new_rule name) { long = Some name }
+abbrev pub option_with_value : Text → Rule
+option_with_value name = record (new_rule name) { long = Some name }
 
 -- pops-part [--list] [--depth D] [--item I] [--phase P] [--part A[..B]] [FILE]
 unfoldable pub command : App
 command = with_rule (with_rule (with_rule (with_rule (with_rule (with_rule
-    (new_app (codes "pops-part")) (flag (codes "list"))) (valued (codes "depth"))) (valued (codes "item")))
-    (valued (codes "phase"))) (valued (codes "part"))) (new_rule (codes "file"))
+    (new_app (codes "pops-part")) (flag (codes "list"))) (option_with_value (codes "depth")))
+    (option_with_value (codes "item")))
+    (option_with_value (codes "phase"))) (option_with_value (codes "part")))
+    (new_rule (codes "file"))
 
 -- the flag --list is there: clap then gives it the text `true`
 abbrev pub is_listing : List Row → Bool

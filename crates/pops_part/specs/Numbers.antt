@@ -17,12 +17,13 @@ abbrev pub digit_4 : ℕ
 digit_4 = 52
 
 -- the greatest number
-abbrev pub most : ℕ
-most = 999999999999999999
+abbrev pub greatest_number : ℕ
+greatest_number = 999999999999999999
 
 -- the number that decimal digits write
 unfoldable pub number_in : List ℕ → Option ℕ
-number_in text = if nat_lt 0 (length text) && (list_all is_digit text && nat_le (value_of text) most)
+number_in text = if nat_lt 0 (length text) && (list_all is_digit text
+    && nat_le (value_of text) greatest_number)
     then Some (value_of text) else None
 
 -- the last number of a range, by its first and what stands behind: nothing, or two points and a number
@@ -32,15 +33,15 @@ last_in first (a ∷ []) = None
 last_in first (a ∷ b ∷ text) = if a == point && b == point then number_in text else None
 
 -- from the first to the last number, where they are in order
-abbrev pub in_order : ℕ → Option ℕ → Option Range
-in_order first None = None
-in_order first (Some last) =
+abbrev pub ordered_range : ℕ → Option ℕ → Option Range
+ordered_range first None = None
+ordered_range first (Some last) =
     if nat_le first last then Some (record { first = first; last = last }) else None
 
 -- the range of the first number and what stands behind
 abbrev pub range_from : Option ℕ → List ℕ → Option Range
 range_from None behind = None
-range_from (Some first) behind = in_order first (last_in first behind)
+range_from (Some first) behind = ordered_range first (last_in first behind)
 
 -- a range: `A`, or `A..B` where B isn't less than A
 unfoldable pub range_in : List ℕ → Option Range

@@ -9,7 +9,7 @@ ghost use Rattle.clap.specs.Matches.{found_of};
 ghost use Rattle.clap.specs.Simple.{app_of, matches_of, new_rule, with_rule};
 ghost use Rattle.clap.specs.Takes.{takes};
 ghost use Rattle.clap.specs.Kinds.{FailsBy};
-ghost use Rattle.pops_part.specs.CommandLine.{command, depth_said, fault_by, flag, list_wanted, parts_wanted, refusals, told_of, valued, wanted_by, IsChosen, IsDeep, IsMemoryIfTaken, IsSettings, IsUsageIfRefused};
+ghost use Rattle.pops_part.specs.CommandLine.{command, depth_said, fault_by, flag, list_wanted, parts_wanted, refusals, told_of, option_with_value, wanted_by, IsChosen, IsDeep, IsMemoryIfTaken, IsSettings, IsUsageIfRefused};
 ghost use Rattle.pops_part.specs.Numbers.{number_in, phase_in, range_in};
 
 use crate::settings::{ArgFault, Settings, Wanted};
@@ -194,7 +194,8 @@ fn with_option<'a>(
     alloc: Global,
     name: &'a str,
 ) -> Result<Command<'a>, AllocError>
-    ensures { IfOk result (λ c. app_of c ≡ with_rule (app_of command.entry) (valued name.now)) }
+    ensures { IfOk result (λ c. app_of c
+        ≡ with_rule (app_of command.entry) (option_with_value name.now)) }
 {
     let option = Arg::new(alloc, name).long(name);
     command.arg(option)

@@ -1,7 +1,7 @@
 //! The program: its settings, its files and its exit statuses.
 ghost use Rattle.std.specs.Prelude.{◌≡◌, ◌<◌, ◌≤◌, IfSome};
-ghost use Rattle.pop_text.specs.Bytes.{greatest};
-ghost use Rattle.pop_run.specs.Run.{FailsOnce, grew, met};
+ghost use Rattle.pop_text.specs.Bytes.{greatest_count};
+ghost use Rattle.pop_run.specs.Run.{FailsOnce, grew, input_met};
 ghost use Rattle.pops_part.specs.CommandLine.{IsDeep};
 ghost use Rattle.pops_part.specs.ExitStatus.{ending_flushed, ending_of_list, ending_of_parts, message_of, status_of};
 ghost use Rattle.pops_part.specs.Runs.{Answers};
@@ -105,10 +105,10 @@ fn report<R: Read + Drop, W: Write + Drop, E: Write + Drop>(
 // fails. Of the calls of each, source and sink, at most one fails.
 fn answer<S: Source, W: Sink>(wanted: &Wanted, source: &mut S, sink: &mut W) -> Ending
     requires deep { IsDeep wanted.now }
-    requires source { S.failures source.old < greatest }
-    requires sink { W.failures sink.old < greatest }
+    requires source { S.failures source.old < greatest_count }
+    requires sink { W.failures sink.old < greatest_count }
     ensures headline { IfSome (S.remaining source.old) (λ had.
-        Answers wanted.now (met (grew (S.failures source.old) (S.failures source.new)) had
+        Answers wanted.now (input_met (grew (S.failures source.old) (S.failures source.new)) had
         (S.remaining source.new))
         (W.taken sink.old) (W.taken sink.new)
         (grew (W.failures sink.old) (W.failures sink.new)) result) }

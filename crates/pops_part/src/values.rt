@@ -2,7 +2,7 @@
 ghost use Rattle.std.specs.Prelude.{◌≡◌, ◌≤◌, IfSome};
 ghost use Rattle.std.specs.List.{prefix_len};
 ghost use Rattle.pop_input.specs.Values.{is_digit};
-ghost use Rattle.pops_part.specs.Numbers.{depth_in, in_order, last_in, number_in, phase_in, range_from, range_in};
+ghost use Rattle.pops_part.specs.Numbers.{depth_in, last_in, number_in, ordered_range, phase_in, range_from, range_in};
 
 use pop_solve::event::Phase;
 
@@ -104,7 +104,7 @@ fn last_of(first: u64, behind: &[u8]) -> Option<u64>
 
 // Both numbers, where they are in order.
 fn ordered(first: u64, last: Option<u64>) -> Option<Range>
-    ensures { result ≡ in_order first last }
+    ensures { result ≡ ordered_range first last }
 {
     match last {
         Some(last) if first <= last => Some(Range { first, last }),

@@ -150,7 +150,7 @@ pub(crate) fn can_move<R: Rules>(board: &Board) -> bool
 
 /// Whether the side to move is mated within so many further moves of the other side, against every defence.
 #[tactic(auto, using(chess_rules::proofs::listing_moves::Calls::playing))]
-fn lost<R: Rules>(goal: Goal, board: &Board, moves: u8) -> bool
+fn is_lost<R: Rules>(goal: Goal, board: &Board, moves: u8) -> bool
     requires { IsWellFormed board.now }
 {
     if is_goal::<R>(goal, board) {
@@ -170,7 +170,7 @@ fn lost<R: Rules>(goal: Goal, board: &Board, moves: u8) -> bool
         while let Some(answer) = answers.next(&mut there) {
             let mut after = there;
             let _undo = R::play(&mut after, answer);
-            some = lost::<R>(goal, &after, moves - 1) || some;
+            some = is_lost::<R>(goal, &after, moves - 1) || some;
         }
         every = every && some;
     }
@@ -211,7 +211,7 @@ fn keeps<R: Rules>(goal: Goal, selfmate: bool, board: &Board, moves: u8) -> bool
 {
     let further = moves.saturating_sub(1);
     if !selfmate {
-        return lost::<R>(goal, board, further);
+        return is_lost::<R>(goal, board, further);
     }
     let mut here = *board;
     let mut defences = Moves::<R>::start();
@@ -241,7 +241,7 @@ fn wins<R: Rules>(goal: Goal, selfmate: bool, board: &Board, moves: u8) -> bool
     while let Some(by) = tries.next(&mut here) {
         let mut after = here;
         let _undo = R::play(&mut after, by);
-        some = lost::<R>(goal, &after, moves - 1) || some;
+        some = is_lost::<R>(goal, &after, moves - 1) || some;
     }
     some
 }

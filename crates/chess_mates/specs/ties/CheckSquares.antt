@@ -12,8 +12,8 @@ use Rattle.chess_core.specs.declared.man.Kind.{Kind}
 use Rattle.chess_core.specs.declared.man.Kind.TheVariants.{King, Queen, Rook, Bishop, Knight, Pawn, Grasshopper, Nightrider}
 use Rattle.chess_mates.specs.declared.checks.CheckSquares.{CheckSquares}
 use Rattle.chess_rules.specs.Attacks.{in_check}
-use Rattle.chess_rules.specs.Legal.{legal}
-use Rattle.chess_rules.specs.Play.{after}
+use Rattle.chess_rules.specs.Legal.{is_legal}
+use Rattle.chess_rules.specs.Play.{position_after}
 use Rattle.chess_rules.specs.Reaches.{reaches_as}
 use Rattle.chess_rules.specs.RuleSet.{RuleSet, is_circe, orthodox}
 use Rattle.chess_rules.specs.ties.Lines.{is_aside}
@@ -77,8 +77,9 @@ check_squares_for s Nightrider = s.nightrider
 
 -- a legal move from s gives no check, if it goes to a square not in the word
 pub record AreCheckTargets (rule : RuleSet) (p : Position) (s w : ℕ) : Type 0 where
-  pub elsewhere : (m : Move) → m.from ≡ s → m.to < 64 → legal rule p m ≡ true
-      → (bit_at w m.to == 1) ≡ false → in_check rule (after rule p m).men (other p.turn) ≡ false
+  pub elsewhere : (m : Move) → m.from ≡ s → m.to < 64 → is_legal rule p m ≡ true
+      → (bit_at w m.to == 1) ≡ false → in_check rule (position_after rule p m).men (other p.turn)
+      ≡ false
 
 -- halfway to a square two files beside s that isn't in the word, a rook gives no check
 pub record AreCastlingTargets (v : CheckSquares) (s w : ℕ) : Type 0 where
@@ -87,8 +88,9 @@ pub record AreCastlingTargets (v : CheckSquares) (s w : ℕ) : Type 0 where
 
 -- a legal move gives no check, if it goes from a square not in the word
 pub record AreCheckOrigins (rule : RuleSet) (p : Position) (w : ℕ) : Type 0 where
-  pub elsewhere : (m : Move) → m.from < 64 → m.to < 64 → legal rule p m ≡ true
-      → (bit_at w m.from == 1) ≡ false → in_check rule (after rule p m).men (other p.turn) ≡ false
+  pub elsewhere : (m : Move) → m.from < 64 → m.to < 64 → is_legal rule p m ≡ true
+      → (bit_at w m.from == 1) ≡ false → in_check rule (position_after rule p m).men (other p.turn)
+      ≡ false
 
 -- the word has each square from which this man, whoever else stands there, may go to one of the targets
 pub record AreApproaches (x : Man) (targets w : ℕ) : Type 0 where

@@ -10,7 +10,7 @@ use Rattle.chess_core.specs.declared.man.Colour.{Colour}
 use Rattle.chess_core.specs.declared.man.Kind.TheVariants.{King}
 use Rattle.chess_core.specs.declared.man.Man.{Man}
 use Rattle.chess_core.specs.declared.man.Move.{Move}
-use Rattle.chess_rules.specs.Legal.{is_arrival_free, legal, pseudo}
+use Rattle.chess_rules.specs.Legal.{is_arrival_free, is_legal, is_pseudo_legal}
 use Rattle.chess_rules.specs.Play.{capture_square}
 use Rattle.chess_rules.specs.Reaches.{reaches_as}
 use Rattle.chess_rules.specs.RuleSet.{RuleSet, is_circe}
@@ -20,7 +20,7 @@ use Rattle.chess_rules.specs.declared.sight.Sight.{Sight}
 -- the king on this square, if there is one, may go to t
 abbrev pub is_flight_from : RuleSet → Position → Option ℕ → ℕ → Bool
 is_flight_from rule p None t = false
-is_flight_from rule p (Some k) t = legal rule p (record { from = k; to = t; promo = None })
+is_flight_from rule p (Some k) t = is_legal rule p (record { from = k; to = t; promo = None })
 
 -- the king of the side to move may go to t
 unfoldable pub is_flight : RuleSet → Position → ℕ → Bool
@@ -44,7 +44,7 @@ pub record AreOpen (rule : RuleSet) (men : List (Option Man)) (c : Colour) (k w 
 -- x, that is no king, may make the simple move m, and the enemy king stands on k
 pub record IsSeenFrom (rule : RuleSet) (p : Position) (m : Move) (x : Man) (k : ℕ) : Type 0 where
   pub well_formed : IsWellFormed p
-  pub pseudo : pseudo rule p m ≡ true
+  pub pseudo : is_pseudo_legal rule p m ≡ true
   pub here : man_on p.men m.from ≡ Some x
   pub mortal : same_kind x.kind King ≡ false
   pub simple : is_simple rule x m (is_some (capture_square p x m)) ≡ true

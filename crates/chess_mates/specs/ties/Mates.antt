@@ -3,8 +3,8 @@ use Rattle.std.specs.Prelude.{◌≡◌, ℕ, Bool, true, ◌&&◌, ◌-◌, Lis
 use Rattle.chess_core.specs.Position.{Position, other}
 use Rattle.chess_core.specs.declared.man.Move.{Move}
 use Rattle.chess_rules.specs.RuleSet.{RuleSet}
-use Rattle.chess_rules.specs.Legal.{is_goal, legal}
-use Rattle.chess_rules.specs.Play.{after}
+use Rattle.chess_rules.specs.Legal.{is_legal, is_mate}
+use Rattle.chess_rules.specs.Play.{position_after}
 use Rattle.chess_rules.specs.ties.Places.{moves_behind, moves_between}
 use Rattle.chess_rules.specs.ties.Targets.{AreKept}
 use Rattle.chess_rules.specs.declared.targets.Kept.{Kept}
@@ -13,7 +13,7 @@ use Rattle.chess_mates.specs.ties.CheckSquares.{AreCheckSquares}
 
 -- the move mates
 abbrev pub is_mating : RuleSet → Position → Move → Bool
-is_mating rule p m = is_goal rule (after rule p m)
+is_mating rule p m = is_mate rule (position_after rule p m)
 
 -- the legal moves behind a place after which the side to move is mated
 unfoldable pub mates_behind : RuleSet → Position → ℕ → List Move
@@ -33,7 +33,7 @@ pub record IsNextMate (rule : RuleSet) (p : Position) (old new : ℕ) (m : Move)
 
 -- the move is legal, and the side that is then to move is mated
 unfoldable pub mates : RuleSet → Position → Move → Bool
-mates rule p m = legal rule p m && is_goal rule (after rule p m)
+mates rule p m = is_legal rule p m && is_mate rule (position_after rule p m)
 
 -- a place in a position, with the words of the squares from which a move may give check, and with what
 -- is kept of one origin

@@ -1,6 +1,6 @@
 -- Attack looked for outward from the square.
 use Rattle.chess_rules.proofs.Basics.{Bool, List, None, Option, Some, [], and_left, ap, arith, bit_and, bit_at, bit_or, false, false_from_ne_true, false≢true, inl, inr, list_any, list_any-append, not, refl, rules, sym, true, ℕ, ◌&&◌, ◌<◌, ◌==◌, ◌||◌, ◌∙◌, ◌∷◌, ◌≡◌}
-use Rattle.chess_rules.proofs.Chess.{Bishop, Colour, Grasshopper, Kind, King, Knight, Man, Nightrider, Pawn, Queen, Rook, RuleSet, Step, any_range_cases, attacked, diagonal_steps, faces, faces_its_like, first_of_and, hopped_from, is_ahead, is_man, is_on_some, is_reached, is_side, man_on, other, paralysed, queen_steps, reaches, reaches_as, reaches_of, rides, same_colour-true, same_kind, same_kind-is, second_of_and, some_square, some_square_false, some_square_true, squares_both, squares_either, squares_of, squares_same, straight_steps, strikes, word}
+use Rattle.chess_rules.proofs.Chess.{Bishop, Colour, Grasshopper, Kind, King, Knight, Man, Nightrider, Pawn, Queen, Rook, RuleSet, Step, any_range_cases, diagonal_steps, faces, faces_its_like, first_of_and, hopped_from, is_ahead, is_attacked, is_man, is_on_some, is_paralysed, is_reached, is_side, man_on, other, queen_steps, reaches, reaches_as, reaches_of, rides, same_colour-true, same_kind, same_kind-is, second_of_and, some_square, some_square_false, some_square_true, squares_both, squares_either, squares_of, squares_same, straight_steps, strikes, word}
 use Rattle.chess_rules.specs.ties.Outward.{is_met}
 use Rattle.chess_rules.proofs.Bits.{not_zero, word_empty, word_has}
 use Rattle.chess_rules.proofs.rays.Flips.{diagonal-back, grasshopper-back, king-back, knight-back, nightrider-back, pawn-back, queen_rides-back, straight-back}
@@ -165,8 +165,8 @@ last_two a b c = grind arith
 
 -- attack by the men that reach the square and aren't paralysed
 pub attacked_by : (rule : RuleSet) (men : List (Option Man)) (t w : ℕ) (c : Colour) → w ≡ word (λ s. is_side (man_on men s) c && reaches men s t)
-    → some_square (λ s. bit_at w s == 1 && not (paralysed rule men s)) ≡ attacked rule men t c
-unfolding attacked strikes
+    → some_square (λ s. bit_at w s == 1 && not (is_paralysed rule men s)) ≡ is_attacked rule men t c
+unfolding is_attacked strikes
 attacked_by rule men t w c h = search (rules, some_square_same, word_has)
 
 pub is_reached_by : (men : List (Option Man)) (t w : ℕ) (c : Colour) → w ≡ word (λ s. is_side (man_on men s) c && reaches men s t)

@@ -1,6 +1,6 @@
 -- Whether a move leaves its mover in check, told by the men that an attack sees after it.
 use Rattle.chess_rules.proofs.Basics.{Bool, List, None, Option, Some, and_from, and_left, and_parts, and_right, ap, arith, bit_at, cases_Bool, cases_eq, cond-false, cond-true, eq-eqb, false, false_from_ne_true, false≢true, inl, inr, is_some, not, not-true, or_parts, rules, sym, true, ℕ, ◌&&◌, ◌<◌, ◌==◌, ◌||◌, ◌∙◌, ◌≡◌}
-use Rattle.chess_rules.proofs.Chess.{AreArrived, AreOthers, AreSeen, Colour, IsWellFormed, Kind, King, Man, Move, Position, RuleSet, after, arriving, capture_square, check_of, differs, faces, faces_its_like, in_check, is_arrival_free, is_castling, is_circe, is_faced, is_madrasi, is_man, is_promotion_right, is_side, is_simple, is_square, king_after, king_square, man_on, other, paralysed, pseudo, reaches, same_colour, same_colour-true, same_kind, sight_after, some_square, squares_both, squares_either, squares_not, squares_of, squares_same, word}
+use Rattle.chess_rules.proofs.Chess.{AreArrived, AreOthers, AreSeen, Colour, IsWellFormed, Kind, King, Man, Move, Position, RuleSet, arriving_man, capture_square, differs, faces, faces_its_like, in_check, is_arrival_free, is_attacked_at, is_castling, is_circe, is_faced, is_madrasi, is_man, is_paralysed, is_promotion_right, is_pseudo_legal, is_side, is_simple, is_square, king_after, king_square, man_on, other, position_after, reaches, same_colour, same_colour-true, same_kind, sight_after, some_square, squares_both, squares_either, squares_not, squares_of, squares_same, word}
 use Rattle.chess_rules.specs.ties.Sight.{is_arriving_as, own_after}
 use Rattle.chess_rules.specs.declared.sight.Sight.{Sight}
 use Rattle.chess_rules.proofs.attacks.Attacking.{attacked_by}
@@ -24,11 +24,11 @@ pub simple_parts : (rule : RuleSet) (p : Position) (x : Man) (m : Move) → is_s
 simple_parts rule p x m h = grind (arith, and_parts, not-true, none_there)
 
 -- the arriving man in a word by kind
-pub arrives_as : (x : Man) (m : Move) (k : Kind) (w : ℕ) → w ≡ word (is_square (Some m.to)) → same_kind (arriving x m.promo).kind k ≡ true
+pub arrives_as : (x : Man) (m : Move) (k : Kind) (w : ℕ) → w ≡ word (is_square (Some m.to)) → same_kind (arriving_man x m.promo).kind k ≡ true
     → w ≡ word (is_arriving_as x m k)
 arrives_as x m k w h is = h ∙ squares_same _ _ (λ s b. sym (ap (λ (y : Bool). y && is_square (Some m.to) s) is))
 
-pub arrives_otherwise : (x : Man) (m : Move) (k : Kind) → same_kind (arriving x m.promo).kind k ≡ false → 0 ≡ word (is_arriving_as x m k)
+pub arrives_otherwise : (x : Man) (m : Move) (k : Kind) → same_kind (arriving_man x m.promo).kind k ≡ false → 0 ≡ word (is_arriving_as x m k)
 arrives_otherwise x m k off = word_empty (is_arriving_as x m k) (λ s b. and_left _ (is_square (Some m.to) s) off)
 
 -- a man of the kind reaches the square
@@ -49,8 +49,8 @@ faced_king king f h = (λ i. not (h i)) ∙ sym (ap (λ (k : Bool). not k && f) 
 pub paralysed_by : (rule : RuleSet) (before men : List (Option Man)) (x : Man) (m : Move) (v : Sight) (s : ℕ) (y : Man) (b : Bool) → is_madrasi rule ≡ true
     → AreArrived before men x m v → is_side (man_on men s) (other x.colour) ≡ true → man_on before s ≡ Some y
     → b ≡ (not (same_kind y.kind King) && some_square (λ q. is_man (man_on men q) x.colour y.kind && reaches men q s))
-    → b ≡ paralysed rule men s
-unfolding paralysed
+    → b ≡ is_paralysed rule men s
+unfolding is_paralysed
 paralysed_by rule before men x m v s y b is are side at h =
     let there : man_on men s ≡ Some y = are.others s side ∙ at in
     let mine : same_colour y.colour (other x.colour) ≡ true = ap (λ (o : Option Man). is_side o (other x.colour)) (sym there) ∙ side in
@@ -58,8 +58,8 @@ paralysed_by rule before men x m v s y b is are side at h =
     ∙ sym (ap (λ (o : Option Man). is_faced men o s) there)
     ∙ sym (ap (λ (a : Bool). a && is_faced men (man_on men s) s) is)
 
-pub none_paralysed : (rule : RuleSet) (men : List (Option Man)) (s : ℕ) → is_madrasi rule ≡ false → false ≡ paralysed rule men s
-unfolding paralysed
+pub none_paralysed : (rule : RuleSet) (men : List (Option Man)) (s : ℕ) → is_madrasi rule ≡ false → false ≡ is_paralysed rule men s
+unfolding is_paralysed
 none_paralysed rule men s off = sym (and_left (is_madrasi rule) _ off)
 
 -- who goes and who is captured
@@ -68,7 +68,7 @@ unfolding capture_square
 captures_arrival p x m h = search (rules, cond-true, eq-eqb)
 
 goes_capturing : (rule : RuleSet) (p : Position) (x : Man) (m : Move) → IsWellFormed p → IsMade rule p x m → m.to < 64
-    → IsCapture p.men m.from (capture_square p x m) m.to (arriving x m.promo) p.turn
+    → IsCapture p.men m.from (capture_square p x m) m.to (arriving_man x m.promo) p.turn
 goes_capturing rule p x m well is small = search (rules, captures_arrival, other_differs)
 
 -- the king after the move
@@ -76,17 +76,17 @@ pub free_of_king : (c : Colour) (o : Option Man) → is_arrival_free c o ≡ tru
 free_of_king c o h = grind (arith, and_left, and_parts, not-true)
 
 pub king_stays_king : (p : Position) (x : Man) (m : Move) (r : Option Kind) → is_promotion_right p x m r ≡ true → same_kind x.kind King ≡ true
-    → arriving x r ≡ x
+    → arriving_man x r ≡ x
 king_stays_king p x m r right king = grind (arith, and_parts, false≢true, pawn_is_no_king)
 
 goes_without_king : (rule : RuleSet) (p : Position) (x : Man) (m : Move) → IsWellFormed p → IsMade rule p x m → m.to < 64 → same_kind x.kind King ≡ false
-    → IsNoKing p.men m.from (capture_square p x m) m.to (arriving x m.promo) p.turn
+    → IsNoKing p.men m.from (capture_square p x m) m.to (arriving_man x m.promo) p.turn
 goes_without_king rule p x m well is small other_man = record {
   small = omega (arith, small, well.size);
   here = ap (λ (o : Option Man). is_man o p.turn King) is.here ∙ and_right (same_colour x.colour p.turn) _ other_man;
   comes = false_from_ne_true _ (λ h.
-      let king : same_kind (arriving x m.promo).kind King ≡ true = (and_parts (same_colour (arriving x m.promo).colour p.turn) _ h).1 in
-      let same : arriving x m.promo ≡ x = arriving_king p x m m.promo is.promotion king in
+      let king : same_kind (arriving_man x m.promo).kind King ≡ true = (and_parts (same_colour (arriving_man x m.promo).colour p.turn) _ h).1 in
+      let same : arriving_man x m.promo ≡ x = arriving_king p x m m.promo is.promotion king in
       false≢true (sym other_man ∙ ap (λ (y : Man). same_kind y.kind King) (sym same) ∙ king));
   arrival = free_of_king p.turn (man_on p.men m.to) is.arrival;
   captured = λ s at.
@@ -114,12 +114,13 @@ king_is_after rule p x m well is small castling =
     )
 
 pub check_is : (rule : RuleSet) (p : Position) (x : Man) (m : Move) (o : Option ℕ) → IsWellFormed p → IsMade rule p x m → m.to < 64 → IsSimple rule p x m
-    → king_after p x m ≡ o → in_check rule (after rule p m).men p.turn ≡ check_of rule (arrived p x m) o (other p.turn)
+    → king_after p x m ≡ o → in_check rule (position_after rule p m).men p.turn ≡ is_attacked_at rule (arrived p x m) o (other p.turn)
 unfolding in_check
 check_is rule p x m o well is small simple king = search (rules, king_is_after, simple_after)
 
-pub no_king_exposed : (rule : RuleSet) (p : Position) (x : Man) (m : Move) → IsWellFormed p → pseudo rule p m ≡ true → m.to < 64 → man_on p.men m.from ≡ Some x
-    → is_simple rule x m (is_some (capture_square p x m)) ≡ true → king_after p x m ≡ None → false ≡ in_check rule (after rule p m).men p.turn
+pub no_king_exposed : (rule : RuleSet) (p : Position) (x : Man) (m : Move) → IsWellFormed p → is_pseudo_legal rule p m ≡ true → m.to < 64
+    → man_on p.men m.from ≡ Some x
+    → is_simple rule x m (is_some (capture_square p x m)) ≡ true → king_after p x m ≡ None → false ≡ in_check rule (position_after rule p m).men p.turn
 no_king_exposed rule p x m well may small here simple king =
     sym (check_is rule p x m None well (made rule p m x may here) small (simple_parts rule p x m simple) king)
 
@@ -141,24 +142,24 @@ own_on : (rule : RuleSet) (p : Position) (x : Man) (m : Move) (k : Kind) (s : �
     ≡ is_man (man_on (arrived p x m) s) x.colour k
 own_on rule p x m k s well is small = elim (cases_eq s m.to) [
   | inl e ↦
-      let there : man_on (arrived p x m) s ≡ Some (arriving x m.promo) = ap (man_on (arrived p x m)) e
-      ∙ there_now p.men m.from (capture_square p x m) m.to (arriving x m.promo) (omega (arith, small, well.size)) in
+      let there : man_on (arrived p x m) s ≡ Some (arriving_man x m.promo) = ap (man_on (arrived p x m)) e
+      ∙ there_now p.men m.from (capture_square p x m) m.to (arriving_man x m.promo) (omega (arith, small, well.size)) in
       let free : is_man (man_on p.men s) x.colour k ≡ false =
       (λ j. is_man (man_on p.men (e j)) (is.mine j) k) ∙ free_of_own p.turn k (man_on p.men m.to) is.arrival in
-      own_there (is_man (man_on p.men s) x.colour k) _ _ (same_kind (arriving x m.promo).kind k) (is_square (Some m.to) s) free (eq-eqb m.to s (sym e))
+      own_there (is_man (man_on p.men s) x.colour k) _ _ (same_kind (arriving_man x m.promo).kind k) (is_square (Some m.to) s) free (eq-eqb m.to s (sym e))
       ∙ sym (ap (λ (o : Option Man). is_man o x.colour k) there
-      ∙ ap (λ (y : Bool). y && same_kind (arriving x m.promo).kind k)
+      ∙ ap (λ (y : Bool). y && same_kind (arriving_man x m.promo).kind k)
       (ap (λ (c : Colour). same_colour c x.colour) (arriving_colour x m.promo) ∙ colour_self x.colour))
   | inr ne ↦
       let off : is_square (Some m.to) s ≡ false = differs m.to s (λ e. ne (sym e)) in
       elim (cases_Bool (is_square (Some m.from) s || is_square (capture_square p x m) s)) [
         | inl y ↦
-            own_gone (is_man (man_on p.men s) x.colour k) _ _ (same_kind (arriving x m.promo).kind k) (is_square (Some m.to) s) y off
-            ∙ sym (ap (λ (o : Option Man). is_man o x.colour k) (left_now p.men m.from (capture_square p x m) m.to (arriving x m.promo) s ne y))
+            own_gone (is_man (man_on p.men s) x.colour k) _ _ (same_kind (arriving_man x m.promo).kind k) (is_square (Some m.to) s) y off
+            ∙ sym (ap (λ (o : Option Man). is_man o x.colour k) (left_now p.men m.from (capture_square p x m) m.to (arriving_man x m.promo) s ne y))
         | inr n ↦
             let parts = or_parts (is_square (Some m.from) s) (is_square (capture_square p x m) s) n in
-            own_elsewhere (is_man (man_on p.men s) x.colour k) _ _ (same_kind (arriving x m.promo).kind k) (is_square (Some m.to) s) parts.1 parts.0 off
-            ∙ sym (ap (λ (o : Option Man). is_man o x.colour k) (kept_now p.men m.from (capture_square p x m) m.to (arriving x m.promo) s ne n))
+            own_elsewhere (is_man (man_on p.men s) x.colour k) _ _ (same_kind (arriving_man x m.promo).kind k) (is_square (Some m.to) s) parts.1 parts.0 off
+            ∙ sym (ap (λ (o : Option Man). is_man o x.colour k) (kept_now p.men m.from (capture_square p x m) m.to (arriving_man x m.promo) s ne n))
       ]
 ]
 
@@ -166,17 +167,17 @@ others_on : (rule : RuleSet) (p : Position) (x : Man) (m : Move) (s : ℕ) → I
     → is_side (man_on (arrived p x m) s) (other x.colour) ≡ true → man_on (arrived p x m) s ≡ man_on p.men s
 others_on rule p x m s well is small side = elim (cases_eq s m.to) [
   | inl e ↦
-      let there : man_on (arrived p x m) s ≡ Some (arriving x m.promo) = ap (man_on (arrived p x m)) e
-      ∙ there_now p.men m.from (capture_square p x m) m.to (arriving x m.promo) (omega (arith, small, well.size)) in
+      let there : man_on (arrived p x m) s ≡ Some (arriving_man x m.promo) = ap (man_on (arrived p x m)) e
+      ∙ there_now p.men m.from (capture_square p x m) m.to (arriving_man x m.promo) (omega (arith, small, well.size)) in
       let own : is_side (man_on (arrived p x m) s) (other x.colour) ≡ false = ap (λ (o : Option Man). is_side o (other x.colour)) there
       ∙ ap (λ (c : Colour). same_colour c (other x.colour)) (arriving_colour x m.promo) ∙ other_differs x.colour in
       absurd (false≢true (sym own ∙ side))
   | inr ne ↦ elim (cases_Bool (is_square (Some m.from) s || is_square (capture_square p x m) s)) [
     | inl y ↦
         let none : is_side (man_on (arrived p x m) s) (other x.colour) ≡ false =
-        ap (λ (o : Option Man). is_side o (other x.colour)) (left_now p.men m.from (capture_square p x m) m.to (arriving x m.promo) s ne y) in
+        ap (λ (o : Option Man). is_side o (other x.colour)) (left_now p.men m.from (capture_square p x m) m.to (arriving_man x m.promo) s ne y) in
         absurd (false≢true (sym none ∙ side))
-    | inr n ↦ kept_now p.men m.from (capture_square p x m) m.to (arriving x m.promo) s ne n
+    | inr n ↦ kept_now p.men m.from (capture_square p x m) m.to (arriving_man x m.promo) s ne n
   ]
 ]
 
@@ -189,18 +190,18 @@ are_arrived : (rule : RuleSet) (p : Position) (x : Man) (m : Move) → IsWellFor
     → AreArrived p.men (arrived p x m) x m (sight_after p.men m.from (capture_square p x m) m.to)
 are_arrived rule p x m well is small = search (rules, seen_after, goes_capturing, own_words, others_on)
 
-pub exposed_is : (rule : RuleSet) (p : Position) (x : Man) (m : Move) (k w : ℕ) (b : Bool) → IsWellFormed p → pseudo rule p m ≡ true → m.to < 64
+pub exposed_is : (rule : RuleSet) (p : Position) (x : Man) (m : Move) (k w : ℕ) (b : Bool) → IsWellFormed p → is_pseudo_legal rule p m ≡ true → m.to < 64
     → man_on p.men m.from ≡ Some x → is_simple rule x m (is_some (capture_square p x m)) ≡ true → king_after p x m ≡ Some k
     → ((men : List (Option Man)) → AreSeen p.men men (other p.turn) (sight_after p.men m.from (capture_square p x m) m.to)
     → w ≡ word (λ s. is_side (man_on men s) (other p.turn) && reaches men s k))
     → ((men : List (Option Man)) → AreArrived p.men men x m (sight_after p.men m.from (capture_square p x m) m.to) → AreOthers men x.colour w
-    → b ≡ some_square (λ s. bit_at w s == 1 && not (paralysed rule men s)))
-    → b ≡ in_check rule (after rule p m).men p.turn
+    → b ≡ some_square (λ s. bit_at w s == 1 && not (is_paralysed rule men s)))
+    → b ≡ in_check rule (position_after rule p m).men p.turn
 exposed_is rule p x m k w b well may small here simple king attackers free =
     let is : IsMade rule p x m = made rule p m x may here in
     let parts : IsSimple rule p x m = simple_parts rule p x m simple in
     let are : w ≡ word (λ s. is_side (man_on (arrived p x m) s) (other p.turn) && reaches (arrived p x m) s k) =
-    attackers (arrived p x m) (seen_after p.men m.from (capture_square p x m) m.to (arriving x m.promo) p.turn (goes_capturing rule p x m well is small)) in
+    attackers (arrived p x m) (seen_after p.men m.from (capture_square p x m) m.to (arriving_man x m.promo) p.turn (goes_capturing rule p x m well is small)) in
     let others : AreOthers (arrived p x m) x.colour w = record {
       side = λ s lt on.
           let both : (is_side (man_on (arrived p x m) s) (other p.turn) && reaches (arrived p x m) s k) ≡ true = sym (word_has _ w s are lt) ∙ on in

@@ -66,7 +66,7 @@ occupied_now men a o b z q small = search (rules, cases_Bool, cases_eq, differs,
 pub record IsCapture (men : List (Option Man)) (a : ℕ) (o : Option ℕ) (b : ℕ) (z : Man) (c : Colour) : Type 0 where
   pub small : b < length men
   pub own : is_side (man_on men a) (other c) ≡ false
-  pub arriving : same_colour z.colour (other c) ≡ false
+  pub arriving_man : same_colour z.colour (other c) ≡ false
   pub captured : is_some (man_on men b) ≡ true → is_square o b ≡ true
 
 pub no_man : (o : Option Man) (c : Colour) (k : Kind) → is_side o c ≡ false → is_man o c k ≡ false
@@ -81,7 +81,7 @@ enemy_now men a o b z c k q i = elim (cases_eq q b) [
   | inl e ↦
       let there : man_on (gone_to men a o b z) q ≡ Some z = ap (man_on (gone_to men a o b z)) e ∙ there_now men a o b z i.small in
       let none : is_man (man_on (gone_to men a o b z) q) (other c) k ≡ false =
-      rw there (and_left (same_colour z.colour (other c)) (same_kind z.kind k) i.arriving) in
+      rw there (and_left (same_colour z.colour (other c)) (same_kind z.kind k) i.arriving_man) in
       elim (cases_Bool (is_some (man_on men b))) [
         | inl y ↦ and_right (is_man (man_on men q) (other c) k) (not (is_square o q)) (ap not (ap (is_square o) e ∙ i.captured y)) ∙ sym none
         | inr n ↦ and_left (is_man (man_on men q) (other c) k) (not (is_square o q))

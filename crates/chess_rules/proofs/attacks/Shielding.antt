@@ -1,8 +1,8 @@
 -- A plain move from a square that a queen on the king's doesn't see opens no line to the king.
 use Rattle.chess_rules.proofs.Basics.{Bool, List, None, Option, Some, [], and_from, and_parts, and_right, ap, arith, bit_at, bit_not, bit_or, cases_Bool, cases_eq, cond-false, cond-true, eq-eqb, false, false_from_ne_true, false≢true, inl, inr, is_some, length, list_any, list_any-append, not, not-true, or_cases, or_left, or_parts, or_right, refl, rules, sym, true, w64, ℕ, ◌&&◌, ◌<◌, ◌==◌, ◌||◌, ◌∙◌, ◌∷◌, ◌≡◌, ◌≢◌}
-use Rattle.chess_rules.proofs.Chess.{AtMostOneKing, Bishop, Colour, Direction, East, Grasshopper, IsWellFormed, Kind, King, Man, Move, Nightrider, North, NorthEast, NorthWest, Position, Queen, Rook, RuleSet, South, SouthEast, SouthWest, Step, Straight, West, after, after_by, arriving, attacked, capture_square, check_of}
+use Rattle.chess_rules.proofs.Chess.{AtMostOneKing, Bishop, Colour, Direction, East, Grasshopper, IsWellFormed, Kind, King, Man, Move, Nightrider, North, NorthEast, NorthWest, Position, Queen, Rook, RuleSet, South, SouthEast, SouthWest, Step, Straight, West, after_by, arriving_man, capture_square, is_attacked, is_attacked_at, position_after}
 use Rattle.chess_rules.proofs.Chess.{diagonal_steps, differs, find_first, has_fairy, hops, in_check, is_behind, is_castling, is_circe, is_man, is_on_fairy_line, is_on_fairy_line_to, is_on_some, is_plain, is_promotion_right, is_reached, is_shut, is_side, is_square, is_vacant, king_square, knight_steps, man_on, man_on_at}
-use Rattle.chess_rules.proofs.Chess.{may_expose, may_expose_on, may_stand_between, moved_men, other, paralysed, pseudo, queen_steps, reaches, reaches_as, reborn_at, reborn_square, rider_along, rides, same_colour, same_kind, some_square_false, some_square_true, squares, squares_either, squares_of, squares_same, step_of, steps_along, straight_steps, strikes, word}
+use Rattle.chess_rules.proofs.Chess.{is_paralysed, is_pseudo_legal, may_expose, may_expose_on, may_stand_between, moved_men, other, queen_steps, reaches, reaches_as, reborn_at, reborn_square, rider_along, rides, same_colour, same_kind, some_square_false, some_square_true, squares, squares_either, squares_of, squares_same, step_of, steps_along, straight_steps, strikes, word}
 use Rattle.chess_core.proofs.Ranges.{find_square_some}
 use Rattle.chess_rules.specs.ties.Shields.{cannot_expose}
 use Rattle.chess_rules.specs.declared.shields.RiderLines.{RiderLines}
@@ -21,10 +21,10 @@ use Rattle.chess_rules.proofs.attacks.Seeing.{gone_to, kept_now, left_now, there
 use Rattle.chess_rules.proofs.attacks.Attacking.{goes_on}
 
 -- the man on a is gone, z has come to b, and nothing else has changed
-pub record IsShift (men after : List (Option Man)) (a b : ℕ) (z : Man) : Type 0 where
-  pub vacated : (q : ℕ) → man_on after q ≡ None → q ≢ a → man_on men q ≡ None
-  pub others : (q : ℕ) (y : Man) → man_on after q ≡ Some y → q ≢ b → man_on men q ≡ Some y
-  pub arrived : (y : Man) → man_on after b ≡ Some y → y ≡ z
+pub record IsShift (men position_after : List (Option Man)) (a b : ℕ) (z : Man) : Type 0 where
+  pub vacated : (q : ℕ) → man_on position_after q ≡ None → q ≢ a → man_on men q ≡ None
+  pub others : (q : ℕ) (y : Man) → man_on position_after q ≡ Some y → q ≢ b → man_on men q ≡ Some y
+  pub arrived : (y : Man) → man_on position_after b ≡ Some y → y ≡ z
 
 pub gone_shift : (men : List (Option Man)) (a : ℕ) (o : Option ℕ) (b : ℕ) (z : Man) → b < length men → ((s : ℕ) → is_square o s ≡ true → s ≡ b)
     → IsShift men (gone_to men a o b z) a b z
@@ -44,11 +44,11 @@ unfolding reaches_as
 rider_reaches men e l j s k h r = grind (arith, list_any-append, or_right)
 
 -- a doesn't shut a line along which a man of kind j on s would ride to k, and a fairy man there goes to k as before
-record NoneShut (men after : List (Option Man)) (a k s : ℕ) (j : Kind) : Type 0 where
+record NoneShut (men position_after : List (Option Man)) (a k s : ℕ) (j : Kind) : Type 0 where
   pub lines : (l : RiderLines) → (same_kind j (rider_along l) || same_kind j Queen) ≡ true → is_on_some (steps_along l) k s ≡ true
       → IsParted men a k s (steps_along l) → ⊥
-  pub hopped : same_kind j Grasshopper ≡ true → list_any (hops after s k) queen_steps ≡ true → list_any (hops men s k) queen_steps ≡ true
-  pub ridden : same_kind j Nightrider ≡ true → list_any (rides after s k) knight_steps ≡ true → list_any (rides men s k) knight_steps ≡ true
+  pub hopped : same_kind j Grasshopper ≡ true → list_any (hops position_after s k) queen_steps ≡ true → list_any (hops men s k) queen_steps ≡ true
+  pub ridden : same_kind j Nightrider ≡ true → list_any (rides position_after s k) knight_steps ≡ true → list_any (rides men s k) knight_steps ≡ true
 
 -- what keeps a king on k from being uncovered
 pub record IsCovered (men : List (Option Man)) (c : Colour) (a k : ℕ) : Type 0 where
@@ -88,38 +88,38 @@ king_is men c k one small h =
       fails = λ j lt. false_from_ne_true _ (λ y. let e : j ≡ k = one.same c j k y h in omega arith);
     })
 
-module _ (men after : List (Option Man)) (a b : ℕ) (z : Man) (i : IsShift men after a b z) where
-  stays_vacant : (o : Option ℕ) → is_vacant after o ≡ true → is_square o a ≡ false → is_vacant men o ≡ true
+module _ (men position_after : List (Option Man)) (a b : ℕ) (z : Man) (i : IsShift men position_after a b z) where
+  stays_vacant : (o : Option ℕ) → is_vacant position_after o ≡ true → is_square o a ≡ false → is_vacant men o ≡ true
   stays_vacant o h ne = grind (arith, none_from_is_some, not-true, eq-eqb)
 
-  pub frees : Frees after men a
+  pub frees : Frees position_after men a
   frees = record { vacant = stays_vacant }
 
   -- what stands now stood before, the arrival apart
-  pub stood : Holds after men b
+  pub stood : Holds position_after men b
   stood = grind (arith, false≢true, eq-eqb)
 
   -- what rides to a now, where a is empty, rode there before
-  rode : (xs : List Direction) (k : ℕ) → list_any (λ x. rides after k a (step_of x)) xs ≡ true → list_any (λ x. rides men k a (step_of x)) xs ≡ true
+  rode : (xs : List Direction) (k : ℕ) → list_any (λ x. rides position_after k a (step_of x)) xs ≡ true → list_any (λ x. rides men k a (step_of x)) xs ≡ true
   rode xs k h = search (rules, any_kept, ride_kept, frees, false_from_ne_true, once, square_is)
 
-  rode_there : (l : RiderLines) (k : ℕ) → list_any (rides after k a) (steps_along l) ≡ true → list_any (rides men k a) (steps_along l) ≡ true
+  rode_there : (l : RiderLines) (k : ℕ) → list_any (rides position_after k a) (steps_along l) ≡ true → list_any (rides men k a) (steps_along l) ≡ true
   rode_there Straight k h = rode (East ∷ West ∷ North ∷ South ∷ []) k h
   rode_there Diagonal k h = rode (NorthEast ∷ SouthEast ∷ NorthWest ∷ SouthWest ∷ []) k h
 
   pub line_before : (l : RiderLines) (k s : ℕ) → s < 64 → k < 64
       → (is_on_some (steps_along l) k s ≡ true → IsParted men a k s (steps_along l) → ⊥)
-      → list_any (rides after s k) (steps_along l) ≡ true → list_any (rides men s k) (steps_along l) ≡ true
+      → list_any (rides position_after s k) (steps_along l) ≡ true → list_any (rides men s k) (steps_along l) ≡ true
   unfolding is_on_some
   line_before l k s p q never h = grind (arith, opposed_along, rides_turned, line_open, frees, goes_on, rode_there, backward)
 
   -- a man that reaches k now, where it stands, reached it before, had it stood there
-  reaches_before : (e : Colour) (k s : ℕ) (j : Kind) → s < 64 → k < 64 → NoneShut men after a k s j → reaches_as after e j s k ≡ true
+  reaches_before : (e : Colour) (k s : ℕ) (j : Kind) → s < 64 → k < 64 → NoneShut men position_after a k s j → reaches_as position_after e j s k ≡ true
       → reaches_as men e j s k ≡ true
   unfolding reaches_as
   reaches_before e k s Queen p q n h =
-      elim (or_cases (list_any (rides after s k) straight_steps) (list_any (rides after s k) diagonal_steps)
-      (sym (list_any-append (rides after s k) straight_steps diagonal_steps) ∙ h)) [
+      elim (or_cases (list_any (rides position_after s k) straight_steps) (list_any (rides position_after s k) diagonal_steps)
+      (sym (list_any-append (rides position_after s k) straight_steps diagonal_steps) ∙ h)) [
         | inl y ↦ rider_reaches men e Straight Queen s k refl (line_before Straight k s p q (n.lines Straight refl) y)
         | inr y ↦ rider_reaches men e Diagonal Queen s k refl (line_before Diagonal k s p q (n.lines Diagonal refl) y)
       ]
@@ -134,18 +134,18 @@ module _ (men after : List (Option Man)) (a b : ℕ) (z : Man) (i : IsShift men 
     unshut : (s : ℕ) (j : Kind) → s < 64
         → ((l : RiderLines) → (same_kind j (rider_along l) || same_kind j Queen) ≡ true → is_on_some (steps_along l) k s ≡ true
         → IsParted men a k s (steps_along l) → ⊥)
-        → ((d : Kind) → same_kind j d ≡ true → WasThere men (other c) d a b s) → NoneShut men after a k s j
+        → ((d : Kind) → same_kind j d ≡ true → WasThere men (other c) d a b s) → NoneShut men position_after a k s j
     unshut s j p lines was =
         let left = fairy_parts men (other c) k a g.unlined in
         let come = fairy_parts men (other c) k b f in
         record {
           lines = lines;
-          hopped = λ is h. hopper_before men after (other c) a b k s frees p stood (was Grasshopper is) left.0 come.0 h;
-          ridden = λ is h. nightrider_before men after (other c) a b k s frees p (was Nightrider is) left.1 h;
+          hopped = λ is h. hopper_before men position_after (other c) a b k s frees p stood (was Grasshopper is) left.0 come.0 h;
+          ridden = λ is h. nightrider_before men position_after (other c) a b k s frees p (was Nightrider is) left.1 h;
         }
 
     -- a man that reaches the king now and hasn't moved reached it before
-    checks_before : (s : ℕ) (o : Option Man) → man_on after s ≡ o → s < 64 → s ≢ b → is_side o (other c) ≡ true → reaches after s k ≡ true
+    checks_before : (s : ℕ) (o : Option Man) → man_on position_after s ≡ o → s < 64 → s ≢ b → is_side o (other c) ≡ true → reaches position_after s k ≡ true
         → (is_side (man_on men s) (other c) && reaches men s k) ≡ true
     unfolding reaches
     checks_before s None at p ne side h = cc
@@ -169,27 +169,28 @@ module _ (men after : List (Option Man)) (a b : ℕ) (z : Man) (i : IsShift men 
         let then : reaches men a k ≡ true = rw here h in
         false≢true (sym g.safe ∙ some_square_true (λ s. is_side (man_on men s) (other c) && reaches men s k) a small (and_from _ _ mine then))
 
-    arrival_strikes : (o : Option Man) → man_on after b ≡ o → IsQuiet men c a b k z → b < 64 → is_side o (other c) ≡ true → reaches after b k ≡ true → ⊥
+    arrival_strikes : (o : Option Man) → man_on position_after b ≡ o → IsQuiet men c a b k z → b < 64 → is_side o (other c) ≡ true
+        → reaches position_after b k ≡ true → ⊥
     unfolding reaches
     arrival_strikes None at l p side h = cc
     arrival_strikes (Some y) at l p side h =
         let is : y ≡ z = i.arrived y at in
         let mine : same_colour z.colour (other c) ≡ true = ap (λ (x : Man). same_colour x.colour (other c)) (sym is) ∙ side in
-        let now : reaches_as after y.colour y.kind b k ≡ true = rw at at h in
+        let now : reaches_as position_after y.colour y.kind b k ≡ true = rw at at h in
         let here = l.stood mine in
         let none = unshut b z.kind p (λ d h on both. attacked_from here.1 here.0 mine
         (rider_reaches men z.colour d z.kind a k h (rides_turned (steps_along d) men a k (opposed_along d) here.1 q ∙ both.0)))
         (λ d is. inr (refl, here.1, ap (λ (o : Option Man). is_man o (other c) d) here.0 ∙ and_from _ _ mine is)) in
         false≢true (sym (l.quiet mine)
-        ∙ reaches_before z.colour k b z.kind p q none (ap (λ (x : Man). reaches_as after x.colour x.kind b k) (sym is) ∙ now))
+        ∙ reaches_before z.colour k b z.kind p q none (ap (λ (x : Man). reaches_as position_after x.colour x.kind b k) (sym is) ∙ now))
 
     -- no enemy reaches the king
-    pub unreached : IsQuiet men c a b k z → is_reached after k (other c) ≡ false
+    pub unreached : IsQuiet men c a b k z → is_reached position_after k (other c) ≡ false
     unfolding is_reached
     unreached l =
-        some_square_false (λ s. is_side (man_on after s) (other c) && reaches after s k) 64 (omega arith) (record {
+        some_square_false (λ s. is_side (man_on position_after s) (other c) && reaches position_after s k) 64 (omega arith) (record {
           fails = λ s p. false_from_ne_true _ (λ h.
-              let h1 = and_parts (is_side (man_on after s) (other c)) (reaches after s k) h in
+              let h1 = and_parts (is_side (man_on position_after s) (other c)) (reaches position_after s k) h in
               elim (cases_eq s b) [
                 | inl e ↦ search (rules, arrival_strikes)
                 | inr ne ↦ search (rules, false≢true, some_square_true, checks_before)
@@ -197,13 +198,13 @@ module _ (men after : List (Option Man)) (a b : ℕ) (z : Man) (i : IsShift men 
         })
 
 -- so none attacks him
-pub not_attacked : (rule : RuleSet) (men : List (Option Man)) (e : Colour) (k : ℕ) → is_reached men k e ≡ false → attacked rule men k e ≡ false
-unfolding attacked strikes is_reached
+pub not_attacked : (rule : RuleSet) (men : List (Option Man)) (e : Colour) (k : ℕ) → is_reached men k e ≡ false → is_attacked rule men k e ≡ false
+unfolding is_attacked strikes is_reached
 not_attacked rule men e k h =
     some_square_false (strikes rule men k e) 64 (omega arith) (record {
       fails = λ s p. false_from_ne_true _ (λ y.
-          let y1 = and_parts (is_side (man_on men s) e && not (paralysed rule men s)) (reaches men s k) y in
-          let y2 = and_parts (is_side (man_on men s) e) (not (paralysed rule men s)) y1.0 in
+          let y1 = and_parts (is_side (man_on men s) e && not (is_paralysed rule men s)) (reaches men s k) y in
+          let y2 = and_parts (is_side (man_on men s) e) (not (is_paralysed rule men s)) y1.0 in
           false≢true (sym h ∙ some_square_true (λ s. is_side (man_on men s) e && reaches men s k) s p (and_from _ _ y2.0 y1.1)));
     })
 
@@ -215,15 +216,15 @@ pub record IsHarmless (men : List (Option Man)) (c : Colour) (a b : ℕ) (z : Ma
   pub aside : may_stand_between men c b ≡ false
   pub quiet : (k : ℕ) → king_square men c ≡ Some k → IsQuiet men c a b k z
 
-king_stays : (men after : List (Option Man)) (a b : ℕ) (z : Man) (c : Colour) (k : ℕ) → IsShift men after a b z → IsHarmless men c a b z
-    → k < 64 → is_man (man_on after k) c King ≡ true → king_square men c ≡ Some k
+king_stays : (men position_after : List (Option Man)) (a b : ℕ) (z : Man) (c : Colour) (k : ℕ) → IsShift men position_after a b z → IsHarmless men c a b z
+    → k < 64 → is_man (man_on position_after k) c King ≡ true → king_square men c ≡ Some k
 unfolding may_expose
-king_stays men after a b z c k i g small h =
-    let y = man_there (man_on after k) c King h in
+king_stays men position_after a b z c k i g small h =
+    let y = man_there (man_on position_after k) c King h in
     let is : is_man (Some y.0) c King ≡ true = rw y.1 at h in
     elim (cases_eq k b) [
       | inl e ↦
-          let came : man_on after b ≡ Some y.0 = ap (λ (n : ℕ). man_on after n) (sym e) ∙ y.1 in
+          let came : man_on position_after b ≡ Some y.0 = ap (λ (n : ℕ). man_on position_after n) (sym e) ∙ y.1 in
           let same : y.0 ≡ z = i.arrived y.0 came in
           let was : king_square men c ≡ Some a = g.king (ap (λ (x : Man). is_man (Some x) c King) (sym same) ∙ is) in
           let no : may_expose_on men (Some a) c a ≡ false = rw was at g.cannot_expose in
@@ -235,19 +236,20 @@ king_stays men after a b z c k i g small h =
           king_is men c k g.one small (rw there is)
     ]
 
-pub stays_safe : (rule : RuleSet) (men after : List (Option Man)) (a b : ℕ) (z : Man) (c : Colour) → IsShift men after a b z → IsHarmless men c a b z
-    → in_check rule after c ≡ false
+pub stays_safe : (rule : RuleSet) (men position_after : List (Option Man)) (a b : ℕ) (z : Man) (c : Colour) → IsShift men position_after a b z
+    → IsHarmless men c a b z
+    → in_check rule position_after c ≡ false
 unfolding in_check king_square squares may_expose may_stand_between
-stays_safe rule men after a b z c i g = by (king_square after c) refl where
-  by : (o : Option ℕ) → king_square after c ≡ o → check_of rule after o (other c) ≡ false
+stays_safe rule men position_after a b z c i g = by (king_square position_after c) refl where
+  by : (o : Option ℕ) → king_square position_after c ≡ o → is_attacked_at rule position_after o (other c) ≡ false
   by None e = refl
   by (Some k) e =
-      let f = find_first (λ s. is_man (man_on after s) c King) 0 64 k e in
+      let f = find_first (λ s. is_man (man_on position_after s) c King) 0 64 k e in
       let small : k < 64 = omega (arith, f.high) in
-      let at : king_square men c ≡ Some k = king_stays men after a b z c k i g small f.here in
+      let at : king_square men c ≡ Some k = king_stays men position_after a b z c k i g small f.here in
       let no : may_expose_on men (Some k) c a ≡ false = ap (λ (o : Option ℕ). may_expose_on men o c a) (sym at) ∙ g.cannot_expose in
       let off : is_on_fairy_line_to men (Some k) c b ≡ false = ap (λ (o : Option ℕ). is_on_fairy_line_to men o c b) (sym at) ∙ g.aside in
-      not_attacked rule after (other c) k (unreached men after a b z i c k (covered_parts men c a k no) small off (g.quiet k at))
+      not_attacked rule position_after (other c) k (unreached men position_after a b z i c k (covered_parts men c a k no) small off (g.quiet k at))
 
 -- nobody is reborn where nobody is captured, or without Circe
 none_reborn : (men : List (Option Man)) (o : Option Man) (s : ℕ) → reborn_at false men o (Some s) ≡ None
@@ -285,39 +287,40 @@ moved_plainly p x m h = rw h refl
 
 -- where nobody is reborn
 pub unreborn_after : (rule : RuleSet) (p : Position) (x : Man) (m : Move) → man_on p.men m.from ≡ Some x → (is_circe rule ≡ true → capture_square p x m ≡ None)
-    → (after rule p m).men ≡ moved_men p x m
-unfolding after after_by reborn_square
+    → (position_after rule p m).men ≡ moved_men p x m
+unfolding position_after after_by reborn_square
 unreborn_after rule p x m here rebirth = search (rules, nobody_reborn)
 
 -- and nobody castles
 pub simple_after : (rule : RuleSet) (p : Position) (x : Man) (m : Move) → man_on p.men m.from ≡ Some x → is_castling x m ≡ false
-    → (is_circe rule ≡ true → capture_square p x m ≡ None) → (after rule p m).men ≡ arrived p x m
+    → (is_circe rule ≡ true → capture_square p x m ≡ None) → (position_after rule p m).men ≡ arrived p x m
 simple_after rule p x m here castling rebirth = unreborn_after rule p x m here rebirth ∙ moved_plainly p x m castling
 
-pub men_after : (rule : RuleSet) (p : Position) (x : Man) (m : Move) → man_on p.men m.from ≡ Some x → IsPlain rule p x m → (after rule p m).men ≡ arrived p x m
+pub men_after : (rule : RuleSet) (p : Position) (x : Man) (m : Move) → man_on p.men m.from ≡ Some x → IsPlain rule p x m
+    → (position_after rule p m).men ≡ arrived p x m
 men_after rule p x m here plain = simple_after rule p x m here plain.castling plain.rebirth
 
 pub arrived_shift : (rule : RuleSet) (p : Position) (x : Man) (m : Move) → IsWellFormed p → IsMade rule p x m → m.to < 64 → IsPlain rule p x m
-    → IsShift p.men (arrived p x m) m.from m.to (arriving x m.promo)
+    → IsShift p.men (arrived p x m) m.from m.to (arriving_man x m.promo)
 arrived_shift rule p x m well is small plain =
-    gone_shift p.men m.from (capture_square p x m) m.to (arriving x m.promo) (omega (arith, small, well.size))
+    gone_shift p.men m.from (capture_square p x m) m.to (arriving_man x m.promo) (omega (arith, small, well.size))
     (λ s at. captures_there p x m s plain.crossed (is_square-some (capture_square p x m) s at))
 
 -- a king that arrives left its own square
 king_came : (p : Position) (x : Man) (m : Move) (c : Colour) → IsWellFormed p → man_on p.men m.from ≡ Some x → is_promotion_right p x m m.promo ≡ true
-    → is_man (Some (arriving x m.promo)) c King ≡ true → king_square p.men c ≡ Some m.from
+    → is_man (Some (arriving_man x m.promo)) c King ≡ true → king_square p.men c ≡ Some m.from
 king_came p x m c well here right h =
-    let same : arriving x m.promo ≡ x = arriving_king p x m m.promo right (and_parts (same_colour (arriving x m.promo).colour c) _ h).1 in
+    let same : arriving_man x m.promo ≡ x = arriving_king p x m m.promo right (and_parts (same_colour (arriving_man x m.promo).colour c) _ h).1 in
     let is : is_man (Some x) c King ≡ true = ap (λ (y : Man). is_man (Some y) c King) (sym same) ∙ h in
     king_is p.men c m.from well.kings (on_board p.men m.from x well.size here) (rw here is)
 
 pub plain_safe : (rule : RuleSet) (p : Position) (x : Man) (m : Move) (c : Colour) → IsWellFormed p → IsMade rule p x m → m.to < 64 → IsPlain rule p x m
     → may_expose p.men c m.from ≡ false → may_stand_between p.men c m.to ≡ false
-    → ((k : ℕ) → king_square p.men c ≡ Some k → IsQuiet p.men c m.from m.to k (arriving x m.promo))
-    → in_check rule (after rule p m).men c ≡ false
+    → ((k : ℕ) → king_square p.men c ≡ Some k → IsQuiet p.men c m.from m.to k (arriving_man x m.promo))
+    → in_check rule (position_after rule p m).men c ≡ false
 plain_safe rule p x m c well is small plain cannot_expose aside quiet = search (rules, men_after, stays_safe, arrived, arrived_shift, king_came)
 
-pub arriving_colour : (x : Man) (r : Option Kind) → (arriving x r).colour ≡ x.colour
+pub arriving_colour : (x : Man) (r : Option Kind) → (arriving_man x r).colour ≡ x.colour
 arriving_colour x r = grind arith
 
 pub other_twice : (c : Colour) → other (other c) ≡ c
@@ -337,14 +340,15 @@ unfolding cannot_expose
 cannot_expose_parts rule p x c m here h = grind (arith, and_parts, not-true, plain_parts)
 
 -- such a move doesn't leave its mover in check
-pub cannot_expose_own : (rule : RuleSet) (p : Position) (m : Move) → IsWellFormed p → pseudo rule p m ≡ true → m.to < 64 → cannot_expose rule p p.turn m ≡ true
-    → in_check rule (after rule p m).men p.turn ≡ false
+pub cannot_expose_own : (rule : RuleSet) (p : Position) (m : Move) → IsWellFormed p → is_pseudo_legal rule p m ≡ true → m.to < 64
+    → cannot_expose rule p p.turn m ≡ true
+    → in_check rule (position_after rule p m).men p.turn ≡ false
 cannot_expose_own rule p m well may small h =
     let w = maker rule p m may in
     let x : Man = w.0 in
     let is : IsMade rule p x m = made rule p m x may w.1 in
     let parts = cannot_expose_parts rule p x p.turn m w.1 h in
-    let own : same_colour (arriving x m.promo).colour (other p.turn) ≡ false = search (rules, arriving_colour, other_differs) in
+    let own : same_colour (arriving_man x m.promo).colour (other p.turn) ≡ false = search (rules, arriving_colour, other_differs) in
     plain_safe rule p x m p.turn well is small parts.plain parts.origin parts.aside (λ k at. record {
       quiet = λ enemy. absurd (false≢true (sym own ∙ enemy));
       stood = λ enemy. absurd (false≢true (sym own ∙ enemy));

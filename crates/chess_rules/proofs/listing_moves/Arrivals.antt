@@ -1,6 +1,6 @@
 -- The words of the squares to which a man may go.
 use Rattle.chess_rules.proofs.Basics.{Bool, List, None, Option, Some, and_from, and_left, and_parts, ap, arith, bit_and, bit_at, bit_not, bit_or, cases_Bool, cond-false, cond-true, eqb-true, false, find, inl, inr, is_some, list_any, not, or_cases, or_left, or_right, range_with_len, refl, rules, sym, true, w64, ℕ, ◌&&◌, ◌+◌, ◌/◌, ◌<◌, ◌==◌, ◌||◌, ◌∙◌, ◌≡◌}
-use Rattle.chess_rules.proofs.Chess.{Black, Colour, IsAimed, IsFirst, Kind, King, Man, Move, Pawn, Position, RuleSet, White, along, arrives, differs, find_no, forward, goes, has_unmoved, is_advance, is_arrival, is_arrival_free, is_arrival_of, is_man, is_promotion_right, is_side, is_square, is_vacant_at, leaps, man_on, may_go, may_promote, other, paralysed, pawn_goes, pseudo, queen_steps, rank_of, reaches, reaches_as, same_Bool, same_colour, same_kind, second_rank, side_of, squares_both, squares_either, squares_not, squares_of, squares_same, steps_to, word}
+use Rattle.chess_rules.proofs.Chess.{Black, Colour, IsAimed, IsFirst, Kind, King, Man, Move, Pawn, Position, RuleSet, White, along, arrives, differs, find_no, forward, goes, has_unmoved, is_advance, is_arrival, is_arrival_free, is_arrival_of, is_man, is_paralysed, is_promotion_right, is_pseudo_legal, is_side, is_square, is_vacant_at, leaps, man_on, may_go, may_promote, other, pawn_goes, queen_steps, rank_of, reaches, reaches_as, same_Bool, same_colour, same_kind, second_rank, side_of, squares_both, squares_either, squares_not, squares_of, squares_same, steps_to, word}
 use Rattle.chess_rules.proofs.Bits.{word_empty, word_has}
 use Rattle.chess_rules.proofs.making_moves.Pseudo.{king_is_no_pawn}
 use Rattle.chess_rules.proofs.listing_moves.Targeting.{false_by}
@@ -153,12 +153,12 @@ unfolding is_arrival
 arrivals_other rule p x s here h = word_empty (is_arrival rule p s) (λ t b. rw (here, h) refl)
 
 pub arrivals_paralysed : (rule : RuleSet) (p : Position) (x : Man) (s : ℕ) → man_on p.men s ≡ Some x → same_colour x.colour p.turn ≡ true
-    → paralysed rule p.men s ≡ true → 0 ≡ word (is_arrival rule p s)
+    → is_paralysed rule p.men s ≡ true → 0 ≡ word (is_arrival rule p s)
 unfolding is_arrival
 arrivals_paralysed rule p x s here mine h = word_empty (is_arrival rule p s) (λ t b. rw (here, mine, h) refl)
 
 pub arrivals_some : (rule : RuleSet) (p : Position) (x : Man) (s f g : ℕ) → man_on p.men s ≡ Some x → same_colour x.colour p.turn ≡ true
-    → paralysed rule p.men s ≡ false → f ≡ word (λ t. is_arrival_free p.turn (man_on p.men t)) → g ≡ word (may_go p x s)
+    → is_paralysed rule p.men s ≡ false → f ≡ word (λ t. is_arrival_free p.turn (man_on p.men t)) → g ≡ word (may_go p x s)
     → bit_and f g ≡ word (is_arrival rule p s)
 unfolding is_arrival
 arrivals_some rule p x s f g here mine free hf hg = search (rules, squares_both, squares_same)
@@ -199,19 +199,19 @@ last_two a b c h = rw h refl
 
 -- of such a move, promotion and way are left to be tested
 left_to_test : (rule : RuleSet) (p : Position) (x : Man) (m : Move) → man_on p.men m.from ≡ Some x → is_arrival rule p m.from m.to ≡ true
-    → pseudo rule p m ≡ (is_promotion_right p x m m.promo && goes rule p x m)
-unfolding is_arrival pseudo
+    → is_pseudo_legal rule p m ≡ (is_promotion_right p x m m.promo && goes rule p x m)
+unfolding is_arrival is_pseudo_legal
 left_to_test rule p x m here h = search (rules, and_parts, last_two)
 
 middle : (a b c : Bool) → a ≡ true → c ≡ true → ((a && b) && c) ≡ b
 middle a b c h i = grind arith
 
-pub aimed_promotion : (rule : RuleSet) (p : Position) (m : Move) (k : Kind) → IsAimed rule p m → m.promo ≡ Some k → may_promote p k ≡ pseudo rule p m
+pub aimed_promotion : (rule : RuleSet) (p : Position) (m : Move) (k : Kind) → IsAimed rule p m → m.promo ≡ Some k → may_promote p k ≡ is_pseudo_legal rule p m
 aimed_promotion rule p m k a e =
     grind (arith, and_parts, goes_as_pawn, may_go_aimed rule p a.man m a.here a.arrival, left_to_test rule p a.man m a.here a.arrival, middle)
 
 pub aimed_plain : (rule : RuleSet) (p : Position) (m : Move) (x : Man) → IsAimed rule p m → m.promo ≡ None → man_on p.men m.from ≡ Some x
-    → goes rule p x m ≡ pseudo rule p m
+    → goes rule p x m ≡ is_pseudo_legal rule p m
 aimed_plain rule p m x a e here = grind (arith, left_to_test rule p x m here a.arrival)
 
 -- for the test of a move that is aimed

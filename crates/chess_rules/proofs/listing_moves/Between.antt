@@ -1,7 +1,7 @@
 -- The legal moves between two places.
 use Rattle.std.proofs.lemmas.List.{drop-drop}
 use Rattle.chess_rules.proofs.Basics.{List, [], ap, arith, drop, false, filter, filter-append, refl, rules, sym, take, take-append-drop, true, ℕ, ◌++◌, ◌+◌, ◌-◌, ◌<◌, ◌∙◌, ◌∷◌, ◌≡◌, ◌≤◌}
-use Rattle.chess_rules.proofs.Chess.{HaveNone, Move, Position, RuleSet, legal, moves, moves_behind, moves_between, triple_at, triples}
+use Rattle.chess_rules.proofs.Chess.{HaveNone, Move, Position, RuleSet, is_legal, moves, moves_behind, moves_between, triple_at, triples}
 use Rattle.chess_rules.proofs.listing_moves.Places.{drop_triples, drop_triples_past, over}
 
 take-none : (n : ℕ) → take {A = Move} n [] ≡ []
@@ -15,30 +15,31 @@ pub between-past : (rule : RuleSet) (p : Position) (a b : ℕ) → 28672 ≤ a �
 unfolding moves_between
 between-past rule p a b ge = rw (drop_triples_past a ge, take-none (b - a)) refl
 
-pub between-here : (rule : RuleSet) (p : Position) (a b : ℕ) → a < 28672 → a < b → legal rule p (triple_at a) ≡ true
+pub between-here : (rule : RuleSet) (p : Position) (a b : ℕ) → a < 28672 → a < b → is_legal rule p (triple_at a) ≡ true
     → moves_between rule p a b ≡ triple_at a ∷ moves_between rule p (a + 1) b
 unfolding moves_between
 between-here rule p a b lt low h = search (rules, drop_triples)
 
-pub between-skip : (rule : RuleSet) (p : Position) (a b : ℕ) → a < 28672 → legal rule p (triple_at a) ≡ false
+pub between-skip : (rule : RuleSet) (p : Position) (a b : ℕ) → a < 28672 → is_legal rule p (triple_at a) ≡ false
     → moves_between rule p a b ≡ moves_between rule p (a + 1) b
 unfolding moves_between
 between-skip rule p a b lt h = search (rules, between-none, drop_triples)
 
 -- over a stretch without moves
-pub between-none-legal : (rule : RuleSet) (p : Position) (a b e : ℕ) → (b < 28672 → a ≤ b) → b ≤ 28672 → HaveNone (legal rule p) a b
+pub between-none-is_legal : (rule : RuleSet) (p : Position) (a b e : ℕ) → (b < 28672 → a ≤ b) → b ≤ 28672 → HaveNone (is_legal rule p) a b
     → moves_between rule p a e ≡ moves_between rule p b e
-between-none-legal rule p a b e =
-    over (λ n. moves_between rule p n e) (legal rule p) (λ n lt h. between-skip rule p n e lt h) [] (λ n ge. between-past rule p n e ge) a b
+between-none-is_legal rule p a b e =
+    over (λ n. moves_between rule p n e) (is_legal rule p) (λ n lt h. between-skip rule p n e lt h) [] (λ n ge. between-past rule p n e ge) a b
 
 -- up to the first legal one, and where none is left before the end
-pub until-legal : (rule : RuleSet) (p : Position) (a n e : ℕ) → a ≤ n → n < e → n < 28672 → HaveNone (legal rule p) a n → legal rule p (triple_at n) ≡ true
+pub until-is_legal : (rule : RuleSet) (p : Position) (a n e : ℕ) → a ≤ n → n < e → n < 28672 → HaveNone (is_legal rule p) a n
+    → is_legal rule p (triple_at n) ≡ true
     → moves_between rule p a e ≡ triple_at n ∷ moves_between rule p (n + 1) e
-until-legal rule p a n e low before fits none h = grind (arith, between-none-legal, between-here rule p n e fits before h)
+until-is_legal rule p a n e low before fits none h = grind (arith, between-none-is_legal, between-here rule p n e fits before h)
 
-pub until-end : (rule : RuleSet) (p : Position) (a n e : ℕ) → n ≤ 28672 → n ≤ e → (n < 28672 → e ≤ n) → HaveNone (legal rule p) a n
+pub until-end : (rule : RuleSet) (p : Position) (a n e : ℕ) → n ≤ 28672 → n ≤ e → (n < 28672 → e ≤ n) → HaveNone (is_legal rule p) a n
     → moves_between rule p a e ≡ []
-until-end rule p a n e fits before all none = search (rules, between-none, between-none-legal, between-past)
+until-end rule p a n e fits before all none = search (rules, between-none, between-none-is_legal, between-past)
 
 drop_twice : (a b : ℕ) (l : List Move) → a ≤ b → drop (b - a) (drop a l) ≡ drop b l
 drop_twice a b l le = let e : a + (b - a) ≡ b = omega (arith, le) in drop-drop (b - a) a l ∙ ap (λ n. drop n l) e
@@ -49,19 +50,19 @@ pub cut_moves : (rule : RuleSet) (p : Position) (a b : ℕ) → a ≤ b
 unfolding moves moves_between moves_behind
 cut_moves rule p a b le =
     let z : a - 0 ≡ a = omega arith in
-    rw z (sym (ap (filter (legal rule p)) (take-append-drop a triples))
-    ∙ filter-append (legal rule p) (take a triples) (drop a triples)
-    ∙ ap (λ ms. filter (legal rule p) (take a triples) ++ ms) (sym (ap (filter (legal rule p)) (take-append-drop (b - a) (drop a triples)))
-    ∙ filter-append (legal rule p) (take (b - a) (drop a triples)) (drop (b - a) (drop a triples))
-    ∙ ap (λ l. filter (legal rule p) (take (b - a) (drop a triples)) ++ filter (legal rule p) l) (drop_twice a b triples le)))
+    rw z (sym (ap (filter (is_legal rule p)) (take-append-drop a triples))
+    ∙ filter-append (is_legal rule p) (take a triples) (drop a triples)
+    ∙ ap (λ ms. filter (is_legal rule p) (take a triples) ++ ms) (sym (ap (filter (is_legal rule p)) (take-append-drop (b - a) (drop a triples)))
+    ∙ filter-append (is_legal rule p) (take (b - a) (drop a triples)) (drop (b - a) (drop a triples))
+    ∙ ap (λ l. filter (is_legal rule p) (take (b - a) (drop a triples)) ++ filter (is_legal rule p) l) (drop_twice a b triples le)))
 
 -- the moves behind a place, cut at another
 pub behind_cut : (rule : RuleSet) (p : Position) (a b : ℕ) → a ≤ b → moves_behind rule p a ≡ moves_between rule p a b ++ moves_behind rule p b
 unfolding moves_between moves_behind
 behind_cut rule p a b le =
-    sym (ap (filter (legal rule p)) (take-append-drop (b - a) (drop a triples)))
-    ∙ filter-append (legal rule p) (take (b - a) (drop a triples)) (drop (b - a) (drop a triples))
-    ∙ ap (λ l. filter (legal rule p) (take (b - a) (drop a triples)) ++ filter (legal rule p) l) (drop_twice a b triples le)
+    sym (ap (filter (is_legal rule p)) (take-append-drop (b - a) (drop a triples)))
+    ∙ filter-append (is_legal rule p) (take (b - a) (drop a triples)) (drop (b - a) (drop a triples))
+    ∙ ap (λ l. filter (is_legal rule p) (take (b - a) (drop a triples)) ++ filter (is_legal rule p) l) (drop_twice a b triples le)
 
 -- for the walk up to an end
-pub ruleset until = (until-legal, until-end)
+pub ruleset until = (until-is_legal, until-end)

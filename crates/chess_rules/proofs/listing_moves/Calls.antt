@@ -1,6 +1,6 @@
 -- The calls of `next` over one position.
 use Rattle.chess_rules.proofs.Basics.{arith, List, MatchOption, None, Option, Some, [], and_parts, ap, drop, refl, slice_get, suc, true, zero, ℕ, ◌+◌, ◌∷◌, ◌≡◌}
-use Rattle.chess_rules.proofs.Chess.{Move, Position, RuleSet, legal, moves, moves_behind, place_of, pseudo}
+use Rattle.chess_rules.proofs.Chess.{Move, Position, RuleSet, is_legal, is_pseudo_legal, moves, moves_behind, place_of}
 use Rattle.chess_rules.proofs.listing_moves.Places.{moves_behind-end}
 
 drop_none : (l : List Move) (n : ℕ) → drop n l ≡ [] → drop (suc n) l ≡ []
@@ -37,9 +37,9 @@ pub answer_is : (rule : RuleSet) (p : Position) (n place next : ℕ) (o : Option
 answer_is rule p n place next o at rest = grind (arith, get_none, get_some)
 
 -- a legal move may be made
-pub pseudo-from_legal : (rule : RuleSet) (p : Position) (m : Move) → legal rule p m ≡ true → pseudo rule p m ≡ true
-unfolding legal
-pseudo-from_legal rule p m h = (and_parts _ _ h).0
+pub is_pseudo_legal-from_legal : (rule : RuleSet) (p : Position) (m : Move) → is_legal rule p m ≡ true → is_pseudo_legal rule p m ≡ true
+unfolding is_legal
+is_pseudo_legal-from_legal rule p m h = (and_parts _ _ h).0
 
 -- for a caller that plays what `next` gives
-pub ruleset playing = (pseudo-from_legal)
+pub ruleset playing = (is_pseudo_legal-from_legal)

@@ -1,6 +1,6 @@
 -- Where a man may go, and no move is missed by going from one such square to the next.
 use Rattle.chess_rules.proofs.Basics.{Bool, List, None, Option, Some, agree_below_at, and_from, and_parts, ap, arith, bit_at, bit_not, cases_Bool, cases_eq, cond-false, cond-true, false, find, inl, inr, is_some, or_left, or_right, range_with_len, refl, rules, sym, true, w64, ℕ, ◌%◌, ◌*◌, ◌+◌, ◌-◌, ◌/◌, ◌<◌, ◌==◌, ◌∙◌, ◌≡◌, ◌≤◌}
-use Rattle.chess_rules.proofs.Chess.{Black, Colour, IsBarrenFrom, IsFirst, IsNamed, Kind, King, Man, Move, Pawn, Position, RuleSet, White, along, arrives, castles, file_of, find_first, find_no, goes, is_advance, is_arrival, is_aside, is_castling, is_promotion_right, is_side, is_square, man_on, may_castle, may_go, promotion_at, pseudo, pseudo_of, rank_of, reaches, reaches_as, same_colour, same_kind, square_at, squares_same, steps_to, word}
+use Rattle.chess_rules.proofs.Chess.{Black, Colour, IsBarrenFrom, IsFirst, IsNamed, Kind, King, Man, Move, Pawn, Position, RuleSet, White, along, arrives, castles, file_of, find_first, find_no, goes, is_advance, is_arrival, is_aside, is_castling, is_promotion_right, is_pseudo_legal, is_pseudo_legal_of, is_side, is_square, man_on, may_castle, may_go, promotion_at, rank_of, reaches, reaches_as, same_colour, same_kind, square_at, squares_same, steps_to, word}
 use Rattle.chess_rules.proofs.Bits.{word_empty}
 use Rattle.chess_rules.proofs.making_moves.Pseudo.{made}
 
@@ -35,17 +35,17 @@ may_go_of : (rule : RuleSet) (p : Position) (x : Man) (m : Move) → m.to < 64 �
 unfolding may_go castles may_castle
 may_go_of rule p x m small here h = search (rules, and_from, and_parts, castling_steps, cond-false, cond-true, or_left, or_right, reaches_man)
 
-arrival_of : (rule : RuleSet) (p : Position) (x : Man) (m : Move) → m.to < 64 → man_on p.men m.from ≡ Some x → pseudo_of rule p (Some x) m ≡ true
+arrival_of : (rule : RuleSet) (p : Position) (x : Man) (m : Move) → m.to < 64 → man_on p.men m.from ≡ Some x → is_pseudo_legal_of rule p (Some x) m ≡ true
     → is_arrival rule p m.from m.to ≡ true
 unfolding is_arrival
 arrival_of rule p x m small here h = search (rules, and_from, and_parts, may_go_of)
 
-arrival_by : (rule : RuleSet) (p : Position) (m : Move) (o : Option Man) → m.to < 64 → man_on p.men m.from ≡ o → pseudo_of rule p o m ≡ true
+arrival_by : (rule : RuleSet) (p : Position) (m : Move) (o : Option Man) → m.to < 64 → man_on p.men m.from ≡ o → is_pseudo_legal_of rule p o m ≡ true
     → is_arrival rule p m.from m.to ≡ true
 arrival_by rule p m o small here h = grind (arith, arrival_of)
 
-pub arrival_needed : (rule : RuleSet) (p : Position) (m : Move) → m.to < 64 → pseudo rule p m ≡ true → is_arrival rule p m.from m.to ≡ true
-unfolding pseudo
+pub arrival_needed : (rule : RuleSet) (p : Position) (m : Move) → m.to < 64 → is_pseudo_legal rule p m ≡ true → is_arrival rule p m.from m.to ≡ true
+unfolding is_pseudo_legal
 arrival_needed rule p m small h = arrival_by rule p m (man_on p.men m.from) small refl h
 
 pub false_by : (b : Bool) → (b ≡ true → ⊥) → b ≡ false
@@ -59,24 +59,25 @@ pub unpromoted : (p : Position) (x : Man) (m : Move) (o : Option Kind) (k : Kind
 unpromoted p x m o k h e = grind (arith, and_parts)
 
 no_promotion_here : (rule : RuleSet) (p : Position) (x : Man) (m : Move) (k : Kind) → man_on p.men m.from ≡ Some x → m.promo ≡ Some k → arrives x m.to ≡ false
-    → pseudo rule p m ≡ false
+    → is_pseudo_legal rule p m ≡ false
 no_promotion_here rule p x m k here e h =
-    false_by (pseudo rule p m) (λ y. let t = unpromoted p x m m.promo k (made rule p m x y here).promotion e in cc)
+    false_by (is_pseudo_legal rule p m) (λ y. let t = unpromoted p x m m.promo k (made rule p m x y here).promotion e in cc)
 
 promotion_missing : (rule : RuleSet) (p : Position) (x : Man) (m : Move) → man_on p.men m.from ≡ Some x → m.promo ≡ None → arrives x m.to ≡ true
-    → pseudo rule p m ≡ false
+    → is_pseudo_legal rule p m ≡ false
 promotion_missing rule p x m here e h =
-    false_by (pseudo rule p m) (λ y. let t = promoted p x m m.promo (made rule p m x y here).promotion e in cc)
+    false_by (is_pseudo_legal rule p m) (λ y. let t = promoted p x m m.promo (made rule p m x y here).promotion e in cc)
 
 -- without a man of the side to move on the origin there is no move
-pub nobody_moves : (rule : RuleSet) (p : Position) (m : Move) → man_on p.men m.from ≡ None → pseudo rule p m ≡ false
-unfolding pseudo
-nobody_moves rule p m h = ap (λ o. pseudo_of rule p o m) h
+pub nobody_moves : (rule : RuleSet) (p : Position) (m : Move) → man_on p.men m.from ≡ None → is_pseudo_legal rule p m ≡ false
+unfolding is_pseudo_legal
+nobody_moves rule p m h = ap (λ o. is_pseudo_legal_of rule p o m) h
 
-pub own_moves : (p : Position) (rule : RuleSet) (m : Move) (o : Option Man) → man_on p.men m.from ≡ o → is_side o p.turn ≡ false → pseudo rule p m ≡ false
+pub own_moves : (p : Position) (rule : RuleSet) (m : Move) (o : Option Man) → man_on p.men m.from ≡ o → is_side o p.turn ≡ false
+    → is_pseudo_legal rule p m ≡ false
 own_moves p rule m None e h = nobody_moves rule p m e
 own_moves p rule m (Some x) e h =
-    false_by (pseudo rule p m) (λ y. let c : x.colour ≡ p.turn = (made rule p m x y e).mine in let t : same_colour p.turn p.turn ≡ false = rw c at h in
+    false_by (is_pseudo_legal rule p m) (λ y. let c : x.colour ≡ p.turn = (made rule p m x y e).mine in let t : same_colour p.turn p.turn ≡ false = rw c at h in
     let u = same p.turn in cc) where
       same : (c : Colour) → same_colour c c ≡ true
       same White = refl

@@ -1,6 +1,6 @@
 -- The triples: which moves they are, in which order they stand, and that each legal move is one of them.
 use Rattle.chess_rules.proofs.Basics.{AllPairs, Bool, Contains, List, Option, Some, [], and_parts, ap, arith, false≢true, flat_map, inl, inr, length, list_any, map, or_cases, range_with_len, refl, rules, suc, true, zero, ℕ, ◌+◌, ◌-◌, ◌<◌, ◌↔◌, ◌∷◌, ◌≡◌, ◌⊎◌}
-use Rattle.chess_rules.proofs.Chess.{Bishop, Colour, Grasshopper, Kind, King, Knight, Man, Move, Nightrider, Pawn, Position, Queen, Rook, RuleSet, Step, along, along-is, castles, hops, is_nil, is_promotion_right, is_square, leaps, man_on, may_castle, may_promote, promotions, pseudo, reaches, reaches_as, reaches_of, rides, squares, triple_at, triples}
+use Rattle.chess_rules.proofs.Chess.{Bishop, Colour, Grasshopper, Kind, King, Knight, Man, Move, Nightrider, Pawn, Position, Queen, Rook, RuleSet, Step, along, along-is, castles, hops, is_nil, is_promotion_right, is_pseudo_legal, is_square, leaps, man_on, may_castle, may_promote, promotions, reaches, reaches_as, reaches_of, rides, squares, triple_at, triples}
 use Rattle.chess_core.specs.MoveOrder.{promotion_place, triple_number}
 use Rattle.chess_rules.proofs.listing_moves.Members.{first_in, none_in_nil, from_flat_map, from_map, from_range, in_flat_map, in_map, in_range, pairs_map, pairs_nil, pairs_of}
 use Rattle.chess_rules.proofs.listing_moves.Places.{triples_numbered}
@@ -108,7 +108,7 @@ may_be_promoted p Nightrider h = (6, omega arith, refl)
 promotion_is_one : (p : Position) (x : Man) (m : Move) (r : Option Kind) → is_promotion_right p x m r ≡ true → Contains promotions r
 promotion_is_one p x m r h = grind (arith, may_be_promoted, and_parts)
 
-pub made_is_triple : (rule : RuleSet) (p : Position) (m : Move) → length p.men ≡ 64 → pseudo rule p m ≡ true
+pub made_is_triple : (rule : RuleSet) (p : Position) (m : Move) → length p.men ≡ 64 → is_pseudo_legal rule p m ≡ true
     → (m.from < 64) × (m.to < 64) × Contains promotions m.promo
 made_is_triple rule p m size h =
     let x = maker rule p m h in

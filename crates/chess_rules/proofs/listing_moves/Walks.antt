@@ -1,6 +1,6 @@
 -- No move is missed by walking from candidate to candidate.
 use Rattle.chess_rules.proofs.Basics.{Bool, None, Some, and_right, ap, arith, bit_and, bit_at, bit_at-lt, bit_at-zero, bit_at_and, cases_Bool, cases_lt, eq-eqb, eqb-true, false, find, inl, inr, not, range_with_len, refl, rules, true, ℕ, ◌%◌, ◌*◌, ◌+◌, ◌-◌, ◌/◌, ◌<◌, ◌==◌, ◌≡◌, ◌≤◌}
-use Rattle.chess_rules.proofs.Chess.{AreCandidates, AreEvasionsFrom, AreOrigins, HaveNone, IsAimed, IsBarrenFrom, IsNamed, Move, Position, RuleSet, find_first, find_no, is_arrival, legal, promotion_at, pseudo, side_of, triple_at, word}
+use Rattle.chess_rules.proofs.Chess.{AreCandidates, AreEvasionsFrom, AreOrigins, HaveNone, IsAimed, IsBarrenFrom, IsNamed, Move, Position, RuleSet, find_first, find_no, is_arrival, is_legal, is_pseudo_legal, promotion_at, side_of, triple_at, word}
 use Rattle.chess_rules.proofs.Bits.{word_has}
 use Rattle.chess_rules.proofs.listing_moves.Targeting.{arrival_needed, false_by, own_moves}
 use Rattle.chess_rules.proofs.listing_moves.Places.{not_pseudo}
@@ -15,21 +15,22 @@ off_second a b i h on = search (rules, bit_at_and, eq-eqb, eqb-true, false_by)
 pub off_zero : (i : ℕ) → (bit_at 0 i == 1) ≡ false
 off_zero i = rw (bit_at-zero i) refl
 
-module _ (rule : RuleSet) (p : Position) (test : Move → Bool) (needs : (m : Move) → pseudo rule p m ≡ false → test m ≡ false) where
+module _ (rule : RuleSet) (p : Position) (test : Move → Bool) (needs : (m : Move) → is_pseudo_legal rule p m ≡ false → test m ≡ false) where
   -- the candidates of one origin
   pub candidates : (s a w : ℕ) → a ≡ word (is_arrival rule p s)
-      → ((m : Move) → m.from ≡ s → m.to < 64 → pseudo rule p m ≡ true → (bit_at w m.to == 1) ≡ false → test m ≡ false)
+      → ((m : Move) → m.from ≡ s → m.to < 64 → is_pseudo_legal rule p m ≡ true → (bit_at w m.to == 1) ≡ false → test m ≡ false)
       → AreCandidates rule p test s (bit_and a w)
   candidates s a w arrivals h = search (rules, arrival_needed, cases_Bool, off_second, on_first, word_has)
 
-  pub no_candidates : (s w : ℕ) → w ≡ 0 → ((m : Move) → m.from ≡ s → m.to < 64 → pseudo rule p m ≡ true → (bit_at w m.to == 1) ≡ false → test m ≡ false)
+  pub no_candidates : (s w : ℕ) → w ≡ 0 → ((m : Move) → m.from ≡ s → m.to < 64 → is_pseudo_legal rule p m ≡ true → (bit_at w m.to == 1) ≡ false
+      → test m ≡ false)
       → AreCandidates rule p test s 0
   no_candidates s w zero h = search (rules, cases_Bool, off_zero)
 
   pub none-join : (a b c : ℕ) → HaveNone test a b → HaveNone test b c → HaveNone test a c
   none-join a b c x y = search (rules, cases_lt)
 
-  none-move : (s w : ℕ) (m : Move) → AreCandidates rule p test s w → m.from ≡ s → m.to < 64 → ((bit_at w m.to == 1) ≡ true → pseudo rule p m ≡ false)
+  none-move : (s w : ℕ) (m : Move) → AreCandidates rule p test s w → m.from ≡ s → m.to < 64 → ((bit_at w m.to == 1) ≡ true → is_pseudo_legal rule p m ≡ false)
       → test m ≡ false
   none-move s w m are at small h = search (rules, cases_Bool)
 
@@ -95,10 +96,11 @@ aimed_from rule p test s w a lt are named =
     })
 
 -- a move to no square that ends a check isn't legal
-pub evasions_elsewhere : (rule : RuleSet) (p : Position) (s w : ℕ) → AreEvasionsFrom rule p s w → (m : Move) → m.from ≡ s → m.to < 64 → pseudo rule p m ≡ true
-    → (bit_at w m.to == 1) ≡ false → legal rule p m ≡ false
-unfolding legal
-evasions_elsewhere rule p s w h m at small may off = and_right (pseudo rule p m) _ (ap not (h.elsewhere m at small may off))
+pub evasions_elsewhere : (rule : RuleSet) (p : Position) (s w : ℕ) → AreEvasionsFrom rule p s w → (m : Move) → m.from ≡ s → m.to < 64
+    → is_pseudo_legal rule p m ≡ true
+    → (bit_at w m.to == 1) ≡ false → is_legal rule p m ≡ false
+unfolding is_legal
+evasions_elsewhere rule p s w h m at small may off = and_right (is_pseudo_legal rule p m) _ (ap not (h.elsewhere m at small may off))
 
 -- for the candidates of one origin
 pub ruleset legal_candidates = (candidates, evasions_elsewhere, not_pseudo)

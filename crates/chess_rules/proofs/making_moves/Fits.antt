@@ -1,6 +1,6 @@
 -- A move that may be made can be made on the board.
 use Rattle.chess_rules.proofs.Basics.{IsSome, List, None, Option, Some, and_from, and_parts, ap, arith, cases_Bool, cond-false, cond-true, eq-eqb, eqb-true, false, false_from_ne_true, inl, inr, is_some, list_any, not-true, refl, rules, sym, true, ℕ, ◌&&◌, ◌<◌, ◌∙◌, ◌≡◌, ◌≢◌}
-use Rattle.chess_rules.proofs.Chess.{CanCastle, CanMove, Colour, HasNoKing, IsAt, IsWellFormed, Kind, King, Man, Move, Pawn, Position, Rook, RuleSet, arriving, capture_square, corner, file_of, halfway, is_castling, is_crossed_right, is_diagonal, is_man, is_man-without, is_promotion_right, is_square, leaps, man_on, man_on-without_none, man_on-without_other, may_promote, queen_steps, rank_of, reaches, reaches_as, same_colour, same_kind, square_at, square_at-is, was_passed, with_man, without_at, without_man}
+use Rattle.chess_rules.proofs.Chess.{CanCastle, CanMove, Colour, HasNoKing, IsAt, IsWellFormed, Kind, King, Man, Move, Pawn, Position, Rook, RuleSet, arriving_man, capture_square, corner, file_of, halfway, is_castling, is_crossed_right, is_diagonal, is_man, is_man-without, is_promotion_right, is_square, leaps, man_on, man_on-without_none, man_on-without_other, may_promote, queen_steps, rank_of, reaches, reaches_as, same_colour, same_kind, square_at, square_at-is, was_passed, with_man, without_at, without_man}
 use Rattle.chess_rules.proofs.making_moves.Castles.{no_king_left, same_colour_self}
 use Rattle.chess_rules.proofs.making_moves.Plays.{stays_empty}
 use Rattle.chess_rules.proofs.making_moves.Pseudo.{IsCastle, IsMade, IsPawnTake, king_castles, king_is_no_pawn, made, on_board, pawn_goes, pawn_reaches, ways}
@@ -74,8 +74,8 @@ promoted_no_king : (p : Position) (k : Kind) → may_promote p k ≡ true → sa
 promoted_no_king p k h = grind arith
 
 -- a king that arrives is the king that went
-pub arriving_king : (p : Position) (x : Man) (m : Move) (r : Option Kind) → is_promotion_right p x m r ≡ true → same_kind (arriving x r).kind King ≡ true
-    → arriving x r ≡ x
+pub arriving_king : (p : Position) (x : Man) (m : Move) (r : Option Kind) → is_promotion_right p x m r ≡ true → same_kind (arriving_man x r).kind King ≡ true
+    → arriving_man x r ≡ x
 arriving_king p x m r right king = grind (arith, and_parts, promoted_no_king)
 
 without_at-no_king : (men : List (Option Man)) (o : Option ℕ) (c : Colour) → HasNoKing men c → HasNoKing (without_at men o) c
@@ -100,7 +100,7 @@ capture_of_piece p x m s piece h = search rules
 
 -- the men once the man has arrived
 abbrev pub arrived : Position → Man → Move → List (Option Man)
-arrived p x m = with_man (without_at (without_man p.men m.from) (capture_square p x m)) m.to (arriving x m.promo)
+arrived p x m = with_man (without_at (without_man p.men m.from) (capture_square p x m)) m.to (arriving_man x m.promo)
 
 pub kind_is_king : (k : Kind) → same_kind k King ≡ true → k ≡ King
 kind_is_king k h = grind arith
@@ -156,7 +156,7 @@ can_move rule p x m well made = record {
       let t = taken rule p x m s well made h in
       some-is_some (without_man p.men m.from) s t.man (man_on-without_other p.men m.from s t.apart ∙ t.there);
   one_king = λ king.
-      let same : arriving x m.promo ≡ x = arriving_king p x m m.promo made.promotion king in
+      let same : arriving_man x m.promo ≡ x = arriving_king p x m m.promo made.promotion king in
       let k : same_kind x.kind King ≡ true = ap (λ (y : Man). same_kind y.kind King) (sym same) ∙ king in
       let none : HasNoKing (without_man p.men m.from) x.colour = no_king_left p.men m.from x well.kings made.here (same_colour_self x k) in
       rw same (without_at-no_king (without_man p.men m.from) (capture_square p x m) x.colour none);

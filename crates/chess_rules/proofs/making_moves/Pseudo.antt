@@ -1,6 +1,6 @@
 -- What a move that may be made is made of, check to the mover apart.
 use Rattle.chess_rules.proofs.Basics.{arith, List, None, Option, Some, and_parts, cases_lt, cond-false, cond-true, eqb-true, false, get_or_past, inl, inr, le-ltb, length, list_any, lt-ltb, nat_lt, or_cases, rules, true, ℕ, ◌+◌, ◌<◌, ◌≡◌, ◌≢◌, ◌⊎◌}
-use Rattle.chess_rules.proofs.Chess.{Black, Colour, IsWellFormed, Kind, King, Man, Move, Pawn, Position, Rook, RuleSet, White, along, along-is, castles, corner, file_of, forward, goes, halfway, is_arrival_free, is_home, is_home-none, is_home-square, is_promotion_right, is_square, leaps, man_on, may_castle, pawn_captures, pawn_steps, pawn_takes, pseudo, rank_of, reaches, reaches_as, same_colour-true, same_kind, second_rank}
+use Rattle.chess_rules.proofs.Chess.{Black, Colour, IsWellFormed, Kind, King, Man, Move, Pawn, Position, Rook, RuleSet, White, along, along-is, castles, corner, file_of, forward, goes, halfway, is_arrival_free, is_home, is_home-none, is_home-square, is_promotion_right, is_pseudo_legal, is_square, leaps, man_on, may_castle, pawn_captures, pawn_steps, pawn_takes, rank_of, reaches, reaches_as, same_colour-true, same_kind, second_rank}
 use Rattle.chess_rules.proofs.making_moves.Castles.{no_man}
 
 -- the parts of the definition
@@ -11,8 +11,8 @@ pub record IsMade (rule : RuleSet) (p : Position) (x : Man) (m : Move) : Type 0 
   pub promotion : is_promotion_right p x m m.promo ≡ true
   pub goes : goes rule p x m ≡ true
 
-pub made : (rule : RuleSet) (p : Position) (m : Move) (x : Man) → pseudo rule p m ≡ true → man_on p.men m.from ≡ Some x → IsMade rule p x m
-unfolding pseudo
+pub made : (rule : RuleSet) (p : Position) (m : Move) (x : Man) → is_pseudo_legal rule p m ≡ true → man_on p.men m.from ≡ Some x → IsMade rule p x m
+unfolding is_pseudo_legal
 made rule p m x h here = search (rules, and_parts, same_colour-true)
 
 -- the ways of a pawn and of the others

@@ -1,7 +1,7 @@
 -- The position before a move, found again.
 use Rattle.chess_rules.proofs.Basics.{IsSome, List, None, Option, Some, and_parts, ap, arith, cases_Bool, inl, inr, length, length-set, refl, rules, sym, true, ℕ, ◌<◌, ◌∙◌, ◌≡◌}
-use Rattle.chess_rules.proofs.Chess.{CanCastle, CanReturn, IsWellFormed, Kind, Man, Move, Position, RuleSet, after, after_by, arriving, before_by, capture_square, corner, halfway, is_castling, is_crossed_right, is_promotion_right, is_square, leaving, loss_by, man_on, man_on-with_same, man_on-without_other, man_on-without_same, man_on_at, moved_men, pseudo, put_at, reborn_square, returned_men, returns_to, uncastled_men, undo_of, without_at, without_man}
-use Rattle.chess_rules.specs.Loss.{Loss}
+use Rattle.chess_rules.proofs.Chess.{CanCastle, CanReturn, IsWellFormed, Kind, Man, Move, Position, RuleSet, after_by, arriving_man, before_by, capture_square, corner, halfway, is_castling, is_crossed_right, is_promotion_right, is_pseudo_legal, is_square, leaving_man, man_on, man_on-with_same, man_on-without_other, man_on-without_same, man_on_at, moved_men, position_after, put_at, reborn_square, returned_men, returns_to, uncastled_men, undo_by, undo_of, without_at, without_man}
+use Rattle.chess_rules.specs.Undo.{Undo}
 use Rattle.chess_rules.proofs.making_moves.Pseudo.{made}
 use Rattle.chess_rules.proofs.making_moves.Back.{lift_after_place, place_after_lift, unborn, uncastled}
 use Rattle.chess_rules.proofs.making_moves.Castles.{no_king_left, same_colour_self}
@@ -17,11 +17,11 @@ cleared p x m = without_at (without_man p.men m.from) (capture_square p x m)
 length-without_at : (men : List (Option Man)) (o : Option ℕ) → length (without_at men o) ≡ length men
 length-without_at men o = grind (arith, length-set)
 
-arrived_there : (p : Position) (x : Man) (m : Move) → length p.men ≡ 64 → m.to < 64 → man_on (arrived p x m) m.to ≡ Some (arriving x m.promo)
+arrived_there : (p : Position) (x : Man) (m : Move) → length p.men ≡ 64 → m.to < 64 → man_on (arrived p x m) m.to ≡ Some (arriving_man x m.promo)
 arrived_there p x m size small = search rules
 
 pub moved_arrival : (rule : RuleSet) (p : Position) (x : Man) (m : Move) → IsWellFormed p → IsMade rule p x m → m.to < 64
-    → man_on (moved_men p x m) m.to ≡ Some (arriving x m.promo)
+    → man_on (moved_men p x m) m.to ≡ Some (arriving_man x m.promo)
 unfolding moved_men
 moved_arrival rule p x m well made small = elim (cases_Bool (is_castling x m)) [
   | inl e ↦
@@ -33,7 +33,7 @@ moved_arrival rule p x m well made small = elim (cases_Bool (is_castling x m)) [
 ]
 
 -- a promoted man was a pawn
-leaving_arriving : (p : Position) (x : Man) (m : Move) (r : Option Kind) → is_promotion_right p x m r ≡ true → leaving (arriving x r) r ≡ x
+leaving_arriving : (p : Position) (x : Man) (m : Move) (r : Option Kind) → is_promotion_right p x m r ≡ true → leaving_man (arriving_man x r) r ≡ x
 leaving_arriving p x m r h = grind (arith, and_parts, kind_is_pawn)
 
 -- the rook that castles
@@ -64,16 +64,16 @@ returns_there rule p x m well made = by (capture_square p x m) refl where
   by (Some s) e = let t = taken rule p x m s well made e in rw t.there (returns_some p x m s t.man well e)
 
 -- the captured man is back
-returned : (rule : RuleSet) (p : Position) (x : Man) (m : Move) (u : Loss) → IsWellFormed p → IsMade rule p x m → u ≡ loss_by rule p x m
+returned : (rule : RuleSet) (p : Position) (x : Man) (m : Move) (u : Undo) → IsWellFormed p → IsMade rule p x m → u ≡ undo_by rule p x m
     → returned_men (moved_men p x m) x m u ≡ without_man p.men m.from
-unfolding returned_men loss_by
+unfolding returned_men undo_by
 returned rule p x m u well made lost =
     let back : put_at (cleared p x m) (capture_square p x m) (man_on_at p.men (capture_square p x m))
     ≡ without_man p.men m.from = recapture (capture_square p x m) (λ s e. taken rule p x m s well made e) in
     rw (
       lost,
       uncastles rule p x m well made,
-      lift_after_place (cleared p x m) m.to (arriving x m.promo) (capture_clears p x m),
+      lift_after_place (cleared p x m) m.to (arriving_man x m.promo) (capture_clears p x m),
       returns_there rule p x m well
           made,
     ) back where
@@ -94,9 +94,9 @@ unfolding moved_men
 castle_back rule p x m well made e =
     grind (arith, can_move, castle_of, corner_stays, length-set, length-without_at, lift_after_place, man_on-with_same, man_on-without_same, rook_stands)
 
-pub can_return : (rule : RuleSet) (p : Position) (x : Man) (m : Move) (u : Loss) → IsWellFormed p → IsMade rule p x m → m.to < 64 → u ≡ loss_by rule p x m
+pub can_return : (rule : RuleSet) (p : Position) (x : Man) (m : Move) (u : Undo) → IsWellFormed p → IsMade rule p x m → m.to < 64 → u ≡ undo_by rule p x m
     → CanReturn (moved_men p x m) x m u
-unfolding loss_by
+unfolding undo_by
 can_return rule p x m u well made small lost =
     search (
       rules,
@@ -121,12 +121,12 @@ unreborn rule p x m = unborn (moved_men p x m) (reborn_square rule p x m) (man_o
     (λ s e. let b = reborn_is rule p x m s e in (b.empty, rw b.who refl))
 
 -- the man that goes back
-pub goes_back : (rule : RuleSet) (p : Position) (x : Man) (m : Move) → IsMade rule p x m → leaving (arriving x m.promo) m.promo ≡ x
+pub goes_back : (rule : RuleSet) (p : Position) (x : Man) (m : Move) → IsMade rule p x m → leaving_man (arriving_man x m.promo) m.promo ≡ x
 goes_back rule p x m made = leaving_arriving p x m m.promo made.promotion
 
-pub before_is : (rule : RuleSet) (p : Position) (x : Man) (m : Move) (u : Loss) → IsWellFormed p → IsMade rule p x m → u ≡ loss_by rule p x m
+pub before_is : (rule : RuleSet) (p : Position) (x : Man) (m : Move) (u : Undo) → IsWellFormed p → IsMade rule p x m → u ≡ undo_by rule p x m
     → before_by (record (after_by rule p x m) { men = moved_men p x m }) x m u ≡ p
-unfolding before_by after_by loss_by
+unfolding before_by after_by undo_by
 before_is rule p x m u well made lost = search (rules, place_after_lift, returned)
 
 -- a reborn man stands on his square
@@ -135,38 +135,40 @@ pub reborn_stands : (rule : RuleSet) (p : Position) (x : Man) (m : Move) (s : �
 reborn_stands rule p x m s well made e =
     grind (arith, reborn_is rule p x m s e, moved_sound rule p x m well made, made, rebirth_small, some_there, man_on-with_same)
 
-pub undo_is : (rule : RuleSet) (p : Position) (x : Man) (m : Move) → man_on p.men m.from ≡ Some x → undo_of rule p m ≡ loss_by rule p x m
+pub undo_is : (rule : RuleSet) (p : Position) (x : Man) (m : Move) → man_on p.men m.from ≡ Some x → undo_of rule p m ≡ undo_by rule p x m
 unfolding undo_of
 undo_is rule p x m here = rw here refl
 
-after_is : (rule : RuleSet) (p : Position) (x : Man) (m : Move) → man_on p.men m.from ≡ Some x → after rule p m ≡ after_by rule p x m
-unfolding after
+after_is : (rule : RuleSet) (p : Position) (x : Man) (m : Move) → man_on p.men m.from ≡ Some x → position_after rule p m ≡ after_by rule p x m
+unfolding position_after
 after_is rule p x m here = rw here refl
 
 -- a reborn man can be taken off
-pub can_take_off : (rule : RuleSet) (q p : Position) (m : Move) (u : Loss) (s : ℕ) → IsWellFormed p → pseudo rule p m ≡ true → q ≡ after rule p m
+pub can_take_off : (rule : RuleSet) (q p : Position) (m : Move) (u : Undo) (s : ℕ) → IsWellFormed p → is_pseudo_legal rule p m ≡ true
+    → q ≡ position_after rule p m
     → u ≡ undo_of rule p m → u.rebirth ≡ Some s → IsSome (man_on q.men s)
-unfolding loss_by after_by
+unfolding undo_by after_by
 can_take_off rule q p m u s well may now was e =
     let x = maker rule p m may in
-    let at : reborn_square rule p x.0 m ≡ Some s = ap (λ (v : Loss). v.rebirth) (sym (was ∙ undo_is rule p x.0 m x.1)) ∙ e in
+    let at : reborn_square rule p x.0 m ≡ Some s = ap (λ (v : Undo). v.rebirth) (sym (was ∙ undo_is rule p x.0 m x.1)) ∙ e in
     let men : q.men ≡ put_at (moved_men p x.0 m) (reborn_square rule p x.0 m) (man_on_at p.men (capture_square p x.0 m)) = search (rules, after_is) in
     rw men (reborn_stands rule p x.0 m s well (made rule p m x.0 may x.1) at)
 
 -- the board when the reborn man is off
-off_is : (rule : RuleSet) (q q2 p : Position) (x : Man) (m : Move) (u : Loss) → man_on p.men m.from ≡ Some x → q ≡ after rule p m → u ≡ loss_by rule p x m
+off_is : (rule : RuleSet) (q q2 p : Position) (x : Man) (m : Move) (u : Undo) → man_on p.men m.from ≡ Some x → q ≡ position_after rule p m
+    → u ≡ undo_by rule p x m
     → q2 ≡ record q { men = without_at q.men u.rebirth } → q2 ≡ record (after_by rule p x m) { men = moved_men p x m }
-unfolding loss_by after_by
+unfolding undo_by after_by
 off_is rule q q2 p x m u here now lost off = grind (arith, after_is rule p x m here, unreborn rule p x m)
 
 -- the man found on the arrival, and what taking the move back then needs and gives
-pub record GoesBack (q2 p : Position) (m : Move) (u : Loss) (a : ℕ) (r : Option Kind) : Type 0 where
+pub record GoesBack (q2 p : Position) (m : Move) (u : Undo) (a : ℕ) (r : Option Kind) : Type 0 where
   pub stands : man_on q2.men a ≡ None → ⊥
-  pub can : (y : Man) → man_on q2.men a ≡ Some y → CanReturn q2.men (leaving y r) m u
-  pub gives : (y : Man) → man_on q2.men a ≡ Some y → before_by q2 (leaving y r) m u ≡ p
+  pub can : (y : Man) → man_on q2.men a ≡ Some y → CanReturn q2.men (leaving_man y r) m u
+  pub gives : (y : Man) → man_on q2.men a ≡ Some y → before_by q2 (leaving_man y r) m u ≡ p
 
-pub restores : (rule : RuleSet) (q q2 p : Position) (m : Move) (u : Loss) (a : ℕ) (r : Option Kind) → IsWellFormed p → pseudo rule p m ≡ true
-    → q ≡ after rule p m → u ≡ undo_of rule p m → q2 ≡ record q { men = without_at q.men u.rebirth } → a ≡ m.to → a < 64 → r ≡ m.promo
+pub restores : (rule : RuleSet) (q q2 p : Position) (m : Move) (u : Undo) (a : ℕ) (r : Option Kind) → IsWellFormed p → is_pseudo_legal rule p m ≡ true
+    → q ≡ position_after rule p m → u ≡ undo_of rule p m → q2 ≡ record q { men = without_at q.men u.rebirth } → a ≡ m.to → a < 64 → r ≡ m.promo
     → GoesBack q2 p m u a r
 restores rule q q2 p m u a r well may now was off to small promo =
     let x = maker rule p m may in
@@ -175,13 +177,13 @@ restores rule q q2 p m u a r well may now was off to small promo =
     let q2_is = off_is rule q q2 p x.0 m u x.1 now lost off in
     let men : q2.men ≡ moved_men p x.0 m = ap (λ (v : Position). v.men) q2_is in
     let in_board : m.to < 64 = omega (arith, to, small) in
-    let arrival : man_on q2.men a ≡ Some (arriving x.0 m.promo) = rw (men, to) (moved_arrival rule p x.0 m well made_is in_board) in
-    let back : (y : Man) → man_on q2.men a ≡ Some y → leaving y r ≡ x.0 = λ y there.
-    let both : Some y ≡ Some (arriving x.0 m.promo) = sym there ∙ arrival in
-    let y_is : y ≡ arriving x.0 m.promo = cc in
+    let arrival : man_on q2.men a ≡ Some (arriving_man x.0 m.promo) = rw (men, to) (moved_arrival rule p x.0 m well made_is in_board) in
+    let back : (y : Man) → man_on q2.men a ≡ Some y → leaving_man y r ≡ x.0 = λ y there.
+    let both : Some y ≡ Some (arriving_man x.0 m.promo) = sym there ∙ arrival in
+    let y_is : y ≡ arriving_man x.0 m.promo = cc in
     rw (promo, y_is) (goes_back rule p x.0 m made_is) in
     record {
-      stands = λ none. let bad : None ≡ Some (arriving x.0 m.promo) = sym none ∙ arrival in cc;
+      stands = λ none. let bad : None ≡ Some (arriving_man x.0 m.promo) = sym none ∙ arrival in cc;
       can = λ y there. rw (back y there, men) (can_return rule p x.0 m u well made_is in_board lost);
       gives = λ y there. rw (back y there, q2_is) (before_is rule p x.0 m u well made_is lost);
     }

@@ -1,8 +1,8 @@
 -- A well-formed position stays well formed.
 use Rattle.chess_rules.proofs.Basics.{Bool, List, None, Option, Some, and_from, and_parts, ap, arith, cases_Bool, cases_eq, cases_lt, cond-false, cond-true, eq-eqb, eqb, eqb-true, false, if◌then◌else◌, inl, inr, length, length-set, ne_eqb, not-true, or_cases, refl, rules, set_past, sym, true, ℕ, ◌&&◌, ◌+◌, ◌<◌, ◌||◌, ◌∙◌, ◌≡◌, ◌≢◌, ◌≤◌, ◌⊎◌}
-use Rattle.chess_rules.proofs.Chess.{AtMostOneKing, AtMostOneKing-without, CanCastle, Colour, HasNoKing, IsAt, IsWellFormed, Kind, King, Man, Move, Pawn, Position, Rook, RuleSet, after, after_by, arriving, by_shade, capture_square, corner, file_of, halfway, has_unmoved, has_unmoved-mark_other, has_unmoved-parts}
+use Rattle.chess_rules.proofs.Chess.{AtMostOneKing, AtMostOneKing-without, CanCastle, Colour, HasNoKing, IsAt, IsWellFormed, Kind, King, Man, Move, Pawn, Position, Rook, RuleSet, after_by, arriving_man, by_shade, capture_square, corner, file_of, halfway, has_unmoved, has_unmoved-mark_other, has_unmoved-parts, position_after}
 use Rattle.chess_rules.proofs.Chess.{if_empty, is_castling, is_circe, is_crossed_right, is_double_step, is_home, is_home-none, is_man, is_pawn_inside, is_promotion_right, is_vacant_at, last_rank, man_on, man_on-with_other, man_on-with_same, man_on-without_none, man_on-without_other, man_on-without_same, man_on_at, may_promote, move_man}
-use Rattle.chess_rules.proofs.Chess.{moved_men, other, pseudo, put_at, rank_of, rebirth, reborn_at, reborn_square, same_colour, same_kind, second_rank, square_at, square_at-is, unmoved_after, unmoved_with_rook, unmoved_without_at, was_passed, with_man, without_at, without_man, without_unmoved}
+use Rattle.chess_rules.proofs.Chess.{is_pseudo_legal, moved_men, other, put_at, rank_of, rebirth, reborn_at, reborn_square, same_colour, same_kind, second_rank, square_at, square_at-is, unmoved_after, unmoved_with_rook, unmoved_without_at, was_passed, with_man, without_at, without_man, without_unmoved}
 use Rattle.chess_core.specs.declared.man.Unmoved.{Unmoved}
 use Rattle.chess_rules.proofs.making_moves.Fits.{arrived, arrived_other, can_move, castle_of, corner_stays, no_capture, pawn_is_no_king, taken}
 use Rattle.chess_rules.proofs.making_moves.Plays.{none_from_is_some}
@@ -53,7 +53,7 @@ and_false_right a b h e = grind arith
 
 -- the man that arrives stands where he may
 arriving_inside : (rule : RuleSet) (p : Position) (x : Man) (m : Move) (r : Option Kind) → IsWellFormed p → IsMade rule p x m
-    → is_promotion_right p x m r ≡ true → is_pawn_inside (Some (arriving x r)) m.to ≡ true
+    → is_promotion_right p x m r ≡ true → is_pawn_inside (Some (arriving_man x r)) m.to ≡ true
 arriving_inside rule p x m (Some k) well made right = search (rules, and_parts, other_inside, promoted_no_pawn)
 arriving_inside rule p x m None well made right =
     search (rules, and_false_right, and_parts, cases_Bool, not-true, onward, other_inside, pawn_goes, pawn_inside, pawn_ranks, pawn_reaches, ways)
@@ -64,7 +64,7 @@ rook_is_no_pawn k h = grind arith
 arrived_sound : (rule : RuleSet) (p : Position) (x : Man) (m : Move) → IsWellFormed p → IsMade rule p x m → IsSound (arrived p x m)
 arrived_sound rule p x m well made =
     let sound : IsSound p.men = record { size = well.size; kings = well.kings; pawns = well.pawns } in
-    IsSound-with (without_at (without_man p.men m.from) (capture_square p x m)) m.to (arriving x m.promo)
+    IsSound-with (without_at (without_man p.men m.from) (capture_square p x m)) m.to (arriving_man x m.promo)
     (IsSound-without_at (without_man p.men m.from) (capture_square p x m) (IsSound-without p.men m.from sound))
     (arriving_inside rule p x m m.promo well made made.promotion) (can_move rule p x m well made).one_king
 
@@ -250,13 +250,13 @@ double_passed c p x m size mine pawn small file second adv empty =
 -- a move that captures nothing and doesn't castle
 plain_men : (rule : RuleSet) (p : Position) (x : Man) (m : Move) → capture_square p x m ≡ None → is_castling x m ≡ false
     → put_at (moved_men p x m) (reborn_square rule p x m) (man_on_at p.men (capture_square p x m))
-    ≡ with_man (without_man p.men m.from) m.to (arriving x m.promo)
+    ≡ with_man (without_man p.men m.from) m.to (arriving_man x m.promo)
 unfolding moved_men reborn_square
 plain_men rule p x m none plain = rw (none, plain) refl
 
 -- not on the last rank no promotion is named
 no_promotion : (p : Position) (x : Man) (m : Move) (r : Option Kind) → is_promotion_right p x m r ≡ true → eqb (rank_of m.to) (last_rank x.colour) ≡ false
-    → arriving x r ≡ x
+    → arriving_man x r ≡ x
 no_promotion p x m r right off = grind (arith, and_parts)
 
 two_on : (c : Colour) (s t : ℕ) → rank_of s ≡ second_rank c → Advances c s t 2 → eqb (rank_of t) (last_rank c) ≡ false
@@ -280,13 +280,13 @@ unfolding after_by
 after_by_well rule p x m well made = grind (arith, after_sound rule p x m well made, made, after_home rule p x m well made, after_crossed rule p x m well made)
 
 -- some man makes the move
-pub maker : (rule : RuleSet) (p : Position) (m : Move) → pseudo rule p m ≡ true → (x : Man) × (man_on p.men m.from ≡ Some x)
-unfolding pseudo
+pub maker : (rule : RuleSet) (p : Position) (m : Move) → is_pseudo_legal rule p m ≡ true → (x : Man) × (man_on p.men m.from ≡ Some x)
+unfolding is_pseudo_legal
 maker rule p m h = search rules
 
 -- a move that may be made leaves a well-formed position
-pub after_well_formed : (rule : RuleSet) (p : Position) (m : Move) → IsWellFormed p → pseudo rule p m ≡ true → IsWellFormed (after rule p m)
-unfolding after
+pub after_well_formed : (rule : RuleSet) (p : Position) (m : Move) → IsWellFormed p → is_pseudo_legal rule p m ≡ true → IsWellFormed (position_after rule p m)
+unfolding position_after
 after_well_formed rule p m well h =
     let x = maker rule p m h in
     rw x.1 (after_by_well rule p x.0 m well (made rule p m x.0 h x.1))

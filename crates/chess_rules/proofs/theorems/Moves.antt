@@ -6,9 +6,9 @@ use Rattle.chess_core.specs.Position.{Position}
 use Rattle.chess_core.specs.WellFormed.{IsWellFormed}
 use Rattle.chess_core.specs.declared.man.Move.{Move}
 use Rattle.chess_rules.specs.Attacks.{in_check}
-use Rattle.chess_rules.specs.Legal.{is_goal, is_nil, is_stalemate, legal, moves, promotions, triples}
+use Rattle.chess_rules.specs.Legal.{is_legal, is_mate, is_nil, is_stalemate, moves, promotions, triples}
 use Rattle.chess_rules.specs.RuleSet.{RuleSet}
-use Rattle.chess_rules.proofs.listing_moves.Calls.{pseudo-from_legal}
+use Rattle.chess_rules.proofs.listing_moves.Calls.{is_pseudo_legal-from_legal}
 use Rattle.chess_rules.proofs.listing_moves.Members.{from_filter, in_filter, pairs_weaker}
 use Rattle.chess_rules.proofs.listing_moves.Triples.{from_triples, in_triples, made_is_triple, triples_rise, by_parts, nil_where_nothing, nothing_in}
 use Rattle.std.proofs.lemmas.Bool.{and_from, and_parts, false_from_ne_true, not-true, not_from_false, true≢false}
@@ -30,25 +30,25 @@ precedes_by_parts m n a b = by_parts m n a.1 b.1
 
 module _ (rule : RuleSet) (p : Position) where
   -- Each legal move of a well-formed position is such a triple.
-  pub legal_moves_are_triples : (m : Move) → IsWellFormed p → legal rule p m ≡ true → IsTriple m
-  legal_moves_are_triples m well h = made_is_triple rule p m well.size (pseudo-from_legal rule p m h)
+  pub legal_moves_are_triples : (m : Move) → IsWellFormed p → is_legal rule p m ≡ true → IsTriple m
+  legal_moves_are_triples m well h = made_is_triple rule p m well.size (is_pseudo_legal-from_legal rule p m h)
 
   -- In any position a move stands among the moves exactly where it is one of the triples and legal.
-  pub moves_are_the_legal_triples : (m : Move) → Contains (moves rule p) m ↔ (IsTriple m × (legal rule p m ≡ true))
+  pub moves_are_the_legal_triples : (m : Move) → Contains (moves rule p) m ↔ (IsTriple m × (is_legal rule p m ≡ true))
   unfolding moves
   moves_are_the_legal_triples m = (
-    λ c. let w = from_filter (legal rule p) triples m c in (from_triples m w.0, w.1),
-    λ h. in_filter (legal rule p) triples m (in_triples m h.0.0 h.0.1 h.0.2) h.1,
+    λ c. let w = from_filter (is_legal rule p) triples m c in (from_triples m w.0, w.1),
+    λ h. in_filter (is_legal rule p) triples m (in_triples m h.0.0 h.0.1 h.0.2) h.1,
   )
 
   -- In a well-formed position a move stands among the moves exactly where it is legal.
-  pub moves_are_the_legal_moves : (m : Move) → IsWellFormed p → Contains (moves rule p) m ↔ (legal rule p m ≡ true)
+  pub moves_are_the_legal_moves : (m : Move) → IsWellFormed p → Contains (moves rule p) m ↔ (is_legal rule p m ≡ true)
   moves_are_the_legal_moves m well = grind (arith, moves_are_the_legal_triples, legal_moves_are_triples)
 
   -- The moves stand in order: each precedes every later one.
   pub moves_in_order : AllPairs Precedes (moves rule p)
   unfolding moves
-  moves_in_order = AllPairs-filter Precedes (legal rule p) triples triples_rise
+  moves_in_order = AllPairs-filter Precedes (is_legal rule p) triples triples_rise
 
   -- Each stands once: no two are alike.
   pub moves_differ : AllPairs (λ m n. m ≢ n) (moves rule p)
@@ -58,18 +58,18 @@ module _ (rule : RuleSet) (p : Position) where
       apart m n less same = let e : triple_number m ≡ triple_number n = ap triple_number same in omega (arith, less, e)
 
   -- There are no moves exactly where no move is legal.
-  pub no_moves_is : IsWellFormed p → (is_nil (moves rule p) ≡ true) ↔ ((m : Move) → legal rule p m ≡ false)
+  pub no_moves_is : IsWellFormed p → (is_nil (moves rule p) ≡ true) ↔ ((m : Move) → is_legal rule p m ≡ false)
   no_moves_is well = (
-    λ h m. false_from_ne_true (legal rule p m) (λ may. nothing_in (moves rule p) h m ((moves_are_the_legal_moves m well).1 may)),
+    λ h m. false_from_ne_true (is_legal rule p m) (λ may. nothing_in (moves rule p) h m ((moves_are_the_legal_moves m well).1 may)),
     λ h. nil_where_nothing (moves rule p) (λ m c. true≢false (sym ((moves_are_the_legal_triples m).0 c).1 ∙ h m)),
   )
 
   -- Mate: the side to move is in check, and no move is legal.
-  pub mate_is : IsWellFormed p → (is_goal rule p ≡ true) ↔ ((in_check rule p.men p.turn ≡ true) × ((m : Move) → legal rule p m ≡ false))
-  unfolding is_goal
+  pub mate_is : IsWellFormed p → (is_mate rule p ≡ true) ↔ ((in_check rule p.men p.turn ≡ true) × ((m : Move) → is_legal rule p m ≡ false))
+  unfolding is_mate
   mate_is well = grind (arith, and_parts, no_moves_is, and_from)
 
   -- Stalemate: it is not in check, and no move is legal.
-  pub stalemate_is : IsWellFormed p → (is_stalemate rule p ≡ true) ↔ ((in_check rule p.men p.turn ≡ false) × ((m : Move) → legal rule p m ≡ false))
+  pub stalemate_is : IsWellFormed p → (is_stalemate rule p ≡ true) ↔ ((in_check rule p.men p.turn ≡ false) × ((m : Move) → is_legal rule p m ≡ false))
   unfolding is_stalemate
   stalemate_is well = grind (arith, and_parts, not-true, no_moves_is, and_from, not_from_false)

@@ -7,8 +7,8 @@ use Rattle.chess_core.specs.declared.man.Move.{Move}
 use Rattle.chess_core.specs.declared.man.Colour.{Colour}
 use Rattle.chess_core.specs.declared.man.Kind.TheVariants.{Queen}
 use Rattle.chess_rules.specs.Attacks.{in_check}
-use Rattle.chess_rules.specs.Legal.{pseudo}
-use Rattle.chess_rules.specs.Play.{after}
+use Rattle.chess_rules.specs.Legal.{is_pseudo_legal}
+use Rattle.chess_rules.specs.Play.{position_after}
 use Rattle.chess_rules.specs.Reaches.{reaches, reaches_as}
 use Rattle.chess_rules.specs.ties.Shields.{is_fairy}
 use Rattle.chess_rules.specs.RuleSet.{RuleSet, is_madrasi}
@@ -42,5 +42,5 @@ pub record AreEvasions (rule : RuleSet) (men : List (Option Man)) (c : Colour) (
 
 -- a move from s that may be made leaves its mover in check, if it goes to a square not in the word
 pub record AreEvasionsFrom (rule : RuleSet) (p : Position) (s w : ℕ) : Type 0 where
-  pub elsewhere : (m : Move) → m.from ≡ s → m.to < 64 → pseudo rule p m ≡ true
-      → (bit_at w m.to == 1) ≡ false → in_check rule (after rule p m).men p.turn ≡ true
+  pub elsewhere : (m : Move) → m.from ≡ s → m.to < 64 → is_pseudo_legal rule p m ≡ true
+      → (bit_at w m.to == 1) ≡ false → in_check rule (position_after rule p m).men p.turn ≡ true

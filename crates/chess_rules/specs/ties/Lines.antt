@@ -36,7 +36,7 @@ step_of WestSouthWest = step_by 0 2 0 1
 abbrev pub occupied_squares : List (Option Man) → ℕ
 occupied_squares men = word (λ s. is_some (man_on men s))
 
--- the knight's steps of two ranks, and those of one
+-- the knight's steps of two ranks
 abbrev pub steep_steps : List Step
 steep_steps = step_of NorthNorthEast ∷ step_of SouthSouthEast ∷ step_of NorthNorthWest
     ∷ step_of SouthSouthWest ∷ []

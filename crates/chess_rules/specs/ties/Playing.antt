@@ -5,7 +5,7 @@ use Rattle.chess_core.specs.declared.man.Man.{Man}
 use Rattle.chess_core.specs.declared.man.Move.{Move}
 use Rattle.chess_core.specs.declared.man.Kind.TheVariants.{King}
 use Rattle.chess_rules.specs.RuleSet.{RuleSet}
-use Rattle.chess_rules.specs.Play.{arriving, capture_square, corner, halfway, is_castling, without_at}
+use Rattle.chess_rules.specs.Play.{arriving_man, capture_square, corner, halfway, is_castling, without_at}
 
 -- a rook can be taken from one square and put on another
 pub record CanCastle (men : List (Option Man)) (a b : ℕ) : Type 0 where
@@ -16,12 +16,12 @@ pub record CanCastle (men : List (Option Man)) (a b : ℕ) : Type 0 where
 pub record CanMove (p : Position) (x : Man) (m : Move) : Type 0 where
   pub here : man_on p.men m.from ≡ Some x
   pub taken : (s : ℕ) → capture_square p x m ≡ Some s → IsSome (man_on (without_man p.men m.from) s)
-  pub one_king : same_kind (arriving x m.promo).kind King ≡ true
+  pub one_king : same_kind (arriving_man x m.promo).kind King ≡ true
       → HasNoKing (without_at (without_man p.men m.from) (capture_square p x m))
-      (arriving x m.promo).colour
+      (arriving_man x m.promo).colour
   pub rook : is_castling x m ≡ true → CanCastle
       (with_man (without_at (without_man p.men m.from) (capture_square p x m)) m.to
-      (arriving x m.promo)) (corner m) (halfway m)
+      (arriving_man x m.promo)) (corner m) (halfway m)
 
 -- and when the move is made whole
 pub record CanPlay (rule : RuleSet) (p : Position) (m : Move) : Type 0 where

@@ -11,7 +11,7 @@ use Rattle.chess_core.specs.declared.man.Kind.TheVariants.{King}
 use Rattle.chess_core.specs.declared.man.Man.{Man}
 use Rattle.chess_core.specs.declared.man.Move.{Move}
 use Rattle.chess_rules.specs.ties.Lines.{occupied_squares}
-use Rattle.chess_rules.specs.Play.{arriving, is_castling}
+use Rattle.chess_rules.specs.Play.{arriving_man, is_castling}
 use Rattle.chess_rules.specs.RuleSet.{RuleSet, is_circe}
 use Rattle.chess_rules.specs.declared.sight.Sight.{Sight}
 
@@ -35,7 +35,7 @@ is_simple rule x m captures = not (is_castling x m) && not (is_circe rule && cap
 
 -- x arrives on s by the move m, as a man of kind k
 abbrev pub is_arriving_as : Man → Move → Kind → ℕ → Bool
-is_arriving_as x m k s = same_kind (arriving x m.promo).kind k && is_square (Some m.to) s
+is_arriving_as x m k s = same_kind (arriving_man x m.promo).kind k && is_square (Some m.to) s
 
 -- the squares of the men of its colour and of kind k once x has made the move m
 abbrev pub own_after : List (Option Man) → Sight → Man → Move → Kind → ℕ

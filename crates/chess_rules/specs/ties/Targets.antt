@@ -8,7 +8,7 @@ use Rattle.chess_core.specs.Steps.{along, step_by}
 use Rattle.chess_core.specs.declared.man.Kind.TheVariants.{King, Pawn}
 use Rattle.chess_core.specs.declared.man.Man.{Man}
 use Rattle.chess_core.specs.declared.man.Move.{Move}
-use Rattle.chess_rules.specs.Attacks.{paralysed}
+use Rattle.chess_rules.specs.Attacks.{is_paralysed}
 use Rattle.chess_rules.specs.Legal.{forward, is_arrival_free, last_rank, pawn_steps}
 use Rattle.chess_rules.specs.Reaches.{reaches_as}
 use Rattle.chess_rules.specs.RuleSet.{RuleSet}
@@ -39,7 +39,7 @@ may_go p x s t =
 abbrev pub is_arrival_of : RuleSet → Position → Option Man → ℕ → ℕ → Bool
 is_arrival_of rule p None s t = false
 is_arrival_of rule p (Some x) s t =
-    same_colour x.colour p.turn && not (paralysed rule p.men s)
+    same_colour x.colour p.turn && not (is_paralysed rule p.men s)
     && is_arrival_free p.turn (man_on p.men t) && may_go p x s t
 
 -- the man on s may go to t, the tests of castling and of the promotion apart

@@ -1,5 +1,5 @@
 -- The entry of a block is a function of its own words and their lines: no neighbour changes it.
-use Rattle.pop_input.proofs.Words.{Bool, Command, Entry, List, None, Option, Some, Tail, Token, Word, Words, [], ap, append_assoc, arith, block_fault, closed_entry, closes, command_of, entries_by, entries_of, false, flat_map, get_or, get_or_at, inside, is_open, length, length-map, list_all, map, no_words, put_before, refl, suc, sym, true, ℕ, ◌++◌, ◌∙◌, ◌∷◌, ◌≡◌}
+use Rattle.pop_input.proofs.Words.{Bool, Command, Entry, List, None, Option, Some, Tail, Token, Word, Words, [], ap, append_assoc, arith, block_fault, closed_entry, closes, closes_none, command_of, entries_by, entries_of, false, flat_map, get_or, get_or_at, length, length-map, list_all, map, no_words, put_before, refl, suc, sym, tokens_inside, true, ℕ, ◌++◌, ◌∙◌, ◌∷◌, ◌≡◌}
 use Rattle.pop_input.specs.declared.names.Command.TheVariants.{Last, Next}
 use Rattle.pop_input.proofs.Blocks.{ended_entries, last_entries, next_entries}
 
@@ -9,7 +9,7 @@ pub record ClosedBlock : Type 0 where
   pub front : List Token
   pub line : ℕ
   pub closer : List ℕ
-  pub plain : list_all is_open front ≡ true
+  pub plain : list_all closes_none front ≡ true
   pub closing : closes (command_of closer) ≡ true
 
 -- All its words and text lines.
@@ -18,7 +18,7 @@ tokens_in block = block.front ++ Word block.line block.closer ∷ []
 
 -- Its entry, read off these alone: as the first block of an input, or as a later one.
 abbrev pub own_entry : Bool → ClosedBlock → Entry
-own_entry first block = closed_entry (block_fault first (tokens_in block)) block.line (inside first (tokens_in block))
+own_entry first block = closed_entry (block_fault first (tokens_in block)) block.line (tokens_inside first (tokens_in block))
 
 -- Whether a command is NextProblem.
 abbrev pub is_next : Option Command → Bool
@@ -88,7 +88,7 @@ blocks_first (block ∷ before) words next =
     ∙ step.0 ∙ ap (λ entries. own_entry true block ∷ entries) (blocks_and_rest before words step.1)
 
 -- The entries of a block that no word closes are read off its words and how the input ends.
-pub open_block : (first : Bool) (front : List Token) (tail : Tail) (line : ℕ) → list_all is_open front ≡ true
+pub open_block : (first : Bool) (front : List Token) (tail : Tail) (line : ℕ) → list_all closes_none front ≡ true
     → entries_of first (put_before front (no_words tail line)) ≡ entries_by (block_fault first front) None first tail line front
 open_block first front tail line plain = ended_entries first front tail line plain
 

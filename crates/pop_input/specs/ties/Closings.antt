@@ -34,9 +34,9 @@ text_with Author old Author text = text
 text_with _ old _ text = old
 
 -- a text line before the first problem has no effect
-abbrev pub noted : Bool → TextWord → List ℕ → TextWord → List ℕ → List ℕ
-noted true wanted old keyword text = text_with wanted old keyword text
-noted false wanted old keyword text = old
+abbrev pub noted_text : Bool → TextWord → List ℕ → TextWord → List ℕ → List ℕ
+noted_text true wanted old keyword text = text_with wanted old keyword text
+noted_text false wanted old keyword text = old
 
 -- nothing of a block is read yet
 pub record IsNew (first : Bool) (block : Block) : Type 0 where
@@ -59,8 +59,8 @@ pub record TakesLine (old new : Block) (keyword : TextWord) (text : List ℕ) : 
   pub fault : new.fault ≡ old.fault
   pub begun : new.begun ≡ old.begun
   pub draft : new.draft ≡ old.draft
-  pub title : new.title ≡ noted old.begun Title old.title keyword text
-  pub author : new.author ≡ noted old.begun Author old.author keyword text
+  pub title : new.title ≡ noted_text old.begun Title old.title keyword text
+  pub author : new.author ≡ noted_text old.begun Author old.author keyword text
 
 -- the fault of a block that a word in this line closes
 abbrev pub closing_fault : Block → ℕ → Option Fault

@@ -3,7 +3,7 @@ use Rattle.std.specs.Prelude.{◌≡◌, ◌≤◌, ℕ, List, [], ◌∷◌, �
 use Rattle.pop_text.specs.Bytes.{Consumes}
 use Rattle.pop_text.specs.Words.{Input, limit}
 use Rattle.pop_text.specs.ties.Reading.{Reading, beginning}
-use Rattle.pop_text.specs.ties.Left.{after, MayFollow, words_left}
+use Rattle.pop_text.specs.ties.Left.{onto_input, MayFollow, words_left}
 use Rattle.pop_input.specs.Blocks.{Entry, Sound as SoundEntry, Faulty as FaultyEntry, entries_of}
 use Rattle.pop_input.specs.declared.item.Last.{Last}
 use Rattle.pop_input.specs.declared.item.Last.TheVariants.{Yes, No}
@@ -19,8 +19,8 @@ pub record Standing : Type 0 where
   pub at : Reading
 
 -- before all items
-abbrev pub start : Standing
-start = record { next = First; at = beginning }
+abbrev pub first_standing : Standing
+first_standing = record { next = First; at = beginning }
 
 -- the items of what is left of an input, where this block is next
 abbrev pub entries_at : Next → Reading → Input → List Entry
@@ -37,9 +37,10 @@ pub record Reads (old new : Standing) (had left : Option (List ℕ)) (entries : 
     0 where
   pub bytes : List ℕ
   pub taken : Consumes had left bytes
-  pub follows : (rest : Input) → MayFollow new.at.end rest → MayFollow old.at.end (after bytes rest)
+  pub follows : (rest : Input) → MayFollow new.at.end rest
+      → MayFollow old.at.end (onto_input bytes rest)
   pub begin : (rest : Input) → MayFollow new.at.end rest
-      → entries_left old (after bytes rest) ≡ entries ++ entries_left new rest
+      → entries_left old (onto_input bytes rest) ≡ entries ++ entries_left new rest
   pub amount : length bytes + (old.at.used + length old.at.window)
       ≡ new.at.used + length new.at.window
 

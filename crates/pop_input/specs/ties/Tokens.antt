@@ -1,6 +1,6 @@
 -- What next_token does (own).
 use Rattle.std.specs.Prelude.{◌≡◌, ◌<◌, ◌≤◌, ℕ, List, [], ◌∷◌, length, Option, Some, None, Ok, Err}
-use Rattle.pop_text.specs.Words.{Token as Part, Word, TextLine, Tail, End as AtEnd, Long, Broken as Failing, text_of_line}
+use Rattle.pop_text.specs.Words.{Token, Word, TextLine, Tail, End as AtEnd, Long, Broken as Failing, text_of_line}
 use Rattle.pop_text.specs.ties.Reading.{Reading, Uses}
 use Rattle.pop_text.specs.ties.Runs.{IsRunOver, Peeks, UsesRun}
 use Rattle.pop_text.specs.ties.Left.{Takes, among, IsOver, GoesOn, StaysWithin}
@@ -9,11 +9,11 @@ use Rattle.pop_text.specs.declared.scanner.End.TheVariants.{Broken}
 use Rattle.pop_text.specs.declared.read_fault.ReadFault.TheVariants.{TooLong as LongWord, InputTooLong, Device}
 use Rattle.pop_input.specs.Names.{text_word_of}
 use Rattle.pop_text.specs.declared.word.Word.{Word as Room}
-use Rattle.pop_input.specs.declared.token.Token.{Token}
-use Rattle.pop_input.specs.declared.token.Token.TheVariants.{Word as AWord, TooLong, Line, Ended, Cut}
+use Rattle.pop_input.specs.declared.token.ReadToken.{ReadToken}
+use Rattle.pop_input.specs.declared.token.ReadToken.TheVariants.{Word as AWord, TooLong, Line, Ended, Cut}
 
 -- a part of the input was taken
-abbrev pub TakesPart : Reading → Reading → Option (List ℕ) → Option (List ℕ) → Part → Type 0
+abbrev pub TakesPart : Reading → Reading → Option (List ℕ) → Option (List ℕ) → Token → Type 0
 TakesPart old new had left part = Takes (among old) (among new) had left (part ∷ [])
     × GoesOn old new
 
@@ -35,7 +35,7 @@ pub record UsesSome (old new : Reading) (had left : Option (List ℕ)) : Type 0 
   pub uses : Uses old new had left bytes
 
 -- which bytes next_token uses: of a word those up to its end, and none behind it; where the input ends, or is cut, all up to there
-abbrev pub UsesToken : Reading → Reading → Option (List ℕ) → Option (List ℕ) → Room → Token
+abbrev pub UsesToken : Reading → Reading → Option (List ℕ) → Option (List ℕ) → Room → ReadToken
     → Type 0
 UsesToken old new had left word AWord = UsesRun old new had left word.line word.bytes.items
     × IsRunOver new
@@ -45,7 +45,8 @@ UsesToken old new had left word (Ended line) = UsesSome old new had left × Peek
 UsesToken old new had left word (Cut fault) = UsesSome old new had left × Peeks new (Err fault)
 
 -- what next_token does, with the word and the text that it leaves
-abbrev pub NextToken : Reading → Reading → Option (List ℕ) → Option (List ℕ) → Room → List ℕ → Token
+abbrev pub NextToken : Reading → Reading → Option (List ℕ) → Option (List ℕ) → Room → List ℕ
+    → ReadToken
     → Type 0
 NextToken old new had left word text AWord = TakesPart old new had left
     (Word word.line word.bytes.items) × (length word.bytes.items ≤ 160)

@@ -6,7 +6,7 @@ use Rattle.pop_text.specs.ties.Reading.{Reading, Uses}
 use Rattle.pop_text.specs.ties.Left.{Takes, among}
 use Rattle.pop_text.specs.ties.Runs.{IsRunOver, Peeks}
 use Rattle.pop_text.specs.declared.read_fault.ReadFault.{ReadFault}
-use Rattle.pop_input.specs.Blocks.{Entry, Sound as SoundEntry, Faulty as FaultyEntry, is_open}
+use Rattle.pop_input.specs.Blocks.{Entry, Sound as SoundEntry, Faulty as FaultyEntry, closes_none}
 use Rattle.pop_input.specs.Names.{command_of}
 use Rattle.pop_input.specs.ties.Closings.{last_of}
 use Rattle.pop_input.specs.ties.Standing.{Standing, next_behind}
@@ -23,7 +23,7 @@ pub record UsesTokens (old new : Reading) (had left : Option (List ℕ)) (bytes 
 -- A word closes the item, the first one that closes any: exactly the bytes up to its end were used, and nothing behind it.
 pub record IsClosed (old new : Standing) (had left : Option (List ℕ)) : Type 0 where
   pub front : List Token
-  pub plain : list_all is_open front ≡ true
+  pub plain : list_all closes_none front ≡ true
   pub line : ℕ
   pub word : List ℕ
   pub last : Last
@@ -41,7 +41,7 @@ IsInputOver place = Peeks place (Ok None) ⊎ ((fault : ReadFault) × Peeks plac
 -- No word closes the item: all bytes up to the end of the input were used, or up to where it is cut.
 pub record IsUnclosed (old new : Standing) (had left : Option (List ℕ)) : Type 0 where
   pub tokens : List Token
-  pub plain : list_all is_open tokens ≡ true
+  pub plain : list_all closes_none tokens ≡ true
   pub bytes : List ℕ
   pub used : UsesTokens old.at new.at had left bytes tokens
   pub over : IsInputOver new.at

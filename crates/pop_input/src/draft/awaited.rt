@@ -1,7 +1,7 @@
 //! Values that options await.
 ghost use Rattle.std.specs.Prelude.{◌≡◌, ◌≤◌, ◌<◌, length, None, Some, fold, if◌then◌else◌};
 ghost use Rattle.std.specs.List.{list_all};
-ghost use Rattle.chess_core.specs.Castling.{is_castling, with_unmoved};
+ghost use Rattle.chess_core.specs.Castling.{is_castling_square, with_unmoved};
 ghost use Rattle.pop_input.specs.Values.{squares_of};
 ghost use Rattle.pop_input.specs.State.{state_by};
 ghost use Rattle.pop_input.specs.WordFaults.{role_fault};
@@ -67,12 +67,12 @@ impl Draft {
 
 // The castling squares of the set and of the list, if all of the list are such.
 fn barred_with(barred: Unmoved, squares: &[Square]) -> Option<Unmoved>
-    ensures { result ≡ (if list_all is_castling squares.now
+    ensures { result ≡ (if list_all is_castling_square squares.now
         then Some (fold with_unmoved barred squares.now) else None) }
 {
     let mut set = barred;
     'squares: for &square in squares {
-        if !square.is_castling() {
+        if !square.is_castling_square() {
             return None;
         }
         set = set.with(square);

@@ -5,7 +5,7 @@ ghost use Rattle.chess_core.specs.Diagrams.{position_of};
 ghost use Rattle.chess_core.specs.WellFormed.{IsWellFormed};
 ghost use Rattle.chess_rules.specs.Attacks.{in_check};
 ghost use Rattle.pop_input.specs.Posed.{rule_of};
-ghost use Rattle.pop_input.specs.Ends.{counts, position_fault, setup_fault, setup_of, unmoved_of};
+ghost use Rattle.pop_input.specs.Ends.{counts_as_unmoved, diagram_fault, diagram_of, position_fault, unmoved_of};
 ghost use Rattle.pop_input.specs.ties.Closings.{Poses};
 ghost use Rattle.pop_input.specs.Stipulations.{has_king_to_mate};
 
@@ -33,7 +33,7 @@ impl Draft {
             return Item::Faulty(Fault::at(FaultKind::StipulationMissing, line), last);
         };
         let diagram = self.diagram_for(stipulation.form);
-        match self.setup_fault(&diagram, stipulation) {
+        match self.diagram_fault(&diagram, stipulation) {
             Some(fault) => Item::Faulty(Fault::at(fault, line), last),
             None => Item::Sound(
                 Problem::new(
@@ -52,19 +52,19 @@ impl Draft {
 
     // The diagram, where the problem has this form.
     fn diagram_for(&self, form: Form) -> Diagram
-        ensures { result ≡ setup_of self.now form }
+        ensures { result ≡ diagram_of self.now form }
     {
         let mut diagram = self.diagram;
-        diagram.turn = form.starts();
+        diagram.turn = form.starting_side();
         diagram.unmoved = self.unmoved();
         diagram.crossed = self.crossed;
         diagram
     }
 
     // The fault of that diagram.
-    fn setup_fault(&self, diagram: &Diagram, stipulation: Stipulation) -> Option<FaultKind>
-        requires { diagram.now ≡ setup_of self.now stipulation.form }
-        ensures fault { result ≡ setup_fault self.now stipulation diagram.now }
+    fn diagram_fault(&self, diagram: &Diagram, stipulation: Stipulation) -> Option<FaultKind>
+        requires { diagram.now ≡ diagram_of self.now stipulation.form }
+        ensures fault { result ≡ diagram_fault self.now stipulation diagram.now }
         ensures well_formed { result ≡ None → IsWellFormed (position_of diagram.now) }
     {
         let condition = self.condition;
@@ -76,13 +76,13 @@ impl Draft {
         }
         let board = Board::of(diagram);
         let has_king = has_king_to_mate(stipulation, &board);
-        let in_check = is_in_check(&board, condition, stipulation.form.starts().other());
+        let in_check = is_in_check(&board, condition, stipulation.form.starting_side().other());
         position_fault(has_king, in_check)
     }
 
     // Whether that diagram is well formed: only the crossed square may be wrong in it.
     fn is_well_formed(&self, diagram: &Diagram, form: Form) -> bool
-        requires { diagram.now ≡ setup_of self.now form }
+        requires { diagram.now ≡ diagram_of self.now form }
         ensures { MatchBool result (IsWellFormed (position_of diagram.now))
             (IsWellFormed (position_of diagram.now) → ⊥) }
     {
@@ -107,7 +107,8 @@ impl Draft {
 
     // The set with the square if it counts as unmoved, else without it.
     fn with_counted(&self, set: Unmoved, square: Square) -> Unmoved
-        ensures { result ≡ mark_unmoved set square (counts self.now.men self.now.barred square) }
+        ensures { result ≡ mark_unmoved set square
+            (counts_as_unmoved self.now.men self.now.barred square) }
     {
         if self.diagram.is_home(square) && !self.barred.has(square) {
             set.with(square)
@@ -135,7 +136,7 @@ fn position_fault(has_king: bool, in_check: bool) -> Option<FaultKind>
 fn has_king_to_mate(stipulation: Stipulation, board: &Board) -> bool
     ensures { result ≡ has_king_to_mate stipulation board.now.men }
 {
-    stipulation.goal.is_stalemate() || board.king_of(stipulation.form.mated()).is_some()
+    stipulation.goal.is_stalemate() || board.king_of(stipulation.form.mated_side()).is_some()
 }
 
 // Whether the colour is in check under the condition.

@@ -3,9 +3,9 @@ use Rattle.std.specs.Prelude.{ℕ, List, [], Bool, true, false, Option, Some, No
 use Rattle.pop_input.specs.Blocks.{Entry, Sound as SoundEntry, Faulty as FaultyEntry}
 use Rattle.pop_input.specs.declared.item.Item.{Item}
 use Rattle.pop_input.specs.declared.item.Item.TheVariants.{Sound, Faulty, End}
-use Rattle.chess_core.specs.Triple.{Triple}
 use Rattle.chess_rules.specs.RuleSet.{RuleSet}
 use Rattle.pop_input.specs.Posed.{Posed}
+use Rattle.pop_solve.specs.Events.{Path}
 use Rattle.pop_solve.specs.declared.event.Phase.{Phase}
 use Rattle.pop_run.specs.Report.{is_faulty, tells_failure}
 use Rattle.pop_run.specs.declared.status.Status.{Status}
@@ -34,6 +34,6 @@ is_failure None = false
 is_failure (Some entry) = tells_failure entry
 
 -- the text of a part, none where there is none
-abbrev pub text_if : RuleSet → Posed → Phase → Option (List Triple) → List ℕ
+abbrev pub text_if : RuleSet → Posed → Phase → Option Path → List ℕ
 text_if rule posed phase None = []
 text_if rule posed phase (Some front) = part_text rule posed phase front

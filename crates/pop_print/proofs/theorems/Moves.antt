@@ -8,15 +8,15 @@ use Rattle.chess_core.specs.declared.man.Man.{Man}
 use Rattle.chess_core.specs.declared.man.Kind.{Kind}
 use Rattle.chess_core.specs.declared.man.Kind.TheVariants.{King, Queen, Rook, Bishop, Knight, Pawn, Grasshopper, Nightrider}
 use Rattle.chess_core.specs.Position.{Position, is_man, man_on, same_kind}
-use Rattle.chess_core.specs.Triple.{Triple}
+use Rattle.chess_core.specs.declared.man.Move.{Move}
 use Rattle.chess_core.specs.WellFormed.{IsWellFormed}
-use Rattle.chess_rules.specs.Legal.{is_promotion_right, legal, pseudo}
+use Rattle.chess_rules.specs.Legal.{is_legal, is_promotion_right, is_pseudo_legal}
 use Rattle.chess_rules.specs.RuleSet.{RuleSet}
-use Rattle.chess_rules.proofs.listing_moves.Calls.{pseudo-from_legal}
+use Rattle.chess_rules.proofs.listing_moves.Calls.{is_pseudo_legal-from_legal}
 use Rattle.chess_rules.proofs.making_moves.Pseudo.{IsMade, king_is_no_pawn, made}
 use Rattle.chess_core.proofs.Kept.{same_colour-refl}
 use Rattle.pop_input.specs.declared.stipulation.Goal.{Goal}
-use Rattle.pop_solve.specs.Chess.{castling_side, show, shown_of}
+use Rattle.pop_solve.specs.Chess.{castling_side, shown_move, shown_of}
 use Rattle.pop_solve.specs.declared.shown.Side.{Side}
 use Rattle.pop_solve.specs.declared.shown.Side.TheVariants.{A, H}
 use Rattle.pop_solve.specs.declared.shown.Mark.{Mark}
@@ -35,8 +35,8 @@ letter_tells k = grind arith
 same_letter : (j k : Kind) → letter_of j ≡ letter_of k → j ≡ k
 same_letter j k e = sym (letter_tells j) ∙ ap kind_written e ∙ letter_tells k
 
-capital : (k : Kind) → letter_of k < 96
-capital k = grind arith
+capital_letter : (k : Kind) → letter_of k < 96
+capital_letter k = grind arith
 
 same_square : (s t : ℕ) → 96 + file_of s ≡ 96 + file_of t → 48 + rank_of s ≡ 48 + rank_of t → s ≡ t
 same_square s t f r = omega (arith, f, r)
@@ -108,7 +108,7 @@ man_case k = grind arith
 
 -- A letter isn't a file: a man who isn't a pawn isn't written as a pawn.
 no_file : (k : Kind) (s : ℕ) → letter_of k ≡ 96 + file_of s → ⊥
-no_file k s e = omega (arith, e, capital k)
+no_file k s e = omega (arith, e, capital_letter k)
 
 -- Two moves of this text, neither castling: the letter tells the man.
 same_going : (a b : Shown) (j k : Kind) → a.man.kind ≡ j → b.man.kind ≡ k
@@ -157,46 +157,46 @@ unfolding move_text
 written_alike a b e = alike a b a.castling b.castling e
 
 -- A castling man is a king, who goes two files along his rank to the side that is shown.
-record IsCastled (x : Man) (m : Triple) (side : Side) : Type 0 where
+record IsCastled (x : Man) (m : Move) (side : Side) : Type 0 where
   king : same_kind x.kind King ≡ true
   way : ((m.to ≡ m.from + 2) × (side ≡ H)) ⊎ ((m.to + 2 ≡ m.from) × (side ≡ A))
 
 side_is : (b : Bool) (side : Side) → Some (cond b H A) ≡ Some side → cond b H A ≡ side
 side_is b side e = grind arith
 
-castled : (x : Man) (m : Triple) (side : Side) → castling_side x m ≡ Some side → IsCastled x m side
+castled : (x : Man) (m : Move) (side : Side) → castling_side x m ≡ Some side → IsCastled x m side
 castled x m side e = grind (arith, cases_Bool, cond-false, nat_lt, cond-true, and_parts, eqb-true, or_cases, side_is, lt-ltb, le-ltb)
 
-no_promotion : (p : Position) (x : Man) (m : Triple) (r : Option Kind) → is_promotion_right p x m r ≡ true → same_kind x.kind King ≡ true → r ≡ None
+no_promotion : (p : Position) (x : Man) (m : Move) (r : Option Kind) → is_promotion_right p x m r ≡ true → same_kind x.kind King ≡ true → r ≡ None
 no_promotion p x m r h king = grind (arith, true≢false, and_parts, king_is_no_pawn)
 
 -- The squares of two castlings of one king to one side.
-same_castling : (m n : Triple) (side : Side) → m.from ≡ n.from
+same_castling : (m n : Move) (side : Side) → m.from ≡ n.from
     → ((m.to ≡ m.from + 2) × (side ≡ H)) ⊎ ((m.to + 2 ≡ m.from) × (side ≡ A))
     → ((n.to ≡ n.from + 2) × (side ≡ H)) ⊎ ((n.to + 2 ≡ n.from) × (side ≡ A)) → m.to ≡ n.to
 same_castling m n side from h e = grind arith
 
-same_triple : (m n : Triple) → m.from ≡ n.from → m.to ≡ n.to → m.promo ≡ n.promo → m ≡ n
+same_triple : (m n : Move) → m.from ≡ n.from → m.to ≡ n.to → m.promo ≡ n.promo → m ≡ n
 same_triple m n from to promo = grind arith
 
 module _ (goal : Goal) (rule : RuleSet) (p : Position) (well : IsWellFormed p) where
   -- A legal move's man, and what is shown of it.
-  record IsShown (m : Triple) (x : Man) : Type 0 where
+  record IsShown (m : Move) (x : Man) : Type 0 where
     made : IsMade rule p x m
-    castling : (show goal rule p m).castling ≡ castling_side x m
-    from : (show goal rule p m).from ≡ m.from
-    to : (show goal rule p m).to ≡ m.to
-    promo : (show goal rule p m).promo ≡ m.promo
+    castling : (shown_move goal rule p m).castling ≡ castling_side x m
+    from : (shown_move goal rule p m).from ≡ m.from
+    to : (shown_move goal rule p m).to ≡ m.to
+    promo : (shown_move goal rule p m).promo ≡ m.promo
 
-  shown_by_man : (m : Triple) (o : Option Man) → man_on p.men m.from ≡ o → legal rule p m ≡ true → (x : Man) × IsShown m x
-  unfolding show shown_of pseudo
-  shown_by_man m None here h = grind (arith, pseudo-from_legal rule p m h, true≢false)
-  shown_by_man m (Some x) here h = grind (arith, made rule p m x (pseudo-from_legal rule p m h) here, pseudo-from_legal rule p m h, made)
+  shown_by_man : (m : Move) (o : Option Man) → man_on p.men m.from ≡ o → is_legal rule p m ≡ true → (x : Man) × IsShown m x
+  unfolding shown_move shown_of is_pseudo_legal
+  shown_by_man m None here h = grind (arith, is_pseudo_legal-from_legal rule p m h, true≢false)
+  shown_by_man m (Some x) here h = grind (arith, made rule p m x (is_pseudo_legal-from_legal rule p m h) here, is_pseudo_legal-from_legal rule p m h, made)
 
   -- The move is known by what is written of it, where neither castles or both castle to one side.
-  same_move : (m n : Triple) (x y : Man) (c d : Option Side) → IsShown m x → IsShown n y
+  same_move : (m n : Move) (x y : Man) (c d : Option Side) → IsShown m x → IsShown n y
       → castling_side x m ≡ c → castling_side y n ≡ d → c ≡ d
-      → (c ≡ None → GoAlike (show goal rule p m) (show goal rule p n)) → m ≡ n
+      → (c ≡ None → GoAlike (shown_move goal rule p m) (shown_move goal rule p n)) → m ≡ n
   same_move m n x y None None a b e f s goes = grind (arith, same_triple)
   same_move m n x y (Some side) (Some other) a b e f s goes =
       let v = castled x m side e in
@@ -208,11 +208,11 @@ module _ (goal : Goal) (rule : RuleSet) (p : Position) (well : IsWellFormed p) w
   same_move m n x y c d a b e f s goes = grind arith
 
   -- No two legal moves of a position are written alike.
-  pub moves_are_written_apart : (m n : Triple) → legal rule p m ≡ true → legal rule p n ≡ true
-      → move_text (show goal rule p m) ≡ move_text (show goal rule p n) → m ≡ n
+  pub moves_are_written_apart : (m n : Move) → is_legal rule p m ≡ true → is_legal rule p n ≡ true
+      → move_text (shown_move goal rule p m) ≡ move_text (shown_move goal rule p n) → m ≡ n
   moves_are_written_apart m n h k e =
       let a = shown_by_man m (man_on p.men m.from) refl h in
       let b = shown_by_man n (man_on p.men n.from) refl k in
-      let told = written_alike (show goal rule p m) (show goal rule p n) e in
+      let told = written_alike (shown_move goal rule p m) (shown_move goal rule p n) e in
       same_move m n a.0 b.0 (castling_side a.0 m) (castling_side b.0 n) a.1 b.1 refl refl
       (sym a.1.castling ∙ told.0 ∙ b.1.castling) (λ none. told.1 (a.1.castling ∙ none))

@@ -7,16 +7,16 @@ use Rattle.pop_input.specs.declared.item.Last.TheVariants.{Yes, No}
 use Rattle.pop_input.specs.declared.reader.Next.{Next}
 use Rattle.pop_input.specs.declared.reader.Next.TheVariants.{First, Later, Nothing}
 use Rattle.pop_input.specs.Blocks.{Entry}
-use Rattle.pop_input.specs.ties.Standing.{Standing, Reads, start as before_all}
+use Rattle.pop_input.specs.ties.Standing.{Standing, Reads, first_standing}
 use Rattle.pop_input.specs.ties.Used.{UsesEntry}
 use Rattle.pop_run.specs.Report.{Choice, entry_text, is_faulty, tells_failure}
 use Rattle.pop_run.specs.declared.status.Status.{Status}
 use Rattle.pop_run.specs.declared.status.Status.TheVariants.{Sound, Faulty, InputFailed}
-use Rattle.pop_run.specs.declared.status.Step.{Step}
-use Rattle.pop_run.specs.declared.status.Step.TheVariants.{Problem, Finished}
+use Rattle.pop_run.specs.declared.status.StepOutcome.{StepOutcome}
+use Rattle.pop_run.specs.declared.status.StepOutcome.TheVariants.{Problem, Finished}
 
 -- the place among the items, the next item's number, the status so far, whether the sink failed, and what is printed
-pub record Place : Type 0 where
+pub record RunState : Type 0 where
   pub at : Standing
   pub number : ℕ
   pub status : Status
@@ -35,14 +35,14 @@ says_last Yes = true
 says_last No = false
 
 -- an item is still to come, and the sink hasn't failed
-pub record GoesOn (place : Place) : Type 0 where
+pub record GoesOn (place : RunState) : Type 0 where
   pub more : ends place.at.next ≡ false
   pub running : place.stopped ≡ false
 
 -- before all items
-abbrev pub start : Choice → Place
-start choice = record {
-  at = before_all;
+abbrev pub first_state : Choice → RunState
+first_state choice = record {
+  at = first_standing;
   number = 1;
   status = Sound;
   stopped = false;
@@ -57,16 +57,17 @@ status_with Sound false true = Faulty
 status_with so_far false true = so_far
 
 -- One item was read, with the bytes that it uses, and the number and the status count it in.
-pub record TakesItem (old new : Place) (had left : Option (List ℕ)) (entry : Entry) : Type 0 where
-  pub reads : Reads old.at new.at had left (entry ∷ [])
-  pub used : UsesEntry old.at new.at had left entry
-  pub number : new.number ≡ old.number + 1
-  pub status : new.status ≡ status_with old.status (tells_failure entry) (is_faulty entry)
-  pub choice : new.choice ≡ old.choice
+pub record TakesItem (old new : RunState) (had left : Option (List ℕ)) (entry : Entry) : Type 0
+  where
+    pub reads : Reads old.at new.at had left (entry ∷ [])
+    pub used : UsesEntry old.at new.at had left entry
+    pub number : new.number ≡ old.number + 1
+    pub status : new.status ≡ status_with old.status (tells_failure entry) (is_faulty entry)
+    pub choice : new.choice ≡ old.choice
 
 -- what a step does that begins at old
-abbrev pub Steps : Place → Place → Option (List ℕ) → Option (List ℕ) → Option (List ℕ)
-    → Option (List ℕ) → Result Step SinkFault → Type 0
+abbrev pub Steps : RunState → RunState → Option (List ℕ) → Option (List ℕ) → Option (List ℕ)
+    → Option (List ℕ) → Result StepOutcome SinkFault → Type 0
 Steps old new had left before now (Ok (Problem sound)) =
     (entry : Entry) × TakesItem old new had left entry
     × Appends before now (entry_text old.choice old.number entry)
@@ -79,12 +80,12 @@ Steps old new had left before now (Err fault) =
     × Begins before now (entry_text old.choice old.number entry) × (new.stopped ≡ true)
 
 -- the step is a problem
-abbrev pub is_problem : Result Step SinkFault → Bool
+abbrev pub is_problem : Result StepOutcome SinkFault → Bool
 is_problem (Ok (Problem sound)) = true
 is_problem (Ok (Finished status)) = false
 is_problem (Err fault) = false
 
 -- what a step answers where an item was printed so
-abbrev pub step_of : {A : Type 0} → Result A SinkFault → Bool → Result Step SinkFault
-step_of (Ok done) sound = Ok (Problem sound)
-step_of (Err fault) sound = Err fault
+abbrev pub step_outcome : {A : Type 0} → Result A SinkFault → Bool → Result StepOutcome SinkFault
+step_outcome (Ok done) sound = Ok (Problem sound)
+step_outcome (Err fault) sound = Err fault

@@ -1,5 +1,5 @@
 -- The events of a problem before they are shown: no line and no node comes twice.
-use Rattle.pop_solve.proofs.Words.{AllPairs, BareEvent, Bool, Contains, Contains-append_cases, List, Phase, Play, Posed, RuleSet, Set, Triple, [], arith, cond, events, events_from, false, from_map, impossible, in_cases, inl, inr, is_barred, line, map, none_in_nil, opening, pairs_append, pairs_map, pairs_nil, pairs_of, path_event, phase_events, solutions, subst, sym, take, total, tree_node, true, ◌++◌, ◌∙◌, ◌∷◌, ◌≡◌, ◌≢◌, ◌⊎◌}
+use Rattle.pop_solve.proofs.Words.{AllPairs, BareEvent, Bool, Contains, Contains-append_cases, List, Move, Phase, Play, Posed, RuleSet, Set, [], arith, cond, events, events_from, false, from_map, impossible, in_cases, inl, inr, is_barred, line, map, none_in_nil, opening, pairs_append, pairs_map, pairs_nil, pairs_of, path_event, phase_events, solutions, subst, sym, take, total, tree_node, true, ◌++◌, ◌∙◌, ◌∷◌, ◌≡◌, ◌≢◌, ◌⊎◌}
 use Rattle.pop_solve.proofs.theorems.Lists.{paths}
 use Rattle.pop_solve.proofs.theorems.Solutions.{shown_paths_differ}
 
@@ -15,11 +15,11 @@ GivesPath (total count stopped) = ⊥
 abbrev pub IsOtherThan : BareEvent → BareEvent → Type 0
 IsOtherThan s t = GivesPath s → s ≢ t
 
-no_other_phase : (b c : Bool) (x y : List Triple) → cond b (line Set x) (tree_node Set x) ≡ cond c (line Play y) (tree_node Play y) → ⊥
+no_other_phase : (b c : Bool) (x y : List Move) → cond b (line Set x) (tree_node Set x) ≡ cond c (line Play y) (tree_node Play y) → ⊥
 no_other_phase b c x y e = grind arith
 
 module _ (rule : RuleSet) (problem : Posed) where
-  rest_differs : (phase : Phase) (b : Bool) (end : BareEvent) → ((path : List Triple) → path_event problem phase path ≡ end → ⊥)
+  rest_differs : (phase : Phase) (b : Bool) (end : BareEvent) → ((path : List Move) → path_event problem phase path ≡ end → ⊥)
       → AllPairs IsOtherThan
       (cond b (impossible ∷ []) (map (path_event problem phase) (paths (take problem.max_solutions (solutions rule problem phase))) ++ end ∷ []))
   rest_differs phase true end apart = pairs_of IsOtherThan impossible [] (λ y c. absurd (none_in_nil y c)) (pairs_nil IsOtherThan)
@@ -32,7 +32,7 @@ module _ (rule : RuleSet) (problem : Posed) where
       (λ x y c d gives same. across x y (from_map (path_event problem phase) all x c) (in_cases end [] y d) same)
     where
       across : (x y : BareEvent)
-          → ((path : List Triple) × Contains (paths (take problem.max_solutions (solutions rule problem phase))) path × (path_event problem phase path ≡ x))
+          → ((path : List Move) × Contains (paths (take problem.max_solutions (solutions rule problem phase))) path × (path_event problem phase path ≡ x))
           → (end ≡ y) ⊎ Contains [] y → x ≡ y → ⊥
       across x y w (inl e) same = apart w.0 (w.2 ∙ same ∙ sym e)
       across x y w (inr none) same = none_in_nil y none
@@ -44,7 +44,7 @@ module _ (rule : RuleSet) (problem : Posed) where
 
   in_rest : (phase : Phase) (b : Bool) (end x : BareEvent) → (GivesPath end → ⊥)
       → Contains (cond b (impossible ∷ []) (map (path_event problem phase) (paths (take problem.max_solutions (solutions rule problem phase))) ++ end ∷ [])) x
-      → GivesPath x → (path : List Triple) × (path_event problem phase path ≡ x)
+      → GivesPath x → (path : List Move) × (path_event problem phase path ≡ x)
   in_rest phase true end x bare c gives = grind (arith, in_cases, none_in_nil)
   in_rest phase false end x bare c gives =
       elim (Contains-append_cases (map (path_event problem phase) (paths (take problem.max_solutions (solutions rule problem phase)))) (end ∷ []) x c) [
@@ -53,7 +53,7 @@ module _ (rule : RuleSet) (problem : Posed) where
       ]
 
   in_phase : (phase : Phase) (x : BareEvent) → Contains (phase_events rule problem phase) x → GivesPath x
-      → (path : List Triple) × (path_event problem phase path ≡ x)
+      → (path : List Move) × (path_event problem phase path ≡ x)
   unfolding phase_events
   in_phase phase x c gives = elim (in_cases (opening phase) _ x c) [
     | inl e ↦ absurd (subst GivesPath (sym e) gives)

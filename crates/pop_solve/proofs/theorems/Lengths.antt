@@ -1,11 +1,11 @@
 -- Longer never harms, and the least length is the least.
-use Rattle.pop_solve.proofs.Words.{Battle, Game, arith, cases_lt, false, false≢true, keeps, least, lost, self_lost, self_wins, some_move, suc, true, wins, wins_in, zero, ℕ, ◌<◌, ◌↔◌, ◌≡◌, ◌≤◌}
-use Rattle.pop_solve.proofs.Longer.{climbs, lost-more, wins-more, self_wins-more, self_lost-more, first_at_most, first_is_first, first_passes}
+use Rattle.pop_solve.proofs.Words.{Battle, Game, arith, cases_lt, false, false≢true, is_lost, is_self_lost, keeps, least_moves, self_wins, some_move, suc, true, wins, wins_in, zero, ℕ, ◌<◌, ◌↔◌, ◌≡◌, ◌≤◌}
+use Rattle.pop_solve.proofs.Longer.{climbs, first_at_most, first_is_first, first_passes, is_lost-more, is_self_lost-more, self_wins-more, wins-more}
 
 module _ {P M : Type 0} (game : Game P M) where
   -- Who is brought to the goal within j further moves of the other side is so within any greater number.
-  pub lost_within_more : (j n : ℕ) (q : P) → j ≤ n → lost game j q ≡ true → lost game n q ≡ true
-  lost_within_more j n q le h = climbs (λ k. lost game k q) (λ k. lost-more game k q) j n le h
+  pub lost_within_more : (j n : ℕ) (q : P) → j ≤ n → is_lost game j q ≡ true → is_lost game n q ≡ true
+  lost_within_more j n q le h = climbs (λ k. is_lost game k q) (λ k. is_lost-more game k q) j n le h
 
   -- Who brings the other side to the goal within k moves does so within any greater number.
   pub wins_within_more : (k n : ℕ) (p : P) → k ≤ n → wins game k p ≡ true → wins game n p ≡ true
@@ -16,8 +16,8 @@ module _ {P M : Type 0} (game : Game P M) where
   self_wins_within_more k n p le h = climbs (λ k. self_wins game k p) (λ k. self_wins-more game k p) k n le h
 
   -- The same after a move of that side.
-  pub self_lost_within_more : (j n : ℕ) (q : P) → j ≤ n → self_lost game j q ≡ true → self_lost game n q ≡ true
-  self_lost_within_more j n q le h = climbs (λ k. self_lost game k q) (λ k. self_lost-more game k q) j n le h
+  pub self_lost_within_more : (j n : ℕ) (q : P) → j ≤ n → is_self_lost game j q ≡ true → is_self_lost game n q ≡ true
+  self_lost_within_more j n q le h = climbs (λ k. is_self_lost game k q) (λ k. is_self_lost-more game k q) j n le h
 
   -- In both battles: White to move wins within any greater number.
   pub wins_in_more : (battle : Battle) (k n : ℕ) (p : P) → k ≤ n → wins_in battle game k p ≡ true → wins_in battle game n p ≡ true
@@ -34,30 +34,30 @@ module _ {P M : Type 0} (game : Game P M) where
 
   -- White wins within n moves exactly where some legal move keeps the win within n.
   pub wins_by_a_move : (battle : Battle) (n : ℕ) (p : P) → 1 ≤ n → wins_in battle game n p ≡ some_move game (keeps battle game n) p
-  unfolding wins self_wins self_lost
+  unfolding wins self_wins is_self_lost
   wins_by_a_move battle zero p some = absurd (omega (arith, some))
   wins_by_a_move battle (suc k) p some = grind arith
 
   module _ (battle : Battle) where
     -- The least number is at most n.
-    pub least_at_most : (n : ℕ) (p : P) → least battle game n p ≤ n
+    pub least_at_most : (n : ℕ) (p : P) → least_moves battle game n p ≤ n
     least_at_most n p = omega (arith, first_at_most (λ k. wins_in battle game k p) n)
 
     -- Within fewer moves than the least number White doesn't win.
-    pub no_win_below_least : (n k : ℕ) (p : P) → k < least battle game n p → wins_in battle game k p ≡ false
+    pub no_win_below_least : (n k : ℕ) (p : P) → k < least_moves battle game n p → wins_in battle game k p ≡ false
     no_win_below_least n k p less = first_is_first (λ k. wins_in battle game k p) n k less
 
     -- If White wins within n moves at all, then he wins within the least number.
-    pub wins_in_least : (n : ℕ) (p : P) → wins_in battle game n p ≡ true → wins_in battle game (least battle game n p) p ≡ true
+    pub wins_in_least : (n : ℕ) (p : P) → wins_in battle game n p ≡ true → wins_in battle game (least_moves battle game n p) p ≡ true
     wins_in_least n p h = first_passes (λ k. wins_in battle game k p) n h
 
     -- And then within any number from the least on, and no other.
-    pub wins_exactly_from_least : (n k : ℕ) (p : P) → wins_in battle game n p ≡ true → (wins_in battle game k p ≡ true) ↔ (least battle game n p ≤ k)
-    wins_exactly_from_least n k p h = grind (arith, wins_in_more, wins_in_least n p h, cases_lt k (least battle game n p), false≢true, no_win_below_least)
+    pub wins_exactly_from_least : (n k : ℕ) (p : P) → wins_in battle game n p ≡ true → (wins_in battle game k p ≡ true) ↔ (least_moves battle game n p ≤ k)
+    wins_exactly_from_least n k p h = grind (arith, wins_in_more, wins_in_least n p h, cases_lt k (least_moves battle game n p), false≢true, no_win_below_least)
 
     -- It is no matter up to which number the least one is looked for, once White wins within it.
     pub least_is_one : (n m : ℕ) (p : P) → wins_in battle game n p ≡ true → wins_in battle game m p ≡ true
-        → least battle game n p ≡ least battle game m p
+        → least_moves battle game n p ≡ least_moves battle game m p
     least_is_one n m p h w =
-        let a = (wins_exactly_from_least n (least battle game m p) p h).0 (wins_in_least m p w) in
+        let a = (wins_exactly_from_least n (least_moves battle game m p) p h).0 (wins_in_least m p w) in
         grind (arith, wins_exactly_from_least, wins_in_least n p h)

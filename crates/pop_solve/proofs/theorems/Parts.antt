@@ -1,5 +1,5 @@
 -- The parts of a phase, by the moves with which its solutions begin: joined they are the phase, and no solution stands in two of them.
-use Rattle.pop_solve.proofs.Words.{AllPairs, Contains, IsSound, List, Phase, Posed, Precedes, RuleSet, Triple, ap, arith, counted, false, flat_map, is_barred, length, length-take, min, pairs_weaker, phase_half_moves, phase_start, refl, solutions, sum_by, sym, take, ℕ, ◌↔◌, ◌∙◌, ◌≡◌, ◌≢◌, ◌≤◌}
+use Rattle.pop_solve.proofs.Words.{AllPairs, Contains, IsSound, List, Move, Phase, Posed, Precedes, RuleSet, ap, arith, false, flat_map, is_barred, length, length-take, min, pairs_weaker, phase_count, phase_half_moves, phase_start, refl, solutions, sum_by, sym, take, ℕ, ◌↔◌, ◌∙◌, ◌≡◌, ◌≢◌, ◌≤◌}
 use Rattle.std.proofs.lemmas.List.Concat.{length-flat_map}
 use Rattle.std.proofs.lemmas.List.Sums.{length-filter}
 use Rattle.std.specs.List.{count_by}
@@ -24,7 +24,7 @@ module _ (rule : RuleSet) (problem : Posed) (phase : Phase) (depth : ℕ) where
 -- A sound problem, one of its phases that isn't barred, and any number of moves to tell its parts apart.
 module _ (rule : RuleSet) (problem : Posed) (phase : Phase) (depth : ℕ) (free : is_barred rule problem phase ≡ false) (sound : IsSound problem) where
   -- The parts are the lists of so many moves, each legal where it is made; where the phase has no half-move there is none.
-  pub parts_are : (front : List Triple)
+  pub parts_are : (front : List Move)
       → Contains (parts rule problem phase depth) front
       ↔ ((1 ≤ phase_half_moves problem phase) × IsLegalLine rule (phase_start problem phase) front × (length front ≡ part_depth problem phase depth))
   parts_are front =
@@ -37,7 +37,7 @@ module _ (rule : RuleSet) (problem : Posed) (phase : Phase) (depth : ℕ) (free 
   parts_joined = joined rule problem phase depth free sound
 
   -- Each solution of the phase begins as exactly one of the parts does.
-  pub in_one_part : (solution : List (List Triple)) → Contains (solutions rule problem phase) solution
+  pub in_one_part : (solution : List (List Move)) → Contains (solutions rule problem phase) solution
       → count_by (λ front. begins_so front solution) (parts rule problem phase depth) ≡ 1
   in_one_part solution c = sym (length-filter (λ front. begins_so front solution) (parts rule problem phase depth))
       ∙ once rule problem phase depth free sound solution c
@@ -49,7 +49,7 @@ module _ (rule : RuleSet) (problem : Posed) (phase : Phase) (depth : ℕ) (free 
   first_of_parts n = first-of-firsts (part_solutions rule problem phase) n n (omega arith) (parts rule problem phase depth) ∙ ap (take n) parts_joined
 
   -- So the phase's number of solutions, up to the problem's limit, is the sum of the parts' numbers, up to that limit.
-  pub counted_by_parts : counted rule problem phase
+  pub counted_by_parts : phase_count rule problem phase
       ≡ min problem.max_solutions (sum_by (part_count rule problem phase) (parts rule problem phase depth))
   counted_by_parts =
       let n : ℕ = problem.max_solutions in

@@ -1,6 +1,6 @@
 -- The solutions of a chess problem: which lines and keys they are, that no path of a phase stands twice, and in which order the paths stand.
-use Rattle.pop_solve.proofs.Words.{AllPairs, Bool, Contains, IsSound, List, Phase, Play, Posed, Precedes, RuleSet, Set, Triple, [], false, is_help, is_reached, keeps, legal, length, moves_are_the_legal_moves, moves_in_order, pairs_weaker, phase_half_moves, phase_start, reach, refl, rules, set_shows, solutions, start, take, true, ◌↔◌, ◌∷◌, ◌≡◌, ◌≢◌, ◌≤◌}
-use Rattle.chess_rules.specs.Play.{after as played}
+use Rattle.pop_solve.proofs.Words.{AllPairs, Bool, Contains, IsSound, List, Move, Phase, Play, Posed, Precedes, RuleSet, Set, [], false, is_goal_reached, is_help, is_legal, keeps, length, moves_are_the_legal_moves, moves_in_order, pairs_weaker, path_end, phase_half_moves, phase_start, play_start, refl, rules, set_shows, solutions, take, true, ◌↔◌, ◌∷◌, ◌≡◌, ◌≢◌, ◌≤◌}
+use Rattle.chess_rules.specs.Play.{position_after}
 use Rattle.pop_solve.proofs.PhasePaths.{first_joined, game_of, its_battle, help_paths, never_itself, play_paths, set_paths}
 use Rattle.pop_solve.proofs.Sound.{start_sound}
 use Rattle.pop_solve.proofs.theorems.HelpLines.{IsLegalLine, help_lines_of_chess_are, help_lines_of_chess_in_order}
@@ -10,30 +10,30 @@ use Rattle.pop_solve.proofs.theorems.Trees.{first_set_solutions_have_beginnings,
 module _ (rule : RuleSet) (problem : Posed) where
   -- Help play: from a sound problem a list of moves is a line of a phase exactly where it has as many moves as the phase has half-moves,
   -- one or more, each legal where it is made, and the goal is reached in its last position.
-  pub lines_of_a_phase_are : (phase : Phase) (line : List Triple) → IsSound problem → is_help problem.stipulation.form ≡ true
+  pub lines_of_a_phase_are : (phase : Phase) (line : List Move) → IsSound problem → is_help problem.stipulation.form ≡ true
       → Contains (paths (solutions rule problem phase)) line
       ↔ ((1 ≤ phase_half_moves problem phase) × (length line ≡ phase_half_moves problem phase)
       × IsLegalLine rule (phase_start problem phase) line
-      × (is_reached problem.stipulation.goal rule (reach (played rule) (phase_start problem phase) line) ≡ true))
+      × (is_goal_reached problem.stipulation.goal rule (path_end (position_after rule) (phase_start problem phase) line) ≡ true))
   lines_of_a_phase_are phase line sound help = rw (help_paths rule problem phase help) (search (rules, help_lines_of_chess_are, start_sound))
 
   -- Battle play: a move is a key of a sound problem exactly where it is legal and keeps the win within the problem's number of moves.
-  pub keys_of_a_problem_are : (m : Triple) → IsSound problem → is_help problem.stipulation.form ≡ false
+  pub keys_of_a_problem_are : (m : Move) → IsSound problem → is_help problem.stipulation.form ≡ false
       → Contains (paths (solutions rule problem Play)) (m ∷ [])
-      ↔ ((legal rule (start problem) m ≡ true)
-      × (keeps (its_battle problem) (game_of rule problem) problem.stipulation.n (played rule (start problem) m) ≡ true))
+      ↔ ((is_legal rule (play_start problem) m ≡ true)
+      × (keeps (its_battle problem) (game_of rule problem) problem.stipulation.n (position_after rule (play_start problem) m) ≡ true))
   keys_of_a_problem_are m sound battle =
       let game = game_of rule problem in
-      let are = keys_are (its_battle problem) game problem.stipulation.n problem.variation (phase_half_moves problem Play) (start problem) m in
-      let legal = moves_are_the_legal_moves rule (start problem) m (start_sound problem sound Play) in
+      let are = keys_are (its_battle problem) game problem.stipulation.n problem.variation (phase_half_moves problem Play) (play_start problem) m in
+      let legal = moves_are_the_legal_moves rule (play_start problem) m (start_sound problem sound Play) in
       rw (play_paths rule problem battle) (λ c. let w = are.0 c in (legal.0 w.0, w.1), λ w. are.1 (legal.1 w.0, w.1))
 
   -- Set play: a move of Black stands among the first moves exactly where set play has half-moves, the move is legal in its first position,
   -- and after it the goal is reached, if that is for Black to do, or White wins with a move less.
-  pub set_moves_of_a_problem_are : (d : Triple) → IsSound problem → is_help problem.stipulation.form ≡ false
+  pub set_moves_of_a_problem_are : (d : Move) → IsSound problem → is_help problem.stipulation.form ≡ false
       → Contains (paths (solutions rule problem Set)) (d ∷ [])
-      ↔ ((1 ≤ phase_half_moves problem Set) × (legal rule (phase_start problem Set) d ≡ true)
-      × (set_shows (its_battle problem) (game_of rule problem) problem.stipulation.n (played rule (phase_start problem Set) d) ≡ true))
+      ↔ ((1 ≤ phase_half_moves problem Set) × (is_legal rule (phase_start problem Set) d ≡ true)
+      × (set_shows (its_battle problem) (game_of rule problem) problem.stipulation.n (position_after rule (phase_start problem Set) d) ≡ true))
   set_moves_of_a_problem_are d sound battle =
       let game = game_of rule problem in
       let from = phase_start problem Set in

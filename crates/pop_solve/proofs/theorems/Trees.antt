@@ -1,5 +1,5 @@
 -- The trees of battle play, over any game: which moves stand in them, that no path stands twice, and in which order the paths stand.
-use Rattle.pop_solve.proofs.Words.{AllPairs, AllPairs-filter, Battle, Bool, Contains, Game, List, [], answers, arith, below, best, false, from_filter, in_filter, keeps, least, none_in_nil, pairs_nil, pairs_weaker, refl, set_shows, set_tree, suc, sym, take, tree, true, wins_in, zero, ℕ, ◌-◌, ◌↔◌, ◌∙◌, ◌∷◌, ◌≡◌, ◌≢◌, ◌≤◌}
+use Rattle.pop_solve.proofs.Words.{AllPairs, AllPairs-filter, Battle, Bool, Contains, Game, List, [], answers, arith, best_moves, false, from_filter, in_filter, keeps, least_moves, nodes_below, none_in_nil, pairs_nil, pairs_weaker, refl, set_shows, set_tree, suc, sym, take, tree, true, wins_in, zero, ℕ, ◌-◌, ◌↔◌, ◌∙◌, ◌∷◌, ◌≡◌, ◌≢◌, ◌≤◌}
 use Rattle.pop_solve.proofs.Nodes.{any_from_element, element_from_any, answers_more, answers_zero, below_more, below_zero, deeper_unless, nil_has_beginnings, nodes_have_beginnings, nodes_stand, roots_are, roots_unless, deeper_are, tree_paths, set_tree_paths, set_tree_none, first_tree_paths, first_set_tree_none, first_set_tree_paths, from_nodes, below_key, kept, set_moves, below_set, below_key_has_beginnings, below_key_not_empty, below_key_stands, below_set_has_beginnings, below_set_not_empty, below_set_stands}
 use Rattle.pop_solve.proofs.theorems.Lengths.{no_win_in_none, wins_by_a_move, wins_in_least}
 use Rattle.pop_solve.proofs.theorems.Lists.{HasBeginnings, StandsBefore, never_before_itself, paths}
@@ -11,7 +11,7 @@ module _ {P M : Type 0} (battle : Battle) (game : Game P M) (n : ℕ) where
 
   -- m is a best continuation: a move of the position with which White wins in the least number of moves, up to n.
   abbrev pub IsBest : P → M → Type 0
-  IsBest r m = Contains (game.moves r) m × (keeps battle game (least battle game n r) (game.after r m) ≡ true)
+  IsBest r m = Contains (game.moves r) m × (keeps battle game (least_moves battle game n r) (game.after r m) ≡ true)
 
   -- A move stands alone as a path of the play, which is the first of a solution, exactly where it is a key.
   pub keys_are : (variation : Bool) (h : ℕ) (p : P) (m : M) → Contains (paths (tree battle game variation n h p)) (m ∷ []) ↔ IsKey p m
@@ -35,7 +35,7 @@ module _ {P M : Type 0} (battle : Battle) (game : Game P M) (n : ℕ) where
 
   -- With variations a path goes on behind a key by the paths below it.
   pub variations_are : (h : ℕ) (p : P) (m x : M) (path : List M)
-      → Contains (paths (tree battle game true n h p)) (m ∷ (x ∷ path)) ↔ (IsKey p m × Contains (below battle game n (h - 1) (game.after p m)) (x ∷ path))
+      → Contains (paths (tree battle game true n h p)) (m ∷ (x ∷ path)) ↔ (IsKey p m × Contains (nodes_below battle game n (h - 1) (game.after p m)) (x ∷ path))
   unfolding below_key
   variations_are h p m x path =
       let are = deeper_are (below_key battle game n true h p) (λ m. keeps battle game n (game.after p m)) (game.moves p) m x path in
@@ -49,7 +49,7 @@ module _ {P M : Type 0} (battle : Battle) (game : Game P M) (n : ℕ) where
       none_in_nil (x ∷ path) (are.0 (rw (tree_paths battle game n false h p) at c)).2
 
   -- Below a position in which Black moves, with half-moves left and the goal not reached, all his moves stand.
-  pub defences_are : (h : ℕ) (q : P) (d : M) → Contains (below battle game n h q) (d ∷ []) ↔ ((1 ≤ h) × (game.goal q ≡ false) × Contains (game.moves q) d)
+  pub defences_are : (h : ℕ) (q : P) (d : M) → Contains (nodes_below battle game n h q) (d ∷ []) ↔ ((1 ≤ h) × (game.goal q ≡ false) × Contains (game.moves q) d)
   defences_are zero q d = rw (below_zero battle game n q) (λ c. absurd (none_in_nil (d ∷ []) c), λ w. absurd (omega (arith, w.0)))
   defences_are (suc h) q d =
       let are = roots_unless (λ d. answers battle game n h (game.after q d)) (game.goal q) (game.moves q) d in
@@ -57,36 +57,36 @@ module _ {P M : Type 0} (battle : Battle) (game : Game P M) (n : ℕ) where
 
   -- And below a defence stands what answers it, with a half-move less.
   pub defences_go_on : (h : ℕ) (q : P) (d x : M) (path : List M)
-      → Contains (below battle game n (suc h) q) (d ∷ (x ∷ path))
+      → Contains (nodes_below battle game n (suc h) q) (d ∷ (x ∷ path))
       ↔ ((game.goal q ≡ false) × Contains (game.moves q) d × Contains (answers battle game n h (game.after q d)) (x ∷ path))
   defences_go_on h q d x path =
       rw (below_more battle game n h q) (deeper_unless (λ d. answers battle game n h (game.after q d)) (game.goal q) (game.moves q) d x path)
 
-  is_best : (r : P) (m : M) → Contains (best battle game n r) m ↔ IsBest r m
+  is_best : (r : P) (m : M) → Contains (best_moves battle game n r) m ↔ IsBest r m
   is_best r m = (
-    from_filter (λ m. keeps battle game (least battle game n r) (game.after r m)) (game.moves r) m,
-    λ w. in_filter (λ m. keeps battle game (least battle game n r) (game.after r m)) (game.moves r) m w.0 w.1,
+    from_filter (λ m. keeps battle game (least_moves battle game n r) (game.after r m)) (game.moves r) m,
+    λ w. in_filter (λ m. keeps battle game (least_moves battle game n r) (game.after r m)) (game.moves r) m w.0 w.1,
   )
 
   -- Where White wins within n moves he has a best continuation.
   pub some_best_where_won : (r : P) → wins_in battle game n r ≡ true → (m : M) × IsBest r m
   some_best_where_won r h =
-      let won : wins_in battle game (least battle game n r) r ≡ true = wins_in_least game battle n r h in
+      let won : wins_in battle game (least_moves battle game n r) r ≡ true = wins_in_least game battle n r h in
       grind (arith, element_from_any, wins_by_a_move, no_win_in_none)
 
   -- Below a position in which White moves, with half-moves left and the goal not reached, his best continuations stand.
   pub continuations_are : (h : ℕ) (r : P) (m : M) → Contains (answers battle game n h r) (m ∷ []) ↔ ((1 ≤ h) × (game.goal r ≡ false) × IsBest r m)
   continuations_are zero r m = rw (answers_zero battle game n r) (λ c. absurd (none_in_nil (m ∷ []) c), λ w. absurd (omega (arith, w.0)))
   continuations_are (suc h) r m =
-      let are = roots_unless (λ m. below battle game n h (game.after r m)) (game.goal r) (best battle game n r) m in
+      let are = roots_unless (λ m. nodes_below battle game n h (game.after r m)) (game.goal r) (best_moves battle game n r) m in
       grind (arith, answers_more, is_best r m)
 
   -- And below a continuation stand the defences to it, with a half-move less.
   pub continuations_go_on : (h : ℕ) (r : P) (m x : M) (path : List M)
       → Contains (answers battle game n (suc h) r) (m ∷ (x ∷ path))
-      ↔ ((game.goal r ≡ false) × IsBest r m × Contains (below battle game n h (game.after r m)) (x ∷ path))
+      ↔ ((game.goal r ≡ false) × IsBest r m × Contains (nodes_below battle game n h (game.after r m)) (x ∷ path))
   continuations_go_on h r m x path =
-      let are = deeper_unless (λ m. below battle game n h (game.after r m)) (game.goal r) (best battle game n r) m x path in
+      let are = deeper_unless (λ m. nodes_below battle game n h (game.after r m)) (game.goal r) (best_moves battle game n r) m x path in
       grind (arith, answers_more, is_best r m)
 
   -- Set play, with half-moves left, shows those moves of Black after which the goal is reached or White wins with a move less.

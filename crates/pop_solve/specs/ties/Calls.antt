@@ -1,8 +1,8 @@
 -- What the calls of a search leave of what they were handed.
 use Rattle.chess_core.specs.Position.{Position}
-use Rattle.chess_core.specs.Triple.{Triple}
-use Rattle.chess_rules.specs.Legal.{legal, moves as legal_moves}
-use Rattle.chess_rules.specs.Play.{after as played}
+use Rattle.chess_core.specs.declared.man.Move.{Move}
+use Rattle.chess_rules.specs.Legal.{is_legal, moves as legal_moves}
+use Rattle.chess_rules.specs.Play.{position_after}
 use Rattle.chess_rules.specs.RuleSet.{RuleSet}
 use Rattle.chess_rules.specs.ties.Places.{IsPlaceIn, LegalPlace, place_of}
 use Rattle.chess_mates.specs.ties.Mates.{mates}
@@ -20,16 +20,16 @@ use Rattle.std.specs.Prelude.{◌≡◌, ◌+◌, ◌-◌, ◌^◌, ◌<◌, ◌
 
 -- the first of some moves of p was looked for, which are `untried` before the call and `left` behind the move found: the
 -- board stands on p as before, and what is known is still of its moves
-pub record Finds (rule : RuleSet) (p board : Position) (known : LegalPlace) (found : Option Triple)
-    (untried left : List Triple) : Type 0 where
+pub record Finds (rule : RuleSet) (p board : Position) (known : LegalPlace) (found : Option Move)
+    (untried left : List Move) : Type 0 where
   pub unchanged : board ≡ p
   pub within : IsPlaceIn rule p known
   pub next : MatchOption found (untried ≡ [])
-      (λ m. (untried ≡ m ∷ left) × (legal rule p m ≡ true))
+      (λ m. (untried ≡ m ∷ left) × (is_legal rule p m ≡ true))
 
 -- the place stands on a legal move that mates
 pub record IsOnMate (rule : RuleSet) (p : Position) (place : ℕ) : Type 0 where
-  pub by : Triple
+  pub by : Move
   pub here : place ≡ place_of (Some by)
   pub mates : mates rule p by ≡ true
 
@@ -46,7 +46,7 @@ pub record Evaluates (rule : RuleSet) (aim : Aim) (left : ℕ) (p now : Position
   pub value : v ≡ value aim.battle (chess aim.goal rule) left p
   pub board : now ≡ p
   pub frames : new ≡ old
-  pub opened : after ≤ before + walk_count (legal_moves rule) (played rule) left p
+  pub opened : after ≤ before + walk_count (legal_moves rule) (position_after rule) left p
   pub tried : HasCounted before after (smallest_tree aim.battle (chess aim.goal rule) left p)
 
 -- what a move to q has counted, with `left` half-moves left there: in help play the frame that is opened, where moves are
@@ -58,5 +58,5 @@ pub record Counts (rule : RuleSet) (plan : Plan) (root : Bool) (left : ℕ) (q :
   pub none : is_help plan.form ≡ true → left ≡ 0 → after ≡ before
   pub keys : is_help plan.form ≡ false → varies plan ≡ false
       → seeks (battle_of plan.form) (left + 1) ≡ true
-      → after ≤ before + walk_count (legal_moves rule) (played rule) left q
+      → after ≤ before + walk_count (legal_moves rule) (position_after rule) left q
   pub tries : HasCounted before after (fewest_for plan (chess plan.goal rule) root left q)

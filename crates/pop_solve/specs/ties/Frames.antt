@@ -1,22 +1,22 @@
 -- What the frames of a search stand for.
-use Rattle.chess_rules.specs.Play.{after as played}
+use Rattle.chess_rules.specs.Play.{position_after}
 use Rattle.chess_rules.specs.Legal.{moves as legal_moves}
 use Rattle.pop_solve.specs.declared.aim.Aim.{Aim}
 use Rattle.std.specs.Prelude.{◌≡◌, ◌<◌, IfSome, Bool, true, false, not, ◌&&◌, Option, Some, None, ℕ, zero, suc, ◌+◌, ◌-◌, ◌≤◌, ◌^◌, min, if◌then◌else◌, List, [], ◌∷◌, ◌++◌, ◌==◌, filter, length, take, drop, reverse}
 use Rattle.std.specs.List.{sum_by}
 use Rattle.chess_core.specs.Castling.{none_unmoved}
 use Rattle.chess_core.specs.Position.{Position}
-use Rattle.chess_core.specs.Triple.{Triple}
+use Rattle.chess_core.specs.declared.man.Move.{Move}
 use Rattle.chess_core.specs.WellFormed.{IsWellFormed}
-use Rattle.chess_rules.specs.Legal.{legal}
-use Rattle.chess_rules.specs.Loss.{Loss}
+use Rattle.chess_rules.specs.Legal.{is_legal}
+use Rattle.chess_rules.specs.Undo.{Undo}
 use Rattle.chess_mates.specs.ties.Aims.{aims_at_king}
 use Rattle.chess_rules.specs.ties.Places.{IsPlaceIn, LegalPlace, moves_behind, moves_between, place_of}
 use Rattle.chess_rules.specs.Play.{undo_of}
 use Rattle.chess_rules.specs.RuleSet.{RuleSet}
 use Rattle.pop_solve.specs.Chess.{chess}
 use Rattle.pop_solve.specs.ties.Counts.{smallest_below, walk_count}
-use Rattle.pop_solve.specs.ties.Values.{decides, seeks, join, joined}
+use Rattle.pop_solve.specs.ties.Values.{decides, seeks, join, joined_value}
 use Rattle.pop_solve.specs.declared.frame.Stretch.{Stretch}
 use Rattle.pop_solve.specs.declared.frame.Stretch.TheVariants.{Killer, Earlier, Aimed, Others}
 use Rattle.pop_solve.specs.declared.frame.Early.{Early}
@@ -38,8 +38,8 @@ unordered = record { killer = 0; earlier = 0; early = NoMoves }
 -- place stands; and what is known of the position's legal moves
 pub record Frame : Type 0 where
   pub place : ℕ
-  pub by : Triple
-  pub undo : Loss
+  pub by : Move
+  pub undo : Undo
   pub left : ℕ
   pub order : Order
   pub stretch : Stretch
@@ -61,7 +61,7 @@ no_frame = record {
 unfoldable pub position : RuleSet → Position → List Frame → Position
 position rule p [] = p
 position rule p (f ∷ []) = p
-position rule p (f ∷ (g ∷ below)) = played rule (position rule p (g ∷ below)) f.by
+position rule p (f ∷ (g ∷ below)) = position_after rule (position rule p (g ∷ below)) f.by
 
 -- each frame but the lowest is reached by a legal move of the one below, and holds what undoes it
 unfoldable pub IsLinked : RuleSet → Position → List Frame → Type 0
@@ -69,21 +69,21 @@ IsLinked rule p [] = Unit {0}
 IsLinked rule p (f ∷ []) = Unit {0}
 IsLinked rule p (f ∷ (g ∷ below)) =
     IsWellFormed (position rule p (g ∷ below))
-    × (legal rule (position rule p (g ∷ below)) f.by ≡ true)
+    × (is_legal rule (position rule p (g ∷ below)) f.by ≡ true)
     × (f.undo ≡ undo_of rule (position rule p (g ∷ below)) f.by)
     × IsLinked rule p (g ∷ below)
 
 -- the move comes before others that are no killers either
-abbrev pub comes_early : Early → Position → Triple → Bool
+abbrev pub comes_early : Early → Position → Move → Bool
 comes_early AimedMoves p m = aims_at_king p m
 comes_early NoMoves p m = false
 
 -- the move stands at this place
-abbrev pub is_at : ℕ → Triple → Bool
+abbrev pub is_at : ℕ → Move → Bool
 is_at place m = place_of (Some m) == place
 
 -- the move belongs to the stretch, and so to none before it
-unfoldable pub belongs : Position → Order → Stretch → Triple → Bool
+unfoldable pub belongs : Position → Order → Stretch → Move → Bool
 belongs p order Killer m = is_at order.killer m
 belongs p order Earlier m = not (is_at order.killer m) && is_at order.earlier m
 belongs p order Aimed m =
@@ -92,27 +92,28 @@ belongs p order Others m =
     not (is_at order.killer m) && (not (is_at order.earlier m) && not (comes_early order.early p m))
 
 -- the legal moves of a stretch
-abbrev pub all_of : RuleSet → Position → Order → Stretch → List Triple
-all_of rule p order s = filter (belongs p order s) (legal_moves rule p)
+abbrev pub all_moves_of : RuleSet → Position → Order → Stretch → List Move
+all_moves_of rule p order s = filter (belongs p order s) (legal_moves rule p)
 
 -- those behind a place of the stretch
-unfoldable pub here : RuleSet → Position → Order → Stretch → ℕ → List Triple
-here rule p order Killer place = moves_between rule p place order.killer
-here rule p order Earlier place = moves_between rule p place order.earlier
-here rule p order Aimed place = filter (belongs p order Aimed) (moves_behind rule p place)
-here rule p order Others place = filter (belongs p order Others) (moves_behind rule p place)
+unfoldable pub moves_here : RuleSet → Position → Order → Stretch → ℕ → List Move
+moves_here rule p order Killer place = moves_between rule p place order.killer
+moves_here rule p order Earlier place = moves_between rule p place order.earlier
+moves_here rule p order Aimed place = filter (belongs p order Aimed) (moves_behind rule p place)
+moves_here rule p order Others place = filter (belongs p order Others) (moves_behind rule p place)
 
 -- those of the stretches behind it
-unfoldable pub later : RuleSet → Position → Order → Stretch → List Triple
-later rule p order Killer = all_of rule p order Earlier
-    ++ (all_of rule p order Aimed ++ all_of rule p order Others)
-later rule p order Earlier = all_of rule p order Aimed ++ all_of rule p order Others
-later rule p order Aimed = all_of rule p order Others
-later rule p order Others = []
+unfoldable pub moves_later : RuleSet → Position → Order → Stretch → List Move
+moves_later rule p order Killer = all_moves_of rule p order Earlier
+    ++ (all_moves_of rule p order Aimed ++ all_moves_of rule p order Others)
+moves_later rule p order Earlier =
+    all_moves_of rule p order Aimed ++ all_moves_of rule p order Others
+moves_later rule p order Aimed = all_moves_of rule p order Others
+moves_later rule p order Others = []
 
 -- the moves that a test has still to try
-abbrev pub ahead : RuleSet → Position → Order → Stretch → ℕ → List Triple
-ahead rule p order s place = here rule p order s place ++ later rule p order s
+abbrev pub moves_ahead : RuleSet → Position → Order → Stretch → ℕ → List Move
+moves_ahead rule p order s place = moves_here rule p order s place ++ moves_later rule p order s
 
 -- how many stretches lie behind one
 abbrev pub stretches_behind : Stretch → ℕ
@@ -122,54 +123,55 @@ stretches_behind Aimed = 1
 stretches_behind Others = 0
 
 -- the moves of a frame that a test has still to try
-abbrev pub untried : RuleSet → Position → Frame → List Triple
-untried rule p f = ahead rule p f.order f.stretch f.place
+abbrev pub untried_moves : RuleSet → Position → Frame → List Move
+untried_moves rule p f = moves_ahead rule p f.order f.stretch f.place
 
 -- what the value of the lowest position will be, once that of the top position is known
-unfoldable pub deliver : RuleSet → Aim → Position → List Frame → Bool → Bool
-deliver rule aim p [] v = v
-deliver rule aim p (f ∷ below) v =
-    deliver rule aim p below (join (seeks aim.battle f.left) v
-    (joined aim.battle (chess aim.goal rule) f.left (position rule p (f ∷ below))
-    (untried rule (position rule p (f ∷ below)) f)))
+unfoldable pub delivered_value : RuleSet → Aim → Position → List Frame → Bool → Bool
+delivered_value rule aim p [] v = v
+delivered_value rule aim p (f ∷ below) v =
+    delivered_value rule aim p below (join (seeks aim.battle f.left) v
+    (joined_value aim.battle (chess aim.goal rule) f.left (position rule p (f ∷ below))
+    (untried_moves rule (position rule p (f ∷ below)) f)))
 
 -- the same before the next move of the top frame is tried: the answer for its last move may be known
-unfoldable pub pending : RuleSet → Aim → Position → List Frame → Option Bool → Bool
-pending rule aim p [] answer = false
-pending rule aim p (f ∷ below) (Some v) = deliver rule aim p (f ∷ below) v
-pending rule aim p (f ∷ below) None =
-    deliver rule aim p below
-    (joined aim.battle (chess aim.goal rule) f.left (position rule p (f ∷ below))
-    (untried rule (position rule p (f ∷ below)) f))
+unfoldable pub pending_value : RuleSet → Aim → Position → List Frame → Option Bool → Bool
+pending_value rule aim p [] answer = false
+pending_value rule aim p (f ∷ below) (Some v) = delivered_value rule aim p (f ∷ below) v
+pending_value rule aim p (f ∷ below) None =
+    delivered_value rule aim p below
+    (joined_value aim.battle (chess aim.goal rule) f.left (position rule p (f ∷ below))
+    (untried_moves rule (position rule p (f ∷ below)) f))
 
 -- the steps that a test takes, which falls at each one
 unfoldable pub steps : RuleSet → ℕ → Position → ℕ
 steps rule zero p = 1
-steps rule (suc h) p = 1 + sum_by (λ m. 1 + steps rule h (played rule p m)) (legal_moves rule p)
+steps rule (suc h) p =
+    1 + sum_by (λ m. 1 + steps rule h (position_after rule p m)) (legal_moves rule p)
 
 -- the same of the moves behind a place
 unfoldable pub steps_behind : RuleSet → ℕ → Position → ℕ → ℕ
 steps_behind rule zero p place = 0
 steps_behind rule (suc h) p place =
-    sum_by (λ m. 1 + steps rule h (played rule p m)) (moves_behind rule p place)
+    sum_by (λ m. 1 + steps rule h (position_after rule p m)) (moves_behind rule p place)
 
 -- the same of some moves
-unfoldable pub steps_among : RuleSet → ℕ → Position → List Triple → ℕ
+unfoldable pub steps_among : RuleSet → ℕ → Position → List Move → ℕ
 steps_among rule zero p ms = 0
-steps_among rule (suc h) p ms = sum_by (λ m. 1 + steps rule h (played rule p m)) ms
+steps_among rule (suc h) p ms = sum_by (λ m. 1 + steps rule h (position_after rule p m)) ms
 
 -- the steps that are left to all frames of a test
 unfoldable pub work : RuleSet → Position → List Frame → ℕ
 work rule p [] = 0
 work rule p (f ∷ below) =
     1 + steps_among rule f.left (position rule p (f ∷ below))
-    (untried rule (position rule p (f ∷ below)) f) + work rule p below
+    (untried_moves rule (position rule p (f ∷ below)) f) + work rule p below
 
 -- the most frames that the moves behind the places can still open
 unfoldable pub walk_behind : RuleSet → ℕ → Position → ℕ → ℕ
 walk_behind rule zero p place = 0
 walk_behind rule (suc h) p place =
-    sum_by (λ m. walk_count (legal_moves rule) (played rule) h (played rule p m))
+    sum_by (λ m. walk_count (legal_moves rule) (position_after rule) h (position_after rule p m))
     (moves_behind rule p place)
 
 -- the same of all frames of a walk
@@ -179,17 +181,17 @@ to_open rule p (f ∷ below) =
     walk_behind rule f.left (position rule p (f ∷ below)) f.place + to_open rule p below
 
 -- the same of a test's frames
-unfoldable pub walk_among : RuleSet → ℕ → Position → List Triple → ℕ
+unfoldable pub walk_among : RuleSet → ℕ → Position → List Move → ℕ
 walk_among rule zero p ms = 0
-walk_among rule (suc h) p ms = sum_by (λ m. walk_count (legal_moves rule) (played rule) h
-    (played rule p m)) ms
+walk_among rule (suc h) p ms = sum_by (λ m. walk_count (legal_moves rule) (position_after rule) h
+    (position_after rule p m)) ms
 
 -- the same of all frames of a test
 unfoldable pub to_test : RuleSet → Position → List Frame → ℕ
 to_test rule p [] = 0
 to_test rule p (f ∷ below) =
     walk_among rule f.left (position rule p (f ∷ below))
-    (untried rule (position rule p (f ∷ below)) f) + to_test rule p below
+    (untried_moves rule (position rule p (f ∷ below)) f) + to_test rule p below
 
 -- the fewest positions that a test has still to try, once v is the value of the position after the top frame's last move
 unfoldable pub to_try_with : RuleSet → Aim → Position → List Frame → Bool → ℕ
@@ -197,10 +199,10 @@ to_try_with rule aim p [] v = 0
 to_try_with rule aim p (f ∷ below) v =
     (if decides (seeks aim.battle f.left) v then 0
     else smallest_below aim.battle (chess aim.goal rule) f.left (position rule p (f ∷ below))
-    (untried rule (position rule p (f ∷ below)) f))
+    (untried_moves rule (position rule p (f ∷ below)) f))
     + to_try_with rule aim p below (join (seeks aim.battle f.left) v
-    (joined aim.battle (chess aim.goal rule) f.left (position rule p (f ∷ below))
-    (untried rule (position rule p (f ∷ below)) f)))
+    (joined_value aim.battle (chess aim.goal rule) f.left (position rule p (f ∷ below))
+    (untried_moves rule (position rule p (f ∷ below)) f)))
 
 -- the same before the next move of the top frame is tried
 unfoldable pub to_try : RuleSet → Aim → Position → List Frame → Option Bool → ℕ
@@ -208,10 +210,10 @@ to_try rule aim p [] answer = 0
 to_try rule aim p (f ∷ below) (Some v) = to_try_with rule aim p (f ∷ below) v
 to_try rule aim p (f ∷ below) None =
     smallest_below aim.battle (chess aim.goal rule) f.left (position rule p (f ∷ below))
-    (untried rule (position rule p (f ∷ below)) f)
+    (untried_moves rule (position rule p (f ∷ below)) f)
     + to_try_with rule aim p below
-    (joined aim.battle (chess aim.goal rule) f.left (position rule p (f ∷ below))
-    (untried rule (position rule p (f ∷ below)) f))
+    (joined_value aim.battle (chess aim.goal rule) f.left (position rule p (f ∷ below))
+    (untried_moves rule (position rule p (f ∷ below)) f))
 
 -- from the top down each frame has a half-move to make, and one less than the frame below it
 unfoldable pub IsCut : List Frame → Type 0
@@ -235,10 +237,10 @@ pub record IsTesting (rule : RuleSet) (p : Position) (frames : List Frame) (boar
   pub board_at : board ≡ position rule p frames
 
 -- the move led from the position p to the board, and its undo leads back
-pub record CameBy (rule : RuleSet) (by : Triple) (undo : Loss) (board p : Position) : Type 0 where
+pub record CameBy (rule : RuleSet) (by : Move) (undo : Undo) (board p : Position) : Type 0 where
   pub sound : IsWellFormed p
-  pub legal : legal rule p by ≡ true
-  pub led : board ≡ played rule p by
+  pub legal : is_legal rule p by ≡ true
+  pub led : board ≡ position_after rule p by
   pub undone : undo ≡ undo_of rule p by
 
 -- the same of the move of a frame
@@ -257,7 +259,8 @@ tests floor frames = reverse (drop floor frames)
 pub record Turns (rule : RuleSet) (aim : Aim) (floor : ℕ) (p : Position) (old new : List Frame)
     (was is : Option Bool) (board : Position) (before after : ℕ) : Type 0 where
   pub testing : IsTesting rule p (tests floor new) board
-  pub same : pending rule aim p (tests floor old) was ≡ pending rule aim p (tests floor new) is
+  pub same : pending_value rule aim p (tests floor old) was
+      ≡ pending_value rule aim p (tests floor new) is
   pub falls : work rule p (tests floor new) < work rule p (tests floor old)
   pub above : floor < length new
   pub base : take floor new ≡ take floor old
@@ -269,15 +272,15 @@ pub record Turns (rule : RuleSet) (aim : Aim) (floor : ℕ) (p : Position) (old 
 -- no fewer than a smallest tree has positions
 pub record Ends (rule : RuleSet) (aim : Aim) (floor : ℕ) (p : Position) (old new : List Frame)
     (was : Option Bool) (board : Position) (before after : ℕ) (v : Bool) : Type 0 where
-  pub value : pending rule aim p (tests floor old) was ≡ v
+  pub value : pending_value rule aim p (tests floor old) was ≡ v
   pub back : board ≡ p
   pub base : new ≡ take floor old
   pub counted : after ≤ before + to_test rule p (tests floor old)
   pub tried : min (before + to_try rule aim p (tests floor old) was) (2 ^ 64 - 1) ≤ after
 
 -- the frame of a position that a move has reached, of which no move has been tried
-abbrev pub opened : Triple → Loss → ℕ → Frame
-opened by undo left = record {
+abbrev pub opened_frame : Move → Undo → ℕ → Frame
+opened_frame by undo left = record {
   place = 0;
   by = by;
   undo = undo;
@@ -288,8 +291,8 @@ opened by undo left = record {
 }
 
 -- the same in a test, where the killer is tried first
-abbrev pub tested : Order → Triple → Loss → ℕ → Option LegalPlace → Frame
-tested order by undo left known = record {
+abbrev pub tested_frame : Order → Move → Undo → ℕ → Option LegalPlace → Frame
+tested_frame order by undo left known = record {
   place = order.killer - 1;
   by = by;
   undo = undo;
@@ -300,12 +303,12 @@ tested order by undo left known = record {
 }
 
 -- to some frames one of a test is added, which knows at most its own position
-pub record IsOpenedOn (rule : RuleSet) (p : Position) (old new : List Frame) (by : Triple)
-    (undo : Loss) (left : ℕ) : Type 0 where
+pub record IsOpenedOn (rule : RuleSet) (p : Position) (old new : List Frame) (by : Move)
+    (undo : Undo) (left : ℕ) : Type 0 where
   pub order : Order
   pub known : Option LegalPlace
   pub within : IfSome known (IsPlaceIn rule p)
-  pub added : new ≡ old ++ tested order by undo left known ∷ []
+  pub added : new ≡ old ++ tested_frame order by undo left known ∷ []
 
 -- the half-moves left at the top frame
 abbrev pub top_left : List Frame → ℕ

@@ -2,13 +2,13 @@
 use Rattle.pop_solve.specs.Aims.{battle_of}
 use Rattle.std.specs.Prelude.{◌≡◌, ℕ, zero, suc, ◌+◌, ◌-◌, ◌≤◌, ◌^◌, min, ◌==◌, Bool, true, false, ◌||◌, if◌then◌else◌, List, [], ◌∷◌, ◌++◌, map, length, drop, ◌⊎◌}
 use Rattle.chess_core.specs.Position.{Position}
-use Rattle.chess_core.specs.Triple.{Triple}
+use Rattle.chess_core.specs.declared.man.Move.{Move}
 use Rattle.chess_rules.specs.RuleSet.{RuleSet}
 use Rattle.pop_input.specs.Posed.{Posed}
 use Rattle.pop_input.specs.Stipulations.{is_help}
 use Rattle.pop_solve.specs.ties.Frames.{Frame, to_open}
 use Rattle.pop_solve.specs.ties.Walk.{fewest_left, path, to_come, IsEnded, IsWalking, IsCounted, IsWhites}
-use Rattle.pop_solve.specs.Events.{BareEvent, impossible, is_set, total, start, events_from, path_event, phase_start, phase_half_moves, event_of, events}
+use Rattle.pop_solve.specs.Events.{BareEvent, impossible, is_set, total, play_start, events_from, path_event, phase_start, phase_half_moves, event_of, events}
 use Rattle.pop_solve.specs.ties.Seen.{fewest_from, fewest_tried, is_never_stopped, is_unstopped, is_walked_once, walk_from, whole_walk, StandsOn}
 use Rattle.pop_solve.specs.declared.event.Event.{Event}
 use Rattle.pop_solve.specs.declared.event.Phase.{Phase}
@@ -30,14 +30,14 @@ module _ {M : Type 0} where
   keep help (suc n) (x ∷ xs) = x ∷ (if begins help x then keep help n xs else keep help (suc n) xs)
 
   -- how many solutions begin among them
-  unfoldable pub started : Bool → ℕ → List (List M) → ℕ
-  started help n [] = 0
-  started help zero (x ∷ xs) = if begins help x then 0 else started help zero xs
-  started help (suc n) (x ∷ xs) = if begins help x then 1 + started help n xs
-      else started help (suc n) xs
+  unfoldable pub beginning_count : Bool → ℕ → List (List M) → ℕ
+  beginning_count help n [] = 0
+  beginning_count help zero (x ∷ xs) = if begins help x then 0 else beginning_count help zero xs
+  beginning_count help (suc n) (x ∷ xs) = if begins help x then 1 + beginning_count help n xs
+      else beginning_count help (suc n) xs
 
 -- the paths to come from the frames of a phase
-abbrev pub phase_paths : RuleSet → Posed → Phase → List Frame → List (List Triple)
+abbrev pub phase_paths : RuleSet → Posed → Phase → List Frame → List (List Move)
 phase_paths rule problem phase frames =
     to_come rule (plan_of problem) (phase_half_moves problem phase) (phase_start problem phase)
     frames
@@ -49,7 +49,7 @@ left_of rule problem Barred frames = impossible ∷ events_from rule problem Pla
 left_of rule problem (Within phase count) frames =
     let paths = phase_paths rule problem phase frames in
     let limit = problem.max_solutions - count in
-    let all = count + started (is_help problem.stipulation.form) limit paths in
+    let all = count + beginning_count (is_help problem.stipulation.form) limit paths in
     map (path_event problem phase) (keep (is_help problem.stipulation.form) limit paths)
     ++ total all (all == problem.max_solutions)
     ∷ (if is_set phase then events_from rule problem Play else [])
@@ -57,12 +57,12 @@ left_of rule problem Behind frames = []
 
 -- what holds of board and frames at a stage
 unfoldable pub IsStanding : RuleSet → Posed → Stage → List Frame → Position → Type 0
-IsStanding rule problem (Before phase) frames board = (frames ≡ []) × (board ≡ start problem)
-IsStanding rule problem Barred frames board = (frames ≡ []) × (board ≡ start problem)
+IsStanding rule problem (Before phase) frames board = (frames ≡ []) × (board ≡ play_start problem)
+IsStanding rule problem Barred frames board = (frames ≡ []) × (board ≡ play_start problem)
 IsStanding rule problem (Within phase count) frames board =
     IsWalking rule (phase_half_moves problem phase) (phase_start problem phase) frames board
     × (count ≤ problem.max_solutions)
-IsStanding rule problem Behind frames board = (frames ≡ []) × (board ≡ start problem)
+IsStanding rule problem Behind frames board = (frames ≡ []) × (board ≡ play_start problem)
 
 -- what walking on in a phase leaves, at most `limit` solutions being still to begin
 pub record Walks (rule : RuleSet) (plan : Plan) (h : ℕ) (p : Position) (limit : ℕ)
@@ -71,16 +71,17 @@ pub record Walks (rule : RuleSet) (plan : Plan) (h : ℕ) (p : Position) (limit 
   pub come : given ≡ true → keep (is_help plan.form) limit (to_come rule plan h p old)
       ≡ path new ∷ keep (is_help plan.form)
       (limit - (if begins (is_help plan.form) (path new) then 1 else 0)) (to_come rule plan h p new)
-  pub starts : given ≡ true → started (is_help plan.form) limit (to_come rule plan h p old)
+  pub starts : given ≡ true → beginning_count (is_help plan.form) limit (to_come rule plan h p old)
       ≡ (if begins (is_help plan.form) (path new) then 1 else 0)
-      + started (is_help plan.form) (limit - (if begins (is_help plan.form) (path new) then 1
-      else 0)) (to_come rule plan h p new)
+      + beginning_count (is_help plan.form)
+      (limit - (if begins (is_help plan.form) (path new) then 1 else 0)) (to_come rule plan h p new)
   pub within : given ≡ true → (if begins (is_help plan.form) (path new) then 1 else 0) ≤ limit
   pub deep : given ≡ true → 2 ≤ length new
   pub closed : given ≡ true → IsEnded rule plan new board
   pub ended : given ≡ false → keep (is_help plan.form) limit (to_come rule plan h p old) ≡ []
   pub over : given ≡ false → (new ≡ []) ⊎ (limit ≡ 0)
-  pub none : given ≡ false → started (is_help plan.form) limit (to_come rule plan h p old) ≡ 0
+  pub none : given ≡ false → beginning_count (is_help plan.form) limit (to_come rule plan h p old)
+      ≡ 0
 
 -- what a call gives: the first event still to come, as it is shown, with board and frames where it stands
 pub record Gives (rule : RuleSet) (problem : Posed) (old new : List BareEvent) (event : Event)

@@ -1,11 +1,11 @@
 -- What contracts see of a search: the events still to come, the board, the frames in use, and the counts.
-use Rattle.chess_rules.specs.Play.{after as played}
+use Rattle.chess_rules.specs.Play.{position_after}
 use Rattle.chess_rules.specs.Legal.{moves as legal_moves}
 use Rattle.std.specs.Prelude.{◌≡◌, ℕ, ◌+◌, Bool, false, not, ◌==◌, ◌&&◌, ◌||◌, true, if◌then◌else◌, List, length}
 use Rattle.std.specs.List.{list_all}
 use Rattle.chess_core.specs.Position.{Position}
 use Rattle.chess_rules.specs.RuleSet.{RuleSet}
-use Rattle.pop_solve.specs.Game.{reach}
+use Rattle.pop_solve.specs.Game.{path_end}
 use Rattle.pop_solve.specs.Chess.{chess}
 use Rattle.pop_solve.specs.ties.Counts.{walk_count}
 use Rattle.pop_solve.specs.ties.Walk.{fewest_walked}
@@ -21,10 +21,10 @@ abbrev pub StandsOn : RuleSet → Posed → BareEvent → Position → ℕ → T
 StandsOn rule problem (opening phase) board depth = Unit {0}
 StandsOn rule problem impossible board depth = Unit {0}
 StandsOn rule problem (line phase path) board
-    depth = (board ≡ reach (played rule) (phase_start problem phase) path)
+    depth = (board ≡ path_end (position_after rule) (phase_start problem phase) path)
     × (depth ≡ length path + 1)
 StandsOn rule problem (tree_node phase path) board
-    depth = (board ≡ reach (played rule) (phase_start problem phase) path)
+    depth = (board ≡ path_end (position_after rule) (phase_start problem phase) path)
     × (depth ≡ length path + 1)
 StandsOn rule problem (total count stopped) board depth = Unit {0}
 
@@ -32,7 +32,7 @@ StandsOn rule problem (total count stopped) board depth = Unit {0}
 abbrev pub phase_walk : RuleSet → Posed → Phase → ℕ
 phase_walk rule problem phase =
     if is_barred rule problem phase then 0
-    else walk_count (legal_moves rule) (played rule) (phase_half_moves problem phase)
+    else walk_count (legal_moves rule) (position_after rule) (phase_half_moves problem phase)
     (phase_start problem phase)
 
 -- the same of all phases from one on

@@ -28,8 +28,8 @@ module _ {P M : Type 0} where
       else (can_move game p && every_move game (value battle game t) p))
 
   -- the value of some moves of p joined
-  unfoldable pub joined : Battle → Game P M → ℕ → P → List M → Bool
-  joined battle game zero p moves = false
-  joined battle game (suc t) p moves =
+  unfoldable pub joined_value : Battle → Game P M → ℕ → P → List M → Bool
+  joined_value battle game zero p moves = false
+  joined_value battle game (suc t) p moves =
       if seeks battle (suc t) then list_any (λ m. value battle game t (game.after p m)) moves
       else list_all (λ m. value battle game t (game.after p m)) moves

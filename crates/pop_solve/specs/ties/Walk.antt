@@ -5,11 +5,11 @@ use Rattle.pop_input.specs.declared.stipulation.Goal.TheVariants.{Mate}
 use Rattle.std.specs.Prelude.{◌≡◌, ℕ, zero, suc, ◌+◌, ◌-◌, ◌/◌, ◌≤◌, ◌<◌, ◌^◌, min, ◌==◌, Bool, true, false, not, ◌&&◌, ◌||◌, if◌then◌else◌, List, [], ◌∷◌, ◌++◌, map, length, filter, ◌⊎◌}
 use Rattle.std.specs.List.{flat_map, list_all, sum_by}
 use Rattle.chess_core.specs.Position.{Position}
-use Rattle.chess_core.specs.Triple.{Triple}
+use Rattle.chess_core.specs.declared.man.Move.{Move}
 use Rattle.chess_core.specs.WellFormed.{IsWellFormed}
 use Rattle.chess_rules.specs.ties.Places.{moves_behind}
 use Rattle.chess_mates.specs.ties.Mates.{is_mating}
-use Rattle.chess_rules.specs.Legal.{is_goal}
+use Rattle.chess_rules.specs.Legal.{is_mate}
 use Rattle.chess_rules.specs.RuleSet.{RuleSet}
 use Rattle.pop_input.specs.Stipulations.{is_help}
 use Rattle.pop_solve.specs.Aims.{battle_of}
@@ -52,21 +52,21 @@ module _ {P M : Type 0} where
   gives plan game t q = not (is_help plan.form) || (t == 0 && game.goal q)
 
   -- with how many half-moves the walk goes on from q
-  unfoldable pub goes_on : Plan → Game P M → ℕ → P → ℕ
-  goes_on plan game t q =
+  unfoldable pub half_moves_on : Plan → Game P M → ℕ → P → ℕ
+  half_moves_on plan game t q =
       if is_help plan.form then t
       else (if not (varies plan) && seeks (battle_of plan.form) (t + 1) then 0
       else open_length (battle_of plan.form) game t q)
 
   -- the paths that the walk gives from P by these moves, with `left` half-moves; `fuel` is at least `left`
-  unfoldable pub shown : Plan → Game P M → Bool → ℕ → ℕ → P → List M → List (List M)
-  shown plan game root zero left p ms = []
-  shown plan game root (suc fuel) zero p ms = []
-  shown plan game root (suc fuel) (suc t) p ms =
+  unfoldable pub shown_paths : Plan → Game P M → Bool → ℕ → ℕ → P → List M → List (List M)
+  shown_paths plan game root zero left p ms = []
+  shown_paths plan game root (suc fuel) zero p ms = []
+  shown_paths plan game root (suc fuel) (suc t) p ms =
       flat_map (λ m. let q = game.after p m in
       if follows plan game root t q
       then (if gives plan game t q then (m ∷ []) ∷ [] else [])
-      ++ map (λ path. m ∷ path) (shown plan game false fuel (goes_on plan game t q) q
+      ++ map (λ path. m ∷ path) (shown_paths plan game false fuel (half_moves_on plan game t q) q
       (game.moves q))
       else []) ms
 
@@ -76,7 +76,7 @@ module _ {P M : Type 0} where
   fewest_for plan game root t q =
       if not (is_help plan.form) && (root || seeks (battle_of plan.form) (t + 1))
       then smallest_tree (battle_of plan.form) game t q
-      else (if goes_on plan game t q == 0 then 0 else 1)
+      else (if half_moves_on plan game t q == 0 then 0 else 1)
 
   -- the same for these moves of p, with `left` half-moves, and for all that the walk gives below them
   unfoldable pub fewest_walked : Plan → Game P M → Bool → ℕ → ℕ → P → List M → ℕ
@@ -86,20 +86,20 @@ module _ {P M : Type 0} where
       sum_by (λ m. let q = game.after p m in
       fewest_for plan game root t q
       + (if follows plan game root t q then fewest_walked plan game false fuel
-      (goes_on plan game t q) q (game.moves q) else 0)) ms
+      (half_moves_on plan game t q) q (game.moves q) else 0)) ms
 
 -- the moves that lead to the top frame
-unfoldable pub path : List Frame → List Triple
+unfoldable pub path : List Frame → List Move
 path [] = []
 path (f ∷ []) = []
 path (f ∷ (g ∷ below)) = path (g ∷ below) ++ f.by ∷ []
 
 -- the paths still to come from all frames, in order
-unfoldable pub to_come : RuleSet → Plan → ℕ → Position → List Frame → List (List Triple)
+unfoldable pub to_come : RuleSet → Plan → ℕ → Position → List Frame → List (List Move)
 to_come rule plan h p [] = []
 to_come rule plan h p (f ∷ below) =
     map (λ line. path (f ∷ below) ++ line)
-    (shown plan (chess plan.goal rule) (length below == 0) (h - length below) f.left
+    (shown_paths plan (chess plan.goal rule) (length below == 0) (h - length below) f.left
     (position rule p (f ∷ below)) (moves_behind rule (position rule p (f ∷ below)) f.place))
     ++ to_come rule plan h p below
 
@@ -170,14 +170,14 @@ seeks_last plan = is_help plan.form || seeks (battle_of plan.form) 1
 -- mate, it mated
 abbrev pub IsMatedAtLast : RuleSet → Plan → ℕ → Position → Type 0
 IsMatedAtLast rule plan left q =
-    is_for_mate plan.goal ≡ true → seeks_last plan ≡ true → left ≡ 0 → is_goal rule q ≡ true
+    is_for_mate plan.goal ≡ true → seeks_last plan ≡ true → left ≡ 0 → is_mate rule q ≡ true
 
 -- from a place to the moves `rest` behind a later one only moves are passed over whose paths aren't given: with one
 -- half-move left, by a side that seeks mate, those that don't mate
 pub record GoesTo (rule : RuleSet) (plan : Plan) (left : ℕ) (p : Position) (place : ℕ)
-    (rest : List Triple) : Type 0 where
+    (rest : List Move) : Type 0 where
   pub mid : ℕ
-  pub over : List Triple
+  pub over : List Move
   pub passed : moves_behind rule p place ≡ over ++ moves_behind rule p mid
   pub none : (over ≡ []) ⊎ ((seeks_last plan ≡ true) × (plan.goal ≡ Mate) × (left ≡ 1)
       × (filter (is_mating rule p) over ≡ []))

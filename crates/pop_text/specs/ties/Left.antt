@@ -13,8 +13,8 @@ use Rattle.pop_text.specs.declared.word.Word.{Word as Read}
 use Rattle.pop_text.specs.declared.text.Text.{Text}
 
 -- the input that begins with these bytes and goes on so
-abbrev pub after : List ℕ → Input → Input
-after bytes rest = record { bytes = bytes ++ rest.bytes; ending = rest.ending }
+abbrev pub onto_input : List ℕ → Input → Input
+onto_input bytes rest = record { bytes = bytes ++ rest.bytes; ending = rest.ending }
 
 -- what the source may still give
 abbrev pub MayFollow : End → Input → Type 0
@@ -25,7 +25,7 @@ MayFollow Broken rest = rest ≡ record { bytes = []; ending = Failed }
 -- the words still to come from a place, behind a text word of its line or behind none, where the source goes on so
 abbrev pub words_left : Option (List ℕ) → Reading → Input → Words
 words_left behind place rest = words_from behind (limit - place.used) place.line
-    (after place.window rest)
+    (onto_input place.window rest)
 
 -- tokens before the words still to come
 abbrev pub put_before : List Token → Words → Words
@@ -44,9 +44,10 @@ pub record Spot : Type 0 where
 pub record Takes (old new : Spot) (had left : Option (List ℕ)) (tokens : List Token) : Type 0 where
   pub bytes : List ℕ
   pub taken : Consumes had left bytes
-  pub follows : (rest : Input) → MayFollow new.at.end rest → MayFollow old.at.end (after bytes rest)
+  pub follows : (rest : Input) → MayFollow new.at.end rest
+      → MayFollow old.at.end (onto_input bytes rest)
   pub begin : (rest : Input) → MayFollow new.at.end rest
-      → words_left old.behind old.at (after bytes rest)
+      → words_left old.behind old.at (onto_input bytes rest)
       ≡ put_before tokens (words_left new.behind new.at rest)
   pub amount : length bytes + (old.at.used + length old.at.window)
       ≡ new.at.used + length new.at.window

@@ -9,11 +9,11 @@ with_byte room (b ∷ kept) byte = if nat_lt (length (b ∷ kept)) room then (b 
     else b ∷ kept
 
 -- so many bytes and zeros behind them fill the room of a text
-abbrev pub padded : List ℕ → List ℕ
-padded bytes = bytes ++ replicate (200 - length bytes) 0
+abbrev pub padded_cells : List ℕ → List ℕ
+padded_cells bytes = bytes ++ replicate (200 - length bytes) 0
 
 -- the first cells are the bytes of a text, and zeros stand behind them
 pub record IsPadded (cells : List ℕ) (size : ℕ) : Type 0 where
   pub within : size ≤ 200
-  pub cells_are : padded (take size cells) ≡ cells
+  pub cells_are : padded_cells (take size cells) ≡ cells
   pub size_is : length (take size cells) ≡ size

@@ -2,15 +2,15 @@
 use Rattle.std.specs.Prelude.{◌≡◌, ◌≢◌, ◌<◌, ◌+◌, ◌-◌, ℕ, zero, suc, min, List, [], ◌∷◌, ◌++◌, length, take, drop, Option, Some, None, option_map, Result, Ok, Err}
 
 -- so many bytes: those of `rest`, and behind them the text over and over, as long as it has any
-abbrev pub cycled : List ℕ → List ℕ → ℕ → List ℕ
-cycled text rest zero = []
-cycled text (b ∷ rest) (suc n) = b ∷ cycled text rest n
-cycled [] [] (suc n) = []
-cycled (b ∷ text) [] (suc n) = b ∷ cycled (b ∷ text) text n
+abbrev pub cycled_bytes : List ℕ → List ℕ → ℕ → List ℕ
+cycled_bytes text rest zero = []
+cycled_bytes text (b ∷ rest) (suc n) = b ∷ cycled_bytes text rest n
+cycled_bytes [] [] (suc n) = []
+cycled_bytes (b ∷ text) [] (suc n) = b ∷ cycled_bytes (b ∷ text) text n
 
 -- so many bytes of the text over and over
-abbrev pub repeated : List ℕ → ℕ → List ℕ
-repeated text n = cycled text text n
+abbrev pub repeated_bytes : List ℕ → ℕ → List ℕ
+repeated_bytes text n = cycled_bytes text text n
 
 -- what is left of a trial: the text of each round, the rest of this one, all bytes still to come, the most bytes a call, the bytes before the failure
 pub record TrialInput : Type 0 where
@@ -36,13 +36,13 @@ abbrev pub round_of : TrialInput → List ℕ
 round_of trial = round_from trial.text trial.rest
 
 -- how many bytes a call hands out into so much room: as many as there are in the round
-abbrev pub handed_out : TrialInput → ℕ → ℕ
-handed_out trial room = before_failure trial.until_failure
+abbrev pub bytes_handed_out : TrialInput → ℕ → ℕ
+bytes_handed_out trial room = before_failure trial.until_failure
     (min (min (min (length (round_of trial)) room) trial.left) trial.at_most)
 
 -- a call fails exactly at the place of the failure, and hands out no fewer bytes than it may
 abbrev pub Gives : {E : Type 0} → TrialInput → TrialInput → ℕ → Result ℕ E → Type 0
-Gives old new room (Ok n) = (old.until_failure ≢ Some 0) × (n ≡ handed_out old room)
+Gives old new room (Ok n) = (old.until_failure ≢ Some 0) × (n ≡ bytes_handed_out old room)
     × (new ≡ record old {
       rest = drop n (round_of old);
       left = old.left - n;

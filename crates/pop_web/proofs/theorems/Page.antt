@@ -9,11 +9,11 @@ use Rattle.pop_parts.specs.declared.asked.Asked.{Asked}
 use Rattle.pop_parts.specs.declared.asked.Outcome.{Outcome}
 use Rattle.pop_parts.specs.declared.asked.Outcome.TheVariants.{OutputFailed as PartsCut}
 use Rattle.pop_web.proofs.Filled.{list_first, list_whole, part_first, part_whole, report_first, report_whole}
-use Rattle.pop_web.specs.Page.{Lists, Shows, ShowsParts, number_of, number_of_parts, room, whole}
+use Rattle.pop_web.specs.Page.{Lists, Shows, ShowsParts, number_of, number_of_parts, room, whole_input}
 
 -- a page that was shown bytes of a text, beside the program pops that wrote its report
 module _ (choice : Choice) (text shown written : List ℕ) (answer : ℕ) (ends : Status)
-    (writes : Runs choice (whole text) (Some []) (Some written) false ends) where
+    (writes : Runs choice (whole_input text) (Some []) (Some written) false ends) where
   -- where the report isn't cut, the bytes are those that the program writes, and the answer is the number of its status
   pub same_as_the_program : Shows choice text shown answer → answer ≢ number_of OutputFailed → (shown ≡ written) × (answer ≡ number_of ends)
   same_as_the_program f other = let it = report_whole _ _ _ _ f other in (it.0 ∙ sym writes.0, it.1 ∙ ap number_of (sym writes.1))
@@ -24,7 +24,7 @@ module _ (choice : Choice) (text shown written : List ℕ) (answer : ℕ) (ends 
 
 -- the same of the list of the text's parts, beside the program pops-part that wrote it
 module _ (depth : ℕ) (text shown written : List ℕ) (answer : ℕ) (ends : Status)
-    (writes : ListRuns depth (whole text) (Some []) (Some written) false ends) where
+    (writes : ListRuns depth (whole_input text) (Some []) (Some written) false ends) where
   pub same_list_as_the_program : Lists depth text shown answer → answer ≢ number_of OutputFailed → (shown ≡ written) × (answer ≡ number_of ends)
   same_list_as_the_program f other = let it = list_whole _ _ _ _ f other in (it.0 ∙ sym writes.0, it.1 ∙ ap number_of (sym writes.1))
 
@@ -33,7 +33,7 @@ module _ (depth : ℕ) (text shown written : List ℕ) (answer : ℕ) (ends : St
 
 -- the same of parts, beside the program pops-part that wrote them
 module _ (asked : Asked) (text shown written : List ℕ) (answer : ℕ) (ends : Outcome)
-    (writes : PartsRun asked (whole text) (Some []) (Some written) false ends) where
+    (writes : PartsRun asked (whole_input text) (Some []) (Some written) false ends) where
   pub same_part_as_the_program : ShowsParts asked text shown answer → answer ≢ number_of_parts PartsCut
       → (shown ≡ written) × (answer ≡ number_of_parts ends)
   same_part_as_the_program f other = let it = part_whole _ _ _ _ f other in (it.0 ∙ sym writes.0, it.1 ∙ ap number_of_parts (sym writes.1))

@@ -1,5 +1,5 @@
 use Rattle.chess_rules.proofs.Basics.{Some, ap, arith, is_some, rules, sym, true, ◌<◌, ◌∙◌, ◌≡◌}
-use Rattle.chess_rules.proofs.Chess.{Triple, capture_square, is_simple, king_after, man_on, sight_after}
+use Rattle.chess_rules.proofs.Chess.{Move, capture_square, is_simple, king_after, man_on, sight_after}
 use Rattle.chess_rules.proofs.attacks.Exposing.{exposed_is, no_king_exposed}
 use Rattle.chess_rules.proofs.exposure.exposes_unplayed.Goals as goal
 
@@ -11,8 +11,8 @@ returns g c =
     let p = c.args.board.now in
     let m = c.args.m.now in
     let x = c.in-Some.man in
-    let from : c.m.inside.from ≡ m.from = ap (λ (v : Triple). v.from) c.m.view_is in
-    let to : c.m.inside.to ≡ m.to = ap (λ (v : Triple). v.to) c.m.view_is in
+    let from : c.m.inside.from ≡ m.from = ap (λ (v : Move). v.from) c.m.view_is in
+    let to : c.m.inside.to ≡ m.to = ap (λ (v : Move). v.to) c.m.view_is in
     let small : m.to < 64 = omega (arith, to, c.index-small.ensures.value, c.index-small.ensures.small) in
     let here : man_on p.men m.from ≡ Some x = ap (man_on p.men) (sym from) ∙ sym c.man_at.ensures ∙ c.in-Some.is in
     let simple : is_simple g.R.Rules.rule x m (is_some (capture_square p x m)) ≡ true =

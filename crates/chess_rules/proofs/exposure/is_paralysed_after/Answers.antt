@@ -1,5 +1,5 @@
 use Rattle.chess_rules.proofs.Basics.{rules}
-use Rattle.chess_rules.proofs.Chess.{paralysed}
+use Rattle.chess_rules.proofs.Chess.{is_paralysed}
 use Rattle.chess_rules.proofs.attacks.Exposing.{faced_king, none_paralysed, paralysed_by}
 use Rattle.chess_rules.proofs.exposure.is_paralysed_after.Goals as goal
 
@@ -12,5 +12,5 @@ returns-then-not-is g c = λ men are side.
     (search rules) are side (search rules) (search (rules, c.is_faced_after.ensures men are))
 
 pub returns-else-not-is : goal.returns-else-not-is
-unfolding paralysed
+unfolding is_paralysed
 returns-else-not-is g c = λ men are side. search (rules, paralysed_by, faced_king)

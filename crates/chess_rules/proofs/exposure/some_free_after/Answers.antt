@@ -1,17 +1,17 @@
 use Rattle.chess_rules.proofs.Basics.{and_from, and_right, ap, arith, bit_at, not, sym, ◌&&◌, ◌-◌, ◌<◌, ◌==◌, ◌∙◌}
-use Rattle.chess_rules.proofs.Chess.{find_first, paralysed, skipped, skipped_all, some_square_false, some_square_true}
+use Rattle.chess_rules.proofs.Chess.{find_first, is_paralysed, skipped, skipped_all, some_square_false, some_square_true}
 use Rattle.chess_core.proofs.Ranges.{NoneBelow-more, NoneBelow-start}
 use Rattle.chess_rules.proofs.exposure.some_free_after.Goals as goal
 
 pub loop-square-init : goal.loop-square-init
-loop-square-init g c = λ men are others. NoneBelow-start (λ s. bit_at c.args.word s == 1 && not (paralysed g.R.Rules.rule men s))
+loop-square-init g c = λ men are others. NoneBelow-start (λ s. bit_at c.args.word s == 1 && not (is_paralysed g.R.Rules.rule men s))
 
 pub returns-then-not-is_paralysed_after : goal.returns-then-not-is_paralysed_after
 returns-then-not-is_paralysed_after g c = λ men are others.
     let first = find_first (λ s. bit_at c.args.word s == 1) c.loop-square.number (64 - c.loop-square.number) c.in-Some.square
     (sym c.next_bit.ensures.value ∙ c.in-Some.is) in
     let small : c.in-Some.square < 64 = omega (arith, first.high, first.low) in
-    sym (some_square_true (λ s. bit_at c.args.word s == 1 && not (paralysed g.R.Rules.rule men s)) c.in-Some.square small
+    sym (some_square_true (λ s. bit_at c.args.word s == 1 && not (is_paralysed g.R.Rules.rule men s)) c.in-Some.square small
     (and_from _ _ first.here
     (ap not (sym (c.is_paralysed_after.ensures men are (others.side c.in-Some.square small first.here)) ∙ c.if-not-is_paralysed_after.true))))
 
@@ -21,14 +21,14 @@ loop-square-preserved g c = λ men are others.
     (sym c.next_bit.ensures.value ∙ c.in-Some.is) in
     let small : c.in-Some.square < 64 = omega (arith, first.high, first.low) in
     rw c.index-number.ensures.value
-    (NoneBelow-more (λ s. bit_at c.args.word s == 1 && not (paralysed g.R.Rules.rule men s)) c.in-Some.square
-    (skipped (λ s. bit_at c.args.word s == 1) (λ s. not (paralysed g.R.Rules.rule men s)) c.loop-square.number (64 - c.loop-square.number) c.in-Some.square
+    (NoneBelow-more (λ s. bit_at c.args.word s == 1 && not (is_paralysed g.R.Rules.rule men s)) c.in-Some.square
+    (skipped (λ s. bit_at c.args.word s == 1) (λ s. not (is_paralysed g.R.Rules.rule men s)) c.loop-square.number (64 - c.loop-square.number) c.in-Some.square
     (c.loop-square.invariant men are others) first)
     (and_right (bit_at c.args.word c.in-Some.square == 1) _
     (ap not (sym (c.is_paralysed_after.ensures men are (others.side c.in-Some.square small first.here)) ∙ c.if-not-is_paralysed_after.false))))
 
 pub returns : goal.returns
 returns g c = λ men are others.
-    sym (some_square_false (λ s. bit_at c.args.word s == 1 && not (paralysed g.R.Rules.rule men s)) 64 (omega arith)
-    (skipped_all (λ s. bit_at c.args.word s == 1) (λ s. not (paralysed g.R.Rules.rule men s)) c.loop-square.number (c.loop-square.invariant men are others)
+    sym (some_square_false (λ s. bit_at c.args.word s == 1 && not (is_paralysed g.R.Rules.rule men s)) 64 (omega arith)
+    (skipped_all (λ s. bit_at c.args.word s == 1) (λ s. not (is_paralysed g.R.Rules.rule men s)) c.loop-square.number (c.loop-square.invariant men are others)
     (sym c.next_bit.ensures.value ∙ c.in_default.is)))

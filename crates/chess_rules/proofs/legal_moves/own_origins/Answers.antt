@@ -1,5 +1,5 @@
-use Rattle.chess_rules.proofs.Chess.{legal}
-use Rattle.chess_rules.specs.ties.Idle.{legal-idle}
+use Rattle.chess_rules.proofs.Chess.{is_legal}
+use Rattle.chess_rules.specs.ties.Idle.{is_legal-idle}
 use Rattle.chess_rules.proofs.listing_moves.Walks.{own-origins}
 use Rattle.chess_rules.proofs.legal_moves.own_origins.Goals as goal
 
@@ -7,4 +7,4 @@ pub returns : goal.returns
 returns g c =
     let rule = g.R.Rules.rule in
     let p = c.args.board.now in
-    own-origins rule p (legal rule p) (λ m h. legal-idle rule p m h) c.side.result (rw c.turn.ensures at c.side.ensures)
+    own-origins rule p (is_legal rule p) (λ m h. is_legal-idle rule p m h) c.side.result (rw c.turn.ensures at c.side.ensures)

@@ -1,4 +1,4 @@
-use Rattle.pop_solve.proofs.Words.{Frame, ap, pseudo-from_legal, rules, ◌≡◌}
+use Rattle.pop_solve.proofs.Words.{Frame, ap, is_pseudo_legal-from_legal, rules, ◌≡◌}
 use Rattle.pop_solve.proofs.Seeking as seeking
 use Rattle.pop_solve.proofs.beginnings.seek.Goals as goal
 
@@ -32,7 +32,7 @@ returns-then-len-depth g c = record {
 }
 
 pub play-undo-requires-clause-pseudo : goal.play-undo-requires-clause-pseudo
-play-undo-requires-clause-pseudo g c = search (rules, pseudo-from_legal, c.next_move.ensures.unchanged, c.in-Some-next_move.ensures.next)
+play-undo-requires-clause-pseudo g c = search (rules, is_pseudo_legal-from_legal, c.next_move.ensures.unchanged, c.in-Some-next_move.ensures.next)
 
 pub returns : goal.returns
 returns g c = record {

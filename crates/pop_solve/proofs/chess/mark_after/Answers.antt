@@ -1,8 +1,8 @@
 use Rattle.pop_solve.proofs.Words.{rules}
 use Rattle.pop_solve.specs.Chess.{mark_of}
-use Rattle.chess_rules.specs.Legal.{is_goal, is_stalemate}
+use Rattle.chess_rules.specs.Legal.{is_mate, is_stalemate}
 use Rattle.pop_solve.proofs.chess.mark_after.Goals as goal
 
 pub returns-in-Surely-Stalemate-clause-mark : goal.returns-in-Surely-Stalemate-clause-mark
-unfolding mark_of is_goal is_stalemate
+unfolding mark_of is_mate is_stalemate
 returns-in-Surely-Stalemate-clause-mark g c = search rules

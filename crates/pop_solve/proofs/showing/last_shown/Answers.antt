@@ -1,4 +1,4 @@
-use Rattle.pop_solve.proofs.Words.{ap, arith, length, show, sym, ◌-◌, ◌∙◌}
+use Rattle.pop_solve.proofs.Words.{ap, arith, length, shown_move, sym, ◌-◌, ◌∙◌}
 use Rattle.pop_solve.proofs.Paths as paths
 use Rattle.pop_solve.proofs.showing.last_shown.Goals as goal
 
@@ -21,7 +21,7 @@ play_shown-requires-clause-legal g c =
     let cut = paths.cut-last c.args.frames.now (length c.args.frames.now - 1) c.index-frames-frames.result (omega arith) c.index-frames-frames.is in
     let some = paths.some-taken c.args.frames.now (length c.args.frames.now - 1) (omega arith) (omega arith) in
     let r = paths.back-walking g.R.Rules.rule _ _ _ cut some _ _ _ _ w.2 c.take_back.ensures.before in
-    rw r.board_at (paths.forth-legal g.R.Rules.rule _ _ _ cut some _ w.2.linked)
+    rw r.board_at (paths.forth-is_legal g.R.Rules.rule _ _ _ cut some _ w.2.linked)
 
 pub play_shown-requires-clause-reached : goal.play_shown-requires-clause-reached
 play_shown-requires-clause-reached g c =
@@ -44,5 +44,5 @@ returns-clause-shown g c = λ h p w.
     let cut = paths.cut-last c.args.frames.now (length c.args.frames.now - 1) c.index-frames-frames.result (omega arith) c.index-frames-frames.is in
     let some = paths.some-taken c.args.frames.now (length c.args.frames.now - 1) (omega arith) (omega arith) in
     let r = paths.back-walking g.R.Rules.rule _ _ _ cut some h p _ _ w c.take_back.ensures.before in
-    c.play_shown.ensures.shown ∙ ap (λ b. show c.args.plan.goal g.R.Rules.rule b c.index-frames-frames.result.by) r.board_at
+    c.play_shown.ensures.shown ∙ ap (λ b. shown_move c.args.plan.goal g.R.Rules.rule b c.index-frames-frames.result.by) r.board_at
     ∙ sym (paths.forth-last g.R.Rules.rule _ _ _ cut some c.args.plan.goal p)

@@ -1,5 +1,5 @@
 use Rattle.pop_solve.proofs.Words.{ap, arith, position, refl, reverse, rules, sym, take_all, ◌+◌, ◌∙◌}
-use Rattle.chess_rules.specs.Play.{after as played}
+use Rattle.chess_rules.specs.Play.{position_after}
 use Rattle.pop_solve.proofs.Paths as paths
 use Rattle.pop_solve.proofs.showing.line.Goals as goal
 
@@ -12,7 +12,7 @@ play_shown-requires-clause-legal g c =
     let cut = paths.cut-at c.args.frames.now (c.loop-k.k + 1) c.loop-k.k c.index-frames-k.result refl c.index-frames-k.is c.loop-k-test.true in
     let some = paths.some-taken c.args.frames.now c.loop-k.k c.loop-k.auto.k (omega arith) in
     let at = c.loop-k.invariant.0 w.0 w.1 w.2 in
-    rw at.1 (paths.forth-legal g.R.Rules.rule _ _ _ cut some w.1 (paths.linked-take g.R.Rules.rule w.1 c.args.frames.now (c.loop-k.k + 1) w.2.linked))
+    rw at.1 (paths.forth-is_legal g.R.Rules.rule _ _ _ cut some w.1 (paths.linked-take g.R.Rules.rule w.1 c.args.frames.now (c.loop-k.k + 1) w.2.linked))
 
 pub loop-k-preserved : goal.loop-k-preserved
 loop-k-preserved g c = (
@@ -21,7 +21,7 @@ loop-k-preserved g c = (
       let some = paths.some-taken c.args.frames.now c.loop-k.k c.loop-k.auto.k (omega arith) in
       let at = c.loop-k.invariant.0 h p w in (
         rw (c.push.ensures.items, c.play_shown.ensures.shown, at.0, at.1) (sym (paths.forth-along g.R.Rules.rule _ _ _ cut some c.args.goal p)),
-        c.play_shown.ensures.after ∙ ap (λ b. played g.R.Rules.rule b c.index-frames-k.result.by) at.1 ∙ sym
+        c.play_shown.ensures.after ∙ ap (λ b. position_after g.R.Rules.rule b c.index-frames-k.result.by) at.1 ∙ sym
             (paths.forth-position g.R.Rules.rule _ _ _ cut some p),
       ),
   c.play_shown.ensures.well_formed,

@@ -1,4 +1,4 @@
-use Rattle.pop_solve.proofs.Words.{Frame, None, Some, ap, not, rules, seeks, sym, untried, ◌∙◌, ◌≡◌, ◌⊎◌}
+use Rattle.pop_solve.proofs.Words.{Frame, None, Some, ap, not, rules, seeks, sym, untried_moves, ◌∙◌, ◌≡◌, ◌⊎◌}
 use Rattle.pop_solve.proofs.Tests as test
 use Rattle.pop_solve.proofs.value.turn.Goals as goal
 
@@ -38,7 +38,7 @@ pub returns-in_default-next_tried-clause-next : goal.returns-in_default-next_tri
 returns-in_default-next_tried-clause-next g c = λ p r.
     let seek : c.seeking-seek.result ≡ seeks c.args.aim.battle c.in-Some.top.left = c.seeking-seek.ensures
     ∙ ap (λ (f : Frame). seeks c.args.aim.battle f.left) c.top.view_is in
-    let same = ap (λ (f : Frame). untried g.R.Rules.rule c.args.board.now f) c.top.view_is in
+    let same = ap (λ (f : Frame). untried_moves g.R.Rules.rule c.args.board.now f) c.top.view_is in
     let u : (c.args.answer.now ≡ None) ⊎ (c.args.answer.now ≡ Some (not (seeks c.args.aim.battle c.in-Some.top.left))) = rw (← seek) c.if-decided.ensures in
     test.close_turns g.R.Rules.rule c.args.aim _ _ _ _ c.in-Some.ensures.items c.requires.above _ _ _ _ _ _ _ c.len-depth.ensures.value
     c.close-in_default-next_tried.ensures.lowest c.close-in_default-next_tried.ensures.above c.close-in_default-next_tried.ensures.before _ p

@@ -1,5 +1,5 @@
 use Rattle.pop_solve.proofs.Words.{chess, smallest_tree, tests, value, walk_count, work, ◌+◌}
-use Rattle.chess_rules.specs.Play.{after as played}
+use Rattle.chess_rules.specs.Play.{position_after}
 use Rattle.chess_rules.specs.Legal.{moves as legal_moves}
 use Rattle.pop_solve.proofs.Tests.{IsUnderway}
 use Rattle.pop_solve.proofs.value.value_of.Given as goal
@@ -7,7 +7,7 @@ use Rattle.pop_solve.proofs.value.value_of.Given as goal
 abbrev pub invariant-loop-known : goal.invariant-loop-known
 invariant-loop-known g l = IsUnderway g.R.Rules.rule l.aim l.floor l.fn.board g.row.N
     (value l.aim.battle (chess l.aim.goal g.R.Rules.rule) l.left l.fn.board) l.fn.frames.items l.frames.items l.answer l.board l.opened
-    (l.fn.opened + walk_count (legal_moves g.R.Rules.rule) (played g.R.Rules.rule) l.left l.fn.board)
+    (l.fn.opened + walk_count (legal_moves g.R.Rules.rule) (position_after g.R.Rules.rule) l.left l.fn.board)
     (l.fn.opened + smallest_tree l.aim.battle (chess l.aim.goal g.R.Rules.rule) l.left l.fn.board)
 
 abbrev pub decreases-loop-known : goal.decreases-loop-known

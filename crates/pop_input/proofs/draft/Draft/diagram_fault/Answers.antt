@@ -1,6 +1,6 @@
-use Rattle.pop_input.proofs.Words.{ArePut, ap, has_king_to_mate, in_check, other, rule_of, starts, sym, ◌∙◌, ◌≡◌}
+use Rattle.pop_input.proofs.Words.{ArePut, ap, has_king_to_mate, in_check, other, rule_of, starting_side, sym, ◌∙◌, ◌≡◌}
 use Rattle.pop_input.proofs.Posing.{ill_fault, position_told, shown_men}
-use Rattle.pop_input.proofs.draft.Draft.setup_fault.Goals as goal
+use Rattle.pop_input.proofs.draft.Draft.diagram_fault.Goals as goal
 
 pub returns-then-not-is_well_formed-clause-fault : goal.returns-then-not-is_well_formed-clause-fault
 returns-then-not-is_well_formed-clause-fault c =
@@ -16,6 +16,6 @@ returns-clause-fault c =
     let king : c.has_king_to_mate-has_king.result ≡ has_king_to_mate c.args.stipulation c.args.diagram.now.men = rw (← men)
     c.has_king_to_mate-has_king.ensures in
     let check : c.is_in_check-in_check.result ≡ in_check (rule_of c.args.self.now.condition) c.args.diagram.now.men
-    (other (starts c.args.stipulation.form)) = rw (← condition, ← men, ← c.starts.ensures, ← c.other.ensures) c.is_in_check-in_check.ensures in
+    (other (starting_side c.args.stipulation.form)) = rw (← condition, ← men, ← c.starting_side.ensures, ← c.other.ensures) c.is_in_check-in_check.ensures in
     c.position_fault.ensures ∙ position_told c.args.self.now c.args.stipulation c.args.diagram.now c.requires put
     (sym c.has_men.ensures ∙ c.if-not-has_men.false) c.if-not-is_well_formed.ensures c.has_king_to_mate-has_king.result c.is_in_check-in_check.result king check
