@@ -1,5 +1,5 @@
 -- What the clause of the exit status excludes: an output's failure told as another end, and ends told alike.
-use Rattle.std.proofs.Common.{Bool, None, Some, true, false, ℕ, refl, ◌≡◌, ◌≢◌}
+use Rattle.std.proofs.Common.{Some, false, refl, true, ℕ, ◌≡◌, ◌≢◌}
 use Rattle.pop_run.specs.declared.status.Status.{Status}
 use Rattle.pop_run.specs.declared.status.Status.TheVariants.{Sound, Faulty, InputFailed, OutputFailed}
 use Rattle.pops.specs.ExitStatus.{exit_status_of}

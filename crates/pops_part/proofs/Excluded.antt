@@ -1,9 +1,7 @@
 -- What the clauses of the program exclude: other parts than those named, and ends told alike.
 use Rattle.std.proofs.Common.{[], refl, ◌≡◌, ◌≢◌}
 use Rattle.pop_solve.specs.declared.event.Phase.TheVariants.{Set, Play}
-use Rattle.pop_parts.specs.declared.asked.Asked.{Asked}
 use Rattle.pop_parts.specs.declared.asked.Outcome.{Outcome}
-use Rattle.pop_settings.specs.declared.pops_part.settings.NamedParts.{NamedParts}
 use Rattle.pop_settings.specs.declared.pops_part.settings.PhaseName.TheVariants.{Set as SetName, Play as PlayName}
 use Rattle.pops_part.specs.ExitStatus.{message_of, status_of}
 use Rattle.pops_part.specs.Runs.{asked_for}
