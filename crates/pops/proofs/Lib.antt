@@ -1,2 +1,1 @@
 pub mod Excluded
-pub mod Basics

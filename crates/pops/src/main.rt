@@ -1,9 +1,7 @@
 //! Popeye in a named profile: reads chess problems and reports their solutions.
 #![tactic(auto)]
 
-pub mod command_line;
 pub mod program;
-pub mod settings;
 #[cfg(test)]
 mod tests;
 

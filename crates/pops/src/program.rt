@@ -2,11 +2,12 @@
 ghost use Rattle.std.specs.Prelude.{◌≡◌, ◌≤◌};
 ghost use Rattle.pops.specs.ExitStatus.{exit_status_of};
 
-use crate::command_line::settings;
-use crate::settings::{ArgFault, Settings};
 use pop_run::run::run;
 use pop_run::settings::Settings as Choice;
 use pop_run::status::Status;
+use pop_settings::arg_fault::ArgFault;
+use pop_settings::pops::command_line::settings;
+use pop_settings::pops::settings::Settings;
 use pop_text::read_source::ReadSource;
 use pop_text::write_sink::WriteSink;
 use std::fs;

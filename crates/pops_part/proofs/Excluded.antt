@@ -1,52 +1,23 @@
--- What the clauses of the settings exclude: settings that others' words choose, and a refusal of words that are of one of the forms.
-use Rattle.pops_part.proofs.Basics.{IsSettings, List, None, Some, Text, [], codes, command, inl, inr, matches_of, refl, refusals, sym, takes, true, wanted_by, ◌∙◌, ◌≡◌}
-use Rattle.std.specs.Prelude.{is_some}
-use Rattle.pop_solve.specs.declared.event.Phase.TheVariants.{Set}
-unfoldable use Rattle.pops_part.specs.Numbers.{depth_in, number_in, phase_in, range_in}
-use Rattle.pops_part.specs.CommandLine.{IsMemoryIfTaken, IsUsageIfRefused}
-use Rattle.pops_part.specs.declared.settings.ArgFault.TheVariants.{Usage}
-use Rattle.pops_part.specs.declared.settings.Settings.{Settings}
-use Rattle.pops_part.specs.declared.settings.Wanted.{Wanted}
+-- What the clauses of the program exclude: other parts than those named, and ends told alike.
+use Rattle.std.proofs.Common.{[], refl, ◌≡◌, ◌≢◌}
+use Rattle.pop_solve.specs.declared.event.Phase.TheVariants.{Set, Play}
+use Rattle.pop_parts.specs.declared.asked.Outcome.{Outcome}
+use Rattle.pop_settings.specs.declared.pops_part.settings.PhaseName.TheVariants.{Set as SetName, Play as PlayName}
+use Rattle.pops_part.specs.ExitStatus.{message_of, status_of}
+use Rattle.pops_part.specs.Runs.{asked_for}
+use Rattle.pops_part.specs.declared.program.Ending.TheVariants.{Done, Faulty, Refused, InputFailed, OutputFailed}
 
--- words want one thing alone
-pub nothing_else_wanted : (words : List Text) (s t : Settings) → IsSettings words s → IsSettings words t → s.wanted ≡ t.wanted
-nothing_else_wanted words s t one other = let same : Some s.wanted ≡ Some t.wanted = sym one.wanted ∙ other.wanted in cc
+-- the parts asked for are those named
+pub parts_asked_for : (asked_for (record { item = 2; phase = SetName; first = 3; last = 5; depth = 1 })
+    ≡ record { item = 2; phase = Set; first = 3; last = 5; depth = 1 })
+    × (asked_for (record { item = 1; phase = PlayName; first = 7; last = 7; depth = 4 }) ≡ record { item = 1; phase = Play; first = 7; last = 7; depth = 4 })
+parts_asked_for = (refl, refl)
 
--- words of one of the forms that the command takes aren't told as wrong, and no words are without a cause
-pub taken_words_are_right : (words : List Text) → takes command words ≡ true → is_some (wanted_by (matches_of command words)) ≡ true
-    → IsMemoryIfTaken words Usage → ⊥
-taken_words_are_right words right meant told = let wrong = told right meant in cc
+-- the statuses
+pub statuses : (outcome : Outcome) → (status_of Done ≡ 0) × (status_of Faulty ≡ 1) × (status_of (Refused outcome) ≡ 2) × (status_of InputFailed ≡ 3)
+    × (status_of OutputFailed ≡ 3)
+statuses outcome = (refl, refl, refl, refl, refl)
 
-pub refused_words_are_wrong : (words : List Text) (wanted : Wanted) → refusals words ≡ [] → wanted_by (matches_of command words) ≡ Some wanted
-    → IsUsageIfRefused words Usage → ⊥
-refused_words_are_wrong words wanted none meant told = elim (told refl) [
-  | inl some ↦ absurd (some none)
-  | inr neither ↦ absurd (let wrong : Some wanted ≡ None = sym meant ∙ neither in cc)
-]
-
--- numbers, ranges, depths and phases as they are written
-numbers : (number_in (codes "0") ≡ Some 0) × (number_in (codes "007") ≡ Some 7) × (number_in (codes "999999999999999999") ≡ Some 999999999999999999)
-unfolding number_in
-numbers = (refl, refl, refl)
-
-no_numbers : (number_in [] ≡ None) × (number_in (codes "1x") ≡ None) × (number_in (codes "+1") ≡ None) × (number_in (codes "1000000000000000000") ≡ None)
-unfolding number_in
-no_numbers = (refl, refl, refl, refl)
-
-ranges : (range_in (codes "7") ≡ Some (record { first = 7; last = 7 })) × (range_in (codes "1..19") ≡ Some (record { first = 1; last = 19 }))
-unfolding number_in range_in
-ranges = (refl, refl)
-
-no_ranges : (range_in (codes "2..1") ≡ None) × (range_in (codes "1..") ≡ None) × (range_in (codes "..1") ≡ None) × (range_in (codes "1.2") ≡ None)
-    × (range_in (codes "1...2") ≡ None)
-unfolding number_in range_in
-no_ranges = (refl, refl, refl, refl, refl)
-
-depths : (depth_in (codes "1") ≡ Some 1) × (depth_in (codes "4") ≡ Some 4) × (depth_in (codes "5") ≡ None) × (depth_in (codes "0") ≡ None)
-    × (depth_in (codes "11") ≡ None)
-unfolding depth_in
-depths = (refl, refl, refl, refl, refl)
-
-phases : (phase_in (codes "set") ≡ Some Set) × (phase_in (codes "Set") ≡ None)
-unfolding phase_in
-phases = (refl, refl)
+-- something is told of an output that failed
+pub failed_output_told : message_of OutputFailed ≢ []
+failed_output_told e = cc

@@ -1,3 +1,1 @@
-pub mod Basics
 pub mod Excluded
-pub mod Numbers

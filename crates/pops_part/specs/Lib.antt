@@ -1,4 +1,2 @@
-pub mod Numbers
-pub mod CommandLine
 pub mod ExitStatus
 pub mod Runs

@@ -7,18 +7,39 @@ use Rattle.pop_parts.specs.Parts.{list_text, outcome_of, text_of}
 use Rattle.pops_part.specs.ExitStatus.{ending_of_list, ending_of_parts}
 use Rattle.pops_part.specs.declared.program.Ending.{Ending}
 use Rattle.pops_part.specs.declared.program.Ending.TheVariants.{OutputFailed}
-use Rattle.pops_part.specs.declared.settings.Wanted.{Wanted}
-use Rattle.pops_part.specs.declared.settings.Wanted.TheVariants.{List as ListOf, Parts}
+use Rattle.pop_solve.specs.declared.event.Phase.{Phase}
+use Rattle.pop_solve.specs.declared.event.Phase.TheVariants.{Set, Play}
+use Rattle.pop_parts.specs.declared.asked.Asked.{Asked}
+use Rattle.pop_settings.specs.declared.pops_part.settings.NamedParts.{NamedParts}
+use Rattle.pop_settings.specs.declared.pops_part.settings.PhaseName.{PhaseName}
+use Rattle.pop_settings.specs.declared.pops_part.settings.PhaseName.TheVariants.{Set as SetName, Play as PlayName}
+use Rattle.pop_settings.specs.declared.pops_part.settings.Wanted.{Wanted}
+use Rattle.pop_settings.specs.declared.pops_part.settings.Wanted.TheVariants.{List as ListOf, Parts}
+
+-- the phase of a name
+abbrev pub phase_named : PhaseName → Phase
+phase_named SetName = Set
+phase_named PlayName = Play
+
+-- what is asked where parts are named so
+abbrev pub asked_for : NamedParts → Asked
+asked_for named = record {
+  item = named.item;
+  phase = phase_named named.phase;
+  first = named.first;
+  last = named.last;
+  depth = named.depth;
+}
 
 -- the text that is wanted of an input: the list of its parts, or the text of those asked for
 abbrev pub text_wanted : Wanted → Input → List ℕ
 text_wanted (ListOf depth) input = list_text depth input
-text_wanted (Parts asked) input = text_of asked input
+text_wanted (Parts named) input = text_of (asked_for named) input
 
 -- how a run over an input ends that can be written
 abbrev pub ending_wanted : Wanted → Input → Ending
 ending_wanted (ListOf depth) input = ending_of_list (status input)
-ending_wanted (Parts asked) input = ending_of_parts (outcome_of asked input)
+ending_wanted (Parts named) input = ending_of_parts (outcome_of (asked_for named) input)
 
 -- The text is written, and how it ends answered. Where the sink failed, a beginning is written.
 abbrev pub Answers : Wanted → Input → Option (List ℕ) → Option (List ℕ) → Bool → Ending → Type 0

@@ -1,10 +1,7 @@
 //! Lists the parts of the phases of chess problems and reports the solutions of some of them.
 #![tactic(auto)]
 
-pub mod command_line;
 pub mod program;
-pub mod settings;
-pub mod values;
 
 use program::program as run_program;
 use std::process::ExitCode;

@@ -2,16 +2,18 @@
 ghost use Rattle.std.specs.Prelude.{◌≡◌, ◌<◌, ◌≤◌, IfSome};
 ghost use Rattle.pop_text.specs.Bytes.{greatest_count};
 ghost use Rattle.pop_run.specs.Run.{FailsOnce, grew, input_met};
-ghost use Rattle.pops_part.specs.CommandLine.{IsDeep};
+ghost use Rattle.pop_settings.specs.pops_part.CommandLine.{IsDeep};
 ghost use Rattle.pops_part.specs.ExitStatus.{ending_flushed, ending_of_list, ending_of_parts, message_of, status_of};
-ghost use Rattle.pops_part.specs.Runs.{Answers};
+ghost use Rattle.pops_part.specs.Runs.{Answers, asked_for, phase_named};
 
-use crate::command_line::settings;
-use crate::settings::{ArgFault, Settings, Wanted};
-use pop_parts::asked::Outcome;
+use pop_parts::asked::{Asked, Outcome};
 use pop_parts::list::list_parts;
 use pop_parts::show::show_parts;
 use pop_run::status::Status;
+use pop_settings::arg_fault::ArgFault;
+use pop_settings::pops_part::command_line::settings;
+use pop_settings::pops_part::settings::{NamedParts, PhaseName, Settings, Wanted};
+use pop_solve::event::Phase;
 use pop_text::read_source::ReadSource;
 use pop_text::sink::Sink;
 use pop_text::source::Source;
@@ -117,7 +119,30 @@ fn answer<S: Source, W: Sink>(wanted: &Wanted, source: &mut S, sink: &mut W) -> 
 {
     match wanted {
         Wanted::List { depth } => ending_of_list(list_parts(*depth, source, sink)),
-        Wanted::Parts(asked) => ending_of_parts(show_parts(asked, source, sink)),
+        Wanted::Parts(named) => ending_of_parts(show_parts(&asked_for(named), source, sink)),
+    }
+}
+
+// What is asked of the item where parts of it are named so.
+fn asked_for(named: &NamedParts) -> Asked
+    ensures { result ≡ asked_for named.now }
+{
+    Asked {
+        item: named.item,
+        phase: phase_named(named.phase),
+        first: named.first,
+        last: named.last,
+        depth: named.depth,
+    }
+}
+
+// The phase of a name.
+fn phase_named(name: PhaseName) -> Phase
+    ensures { result ≡ phase_named name }
+{
+    match name {
+        PhaseName::Set => Phase::Set,
+        PhaseName::Play => Phase::Play,
     }
 }
 

@@ -1,0 +1,66 @@
+-- What the clauses of the settings exclude: settings that others' words choose, flags that weren't given, and a refusal of words that are right.
+use Rattle.pop_settings.proofs.Basics.{List, None, Some, Text, [], codes, false, inl, inr, matches_of, one_of, refl, sym, takes, true, ◌∙◌, ◌≡◌}
+use Rattle.std.specs.Prelude.{is_some}
+use Rattle.pop_settings.specs.pops.CommandLine as pops
+use Rattle.pop_settings.specs.pops_part.CommandLine as part
+unfoldable use Rattle.pop_settings.specs.pops_part.Numbers.{depth_in, number_in, phase_in, range_in}
+use Rattle.pop_settings.specs.declared.arg_fault.ArgFault.TheVariants.{Usage}
+use Rattle.pop_settings.specs.declared.pops.settings.Settings.{Settings as PopsSettings}
+use Rattle.pop_settings.specs.declared.pops_part.settings.PhaseName.TheVariants.{Set}
+use Rattle.pop_settings.specs.declared.pops_part.settings.Settings.{Settings as PartSettings}
+use Rattle.pop_settings.specs.declared.pops_part.settings.Wanted.{Wanted}
+
+-- `pops`: a flag is set exactly where it was given
+pub no_other_flag : (words : List Text) (s : PopsSettings) → one_of (codes "check") (matches_of pops.command words) ≡ None
+    → one_of (codes "no-board") (matches_of pops.command words) ≡ Some (codes "true") → pops.IsSettings words s → (s.check ≡ false) × (s.no_board ≡ true)
+no_other_flag words s absent given is = (is.check.absent absent, is.no_board.set given)
+
+-- words that the command takes aren't told as wrong, and words that it refuses aren't told as wrong without a cause
+pub taken_words_are_right : (words : List Text) → takes pops.command words ≡ true → pops.IsMemoryIfTaken words Usage → ⊥
+taken_words_are_right words right told = let wrong = told right in cc
+
+pub refused_words_are_wrong : (words : List Text) → pops.refusals words ≡ [] → pops.IsUsageIfRefused words Usage → ⊥
+refused_words_are_wrong words none told = absurd (told refl none)
+
+-- `pops-part`: words want one thing alone
+pub nothing_else_wanted : (words : List Text) (s t : PartSettings) → part.IsSettings words s → part.IsSettings words t → s.wanted ≡ t.wanted
+nothing_else_wanted words s t one other = let same : Some s.wanted ≡ Some t.wanted = sym one.wanted ∙ other.wanted in cc
+
+-- words of one of the forms that the command takes aren't told as wrong, and no words are without a cause
+pub words_of_a_form_are_right : (words : List Text) → takes part.command words ≡ true → is_some (part.wanted_by (matches_of part.command words)) ≡ true
+    → part.IsMemoryIfTaken words Usage → ⊥
+words_of_a_form_are_right words right meant told = let wrong = told right meant in cc
+
+pub words_of_no_form_are_wrong : (words : List Text) (wanted : Wanted) → part.refusals words ≡ []
+    → part.wanted_by (matches_of part.command words) ≡ Some wanted → part.IsUsageIfRefused words Usage → ⊥
+words_of_no_form_are_wrong words wanted none meant told = elim (told refl) [
+  | inl some ↦ absurd (some none)
+  | inr neither ↦ absurd (let wrong : Some wanted ≡ None = sym meant ∙ neither in cc)
+]
+
+-- numbers, ranges, depths and phases as they are written
+numbers : (number_in (codes "0") ≡ Some 0) × (number_in (codes "007") ≡ Some 7) × (number_in (codes "999999999999999999") ≡ Some 999999999999999999)
+unfolding number_in
+numbers = (refl, refl, refl)
+
+no_numbers : (number_in [] ≡ None) × (number_in (codes "1x") ≡ None) × (number_in (codes "+1") ≡ None) × (number_in (codes "1000000000000000000") ≡ None)
+unfolding number_in
+no_numbers = (refl, refl, refl, refl)
+
+ranges : (range_in (codes "7") ≡ Some (record { first = 7; last = 7 })) × (range_in (codes "1..19") ≡ Some (record { first = 1; last = 19 }))
+unfolding number_in range_in
+ranges = (refl, refl)
+
+no_ranges : (range_in (codes "2..1") ≡ None) × (range_in (codes "1..") ≡ None) × (range_in (codes "..1") ≡ None) × (range_in (codes "1.2") ≡ None)
+    × (range_in (codes "1...2") ≡ None)
+unfolding number_in range_in
+no_ranges = (refl, refl, refl, refl, refl)
+
+depths : (depth_in (codes "1") ≡ Some 1) × (depth_in (codes "4") ≡ Some 4) × (depth_in (codes "5") ≡ None) × (depth_in (codes "0") ≡ None)
+    × (depth_in (codes "11") ≡ None)
+unfolding depth_in
+depths = (refl, refl, refl, refl, refl)
+
+phases : (phase_in (codes "set") ≡ Some Set) × (phase_in (codes "Set") ≡ None)
+unfolding phase_in
+phases = (refl, refl)

@@ -1,0 +1,4 @@
+pub mod Basics
+pub mod Matching
+pub mod Numbers
+pub mod Excluded

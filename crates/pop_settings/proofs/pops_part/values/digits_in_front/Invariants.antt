@@ -1,0 +1,14 @@
+use Rattle.std.proofs.Common.{drop, length, ◌+◌, ◌-◌, ◌≡◌, ◌≤◌}
+use Rattle.std.specs.List.{prefix_len}
+use Rattle.pop_settings.specs.pops_part.Numbers.{is_digit}
+use Rattle.pop_settings.proofs.pops_part.values.digits_in_front.Given as goal
+
+-- up to the place stand digits alone
+abbrev pub invariant-digits : goal.invariant-digits
+invariant-digits l = record {
+  front : prefix_len is_digit l.text ≡ l.at + prefix_len is_digit (drop l.at l.text);
+  within : l.at ≤ length l.text;
+}
+
+abbrev pub decreases-digits : goal.decreases-digits
+decreases-digits l = length l.text - l.at

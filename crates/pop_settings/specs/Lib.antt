@@ -1,0 +1,3 @@
+pub mod Commands
+pub mod pops
+pub mod pops_part

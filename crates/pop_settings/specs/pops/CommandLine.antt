@@ -1,0 +1,48 @@
+-- The command line `pops [--check] [--no-board] [FILE]`, and the settings of its words (own).
+use Rattle.std.specs.Prelude.{◌≡◌, ◌≢◌, List, [], codes, Option, Some, None, Bool, true, false, option_map, string_bytes}
+use Rattle.clap.specs.Walk.{Rule, Text, first_of, one_of}
+use Rattle.clap.specs.Simple.{App, new_app, new_rule, with_rule, matches_of}
+use Rattle.clap.specs.Faults.{fault_of}
+use Rattle.clap.specs.Takes.{takes}
+use Rattle.clap.specs.Kinds.{Kinds}
+use Rattle.pop_settings.specs.Commands.{flag}
+use Rattle.pop_settings.specs.declared.arg_fault.ArgFault.{ArgFault}
+use Rattle.pop_settings.specs.declared.arg_fault.ArgFault.TheVariants.{Usage, Memory}
+use Rattle.pop_settings.specs.declared.pops.settings.Settings.{Settings}
+
+-- the option --check
+abbrev pub check : Rule
+check = flag (codes "check")
+
+-- the option --no-board
+abbrev pub no_board : Rule
+no_board = flag (codes "no-board")
+
+-- pops [--check] [--no-board] [FILE]
+abbrev pub command : App
+command = with_rule (with_rule (with_rule (new_app (codes "pops")) check) no_board)
+    (new_rule (codes "file"))
+
+-- a flag as clap reads its text
+pub record IsFlag (text : Option Text) (flag : Bool) : Type 0 where
+  pub absent : text ≡ None → flag ≡ false
+  pub set : text ≡ Some (codes "true") → flag ≡ true
+  pub unset : text ≡ Some (codes "false") → flag ≡ false
+
+-- the settings are the matches that clap defines for the words, of which the first is the program's name
+pub record IsSettings (words : List Text) (s : Settings) : Type 0 where
+  pub file : option_map string_bytes s.file ≡ first_of (codes "file") (matches_of command words)
+  pub check : IsFlag (one_of (codes "check") (matches_of command words)) s.check
+  pub no_board : IsFlag (one_of (codes "no-board") (matches_of command words)) s.no_board
+
+-- the kinds of error that clap may give at the words for another cause than memory: none where it takes them
+abbrev pub refusals : List Text → Kinds
+refusals words = fault_of command words
+
+-- words that the command takes are refused for want of memory alone
+abbrev pub IsMemoryIfTaken : List Text → ArgFault → Type 0
+IsMemoryIfTaken words fault = takes command words ≡ true → fault ≡ Memory
+
+-- words are told as wrong only where the command refuses them
+abbrev pub IsUsageIfRefused : List Text → ArgFault → Type 0
+IsUsageIfRefused words fault = fault ≡ Usage → refusals words ≢ []

@@ -1,0 +1,102 @@
+-- The command lines of `pops-part`, and the settings of their words (own).
+use Rattle.std.specs.Prelude.{◌≡◌, ◌≢◌, ◌⊎◌, ◌||◌, ◌≤◌, ℕ, Bool, true, false, if◌then◌else◌, List, [], codes, Option, Some, None, is_some, option_map, option_and_then, string_bytes}
+use Rattle.std.specs.Option.{option_map_or}
+use Rattle.std.specs.Str.{bytes_eq}
+use Rattle.clap.specs.Walk.{Row, Text, first_of}
+use Rattle.clap.specs.Simple.{App, new_app, new_rule, with_rule, matches_of}
+use Rattle.clap.specs.Faults.{fault_of}
+use Rattle.clap.specs.Takes.{takes}
+use Rattle.clap.specs.Kinds.{Kinds}
+use Rattle.pop_settings.specs.Commands.{flag, option_with_value}
+use Rattle.pop_settings.specs.pops_part.Numbers.{depth_in, number_in, phase_in, range_in}
+use Rattle.pop_settings.specs.declared.arg_fault.ArgFault.{ArgFault}
+use Rattle.pop_settings.specs.declared.arg_fault.ArgFault.TheVariants.{Usage, Memory}
+use Rattle.pop_settings.specs.declared.pops_part.settings.PhaseName.{PhaseName}
+use Rattle.pop_settings.specs.declared.pops_part.settings.Settings.{Settings}
+use Rattle.pop_settings.specs.declared.pops_part.settings.Wanted.{Wanted}
+use Rattle.pop_settings.specs.declared.pops_part.settings.Wanted.TheVariants.{List as ListOf, Parts}
+use Rattle.pop_settings.specs.declared.pops_part.values.Range.{Range}
+
+-- pops-part [--list] [--depth D] [--item I] [--phase P] [--part A[..B]] [FILE]
+unfoldable pub command : App
+command = with_rule (with_rule (with_rule (with_rule (with_rule (with_rule
+    (new_app (codes "pops-part")) (flag (codes "list"))) (option_with_value (codes "depth")))
+    (option_with_value (codes "item")))
+    (option_with_value (codes "phase"))) (option_with_value (codes "part")))
+    (new_rule (codes "file"))
+
+-- the flag --list is there: clap then gives it the text `true`
+abbrev pub is_listing : List Row → Bool
+is_listing rows = option_map_or (bytes_eq (codes "true")) (first_of (codes "list") rows) false
+
+-- an option is there
+abbrev pub is_given : Text → List Row → Bool
+is_given name rows = is_some (first_of name rows)
+
+-- an option is there that names parts
+abbrev pub has_others : List Row → Bool
+has_others rows = is_given (codes "item") rows
+    || (is_given (codes "phase") rows || is_given (codes "part") rows)
+
+-- how many moves tell parts apart: 1 where nothing is said
+abbrev pub depth_said : Option Text → Option ℕ
+depth_said None = Some 1
+depth_said (Some text) = depth_in text
+
+-- the list, which none of the other options may stand beside
+abbrev pub list_wanted : Bool → Option ℕ → Option Wanted
+list_wanted true depth = None
+list_wanted false depth = option_map ListOf depth
+
+-- the parts that the options name, where each is there and can be read
+abbrev pub parts_wanted : Option ℕ → Option PhaseName → Option Range → Option ℕ → Option Wanted
+parts_wanted (Some item) (Some phase) (Some range) (Some depth) = Some (Parts (record {
+  item = item;
+  phase = phase;
+  first = range.first;
+  last = range.last;
+  depth = depth;
+}))
+parts_wanted _ _ _ _ = None
+
+-- what the words want, by clap's matches of them; none where they are of neither form
+unfoldable pub wanted_by : List Row → Option Wanted
+wanted_by rows = if is_listing rows
+    then list_wanted (has_others rows) (depth_said (first_of (codes "depth") rows))
+    else parts_wanted (option_and_then number_in (first_of (codes "item") rows))
+    (option_and_then phase_in (first_of (codes "phase") rows))
+    (option_and_then range_in (first_of (codes "part") rows))
+    (depth_said (first_of (codes "depth") rows))
+
+-- the settings are those that clap's matches choose
+pub record IsChosen (rows : List Row) (s : Settings) : Type 0 where
+  pub file : option_map string_bytes s.file ≡ first_of (codes "file") rows
+  pub wanted : wanted_by rows ≡ Some s.wanted
+
+-- the settings are those of the words, of which the first is the program's name
+abbrev pub IsSettings : List Text → Settings → Type 0
+IsSettings words = IsChosen (matches_of command words)
+
+-- what is told where there are no settings though clap took the words: by whether they are of one of the forms
+abbrev pub fault_by : Option Wanted → ArgFault
+fault_by None = Usage
+fault_by (Some wanted) = Memory
+
+-- the kinds of error that clap may give at the words for another cause than memory: none where it takes them
+abbrev pub refusals : List Text → Kinds
+refusals words = fault_of command words
+
+-- words that the command takes, and that are of one of its forms, are refused for want of memory alone
+abbrev pub IsMemoryIfTaken : List Text → ArgFault → Type 0
+IsMemoryIfTaken words fault = takes command words ≡ true
+    → is_some (wanted_by (matches_of command words)) ≡ true → fault ≡ Memory
+
+-- words are told as wrong only where the command refuses them or they are of neither form
+abbrev pub IsUsageIfRefused : List Text → ArgFault → Type 0
+IsUsageIfRefused words fault = fault ≡ Usage
+    → (refusals words ≢ []) ⊎ (wanted_by (matches_of command words) ≡ None)
+
+-- at least one move tells parts apart
+abbrev pub IsDeep : Wanted → Type 0
+IsDeep (ListOf depth) = 1 ≤ depth
+IsDeep (Parts asked) = 1 ≤ asked.depth

@@ -1,0 +1,3 @@
+//! The settings of `pops`.
+pub mod command_line;
+pub mod settings;

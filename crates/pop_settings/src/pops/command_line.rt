@@ -1,0 +1,59 @@
+//! The command line `pops [--check] [--no-board] [FILE]`.
+ghost use Rattle.std.specs.Prelude.{◌≡◌, ◌≢◌, IfErr, IfOk, [], true, map};
+ghost use Rattle.clap.specs.Values.{kind_of};
+ghost use Rattle.clap.specs.Walk.{rows_of};
+ghost use Rattle.clap.specs.Matches.{found_of};
+ghost use Rattle.clap.specs.Simple.{matches_of};
+ghost use Rattle.clap.specs.Takes.{takes};
+ghost use Rattle.clap.specs.Kinds.{FailsBy};
+ghost use Rattle.pop_settings.specs.pops.CommandLine.{command, refusals, IsMemoryIfTaken, IsSettings, IsUsageIfRefused};
+
+use crate::arg_fault::{ArgFault, fault_told};
+use crate::commands::{with_flag, with_value};
+use crate::pops::settings::Settings;
+use clap::error::ErrorKind;
+use clap::{ArgMatches, Command, Error};
+use std::alloc::Global;
+
+/// The settings of the words, of which the first is the program's name.
+///
+/// `Usage` is all that clap refuses for another cause than memory: an unknown option, an option given twice, a
+/// second FILE, `--help`. `Memory` comes where a growth was refused, whatever the words.
+pub fn settings(alloc: Global, words: &[&str]) -> Result<Settings, ArgFault>
+    ensures chosen { IfOk result (IsSettings (map (λ s. s.now) words.now)) }
+    ensures memory { IfErr result (IsMemoryIfTaken (map (λ s. s.now) words.now)) }
+    ensures taken { IfOk result (λ s. refusals (map (λ s. s.now) words.now) ≡ []) }
+    ensures usage { IfErr result (IsUsageIfRefused (map (λ s. s.now) words.now)) }
+{
+    let matches = match matched(alloc, words) {
+        Ok(matches) => matches,
+        Err(error) => return Err(fault_told(&error)),
+    };
+    let file = match matches.get_str("file") {
+        Some(file) => match String::from_str(alloc, file) {
+            Ok(file) => Some(file),
+            Err(_) => return Err(ArgFault::Memory),
+        },
+        None => None,
+    };
+    Ok(Settings {
+        file,
+        check: matches.get_flag("check"),
+        no_board: matches.get_flag("no-board"),
+    })
+}
+
+// The words as clap matches them.
+fn matched<'a>(alloc: Global, words: &'a [&'a str]) -> Result<ArgMatches<'a>, Error>
+    ensures rows { IfOk result (λ m. rows_of (found_of m)
+        ≡ matches_of command (map (λ s. s.now) words.now)) }
+    ensures passes { IfErr result (λ e. takes command (map (λ s. s.now) words.now) ≡ true
+        → kind_of e ≡ ErrorKind.OutOfMemory) }
+    ensures kinds { FailsBy (refusals (map (λ s. s.now) words.now)) result }
+{
+    let command = Command::new(alloc, "pops");
+    let command = with_flag(command, alloc, "check")?;
+    let command = with_flag(command, alloc, "no-board")?;
+    let command = with_value(command, alloc, "file")?;
+    command.try_get_matches_from(words)
+}

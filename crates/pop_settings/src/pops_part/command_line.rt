@@ -1,0 +1,167 @@
+//! The command lines `pops-part --list [--depth D] [FILE]` and
+//! `pops-part --item I --phase set|play --part A[..B] [--depth D] [FILE]`.
+ghost use Rattle.std.specs.Prelude.{◌≡◌, ◌≢◌, ◌≤◌, ◌||◌, IfErr, IfOk, IfSome, [], codes, false, is_some, map, option_and_then, option_map, true};
+ghost use Rattle.std.specs.Option.{option_map_or};
+ghost use Rattle.std.specs.Str.{bytes_eq};
+ghost use Rattle.clap.specs.Values.{kind_of};
+ghost use Rattle.clap.specs.Walk.{first_of, rows_of};
+ghost use Rattle.clap.specs.Matches.{found_of};
+ghost use Rattle.clap.specs.Simple.{matches_of};
+ghost use Rattle.clap.specs.Takes.{takes};
+ghost use Rattle.clap.specs.Kinds.{FailsBy};
+ghost use Rattle.pop_settings.specs.pops_part.CommandLine.{command, depth_said, fault_by, list_wanted, parts_wanted, refusals, wanted_by, IsChosen, IsDeep, IsMemoryIfTaken, IsSettings, IsUsageIfRefused};
+ghost use Rattle.pop_settings.specs.pops_part.Numbers.{number_in, phase_in, range_in};
+
+use crate::arg_fault::{ArgFault, fault_told};
+use crate::commands::{with_flag, with_option, with_value};
+use crate::pops_part::settings::{NamedParts, Settings, Wanted};
+use crate::pops_part::values::{depth_of, number_of, phase_of, range_of};
+use clap::error::ErrorKind;
+use clap::{ArgMatches, Command, Error};
+use std::alloc::Global;
+
+/// The settings of the words, of which the first is the program's name.
+///
+/// `Usage` is all that clap refuses for another cause than memory, and words of neither form. `Memory` comes where a
+/// growth was refused, whatever the words.
+pub fn settings(alloc: Global, words: &[&str]) -> Result<Settings, ArgFault>
+    ensures chosen { IfOk result (IsSettings (map (λ s. s.now) words.now)) }
+    ensures memory { IfErr result (IsMemoryIfTaken (map (λ s. s.now) words.now)) }
+    ensures taken { IfOk result (λ s. refusals (map (λ s. s.now) words.now) ≡ []) }
+    ensures usage { IfErr result (IsUsageIfRefused (map (λ s. s.now) words.now)) }
+    ensures deep { IfOk result (λ s. IsDeep s.wanted) }
+{
+    match matched(alloc, words) {
+        Ok(matches) => chosen(alloc, &matches),
+        Err(error) => Err(fault_told(&error)),
+    }
+}
+
+// What the options choose: the settings, or `Usage` where they are of neither form, or `Memory`.
+fn chosen(alloc: Global, matches: &ArgMatches<'_>) -> Result<Settings, ArgFault>
+    ensures chosen { IfOk result (IsChosen (rows_of (found_of matches.now))) }
+    ensures refused { IfErr result (λ fault.
+        fault ≡ fault_by (wanted_by (rows_of (found_of matches.now)))) }
+    ensures deep { IfOk result (λ s. IsDeep s.wanted) }
+{
+    let Some(wanted) = wanted_of(matches) else {
+        return Err(ArgFault::Usage);
+    };
+    let file = match text_of(matches, "file") {
+        Some(file) => match String::from_str(alloc, file) {
+            Ok(file) => Some(file),
+            Err(_) => return Err(ArgFault::Memory),
+        },
+        None => None,
+    };
+    Ok(Settings { file, wanted })
+}
+
+// What the options want, where they are of one of the two forms.
+#[tactic(auto, unfolding(crate::specs::pops_part::CommandLine::wanted_by))]
+fn wanted_of(matches: &ArgMatches<'_>) -> Option<Wanted>
+    ensures value { result ≡ wanted_by (rows_of (found_of matches.now)) }
+    ensures deep { IfSome result IsDeep }
+{
+    let depth = depth_told(text_of(matches, "depth"));
+    let item = text_of(matches, "item");
+    let phase = text_of(matches, "phase");
+    let part = text_of(matches, "part");
+    if is_listing(text_of(matches, "list")) {
+        list_of(is_any(item, phase, part), depth)
+    } else {
+        parts_of(item, phase, part, depth)
+    }
+}
+
+// The text that stands for a name.
+fn text_of<'a>(matches: &ArgMatches<'a>, name: &str) -> Option<&'a str>
+    ensures { option_map (λ s. s.now) result ≡ first_of name.now (rows_of (found_of matches.now)) }
+{
+    matches.get_str(name)
+}
+
+// Whether one of these options is there.
+fn is_any(item: Option<&str>, phase: Option<&str>, part: Option<&str>) -> bool
+    ensures { result ≡ (is_some (option_map (λ s. s.now) item.entry)
+        || (is_some (option_map (λ s. s.now) phase.entry)
+        || is_some (option_map (λ s. s.now) part.entry))) }
+{
+    item.is_some() || phase.is_some() || part.is_some()
+}
+
+// Whether the flag of a list is there, by its text.
+fn is_listing(list: Option<&str>) -> bool
+    ensures { result ≡ option_map_or (bytes_eq (codes "true")) (option_map (λ s. s.now) list.entry) false }
+{
+    match list {
+        Some(text) => "true" == text,
+        None => false,
+    }
+}
+
+// How many moves tell parts apart, by what is said of it.
+fn depth_told(said: Option<&str>) -> Option<usize>
+    ensures value { result ≡ depth_said (option_map (λ s. s.now) said.entry) }
+    ensures range { IfSome result (λ depth. 1 ≤ depth) }
+{
+    match said {
+        Some(text) => depth_of(text.as_bytes()),
+        None => Some(1),
+    }
+}
+
+// A list, which nothing else may stand beside.
+fn list_of(has_others: bool, depth: Option<usize>) -> Option<Wanted>
+    requires { IfSome depth (λ depth. 1 ≤ depth) }
+    ensures value { result ≡ list_wanted has_others depth }
+    ensures deep { IfSome result IsDeep }
+{
+    if has_others {
+        return None;
+    }
+    Some(Wanted::List { depth: depth? })
+}
+
+// The parts that the options name, where each is there and can be read.
+fn parts_of(
+    item: Option<&str>,
+    phase: Option<&str>,
+    part: Option<&str>,
+    depth: Option<usize>,
+) -> Option<Wanted>
+    requires { IfSome depth (λ depth. 1 ≤ depth) }
+    ensures value { result ≡ parts_wanted (option_and_then number_in (option_map (λ s. s.now) item.entry))
+        (option_and_then phase_in (option_map (λ s. s.now) phase.entry))
+        (option_and_then range_in (option_map (λ s. s.now) part.entry)) depth }
+    ensures deep { IfSome result IsDeep }
+{
+    let item = number_of(item?.as_bytes())?;
+    let phase = phase_of(phase?.as_bytes())?;
+    let range = range_of(part?.as_bytes())?;
+    Some(Wanted::Parts(NamedParts {
+        item,
+        phase,
+        first: range.first,
+        last: range.last,
+        depth: depth?,
+    }))
+}
+
+// The words as clap matches them.
+fn matched<'a>(alloc: Global, words: &'a [&'a str]) -> Result<ArgMatches<'a>, Error>
+    ensures rows { IfOk result (λ m. rows_of (found_of m)
+        ≡ matches_of command (map (λ s. s.now) words.now)) }
+    ensures passes { IfErr result (λ e. takes command (map (λ s. s.now) words.now) ≡ true
+        → kind_of e ≡ ErrorKind.OutOfMemory) }
+    ensures kinds { FailsBy (refusals (map (λ s. s.now) words.now)) result }
+{
+    let command = Command::new(alloc, "pops-part");
+    let command = with_flag(command, alloc, "list")?;
+    let command = with_option(command, alloc, "depth")?;
+    let command = with_option(command, alloc, "item")?;
+    let command = with_option(command, alloc, "phase")?;
+    let command = with_option(command, alloc, "part")?;
+    let command = with_value(command, alloc, "file")?;
+    command.try_get_matches_from(words)
+}

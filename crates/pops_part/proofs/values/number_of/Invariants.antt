@@ -1,7 +1,0 @@
-use Rattle.std.proofs.Common.{take}
-use Rattle.pops_part.proofs.Numbers.{DigitsSoFar}
-use Rattle.pops_part.proofs.values.number_of.Given as goal
-
--- the digits so far are read
-abbrev pub invariant-digits : goal.invariant-digits
-invariant-digits l = record { read : DigitsSoFar (take l.byte-index l.text) l.value }
