@@ -106,6 +106,8 @@ class Parallel:
             environment = {**os.environ, "PARALLEL_HOME": name}
             environment["PARALLEL_SSH"] = f"sh {shlex.quote(str(room / 'ssh'))}"
             environment.pop(_NUMBER, None)
+            # (without it, jobs on machines where SHELL isn't set do nothing, and say nothing)
+            environment["PARALLEL_SHELL"] = "/bin/sh"
             with open(room / "errors", "wb") as errors:
                 words = self._command(room, script)
                 leashed = Leashed(words, subprocess.DEVNULL, errors, environment)

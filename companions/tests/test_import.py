@@ -232,9 +232,8 @@ class Languages(unittest.TestCase):
         )
 
     def test_the_words_of_the_document(self) -> None:
-        """Its table names all words that are taken, each with what it means."""
-        document = (support.REPOSITORY / "docs" / "COMPANIONS.md").read_text("utf-8")
-        section = document.split("### Words of Popeye", 1)[1].split("\n## ", 1)[0]
+        """Its tables name all words that are taken, each with what it means."""
+        section = (support.COMPANIONS / "pops_import" / "WORDS.md").read_text("utf-8")
         for title, places in (
             ("Command", [one.commands for one in (ENGLISH, GERMAN, FRENCH)]),
             ("Option", [one.options for one in (ENGLISH, GERMAN, FRENCH)]),
