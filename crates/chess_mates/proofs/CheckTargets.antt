@@ -18,7 +18,7 @@ use Rattle.chess_rules.proofs.listing_moves.Targeting.{arrival_needed, every_squ
 use Rattle.chess_rules.proofs.Tests.{implied}
 
 -- a pawn's last rank is in the word of both
-last_rank_on : (c : Colour) (t : ℕ) → t < 64 → (rank_of t == last_rank c) ≡ true → (bit_at 18374686479671623935 t == 1) ≡ true
+pub last_rank_on : (c : Colour) (t : ℕ) → t < 64 → (rank_of t == last_rank c) ≡ true → (bit_at 18374686479671623935 t == 1) ≡ true
 last_rank_on c t lt = implied (rank_of t == last_rank c) _ (agreed c) where
   agreed : (c : Colour) → (not (rank_of t == last_rank c) || bit_at 18374686479671623935 t == 1) ≡ true
   agreed White = agree_below_at (λ n. not (rank_of n == 8) || bit_at 18374686479671623935 n == 1) (λ _. true) 64 t refl lt

@@ -53,7 +53,7 @@ pub no_mate_with_flight : (rule : RuleSet) (p : Position) (m : Move) → has_fli
 unfolding mates is_mate
 no_mate_with_flight rule p m h = search (rules, flight_there)
 
-no_king_free : (c d : Colour) (o : Option Man) → is_arrival_free c o ≡ true → is_man o d King ≡ false
+pub no_king_free : (c d : Colour) (o : Option Man) → is_arrival_free c o ≡ true → is_man o d King ≡ false
 no_king_free c d o h = grind (arith, and_parts, and_right, not-true)
 
 no_own_free : (c : Colour) (o : Option Man) → is_arrival_free c o ≡ true → is_side o c ≡ false
@@ -63,11 +63,11 @@ no_own_free c o h = grind (arith, not-true, and_parts)
 on_second : (a b i : ℕ) → (bit_at (bit_and a b) i == 1) ≡ true → (bit_at b i == 1) ≡ true
 on_second a b i h = search (rules, bit_at-lt, bit_at_and, eq-eqb, eqb-true)
 
-unseen_bit : (test : ℕ → Bool) (n w t : ℕ) → w ≡ word test → t < 64 → (bit_at (bit_and n (bit_not w64 w)) t == 1) ≡ true → (bit_at w t == 1) ≡ false
+pub unseen_bit : (test : ℕ → Bool) (n w t : ℕ) → w ≡ word test → t < 64 → (bit_at (bit_and n (bit_not w64 w)) t == 1) ≡ true → (bit_at w t == 1) ≡ false
 unseen_bit test n w t h small on = search (rules, on_second, squares_not, word_has)
 
 -- the squares to which a king may step, attacks apart
-free_of : (c : Colour) (o : Option Man) → is_side o (other c) ≡ false → is_man o c King ≡ false → is_arrival_free (other c) o ≡ true
+pub free_of : (c : Colour) (o : Option Man) → is_side o (other c) ≡ false → is_man o c King ≡ false → is_arrival_free (other c) o ≡ true
 free_of c o side king = grind (arith, false≢true)
 
 arrived_free : (c : Colour) (z : Man) → same_colour z.colour (other c) ≡ false → same_kind z.kind King ≡ false → is_arrival_free (other c) (Some z) ≡ true
@@ -82,7 +82,7 @@ closed_words : (p : Position) (a : ℕ) (o : Option ℕ) (c : Colour) (w n : ℕ
 unfolding side_of squares_of
 closed_words p a o c w n side kings l standing = search (rules, squares_both, squares_either, squares_not)
 
-reached_near : (men : List (Option Man)) (c : Colour) (k w t : ℕ) → w ≡ word (λ t. list_any (leaps k t) queen_steps) → t < 64 → (bit_at w t == 1) ≡ true
+pub reached_near : (men : List (Option Man)) (c : Colour) (k w t : ℕ) → w ≡ word (λ t. list_any (leaps k t) queen_steps) → t < 64 → (bit_at w t == 1) ≡ true
     → reaches_as men c King k t ≡ true
 unfolding reaches_as
 reached_near men c k w t h small on = sym (word_has (λ t. list_any (leaps k t) queen_steps) w t h small) ∙ on
@@ -165,7 +165,7 @@ pub record IsSafeStep (men : List (Option Man)) (a : ℕ) (o : Option ℕ) (b : 
 reaches_alike_of : (men others : List (Option Man)) (o : Option Man) (s t : ℕ) → StandAlike men others t → reaches_of men o s t ≡ reaches_of others o s t
 reaches_alike_of men others o s t a = grind (arith, reaches_alike)
 
-no_strike : (a p r : Bool) → (a && r) ≡ false → ((a && p) && r) ≡ false
+pub no_strike : (a p r : Bool) → (a && r) ≡ false → ((a && p) && r) ≡ false
 no_strike a p r q = grind arith
 
 zero_false : (test : ℕ → Bool) (s : ℕ) → 0 ≡ word test → s < 64 → test s ≡ false
@@ -229,7 +229,7 @@ unfolding is_open
 open_parts rule men c k t h = search rules
 
 -- the king's move
-abbrev step_to : ℕ → ℕ → Move
+abbrev pub step_to : ℕ → ℕ → Move
 step_to k t = record { from = k; to = t; promo = None }
 
 -- a king isn't paralysed
@@ -251,7 +251,7 @@ module _ (rule : RuleSet) (q : Position) (x : Man) (k t : ℕ) (i : IsKingStep r
         rebirth = λ circe. no_capture q x (step_to k t) (way.nobody circe) (and_left (same_kind x.kind Pawn) _ (king_is_no_pawn x.kind i.king));
       }
 
-  step_is_legal : is_attacked rule (arrived q x (step_to k t)) t (other q.turn) ≡ false → is_legal rule q (step_to k t) ≡ true
+  pub step_is_legal : is_attacked rule (arrived q x (step_to k t)) t (other q.turn) ≡ false → is_legal rule q (step_to k t) ≡ true
   unfolding is_legal
   step_is_legal safe =
       let king : king_after q x (step_to k t) ≡ Some t = cond-true (same_kind x.kind King) _ _ i.king in

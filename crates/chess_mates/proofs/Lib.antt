@@ -13,4 +13,5 @@ pub mod KingsApart
 pub mod CastlingChecks
 pub mod CheckTargets
 pub mod FarMen
+pub mod LastingFlights
 pub mod Excluded

@@ -12,7 +12,7 @@ pub reached : (p : Position) (x : Man) (s t : ℕ) → same_kind x.kind Pawn ≡
 unfolding may_go
 reached p x s t none piece h = search (rules, cond-false, no_steps)
 
-rides_on : (men : List (Option Man)) (s t : ℕ) (ds : List _) → list_any (rides men s t) ds ≡ true → is_on_some ds s t ≡ true
+pub rides_on : (men : List (Option Man)) (s t : ℕ) (ds : List _) → list_any (rides men s t) ds ≡ true → is_on_some ds s t ≡ true
 unfolding is_on_some
 rides_on men s t ds h = goes_on men s t ds h
 

@@ -2,4 +2,5 @@ pub mod Aims
 pub mod CheckSquares
 pub mod Flights
 pub mod Idle
+pub mod LastingFlights
 pub mod Mates

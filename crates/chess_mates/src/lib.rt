@@ -9,10 +9,12 @@ pub mod aims;
 mod checks;
 pub mod every_move;
 mod flights;
+pub mod lasting_flights;
 pub mod mating_moves;
 mod open_board;
 mod origins;
 
 pub use crate::aims::aims_at_king;
 pub use crate::every_move::every_move_mates;
+pub use crate::lasting_flights::keeps_flight;
 pub use crate::mating_moves::{MatingMoves, next_mate};

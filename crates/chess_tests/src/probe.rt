@@ -7,7 +7,7 @@ use crate::plain::{self, Plain, Rule, bit};
 use crate::setup::{move_of, moves_of, posed};
 use arrayvec::ArrayVec;
 use chess_core::{Board, Colour, Diagram, Kind, Move, Square};
-use chess_mates::MatingMoves;
+use chess_mates::{MatingMoves, keeps_flight};
 use chess_rules::{Circe, Madrasi, Moves, Orthodox, Rules, is_mate};
 
 // Whether two boards answer every question alike.
@@ -186,4 +186,31 @@ pub(crate) fn has_mates(rule: Rule, position: &str, wanted: &str) -> bool {
         Rule::Madrasi => mates_under::<Madrasi>(&diagram),
     };
     mates.as_slice() == moves_of(wanted).as_slice()
+}
+
+// Whether a flight is kept for good by this move, if it is legal.
+fn keeps_under<R: Rules>(diagram: &Diagram, wanted: Move) -> Option<bool>
+    requires { IsWellFormed (position_of diagram.now) }
+{
+    let mut board = Board::of(diagram);
+    let mut place = Moves::<R>::start();
+    while let Some(m) = place.next(&mut board) {
+        if m == wanted {
+            return Some(keeps_flight::<R>(&board, &m));
+        }
+    }
+    None
+}
+
+// Whether the legal move from the position is told to keep a flight, or is not.
+pub(crate) fn is_told_to_keep(rule: Rule, position: &str, m: &str, wanted: bool) -> bool {
+    let (Some(diagram), Some(m)) = (posed(position), move_of(m)) else {
+        return false;
+    };
+    let told = match rule {
+        Rule::Orthodox => keeps_under::<Orthodox>(&diagram, m),
+        Rule::Circe => keeps_under::<Circe>(&diagram, m),
+        Rule::Madrasi => keeps_under::<Madrasi>(&diagram, m),
+    };
+    told == Some(wanted)
 }

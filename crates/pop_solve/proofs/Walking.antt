@@ -1,11 +1,11 @@
 -- The outcomes of a step for frames listed from the bottom up, as the code holds them, and what its calls hand on.
-use Rattle.pop_solve.proofs.Words.{AreKnown, Bool, CameFrom, CameFromAt, Counts, Frame, GoesTo, HasCounted, IfSome, IsNextMate, IsPlaceIn, IsWalking, LegalPlace, List, MatchOption, Mate, Move, Option, Plan, Position, RuleSet, Steps, [], ap, append-nil, arith, battle_of, chess, eqb, false, follows, gives, half_moves_on, inl, inr, is_for_mate, is_legal, is_mate, length, length-reverse, mates_behind, moves_behind, moves_behind-end, position, refl, reverse, reverse-append, rules, seeks_last, smallest_tree, subst, suc, sym, true, undo_of, value, ℕ, ◌++◌, ◌+◌, ◌-◌, ◌<◌, ◌∙◌, ◌∷◌, ◌≡◌, ◌≤◌, ◌⊎◌}
+use Rattle.pop_solve.proofs.Words.{AreKnown, Bool, CameFrom, CameFromAt, Counts, Frame, GoesTo, HasCounted, IfSome, IsNextMate, IsPlaceIn, IsWalking, LegalPlace, List, MatchOption, Mate, Option, Plan, Position, RuleSet, Steps, [], ap, append-nil, arith, battle_of, chess, eqb, false, follows, gives, half_moves_on, inl, inr, is_for_mate, is_mate, is_legal, length, length-reverse, mates_behind, moves_behind, moves_behind-end, position, refl, reverse, reverse-append, rules, seeks_last, smallest_tree, subst, suc, sym, true, undo_of, value, ℕ, ◌++◌, ◌+◌, ◌-◌, ◌<◌, ◌∙◌, ◌∷◌, ◌≡◌, ◌≤◌, ◌⊎◌, IsSettled, fewest_for, is_help, min, None, false≢true, ◌^◌, Move}
 use Rattle.chess_rules.specs.Play.{position_after}
 use Rattle.pop_solve.proofs.Boards.{for_mate}
 use Rattle.pop_solve.specs.ties.Frames.{opened_frame}
 use Rattle.pop_solve.proofs.Tests.{learned, moved}
-use Rattle.pop_solve.proofs.GoingOn.{cases}
-use Rattle.pop_solve.proofs.Outcomes.{CameFrom-deep, walking-close, walking-learned, top_room, steps-learned, skips-close, steps-pass, steps-enter, walking-moved}
+use Rattle.pop_solve.proofs.GoingOn.{cases, follows-help, half_moves_on-help}
+use Rattle.pop_solve.proofs.Outcomes.{CameFrom-deep, walking-close, walking-learned, top_room, steps-learned, skips-close, steps-pass, steps-enter, steps-then, skips-shut, walking-moved}
 use Rattle.pop_solve.proofs.ToCome.{steps-skip}
 
 -- a push, and the frames before a frame was taken off, seen from the top
@@ -87,6 +87,72 @@ module _ (rule : RuleSet) (plan : Plan) (h : ℕ) (top : Frame) (old new : List 
               (rw flag2 entered) x.1 (rw flag2 counts))))
         ]
 
+-- what the next move or the next mate says of the moves passed over
+module _ (rule : RuleSet) (plan : Plan) (left : ℕ) (p : Position) (place next : ℕ) where
+  abbrev pub Next : Option Move → Type 0
+  Next o = MatchOption o ((left ≡ 0) ⊎ GoesTo rule plan left p place [])
+      (λ m. (0 < left) × GoesTo rule plan left p place (m ∷ moves_behind rule p next) × (is_legal rule p m ≡ true))
+
+  pub next_mating : (o : Option Move) → plan.goal ≡ Mate → seeks_last plan ≡ true → left ≡ 1
+      → MatchOption o (mates_behind rule p place ≡ []) (λ m. IsNextMate rule p place next m × (is_legal rule p m ≡ true)) → Next o
+  unfolding mates_behind
+  next_mating o for last single e = grind (arith, moves_behind-end rule p 28672 (omega arith), append-nil)
+
+-- in help play the position behind a move has no path of its own while half-moves are left, and is one to be tried
+gives-more : (rule : RuleSet) (plan : Plan) (q : Position) (t : ℕ) → is_help plan.form ≡ true → t ≡ 1 → gives plan (chess plan.goal rule) t q ≡ false
+unfolding gives
+gives-more rule plan q t help one = rw (help, one) refl
+
+one_tried : (rule : RuleSet) (plan : Plan) (root : Bool) (t before after : ℕ) (q : Position) → is_help plan.form ≡ true → t ≡ 1
+    → after ≡ min (before + 1) (2 ^ 64 - 1) → HasCounted before after (fewest_for plan (chess plan.goal rule) root t q)
+one_tried rule plan root t before after q help one e = rw (help, half_moves_on-help plan (chess plan.goal rule) t q help, one) (omega (arith, e))
+
+-- a move that is settled is followed, and the frame behind it closed at once
+module _ (rule : RuleSet) (plan : Plan) (h : ℕ) (top : Frame) (old new : List Frame) (taken : old ≡ new ++ top ∷ []) (place : ℕ)
+    (known : Option LegalPlace) (m : Move) (board now : Position) (depth : ℕ) (mid : List Frame) (at : now ≡ board) (d : depth ≡ length new)
+    (some : (0 < top.left) × GoesTo rule plan top.left board top.place (m ∷ moves_behind rule board place) × (is_legal rule board m ≡ true))
+    (within : IfSome known (IsPlaceIn rule board)) (put : mid ≡ new ++ moved (learned top known) place ∷ [])
+    (s : IsSettled rule plan top.left now m) where
+  abbrev shut : Frame
+  shut = opened_frame m (undo_of rule now m) (half_moves_on plan (chess plan.goal rule) (top.left - 1) (position_after rule now m))
+
+  one_left : top.left - 1 ≡ 1
+  one_left = omega (arith, s.last)
+
+  counts_one : (opened opened2 : ℕ) → opened2 ≡ min (opened + 1) (2 ^ 64 - 1) → Counts rule plan (eqb depth 0) (top.left - 1) (position_after rule now m) opened opened2
+  counts_one opened opened2 more = record {
+    more = λ help some. more;
+    none = λ help none. absurd (omega (arith, one_left, none));
+    keys = λ battle keys white. absurd (false≢true (sym battle ∙ s.helped));
+    tries = one_tried rule plan (eqb depth 0) (top.left - 1) opened opened2 (position_after rule now m) s.helped one_left more;
+  }
+
+  followed : follows plan (chess plan.goal rule) (eqb depth 0) (top.left - 1) (position_after rule now m) ≡ true
+  followed = follows-help (plan) (chess plan.goal rule) (eqb depth 0) (top.left - 1) (position_after rule now m) s.helped
+
+  none_left : GoesTo rule plan shut.left (position_after rule now m) 0 []
+  none_left =
+      let left : shut.left ≡ 1 = half_moves_on-help plan (chess plan.goal rule) (top.left - 1) (position_after rule now m) s.helped ∙ one_left in
+      elim (next_mating rule plan shut.left (position_after rule now m) 0 0 None s.goal (rw s.helped refl) left s.none) [
+        | inl z ↦ absurd (omega (arith, left, z))
+        | inr g ↦ g
+      ]
+
+  pub settled_steps : (opened opened2 : ℕ) → opened2 ≡ min (opened + 1) (2 ^ 64 - 1) → (p : Position) → IsWalking rule h p (reverse old) board
+      → Steps rule plan h p (reverse old) (reverse mid) now opened opened2 false
+  settled_steps opened opened2 more p r =
+      let q = position_after rule now m in
+      let enters = enter_steps rule plan h top old new taken place known m board now depth mid (mid ++ shut ∷ []) at d some within put (eqb depth 0) false q
+      opened opened2 refl (λ passes. absurd (false≢true (sym passes ∙ followed)))
+      (λ on. (sym (gives-more rule plan q (top.left - 1) s.helped one_left), refl, refl)) (counts_one opened opened2 more) p r in
+      let first : Steps rule plan h p (reverse old) (shut ∷ reverse mid) q opened opened2 false = rw (reverse-push mid shut) at enters in
+      let f = learned top known in
+      let r2 = walking-learned rule h p top known (reverse new) now (walking_top rule plan h top old new taken p board now r at) (rw at within) in
+      let back : IsWalking rule h p (reverse mid) now = rw (popped mid new _ put) (walking-moved rule h p f place (reverse new) now now r2 refl) in
+      let T : Position → Type 0 = λ b. GoesTo rule plan shut.left b 0 [] in
+      steps-then rule plan h p (reverse old) (shut ∷ reverse mid) (reverse mid) q now opened opened2 opened2 first
+      (skips-shut rule plan h p shut (reverse mid) q first.walking now opened2 (subst T first.walking.board_at none_left) back)
+
 -- a frame is closed, whatever is walked
 module _ (rule : RuleSet) (h : ℕ) (top : Frame) (old new : List Frame) (taken : old ≡ new ++ top ∷ []) where
   pub back_asks : (p board : Position) (depth : ℕ) → IsWalking rule h p (reverse old) board → depth ≡ length new → 0 < depth → CameFrom rule top board
@@ -103,17 +169,6 @@ pub walking_back : (rule : RuleSet) (h : ℕ) (p board : Position) (frames : Lis
 unfolding position
 walking_back rule h p board [] r none = r.board_at
 walking_back rule h p board (f ∷ frames) r none = absurd (omega (arith, none))
-
--- what the next move or the next mate says of the moves passed over
-module _ (rule : RuleSet) (plan : Plan) (left : ℕ) (p : Position) (place next : ℕ) where
-  abbrev pub Next : Option Move → Type 0
-  Next o = MatchOption o ((left ≡ 0) ⊎ GoesTo rule plan left p place [])
-      (λ m. (0 < left) × GoesTo rule plan left p place (m ∷ moves_behind rule p next) × (is_legal rule p m ≡ true))
-
-  pub next_mating : (o : Option Move) → plan.goal ≡ Mate → seeks_last plan ≡ true → left ≡ 1
-      → MatchOption o (mates_behind rule p place ≡ []) (λ m. IsNextMate rule p place next m × (is_legal rule p m ≡ true)) → Next o
-  unfolding mates_behind
-  next_mating o for last single e = grind (arith, moves_behind-end rule p 28672 (omega arith), append-nil)
 
 -- after a mating last half-move the value is known, and nothing has to be tried for it
 pub value-mated : (rule : RuleSet) (plan : Plan) (left : ℕ) (q : Position) → is_for_mate plan.goal ≡ true → left + 1 ≡ 1 → is_mate rule q ≡ true

@@ -133,7 +133,8 @@ impl<R: Rules, const N: usize> Search<R, N> {
     /// The frames opened for a half-move so far, the test of mate apart, up to the greatest u64. In help play, and where
     /// keys alone are shown, no line of moves is walked twice. Once nothing is left to give, and if no limit ended a phase,
     /// each line of help play was walked, and in battle play no fewer were opened than a smallest tree has positions, for
-    /// each tested move.
+    /// each tested move. A position that is told without its board, behind the last move but one of help play, counts as
+    /// opened.
     pub fn opened(&self) -> u64
         ensures opened { result ≡ self.now.opened }
         ensures most { is_walked_once self.now.problem ≡ true

@@ -16,7 +16,7 @@ ghost use Rattle.pop_solve.specs.ties.Frames.{CameFrom, CameFromAt, opened_frame
 ghost use Rattle.pop_solve.specs.Chess.{chess};
 ghost use Rattle.pop_solve.specs.ties.Marks.{is_for_mate};
 ghost use Rattle.pop_solve.specs.ties.Values.{seeks, value};
-ghost use Rattle.pop_solve.specs.ties.Walk.{fewest as fewest_of, first_from, open_length, follows as is_followed, gives as is_given, half_moves_on, GoesTo, IsMatedAtLast, IsWalking, seeks_last, Steps};
+ghost use Rattle.pop_solve.specs.ties.Walk.{fewest as fewest_of, first_from, open_length, follows as is_followed, gives as is_given, half_moves_on, GoesTo, IsMatedAtLast, IsSettled, IsWalking, seeks_last, Steps};
 
 use crate::aim::{Aim, Battle};
 use crate::chess::{is_for_mate, next_mate, next_move, reaches_goal, retract};
@@ -27,6 +27,7 @@ use crate::value::{seeking, value_of};
 use arrayvec::ArrayVec;
 use chess_core::board::Board;
 use chess_core::man::Move;
+use chess_mates::lasting_flights::keeps_flight;
 use chess_rules::legal_moves::LegalMoves;
 use chess_rules::moves::Moves;
 use chess_rules::rules::Rules;
@@ -286,8 +287,18 @@ pub(crate) fn step_back<R: Rules>(depth: usize, top: Frame<R>, board: &mut Board
     }
 }
 
+/// Whether the move, the last of help play but one, is known to be followed by no mate, so that it needs no board.
+#[tactic(auto, using(crate::proofs::Boards::for_mate))]
+fn is_settled<R: Rules>(plan: Plan, left: usize, by: &Move, board: &Board) -> bool
+    requires well_formed { IsWellFormed board.now }
+    requires legal { is_legal R.rule board.now by.now ≡ true }
+    ensures { result ≡ true → IsSettled R.rule plan left board.now by.now }
+{
+    left == 2 && plan.form.is_help() && is_for_mate(plan.goal) && keeps_flight::<R>(board, by)
+}
+
 /// One step of the walk: the next move of the top frame is played, or the frame is closed. Answers whether the path
-/// to the new top frame is given.
+/// to the new top frame is given. The frame behind a move that is settled is counted as opened, and as closed at once.
 #[tactic(auto, using(crate::proofs::Walking::top_frame))]
 pub(crate) fn step<R: Rules, const N: usize>(
     plan: Plan,
@@ -322,6 +333,10 @@ pub(crate) fn step<R: Rules, const N: usize>(
         known,
         ..top
     });
+    if is_settled::<R>(plan, top.left, &by, board) {
+        *opened = opened_by(*opened, 1, false);
+        return false;
+    }
     enter::<R, N>(
         plan,
         depth == 0,

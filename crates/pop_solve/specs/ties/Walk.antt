@@ -8,8 +8,9 @@ use Rattle.chess_core.specs.Position.{Position}
 use Rattle.chess_core.specs.declared.man.Move.{Move}
 use Rattle.chess_core.specs.WellFormed.{IsWellFormed}
 use Rattle.chess_rules.specs.ties.Places.{moves_behind}
-use Rattle.chess_mates.specs.ties.Mates.{is_mating}
+use Rattle.chess_mates.specs.ties.Mates.{is_mating, mates_behind}
 use Rattle.chess_rules.specs.Legal.{is_mate}
+use Rattle.chess_rules.specs.Play.{position_after}
 use Rattle.chess_rules.specs.RuleSet.{RuleSet}
 use Rattle.pop_input.specs.Stipulations.{is_help}
 use Rattle.pop_solve.specs.Aims.{battle_of}
@@ -144,23 +145,23 @@ IsWhites battle frames = list_all (λ f. f.left == 0 || seeks battle f.left) fra
 -- the frames opened and still to be opened, before a part of a walk and after it: in help play and where keys alone are
 -- shown they grow by nothing
 pub record Opens (rule : RuleSet) (plan : Plan) (p : Position) (old new : List Frame)
-    (before after : ℕ) : Type 0 where
+    (before position_after : ℕ) : Type 0 where
   pub whites : is_help plan.form ≡ false → varies plan ≡ false
       → IsWhites (battle_of plan.form) old ≡ true → IsWhites (battle_of plan.form) new ≡ true
   pub most : is_help plan.form ≡ false → varies plan ≡ false
       → IsWhites (battle_of plan.form) old ≡ true
-      → after + to_open rule p new ≤ before + to_open rule p old
-  pub helped : is_help plan.form ≡ true → after + to_open rule p new ≤ before + to_open rule p old
+      → position_after + to_open rule p new ≤ before + to_open rule p old
+  pub helped : is_help plan.form ≡ true → position_after + to_open rule p new ≤ before + to_open rule p old
   pub counted : is_help plan.form ≡ true → (walk : ℕ) → IsCounted walk before (to_open rule p old)
-      → IsCounted walk after (to_open rule p new)
+      → IsCounted walk position_after (to_open rule p new)
 
 -- a part of a walk counts on, and in a battle it tries no fewer positions than have to be
 pub record Tries (rule : RuleSet) (plan : Plan) (h : ℕ) (p : Position) (old new : List Frame)
-    (before after : ℕ) : Type 0 where
-  pub grows : min before (2 ^ 64 - 1) ≤ after
+    (before position_after : ℕ) : Type 0 where
+  pub grows : min before (2 ^ 64 - 1) ≤ position_after
   pub fewest : is_help plan.form ≡ false
       → min (before + fewest_left rule plan h p old) (2 ^ 64 - 1)
-      ≤ after + fewest_left rule plan h p new
+      ≤ position_after + fewest_left rule plan h p new
 
 -- the side that makes the last half-move seeks the goal: each side in help play, and White in direct play
 abbrev pub seeks_last : Plan → Bool
@@ -183,6 +184,14 @@ pub record GoesTo (rule : RuleSet) (plan : Plan) (left : ℕ) (p : Position) (pl
       × (filter (is_mating rule p) over ≡ []))
   pub here : moves_behind rule p mid ≡ rest
 
+-- the move m of p, the last of help play for mate but one, is followed by no mate
+pub record IsSettled (rule : RuleSet) (plan : Plan) (left : ℕ) (p : Position) (m : Move) : Type
+    0 where
+  pub helped : is_help plan.form ≡ true
+  pub goal : plan.goal ≡ Mate
+  pub last : left ≡ 2
+  pub none : mates_behind rule (position_after rule p m) 0 ≡ []
+
 -- whether a variation ends at a frame with `left` half-moves: in direct play with variations, where the goal is reached
 abbrev pub ends_variation : Plan → ℕ → Bool
 ends_variation plan left =
@@ -195,12 +204,12 @@ IsEnded rule plan frames board = ends_variation plan (top_left frames) ≡ true
 
 -- what one step of a walk leaves, for frames listed from the top down; `given` says whether the path to the new top is given
 pub record Steps (rule : RuleSet) (plan : Plan) (h : ℕ) (p : Position) (old new : List Frame)
-    (board : Position) (before after : ℕ) (given : Bool) : Type 0 where
+    (board : Position) (before position_after : ℕ) (given : Bool) : Type 0 where
   pub walking : IsWalking rule h p new board
   pub come : to_come rule plan h p old ≡ (if given then path new ∷ [] else [])
       ++ to_come rule plan h p new
   pub deep : given ≡ true → length new ≡ length old + 1
   pub ended : given ≡ true → IsEnded rule plan new board
   pub falls : turns rule h p new < turns rule h p old
-  pub opens : Opens rule plan p old new before after
-  pub tries : Tries rule plan h p old new before after
+  pub opens : Opens rule plan p old new before position_after
+  pub tries : Tries rule plan h p old new before position_after

@@ -1,4 +1,4 @@
-use Rattle.pop_solve.proofs.Words.{Frame, ap, refl, rules, ◌≡◌}
+use Rattle.pop_solve.proofs.Words.{Frame, ap, arith, refl, rules, ◌≡◌}
 use Rattle.pop_solve.proofs.Walking as walking
 use Rattle.pop_solve.proofs.walk.step.Goals as goal
 
@@ -22,4 +22,13 @@ returns g c = record {
       walking.enter_steps g.R.Rules.rule c.args.plan c.args.half_moves _ _ _ taken _ _ _ _ _ _ _ _ c.next_of.ensures.unchanged c.len-depth.ensures.value
       c.in-Some-next_of.ensures.next c.next_of.ensures.within c.push.ensures.items _ _ _ _ _ refl c.enter.ensures.passes c.enter.ensures.enters
       c.enter.ensures.counts;
+}
+
+pub returns-then-is_settled : goal.returns-then-is_settled
+returns-then-is_settled g c = record {
+  steps =
+      let taken = rw (← c.top.view_is) at c.in-Some.ensures.items in
+      walking.settled_steps g.R.Rules.rule c.args.plan c.args.half_moves _ _ _ taken _ _ _ _ _ _ _ c.next_of.ensures.unchanged c.len-depth.ensures.value
+      c.in-Some-next_of.ensures.next c.next_of.ensures.within c.push.ensures.items (c.is_settled.ensures c.if-is_settled.true) _ _
+      (c.opened_by.ensures.more (omega arith) refl);
 }

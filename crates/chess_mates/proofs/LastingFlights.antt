@@ -1,0 +1,454 @@
+-- Flights that one move can't take.
+use Rattle.chess_rules.proofs.Basics.{Bool, List, None, Option, Some, [], and_from, and_left, and_parts, and_right, ap, arith, bit_and, bit_at, bit_at_and, bit_not, bit_or, cases_Bool, cases_eq, cases_lt, eq-eqb, eqb-true, false, false_from_ne_true, false≢true, find, inl, inr, is_some, length, list_any, list_any-append, not, or_cases, or_lt, or_parts, range_with_len, refl, rules, subst, sym, true, w64, ℕ, ◌&&◌, ◌+◌, ◌-◌, ◌<◌, ◌==◌, ◌^◌, ◌||◌, ◌∙◌, ◌≡◌, ◌≢◌, ◌⊎◌}
+use Rattle.chess_mates.proofs.Chess.{Bishop, Colour, Grasshopper, HaveNone, IsWellFormed, Kind, King, Knight, Man, Move, Nightrider, Pawn, Position, Queen, Rook, RuleSet, arrives, arriving_man, capture_square, diagonal_steps, find_first, is_arrival_free, is_attacked, is_castling, is_circe, is_man, is_on_some, is_pseudo_legal, is_side, is_square, king_after, king_square, knight_steps, leaps, man_on, mates, mates_behind, may_go, other, pawn_captures, position_after, queen_steps}
+use Rattle.chess_mates.proofs.Chess.{reaches, reaches_as, reaches_of, rides, same_colour, same_colour-true, same_kind, side_of, some_square_false, some_square_true, squares_of, straight_steps, strikes, triple_at, word}
+use Rattle.chess_rules.specs.Legal.{is_promotion_right}
+use Rattle.chess_mates.specs.ties.Flights.{has_flight, is_flight, is_flight_from, is_open}
+use Rattle.std.proofs.Common.{IfSome}
+use Rattle.chess_mates.specs.ties.LastingFlights.{AreApproached, AreGuarded, AreNear, AreReached, IsLeft, KeepsOne, LeaveOne, LeavesOne}
+use Rattle.chess_rules.proofs.Bits.{off_left, off_right, on_left, on_right, word_has}
+use Rattle.chess_rules.proofs.Tests.{find_no}
+use Rattle.chess_rules.proofs.rays.Flips.{diagonal-back, king-back, knight-back, nightrider-back, pawn-back, queen_rides-back, straight-back}
+use Rattle.chess_rules.proofs.attacks.Exposing.{king_is_after}
+use Rattle.chess_rules.proofs.attacks.Seeing.{kept_now, king_stands, left_now, there_now}
+use Rattle.chess_rules.proofs.attacks.Shielding.{arriving_colour, other_differs, other_twice, simple_after}
+use Rattle.chess_rules.proofs.listing_moves.Arrivals.{may_go_aimed}
+use Rattle.chess_rules.proofs.listing_moves.Targeting.{arrival_needed, every_square_on, false_by}
+use Rattle.chess_rules.proofs.making_moves.Fits.{arrived, castle_of, is_square-some, taken}
+use Rattle.chess_rules.proofs.making_moves.Pseudo.{IsMade, made, on_board}
+use Rattle.chess_rules.proofs.making_moves.Stays.{after_well_formed, maker}
+use Rattle.chess_mates.proofs.CheckTargets.{last_rank_on}
+use Rattle.chess_mates.proofs.FarMen.{off_denied}
+use Rattle.chess_rules.proofs.listing_moves.Walks.{off_zero, on_first}
+use Rattle.chess_mates.proofs.Fleeing.{IsKingOn, IsKingStep, king_on, no_king_free, no_mate_with_flight, no_strike, step_is_legal, step_to, unseen_bit}
+use Rattle.chess_mates.proofs.Mating.{mates_behind-end, mates_behind-none, not_mating, turn_after}
+use Rattle.chess_mates.proofs.OpenBoard.{rides_on}
+
+-- what holds of each square of a word below a number
+pub record HoldBelow (w : ℕ) (P : ℕ → Type 0) (n : ℕ) : Type 0 where
+  pub holds : (s : ℕ) → s < n → (bit_at w s == 1) ≡ true → P s
+
+pub hold_none : (w : ℕ) (P : ℕ → Type 0) → HoldBelow w P 0
+hold_none w P = record { holds = λ s lt on. absurd (omega arith) }
+
+pub hold_next : (w : ℕ) (P : ℕ → Type 0) (n k : ℕ) → HoldBelow w P n → find (λ s. bit_at w s == 1) (range_with_len n (64 - n)) ≡ Some k → P k
+    → HoldBelow w P (k + 1)
+hold_next w P n k h found here =
+    let first = find_first (λ s. bit_at w s == 1) n (64 - n) k found in
+    record {
+      holds = λ s lt on. elim (cases_lt s n) [
+        | inl below ↦ h.holds s below on
+        | inr ge ↦ elim (cases_eq s k) [
+          | inl e ↦ subst P (sym e) here
+          | inr ne ↦ absurd (false≢true (sym (first.before s ge (omega arith)) ∙ on))
+        ]
+      ];
+    }
+
+pub hold_all : (w : ℕ) (P : ℕ → Type 0) (n : ℕ) → HoldBelow w P n → find (λ s. bit_at w s == 1) (range_with_len n (64 - n)) ≡ None → (s : ℕ) → s < 64
+    → (bit_at w s == 1) ≡ true → P s
+hold_all w P n h none s small on = elim (cases_lt s n) [
+  | inl below ↦ h.holds s below on
+  | inr ge ↦ absurd (false≢true (sym (find_no (λ s. bit_at w s == 1) n (64 - n) s none ge (omega arith)) ∙ on))
+]
+
+pub hold_map : (w : ℕ) (P Q : ℕ → Type 0) (n : ℕ) → ((s : ℕ) → P s → Q s) → HoldBelow w P n → HoldBelow w Q n
+hold_map w P Q n f h = record { holds = λ s lt on. f s (h.holds s lt on) }
+
+-- the square that was found is one of the word's
+pub found_small : (w n k : ℕ) → find (λ s. bit_at w s == 1) (range_with_len n (64 - n)) ≡ Some k → n < 64 → k < 64
+found_small w n k found lt = let first = find_first (λ s. bit_at w s == 1) n (64 - n) k found in omega (arith, first.high)
+
+-- what a man reaches, he would reach on an empty board
+module _ (x : Man) (s : ℕ) where
+  pub rook_reach : (l : ℕ) → x.kind ≡ Rook → l ≡ word (is_on_some straight_steps s) → AreReached x s l
+  unfolding reaches_as
+  rook_reach l kind lines = record {
+    inside = λ men t small h. word_has (is_on_some straight_steps s) l t lines small ∙ rides_on men s t straight_steps (rw kind at h);
+  }
+
+  pub bishop_reach : (l : ℕ) → x.kind ≡ Bishop → l ≡ word (is_on_some diagonal_steps s) → AreReached x s l
+  unfolding reaches_as
+  bishop_reach l kind lines = record {
+    inside = λ men t small h. word_has (is_on_some diagonal_steps s) l t lines small ∙ rides_on men s t diagonal_steps (rw kind at h);
+  }
+
+  queen_on : (men : List (Option Man)) (t l d : ℕ) → l ≡ word (is_on_some straight_steps s) → d ≡ word (is_on_some diagonal_steps s) → t < 64
+      → list_any (rides men s t) queen_steps ≡ true → (bit_at (bit_or l d) t == 1) ≡ true
+  queen_on men t l d lines slants small h = elim (or_cases _ _ (sym (list_any-append (rides men s t) straight_steps diagonal_steps) ∙ h)) [
+    | inl y ↦ on_left l d t (word_has (is_on_some straight_steps s) l t lines small ∙ rides_on men s t straight_steps y)
+    | inr y ↦ on_right l d t (word_has (is_on_some diagonal_steps s) d t slants small ∙ rides_on men s t diagonal_steps y)
+  ]
+
+  pub queen_reach : (l d : ℕ) → x.kind ≡ Queen → l ≡ word (is_on_some straight_steps s) → d ≡ word (is_on_some diagonal_steps s) → AreReached x s (bit_or l d)
+  unfolding reaches_as
+  queen_reach l d kind lines slants = record { inside = λ men t small h. queen_on men t l d lines slants small (rw kind at h) }
+
+  pub knight_reach : (l : ℕ) → x.kind ≡ Knight → l ≡ word (λ q. list_any (leaps s q) knight_steps) → AreReached x s l
+  unfolding reaches_as
+  knight_reach l kind squares = record { inside = λ men t small h. word_has (λ q. list_any (leaps s q) knight_steps) l t squares small ∙ (rw kind at h) }
+
+  pub king_reach : (l : ℕ) → x.kind ≡ King → l ≡ word (λ q. list_any (leaps s q) queen_steps) → AreReached x s l
+  unfolding reaches_as
+  king_reach l kind squares = record { inside = λ men t small h. word_has (λ q. list_any (leaps s q) queen_steps) l t squares small ∙ (rw kind at h) }
+
+  pub pawn_reach : (l : ℕ) → x.kind ≡ Pawn → l ≡ word (λ q. list_any (leaps s q) (pawn_captures x.colour)) → AreReached x s l
+  unfolding reaches_as
+  pawn_reach l kind squares = record {
+    inside = λ men t small h. word_has (λ q. list_any (leaps s q) (pawn_captures x.colour)) l t squares small ∙ (rw kind at h);
+  }
+
+  pub any_reach : AreReached x s (bit_not w64 0)
+  any_reach = record { inside = λ men t small h. every_square_on t small }
+
+pub reached_left : (x : Man) (s a b : ℕ) → AreReached x s a → AreReached x s (bit_or a b)
+reached_left x s a b h = record { inside = λ men t small r. on_left a b t (h.inside men t small r) }
+
+pub reached_right : (x : Man) (s a b : ℕ) → AreReached x s b → AreReached x s (bit_or a b)
+reached_right x s a b h = record { inside = λ men t small r. on_right a b t (h.inside men t small r) }
+
+pub some_reach : (o : Option Man) (s r : ℕ) (y : Man) → o ≡ Some y → AreReached y s r → (x : Man) → o ≡ Some x → AreReached x s r
+some_reach o s r y here h x there = let same : x ≡ y = (let e : Some x ≡ Some y = sym there ∙ here in cc) in rw same h
+
+pub some_leaves : (o : Option Man) (s w : ℕ) (y : Man) → o ≡ Some y → LeavesOne w y s → (x : Man) → o ≡ Some x → LeavesOne w x s
+some_leaves o s w y here h x there = let same : x ≡ y = (let e : Some x ≡ Some y = sym there ∙ here in cc) in rw same h
+
+-- a square of its side's word
+pub on_own : (men : List (Option Man)) (c : Colour) (w s : ℕ) (x : Man) → w ≡ side_of men c → s < 64 → man_on men s ≡ Some x → x.colour ≡ c
+    → (bit_at w s == 1) ≡ true
+unfolding side_of
+on_own men c w s x own small here mine =
+    word_has (λ q. is_side (man_on men q) c) w s own small ∙ ap (λ (o : Option Man). is_side o c) here ∙ ap (λ (d : Colour). same_colour d c) mine ∙ self c where
+      self : (c : Colour) → same_colour c c ≡ true
+      self c = grind arith
+
+-- neither on a last rank nor on a king's home
+on_both : (a b t : ℕ) → (bit_at a t == 1) ≡ true → (bit_at b t == 1) ≡ true → (bit_at (bit_and a b) t == 1) ≡ true
+on_both a b t on too = grind (arith, eqb-true, bit_at_and, eq-eqb)
+
+pub no_last_rank : (x : Man) (w t : ℕ) → (bit_and w 18374686479671623935 == 0) ≡ true → t < 64 → (bit_at w t == 1) ≡ true → arrives x t ≡ false
+no_last_rank x w t none small on = false_by (arrives x t) (λ last.
+    let both = on_both w 18374686479671623935 t on (last_rank_on x.colour t small (and_parts _ _ last).1) in
+    let zero : bit_and w 18374686479671623935 ≡ 0 = eqb-true _ _ none in
+    let never = off_zero t in
+    false≢true (sym never ∙ ap (λ n. bit_at n t == 1) (sym zero) ∙ both))
+
+pub no_pawn_arrives : (x : Man) (t : ℕ) → same_kind x.kind Pawn ≡ false → arrives x t ≡ false
+no_pawn_arrives x t piece = and_left _ _ piece
+
+pub off_homes : (s : ℕ) → not (bit_at 1152921504606846992 s == 1) ≡ true → (s ≢ 4) × (s ≢ 60)
+off_homes s off = ((λ e. false≢true (rw e at off)), (λ e. false≢true (rw e at off)))
+
+-- a square that is left
+pub left_there : (squares r o t f : ℕ) (x : Man) → AreReached x t r → r < 2 ^ 64 → o < 2 ^ 64 → o ≡ word (λ q. is_square (Some t) q)
+    → find (λ s. bit_at (bit_and squares (bit_not w64 (bit_or r o))) s == 1) (range_with_len 0 64) ≡ Some f → IsLeft squares x t f
+left_there squares r o t f x are rfits ofits only found =
+    let first = find_first (λ s. bit_at (bit_and squares (bit_not w64 (bit_or r o))) s == 1) 0 64 f found in
+    let small : f < 64 = omega (arith, first.high) in
+    let off = off_denied squares (bit_or r o) f (or_lt 64 r o rfits ofits) small first.here in
+    record {
+      small = small;
+      on = on_first squares _ f first.here;
+      off = λ e. false≢true (sym (off_right r o f off) ∙ word_has (λ q. is_square (Some t) q) o f only small ∙ eq-eqb t f (sym e));
+      unreached = λ men. false_from_ne_true _ (λ h. false≢true (sym (off_left r o f off) ∙ are.inside men f small h));
+    }
+
+pub left_first : (squares r o t : ℕ) (x : Man) → AreReached x t r → r < 2 ^ 64 → o < 2 ^ 64 → o ≡ word (λ q. is_square (Some t) q)
+    → (found : Option ℕ) → found ≡ find (λ s. bit_at (bit_and squares (bit_not w64 (bit_or r o))) s == 1) (range_with_len 0 64)
+    → IfSome found (λ f. IsLeft squares x t f)
+left_first squares r o t x are rfits ofits only None e = search rules
+left_first squares r o t x are rfits ofits only (Some f) e = left_there squares r o t f x are rfits ofits only (sym e)
+
+-- who reaches a square is reached from it by one of the other colour
+reaches_back : (men : List (Option Man)) (c : Colour) (k : Kind) (s t : ℕ) → s < 64 → t < 64 → same_kind k Grasshopper ≡ false
+    → reaches_as men c k s t ≡ reaches_as men (other c) k t s
+unfolding reaches_as
+reaches_back men c King s t p q piece = king-back s t p q
+reaches_back men c Queen s t p q piece = queen_rides-back men s t p q
+reaches_back men c Rook s t p q piece = straight-back men s t p q
+reaches_back men c Bishop s t p q piece = diagonal-back men s t p q
+reaches_back men c Knight s t p q piece = knight-back s t p q
+reaches_back men c Pawn s t p q piece = pawn-back c s t p q
+reaches_back men c Nightrider s t p q piece = nightrider-back men s t p q
+reaches_back men c Grasshopper s t p q piece = absurd (false≢true (sym piece))
+
+pub come_back : (x : Man) (t w : ℕ) → t < 64 → same_kind x.kind Grasshopper ≡ false → AreReached (record { colour = other x.colour; kind = x.kind }) t w
+    → AreApproached x t w
+come_back x t w small piece are = record {
+  inside = λ men s inside h. are.inside men s inside (sym (reaches_back men x.colour x.kind s t inside small piece) ∙ h);
+}
+
+off_both : (a b t : ℕ) → (bit_at (bit_and a b) t == 1) ≡ false → (bit_at a t == 1) ≡ true → (bit_at b t == 1) ≡ false
+off_both a b t off on = false_by (bit_at b t == 1) (λ y. false≢true (sym off ∙ on_both a b t on y))
+
+-- where the man neither stands on the first square nor reaches it, that one is left
+pub first_there : (squares targets a o first t : ℕ) (x : Man) → AreApproached x first a → o ≡ word (λ q. is_square (Some first) q)
+    → find (λ s. bit_at squares s == 1) (range_with_len 0 64) ≡ Some first → t < 64 → (bit_at targets t == 1) ≡ true
+    → (bit_at (bit_and targets (bit_or a o)) t == 1) ≡ false → IsLeft squares x t first
+first_there squares targets a o first t x are only found small on off =
+    let is = find_first (λ s. bit_at squares s == 1) 0 64 first found in
+    let free = off_both targets (bit_or a o) t off on in
+    record {
+      small = omega (arith, is.high);
+      on = is.here;
+      off = λ e. false≢true (sym (off_right a o t free) ∙ word_has (λ q. is_square (Some first) q) o t only small ∙ eq-eqb first t e);
+      unreached = λ men. false_from_ne_true _ (λ h. false≢true (sym (off_left a o t free) ∙ are.inside men t small h));
+    }
+
+-- the squares next to the king
+pub near_are : (p : Position) (m : Move) (k n s y o : ℕ) → n ≡ word (λ t. list_any (leaps k t) queen_steps) → s ≡ side_of p.men p.turn
+    → y ≡ squares_of p.men (other p.turn) King → o ≡ word (λ t. is_square (Some m.to) t)
+    → AreNear p m k (bit_and (bit_and (bit_and n (bit_not w64 s)) (bit_not w64 y)) (bit_not w64 o))
+unfolding side_of squares_of
+near_are p m k n s y o near own king only = record {
+  next = λ f small on. sym (word_has (λ t. list_any (leaps k t) queen_steps) n f near small) ∙ on_first n _ f (on_first _ _ f (on_first _ _ f on));
+  arrival = λ f small on e. false≢true (sym (unseen_bit (λ t. is_square (Some m.to) t) _ o f only small on)
+      ∙ word_has (λ t. is_square (Some m.to) t) o f only small ∙ eq-eqb m.to f (sym e));
+  own = λ f small on. sym (word_has (λ t. is_side (man_on p.men t) p.turn) s f own small)
+      ∙ unseen_bit (λ t. is_side (man_on p.men t) p.turn) n s f own small (on_first _ _ f (on_first _ _ f on));
+  king = λ f small on. sym (word_has (λ t. is_man (man_on p.men t) (other p.turn) King) y f king small)
+      ∙ unseen_bit (λ t. is_man (man_on p.men t) (other p.turn) King) _ y f king small (on_first _ _ f on);
+}
+
+pub keeps_one : (p : Position) (w g : ℕ) → g < 2 ^ 64 → AreGuarded p.men (other p.turn) g → LeaveOne p.men (other p.turn) (bit_and w (bit_not w64 g))
+    → KeepsOne p w
+keeps_one p w g fits guards leave = record {
+  squares = bit_and w (bit_not w64 g);
+  guarded = g;
+  guards = guards;
+  leave = leave;
+  within = λ f small on. (on_first w _ f on, off_denied w g f fits small on);
+}
+
+-- who stands on a square once a move is made: the man that came, or who stood there
+stood : (p : Position) (x : Man) (m : Move) (t : ℕ) (z : Man) → m.to < length p.men → man_on (arrived p x m) t ≡ Some z
+    → ((t ≡ m.to) × (z ≡ arriving_man x m.promo)) ⊎ ((t ≢ m.to) × ((t ≢ m.from) × (man_on p.men t ≡ Some z)))
+stood p x m t z size there = elim (cases_eq t m.to) [
+  | inl e ↦
+      let came : man_on (arrived p x m) t ≡ Some (arriving_man x m.promo) = ap (man_on (arrived p x m)) e ∙ there_now p.men m.from (capture_square p x m) m.to
+      (arriving_man x m.promo) size in
+      let same : Some z ≡ Some (arriving_man x m.promo) = sym there ∙ came in
+      inl (e, cc)
+  | inr ne ↦ elim (cases_Bool (is_square (Some m.from) t || is_square (capture_square p x m) t)) [
+    | inl gone ↦ absurd (let none = left_now p.men m.from (capture_square p x m) m.to (arriving_man x m.promo) t ne gone in cc)
+    | inr kept ↦
+        inr (
+          ne,
+          (
+            (λ e. false≢true (sym (or_parts _ _ kept).0 ∙ eq-eqb m.from t (sym e))),
+            sym (kept_now p.men m.from (capture_square p x m) m.to (arriving_man x m.promo) t ne kept) ∙ there,
+          ),
+        )
+  ]
+]
+
+apart : (c : Colour) → same_colour (other c) c ≡ false
+apart c = grind arith
+
+not_mine : (x : Man) (c : Colour) → x.colour ≡ other c → same_colour x.colour c ≡ false
+not_mine x c e = ap (λ (d : Colour). same_colour d c) e ∙ apart c
+
+mine_is : (x : Man) (c : Colour) → x.colour ≡ c → same_colour x.colour (other c) ≡ false
+mine_is x c e = ap (λ (d : Colour). same_colour d (other c)) e ∙ other_differs c
+
+free_man : (c : Colour) (o : Option Man) → is_side o c ≡ false → is_man o (other c) King ≡ false → is_arrival_free c o ≡ true
+free_man c o side king = grind (arith, false≢true)
+
+unnamed : (p : Position) (x : Man) (m : Move) (o : Option Kind) → arrives x m.to ≡ false → is_promotion_right p x m o ≡ true → o ≡ None
+unnamed p x m o off right = grind (arith, and_parts)
+
+arrival_small : (i : ℕ) → (triple_at i).to < 64
+unfolding triple_at
+arrival_small i = omega arith
+
+-- the king's move keeps a flight behind each move of the enemy
+module _ (rule : RuleSet) (p : Position) (m : Move) (x : Man) (k w : ℕ) (well : IsWellFormed p) (may : is_pseudo_legal rule p m ≡ true)
+    (here : man_on p.men m.from ≡ Some x) (circe : is_circe rule ≡ false) (plain : is_castling x m ≡ false) (small : m.to < 64)
+    (king : king_after p x m ≡ Some k) (near : AreNear p m k w) (keeps : KeepsOne p w) where
+  is : IsMade rule p x m
+  is = made rule p m x may here
+
+  abbrev q : Position
+  q = position_after rule p m
+
+  men_q : q.men ≡ arrived p x m
+  men_q = simple_after rule p x m here plain (λ c. absurd (false≢true (sym circe ∙ c)))
+
+  turn_q : q.turn ≡ other p.turn
+  turn_q = turn_after rule p m may
+
+  well_q : IsWellFormed q
+  well_q = after_well_formed rule p m well may
+
+  king_q : king_square q.men p.turn ≡ Some k
+  king_q = ap (λ (l : List (Option Man)). king_square l p.turn) men_q ∙ king_is_after rule p x m well is small plain ∙ king
+
+  stood_q : (s : ℕ) (v : Man) → man_on q.men s ≡ Some v
+      → ((s ≡ m.to) × (v ≡ arriving_man x m.promo)) ⊎ ((s ≢ m.to) × ((s ≢ m.from) × (man_on p.men s ≡ Some v)))
+  stood_q s v there = stood p x m s v (omega (arith, small, well.size)) (sym (ap (λ (l : List (Option Man)). man_on l s) men_q) ∙ there)
+
+  -- an enemy stood there before
+  enemy_stood : (s : ℕ) (v : Man) → man_on q.men s ≡ Some v → v.colour ≡ other p.turn → man_on p.men s ≡ Some v
+  enemy_stood s v there enemy = elim (stood_q s v there) [
+    | inl came ↦
+        absurd (false≢true (sym (not_mine v p.turn enemy) ∙ ap (λ (u : Man). same_colour u.colour p.turn) came.1
+        ∙ ap (λ (c : Colour). same_colour c p.turn) (arriving_colour x m.promo ∙ is.mine) ∙ self p.turn))
+    | inr kept ↦ kept.1.1
+  ] where
+    self : (c : Colour) → same_colour c c ≡ true
+    self c = grind arith
+
+  module _ (n : Move) (to : n.to < 64) (can : is_pseudo_legal rule q n ≡ true) where
+    abbrev y : Man
+    y = (maker rule q n can).0
+
+    here_y : man_on q.men n.from ≡ Some y
+    here_y = (maker rule q n can).1
+
+    is_n : IsMade rule q y n
+    is_n = made rule q n y can here_y
+
+    enemy_y : y.colour ≡ other p.turn
+    enemy_y = is_n.mine ∙ turn_q
+
+    from_small : n.from < 64
+    from_small = on_board q.men n.from y well_q.size here_y
+
+    leaves : LeavesOne keeps.squares y n.from
+    leaves = keeps.leave.leaves n.from y from_small (enemy_stood n.from y here_y enemy_y) enemy_y
+
+    goes : may_go q y n.from n.to ≡ true
+    goes = may_go_aimed rule q y n here_y (arrival_needed rule q n to can)
+
+    abbrev f : ℕ
+    f = (leaves.left q n.to to goes).0
+
+    left : IsLeft keeps.squares y n.to f
+    left = (leaves.left q n.to to goes).1
+
+    unpromoted : n.promo ≡ None
+    unpromoted = unnamed q y n n.promo (leaves.unpromoted q n.to to goes) is_n.promotion
+
+    plain_n : is_castling y n ≡ false
+    plain_n = false_by (is_castling y n) (λ castling.
+        let off = leaves.away (and_parts _ _ (and_parts _ _ castling).0).0 in
+        elim (castle_of rule q y n well_q is_n castling).1.from [ inl e ↦ off.0 e | inr e ↦ off.1 e ])
+
+    abbrev r : Position
+    r = position_after rule q n
+
+    men_r : r.men ≡ arrived q y n
+    men_r = simple_after rule q y n here_y plain_n (λ c. absurd (false≢true (sym circe ∙ c)))
+
+    turn_r : r.turn ≡ p.turn
+    turn_r = turn_after rule q n can ∙ ap other turn_q ∙ other_twice p.turn
+
+    well_r : IsWellFormed r
+    well_r = after_well_formed rule q n well_q can
+
+    king_r : king_square r.men p.turn ≡ Some k
+    king_r =
+        ap (λ (l : List (Option Man)). king_square l p.turn) men_r
+        ∙ king_stands q.men n.from (capture_square q y n) n.to (arriving_man y n.promo) p.turn (record {
+          small = omega (arith, to, well_q.size);
+          here = ap (λ (o : Option Man). is_man o p.turn King) here_y ∙ and_left (same_colour y.colour p.turn) _ (not_mine y p.turn enemy_y);
+          comes = and_left (same_colour (arriving_man y n.promo).colour p.turn) _
+              (ap (λ (c : Colour). same_colour c p.turn) (arriving_colour y n.promo) ∙ not_mine y p.turn enemy_y);
+          arrival = no_king_free q.turn p.turn (man_on q.men n.to) is_n.arrival;
+          captured = λ s at.
+              let t = taken rule q y n s well_q is_n (is_square-some (capture_square q y n) s at) in
+              ap (λ (o : Option Man). is_man o p.turn King) t.there ∙ and_right (same_colour t.man.colour p.turn) _ t.mortal;
+        })
+        ∙ king_q
+
+    stood_r : (s : ℕ) (v : Man) → man_on r.men s ≡ Some v
+        → ((s ≡ n.to) × (v ≡ arriving_man y n.promo)) ⊎ ((s ≢ n.to) × ((s ≢ n.from) × (man_on q.men s ≡ Some v)))
+    stood_r s v there = stood q y n s v (omega (arith, to, well_q.size)) (sym (ap (λ (l : List (Option Man)). man_on l s) men_r) ∙ there)
+
+    within : ((bit_at w f == 1) ≡ true) × ((bit_at keeps.guarded f == 1) ≡ false)
+    within = keeps.within f left.small left.on
+
+    free_f : is_arrival_free p.turn (man_on r.men f) ≡ true
+    free_f = by (man_on r.men f) refl where
+      by : (o : Option Man) → man_on r.men f ≡ o → is_arrival_free p.turn o ≡ true
+      by None e = refl
+      by (Some v) e = elim (stood_r f v e) [
+        | inl came ↦ absurd (left.off came.0)
+        | inr kept ↦ elim (stood_q f v kept.1.1) [
+          | inl came ↦ absurd (near.arrival f left.small within.0 came.0)
+          | inr stays ↦
+              free_man p.turn (Some v) (ap (λ (o : Option Man). is_side o p.turn) (sym stays.1.1) ∙ near.own f left.small within.0)
+              (ap (λ (o : Option Man). is_man o (other p.turn) King) (sym stays.1.1) ∙ near.king f left.small within.0)
+        ]
+      ]
+
+    -- nobody attacks the king who has gone there
+    module _ (z : Man) (stands : IsKingOn r.men p.turn k z) (own : z.colour ≡ p.turn) where
+      abbrev then : List (Option Man)
+      then = arrived r z (step_to k f)
+
+      unreached : (s : ℕ) (v : Man) → s < 64 → man_on then s ≡ Some v → v.colour ≡ other p.turn → reaches_as then v.colour v.kind s f ≡ false
+      unreached s v inside there enemy = elim (stood r z (step_to k f) s v (omega (arith, left.small, well_r.size)) there) [
+        | inl came ↦
+            absurd (false≢true (sym (not_mine v p.turn enemy) ∙ ap (λ (u : Man). same_colour u.colour p.turn) came.1 ∙ stands.mine))
+        | inr kept ↦ elim (stood_r s v kept.1.1) [
+          | inl came ↦
+              let same : v ≡ y = came.1 ∙ ap (arriving_man y) unpromoted in
+              rw (same, came.0) (left.unreached then)
+          | inr stays ↦
+              let before = enemy_stood s v stays.1.1 enemy in
+              false_from_ne_true _ (λ h.
+              false≢true (sym within.1 ∙ (keeps.guards.guards s v inside before enemy).inside then f left.small h))
+        ]
+      ]
+
+      nobody : (s : ℕ) → s < 64 → (is_side (man_on then s) (other p.turn) && reaches then s f) ≡ false
+      unfolding reaches
+      nobody s inside = by (man_on then s) refl where
+        by : (o : Option Man) → man_on then s ≡ o → (is_side o (other p.turn) && reaches_of then o s f) ≡ false
+        by None e = refl
+        by (Some v) e = elim (cases_Bool (same_colour v.colour (other p.turn))) [
+          | inl enemy ↦ and_right (same_colour v.colour (other p.turn)) _ (unreached s v inside e (same_colour-true _ _ enemy))
+          | inr off ↦ and_left _ (reaches_of then (Some v) s f) off
+        ]
+
+      not_attacked : is_attacked rule then f (other p.turn) ≡ false
+      unfolding is_attacked strikes
+      not_attacked = search (rules, no_strike, nobody, some_square_false)
+
+      king_step : IsKingStep rule r z k f
+      unfolding is_open reaches_as
+      king_step = record {
+        well_formed = well_r;
+        here = stands.here;
+        mine = ap (same_colour z.colour) turn_r ∙ stands.mine;
+        king = stands.king;
+        small = left.small;
+        near = and_from _ _ (and_from _ _ (near.next f left.small within.0) (ap (λ (c : Colour). is_arrival_free c (man_on r.men f)) turn_r ∙ free_f))
+            (ap not (and_left (is_circe rule) _ circe));
+      }
+
+      flees : has_flight rule r ≡ true
+      unfolding has_flight is_flight
+      flees =
+          some_square_true (is_flight rule r) f left.small (ap (λ (o : Option ℕ). is_flight_from rule r o f) (ap (king_square r.men) turn_r ∙ king_r)
+          ∙ step_is_legal rule r z k f king_step (ap (is_attacked rule then f) (ap other turn_r) ∙ not_attacked))
+
+    has_one : has_flight rule r ≡ true
+    has_one =
+        let z = king_on r.men p.turn k king_r in
+        flees z.0 z.1 (same_colour-true _ _ z.1.mine)
+
+    unmated : mates rule q n ≡ false
+    unmated = sym (no_mate_with_flight rule q n has_one)
+
+  none_mates : (i : ℕ) → mates rule q (triple_at i) ≡ false
+  none_mates i = elim (cases_Bool (is_pseudo_legal rule q (triple_at i))) [
+    | inl can ↦ unmated (triple_at i) (arrival_small i) can
+    | inr not ↦ not_mating rule q (triple_at i) not
+  ]
+
+  pub no_mate_behind : mates_behind rule q 0 ≡ []
+  no_mate_behind =
+      mates_behind-none rule q 0 28672 (λ lt. omega arith) (omega arith) (record { fails = λ i lo hi. none_mates i })
+      ∙ mates_behind-end rule q 28672 (omega arith)

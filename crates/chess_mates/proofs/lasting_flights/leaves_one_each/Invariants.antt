@@ -1,0 +1,10 @@
+use Rattle.chess_rules.proofs.Basics.{◌-◌, ℕ}
+use Rattle.chess_mates.proofs.LastingFlights.{HoldBelow}
+use Rattle.chess_mates.specs.ties.LastingFlights.{IsLeft}
+use Rattle.chess_mates.proofs.lasting_flights.leaves_one_each.Given as goal
+
+abbrev pub invariant-loop-to : goal.invariant-loop-to
+invariant-loop-to l = HoldBelow l.targets (λ t. (f : ℕ) × IsLeft l.squares l.man t f) l.number
+
+abbrev pub decreases-loop-to : goal.decreases-loop-to
+decreases-loop-to l = 64 - l.number

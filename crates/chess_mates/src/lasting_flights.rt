@@ -1,0 +1,260 @@
+//! Flights that one move can't take, told before the defender's move: the enemy's men count as if no other
+//! stood on the board, so it doesn't matter who goes, captures or is captured.
+ghost use Rattle.std.specs.Prelude.{◌≡◌, ◌≢◌, ◌<◌, ◌==◌, [], ℕ, IfSome, Some, not, true, false};
+ghost use Rattle.std.specs.Int.{bit_at};
+ghost use Rattle.chess_core.specs.Position.{man_on, same_kind};
+ghost use Rattle.chess_core.specs.SquareNames.{e1, e8};
+ghost use Rattle.chess_core.specs.WellFormed.{IsWellFormed};
+ghost use Rattle.chess_core.specs.declared.man.Kind.TheVariants.{Grasshopper, King};
+ghost use Rattle.chess_core.specs.declared.man.Man.{Man};
+ghost use Rattle.chess_mates.specs.ties.LastingFlights.{AreApproached, AreGuarded, AreNear, AreReached, IsLeft, KeepsOne, LeaveOne, LeavesOne};
+ghost use Rattle.chess_mates.specs.ties.Mates.{mates_behind};
+ghost use Rattle.chess_rules.specs.Legal.{is_legal};
+ghost use Rattle.chess_rules.specs.Play.{is_castling, position_after};
+ghost use Rattle.chess_rules.specs.RuleSet.{is_circe};
+ghost use Rattle.chess_rules.specs.ties.Sight.{king_after};
+ghost use Rattle.chess_rules.specs.ties.Targets.{arrives};
+
+use crate::open_board::open_targets;
+use chess_core::board::Board;
+use chess_core::man::{Colour, Kind, Man, Move};
+use chess_core::square::Square;
+use chess_rules::leaps::{king_leaps, knight_leaps, pawn_leaps};
+use chess_rules::lines::{diagonal_lines, straight_lines};
+use chess_rules::play::is_castling;
+use chess_rules::rules::Rules;
+use chess_rules::words::{contains, next_bit, only};
+
+// The squares that the man on `from` reaches, were the others gone: of a fairy man all.
+#[tactic(auto, using(crate::proofs::LastingFlights::any_reach, crate::proofs::LastingFlights::bishop_reach, crate::proofs::LastingFlights::king_reach, crate::proofs::LastingFlights::knight_reach, crate::proofs::LastingFlights::pawn_reach, crate::proofs::LastingFlights::queen_reach, crate::proofs::LastingFlights::rook_reach))]
+fn open_reach(man: Man, from: Square) -> u64
+    ensures { AreReached man from result }
+{
+    match man.kind {
+        Kind::Queen => straight_lines(from) | diagonal_lines(from),
+        Kind::Rook => straight_lines(from),
+        Kind::Bishop => diagonal_lines(from),
+        Kind::Knight => knight_leaps(from),
+        Kind::Pawn => pawn_leaps(man.colour, from),
+        Kind::King => king_leaps(from),
+        Kind::Grasshopper | Kind::Nightrider => !0,
+    }
+}
+
+// The squares that the man on `from`, if there is one, reaches so.
+#[tactic(auto, using(crate::proofs::LastingFlights::some_reach))]
+fn open_reach_from(board: &Board, from: Square) -> u64
+    ensures { (x : Man) → man_on board.now.men from ≡ Some x → AreReached x from result }
+{
+    match board.man_at(from) {
+        Some(man) => open_reach(man, from),
+        None => 0,
+    }
+}
+
+// Those that the men on the squares of a word reach so.
+fn reach_together(board: &Board, men: u64) -> u64
+    ensures { (s : ℕ) (x : Man) → s < 64 → (bit_at men s == 1) ≡ true
+        → man_on board.now.men s ≡ Some x → AreReached x s result }
+{
+    let mut reached = 0u64;
+    let mut number = 0u8;
+    while let Some(from) = next_bit(men, number) {
+        let more = open_reach_from(board, from);
+        reached |= more;
+        number = from.index() + 1;
+    }
+    reached
+}
+
+// Those that some man of the colour reaches so.
+fn guarded_squares(board: &Board, colour: Colour) -> u64
+    ensures { AreGuarded board.now.men colour result }
+{
+    reach_together(board, board.side(colour))
+}
+
+// The first of the squares that is left once the man has come to `to`.
+fn first_left(squares: u64, man: Man, to: Square) -> Option<Square>
+    ensures { IfSome result (λ f. IsLeft squares man to f) }
+{
+    next_bit(squares & !(open_reach(man, to) | only(Some(to))), 0)
+}
+
+// The first rank and the last, and e1 and e8.
+const LAST_RANKS: u64 = 0xff00_0000_0000_00ff;
+
+const KINGS_HOMES: u64 = 0x1000_0000_0000_0010;
+
+// Whether the man is no fairy man and surely neither promotes nor castles; `targets` are the squares to which he may go.
+#[tactic(auto, using(crate::proofs::LastingFlights::no_last_rank, crate::proofs::LastingFlights::no_pawn_arrives, crate::proofs::LastingFlights::off_homes))]
+fn goes_plainly(man: Man, from: Square, targets: u64) -> bool
+    ensures unpromoted { result ≡ true → (t : ℕ) → t < 64 → (bit_at targets t == 1) ≡ true
+        → arrives man t ≡ false }
+    ensures away { result ≡ true → same_kind man.kind King ≡ true → (from ≢ e1) × (from ≢ e8) }
+    ensures orthodox { result ≡ true → same_kind man.kind Grasshopper ≡ false }
+{
+    match man.kind {
+        Kind::Pawn => targets & LAST_RANKS == 0,
+        Kind::King => !contains(KINGS_HOMES, from),
+        Kind::Grasshopper | Kind::Nightrider => false,
+        _ => true,
+    }
+}
+
+// The squares from which the man, who is no fairy man, reaches `to`, were the others gone.
+#[tactic(auto, using(crate::proofs::LastingFlights::come_back))]
+fn open_approaches(man: Man, to: Square) -> u64
+    requires { same_kind man.kind Grasshopper ≡ false }
+    ensures { AreApproached man to result }
+{
+    // For the proof: a square's number is below 64.
+    let _small = to.index();
+    let back = Man {
+        colour: man.colour.other(),
+        kind: man.kind,
+    };
+    open_reach(back, to)
+}
+
+// Whether one of the squares is left wherever the man comes to a square of the word.
+fn leaves_one_each(squares: u64, man: Man, targets: u64) -> bool
+    ensures { result ≡ true → (t : ℕ) → t < 64 → (bit_at targets t == 1) ≡ true
+        → (f : ℕ) × IsLeft squares man t f }
+{
+    let mut number = 0u8;
+    while let Some(to) = next_bit(targets, number) {
+        let Some(_left) = first_left(squares, man, to) else {
+            return false;
+        };
+        number = to.index() + 1;
+    }
+    true
+}
+
+// Whether one of the squares is left wherever the man on `from` may go, were the others gone. Where he neither
+// stands on the first of them nor reaches it, that one is.
+fn leaves_one(squares: u64, man: Man, from: Square) -> bool
+    ensures { result ≡ true → LeavesOne squares man from }
+{
+    let targets = open_targets(man, from);
+    if !goes_plainly(man, from, targets) {
+        return false;
+    }
+    let Some(first) = next_bit(squares, 0) else {
+        return false;
+    };
+    let taking = open_approaches(man, first) | only(Some(first));
+    leaves_one_each(squares, man, targets & taking)
+}
+
+// Whether the man on the square, if there is one, leaves one so.
+#[tactic(auto, using(crate::proofs::LastingFlights::some_leaves))]
+fn leaves_one_from(board: &Board, squares: u64, from: Square) -> bool
+    ensures { result ≡ true → (x : Man) → man_on board.now.men from ≡ Some x
+        → LeavesOne squares x from }
+{
+    match board.man_at(from) {
+        Some(man) => leaves_one(squares, man, from),
+        None => true,
+    }
+}
+
+// Whether each man on the squares of a word leaves one so.
+fn leave_one_each(board: &Board, squares: u64, men: u64) -> bool
+    ensures { result ≡ true → (s : ℕ) (x : Man) → s < 64 → (bit_at men s == 1) ≡ true
+        → man_on board.now.men s ≡ Some x → LeavesOne squares x s }
+{
+    let mut number = 0u8;
+    while let Some(from) = next_bit(men, number) {
+        if !leaves_one_from(board, squares, from) {
+            return false;
+        }
+        number = from.index() + 1;
+    }
+    true
+}
+
+// Whether each man of the colour does.
+fn leave_one(board: &Board, squares: u64, colour: Colour) -> bool
+    ensures { result ≡ true → LeaveOne board.now.men colour squares }
+{
+    leave_one_each(board, squares, board.side(colour))
+}
+
+// The square of the mover's king after this man's move, castling apart.
+fn king_after(board: &Board, man: Man, m: &Move) -> Option<Square>
+    ensures { result ≡ king_after board.now man m.now }
+{
+    if man.kind.is(Kind::King) {
+        return Some(m.to);
+    }
+    board.king_of(board.turn())
+}
+
+// The squares next to the king on `king` on which no man of the mover stands, neither before the move nor after it,
+// and not the enemy's king.
+#[tactic(auto, using(crate::proofs::LastingFlights::near_are))]
+fn near_squares(board: &Board, m: &Move, king: Square) -> u64
+    ensures { AreNear board.now m.now king result }
+{
+    let mover = board.turn();
+    let enemy_king = board.squares(mover.other(), Kind::King);
+    king_leaps(king) & !board.side(mover) & !enemy_king & !only(Some(m.to))
+}
+
+// Whether those of the squares that no enemy reaches, were the others gone, can't all be taken with one move.
+#[tactic(auto, using(crate::proofs::LastingFlights::keeps_one))]
+fn keeps_one(board: &Board, near: u64) -> bool
+    ensures { result ≡ true → KeepsOne board.now near }
+{
+    let enemy = board.turn().other();
+    let squares = near & !guarded_squares(board, enemy);
+    squares != 0 && leave_one(board, squares, enemy)
+}
+
+// Where the enemy has more men than these such flights are rare, and are not looked for.
+const MOST_MEN: u32 = 7;
+
+// Whether such flights are looked for: not in Circe, nor beside many enemies or their fairy men.
+fn are_looked_for<R: Rules>(board: &Board) -> bool
+    ensures { result ≡ true → is_circe R.rule ≡ false }
+{
+    let enemy = board.turn().other();
+    !R::is_circe()
+        && board.side(enemy).count_ones() <= MOST_MEN
+        && board.squares(enemy, Kind::Grasshopper) | board.squares(enemy, Kind::Nightrider) == 0
+}
+
+// Whether the man doesn't castle.
+fn goes_alone(man: Man, m: &Move) -> bool
+    ensures { result ≡ not (is_castling man m.now) }
+{
+    !is_castling(man, m)
+}
+
+/// Whether the side to move keeps a flight after this move, whatever the other side then plays: so no move
+/// behind it mates. It may answer `false` where one is kept, and does where kings castle, in Circe, and where
+/// the other side has a grasshopper or a nightrider.
+pub fn keeps_flight<R: Rules>(board: &Board, m: &Move) -> bool
+    requires well_formed { IsWellFormed board.now }
+    requires legal { is_legal R.rule board.now m.now ≡ true }
+    ensures { result ≡ true → mates_behind R.rule (position_after R.rule board.now m.now) 0 ≡ [] }
+{
+    if !are_looked_for::<R>(board) {
+        return false;
+    }
+    let Some(man) = board.man_at(m.from) else {
+        return false;
+    };
+    // For the proof: a square's number is below 64.
+    let _small = m.to.index();
+    if !goes_alone(man, m) {
+        return false;
+    }
+    let Some(king) = king_after(board, man, m) else {
+        return false;
+    };
+    let near = near_squares(board, m, king);
+    near != 0 && keeps_one(board, near)
+}
