@@ -1,10 +1,10 @@
 use Rattle.std.proofs.Common.{length}
 use Rattle.chess_core.specs.WellFormed.{IsWellFormed}
 use Rattle.chess_rules.specs.ties.Places.{moves_behind}
-use Rattle.search_tests.proofs.plain.+lost.Given as goal
+use Rattle.search_tests.proofs.plain.+is_lost.Given as goal
 
-abbrev pub decreases-lost : goal.decreases-lost
-decreases-lost g l = l.moves
+abbrev pub decreases-is_lost : goal.decreases-is_lost
+decreases-is_lost g l = l.moves
 
 abbrev pub invariant-loop-defence : goal.invariant-loop-defence
 invariant-loop-defence g l = IsWellFormed l.here
