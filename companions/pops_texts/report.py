@@ -1,4 +1,4 @@
-"""Reads reports of pops, item by item, by the grammar of its manual.
+"""Reads reports of pops, item by item, by their grammar (docs/report.ebnf).
 
 The reading is strict: a report that departs from the grammar, or that was cut, is refused with the
 line where it does. Read as well are reports with gaps in their numbers, as pops-many leaves them
