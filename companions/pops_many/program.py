@@ -15,8 +15,8 @@ from pops_many.tasks import UNFINISHED, Result, Task, is_whole, whole_lines
 SOUND, FAULTY = 0, 1
 
 LOOKED_FOR = (
-    "the built program; else $POPS, the one built in this repository, the one installed with the"
-    " companions (../../../bin/pops from their folder), the one on the PATH; nothing is built"
+    "the built program (default: $POPS, the one built in this repository, the one installed with"
+    " the companions (../../../bin/pops from their folder), the one on the PATH); nothing is built"
 )
 _COMPANIONS = Path(__file__).resolve().parent.parent
 _BUILT = Path("crates", "pops", "out", "pops")

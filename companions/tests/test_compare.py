@@ -352,7 +352,7 @@ class Command(unittest.TestCase):
     def test_help_and_version(self) -> None:
         outcome = support.companion("pops-compare", "--help")
         self.assertEqual((outcome.status, outcome.error), (0, ""))
-        self.assertIn(b"exit status: 0 where nothing differs", outcome.output)
+        self.assertIn(b"exit status: 0 if nothing differs", outcome.output)
         version = support.companion("pops-compare", "--version")
         self.assertTrue(version.output.startswith(b"pops-compare"))
 
