@@ -1,5 +1,5 @@
 //! The moves of one position that mate, most of the others passed over without being played.
-ghost use Rattle.std.specs.Prelude.{◌≡◌, ℕ, ◌≤◌, ◌<◌, ◌∷◌, [], ◌&&◌, IfSome, MatchOption, None, Some, not, true};
+ghost use Rattle.std.specs.Prelude.{◌≡◌, ⊤, ℕ, ◌≤◌, ◌<◌, ◌∷◌, [], ◌&&◌, IfSome, MatchOption, None, Some, not, true};
 ghost use Rattle.chess_core.specs.Position.{other};
 ghost use Rattle.chess_core.specs.WellFormed.{IsWellFormed};
 ghost use Rattle.chess_rules.specs.Attacks.{in_check};
@@ -21,11 +21,12 @@ use chess_rules::moves::{Moves, has_legal_move, triple};
 use chess_rules::rules::{Rules, in_check};
 use chess_rules::sought::{Sought, next_passing};
 use chess_rules::targets::{Kept, TRIPLES, arrivals};
+use std::alloc::AllocError;
 use std::marker::{Model, PhantomData};
 
 /// A place among all triples, as in `Moves`, in one position: with it are kept the squares from which a
 /// move of that position may give check, and the targets of the origin on which the place stands.
-#[derive_where(Clone, Copy)]
+#[derive_where(Copy)]
 pub struct MatingMoves<R> {
     passed: u16,
     checks: CheckSquares,
@@ -46,6 +47,21 @@ impl<R> Model for MatingMoves<R> {
       targets = v.kept;
       rules = record {};
     } };
+}
+
+impl<R> Clone for MatingMoves<R> {
+    ghost is_clone = { λ it copy. copy ≡ it };
+
+    ghost is_infallible = { λ _. ⊤ };
+
+    fn clone(&self) -> Result<Self, AllocError> {
+        Ok(MatingMoves {
+            passed: self.passed,
+            checks: self.checks,
+            targets: self.targets,
+            rules: PhantomData,
+        })
+    }
 }
 
 impl<R: Rules> MatingMoves<R> {
@@ -82,7 +98,6 @@ impl<R: Rules> MatingMoves<R> {
     /// The first legal move behind the place after which the side to move is mated; the place then stands
     /// on it. Where there is none: `None`, and the place stands behind all triples. The board is unchanged.
     /// The place must be one in the board's position.
-    #[tactic(auto, using(crate::proofs::MatesBetween::next_mates), unfolding(chess_rules::specs::ties::Places::place_of))]
     pub fn next(&mut self, board: &mut Board) -> Option<Move>
         requires well_formed { IsWellFormed board.old }
         requires place { IsMatingPlaceIn R.rule board.old self.old }
@@ -113,7 +128,6 @@ impl<R: Rules> MatingMoves<R> {
     /// The first legal move behind the place that mates and doesn't lie behind `end`, on which the place
     /// then stands. Where there is none: `None`, and the place stays. The board is unchanged. The place
     /// must be one in the board's position.
-    #[tactic(auto, using(crate::proofs::MatesBetween::until_mates))]
     pub fn next_until(&mut self, end: Moves<R>, board: &mut Board) -> Option<Move>
         requires well_formed { IsWellFormed board.old }
         requires place { IsMatingPlaceIn R.rule board.old self.old }

@@ -88,7 +88,6 @@ pub fn rebirth_captures<R: Rules>(board: &Board) -> u64
 
 // The squares to which the man on `from` must go to leave no check to its king: all of them where none is
 // seen. `evasion_squares` are those to which another man than the king may go that ends it.
-#[tactic(auto, using(crate::proofs::attacks::EvasionTargets::evasions_from_all, crate::proofs::attacks::EvasionTargets::evasions_from_nobody, crate::proofs::attacks::EvasionTargets::evasions_from_some))]
 pub(crate) fn evasions_from<R: Rules>(board: &Board, evasion_squares: u64, from: Square) -> u64
     requires well_formed { IsWellFormed board.now }
     requires evasion_squares { AreEvasions R.rule board.now.men board.now.turn evasion_squares }

@@ -1,5 +1,5 @@
 //! The legal moves of one position, most of them found without being played.
-ghost use Rattle.std.specs.Prelude.{◌≡◌, ℕ, ◌≤◌, ◌<◌, ◌∷◌, [], IfSome, MatchOption, None, Some, true};
+ghost use Rattle.std.specs.Prelude.{◌≡◌, ⊤, ℕ, ◌≤◌, ◌<◌, ◌∷◌, [], IfSome, MatchOption, None, Some, true};
 ghost use Rattle.chess_core.specs.WellFormed.{IsWellFormed};
 ghost use Rattle.chess_core.specs.ties.Words.{word};
 ghost use Rattle.chess_rules.specs.ties.Evasions.{AreEvasions};
@@ -18,12 +18,13 @@ use crate::targets::{Kept, TRIPLES, arrivals};
 use chess_core::board::Board;
 use chess_core::man::Move;
 use chess_core::square::Square;
+use std::alloc::AllocError;
 use std::marker::{Model, PhantomData};
 
 /// A place among all triples, as in `Moves`, in one position: with it are kept the squares from which a
 /// move of that position may expose the mover's king, those to which one may go that ends a check, and
 /// the targets of the origin on which the place stands.
-#[derive_where(Clone, Copy)]
+#[derive_where(Copy)]
 pub struct LegalMoves<R> {
     passed: u16,
     shield_squares: u64,
@@ -51,6 +52,22 @@ impl<R> Model for LegalMoves<R> {
       targets = v.kept;
       rules = record {};
     } };
+}
+
+impl<R> Clone for LegalMoves<R> {
+    ghost is_clone = { λ it copy. copy ≡ it };
+
+    ghost is_infallible = { λ _. ⊤ };
+
+    fn clone(&self) -> Result<Self, AllocError> {
+        Ok(LegalMoves {
+            passed: self.passed,
+            shield_squares: self.shield_squares,
+            evasion_squares: self.evasion_squares,
+            targets: self.targets,
+            rules: PhantomData,
+        })
+    }
 }
 
 impl<R: Rules> LegalMoves<R> {
@@ -89,7 +106,6 @@ impl<R: Rules> LegalMoves<R> {
     /// The first legal move of the board's position behind the place, which then stands on it. Where
     /// there is none: `None`, and the place stands behind all triples. The board is unchanged. The place
     /// must be one in the board's position.
-    #[tactic(auto, using(crate::proofs::listing_moves::Places::next_moves), unfolding(crate::specs::ties::Places::place_of))]
     pub fn next(&mut self, board: &mut Board) -> Option<Move>
         requires well_formed { IsWellFormed board.old }
         requires place { IsPlaceIn R.rule board.old self.old }
@@ -125,7 +141,6 @@ impl<R: Rules> LegalMoves<R> {
     /// The first legal move behind the place that doesn't lie behind `end`, on which the place then
     /// stands. Where there is none: `None`, and the place stays. The board is unchanged. The place must
     /// be one in the board's position.
-    #[tactic(auto, using(crate::proofs::listing_moves::Places::place_of_triple))]
     pub fn next_until(&mut self, end: Moves<R>, board: &mut Board) -> Option<Move>
         requires well_formed { IsWellFormed board.old }
         requires place { IsPlaceIn R.rule board.old self.old }
@@ -230,7 +245,6 @@ fn own_origins<R: Rules>(board: &Board) -> u64
 }
 
 // The squares to which the man on `from` may go by a legal move, and perhaps more.
-#[tactic(auto, using(crate::proofs::listing_moves::Walks::legal_candidates))]
 fn candidates<R: Rules>(board: &Board, evasion_squares: u64, from: Square) -> u64
     requires well_formed { IsWellFormed board.now }
     requires evasion_squares { AreEvasions R.rule board.now.men board.now.turn evasion_squares }

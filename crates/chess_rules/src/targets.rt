@@ -49,7 +49,6 @@ pub fn steps_to(man: Man, from: Square) -> u64
 
 // The squares to which a pawn steps from here: the next one if it is empty, and from its second rank the
 // one behind it too.
-#[tactic(auto, using(crate::proofs::listing_moves::Arrivals::pawn_steps_are))]
 fn pawn_goes(board: &Board, man: Man, from: Square) -> u64
     ensures { result ≡ word (pawn_goes board.now man from) }
 {
@@ -75,7 +74,6 @@ fn castling_squares(board: &Board, man: Man, from: Square) -> u64
 }
 
 // The squares to which the man on `from` goes, whoever stands there, most tests of castling apart.
-#[tactic(auto, using(crate::proofs::listing_moves::Arrivals::other_ways, crate::proofs::listing_moves::Arrivals::pawn_ways))]
 fn goes_to(board: &Board, man: Man, from: Square) -> u64
     ensures { result ≡ word (may_go board.now man from) }
 {
@@ -94,7 +92,6 @@ fn free_squares(board: &Board, colour: Colour) -> u64
 }
 
 /// The squares to which the man on `from` may go, most tests of castling apart.
-#[tactic(auto, using(crate::proofs::listing_moves::Arrivals::no_arrivals))]
 pub fn arrivals<R: Rules>(board: &Board, from: Square) -> u64
     ensures { result ≡ word (is_arrival R.rule board.now from) }
 {

@@ -1,11 +1,9 @@
 -- The words of the squares to which a man may go.
-use Rattle.chess_rules.proofs.Basics.{Bool, List, None, Option, Some, and_from, and_left, and_parts, ap, arith, bit_and, bit_at, bit_not, bit_or, cases_Bool, cond-false, cond-true, eqb-true, false, find, inl, inr, is_some, list_any, not, or_cases, or_left, or_right, range_with_len, refl, rules, sym, true, w64, ℕ, ◌&&◌, ◌+◌, ◌/◌, ◌<◌, ◌==◌, ◌||◌, ◌∙◌, ◌≡◌}
-use Rattle.chess_rules.proofs.Chess.{Black, Colour, IsAimed, IsFirst, Kind, King, Man, Move, Pawn, Position, RuleSet, White, along, arrives, differs, find_no, forward, goes, has_unmoved, is_advance, is_arrival, is_arrival_free, is_arrival_of, is_man, is_paralysed, is_promotion_right, is_pseudo_legal, is_side, is_square, is_vacant_at, leaps, man_on, may_go, may_promote, other, pawn_goes, queen_steps, rank_of, reaches, reaches_as, same_Bool, same_colour, same_kind, second_rank, side_of, squares_both, squares_either, squares_not, squares_of, squares_same, steps_to, word}
+use Rattle.chess_rules.proofs.Basics.{Bool, List, None, Option, Some, agree_below_at, and_from, and_left, and_parts, ap, arith, bit_and, bit_at, bit_not, bit_or, cases_Bool, cond-false, cond-true, eqb-true, false, false≢true, find, inl, inr, is_some, list_any, not, not-true, or_cases, or_left, or_right, range_with_len, refl, rules, sym, true, w64, ℕ, ◌&&◌, ◌+◌, ◌/◌, ◌<◌, ◌==◌, ◌||◌, ◌∙◌, ◌≡◌}
+use Rattle.chess_rules.proofs.Chess.{Black, Colour, IsAimed, IsFirst, Kind, King, Man, Move, Pawn, Position, RuleSet, White, along, find_no, forward, goes, has_unmoved, is_advance, is_arrival, is_arrival_free, is_arrival_of, is_man, is_paralysed, is_promotion_right, is_pseudo_legal, is_side, is_square, is_vacant_at, leaps, man_on, may_go, may_promote, other, pawn_goes, queen_steps, rank_of, reaches, reaches_as, same_Bool, same_colour, same_kind, second_rank, side_of, squares_both, squares_either, squares_not, squares_of, squares_same, steps_to, word}
 use Rattle.chess_rules.proofs.Bits.{word_empty, word_has}
 use Rattle.chess_rules.proofs.making_moves.Pseudo.{king_is_no_pawn}
 use Rattle.chess_rules.proofs.listing_moves.Targeting.{false_by}
-use Rattle.chess_rules.proofs.Tests.{implied}
-use Rattle.chess_rules.proofs.rays.Tables.{each_pair}
 
 -- no man of the colour and no king
 free_of : (a c : Colour) (k : Kind) → not (same_colour a c || (same_colour a (other c) && same_kind k King)) ≡ (not (same_colour a c) && not (same_kind k King))
@@ -27,20 +25,51 @@ free_word men c a b h i =
 pub castling_none : (u : Bool) (x : Man) (s : ℕ) → u ≡ false → 0 ≡ word (λ t. u && steps_to x s t)
 castling_none u x s h = word_empty (λ t. u && steps_to x s t) (λ t b. and_left u _ h)
 
--- one square ahead, and the square halfway to the one behind it
-one_near : (c : Colour) (s t : ℕ) → s < 64 → t < 64 → is_square (along s (forward c) 1) t ≡ (is_advance c s t && list_any (leaps s t) queen_steps)
+-- a test of the square, if there is one
+abbrev holds_on : (ℕ → Bool) → Option ℕ → Bool
+holds_on f None = true
+holds_on f (Some u) = f u
+
+on_it : (f : ℕ → Bool) (o : Option ℕ) (t : ℕ) → holds_on f o ≡ true → is_square o t ≡ true → f t ≡ true
+on_it f None t h on = absurd (false≢true on)
+on_it f (Some u) t h on = rw (eqb-true u t on) at h
+
+-- one square ahead is next to the pawn; two are not, and the square halfway there is the one ahead
+abbrev is_next : ℕ → ℕ → Bool
+is_next s t = list_any (leaps s t) queen_steps
+
+abbrev is_behind_next : Colour → ℕ → ℕ → Bool
+is_behind_next c s t = not (is_next s t) && is_square (along s (forward c) 1) ((s + t) / 2)
+
+abbrev steps_so : Colour → ℕ → Bool
+steps_so c s = holds_on (is_next s) (along s (forward c) 1) && holds_on (is_behind_next c s) (along s (forward c) 2)
+
+steps_are : (c : Colour) (s : ℕ) → s < 64 → steps_so c s ≡ true
 unfolding along leaps
-one_near White s t p q = search (rules, each_pair)
-one_near Black s t p q = search (rules, each_pair)
+steps_are White s p = agree_below_at (steps_so White) (λ _. true) 64 s refl p
+steps_are Black s p = agree_below_at (steps_so Black) (λ _. true) 64 s refl p
+
+two_ahead : (c : Colour) (s t : ℕ) → s < 64 → is_square (along s (forward c) 2) t ≡ true → is_behind_next c s t ≡ true
+two_ahead c s t p two =
+    on_it (is_behind_next c s) (along s (forward c) 2) t (and_parts (holds_on (is_next s) (along s (forward c) 1)) _ (steps_are c s p)).1 two
+
+one_near : (c : Colour) (s t : ℕ) → s < 64 → t < 64 → is_square (along s (forward c) 1) t ≡ (is_advance c s t && list_any (leaps s t) queen_steps)
+one_near c s t p q = same_Bool _ _ onto back
+  where
+    onto : is_square (along s (forward c) 1) t ≡ true → (is_advance c s t && is_next s t) ≡ true
+    onto one = and_from _ _ (or_left (is_square (along s (forward c) 1) t) _ one)
+        (on_it (is_next s) (along s (forward c) 1) t (and_parts (holds_on (is_next s) (along s (forward c) 1)) _ (steps_are c s p)).0 one)
+
+    back : (is_advance c s t && is_next s t) ≡ true → is_square (along s (forward c) 1) t ≡ true
+    back h =
+        let both = and_parts (is_advance c s t) (is_next s t) h in
+        elim (or_cases (is_square (along s (forward c) 1) t) (is_square (along s (forward c) 2) t) both.0) [
+          | inl one ↦ one
+          | inr two ↦ absurd (false≢true (sym (not-true (is_next s t) (and_parts (not (is_next s t)) _ (two_ahead c s t p two)).0) ∙ both.1))
+        ]
 
 half_one : (c : Colour) (s t : ℕ) → s < 64 → t < 64 → is_square (along s (forward c) 2) t ≡ true → is_square (along s (forward c) 1) ((s + t) / 2) ≡ true
-half_one c s t p q = implied _ _ (table c)
-  where
-    table : (c : Colour) → (not (is_square (along s (forward c) 2) t) || is_square (along s (forward c) 1) ((s + t) / 2)) ≡ true
-    table White = unfold along in each_pair (λ s t. not (is_square (along s (forward White) 2) t) || is_square (along s (forward White) 1) ((s + t) / 2))
-        (λ _ _. true) s t p q refl
-    table Black = unfold along in each_pair (λ s t. not (is_square (along s (forward Black) 2) t) || is_square (along s (forward Black) 1) ((s + t) / 2))
-        (λ _ _. true) s t p q refl
+half_one c s t p q h = (and_parts (not (is_next s t)) _ (two_ahead c s t p h)).1
 
 one_is : (o : Option ℕ) (t u : ℕ) → is_square o t ≡ true → is_square o u ≡ true → t ≡ u
 one_is o t u h i = grind (arith, eqb-true)
@@ -213,12 +242,3 @@ aimed_promotion rule p m k a e =
 pub aimed_plain : (rule : RuleSet) (p : Position) (m : Move) (x : Man) → IsAimed rule p m → m.promo ≡ None → man_on p.men m.from ≡ Some x
     → goes rule p x m ≡ is_pseudo_legal rule p m
 aimed_plain rule p m x a e here = grind (arith, left_to_test rule p x m here a.arrival)
-
--- for the test of a move that is aimed
-pub ruleset aimed = (aimed_plain, aimed_promotion, may_go_aimed)
-
--- for an origin without arrivals
-pub ruleset no_arrivals = (arrivals_nobody, arrivals_other, arrivals_paralysed)
-
--- for the word of a pawn's steps
-pub ruleset pawn_steps_are = (differs, goes-blocked, goes-once)

@@ -118,7 +118,7 @@ king_no_step p x m well here castling king h =
     let rank : rank_of m.from ≡ rank_of m.to = eqb-true _ _ c2.1 in
     let to : m.to < 64 = omega arith in
     let table = not-true _ (king_step_is_no_castling m.from m.to from to) in
-    let all = and_from _ _ (and_from _ _ steps c2.1) c1.1 in
+    let all = and_from _ _ (and_from _ _ c2.1 c1.1) steps in
     cc
 
 -- a king that castles goes neither by a step nor as a pawn

@@ -1,12 +1,49 @@
 -- The tables of lines and leaps, computed.
-use Rattle.chess_rules.proofs.Basics.{List, [], bit_or, None, Option, ap, arith, get_or, get_or-map-range_with_len, list_any, map, range_with_len, refl, sym, ℕ, ◌<◌, ◌∙◌, ◌≡◌}
-use Rattle.chess_rules.proofs.Chess.{Black, Direction, East, North, NorthEast, NorthWest, South, SouthEast, SouthWest, West, White, along, diagonal_steps, direction_number, is_advance, is_ahead, is_aside, is_on_some, knight_steps, leaps, pawn_captures, queen_steps, ray, squares, step_of, straight_steps, word, word_of}
+use Rattle.chess_rules.proofs.Basics.{List, [], bit_or, None, Option, Some, ap, arith, cases_lt, cond-false, cond-true, false, get_or, get_or-map-range_with_len, if◌then◌else◌, inl, inr, list_any, map, range_with_len, refl, sym, ℕ, ◌%◌, ◌*◌, ◌<◌, ◌^◌, ◌∙◌, ◌∷◌, ◌≡◌, ◌||◌}
+use Rattle.chess_rules.proofs.Chess.{Black, Colour, Direction, East, North, NorthEast, NorthWest, South, SouthEast, SouthWest, Step, West, White, along, diagonal_steps, differs, direction_number, forward, is_advance, is_ahead, is_aside, is_on_some, is_square, knight_steps, leaps, pawn_captures, queen_steps, ray, squares_either, step_by, step_of, straight_steps, word}
+use Rattle.chess_rules.proofs.Bits.{word_empty, word_only}
 use Rattle.chess_rules.proofs.rays.Joining.{four}
 use Rattle.chess_rules.specs.declared.geometry.TheConstants.{ASIDE, BLACK_CAPTURES, BLACK_STEPS, DIAGONAL_LINES, KNIGHT_LEAPS, NEIGHBOURS, RAYS, STRAIGHT_LINES, WHITE_CAPTURES, WHITE_STEPS}
+use Rattle.std.proofs.lemmas.Bool.{le-ltb, lt-ltb}
+use Rattle.std.proofs.Math.Dec.{ltb}
+
+-- the word of a square, if there is one on the board
+abbrev one : Option ℕ → ℕ
+one None = 0
+one (Some q) = if ltb q 64 then 1 * 2 ^ q % 2 ^ 64 else 0
+
+one_is : (o : Option ℕ) → one o ≡ word (is_square o)
+one_is None = word_empty (is_square None) (λ t b. refl)
+one_is (Some q) = elim (cases_lt q 64) [
+  | inl lt ↦ cond-true (ltb q 64) _ _ (lt-ltb q 64 lt) ∙ word_only q lt
+  | inr ge ↦ cond-false (ltb q 64) _ _ (le-ltb q 64 ge) ∙ word_empty (is_square (Some q)) (λ t b. differs q t (λ e. omega arith))
+]
+
+-- that of those of a list: so each square is computed once, and not tested against all 64
+abbrev each : List (Option ℕ) → ℕ
+each [] = 0
+each (o ∷ os) = bit_or (one o) (each os)
+
+each_is : (os : List (Option ℕ)) → each os ≡ word (λ t. list_any (λ o. is_square o t) os)
+each_is [] = word_empty (λ t. false) (λ t b. refl)
+each_is (o ∷ os) = (λ j. bit_or (one_is o j) (each_is os j)) ∙ squares_either (is_square o) (λ t. list_any (λ o. is_square o t) os)
+
+two_is : (o u : Option ℕ) → bit_or (one o) (one u) ≡ word (λ t. is_square o t || is_square u t)
+two_is o u = (λ j. bit_or (one_is o j) (one_is u j)) ∙ squares_either (is_square o) (is_square u)
+
+-- the squares of a line, and those a step away
+abbrev line : Step → ℕ → ℕ
+line d s = each (map (λ k. along s d k) (range_with_len 1 7))
+
+abbrev near : List Step → ℕ → ℕ
+near ds s = each (map (λ d. along s d 1) ds)
+
+abbrev ahead : Colour → ℕ → ℕ
+ahead c s = bit_or (one (along s (forward c) 1)) (one (along s (forward c) 2))
 
 -- a row of the table holds the lines of its direction from all squares
-row : (x : Direction) (none : List ℕ) → get_or RAYS (direction_number x) none ≡ map (λ s. ray s (step_of x)) (range_with_len 0 64)
-unfolding ray is_ahead along word word_of squares
+row : (x : Direction) (none : List ℕ) → get_or RAYS (direction_number x) none ≡ map (line (step_of x)) (range_with_len 0 64)
+unfolding along
 row East none = refl
 row k none = refl
 
@@ -15,23 +52,41 @@ entry : (f : ℕ → ℕ) (table : List ℕ) (s i d : ℕ) → table ≡ map f (
 entry f table s i d is same small = ap (λ r. get_or r i d) is ∙ get_or-map-range_with_len f 0 64 i i d small (omega arith) ∙ ap f same
 
 pub ray_at : (x : Direction) (s i : ℕ) (none : List ℕ) (d : ℕ) → i ≡ s → i < 64 → get_or (get_or RAYS (direction_number x) none) i d ≡ ray s (step_of x)
-ray_at x s i none d = entry (λ s. ray s (step_of x)) (get_or RAYS (direction_number x) none) s i d (row x none)
+unfolding ray is_ahead
+ray_at x s i none d same small =
+    entry (line (step_of x)) (get_or RAYS (direction_number x) none) s i d (row x none) same small ∙ each_is (map (λ k. along s (step_of x) k) (range_with_len 1 7))
+
+neighbours_are : NEIGHBOURS ≡ map (near queen_steps) (range_with_len 0 64)
+unfolding along
+neighbours_are = refl
 
 pub neighbours_at : (s i d : ℕ) → i ≡ s → i < 64 → get_or NEIGHBOURS i d ≡ word (λ t. list_any (leaps s t) queen_steps)
-unfolding leaps along word word_of squares
-neighbours_at s i d = entry (λ s. word (λ t. list_any (leaps s t) queen_steps)) NEIGHBOURS s i d refl
+unfolding leaps
+neighbours_at s i d same small = entry (near queen_steps) NEIGHBOURS s i d neighbours_are same small ∙ each_is (map (λ d. along s d 1) queen_steps)
+
+knight_leaps_are : KNIGHT_LEAPS ≡ map (near knight_steps) (range_with_len 0 64)
+unfolding along
+knight_leaps_are = refl
 
 pub knight_leaps_at : (s i d : ℕ) → i ≡ s → i < 64 → get_or KNIGHT_LEAPS i d ≡ word (λ t. list_any (leaps s t) knight_steps)
-unfolding leaps along word word_of squares
-knight_leaps_at s i d = entry (λ s. word (λ t. list_any (leaps s t) knight_steps)) KNIGHT_LEAPS s i d refl
+unfolding leaps
+knight_leaps_at s i d same small = entry (near knight_steps) KNIGHT_LEAPS s i d knight_leaps_are same small ∙ each_is (map (λ d. along s d 1) knight_steps)
+
+white_captures_are : WHITE_CAPTURES ≡ map (near (pawn_captures White)) (range_with_len 0 64)
+unfolding along
+white_captures_are = refl
 
 pub white_captures_at : (s i d : ℕ) → i ≡ s → i < 64 → get_or WHITE_CAPTURES i d ≡ word (λ t. list_any (leaps s t) (pawn_captures White))
-unfolding leaps along word word_of squares
-white_captures_at s i d = entry (λ s. word (λ t. list_any (leaps s t) (pawn_captures White))) WHITE_CAPTURES s i d refl
+unfolding leaps
+white_captures_at s i d same small = entry (near (pawn_captures White)) WHITE_CAPTURES s i d white_captures_are same small ∙ each_is (map (λ d. along s d 1) (pawn_captures White))
+
+black_captures_are : BLACK_CAPTURES ≡ map (near (pawn_captures Black)) (range_with_len 0 64)
+unfolding along
+black_captures_are = refl
 
 pub black_captures_at : (s i d : ℕ) → i ≡ s → i < 64 → get_or BLACK_CAPTURES i d ≡ word (λ t. list_any (leaps s t) (pawn_captures Black))
-unfolding leaps along word word_of squares
-black_captures_at s i d = entry (λ s. word (λ t. list_any (leaps s t) (pawn_captures Black))) BLACK_CAPTURES s i d refl
+unfolding leaps
+black_captures_at s i d same small = entry (near (pawn_captures Black)) BLACK_CAPTURES s i d black_captures_are same small ∙ each_is (map (λ d. along s d 1) (pawn_captures Black))
 
 abbrev nowhere : ℕ → Option ℕ
 nowhere s = None
@@ -47,17 +102,32 @@ eighth x s p =
     sym (get_or-map-range_with_len (λ s. along s (step_of x) 8) 0 64 s s None p (omega arith)) ∙ ap (λ r. get_or r s None) (off x)
     ∙ get_or-map-range_with_len nowhere 0 64 s s None p (omega arith)
 
+white_steps_are : WHITE_STEPS ≡ map (ahead White) (range_with_len 0 64)
+unfolding along
+white_steps_are = refl
+
 pub white_steps_at : (s i d : ℕ) → i ≡ s → i < 64 → get_or WHITE_STEPS i d ≡ word (is_advance White s)
-unfolding along word word_of squares
-white_steps_at s i d = entry (λ s. word (is_advance White s)) WHITE_STEPS s i d refl
+white_steps_at s i d same small =
+    entry (ahead White) WHITE_STEPS s i d white_steps_are same small ∙ two_is (along s (forward White) 1) (along s (forward White) 2)
+
+black_steps_are : BLACK_STEPS ≡ map (ahead Black) (range_with_len 0 64)
+unfolding along
+black_steps_are = refl
 
 pub black_steps_at : (s i d : ℕ) → i ≡ s → i < 64 → get_or BLACK_STEPS i d ≡ word (is_advance Black s)
-unfolding along word word_of squares
-black_steps_at s i d = entry (λ s. word (is_advance Black s)) BLACK_STEPS s i d refl
+black_steps_at s i d same small =
+    entry (ahead Black) BLACK_STEPS s i d black_steps_are same small ∙ two_is (along s (forward Black) 1) (along s (forward Black) 2)
+
+-- the squares two files beside
+abbrev beside : ℕ → ℕ
+beside s = bit_or (one (along s (step_by 2 0 0 0) 1)) (one (along s (step_by 0 2 0 0) 1))
+
+aside_are : ASIDE ≡ map beside (range_with_len 0 64)
+unfolding along
+aside_are = refl
 
 pub aside_at : (s i d : ℕ) → i ≡ s → i < 64 → get_or ASIDE i d ≡ word (is_aside s)
-unfolding along word word_of squares
-aside_at s i d = entry (λ s. word (is_aside s)) ASIDE s i d refl
+aside_at s i d same small = entry beside ASIDE s i d aside_are same small ∙ two_is (along s (step_by 2 0 0 0) 1) (along s (step_by 0 2 0 0) 1)
 
 -- the entry of a direction's row
 abbrev on : Direction → ℕ → ℕ

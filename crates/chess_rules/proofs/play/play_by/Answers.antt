@@ -3,13 +3,12 @@ use Rattle.chess_rules.specs.Play.{after_by, reborn_square, undo_by, unmoved_aft
 use Rattle.chess_rules.proofs.play.play_by.Goals as goal
 
 pub returns-clause-after : goal.returns-clause-after
-unfolding after_by unmoved_after reborn_square undo_by
+unfolding after_by unmoved_after reborn_square
 returns-clause-after g c = search rules
 
 pub put_at-requires-clause-empty : goal.put_at-requires-clause-empty
-unfolding after_by unmoved_after reborn_square undo_by
 put_at-requires-clause-empty g c = search rules
 
 pub returns-clause-undo : goal.returns-clause-undo
-unfolding after_by unmoved_after reborn_square undo_by
+unfolding reborn_square undo_by
 returns-clause-undo g c = search rules

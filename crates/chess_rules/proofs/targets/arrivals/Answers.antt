@@ -1,6 +1,6 @@
-use Rattle.chess_rules.proofs.Basics.{sym, true, ◌∙◌, ◌≡◌}
+use Rattle.chess_rules.proofs.Basics.{arith, sym, true, ◌∙◌, ◌≡◌}
 use Rattle.chess_rules.proofs.Chess.{same_colour}
-use Rattle.chess_rules.proofs.listing_moves.Arrivals.{arrivals_some}
+use Rattle.chess_rules.proofs.listing_moves.Arrivals.{arrivals_nobody, arrivals_other, arrivals_paralysed, arrivals_some}
 use Rattle.chess_rules.proofs.targets.arrivals.Goals as goal
 
 pub returns : goal.returns
@@ -8,3 +8,12 @@ returns g c =
     let mine : same_colour c.in-Some.man.colour c.args.board.now.turn ≡ true = rw c.turn.ensures at (sym c.is.ensures ∙ c.if-not-is.false) in
     arrivals_some g.R.Rules.rule c.args.board.now c.in-Some.man c.args.from c.free_squares.result c.goes_to.result (sym c.man_at.ensures ∙ c.in-Some.is) mine
     (sym c.is_paralysed.ensures ∙ c.if-is_paralysed.false) (rw c.turn-2.ensures at c.free_squares.ensures) c.goes_to.ensures
+
+pub returns-in_default : goal.returns-in_default
+returns-in_default g c = grind (arith, arrivals_nobody)
+
+pub returns-then-not-is : goal.returns-then-not-is
+returns-then-not-is g c = grind (arith, arrivals_other)
+
+pub returns-then-is_paralysed : goal.returns-then-is_paralysed
+returns-then-is_paralysed g c = grind (arith, arrivals_paralysed)
